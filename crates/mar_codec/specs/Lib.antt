@@ -1,0 +1,9 @@
+pub mod Causes
+pub mod Varint
+pub mod Digest
+pub mod Codec
+pub mod Refusals
+pub mod VarintLemmas
+pub mod DigestLemmas
+pub mod CodecLemmas
+pub mod Texts

@@ -1,0 +1,33 @@
+//! How values become bytes and come back: codec traits, varints, and digests.
+#![tactic(auto)]
+
+pub use codec::{
+    Decode, Encode, EncodeSize, FixedSize, MaxEncodeSize, Read, ReadExt, Write, read_array,
+    read_byte, read_slice,
+};
+pub use digest::{Digest, Digestible, Hasher};
+pub use digested::Digested;
+pub use error::{Error, Kind, Reason};
+pub use hexadecimal::write_hex;
+pub use integers::U64;
+pub use non_empty_vec::NonEmptyVec;
+pub use participant::Participant;
+pub use parts::{read_pair, write_pair};
+pub use sha256::{Sha256, Sha256Digest};
+pub use varint::UInt;
+pub use words::Words;
+
+mod codec;
+mod digest;
+mod digested;
+mod error;
+mod hexadecimal;
+mod integers;
+mod non_empty_vec;
+mod participant;
+mod parts;
+mod sha256;
+#[cfg(test)]
+mod tests;
+mod varint;
+mod words;
