@@ -1,0 +1,2 @@
+pub mod CutoffOrder
+pub mod OpenKeys

@@ -1,0 +1,10 @@
+pub mod Cutoff
+pub mod Processed
+pub mod Keys
+pub mod Asked
+pub mod PeerQueue
+pub mod Recorded
+pub mod Fronts
+pub mod Hears
+pub mod Order
+pub mod Views

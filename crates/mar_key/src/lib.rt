@@ -1,0 +1,23 @@
+//! What is asked of peers and for whom, what stays open of it, and the queue of what peers send.
+#![tactic(auto)]
+
+mod annotations;
+mod cutoffs;
+mod floors;
+mod keys;
+mod outcomes;
+mod recorder;
+mod requests;
+mod resolvers;
+
+pub use annotations::{Annotation, Finalized, Retain};
+pub use cutoffs::Cutoff;
+pub use floors::{Floor, Processed};
+pub use keys::Key;
+pub use outcomes::{Delivery, Outcome};
+pub use recorder::{Ask, Asked, Judged, Recorder, same_key};
+pub use requests::{Fetch, Request};
+pub use resolvers::{Resolver, TargetedResolver};
+
+#[cfg(test)]
+mod tests;
