@@ -1,0 +1,5 @@
+pub mod SpanEdits
+pub mod Lookups
+pub mod NewestUpto
+pub mod RangeLemmas
+pub mod RangeMembers

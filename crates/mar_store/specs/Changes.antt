@@ -1,0 +1,53 @@
+-- What the calls of a store change, over what it holds and what a crash leaves of it.
+use Rattle.std.specs.Prelude.{◌≡◌, ℕ, List, [], ◌∷◌, ◌++◌, Some, Bool, if◌then◌else◌, Contains, map}
+use Rattle.mar_store.specs.Kept.{At, Kept, value_at, EachHeightOnce, Reopens, reopened_store}
+
+-- what is left of a store: what every crash leaves, and all that a crash can leave
+pub record Left (T : Type 0) : Type 0 where
+  pub sure : List T
+  pub may : List T
+
+-- each value of the first list is in the second
+abbrev pub Within : {T : Type 0} → List T → List T → Type 0
+Within xs ys = (x : _) → Contains xs x → Contains ys x
+
+-- each value that stands at a height of the first list stands there in the second
+abbrev pub KeepsValues : {T : Type 0} → List (At T) → List (At T) → Type 0
+KeepsValues xs ys = (h : ℕ) (v : _) → value_at xs h ≡ Some v → value_at ys h ≡ Some v
+
+-- A put is held at once, unless it is ignored; it is not yet sure.
+pub record Puts {T : Type 0} (ignored : Bool) (old : Kept (At T)) (x : At T) (new : Kept (At T)) : Type 0 where
+  pub held : new.held ≡ (if ignored then old.held else old.held ++ x ∷ [])
+  pub sure : new.sure ≡ old.sure
+  pub may : Within new.may (old.may ++ x ∷ [])
+
+-- A sync that finished makes sure all that is held.
+pub record Syncs {T : Type 0} (old new : Kept (At T)) : Type 0 where
+  pub held : new.held ≡ old.held
+  pub sure : new.sure ≡ old.held
+  pub may : Within new.may old.may
+
+-- A call that failed leaves what was sure, and what may be left with what it was to write.
+pub record Fails {T : Type 0} (old : Left (At T)) (more : List (At T)) (left : Left (At T)) : Type 0 where
+  pub sure : KeepsValues old.sure left.sure
+  pub may : Within left.may (old.may ++ more)
+
+abbrev pub left_of : {T : Type 0} → Kept T → Left T
+left_of kept = record { sure = kept.sure; may = kept.may }
+
+-- A reopening finds one list with all that was sure, of what may be left.
+pub record IsReopened {T : Type 0} (old : Left (At T)) (new : Kept (At T)) : Type 0 where
+  pub found : List (At T)
+  pub found_may : Reopens old.sure old.may found
+  pub is : new ≡ reopened_store found
+
+-- No height stands twice; what is sure is held, and what is held may be left.
+pub record IsNested {T : Type 0} (kept : Kept (At T)) : Type 0 where
+  pub once : EachHeightOnce kept.held
+  pub sure_once : EachHeightOnce kept.sure
+  pub sure_held : KeepsValues kept.sure kept.held
+  pub held_may : Within kept.held kept.may
+
+-- the heights in a list
+abbrev pub heights : {T : Type 0} → List (At T) → List ℕ
+heights xs = map (λ x. x.height) xs

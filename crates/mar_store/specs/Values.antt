@@ -1,0 +1,25 @@
+-- What a metadata store holds: values of some keys, and the maps that a crash may leave.
+use Rattle.std.specs.Prelude.{◌≡◌, ℕ, ◌<◌, ◌==◌, if◌then◌else◌, List, [], ◌∷◌, ◌++◌, length, Option, None}
+use Rattle.mar_store.specs.Changes.{Within}
+
+-- the value of each key that has one
+abbrev pub Values : Type 0
+Values = ℕ → Option ℕ
+
+abbrev pub no_values : Values
+no_values key = None
+
+-- the value of one key is set or removed, each other stays
+abbrev pub SetsValue : Values → ℕ → Option ℕ → Values → Type 0
+SetsValue old key value new = (k : ℕ) → new k ≡ (if k == key then value else old k)
+
+-- what the last sync that succeeded left, or the last reopening read
+abbrev pub synced_values : List Values → Values
+synced_values [] = no_values
+synced_values (values ∷ others) = values
+
+-- What a call that failed leaves: what was synced stays first, and nothing new but what it was to write.
+pub record LeavesValues (old more left : List Values) : Type 0 where
+  pub some : 0 < length left
+  pub synced : synced_values left ≡ synced_values old
+  pub within : Within left (old ++ more)

@@ -1,0 +1,153 @@
+//! A metadata store in memory.
+ghost use Rattle.std.specs.Prelude.{◌≡◌, None, [], ◌∷◌, Contains, IfOk};
+ghost use Rattle.mar_store.specs.Values.{no_values};
+ghost use Rattle.mar_store.specs.MemMeta.{values_of, left_with, some_left};
+
+use crate::{Lost, Meta, MetaRuin};
+use std::alloc::{AllocError, Global};
+use std::collections::BTreeMap;
+
+/// A map in memory, beside it the one of the last sync.
+#[derive(Drop)]
+pub struct MemMeta {
+    values: BTreeMap<u64, u64>,
+    synced: BTreeMap<u64, u64>,
+}
+
+/// What is left of a `MemMeta`: the map of the last sync that succeeded, and that of one that failed since.
+#[derive(Drop)]
+pub struct MemMetaWreck {
+    synced: BTreeMap<u64, u64>,
+    failed: Option<BTreeMap<u64, u64>>,
+}
+
+impl MemMeta {
+    /// A store with no values.
+    pub fn new(alloc: Global) -> Self
+        ensures current { ⟦<MemMeta as Meta>⟧.current result ≡ no_values }
+        ensures left { ⟦<MemMeta as Meta>⟧.left result ≡ no_values ∷ [] }
+    {
+        MemMeta {
+            values: BTreeMap::new(alloc),
+            synced: BTreeMap::new(alloc),
+        }
+    }
+}
+
+impl MemMetaWreck {
+    // A store that finds the map of the sync that failed, where there is one and the lowest bit of luck is set,
+    // or else that of the last sync.
+    fn opened(&self, luck: u64) -> Result<MemMeta, AllocError>
+        ensures found { IfOk result (λ s. Contains (left_with self.now.synced self.now.failed) (values_of s.values)) }
+        ensures synced { IfOk result (λ s. values_of s.synced ≡ values_of s.values) }
+    {
+        let found = match &self.failed {
+            Some(values) if luck % 2 == 1 => values,
+            _ => &self.synced,
+        };
+        Ok(MemMeta {
+            values: found.clone()?,
+            synced: found.clone()?,
+        })
+    }
+}
+
+impl MetaRuin for MemMetaWreck {
+    ghost left = { λ w. left_with w.synced w.failed };
+
+    ghost faults = { λ _. 0 };
+
+    fn synced(&self, key: u64) -> Option<u64> {
+        self.synced.get(&key).copied()
+    }
+
+    ghost some = { λ w. some_left w.synced w.failed };
+}
+
+impl Meta for MemMeta {
+    type Wreck = MemMetaWreck;
+
+    ghost current = { λ s. values_of s.values };
+
+    ghost left = { λ s. values_of s.synced ∷ [] };
+
+    ghost faults = { λ _. 0 };
+
+    ghost some = { λ s. some_left s.synced None };
+
+    fn get(&self, key: u64) -> Option<u64> {
+        self.values.get(&key).copied()
+    }
+
+    fn put(self, key: u64, value: u64) -> Result<Self, Lost<MemMetaWreck>> {
+        let MemMeta { mut values, synced } = self;
+        if values.insert(key, value).is_err() {
+            return Err(Lost::Memory(MemMetaWreck {
+                synced,
+                failed: None,
+            }));
+        }
+        Ok(MemMeta { values, synced })
+    }
+
+    fn remove(self, key: u64) -> Result<Self, Lost<MemMetaWreck>> {
+        let MemMeta { mut values, synced } = self;
+        let _ = values.remove(&key);
+        Ok(MemMeta { values, synced })
+    }
+
+    fn sync(self) -> Result<Self, Lost<MemMetaWreck>> {
+        let MemMeta { values, synced } = self;
+        match values.clone() {
+            Ok(copy) => Ok(MemMeta {
+                values,
+                synced: copy,
+            }),
+            Err(_) => Err(Lost::Memory(MemMetaWreck {
+                synced,
+                failed: Some(values),
+            })),
+        }
+    }
+
+    fn wreck(self) -> MemMetaWreck {
+        MemMetaWreck {
+            synced: self.synced,
+            failed: None,
+        }
+    }
+
+    fn reopen(wreck: MemMetaWreck, luck: u64) -> Result<Self, Lost<MemMetaWreck>> {
+        match wreck.opened(luck) {
+            Ok(store) => Ok(store),
+            Err(_) => Err(Lost::Memory(wreck)),
+        }
+    }
+}
+
+#[cfg(test)]
+mod tests {
+    use super::*;
+    use std::test::Fail;
+
+    #[test]
+    fn changes_last_from_a_sync_on(rt: HostRuntime) -> Result<(), Fail> {
+        let store = MemMeta::new(rt.alloc());
+        assert_eq!(rt; store.get(1), None);
+        let store = store.put(1, 10).ok().ok_or("put")?;
+        let store = store.put(2, 20).ok().ok_or("put")?;
+        let store = store.sync().ok().ok_or("sync")?;
+        let store = store.put(1, 11).ok().ok_or("put")?;
+        let store = store.remove(2).ok().ok_or("remove")?;
+        assert_eq!(rt; store.get(1), Some(11));
+        assert_eq!(rt; store.get(2), None);
+
+        let wreck = store.wreck();
+        assert_eq!(rt; wreck.synced(1), Some(10));
+        assert_eq!(rt; wreck.synced(3), None);
+        let store = MemMeta::reopen(wreck, 1).ok().ok_or("reopen")?;
+        assert_eq!(rt; store.get(1), Some(10));
+        assert_eq!(rt; store.get(2), Some(20));
+        Ok(())
+    }
+}

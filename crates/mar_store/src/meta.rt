@@ -1,0 +1,85 @@
+// A few numbers that become durable together.
+ghost use Rattle.std.specs.Prelude.{◌≡◌, ◌<◌, ℕ, List, [], ◌∷◌, length, Some, None, Contains, IfOk, MatchResult};
+ghost use Rattle.mar_store.specs.Values.{Values, SetsValue, synced_values, LeavesValues};
+ghost use Rattle.mar_store.specs.Lost.{wreck_of, IsCausedBy};
+
+use crate::Lost;
+
+/// What is left of a metadata store.
+pub trait MetaRuin: Drop {
+    /// The maps that may be left, what the last sync that succeeded left first.
+    ghost left: { Self → List Values };
+
+    /// How often the store has failed.
+    ghost faults: { Self → ℕ };
+
+    /// The value of a key as the last successful sync left it, or the last reopening read it.
+    fn synced(&self, key: u64) -> Option<u64>
+        ensures { result ≡ synced_values (left self.now) key };
+
+    ghost some: { (w : Self) → 0 < length (left w) };
+}
+
+/// A map from keys to numbers. Changes are seen at once and become durable together with the next sync.
+pub trait Meta: Drop {
+    type Wreck: MetaRuin;
+
+    /// The values that are read now.
+    ghost current: { Self → Values };
+
+    /// The maps that a crash can leave, what the last sync left first.
+    ghost left: { Self → List Values };
+
+    /// How often the store has failed; the count never falls.
+    ghost faults: { Self → ℕ };
+
+    fn get(&self, key: u64) -> Option<u64>
+        ensures { result ≡ current self.now key };
+
+    fn put(self, key: u64, value: u64) -> Result<Self, Lost<Self::Wreck>>
+    where
+        Self: Sized,
+        ensures done { MatchResult result
+            (λ s. SetsValue (current self) key (Some value) (current s))
+            (λ l. LeavesValues (left self) [] (Self.Wreck.left (wreck_of l))) }
+        ensures durable { IfOk result (λ s. left s ≡ left self) }
+        ensures cause { IsCausedBy faults Self.Wreck.faults (faults self) result };
+
+    fn remove(self, key: u64) -> Result<Self, Lost<Self::Wreck>>
+    where
+        Self: Sized,
+        ensures done { MatchResult result
+            (λ s. SetsValue (current self) key None (current s))
+            (λ l. LeavesValues (left self) [] (Self.Wreck.left (wreck_of l))) }
+        ensures durable { IfOk result (λ s. left s ≡ left self) }
+        ensures cause { IsCausedBy faults Self.Wreck.faults (faults self) result };
+
+    /// Makes all changes durable together.
+    fn sync(self) -> Result<Self, Lost<Self::Wreck>>
+    where
+        Self: Sized,
+        ensures done { MatchResult result
+            (λ s. left s ≡ current self ∷ [])
+            (λ l. LeavesValues (left self) (current self ∷ []) (Self.Wreck.left (wreck_of l))) }
+        ensures same { IfOk result (λ s. current s ≡ current self) }
+        ensures cause { IsCausedBy faults Self.Wreck.faults (faults self) result };
+
+    /// What a crash now leaves.
+    fn wreck(self) -> Self::Wreck
+    where
+        Self: Sized,
+        ensures left { Self.Wreck.left result ≡ left self }
+        ensures count { Self.Wreck.faults result ≡ faults self };
+
+    /// Opens what a crash left; luck picks among the maps that may be left.
+    fn reopen(wreck: Self::Wreck, luck: u64) -> Result<Self, Lost<Self::Wreck>>
+    where
+        Self: Sized,
+        ensures done { MatchResult result
+            (λ s. Contains (Self.Wreck.left wreck) (current s))
+            (λ l. LeavesValues (Self.Wreck.left wreck) [] (Self.Wreck.left (wreck_of l))) }
+        ensures synced { IfOk result (λ s. left s ≡ current s ∷ []) }
+        ensures cause { IsCausedBy faults Self.Wreck.faults (Self.Wreck.faults wreck) result };
+
+    ghost some: { (s : Self) → 0 < length (left s) };
+}

@@ -1,0 +1,126 @@
+//! Heights kept as ranges.
+ghost use Rattle.std.specs.Prelude.{◌≡◌, ◌+◌, ◌<◌, ◌≤◌, ◌++◌, ◌↔◌, ℕ, [], take, drop, IfOk, OnOk, OnErr, IsTrue, vec_len, length};
+ghost use Rattle.mar_store.specs.Ranges.{with_height};
+
+use crate::spans::{place_of, widen};
+use std::alloc::{AllocError, Global};
+use std::marker::Model;
+
+/// Consecutive heights, both ends in.
+#[derive(Clone, Copy, Debug, PartialEq, Eq)]
+pub struct HeightSpan {
+    pub from: u64,
+    pub to: u64,
+}
+
+/// Heights as ranges that ascend and don't touch.
+#[derive(Drop)]
+pub struct RangeSet {
+    spans: Vec<HeightSpan>,
+}
+
+impl Model for RangeSet {
+    ghost use Rattle.std.specs.Prelude.{List};
+    ghost use Rattle.mar_store.specs.Ranges.{Range};
+
+    ghost Value = { List Range };
+
+    ghost use Rattle.mar_store.specs.Spans.{ranges_of, AscendFrom};
+
+    ghost view = { λ s. ranges_of s.spans.items };
+
+    ghost invariant = { λ s. AscendFrom 0 (ranges_of s.spans.items) };
+}
+
+impl RangeSet {
+    ghost use Rattle.mar_store.specs.Spans.{ranges_of};
+
+    pub fn new(alloc: Global) -> Self
+        ensures { result ≡ [] }
+    {
+        RangeSet {
+            spans: Vec::new(alloc),
+        }
+    }
+
+    /// Whether it has no height.
+    pub fn is_empty(&self) -> bool
+        ensures { IsTrue result ↔ (self.now ≡ []) }
+    {
+        self.spans.is_empty()
+    }
+
+    /// The ranges, ascending.
+    pub fn as_slice(&self) -> &[HeightSpan]
+        ensures { ranges_of result.now ≡ self.now }
+    {
+        self.spans.as_slice()
+    }
+
+    /// Another set of the same heights.
+    pub fn try_clone(&self) -> Result<Self, AllocError>
+        ensures { IfOk result (λ s. s ≡ self.now) }
+    {
+        let spans = self.spans.clone()?;
+        Ok(RangeSet { spans })
+    }
+
+    /// Adds a height. At the end of the heights it takes constant time.
+    pub fn insert(&mut self, height: u64) -> Result<(), AllocError>
+        ensures ok { OnOk result (self.new ≡ with_height height self.old) }
+        ensures err { OnErr result (self.new ≡ self.old) }
+    {
+        let place = place_of(&self.spans, height);
+        widen(&mut self.spans, place, height)
+    }
+}
+
+#[cfg(test)]
+mod tests {
+    use super::*;
+    use std::test::Fail;
+
+    fn set_of(alloc: Global, heights: &[u64]) -> Result<RangeSet, AllocError> {
+        let mut set = RangeSet::new(alloc);
+        for height in heights {
+            set.insert(*height)?;
+        }
+        Ok(set)
+    }
+
+    const fn span(from: u64, to: u64) -> HeightSpan {
+        HeightSpan { from, to }
+    }
+
+    #[test]
+    fn heights_in_any_order(rt: HostRuntime) -> Result<(), Fail> {
+        assert!(rt; set_of(rt.alloc(), &[])?.is_empty());
+
+        let set = set_of(rt.alloc(), &[5, 3, 4, 9, 0, u64::MAX, 9, 10])?;
+        assert_eq!(rt;
+            set.as_slice(),
+            [
+                span(0, 0),
+                span(3, 5),
+                span(9, 10),
+                span(u64::MAX, u64::MAX)
+            ]
+            .as_slice()
+        );
+        assert_eq!(rt; set.try_clone()?.as_slice(), set.as_slice());
+
+        let set = set_of(rt.alloc(), &[0, 1, 2, u64::MAX, u64::MAX - 1, 7, 6, 4])?;
+        assert_eq!(rt;
+            set.as_slice(),
+            [
+                span(0, 2),
+                span(4, 4),
+                span(6, 7),
+                span(u64::MAX - 1, u64::MAX)
+            ]
+            .as_slice()
+        );
+        assert!(rt; !set.is_empty());
+        Ok(())
+    }
+}

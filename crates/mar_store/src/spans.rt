@@ -1,0 +1,109 @@
+//! Spans that ascend, and one more height in them.
+ghost use Rattle.std.specs.Prelude.{◌≡◌, ◌+◌, ◌++◌, ◌<◌, ◌≤◌, ◌↔◌, take, drop, length, vec_len, IsTrue, OnOk, OnErr};
+ghost use Rattle.mar_store.specs.Ranges.{with_height};
+ghost use Rattle.mar_store.specs.Spans.{ranges_of, AscendFrom, AreOrdered, IsReached, IsAlone, IsFollowed, BeginsAfter};
+
+use crate::HeightSpan;
+use std::alloc::AllocError;
+
+// Whether the span ends two or more below the height.
+fn ends_before(span: HeightSpan, height: u64) -> bool
+    ensures { IsTrue result ↔ (span.to + 1 < height) }
+{
+    span.to < height && height - span.to > 1
+}
+
+/// The place of the first span that ends less than two below the height, searched from the end.
+pub fn place_of(spans: &[HeightSpan], height: u64) -> usize
+    requires { AscendFrom 0 (ranges_of spans.now) }
+    ensures within { result ≤ length spans.now }
+    ensures reached { IsReached height (drop result (ranges_of spans.now)) }
+    ensures apart { with_height height (ranges_of spans.now)
+        ≡ take result (ranges_of spans.now) ++ with_height height (drop result (ranges_of spans.now)) }
+{
+    let mut place = spans.len();
+    while place > 0 {
+        let span = spans[place - 1];
+        if ends_before(span, height) {
+            return place;
+        }
+        place -= 1;
+    }
+    place
+}
+
+/// Puts the height into the span at that place or before it; spans that then touch are joined.
+pub fn widen(spans: &mut Vec<HeightSpan>, place: usize, height: u64) -> Result<(), AllocError>
+    requires within { place ≤ vec_len spans.old }
+    requires reached { IsReached height (drop place (ranges_of spans.old.items)) }
+    requires ascend { AreOrdered (ranges_of spans.old.items) }
+    ensures ok { OnOk result (ranges_of spans.new.items
+        ≡ take place (ranges_of spans.old.items) ++ with_height height (drop place (ranges_of spans.old.items))) }
+    ensures err { OnErr result (spans.new.items ≡ spans.old.items) }
+{
+    if place == spans.len() {
+        return insert_alone(spans, place, height);
+    }
+    let span = spans[place];
+    if height < span.from {
+        if !follows(span.from, height) {
+            return insert_alone(spans, place, height);
+        }
+        spans[place] = HeightSpan {
+            from: height,
+            to: span.to,
+        };
+    } else if height > span.to {
+        extend(spans, place, height);
+    }
+    Ok(())
+}
+
+// Whether a number is one more than another.
+fn follows(next: u64, height: u64) -> bool
+    ensures { IsTrue result ↔ (next ≡ height + 1) }
+{
+    height < next && next - height == 1
+}
+
+// Inserts a span of that height alone.
+fn insert_alone(spans: &mut Vec<HeightSpan>, place: usize, height: u64) -> Result<(), AllocError>
+    requires within { place ≤ vec_len spans.old }
+    requires alone { IsAlone height (drop place (ranges_of spans.old.items)) }
+    ensures ok { OnOk result (ranges_of spans.new.items
+        ≡ take place (ranges_of spans.old.items) ++ with_height height (drop place (ranges_of spans.old.items))) }
+    ensures err { OnErr result (spans.new.items ≡ spans.old.items) }
+{
+    spans.insert(
+        place,
+        HeightSpan {
+            from: height,
+            to: height,
+        },
+    )?;
+    Ok(())
+}
+
+// Ends the span at that place with the height, which follows it, or where the next one follows the
+// height with the end of that one.
+fn extend(spans: &mut Vec<HeightSpan>, place: usize, height: u64)
+    requires within { place < vec_len spans.old }
+    requires followed { IsFollowed height (drop place (ranges_of spans.old.items)) }
+    ensures { ranges_of spans.new.items
+        ≡ take place (ranges_of spans.old.items) ++ with_height height (drop place (ranges_of spans.old.items)) }
+{
+    let from = spans[place].from;
+    if begins_after(spans, place + 1, height) {
+        let to = spans.remove(place + 1).to;
+        spans[place] = HeightSpan { from, to };
+        return;
+    }
+    spans[place] = HeightSpan { from, to: height };
+}
+
+// Whether a span stands at that place and begins just above the height.
+fn begins_after(spans: &[HeightSpan], place: usize, height: u64) -> bool
+    ensures { IsTrue result ↔ BeginsAfter height (drop place (ranges_of spans.now)) }
+{
+    place < spans.len() && follows(spans[place].from, height)
+}
