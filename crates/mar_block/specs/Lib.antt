@@ -1,0 +1,4 @@
+pub mod Block
+pub mod EmptyBlock
+pub mod EmptyBlockLemmas
+pub mod Parents
