@@ -1,0 +1,3 @@
+pub mod FirstPlaces
+pub mod Piles
+pub mod Stores

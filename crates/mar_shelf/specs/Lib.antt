@@ -1,0 +1,5 @@
+pub mod Cached
+pub mod Stored
+pub mod Entries
+pub mod Nested
+pub mod Named
