@@ -1,0 +1,12 @@
+use Rattle.mar_parts.specs.Acks.{is_unmarked}
+use Rattle.mar_parts.proofs.Entries.{entries_marked, entry_found, entry_marked}
+use Rattle.mar_parts.proofs.acks.mark_entries.Goals as goal
+
+pub loop-ack-preserved : goal.loop-ack-preserved
+loop-ack-preserved c = record {
+  marked = entry_marked _ _ _ _ _ _ c.loop-ack.invariant.marked _ c.loop-ack-test.true c.set_mark-found.ensures.marked;
+  found = entry_found _ _ _ _ _ c.ack-item.result c.loop-ack.invariant.marked (is_unmarked c.args.ticket) _ _ c.loop-ack-test.true c.loop-ack.invariant.found c.set_mark-found.ensures.found;
+}
+
+pub returns-clause-marked : goal.returns-clause-marked
+returns-clause-marked c = entries_marked _ _ _ _ _ c.loop-ack.invariant.marked c.loop-ack-test.false

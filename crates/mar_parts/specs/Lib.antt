@@ -1,0 +1,4 @@
+pub mod Acks
+pub mod Gate
+pub mod Metadata
+pub mod Views
