@@ -1,0 +1,14 @@
+pub mod Chain
+pub mod Config
+pub mod Node
+pub mod Event
+pub mod Cache
+pub mod Faults
+pub mod Answers
+pub mod Requests
+pub mod Step
+pub mod Lives
+pub mod Sound
+pub mod Judge
+pub mod Held
+pub mod Views

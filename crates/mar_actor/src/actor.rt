@@ -1,0 +1,100 @@
+//! The actor, which each of its steps consumes.
+ghost use Rattle.std.specs.Prelude.{◌≡◌};
+ghost use Rattle.std.specs.List.{list_any};
+ghost use Rattle.mar_parts.specs.Acks.{is_unmarked};
+ghost use Rattle.mar_actor.specs.Held.{remains_of};
+
+use crate::event::Event;
+use crate::fault::Fault;
+use crate::life::Life;
+use crate::reporter::Reporter;
+use crate::ruins::{Ended, Ruins};
+use crate::stores::Stores;
+use mar_block::{Buffer, Variant};
+use mar_cert::{CommitsTo, Provider};
+use mar_inbox::Message;
+use mar_key::Resolver;
+use mar_shelf::{Blocks, Certificates, Shelf};
+use mar_store::Meta;
+use mar_types::Epocher;
+use std::marker::Model;
+
+/// A node while a life runs.
+#[derive(Drop)]
+pub struct Actor<
+    V: Variant,
+    F: CommitsTo<V::Commitment>,
+    P: Provider,
+    E: Epocher,
+    FB: Blocks<V>,
+    FC: Certificates<V, F>,
+    M: Meta,
+    H: Shelf,
+> {
+    pub(crate) stores: Stores<V, F, FB, FC, M, H>,
+    pub(crate) life: Life<P, E>,
+}
+
+impl<
+    V: Variant,
+    F: CommitsTo<V::Commitment>,
+    P: Provider,
+    E: Epocher,
+    FB: Blocks<V>,
+    FC: Certificates<V, F>,
+    M: Meta,
+    H: Shelf,
+> Model for Actor<V, F, P, E, FB, FC, M, H> {
+    ghost use Rattle.mar_actor.specs.Held.{Seen};
+
+    ghost Value = { Seen P E };
+
+    ghost view = { λ a. record { held = a.stores; life = a.life } };
+}
+
+impl<
+    V: Variant,
+    F: CommitsTo<V::Commitment>,
+    P: Provider,
+    E: Epocher,
+    FB: Blocks<V>,
+    FC: Certificates<V, F>,
+    M: Meta,
+    H: Shelf,
+> Actor<V, F, P, E, FB, FC, M, H> {
+    /// Takes one event. An end of the life says why and hands back what is left.
+    pub fn step<B: Buffer<V>, R: Resolver<V::Commitment>, A: Reporter<V>>(
+        self,
+        event: Event<F>,
+        buffer: &B,
+        resolver: &mut R,
+        application: &mut A,
+    ) -> Result<Self, Ended<V, F, FB, FC, M, H>> {
+        match event {
+            Event::Start => self.dispatch(application),
+            Event::Message(Message::Finalization(finalization)) => {
+                self.report_finalization(&finalization, buffer, resolver, application)
+            }
+            Event::Sync(_) => Ok(self),
+            Event::Ack(ticket) => self.acknowledge(ticket, resolver, application),
+        }
+    }
+
+    /// Ends the life; what a crash now leaves is handed back.
+    pub fn wreck(self) -> Ruins<V, F, FB, FC, M, H>
+        ensures { result ≡ remains_of self.held }
+    {
+        self.stores.wreck()
+    }
+
+    /// Whether the application owes an acknowledgement under that ticket.
+    pub fn owes_ack(&self, ticket: u64) -> bool
+        ensures { result ≡ list_any (is_unmarked ticket) self.now.life.out }
+    {
+        self.life.acks.is_unmarked(ticket)
+    }
+
+    pub(crate) fn end(self, fault: Fault) -> Ended<V, F, FB, FC, M, H> {
+        self.stores.end(fault)
+    }
+}

@@ -1,0 +1,31 @@
+//! What an actor is set to.
+use mar_types::ViewDelta;
+
+/// The sizes that an actor keeps to.
+#[derive(Clone, Copy, Debug, PartialEq, Eq)]
+pub struct Limits {
+    /// How many blocks may be handed over and not yet acknowledged; at least 1.
+    pub max_pending_acks: usize,
+    /// How many messages wait in order; at least 1.
+    pub mailbox_size: usize,
+    /// How many missing heights are asked for at once; at least 1.
+    pub max_repair: usize,
+    /// How many views below the last witnessed round the cache keeps.
+    pub view_retention: ViewDelta,
+}
+
+/// What a chain begins from, with blocks of the kind `B`.
+#[derive(Drop)]
+pub enum Start<B> {
+    /// The block at height zero.
+    Genesis(B),
+}
+
+/// What an actor is opened with: who gives the schemes of epochs, which heights an epoch has, and the rest.
+#[derive(Drop)]
+pub struct Config<P, E, B> {
+    pub provider: P,
+    pub epocher: E,
+    pub start: Start<B>,
+    pub limits: Limits,
+}

@@ -1,0 +1,478 @@
+//! The four stores of a life, which each call consumes.
+ghost use Rattle.std.specs.Prelude.{◌≡◌, ◌∷◌, [], IfOk, Some, option_map};
+ghost use Rattle.mar_key.specs.Views.{cutoff_of};
+ghost use Rattle.mar_store.specs.Kept.{value_at};
+ghost use Rattle.mar_store.specs.Changes.{Puts, Syncs};
+ghost use Rattle.mar_shelf.specs.Stored.{at_own_height, block_of, is_certified, is_held};
+ghost use Rattle.mar_actor.specs.Held.{remains_of};
+ghost use Rattle.mar_actor.specs.Views.{fault_of};
+
+use crate::fault::{Fault, StoreName};
+use crate::ruins::{Ended, Ruins};
+use mar_block::Variant;
+use mar_cert::CommitsTo;
+use mar_key::Cutoff;
+use mar_parts::Stream;
+use mar_shelf::{Blocks, Certificates, Shelf};
+use mar_store::{Lost, Meta, Miss};
+use mar_types::Height;
+use std::marker::{Model, PhantomData};
+
+#[derive(Drop)]
+pub(crate) struct Stores<
+    V: Variant,
+    F: CommitsTo<V::Commitment>,
+    FB: Blocks<V>,
+    FC: Certificates<V, F>,
+    M: Meta,
+    H: Shelf,
+> {
+    pub(crate) blocks: FB,
+    pub(crate) certs: FC,
+    stream: Stream<M>,
+    shelf: H,
+    of: PhantomData<(V, F)>,
+}
+
+impl<
+    V: Variant,
+    F: CommitsTo<V::Commitment>,
+    FB: Blocks<V>,
+    FC: Certificates<V, F>,
+    M: Meta,
+    H: Shelf,
+> Model for Stores<V, F, FB, FC, M, H> {
+    ghost use Rattle.mar_actor.specs.Held.{Held};
+
+    ghost Value = { Held };
+
+    ghost view = { λ s. record {
+      blocks = FB.stored s.blocks;
+      certs = FC.stored s.certs;
+      pair = s.stream.pair;
+      pairs = s.stream.left;
+      counts = record { blocks = FB.faults s.blocks; certs = FC.faults s.certs; meta = s.stream.faults; cache = H.faults s.shelf };
+    } };
+}
+
+impl<
+    V: Variant,
+    F: CommitsTo<V::Commitment>,
+    FB: Blocks<V>,
+    FC: Certificates<V, F>,
+    M: Meta,
+    H: Shelf,
+> Stores<V, F, FB, FC, M, H> {
+    /// Opens what a crash left, in the order blocks, certificates, metadata, cache.
+    pub(crate) fn reopen(
+        ruins: Ruins<V, F, FB, FC, M, H>,
+        luck: u64,
+    ) -> Result<Self, Ended<V, F, FB, FC, M, H>> {
+        let Ruins {
+            blocks,
+            certs,
+            meta,
+            shelf,
+        } = ruins;
+        let blocks = match FB::reopen(blocks, luck) {
+            Ok(blocks) => blocks,
+            Err(lost) => return Err(Ended::before_blocks(lost, certs, meta, shelf)),
+        };
+        let certs = match FC::reopen(certs, luck) {
+            Ok(certs) => certs,
+            Err(lost) => return Err(Ended::before_certs(blocks, lost, meta, shelf)),
+        };
+        let stream = match M::reopen(meta, luck) {
+            Ok(meta) => Stream::new(meta),
+            Err(lost) => return Err(Ended::before_meta(blocks, certs, lost, shelf)),
+        };
+        match H::reopen(shelf, luck) {
+            Ok(shelf) => Ok(Stores {
+                blocks,
+                certs,
+                stream,
+                shelf,
+                of: PhantomData,
+            }),
+            Err(lost) => Err(Ended::of_shelf(blocks, certs, stream, lost)),
+        }
+    }
+
+    /// Whether nothing is stored: no block, no certificate, no processed height and no cutoff.
+    pub(crate) fn is_empty(&self) -> bool {
+        self.blocks.held_ranges().is_empty()
+            && self.certs.held_ranges().is_empty()
+            && self.stream.processed_height().is_none()
+            && Cutoff::zero().reaches(self.stream.cutoff())
+    }
+
+    /// Ends the life without a fault of a store.
+    pub(crate) fn end(self, fault: Fault) -> Ended<V, F, FB, FC, M, H>
+        ensures { result ≡ record { fault = fault_of fault; remains = remains_of self } }
+    {
+        Ended {
+            fault,
+            ruins: self.wreck(),
+        }
+    }
+
+    /// What a crash now leaves.
+    pub(crate) fn wreck(self) -> Ruins<V, F, FB, FC, M, H>
+        ensures { result ≡ remains_of self }
+    {
+        let Stores {
+            blocks,
+            certs,
+            stream,
+            shelf,
+            of: _,
+        } = self;
+        Ruins {
+            blocks: blocks.wreck(),
+            certs: certs.wreck(),
+            meta: stream.wreck(),
+            shelf: shelf.wreck(),
+        }
+    }
+
+    /// Ends the life where a read of this store had no answer.
+    fn missed(self, store: StoreName, miss: Miss) -> Ended<V, F, FB, FC, M, H> {
+        match miss {
+            Miss::Fault => self.end(Fault::StoreFault(store)),
+            Miss::Memory => self.end(Fault::Memory),
+        }
+    }
+
+    pub(crate) fn block_at(
+        self,
+        height: Height,
+    ) -> Result<(Self, Option<V::Block>), Ended<V, F, FB, FC, M, H>>
+        ensures found { IfOk result (λ r. option_map V.plain r.1 ≡ value_at self.blocks.held height) }
+        ensures same { IfOk result (λ r. r.0 ≡ self) }
+    {
+        let mut stores = self;
+        match stores.blocks.get(height) {
+            Ok(block) => Ok((stores, block)),
+            Err(miss) => Err(stores.missed(StoreName::Blocks, miss)),
+        }
+    }
+
+    pub(crate) fn block_of(
+        self,
+        digest: &V::Digest,
+    ) -> Result<(Self, Option<V::Block>), Ended<V, F, FB, FC, M, H>>
+        ensures found { IfOk result (λ r. option_map V.plain r.1 ≡ block_of self.blocks.held (V.Digest.bytes digest.now)) }
+        ensures same { IfOk result (λ r. r.0 ≡ self) }
+    {
+        let mut stores = self;
+        match stores.blocks.find(digest) {
+            Ok(block) => Ok((stores, block)),
+            Err(miss) => Err(stores.missed(StoreName::Blocks, miss)),
+        }
+    }
+
+    pub(crate) fn certificate_at(
+        self,
+        height: Height,
+    ) -> Result<(Self, Option<F>), Ended<V, F, FB, FC, M, H>>
+        ensures found { IfOk result (λ r. option_map F.plain r.1 ≡ value_at self.certs.held height) }
+        ensures same { IfOk result (λ r. r.0 ≡ self) }
+    {
+        let mut stores = self;
+        match stores.certs.get(height) {
+            Ok(certificate) => Ok((stores, certificate)),
+            Err(miss) => Err(stores.missed(StoreName::Certs, miss)),
+        }
+    }
+
+    pub(crate) fn put_block(self, block: &V::Block) -> Result<Self, Ended<V, F, FB, FC, M, H>>
+        ensures ok { IfOk result (λ s. Puts (is_held self.blocks.held (V.plain block.now)) self.blocks (at_own_height (V.plain block.now)) s.blocks) }
+        ensures same { IfOk result (λ s. s ≡ record self { blocks = s.blocks; counts = s.counts }) }
+        ensures counts { IfOk result (λ s. s.counts ≡ self.counts) }
+    {
+        let Stores {
+            blocks,
+            certs,
+            stream,
+            shelf,
+            of,
+        } = self;
+        match blocks.put(&V::digest(block), block) {
+            Ok(blocks) => Ok(Stores {
+                blocks,
+                certs,
+                stream,
+                shelf,
+                of,
+            }),
+            Err(lost) => Err(Ended::of_blocks(lost, certs, stream, shelf)),
+        }
+    }
+
+    pub(crate) fn sync_blocks(self) -> Result<Self, Ended<V, F, FB, FC, M, H>>
+        ensures ok { IfOk result (λ s. Syncs self.blocks s.blocks) }
+        ensures same { IfOk result (λ s. s ≡ record self { blocks = s.blocks; counts = s.counts }) }
+        ensures counts { IfOk result (λ s. s.counts ≡ self.counts) }
+    {
+        let Stores {
+            blocks,
+            certs,
+            stream,
+            shelf,
+            of,
+        } = self;
+        match blocks.sync() {
+            Ok(blocks) => Ok(Stores {
+                blocks,
+                certs,
+                stream,
+                shelf,
+                of,
+            }),
+            Err(lost) => Err(Ended::of_blocks(lost, certs, stream, shelf)),
+        }
+    }
+
+    pub(crate) fn put_certificate(
+        self,
+        height: Height,
+        finalization: &F,
+    ) -> Result<Self, Ended<V, F, FB, FC, M, H>>
+        ensures ok { IfOk result (λ s. Puts (is_certified V.inner self.certs.held height (V.inner (F.plain finalization.now).payload)) self.certs (record { height = height; value = F.plain finalization.now }) s.certs) }
+        ensures same { IfOk result (λ s. s ≡ record self { certs = s.certs; counts = s.counts }) }
+        ensures counts { IfOk result (λ s. s.counts ≡ self.counts) }
+    {
+        let Stores {
+            blocks,
+            certs,
+            stream,
+            shelf,
+            of,
+        } = self;
+        match certs.put(
+            height,
+            &V::commitment_to_inner(finalization.payload()),
+            finalization,
+        ) {
+            Ok(certs) => Ok(Stores {
+                blocks,
+                certs,
+                stream,
+                shelf,
+                of,
+            }),
+            Err(lost) => Err(Ended::of_certs(blocks, lost, stream, shelf)),
+        }
+    }
+
+    pub(crate) fn sync_certificates(self) -> Result<Self, Ended<V, F, FB, FC, M, H>>
+        ensures ok { IfOk result (λ s. Syncs self.certs s.certs) }
+        ensures same { IfOk result (λ s. s ≡ record self { certs = s.certs; counts = s.counts }) }
+        ensures counts { IfOk result (λ s. s.counts ≡ self.counts) }
+    {
+        let Stores {
+            blocks,
+            certs,
+            stream,
+            shelf,
+            of,
+        } = self;
+        match certs.sync() {
+            Ok(certs) => Ok(Stores {
+                blocks,
+                certs,
+                stream,
+                shelf,
+                of,
+            }),
+            Err(lost) => Err(Ended::of_certs(blocks, lost, stream, shelf)),
+        }
+    }
+
+    /// Sets the processed height, which becomes durable with the next sync of the metadata.
+    pub(crate) fn acknowledge(self, height: Height) -> Result<Self, Ended<V, F, FB, FC, M, H>>
+        ensures ok { IfOk result (λ s. s.pair ≡ record self.pair { processed = Some height }) }
+        ensures same { IfOk result (λ s. s ≡ record self { pair = s.pair; pairs = s.pairs; counts = s.counts }) }
+        ensures pairs { IfOk result (λ s. s.pairs ≡ self.pairs) }
+    {
+        let Stores {
+            blocks,
+            certs,
+            stream,
+            shelf,
+            of,
+        } = self;
+        match stream.acknowledge(height) {
+            Ok(stream) => Ok(Stores {
+                blocks,
+                certs,
+                stream,
+                shelf,
+                of,
+            }),
+            Err(lost) => Err(Ended::of_meta(blocks, certs, lost, shelf)),
+        }
+    }
+
+    /// Sets the cutoff, which becomes durable with the next sync of the metadata.
+    pub(crate) fn set_cutoff(self, cutoff: Cutoff) -> Result<Self, Ended<V, F, FB, FC, M, H>>
+        ensures ok { IfOk result (λ s. s.pair ≡ record self.pair { cutoff = cutoff_of cutoff }) }
+        ensures same { IfOk result (λ s. s ≡ record self { pair = s.pair; pairs = s.pairs; counts = s.counts }) }
+        ensures pairs { IfOk result (λ s. s.pairs ≡ self.pairs) }
+    {
+        let Stores {
+            blocks,
+            certs,
+            stream,
+            shelf,
+            of,
+        } = self;
+        match stream.set_cutoff(cutoff) {
+            Ok(stream) => Ok(Stores {
+                blocks,
+                certs,
+                stream,
+                shelf,
+                of,
+            }),
+            Err(lost) => Err(Ended::of_meta(blocks, certs, lost, shelf)),
+        }
+    }
+
+    pub(crate) fn sync_metadata(self) -> Result<Self, Ended<V, F, FB, FC, M, H>>
+        ensures ok { IfOk result (λ s. s.pairs ≡ self.pair ∷ []) }
+        ensures same { IfOk result (λ s. s ≡ record self { pair = s.pair; pairs = s.pairs; counts = s.counts }) }
+        ensures pair { IfOk result (λ s. s.pair ≡ self.pair) }
+    {
+        let Stores {
+            blocks,
+            certs,
+            stream,
+            shelf,
+            of,
+        } = self;
+        match stream.sync() {
+            Ok(stream) => Ok(Stores {
+                blocks,
+                certs,
+                stream,
+                shelf,
+                of,
+            }),
+            Err(lost) => Err(Ended::of_meta(blocks, certs, lost, shelf)),
+        }
+    }
+}
+
+/// The fault by which a store is lost, and what is left of the store.
+fn lost_by<W>(lost: Lost<W>, store: StoreName) -> (Fault, W) {
+    match lost {
+        Lost::Fault(wreck) => (Fault::StoreFault(store), wreck),
+        Lost::Memory(wreck) => (Fault::Memory, wreck),
+    }
+}
+
+impl<
+    V: Variant,
+    F: CommitsTo<V::Commitment>,
+    FB: Blocks<V>,
+    FC: Certificates<V, F>,
+    M: Meta,
+    H: Shelf,
+> Ended<V, F, FB, FC, M, H> {
+    fn before_blocks(
+        lost: Lost<FB::Wreck>,
+        certs: FC::Wreck,
+        meta: M::Wreck,
+        shelf: H::Wreck,
+    ) -> Self {
+        let (fault, blocks) = lost_by(lost, StoreName::Blocks);
+        Ended {
+            fault,
+            ruins: Ruins {
+                blocks,
+                certs,
+                meta,
+                shelf,
+            },
+        }
+    }
+
+    fn before_certs(blocks: FB, lost: Lost<FC::Wreck>, meta: M::Wreck, shelf: H::Wreck) -> Self {
+        let (fault, certs) = lost_by(lost, StoreName::Certs);
+        Ended {
+            fault,
+            ruins: Ruins {
+                blocks: blocks.wreck(),
+                certs,
+                meta,
+                shelf,
+            },
+        }
+    }
+
+    fn before_meta(blocks: FB, certs: FC, lost: Lost<M::Wreck>, shelf: H::Wreck) -> Self {
+        let (fault, meta) = lost_by(lost, StoreName::Meta);
+        Ended {
+            fault,
+            ruins: Ruins {
+                blocks: blocks.wreck(),
+                certs: certs.wreck(),
+                meta,
+                shelf,
+            },
+        }
+    }
+
+    fn of_shelf(blocks: FB, certs: FC, stream: Stream<M>, lost: Lost<H::Wreck>) -> Self {
+        let (fault, shelf) = lost_by(lost, StoreName::Cache);
+        Ended {
+            fault,
+            ruins: Ruins {
+                blocks: blocks.wreck(),
+                certs: certs.wreck(),
+                meta: stream.wreck(),
+                shelf,
+            },
+        }
+    }
+
+    fn of_blocks(lost: Lost<FB::Wreck>, certs: FC, stream: Stream<M>, shelf: H) -> Self {
+        let (fault, blocks) = lost_by(lost, StoreName::Blocks);
+        Ended {
+            fault,
+            ruins: Ruins {
+                blocks,
+                certs: certs.wreck(),
+                meta: stream.wreck(),
+                shelf: shelf.wreck(),
+            },
+        }
+    }
+
+    fn of_certs(blocks: FB, lost: Lost<FC::Wreck>, stream: Stream<M>, shelf: H) -> Self {
+        let (fault, certs) = lost_by(lost, StoreName::Certs);
+        Ended {
+            fault,
+            ruins: Ruins {
+                blocks: blocks.wreck(),
+                certs,
+                meta: stream.wreck(),
+                shelf: shelf.wreck(),
+            },
+        }
+    }
+
+    fn of_meta(blocks: FB, certs: FC, lost: Lost<M::Wreck>, shelf: H) -> Self {
+        let (fault, meta) = lost_by(lost, StoreName::Meta);
+        Ended {
+            fault,
+            ruins: Ruins {
+                blocks: blocks.wreck(),
+                certs: certs.wreck(),
+                meta,
+                shelf: shelf.wreck(),
+            },
+        }
+    }
+}
