@@ -1,0 +1,9 @@
+pub mod Script
+pub mod Text
+pub mod Run
+pub mod Streams
+pub mod Words
+pub mod Status
+pub mod Shown
+pub mod Laws
+pub mod Endings

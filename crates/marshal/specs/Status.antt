@@ -1,0 +1,20 @@
+-- What a status prints, and the code that the program exits with.
+use Rattle.std.specs.Prelude.{List, [], codes, decimal, ℕ, ◌++◌}
+use Rattle.marshal.specs.declared.status.Status.{Status}
+use Rattle.marshal.specs.declared.status.Status.TheVariants.{Memory, Ok, ReadFault, Script, Usage, WriteFault}
+
+abbrev pub status_text : Status → List ℕ
+status_text Ok = []
+status_text Memory = codes "marshal: memory"
+status_text Usage = codes "marshal: usage: replay, threads K, gen SEED N, dir PATH replay"
+status_text (Script line) = codes "marshal: line " ++ (decimal line ++ codes ": not in the grammar")
+status_text ReadFault = codes "marshal: read fault"
+status_text WriteFault = codes "marshal: write fault"
+
+abbrev pub exit_code : Status → ℕ
+exit_code Ok = 0
+exit_code Memory = 1
+exit_code Usage = 2
+exit_code (Script line) = 3
+exit_code ReadFault = 4
+exit_code WriteFault = 5

@@ -1,0 +1,51 @@
+//! What the program says of itself.
+ghost use Rattle.std.specs.Prelude.{◌≡◌, ◌∷◌, ◌↔◌, ◌⊎◌, [], IsSome, codes, map, string_bytes};
+ghost use Rattle.mar_codec.specs.Causes.{Rose};
+ghost use Rattle.marshal.specs.Streams.{Takes, TakesFront};
+
+use crate::command::are_only;
+use crate::sink::{Sink, write_all};
+use crate::status::Status;
+use mar_store::Miss;
+
+const HELP: &str = "usage: marshal COMMAND
+
+marshal reads events from standard input, a line each, and writes what a node makes of them.
+
+commands:
+  replay          replays a script over stores in memory
+
+  --help          writes this text
+  --version       writes the version
+
+exit status: 0 the input was read to its end, 1 out of memory, 2 usage, 3 a line is outside the grammar,
+4 standard input failed, 5 standard output failed
+";
+
+const VERSION: &str = "marshal 0.1.0\n";
+
+/// The text that a lone `--help` or `--version` asks for.
+pub fn text_for(words: &[String]) -> Option<&'static str>
+    ensures { IsSome result ↔ ((map string_bytes words.now ≡ codes "--help" ∷ []) ⊎ (map string_bytes words.now ≡ codes "--version" ∷ [])) }
+{
+    if are_only(words, "--help") {
+        return Some(HELP);
+    }
+    if are_only(words, "--version") {
+        return Some(VERSION);
+    }
+    None
+}
+
+/// Writes the text to the sink.
+pub fn show<K: Sink>(sink: &mut K, text: &str) -> Status
+    ensures written { result ≡ Status.Ok → Takes (K.written sink.old) text.now (K.written sink.new) }
+    ensures front { TakesFront (K.written sink.old) text.now (K.written sink.new) }
+    ensures fault { result ≡ Status.WriteFault → Rose (K.faults sink.old) (K.faults sink.new) }
+{
+    match write_all(sink, text.as_bytes()) {
+        Ok(()) => Status::Ok,
+        Err(Miss::Fault) => Status::WriteFault,
+        Err(Miss::Memory) => Status::Memory,
+    }
+}

@@ -1,0 +1,87 @@
+//! Replays a script of events over stores in memory, and writes what the node makes of it.
+#![tactic(auto)]
+
+mod command;
+mod help;
+mod laws;
+mod line;
+mod play;
+mod reader;
+mod recorder;
+mod replay;
+mod run;
+mod settings;
+mod shown;
+mod sink;
+mod source;
+mod status;
+mod text;
+mod turn;
+mod words;
+
+use crate::help::{show, text_for};
+use crate::play::Stores;
+use crate::run::run;
+use crate::sink::Output;
+use crate::source::Input as InputSource;
+use crate::status::Status;
+use mar_actor::Ruins;
+use mar_block::StandardBlocks;
+use mar_cert::MockFinalization;
+use mar_shelf::{Blocks, Certificates, ListBlocks, ListCertificates, NoShelf, Shelf};
+use mar_store::{MemMeta, Meta};
+use std::alloc::Global;
+use std::process::ExitCode;
+use std::rt::Env;
+use std::{env, io};
+
+/// What is left of stores in memory.
+type MemoryStores = Stores<
+    ListBlocks<StandardBlocks>,
+    ListCertificates<StandardBlocks, MockFinalization>,
+    MemMeta,
+    NoShelf,
+>;
+
+/// The words of the command line behind the program's name.
+fn words_of(rt: &(impl Env + AllocGlobal)) -> io::Result<Vec<String>> {
+    let mut words = Vec::new(rt.alloc());
+    for word in env::args(rt)?.skip(1) {
+        words.push(word)?;
+    }
+    Ok(words)
+}
+
+/// Does what the words ask for, over standard input and output.
+fn run_words(rt: &(impl AllocGlobal + Input + Print), words: &[String]) -> Status {
+    let mut sink = Output::new(io::writer(rt));
+    if let Some(text) = text_for(words) {
+        return show(&mut sink, text);
+    }
+    let mut source = InputSource::new(rt.reader());
+    let alloc = rt.alloc();
+    let stores = empty_stores(alloc);
+    run(alloc, words, &mut source, &mut sink, stores).status
+}
+
+/// Stores in memory that hold nothing.
+fn empty_stores(alloc: Global) -> MemoryStores {
+    Ruins {
+        blocks: ListBlocks::new(alloc).wreck(),
+        certs: ListCertificates::new(alloc).wreck(),
+        meta: MemMeta::new(alloc).wreck(),
+        shelf: NoShelf.wreck(),
+    }
+}
+
+fn main(rt: HostRuntime) -> ExitCode {
+    let status = match words_of(&rt) {
+        Ok(words) => run_words(&rt, &words),
+        Err(error) if error.kind() == io::ErrorKind::OutOfMemory => Status::Memory,
+        Err(_) => Status::Usage,
+    };
+    if status != Status::Ok {
+        let _ = eprintln!(rt; "{status}");
+    }
+    ExitCode::from(status.exit_code())
+}

@@ -1,0 +1,46 @@
+//! What the words of the command line ask for.
+ghost use Rattle.std.specs.Prelude.{◌≡◌, [], ◌∷◌, codes, map, string_bytes};
+ghost use Rattle.mar_codec.specs.Causes.{Rose};
+ghost use Rattle.marshal.specs.Run.{IsShownAs};
+
+use crate::command::Command;
+use crate::play::Stores;
+use crate::replay::{Finished, replay};
+use crate::sink::Sink;
+use crate::source::Source;
+use crate::status::Status;
+use mar_block::StandardBlocks;
+use mar_cert::MockFinalization;
+use mar_shelf::{Blocks, Certificates, Shelf};
+use mar_store::Meta;
+use std::alloc::Global;
+
+/// Does what the words ask for, reading from the source and writing to the sink.
+pub fn run<
+    S: Source,
+    K: Sink,
+    FB: Blocks<StandardBlocks>,
+    FC: Certificates<StandardBlocks, MockFinalization>,
+    M: Meta,
+    H: Shelf,
+>(
+    alloc: Global,
+    words: &[String],
+    source: &mut S,
+    sink: &mut K,
+    stores: Stores<FB, FC, M, H>,
+) -> Finished<FB, FC, M, H>
+    ensures usage { (map string_bytes words.now ≡ codes "replay" ∷ [] → ⊥) → result.status ≡ Status.Usage }
+    ensures not_usage { map string_bytes words.now ≡ codes "replay" ∷ [] → result.status ≡ Status.Usage → ⊥ }
+    ensures to_end { result.status ≡ Status.Ok → IsShownAs (S.left source.new) [] }
+    ensures read_fault { result.status ≡ Status.ReadFault → Rose (S.faults source.old) (S.faults source.new) }
+    ensures write_fault { result.status ≡ Status.WriteFault → Rose (K.faults sink.old) (K.faults sink.new) }
+{
+    match Command::parse(words) {
+        Some(Command::Replay) => replay(alloc, source, sink, stores),
+        None => Finished {
+            status: Status::Usage,
+            stores,
+        },
+    }
+}

@@ -1,0 +1,87 @@
+//! How a run ended.
+ghost use Rattle.std.specs.Prelude.{◌≡◌};
+ghost use Rattle.marshal.specs.Status.{exit_code};
+
+use std::fmt;
+
+/// How a run ended.
+#[derive(Clone, Copy, Debug, PartialEq, Eq)]
+pub enum Status {
+    /// The input was read to its end.
+    Ok,
+    /// Memory ran out.
+    Memory,
+    /// The words of the command line aren't a command.
+    Usage,
+    /// This line, counted from 1, is outside the grammar; the lines before it were done.
+    Script(u64),
+    /// The source failed.
+    ReadFault,
+    /// The sink failed.
+    WriteFault,
+}
+
+impl Status {
+    /// The code that the program exits with.
+    pub fn exit_code(&self) -> u8
+        ensures { result ≡ exit_code self.now }
+    {
+        match self {
+            Status::Ok => 0,
+            Status::Memory => 1,
+            Status::Usage => 2,
+            Status::Script(_) => 3,
+            Status::ReadFault => 4,
+            Status::WriteFault => 5,
+        }
+    }
+}
+
+/// Writes what standard error is told, and nothing for `Ok`.
+impl fmt::Display for Status {
+    ghost use Rattle.std.specs.Prelude.{Some};
+    ghost use Rattle.marshal.specs.Status.{status_text};
+
+    ghost output = { λ status. Some (status_text status) };
+
+    fn fmt<W: fmt::Write>(&self, f: &mut fmt::Formatter<W>) -> fmt::Result {
+        match self {
+            Status::Ok => f.write_str(""),
+            Status::Memory => f.write_str("marshal: memory"),
+            Status::Usage => {
+                f.write_str("marshal: usage: replay, threads K, gen SEED N, dir PATH replay")
+            }
+            Status::Script(line) => write!(f, "marshal: line {line}: not in the grammar"),
+            Status::ReadFault => f.write_str("marshal: read fault"),
+            Status::WriteFault => f.write_str("marshal: write fault"),
+        }
+    }
+}
+
+#[cfg(test)]
+mod tests {
+    use super::*;
+    use std::test::Fail;
+
+    #[test]
+    fn texts_and_codes(rt: HostRuntime) -> Result<(), Fail> {
+        let rows = [
+            (Status::Ok, "", 0),
+            (Status::Memory, "marshal: memory", 1),
+            (
+                Status::Usage,
+                "marshal: usage: replay, threads K, gen SEED N, dir PATH replay",
+                2,
+            ),
+            (Status::Script(7), "marshal: line 7: not in the grammar", 3),
+            (Status::ReadFault, "marshal: read fault", 4),
+            (Status::WriteFault, "marshal: write fault", 5),
+        ];
+        for (status, text, code) in rows {
+            let printed = status.to_string(rt.alloc())?;
+            assert_eq!(rt; printed.as_str(), text);
+            assert_eq!(rt; status.exit_code(), code);
+        }
+        Ok(())
+    }
+}

@@ -1,0 +1,207 @@
+//! The lines of the output.
+ghost use Rattle.std.specs.Prelude.{◌≡◌, ◌++◌, ◌∷◌, ℕ, List, [], None, OnOk, codes, decimal, string_bytes};
+ghost use Rattle.mar_actor.specs.Step.{new_tip};
+ghost use Rattle.mar_key.specs.Keys.{above_round, block_key, fetch, retain};
+ghost use Rattle.mar_key.specs.Views.{annotation_of, call_of, cutoff_of, retain_of};
+ghost use Rattle.mar_types.specs.Round.{Round};
+ghost use Rattle.marshal.specs.Script.{hex, store_name};
+ghost use Rattle.marshal.specs.Text.{ask_words, cutoff_text, fault_words, kind_name, line_of, remark_words, report_words, round_text, annotation_words, retain_words};
+ghost use Rattle.mar_actor.specs.Views.{fault_of, kind_of, store_name_of};
+ghost use Rattle.marshal.specs.Shown.{remark_of};
+
+use mar_actor::{Fault, StoreName, TicketKind};
+use mar_codec::Sha256Digest;
+use mar_key::{Annotation, Cutoff, Fetch, Finalized, Key, Retain};
+use mar_types::{Height, Round};
+use std::alloc::{AllocError, Global};
+
+/// Why a line did nothing.
+#[derive(Clone, Copy, Debug, PartialEq, Eq)]
+pub enum RemarkShown {
+    /// The ticket isn't open or outstanding.
+    Ignored,
+    /// No life runs.
+    Stopped,
+    /// A life runs already.
+    Running,
+}
+
+/// Appends bytes in lower-case hexadecimal, or `-` for none.
+pub fn push_hex(alloc: Global, text: &mut String, bytes: &[u8]) -> Result<(), AllocError>
+    ensures { OnOk result (string_bytes text.new ≡ string_bytes text.old ++ hex bytes.now) }
+{
+    if bytes.is_empty() {
+        return text.push_str("-");
+    }
+    let spelled = hex::encode(alloc, bytes)?;
+    text.push_str(spelled.as_str())
+}
+
+fn push_round(text: &mut String, round: Round) -> Result<(), AllocError>
+    ensures { OnOk result (string_bytes text.new ≡ string_bytes text.old ++ round_text round) }
+{
+    let epoch = round.epoch();
+    let view = round.view();
+    write!(text, "{epoch}.{view}")
+}
+
+/// Appends a cutoff: its round, or its epoch with a star.
+pub fn push_cutoff(text: &mut String, cutoff: Cutoff) -> Result<(), AllocError>
+    ensures { OnOk result (string_bytes text.new ≡ string_bytes text.old ++ cutoff_text (cutoff_of cutoff)) }
+{
+    match cutoff {
+        Cutoff::Round(round) => push_round(text, round),
+        Cutoff::Epoch(epoch) => write!(text, "{epoch}.*"),
+    }
+}
+
+/// Appends the line of a new tip.
+pub fn push_tip(
+    alloc: Global,
+    text: &mut String,
+    round: Round,
+    height: Height,
+    digest: &[u8],
+) -> Result<(), AllocError>
+    ensures { OnOk result (string_bytes text.new ≡ string_bytes text.old ++ line_of (report_words (new_tip round height digest.now))) }
+{
+    text.push_str("tip ")?;
+    push_round(text, round)?;
+    write!(text, " {height} ")?;
+    push_hex(alloc, text, digest)?;
+    text.push_str("\n")
+}
+
+/// Appends the line of a block that was handed over under this ticket.
+pub fn push_block(
+    alloc: Global,
+    text: &mut String,
+    ticket: u64,
+    height: Height,
+    digest: &[u8],
+) -> Result<(), AllocError>
+    ensures { OnOk result (string_bytes text.new ≡ string_bytes text.old ++ line_of (codes "block" ∷ decimal ticket ∷ decimal height ∷ hex digest.now ∷ [])) }
+{
+    write!(text, "block {ticket} {height} ")?;
+    push_hex(alloc, text, digest)?;
+    text.push_str("\n")
+}
+
+fn push_finalized(text: &mut String, finalized: Finalized) -> Result<(), AllocError>
+    ensures { OnOk result (string_bytes text.new ≡ string_bytes text.old ++ line_of (annotation_words (annotation_of (Annotation.Finalized finalized)))) }
+{
+    match finalized {
+        Finalized::ByHeight { height } => writeln!(text, "fin h{height}"),
+        Finalized::ByRound { round } => {
+            text.push_str("fin r")?;
+            push_round(text, round)?;
+            text.push_str("\n")
+        }
+    }
+}
+
+fn push_annotation(text: &mut String, annotation: Annotation) -> Result<(), AllocError>
+    ensures { OnOk result (string_bytes text.new ≡ string_bytes text.old ++ line_of (annotation_words (annotation_of annotation))) }
+{
+    match annotation {
+        Annotation::Notarization { round } => {
+            text.push_str("not r")?;
+            push_round(text, round)?;
+            text.push_str("\n")
+        }
+        Annotation::Untrusted { height } => writeln!(text, "unt h{height}"),
+        Annotation::Certified { height } => writeln!(text, "cer h{height}"),
+        Annotation::Finalized(finalized) => push_finalized(text, finalized),
+    }
+}
+
+/// Appends a request of the block of this commitment.
+pub fn push_fetch(
+    alloc: Global,
+    text: &mut String,
+    commitment: &[u8],
+    annotation: Annotation,
+) -> Result<(), AllocError>
+    ensures { OnOk result (string_bytes text.new ≡ string_bytes text.old ++ line_of (ask_words (fetch (block_key commitment.now) (annotation_of annotation) None))) }
+{
+    let mut key = Vec::from_slice(alloc, &[0])?;
+    key.extend_from_slice(commitment)?;
+    text.push_str("fetch ")?;
+    push_hex(alloc, text, key.as_slice())?;
+    text.push_str(" ")?;
+    push_annotation(text, annotation)?;
+    Ok(())
+}
+
+fn push_above_round(text: &mut String, cutoff: Cutoff) -> Result<(), AllocError>
+    ensures { OnOk result (string_bytes text.new ≡ string_bytes text.old ++ line_of (ask_words (retain (above_round (cutoff_of cutoff))))) }
+{
+    match cutoff {
+        Cutoff::Round(round) => {
+            text.push_str("retain round ")?;
+            push_round(text, round)?;
+            text.push_str("\n")
+        }
+        Cutoff::Epoch(epoch) => writeln!(text, "retain epoch {epoch}"),
+    }
+}
+
+/// Appends what stays open.
+pub fn push_retain(text: &mut String, keep: Retain) -> Result<(), AllocError>
+    ensures { OnOk result (string_bytes text.new ≡ string_bytes text.old ++ line_of (ask_words (retain (retain_of keep)))) }
+{
+    match keep {
+        Retain::AboveHeight(height) => writeln!(text, "retain height {height}"),
+        Retain::AboveRound(cutoff) => push_above_round(text, cutoff),
+    }
+}
+
+/// Appends why a line did nothing.
+pub fn push_remark(text: &mut String, remark: RemarkShown) -> Result<(), AllocError>
+    ensures { OnOk result (string_bytes text.new ≡ string_bytes text.old ++ line_of (remark_words (remark_of remark))) }
+{
+    text.push_str(match remark {
+        RemarkShown::Ignored => "ignored\n",
+        RemarkShown::Stopped => "stopped\n",
+        RemarkShown::Running => "running\n",
+    })
+}
+
+fn store_text(store: StoreName) -> &'static str
+    ensures { result.now ≡ store_name (store_name_of store) }
+{
+    match store {
+        StoreName::Blocks => "blocks",
+        StoreName::Certs => "certs",
+        StoreName::Meta => "meta",
+        StoreName::Cache => "cache",
+    }
+}
+
+fn kind_text(kind: TicketKind) -> &'static str
+    ensures { result.now ≡ kind_name (kind_of kind) }
+{
+    match kind {
+        TicketKind::Ack => "ack",
+    }
+}
+
+/// Appends why a life ended.
+pub fn push_fault(text: &mut String, fault: Fault) -> Result<(), AllocError>
+    ensures { OnOk result (string_bytes text.new ≡ string_bytes text.old ++ line_of (codes "fault" ∷ fault_words (fault_of fault))) }
+{
+    match fault {
+        Fault::StoreFault(store) => {
+            let name = store_text(store);
+            writeln!(text, "fault StoreFault {name}")
+        }
+        Fault::NotEmpty => text.push_str("fault NotEmpty\n"),
+        Fault::GenesisHeight(height) => writeln!(text, "fault GenesisHeight {height}"),
+        Fault::HeightLimit(height) => writeln!(text, "fault HeightLimit {height}"),
+        Fault::TicketLimit(kind) => {
+            let name = kind_text(kind);
+            writeln!(text, "fault TicketLimit {name}")
+        }
+        Fault::Memory => text.push_str("fault Memory\n"),
+    }
+}
