@@ -1,1 +1,2 @@
 pub mod VarintSteps
+pub mod Rereads

@@ -3,6 +3,7 @@ pub mod Varint
 pub mod Digest
 pub mod Codec
 pub mod Refusals
+pub mod ReadBack
 pub mod VarintLemmas
 pub mod DigestLemmas
 pub mod CodecLemmas

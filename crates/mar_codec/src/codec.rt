@@ -3,6 +3,7 @@ ghost use Rattle.std.specs.Prelude.{◌≡◌, ◌⊎◌, ℕ, Bool, true, List,
 ghost use Rattle.mar_codec.specs.Refusals.{RefusesShort, RefusesWhole};
 ghost use Rattle.mar_codec.specs.Digest.{IsBytes};
 ghost use Rattle.mar_codec.specs.Codec.{AppendsFront, UsesRoom, Takes, HasNoFront, IsUnambiguous};
+ghost use Rattle.mar_codec.specs.ReadBack.{ReadsBack};
 
 use crate::error::Error;
 use bytes::{Buf, BufMut, Bytes, BytesMut};
@@ -94,6 +95,8 @@ pub trait ReadExt: Read<Cfg = ()> {
         ensures cause { IfErr result (λ e. (e ≡ Error.Memory)
             ⊎ Self.refuses tt (B.unread buf.old) e) }
         ensures memory { IfErr result (λ e. e ≡ Error.Memory → Self.takes_memory ≡ true) }
+        ensures back { ReadsBack (Self.in_grammar tt) Self.encoded result (B.unread buf.old)
+            (B.unread buf.new) }
     {
         Self::read_cfg(alloc, buf, &())
     }

@@ -1,6 +1,7 @@
 //! How values become bytes and come back: codec traits, varints, and digests.
 #![tactic(auto)]
 
+pub use array::{Array, Span};
 pub use codec::{
     Decode, Encode, EncodeSize, FixedSize, MaxEncodeSize, Read, ReadExt, Write, read_array,
     read_byte, read_slice,
@@ -17,6 +18,7 @@ pub use sha256::{Sha256, Sha256Digest};
 pub use varint::UInt;
 pub use words::Words;
 
+mod array;
 mod codec;
 mod digest;
 mod digested;

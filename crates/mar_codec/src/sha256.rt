@@ -7,6 +7,7 @@ ghost use Rattle.mar_codec.specs.Digest.{IsBytes, IsBytes-prop, IsDigest};
 ghost use Rattle.mar_codec.specs.DigestLemmas.{bytes_unambiguous, same_proof};
 ghost use Rattle.mar_codec.specs.Refusals.{RefusesShort};
 
+use crate::array::{Array, Span};
 use crate::codec::{EncodeSize, FixedSize, Read, Write, read_array};
 use crate::digest::{Digest, Hasher};
 use crate::error::Error;
@@ -161,6 +162,12 @@ impl Digest for Sha256Digest {
     ghost ordered = { λ digest other. refl };
 
     ghost fixed = { refl };
+}
+
+impl Span for Sha256Digest {}
+
+impl Array for Sha256Digest {
+    ghost seen = { λ digest. refl };
 }
 
 /// The SHA-256 hash function.

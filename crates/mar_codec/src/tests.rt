@@ -1,8 +1,12 @@
 //! Vectors from outside, printed text, and each public call once.
+ghost use Rattle.std.specs.Prelude.{◌≡◌, ◌≤◌, IfErr, IfOk, length};
+
 use crate::*;
-use bytes::{Buf, BytesMut};
+use bytes::{Buf, BufMut, BytesMut};
 use std::alloc::{AllocError, Global};
+use std::cmp::Ordering;
 use std::convert::AsSlice;
+use std::hash::{DefaultHasher, Hash, Hasher as _};
 use std::test::Fail;
 
 const VARINTS: [(u64, &str); 22] = [
@@ -67,12 +71,17 @@ fn refused_varints(rt: HostRuntime) -> Result<(), Fail> {
     Ok(())
 }
 
-fn sha256_of(message: &[u8]) -> Sha256Digest {
+// Through the bound, as generic code calls a hash function.
+fn digest_by<H: Hasher>(message: &[u8]) -> H::Digest {
     let (first, second) = message.split_at(message.len() / 2);
-    let mut hasher = Sha256::new();
+    let mut hasher = H::new();
     hasher.update(first);
     hasher.update(second);
     hasher.finalize()
+}
+
+fn sha256_of(message: &[u8]) -> Sha256Digest {
+    digest_by::<Sha256>(message)
 }
 
 const TWO_BLOCKS: &str = "abcdbcdecdefdefgefghfghighijhijkijkljklmklmnlmnomnopnopq";
@@ -103,9 +112,47 @@ fn digests_of_known_messages(rt: HostRuntime) -> Result<(), Fail> {
         let mut rest = bytes.as_slice();
         assert_eq!(rt; Sha256Digest::read(rt.alloc(), &mut rest)?, digest);
     }
-    let long = sha256_of(&[b'a'; 1000]);
-    let text = "41edece42d63e8d9bf515a9ba6932e1c20cbc9f5a5d134645adb5db1b9737ea3";
-    assert_eq!(rt; long.to_string(rt.alloc())?.as_str(), text);
+    Ok(())
+}
+
+// The digests of so many letters a: at the ends of blocks, and past them.
+const LETTERS: [(usize, &str); 5] = [
+    (
+        55,
+        "9f4390f8d30c2dd92ec9f095b65e2b9ae9b0a925a5258e241c9f1e910f734318",
+    ),
+    (
+        56,
+        "b35439a4ac6f0948b6d6f9e3c6af0f5f590ce20f1bde7090ef7970686ec6738a",
+    ),
+    (
+        63,
+        "7d3e74a05d7db15bce4ad9ec0658ea98e3f06eeecf16b4c6fff2da457ddc2f34",
+    ),
+    (
+        64,
+        "ffe054fe7ae0cb6dc65c3af9b61d5209f439851db43d0ba5997337df154668eb",
+    ),
+    (
+        1000,
+        "41edece42d63e8d9bf515a9ba6932e1c20cbc9f5a5d134645adb5db1b9737ea3",
+    ),
+];
+
+#[test]
+fn digests_of_many_letters(rt: HostRuntime) -> Result<(), Fail> {
+    let letters = [b'a'; 1000];
+    for (count, text) in LETTERS {
+        let message = letters.get(..count).ok_or("too many")?;
+        let digest = sha256_of(message);
+        assert_eq!(rt; digest.to_string(rt.alloc())?.as_str(), text);
+    }
+    let mut hasher = Sha256::new();
+    for _ in 0..1000 {
+        hasher.update(&letters);
+    }
+    let text = "cdc76e5c9914fb9281a1c7e284d73e67f1809a48a497200e046d39ccc7112cd0";
+    assert_eq!(rt; hasher.finalize().to_string(rt.alloc())?.as_str(), text);
     Ok(())
 }
 
@@ -156,13 +203,21 @@ impl Words for Counting {
     }
 }
 
+fn filled_by<H: Hasher>(byte: u8) -> H::Digest {
+    H::fill(byte)
+}
+
+fn random_by<D: Digest, W: Words>(words: &mut W) -> D {
+    D::random(words)
+}
+
 #[test]
 fn made_digests(rt: HostRuntime) -> Result<(), Fail> {
     assert_eq!(rt; Sha256Digest::empty(), Sha256Digest::from([0; 32]));
-    assert_eq!(rt; Sha256::fill(0xaa), Sha256Digest::from([0xaa; 32]));
+    assert_eq!(rt; filled_by::<Sha256>(0xaa), Sha256Digest::from([0xaa; 32]));
     let mut words = Counting(0);
     assert_eq!(rt; words.next_u32(), 1);
-    let random = Sha256Digest::random(&mut words);
+    let random: Sha256Digest = random_by(&mut words);
     let text = "02030405060708090a0b0c0d0e0f101112131415161718191a1b1c1d1e1f2021";
     assert_eq!(rt; random.to_string(rt.alloc())?.as_str(), text);
     assert!(rt; Sha256Digest::empty() < random);
@@ -205,6 +260,99 @@ fn integers_in_big_endian_bytes(rt: HostRuntime) -> Result<(), Fail> {
     Ok(())
 }
 
+// What was written of a value is read back, whatever follows it.
+fn reread<T: EncodeSize + Read<Cfg = ()>>(alloc: Global, value: &T) -> Result<T, Error>
+    requires { T.in_grammar tt (T.encoded value.now) }
+    ensures same { IfOk result (λ read. T.encoded read ≡ T.encoded value.now) }
+    ensures memory { IfErr result (λ e. e ≡ Error.Memory) }
+{
+    let mut buf = BytesMut::new(alloc);
+    value.write(&mut buf)?;
+    buf.put_u8(7)?;
+    T::read(alloc, &mut buf)
+}
+
+// No value is spelled by more bytes than its type says.
+fn most_bytes<T: EncodeSize + MaxEncodeSize>(value: &T) -> usize
+    requires { T.can_encode value.now }
+    ensures { result ≤ T.MAX_ENCODE_SIZE }
+{
+    value.encode_size()
+}
+
+#[test]
+fn what_was_written_is_read_back(rt: HostRuntime) -> Result<(), Fail> {
+    assert_eq!(rt; reread(rt.alloc(), &UInt(300))?, UInt(300));
+    assert_eq!(rt; reread(rt.alloc(), &5u8)?, 5);
+    assert_eq!(rt; reread(rt.alloc(), &500u16)?, 500);
+    assert_eq!(rt; reread(rt.alloc(), &70_000u32)?, 70_000);
+    assert_eq!(rt; reread(rt.alloc(), &U64::new(9))?, U64::new(9));
+    assert_eq!(rt;
+        reread(rt.alloc(), &Sha256Digest::empty())?,
+        Sha256Digest::empty()
+    );
+    assert_eq!(rt; most_bytes(&UInt(u64::MAX)), UInt::MAX_ENCODE_SIZE);
+    Ok(())
+}
+
+#[test]
+fn parts_are_read_in_order(rt: HostRuntime) -> Result<(), Fail> {
+    let mut buf = BytesMut::new(rt.alloc());
+    write_pair(&2u16, &UInt(128), &mut buf)?;
+    assert_eq!(rt; buf.as_slice(), b"\x00\x02\x80\x01".as_slice());
+    let pair: (u16, UInt) = read_pair(rt.alloc(), &mut buf, &(), &())?;
+    assert_eq!(rt; pair.1, UInt(128));
+    let mut rest: &[u8] = b"\x01\x02\x03\x04";
+    let front: [u8; 3] = read_array(&mut rest)?;
+    assert_eq!(rt; front, [1, 2, 3]);
+    let mut out = [0; 2];
+    assert_eq!(rt; read_slice(&mut rest, &mut out), Err(Error::EndOfBuffer));
+    let mut last: &[u8] = b"\x05\x06";
+    read_slice(&mut last, &mut out)?;
+    assert_eq!(rt; out, [5, 6]);
+    // The second part is cut, and the first one is refused first.
+    assert_eq!(rt;
+        <(UInt, u8)>::decode_cfg(rt.alloc(), &b"\x07"[..], &((), ())).err(),
+        Some(Error::EndOfBuffer)
+    );
+    assert_eq!(rt;
+        <(UInt, u8)>::decode_cfg(rt.alloc(), &b"\x80\x00"[..], &((), ())).err(),
+        Some(Error::InvalidVarint)
+    );
+    Ok(())
+}
+
+// Whether the first comes before the second by every comparison.
+fn ascend<T: Ord + Copy>(lesser: T, greater: T) -> bool {
+    lesser < greater
+        && greater > lesser
+        && lesser != greater
+        && lesser.cmp(&greater) == Ordering::Less
+        && greater.partial_cmp(&lesser) == Some(Ordering::Greater)
+}
+
+fn hash_of<T: Hash>(value: &T) -> u64 {
+    let mut hasher = DefaultHasher::new();
+    value.hash(&mut hasher);
+    hasher.finish()
+}
+
+#[test]
+fn orders_and_hashes(rt: HostRuntime) {
+    assert!(rt; ascend(UInt(255), UInt(256)));
+    assert!(rt; ascend(U64::new(255), U64::new(256)));
+    assert!(rt; ascend(Participant::new(255), Participant::new(256)));
+    let mut low = [9; 32];
+    let mut high = [0; 32];
+    low[0] = 1;
+    high[0] = 2;
+    assert!(rt; ascend(Sha256Digest::from(low), Sha256Digest::from(high)));
+    assert_eq!(rt; hash_of(&U64::new(5)), hash_of(&U64::from(5)));
+    assert_ne!(rt; hash_of(&U64::new(5)), hash_of(&U64::new(6)));
+    assert_eq!(rt; (U64::default().get(), UInt::default().0), (0, 0));
+    assert_eq!(rt; Participant::default().get(), 0);
+}
+
 // A text, whose digest is that of its bytes.
 #[derive(Drop)]
 struct Text(&'static str);
@@ -223,6 +371,10 @@ impl Digestible for Text {
     }
 }
 
+fn digest_of<B: Digestible>(value: &B) -> B::Digest {
+    value.digest()
+}
+
 #[test]
 fn digested_values_share_their_value(rt: HostRuntime) -> Result<(), Fail> {
     let computed = Digested::compute(rt.alloc(), Text("abc"))?;
@@ -231,7 +383,7 @@ fn digested_values_share_their_value(rt: HostRuntime) -> Result<(), Fail> {
     assert_eq!(rt; copy.inner().0, "abc");
     assert_eq!(rt; copy.digest(), sha256_of(b"abc"));
     let text = Text("abc");
-    let digest = text.digest();
+    let digest = digest_of(&text);
     let given = Digested::precomputed(rt.alloc(), text, digest)?;
     assert_eq!(rt; given.digest(), copy.digest());
     Ok(())
@@ -245,6 +397,8 @@ fn lists_with_a_first_item(rt: HostRuntime) -> Result<(), Fail> {
     assert_eq!(rt; *list.first(), 7);
     assert_eq!(rt; list.as_slice(), [7, 8].as_slice());
     assert_eq!(rt; list.iter().copied().max(), Some(8));
+    let text = format!(in rt.alloc(); "{list:?}")?;
+    assert_eq!(rt; text.as_str(), "NonEmptyVec { items: [7, 8] }");
     let items = list.into_vec();
     assert!(rt; NonEmptyVec::from_vec(items).is_some());
     assert!(rt; NonEmptyVec::<u32>::from_vec(Vec::new(rt.alloc())).is_none());
@@ -293,5 +447,17 @@ fn printed_texts(rt: HostRuntime) -> Result<(), Fail> {
     let member = Participant::from(3);
     assert_eq!(rt; member.to_string(rt.alloc())?.as_str(), "3");
     assert_eq!(rt; u32::from(member), member.get());
+    let error = Error::Invalid(Kind::Certificate, Reason::Signers);
+    for (shown, text) in [
+        (
+            format!(in rt.alloc(); "{error:?}")?,
+            "Invalid(Certificate, Signers)",
+        ),
+        (format!(in rt.alloc(); "{member:?}")?, "Participant(3)"),
+        (format!(in rt.alloc(); "{:?}", U64::new(3))?, "U64(3)"),
+        (format!(in rt.alloc(); "{:?}", UInt(3))?, "UInt(3)"),
+    ] {
+        assert_eq!(rt; shown.as_str(), text);
+    }
     Ok(())
 }

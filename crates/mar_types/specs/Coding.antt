@@ -1,7 +1,7 @@
 -- How a coded block is split, as bytes.
 use Rattle.std.specs.Int.{from_be_bytes, to_be_bytes, w16}
 use Rattle.std.specs.List.{list_all, slice_range}
-use Rattle.std.specs.Prelude.{Bool, List, drop, false, length, replicate, take, true, ℕ, ◌++◌, ◌-◌, ◌<◌, ◌==◌, ◌≡◌, ◌≤◌, ◌⊎◌}
+use Rattle.std.specs.Prelude.{Bool, List, drop, false, length, max, replicate, take, true, ℕ, ◌%◌, ◌++◌, ◌-◌, ◌/◌, ◌<◌, ◌==◌, ◌^◌, ◌≡◌, ◌≤◌, ◌⊎◌}
 use Rattle.mar_codec.specs.Codec.{Joined}
 use Rattle.mar_codec.specs.Digest.{IsBytes}
 use Rattle.mar_codec.specs.Refusals.{RefusesJoined, RefusesShort}
@@ -70,3 +70,18 @@ config_bytes minimum extra = to_be_bytes w16 minimum ++ to_be_bytes w16 extra
 -- a commitment of these parts
 abbrev pub commitment_bytes : (block root context config : List ℕ) → List ℕ
 commitment_bytes block root context config = (padded block ++ padded root) ++ (padded context ++ config)
+
+-- a random commitment: a word gives the shards, its low half the least number and its high half that of extra ones, with one in place of none; then come block, root and context
+pub record DrawsCommitment {State : Type 0} (gives_word : State → ℕ → State → Type 0) (draws_block draws_root draws_context : State → List ℕ → State → Type 0) (old : State) (bytes : List ℕ) (new : State) : Type 0 where
+  pub word : ℕ
+  pub block : List ℕ
+  pub root : List ℕ
+  pub context : List ℕ
+  pub after_word : State
+  pub after_block : State
+  pub after_root : State
+  pub word_given : gives_word old word after_word
+  pub block_drawn : draws_block after_word block after_block
+  pub root_drawn : draws_root after_block root after_root
+  pub context_drawn : draws_context after_root context new
+  pub joined : bytes ≡ commitment_bytes block root context (config_bytes (max (word % 2 ^ 16) 1) (max (word / 2 ^ 16) 1))

@@ -1,11 +1,12 @@
 //! Coded blocks: how a block is split into shards.
-ghost use Rattle.std.specs.Prelude.{IfErr, IfOk, OnOk, false, length, refl, ◌++◌, ◌≡◌};
+ghost use Rattle.std.specs.Prelude.{IfErr, IfOk, OnOk, false, length, max, refl, ◌%◌, ◌++◌, ◌/◌, ◌^◌, ◌≡◌};
 ghost use Rattle.std.specs.Int.{to_be_bytes, w16};
 ghost use Rattle.std.specs.Int.NonZero.{non_zero_u16_get};
 ghost use Rattle.mar_codec.specs.Codec.{Takes};
 ghost use Rattle.mar_types.specs.Coding.{RefusesConfig, RefusesShards, SpellsConfig, SpellsShards, config_bytes};
 ghost use Rattle.mar_types.specs.CodingLemmas.{config_unambiguous};
 
+pub use crate::commitments::{COMMITMENT_DIGEST_SIZE, COMMITMENT_SIZE, Commitment};
 use bytes::{Buf, BufMut};
 use mar_codec::{Digest, EncodeSize, Error, FixedSize, Kind, Read, Reason, Write, read_array};
 use std::alloc::{AllocError, Global};
@@ -39,7 +40,28 @@ fn read_shards<B: Buf>(buf: &mut B) -> Result<NonZeroU16, Error>
     }
 }
 
+// That many shards, but one in place of none.
+fn at_least_one(shards: u16) -> NonZeroU16
+    ensures { non_zero_u16_get result ≡ max shards 1 }
+{
+    match NonZeroU16::new(shards) {
+        Some(shards) => shards,
+        None => NonZeroU16::MIN,
+    }
+}
+
 impl CodingConfig {
+    // The low half of the word is the least number of shards, the high half that of extra ones, with one in place of none.
+    pub(crate) fn from_word(word: u32) -> Self
+        ensures minimum { non_zero_u16_get result.minimum_shards ≡ max (word % 2 ^ 16) 1 }
+        ensures extra { non_zero_u16_get result.extra_shards ≡ max (word / 2 ^ 16) 1 }
+    {
+        CodingConfig {
+            minimum_shards: at_least_one((word % 65536) as u16),
+            extra_shards: at_least_one((word / 65536) as u16),
+        }
+    }
+
     // The spelling.
     pub(crate) fn to_bytes(self) -> [u8; 4]
         ensures { result ≡ config_bytes (non_zero_u16_get self.minimum_shards) (non_zero_u16_get self.extra_shards) }

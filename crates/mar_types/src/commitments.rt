@@ -1,19 +1,22 @@
 //! Commitments to coded blocks.
-ghost use Rattle.std.specs.Prelude.{IfErr, IfOk, false, length, refl, replicate, slice_range, take, ◌++◌, ◌≡◌, ◌≤◌};
+ghost use Rattle.std.specs.Prelude.{IfErr, IfOk, Some, false, length, refl, replicate, slice_range, take, ◌++◌, ◌≡◌, ◌≤◌};
 ghost use Rattle.std.specs.Int.NonZero.{non_zero_u16_get};
+ghost use Rattle.hex.specs.Hex.{encode_lower};
 ghost use Rattle.mar_codec.specs.Digest.{IsBytes, IsBytes-prop};
 ghost use Rattle.mar_codec.specs.DigestLemmas.{same_proof};
-ghost use Rattle.mar_types.specs.Coding.{RefusesCommitment, RefusesParts, SpellsCommitment, SpellsField, commitment_bytes, config_bytes};
+ghost use Rattle.mar_types.specs.Coding.{DrawsCommitment, RefusesCommitment, RefusesParts, SpellsCommitment, SpellsField, commitment_bytes, config_bytes};
 ghost use Rattle.mar_types.specs.CodingLemmas.{commitment_unambiguous};
 
 use crate::coding::{CodingConfig, CodingScheme};
 use crate::fields::{FieldDigest, field, field_bytes, put_field, read_field};
 use bytes::{Buf, BufMut};
 use mar_codec::{
-    Digest, Digestible, EncodeSize, Error, FixedSize, Hasher, Read, Reason, Write, read_array,
+    Array, Digest, Digestible, EncodeSize, Error, FixedSize, Hasher, Read, Reason, Span, Words,
+    Write, read_array, write_hex,
 };
 use std::alloc::{AllocError, Global};
 use std::convert::AsSlice;
+use std::fmt;
 use std::marker::PhantomData;
 
 /// How many bytes a commitment has for each of its digests.
@@ -62,6 +65,23 @@ impl<B, C, H> AsSlice<u8> for Commitment<B, C, H> {
 
     fn as_slice(&self) -> &[u8] {
         &self.bytes
+    }
+}
+
+/// Writes the bytes in hexadecimal.
+impl<B, C, H> fmt::Display for Commitment<B, C, H> {
+    ghost output = { λ commitment. Some (encode_lower commitment.bytes) };
+
+    fn fmt<W: fmt::Write>(&self, f: &mut fmt::Formatter<W>) -> fmt::Result {
+        write_hex(f, &self.bytes, &mut [0; 200])
+    }
+}
+
+impl<B, C, H> fmt::Debug for Commitment<B, C, H> {
+    ghost debug_output = { λ commitment. Some (encode_lower commitment.bytes) };
+
+    fn fmt<W: fmt::Write>(&self, f: &mut fmt::Formatter<W>) -> fmt::Result {
+        write_hex(f, &self.bytes, &mut [0; 200])
     }
 }
 
@@ -230,4 +250,67 @@ where
         );
         Self::from_slice(&bytes)
     }
+}
+
+/// The commitment whose bytes are all zero isn't valid. A random one is made of random parts.
+impl<B: Digestible, C: CodingScheme, H: Hasher> Digest for Commitment<B, C, H>
+where
+    B::Digest: FieldDigest,
+    C::Commitment: FieldDigest,
+    H::Digest: FieldDigest,
+{
+    ghost bytes = { λ commitment. commitment.bytes };
+
+    ghost drawn = { λ gives_word gives_bytes. DrawsCommitment gives_word (B.Digest.drawn gives_word gives_bytes)
+        (C.Commitment.drawn gives_word gives_bytes) (H.Digest.drawn gives_word gives_bytes) };
+
+    fn empty() -> Self {
+        Self::default()
+    }
+
+    fn random<W: Words>(words: &mut W) -> Self {
+        let config = CodingConfig::from_word(words.next_u32());
+        let block = B::Digest::random(words);
+        let root = C::Commitment::random(words);
+        let context = H::Digest::random(words);
+        Self::from((block, root, context, config))
+    }
+
+    ghost spelled = { λ commitment. refl };
+
+    ghost shown = { λ commitment. refl };
+
+    ghost printed = { λ commitment. refl };
+
+    ghost debugged = { λ commitment. refl };
+
+    ghost are_bytes = { λ commitment. commitment.sized.1 };
+
+    ghost injective = { λ commitment other e. λ i. record {
+      bytes = e i;
+      of = record {};
+      sized = same_proof 100 _ _ e commitment.sized other.sized i;
+    } };
+
+    ghost equal = { λ commitment other. refl };
+
+    ghost ordered = { λ commitment other. refl };
+
+    ghost fixed = { refl };
+}
+
+impl<B: Digestible, C: CodingScheme, H: Hasher> Span for Commitment<B, C, H>
+where
+    B::Digest: FieldDigest,
+    C::Commitment: FieldDigest,
+    H::Digest: FieldDigest,
+{}
+
+impl<B: Digestible, C: CodingScheme, H: Hasher> Array for Commitment<B, C, H>
+where
+    B::Digest: FieldDigest,
+    C::Commitment: FieldDigest,
+    H::Digest: FieldDigest,
+{
+    ghost seen = { λ commitment. refl };
 }

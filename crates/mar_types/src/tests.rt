@@ -6,11 +6,13 @@ use super::*;
 use crate::coding::{CodingConfig, CodingScheme};
 use bytes::BytesMut;
 use mar_codec::{
-    Digestible, EncodeSize, Error, Hasher, Kind, MaxEncodeSize, Read, Reason, Sha256, Sha256Digest,
-    U64, Write,
+    Array, Decode, Digest, Digestible, Encode, EncodeSize, Error, FixedSize, Hasher, Kind,
+    MaxEncodeSize, Read, ReadExt, Reason, Sha256, Sha256Digest, Span, U64, Words, Write,
 };
 use std::alloc::{AllocError, Global};
+use std::cmp::Ordering;
 use std::convert::AsSlice;
+use std::hash::{DefaultHasher, Hash, Hasher as _};
 use std::num::{NonZeroU16, NonZeroU32, NonZeroU64};
 use std::test::Fail;
 
@@ -110,6 +112,82 @@ fn rounds_are_spelled_printed_and_ordered(rt: HostRuntime) -> Result<(), Fail> {
     Ok(())
 }
 
+// Whether the first comes before the second by every comparison.
+fn ascend<T: Ord + Copy>(lesser: T, greater: T) -> bool {
+    lesser < greater
+        && greater > lesser
+        && lesser != greater
+        && lesser.cmp(&greater) == Ordering::Less
+        && greater.partial_cmp(&lesser) == Some(Ordering::Greater)
+}
+
+fn hash_of<T: Hash>(value: &T) -> u64 {
+    let mut hasher = DefaultHasher::new();
+    value.hash(&mut hasher);
+    hasher.finish()
+}
+
+fn config_of(minimum_shards: u16, extra_shards: u16) -> Option<CodingConfig> {
+    let minimum_shards = NonZeroU16::new(minimum_shards)?;
+    let extra_shards = NonZeroU16::new(extra_shards)?;
+    Some(CodingConfig {
+        minimum_shards,
+        extra_shards,
+    })
+}
+
+#[test]
+fn orders_and_hashes(rt: HostRuntime) -> Result<(), Fail> {
+    assert!(rt; ascend(Epoch::new(255), Epoch::new(256)));
+    assert!(rt; ascend(Height::new(255), Height::new(256)));
+    assert!(rt; ascend(View::new(255), View::new(256)));
+    assert!(rt; ascend(ViewDelta::new(255), ViewDelta::new(256)));
+    let early = Round::new(Epoch::new(1), View::new(9));
+    let late = Round::new(Epoch::new(2), View::new(0));
+    assert!(rt; ascend(early, late));
+    let few = config_of(1, 9).ok_or("zero")?;
+    let many = config_of(2, 1).ok_or("zero")?;
+    assert!(rt; ascend(few, many));
+    let first = Coded::from((Sha256::fill(1), Sha256::fill(9), Sha256::fill(9), many));
+    let second = Coded::from((Sha256::fill(2), Sha256::fill(0), Sha256::fill(0), few));
+    assert!(rt; ascend(first, second));
+    let same = Round::from((Epoch::new(1), View::new(9)));
+    assert_eq!(rt; hash_of(&early), hash_of(&same));
+    assert_ne!(rt; hash_of(&early), hash_of(&late));
+    let three = NonZeroU32::new(3).ok_or("zero")?;
+    assert_eq!(rt; TermLength::new(three) == TermLength::ONE, false);
+    assert_ne!(rt; hash_of(&TermLength::new(three)), hash_of(&TermLength::ONE));
+    Ok(())
+}
+
+#[test]
+fn printed_texts(rt: HostRuntime) -> Result<(), Fail> {
+    let three = NonZeroU32::new(3).ok_or("zero")?;
+    let config = config_of(2, 3).ok_or("zero")?;
+    for (shown, text) in [
+        (Epoch::new(7).to_string(rt.alloc())?, "7"),
+        (View::new(0).to_string(rt.alloc())?, "0"),
+        (TermLength::new(three).to_string(rt.alloc())?, "3"),
+        (format!(in rt.alloc(); "{:?}", Epoch::new(7))?, "Epoch(7)"),
+        (format!(in rt.alloc(); "{:?}", Height::new(7))?, "Height(7)"),
+        (
+            format!(in rt.alloc(); "{:?}", TermLength::ONE)?,
+            "TermLength(1)",
+        ),
+        (
+            format!(in rt.alloc(); "{:?}", EpochPhase::Midpoint)?,
+            "Midpoint",
+        ),
+        (
+            format!(in rt.alloc(); "{config:?}")?,
+            "CodingConfig { minimum_shards: 2, extra_shards: 3 }",
+        ),
+    ] {
+        assert_eq!(rt; shown.as_str(), text);
+    }
+    Ok(())
+}
+
 #[test]
 fn numbers_stop_at_their_ends(rt: HostRuntime) -> Result<(), Fail> {
     let last = Height::new(u64::MAX);
@@ -201,6 +279,17 @@ fn terms_have_their_length(rt: HostRuntime) -> Result<(), Fail> {
         assert_eq!(rt; view.admits(other, five), admits, "{view} {other}");
         assert_eq!(rt; view.covers(other, five), covers, "{view} {other}");
     }
+    let three = TermLength::new(NonZeroU32::new(3).ok_or("zero")?);
+    let six = View::new(6);
+    assert_eq!(rt; six.term_start(three), View::new(4));
+    let small = six.get() < 100;
+    assert!(rt; small);
+    assert_eq!(rt; six.term_end(three), six);
+    assert_eq!(rt; six.term_index(three), 2);
+    for (view, admits) in [(5, true), (6, false), (7, true)] {
+        assert_eq!(rt; View::new(4).admits(View::new(view), three), admits);
+    }
+    assert!(rt; six.same_term(View::new(4), three) && !six.same_term(View::new(7), three));
     let covering = View::new(8).covering_range(five);
     assert_eq!(rt;
         (*covering.start(), *covering.end()),
@@ -258,6 +347,14 @@ fn fixed_epochs_have_their_length(rt: HostRuntime) -> Result<(), Fail> {
     }
     assert_eq!(rt; epoch_of(&epocher, u64::MAX), None);
     assert_eq!(rt; epocher.last(Epoch::new(u64::MAX)), None);
+    let ten = NonZeroU64::new(10).ok_or("zero")?;
+    assert!(rt; ten.get() > 1);
+    let info = epoch_of(&FixedEpocher::new(ten), 25).ok_or("no epoch")?;
+    let bounds = (info.epoch().get(), info.first().get(), info.last().get());
+    assert_eq!(rt; bounds, (2, 20, 29));
+    let (from, at, to) = (info.first().get(), info.height().get(), info.last().get());
+    assert!(rt; from <= at && from <= to && to < 1000);
+    assert_eq!(rt; info.phase(), EpochPhase::Midpoint);
     Ok(())
 }
 
@@ -329,5 +426,91 @@ fn commitments_are_read_back(rt: HostRuntime) -> Result<(), Fail> {
         Coded::read_cfg(rt.alloc(), &mut short, &()).err(),
         Some(Error::EndOfBuffer)
     );
+    assert_eq!(rt; Coded::decode_cfg(rt.alloc(), buf, &())?, made);
+    Ok(())
+}
+
+// A generator that counts.
+#[derive(Drop)]
+struct Counting(u8);
+
+impl Words for Counting {
+    ghost gives_word = { λ _ _ _. Unit {0} };
+
+    ghost gives_bytes = { λ _ _ _. Unit {0} };
+
+    fn next_u32(&mut self) -> u32 {
+        self.0 = self.0.wrapping_add(1);
+        u32::from(self.0)
+    }
+
+    fn fill(&mut self, out: &mut [u8]) {
+        self.0 = self.0.wrapping_add(1);
+        out.fill(self.0);
+    }
+}
+
+fn random_by<D: Digest, W: Words>(words: &mut W) -> D {
+    D::random(words)
+}
+
+fn text_of<T: Span>(alloc: Global, value: &T) -> Result<String, AllocError> {
+    value.to_string(alloc)
+}
+
+fn size_of_array<T: Array>(value: &T) -> usize {
+    value.as_slice().len()
+}
+
+#[test]
+fn commitments_are_digests(rt: HostRuntime) -> Result<(), Fail> {
+    let mut words = Counting(4);
+    let random: Coded = random_by(&mut words);
+    // The word is 5, so there are 5 shards, and 1 in place of 0.
+    let config = config_of(5, 1).ok_or("zero")?;
+    let parts = (Sha256::fill(6), Sha256::fill(7), Sha256::fill(8), config);
+    assert_eq!(rt; random, Coded::from(parts));
+    let text = "0606060606060606060606060606060606060606060606060606060606060606\
+0707070707070707070707070707070707070707070707070707070707070707\
+080808080808080808080808080808080808080808080808080808080808080800050001";
+    assert_eq!(rt; text_of(rt.alloc(), &random)?.as_str(), text);
+    assert_eq!(rt; format!(in rt.alloc(); "{random:?}")?.as_str(), text);
+    assert_eq!(rt; size_of_array(&random), Coded::SIZE);
+    assert_eq!(rt; Coded::empty(), Coded::default());
+    assert_eq!(rt; Coded::empty().as_slice(), [0; 100].as_slice());
+    let bytes = random.encode(rt.alloc())?;
+    assert_eq!(rt; bytes.len(), random.encode_size());
+    let mut rest = bytes.as_slice();
+    assert_eq!(rt; Coded::read(rt.alloc(), &mut rest)?, random);
+    assert_eq!(rt;
+        (COMMITMENT_DIGEST_SIZE, coding::COMMITMENT_SIZE),
+        (32, 100)
+    );
+    Ok(())
+}
+
+#[test]
+fn configs_are_two_numbers_above_zero(rt: HostRuntime) -> Result<(), Fail> {
+    let config = config_of(258, 3).ok_or("zero")?;
+    let bytes = config.encode(rt.alloc())?;
+    assert_eq!(rt; bytes.as_slice(), b"\x01\x02\x00\x03".as_slice());
+    assert_eq!(rt; config.encode_size(), CodingConfig::SIZE);
+    assert_eq!(rt;
+        CodingConfig::decode_cfg(rt.alloc(), bytes, &()),
+        Ok(config)
+    );
+    let refused = Error::Invalid(Kind::Commitment, Reason::CodingConfig);
+    let cases: [(&[u8], Error); 4] = [
+        (b"\x00\x00\x00\x01", refused),
+        (b"\x00\x01\x00\x00", refused),
+        (b"\x00\x01\x00", Error::EndOfBuffer),
+        (b"\x00\x01\x00\x01\x00", Error::ExtraData),
+    ];
+    for (bytes, error) in cases {
+        assert_eq!(rt;
+            CodingConfig::decode_cfg(rt.alloc(), bytes, &()),
+            Err(error)
+        );
+    }
     Ok(())
 }
