@@ -371,7 +371,9 @@ impl Digestible for Text {
     }
 }
 
-fn digest_of<B: Digestible>(value: &B) -> B::Digest {
+fn digest_of<B: Digestible>(value: &B) -> B::Digest
+    ensures { B.Digest.bytes result ≡ B.digest_bytes value.now }
+{
     value.digest()
 }
 

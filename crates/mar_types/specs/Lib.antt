@@ -5,3 +5,4 @@ pub mod Terms
 pub mod RoundBytes
 pub mod Coding
 pub mod CodingLemmas
+pub mod CommitmentLemmas

@@ -1,10 +1,11 @@
 //! What no clause says: that each call can succeed, what is printed, and that the definitions mean what they are meant to.
-ghost use Rattle.std.specs.Prelude.{replicate, ◌≡◌};
+ghost use Rattle.std.specs.Prelude.{IfErr, IfOk, IfSome, replicate, ◌≡◌};
+ghost use Rattle.std.specs.Int.NonZero.{non_zero_u16_get};
 ghost use Rattle.mar_types.specs.Round.{round_lt};
 
 use super::*;
 use crate::coding::{CodingConfig, CodingScheme};
-use bytes::BytesMut;
+use bytes::{BufMut, BytesMut};
 use mar_codec::{
     Array, Decode, Digest, Digestible, Encode, EncodeSize, Error, FixedSize, Hasher, Kind,
     MaxEncodeSize, Read, ReadExt, Reason, Sha256, Sha256Digest, Span, U64, Words, Write,
@@ -16,7 +17,9 @@ use std::hash::{DefaultHasher, Hash, Hasher as _};
 use std::num::{NonZeroU16, NonZeroU32, NonZeroU64};
 use std::test::Fail;
 
-fn spelled<T: Write>(alloc: Global, value: &T) -> Result<BytesMut, AllocError> {
+fn spelled<T: Write>(alloc: Global, value: &T) -> Result<BytesMut, AllocError>
+    ensures { IfOk result (λ buf. buf.items ≡ T.encoded value.now) }
+{
     let mut buf = BytesMut::new(alloc);
     value.write(&mut buf)?;
     Ok(buf)
@@ -67,6 +70,17 @@ fn comes_before(a: Round, b: Round) -> bool
     a < b
 }
 
+// What was written of a round is read back as that round, whatever follows it.
+fn reread(alloc: Global, epoch: u64, view: u64) -> Result<Round, Error>
+    ensures same { IfOk result (λ round. round ≡ record { epoch = epoch; view = view }) }
+    ensures memory { IfErr result (λ e. e ≡ Error.Memory) }
+{
+    let round = Round::new(Epoch::new(epoch), View::new(view));
+    let mut buf = spelled(alloc, &round)?;
+    buf.put_u8(7)?;
+    Round::read(alloc, &mut buf)
+}
+
 #[test]
 fn rounds_are_spelled_printed_and_ordered(rt: HostRuntime) -> Result<(), Fail> {
     let round = Round::from((Epoch::new(12345), View::new(67890)));
@@ -76,6 +90,7 @@ fn rounds_are_spelled_printed_and_ordered(rt: HostRuntime) -> Result<(), Fail> {
     let mut rest: &[u8] = b"\xb9\x60\xb2\x92\x04\x07";
     assert_eq!(rt; Round::read_cfg(rt.alloc(), &mut rest, &()), Ok(round));
     assert_eq!(rt; rest, b"\x07".as_slice());
+    assert_eq!(rt; reread(rt.alloc(), 12345, 67890), Ok(round));
     let mut cut: &[u8] = b"\xb9\x60\xb2";
     assert_eq!(rt;
         Round::read_cfg(rt.alloc(), &mut cut, &()),
@@ -127,7 +142,10 @@ fn hash_of<T: Hash>(value: &T) -> u64 {
     hasher.finish()
 }
 
-fn config_of(minimum_shards: u16, extra_shards: u16) -> Option<CodingConfig> {
+fn config_of(minimum_shards: u16, extra_shards: u16) -> Option<CodingConfig>
+    ensures { IfSome result (λ config. (non_zero_u16_get config.minimum_shards ≡ minimum_shards)
+        × (non_zero_u16_get config.extra_shards ≡ extra_shards)) }
+{
     let minimum_shards = NonZeroU16::new(minimum_shards)?;
     let extra_shards = NonZeroU16::new(extra_shards)?;
     Some(CodingConfig {
@@ -380,6 +398,25 @@ type Coded = Commitment<Plain, Scheme, Sha256>;
 
 type Parts = (Sha256Digest, Sha256Digest, Sha256Digest, CodingConfig);
 
+// A commitment gives back the parts that it was made of.
+fn parts_again(alloc: Global, parts: &Parts, minimum: u16, extra: u16) -> Option<(Parts, u16, u16)>
+    ensures block { IfSome result (λ again. again.0.0.bytes ≡ parts.now.0.bytes) }
+    ensures root { IfSome result (λ again. again.0.1.bytes ≡ parts.now.1.bytes) }
+    ensures context { IfSome result (λ again. again.0.2.bytes ≡ parts.now.2.bytes) }
+    ensures minimum { IfSome result (λ again. again.1 ≡ minimum) }
+    ensures extra { IfSome result (λ again. again.2 ≡ extra) }
+{
+    let (block, root, context, _) = *parts;
+    let config = config_of(minimum, extra)?;
+    let made = Coded::from((block, root, context, config));
+    let block = made.block(alloc);
+    let root = made.root(alloc);
+    let context = made.context(alloc);
+    let config = made.config(alloc);
+    let shards = (config.minimum_shards.get(), config.extra_shards.get());
+    Some(((block, root, context, config), shards.0, shards.1))
+}
+
 fn parts_of(alloc: Global, bytes: &[u8]) -> Option<Parts> {
     let mut rest = bytes;
     match Coded::read_cfg(alloc, &mut rest, &()) {
@@ -470,6 +507,7 @@ fn commitments_are_digests(rt: HostRuntime) -> Result<(), Fail> {
     let config = config_of(5, 1).ok_or("zero")?;
     let parts = (Sha256::fill(6), Sha256::fill(7), Sha256::fill(8), config);
     assert_eq!(rt; random, Coded::from(parts));
+    assert_eq!(rt; parts_again(rt.alloc(), &parts, 5, 1), Some((parts, 5, 1)));
     let text = "0606060606060606060606060606060606060606060606060606060606060606\
 0707070707070707070707070707070707070707070707070707070707070707\
 080808080808080808080808080808080808080808080808080808080808080800050001";
