@@ -17,6 +17,10 @@ use std::hash::{DefaultHasher, Hash, Hasher as _};
 use std::num::{NonZeroU16, NonZeroU32, NonZeroU64};
 use std::test::Fail;
 
+mod short;
+
+use short::Short;
+
 fn spelled<T: Write>(alloc: Global, value: &T) -> Result<BytesMut, AllocError>
     ensures { IfOk result (λ buf. buf.items ≡ T.encoded value.now) }
 {
@@ -548,6 +552,62 @@ fn configs_are_two_numbers_above_zero(rt: HostRuntime) -> Result<(), Fail> {
         assert_eq!(rt;
             CodingConfig::decode_cfg(rt.alloc(), bytes, &()),
             Err(error)
+        );
+    }
+    Ok(())
+}
+
+struct Tiny;
+
+impl Digestible for Tiny {
+    type Digest = Short;
+
+    ghost digest_bytes = { λ _. replicate 2 1 };
+
+    fn digest(&self) -> Short {
+        Short::from_slice(&[1, 1])
+    }
+}
+
+struct ShortScheme;
+
+impl CodingScheme for ShortScheme {
+    type Commitment = Short;
+}
+
+type ShortCoded = Commitment<Tiny, ShortScheme, Sha256>;
+
+#[test]
+fn the_first_refused_part_gives_the_reason(rt: HostRuntime) -> Result<(), Fail> {
+    let config = config_of(1, 1).ok_or("zero")?;
+    let root = Short::from_slice(&[2, 3]);
+    let made = ShortCoded::from((Tiny.digest(), root, Sha256::fill(4), config));
+    let mut bytes = [0; 100];
+    bytes.copy_from_slice(made.as_slice());
+    assert_eq!(rt; &bytes[0..4], [1, 1, 0, 0].as_slice());
+    assert_eq!(rt; &bytes[32..36], [2, 3, 0, 0].as_slice());
+    let mut whole = made.as_slice();
+    assert_eq!(rt; ShortCoded::read(rt.alloc(), &mut whole), Ok(made));
+    // Two places, what is put there, and the reason.
+    let cases = [
+        (0, 255, 32, 255, Reason::BlockDigest),
+        (0, 255, 2, 1, Reason::BlockDigest),
+        (2, 1, 32, 255, Reason::DigestPadding),
+        (31, 1, 99, 0, Reason::DigestPadding),
+        (32, 255, 99, 0, Reason::CodingRoot),
+        (32, 255, 34, 1, Reason::CodingRoot),
+        (63, 1, 97, 0, Reason::DigestPadding),
+        (97, 0, 64, 0, Reason::CodingConfig),
+        (99, 0, 64, 0, Reason::CodingConfig),
+    ];
+    for (place, byte, other_place, other_byte, reason) in cases {
+        let mut bad = bytes;
+        *bad.get_mut(place).ok_or("no place")? = byte;
+        *bad.get_mut(other_place).ok_or("no place")? = other_byte;
+        assert_eq!(rt;
+            ShortCoded::decode_cfg(rt.alloc(), &bad[..], &()),
+            Err(Error::Invalid(Kind::Commitment, reason)),
+            "at {place}"
         );
     }
     Ok(())
