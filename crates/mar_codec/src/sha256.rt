@@ -164,7 +164,12 @@ impl Digest for Sha256Digest {
     ghost fixed = { refl };
 }
 
-impl Span for Sha256Digest {}
+impl Span for Sha256Digest {
+    ghost told = { λ digest other e. λ i. record {
+      bytes = e i;
+      is_digest = same_proof 32 _ _ e digest.is_digest other.is_digest i;
+    } };
+}
 
 impl Array for Sha256Digest {
     ghost seen = { λ digest. refl };

@@ -1,5 +1,5 @@
 -- A round's bytes: how many, and that no round's bytes begin another's.
-use Rattle.std.proofs.Common.{◌≡◌, ℕ, ◌≤◌, List, ◌++◌, length, sym, ◌∙◌, ap, arith, append_assoc, length-append}
+use Rattle.std.proofs.Common.{◌≡◌, ℕ, ◌≤◌, List, [], ◌++◌, length, sym, ◌∙◌, ap, arith, append_assoc, length-append}
 use Rattle.std.proofs.lemmas.List.{append_cancel_left}
 use Rattle.mar_codec.specs.Codec.{IsUnambiguous}
 use Rattle.mar_codec.specs.Varint.{varint}
@@ -24,6 +24,10 @@ round_front r s rest left e = ap (λ p. record { epoch = p.0; view = p.1 }) (pai
 
     view : r.view ≡ s.view
     view = varint_front r.view s.view rest left (append_cancel_left (varint s.epoch) (varint r.view ++ rest) (varint s.view ++ left) (ap (λ n. varint n ++ (varint r.view ++ rest)) (sym epoch) ∙ flat))
+
+-- no two rounds have one spelling
+pub round_bytes-injective : (r s : Round) → round_bytes r ≡ round_bytes s → r ≡ s
+round_bytes-injective r s e = round_front r s [] [] (ap (λ bytes. bytes ++ []) e)
 
 pub round_unambiguous : IsUnambiguous SpellsRound
 round_unambiguous front other rest left f o e =

@@ -1,17 +1,17 @@
 //! Epochs, heights, views and rounds as bytes: each number a varint, a round its epoch and then its view.
 ghost use Rattle.std.specs.Prelude.{◌≡◌, ◌≤◌, false, length};
 ghost use Rattle.mar_codec.specs.Varint.{IsVarint, varint};
-ghost use Rattle.mar_codec.specs.VarintLemmas.{length-varint, varint_unambiguous};
+ghost use Rattle.mar_codec.specs.VarintLemmas.{length-varint, varint-injective, varint_unambiguous};
 ghost use Rattle.mar_codec.specs.Refusals.{RefusesJoined, RefusesVarint};
 ghost use Rattle.mar_types.specs.Round.{SpellsRound, round_bytes};
-ghost use Rattle.mar_types.specs.RoundBytes.{length-round_bytes, round_unambiguous};
+ghost use Rattle.mar_types.specs.RoundBytes.{length-round_bytes, round_bytes-injective, round_unambiguous};
 
 use crate::epochs::Epoch;
 use crate::heights::Height;
 use crate::rounds::Round;
 use crate::views::View;
 use bytes::{Buf, BufMut};
-use mar_codec::{EncodeSize, Error, MaxEncodeSize, Read, U64, UInt, Write};
+use mar_codec::{EncodeSize, Error, MaxEncodeSize, Read, Span, U64, UInt, Write};
 use std::alloc::{AllocError, Global};
 
 impl Write for Epoch {
@@ -57,6 +57,10 @@ impl Read for Epoch {
     ghost unambiguous = { λ _. varint_unambiguous };
 }
 
+impl Span for Epoch {
+    ghost told = { varint-injective };
+}
+
 impl Write for Height {
     ghost encoded = { varint };
 
@@ -100,6 +104,10 @@ impl Read for Height {
     ghost unambiguous = { λ _. varint_unambiguous };
 }
 
+impl Span for Height {
+    ghost told = { varint-injective };
+}
+
 impl Write for View {
     ghost encoded = { varint };
 
@@ -141,6 +149,10 @@ impl Read for View {
     }
 
     ghost unambiguous = { λ _. varint_unambiguous };
+}
+
+impl Span for View {
+    ghost told = { varint-injective };
 }
 
 impl Write for Round {
@@ -187,6 +199,10 @@ impl Read for Round {
     }
 
     ghost unambiguous = { λ _. round_unambiguous };
+}
+
+impl Span for Round {
+    ghost told = { round_bytes-injective };
 }
 
 impl From<Epoch> for U64 {

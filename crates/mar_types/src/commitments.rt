@@ -304,7 +304,13 @@ where
     B::Digest: FieldDigest,
     C::Commitment: FieldDigest,
     H::Digest: FieldDigest,
-{}
+{
+    ghost told = { λ commitment other e. λ i. record {
+      bytes = e i;
+      of = record {};
+      sized = same_proof 100 _ _ e commitment.sized other.sized i;
+    } };
+}
 
 impl<B: Digestible, C: CodingScheme, H: Hasher> Array for Commitment<B, C, H>
 where

@@ -74,15 +74,29 @@ fn comes_before(a: Round, b: Round) -> bool
     a < b
 }
 
-// What was written of a round is read back as that round, whatever follows it.
-fn reread(alloc: Global, epoch: u64, view: u64) -> Result<Round, Error>
+// What was written of a value is read back as that value, whatever follows it.
+fn reread<T: Span + Read<Cfg = ()>>(alloc: Global, value: &T) -> Result<T, Error>
+    requires { T.in_grammar tt (T.encoded value.now) }
+    ensures same { IfOk result (λ read. read ≡ value.now) }
+    ensures memory { IfErr result (λ e. e ≡ Error.Memory) }
+{
+    let mut buf = spelled(alloc, value)?;
+    buf.put_u8(7)?;
+    T::read(alloc, &mut buf)
+}
+
+fn reread_round(alloc: Global, epoch: u64, view: u64) -> Result<Round, Error>
     ensures same { IfOk result (λ round. round ≡ record { epoch = epoch; view = view }) }
     ensures memory { IfErr result (λ e. e ≡ Error.Memory) }
 {
-    let round = Round::new(Epoch::new(epoch), View::new(view));
-    let mut buf = spelled(alloc, &round)?;
-    buf.put_u8(7)?;
-    Round::read(alloc, &mut buf)
+    reread(alloc, &Round::new(Epoch::new(epoch), View::new(view)))
+}
+
+fn reread_height(alloc: Global, height: u64) -> Result<Height, Error>
+    ensures same { IfOk result (λ read. read ≡ height) }
+    ensures memory { IfErr result (λ e. e ≡ Error.Memory) }
+{
+    reread(alloc, &Height::new(height))
 }
 
 #[test]
@@ -94,7 +108,8 @@ fn rounds_are_spelled_printed_and_ordered(rt: HostRuntime) -> Result<(), Fail> {
     let mut rest: &[u8] = b"\xb9\x60\xb2\x92\x04\x07";
     assert_eq!(rt; Round::read_cfg(rt.alloc(), &mut rest, &()), Ok(round));
     assert_eq!(rt; rest, b"\x07".as_slice());
-    assert_eq!(rt; reread(rt.alloc(), 12345, 67890), Ok(round));
+    assert_eq!(rt; reread_round(rt.alloc(), 12345, 67890), Ok(round));
+    assert_eq!(rt; reread_height(rt.alloc(), 12345), Ok(Height::new(12345)));
     let mut cut: &[u8] = b"\xb9\x60\xb2";
     assert_eq!(rt;
         Round::read_cfg(rt.alloc(), &mut cut, &()),

@@ -1,20 +1,15 @@
-use Rattle.std.proofs.Common.{Err, List, Ok, Result, [], ap, refl, ℕ, ◌++◌, ◌∷◌, ◌∙◌, ◌≡◌}
+use Rattle.std.proofs.Common.{Err, List, Ok, Result, ap, ◌++◌, ◌∷◌, ◌∙◌, ◌≡◌, ℕ, []}
 use Rattle.std.specs.Prelude.{IfOk, MatchResult}
 use Rattle.mar_codec.specs.declared.Error.{Error}
 use Rattle.mar_codec.specs.declared.Error.TheVariants.{Memory}
-use Rattle.mar_types.specs.Round.{Round, round_bytes}
-use Rattle.mar_types.specs.RoundBytes.{round_front}
 use Rattle.mar_types.proofs.tests.reread.Goals as goal
 
--- a round that is spelled as this one is this one
-same_round : (result : Result Round Error) (r : Round) (new rest : List ℕ) → MatchResult result (λ read. (round_bytes read ≡ round_bytes r) × (new ≡ rest)) (λ e. e ≡ Memory) → IfOk result (λ read. read ≡ r)
-same_round (Ok read) r new rest is = round_front read r [] [] (ap (λ xs. xs ++ []) is.0)
-same_round (Err e) r new rest is = tt
+-- a value that is spelled as this one is this one
+same_value : {T : Type 0} (encoded : T → List ℕ) (value : T) (result : Result T Error) (new rest : List ℕ) → ((value other : T) → encoded value ≡ encoded other → value ≡ other) → MatchResult result (λ read. (encoded read ≡ encoded value) × (new ≡ rest)) (λ e. e ≡ Memory) → IfOk result (λ read. read ≡ value)
+same_value encoded value (Ok read) new rest told is = told read value is.0
+same_value encoded value (Err e) new rest told is = tt
 
 pub returns-clause-same : goal.returns-clause-same
-returns-clause-same c =
-    let r : Round = record { epoch = c.args.epoch; view = c.args.view } in
-    let is : c.new-round.result ≡ r = cc in
-    same_round _ r _ _
-    (c.read.ensures.back (round_bytes r) (7 ∷ []) (record { round = r; is_round = (c.ranges.epoch.fits, c.ranges.view.fits); spelled = refl })
-    (c.in_ok-put_u8.ensures.ok ∙ ap (λ xs. xs ++ 7 ∷ []) (c.in_ok-buf.ensures ∙ ap round_bytes is)))
+returns-clause-same g c =
+    same_value _ _ _ _ _ g.met.T.Span.told
+    (c.read.ensures.back _ (7 ∷ []) c.requires (c.in_ok-put_u8.ensures.ok ∙ ap (λ xs. xs ++ 7 ∷ []) c.in_ok-buf.ensures))
