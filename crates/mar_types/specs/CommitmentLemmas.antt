@@ -1,9 +1,9 @@
 -- A commitment made of its parts: it is valid where they are, and they are found in it.
-use Rattle.std.proofs.Common.{List, [], ap, ◌%◌, ◌/◌, append_assoc, arith, drop, length, length-append, refl, replicate, suc, sym, take, true, zero, ℕ, ◌++◌, ◌+◌, ◌-◌, ◌<◌, ◌^◌, ◌∙◌, ◌∷◌, ◌≡◌, ◌≤◌}
+use Rattle.std.proofs.Common.{List, [], ap, append_assoc, arith, drop, length, length-append, refl, replicate, suc, sym, take, true, zero, ℕ, ◌++◌, ◌-◌, ◌<◌, ◌^◌, ◌∙◌, ◌∷◌, ◌≡◌, ◌≤◌}
 use Rattle.std.proofs.Math.Seq.{drop-append_seam, take-append_seam}
 use Rattle.std.proofs.lemmas.List.{append-nil, length-replicate}
 use Rattle.std.proofs.lemmas.Nat.{from_be_bytes-to_be_bytes_2}
-use Rattle.std.specs.Int.{from_be_bytes, to_be_bytes, w16}
+use Rattle.std.specs.Int.{to_be_bytes, w16}
 use Rattle.std.specs.List.{AllByRecursion, slice_range}
 use Rattle.mar_codec.specs.Digest.{IsByte, IsBytes}
 use Rattle.mar_codec.specs.DigestLemmas.{to_be_bytes_2-injective}
