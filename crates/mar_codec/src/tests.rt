@@ -446,6 +446,11 @@ fn printed_texts(rt: HostRuntime) -> Result<(), Fail> {
     ] {
         assert_eq!(rt; error.to_string(rt.alloc())?.as_str(), text);
     }
+    Ok(())
+}
+
+#[test]
+fn texts_of_numbers(rt: HostRuntime) -> Result<(), Fail> {
     let member = Participant::from(3);
     assert_eq!(rt; member.to_string(rt.alloc())?.as_str(), "3");
     assert_eq!(rt; u32::from(member), member.get());

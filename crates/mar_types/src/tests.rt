@@ -316,6 +316,20 @@ fn terms_have_their_length(rt: HostRuntime) -> Result<(), Fail> {
         assert_eq!(rt; view.admits(other, five), admits, "{view} {other}");
         assert_eq!(rt; view.covers(other, five), covers, "{view} {other}");
     }
+    let covering = View::new(8).covering_range(five);
+    assert_eq!(rt;
+        (*covering.start(), *covering.end()),
+        (View::new(6), View::new(8))
+    );
+    assert_eq!(rt;
+        (TermLength::default(), TermLength::ONE.get()),
+        (TermLength::ONE, 1)
+    );
+    Ok(())
+}
+
+#[test]
+fn terms_of_three_views(rt: HostRuntime) -> Result<(), Fail> {
     let three = TermLength::new(NonZeroU32::new(3).ok_or("zero")?);
     let six = View::new(6);
     assert_eq!(rt; six.term_start(three), View::new(4));
@@ -327,15 +341,6 @@ fn terms_have_their_length(rt: HostRuntime) -> Result<(), Fail> {
         assert_eq!(rt; View::new(4).admits(View::new(view), three), admits);
     }
     assert!(rt; six.same_term(View::new(4), three) && !six.same_term(View::new(7), three));
-    let covering = View::new(8).covering_range(five);
-    assert_eq!(rt;
-        (*covering.start(), *covering.end()),
-        (View::new(6), View::new(8))
-    );
-    assert_eq!(rt;
-        (TermLength::default(), TermLength::ONE.get()),
-        (TermLength::ONE, 1)
-    );
     Ok(())
 }
 
@@ -384,6 +389,11 @@ fn fixed_epochs_have_their_length(rt: HostRuntime) -> Result<(), Fail> {
     }
     assert_eq!(rt; epoch_of(&epocher, u64::MAX), None);
     assert_eq!(rt; epocher.last(Epoch::new(u64::MAX)), None);
+    Ok(())
+}
+
+#[test]
+fn the_middle_of_an_epoch_of_ten(rt: HostRuntime) -> Result<(), Fail> {
     let ten = NonZeroU64::new(10).ok_or("zero")?;
     assert!(rt; ten.get() > 1);
     let info = epoch_of(&FixedEpocher::new(ten), 25).ok_or("no epoch")?;
