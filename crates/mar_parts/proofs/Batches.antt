@@ -1,18 +1,10 @@
 -- The least of the heights that the gate tracks, and the batches that a release keeps.
 use native.Mathlib.Decide.{dec_le}
-use Rattle.std.proofs.Common.{Bool, List, None, Option, Some, [], ap, append_assoc, arith, cond, filter, get_or, length, map, min, option_to_list, refl, suc, sym, take, zero, ℕ, ◌++◌, ◌+◌, ◌<◌, ◌∙◌, ◌∷◌, ◌≡◌, ◌≤◌, false, true}
-use Rattle.std.proofs.lemmas.List.{map-append, map_more, take_all}
+use Rattle.std.proofs.Common.{List, None, Option, Some, [], ap, append_assoc, arith, get_or, length, map, min, option_to_list, refl, take, ℕ, ◌++◌, ◌+◌, ◌<◌, ◌∷◌, ◌≡◌, ◌≤◌}
+use Rattle.std.proofs.lemmas.List.{map_more, take_all}
 use Rattle.std.proofs.lemmas.List.Elements.{Contains-append_left, Contains-append_right}
 use Rattle.std.specs.List.{AllByRecursion, Contains}
 use Rattle.mar_parts.specs.Gate.{IsLeastOf, lower_of}
-
-pub filter-map : {A B : Type 0} (p : B → Bool) (f : A → B) (xs : List A) → filter p (map f xs) ≡ map f (filter (λ x. p (f x)) xs)
-filter-map p f [] = refl
-filter-map p f (x ∷ xs) = by_test (p (f x)) (filter-map p f xs)
-  where
-    by_test : (b : Bool) → filter p (map f xs) ≡ map f (filter (λ x. p (f x)) xs) → cond b (f x ∷ filter p (map f xs)) (filter p (map f xs)) ≡ map f (cond b (x ∷ filter (λ x. p (f x)) xs) (filter (λ x. p (f x)) xs))
-    by_test true same = ap (λ ys. f x ∷ ys) same
-    by_test false same = same
 
 weaker : (h k : ℕ) (xs : List ℕ) → k ≤ h → AllByRecursion (λ x. h ≤ x) xs → AllByRecursion (λ x. k ≤ x) xs
 weaker h k [] below all = tt

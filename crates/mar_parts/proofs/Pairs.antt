@@ -1,5 +1,5 @@
 -- The pairs that stored values stand for.
-use Rattle.std.proofs.Common.{List, [], arith, get_or, length, map, refl, suc, sym, ap, zero, ℕ, ◌++◌, ◌<◌, ◌∙◌, ◌∷◌, ◌≡◌}
+use Rattle.std.proofs.Common.{List, [], arith, get_or, length, map, refl, suc, ap, zero, ℕ, ◌++◌, ◌<◌, ◌∙◌, ◌∷◌, ◌≡◌}
 use Rattle.std.proofs.Math.ListN.{get_or-map}
 use Rattle.std.proofs.lemmas.List.{length-map, map-append}
 use Rattle.std.specs.List.{Contains}

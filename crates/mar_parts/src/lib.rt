@@ -11,3 +11,6 @@ pub use acks::{Mark, Oldest, PendingAck, PendingAcks};
 pub use closed::closed_epoch;
 pub use gate::DispatchGate;
 pub use stream::{Stream, synced_cutoff, synced_height};
+
+#[cfg(test)]
+mod tests;

@@ -1,6 +1,6 @@
 use Rattle.std.proofs.Common.{nat_lt, rules}
 use Rattle.std.proofs.lemmas.Fn.{filter_same}
-use Rattle.mar_parts.proofs.Batches.{filter-map}
+use Rattle.mar_key.specs.Fronts.{filter-map}
 use Rattle.mar_parts.proofs.gate.DispatchGate.release.Goals as goal
 
 pub returns : goal.returns
