@@ -1,5 +1,5 @@
 //! The mock scheme, and a provider of it.
-ghost use Rattle.std.specs.Prelude.{◌≡◌, ◌≤◌};
+ghost use Rattle.std.specs.Prelude.{◌≡◌, ◌≤◌, IfSome, is_some};
 ghost use Rattle.mar_cert.specs.MockScheme.{mock_verifies, IsFinalization};
 ghost use Rattle.mar_cert.specs.Finalization.{finalize, notarize};
 ghost use Rattle.mar_cert.specs.Provided.{is_provided};
@@ -91,7 +91,10 @@ impl Provider for MockProvider {
 
     ghost verifies_notarization = { λ p. mock_verifies p.members notarize };
 
-    fn scoped(&self, epoch: Epoch) -> Option<MockScheme> {
+    fn scoped(&self, epoch: Epoch) -> Option<MockScheme>
+        ensures given { is_some result ≡ is_provided self.now epoch }
+        ensures scheme { IfSome result (λ scheme. scheme ≡ self.now.members) }
+    {
         if self.first <= epoch && epoch <= self.last {
             Some(self.scheme)
         } else {

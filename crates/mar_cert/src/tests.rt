@@ -1,8 +1,9 @@
 //! A finalization from outside, and what is refused.
 use crate::*;
 use bytes::BytesMut;
-use mar_codec::{Error, Kind, Read, Reason, Write};
+use mar_codec::{Error, Kind, Read, Reason, Sha256Digest, Write};
 use mar_types::{Epoch, Round, View};
+use std::alloc::AllocError;
 use std::test::Fail;
 
 // A finalization of view 1 in epoch 0 over view 0, signed by members 0, 1 and 2 of 4.
@@ -77,5 +78,50 @@ fn a_scheme_for_a_range_of_epochs(rt: HostRuntime) {
     let provider = MockProvider::new(scheme, Epoch::new(2), Epoch::new(3));
     for (epoch, given) in [(1, None), (2, Some(scheme)), (3, Some(scheme)), (4, None)] {
         assert_eq!(rt; provider.scoped(Epoch::new(epoch)), given);
+        assert_eq!(rt; is_given(&provider, epoch), given.is_some());
     }
+}
+
+fn is_given<P: Provider>(provider: &P, epoch: u64) -> bool {
+    provider.scoped(Epoch::new(epoch)).is_some()
+}
+
+fn copy_of<F: AsFinalization>(finalization: &F) -> Result<(Round, F), AllocError> {
+    let copy = finalization.try_clone()?;
+    Ok((finalization.round(), copy))
+}
+
+fn certificate_copy<C: Certificate>(certificate: &C) -> Result<C, AllocError> {
+    certificate.try_clone()
+}
+
+#[test]
+fn copies_are_what_was_read(rt: HostRuntime) -> Result<(), Fail> {
+    let mut left: &[u8] = &FINALIZATION;
+    let read = MockFinalization::read_cfg(rt.alloc(), &mut left, &4)?;
+    read.is_finalization(4);
+    mock_finalizations();
+    let (round, copy) = copy_of(&read)?;
+    assert_eq!(rt; round, read.proposal.round);
+    assert!(rt; copy == read);
+    assert!(rt; certificate_copy(&read.certificate)? == read.certificate);
+    let payload: Sha256Digest = read.payload();
+    assert_eq!(rt; payload, read.proposal.payload);
+    Ok(())
+}
+
+#[test]
+fn debug_texts(rt: HostRuntime) -> Result<(), Fail> {
+    let signer = Signer {
+        member: 2,
+        tag: Sha256Digest::from([0x0a; 32]),
+    };
+    let text =
+        "Signer { member: 2, tag: 0a0a0a0a0a0a0a0a0a0a0a0a0a0a0a0a0a0a0a0a0a0a0a0a0a0a0a0a0a0a0a0a }";
+    assert_eq!(rt; format!(in rt.alloc(); "{signer:?}")?.as_str(), text);
+    let provider = MockProvider::new(MockScheme::new(4), Epoch::new(2), Epoch::new(3));
+    let text =
+        "MockProvider { scheme: MockScheme { members: 4 }, first: Epoch(2), last: Epoch(3) }";
+    assert_eq!(rt; format!(in rt.alloc(); "{provider:?}")?.as_str(), text);
+    Ok(())
 }
