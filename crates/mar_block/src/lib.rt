@@ -5,6 +5,7 @@ mod blocks;
 mod buffer;
 mod empty_block;
 mod mem_buffer;
+mod places;
 mod standard;
 mod variant;
 

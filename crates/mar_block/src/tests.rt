@@ -1,9 +1,11 @@
 //! Blocks from outside, and a buffer that has them.
 use crate::*;
 use bytes::BytesMut;
-use mar_codec::{Digest, Digested, Digestible, Error, Read, Sha256, Sha256Digest, Write};
+use mar_codec::{
+    Digest, Digested, Digestible, Error, MaxEncodeSize, Read, Sha256, Sha256Digest, Write,
+};
 use mar_types::Height;
-use std::alloc::{AllocError, Global};
+use std::alloc::AllocError;
 use std::test::Fail;
 
 type Zero = EmptyBlock<Sha256>;
@@ -56,24 +58,58 @@ fn refused_blocks(rt: HostRuntime) {
     }
 }
 
-fn two_blocks(alloc: Global) -> Result<MemBuffer<StandardBlocks>, AllocError> {
-    let mut buffer = MemBuffer::new(alloc);
-    buffer.put(Digested::compute(alloc, genesis())?)?;
-    buffer.put(Digested::compute(alloc, child())?)?;
-    Ok(buffer)
+// Whether a block of both names is found by each.
+fn finds<V: Variant, B: Buffer<V>>(buffer: &B, block: &V::Block) -> Result<bool, AllocError> {
+    let by_digest = buffer.find_by_digest(&V::digest(block))?;
+    let by_commitment = buffer.find_by_commitment(&V::commitment(block))?;
+    Ok(by_digest.is_some() && by_commitment.is_some())
 }
 
 #[test]
 fn blocks_found_by_name(rt: HostRuntime) -> Result<(), Fail> {
-    let buffer = two_blocks(rt.alloc())?;
-    for block in [genesis(), child()] {
+    let mut buffer: MemBuffer<StandardBlocks> = MemBuffer::new(rt.alloc());
+    for height in 0..20 {
+        let parent = Sha256Digest::empty();
+        let block = EmptyBlock::new(parent, Height::new(height), height / 2);
+        let block = Digested::compute(rt.alloc(), block)?;
+        assert!(rt; !finds(&buffer, &block)?);
+        assert!(rt; !finds::<StandardBlocks, NoBuffer>(&NoBuffer, &block)?);
+        buffer.put(StandardBlocks::try_clone(&block)?)?;
+        buffer.put(StandardBlocks::try_clone(&block)?)?;
+        assert!(rt; finds(&buffer, &block)?);
+    }
+    for height in 0..20 {
+        let block: Zero = EmptyBlock::new(Sha256Digest::empty(), Height::new(height), height / 2);
         let name = block.digest();
         let found = buffer.find_by_digest(&name)?.ok_or("no such block")?;
         assert!(rt; *found.inner() == block);
         let found = buffer.find_by_commitment(&name)?.ok_or("no such block")?;
         assert_eq!(rt; StandardBlocks::height(&found), block.height);
-        assert!(rt; StandardBlocks::commitment(&found) == name);
+        assert!(rt;
+            StandardBlocks::commitment_to_inner(StandardBlocks::commitment(&found)) == name
+        );
     }
-    assert!(rt; buffer.find_by_digest(&Sha256Digest::empty())?.is_none());
+    Ok(())
+}
+
+fn parent_of<B: Block>(block: &B) -> (Height, B::Digest) {
+    (block.height(), block.parent())
+}
+
+#[test]
+fn parts_of_a_block(rt: HostRuntime) -> Result<(), Fail> {
+    let block = child();
+    assert!(rt; parent_of(&block) == (Height::new(1), genesis().digest()));
+    block.is_block();
+    Zero::spellings();
+    let text =
+        "EmptyBlock { parent: 17b0761f87b081d5cf10757ccc89f12be355c70e2e29df288b65b30710dcbcd1, height: Height(1), timestamp: 0 }";
+    assert_eq!(rt; format!(in rt.alloc(); "{block:?}")?.as_str(), text);
+    assert_eq!(rt; Zero::MAX_ENCODE_SIZE, 52);
+    let _ = StandardBlocks::default();
+    assert_eq!(rt;
+        format!(in rt.alloc(); "{NoBuffer:?}")?.as_str(),
+        "NoBuffer"
+    );
     Ok(())
 }

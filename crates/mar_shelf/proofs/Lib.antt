@@ -1,3 +1,2 @@
-pub mod FirstPlaces
 pub mod Piles
 pub mod Stores

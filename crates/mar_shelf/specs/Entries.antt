@@ -1,22 +1,7 @@
--- Entries in the order of their puts: what is held and sure of them, and where one stands.
-use Rattle.std.specs.Prelude.{Bool, List, None, Option, Some, [], if◌then◌else◌, map, option_map, slice_get, suc, take, ℕ, ◌∷◌}
+-- Entries in the order of their puts: what is held and sure of them.
+use Rattle.std.specs.Prelude.{List, map, take, ℕ}
 use Rattle.mar_store.specs.Kept.{At, Kept}
 
 -- entries by how they are seen, of which so many are synced
 abbrev pub kept_of : {T P : Type 0} → (T → At P) → List T → ℕ → Kept (At P)
 kept_of at items synced = record { held = map at items; sure = take synced (map at items); may = map at items }
-
--- the place of the first entry that passes
-abbrev pub first_place : {T : Type 0} → (T → Bool) → List T → Option ℕ
-first_place passes [] = None
-first_place passes (x ∷ xs) = if passes x then Some 0 else option_map suc (first_place passes xs)
-
--- the first of two places, or the second where there is no first
-abbrev pub or_place : Option ℕ → Option ℕ → Option ℕ
-or_place None other = other
-or_place (Some place) other = Some place
-
--- the entry that a place gives
-abbrev pub at_place : {T : Type 0} → List T → Option ℕ → Option T
-at_place xs None = None
-at_place xs (Some place) = slice_get xs place

@@ -4,7 +4,7 @@ ghost use Rattle.std.specs.Option.{option_copied};
 ghost use Rattle.std.specs.List.{list_any};
 ghost use Rattle.std.specs.Ordering.{nat_cmp};
 ghost use Rattle.std.specs.BTreeMap.{get};
-ghost use Rattle.mar_shelf.specs.Entries.{first_place, at_place};
+ghost use Rattle.mar_block.specs.Places.{first_place, at_place};
 
 use crate::entry::Entry;
 use crate::pile::Pile;

@@ -2,7 +2,7 @@ use Rattle.std.proofs.Common.{◌≡◌, ◌≤◌, ℕ, length, take}
 use Rattle.std.specs.Prelude.{◌==◌, bytes_eq}
 use Rattle.std.specs.Ordering.{nat_cmp}
 use Rattle.std.specs.BTreeMap.{get}
-use Rattle.mar_shelf.specs.Entries.{first_place}
+use Rattle.mar_block.specs.Places.{first_place}
 use Rattle.mar_shelf.proofs.entries.places_in.Given as goal
 
 abbrev pub invariant-loop-place : goal.invariant-loop-place

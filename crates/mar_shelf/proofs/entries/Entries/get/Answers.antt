@@ -1,6 +1,6 @@
 use Rattle.std.proofs.Common.{◌∙◌, sym}
 use Rattle.std.specs.Prelude.{◌==◌}
-use Rattle.mar_shelf.proofs.FirstPlaces.{find_at}
+use Rattle.mar_block.proofs.FirstPlaces.{find_at}
 use Rattle.mar_shelf.proofs.entries.Entries.get.Goals as goal
 
 pub returns : goal.returns

@@ -1,10 +1,10 @@
 -- Where the first entry that passes stands.
-use Rattle.std.proofs.Common.{◌≡◌, ℕ, zero, suc, List, [], ◌∷◌, ◌++◌, length, Bool, true, false, cond, Option, None, Some, refl, ap, ◌∙◌, sym, is_some, ◌||◌, ◌<◌, ◌+◌, take, get_or, arith}
-use Rattle.std.specs.Prelude.{find, option_map, slice_get, if◌then◌else◌}
+use Rattle.std.proofs.Common.{◌≡◌, ℕ, suc, List, [], ◌∷◌, ◌++◌, length, Bool, true, false, cond, Option, None, Some, refl, ap, ◌∙◌, sym, is_some, ◌||◌, ◌<◌, ◌+◌, take, get_or, arith}
+use Rattle.std.specs.Prelude.{find, option_map, if◌then◌else◌}
 use Rattle.std.specs.List.{list_any}
 use Rattle.std.proofs.lemmas.Bool.{or_left}
 use Rattle.std.proofs.lemmas.List.{take_more, length-take-le}
-use Rattle.mar_shelf.specs.Entries.{first_place, or_place, at_place}
+use Rattle.mar_block.specs.Places.{first_place, or_place, at_place}
 
 later : (a b : Option ℕ) → option_map suc (or_place a b) ≡ or_place (option_map suc a) (option_map suc b)
 later None b = refl
