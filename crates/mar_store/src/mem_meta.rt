@@ -128,26 +128,42 @@ impl Meta for MemMeta {
 #[cfg(test)]
 mod tests {
     use super::*;
+    use crate::Miss;
     use std::test::Fail;
+
+    fn changed<M: Meta>(store: M) -> Option<M> {
+        let store = store.put(1, 10).ok()?;
+        let store = store.put(2, 20).ok()?;
+        let store = store.sync().ok()?;
+        let store = store.put(1, 11).ok()?;
+        store.remove(2).ok()
+    }
+
+    // Crashes, and opens again with the value that the crash left to a key.
+    fn reopened<M: Meta>(store: M, key: u64) -> Option<(M, Option<u64>)> {
+        let wreck = store.wreck();
+        let synced = wreck.synced(key);
+        let store = M::reopen(wreck, 1).ok()?;
+        Some((store, synced))
+    }
 
     #[test]
     fn changes_last_from_a_sync_on(rt: HostRuntime) -> Result<(), Fail> {
         let store = MemMeta::new(rt.alloc());
         assert_eq!(rt; store.get(1), None);
-        let store = store.put(1, 10).ok().ok_or("put")?;
-        let store = store.put(2, 20).ok().ok_or("put")?;
-        let store = store.sync().ok().ok_or("sync")?;
-        let store = store.put(1, 11).ok().ok_or("put")?;
-        let store = store.remove(2).ok().ok_or("remove")?;
-        assert_eq!(rt; store.get(1), Some(11));
-        assert_eq!(rt; store.get(2), None);
-
-        let wreck = store.wreck();
-        assert_eq!(rt; wreck.synced(1), Some(10));
-        assert_eq!(rt; wreck.synced(3), None);
-        let store = MemMeta::reopen(wreck, 1).ok().ok_or("reopen")?;
-        assert_eq!(rt; store.get(1), Some(10));
-        assert_eq!(rt; store.get(2), Some(20));
+        let store = changed(store).ok_or("changed")?;
+        for (key, value) in [(1, Some(11)), (2, None), (3, None)] {
+            assert_eq!(rt; store.get(key), value);
+        }
+        let (store, synced) = reopened(store, 1).ok_or("reopened")?;
+        assert_eq!(rt; synced, Some(10));
+        for (key, value) in [(1, Some(10)), (2, Some(20)), (3, None)] {
+            assert_eq!(rt; store.get(key), value);
+        }
+        assert_eq!(rt;
+            format!(in rt.alloc(); "{:?}", Miss::Fault)?.as_str(),
+            "Fault"
+        );
         Ok(())
     }
 }
