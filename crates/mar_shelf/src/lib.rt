@@ -18,3 +18,6 @@ pub use list_blocks::{ListBlocks, ListBlocksWreck};
 pub use list_certificates::{ListCertificates, ListCertificatesWreck};
 pub use no_shelf::NoShelf;
 pub use shelf::{Shelf, ShelfRuin};
+
+#[cfg(test)]
+mod tests;
