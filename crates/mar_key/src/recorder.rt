@@ -291,7 +291,8 @@ impl<D: Digest> Recorder<D> {
     /// Takes in what a script line did: first the judgements of its deliveries, then what it asked, so that what it asks
     /// afresh stays open. Where memory runs out the open keys may be any between those before and those after.
     pub fn settle(&mut self, judged: &[Judged<D>]) -> Result<(), AllocError>
-        ensures { OnOk result (self.new ≡ record self.old { settled = length self.old.asks; keys = asked_after self.old.keys (map (judged_of D.bytes) judged.now) (drop self.old.settled self.old.asks) }) }
+        ensures ok { OnOk result (self.new ≡ record self.old { settled = length self.old.asks; keys = asked_after self.old.keys (map (judged_of D.bytes) judged.now) (drop self.old.settled self.old.asks) }) }
+        ensures err { OnErr result (self.new ≡ record self.old { keys = self.new.keys }) }
     {
         let asks = self.asks.as_slice();
         settle_keys(self.alloc, &mut self.keys, judged, &asks[self.settled..])?;

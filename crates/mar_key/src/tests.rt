@@ -1,7 +1,8 @@
 //! Values from outside, and each call at a concrete type.
 use super::*;
-use mar_codec::Sha256Digest;
+use mar_codec::{Digest, Sha256Digest};
 use mar_types::{Epoch, Height, Round, View};
+use std::alloc::AllocError;
 use std::slice;
 use std::test::Fail;
 
@@ -33,6 +34,87 @@ fn floors_hold_what_they_are_given(rt: HostRuntime) {
     assert_eq!(rt; floor.cutoff(), Cutoff::zero());
     assert_eq!(rt; Processed::Absent(Height::new(4)).anchor(), Height::new(5));
     assert_eq!(rt; Processed::Block(Height::new(4)).anchor(), Height::new(4));
+    assert_eq!(rt; Processed::Absent(Height::new(4)).height(), Height::new(4));
+    assert_eq!(rt; Processed::Block(Height::new(4)).height(), Height::new(4));
+}
+
+#[test]
+fn annotations_are_told_apart(rt: HostRuntime) -> Result<(), Fail> {
+    let height = Height::new(6);
+    let round = round(2, 7);
+    let by_round = Finalized::ByRound { round };
+    let by_height = Finalized::ByHeight { height };
+    // Each with whether it asks for a finalized block, whether a height bounds it, else a round, and its text.
+    for (annotation, finalized, by_a_height, text) in [
+        (
+            Annotation::Notarization { round },
+            false,
+            false,
+            "Notarization { round: Round { epoch: Epoch(2), view: View(7) } }",
+        ),
+        (
+            Annotation::Untrusted { height },
+            false,
+            true,
+            "Untrusted { height: Height(6) }",
+        ),
+        (
+            Annotation::Certified { height },
+            false,
+            true,
+            "Certified { height: Height(6) }",
+        ),
+        (
+            Annotation::Finalized(by_height),
+            true,
+            true,
+            "Finalized(ByHeight { height: Height(6) })",
+        ),
+        (
+            Annotation::Finalized(by_round),
+            true,
+            false,
+            "Finalized(ByRound { round: Round { epoch: Epoch(2), view: View(7) } })",
+        ),
+    ] {
+        assert_eq!(rt; annotation.is_finalized(), finalized, "{text}");
+        assert_eq!(rt; annotation.is_at_or_below(height), by_a_height, "{text}");
+        assert!(rt; !annotation.is_at_or_below(Height::new(5)), "{text}");
+        assert_eq!(rt;
+            annotation.is_covered_by(Cutoff::Round(round)),
+            !by_a_height,
+            "{text}"
+        );
+        assert!(rt;
+            !annotation.is_covered_by(Cutoff::Epoch(Epoch::new(1))),
+            "{text}"
+        );
+        assert_eq!(rt;
+            Retain::AboveHeight(height).denies(&annotation),
+            by_a_height,
+            "{text}"
+        );
+        assert_eq!(rt; format!(in rt.alloc(); "{annotation:?}")?.as_str(), text);
+    }
+    Ok(())
+}
+
+#[test]
+fn debug_texts(rt: HostRuntime) -> Result<(), Fail> {
+    let request = Request::finalized_by_height(9u64, Height::new(6));
+    let text =
+        "Request { fetch: Fetch { key: Block(9), subscriber: Finalized(ByHeight { height: Height(6) }) } }";
+    assert_eq!(rt; format!(in rt.alloc(); "{request:?}")?.as_str(), text);
+    let keep = Retain::AboveRound(Cutoff::Epoch(Epoch::new(3)));
+    let text = "AboveRound(Epoch(Epoch(3)))";
+    assert_eq!(rt; format!(in rt.alloc(); "{keep:?}")?.as_str(), text);
+    let floor = Floor::new(
+        Some(Processed::Block(Height::new(1))),
+        Cutoff::Epoch(Epoch::zero()),
+    );
+    let text = "Floor { processed: Some(Block(Height(1))), cutoff: Epoch(Epoch(0)) }";
+    assert_eq!(rt; format!(in rt.alloc(); "{floor:?}")?.as_str(), text);
+    Ok(())
 }
 
 #[test]
@@ -143,6 +225,42 @@ fn recorder_drops_what_a_retain_denies(rt: HostRuntime) -> Result<(), Fail> {
             left
         );
     }
+    Ok(())
+}
+
+// Asks in each way, through the bounds alone.
+fn ask_all<D: Digest, R: TargetedResolver<D>>(
+    resolver: &mut R,
+    fetch: Fetch<D>,
+    fetches: &[Fetch<D>],
+) -> Result<(), AllocError> {
+    resolver.fetch(fetch)?;
+    resolver.fetch_targeted(fetch, &[1, 2])?;
+    resolver.fetch_all(fetches)?;
+    resolver.fetch_all_targeted(fetches, &[3])?;
+    resolver.retain(Retain::AboveHeight(Height::zero()))
+}
+
+#[test]
+fn recorder_behind_its_bounds(rt: HostRuntime) -> Result<(), Fail> {
+    let fetch: Fetch<Sha256Digest> = Fetch::from(Request::notarized(round(1, 1)));
+    let mut recorder = Recorder::new(rt.alloc());
+    ask_all(&mut recorder, fetch, slice::from_ref(&fetch))?;
+    assert_eq!(rt; recorder.asks().len(), 5);
+    assert_eq!(rt; recorder.keys().len(), 0);
+    recorder.settle(&[])?;
+    assert_eq!(rt; recorder.keys().len(), 1);
+    recorder.settle(&[])?;
+    assert_eq!(rt; recorder.annotations_of(&fetch.key).len(), 1);
+    assert!(rt; same_key(&fetch.key, &Key::Notarized { round: round(1, 1) }));
+    assert!(rt;
+        !same_key(
+            &fetch.key,
+            &Key::Finalized {
+                height: Height::new(1)
+            }
+        )
+    );
     Ok(())
 }
 

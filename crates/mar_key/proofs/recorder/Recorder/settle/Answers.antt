@@ -3,8 +3,8 @@ use Rattle.mar_key.specs.Recorded.{ask_of, asked_of, judged_of}
 use Rattle.mar_key.proofs.OpenKeys.{keys_settled}
 use Rattle.mar_key.proofs.recorder.Recorder.settle.Goals as goal
 
-pub returns : goal.returns
-returns g c =
+pub returns-clause-ok : goal.returns-clause-ok
+returns-clause-ok g c =
     rw (← c.self.view_is)
     (keys_settled (ask_of g.D.Digest.bytes) c.self.inside.asks.items c.as_slice-asks.result.now _ c.self.inside.settled (map (asked_of g.D.Digest.bytes) c.self.inside.keys.items) _ (map (judged_of g.D.Digest.bytes) c.args.judged.now)
     c.in_ok-settle_keys.ensures c.as_slice-asks.ensures.value (c.len-self-inside.ensures ∙ c.self.inside.asks.ok.0))
