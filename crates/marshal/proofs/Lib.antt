@@ -25,3 +25,5 @@ pub mod DeliveryHeadline
 pub mod EmptyStores
 pub mod Spelled
 pub mod Pushed
+pub mod ReadBytes
+pub mod FirstWords

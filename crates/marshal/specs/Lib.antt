@@ -7,3 +7,4 @@ pub mod Status
 pub mod Shown
 pub mod Laws
 pub mod Endings
+pub mod Lines

@@ -1,4 +1,13 @@
 //! The lines of a script behind the first.
+ghost use Rattle.std.specs.Prelude.{◌≡◌, ◌++◌, ◌∷◌, ℕ, None, IfOk, IfSome, codes};
+ghost use Rattle.mar_block.specs.Block.{Block as PlainBlock, IsBlock};
+ghost use Rattle.mar_cert.specs.Finalization.{Finalization as PlainFinalization, finalization_bytes};
+ghost use Rattle.mar_cert.specs.MockScheme.{IsFinalization};
+ghost use Rattle.mar_codec.specs.declared.Sha256Digest.{Sha256Digest};
+ghost use Rattle.marshal.specs.Lines.{Spells, plain_block, plain_finalization, plain_line};
+ghost use Rattle.marshal.specs.Script.{IsSettings, Line as PlainLine, hex};
+ghost use Rattle.marshal.specs.Words.{Yields};
+
 use crate::settings::Settings;
 use crate::words::{ParseError, after, bytes_of, number};
 use mar_block::EmptyBlock;
@@ -23,7 +32,10 @@ pub enum Line {
 
 impl Line {
     /// The block that the line opens a life from.
-    pub fn into_genesis(self) -> Option<EmptyBlock<Sha256>> {
+    pub fn into_genesis(self) -> Option<EmptyBlock<Sha256>>
+        ensures found { IfSome result (λ b. self ≡ Line.OpenGenesis b) }
+        ensures none { result ≡ None → (b : EmptyBlock Sha256 Sha256Digest) → self ≡ Line.OpenGenesis b → ⊥ }
+    {
         match self {
             Line::OpenGenesis(genesis) => Some(genesis),
             Line::Buffer(_block) => None,
@@ -35,32 +47,128 @@ impl Line {
 }
 
 /// The line that these bytes spell, without its end.
-pub fn parse_line(alloc: Global, settings: Settings, line: &[u8]) -> Result<Line, ParseError> {
+pub fn parse_line(alloc: Global, settings: Settings, line: &[u8]) -> Result<Line, ParseError>
+    requires { IsSettings settings }
+    ensures found { IfOk result (λ l. Spells settings.members line.now (plain_line l)) }
+    ensures only { (l : PlainLine) → Spells settings.members line.now l → Yields (λ found. plain_line found ≡ l) result }
+{
     if let Some(word) = after(line, b"open genesis") {
-        return Ok(Line::OpenGenesis(value_of(alloc, word, &())?));
+        return open_genesis(alloc, word);
     }
     if let Some(word) = after(line, b"buffer") {
-        return Ok(Line::Buffer(value_of(alloc, word, &())?));
+        return buffer(alloc, word);
     }
     if let Some(word) = after(line, b"final") {
-        let members = (settings.members & 0xff) as u32;
-        return Ok(Line::Final(value_of(alloc, word, &members)?));
+        return finalization(alloc, settings.members as u32, word);
     }
     if let Some(word) = after(line, b"sync") {
-        return Ok(Line::Sync(number(alloc, word)?));
+        return sync(alloc, word);
     }
     if let Some(word) = after(line, b"ack") {
-        return Ok(Line::Ack(number(alloc, word)?));
+        return ack(alloc, word);
     }
     Err(ParseError::Grammar)
 }
 
-// The value that a word spells, whole.
-fn value_of<T: Decode>(alloc: Global, word: &[u8], cfg: &T::Cfg) -> Result<T, ParseError> {
-    let bytes = bytes_of(alloc, word)?;
-    match T::decode_cfg(alloc, bytes.as_slice(), cfg) {
-        Ok(value) => Ok(value),
-        Err(Error::Memory) => Err(ParseError::Memory),
-        Err(_) => Err(ParseError::Grammar),
+// The line `open genesis` with this word.
+fn open_genesis(alloc: Global, word: &[u8]) -> Result<Line, ParseError>
+    ensures found { (n : ℕ) → IfOk result (λ l. Spells n (codes "open genesis" ++ 32 ∷ word.now) (plain_line l)) }
+    ensures only { (n : ℕ) (l : PlainLine) → Spells n (codes "open genesis" ++ 32 ∷ word.now) l → Yields (λ found. plain_line found ≡ l) result }
+{
+    match block_of(alloc, word) {
+        Ok(block) => Ok(Line::OpenGenesis(block)),
+        Err(error) => Err(error),
+    }
+}
+
+// The line `buffer` with this word.
+fn buffer(alloc: Global, word: &[u8]) -> Result<Line, ParseError>
+    ensures found { (n : ℕ) → IfOk result (λ l. Spells n (codes "buffer" ++ 32 ∷ word.now) (plain_line l)) }
+    ensures only { (n : ℕ) (l : PlainLine) → Spells n (codes "buffer" ++ 32 ∷ word.now) l → Yields (λ found. plain_line found ≡ l) result }
+{
+    match block_of(alloc, word) {
+        Ok(block) => Ok(Line::Buffer(block)),
+        Err(error) => Err(error),
+    }
+}
+
+// The line `final` with this word.
+fn finalization(alloc: Global, members: u32, word: &[u8]) -> Result<Line, ParseError>
+    ensures found { IfOk result (λ l. Spells members (codes "final" ++ 32 ∷ word.now) (plain_line l)) }
+    ensures only { (l : PlainLine) → Spells members (codes "final" ++ 32 ∷ word.now) l → Yields (λ found. plain_line found ≡ l) result }
+{
+    match finalization_of(alloc, members, word) {
+        Ok(finalization) => Ok(Line::Final(finalization)),
+        Err(error) => Err(error),
+    }
+}
+
+// The line `sync` with this word.
+fn sync(alloc: Global, word: &[u8]) -> Result<Line, ParseError>
+    ensures found { (n : ℕ) → IfOk result (λ l. Spells n (codes "sync" ++ 32 ∷ word.now) (plain_line l)) }
+    ensures only { (n : ℕ) (l : PlainLine) → Spells n (codes "sync" ++ 32 ∷ word.now) l → Yields (λ found. plain_line found ≡ l) result }
+{
+    match number(alloc, word) {
+        Ok(ticket) => Ok(Line::Sync(ticket)),
+        Err(error) => Err(error),
+    }
+}
+
+// The line `ack` with this word.
+fn ack(alloc: Global, word: &[u8]) -> Result<Line, ParseError>
+    ensures found { (n : ℕ) → IfOk result (λ l. Spells n (codes "ack" ++ 32 ∷ word.now) (plain_line l)) }
+    ensures only { (n : ℕ) (l : PlainLine) → Spells n (codes "ack" ++ 32 ∷ word.now) l → Yields (λ found. plain_line found ≡ l) result }
+{
+    match number(alloc, word) {
+        Ok(ticket) => Ok(Line::Ack(ticket)),
+        Err(error) => Err(error),
+    }
+}
+
+// The block that a word spells, whole.
+fn block_of(alloc: Global, word: &[u8]) -> Result<EmptyBlock<Sha256>, ParseError>
+    ensures is_block { IfOk result (λ b. IsBlock (plain_block b)) }
+    ensures found { IfOk result (λ b. word.now ≡ hex (plain_block b).encoded) }
+    ensures only { (b : PlainBlock) → IsBlock b → word.now ≡ hex b.encoded → Yields (λ found. plain_block found ≡ b) result }
+{
+    let bytes = match bytes_of(alloc, word) {
+        Ok(bytes) => bytes,
+        Err(error) => return Err(error),
+    };
+    match EmptyBlock::<Sha256>::decode_cfg(alloc, bytes.as_slice(), &()) {
+        Ok(block) => {
+            block.is_block();
+            Ok(block)
+        }
+        Err(error) => Err(refusal(error)),
+    }
+}
+
+// The finalization of so many members that a word spells, whole.
+fn finalization_of(alloc: Global, members: u32, word: &[u8]) -> Result<MockFinalization, ParseError>
+    ensures is_finalization { IfOk result (λ f. IsFinalization members (plain_finalization f)) }
+    ensures found { IfOk result (λ f. word.now ≡ hex (finalization_bytes (plain_finalization f))) }
+    ensures only { (f : PlainFinalization) → IsFinalization members f → word.now ≡ hex (finalization_bytes f) → Yields (λ found. plain_finalization found ≡ f) result }
+{
+    let bytes = match bytes_of(alloc, word) {
+        Ok(bytes) => bytes,
+        Err(error) => return Err(error),
+    };
+    match MockFinalization::decode_cfg(alloc, bytes.as_slice(), &members) {
+        Ok(finalization) => {
+            finalization.is_finalization(members);
+            Ok(finalization)
+        }
+        Err(error) => Err(refusal(error)),
+    }
+}
+
+// Why bytes that aren't read as a value are refused.
+fn refusal(error: Error) -> ParseError
+    ensures { result ≡ ParseError.Grammar → error ≡ Error.Memory → ⊥ }
+{
+    match error {
+        Error::Memory => ParseError::Memory,
+        _ => ParseError::Grammar,
     }
 }

@@ -138,6 +138,7 @@ fn next_line<S: Source>(
     source: &mut S,
     number: u64,
 ) -> Result<Option<Line>, Status>
+    requires { IsSettings settings }
     ensures end { IfErr result IsReadersEnd }
     ensures to_end { IfOk result (λ o. IfNone o (IsShownAs (S.left source.new) [])) }
     ensures calm { OnOk result (S.faults source.new ≡ S.faults source.old) }
