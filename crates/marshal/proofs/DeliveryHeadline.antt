@@ -215,7 +215,7 @@ headline = record {
   settings = Some settings;
   lines = lines;
   rest = [];
-  told = (input_is, are_settings, are_lines, lit< tt, (lit< tt, refl, refl), λ chain p. replays chain p);
+  told = ((input_is, are_settings, are_lines, lit< tt, (lit< tt, refl, refl)), λ chain p. replays chain p);
 }
 
 -- the law of it, for bytes that are these

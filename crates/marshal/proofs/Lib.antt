@@ -27,3 +27,6 @@ pub mod Spelled
 pub mod Pushed
 pub mod ReadBytes
 pub mod FirstWords
+pub mod LineEnds
+pub mod ReadSteps
+pub mod FirstOutside

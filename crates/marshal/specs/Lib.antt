@@ -8,3 +8,4 @@ pub mod Shown
 pub mod Laws
 pub mod Endings
 pub mod Lines
+pub mod Reading

@@ -394,13 +394,21 @@ pub record Replays (quiet : Type 0) (config : Config) (chain : Chain) (lines : L
   pub memory : MemoryEnds status run
   pub complete : quiet → AreSmooth config (stopped before) run → AllByRecursion IsFaultFree run
 
+-- how far a source was read: the settings, the lines that were done, and the rest that was taken behind them
+abbrev pub ReadsLines : Option Settings → List Line → List ℕ → Status → List ℕ → List ℕ → Type 0
+ReadsLines None lines rest status taken left = (lines ≡ []) × (taken ≡ rest) × StopsAt 1 IsConfigBytes rest left status
+ReadsLines (Some s) lines rest status taken left =
+    (taken ≡ script_bytes s lines ++ rest) × IsSettings s × AllByRecursion (IsLine s.members) lines × (length lines < max_lines) × StopsAt (length lines + 2) (IsLineBytes s.members) rest left status
+
+-- what the lines that were done made of the stores, and what they wrote
+abbrev pub RunsLines : Type 0 → Option Settings → List Line → Status → List ℕ → Ended → Ended → Type 0
+RunsLines quiet None lines status bytes before after = (bytes ≡ []) × HandsBack (stopped before) after × ((chain : Chain) → IsGoodEnded chain before → IsGoodEnded chain after)
+RunsLines quiet (Some s) lines status bytes before after = (chain : Chain) → Premises (config_of s) chain lines before → Replays quiet (config_of s) chain lines bytes status before after
+
 -- of the lines that were done, and of bytes taken, left and written
 abbrev pub ReplaysLines : Type 0 → Option Settings → List Line → List ℕ → Status → List ℕ → List ℕ → List ℕ → Ended → Ended → Type 0
-ReplaysLines quiet None lines rest status taken left bytes before after =
-    (lines ≡ []) × (taken ≡ rest) × StopsAt 1 IsConfigBytes rest left status × (bytes ≡ []) × HandsBack (stopped before) after × ((chain : Chain) → IsGoodEnded chain before → IsGoodEnded chain after)
-ReplaysLines quiet (Some s) lines rest status taken left bytes before after =
-    (taken ≡ script_bytes s lines ++ rest) × IsSettings s × AllByRecursion (IsLine s.members) lines × (length lines < max_lines) × StopsAt (length lines + 2) (IsLineBytes s.members) rest left status
-    × ((chain : Chain) → Premises (config_of s) chain lines before → Replays quiet (config_of s) chain lines bytes status before after)
+ReplaysLines quiet settings lines rest status taken left bytes before after =
+    ReadsLines settings lines rest status taken left × RunsLines quiet settings lines status bytes before after
 
 -- THE HEADLINE: what `replay` took of its source and left in it, what it wrote, what it answered, and
 -- its stores before and after. `quiet` says that no count of source, sink or stores rose.

@@ -119,6 +119,8 @@ impl ScriptReader {
         ensures later { S.faults source.old ≤ S.faults source.new }
         ensures fault { IsErrOf result LineError.ReadFault → Rose (S.faults source.old) (S.faults source.new) }
         ensures calm { OnOk result (S.faults source.new ≡ S.faults source.old) }
+        ensures unended { IsErrOf result LineError.Unended → S.faults source.new ≡ S.faults source.old }
+        ensures too_long { IsErrOf result LineError.TooLong → S.faults source.new ≡ S.faults source.old }
     {
         let mut searched = 0;
         'pieces: loop {

@@ -1,9 +1,11 @@
 //! Replays a script over the stores of a node.
-ghost use Rattle.std.specs.Prelude.{◌≡◌, [], IfErr, IfNone, IfOk, IsErrOf, OnOk};
+ghost use Rattle.std.specs.Prelude.{◌≡◌, ◌+◌, ◌++◌, ◌≤◌, ℕ, List, Option, Some, [], IfErr, IfNone, IfOk, IsErrOf, OnOk};
 ghost use Rattle.mar_codec.specs.Causes.{Rose};
 ghost use Rattle.marshal.specs.Run.{IsShownAs};
-ghost use Rattle.marshal.specs.Script.{IsSettings};
+ghost use Rattle.marshal.specs.Script.{IsSettings, settings_bytes};
 ghost use Rattle.marshal.specs.Endings.{IsReadersEnd, IsWritersEnd};
+ghost use Rattle.marshal.specs.Reading.{EndsByLine, IsFirstOutside, Reads, TakesFirst, TakesNext, missing_status, refused_status};
+ghost use Rattle.marshal.specs.Streams.{Gives};
 
 use crate::line::{Line, parse_line};
 use crate::play::{Outcome, State, Stores, play};
@@ -56,6 +58,10 @@ pub fn replay<
     ensures to_end { result.status ≡ Status.Ok → IsShownAs (S.left source.new) [] }
     ensures read_fault { result.status ≡ Status.ReadFault → Rose (S.faults source.old) (S.faults source.new) }
     ensures write_fault { result.status ≡ Status.WriteFault → Rose (K.faults sink.old) (K.faults sink.new) }
+    ensures reads { Reads (S.left source.old) (S.left source.new) result.status }
+    ensures script { (all : List ℕ) (n : ℕ) → S.left source.old ≡ Some all → result.status ≡ Status.Script n → IsFirstOutside all n }
+    ensures calm { (n : ℕ) → result.status ≡ Status.Script n → (S.faults source.new ≡ S.faults source.old) × (K.faults sink.new ≡ K.faults sink.old) }
+    ensures outside { (all : List ℕ) (n : ℕ) → S.left source.old ≡ Some all → IsFirstOutside all n → EndsByLine n result.status }
 {
     let mut reader = ScriptReader::new(alloc);
     let settings = match first_line(alloc, &mut reader, source) {
@@ -87,6 +93,7 @@ fn left_of<
 
 // Why there is no line, at the line of this number.
 fn line_status(error: LineError, number: u64) -> Status
+    ensures told { result ≡ missing_status number error }
     ensures end { IsReadersEnd result }
     ensures read_fault { result ≡ Status.ReadFault → error ≡ LineError.ReadFault }
 {
@@ -99,6 +106,7 @@ fn line_status(error: LineError, number: u64) -> Status
 
 // Why a line is refused, at the line of this number.
 fn parse_status(error: ParseError, number: u64) -> Status
+    ensures told { result ≡ refused_status number error }
     ensures end { IsReadersEnd result }
     ensures read_fault { result ≡ Status.ReadFault → ⊥ }
 {
@@ -114,9 +122,11 @@ fn first_line<S: Source>(
     reader: &mut ScriptReader,
     source: &mut S,
 ) -> Result<Settings, Status>
+    ensures first { TakesFirst (S.left source.old) reader.old result reader.new (S.left source.new) }
     ensures valid { IfOk result IsSettings }
     ensures end { IfErr result IsReadersEnd }
     ensures calm { OnOk result (S.faults source.new ≡ S.faults source.old) }
+    ensures calm_script { (n : ℕ) → IsErrOf result (Status.Script n) → S.faults source.new ≡ S.faults source.old }
     ensures read_fault { IsErrOf result Status.ReadFault → Rose (S.faults source.old) (S.faults source.new) }
 {
     let line = match reader.next_line(alloc, source) {
@@ -138,10 +148,13 @@ fn next_line<S: Source>(
     source: &mut S,
     number: u64,
 ) -> Result<Option<Line>, Status>
-    requires { IsSettings settings }
+    requires valid { IsSettings settings }
+    requires number { number ≤ MAX_LINES + 1 }
+    ensures next { TakesNext settings.members number (S.left source.old) reader.old result reader.new (S.left source.new) }
     ensures end { IfErr result IsReadersEnd }
     ensures to_end { IfOk result (λ o. IfNone o (IsShownAs (S.left source.new) [])) }
     ensures calm { OnOk result (S.faults source.new ≡ S.faults source.old) }
+    ensures calm_script { (n : ℕ) → IsErrOf result (Status.Script n) → S.faults source.new ≡ S.faults source.old }
     ensures read_fault { IsErrOf result Status.ReadFault → Rose (S.faults source.old) (S.faults source.new) }
 {
     let line = match reader.next_line(alloc, source) {
@@ -179,6 +192,8 @@ fn later_lines<
     ensures to_end { result.1 ≡ Status.Ok → IsShownAs (S.left source.new) [] }
     ensures read_fault { result.1 ≡ Status.ReadFault → Rose (S.faults source.old) (S.faults source.new) }
     ensures write_fault { result.1 ≡ Status.WriteFault → Rose (K.faults sink.old) (K.faults sink.new) }
+    ensures calm { (n : ℕ) → result.1 ≡ Status.Script n → (S.faults source.new ≡ S.faults source.old) × (K.faults sink.new ≡ K.faults sink.old) }
+    ensures reads { (start : Option (List ℕ)) (taken : List ℕ) → Gives start taken (S.left source.old) → taken ≡ settings_bytes settings ++ reader.old → Reads start (S.left source.new) result.1 }
 {
     let mut state = State::Stopped(stores);
     'lines: for number in 2..MAX_LINES + 2 {

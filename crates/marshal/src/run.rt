@@ -1,6 +1,7 @@
 //! What the words of the command line ask for.
-ghost use Rattle.std.specs.Prelude.{◌≡◌, [], ◌∷◌, codes, map, string_bytes};
+ghost use Rattle.std.specs.Prelude.{◌≡◌, ℕ, List, Some, [], ◌∷◌, codes, map, string_bytes};
 ghost use Rattle.mar_codec.specs.Causes.{Rose};
+ghost use Rattle.marshal.specs.Reading.{EndsByLine, IsFirstOutside, Reads};
 ghost use Rattle.marshal.specs.Run.{IsShownAs};
 
 use crate::command::Command;
@@ -35,6 +36,10 @@ pub fn run<
     ensures to_end { result.status ≡ Status.Ok → IsShownAs (S.left source.new) [] }
     ensures read_fault { result.status ≡ Status.ReadFault → Rose (S.faults source.old) (S.faults source.new) }
     ensures write_fault { result.status ≡ Status.WriteFault → Rose (K.faults sink.old) (K.faults sink.new) }
+    ensures reads { Reads (S.left source.old) (S.left source.new) result.status }
+    ensures script { (all : List ℕ) (n : ℕ) → S.left source.old ≡ Some all → result.status ≡ Status.Script n → IsFirstOutside all n }
+    ensures calm { (n : ℕ) → result.status ≡ Status.Script n → (S.faults source.new ≡ S.faults source.old) × (K.faults sink.new ≡ K.faults sink.old) }
+    ensures outside { map string_bytes words.now ≡ codes "replay" ∷ [] → (all : List ℕ) (n : ℕ) → S.left source.old ≡ Some all → IsFirstOutside all n → EndsByLine n result.status }
 {
     match Command::parse(words) {
         Some(Command::Replay) => replay(alloc, source, sink, stores),

@@ -1,0 +1,14 @@
+use Rattle.std.proofs.Common.{[], ap, ◌++◌, ◌∙◌, ◌∷◌}
+use Rattle.marshal.proofs.ReadSteps.{first_missing, first_refused, nothing_first}
+use Rattle.marshal.proofs.replay.first_line.Goals as goal
+
+pub returns-in-Ok-None-clause-first : goal.returns-in-Ok-None-clause-first
+returns-in-Ok-None-clause-first g c = nothing_first _ _ _ _ (rw c.in-Ok-None.field-0-is at c.in-Ok-None.ensures.line)
+
+pub returns-in-Err-clause-first : goal.returns-in-Err-clause-first
+returns-in-Err-clause-first g c = first_missing _ _ _ _ _ _ c.in-Err.ensures.line c.line_status.ensures.told
+
+pub returns-clause-first : goal.returns-clause-first
+returns-clause-first g c =
+    first_refused _ _ c.in-Ok-Some.line _ _ _ _ (rw c.in-Ok-Some.field-0-is at c.in-Ok-Some.ensures.line)
+    (λ s is same. c.in-Err-parse_settings.ensures.only s is (ap (λ l. l ++ 10 ∷ []) c.deref.ensures.value ∙ same)) c.parse_status.ensures.told
