@@ -30,3 +30,4 @@ pub mod FirstWords
 pub mod LineEnds
 pub mod ReadSteps
 pub mod FirstOutside
+pub mod SameWords

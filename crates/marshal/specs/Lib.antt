@@ -9,3 +9,4 @@ pub mod Laws
 pub mod Endings
 pub mod Lines
 pub mod Reading
+pub mod Turn

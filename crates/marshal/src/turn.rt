@@ -1,4 +1,9 @@
 //! The text of one line of a script.
+ghost use Rattle.std.specs.Prelude.{◌≡◌, ◌++◌, ℕ, List, OnOk, string_bytes};
+ghost use Rattle.std.specs.List.{flat_map};
+ghost use Rattle.marshal.specs.Text.{line_of};
+ghost use Rattle.marshal.specs.Turn.{ShowsState, outcome_text, report_text, turn_text};
+
 use crate::play::{Outcome, State};
 use crate::recorder::Recorder;
 use crate::shown::{push_ended, push_node};
@@ -24,7 +29,10 @@ pub fn push_turn<
     recorder: &Recorder,
     outcome: Outcome,
     state: &State<FB, FC, M, H>,
-) -> Result<(), AllocError> {
+) -> Result<(), AllocError>
+    ensures { OnOk result ((words : List (List ℕ)) × ShowsState state.now words
+        × (string_bytes text.new ≡ string_bytes text.old ++ turn_text recorder.now.told.updates.items (string_bytes recorder.now.asked.text) outcome words)) }
+{
     push_updates(alloc, text, &recorder.told.updates)?;
     text.push_str(recorder.asked.text.as_str())?;
     push_outcome(text, outcome)?;
@@ -35,7 +43,9 @@ fn push_updates(
     alloc: Global,
     text: &mut String,
     updates: &[Update<Sha256Digest, Digested<EmptyBlock<Sha256>>>],
-) -> Result<(), AllocError> {
+) -> Result<(), AllocError>
+    ensures { OnOk result (string_bytes text.new ≡ string_bytes text.old ++ flat_map report_text updates.now) }
+{
     for update in updates {
         push_update(alloc, text, update)?;
     }
@@ -46,7 +56,9 @@ fn push_update(
     alloc: Global,
     text: &mut String,
     update: &Update<Sha256Digest, Digested<EmptyBlock<Sha256>>>,
-) -> Result<(), AllocError> {
+) -> Result<(), AllocError>
+    ensures { OnOk result (string_bytes text.new ≡ string_bytes text.old ++ report_text update.now) }
+{
     match update {
         Update::Tip(round, height, digest) => {
             push_tip(alloc, text, *round, *height, digest.as_slice())
@@ -61,7 +73,9 @@ fn push_update(
     }
 }
 
-fn push_outcome(text: &mut String, outcome: Outcome) -> Result<(), AllocError> {
+fn push_outcome(text: &mut String, outcome: Outcome) -> Result<(), AllocError>
+    ensures { OnOk result (string_bytes text.new ≡ string_bytes text.old ++ outcome_text outcome) }
+{
     match outcome {
         Outcome::Done => Ok(()),
         Outcome::Remark(remark) => push_remark(text, remark),
@@ -74,7 +88,9 @@ fn push_state<
     FC: Certificates<StandardBlocks, MockFinalization>,
     M: Meta,
     H: Shelf,
->(alloc: Global, text: &mut String, state: &State<FB, FC, M, H>) -> Result<(), AllocError> {
+>(alloc: Global, text: &mut String, state: &State<FB, FC, M, H>) -> Result<(), AllocError>
+    ensures { OnOk result ((words : List (List ℕ)) × ShowsState state.now words × (string_bytes text.new ≡ string_bytes text.old ++ line_of words)) }
+{
     match state {
         State::Running(actor, _) => push_node(alloc, text, &actor.shown()),
         State::Stopped(stores) => push_ended(text, &stores.shown()),
