@@ -1,5 +1,5 @@
 //! What a node tells the application and asks of its peers while one line is done.
-ghost use Rattle.std.specs.Prelude.{OnErr, OnOk};
+ghost use Rattle.std.specs.Prelude.{◌≡◌, [], OnErr, OnOk, string_bytes};
 
 use crate::text::{push_fetch, push_retain};
 use mar_actor::{Reporter, Update};
@@ -30,7 +30,11 @@ pub struct Recorder {
 }
 
 impl Recorder {
-    pub fn new(alloc: Global) -> Self {
+    /// Of a line that has told and asked nothing yet.
+    pub fn new(alloc: Global) -> Self
+        ensures told { result.told.updates.items ≡ [] }
+        ensures asked { string_bytes result.asked.text ≡ [] }
+    {
         Recorder {
             told: Told {
                 updates: Vec::new(alloc),

@@ -51,7 +51,10 @@ pub struct Output<W: Write + Drop> {
 }
 
 impl<W: Write + Drop> Output<W> {
-    pub fn new(writer: W) -> Self {
+    /// Of a writer that has not failed yet.
+    pub fn new(writer: W) -> Self
+        ensures { ⟦<Output<W> as Sink>⟧.faults result ≡ 0 }
+    {
         Output { writer, faults: 0 }
     }
 }
@@ -82,7 +85,11 @@ pub struct Written<'a> {
 }
 
 impl<'a> Written<'a> {
-    pub fn new(alloc: Global, failing: &'a [u64]) -> Self {
+    /// Of no bytes.
+    pub fn new(alloc: Global, failing: &'a [u64]) -> Self
+        ensures written { ⟦<Written<'a> as Sink>⟧.written result ≡ Some [] }
+        ensures faults { ⟦<Written<'a> as Sink>⟧.faults result ≡ 0 }
+    {
         Written {
             bytes: Vec::new(alloc),
             failing,
@@ -92,7 +99,9 @@ impl<'a> Written<'a> {
     }
 
     /// The bytes that were written.
-    pub fn bytes(&self) -> &[u8] {
+    pub fn bytes(&self) -> &[u8]
+        ensures { ⟦<Written<'a> as Sink>⟧.written self.now ≡ Some result.now }
+    {
         &self.bytes
     }
 }

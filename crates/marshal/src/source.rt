@@ -34,7 +34,10 @@ pub struct Input<R: Read + Drop> {
 }
 
 impl<R: Read + Drop> Input<R> {
-    pub fn new(reader: R) -> Self {
+    /// Of a reader that has not failed yet.
+    pub fn new(reader: R) -> Self
+        ensures { ⟦<Input<R> as Source>⟧.faults result ≡ 0 }
+    {
         Input { reader, faults: 0 }
     }
 }
@@ -65,7 +68,11 @@ pub struct Bytes<'a> {
 }
 
 impl<'a> Bytes<'a> {
-    pub fn new(left: &'a [u8], failing: &'a [u64]) -> Self {
+    /// Of all these bytes, none of which was read yet.
+    pub fn new(left: &'a [u8], failing: &'a [u64]) -> Self
+        ensures left { ⟦<Bytes<'a> as Source>⟧.left result ≡ Some left.now }
+        ensures faults { ⟦<Bytes<'a> as Source>⟧.faults result ≡ 0 }
+    {
         Bytes {
             left,
             failing,
