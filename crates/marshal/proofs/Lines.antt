@@ -1,6 +1,6 @@
 -- How the next line is found in what is pending and what is read.
-use Rattle.std.proofs.Common.{List, Option, None, Some, Ok, Err, [], append_assoc, arith, drop, length, length-drop, length-take, min, refl, sym, subst, take, ℕ, ◌∙◌, ◌∷◌, ◌++◌, ◌+◌, ◌-◌, ◌<◌, ◌≡◌, ◌≤◌, ◌⊎◌, inl, inr, ap, get_or, nat_eq, Bool, true, false}
-use Rattle.std.specs.Prelude.{Contains, Vec, position}
+use Rattle.std.proofs.Common.{List, Option, None, Some, Ok, Err, [], append_assoc, arith, drop, length, length-drop, length-take, refl, sym, subst, take, ℕ, ◌∙◌, ◌∷◌, ◌++◌, ◌+◌, ◌-◌, ◌<◌, ◌≡◌, ◌≤◌, inl, inr, ap}
+use Rattle.std.specs.Prelude.{Contains, Vec}
 use Rattle.std.specs.declared.alloc.Global.{Global}
 use Rattle.std.proofs.lemmas.List.{append-nil, drop-drop, take-append-drop}
 use Rattle.std.proofs.lemmas.List.Elements.{Contains-append_cases, Contains-append_left}

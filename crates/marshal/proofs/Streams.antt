@@ -1,9 +1,7 @@
 -- What is taken and written in pieces.
-use Rattle.std.proofs.Common.{List, Option, [], append_assoc, drop, length, refl, take, sym, ap, ℕ, ◌∙◌, ◌++◌, ◌<◌, ◌≡◌, ◌≤◌}
-use Rattle.std.specs.Prelude.{IfOk, Ok, Result}
+use Rattle.std.proofs.Common.{List, Option, [], append_assoc, drop, take, sym, ap, ℕ, ◌∙◌, ◌++◌, ◌≡◌}
 use Rattle.std.proofs.lemmas.List.{append-nil, take-append-drop}
-use Rattle.marshal.specs.Run.{IsFront, IsShownAs}
-use Rattle.marshal.specs.Streams.{Gives, Takes, TakesFront}
+use Rattle.marshal.specs.Streams.{Gives, Takes}
 
 pub gives_none : (a : Option (List ℕ)) → Gives a [] a
 gives_none a = λ rest h. h

@@ -1,6 +1,5 @@
 -- What a node shows as the lines of the output need it.
-use Rattle.std.specs.List.{join_with_byte}
-use Rattle.std.specs.Prelude.{List, None, Option, Some, [], codes, decimal, map, option_map, ℕ, ◌++◌, ◌∷◌}
+use Rattle.std.specs.Prelude.{List, Option, [], codes, decimal, map, option_map, ℕ, ◌++◌, ◌∷◌}
 use Rattle.mar_key.specs.Cutoff.{Cutoff}
 use Rattle.mar_key.specs.Processed.{Processed}
 use Rattle.mar_parts.specs.Acks.{Outstanding}

@@ -1,4 +1,4 @@
-use Rattle.std.proofs.Common.{List, Some, ap, decimal, map, subst, sym, true, ℕ, ◌∙◌, ◌≡◌}
+use Rattle.std.proofs.Common.{ap, decimal, map, subst, sym, ◌∙◌, ◌≡◌}
 use Rattle.marshal.specs.Script.{IsSettings, Settings, sentence}
 use Rattle.marshal.specs.Words.{numbers_of, words_of}
 use Rattle.marshal.proofs.Sentences.{config_words, settings_line, settings_numbers, settings_rest}

@@ -1,4 +1,4 @@
-use Rattle.std.proofs.Common.{arith, rules, ap, map, take, ◌∙◌, ◌≡◌, ◌++◌, ◌+◌, ◌<◌, ◌∷◌, [], sym, length}
+use Rattle.std.proofs.Common.{arith, ◌<◌, sym, length}
 use Rattle.mar_parts.specs.Views.{outstanding_of}
 use Rattle.marshal.proofs.Spelled.{listed_all, listed_more}
 use Rattle.marshal.proofs.shown.listed.Goals as goal

@@ -1,4 +1,4 @@
-use Rattle.std.proofs.Common.{◌≡◌, ◌<◌, ◌^◌, ℕ, Ok, Some, sym, ◌∙◌, ap, rules, string_bytes}
+use Rattle.std.proofs.Common.{◌≡◌, sym, ◌∙◌, ap, rules, string_bytes}
 use Rattle.std.specs.Fmt.{decimal}
 use Rattle.marshal.proofs.Numbers.{is_text, read_again, not_other}
 use Rattle.marshal.proofs.words.number.Goals as goal

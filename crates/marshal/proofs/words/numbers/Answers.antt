@@ -1,4 +1,4 @@
-use Rattle.std.proofs.Common.{get_or, rules, ◌++◌, ◌∙◌, ◌∷◌, ◌≡◌, []}
+use Rattle.std.proofs.Common.{get_or, rules, ◌++◌, ◌∷◌, ◌≡◌, []}
 use Rattle.marshal.proofs.Spelled.{nth_fits, nth_small, nth_word, numbers_more, words_more}
 use Rattle.marshal.proofs.words.numbers.Goals as goal
 

@@ -1,5 +1,5 @@
 use Rattle.std.proofs.Common.{arith, length-drop, ◌∙◌}
-use Rattle.marshal.proofs.Lines.{at_end, failed, found, goes_on, inside, too_long, too_long_found}
+use Rattle.marshal.proofs.Lines.{failed, found, goes_on, inside, too_long, too_long_found}
 use Rattle.marshal.proofs.reader.ScriptReader.next_line.Goals as goal
 
 pub overflow_add-found : goal.overflow_add-found
