@@ -9,6 +9,7 @@ use Rattle.mar_parts.specs.Acks.{Outstanding}
 use Rattle.mar_store.proofs.Lookups.{AllByRecursion-append}
 use Rattle.mar_actor.specs.Config.{Config}
 use Rattle.mar_actor.specs.Event.{Effect, Event, applies_floor, awaits_floor, drained_blocks, floor_cutoffs, is_above, message_told, met_cutoffs, met_finalization, no_floor, retired_cutoffs}
+use Rattle.mar_actor.specs.Promise.{ReportsFinalized}
 use Rattle.mar_actor.specs.Answers.{at_hand_digest, is_known}
 use Rattle.mar_block.specs.Block.{Block}
 use Rattle.mar_cert.specs.Finalization.{Finalization}
@@ -176,11 +177,6 @@ want_asks-honest chain n r c (h, final) = by (covers n.cutoff r)
     by : (b : Bool) → AllByRecursion (HonestCall chain) (if b then [] else fetch (block_key c) (finalized_by_round r) None ∷ [])
     by true = tt
     by false = ((λ some. (h, final.payload_is)), tt)
-
--- a reported finalization is the chain's
-abbrev pub ReportsFinalized : Chain → Event → Type 0
-ReportsFinalized chain (message_told t (report_finalization f)) = IsFinalized chain f.round f.payload
-ReportsFinalized chain _ = ⊤
 
 -- a floor that is to be awaited is the chain's
 abbrev pub AwaitsFinal : Chain → Effect → Type 0

@@ -1,17 +1,21 @@
 -- What a life keeps: its stores, and what it remembers beside them; what is left of the stores.
-use Rattle.std.specs.Prelude.{ℕ, ◌≡◌, ◌<◌, ◌≤◌, ◌⊎◌, false, List, [], ◌∷◌, Option, Some, None}
+use Rattle.std.specs.Prelude.{ℕ, ⊤, ◌≡◌, ◌<◌, ◌⊎◌, ◌++◌, ◌∷◌, List, [], MatchResult, Option, Result, option_map}
 use Rattle.mar_codec.specs.Causes.{Rose}
 use Rattle.mar_types.specs.Round.{Round}
 use Rattle.mar_cert.specs.Finalization.{Finalization}
 use Rattle.mar_key.specs.Cutoff.{Cutoff}
-use Rattle.mar_key.specs.Processed.{Processed}
+use Rattle.mar_key.specs.Processed.{Processed, at_block}
 use Rattle.mar_store.specs.Kept.{At, Kept}
-use Rattle.mar_store.specs.Changes.{Left, Fails, left_of}
+use Rattle.mar_store.specs.Changes.{Left, Fails, Within, left_of}
+use Rattle.mar_store.specs.declared.Lost.{Lost}
+use Rattle.mar_store.specs.declared.Lost.TheVariants.{Fault as Broke, Memory as Forgot}
+use Rattle.mar_store.specs.declared.Miss.{Miss}
+use Rattle.mar_store.specs.declared.Miss.TheVariants.{Fault as Missed, Memory as NoRoom}
 use Rattle.mar_block.specs.Block.{Block}
 use Rattle.mar_parts.specs.Acks.{Outstanding}
-use Rattle.mar_parts.specs.Metadata.{Pair, LeavesPairs}
+use Rattle.mar_parts.specs.Metadata.{Pair, first_pair}
 use Rattle.mar_actor.specs.Faults.{Fault, store_fault, want_of_memory, StoreName, block_store, cert_store, meta_store, cache_store}
-use Rattle.mar_actor.specs.Node.{Node, Ended}
+use Rattle.mar_actor.specs.Node.{Ended}
 
 -- how often each store has failed
 pub record Counts : Type 0 where
@@ -26,11 +30,23 @@ count_of c cert_store = c.certs
 count_of c meta_store = c.meta
 count_of c cache_store = c.cache
 
--- The stores of a life: the metadata as it reads now, and the pairs that a crash can leave of it.
+-- How far delivery has come, and what a crash can leave of that.
+pub record Progress : Type 0 where
+  pub processed : Option Processed
+  pub cutoff : Cutoff
+  pub pairs : List Pair
+  pub faults : ℕ
+
+-- as a store says that was just reopened
+abbrev pub progress_of : Pair → ℕ → Progress
+progress_of p faults = record { processed = option_map at_block p.processed; cutoff = p.cutoff; pairs = p ∷ []; faults = faults }
+
+-- The stores of a life, with the processed height, the cutoff, and the pairs that a crash can leave of them.
 pub record Held : Type 0 where
   pub blocks : Kept (At Block)
   pub certs : Kept (At Finalization)
-  pub pair : Pair
+  pub processed : Option Processed
+  pub cutoff : Cutoff
   pub pairs : List Pair
   pub counts : Counts
 
@@ -46,13 +62,24 @@ pub record Remembered (P E : Type 0) : Type 0 where
   pub provider : P
   pub epocher : E
   pub sizes : Sizes
-  pub processed : Option Processed
-  pub cutoff : Cutoff
   pub out : List Outstanding
   pub covered : ℕ
   pub tip : ℕ
   pub witnessed : Round
   pub next_ack : ℕ
+
+-- what a life begins with where nothing is stored
+abbrev pub first_life : {P E : Type 0} → P → E → Sizes → Remembered P E
+first_life provider epocher sizes = record {
+  provider = provider;
+  epocher = epocher;
+  sizes = sizes;
+  out = [];
+  covered = 0;
+  tip = 0;
+  witnessed = record { epoch = 0; view = 0 };
+  next_ack = 0;
+}
 
 -- What contracts see of an actor.
 pub record Seen (P E : Type 0) : Type 0 where
@@ -94,14 +121,48 @@ certs_left e = record { sure = e.certs_sure; may = e.certs_may }
 
 -- A store's fault comes exactly where that store's count rose since, want of memory aside.
 pub record IsEndedBy (before : Counts) (e : Ending) : Type 0 where
-  pub later : (s : StoreName) → count_of before s ≤ count_of e.remains.counts s
   pub told : (s : StoreName) → count_of before s < count_of e.remains.counts s → (e.fault ≡ store_fault s) ⊎ (e.fault ≡ want_of_memory)
   pub caused : (s : StoreName) → e.fault ≡ store_fault s → Rose (count_of before s) (count_of e.remains.counts s)
 
--- What a store call that failed leaves: what was sure, and what may be left with what it was to write.
+-- What calls of which the last one failed leave: what was sure, and what may be left with what they were to write.
 pub record Loses (old : Held) (blocks : List (At Block)) (certs : List (At Finalization)) (pairs : List Pair) (e : Ending) : Type 0 where
   pub blocks_kept : Fails (left_of old.blocks) blocks (blocks_left e.remains.ended)
   pub certs_kept : Fails (left_of old.certs) certs (certs_left e.remains.ended)
-  pub pairs_kept : LeavesPairs old.pairs pairs e.remains.ended.meta
+  pub first_pair_kept : first_pair e.remains.ended.meta ≡ first_pair old.pairs
+  pub pairs_within : Within e.remains.ended.meta (old.pairs ++ pairs)
   pub no_cache : e.remains.ended ≡ ended_of (blocks_left e.remains.ended) (certs_left e.remains.ended) e.remains.ended.meta
   pub cause : IsEndedBy old.counts e
+
+-- Nothing that is durable changed but by more that may be left.
+pub record Grew (old : Held) (blocks : List (At Block)) (certs : List (At Finalization)) (new : Held) : Type 0 where
+  pub blocks_grew : Fails (left_of old.blocks) blocks (left_of new.blocks)
+  pub certs_grew : Fails (left_of old.certs) certs (left_of new.certs)
+  pub pairs_same : new.pairs ≡ old.pairs
+  pub counts_same : new.counts ≡ old.counts
+
+-- Whatever was written before since some start, these writes join it; `held_in` says where the stores are in the result.
+abbrev pub GoesOn : {T : Type 0} → (T → Held) → Held → List (At Block) → List (At Finalization) → Result T Ending → Type 0
+GoesOn held_in old blocks certs result =
+    (start : Held) (all_blocks : List (At Block)) (all_certs : List (At Finalization)) → Grew start all_blocks all_certs old → Within blocks all_blocks → Within certs all_certs
+    → MatchResult result (λ r. Grew start all_blocks all_certs (held_in r)) (Loses start all_blocks all_certs [])
+
+-- a store's fault, or want of memory
+abbrev pub IsUsual : Fault → Type 0
+IsUsual (store_fault s) = ⊤
+IsUsual want_of_memory = ⊤
+IsUsual _ = ⊥
+
+-- no store's fault
+abbrev pub IsNoStores : Fault → Type 0
+IsNoStores (store_fault s) = ⊥
+IsNoStores _ = ⊤
+
+-- the fault by which a store is lost
+abbrev pub lost_fault : {W : Type 0} → StoreName → Lost W → Fault
+lost_fault s (Broke w) = store_fault s
+lost_fault s (Forgot w) = want_of_memory
+
+-- and by which a read has no answer
+abbrev pub missed_fault : StoreName → Miss → Fault
+missed_fault s Missed = store_fault s
+missed_fault s NoRoom = want_of_memory

@@ -11,4 +11,6 @@ pub mod Lives
 pub mod Sound
 pub mod Judge
 pub mod Held
+pub mod Moves
 pub mod Views
+pub mod Promise

@@ -3,10 +3,9 @@ use Rattle.std.specs.Prelude.{ℕ, List, None}
 use Rattle.mar_block.specs.Block.{Block}
 use Rattle.mar_cert.specs.Finalization.{Finalization}
 use Rattle.mar_inbox.specs.Messages.{report_finalization}
-use Rattle.mar_inbox.specs.declared.Message.{Message}
 use Rattle.mar_inbox.specs.declared.Message.TheVariants as message
 use Rattle.mar_actor.specs.Event.{Event, life_started, message_told, sync_finished, ack_given}
-use Rattle.mar_actor.specs.Faults.{StoreName, block_store, cert_store, meta_store, cache_store, TicketKind, ack_kind, Fault, store_fault, not_empty, genesis_height, height_limit, ticket_limit, want_of_memory, Begin, from_genesis}
+use Rattle.mar_actor.specs.Faults.{StoreName, block_store, cert_store, meta_store, cache_store, TicketKind, ack_kind, Fault, dropped_ack, store_fault, not_empty, genesis_height, height_limit, ticket_limit, want_of_memory, Begin, from_genesis}
 use Rattle.mar_actor.specs.Step.{Report, new_tip, handed_over}
 use Rattle.mar_actor.specs.declared.event.Event.{Event as EventCode}
 use Rattle.mar_actor.specs.declared.event.Event.TheVariants as event
@@ -37,6 +36,7 @@ fault_of (fault.StoreFault s) = store_fault (store_name_of s)
 fault_of fault.NotEmpty = not_empty
 fault_of (fault.GenesisHeight h) = genesis_height h
 fault_of (fault.HeightLimit h) = height_limit h
+fault_of (fault.AckDropped h) = dropped_ack h
 fault_of (fault.TicketLimit k) = ticket_limit (kind_of k)
 fault_of fault.Memory = want_of_memory
 

@@ -1,11 +1,29 @@
 //! Acknowledgements, and what they let go.
+ghost use Rattle.std.specs.Prelude.{◌≡◌, ◌⊎◌, ◌∷◌, [], IfErr, IfOk, List, OnOk, Some, option_map, option_to_list};
+ghost use Rattle.mar_key.specs.Hears.{Hears};
+ghost use Rattle.mar_key.specs.Keys.{above_height, above_round, retain};
+ghost use Rattle.mar_types.specs.Epochs.{closed_epoch};
+ghost use Rattle.mar_key.specs.Cutoff.{at_epoch, at_round, cutoff_le, greatest_of};
+ghost use Rattle.mar_key.specs.Processed.{at_block};
+ghost use Rattle.mar_key.specs.Views.{cutoff_of};
+ghost use Rattle.mar_parts.specs.Acks.{given_front, given_oldest, mark_given, with_mark};
+ghost use Rattle.mar_parts.specs.Metadata.{pair_of};
+ghost use Rattle.mar_store.specs.Changes.{IsNested};
+ghost use Rattle.mar_block.specs.Block.{Block};
+ghost use Rattle.mar_actor.specs.Event.{ack_given};
+ghost use Rattle.mar_actor.specs.Promise.{KeepsPromise};
+ghost use Rattle.mar_actor.specs.Held.{GoesOn, IsUsual, Loses};
+ghost use Rattle.mar_actor.specs.Lives.{later_round};
+ghost use Rattle.mar_actor.specs.Moves.{Drains, DrainsNext, EndsDropped, EndsOldest, RaisesTo, progress_asks, retired, round_at};
+ghost use Rattle.mar_actor.specs.Requests.{raise_asks};
+
 use crate::actor::Actor;
 use crate::fault::Fault;
 use crate::reporter::Reporter;
 use crate::ruins::Ended;
 use mar_block::Variant;
 use mar_cert::{CommitsTo, Provider};
-use mar_key::{Cutoff, Processed, Resolver, Retain};
+use mar_key::{Cutoff, Resolver, Retain};
 use mar_parts::{Oldest, closed_epoch};
 use mar_shelf::{Blocks, Certificates, Shelf};
 use mar_store::Meta;
@@ -28,12 +46,10 @@ impl<
         ticket: u64,
         resolver: &mut R,
         application: &mut A,
-    ) -> Result<Self, Ended<V, F, FB, FC, M, H>> {
-        let mut actor = self;
-        if !actor.life.acks.give(ticket) {
-            return Ok(actor);
-        }
-        let (actor, is_drained) = actor.drain(resolver)?;
+    ) -> Result<Self, Ended<V, F, FB, FC, M, H>>
+        ensures promise { IsNested self.held.blocks → (buffer : List Block) → KeepsPromise (E.epochs self.life.epocher) V.inner self (ack_given ticket) buffer (A.told application.old) (A.told application.new) (R.told resolver.old) (R.told resolver.new) result }
+    {
+        let (actor, is_drained) = self.give(ticket).drain(resolver)?;
         if !is_drained {
             return Ok(actor);
         }
@@ -41,23 +57,54 @@ impl<
         actor.dispatch(application)
     }
 
-    /// Processes the acknowledged blocks at the front, and says whether there were any.
+    fn give(self, ticket: u64) -> Self
+        ensures { result ≡ record self { life = record self.life { out = with_mark ticket mark_given self.life.out } } }
+    {
+        let mut actor = self;
+        actor.life.acks.give(ticket);
+        actor
+    }
+
+    /// Processes the acknowledged blocks at the front, and says whether there were any. A dropped one behind them ends
+    /// the life.
     fn drain<R: Resolver<V::Commitment>>(
         self,
         resolver: &mut R,
-    ) -> Result<(Self, bool), Ended<V, F, FB, FC, M, H>> {
+    ) -> Result<(Self, bool), Ended<V, F, FB, FC, M, H>>
+        ensures ok { IfOk result (λ r. Drains (E.epochs self.life.epocher) self r.1 r.0) }
+        ensures asks { OnOk result (Hears (R.told resolver.old) (progress_asks (E.epochs self.life.epocher) self.held.certs.held self.held.cutoff (given_front self.life.out)) (R.told resolver.new)) }
+        ensures goes_on { GoesOn (λ r. r.0.held) self.held [] [] result }
+        ensures kind { IfErr result (λ e. IsUsual e.fault ⊎ EndsDropped self e) }
+    {
         let mut actor = self;
         let mut is_drained = false;
-        'window: for _ in 0..actor.life.limits.max_pending_acks {
-            match actor.life.acks.pop_ready() {
-                Oldest::Given(ack) => {
-                    actor = actor.process(ack.height, resolver)?;
-                    is_drained = true;
-                }
-                Oldest::Unresolved | Oldest::Dropped(_) => break,
+        'entries: for _drained in 0..actor.life.acks.len() {
+            let (next, is_processed) = actor.drain_next(resolver)?;
+            if !is_processed {
+                return Ok((next, is_drained));
             }
+            actor = next;
+            is_drained = true;
         }
         Ok((actor, is_drained))
+    }
+
+    /// Processes the oldest block where it is acknowledged, and says whether it was. Where it is dropped the life ends.
+    fn drain_next<R: Resolver<V::Commitment>>(
+        self,
+        resolver: &mut R,
+    ) -> Result<(Self, bool), Ended<V, F, FB, FC, M, H>>
+        ensures ok { IfOk result (λ r. DrainsNext (E.epochs self.life.epocher) self r.1 r.0) }
+        ensures asks { OnOk result (Hears (R.told resolver.old) (progress_asks (E.epochs self.life.epocher) self.held.certs.held self.held.cutoff (option_to_list (given_oldest self.life.out))) (R.told resolver.new)) }
+        ensures goes_on { GoesOn (λ r. r.0.held) self.held [] [] result }
+        ensures kind { IfErr result (λ e. IsUsual e.fault ⊎ EndsOldest self e) }
+    {
+        let mut actor = self;
+        match actor.life.acks.pop_ready() {
+            Oldest::Given(ack) => Ok((actor.process(ack.height, resolver)?, true)),
+            Oldest::Unresolved => Ok((actor, false)),
+            Oldest::Dropped(ack) => Err(actor.end(Fault::AckDropped(ack.height))),
+        }
     }
 
     /// Sets the processed height: requests at or below it are let go, and the cutoff rises to the round that finalized
@@ -66,39 +113,70 @@ impl<
         self,
         height: Height,
         resolver: &mut R,
-    ) -> Result<Self, Ended<V, F, FB, FC, M, H>> {
+    ) -> Result<Self, Ended<V, F, FB, FC, M, H>>
+        ensures ok { IfOk result (λ a. a ≡ record self {
+          held = record self.held { processed = Some (at_block height); cutoff = greatest_of self.held.cutoff (retired (E.epochs self.life.epocher) self.held.certs.held height); counts = a.held.counts };
+          life = record self.life { witnessed = later_round self.life.witnessed (round_at self.held.certs.held height) };
+        }) }
+        ensures asks { OnOk result (Hears (R.told resolver.old) (retain (above_height height) ∷ raise_asks self.held.cutoff (retired (E.epochs self.life.epocher) self.held.certs.held height)) (R.told resolver.new)) }
+        ensures goes_on { GoesOn (λ a. a.held) self.held [] [] result }
+        ensures usual { IfErr result (λ e. IsUsual e.fault) }
+    {
         let actor = self.set_processed(height, resolver)?;
         let (actor, round) = actor.round_at(height)?;
-        let actor = match round {
-            Some(round) => actor.witness(round, resolver)?,
-            None => actor,
-        };
-        match closed_epoch(&actor.life.epocher, height) {
-            Some(epoch) => actor.raise(&Cutoff::Epoch(epoch), resolver),
-            None => Ok(actor),
-        }
+        let actor = actor.witness_some(round, resolver)?;
+        actor.close_epochs(height, resolver)
     }
 
     fn set_processed<R: Resolver<V::Commitment>>(
         self,
         height: Height,
         resolver: &mut R,
-    ) -> Result<Self, Ended<V, F, FB, FC, M, H>> {
+    ) -> Result<Self, Ended<V, F, FB, FC, M, H>>
+        ensures ok { IfOk result (λ a. a ≡ record self { held = record self.held { processed = Some (at_block height); counts = a.held.counts } }) }
+        ensures asks { OnOk result (Hears (R.told resolver.old) (retain (above_height height) ∷ []) (R.told resolver.new)) }
+        ensures goes_on { GoesOn (λ a. a.held) self.held [] [] result }
+        ensures usual { IfErr result (λ e. IsUsual e.fault) }
+    {
         if resolver.retain(Retain::AboveHeight(height)).is_err() {
-            return Err(self.end(Fault::Memory));
+            return Err(self.run_out());
         }
-        let Actor { stores, mut life } = self;
-        let stores = stores.acknowledge(height)?;
-        life.processed = Some(Processed::Block(height));
+        let Actor { stores, life } = self;
+        let stores = stores.set_processed(height)?;
         Ok(Actor { stores, life })
     }
 
     /// The round that finalized the block at a height, where its certificate is held.
-    fn round_at(self, height: Height) -> Result<(Self, Option<Round>), Ended<V, F, FB, FC, M, H>> {
+    pub(crate) fn round_at(
+        self,
+        height: Height,
+    ) -> Result<(Self, Option<Round>), Ended<V, F, FB, FC, M, H>>
+        ensures same { IfOk result (λ r. r.0 ≡ self) }
+        ensures found { IfOk result (λ r. r.1 ≡ round_at self.held.certs.held height) }
+        ensures goes_on { GoesOn (λ r. r.0.held) self.held [] [] result }
+        ensures usual { IfErr result (λ e. IsUsual e.fault) }
+    {
         let Actor { stores, life } = self;
         let (stores, certificate) = stores.certificate_at(height)?;
         let actor = Actor { stores, life };
         Ok((actor, certificate.map(|finalization| finalization.round())))
+    }
+
+    /// Takes note of a finalized round, if there is one.
+    fn witness_some<R: Resolver<V::Commitment>>(
+        self,
+        round: Option<Round>,
+        resolver: &mut R,
+    ) -> Result<Self, Ended<V, F, FB, FC, M, H>>
+        ensures ok { IfOk result (λ a. RaisesTo self (option_to_list (option_map at_round round)) (later_round self.life.witnessed round) a) }
+        ensures asks { OnOk result (Hears (R.told resolver.old) (raise_asks self.held.cutoff (option_to_list (option_map at_round round))) (R.told resolver.new)) }
+        ensures goes_on { GoesOn (λ a. a.held) self.held [] [] result }
+        ensures usual { IfErr result (λ e. IsUsual e.fault) }
+    {
+        match round {
+            Some(round) => self.witness(round, resolver),
+            None => Ok(self),
+        }
     }
 
     /// Takes note of a finalized round: the cutoff rises to it.
@@ -106,7 +184,12 @@ impl<
         self,
         round: Round,
         resolver: &mut R,
-    ) -> Result<Self, Ended<V, F, FB, FC, M, H>> {
+    ) -> Result<Self, Ended<V, F, FB, FC, M, H>>
+        ensures ok { IfOk result (λ a. RaisesTo self (at_round round ∷ []) (later_round self.life.witnessed (Some round)) a) }
+        ensures asks { OnOk result (Hears (R.told resolver.old) (raise_asks self.held.cutoff (at_round round ∷ [])) (R.told resolver.new)) }
+        ensures goes_on { GoesOn (λ a. a.held) self.held [] [] result }
+        ensures usual { IfErr result (λ e. IsUsual e.fault) }
+    {
         let mut actor = self;
         if actor.life.witnessed < round {
             actor.life.witnessed = round;
@@ -114,23 +197,46 @@ impl<
         actor.raise(&Cutoff::Round(round), resolver)
     }
 
+    /// Raises the cutoff over the epochs that end at or below a height.
+    fn close_epochs<R: Resolver<V::Commitment>>(
+        self,
+        height: Height,
+        resolver: &mut R,
+    ) -> Result<Self, Ended<V, F, FB, FC, M, H>>
+        ensures ok { IfOk result (λ a. RaisesTo self (option_to_list (option_map at_epoch (closed_epoch (E.epochs self.life.epocher) height))) self.life.witnessed a) }
+        ensures asks { OnOk result (Hears (R.told resolver.old) (raise_asks self.held.cutoff (option_to_list (option_map at_epoch (closed_epoch (E.epochs self.life.epocher) height)))) (R.told resolver.new)) }
+        ensures goes_on { GoesOn (λ a. a.held) self.held [] [] result }
+        ensures usual { IfErr result (λ e. IsUsual e.fault) }
+    {
+        match closed_epoch(&self.life.epocher, height) {
+            Some(epoch) => self.raise(&Cutoff::Epoch(epoch), resolver),
+            None => Ok(self),
+        }
+    }
+
     /// Raises the cutoff to this one where it is above.
     fn raise<R: Resolver<V::Commitment>>(
         self,
         cutoff: &Cutoff,
         resolver: &mut R,
-    ) -> Result<Self, Ended<V, F, FB, FC, M, H>> {
-        let actor = self;
-        if actor.is_raised_to(cutoff) {
-            Ok(actor)
+    ) -> Result<Self, Ended<V, F, FB, FC, M, H>>
+        ensures ok { IfOk result (λ a. RaisesTo self (cutoff_of cutoff.now ∷ []) self.life.witnessed a) }
+        ensures asks { OnOk result (Hears (R.told resolver.old) (raise_asks self.held.cutoff (cutoff_of cutoff.now ∷ [])) (R.told resolver.new)) }
+        ensures goes_on { GoesOn (λ a. a.held) self.held [] [] result }
+        ensures usual { IfErr result (λ e. IsUsual e.fault) }
+    {
+        if self.is_raised_to(cutoff) {
+            Ok(self)
         } else {
-            actor.set_cutoff(cutoff, resolver)
+            self.set_cutoff(cutoff, resolver)
         }
     }
 
     /// Whether the cutoff is at least this one.
-    fn is_raised_to(&self, cutoff: &Cutoff) -> bool {
-        self.life.cutoff.reaches(*cutoff)
+    fn is_raised_to(&self, cutoff: &Cutoff) -> bool
+        ensures { result ≡ cutoff_le (cutoff_of cutoff.now) self.now.held.cutoff }
+    {
+        self.stores.progress.cutoff().reaches(*cutoff)
     }
 
     /// Sets the cutoff: requests of the rounds that it covers are let go.
@@ -138,17 +244,26 @@ impl<
         self,
         cutoff: &Cutoff,
         resolver: &mut R,
-    ) -> Result<Self, Ended<V, F, FB, FC, M, H>> {
+    ) -> Result<Self, Ended<V, F, FB, FC, M, H>>
+        ensures ok { IfOk result (λ a. a ≡ record self { held = record self.held { cutoff = cutoff_of cutoff.now; counts = a.held.counts } }) }
+        ensures asks { OnOk result (Hears (R.told resolver.old) (retain (above_round (cutoff_of cutoff.now)) ∷ []) (R.told resolver.new)) }
+        ensures goes_on { GoesOn (λ a. a.held) self.held [] [] result }
+        ensures usual { IfErr result (λ e. IsUsual e.fault) }
+    {
         if resolver.retain(Retain::AboveRound(*cutoff)).is_err() {
-            return Err(self.end(Fault::Memory));
+            return Err(self.run_out());
         }
-        let Actor { stores, mut life } = self;
-        let stores = stores.set_cutoff(*cutoff)?;
-        life.cutoff = *cutoff;
+        let Actor { stores, life } = self;
+        let stores = stores.set_cutoff(cutoff)?;
         Ok(Actor { stores, life })
     }
 
-    pub(crate) fn sync_metadata(self) -> Result<Self, Ended<V, F, FB, FC, M, H>> {
+    pub(crate) fn sync_metadata(self) -> Result<Self, Ended<V, F, FB, FC, M, H>>
+        ensures ok { IfOk result (λ a. a ≡ record self { held = record self.held { pairs = pair_of self.held.processed self.held.cutoff ∷ []; counts = a.held.counts } }) }
+        ensures counts { IfOk result (λ a. a.held.counts ≡ self.held.counts) }
+        ensures lost { IfErr result (Loses self.held [] [] (pair_of self.held.processed self.held.cutoff ∷ [])) }
+        ensures usual { IfErr result (λ e. IsUsual e.fault) }
+    {
         let Actor { stores, life } = self;
         let stores = stores.sync_metadata()?;
         Ok(Actor { stores, life })

@@ -1,8 +1,11 @@
 //! The actor, which each of its steps consumes.
-ghost use Rattle.std.specs.Prelude.{◌≡◌};
+ghost use Rattle.std.specs.Prelude.{◌≡◌, [], Err};
 ghost use Rattle.std.specs.List.{list_any};
+ghost use Rattle.mar_store.specs.Changes.{IsNested};
 ghost use Rattle.mar_parts.specs.Acks.{is_unmarked};
-ghost use Rattle.mar_actor.specs.Held.{remains_of};
+ghost use Rattle.mar_actor.specs.Held.{GoesOn, IsNoStores, IsUsual, Loses, remains_of};
+ghost use Rattle.mar_actor.specs.Promise.{KeepsPromise};
+ghost use Rattle.mar_actor.specs.Views.{event_of, fault_of};
 
 use crate::event::Event;
 use crate::fault::Fault;
@@ -62,14 +65,18 @@ impl<
     M: Meta,
     H: Shelf,
 > Actor<V, F, P, E, FB, FC, M, H> {
-    /// Takes one event. An end of the life says why and hands back what is left.
+    /// Takes one event. An end of the life says why and hands back what is left. On a lawful chain the step is a step of
+    /// the node, or a cut.
     pub fn step<B: Buffer<V>, R: Resolver<V::Commitment>, A: Reporter<V>>(
         self,
         event: Event<F>,
         buffer: &B,
         resolver: &mut R,
         application: &mut A,
-    ) -> Result<Self, Ended<V, F, FB, FC, M, H>> {
+    ) -> Result<Self, Ended<V, F, FB, FC, M, H>>
+        ensures promise { KeepsPromise (E.epochs self.life.epocher) V.inner self (event_of F.plain event) (B.blocks buffer.now) (A.told application.old) (A.told application.new) (R.told resolver.old) (R.told resolver.new) result }
+    {
+        self.law();
         match event {
             Event::Start => self.dispatch(application),
             Event::Message(Message::Finalization(finalization)) => {
@@ -78,6 +85,14 @@ impl<
             Event::Sync(_) => Ok(self),
             Event::Ack(ticket) => self.acknowledge(ticket, resolver, application),
         }
+    }
+
+    /// What the stores promise of what they hold; nothing is done.
+    pub(crate) fn law(&self)
+        ensures blocks { IsNested self.now.held.blocks }
+        ensures certs { IsNested self.now.held.certs }
+    {
+        self.stores.law();
     }
 
     /// Ends the life; what a crash now leaves is handed back.
@@ -94,7 +109,20 @@ impl<
         self.life.acks.is_unmarked(ticket)
     }
 
-    pub(crate) fn end(self, fault: Fault) -> Ended<V, F, FB, FC, M, H> {
+    /// Ends the life for want of memory.
+    pub(crate) fn run_out(self) -> Ended<V, F, FB, FC, M, H>
+        ensures goes_on { GoesOn (λ s. s) self.held [] [] (Err result) }
+        ensures lost { Loses self.held [] [] [] result }
+        ensures usual { IsUsual result.fault }
+    {
+        self.stores.run_out()
+    }
+
+    /// Ends the life without a fault of a store.
+    pub(crate) fn end(self, fault: Fault) -> Ended<V, F, FB, FC, M, H>
+        ensures value { result ≡ record { fault = fault_of fault; remains = remains_of self.held } }
+        ensures lost { IsNoStores (fault_of fault) → Loses self.held [] [] [] result }
+    {
         self.stores.end(fault)
     }
 }

@@ -27,6 +27,8 @@ pub enum Fault {
     GenesisHeight(Height),
     /// A finalized block stands at this height, the last one, which has no next.
     HeightLimit(Height),
+    /// The application dropped the acknowledgement of the block at this height, the oldest one that it owed.
+    AckDropped(Height),
     /// The last ticket of this kind was given.
     TicketLimit(TicketKind),
     /// Memory ran out.

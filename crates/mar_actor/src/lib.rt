@@ -8,6 +8,7 @@ mod event;
 mod fault;
 mod life;
 mod open;
+mod progress;
 mod report;
 mod reporter;
 mod ruins;

@@ -44,10 +44,10 @@ impl<
         }
         let stores = stores.begin_with(&genesis)?;
         let Ok(acks) = PendingAcks::new(alloc, limits.max_pending_acks) else {
-            return Err(stores.end(Fault::Memory));
+            return Err(stores.run_out());
         };
         let life = Life::new(provider, epocher, limits, acks);
-        let floor = Floor::new(life.processed, life.cutoff);
+        let floor = Floor::new(stores.progress.processed(), stores.progress.cutoff());
         Ok((Actor { stores, life }, floor))
     }
 }

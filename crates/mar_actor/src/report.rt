@@ -1,4 +1,18 @@
 //! Finalizations that consensus reports.
+ghost use Rattle.std.specs.Prelude.{◌≡◌, ◌+◌, ◌&&◌, ◌∷◌, [], IfErr, IfOk, List, None, OnErr, OnOk, Option, Some, false, nat_lt, not, option_map, true};
+ghost use Rattle.mar_block.specs.Block.{Block};
+ghost use Rattle.mar_inbox.specs.Messages.{report_finalization};
+ghost use Rattle.mar_key.specs.Hears.{Hears};
+ghost use Rattle.mar_key.specs.Keys.{Call};
+ghost use Rattle.mar_key.specs.Processed.{height_of};
+ghost use Rattle.mar_store.specs.Kept.{has_height};
+ghost use Rattle.mar_store.specs.Changes.{IsNested, Puts, Syncs};
+ghost use Rattle.mar_shelf.specs.Stored.{at_own_height, block_of, is_certified, is_held};
+ghost use Rattle.mar_actor.specs.Event.{message_told};
+ghost use Rattle.mar_actor.specs.Promise.{KeepsPromise};
+ghost use Rattle.mar_actor.specs.Held.{GoesOn, IsUsual};
+ghost use Rattle.mar_actor.specs.Moves.{Stores, StoresLate, StoresValue, at_height, found_at_hand, is_due, late_tips, of_commitment, tip_after, tip_reports, wants};
+
 use crate::actor::Actor;
 use crate::fault::Fault;
 use crate::reporter::{Reporter, Update};
@@ -8,7 +22,7 @@ use mar_cert::{CommitsTo, Provider};
 use mar_key::{Request, Resolver};
 use mar_shelf::{Blocks, Certificates, Shelf};
 use mar_store::Meta;
-use mar_types::Epocher;
+use mar_types::{Epocher, Height};
 
 impl<
     V: Variant,
@@ -28,20 +42,27 @@ impl<
         buffer: &B,
         resolver: &mut R,
         application: &mut A,
-    ) -> Result<Self, Ended<V, F, FB, FC, M, H>> {
+    ) -> Result<Self, Ended<V, F, FB, FC, M, H>>
+        ensures promise { IsNested self.held.blocks → IsNested self.held.certs → KeepsPromise (E.epochs self.life.epocher) V.inner self (message_told None (report_finalization (F.plain finalization.now))) (B.blocks buffer.now) (A.told application.old) (A.told application.new) (R.told resolver.old) (R.told resolver.new) result }
+    {
         let (actor, block) = self.block_at_hand(finalization.payload(), buffer)?;
         match block {
             None => actor.request(finalization, resolver),
-            Some(block) if actor.life.is_above(V::height(&block)) => {
-                let actor = actor.store(finalization, &block, application)?;
-                actor.dispatch(application)
-            }
             Some(block) => {
-                let actor = actor.witness(finalization.round(), resolver)?;
-                let actor = actor.sync_metadata()?;
-                actor.store_late(finalization, &block)
+                if actor.is_above(V::height(&block)) {
+                    actor.store_and_dispatch(finalization, &block, application)
+                } else {
+                    actor.note(finalization, &block, resolver, application)
+                }
             }
         }
+    }
+
+    /// Whether the height is above the processed one.
+    fn is_above(&self, height: Height) -> bool
+        ensures { result ≡ nat_lt (height_of self.now.held.processed) height }
+    {
+        self.stores.progress.is_above(height)
     }
 
     /// The block of a commitment, from the buffer or from the store.
@@ -49,24 +70,34 @@ impl<
         self,
         commitment: V::Commitment,
         buffer: &B,
-    ) -> Result<(Self, Option<V::Block>), Ended<V, F, FB, FC, M, H>> {
+    ) -> Result<(Self, Option<V::Block>), Ended<V, F, FB, FC, M, H>>
+        ensures same { IfOk result (λ r. r.0 ≡ self) }
+        ensures found { IfOk result (λ r. option_map V.plain r.1 ≡ found_at_hand V.inner (B.blocks buffer.now) self.held.blocks.held (V.Commitment.bytes commitment)) }
+        ensures goes_on { GoesOn (λ r. r.0.held) self.held [] [] result }
+        ensures usual { IfErr result (λ e. IsUsual e.fault) }
+    {
         match buffer.find_by_commitment(&commitment) {
             Ok(Some(block)) => Ok((self, Some(block))),
             Ok(None) => self.stored_block(commitment),
-            Err(_) => Err(self.end(Fault::Memory)),
+            Err(_) => Err(self.run_out()),
         }
     }
 
+    /// The stored block of a commitment.
     fn stored_block(
         self,
         commitment: V::Commitment,
-    ) -> Result<(Self, Option<V::Block>), Ended<V, F, FB, FC, M, H>> {
+    ) -> Result<(Self, Option<V::Block>), Ended<V, F, FB, FC, M, H>>
+        ensures same { IfOk result (λ r. r.0 ≡ self) }
+        ensures found { IfOk result (λ r. option_map V.plain r.1 ≡ of_commitment (V.Commitment.bytes commitment) (block_of self.held.blocks.held (V.inner (V.Commitment.bytes commitment)))) }
+        ensures goes_on { GoesOn (λ r. r.0.held) self.held [] [] result }
+        ensures usual { IfErr result (λ e. IsUsual e.fault) }
+    {
         let Actor { stores, life } = self;
         let (stores, block) = stores.block_of(&V::commitment_to_inner(commitment))?;
-        let actor = Actor { stores, life };
         Ok((
-            actor,
-            block.filter(|block| V::commitment(block) == commitment),
+            Actor { stores, life },
+            of_commitment::<V>(block, commitment),
         ))
     }
 
@@ -75,42 +106,68 @@ impl<
         self,
         finalization: &F,
         resolver: &mut R,
-    ) -> Result<Self, Ended<V, F, FB, FC, M, H>> {
+    ) -> Result<Self, Ended<V, F, FB, FC, M, H>>
+        ensures asks { OnOk result (Hears (R.told resolver.old) (wants self.held.cutoff (F.plain finalization.now)) (R.told resolver.new)) }
+        ensures same { IfOk result (λ a. a ≡ self) }
+        ensures goes_on { GoesOn (λ a. a.held) self.held [] [] result }
+        ensures usual { IfErr result (λ e. IsUsual e.fault) }
+    {
         let round = finalization.round();
-        if self.life.cutoff.covers(round) {
+        if self.stores.progress.cutoff().covers(round) {
             return Ok(self);
         }
         let request = Request::finalized_by_round(finalization.payload(), round);
         match resolver.fetch(request.into()) {
             Ok(()) => Ok(self),
-            Err(_) => Err(self.end(Fault::Memory)),
+            Err(_) => Err(self.run_out()),
         }
     }
 
-    /// Stores a block above the processed height with its finalization, and makes both durable.
+    /// Stores a block above the processed height with its finalization, and hands over what may follow.
+    fn store_and_dispatch<A: Reporter<V>>(
+        self,
+        finalization: &F,
+        block: &V::Block,
+        application: &mut A,
+    ) -> Result<Self, Ended<V, F, FB, FC, M, H>>
+        ensures promise { (heard : Option (List Call)) → IsNested self.held.blocks → IsNested self.held.certs → (buffer : List Block)
+            → found_at_hand V.inner buffer self.held.blocks.held (F.plain finalization.now).payload ≡ Some (V.plain block.now) → nat_lt (height_of self.held.processed) (V.plain block.now).height ≡ true
+            → KeepsPromise (E.epochs self.life.epocher) V.inner self (message_told None (report_finalization (F.plain finalization.now))) buffer (A.told application.old) (A.told application.new) heard heard result }
+    {
+        let height = V::height(block);
+        if height.get() == u64::MAX {
+            return Err(self.end(Fault::HeightLimit(height)));
+        }
+        let actor = self.store(finalization, block, application)?;
+        actor.dispatch(application)
+    }
+
+    /// Stores a block with its finalization, makes both durable, and reports the block where it is the newest.
     fn store<A: Reporter<V>>(
         self,
         finalization: &F,
         block: &V::Block,
         application: &mut A,
-    ) -> Result<Self, Ended<V, F, FB, FC, M, H>> {
-        let height = V::height(block);
-        if height.get() == u64::MAX {
-            return Err(self.end(Fault::HeightLimit(height)));
-        }
+    ) -> Result<Self, Ended<V, F, FB, FC, M, H>>
+        ensures ok { OnOk result (Hears (A.told application.old) (tip_reports self.life.tip (F.plain finalization.now) (V.plain block.now)) (A.told application.new)) }
+        ensures err { OnErr result (Hears (A.told application.old) [] (A.told application.new)) }
+        ensures stores { IfOk result (λ a. Stores V.inner self (F.plain finalization.now) (V.plain block.now) a) }
+        ensures goes_on { GoesOn (λ a. a.held) self.held (at_own_height (V.plain block.now) ∷ []) (at_height (V.plain block.now).height (F.plain finalization.now) ∷ []) result }
+        ensures usual { IfErr result (λ e. IsUsual e.fault) }
+    {
         let actor = self.put(finalization, block)?;
-        let actor = actor.report_tip(finalization, block, application)?;
-        let Actor { stores, mut life } = actor;
-        let stores = stores.sync_blocks()?;
-        let stores = stores.sync_certificates()?;
-        let Some(written) = life.written.checked_add(1) else {
-            return Err(stores.end(Fault::Memory));
-        };
-        life.written = written;
-        Ok(Actor { stores, life })
+        let actor = actor.sync_both()?;
+        actor.report_tip(finalization, block, application)
     }
 
-    fn put(self, finalization: &F, block: &V::Block) -> Result<Self, Ended<V, F, FB, FC, M, H>> {
+    /// Puts a block and its finalization.
+    fn put(self, finalization: &F, block: &V::Block) -> Result<Self, Ended<V, F, FB, FC, M, H>>
+        ensures blocks { IfOk result (λ a. Puts (is_held self.held.blocks.held (V.plain block.now)) self.held.blocks (at_own_height (V.plain block.now)) a.held.blocks) }
+        ensures certs { IfOk result (λ a. Puts (is_certified V.inner self.held.certs.held (V.plain block.now).height (V.inner (F.plain finalization.now).payload)) self.held.certs (at_height (V.plain block.now).height (F.plain finalization.now)) a.held.certs) }
+        ensures same { IfOk result (λ a. a ≡ record self { held = record self.held { blocks = a.held.blocks; certs = a.held.certs; counts = a.held.counts } }) }
+        ensures goes_on { GoesOn (λ a. a.held) self.held (at_own_height (V.plain block.now) ∷ []) (at_height (V.plain block.now).height (F.plain finalization.now) ∷ []) result }
+        ensures usual { IfErr result (λ e. IsUsual e.fault) }
+    {
         let Actor { stores, life } = self;
         let stores = stores.put_block(block)?;
         let stores = stores.put_certificate(V::height(block), finalization)?;
@@ -123,36 +180,160 @@ impl<
         finalization: &F,
         block: &V::Block,
         application: &mut A,
-    ) -> Result<Self, Ended<V, F, FB, FC, M, H>> {
-        let mut actor = self;
+    ) -> Result<Self, Ended<V, F, FB, FC, M, H>>
+        ensures ok { OnOk result (Hears (A.told application.old) (tip_reports self.life.tip (F.plain finalization.now) (V.plain block.now)) (A.told application.new)) }
+        ensures err { OnErr result (Hears (A.told application.old) [] (A.told application.new)) }
+        ensures same { IfOk result (λ a. a ≡ record self { life = record self.life { tip = tip_after self.life.tip (V.plain block.now) } }) }
+        ensures goes_on { GoesOn (λ a. a.held) self.held [] [] result }
+        ensures usual { IfErr result (λ e. IsUsual e.fault) }
+    {
         let height = V::height(block);
-        if height <= actor.life.tip {
-            return Ok(actor);
+        if height <= self.life.tip {
+            return Ok(self);
         }
         let tip = Update::Tip(finalization.round(), height, V::digest(block));
-        if application.report(tip).is_err() {
-            return Err(actor.end(Fault::Memory));
+        match application.report(tip) {
+            Ok(()) => Ok(self.with_tip(height)),
+            Err(_) => Err(self.run_out()),
         }
-        actor.life.tip = height;
-        Ok(actor)
     }
 
-    /// Stores the missing finalization of a held block at or below the processed height, and makes it durable.
-    fn store_late(
+    fn with_tip(self, height: Height) -> Self
+        ensures { result ≡ record self { life = record self.life { tip = height } } }
+    {
+        let mut actor = self;
+        actor.life.tip = height;
+        actor
+    }
+
+    /// Makes the blocks and then the finalizations durable, and counts one more storing that they cover.
+    fn sync_both(self) -> Result<Self, Ended<V, F, FB, FC, M, H>>
+        ensures blocks { IfOk result (λ a. Syncs self.held.blocks a.held.blocks) }
+        ensures certs { IfOk result (λ a. Syncs self.held.certs a.held.certs) }
+        ensures same { IfOk result (λ a. a ≡ record self {
+          held = record self.held { blocks = a.held.blocks; certs = a.held.certs; counts = a.held.counts };
+          life = record self.life { covered = self.life.covered + 1 };
+        }) }
+        ensures goes_on { GoesOn (λ a. a.held) self.held [] [] result }
+        ensures usual { IfErr result (λ e. IsUsual e.fault) }
+    {
+        let Actor { stores, mut life } = self;
+        let stores = stores.sync_blocks()?;
+        let stores = stores.sync_certificates()?;
+        match life.written.checked_add(1) {
+            Some(written) => {
+                life.written = written;
+                Ok(Actor { stores, life })
+            }
+            None => Err(stores.run_out()),
+        }
+    }
+
+    /// Takes note of a finalized block at or below the processed height: its round is witnessed, and its finalization
+    /// stored where it is missing.
+    fn note<R: Resolver<V::Commitment>, A: Reporter<V>>(
         self,
         finalization: &F,
         block: &V::Block,
-    ) -> Result<Self, Ended<V, F, FB, FC, M, H>> {
-        let height = V::height(block);
-        let Actor { stores, life } = self;
-        let (stores, held) = stores.block_at(height)?;
-        let (stores, certificate) = stores.certificate_at(height)?;
-        let stores = if held.is_some() && certificate.is_none() {
-            let stores = stores.put_certificate(height, finalization)?;
-            stores.sync_certificates()?
+        resolver: &mut R,
+        application: &mut A,
+    ) -> Result<Self, Ended<V, F, FB, FC, M, H>>
+        ensures promise { IsNested self.held.blocks → IsNested self.held.certs → (buffer : List Block)
+            → found_at_hand V.inner buffer self.held.blocks.held (F.plain finalization.now).payload ≡ Some (V.plain block.now) → nat_lt (height_of self.held.processed) (V.plain block.now).height ≡ false
+            → KeepsPromise (E.epochs self.life.epocher) V.inner self (message_told None (report_finalization (F.plain finalization.now))) buffer (A.told application.old) (A.told application.new) (R.told resolver.old) (R.told resolver.new) result }
+    {
+        let actor = self.witness(finalization.round(), resolver)?;
+        let actor = actor.sync_metadata()?;
+        actor.store_late(finalization, block, application)
+    }
+
+    /// Stores the missing finalization of a held block, makes it durable, and reports the block where it is the newest.
+    fn store_late<A: Reporter<V>>(
+        self,
+        finalization: &F,
+        block: &V::Block,
+        application: &mut A,
+    ) -> Result<Self, Ended<V, F, FB, FC, M, H>>
+        ensures ok { OnOk result (Hears (A.told application.old) (late_tips (is_due self.held (V.plain block.now)) self.life.tip (F.plain finalization.now) (V.plain block.now)) (A.told application.new)) }
+        ensures err { OnErr result (Hears (A.told application.old) [] (A.told application.new)) }
+        ensures stores { IfOk result (λ a. StoresLate V.inner self (F.plain finalization.now) (V.plain block.now) a) }
+        ensures goes_on { GoesOn (λ a. a.held) self.held [] (at_height (V.plain block.now).height (F.plain finalization.now) ∷ []) result }
+        ensures usual { IfErr result (λ e. IsUsual e.fault) }
+    {
+        let (actor, is_due) = self.is_due(V::height(block))?;
+        if is_due {
+            actor.store_due(finalization, block, application)
         } else {
-            stores
-        };
+            Ok(actor)
+        }
+    }
+
+    /// Whether a block is held at a height and no finalization is.
+    fn is_due(self, height: Height) -> Result<(Self, bool), Ended<V, F, FB, FC, M, H>>
+        ensures same { IfOk result (λ r. r.0 ≡ self) }
+        ensures value { IfOk result (λ r. r.1 ≡ (has_height self.held.blocks.held height && not (has_height self.held.certs.held height))) }
+        ensures goes_on { GoesOn (λ r. r.0.held) self.held [] [] result }
+        ensures usual { IfErr result (λ e. IsUsual e.fault) }
+    {
+        let (actor, block) = self.block_at(height)?;
+        if block.is_none() {
+            return Ok((actor, false));
+        }
+        let (actor, round) = actor.round_at(height)?;
+        Ok((actor, round.is_none()))
+    }
+
+    /// Stores a finalization, makes it durable, and reports its block where it is the newest.
+    fn store_due<A: Reporter<V>>(
+        self,
+        finalization: &F,
+        block: &V::Block,
+        application: &mut A,
+    ) -> Result<Self, Ended<V, F, FB, FC, M, H>>
+        ensures ok { OnOk result (Hears (A.told application.old) (tip_reports self.life.tip (F.plain finalization.now) (V.plain block.now)) (A.told application.new)) }
+        ensures err { OnErr result (Hears (A.told application.old) [] (A.told application.new)) }
+        ensures certs { IfOk result (λ a. StoresValue (is_certified V.inner self.held.certs.held (V.plain block.now).height (V.inner (F.plain finalization.now).payload)) self.held.certs (at_height (V.plain block.now).height (F.plain finalization.now)) a.held.certs) }
+        ensures same { IfOk result (λ a. a ≡ record self {
+          held = record self.held { certs = a.held.certs; counts = a.held.counts };
+          life = record self.life { tip = tip_after self.life.tip (V.plain block.now) };
+        }) }
+        ensures goes_on { GoesOn (λ a. a.held) self.held [] (at_height (V.plain block.now).height (F.plain finalization.now) ∷ []) result }
+        ensures usual { IfErr result (λ e. IsUsual e.fault) }
+    {
+        let actor = self.store_certificate(V::height(block), finalization)?;
+        actor.report_tip(finalization, block, application)
+    }
+
+    /// Stores a finalization alone, and makes it durable.
+    fn store_certificate(
+        self,
+        height: Height,
+        finalization: &F,
+    ) -> Result<Self, Ended<V, F, FB, FC, M, H>>
+        ensures certs { IfOk result (λ a. StoresValue (is_certified V.inner self.held.certs.held height (V.inner (F.plain finalization.now).payload)) self.held.certs (at_height height (F.plain finalization.now)) a.held.certs) }
+        ensures same { IfOk result (λ a. a ≡ record self { held = record self.held { certs = a.held.certs; counts = a.held.counts } }) }
+        ensures goes_on { GoesOn (λ a. a.held) self.held [] (at_height height (F.plain finalization.now) ∷ []) result }
+        ensures usual { IfErr result (λ e. IsUsual e.fault) }
+    {
+        let Actor { stores, life } = self;
+        let stores = stores.put_certificate(height, finalization)?;
+        let stores = stores.sync_certificates()?;
         Ok(Actor { stores, life })
+    }
+}
+
+/// The block, where it has this commitment.
+fn of_commitment<V: Variant>(block: Option<V::Block>, commitment: V::Commitment) -> Option<V::Block>
+    ensures { option_map V.plain result ≡ of_commitment (V.Commitment.bytes commitment) (option_map V.plain block) }
+{
+    match block {
+        None => None,
+        Some(block) => {
+            if V::commitment(&block) == commitment {
+                Some(block)
+            } else {
+                None
+            }
+        }
     }
 }

@@ -1,5 +1,8 @@
 //! What the application is told.
-ghost use Rattle.std.specs.Prelude.{◌≡◌};
+ghost use Rattle.std.specs.Prelude.{◌≡◌, ◌∷◌, [], List, OnErr, OnOk, Option};
+ghost use Rattle.mar_key.specs.Hears.{Hears};
+ghost use Rattle.mar_actor.specs.Step.{Report};
+ghost use Rattle.mar_actor.specs.Views.{report_of};
 
 use mar_block::Variant;
 use mar_types::{Height, Round};
@@ -38,5 +41,10 @@ pub enum Update<D, B> {
 
 /// The application, as far as it is told of finalized blocks.
 pub trait Reporter<V: Variant> {
-    fn report(&mut self, update: Update<V::Digest, V::Block>) -> Result<(), AllocError>;
+    // What it was told, in order, where it tells that.
+    ghost told: { Self → Option (List Report) };
+
+    fn report(&mut self, update: Update<V::Digest, V::Block>) -> Result<(), AllocError>
+        ensures ok { OnOk result (Hears (told self.old) (report_of V.Digest.bytes V.plain update ∷ []) (told self.new)) }
+        ensures err { OnErr result (Hears (told self.old) [] (told self.new)) };
 }

@@ -49,18 +49,18 @@ impl<
 > Actor<V, F, P, E, FB, FC, M, H> {
     /// What the node shows of itself.
     pub fn shown(&self) -> Shown<'_>
-        ensures processed { option_map processed_of result.processed ≡ self.now.life.processed }
+        ensures processed { option_map processed_of result.processed ≡ self.now.held.processed }
         ensures acks { result.acks.now.entries ≡ self.now.life.out }
-        ensures cutoff { cutoff_of result.cutoff ≡ self.now.life.cutoff }
+        ensures cutoff { cutoff_of result.cutoff ≡ self.now.held.cutoff }
         ensures blocks_held { result.blocks_held.now ≡ ranges (heights self.now.held.blocks.held) }
         ensures blocks_sure { result.blocks_sure.now ≡ ranges (heights self.now.held.blocks.sure) }
         ensures certs_held { result.certs_held.now ≡ ranges (heights self.now.held.certs.held) }
         ensures certs_sure { result.certs_sure.now ≡ ranges (heights self.now.held.certs.sure) }
     {
         Shown {
-            processed: self.life.processed,
+            processed: self.stores.progress.processed(),
             acks: &self.life.acks,
-            cutoff: self.life.cutoff,
+            cutoff: self.stores.progress.cutoff(),
             blocks_held: self.stores.blocks.held_ranges(),
             blocks_sure: self.stores.blocks.sure_ranges(),
             certs_held: self.stores.certs.held_ranges(),

@@ -1,18 +1,22 @@
 //! The four stores of a life, which each call consumes.
-ghost use Rattle.std.specs.Prelude.{◌≡◌, ◌∷◌, [], IfOk, Some, option_map};
+ghost use Rattle.std.specs.Prelude.{◌≡◌, ◌∷◌, [], Err, IfErr, IfOk, IfSome, Some, map, option_map};
+ghost use Rattle.mar_key.specs.Processed.{at_block};
 ghost use Rattle.mar_key.specs.Views.{cutoff_of};
 ghost use Rattle.mar_store.specs.Kept.{value_at};
-ghost use Rattle.mar_store.specs.Changes.{Puts, Syncs};
+ghost use Rattle.mar_store.specs.Changes.{IsNested, Puts, Syncs, left_of};
+ghost use Rattle.mar_store.specs.Lost.{wreck_of};
 ghost use Rattle.mar_shelf.specs.Stored.{at_own_height, block_of, is_certified, is_held};
-ghost use Rattle.mar_actor.specs.Held.{remains_of};
-ghost use Rattle.mar_actor.specs.Views.{fault_of};
+ghost use Rattle.mar_actor.specs.Held.{GoesOn, IsNoStores, IsUsual, Loses, ended_of, lost_fault, missed_fault, remains_of};
+ghost use Rattle.mar_actor.specs.Faults.{block_store, cert_store, meta_store};
+ghost use Rattle.mar_actor.specs.Views.{fault_of, store_name_of};
+ghost use Rattle.mar_parts.specs.Metadata.{pair_at, pair_of};
 
 use crate::fault::{Fault, StoreName};
+use crate::progress::Progress;
 use crate::ruins::{Ended, Ruins};
 use mar_block::Variant;
 use mar_cert::CommitsTo;
 use mar_key::Cutoff;
-use mar_parts::Stream;
 use mar_shelf::{Blocks, Certificates, Shelf};
 use mar_store::{Lost, Meta, Miss};
 use mar_types::Height;
@@ -29,7 +33,7 @@ pub(crate) struct Stores<
 > {
     pub(crate) blocks: FB,
     pub(crate) certs: FC,
-    stream: Stream<M>,
+    pub(crate) progress: Progress<M>,
     shelf: H,
     of: PhantomData<(V, F)>,
 }
@@ -49,9 +53,10 @@ impl<
     ghost view = { λ s. record {
       blocks = FB.stored s.blocks;
       certs = FC.stored s.certs;
-      pair = s.stream.pair;
-      pairs = s.stream.left;
-      counts = record { blocks = FB.faults s.blocks; certs = FC.faults s.certs; meta = s.stream.faults; cache = H.faults s.shelf };
+      processed = s.progress.processed;
+      cutoff = s.progress.cutoff;
+      pairs = s.progress.pairs;
+      counts = record { blocks = FB.faults s.blocks; certs = FC.faults s.certs; meta = s.progress.faults; cache = H.faults s.shelf };
     } };
 }
 
@@ -82,33 +87,52 @@ impl<
             Ok(certs) => certs,
             Err(lost) => return Err(Ended::before_certs(blocks, lost, meta, shelf)),
         };
-        let stream = match M::reopen(meta, luck) {
-            Ok(meta) => Stream::new(meta),
+        let progress = match M::reopen(meta, luck) {
+            Ok(meta) => Progress::new(meta),
             Err(lost) => return Err(Ended::before_meta(blocks, certs, lost, shelf)),
         };
         match H::reopen(shelf, luck) {
             Ok(shelf) => Ok(Stores {
                 blocks,
                 certs,
-                stream,
+                progress,
                 shelf,
                 of: PhantomData,
             }),
-            Err(lost) => Err(Ended::of_shelf(blocks, certs, stream, lost)),
+            Err(lost) => Err(Ended::of_shelf(blocks, certs, progress, lost)),
         }
+    }
+
+    /// What the stores promise of what they hold; nothing is done.
+    pub(crate) fn law(&self)
+        ensures blocks { IsNested self.now.blocks }
+        ensures certs { IsNested self.now.certs }
+    {
+        let _blocks = &self.blocks;
+        let _certs = &self.certs;
     }
 
     /// Whether nothing is stored: no block, no certificate, no processed height and no cutoff.
     pub(crate) fn is_empty(&self) -> bool {
         self.blocks.held_ranges().is_empty()
             && self.certs.held_ranges().is_empty()
-            && self.stream.processed_height().is_none()
-            && Cutoff::zero().reaches(self.stream.cutoff())
+            && self.progress.processed().is_none()
+            && Cutoff::zero().reaches(self.progress.cutoff())
+    }
+
+    /// Ends the life for want of memory.
+    pub(crate) fn run_out(self) -> Ended<V, F, FB, FC, M, H>
+        ensures goes_on { GoesOn (λ s. s) self [] [] (Err result) }
+        ensures lost { Loses self [] [] [] result }
+        ensures usual { IsUsual result.fault }
+    {
+        self.end(Fault::Memory)
     }
 
     /// Ends the life without a fault of a store.
     pub(crate) fn end(self, fault: Fault) -> Ended<V, F, FB, FC, M, H>
-        ensures { result ≡ record { fault = fault_of fault; remains = remains_of self } }
+        ensures value { result ≡ record { fault = fault_of fault; remains = remains_of self } }
+        ensures lost { IsNoStores (fault_of fault) → Loses self [] [] [] result }
     {
         Ended {
             fault,
@@ -123,20 +147,22 @@ impl<
         let Stores {
             blocks,
             certs,
-            stream,
+            progress,
             shelf,
             of: _,
         } = self;
         Ruins {
             blocks: blocks.wreck(),
             certs: certs.wreck(),
-            meta: stream.wreck(),
+            meta: progress.wreck(),
             shelf: shelf.wreck(),
         }
     }
 
     /// Ends the life where a read of this store had no answer.
-    fn missed(self, store: StoreName, miss: Miss) -> Ended<V, F, FB, FC, M, H> {
+    fn missed(self, store: StoreName, miss: Miss) -> Ended<V, F, FB, FC, M, H>
+        ensures { result ≡ record { fault = missed_fault (store_name_of store) miss; remains = remains_of self } }
+    {
         match miss {
             Miss::Fault => self.end(Fault::StoreFault(store)),
             Miss::Memory => self.end(Fault::Memory),
@@ -148,7 +174,10 @@ impl<
         height: Height,
     ) -> Result<(Self, Option<V::Block>), Ended<V, F, FB, FC, M, H>>
         ensures found { IfOk result (λ r. option_map V.plain r.1 ≡ value_at self.blocks.held height) }
+        ensures own { IfOk result (λ r. IfSome r.1 (λ b. (V.plain b).height ≡ height)) }
         ensures same { IfOk result (λ r. r.0 ≡ self) }
+        ensures goes_on { GoesOn (λ r. r.0) self [] [] result }
+        ensures usual { IfErr result (λ e. IsUsual e.fault) }
     {
         let mut stores = self;
         match stores.blocks.get(height) {
@@ -163,6 +192,8 @@ impl<
     ) -> Result<(Self, Option<V::Block>), Ended<V, F, FB, FC, M, H>>
         ensures found { IfOk result (λ r. option_map V.plain r.1 ≡ block_of self.blocks.held (V.Digest.bytes digest.now)) }
         ensures same { IfOk result (λ r. r.0 ≡ self) }
+        ensures goes_on { GoesOn (λ r. r.0) self [] [] result }
+        ensures usual { IfErr result (λ e. IsUsual e.fault) }
     {
         let mut stores = self;
         match stores.blocks.find(digest) {
@@ -177,6 +208,8 @@ impl<
     ) -> Result<(Self, Option<F>), Ended<V, F, FB, FC, M, H>>
         ensures found { IfOk result (λ r. option_map F.plain r.1 ≡ value_at self.certs.held height) }
         ensures same { IfOk result (λ r. r.0 ≡ self) }
+        ensures goes_on { GoesOn (λ r. r.0) self [] [] result }
+        ensures usual { IfErr result (λ e. IsUsual e.fault) }
     {
         let mut stores = self;
         match stores.certs.get(height) {
@@ -188,12 +221,13 @@ impl<
     pub(crate) fn put_block(self, block: &V::Block) -> Result<Self, Ended<V, F, FB, FC, M, H>>
         ensures ok { IfOk result (λ s. Puts (is_held self.blocks.held (V.plain block.now)) self.blocks (at_own_height (V.plain block.now)) s.blocks) }
         ensures same { IfOk result (λ s. s ≡ record self { blocks = s.blocks; counts = s.counts }) }
-        ensures counts { IfOk result (λ s. s.counts ≡ self.counts) }
+        ensures goes_on { GoesOn (λ s. s) self (at_own_height (V.plain block.now) ∷ []) [] result }
+        ensures usual { IfErr result (λ e. IsUsual e.fault) }
     {
         let Stores {
             blocks,
             certs,
-            stream,
+            progress,
             shelf,
             of,
         } = self;
@@ -201,23 +235,24 @@ impl<
             Ok(blocks) => Ok(Stores {
                 blocks,
                 certs,
-                stream,
+                progress,
                 shelf,
                 of,
             }),
-            Err(lost) => Err(Ended::of_blocks(lost, certs, stream, shelf)),
+            Err(lost) => Err(Ended::of_blocks(lost, certs, progress, shelf)),
         }
     }
 
     pub(crate) fn sync_blocks(self) -> Result<Self, Ended<V, F, FB, FC, M, H>>
         ensures ok { IfOk result (λ s. Syncs self.blocks s.blocks) }
         ensures same { IfOk result (λ s. s ≡ record self { blocks = s.blocks; counts = s.counts }) }
-        ensures counts { IfOk result (λ s. s.counts ≡ self.counts) }
+        ensures goes_on { GoesOn (λ s. s) self [] [] result }
+        ensures usual { IfErr result (λ e. IsUsual e.fault) }
     {
         let Stores {
             blocks,
             certs,
-            stream,
+            progress,
             shelf,
             of,
         } = self;
@@ -225,11 +260,11 @@ impl<
             Ok(blocks) => Ok(Stores {
                 blocks,
                 certs,
-                stream,
+                progress,
                 shelf,
                 of,
             }),
-            Err(lost) => Err(Ended::of_blocks(lost, certs, stream, shelf)),
+            Err(lost) => Err(Ended::of_blocks(lost, certs, progress, shelf)),
         }
     }
 
@@ -240,12 +275,13 @@ impl<
     ) -> Result<Self, Ended<V, F, FB, FC, M, H>>
         ensures ok { IfOk result (λ s. Puts (is_certified V.inner self.certs.held height (V.inner (F.plain finalization.now).payload)) self.certs (record { height = height; value = F.plain finalization.now }) s.certs) }
         ensures same { IfOk result (λ s. s ≡ record self { certs = s.certs; counts = s.counts }) }
-        ensures counts { IfOk result (λ s. s.counts ≡ self.counts) }
+        ensures goes_on { GoesOn (λ s. s) self [] (record { height = height; value = F.plain finalization.now } ∷ []) result }
+        ensures usual { IfErr result (λ e. IsUsual e.fault) }
     {
         let Stores {
             blocks,
             certs,
-            stream,
+            progress,
             shelf,
             of,
         } = self;
@@ -257,23 +293,24 @@ impl<
             Ok(certs) => Ok(Stores {
                 blocks,
                 certs,
-                stream,
+                progress,
                 shelf,
                 of,
             }),
-            Err(lost) => Err(Ended::of_certs(blocks, lost, stream, shelf)),
+            Err(lost) => Err(Ended::of_certs(blocks, lost, progress, shelf)),
         }
     }
 
     pub(crate) fn sync_certificates(self) -> Result<Self, Ended<V, F, FB, FC, M, H>>
         ensures ok { IfOk result (λ s. Syncs self.certs s.certs) }
         ensures same { IfOk result (λ s. s ≡ record self { certs = s.certs; counts = s.counts }) }
-        ensures counts { IfOk result (λ s. s.counts ≡ self.counts) }
+        ensures goes_on { GoesOn (λ s. s) self [] [] result }
+        ensures usual { IfErr result (λ e. IsUsual e.fault) }
     {
         let Stores {
             blocks,
             certs,
-            stream,
+            progress,
             shelf,
             of,
         } = self;
@@ -281,32 +318,32 @@ impl<
             Ok(certs) => Ok(Stores {
                 blocks,
                 certs,
-                stream,
+                progress,
                 shelf,
                 of,
             }),
-            Err(lost) => Err(Ended::of_certs(blocks, lost, stream, shelf)),
+            Err(lost) => Err(Ended::of_certs(blocks, lost, progress, shelf)),
         }
     }
 
-    /// Sets the processed height, which becomes durable with the next sync of the metadata.
-    pub(crate) fn acknowledge(self, height: Height) -> Result<Self, Ended<V, F, FB, FC, M, H>>
-        ensures ok { IfOk result (λ s. s.pair ≡ record self.pair { processed = Some height }) }
-        ensures same { IfOk result (λ s. s ≡ record self { pair = s.pair; pairs = s.pairs; counts = s.counts }) }
-        ensures pairs { IfOk result (λ s. s.pairs ≡ self.pairs) }
+    /// The block at this height is processed, which becomes durable with the next sync of the metadata.
+    pub(crate) fn set_processed(self, height: Height) -> Result<Self, Ended<V, F, FB, FC, M, H>>
+        ensures ok { IfOk result (λ s. s ≡ record self { processed = Some (at_block height); counts = s.counts }) }
+        ensures goes_on { GoesOn (λ s. s) self [] [] result }
+        ensures usual { IfErr result (λ e. IsUsual e.fault) }
     {
         let Stores {
             blocks,
             certs,
-            stream,
+            progress,
             shelf,
             of,
         } = self;
-        match stream.acknowledge(height) {
-            Ok(stream) => Ok(Stores {
+        match progress.set_processed(height) {
+            Ok(progress) => Ok(Stores {
                 blocks,
                 certs,
-                stream,
+                progress,
                 shelf,
                 of,
             }),
@@ -315,23 +352,23 @@ impl<
     }
 
     /// Sets the cutoff, which becomes durable with the next sync of the metadata.
-    pub(crate) fn set_cutoff(self, cutoff: Cutoff) -> Result<Self, Ended<V, F, FB, FC, M, H>>
-        ensures ok { IfOk result (λ s. s.pair ≡ record self.pair { cutoff = cutoff_of cutoff }) }
-        ensures same { IfOk result (λ s. s ≡ record self { pair = s.pair; pairs = s.pairs; counts = s.counts }) }
-        ensures pairs { IfOk result (λ s. s.pairs ≡ self.pairs) }
+    pub(crate) fn set_cutoff(self, cutoff: &Cutoff) -> Result<Self, Ended<V, F, FB, FC, M, H>>
+        ensures ok { IfOk result (λ s. s ≡ record self { cutoff = cutoff_of cutoff.now; counts = s.counts }) }
+        ensures goes_on { GoesOn (λ s. s) self [] [] result }
+        ensures usual { IfErr result (λ e. IsUsual e.fault) }
     {
         let Stores {
             blocks,
             certs,
-            stream,
+            progress,
             shelf,
             of,
         } = self;
-        match stream.set_cutoff(cutoff) {
-            Ok(stream) => Ok(Stores {
+        match progress.set_cutoff(cutoff) {
+            Ok(progress) => Ok(Stores {
                 blocks,
                 certs,
-                stream,
+                progress,
                 shelf,
                 of,
             }),
@@ -340,22 +377,23 @@ impl<
     }
 
     pub(crate) fn sync_metadata(self) -> Result<Self, Ended<V, F, FB, FC, M, H>>
-        ensures ok { IfOk result (λ s. s.pairs ≡ self.pair ∷ []) }
-        ensures same { IfOk result (λ s. s ≡ record self { pair = s.pair; pairs = s.pairs; counts = s.counts }) }
-        ensures pair { IfOk result (λ s. s.pair ≡ self.pair) }
+        ensures ok { IfOk result (λ s. s ≡ record self { pairs = pair_of self.processed self.cutoff ∷ []; counts = s.counts }) }
+        ensures counts { IfOk result (λ s. s.counts ≡ self.counts) }
+        ensures lost { IfErr result (Loses self [] [] (pair_of self.processed self.cutoff ∷ [])) }
+        ensures usual { IfErr result (λ e. IsUsual e.fault) }
     {
         let Stores {
             blocks,
             certs,
-            stream,
+            progress,
             shelf,
             of,
         } = self;
-        match stream.sync() {
-            Ok(stream) => Ok(Stores {
+        match progress.sync() {
+            Ok(progress) => Ok(Stores {
                 blocks,
                 certs,
-                stream,
+                progress,
                 shelf,
                 of,
             }),
@@ -365,7 +403,10 @@ impl<
 }
 
 /// The fault by which a store is lost, and what is left of the store.
-fn lost_by<W>(lost: Lost<W>, store: StoreName) -> (Fault, W) {
+fn lost_by<W>(lost: Lost<W>, store: StoreName) -> (Fault, W)
+    ensures fault { fault_of result.0 ≡ lost_fault (store_name_of store) lost }
+    ensures wreck { result.1 ≡ wreck_of lost }
+{
     match lost {
         Lost::Fault(wreck) => (Fault::StoreFault(store), wreck),
         Lost::Memory(wreck) => (Fault::Memory, wreck),
@@ -424,46 +465,61 @@ impl<
         }
     }
 
-    fn of_shelf(blocks: FB, certs: FC, stream: Stream<M>, lost: Lost<H::Wreck>) -> Self {
+    fn of_shelf(blocks: FB, certs: FC, progress: Progress<M>, lost: Lost<H::Wreck>) -> Self {
         let (fault, shelf) = lost_by(lost, StoreName::Cache);
         Ended {
             fault,
             ruins: Ruins {
                 blocks: blocks.wreck(),
                 certs: certs.wreck(),
-                meta: stream.wreck(),
+                meta: progress.wreck(),
                 shelf,
             },
         }
     }
 
-    fn of_blocks(lost: Lost<FB::Wreck>, certs: FC, stream: Stream<M>, shelf: H) -> Self {
+    fn of_blocks(lost: Lost<FB::Wreck>, certs: FC, progress: Progress<M>, shelf: H) -> Self
+        ensures { result ≡ record {
+          fault = lost_fault block_store lost;
+          remains = record { ended = ended_of (FB.Wreck.left (wreck_of lost)) (left_of (FC.stored certs)) (progress.pairs); counts = record { blocks = FB.Wreck.faults (wreck_of lost); certs = FC.faults certs; meta = progress.faults; cache = H.faults shelf } };
+        } }
+    {
         let (fault, blocks) = lost_by(lost, StoreName::Blocks);
         Ended {
             fault,
             ruins: Ruins {
                 blocks,
                 certs: certs.wreck(),
-                meta: stream.wreck(),
+                meta: progress.wreck(),
                 shelf: shelf.wreck(),
             },
         }
     }
 
-    fn of_certs(blocks: FB, lost: Lost<FC::Wreck>, stream: Stream<M>, shelf: H) -> Self {
+    fn of_certs(blocks: FB, lost: Lost<FC::Wreck>, progress: Progress<M>, shelf: H) -> Self
+        ensures { result ≡ record {
+          fault = lost_fault cert_store lost;
+          remains = record { ended = ended_of (left_of (FB.stored blocks)) (FC.Wreck.left (wreck_of lost)) (progress.pairs); counts = record { blocks = FB.faults blocks; certs = FC.Wreck.faults (wreck_of lost); meta = progress.faults; cache = H.faults shelf } };
+        } }
+    {
         let (fault, certs) = lost_by(lost, StoreName::Certs);
         Ended {
             fault,
             ruins: Ruins {
                 blocks: blocks.wreck(),
                 certs,
-                meta: stream.wreck(),
+                meta: progress.wreck(),
                 shelf: shelf.wreck(),
             },
         }
     }
 
-    fn of_meta(blocks: FB, certs: FC, lost: Lost<M::Wreck>, shelf: H) -> Self {
+    fn of_meta(blocks: FB, certs: FC, lost: Lost<M::Wreck>, shelf: H) -> Self
+        ensures { result ≡ record {
+          fault = lost_fault meta_store lost;
+          remains = record { ended = ended_of (left_of (FB.stored blocks)) (left_of (FC.stored certs)) (map pair_at (M.Wreck.left (wreck_of lost))); counts = record { blocks = FB.faults blocks; certs = FC.faults certs; meta = M.Wreck.faults (wreck_of lost); cache = H.faults shelf } };
+        } }
+    {
         let (fault, meta) = lost_by(lost, StoreName::Meta);
         Ended {
             fault,

@@ -80,6 +80,13 @@ impl PendingAcks {
         self.entries.clear();
     }
 
+    /// How many there may be.
+    pub fn capacity(&self) -> usize
+        ensures { result ≡ self.now.max }
+    {
+        self.max
+    }
+
     /// How many there are.
     pub fn len(&self) -> usize
         ensures { result ≡ length self.now.entries }

@@ -1,19 +1,19 @@
 -- What the calls of a store over entries change.
-use Rattle.std.proofs.Common.{◌≡◌, ℕ, zero, suc, ◌≤◌, List, [], ◌∷◌, ◌++◌, length, take, map, Bool, true, false, cond, Option, None, Some, refl, ap, ◌∙◌, sym, arith, is_some, ◌||◌, ◌⊎◌, inl, inr, drop, subst, lit<, nat_eq, Result, Ok, Err, IfOk}
-use Rattle.std.specs.Prelude.{Contains, bytes_eq, find, if◌then◌else◌, option_map, ◌==◌}
+use Rattle.std.proofs.Common.{◌≡◌, ℕ, ◌≤◌, List, [], ◌∷◌, ◌++◌, length, take, map, Bool, true, false, cond, Option, None, Some, refl, ap, ◌∙◌, sym, arith, is_some, ◌||◌, ◌⊎◌, inl, inr, drop, subst, lit<, nat_eq, Result, Ok, Err, IfOk}
+use Rattle.std.specs.Prelude.{Contains, bytes_eq, find, option_map, ◌==◌}
 use Rattle.std.specs.List.{list_any, IsDistinct}
 use Rattle.std.proofs.lemmas.Simd.{map-map}
-use Rattle.std.proofs.lemmas.List.{append-nil, map_push, take-append-drop, take-append-le, take-map, take-take, take_all, length-map}
+use Rattle.std.proofs.lemmas.List.{map_push, take-append-drop, take-append-le, take-map, take-take, take_all, length-map}
 use Rattle.std.proofs.lemmas.List.Elements.{Contains-append_left, Contains-append_right}
 use Rattle.std.proofs.lemmas.Bool.{cases_eq, eq-eqb, ne_eqb}
-use Rattle.mar_store.specs.Kept.{At, Kept, Reopens, has_height, reopened_store, value_at}
-use Rattle.mar_store.specs.Changes.{Fails, IsReopened, KeepsValues, Left, Puts, Syncs, Within, heights, left_of}
+use Rattle.mar_store.specs.Kept.{At, has_height, reopened_store, value_at}
+use Rattle.mar_store.specs.Changes.{Fails, IsReopened, Puts, Syncs, heights, left_of}
 use Rattle.mar_store.specs.Ranges.{ranges}
 use Rattle.mar_block.specs.Block.{Block}
 use Rattle.mar_cert.specs.Finalization.{Finalization}
 use Rattle.mar_shelf.specs.Entries.{kept_of}
 use Rattle.mar_shelf.specs.Nested.{each_once, front_kept, front_once}
-use Rattle.mar_shelf.specs.Stored.{block_of, is_certified, is_held, values_of}
+use Rattle.mar_shelf.specs.Stored.{block_of, is_certified, is_held}
 use Rattle.mar_shelf.specs.Named.{AreBacked, AreNamed, seen}
 use Rattle.mar_shelf.specs.declared.entry.Entry.{Entry}
 

@@ -1,6 +1,6 @@
 -- The entries of the epoch cache.
 use Rattle.std.specs.List.{list_any}
-use Rattle.std.specs.Prelude.{Bool, Contains, IsFalse, List, None, Option, Some, [], bytes_eq, false, if◌then◌else◌, ℕ, ⊤, ◌&&◌, ◌++◌, ◌+◌, ◌==◌, ◌∷◌}
+use Rattle.std.specs.Prelude.{Bool, Contains, IsFalse, List, None, Option, Some, [], bytes_eq, false, if◌then◌else◌, ℕ, ⊤, ◌&&◌, ◌++◌, ◌==◌, ◌∷◌}
 use Rattle.mar_types.specs.Round.{Round, round_eq}
 use Rattle.mar_block.specs.Block.{Block}
 use Rattle.mar_cert.specs.Finalization.{Finalization, Notarization}

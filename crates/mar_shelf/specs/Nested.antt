@@ -1,10 +1,10 @@
 -- What entries keep holds together: no height stands twice, and what is sure is held.
-use Rattle.std.specs.Prelude.{Contains, IsNone, List, None, Option, Some, [], false, find, if◌then◌else◌, is_some, map, nat_eq, suc, take, zero, ℕ, ⊤, ◌==◌, ◌∷◌, ◌≡◌}
+use Rattle.std.specs.Prelude.{IsNone, List, None, Option, Some, [], false, is_some, map, nat_eq, suc, take, zero, ℕ, ◌==◌, ◌∷◌, ◌≡◌}
 use Rattle.std.specs.List.{AllByRecursion, IsDistinct}
-use Rattle.std.proofs.Common.{Bool, ap, cond, refl, sym, true, ◌∙◌}
-use Rattle.std.proofs.lemmas.Bool.{eqb-false, false≢true, ne_eqb}
+use Rattle.std.proofs.Common.{Bool, ap, cond, refl, sym, true}
+use Rattle.std.proofs.lemmas.Bool.{eqb-false, ne_eqb}
 use Rattle.std.proofs.lemmas.Map.Keys.{IsDistinct-head, IsDistinct-tail}
-use Rattle.mar_store.specs.Kept.{At, EachHeightOnce, Kept, value_at}
+use Rattle.mar_store.specs.Kept.{At, EachHeightOnce, value_at}
 use Rattle.mar_store.specs.Changes.{IsNested, KeepsValues}
 use Rattle.mar_shelf.specs.Entries.{kept_of}
 

@@ -1,10 +1,9 @@
 -- What the stores of finalized blocks and of their certificates find and put.
-use Rattle.std.specs.Prelude.{ℕ, ◌||◌, Bool, List, Option, Some, None, find, map, bytes_eq, option_map, is_some}
+use Rattle.std.specs.Prelude.{ℕ, ◌||◌, Bool, List, Option, find, map, bytes_eq, is_some}
 use Rattle.std.specs.List.{list_any, AllByRecursion}
-use Rattle.std.specs.Prelude.{◌≡◌, ◌<◌, ◌^◌}
+use Rattle.std.specs.Prelude.{◌≡◌}
 use Rattle.mar_cert.specs.Finalization.{Finalization}
-use Rattle.mar_store.specs.Kept.{At, Kept, value_at, has_height}
-use Rattle.mar_store.specs.Changes.{IsNested}
+use Rattle.mar_store.specs.Kept.{At, has_height}
 use Rattle.mar_block.specs.Block.{Block}
 
 -- a block at its own height

@@ -33,7 +33,7 @@ outcome_text (outcome.Fault fault) = line_of (codes "fault" ∷ fault_words (fau
 -- the words that show a node, or what is left of its stores
 abbrev pub ShowsState : {FB FC M H FBW FCW MW HW : Type 0} → State FB FC M H FBW FCW MW HW → List (List ℕ) → Type 0
 ShowsState (state.Running seen buffer) words =
-    words ≡ shown_words seen.life.processed seen.life.out seen.life.cutoff (ranges (heights seen.held.blocks.held)) (ranges (heights seen.held.blocks.sure)) (ranges (heights seen.held.certs.held)) (ranges (heights seen.held.certs.sure))
+    words ≡ shown_words seen.held.processed seen.life.out seen.held.cutoff (ranges (heights seen.held.blocks.held)) (ranges (heights seen.held.blocks.sure)) (ranges (heights seen.held.certs.held)) (ranges (heights seen.held.certs.sure))
 ShowsState (state.Stopped left) words =
     (processed : Option ℕ) × (cutoff : Cutoff)
     × (words ≡ ended_shown_words processed cutoff (ranges (heights left.ended.blocks_sure)) (ranges (heights left.ended.blocks_may)) (ranges (heights left.ended.certs_sure)) (ranges (heights left.ended.certs_may)))

@@ -1,5 +1,7 @@
 //! What a node tells the application and asks of its peers while one line is done.
-ghost use Rattle.std.specs.Prelude.{◌≡◌, [], OnErr, OnOk, string_bytes};
+ghost use Rattle.std.specs.Prelude.{◌≡◌, ◌∷◌, [], OnErr, OnOk, Some, map, string_bytes};
+ghost use Rattle.mar_key.specs.Hears.{Hears};
+ghost use Rattle.marshal.specs.Turn.{plain_report};
 
 use crate::text::{push_fetch, push_retain};
 use mar_actor::{Reporter, Update};
@@ -48,10 +50,18 @@ impl Recorder {
 }
 
 impl Reporter<StandardBlocks> for Told {
+    ghost use Rattle.std.specs.Prelude.{Some, map};
+    ghost use Rattle.marshal.specs.Turn.{plain_report};
+
+    ghost told = { λ t. Some (map plain_report t.updates.items) };
+
     fn report(
         &mut self,
         update: Update<Sha256Digest, Digested<EmptyBlock<Sha256>>>,
-    ) -> Result<(), AllocError> {
+    ) -> Result<(), AllocError>
+        ensures ok { OnOk result (Hears (Some (map plain_report self.old.updates.items)) (plain_report update ∷ []) (Some (map plain_report self.new.updates.items))) }
+        ensures err { OnErr result (Hears (Some (map plain_report self.old.updates.items)) [] (Some (map plain_report self.new.updates.items))) }
+    {
         self.updates.push(update)?;
         Ok(())
     }

@@ -198,6 +198,7 @@ pub fn push_fault(text: &mut String, fault: Fault) -> Result<(), AllocError>
         Fault::NotEmpty => text.push_str("fault NotEmpty\n"),
         Fault::GenesisHeight(height) => writeln!(text, "fault GenesisHeight {height}"),
         Fault::HeightLimit(height) => writeln!(text, "fault HeightLimit {height}"),
+        Fault::AckDropped(height) => writeln!(text, "fault AckDropped {height}"),
         Fault::TicketLimit(kind) => {
             let name = kind_text(kind);
             writeln!(text, "fault TicketLimit {name}")

@@ -1,4 +1,4 @@
-use Rattle.std.proofs.Common.{◌∙◌, sym, ap, arith, refl, take}
+use Rattle.std.proofs.Common.{ap, refl, take}
 use Rattle.std.specs.Prelude.{bytes_eq, ◌==◌}
 use Rattle.mar_block.proofs.FirstPlaces.{noted, taken_more, length_taken}
 use Rattle.mar_shelf.proofs.entries.places_in.Goals as goal

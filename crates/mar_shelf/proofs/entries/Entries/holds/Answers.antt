@@ -1,4 +1,4 @@
-use Rattle.std.proofs.Common.{◌∙◌, sym}
+use Rattle.std.proofs.Common.{◌∙◌}
 use Rattle.std.specs.Prelude.{bytes_eq, ◌==◌}
 use Rattle.mar_block.proofs.FirstPlaces.{any_at, first_or, second_or}
 use Rattle.mar_shelf.proofs.entries.Entries.holds.Goals as goal

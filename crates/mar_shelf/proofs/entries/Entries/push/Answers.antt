@@ -1,4 +1,4 @@
-use Rattle.std.proofs.Common.{◌∙◌, sym, ap, arith, refl}
+use Rattle.std.proofs.Common.{ap, arith, refl}
 use Rattle.std.specs.Prelude.{bytes_eq, ◌==◌}
 use Rattle.mar_block.proofs.FirstPlaces.{noted}
 use Rattle.mar_shelf.proofs.entries.Entries.push.Goals as goal

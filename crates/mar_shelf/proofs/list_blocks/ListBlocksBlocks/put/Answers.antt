@@ -1,6 +1,5 @@
-use Rattle.std.proofs.Common.{◌∙◌, sym, ap, ◌≡◌}
+use Rattle.std.proofs.Common.{◌∙◌, ap}
 use Rattle.mar_shelf.specs.Named.{seen}
-use Rattle.mar_shelf.specs.Stored.{is_held}
 use Rattle.mar_shelf.proofs.Stores.{held_there, puts_ignored, puts_entry, fails_put, fails_still, entry_is}
 use Rattle.mar_shelf.proofs.list_blocks.ListBlocksBlocks.put.Goals as goal
 

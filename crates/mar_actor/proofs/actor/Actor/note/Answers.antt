@@ -1,0 +1,32 @@
+use Rattle.std.proofs.Common.{[], None}
+use Rattle.std.proofs.lemmas.Result.{err_from_is_err_and}
+use Rattle.mar_actor.proofs.EventPromises.{promise-unread}
+use Rattle.mar_actor.proofs.Growing.{Grew-refl}
+use Rattle.mar_actor.proofs.ProgressPromises.{promise-noted, promise-unsynced}
+use Rattle.mar_actor.proofs.actor.Actor.note.Goals as goal
+
+pub returns-in_err-actor : goal.returns-in_err-actor
+returns-in_err-actor g c =
+    let p = err_from_is_err_and c.from_residual.result c.from_residual.ensures.1 in
+    rw (p.1, p.2) (record {
+      promise = λ nested certs_nested buffer found low.
+          promise-unread (g.E.Epocher.epochs c.args.self.life.epocher) g.V.Variant.inner (g.met.E.Epocher.partition c.args.self.life.epocher) c.args.self buffer _ _ None None _ (c.in_err-actor.ensures.goes_on _ [] [] (Grew-refl _ [] []) (λ x has. has) (λ x has. has)) c.in_err-actor.ensures.usual;
+    })
+
+pub returns-in_err-actor-2 : goal.returns-in_err-actor-2
+returns-in_err-actor-2 g c =
+    let p = err_from_is_err_and c.from_residual-in_err-actor-2.result c.from_residual-in_err-actor-2.ensures.1 in
+    let raised = rw c.round.ensures at c.in_ok-actor.ensures.ok in
+    rw (p.1, p.2) (record {
+      promise = λ nested certs_nested buffer found low.
+          promise-unsynced (g.E.Epocher.epochs c.args.self.life.epocher) g.V.Variant.inner (g.met.E.Epocher.partition c.args.self.life.epocher) c.args.self buffer _ _ found low _ None None _ _ raised (c.in_ok-actor.ensures.goes_on _ [] [] (Grew-refl _ [] []) (λ x has. has) (λ x has. has)) c.in_err-actor-2.ensures.lost c.in_err-actor-2.ensures.usual;
+    })
+
+pub returns : goal.returns
+returns g c =
+    let raised = rw c.round.ensures at c.in_ok-actor.ensures.ok in
+    let asks = rw c.round.ensures at c.in_ok-actor.ensures.asks in
+    record {
+      promise = λ nested certs_nested buffer found low.
+          promise-noted (g.E.Epocher.epochs c.args.self.life.epocher) g.V.Variant.inner (g.met.E.Epocher.partition c.args.self.life.epocher) c.args.self buffer _ _ found low _ _ raised c.in_ok-actor-2.ensures.ok _ _ _ _ _ nested certs_nested c.store_late.ensures.ok c.store_late.ensures.err c.store_late.ensures.stores c.store_late.ensures.goes_on c.store_late.ensures.usual asks;
+    }
