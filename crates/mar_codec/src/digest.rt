@@ -1,5 +1,5 @@
 //! Digests, and what computes them.
-ghost use Rattle.std.specs.Prelude.{◌≡◌, ℕ, List, Bool, false, replicate, bytes_eq, [], ◌++◌, Some};
+ghost use Rattle.std.specs.Prelude.{◌≡◌, ◌<◌, ◌^◌, ℕ, List, Bool, false, replicate, bytes_eq, [], ◌++◌, Some};
 ghost use Rattle.hex.specs.Hex.{encode_lower};
 ghost use Rattle.std.specs.Ordering.{nat_cmp};
 ghost use Rattle.std.specs.Cmp.Lexicographic.{slice_cmp};
@@ -49,6 +49,9 @@ pub trait Digest: FixedSize + Read<Cfg = ()> + AsSlice<u8> + Copy + Ord + Hash +
         ≡ slice_cmp nat_cmp (bytes digest) (bytes other) };
 
     ghost fixed: { Self.takes_memory ≡ false };
+
+    // So that the size of a digest and of a few bytes beside it fits a `usize`.
+    ghost short: { Self.SIZE < 2 ^ 32 };
 }
 
 /// A hash function: a hasher takes a message piece by piece.

@@ -1,5 +1,6 @@
 //! SHA-256.
 ghost use Rattle.std.specs.Prelude.{false, length, ◌≡◌, refl, Some, IfSome, IfNone, List, ℕ};
+ghost use Rattle.std.proofs.Common.{lit<};
 ghost use Rattle.hex.specs.Hex.{encode_lower};
 ghost use Rattle.sha2.specs.Sha256.{sha256};
 ghost use Rattle.sha2.specs.Hashers.{Holds256};
@@ -162,6 +163,8 @@ impl Digest for Sha256Digest {
     ghost ordered = { λ digest other. refl };
 
     ghost fixed = { refl };
+
+    ghost short = { lit< tt };
 }
 
 impl Span for Sha256Digest {

@@ -1,2 +1,3 @@
 pub mod CutoffOrder
 pub mod OpenKeys
+pub mod KeyReads

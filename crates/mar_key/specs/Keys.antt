@@ -63,7 +63,12 @@ key_bytes (block_key c) = 0 ∷ c
 key_bytes (finalized_key h) = 1 ∷ varint h
 key_bytes (notarized_key r) = 2 ∷ round_bytes r
 
+-- a key whose numbers fit, and whose commitment is spelled so
+abbrev pub IsKeyOf : (List ℕ → Type 0) → Key → Type 0
+IsKeyOf Spells (block_key c) = Spells c
+IsKeyOf Spells (finalized_key h) = IsNumber h
+IsKeyOf Spells (notarized_key r) = IsRound r
+
+-- a key whose commitment is a digest of 32 bytes
 abbrev pub IsKey : Key → Type 0
-IsKey (block_key c) = IsDigest c
-IsKey (finalized_key h) = IsNumber h
-IsKey (notarized_key r) = IsRound r
+IsKey = IsKeyOf IsDigest

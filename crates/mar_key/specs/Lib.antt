@@ -1,6 +1,9 @@
 pub mod Cutoff
 pub mod Processed
 pub mod Keys
+pub mod SpelledKeys
+pub mod KeyBytes
+pub mod KeyOrder
 pub mod Asked
 pub mod PeerQueue
 pub mod Recorded

@@ -1,6 +1,6 @@
 -- The queue of what peers send and ask for.
 use Rattle.std.specs.List.{list_any}
-use Rattle.std.specs.Prelude.{Bool, List, [], if◌then◌else◌, length, nat_lt, not, suc, zero, ℕ, ◌&&◌, ◌++◌, ◌==◌, ◌∷◌}
+use Rattle.std.specs.Prelude.{Bool, IfSome, List, Option, Some, [], if◌then◌else◌, length, nat_lt, not, suc, zero, ℕ, ◌&&◌, ◌++◌, ◌==◌, ◌∷◌, ◌≡◌}
 use Rattle.mar_key.specs.Keys.{Annotation, Key}
 
 -- bytes that came for a key, with the annotations open then; or a key that a peer asks for
@@ -13,8 +13,6 @@ pub record PeerQueue : Type 0 where
   pub capacity : ℕ
   pub overflow : List PeerMessage
   pub closed : List ℕ
-
--- PEER QUEUE
 
 abbrev pub ticket_of : PeerMessage → ℕ
 ticket_of (deliver t key bytes annotations) = t
@@ -31,6 +29,10 @@ abbrev pub after_peer_enqueue : PeerQueue → PeerMessage → PeerQueue
 after_peer_enqueue q (deliver t key bytes annotations) =
     if peer_room q then record q { ready = q.ready ++ deliver t key bytes annotations ∷ [] } else record q { overflow = q.overflow ++ deliver t key bytes annotations ∷ [] }
 after_peer_enqueue q (produce t key) = if peer_room q then record q { ready = q.ready ++ produce t key ∷ [] } else q
+
+-- where it tells what it has queued, that is the queue with this message now
+abbrev pub Enqueues : Option PeerQueue → PeerMessage → Option PeerQueue → Type 0
+Enqueues old message new = IfSome old (λ q. new ≡ Some (after_peer_enqueue q message))
 
 abbrev pub after_peer_close : PeerQueue → ℕ → PeerQueue
 after_peer_close q t = record q { closed = t ∷ q.closed }

@@ -10,7 +10,7 @@ use std::fmt;
 
 /// An inclusive bound on the rounds of finalizations. Cutoffs are ordered by the rounds that they cover: by epoch, and
 /// within one epoch `Epoch` stands above each `Round`.
-#[derive(Clone, Copy, Debug, PartialEq, Eq)]
+#[derive(Clone, Copy, Debug, PartialEq, Eq, Hash)]
 pub enum Cutoff {
     /// Covers this round and all before it.
     Round(Round),

@@ -1,8 +1,17 @@
 //! Values from outside, and each call at a concrete type.
+ghost use Rattle.std.specs.Prelude.{IfOk, IfSome, None, OnErr, OnOk, Option, map, ◌≡◌};
+ghost use Rattle.mar_key.specs.PeerQueue.{Enqueues, PeerQueue, deliver, peer_room, produce};
+ghost use Rattle.mar_key.specs.Views.{annotation_of, key_of};
+
 use super::*;
-use mar_codec::{Digest, Sha256Digest};
+use bytes::{BufMut, Bytes, BytesMut};
+use mar_codec::{
+    Decode, Digest, Encode, EncodeSize, Error, MaxEncodeSize, ReadExt, Sha256Digest, Write,
+};
 use mar_types::{Epoch, Height, Round, View};
 use std::alloc::AllocError;
+use std::cmp::Ordering;
+use std::hash::{DefaultHasher, Hash, Hasher};
 use std::slice;
 use std::test::Fail;
 
@@ -137,6 +146,7 @@ fn keys_are_ordered_and_printed(rt: HostRuntime) -> Result<(), Fail> {
     for pair in keys.windows(2) {
         assert!(rt; pair.len() == 2);
         assert!(rt; pair[0] < pair[1]);
+        assert!(rt; pair[0].is_before(&pair[1]) && !pair[1].is_before(&pair[0]));
     }
     let texts = [
         (Key::Block(9u64), "Block(9)"),
@@ -155,6 +165,193 @@ fn keys_are_ordered_and_printed(rt: HostRuntime) -> Result<(), Fail> {
         assert_eq!(rt; key.to_string(rt.alloc())?.as_str(), text);
         assert_eq!(rt; format!(in rt.alloc(); "{key:?}")?.as_str(), text);
     }
+    Ok(())
+}
+
+// Whether the first comes before the second by every comparison.
+fn ascend<T: Ord + Copy>(lesser: T, greater: T) -> bool {
+    lesser < greater
+        && greater > lesser
+        && lesser != greater
+        && lesser.cmp(&greater) == Ordering::Less
+        && greater.partial_cmp(&lesser) == Some(Ordering::Greater)
+}
+
+fn hash_of<T: Hash>(value: &T) -> u64 {
+    let mut hasher = DefaultHasher::new();
+    value.hash(&mut hasher);
+    hasher.finish()
+}
+
+#[test]
+fn orders_and_hashes(rt: HostRuntime) {
+    let (low, high) = (Height::new(255), Height::new(256));
+    let (early, late) = (round(1, 9), round(2, 0));
+    // Each before the next one, whatever it holds.
+    let annotations = [
+        Annotation::Notarization { round: early },
+        Annotation::Notarization { round: late },
+        Annotation::Untrusted { height: low },
+        Annotation::Untrusted { height: high },
+        Annotation::Certified { height: low },
+        Annotation::Finalized(Finalized::ByHeight { height: low }),
+        Annotation::Finalized(Finalized::ByHeight { height: high }),
+        Annotation::Finalized(Finalized::ByRound { round: early }),
+    ];
+    for pair in annotations.windows(2) {
+        let [lesser, greater] = *pair else { continue };
+        assert!(rt; ascend(lesser, greater));
+        assert_ne!(rt; hash_of(&lesser), hash_of(&greater));
+    }
+    let by_height = Finalized::ByHeight { height: high };
+    assert!(rt; ascend(by_height, Finalized::ByRound { round: early }));
+    assert!(rt; ascend(Cutoff::Round(late), Cutoff::Epoch(Epoch::new(2))));
+    assert!(rt;
+        ascend(
+            Key::Finalized { height: high },
+            Key::<u64>::Notarized { round: early }
+        )
+    );
+    assert_eq!(rt; hash_of(&Key::Block(1u64)), hash_of(&Key::Block(1u64)));
+    assert_ne!(rt;
+        hash_of(&Cutoff::zero()),
+        hash_of(&Cutoff::Epoch(Epoch::zero()))
+    );
+}
+
+#[test]
+fn keys_are_spelled_and_read_back(rt: HostRuntime) -> Result<(), Fail> {
+    let digest = Sha256Digest::from([0xab; 32]);
+    let height = Height::new(12345);
+    let finalized: Key<Sha256Digest> = Key::Finalized { height };
+    let cases = [
+        (
+            Key::Block(digest),
+            "00abababababababababababababababababababababababababababababababab",
+        ),
+        (finalized, "01b960"),
+        (
+            Key::Notarized {
+                round: round(67890, 12345),
+            },
+            "02b29204b960",
+        ),
+    ];
+    for (key, text) in cases {
+        let bytes = key.encode(rt.alloc())?;
+        assert_eq!(rt; hex::encode(rt.alloc(), bytes.as_slice())?.as_str(), text);
+        assert_eq!(rt; key.encode_size(), bytes.len());
+        assert_eq!(rt; Key::decode_cfg(rt.alloc(), bytes, &()), Ok(key));
+    }
+    assert_eq!(rt; Key::<Sha256Digest>::MAX_ENCODE_SIZE, 33);
+    let mut buf = BytesMut::new(rt.alloc());
+    finalized.write(&mut buf)?;
+    buf.put_u8(7)?;
+    assert_eq!(rt;
+        Key::<Sha256Digest>::read(rt.alloc(), &mut buf),
+        Ok(finalized)
+    );
+    assert_eq!(rt; buf.as_slice(), b"\x07".as_slice());
+    Ok(())
+}
+
+#[test]
+fn refused_keys(rt: HostRuntime) -> Result<(), Fail> {
+    for (text, error) in [
+        ("", Error::EndOfBuffer),
+        ("03", Error::InvalidEnum(3)),
+        ("ff00", Error::InvalidEnum(255)),
+        ("00", Error::EndOfBuffer),
+        (
+            "00abababababababababababababababababababababababababababababab",
+            Error::EndOfBuffer,
+        ),
+        ("01", Error::EndOfBuffer),
+        ("01b9", Error::EndOfBuffer),
+        ("018000", Error::InvalidVarint),
+        ("01ffffffffffffffffff02", Error::InvalidVarint),
+        ("02b29204", Error::EndOfBuffer),
+        ("02b292048000", Error::InvalidVarint),
+        ("02800000", Error::InvalidVarint),
+        ("01b96000", Error::ExtraData),
+    ] {
+        let bytes = hex::decode(rt.alloc(), text)?;
+        assert_eq!(rt;
+            Key::<Sha256Digest>::decode_cfg(rt.alloc(), bytes.as_slice(), &()),
+            Err(error),
+            "{text}"
+        );
+    }
+    Ok(())
+}
+
+// Counts what it is handed, and takes one request.
+#[derive(Drop)]
+struct Counts {
+    delivered: usize,
+    produced: usize,
+}
+
+impl<D: Digest> Consumer<D> for Counts {
+    ghost queue = { λ _. None };
+
+    fn deliver(
+        &mut self,
+        ticket: u64,
+        delivery: Delivery<D>,
+        value: Bytes,
+    ) -> Result<(), AllocError>
+        ensures ok { OnOk result (Enqueues None (deliver ticket (key_of D.bytes delivery.key) value
+            (map annotation_of delivery.annotations.items)) None) }
+        ensures err { OnErr result (let nothing : Option PeerQueue = None in nothing ≡ None) }
+    {
+        let whole = ticket == 1 && delivery.annotations.len() == 1 && value.len() == 2;
+        self.delivered = self.delivered.saturating_add(usize::from(whole));
+        Ok(())
+    }
+}
+
+impl<D: Digest> Producer<D> for Counts {
+    ghost queue = { λ _. None };
+
+    fn produce(&mut self, ticket: u64, key: Key<D>) -> Result<bool, AllocError>
+        ensures ok { OnOk result (Enqueues None (produce ticket (key_of D.bytes key)) None) }
+        ensures taken { IfOk result (λ taken. IfSome None (λ q. taken ≡ peer_room q)) }
+        ensures err { OnErr result (let nothing : Option PeerQueue = None in nothing ≡ None) }
+    {
+        let taken = ticket == 2 && self.produced == 0;
+        self.produced = self.produced.saturating_add(1);
+        Ok(taken)
+    }
+}
+
+fn deliver_to<D: Digest, C: Consumer<D>>(
+    consumer: &mut C,
+    delivery: Delivery<D>,
+    value: Bytes,
+) -> Result<(), AllocError> {
+    consumer.deliver(1, delivery, value)
+}
+
+fn ask_of<D: Digest, P: Producer<D>>(producer: &mut P, key: Key<D>) -> Result<bool, AllocError> {
+    producer.produce(2, key)
+}
+
+#[test]
+fn what_peers_send_and_ask(rt: HostRuntime) -> Result<(), Fail> {
+    let height = Height::new(12345);
+    let key: Key<Sha256Digest> = Key::Finalized { height };
+    let by_height = Annotation::Finalized(Finalized::ByHeight { height });
+    let mut counts = Counts {
+        delivered: 0,
+        produced: 0,
+    };
+    let annotations = vec![in rt.alloc(); by_height]?;
+    let value = Bytes::from_static(b"\x01\x02");
+    deliver_to(&mut counts, Delivery { key, annotations }, value)?;
+    assert_eq!(rt; counts.delivered, 1);
+    assert!(rt; ask_of(&mut counts, key)?);
+    assert!(rt; !ask_of(&mut counts, key)?);
     Ok(())
 }
 

@@ -1,6 +1,7 @@
 //! Commitments to coded blocks.
 ghost use Rattle.std.specs.Prelude.{IfErr, IfOk, Some, false, length, refl, replicate, slice_range, take, ◌++◌, ◌≡◌, ◌≤◌};
 ghost use Rattle.std.specs.Int.NonZero.{non_zero_u16_get};
+ghost use Rattle.std.proofs.Common.{lit<};
 ghost use Rattle.hex.specs.Hex.{encode_lower};
 ghost use Rattle.mar_codec.specs.Digest.{IsBytes, IsBytes-prop};
 ghost use Rattle.mar_codec.specs.DigestLemmas.{same_proof};
@@ -297,6 +298,8 @@ where
     ghost ordered = { λ commitment other. refl };
 
     ghost fixed = { refl };
+
+    ghost short = { lit< tt };
 }
 
 impl<B: Digestible, C: CodingScheme, H: Hasher> Span for Commitment<B, C, H>

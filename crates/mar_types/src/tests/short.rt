@@ -1,7 +1,7 @@
 //! A digest that doesn't fill its field, and that is refused where its first byte is 255.
 ghost use Rattle.std.specs.Prelude.{Some, false, length, refl, slice_index, ◌<◌, ◌≡◌};
 ghost use Rattle.hex.specs.Hex.{encode_lower};
-ghost use Rattle.std.proofs.Common.{lit≤};
+ghost use Rattle.std.proofs.Common.{lit<, lit≤};
 ghost use Rattle.mar_codec.specs.Digest.{IsBytes, IsBytes-prop};
 ghost use Rattle.mar_codec.specs.DigestLemmas.{bytes_unambiguous, same_proof};
 
@@ -133,6 +133,8 @@ impl Digest for Short {
     ghost ordered = { λ digest other. refl };
 
     ghost fixed = { refl };
+
+    ghost short = { lit< tt };
 }
 
 impl FieldDigest for Short {
