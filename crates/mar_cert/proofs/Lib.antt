@@ -1,3 +1,5 @@
 pub mod PartsRead
-pub mod SignerSteps
 pub mod PartsWritten
+pub mod SignerSteps
+pub mod Sizes
+pub mod Verdicts

@@ -4,7 +4,11 @@ use Rattle.std.specs.List.{flat_map}
 use Rattle.std.proofs.lemmas.Grind.{flat_map-append}
 use Rattle.std.proofs.lemmas.List.{append-nil}
 use Rattle.mar_cert.specs.MockScheme.{Signer, signer_bytes}
-use Rattle.std.specs.Prelude.{IfErr, IfOk}
+use Rattle.std.specs.Prelude.{IfErr, IfOk, map}
+use Rattle.std.proofs.lemmas.List.{length-map}
+use Rattle.std.proofs.lemmas.List.Folds.{flat_map-map}
+use Rattle.mar_cert.specs.MockViews.{plain_signer}
+use Rattle.mar_cert.specs.declared.signer.Signer.{Signer as SignerOf}
 use Rattle.mar_cert.specs.Signers.{AreSigners, IsMockCertificate, RefusesCertificate, RefusesSigner, RefusesSigners, certificate_bytes, next_member}
 use Rattle.mar_cert.specs.SignersLemmas.{certificate_of_signers, no_certificate}
 use Rattle.mar_codec.specs.Codec.{HasNoFront, Takes}
@@ -64,3 +68,11 @@ certificate_taken (Ok c) signers n count bytes after rest spelled so_many are ta
   in_grammar = record { signers = signers c; certificate_is = certificate_of_signers n (signers c) are };
   taken = spelled ∙ ap (λ k. varint k ++ after) (sym so_many) ∙ ap (λ bs. varint (length (signers c)) ++ bs) taken ∙ sym (append_assoc (varint (length (signers c))) (flat_map signer_bytes (signers c)) rest);
 }
+
+-- a certificate is a count and its signers, one after another
+pub certificate_parts : (signers items : List SignerOf) (count : ℕ) → length signers ≡ count → items ≡ signers
+    → certificate_bytes (map plain_signer signers) ≡ varint count ++ flat_map (λ s. signer_bytes (plain_signer s)) items
+certificate_parts signers items count long same =
+    ap (λ k. varint k ++ flat_map signer_bytes (map plain_signer signers)) (length-map signers plain_signer ∙ long)
+    ∙ ap (λ bytes. varint count ++ bytes) (flat_map-map signer_bytes plain_signer signers)
+    ∙ ap (λ all. varint count ++ flat_map (λ s. signer_bytes (plain_signer s)) all) (sym same)

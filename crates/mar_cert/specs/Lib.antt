@@ -3,6 +3,9 @@ pub mod Grammar
 pub mod MockScheme
 pub mod MockViews
 pub mod Provided
+pub mod ReadBack
 pub mod Signers
 pub mod SignersLemmas
+pub mod VerdictLemmas
+pub mod Verdicts
 pub mod Views

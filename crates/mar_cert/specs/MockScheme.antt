@@ -2,7 +2,7 @@
 use Rattle.std.specs.Int.{to_be_bytes, w32}
 use Rattle.std.specs.List.{AllByRecursion, flat_map, list_all}
 use Rattle.std.specs.List.Sorted.{IsStrictlyIncreasing}
-use Rattle.std.specs.Prelude.{Bool, List, None, Option, Some, [], bytes_eq, codes, drop, false, if◌then◌else◌, length, map, nat_le, nat_lt, option_and_then, option_map, suc, take, true, zero, ℕ, ◌&&◌, ◌++◌, ◌+◌, ◌-◌, ◌/◌, ◌<◌, ◌∷◌, ◌≡◌, ◌≤◌}
+use Rattle.std.specs.Prelude.{Bool, List, None, Option, Some, [], bytes_eq, codes, drop, false, if◌then◌else◌, length, map, min, nat_le, nat_lt, option_and_then, option_map, suc, take, true, zero, ℕ, ◌&&◌, ◌*◌, ◌++◌, ◌+◌, ◌-◌, ◌/◌, ◌<◌, ◌∷◌, ◌≡◌, ◌≤◌}
 use Rattle.sha2.specs.Sha256.{sha256}
 use Rattle.mar_types.specs.Round.{IsRound}
 use Rattle.mar_cert.specs.Finalization.{Finalization, Subject, finalize, notarize, proposal_bytes}
@@ -35,12 +35,20 @@ pub record IsFinalization (n : ℕ) (f : Finalization) : Type 0 where
 abbrev pub quorum : ℕ → ℕ
 quorum n = n - (n - 1) / 3
 
+-- the most bytes of a certificate of so many members; a committee has at most 64
+abbrev pub mock_max_size : ℕ → ℕ
+mock_max_size n = 1 + 33 * min n 64
+
 abbrev pub subject_byte : Subject → ℕ
 subject_byte notarize = 1
 subject_byte finalize = 2
 
+-- a member's tag over a proposal's bytes
+abbrev pub tag_over : Subject → List ℕ → ℕ → List ℕ
+tag_over subject proposal member = sha256 (codes "marshal-mock" ++ subject_byte subject ∷ (proposal ++ to_be_bytes w32 member))
+
 abbrev pub tag_of : Subject → Finalization → ℕ → List ℕ
-tag_of subject f member = sha256 (codes "marshal-mock" ++ subject_byte subject ∷ (proposal_bytes f ++ to_be_bytes w32 member))
+tag_of subject f member = tag_over subject (proposal_bytes f) member
 
 -- A mock certificate verifies.
 pub record Verifies (n : ℕ) (subject : Subject) (f : Finalization) : Type 0 where

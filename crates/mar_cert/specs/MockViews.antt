@@ -1,7 +1,7 @@
 -- Mock certificates of the code as plain data.
 use Rattle.std.specs.Prelude.{List, map}
 use Rattle.mar_cert.specs.MockScheme.{Signer}
-use Rattle.mar_cert.specs.declared.mock.Signer.{Signer as SignerOf}
+use Rattle.mar_cert.specs.declared.signer.Signer.{Signer as SignerOf}
 use Rattle.mar_cert.specs.declared.mock.MockCertificate.{MockCertificate}
 
 abbrev pub plain_signer : SignerOf → Signer

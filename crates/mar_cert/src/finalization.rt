@@ -1,13 +1,16 @@
 //! Proposals and their finalizations.
-ghost use Rattle.std.specs.Prelude.{◌≡◌, false, IfOk};
-ghost use Rattle.mar_cert.specs.Finalization.{Finalization as PlainFinalization, finalization_bytes};
+ghost use Rattle.std.specs.Prelude.{◌≡◌, ◌+◌, ◌<◌, ◌≤◌, ◌^◌, false, length, min, IfOk};
+ghost use Rattle.mar_cert.specs.Finalization.{Finalization as PlainFinalization, finalization_bytes, finalize};
+ghost use Rattle.mar_cert.specs.declared.finalization.Finalization.{Finalization as FinalizationOf};
+ghost use Rattle.mar_cert.specs.declared.finalization.Proposal.{Proposal as ProposalOf};
 ghost use Rattle.mar_cert.specs.Grammar.{RefusesFinalization, RefusesProposal, SpellsFinalization, SpellsProposal, finalization_unambiguous, proposal_unambiguous};
 ghost use Rattle.mar_cert.specs.Views.{final_of, spelling_of};
 
-use crate::scheme::Certificate;
+use crate::scheme::{Certificate, Scheme, Scoped};
+use crate::subject::Subject;
 use bytes::{Buf, BufMut};
-use mar_codec::{Digest, Error, Read, Write};
-use mar_types::{Round, View};
+use mar_codec::{Digest, EncodeSize, Error, Read, Write, read_pair, write_pair};
+use mar_types::{Epoch, Round, View};
 use std::alloc::{AllocError, Global};
 
 /// What is proposed in a round, over the view of its parent's proposal.
@@ -18,6 +21,27 @@ pub struct Proposal<D> {
     pub payload: D,
 }
 
+impl<D: Digest> Proposal<D> {
+    /// The same proposal again.
+    pub fn copy(&self) -> Self
+        ensures { result ≡ self.now }
+    {
+        Proposal {
+            round: self.round,
+            parent: self.parent,
+            payload: self.payload,
+        }
+    }
+
+    /// The most bytes that a proposal takes.
+    pub fn max_encode_size() -> usize
+        ensures size { result ≡ min (30 + D.SIZE) usize.MAX }
+        ensures within { (p : ProposalOf D) → length (spelling_of D.encoded p) ≤ 30 + D.SIZE }
+    {
+        D::SIZE.saturating_add(30)
+    }
+}
+
 impl<D: Digest> Write for Proposal<D> {
     ghost encoded = { spelling_of D.encoded };
 
@@ -25,6 +49,14 @@ impl<D: Digest> Write for Proposal<D> {
         self.round.write(buf)?;
         self.parent.write(buf)?;
         self.payload.write(buf)
+    }
+}
+
+impl<D: Digest> EncodeSize for Proposal<D> {
+    ghost can_encode = { λ _. 30 + D.SIZE < 2 ^ 64 };
+
+    fn encode_size(&self) -> usize {
+        self.round.encode_size() + self.parent.encode_size() + D::SIZE
     }
 }
 
@@ -58,12 +90,53 @@ pub struct Finalization<D, C> {
     pub certificate: C,
 }
 
+impl<D: Digest, C: Certificate> Finalization<D, C> {
+    /// The proposal's round.
+    pub fn round(&self) -> Round
+        ensures { result ≡ self.now.proposal.round }
+    {
+        self.proposal.round
+    }
+
+    /// The epoch of the proposal's round.
+    pub fn epoch(&self) -> Epoch
+        ensures { result ≡ self.now.proposal.round.epoch }
+    {
+        self.proposal.round.epoch()
+    }
+
+    /// Whether the certificate verifies.
+    pub fn verify<S: Scheme<Certificate = C>>(&self, scoped: &Scoped<S>) -> bool
+        ensures { result ≡ S.verifies scoped.now finalize (final_of D.bytes C.bytes self.now) }
+    {
+        let proposal = self.proposal.copy();
+        scoped.verify(&Subject::Finalize { proposal }, &self.certificate)
+    }
+
+    /// The most bytes that a finalization takes whose certificate is of so many members.
+    pub fn max_encode_size<S: Scheme<Certificate = C>>(members: u32) -> usize
+        ensures size { result ≡ min (30 + D.SIZE + S.max_size members) usize.MAX }
+        ensures within { (f : FinalizationOf D C) → length (C.encoded f.certificate) ≤ S.max_size members
+            → length (finalization_bytes (final_of D.encoded C.encoded f)) ≤ 30 + D.SIZE + S.max_size members }
+    {
+        Proposal::<D>::max_encode_size().saturating_add(S::max_certificate_size(members))
+    }
+}
+
 impl<D: Digest, C: Write> Write for Finalization<D, C> {
     ghost encoded = { λ f. finalization_bytes (final_of D.encoded C.encoded f) };
 
     fn write<B: BufMut>(&self, buf: &mut B) -> Result<(), AllocError> {
-        self.proposal.write(buf)?;
-        self.certificate.write(buf)
+        write_pair(&self.proposal, &self.certificate, buf)
+    }
+}
+
+impl<D: Digest, C: EncodeSize> EncodeSize for Finalization<D, C> {
+    ghost can_encode = { λ f. C.can_encode f.certificate
+        × (30 + D.SIZE + length (C.encoded f.certificate) < 2 ^ 64) };
+
+    fn encode_size(&self) -> usize {
+        self.proposal.encode_size() + self.certificate.encode_size()
     }
 }
 
@@ -75,9 +148,10 @@ impl<D: Digest, C: Read> Read for Finalization<D, C> {
 
     ghost refuses = { λ cfg. RefusesFinalization (D.in_grammar tt) (D.refuses tt) (C.refuses cfg) };
 
+    ghost takes_memory = { C.takes_memory };
+
     fn read_cfg<B: Buf>(alloc: Global, buf: &mut B, cfg: &C::Cfg) -> Result<Self, Error> {
-        let proposal = Proposal::read_cfg(alloc, buf, &())?;
-        let certificate = C::read_cfg(alloc, buf, cfg)?;
+        let (proposal, certificate) = read_pair(alloc, buf, &(), cfg)?;
         Ok(Finalization {
             proposal,
             certificate,
@@ -117,11 +191,7 @@ impl<D: Digest, C: Certificate> AsFinalization for Finalization<D, C> {
     fn try_clone(&self) -> Result<Self, AllocError> {
         let certificate = self.certificate.try_clone()?;
         Ok(Finalization {
-            proposal: Proposal {
-                round: self.proposal.round,
-                parent: self.proposal.parent,
-                payload: self.proposal.payload,
-            },
+            proposal: self.proposal.copy(),
             certificate,
         })
     }

@@ -4,12 +4,20 @@
 mod finalization;
 mod mock;
 mod mock_scheme;
+mod mock_tags;
+mod notarization;
 mod scheme;
+mod signer;
+mod subject;
 
 pub use finalization::{AsFinalization, CommitsTo, Finalization, Proposal};
-pub use mock::{MockCertificate, MockFinalization, Signer, mock_finalizations};
-pub use mock_scheme::{MockProvider, MockScheme};
-pub use scheme::{Certificate, Provider, Scheme};
+pub use mock::{MockCertificate, MockFinalization, MockNotarization, mock_finalizations};
+pub use mock_scheme::{MockProvider, MockScheme, mock_verdicts};
+pub use mock_tags::mock_tag;
+pub use notarization::Notarization;
+pub use scheme::{Certificate, Provider, Scheme, Scoped, verify_certificates};
+pub use signer::Signer;
+pub use subject::{Activity, Subject};
 
 #[cfg(test)]
 mod tests;

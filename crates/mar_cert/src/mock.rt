@@ -1,5 +1,5 @@
 //! The mock scheme: a member's tag is a digest, so anyone can make one.
-ghost use Rattle.std.specs.Prelude.{◌≡◌, ◌++◌, ◌+◌, ◌<◌, ◌≤◌, ◌⊎◌, ◌^◌, length, ℕ, List, IfOk, IfErr, map};
+ghost use Rattle.std.specs.Prelude.{◌≡◌, ◌++◌, ◌+◌, ◌<◌, ◌≤◌, ◌⊎◌, ◌^◌, length, ℕ, List, IfOk, IfErr, map, refl};
 ghost use Rattle.std.specs.List.{flat_map};
 ghost use Rattle.mar_cert.specs.Signers.{AreSigners, IsMockCertificate, RefusesCertificate, RefusesCount, RefusesSigner, RefusesSigners, certificate_bytes};
 ghost use Rattle.mar_cert.specs.SignersLemmas.{certificate_unambiguous};
@@ -10,17 +10,12 @@ ghost use Rattle.mar_codec.specs.Varint.{IsNumber, varint};
 ghost use Rattle.mar_codec.specs.Digest.{IsDigest};
 
 use crate::finalization::{AsFinalization, Finalization};
+use crate::notarization::Notarization;
 use crate::scheme::Certificate;
+use crate::signer::Signer;
 use bytes::{Buf, BufMut};
-use mar_codec::{Error, Kind, Read, Reason, Sha256Digest, UInt, Write};
+use mar_codec::{EncodeSize, Error, Kind, Read, Reason, Sha256Digest, UInt, Write};
 use std::alloc::{AllocError, Global};
-
-/// A member's part of a certificate.
-#[derive(Clone, Copy, Debug, PartialEq, Eq)]
-pub struct Signer {
-    pub member: u32,
-    pub tag: Sha256Digest,
-}
 
 impl Write for Signer {
     ghost encoded = { λ s. signer_bytes (plain_signer s) };
@@ -28,6 +23,17 @@ impl Write for Signer {
     fn write<B: BufMut>(&self, buf: &mut B) -> Result<(), AllocError> {
         UInt(self.member as u64).write(buf)?;
         self.tag.write(buf)
+    }
+}
+
+impl EncodeSize for Signer {
+    ghost can_encode = { λ _. Unit {0} };
+
+    fn encode_size(&self) -> usize
+        ensures size { result ≡ length (signer_bytes (plain_signer self.now)) }
+        ensures within { result ≤ 42 }
+    {
+        UInt(self.member as u64).encode_size() + self.tag.encode_size()
     }
 }
 
@@ -46,6 +52,18 @@ impl Write for MockCertificate {
             signer.write(buf)?;
         }
         Ok(())
+    }
+}
+
+impl EncodeSize for MockCertificate {
+    ghost can_encode = { λ _. Unit {0} };
+
+    fn encode_size(&self) -> usize {
+        let mut size = UInt(self.signers.len() as u64).encode_size();
+        'signers: for signer in &self.signers {
+            size += signer.encode_size();
+        }
+        size
     }
 }
 
@@ -75,10 +93,15 @@ impl Certificate for MockCertificate {
     fn try_clone(&self) -> Result<Self, AllocError> {
         self.clone()
     }
+
+    ghost spelled = { λ certificate. refl };
 }
 
 /// A finalization that mock certificates make.
 pub type MockFinalization = Finalization<Sha256Digest, MockCertificate>;
+
+/// A notarization that mock certificates make.
+pub type MockNotarization = Notarization<Sha256Digest, MockCertificate>;
 
 /// A finalization of so many members has a spelling that is read, and no two have one.
 pub fn mock_finalizations()

@@ -1,9 +1,9 @@
 //! A finalization from outside, and what is refused.
 use crate::*;
 use bytes::BytesMut;
-use mar_codec::{Error, Kind, Read, Reason, Sha256Digest, Write};
+use mar_codec::{Digest, Encode, EncodeSize, Error, Kind, Read, Reason, Sha256Digest, Write};
 use mar_types::{Epoch, Round, View};
-use std::alloc::AllocError;
+use std::alloc::{AllocError, Global};
 use std::test::Fail;
 
 // A finalization of view 1 in epoch 0 over view 0, signed by members 0, 1 and 2 of 4.
@@ -19,23 +19,164 @@ const FINALIZATION: [u8; 135] = [
     0xdf, 0xd5, 0xed, 0x9d, 0xa4, 0x78, 0xf6,
 ];
 
+// One of view 2 over view 1, signed by the same.
+const SECOND: [u8; 135] = [
+    0x00, 0x02, 0x01, 0x05, 0x0b, 0xe2, 0x35, 0x3c, 0x53, 0x3d, 0x30, 0xe7, 0x5a, 0xa7, 0xe8, 0xfd,
+    0x24, 0x0d, 0x19, 0xe6, 0x48, 0x5c, 0x1e, 0xfa, 0x3c, 0xfb, 0xf5, 0x76, 0xe9, 0x59, 0x8a, 0xf6,
+    0x33, 0x19, 0xc9, 0x03, 0x00, 0xb4, 0x82, 0x71, 0xa5, 0x89, 0x48, 0x32, 0xfb, 0x6a, 0xdc, 0x3f,
+    0x52, 0xd1, 0x5e, 0x17, 0x03, 0x99, 0x1d, 0x99, 0x90, 0x96, 0x9f, 0x4e, 0xb0, 0x3e, 0x29, 0xf2,
+    0x23, 0x23, 0x33, 0x47, 0x9d, 0x01, 0xbb, 0xc6, 0x5a, 0xb5, 0x22, 0x97, 0x52, 0x17, 0x4b, 0x26,
+    0x3d, 0xe6, 0xb6, 0xf9, 0xa0, 0xfb, 0x08, 0x0c, 0xdc, 0x40, 0x02, 0xbd, 0xcf, 0xc6, 0x9c, 0x64,
+    0x1c, 0xd8, 0x5e, 0xe2, 0x39, 0x56, 0x02, 0x61, 0xa5, 0x8e, 0xb4, 0xbf, 0x50, 0xef, 0x3d, 0xb5,
+    0x57, 0xd8, 0xc1, 0x54, 0xcd, 0xc1, 0xc0, 0xe1, 0x0d, 0xcf, 0xe6, 0x34, 0x70, 0xcb, 0x68, 0x33,
+    0x5d, 0xbf, 0x99, 0x06, 0xe6, 0x4f, 0x79,
+];
+
+// The tag of member 63 where the first one's proposal is notarized.
+const TAG: [u8; 32] = [
+    0x3e, 0xa5, 0x79, 0x3f, 0x17, 0xde, 0x6e, 0x9f, 0xe9, 0x82, 0x6b, 0xe7, 0xf7, 0xbd, 0x38, 0x99,
+    0xe8, 0xf0, 0x17, 0x94, 0x5f, 0xb9, 0x8a, 0x60, 0xa2, 0x60, 0x76, 0x77, 0xa6, 0x5f, 0x72, 0xf8,
+];
+
 #[test]
-fn a_finalization_read_and_written(rt: HostRuntime) -> Result<(), Fail> {
-    let mut left: &[u8] = &FINALIZATION;
-    let read = MockFinalization::read_cfg(rt.alloc(), &mut left, &4)?;
-    assert_eq!(rt; left.len(), 0);
-    let round = Round::new(Epoch::zero(), View::new(1));
-    assert_eq!(rt; AsFinalization::round(&read), round);
-    assert_eq!(rt; read.proposal.parent, View::zero());
-    let mut members = Vec::new(rt.alloc());
-    for signer in &read.certificate.signers {
-        members.push(signer.member)?;
+fn finalizations_read_written_and_verified(rt: HostRuntime) -> Result<(), Fail> {
+    let scoped = Scoped::scheme(MockScheme::new(4));
+    let mut pairs = Vec::new(rt.alloc());
+    for (bytes, view) in [(FINALIZATION, 1), (SECOND, 2)] {
+        let read = finalization(rt.alloc(), &bytes)?;
+        assert_eq!(rt; read.round(), Round::new(Epoch::zero(), View::new(view)));
+        assert_eq!(rt; read.epoch(), Epoch::zero());
+        assert_eq!(rt; read.proposal.encode_size(), 35);
+        assert!(rt; read.verify(&scoped));
+        let mut written = BytesMut::new(rt.alloc());
+        read.write(&mut written)?;
+        assert_eq!(rt; written.as_slice(), bytes.as_slice());
+        let proposal = read.proposal.copy();
+        let signers = Vec::new(rt.alloc());
+        pairs.push((subject_of(&read), read.certificate))?;
+        pairs.push((Subject::Finalize { proposal }, MockCertificate { signers }))?;
     }
-    assert_eq!(rt; members.as_slice(), [0, 1, 2].as_slice());
-    let copy = AsFinalization::try_clone(&read)?;
-    let mut written = BytesMut::new(rt.alloc());
-    copy.write(&mut written)?;
-    assert_eq!(rt; written.as_slice(), FINALIZATION.as_slice());
+    let verdicts = verify_certificates(rt.alloc(), &scoped, pairs.as_slice())?;
+    assert_eq!(rt; verdicts.as_slice(), [true, false, true, false].as_slice());
+    Ok(())
+}
+
+fn finalization(alloc: Global, mut bytes: &[u8]) -> Result<MockFinalization, Error> {
+    MockFinalization::read_cfg(alloc, &mut bytes, &4)
+}
+
+fn subject_of<D: Digest, C>(finalization: &Finalization<D, C>) -> Subject<D> {
+    let proposal = finalization.proposal.copy();
+    Subject::Finalize { proposal }
+}
+
+// Each of these bytes with one bit changed is read by no one, or doesn't verify.
+#[test]
+fn a_bit_changed_at_each_byte(rt: HostRuntime) -> Result<(), Fail> {
+    let scoped = Scoped::scheme(MockScheme::new(4));
+    for place in 0..FINALIZATION.len() {
+        let mut bytes = Vec::from_slice(rt.alloc(), &FINALIZATION)?;
+        let byte = bytes.get_mut(place).ok_or("no such place")?;
+        *byte ^= 1 << (place % 7);
+        let mut left = bytes.as_slice();
+        let whole = match MockFinalization::read_cfg(rt.alloc(), &mut left, &4) {
+            Ok(read) => left.is_empty() && read.verify(&scoped),
+            Err(_) => false,
+        };
+        assert!(rt; !whole, "{place}");
+    }
+    Ok(())
+}
+
+// A certificate of the first so many members over a subject.
+fn certificate<D: Digest>(
+    alloc: Global,
+    subject: &Subject<D>,
+    signers: u32,
+) -> Result<MockCertificate, AllocError> {
+    let mut certificate = MockCertificate {
+        signers: Vec::new(alloc),
+    };
+    for member in 0..signers {
+        let tag = mock_tag(subject, member);
+        certificate.signers.push(Signer { member, tag })?;
+    }
+    Ok(certificate)
+}
+
+// What a committee reads, and the verdict.
+fn judged<S: Scheme, D: Digest>(
+    alloc: Global,
+    scoped: &Scoped<S>,
+    subject: &Subject<D>,
+    bytes: &[u8],
+) -> Result<bool, Error> {
+    let mut left = bytes;
+    let peers = S::Certificate::read_cfg(alloc, &mut left, &scoped.certificate_codec_config())?;
+    let mut left = bytes;
+    let config = S::certificate_codec_config_unbounded();
+    let stored = S::Certificate::read_cfg(alloc, &mut left, &config)?;
+    Ok(scoped.verify(subject, &peers) && scoped.verify(subject, &stored))
+}
+
+#[test]
+fn quorums(rt: HostRuntime) -> Result<(), Fail> {
+    let proposal = finalization(rt.alloc(), &FINALIZATION)?.proposal;
+    let subject = Subject::Notarize { proposal };
+    assert_eq!(rt; mock_tag(&subject, 63), Sha256Digest::from(TAG));
+    for (members, quorum, size, most) in [
+        (1, 1, 34, 34),
+        (4, 3, 100, 133),
+        (5, 4, 133, 166),
+        (64, 43, 1420, 2113),
+    ] {
+        let scheme = MockScheme::new(members);
+        assert_eq!(rt; scheme.quorum(), quorum);
+        assert_eq!(rt; MockScheme::max_certificate_size(members), most);
+        for (signers, verdict) in [(quorum, true), (quorum - 1, false)] {
+            let certificate = certificate(rt.alloc(), &subject, signers)?;
+            let bytes = certificate.encode(rt.alloc())?;
+            let verdict_is = judged(
+                rt.alloc(),
+                &Scoped::scheme(scheme),
+                &subject,
+                bytes.as_slice(),
+            )?;
+            assert_eq!(rt; verdict_is, verdict);
+            assert_eq!(rt; bytes.len() == size, verdict);
+        }
+    }
+    assert_eq!(rt; MockScheme::max_certificate_size(u32::MAX), 2113);
+    Ok(())
+}
+
+#[test]
+fn sizes(rt: HostRuntime) -> Result<(), Fail> {
+    let read = finalization(rt.alloc(), &FINALIZATION)?;
+    assert_eq!(rt; read.certificate.encode_size(), 100);
+    assert_eq!(rt; read.encode_size(), 135);
+    assert_eq!(rt; MockFinalization::max_encode_size::<MockScheme>(4), 195);
+    assert_eq!(rt; MockNotarization::max_encode_size::<MockScheme>(1), 96);
+    Ok(())
+}
+
+#[test]
+fn a_notarization(rt: HostRuntime) -> Result<(), Fail> {
+    let scoped = Scoped::scheme(MockScheme::new(4));
+    let mut left: &[u8] = &FINALIZATION;
+    let read = MockNotarization::read_cfg(rt.alloc(), &mut left, &4)?;
+    assert!(rt; !read.verify(&scoped));
+    let subject = Subject::Notarize {
+        proposal: read.proposal.copy(),
+    };
+    let certificate = certificate(rt.alloc(), &subject, 3)?;
+    let notarization = Notarization {
+        proposal: read.proposal.copy(),
+        certificate,
+    };
+    assert!(rt; notarization.verify(&scoped));
+    let copy = notarization.try_clone()?;
+    assert!(rt; Activity::Certification(copy) == Activity::Certification(notarization));
     Ok(())
 }
 
@@ -77,9 +218,11 @@ fn a_scheme_for_a_range_of_epochs(rt: HostRuntime) {
     assert_eq!(rt; scheme.members(), 4);
     let provider = MockProvider::new(scheme, Epoch::new(2), Epoch::new(3));
     for (epoch, given) in [(1, None), (2, Some(scheme)), (3, Some(scheme)), (4, None)] {
-        assert_eq!(rt; provider.scoped(Epoch::new(epoch)), given);
+        assert_eq!(rt; provider.scheme(Epoch::new(epoch)), given);
         assert_eq!(rt; is_given(&provider, epoch), given.is_some());
     }
+    let first = MockProvider::new(scheme, Epoch::zero(), Epoch::zero());
+    assert!(rt; is_given(&first, 0) && !is_given(&first, 1));
 }
 
 fn is_given<P: Provider>(provider: &P, epoch: u64) -> bool {
@@ -101,6 +244,7 @@ fn copies_are_what_was_read(rt: HostRuntime) -> Result<(), Fail> {
     let read = MockFinalization::read_cfg(rt.alloc(), &mut left, &4)?;
     read.is_finalization(4);
     mock_finalizations();
+    mock_verdicts();
     let (round, copy) = copy_of(&read)?;
     assert_eq!(rt; round, read.proposal.round);
     assert!(rt; copy == read);
