@@ -1,5 +1,5 @@
 -- The bytes of a block spell that block alone.
-use Rattle.std.proofs.Common.{List, ap, append_assoc, arith, length, length-append, refl, sym, ℕ, ◌++◌, ◌∙◌, ◌≡◌, ◌≤◌}
+use Rattle.std.proofs.Common.{List, ap, append_assoc, arith, length, length-append, refl, sym, ℕ, ◌++◌, ◌+◌, ◌∙◌, ◌≡◌, ◌≤◌}
 use Rattle.sha2.specs.Sha256.{sha256}
 use Rattle.mar_codec.specs.Codec.{IsUnambiguous, Joined}
 use Rattle.mar_codec.specs.CodecLemmas.{joined_unambiguous}
@@ -12,6 +12,23 @@ use Rattle.mar_block.specs.EmptyBlock.{SpellsBlock, block_bytes, block_message}
 
 pub block_unambiguous : (Parent : List ℕ → Type 0) → IsUnambiguous Parent → IsUnambiguous (SpellsBlock Parent)
 block_unambiguous Parent one = joined_unambiguous Parent (Joined IsVarint IsVarint) one (joined_unambiguous IsVarint IsVarint varint_unambiguous varint_unambiguous)
+
+-- a block takes at most 20 bytes beside its parent
+pub length-block_bytes-within : (parent : List ℕ) (height timestamp size : ℕ) → length parent ≡ size → length (block_bytes parent height timestamp) ≤ size + 20
+length-block_bytes-within parent height timestamp size long =
+    omega (arith, long, length-append (parent ++ varint height) (varint timestamp), length-append parent (varint height), length-varint height, length-varint timestamp)
+
+-- two blocks of one spelling have one parent, one height and one timestamp, and so one digest
+pub block_identified : (digest_of : List ℕ → List ℕ) (parent parent' : List ℕ) (height timestamp height' timestamp' : ℕ) (bytes bytes' : List ℕ) → length parent ≡ length parent' → parent ≡ bytes → parent' ≡ bytes'
+    → block_bytes parent height timestamp ≡ block_bytes parent' height' timestamp' → digest_of (block_message bytes height timestamp) ≡ digest_of (block_message bytes' height' timestamp')
+block_identified digest_of parent parent' height timestamp height' timestamp' bytes bytes' long is is' e =
+    let joined = sym (append_assoc parent (varint height) (varint timestamp)) ∙ e ∙ append_assoc parent' (varint height') (varint timestamp') in
+    let parents = same_rest parent parent' (varint height ++ varint timestamp) (varint height' ++ varint timestamp') long joined in
+    let heights = varint_rest height height' (varint timestamp) (varint timestamp') parents.1 in
+    let timestamps = varint-injective timestamp timestamp' heights.1 in
+    ap (λ p. digest_of (block_message p height timestamp)) (sym is ∙ parents.0 ∙ is')
+    ∙ ap (λ h. digest_of (block_message bytes' h timestamp)) heights.0
+    ∙ ap (λ t. digest_of (block_message bytes' height' t)) timestamps
 
 -- a block at SHA-256 takes at most 52 bytes
 pub length-block_bytes : (parent : List ℕ) (height timestamp : ℕ) → length parent ≡ 32 → length (block_bytes parent height timestamp) ≤ 52

@@ -1,5 +1,11 @@
 pub mod Block
 pub mod EmptyBlock
 pub mod EmptyBlockLemmas
+pub mod Expected
+pub mod MockBlock
+pub mod MockBlockLemmas
 pub mod Parents
 pub mod Places
+pub mod Standard
+pub mod Recipients
+pub mod Sent

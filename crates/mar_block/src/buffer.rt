@@ -1,14 +1,25 @@
 //! Blocks that were received and are not yet stored.
-ghost use Rattle.std.specs.Prelude.{◌≡◌, ℕ, List, [], IfOk, find, bytes_eq, option_map};
+ghost use Rattle.std.specs.Prelude.{◌≡◌, ℕ, Bool, false, List, [], ◌∷◌, IfOk, IfSome, None, OnErr, OnOk, Option, find, bytes_eq, is_some, option_map};
 ghost use Rattle.mar_block.specs.Block.{Block as PlainBlock};
+ghost use Rattle.mar_block.specs.Recipients.{named};
+ghost use Rattle.mar_block.specs.Sent.{Sending, Sends};
 
 use crate::Variant;
+use crate::recipients::{Recipients, Subscription};
+use mar_codec::Participant;
+use mar_types::Round;
 use std::alloc::AllocError;
 
-/// Finds blocks that were received.
+/// Finds blocks that were received, tells of those that come, and sends blocks.
 pub trait Buffer<V: Variant> {
     /// The blocks that it finds, as they came.
     ghost blocks: { Self → List PlainBlock };
+
+    /// It can tell of the blocks that come.
+    ghost notifies: { Self → Bool };
+
+    /// What it was handed to send, in order, where it tells that.
+    ghost sent: { Self → Option (List Sending) };
 
     /// The first block of that digest.
     fn find_by_digest(&self, digest: &V::Digest) -> Result<Option<V::Block>, AllocError>
@@ -19,14 +30,44 @@ pub trait Buffer<V: Variant> {
     fn find_by_commitment(&self, commitment: &V::Commitment) -> Result<Option<V::Block>, AllocError>
         ensures { IfOk result (λ o. option_map V.plain o
             ≡ find (λ b. bytes_eq b.commitment (V.Commitment.bytes commitment.now)) (blocks self.now)) };
+
+    /// A subscription to the block of that digest, or `None` where the buffer can't tell of blocks that come.
+    fn subscribe_by_digest(&self, digest: &V::Digest) -> Option<Subscription<V::Digest>>
+        ensures given { is_some result ≡ notifies self.now }
+        ensures name { IfSome result (λ s. s.name ≡ digest.now) };
+
+    /// A subscription to the block of that commitment, or `None` where the buffer can't tell of blocks that come.
+    fn subscribe_by_commitment(
+        &self,
+        commitment: &V::Commitment,
+    ) -> Option<Subscription<V::Commitment>>
+        ensures given { is_some result ≡ notifies self.now }
+        ensures name { IfSome result (λ s. s.name ≡ commitment.now) };
+
+    /// Sends a block of a round to these peers. Where memory runs out nothing is sent.
+    fn send(
+        &mut self,
+        round: Round,
+        block: V::Block,
+        recipients: Recipients<Participant>,
+    ) -> Result<(), AllocError>
+        ensures ok { OnOk result (Sends (sent self.old)
+            (record { round = round; block = V.plain block; peers = named recipients } ∷ []) (sent self.new)) }
+        ensures err { OnErr result (Sends (sent self.old) [] (sent self.new)) }
+        ensures same { blocks self.new ≡ blocks self.old }
+        ensures notifies { notifies self.new ≡ notifies self.old };
 }
 
-/// A buffer that never has a block.
+/// A buffer that never has a block, tells of none and sends none.
 #[derive(Clone, Copy, Debug, PartialEq, Eq)]
 pub struct NoBuffer;
 
 impl<V: Variant> Buffer<V> for NoBuffer {
     ghost blocks = { λ _. [] };
+
+    ghost notifies = { λ _. false };
+
+    ghost sent = { λ _. None };
 
     fn find_by_digest(&self, _digest: &V::Digest) -> Result<Option<V::Block>, AllocError> {
         Ok(None)
@@ -37,5 +78,25 @@ impl<V: Variant> Buffer<V> for NoBuffer {
         _commitment: &V::Commitment,
     ) -> Result<Option<V::Block>, AllocError> {
         Ok(None)
+    }
+
+    fn subscribe_by_digest(&self, _digest: &V::Digest) -> Option<Subscription<V::Digest>> {
+        None
+    }
+
+    fn subscribe_by_commitment(
+        &self,
+        _commitment: &V::Commitment,
+    ) -> Option<Subscription<V::Commitment>> {
+        None
+    }
+
+    fn send(
+        &mut self,
+        _round: Round,
+        _block: V::Block,
+        _recipients: Recipients<Participant>,
+    ) -> Result<(), AllocError> {
+        Ok(())
     }
 }

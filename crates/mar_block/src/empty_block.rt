@@ -1,13 +1,17 @@
 //! Blocks without content.
-ghost use Rattle.std.specs.Prelude.{◌≡◌, false};
+ghost use Rattle.std.specs.Prelude.{◌≡◌, ◌+◌, ◌<◌, ◌^◌, false};
+ghost use Rattle.std.proofs.Common.{sym, ◌∙◌};
 ghost use Rattle.mar_block.specs.EmptyBlock.{RefusesBlock, SpellsBlock, block_bytes, block_message};
-ghost use Rattle.mar_block.specs.EmptyBlockLemmas.{block_unambiguous};
+ghost use Rattle.mar_block.specs.EmptyBlockLemmas.{block_identified, block_unambiguous, length-block_bytes-within};
 
-use crate::blocks::{Block, Heightable};
+use crate::blocks::{Block, BoundedBlock, CertifiableBlock, Heightable};
 use crate::standard::Standard;
 use crate::variant::Variant;
 use bytes::{Buf, BufMut};
-use mar_codec::{Digest, Digestible, Error, Hasher, MaxEncodeSize, Read, Sha256, UInt, Write};
+use mar_codec::{
+    Digest, Digestible, EncodeSize, Error, FixedSize, Hasher, MaxEncodeSize, Read, Sha256, UInt,
+    Write,
+};
 use mar_types::Height;
 use std::alloc::{AllocError, Global};
 use std::convert::AsSlice;
@@ -71,6 +75,15 @@ impl<H: Hasher> Write for EmptyBlock<H> {
     }
 }
 
+impl<H: Hasher> EncodeSize for EmptyBlock<H> {
+    ghost can_encode = { λ _. H.Digest.SIZE + 20 < 2 ^ 64 };
+
+    fn encode_size(&self) -> usize {
+        let numbers = self.height.encode_size() + UInt(self.timestamp).encode_size();
+        H::Digest::SIZE + numbers
+    }
+}
+
 impl<H: Hasher> Read for EmptyBlock<H> {
     type Cfg = ();
 
@@ -118,6 +131,31 @@ impl<H: Hasher> Block for EmptyBlock<H> {
     fn parent(&self) -> H::Digest {
         self.parent
     }
+
+    ghost identified = { λ b other e. block_identified H.digest_of (H.Digest.encoded b.parent) (H.Digest.encoded other.parent)
+        b.height b.timestamp other.height other.timestamp (H.Digest.bytes b.parent) (H.Digest.bytes other.parent)
+        (H.Digest.sized b.parent ∙ sym (H.Digest.sized other.parent)) (H.Digest.spelled b.parent) (H.Digest.spelled other.parent) e };
+}
+
+/// Its parent stands for its context.
+impl<H: Hasher> CertifiableBlock for EmptyBlock<H> {
+    type Context = H::Digest;
+
+    ghost is_context = { λ b context. context ≡ b.parent };
+
+    fn context(&self) -> Result<H::Digest, AllocError> {
+        Ok(self.parent)
+    }
+}
+
+impl<H: Hasher> BoundedBlock for EmptyBlock<H> {
+    ghost max_size = { λ _. H.Digest.SIZE + 20 };
+
+    fn max_encode_size(_cfg: &()) -> usize {
+        H::Digest::SIZE + 20
+    }
+
+    ghost bounded = { λ cfg b _. length-block_bytes-within (H.Digest.encoded b.parent) b.height b.timestamp H.Digest.SIZE (H.Digest.sized b.parent) };
 }
 
 impl MaxEncodeSize for EmptyBlock<Sha256> {

@@ -4,17 +4,22 @@
 mod blocks;
 mod buffer;
 mod empty_block;
+mod expected;
 mod mem_buffer;
+pub mod mocks;
 mod places;
+mod recipients;
 mod standard;
 mod variant;
 
-pub use blocks::{Block, Heightable};
+pub use blocks::{Block, BoundedBlock, CertifiableBlock, Heightable};
 pub use buffer::{Buffer, NoBuffer};
 pub use empty_block::{EmptyBlock, StandardBlocks};
+pub use expected::ExpectedCommitment;
 pub use mem_buffer::MemBuffer;
+pub use recipients::{Recipients, Sent, Subscription};
 pub use standard::Standard;
-pub use variant::Variant;
+pub use variant::{Variant, WireVariant};
 
 #[cfg(test)]
 mod tests;

@@ -1,48 +1,56 @@
 //! A buffer in memory.
-ghost use Rattle.std.specs.Prelude.{◌≡◌, ◌++◌, ◌∷◌, [], IfOk, OnErr, OnOk, map, option_map};
+ghost use Rattle.std.specs.Prelude.{◌≡◌, ◌++◌, ◌∷◌, [], IfOk, OnErr, OnOk, Some, false, map, option_map, true};
 ghost use Rattle.mar_block.specs.Places.{at_place};
+ghost use Rattle.mar_block.specs.Sent.{sending};
 
 use crate::places::Places;
+use crate::recipients::{Recipients, Sent, Subscription};
 use crate::{Buffer, Variant};
+use mar_codec::Participant;
+use mar_types::Round;
 use std::alloc::{AllocError, Global};
 use std::marker::Model;
 
-/// Keeps the blocks that are put, in order, and the first place of each digest and of each commitment. A contract sees
-/// the blocks as plain data.
+/// Keeps the blocks that are put, in order, and the first place of each digest and of each commitment. It tells of the
+/// blocks that come until it is closed, and keeps what it was handed to send. A contract sees the blocks as plain data.
 #[derive(Drop)]
 pub struct MemBuffer<V: Variant> {
     blocks: Vec<V::Block>,
     places: Places<V>,
+    is_open: bool,
+    sent: Vec<Sent<V::Block>>,
 }
 
 impl<V: Variant> Model for MemBuffer<V> {
-    ghost use Rattle.std.specs.Prelude.{List, map};
+    ghost use Rattle.std.specs.Prelude.{map};
     ghost use Rattle.std.specs.BTreeMap.{get};
-    ghost use Rattle.mar_block.specs.Block.{Block};
     ghost use Rattle.mar_block.specs.Places.{PlacesFirst};
+    ghost use Rattle.mar_block.specs.Sent.{Held, sending};
 
-    ghost Value = { List Block };
+    ghost Value = { Held };
 
-    ghost view = { λ b. map V.plain b.blocks.items };
+    ghost view = { λ b. record { blocks = map V.plain b.blocks.items; is_open = b.is_open; sent = map (sending V.plain) b.sent.items } };
 
     ghost invariant = { λ b. PlacesFirst V.Digest.bytes (λ x. x.digest) (map V.plain b.blocks.items) (get V.Digest.cmp b.places.digests.places)
         × PlacesFirst V.Commitment.bytes (λ x. x.commitment) (map V.plain b.blocks.items) (get V.Commitment.cmp b.places.commitments.places) };
 }
 
 impl<V: Variant> MemBuffer<V> {
-    /// A buffer that has no block.
+    /// A buffer that has no block, is open and has sent nothing.
     pub fn new(alloc: Global) -> Self
-        ensures { result ≡ [] }
+        ensures { result ≡ record { blocks = []; is_open = true; sent = [] } }
     {
         MemBuffer {
             blocks: Vec::new(alloc),
             places: Places::new(alloc),
+            is_open: true,
+            sent: Vec::new(alloc),
         }
     }
 
     /// Puts a block behind those that it has. One that is put again stands twice, and the first is found.
     pub fn put(&mut self, block: V::Block) -> Result<(), AllocError>
-        ensures ok { OnOk result (self.new ≡ self.old ++ V.plain block ∷ []) }
+        ensures ok { OnOk result (self.new ≡ record self.old { blocks = self.old.blocks ++ V.plain block ∷ [] }) }
         ensures err { OnErr result (self.new ≡ self.old) }
     {
         let place = self.blocks.len();
@@ -52,10 +60,35 @@ impl<V: Variant> MemBuffer<V> {
         self.blocks.push_reserved(block);
         Ok(())
     }
+
+    /// From now on it tells of no block that comes. It keeps what it has.
+    pub fn close(&mut self)
+        ensures { self.new ≡ record self.old { is_open = false } }
+    {
+        self.is_open = false;
+    }
+
+    /// Whether it tells of the blocks that come.
+    pub fn is_open(&self) -> bool
+        ensures { result ≡ self.now.is_open }
+    {
+        self.is_open
+    }
+
+    /// What it was handed to send, in order.
+    pub fn sent(&self) -> &[Sent<V::Block>]
+        ensures { map (sending V.plain) result.now ≡ self.now.sent }
+    {
+        self.sent.as_slice()
+    }
 }
 
 impl<V: Variant> Buffer<V> for MemBuffer<V> {
-    ghost blocks = { λ b. b };
+    ghost blocks = { λ b. b.blocks };
+
+    ghost notifies = { λ b. b.is_open };
+
+    ghost sent = { λ b. Some b.sent };
 
     fn find_by_digest(&self, digest: &V::Digest) -> Result<Option<V::Block>, AllocError> {
         block_at::<V>(&self.blocks, self.places.digests.place_of(digest))
@@ -66,6 +99,40 @@ impl<V: Variant> Buffer<V> for MemBuffer<V> {
         commitment: &V::Commitment,
     ) -> Result<Option<V::Block>, AllocError> {
         block_at::<V>(&self.blocks, self.places.commitments.place_of(commitment))
+    }
+
+    fn subscribe_by_digest(&self, digest: &V::Digest) -> Option<Subscription<V::Digest>> {
+        if self.is_open {
+            Some(Subscription { name: *digest })
+        } else {
+            None
+        }
+    }
+
+    fn subscribe_by_commitment(
+        &self,
+        commitment: &V::Commitment,
+    ) -> Option<Subscription<V::Commitment>> {
+        if self.is_open {
+            Some(Subscription { name: *commitment })
+        } else {
+            None
+        }
+    }
+
+    fn send(
+        &mut self,
+        round: Round,
+        block: V::Block,
+        recipients: Recipients<Participant>,
+    ) -> Result<(), AllocError> {
+        let sent = Sent {
+            round,
+            block,
+            recipients,
+        };
+        self.sent.push(sent)?;
+        Ok(())
     }
 }
 

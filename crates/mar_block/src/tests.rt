@@ -1,14 +1,21 @@
-//! Blocks from outside, and a buffer that has them.
+//! Blocks from outside, kinds of blocks, and buffers that have them.
+ghost use Rattle.std.specs.Prelude.{◌≡◌, ◌<◌, ◌^◌};
+
+use crate::mocks::{Block as MockBlock, ready};
 use crate::*;
 use bytes::BytesMut;
+use mar_cert::{MockScheme, Scheme};
 use mar_codec::{
-    Digest, Digested, Digestible, Error, MaxEncodeSize, Read, Sha256, Sha256Digest, Write,
+    Decode, Digest, Digested, Digestible, EncodeSize, Error, Hasher, Kind, MaxEncodeSize,
+    Participant, Read, Reason, Sha256, Sha256Digest, UInt, Write,
 };
-use mar_types::Height;
-use std::alloc::AllocError;
+use mar_types::{Epoch, Height, Round, View};
+use std::alloc::{AllocError, Global};
 use std::test::Fail;
 
 type Zero = EmptyBlock<Sha256>;
+
+type Mock = MockBlock<Sha256Digest, UInt>;
 
 // A block of height 1 and timestamp 0 upon the one of height 0, timestamp 0 and no parent.
 const BLOCK: [u8; 34] = [
@@ -111,5 +118,236 @@ fn parts_of_a_block(rt: HostRuntime) -> Result<(), Fail> {
         format!(in rt.alloc(); "{NoBuffer:?}")?.as_str(),
         "NoBuffer"
     );
+    Ok(())
+}
+
+// The sizes of a block, as it is and at most, where what is read back from its spelling has its digest.
+fn sizes_again<B: BoundedBlock>(
+    alloc: Global,
+    block: &B,
+    cfg: &B::Cfg,
+) -> Result<(usize, usize), Error>
+    requires { B.max_size cfg.now < 2 ^ 64 }
+{
+    let mut written = BytesMut::new(alloc);
+    block.write(&mut written)?;
+    let again = B::decode_cfg(alloc, written.as_slice(), cfg)?;
+    if again.digest() != block.digest() {
+        return Err(Error::ExtraData);
+    }
+    Ok((written.len(), B::max_encode_size(cfg)))
+}
+
+fn mock_size(block: &Mock) -> usize {
+    block.encode_size()
+}
+
+#[test]
+fn blocks_at_heights(rt: HostRuntime) -> Result<(), Fail> {
+    for (height, size, empty, mock) in [
+        (
+            0,
+            35,
+            "8db5a7497d82562c8be66abaaff1258a23dbddc28f0a4c9f905519eb730d58d9",
+            "1db3bf84fe7da5ed2918c19fa16c5a56062c1f0564f1a31d5aa0a6298f7b7df6",
+        ),
+        (
+            127,
+            35,
+            "9c4cf0835ae56ebf18564e617606682d5f906b4a5f17154d654efe6d504b1006",
+            "1db185ec9886e35eb59e44ceb9cc15fa9f1a55939ef0b5983c61d22d4781e5c4",
+        ),
+        (
+            128,
+            36,
+            "2dc8b5b49675b5da417a4da4aa3aea11ee4d01ccc663b11b6b26536379c1f085",
+            "c3b8586955053860e63d36c4cafc84f39a37d312110b3abc0177f003ac2a039f",
+        ),
+        (
+            u64::MAX - 1,
+            44,
+            "f5259f8907676d00d43a3d964878a578045929cbabedfa551d8ba86dc949ee57",
+            "c5012bb0a14f967daa6477b13ce13bb6a9f7f40f302a843002428aeb9403c130",
+        ),
+    ] {
+        let parent = Sha256::fill(0xab);
+        let height = Height::new(height);
+        let block: Zero = EmptyBlock::new(parent, height, 300);
+        assert_eq!(rt; sizes_again(rt.alloc(), &block, &())?, (size, 52));
+        assert_eq!(rt; block.encode_size(), size);
+        let digest = block.digest();
+        assert_eq!(rt; format!(in rt.alloc(); "{digest}")?.as_str(), empty);
+        let block = Mock::new::<Sha256>(rt.alloc(), UInt(9), parent, height, 300)?;
+        assert_eq!(rt; sizes_again(rt.alloc(), &block, &())?, (size + 33, 94));
+        assert_eq!(rt; mock_size(&block), size + 33);
+        let digest = block.digest();
+        assert_eq!(rt; format!(in rt.alloc(); "{digest}")?.as_str(), mock);
+    }
+    Ok(())
+}
+
+#[test]
+fn mock_blocks_read_and_written(rt: HostRuntime) -> Result<(), Fail> {
+    let block = Mock::new::<Sha256>(rt.alloc(), UInt(300), Sha256::fill(2), Height::new(128), 1)?;
+    let mut written = BytesMut::new(rt.alloc());
+    block.write(&mut written)?;
+    let spelled = written.as_slice();
+    assert_eq!(rt; spelled.get(..2), Some([0xac, 0x02].as_slice()));
+    assert_eq!(rt; spelled.get(2..34), Some([2; 32].as_slice()));
+    assert_eq!(rt; spelled.get(34..37), Some([0x80, 0x01, 0x01].as_slice()));
+    assert_eq!(rt; spelled.get(37..), Some(block.digest().bytes.as_slice()));
+    let mut left = spelled;
+    let read = Mock::read_cfg(rt.alloc(), &mut left, &())?;
+    assert_eq!(rt; left.len(), 0);
+    assert!(rt; read.clone()? == block);
+    let mut short = spelled.get(..68).unwrap_or(&[]);
+    let refused = Mock::read_cfg(rt.alloc(), &mut short, &());
+    assert_eq!(rt; refused.err(), Some(Error::EndOfBuffer));
+    assert_eq!(rt; parent_of(&read), (Height::new(128), Sha256::fill(2)));
+    Ok(())
+}
+
+// The context that a block tells.
+fn context_of<B: CertifiableBlock>(block: &B) -> Result<B::Context, AllocError> {
+    block.context()
+}
+
+#[test]
+fn contexts_of_blocks(rt: HostRuntime) -> Result<(), Fail> {
+    let block = Mock::new::<Sha256>(rt.alloc(), UInt(7), Sha256::fill(2), Height::zero(), 0)?;
+    assert_eq!(rt; context_of(&block)?, UInt(7));
+    assert_eq!(rt; context_of(&child())?, genesis().digest());
+    let ready = ready(rt.alloc(), block)?;
+    assert_eq!(rt; ready.digest(), ready.inner().digest());
+    Ok(())
+}
+
+// The block that these bytes are under a commitment, and what its commitment is then.
+fn decoded<V: WireVariant>(
+    alloc: Global,
+    bytes: &[u8],
+    cfg: &<V::ApplicationBlock as Read>::Cfg,
+    expected: ExpectedCommitment<V::Commitment>,
+) -> Result<V::Commitment, Error> {
+    let block = V::decode_block(alloc, bytes, cfg, expected)?;
+    Ok(V::commitment(&block))
+}
+
+#[test]
+fn decoding_binds_the_digest(rt: HostRuntime) -> Result<(), Fail> {
+    let empty = Sha256Digest::empty();
+    let block = Mock::new::<Sha256>(rt.alloc(), UInt(0), empty, Height::new(1), 0)?;
+    let mut written = BytesMut::new(rt.alloc());
+    block.write(&mut written)?;
+    let bytes = written.as_slice();
+    let digest = block.digest();
+    let mut hasher = Sha256::new();
+    hasher.update(b"other block");
+    let other = hasher.finalize();
+    let mismatch = Error::Invalid(Kind::Block, Reason::DigestMismatch);
+    for (expected, answer) in [
+        (ExpectedCommitment::Trusted(digest), Ok(digest)),
+        (ExpectedCommitment::Untrusted(digest), Ok(digest)),
+        (ExpectedCommitment::Trusted(other), Err(mismatch)),
+        (ExpectedCommitment::Untrusted(other), Err(mismatch)),
+    ] {
+        let found = decoded::<Standard<Mock>>(rt.alloc(), bytes, &(), expected);
+        assert!(rt; found == answer);
+    }
+    let expected = ExpectedCommitment::Trusted(digest);
+    let cut = bytes.get(..9).unwrap_or(&[]);
+    let found = decoded::<Standard<Mock>>(rt.alloc(), cut, &(), expected);
+    assert_eq!(rt; found.err(), Some(Error::EndOfBuffer));
+    let text = "Trusted(c78a206a9483aa67b720b71e7cb4e3ef188e077dfcfaf04b971525aaae53aa44)";
+    assert_eq!(rt; format!(in rt.alloc(); "{expected:?}")?.as_str(), text);
+    Ok(())
+}
+
+// Makes a block of what it shares.
+fn shared_again<V: WireVariant>(block: V::Block) -> V::Block
+    ensures { V.plain result ≡ V.plain block }
+{
+    let payload = V::commitment(&block);
+    V::from_application_block(V::into_shared(block), payload)
+}
+
+// Whether a kind of blocks restores a block, whether or not its digest is known, and tells one parent of both.
+fn restores<V: WireVariant>(
+    alloc: Global,
+    stored: V::StoredBlock,
+    copy: V::StoredBlock,
+    digest: V::Digest,
+) -> Result<bool, AllocError>
+    requires { V.Digest.bytes digest ≡ (V.stored stored).digest }
+{
+    let parent = V::stored_parent_commitment(&copy);
+    let block = V::restore(alloc, stored, digest)?;
+    let other = shared_again::<V>(V::restore_across(alloc, copy)?);
+    let same = V::digest(&block) == digest && V::digest(&other) == digest;
+    Ok(same && V::parent_commitment(&block) == parent && V::parent_commitment(&other) == parent)
+}
+
+// The bounds of a kind of blocks, and whether certificates may sign this payload.
+fn bounds<V: WireVariant, S: Scheme>(scheme: &S, payload: V::Commitment) -> (bool, usize, usize) {
+    let passes = V::check_payload(scheme, payload);
+    let answer = V::max_backfill_block_size(52);
+    (passes, answer, V::max_buffer_payload_size(4, 53))
+}
+
+#[test]
+fn standard_blocks(rt: HostRuntime) -> Result<(), Fail> {
+    let block = child();
+    let digest = block.digest();
+    let copy = block.clone()?;
+    assert!(rt; restores::<StandardBlocks>(rt.alloc(), block, copy, digest)?);
+    let scheme = MockScheme::new(4);
+    assert!(rt; bounds::<StandardBlocks, MockScheme>(&scheme, digest) == (true, 52, 53));
+    Ok(())
+}
+
+// Whether both kinds of subscriptions to a block are given, each by its name.
+fn subscribes<V: Variant, B: Buffer<V>>(buffer: &B, block: &V::Block) -> bool {
+    let digest = V::digest(block);
+    let commitment = V::commitment(block);
+    let by_digest = buffer.subscribe_by_digest(&digest);
+    let by_commitment = buffer.subscribe_by_commitment(&commitment);
+    by_digest.is_some_and(|s| s.name == digest)
+        && by_commitment.is_some_and(|s| s.name == commitment)
+}
+
+fn send<V: Variant, B: Buffer<V>>(
+    buffer: &mut B,
+    block: V::Block,
+    recipients: Recipients<Participant>,
+) -> Result<(), AllocError> {
+    buffer.send(Round::new(Epoch::new(2), View::new(7)), block, recipients)
+}
+
+#[test]
+fn buffers_tell_and_send(rt: HostRuntime) -> Result<(), Fail> {
+    let mut buffer: MemBuffer<StandardBlocks> = MemBuffer::new(rt.alloc());
+    let block = ready(rt.alloc(), child())?;
+    assert!(rt; subscribes(&buffer, &block));
+    assert!(rt; !subscribes::<StandardBlocks, NoBuffer>(&NoBuffer, &block));
+    let peers = vec![in rt.alloc(); Participant::new(3)]?;
+    send::<StandardBlocks, NoBuffer>(&mut NoBuffer, block.clone()?, Recipients::All)?;
+    send(&mut buffer, block.clone()?, Recipients::All)?;
+    send(&mut buffer, block.clone()?, Recipients::Some(peers))?;
+    let last = buffer.sent().last().ok_or("nothing was sent")?;
+    let round = last.round;
+    let recipients = &last.recipients;
+    let text = "Round { epoch: Epoch(2), view: View(7) } Some([Participant(3)])";
+    assert_eq!(rt;
+        format!(in rt.alloc(); "{round:?} {recipients:?}")?.as_str(),
+        text
+    );
+    assert_eq!(rt; buffer.sent().len(), 2);
+    assert!(rt; recipients.clone()? == *recipients);
+    assert!(rt; buffer.is_open());
+    buffer.put(block.clone()?)?;
+    buffer.close();
+    assert!(rt; !buffer.is_open());
+    assert!(rt; !subscribes(&buffer, &block));
+    assert!(rt; finds(&buffer, &block)?);
     Ok(())
 }

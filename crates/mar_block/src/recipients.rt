@@ -1,0 +1,26 @@
+//! To whom a block is sent, and what was sent.
+use mar_codec::Participant;
+use mar_types::Round;
+
+/// To which peers of the kind `P` something is sent.
+#[derive(Clone, Debug, PartialEq, Eq, Drop)]
+pub enum Recipients<P> {
+    /// To each peer.
+    All,
+    /// To these peers alone.
+    Some(Vec<P>),
+}
+
+/// A block of the kind `B` that was sent: in which round, and to whom.
+#[derive(Debug, PartialEq, Eq, Drop)]
+pub struct Sent<B> {
+    pub round: Round,
+    pub block: B,
+    pub recipients: Recipients<Participant>,
+}
+
+/// The promise of a buffer that the block of this name is handed to the node as it comes.
+#[derive(Clone, Copy, Debug, PartialEq, Eq)]
+pub struct Subscription<K> {
+    pub name: K,
+}
