@@ -1,16 +1,16 @@
 -- Blocks that are handed over one after another: each the next held one, under the next ticket.
-use Rattle.std.proofs.Common.{◌≡◌, ◌⊎◌, inl, inr, ℕ, suc, ◌+◌, ◌<◌, ◌≤◌, List, [], ◌∷◌, ◌++◌, length, map, Option, Some, None, Result, Ok, Err, MatchResult, IsTrue, refl, sym, ◌∙◌, ap, subst, arith, append_assoc, append-nil, length-append}
+use Rattle.std.proofs.Common.{◌≡◌, ◌⊎◌, inl, inr, ℕ, suc, ◌+◌, ◌<◌, ◌≤◌, List, [], ◌∷◌, ◌++◌, length, map, Option, Some, None, Result, Ok, Err, MatchResult, Contains, IsTrue, refl, sym, ◌∙◌, ap, subst, arith, append_assoc, append-nil, length-append}
 use Rattle.mar_block.specs.Block.{Block}
 use Rattle.mar_key.specs.Hears.{Hears}
 use Rattle.mar_key.specs.Processed.{first_unprocessed}
 use Rattle.mar_store.specs.Kept.{At, has_height, value_at}
-use Rattle.mar_store.specs.Changes.{KeepsValues}
-use Rattle.mar_store.proofs.Lookups.{AllByRecursion-value_at, has_height-from_value, value-from_has_height}
+use Rattle.mar_store.specs.Changes.{IsNested, KeepsValues}
+use Rattle.mar_store.proofs.Lookups.{AllByRecursion-value_at, Contains-from_value, has_height-from_value, value-from_has_height}
 use Rattle.mar_parts.specs.Acks.{Outstanding, height_after}
 use Rattle.mar_actor.specs.Chain.{Chain, IsBlockAt}
-use Rattle.mar_actor.specs.Faults.{ack_kind, ticket_limit}
-use Rattle.mar_actor.specs.Held.{Ending, IsUsual, Loses, Seen}
-use Rattle.mar_actor.specs.Moves.{AreNextHeld, Dispatches, HasRoom, HeldFrom, IsAtLimit, IsLast, IsNext, IsStill, StopsHanding, handed_report, next_in, with_handed}
+use Rattle.mar_actor.specs.Faults.{Fault, ack_kind, ticket_limit}
+use Rattle.mar_actor.specs.Held.{Ending, IsUsual, Loses, Seen, remains_of}
+use Rattle.mar_actor.specs.Moves.{AreNextHeld, Dispatches, HasLastBlock, HasRoom, HeldFrom, IsAtLimit, IsLast, IsNext, IsStill, StopsHanding, handed_report, next_in, with_handed}
 use Rattle.mar_actor.specs.Node.{AreBlocksOf, ConsecutiveFrom}
 use Rattle.mar_actor.specs.Step.{AreHandedOf, HandedBlock, HandedFrom, Report, handed_blocks, handed_over, outstanding_of}
 
@@ -115,6 +115,10 @@ AreHandedOf-held chain held sure ticket height (x ∷ xs) blocks keeps all line 
 
 -- A LOOP THAT HANDS OVER
 
+-- a store's fault and want of memory are no last ticket
+pub usual_not_limit : (fault : Fault) → IsUsual fault → fault ≡ ticket_limit ack_kind → ⊥
+usual_not_limit fault usual is = subst IsUsual is usual
+
 -- What was handed over so far.
 pub record HandsSoFar {P E : Type 0} (start now : Seen P E) (told told' : Option (List Report)) (count : ℕ) : Type 0 where
   pub handed : List HandedBlock
@@ -176,11 +180,19 @@ module _ {P E : Type 0} (start now : Seen P E) (told told' : Option (List Report
 
   -- a call failed
   pub Ran-failed : (e : Ending) → Loses now.held [] [] [] e → IsUsual e.fault → Ran start told told' (Err e)
-  Ran-failed e lost usual = (so_far.handed, so_far.heard, record { next = so_far.next; room = so_far.room; lost = subst (λ h. Loses h [] [] [] e) held_same lost; kind = inl usual })
+  Ran-failed e lost usual = (so_far.handed, so_far.heard, record { next = so_far.next; room = so_far.room; lost = subst (λ h. Loses h [] [] [] e) held_same lost; kind = inl usual; runs_out = λ is. absurd (usual_not_limit e.fault usual is) })
 
-  pub Ran-ended : (told'' : Option (List Report)) (b : Block) (e : Ending) → IsNext now b → Hears told' [] told'' → Loses now.held [] [] [] e → IsUsual e.fault ⊎ ((e.fault ≡ ticket_limit ack_kind) × IsLast now b) → Ran start told told'' (Err e)
-  Ran-ended told'' b e is_next heard lost kind = (so_far.handed, subst (λ rs. Hears told rs told'') (append-nil (map handed_report so_far.handed)) (Hears-then told told' told'' (map handed_report so_far.handed) [] so_far.heard heard), record { next = so_far.next; room = so_far.room; lost = subst (λ h. Loses h [] [] [] e) held_same lost; kind = by kind })
+  pub Ran-ended : (told'' : Option (List Report)) (b : Block) (e : Ending) → IsNested start.held.blocks → IsNext now b → Hears told' [] told'' → Loses now.held [] [] [] e → (e.fault ≡ ticket_limit ack_kind → e.remains ≡ remains_of now.held) → IsUsual e.fault ⊎ ((e.fault ≡ ticket_limit ack_kind) × IsLast now b) → Ran start told told'' (Err e)
+  Ran-ended told'' b e nested is_next heard lost exact kind = (so_far.handed, subst (λ rs. Hears told rs told'') (append-nil (map handed_report so_far.handed)) (Hears-then told told' told'' (map handed_report so_far.handed) [] so_far.heard heard), record { next = so_far.next; room = so_far.room; lost = subst (λ h. Loses h [] [] [] e) held_same lost; kind = by kind; runs_out = λ is low. runs_out is low kind })
     where
+      in_may : e.fault ≡ ticket_limit ack_kind → Contains e.remains.ended.blocks_may (record { height = next_in now; value = b })
+      in_may is = subst (λ xs. Contains xs (record { height = next_in now; value = b })) (sym (ap (λ r. r.ended.blocks_may) (exact is))) ((subst (λ h. IsNested h.blocks) (sym held_same) nested).held_may _ (Contains-from_value now.held.blocks.held (next_in now) b is_next.held))
+
+      runs_out : e.fault ≡ ticket_limit ack_kind → start.life.next_ack ≤ next_in start → IsUsual e.fault ⊎ ((e.fault ≡ ticket_limit ack_kind) × IsLast now b) → HasLastBlock e.remains.ended
+      runs_out is low (inl usual) = absurd (usual_not_limit e.fault usual is)
+      runs_out is low (inr (limit, inl ticket)) = (record { height = next_in now; value = b }, in_may is, (let ack : now.life.next_ack ≡ start.life.next_ack + length so_far.handed = ap (λ a. a.life.next_ack) so_far.same in let then : next_in now ≡ next_in start + length so_far.handed = next_now in omega arith))
+      runs_out is low (inr (limit, inr height)) = (record { height = next_in now; value = b }, in_may is, (let at : b.height ≡ next_in now = is_next.height in omega arith))
+
       by : IsUsual e.fault ⊎ ((e.fault ≡ ticket_limit ack_kind) × IsLast now b) → IsUsual e.fault ⊎ ((e.fault ≡ ticket_limit ack_kind) × IsAtLimit start so_far.handed)
       by (inl usual) = inl usual
       by (inr (is, inl ticket)) = inr (is, inl (let ack : now.life.next_ack ≡ start.life.next_ack + length so_far.handed = ap (λ a. a.life.next_ack) so_far.same in omega arith))

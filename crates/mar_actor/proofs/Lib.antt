@@ -23,3 +23,6 @@ pub mod FinalizationEvent
 pub mod Promises
 pub mod EventPromises
 pub mod ProgressPromises
+pub mod Lasting
+pub mod Reopenings
+pub mod OpeningEvent

@@ -11,14 +11,14 @@ use Rattle.mar_key.specs.Processed.{at_absent, at_block, height_in}
 use Rattle.mar_store.specs.Kept.{At, Reopens, has_height, newest_upto, value_at}
 use Rattle.mar_store.proofs.Lookups.{AllByRecursion-append, AllByRecursion-weaker, AllByRecursion-contains, AllByRecursion-from_contains, AllByRecursion-value_at, has_height-from_value, value-from_has_height, value_at-from_contains}
 use Rattle.mar_store.proofs.NewestUpto.{AllByRecursion-newest_upto, newest_upto-is}
-use Rattle.mar_parts.specs.Metadata.{Pair}
+use Rattle.mar_parts.specs.Metadata.{Pair, pair_of}
 use Rattle.mar_shelf.specs.Cached.{cached_block, cached_finalization}
 use Rattle.mar_actor.specs.Chain.{Chain, Finalizes, IsBlockAt, IsFinal, IsLawful}
 use Rattle.mar_actor.specs.Config.{Config}
 use Rattle.mar_actor.specs.Faults.{Begin, from_floor, from_genesis, next_after, with_genesis}
 use Rattle.mar_actor.specs.Node.{Agrees, AreBlocksOf, AreCachedOf, AreFinalizationsOf, BlocksAgree, Ended, FloorSafe, HasAnchor, IsFinalized, IsGoodInHeights, Node}
 use Rattle.mar_actor.specs.Lives.{BackedBy, Finds, IsGoodEnded, closed_epoch_at, opened_cutoff, opened_node, processed_at, processed_round, successor_round}
-use Rattle.mar_actor.specs.Sound.{IsSound}
+use Rattle.mar_actor.specs.Sound.{IsSafePair, IsSound}
 use Rattle.mar_actor.proofs.FloorSafety.{CoversUpto, CoversUpto-at_round, CoversUpto-closed_at, CoversUpto-from_safe, CoversUpto-greatest_of, CoversUpto-more, FloorSafe-at_next, FloorSafe-from_upto, FloorSafe-greatest_of, FloorSafe-still}
 
 -- WHAT STANDS IN A FILTERED LIST
@@ -92,19 +92,27 @@ value-from_with_genesis (from_genesis g) processed found h b is = by (has_height
 
 module _ (config : Config) (chain : Chain) (e : Ended) (begin : Begin) (n : Node) (finds : Finds config e begin n) where
   -- what was sure is held
-  pub opened_sure : (h : ℕ) (b : Block) → value_at e.blocks_sure h ≡ Some b → value_at finds.blocks h ≡ Some b
+  pub opened_sure : (h : ℕ) (b : Block) → value_at e.blocks_sure h ≡ Some b → value_at finds.blocks.held h ≡ Some b
   opened_sure h b is = (finds.entered).1 h ∙ value_at-with_genesis begin finds.pair.processed finds.found h b (finds.found_may.with_sure h b is)
 
-  pub opened_heights : (h : ℕ) → IsTrue (has_height e.blocks_sure h) → IsTrue (has_height finds.blocks h)
-  opened_heights h has = let at = value-from_has_height e.blocks_sure h has in has_height-from_value finds.blocks h at.0 (opened_sure h at.0 at.1)
+  pub opened_heights : (h : ℕ) → IsTrue (has_height e.blocks_sure h) → IsTrue (has_height finds.blocks.held h)
+  opened_heights h has = let at = value-from_has_height e.blocks_sure h has in has_height-from_value finds.blocks.held h at.0 (opened_sure h at.0 at.1)
 
   -- each block is the chain's
-  pub opened_blocks : IsGoodEnded chain e → ((g : Block) → begin ≡ from_genesis g → IsBlockAt chain 0 g) → AreBlocksOf chain finds.blocks
-  opened_blocks good genesis = AllByRecursion-from_contains _ finds.blocks (λ x has. each x (value-from_with_genesis begin finds.pair.processed finds.found x.height x.value (sym ((finds.entered).1 x.height) ∙ value_at-from_contains finds.blocks x (finds.entered).0 has)))
+  pub opened_blocks : IsGoodEnded chain e → ((g : Block) → begin ≡ from_genesis g → IsBlockAt chain 0 g) → AreBlocksOf chain finds.blocks.held
+  opened_blocks good genesis = AllByRecursion-from_contains _ finds.blocks.held (λ x has. each x (value-from_with_genesis begin finds.pair.processed finds.found x.height x.value (sym ((finds.entered).1 x.height) ∙ value_at-from_contains finds.blocks.held x (finds.entered).0 has)))
     where
       each : (x : At Block) → (value_at finds.found x.height ≡ Some x.value) ⊎ ((begin ≡ from_genesis x.value) × (x.height ≡ 0)) → IsBlockAt chain x.height x.value
       each x (inl is) = AllByRecursion-contains (λ y. IsBlockAt chain y.height y.value) e.blocks_may _ good.may_blocks (finds.found_may.within_may x.height x.value is)
       each x (inr (is, low)) = subst (λ h. IsBlockAt chain h x.value) (sym low) (genesis x.value is)
+
+  -- and so is each that a crash can leave
+  pub opened_may : IsGoodEnded chain e → ((g : Block) → begin ≡ from_genesis g → IsBlockAt chain 0 g) → AreBlocksOf chain finds.blocks.may
+  opened_may good genesis = AllByRecursion-from_contains _ finds.blocks.may (λ x has. AllByRecursion-contains (λ y. IsBlockAt chain y.height y.value) finds.blocks.held x (opened_blocks good genesis) (finds.settled.may x has))
+
+  -- a held height is sure
+  pub opened_has_sure : (h : ℕ) → IsTrue (has_height finds.blocks.held h) → IsTrue (has_height finds.blocks.sure h)
+  opened_has_sure h has = subst (λ xs. IsTrue (has_height xs h)) (sym finds.settled.sure) has
 
   pub opened_certs : IsGoodEnded chain e → AreFinalizationsOf chain finds.certs
   opened_certs good = AreFinalizationsOf-reopened chain e.certs_sure e.certs_may finds.certs finds.certs_may good.may_certs
@@ -195,17 +203,17 @@ module _ (config : Config) (chain : Chain) (lawful : IsLawful config.epochs chai
   safe_before : FloorSafe finds.pair.processed finds.pair.cutoff e.blocks_sure chain
   safe_before = AllByRecursion-contains (λ p. FloorSafe p.processed p.cutoff e.blocks_sure chain) e.meta finds.pair good.floor_safe finds.pair_may
 
-  pub opened_backed : BackedBy finds.blocks finds.pair.processed
+  pub opened_backed : BackedBy finds.blocks.held finds.pair.processed
   opened_backed = by finds.pair.processed backed_before
     where
-      by : (o : Option ℕ) → BackedBy e.blocks_sure o → BackedBy finds.blocks o
+      by : (o : Option ℕ) → BackedBy e.blocks_sure o → BackedBy finds.blocks.held o
       by None b = tt
       by (Some h) (inl has) = inl (opened_heights config chain e begin n finds h has)
       by (Some h) (inr next) = inr (opened_heights config chain e begin n finds (h + 1) next)
 
-  pub opened_safe : FloorSafe finds.pair.processed (opened_cutoff config finds.blocks finds.certs finds.pair) finds.blocks chain
-  opened_safe = FloorSafe-opened config chain lawful partition finds.blocks finds.certs finds.pair (opened_certs config chain e begin n finds good)
-      (FloorSafe-still chain finds.pair.processed finds.pair.cutoff e.blocks_sure finds.blocks (λ has. opened_heights config chain e begin n finds _ has) safe_before)
+  pub opened_safe : FloorSafe finds.pair.processed (opened_cutoff config finds.blocks.held finds.certs finds.pair) finds.blocks.held chain
+  opened_safe = FloorSafe-opened config chain lawful partition finds.blocks.held finds.certs finds.pair (opened_certs config chain e begin n finds good)
+      (FloorSafe-still chain finds.pair.processed finds.pair.cutoff e.blocks_sure finds.blocks.held (λ has. opened_heights config chain e begin n finds _ has) safe_before)
 
   opened : Node
   opened = opened_node config finds.blocks finds.certs finds.cache finds.lowest finds.lowests finds.pair
@@ -220,25 +228,25 @@ module _ (config : Config) (chain : Chain) (lawful : IsLawful config.epochs chai
   pub IsSound-opened : ((g : Block) → begin ≡ from_genesis g → IsBlockAt chain 0 g) → IsSound chain n
   IsSound-opened genesis = subst (IsSound chain) (sym finds.node) (record {
     held_blocks = opened_blocks config chain e begin n finds good genesis;
-    may_blocks = opened_blocks config chain e begin n finds good genesis;
+    may_blocks = opened_may config chain e begin n finds good genesis;
     held_certs = opened_certs config chain e begin n finds good;
     may_certs = opened_certs config chain e begin n finds good;
     cached = cached_found;
     cached_blocks = cached_blocks_found;
     awaits = tt;
-    pairs = (record { backed = subst (BackedBy finds.blocks) (sym (processed_at-height finds.blocks finds.pair.processed)) opened_backed; floor_safe = subst (λ o. FloorSafe o (opened_cutoff config finds.blocks finds.certs finds.pair) finds.blocks chain) (sym (processed_at-height finds.blocks finds.pair.processed)) opened_safe }, tt);
+    pairs = (subst (λ xs. IsSafePair chain xs (pair_of (option_map (processed_at finds.blocks.held) finds.pair.processed) (opened_cutoff config finds.blocks.held finds.certs finds.pair))) (sym finds.settled.sure) record { backed = subst (BackedBy finds.blocks.held) (sym (processed_at-height finds.blocks.held finds.pair.processed)) opened_backed; floor_safe = subst (λ o. FloorSafe o (opened_cutoff config finds.blocks.held finds.certs finds.pair) finds.blocks.held chain) (sym (processed_at-height finds.blocks.held finds.pair.processed)) opened_safe }, tt);
   })
 
   -- and good in heights
   pub IsGoodInHeights-opened : IsGoodInHeights config n
   IsGoodInHeights-opened = subst (IsGoodInHeights config) (sym finds.node) (record {
-    sure_blocks = λ h has. inl has;
+    sure_blocks = λ h has. inl (opened_has_sure config chain e begin n finds h has);
     sure_certs = λ h has. inl has;
     consecutive = tt;
     out_sure = tt;
     within_window = omega arith;
     floor_clears = λ some. refl;
-    anchored = HasAnchor-opened finds.blocks finds.pair.processed opened_backed;
+    anchored = subst (HasAnchor (option_map (processed_at finds.blocks.held) finds.pair.processed)) (sym finds.settled.sure) (HasAnchor-opened finds.blocks.held finds.pair.processed opened_backed);
     own_pair = refl;
     sync_open = λ more. absurd (omega arith);
   })

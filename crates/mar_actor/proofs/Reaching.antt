@@ -119,7 +119,7 @@ IsGood-handed config chain m buffer asked handed window good next room = record 
     counted : length (m.life.out ++ map outstanding_of handed) ≡ length m.life.out + length handed
     counted = length-append m.life.out (map outstanding_of handed) ∙ ap (λ k. length m.life.out + k) (length_mapped handed)
 
-in_list : (blocks : List Block) (i : ℕ) (b : Block) → slice_get blocks i ≡ Some b → i < length blocks
+pub in_list : (blocks : List Block) (i : ℕ) (b : Block) → slice_get blocks i ≡ Some b → i < length blocks
 in_list [] i b at = absurd cc
 in_list (c ∷ blocks) zero b at = omega arith
 in_list (c ∷ blocks) (suc i) b at = let low : i < length blocks = in_list blocks i b at in omega arith

@@ -1,5 +1,5 @@
 -- A store call that failed loses no more than it was to write, and its fault has its cause.
-use Rattle.std.proofs.Common.{◌≡◌, ◌⊎◌, inl, inr, ℕ, ◌<◌, ◌≤◌, List, [], ◌++◌, Contains, refl, sym, ◌∙◌, ap, subst, arith, append-nil}
+use Rattle.std.proofs.Common.{◌≡◌, ◌⊎◌, inl, inr, ℕ, ◌<◌, ◌≤◌, ◌-◌, ◌^◌, min, List, [], ◌++◌, Contains, refl, sym, ◌∙◌, ap, subst, arith, append-nil}
 use Rattle.mar_codec.specs.Causes.{Rose}
 use Rattle.mar_block.specs.Block.{Block}
 use Rattle.mar_cert.specs.Finalization.{Finalization}
@@ -55,23 +55,32 @@ store_inside : (s t : StoreName) → store_fault s ≡ store_fault t → s ≡ t
 store_inside s t e = cc
 
 -- the store's fault came as its count rose
-IsEndedBy-counted : (before : Counts) (s : StoreName) (k : ℕ) (e : Ending) → e.remains.counts ≡ counted before s k → (e.fault ≡ store_fault s) × Rose (count_of before s) k ⊎ (e.fault ≡ want_of_memory) → IsEndedBy before e
+pub IsEndedBy-counted : (before : Counts) (s : StoreName) (k : ℕ) (e : Ending) → e.remains.counts ≡ counted before s k → (e.fault ≡ store_fault s) × Rose (count_of before s) k ⊎ ((e.fault ≡ want_of_memory) × (count_of before s ≤ k)) → IsEndedBy before e
 IsEndedBy-counted before s k e counts fault = record {
   told = λ t lt. told t fault (subst (λ c. count_of before t < count_of c t) counts lt) (same_or_other s t);
   caused = λ t is. subst (λ c. Rose (count_of before t) (count_of c t)) (sym counts) (caused t is fault);
+  later = λ t. subst (λ c. min (count_of before t) (2 ^ 64 - 1) ≤ count_of c t) (sym counts) (later t (not_less fault) (same_or_other s t));
 }
   where
     below : (n : ℕ) → n < n → ⊥
     below n lt = omega arith
 
-    told : (t : StoreName) → (e.fault ≡ store_fault s) × Rose (count_of before s) k ⊎ (e.fault ≡ want_of_memory) → count_of before t < count_of (counted before s k) t → (s ≡ t) ⊎ (((c : Counts) (j : ℕ) → count_of (counted c s j) t ≡ count_of c t) × (s ≡ t → ⊥)) → (e.fault ≡ store_fault t) ⊎ (e.fault ≡ want_of_memory)
+    not_less : (e.fault ≡ store_fault s) × Rose (count_of before s) k ⊎ ((e.fault ≡ want_of_memory) × (count_of before s ≤ k)) → min (count_of before s) (2 ^ 64 - 1) ≤ k
+    not_less (inl (is, rose)) = omega (arith, rose)
+    not_less (inr (is, le)) = omega (arith, le)
+
+    later : (t : StoreName) → min (count_of before s) (2 ^ 64 - 1) ≤ k → (s ≡ t) ⊎ (((c : Counts) (j : ℕ) → count_of (counted c s j) t ≡ count_of c t) × (s ≡ t → ⊥)) → min (count_of before t) (2 ^ 64 - 1) ≤ count_of (counted before s k) t
+    later t le (inl same) = subst (λ u. min (count_of before u) (2 ^ 64 - 1) ≤ count_of (counted before s k) u) same (subst (λ j. min (count_of before s) (2 ^ 64 - 1) ≤ j) (sym (count_of-counted before s k)) le)
+    later t le (inr (stands, other)) = subst (λ j. min (count_of before t) (2 ^ 64 - 1) ≤ j) (sym (stands before k)) (omega arith)
+
+    told : (t : StoreName) → (e.fault ≡ store_fault s) × Rose (count_of before s) k ⊎ ((e.fault ≡ want_of_memory) × (count_of before s ≤ k)) → count_of before t < count_of (counted before s k) t → (s ≡ t) ⊎ (((c : Counts) (j : ℕ) → count_of (counted c s j) t ≡ count_of c t) × (s ≡ t → ⊥)) → (e.fault ≡ store_fault t) ⊎ (e.fault ≡ want_of_memory)
     told t (inl (is, rose)) lt (inl same) = inl (is ∙ ap store_fault same)
-    told t (inr is) lt which = inr is
+    told t (inr (is, le)) lt which = inr is
     told t (inl (is, rose)) lt (inr (stands, other)) = absurd (below (count_of before t) (subst (λ j. count_of before t < j) (stands before k) lt))
 
-    caused : (t : StoreName) → e.fault ≡ store_fault t → (e.fault ≡ store_fault s) × Rose (count_of before s) k ⊎ (e.fault ≡ want_of_memory) → Rose (count_of before t) (count_of (counted before s k) t)
+    caused : (t : StoreName) → e.fault ≡ store_fault t → (e.fault ≡ store_fault s) × Rose (count_of before s) k ⊎ ((e.fault ≡ want_of_memory) × (count_of before s ≤ k)) → Rose (count_of before t) (count_of (counted before s k) t)
     caused t is (inl (by, rose)) = subst (λ u. Rose (count_of before u) (count_of (counted before s k) u)) (store_inside s t (sym by ∙ is)) (subst (λ j. Rose (count_of before s) j) (sym (count_of-counted before s k)) rose)
-    caused t is (inr memory) = absurd (let both : want_of_memory ≡ store_fault t = sym memory ∙ is in cc)
+    caused t is (inr (memory, le)) = absurd (let both : want_of_memory ≡ store_fault t = sym memory ∙ is in cc)
 
 -- A STORE IS LOST
 
@@ -79,9 +88,9 @@ IsEndedBy-counted before s k e counts fault = record {
 abbrev pub lost_ending : {W : Type 0} → Held → StoreName → ℕ → Lost W → Left (At Block) → Left (At Finalization) → List Pair → Ending
 lost_ending old s k lost blocks certs pairs = record { fault = lost_fault s lost; remains = record { ended = ended_of blocks certs pairs; counts = counted old.counts s k } }
 
-by_lost : {W : Type 0} (count : W → ℕ) (before : Counts) (s : StoreName) (lost : Lost W) (fault : Fault) → fault ≡ lost_fault s lost → LostBy count (count_of before s) lost → (fault ≡ store_fault s) × Rose (count_of before s) (count (wreck_of lost)) ⊎ (fault ≡ want_of_memory)
+pub by_lost : {W : Type 0} (count : W → ℕ) (before : Counts) (s : StoreName) (lost : Lost W) (fault : Fault) → fault ≡ lost_fault s lost → LostBy count (count_of before s) lost → (fault ≡ store_fault s) × Rose (count_of before s) (count (wreck_of lost)) ⊎ ((fault ≡ want_of_memory) × (count_of before s ≤ count (wreck_of lost)))
 by_lost count before s (Broke w) fault is rose = inl (is, rose)
-by_lost count before s (Forgot w) fault is le = inr is
+by_lost count before s (Forgot w) fault is le = inr (is, le)
 
 IsEndedBy-lost : {W : Type 0} (count : W → ℕ) (old : Held) (s : StoreName) (lost : Lost W) (blocks : Left (At Block)) (certs : Left (At Finalization)) (pairs : List Pair) → LostBy count (count_of old.counts s) lost → IsEndedBy old.counts (lost_ending old s (count (wreck_of lost)) lost blocks certs pairs)
 IsEndedBy-lost count old s lost blocks certs pairs cause = IsEndedBy-counted old.counts s (count (wreck_of lost)) (lost_ending old s (count (wreck_of lost)) lost blocks certs pairs) refl (by_lost count old.counts s lost (lost_fault s lost) refl cause)
@@ -132,9 +141,9 @@ Loses-meta count left old more lost leaves cause = record {
 
 -- A READ HAS NO ANSWER
 
-by_missed : (before : Counts) (s : StoreName) (k : ℕ) (miss : Miss) → MissedBy (count_of before s) k miss → (missed_fault s miss ≡ store_fault s) × Rose (count_of before s) k ⊎ (missed_fault s miss ≡ want_of_memory)
+by_missed : (before : Counts) (s : StoreName) (k : ℕ) (miss : Miss) → MissedBy (count_of before s) k miss → (missed_fault s miss ≡ store_fault s) × Rose (count_of before s) k ⊎ ((missed_fault s miss ≡ want_of_memory) × (count_of before s ≤ k))
 by_missed before s k Missed rose = inl (refl, rose)
-by_missed before s k NoRoom le = inr refl
+by_missed before s k NoRoom le = inr (refl, le)
 
 -- what is left where a read failed: all that there was, with the store's count
 pub Loses-read : (old : Held) (s : StoreName) (k : ℕ) (miss : Miss) → MissedBy (count_of old.counts s) k miss → Loses old [] [] [] (record { fault = missed_fault s miss; remains = remains_of (record old { counts = counted old.counts s k }) })
@@ -156,7 +165,7 @@ Loses-nothing old fault none = record {
   first_pair_kept = refl;
   pairs_within = within_self old.pairs;
   no_cache = refl;
-  cause = record { told = λ s lt. absurd (below (count_of old.counts s) lt); caused = λ s is. absurd (subst IsNoStores is none) };
+  cause = record { told = λ s lt. absurd (below (count_of old.counts s) lt); caused = λ s is. absurd (subst IsNoStores is none); later = λ s. omega arith };
 }
   where
     below : (n : ℕ) → n < n → ⊥

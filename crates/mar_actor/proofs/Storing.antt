@@ -5,12 +5,16 @@ use Rattle.mar_cert.specs.Finalization.{Finalization}
 use Rattle.mar_store.specs.Kept.{At, Kept}
 use Rattle.mar_store.specs.Changes.{Puts, Syncs}
 use Rattle.mar_shelf.specs.Stored.{at_own_height, is_certified, is_held}
-use Rattle.mar_actor.specs.Held.{Counts, Ending, Seen}
+use Rattle.mar_actor.specs.Held.{Counts, Ending, Held, Seen}
 use Rattle.mar_actor.specs.Moves.{Stores, StoresValue, at_height, tip_after}
 
 -- a put and then a sync
 pub StoresValue-synced : {T : Type 0} (ignored : Bool) (old mid : Kept (At T)) (x : At T) (new : Kept (At T)) → Puts ignored old x mid → Syncs mid new → StoresValue ignored old x new
 StoresValue-synced ignored old mid x new puts syncs = record { held = syncs.held ∙ puts.held; sure = syncs.sure ∙ sym syncs.held; may = λ y has. puts.may y (syncs.may y has) }
+
+pub StoresValue-ok : (ignored : Bool) (old mid : Kept (At Block)) (x : At Block) (result : Result Held Ending) → Puts ignored old x mid → IfOk result (λ s. Syncs mid s.blocks) → IfOk result (λ s. StoresValue ignored old x s.blocks)
+StoresValue-ok ignored old mid x (Ok s) puts syncs = StoresValue-synced ignored old mid x s.blocks puts syncs
+StoresValue-ok ignored old mid x (Err e) puts syncs = tt
 
 module _ {P E : Type 0} (inner : List ℕ → List ℕ) (old : Seen P E) (f : Finalization) (b : Block) (put synced : Seen P E) where
   pub Stores-all : (new : Seen P E) → Puts (is_held old.held.blocks.held b) old.held.blocks (at_own_height b) put.held.blocks → Puts (is_certified inner old.held.certs.held b.height (inner f.payload)) old.held.certs (at_height b.height f) put.held.certs → put ≡ record old { held = record old.held { blocks = put.held.blocks; certs = put.held.certs; counts = put.held.counts } } → Syncs put.held.blocks synced.held.blocks → Syncs put.held.certs synced.held.certs → synced ≡ record put { held = record put.held { blocks = synced.held.blocks; certs = synced.held.certs; counts = synced.held.counts }; life = record put.life { covered = put.life.covered + 1 } } → new ≡ record synced { life = record synced.life { tip = tip_after synced.life.tip b } } → Stores inner old f b new

@@ -1,12 +1,12 @@
 -- What a life keeps: its stores, and what it remembers beside them; what is left of the stores.
-use Rattle.std.specs.Prelude.{ℕ, ⊤, ◌≡◌, ◌<◌, ◌⊎◌, ◌++◌, ◌∷◌, List, [], MatchResult, Option, Result, option_map}
+use Rattle.std.specs.Prelude.{ℕ, ⊤, ◌≡◌, ◌<◌, ◌⊎◌, ◌++◌, ◌∷◌, Contains, List, [], MatchResult, Option, Result, length, min, option_map, ◌-◌, ◌^◌, ◌≤◌}
 use Rattle.mar_codec.specs.Causes.{Rose}
 use Rattle.mar_types.specs.Round.{Round}
 use Rattle.mar_cert.specs.Finalization.{Finalization}
 use Rattle.mar_key.specs.Cutoff.{Cutoff}
 use Rattle.mar_key.specs.Processed.{Processed, at_block}
 use Rattle.mar_store.specs.Kept.{At, Kept}
-use Rattle.mar_store.specs.Changes.{Left, Fails, Within, left_of}
+use Rattle.mar_store.specs.Changes.{Left, Fails, IsReopened, Within, left_of}
 use Rattle.mar_store.specs.declared.Lost.{Lost}
 use Rattle.mar_store.specs.declared.Lost.TheVariants.{Fault as Broke, Memory as Forgot}
 use Rattle.mar_store.specs.declared.Miss.{Miss}
@@ -119,10 +119,15 @@ blocks_left e = record { sure = e.blocks_sure; may = e.blocks_may }
 abbrev pub certs_left : Ended → Left (At Finalization)
 certs_left e = record { sure = e.certs_sure; may = e.certs_may }
 
--- A store's fault comes exactly where that store's count rose since, want of memory aside.
+-- no count falls, but for one that stands past its last value
+abbrev pub NotFewer : Counts → Counts → Type 0
+NotFewer before now = (s : StoreName) → min (count_of before s) (2 ^ 64 - 1) ≤ count_of now s
+
+-- A store's fault comes exactly where that store's count rose since, want of memory aside; no count falls.
 pub record IsEndedBy (before : Counts) (e : Ending) : Type 0 where
   pub told : (s : StoreName) → count_of before s < count_of e.remains.counts s → (e.fault ≡ store_fault s) ⊎ (e.fault ≡ want_of_memory)
   pub caused : (s : StoreName) → e.fault ≡ store_fault s → Rose (count_of before s) (count_of e.remains.counts s)
+  pub later : NotFewer before e.remains.counts
 
 -- What calls of which the last one failed leave: what was sure, and what may be left with what they were to write.
 pub record Loses (old : Held) (blocks : List (At Block)) (certs : List (At Finalization)) (pairs : List Pair) (e : Ending) : Type 0 where
@@ -130,6 +135,28 @@ pub record Loses (old : Held) (blocks : List (At Block)) (certs : List (At Final
   pub certs_kept : Fails (left_of old.certs) certs (certs_left e.remains.ended)
   pub first_pair_kept : first_pair e.remains.ended.meta ≡ first_pair old.pairs
   pub pairs_within : Within e.remains.ended.meta (old.pairs ++ pairs)
+  pub no_cache : e.remains.ended ≡ ended_of (blocks_left e.remains.ended) (certs_left e.remains.ended) e.remains.ended.meta
+  pub cause : IsEndedBy old.counts e
+
+-- The stores as an opening finds them: each archive reopened, one pair of the metadata, counts as before.
+pub record ReopensAs (old : Remains) (new : Held) : Type 0 where
+  pub blocks : IsReopened (blocks_left old.ended) new.blocks
+  pub certs : IsReopened (certs_left old.ended) new.certs
+  pub pair : Pair
+  pub pair_may : Contains old.ended.meta pair
+  pub processed : new.processed ≡ option_map at_block pair.processed
+  pub cutoff : new.cutoff ≡ pair.cutoff
+  pub pairs : new.pairs ≡ pair ∷ []
+  pub counts : new.counts ≡ old.counts
+  pub no_cache : old.ended ≡ ended_of (blocks_left old.ended) (certs_left old.ended) old.ended.meta
+
+-- What an opening that failed leaves: what was sure, what may be left with what it was to write, and of the pairs that there were.
+pub record LosesOpening (old : Remains) (blocks : List (At Block)) (e : Ending) : Type 0 where
+  pub blocks_kept : Fails (blocks_left old.ended) blocks (blocks_left e.remains.ended)
+  pub certs_kept : Fails (certs_left old.ended) [] (certs_left e.remains.ended)
+  pub some_pair : 0 < length old.ended.meta → 0 < length e.remains.ended.meta
+  pub pairs_within : Within e.remains.ended.meta old.ended.meta
+  pub had_no_cache : old.ended ≡ ended_of (blocks_left old.ended) (certs_left old.ended) old.ended.meta
   pub no_cache : e.remains.ended ≡ ended_of (blocks_left e.remains.ended) (certs_left e.remains.ended) e.remains.ended.meta
   pub cause : IsEndedBy old.counts e
 

@@ -8,7 +8,8 @@ use Rattle.mar_key.specs.Cutoff.{Cutoff, at_epoch, at_round, greatest_of}
 use Rattle.mar_key.specs.Processed.{Processed, at_absent, at_block, height_in}
 use Rattle.mar_types.specs.Epochs.{closed_epoch}
 use Rattle.mar_actor.specs.Chain.{Chain}
-use Rattle.mar_store.specs.Kept.{At, EachHeightOnce, Reopens, has_height, newest_upto, reopened_store, value_at}
+use Rattle.mar_store.specs.Changes.{Within}
+use Rattle.mar_store.specs.Kept.{At, EachHeightOnce, Kept, Reopens, has_height, newest_upto, reopened_store, value_at}
 use Rattle.mar_inbox.specs.Messages.{set_floor}
 use Rattle.mar_actor.specs.Config.{Config}
 use Rattle.mar_actor.specs.Node.{AreBlocksOf, AreCachedOf, AreFinalizationsOf, BlocksAgree, Ended, FloorSafe, Node, left_by}
@@ -73,12 +74,12 @@ opened_witnessed blocks certs pair =
     later_round (later_round (record { epoch = 0; view = 0 }) (processed_round certs pair.processed)) (successor_round blocks certs (next_after pair.processed))
 
 -- a node that begins a life on these stores
-abbrev pub opened_node : Config → List (At Block) → List (At Finalization) → List Cached → ℕ → List ℕ → Pair → Node
+abbrev pub opened_node : Config → Kept (At Block) → List (At Finalization) → List Cached → ℕ → List ℕ → Pair → Node
 opened_node config blocks certs cache lowest lowests pair =
-    let cutoff = opened_cutoff config blocks certs pair in
-    let processed = option_map (processed_at blocks) pair.processed in
+    let cutoff = opened_cutoff config blocks.held certs pair in
+    let processed = option_map (processed_at blocks.held) pair.processed in
     record {
-      blocks = reopened_store blocks;
+      blocks = blocks;
       certs = reopened_store certs;
       processed = processed;
       cutoff = cutoff;
@@ -99,7 +100,7 @@ opened_node config blocks certs cache lowest lowests pair =
       inbox = record { ready = []; capacity = config.capacity; floor = None; prune = None; overflow = []; closed = []; seats = 0; shut = false };
       subscriptions = [];
       certified = [];
-      witnessed = opened_witnessed blocks certs pair;
+      witnessed = opened_witnessed blocks.held certs pair;
       buffer_closed = false;
       unanswered = [];
       next_answer = 0;
@@ -110,6 +111,11 @@ opened_node config blocks certs cache lowest lowests pair =
 -- the same values at the same heights
 abbrev pub SameAt : {T : Type 0} → List (At T) → List (At T) → Type 0
 SameAt xs ys = EachHeightOnce xs × ((h : ℕ) → value_at xs h ≡ value_at ys h)
+
+-- All that is held is sure, and a crash can leave no more.
+pub record IsSettled {T : Type 0} (kept : Kept T) : Type 0 where
+  pub sure : kept.sure ≡ kept.held
+  pub may : Within kept.may kept.held
 
 -- What an opening finds: each list reopened, one pair of the metadata, block 0 entered, no fault.
 pub record Finds (config : Config) (e : Ended) (begin : Begin) (n : Node) : Type 0 where
@@ -125,8 +131,9 @@ pub record Finds (config : Config) (e : Ended) (begin : Begin) (n : Node) : Type
   pub lowests : List ℕ
   pub lowests_were : (k : ℕ) → Contains lowests k → Contains e.lowests k
   pub lowest_was : Contains (0 ∷ lowests) lowest
-  pub blocks : List (At Block)
-  pub entered : SameAt blocks (with_genesis begin pair.processed found)
+  pub blocks : Kept (At Block)
+  pub settled : IsSettled blocks
+  pub entered : SameAt blocks.held (with_genesis begin pair.processed found)
   pub no_fault : opening_fault found certs pair begin ≡ None
   pub node : n ≡ opened_node config blocks certs cache lowest lowests pair
 

@@ -1,5 +1,5 @@
 -- What the parts of a step change: what is seen of an actor before and after them.
-use Rattle.std.specs.Prelude.{Bool, List, None, Option, Some, [], bytes_eq, false, find, flat_map, fold, if◌then◌else◌, is_some, length, map, nat_lt, not, option_map, option_to_list, true, ℕ, ⊤, ◌&&◌, ◌++◌, ◌+◌, ◌-◌, ◌<◌, ◌^◌, ◌∷◌, ◌≡◌, ◌≤◌, ◌⊎◌}
+use Rattle.std.specs.Prelude.{Bool, Contains, List, MatchResult, None, Option, Result, Some, [], bytes_eq, false, find, flat_map, fold, if◌then◌else◌, is_some, length, map, nat_lt, not, option_map, option_to_list, true, ℕ, ⊤, ◌&&◌, ◌++◌, ◌+◌, ◌-◌, ◌<◌, ◌^◌, ◌∷◌, ◌≡◌, ◌≤◌, ◌⊎◌}
 use Rattle.std.specs.Option.{option_or}
 use Rattle.mar_types.specs.Round.{Round}
 use Rattle.mar_types.specs.Epochs.{Epochs, closed_epoch}
@@ -17,7 +17,8 @@ use Rattle.mar_actor.specs.Faults.{ack_kind, dropped_ack, ticket_limit}
 use Rattle.mar_actor.specs.Lives.{later_round}
 use Rattle.mar_actor.specs.Requests.{raise_asks}
 use Rattle.mar_actor.specs.Step.{HandedBlock, Report, handed_over, new_tip, outstanding_of}
-use Rattle.mar_actor.specs.Held.{Counts, Ending, Held, IsUsual, Loses, Seen}
+use Rattle.mar_actor.specs.Held.{Counts, Ending, Held, IsEndedBy, IsUsual, Loses, Seen}
+use Rattle.mar_actor.specs.Node.{Ended}
 
 -- HANDING OVER
 
@@ -62,12 +63,21 @@ IsLast a b = (a.life.next_ack ≡ 2 ^ 64 - 1) ⊎ (b.height ≡ 2 ^ 64 - 1)
 abbrev pub IsAtLimit : {P E : Type 0} → Seen P E → List HandedBlock → Type 0
 IsAtLimit a handed = (2 ^ 64 - 1 ≤ a.life.next_ack + length handed) ⊎ (2 ^ 64 - 1 ≤ next_in a + length handed)
 
+-- a block that may be left stands at the last height, or above it
+abbrev pub HasLastBlock : Ended → Type 0
+HasLastBlock e = (x : At Block) × Contains e.blocks_may x × (2 ^ 64 - 1 ≤ x.height)
+
+-- where no more tickets were given than heights lie below the next block, the last ticket comes with a block at the last height
+abbrev pub RunsOutLast : {P E : Type 0} → Seen P E → Ending → Type 0
+RunsOutLast a e = e.fault ≡ ticket_limit ack_kind → a.life.next_ack ≤ next_in a → HasLastBlock e.remains.ended
+
 -- The life ended while blocks were handed over.
 pub record StopsHanding {P E : Type 0} (old : Seen P E) (handed : List HandedBlock) (e : Ending) : Type 0 where
   pub next : AreNextHeld old handed
   pub room : HasRoom old handed
   pub lost : Loses old.held [] [] [] e
   pub kind : IsUsual e.fault ⊎ ((e.fault ≡ ticket_limit ack_kind) × IsAtLimit old handed)
+  pub runs_out : RunsOutLast old e
 
 -- All was handed over that could be.
 pub record Dispatches {P E : Type 0} (old : Seen P E) (handed : List HandedBlock) (new : Seen P E) : Type 0 where
@@ -75,6 +85,24 @@ pub record Dispatches {P E : Type 0} (old : Seen P E) (handed : List HandedBlock
   pub room : HasRoom old handed
   pub same : new ≡ with_handed old handed
   pub still : IsStill new
+
+-- LIVING ON
+
+-- What no step changes.
+pub record SameLife {P E : Type 0} (old new : Seen P E) : Type 0 where
+  pub counts : new.held.counts ≡ old.held.counts
+  pub provider : new.life.provider ≡ old.life.provider
+  pub epocher : new.life.epocher ≡ old.life.epocher
+  pub sizes : new.life.sizes ≡ old.life.sizes
+
+-- Why a step ended a life.
+pub record EndsLife {P E : Type 0} (old : Seen P E) (e : Ending) : Type 0 where
+  pub cause : IsEndedBy old.held.counts e
+  pub runs_out : RunsOutLast old e
+
+-- the life goes on with what it was set to, or ends for a cause
+abbrev pub LivesOn : {P E : Type 0} → Seen P E → Result (Seen P E) Ending → Type 0
+LivesOn old result = MatchResult result (SameLife old) (EndsLife old)
 
 -- STORING
 

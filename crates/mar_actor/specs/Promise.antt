@@ -1,18 +1,21 @@
 -- An actor as a node, what a step asks of it and of its event, and what a step promises.
-use Rattle.std.specs.Prelude.{Contains, List, MatchResult, None, Option, Result, [], false, ℕ, ⊤, ◌++◌, ◌∷◌, ◌≡◌}
-use Rattle.mar_types.specs.Epochs.{Epochs}
+use Rattle.std.specs.Prelude.{Contains, IfErr, List, MatchResult, None, Option, Result, Some, [], false, length, ℕ, ⊤, ◌++◌, ◌<◌, ◌∷◌, ◌≡◌, ◌≤◌}
+use Rattle.mar_types.specs.Epochs.{Epochs, IsPartition}
 use Rattle.mar_block.specs.Block.{Block}
+use Rattle.mar_cert.specs.Finalization.{Finalization}
 use Rattle.mar_key.specs.Asked.{Asked, asked_after}
 use Rattle.mar_key.specs.Hears.{Hears}
 use Rattle.mar_key.specs.Keys.{Call}
-use Rattle.mar_store.specs.Kept.{reopened_store}
+use Rattle.mar_store.specs.Kept.{At, Reopens, reopened_store}
 use Rattle.mar_inbox.specs.Messages.{report_finalization}
-use Rattle.mar_actor.specs.Chain.{Chain, IsLawful}
+use Rattle.mar_parts.specs.Metadata.{Pair}
+use Rattle.mar_actor.specs.Chain.{Chain, IsBlockAt, IsLawful}
 use Rattle.mar_actor.specs.Config.{Config}
 use Rattle.mar_actor.specs.Event.{Event, life_started, message_told}
-use Rattle.mar_actor.specs.Held.{Ending, Seen, Sizes}
-use Rattle.mar_actor.specs.Lives.{Cuts}
-use Rattle.mar_actor.specs.Node.{IsFinalized, IsGood, Node, Rest}
+use Rattle.mar_actor.specs.Faults.{Begin, Fault, ack_kind, from_genesis, opening_fault, ticket_limit}
+use Rattle.mar_actor.specs.Held.{Ending, Remains, Seen, Sizes}
+use Rattle.mar_actor.specs.Lives.{Cuts, CutsReopening, Finds, IsGoodEnded}
+use Rattle.mar_actor.specs.Node.{Ended, IsFinalized, IsGood, Node, Rest, next_height}
 use Rattle.mar_actor.specs.Step.{Made, Report, Steps}
 
 -- the node that an actor is, with this buffer and these open requests: it has no cache, no queues and no callers that
@@ -102,3 +105,35 @@ abbrev pub KeepsPromise : {P E : Type 0} → Epochs → (List ℕ → List ℕ) 
 KeepsPromise epochs inner old e buffer told told' heard heard' result =
     (config : Config) (chain : Chain) (asked : List Asked) → IsSetTo config old.life.sizes epochs inner → IsLawfulStep config chain (node_of old buffer asked) e
     → (reports : List Report) × Hears told reports told' × StepsOrCuts config chain old e buffer asked reports heard heard' result
+
+-- On a lawful chain the tickets never run out: where no more of them were given than heights lie below the next block.
+abbrev pub KeepsCounting : {P E : Type 0} → Epochs → (List ℕ → List ℕ) → Seen P E → Event → List Block → Result (Seen P E) Ending → Type 0
+KeepsCounting epochs inner old e buffer result =
+    (config : Config) (chain : Chain) (asked : List Asked) → IsSetTo config old.life.sizes epochs inner → IsLawfulStep config chain (node_of old buffer asked) e
+    → old.life.next_ack ≤ next_height (node_of old buffer asked) → IfErr result (λ left. left.fault ≡ ticket_limit ack_kind → ⊥)
+
+-- OPENING
+
+-- What an opening asks: a partition into epochs, a lawful chain, that what is left is good for it and has some pair, and
+-- a genesis that is its block 0.
+pub record IsLawfulOpening (config : Config) (chain : Chain) (e : Ended) (begin : Begin) : Type 0 where
+  pub partition : IsPartition config.epochs
+  pub lawful : IsLawful config.epochs chain
+  pub good : IsGoodEnded chain e
+  pub some_pair : 0 < length e.meta
+  pub genesis : (b : Block) → begin ≡ from_genesis b → IsBlockAt chain 0 b
+
+-- A node that begins: what the opening found, and good.
+pub record Begins (config : Config) (chain : Chain) (e : Ended) (begin : Begin) (n : Node) : Type 0 where
+  pub finds : Finds config e begin n
+  pub good : IsGood config chain n
+
+-- What an opening promises of every chain for which it is lawful: a node that begins, or a cut before its start.
+abbrev pub KeepsOpening : {P E F : Type 0} → Epochs → (List ℕ → List ℕ) → Sizes → Remains → Begin → Result (Seen P E × F) Ending → Type 0
+KeepsOpening epochs inner sizes old begin result =
+    (config : Config) (chain : Chain) → IsSetTo config sizes epochs inner → IsLawfulOpening config chain old.ended begin
+    → MatchResult result (λ r. Begins config chain old.ended begin (node_of r.0 [] [])) (λ e. CutsReopening config chain old.ended begin [] e.fault e.remains.ended)
+
+-- the fault that an opening must end in, by what some reopening of these stores finds
+abbrev pub IsOpeningFault : Ended → Begin → Fault → Type 0
+IsOpeningFault e begin fault = (pair : Pair) × (blocks : List (At Block)) × (certs : List (At Finalization)) × Contains e.meta pair × Reopens e.blocks_sure e.blocks_may blocks × Reopens e.certs_sure e.certs_may certs × (opening_fault blocks certs pair begin ≡ Some fault)

@@ -14,7 +14,7 @@ ghost use Rattle.mar_actor.specs.Event.{ack_given};
 ghost use Rattle.mar_actor.specs.Promise.{KeepsPromise};
 ghost use Rattle.mar_actor.specs.Held.{GoesOn, IsUsual, Loses};
 ghost use Rattle.mar_actor.specs.Lives.{later_round};
-ghost use Rattle.mar_actor.specs.Moves.{Drains, DrainsNext, EndsDropped, EndsOldest, RaisesTo, progress_asks, retired, round_at};
+ghost use Rattle.mar_actor.specs.Moves.{Drains, DrainsNext, EndsDropped, EndsOldest, LivesOn, RaisesTo, progress_asks, retired, round_at};
 ghost use Rattle.mar_actor.specs.Requests.{raise_asks};
 
 use crate::actor::Actor;
@@ -48,6 +48,7 @@ impl<
         application: &mut A,
     ) -> Result<Self, Ended<V, F, FB, FC, M, H>>
         ensures promise { IsNested self.held.blocks → (buffer : List Block) → KeepsPromise (E.epochs self.life.epocher) V.inner self (ack_given ticket) buffer (A.told application.old) (A.told application.new) (R.told resolver.old) (R.told resolver.new) result }
+        ensures lives { LivesOn self result }
     {
         let (actor, is_drained) = self.give(ticket).drain(resolver)?;
         if !is_drained {

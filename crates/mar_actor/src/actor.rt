@@ -1,10 +1,10 @@
 //! The actor, which each of its steps consumes.
-ghost use Rattle.std.specs.Prelude.{◌≡◌, [], Err};
+ghost use Rattle.std.specs.Prelude.{◌≡◌, [], Err, IfErr, IfOk};
 ghost use Rattle.std.specs.List.{list_any};
 ghost use Rattle.mar_store.specs.Changes.{IsNested};
 ghost use Rattle.mar_parts.specs.Acks.{is_unmarked};
-ghost use Rattle.mar_actor.specs.Held.{GoesOn, IsNoStores, IsUsual, Loses, remains_of};
-ghost use Rattle.mar_actor.specs.Promise.{KeepsPromise};
+ghost use Rattle.mar_actor.specs.Held.{GoesOn, IsEndedBy, IsNoStores, IsUsual, Loses, remains_of};
+ghost use Rattle.mar_actor.specs.Promise.{KeepsCounting, KeepsPromise};
 ghost use Rattle.mar_actor.specs.Views.{event_of, fault_of};
 
 use crate::event::Event;
@@ -66,7 +66,7 @@ impl<
     H: Shelf,
 > Actor<V, F, P, E, FB, FC, M, H> {
     /// Takes one event. An end of the life says why and hands back what is left. On a lawful chain the step is a step of
-    /// the node, or a cut.
+    /// the node, or a cut. A store's fault ends it only where that store has failed.
     pub fn step<B: Buffer<V>, R: Resolver<V::Commitment>, A: Reporter<V>>(
         self,
         event: Event<F>,
@@ -75,6 +75,10 @@ impl<
         application: &mut A,
     ) -> Result<Self, Ended<V, F, FB, FC, M, H>>
         ensures promise { KeepsPromise (E.epochs self.life.epocher) V.inner self (event_of F.plain event) (B.blocks buffer.now) (A.told application.old) (A.told application.new) (R.told resolver.old) (R.told resolver.new) result }
+        ensures counts { IfOk result (λ a. a.held.counts ≡ self.held.counts) }
+        ensures cause { IfErr result (λ e. IsEndedBy self.held.counts e) }
+        ensures lasting { KeepsCounting (E.epochs self.life.epocher) V.inner self (event_of F.plain event) (B.blocks buffer.now) result }
+        ensures same_life { IfOk result (λ a. (a.life.provider ≡ self.life.provider) × (a.life.epocher ≡ self.life.epocher) × (a.life.sizes ≡ self.life.sizes)) }
     {
         self.law();
         match event {
@@ -97,8 +101,11 @@ impl<
 
     /// Ends the life; what a crash now leaves is handed back.
     pub fn wreck(self) -> Ruins<V, F, FB, FC, M, H>
-        ensures { result ≡ remains_of self.held }
+        ensures left { result ≡ remains_of self.held }
+        ensures blocks { IsNested self.held.blocks }
+        ensures certs { IsNested self.held.certs }
     {
+        self.law();
         self.stores.wreck()
     }
 

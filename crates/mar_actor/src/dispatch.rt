@@ -4,7 +4,7 @@ ghost use Rattle.mar_key.specs.Hears.{Hears};
 ghost use Rattle.mar_key.specs.Processed.{first_unprocessed};
 ghost use Rattle.mar_store.specs.Kept.{value_at};
 ghost use Rattle.mar_actor.specs.Faults.{ack_kind, ticket_limit};
-ghost use Rattle.mar_actor.specs.Held.{GoesOn, IsUsual, Loses};
+ghost use Rattle.mar_actor.specs.Held.{GoesOn, IsUsual, Loses, remains_of};
 ghost use Rattle.mar_actor.specs.Moves.{Dispatches, IsLast, IsNext, IsStill, StopsHanding, handed_report, next_in, with_handed};
 ghost use Rattle.mar_actor.specs.Step.{HandedBlock, handed_over};
 
@@ -36,13 +36,20 @@ impl<
         ensures ran { (handed : List HandedBlock) × Hears (A.told application.old) (map handed_report handed) (A.told application.new)
             × MatchResult result (λ a. Dispatches self handed a) (λ e. StopsHanding self handed e) }
     {
+        self.law();
         let mut actor = self;
         'window: for _handed in 0..actor.life.acks.capacity() {
-            let (next, block) = actor.next_block()?;
-            let Some(block) = block else {
-                return Ok(next);
+            let (next, block) = match actor.next_block() {
+                Ok(found) => found,
+                Err(ended) => return Err(ended),
             };
-            actor = next.hand_over(block, application)?;
+            match block {
+                None => return Ok(next),
+                Some(block) => match next.hand_over(block, application) {
+                    Ok(handed) => actor = handed,
+                    Err(ended) => return Err(ended),
+                },
+            }
         }
         Ok(actor)
     }
@@ -101,6 +108,7 @@ impl<
         ensures same { IfOk result (λ a. a ≡ with_handed self (record { ticket = self.life.next_ack; block = V.plain block } ∷ [])) }
         ensures lost { IfErr result (Loses self.held [] [] []) }
         ensures kind { IfErr result (λ e. IsUsual e.fault ⊎ ((e.fault ≡ ticket_limit ack_kind) × IsLast self (V.plain block))) }
+        ensures limit { IfErr result (λ e. e.fault ≡ ticket_limit ack_kind → e.remains ≡ remains_of self.held) }
     {
         let height = V::height(&block);
         let Actor { stores, mut life } = self;

@@ -11,7 +11,7 @@ ghost use Rattle.mar_shelf.specs.Stored.{at_own_height, block_of, is_certified, 
 ghost use Rattle.mar_actor.specs.Event.{message_told};
 ghost use Rattle.mar_actor.specs.Promise.{KeepsPromise};
 ghost use Rattle.mar_actor.specs.Held.{GoesOn, IsUsual};
-ghost use Rattle.mar_actor.specs.Moves.{Stores, StoresLate, StoresValue, at_height, found_at_hand, is_due, late_tips, of_commitment, tip_after, tip_reports, wants};
+ghost use Rattle.mar_actor.specs.Moves.{LivesOn, Stores, StoresLate, StoresValue, at_height, found_at_hand, is_due, late_tips, of_commitment, tip_after, tip_reports, wants};
 
 use crate::actor::Actor;
 use crate::fault::Fault;
@@ -44,6 +44,7 @@ impl<
         application: &mut A,
     ) -> Result<Self, Ended<V, F, FB, FC, M, H>>
         ensures promise { IsNested self.held.blocks → IsNested self.held.certs → KeepsPromise (E.epochs self.life.epocher) V.inner self (message_told None (report_finalization (F.plain finalization.now))) (B.blocks buffer.now) (A.told application.old) (A.told application.new) (R.told resolver.old) (R.told resolver.new) result }
+        ensures lives { LivesOn self result }
     {
         let (actor, block) = self.block_at_hand(finalization.payload(), buffer)?;
         match block {
@@ -133,6 +134,7 @@ impl<
         ensures promise { (heard : Option (List Call)) → IsNested self.held.blocks → IsNested self.held.certs → (buffer : List Block)
             → found_at_hand V.inner buffer self.held.blocks.held (F.plain finalization.now).payload ≡ Some (V.plain block.now) → nat_lt (height_of self.held.processed) (V.plain block.now).height ≡ true
             → KeepsPromise (E.epochs self.life.epocher) V.inner self (message_told None (report_finalization (F.plain finalization.now))) buffer (A.told application.old) (A.told application.new) heard heard result }
+        ensures lives { LivesOn self result }
     {
         let height = V::height(block);
         if height.get() == u64::MAX {
@@ -241,6 +243,7 @@ impl<
         ensures promise { IsNested self.held.blocks → IsNested self.held.certs → (buffer : List Block)
             → found_at_hand V.inner buffer self.held.blocks.held (F.plain finalization.now).payload ≡ Some (V.plain block.now) → nat_lt (height_of self.held.processed) (V.plain block.now).height ≡ false
             → KeepsPromise (E.epochs self.life.epocher) V.inner self (message_told None (report_finalization (F.plain finalization.now))) buffer (A.told application.old) (A.told application.new) (R.told resolver.old) (R.told resolver.new) result }
+        ensures lives { LivesOn self result }
     {
         let actor = self.witness(finalization.round(), resolver)?;
         let actor = actor.sync_metadata()?;

@@ -1,4 +1,9 @@
 //! What an actor is set to.
+ghost use Rattle.std.specs.Prelude.{◌≡◌};
+ghost use Rattle.mar_block.specs.Block.{Block};
+ghost use Rattle.mar_actor.specs.Faults.{from_genesis};
+ghost use Rattle.mar_actor.specs.Views.{begin_of};
+
 use mar_types::ViewDelta;
 
 /// The sizes that an actor keeps to.
@@ -19,6 +24,17 @@ pub struct Limits {
 pub enum Start<B> {
     /// The block at height zero.
     Genesis(B),
+}
+
+impl<B> Start<B> {
+    /// The block at height zero.
+    pub(crate) fn genesis(self) -> B
+        ensures { (plain : B → Block) → begin_of plain self ≡ from_genesis (plain result) }
+    {
+        match self {
+            Start::Genesis(genesis) => genesis,
+        }
+    }
 }
 
 /// What an actor is opened with: who gives the schemes of epochs, which heights an epoch has, and the rest.

@@ -1,8 +1,9 @@
 //! What a node shows of itself.
-ghost use Rattle.std.specs.Prelude.{◌≡◌, option_map};
+ghost use Rattle.std.specs.Prelude.{◌≡◌, Some, option_map};
 ghost use Rattle.mar_key.specs.Views.{cutoff_of, processed_of};
 ghost use Rattle.mar_store.specs.Changes.{heights};
 ghost use Rattle.mar_store.specs.Ranges.{ranges};
+ghost use Rattle.mar_parts.specs.Metadata.{first_pair};
 
 use crate::actor::Actor;
 use crate::ruins::Ruins;
@@ -77,8 +78,10 @@ impl<
     M: Meta,
     H: Shelf,
 > Ruins<V, F, FB, FC, M, H> {
-    /// What is shown of the stores.
+    /// What is shown of the stores; the processed height and the cutoff are what the last successful sync of the
+    /// metadata left, or its last reopening read.
     pub fn shown(&self) -> ShownRuins<'_>
+        ensures pair { first_pair self.now.ended.meta ≡ Some (record { processed = result.processed; cutoff = cutoff_of result.cutoff }) }
         ensures blocks_sure { result.blocks_sure.now ≡ ranges (heights self.now.ended.blocks_sure) }
         ensures blocks_may { result.blocks_may.now ≡ ranges (heights self.now.ended.blocks_may) }
         ensures certs_sure { result.certs_sure.now ≡ ranges (heights self.now.ended.certs_sure) }

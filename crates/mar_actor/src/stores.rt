@@ -6,8 +6,8 @@ ghost use Rattle.mar_store.specs.Kept.{value_at};
 ghost use Rattle.mar_store.specs.Changes.{IsNested, Puts, Syncs, left_of};
 ghost use Rattle.mar_store.specs.Lost.{wreck_of};
 ghost use Rattle.mar_shelf.specs.Stored.{at_own_height, block_of, is_certified, is_held};
-ghost use Rattle.mar_actor.specs.Held.{GoesOn, IsNoStores, IsUsual, Loses, ended_of, lost_fault, missed_fault, remains_of};
-ghost use Rattle.mar_actor.specs.Faults.{block_store, cert_store, meta_store};
+ghost use Rattle.mar_actor.specs.Held.{GoesOn, IsNoStores, IsUsual, Loses, LosesOpening, ReopensAs, ended_of, lost_fault, missed_fault, remains_of};
+ghost use Rattle.mar_actor.specs.Faults.{block_store, cache_store, cert_store, is_empty, meta_store};
 ghost use Rattle.mar_actor.specs.Views.{fault_of, store_name_of};
 ghost use Rattle.mar_parts.specs.Metadata.{pair_at, pair_of};
 
@@ -72,7 +72,11 @@ impl<
     pub(crate) fn reopen(
         ruins: Ruins<V, F, FB, FC, M, H>,
         luck: u64,
-    ) -> Result<Self, Ended<V, F, FB, FC, M, H>> {
+    ) -> Result<Self, Ended<V, F, FB, FC, M, H>>
+        ensures ok { IfOk result (λ s. ReopensAs ruins s) }
+        ensures lost { IfErr result (LosesOpening ruins []) }
+        ensures usual { IfErr result (λ e. IsUsual e.fault) }
+    {
         let Ruins {
             blocks,
             certs,
@@ -113,7 +117,9 @@ impl<
     }
 
     /// Whether nothing is stored: no block, no certificate, no processed height and no cutoff.
-    pub(crate) fn is_empty(&self) -> bool {
+    pub(crate) fn is_empty(&self) -> bool
+        ensures { result ≡ is_empty self.now.blocks.held self.now.certs.held (pair_of self.now.processed self.now.cutoff) }
+    {
         self.blocks.held_ranges().is_empty()
             && self.certs.held_ranges().is_empty()
             && self.progress.processed().is_none()
@@ -426,7 +432,12 @@ impl<
         certs: FC::Wreck,
         meta: M::Wreck,
         shelf: H::Wreck,
-    ) -> Self {
+    ) -> Self
+        ensures { result ≡ record {
+          fault = lost_fault block_store lost;
+          remains = record { ended = ended_of (FB.Wreck.left (wreck_of lost)) (FC.Wreck.left certs) (map pair_at (M.Wreck.left meta)); counts = record { blocks = FB.Wreck.faults (wreck_of lost); certs = FC.Wreck.faults certs; meta = M.Wreck.faults meta; cache = H.Wreck.faults shelf } };
+        } }
+    {
         let (fault, blocks) = lost_by(lost, StoreName::Blocks);
         Ended {
             fault,
@@ -439,7 +450,12 @@ impl<
         }
     }
 
-    fn before_certs(blocks: FB, lost: Lost<FC::Wreck>, meta: M::Wreck, shelf: H::Wreck) -> Self {
+    fn before_certs(blocks: FB, lost: Lost<FC::Wreck>, meta: M::Wreck, shelf: H::Wreck) -> Self
+        ensures { result ≡ record {
+          fault = lost_fault cert_store lost;
+          remains = record { ended = ended_of (left_of (FB.stored blocks)) (FC.Wreck.left (wreck_of lost)) (map pair_at (M.Wreck.left meta)); counts = record { blocks = FB.faults blocks; certs = FC.Wreck.faults (wreck_of lost); meta = M.Wreck.faults meta; cache = H.Wreck.faults shelf } };
+        } }
+    {
         let (fault, certs) = lost_by(lost, StoreName::Certs);
         Ended {
             fault,
@@ -452,7 +468,12 @@ impl<
         }
     }
 
-    fn before_meta(blocks: FB, certs: FC, lost: Lost<M::Wreck>, shelf: H::Wreck) -> Self {
+    fn before_meta(blocks: FB, certs: FC, lost: Lost<M::Wreck>, shelf: H::Wreck) -> Self
+        ensures { result ≡ record {
+          fault = lost_fault meta_store lost;
+          remains = record { ended = ended_of (left_of (FB.stored blocks)) (left_of (FC.stored certs)) (map pair_at (M.Wreck.left (wreck_of lost))); counts = record { blocks = FB.faults blocks; certs = FC.faults certs; meta = M.Wreck.faults (wreck_of lost); cache = H.Wreck.faults shelf } };
+        } }
+    {
         let (fault, meta) = lost_by(lost, StoreName::Meta);
         Ended {
             fault,
@@ -465,7 +486,12 @@ impl<
         }
     }
 
-    fn of_shelf(blocks: FB, certs: FC, progress: Progress<M>, lost: Lost<H::Wreck>) -> Self {
+    fn of_shelf(blocks: FB, certs: FC, progress: Progress<M>, lost: Lost<H::Wreck>) -> Self
+        ensures { result ≡ record {
+          fault = lost_fault cache_store lost;
+          remains = record { ended = ended_of (left_of (FB.stored blocks)) (left_of (FC.stored certs)) (progress.pairs); counts = record { blocks = FB.faults blocks; certs = FC.faults certs; meta = progress.faults; cache = H.Wreck.faults (wreck_of lost) } };
+        } }
+    {
         let (fault, shelf) = lost_by(lost, StoreName::Cache);
         Ended {
             fault,

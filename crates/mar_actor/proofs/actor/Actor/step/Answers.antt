@@ -1,8 +1,35 @@
+use Rattle.std.proofs.Common.{None, refl, rules}
+use Rattle.mar_actor.specs.Event.{ack_given, life_started}
+use Rattle.mar_actor.specs.Views.{event_of}
 use Rattle.mar_actor.proofs.EventPromises.{promise-start, promise-sync}
+use Rattle.mar_actor.proofs.Lasting.{KeepsCounting-kept, LivesOn-ran, counts_kept, ended_by, settings_kept}
 use Rattle.mar_actor.proofs.actor.Actor.step.Goals as goal
 
 pub returns-in-Start : goal.returns-in-Start
-returns-in-Start g c = rw c.in-Start.is (record { promise = promise-start (g.E.Epocher.epochs c.args.self.life.epocher) g.V.Variant.inner (g.met.E.Epocher.partition c.args.self.life.epocher) c.args.self _ _ _ _ _ c.law.ensures.blocks c.dispatch.ensures.ran })
+returns-in-Start g c =
+    let lives = LivesOn-ran c.args.self _ _ c.dispatch.result c.dispatch.ensures.ran in
+    rw c.in-Start.is (record {
+      promise = promise-start (g.E.Epocher.epochs c.args.self.life.epocher) g.V.Variant.inner (g.met.E.Epocher.partition c.args.self.life.epocher) c.args.self _ _ _ _ _ c.law.ensures.blocks c.dispatch.ensures.ran;
+      counts = counts_kept c.args.self _ lives;
+      cause = ended_by c.args.self _ lives;
+      lasting = KeepsCounting-kept (g.E.Epocher.epochs c.args.self.life.epocher) g.V.Variant.inner c.args.self (life_started None) _ _ _ None None _ (promise-start (g.E.Epocher.epochs c.args.self.life.epocher) g.V.Variant.inner (g.met.E.Epocher.partition c.args.self.life.epocher) c.args.self _ _ _ None _ c.law.ensures.blocks c.dispatch.ensures.ran) lives;
+      same_life = settings_kept c.args.self _ lives;
+    })
+
+pub returns-in-Message-Finalization-clause-promise : goal.returns-in-Message-Finalization-clause-promise
+returns-in-Message-Finalization-clause-promise g c = search rules
+
+pub returns-in-Message-Finalization-clause-lasting : goal.returns-in-Message-Finalization-clause-lasting
+returns-in-Message-Finalization-clause-lasting g c = KeepsCounting-kept (g.E.Epocher.epochs c.args.self.life.epocher) g.V.Variant.inner c.args.self (event_of g.F.AsFinalization.plain c.args.event) (g.B.Buffer.blocks c.args.buffer.now) (g.A.Reporter.told c.args.application.now) (g.A.Reporter.told c.report_finalization.new.application) (g.R.Resolver.told c.args.resolver.now) (g.R.Resolver.told c.report_finalization.new.resolver) c.report_finalization.result (returns-in-Message-Finalization-clause-promise g c) c.report_finalization.ensures.lives
 
 pub returns-in-Sync : goal.returns-in-Sync
-returns-in-Sync g c = rw c.in-Sync.is (record { promise = promise-sync (g.E.Epocher.epochs c.args.self.life.epocher) g.V.Variant.inner (g.met.E.Epocher.partition c.args.self.life.epocher) c.args.self _ _ _ _ c.law.ensures.blocks })
+returns-in-Sync g c = rw c.in-Sync.is (record {
+  promise = promise-sync (g.E.Epocher.epochs c.args.self.life.epocher) g.V.Variant.inner (g.met.E.Epocher.partition c.args.self.life.epocher) c.args.self _ _ _ _ c.law.ensures.blocks;
+  counts = refl;
+  cause = tt;
+  lasting = λ config chain asked set step low. tt;
+  same_life = (refl, refl, refl);
+})
+
+pub returns-in-Ack-clause-lasting : goal.returns-in-Ack-clause-lasting
+returns-in-Ack-clause-lasting g c = rw c.in-Ack.is (KeepsCounting-kept (g.E.Epocher.epochs c.args.self.life.epocher) g.V.Variant.inner c.args.self (ack_given c.in-Ack.ticket) (g.B.Buffer.blocks c.args.buffer.now) (g.A.Reporter.told c.args.application.now) (g.A.Reporter.told c.acknowledge.new.application) (g.R.Resolver.told c.args.resolver.now) (g.R.Resolver.told c.acknowledge.new.resolver) c.acknowledge.result (c.acknowledge.ensures.promise c.law.ensures.blocks _) c.acknowledge.ensures.lives)
