@@ -4,7 +4,7 @@ use Rattle.mar_block.specs.Block.{Block}
 use Rattle.mar_types.specs.Round.{Round}
 use Rattle.mar_key.specs.Cutoff.{at_round, covers, cutoff_zero}
 use Rattle.mar_actor.specs.Chain.{Chain, IsBlockAt, IsFinal, Finalizes}
-use Rattle.mar_store.specs.Kept.{At, has_height}
+use Rattle.mar_store.specs.Kept.{At, has_height, reopened_store}
 use Rattle.mar_actor.specs.Node.{FloorSafe, window_full, block_missing, IsGood}
 use Rattle.mar_actor.specs.Event.{life_started, message_told, ack_given}
 use Rattle.mar_key.specs.Keys.{retain, above_height, above_round}
@@ -165,7 +165,8 @@ module _ (chain : Chain) (at0 : IsBlockAt chain 0 b0) (at1 : IsBlockAt chain 1 b
       lowests = [];
       lowests_were = λ k there. there;
       lowest_was = (0, lit< tt, refl);
-      blocks = record { height = 0; value = b0 } ∷ [];
+      blocks = reopened_store (record { height = 0; value = b0 } ∷ []);
+      settled = record { sure = refl; may = λ x has. has };
       entered = ((refl, tt), λ h. refl);
       no_fault = refl;
       node = refl;

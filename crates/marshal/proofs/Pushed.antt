@@ -1,9 +1,9 @@
 -- What was appended in parts, and the lines that show a node.
-use Rattle.std.proofs.Common.{List, [], ap, append_assoc, refl, sym, ℕ, ◌++◌, ◌∙◌, ◌∷◌, ◌≡◌}
+use Rattle.std.proofs.Common.{List, None, Option, Some, [], ap, append_assoc, refl, sym, ℕ, ◌++◌, ◌∙◌, ◌∷◌, ◌≡◌}
 use Rattle.std.specs.Prelude.{codes, decimal}
 use Rattle.mar_key.specs.Keys.{Annotation, certified_at, finalized_by_height, finalized_by_round, for_notarization, untrusted_at}
-use Rattle.marshal.specs.Script.{sentence}
-use Rattle.marshal.specs.Text.{annotation_words, line_of, round_text}
+use Rattle.marshal.specs.Script.{comma_numbers, sentence}
+use Rattle.marshal.specs.Text.{annotation_words, line_of, round_text, target_words}
 
 three : (old a b c : List ℕ) → ((old ++ a) ++ b) ++ c ≡ old ++ (a ++ (b ++ c))
 three old a b c = simp append_assoc
@@ -56,13 +56,23 @@ ended_line p c bs bm fs fm =
     ∙ front4 (codes "node end p=") p (codes " c=") c ((32 ∷ (codes "bs=" ++ bs)) ++ ((32 ∷ (codes "bm=" ++ bm)) ++ ((32 ∷ (codes "fs=" ++ fs)) ++ ((32 ∷ (codes "fm=" ++ fm)) ++ codes "\n"))))
     )
 
--- a request that is not targeted
-fetch_words : (h w : List ℕ) (ws : List (List ℕ)) → line_of (codes "fetch" ∷ h ∷ w ∷ ws) ≡ codes "fetch " ++ (h ++ (codes " " ++ line_of (w ∷ ws)))
-fetch_words h w ws = line_end (codes "fetch" ∷ h ∷ w ∷ ws) ∙ sym (ap (λ l. codes "fetch " ++ (h ++ (codes " " ++ l))) (line_end (w ∷ ws)))
+-- what stands behind a request's annotation
+abbrev pub target_end : Option (List ℕ) → List ℕ
+target_end None = codes "\n"
+target_end (Some peers) = codes " to " ++ (comma_numbers peers ++ codes "\n")
 
-pub fetch_line : (h : List ℕ) (a : Annotation) → line_of (codes "fetch" ∷ h ∷ (annotation_words a ++ [])) ≡ codes "fetch " ++ (h ++ (codes " " ++ line_of (annotation_words a)))
-fetch_line h (for_notarization r) = fetch_words h (codes "not") ((codes "r" ++ round_text r) ∷ [])
-fetch_line h (untrusted_at n) = fetch_words h (codes "unt") ((codes "h" ++ decimal n) ∷ [])
-fetch_line h (certified_at n) = fetch_words h (codes "cer") ((codes "h" ++ decimal n) ∷ [])
-fetch_line h (finalized_by_height n) = fetch_words h (codes "fin") ((codes "h" ++ decimal n) ∷ [])
-fetch_line h (finalized_by_round r) = fetch_words h (codes "fin") ((codes "r" ++ round_text r) ∷ [])
+request_words : (h w v : List ℕ) (ts : List (List ℕ)) (rest : List ℕ) → ended_by (v ∷ ts) ≡ v ++ rest → line_of (codes "fetch" ∷ h ∷ w ∷ v ∷ ts) ≡ (codes "fetch " ++ (h ++ (codes " " ++ (w ++ (32 ∷ v))))) ++ rest
+request_words h w v ts rest e =
+    line_end (codes "fetch" ∷ h ∷ w ∷ v ∷ ts) ∙ ap (λ l. codes "fetch " ++ (h ++ (codes " " ++ (w ++ (32 ∷ l))))) e
+    ∙ sym (front4 (codes "fetch ") h (codes " ") (w ++ (32 ∷ v)) rest ∙ ap (λ l. codes "fetch " ++ (h ++ (codes " " ++ l))) (append_assoc w (32 ∷ v) rest))
+
+targeted_words : (h w v : List ℕ) (targets : Option (List ℕ)) → line_of (codes "fetch" ∷ h ∷ w ∷ v ∷ target_words targets) ≡ (codes "fetch " ++ (h ++ (codes " " ++ (w ++ (32 ∷ v))))) ++ target_end targets
+targeted_words h w v None = request_words h w v [] (codes "\n") refl
+targeted_words h w v (Some peers) = request_words h w v (codes "to" ∷ comma_numbers peers ∷ []) (codes " to " ++ (comma_numbers peers ++ codes "\n")) refl
+
+pub request_line : (h : List ℕ) (a : Annotation) (targets : Option (List ℕ)) → line_of (codes "fetch" ∷ h ∷ (annotation_words a ++ target_words targets)) ≡ (codes "fetch " ++ (h ++ (codes " " ++ sentence (annotation_words a)))) ++ target_end targets
+request_line h (for_notarization r) targets = targeted_words h (codes "not") (codes "r" ++ round_text r) targets
+request_line h (untrusted_at n) targets = targeted_words h (codes "unt") (codes "h" ++ decimal n) targets
+request_line h (certified_at n) targets = targeted_words h (codes "cer") (codes "h" ++ decimal n) targets
+request_line h (finalized_by_height n) targets = targeted_words h (codes "fin") (codes "h" ++ decimal n) targets
+request_line h (finalized_by_round r) targets = targeted_words h (codes "fin") (codes "r" ++ round_text r) targets

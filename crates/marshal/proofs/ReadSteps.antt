@@ -26,7 +26,7 @@ use Rattle.marshal.proofs.Lines.{unended_nothing}
 use Rattle.marshal.proofs.Streams.{gives_more}
 
 -- what a source tells, if it tells something
-shown : (now : Option (List ℕ)) → (left : List ℕ) × IsShownAs now left
+pub shown : (now : Option (List ℕ)) → (left : List ℕ) × IsShownAs now left
 shown None = ([], tt)
 shown (Some bytes) = (bytes, refl)
 
@@ -159,11 +159,11 @@ pub record SoFar (source : Option (List ℕ)) (s : Settings) (pending : List ℕ
   pub count : number ≡ length lines + 2
   pub few : length lines < max_lines
 
-pub begins : (source : Option (List ℕ)) (s : Settings) (pending : List ℕ) (now : Option (List ℕ)) (taken : List ℕ) → Gives source taken now → taken ≡ settings_bytes s ++ pending → SoFar source s pending now 2
+unfoldable pub begins : (source : Option (List ℕ)) (s : Settings) (pending : List ℕ) (now : Option (List ℕ)) (taken : List ℕ) → Gives source taken now → taken ≡ settings_bytes s ++ pending → SoFar source s pending now 2
 begins source s pending now taken gives is =
     record { taken = taken; lines = []; gives = gives; spelled = is ∙ ap (λ xs. xs ++ pending) (sym (append-nil (settings_bytes s))); are = tt; count = refl; few = omega arith }
 
-pub goes_on : (source : Option (List ℕ)) (s : Settings) (pending : List ℕ) (now : Option (List ℕ)) (number : ℕ) (l : LineCode) (still : List ℕ) (after : Option (List ℕ)) → SoFar source s pending now number → TakesNext s.members number now pending (Ok (Some l)) still after → SoFar source s still after (number + 1)
+unfoldable pub goes_on : (source : Option (List ℕ)) (s : Settings) (pending : List ℕ) (now : Option (List ℕ)) (number : ℕ) (l : LineCode) (still : List ℕ) (after : Option (List ℕ)) → SoFar source s pending now number → TakesNext s.members number now pending (Ok (Some l)) still after → SoFar source s still after (number + 1)
 goes_on source s pending now number l still after so t = record {
   taken = so.taken ++ t.read;
   lines = so.lines ++ plain_line l ∷ [];
@@ -186,7 +186,7 @@ ends_first source code still after t = IfSome_then (ending_of code) {P = StopsWi
   reading = record { settings = None; lines = []; rest = t.read; reads = (refl, refl, stops.stops) };
 })
 
-ends : (source : Option (List ℕ)) (s : Settings) (pending : List ℕ) (now : Option (List ℕ)) (number : ℕ) (read : List ℕ) (after : Option (List ℕ)) (ending : Status) → IsSettings s → SoFar source s pending now number → Gives now read after → StopsWith number (IsLineBytes s.members) (pending ++ read) after ending
+unfoldable pub ends : (source : Option (List ℕ)) (s : Settings) (pending : List ℕ) (now : Option (List ℕ)) (number : ℕ) (read : List ℕ) (after : Option (List ℕ)) (ending : Status) → IsSettings s → SoFar source s pending now number → Gives now read after → StopsWith number (IsLineBytes s.members) (pending ++ read) after ending
     → ReadsTo source after ending
 ends source s pending now number read after ending valid so gives stops = record {
   taken = so.taken ++ read;

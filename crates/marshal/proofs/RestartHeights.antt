@@ -98,7 +98,7 @@ module _ (config : Config) (chain : Chain) where
   found_least : (k : ℕ) (e : Ended) (begin : Begin) (n : Node) → AllByRecursion (λ p. k ≤ next_after p.processed) e.meta → Finds config e begin n → k ≤ first_unprocessed n.processed
   found_least k e begin n a f =
       subst (λ p. k ≤ first_unprocessed p) (sym (ap (λ m. m.processed) f.node))
-      (subst (λ j. k ≤ j) (sym (opened_first f.blocks f.pair.processed)) (AllByRecursion-contains (λ p. k ≤ next_after p.processed) e.meta f.pair a f.pair_may))
+      (subst (λ j. k ≤ j) (sym (opened_first f.blocks.held f.pair.processed)) (AllByRecursion-contains (λ p. k ≤ next_after p.processed) e.meta f.pair a f.pair_may))
 
   found_out : (e : Ended) (begin : Begin) (n : Node) → Finds config e begin n → ConsecutiveFrom (first_unprocessed n.processed) n.out
   found_out e begin n f = subst (λ xs. ConsecutiveFrom (first_unprocessed n.processed) xs) (sym (ap (λ m. m.out) f.node)) tt

@@ -1,23 +1,70 @@
 -- Equal fields are shown by equal words.
-use Rattle.std.proofs.Common.{Err, List, Ok, Option, Result, ap, ℕ, ◌++◌, ◌∙◌, ◌≡◌}
-use Rattle.std.specs.Prelude.{OnOk}
+use Rattle.std.proofs.Common.{Err, List, Ok, Option, Result, Some, [], ap, append_assoc, map, option_map, refl, sym, ℕ, ◌++◌, ◌∙◌, ◌∷◌, ◌≡◌}
+use Rattle.std.proofs.lemmas.List.{append-nil}
+use Rattle.std.proofs.lemmas.List.Folds.{flat_map-map}
+use Rattle.std.specs.List.{flat_map}
+use Rattle.std.specs.Prelude.{OnOk, codes, decimal}
+use Rattle.mar_codec.specs.declared.Sha256.{Sha256}
+use Rattle.mar_codec.specs.declared.Sha256Digest.{Sha256Digest}
+use Rattle.mar_block.specs.declared.EmptyBlock.{EmptyBlock}
+use Rattle.mar_key.specs.Asked.{Asked}
+use Rattle.mar_key.specs.Keys.{Call}
+use Rattle.mar_store.specs.Changes.{heights}
+use Rattle.mar_parts.specs.Metadata.{Pair, first_pair}
+use Rattle.mar_actor.specs.Node.{Ended}
+use Rattle.mar_actor.specs.declared.Update.{Update}
 use Rattle.mar_key.specs.Cutoff.{Cutoff}
 use Rattle.mar_key.specs.Processed.{Processed}
 use Rattle.mar_parts.specs.Acks.{Outstanding}
-use Rattle.mar_store.specs.Ranges.{Range}
+use Rattle.mar_store.specs.Ranges.{Range, ranges}
 use Rattle.marshal.specs.Shown.{ended_shown_words, shown_words}
-use Rattle.marshal.specs.Text.{line_of}
+use Rattle.marshal.specs.Text.{State, ask_words, cutoff_text, ended_words, fault_words, line_of, or_dash, output_text, pair_words, ranges_text, remark_words, report_words, some_words, state_words}
+use Rattle.marshal.specs.Turn.{fault_in, output_of, plain_report, remark_in, report_text}
+use Rattle.marshal.specs.declared.play.Outcome.{Outcome}
+use Rattle.marshal.proofs.Pushed.{in_four}
 
 pub node_shown : (p p' : Option Processed) (o o' : List Outstanding) (c c' : Cutoff) (b b' bs bs' f f' fs fs' : List Range) → p ≡ p' → o ≡ o' → c ≡ c' → b ≡ b' → bs ≡ bs' → f ≡ f' → fs ≡ fs' → shown_words p o c b bs f fs ≡ shown_words p' o' c' b' bs' f' fs'
 node_shown p p' o o' c c' b b' bs bs' f f' fs fs' e1 e2 e3 e4 e5 e6 e7 =
     ap (λ x. shown_words x o c b bs f fs) e1 ∙ ap (λ x. shown_words p' x c b bs f fs) e2 ∙ ap (λ x. shown_words p' o' x b bs f fs) e3 ∙ ap (λ x. shown_words p' o' c' x bs f fs) e4
     ∙ ap (λ x. shown_words p' o' c' b' x f fs) e5 ∙ ap (λ x. shown_words p' o' c' b' bs' x fs) e6 ∙ ap (λ x. shown_words p' o' c' b' bs' f' x) e7
 
-pub ended_shown : (p : Option ℕ) (c : Cutoff) (bs bs' bm bm' fs fs' fm fm' : List Range) → bs ≡ bs' → bm ≡ bm' → fs ≡ fs' → fm ≡ fm' → ended_shown_words p c bs bm fs fm ≡ ended_shown_words p c bs' bm' fs' fm'
-ended_shown p c bs bs' bm bm' fs fs' fm fm' e1 e2 e3 e4 =
-    ap (λ x. ended_shown_words p c x bm fs fm) e1 ∙ ap (λ x. ended_shown_words p c bs' x fs fm) e2 ∙ ap (λ x. ended_shown_words p c bs' bm' x fm) e3 ∙ ap (λ x. ended_shown_words p c bs' bm' fs' x) e4
+pub ended_shown : (e : Ended) (p : Option ℕ) (c : Cutoff) (bs bm fs fm : List Range) → first_pair e.meta ≡ Some (record { processed = p; cutoff = c }) → bs ≡ ranges (heights e.blocks_sure) → bm ≡ ranges (heights e.blocks_may) → fs ≡ ranges (heights e.certs_sure) → fm ≡ ranges (heights e.certs_may)
+    → ended_shown_words p c bs bm fs fm ≡ ended_words e
+ended_shown e p c bs bm fs fm first e1 e2 e3 e4 =
+    ap (λ x. ended_shown_words p c x bm fs fm) e1 ∙ ap (λ x. ended_shown_words p c (ranges (heights e.blocks_sure)) x fs fm) e2 ∙ ap (λ x. ended_shown_words p c (ranges (heights e.blocks_sure)) (ranges (heights e.blocks_may)) x fm) e3
+    ∙ ap (λ x. ended_shown_words p c (ranges (heights e.blocks_sure)) (ranges (heights e.blocks_may)) (ranges (heights e.certs_sure)) x) e4
+    ∙ ap (λ ws. codes "node" ∷ codes "end" ∷ (ws ++ (codes "bs=" ++ ranges_text e.blocks_sure) ∷ (codes "bm=" ++ ranges_text e.blocks_may) ∷ (codes "fs=" ++ ranges_text e.certs_sure) ∷ (codes "fm=" ++ ranges_text e.certs_may) ∷ [])) (sym (pair_shown e.meta first))
+  where
+    pair_shown : (meta : List Pair) → first_pair meta ≡ Some (record { processed = p; cutoff = c }) → pair_words meta ≡ (codes "p=" ++ or_dash (option_map decimal p)) ∷ (codes "c=" ++ cutoff_text c) ∷ []
+    pair_shown [] is = absurd cc
+    pair_shown (q ∷ qs) is = ap (λ r. (codes "p=" ++ or_dash (option_map decimal r.processed)) ∷ (codes "c=" ++ cutoff_text r.cutoff) ∷ []) (inside is)
+      where
+        inside : ◌≡◌ {A = Option Pair} (Some q) (Some (record { processed = p; cutoff = c })) → q ≡ record { processed = p; cutoff = c }
+        inside same = cc
 
 -- a line of these words was appended, and they show what is to be shown
-pub shown_by : {T E : Type 0} (r : Result T E) (Shows : List (List ℕ) → Type 0) (words : List (List ℕ)) (old new : List ℕ) → Shows words → OnOk r (new ≡ old ++ line_of words) → OnOk r ((ws : List (List ℕ)) × Shows ws × (new ≡ old ++ line_of ws))
-shown_by (Ok v) Shows words old new shows appended = (words, shows, appended)
-shown_by (Err e) Shows words old new shows appended = appended
+pub line_shown : {T E : Type 0} (r : Result T E) (new old : List ℕ) (words : List (List ℕ)) (shown : List Asked → List (List ℕ)) → OnOk r (new ≡ old ++ line_of words) → ((asked : List Asked) → words ≡ shown asked) → OnOk r ((asked : List Asked) → new ≡ old ++ line_of (shown asked))
+line_shown (Ok v) new old words shown appended is = λ asked. appended ∙ ap (λ ws. old ++ line_of ws) (is asked)
+line_shown (Err e) new old words shown appended is = appended
+
+-- the remark or the fault of a line
+abbrev pub outcome_text : Outcome → List ℕ
+outcome_text o = some_words (option_map remark_words (remark_in o)) ++ some_words (option_map (λ f. codes "fault" ∷ fault_words f) (fault_in o))
+
+in_parts : (a b rem fault node : List ℕ) → a ++ b ++ [] ++ [] ++ [] ++ rem ++ fault ++ node ≡ a ++ (b ++ ((rem ++ fault) ++ node))
+in_parts a b rem fault node = simp (append_assoc, append-nil)
+
+turn_text : (updates : List (Update Sha256Digest (EmptyBlock Sha256 Sha256Digest))) (asks : List Call) (o : Outcome) (after : State)
+    → output_text (output_of (map plain_report updates) asks o) after ≡ flat_map report_text updates ++ (flat_map (λ a. line_of (ask_words a)) asks ++ (outcome_text o ++ line_of (state_words after)))
+unfolding output_text
+turn_text updates asks o after =
+    in_parts (flat_map (λ r. line_of (report_words r)) (map plain_report updates)) (flat_map (λ a. line_of (ask_words a)) asks) (some_words (option_map remark_words (remark_in o))) (some_words (option_map (λ f. codes "fault" ∷ fault_words f) (fault_in o))) (line_of (state_words after))
+    ∙ ap (λ l. l ++ (flat_map (λ a. line_of (ask_words a)) asks ++ (outcome_text o ++ line_of (state_words after)))) (flat_map-map (λ r. line_of (report_words r)) plain_report updates)
+
+-- what was appended in four parts is a line's text
+pub turn_shown : {T E : Type 0} (r : Result T E) (old m1 m2 m3 new : List ℕ) (updates : List (Update Sha256Digest (EmptyBlock Sha256 Sha256Digest))) (asks : List Call) (o : Outcome) (shown : List Asked → State)
+    → m1 ≡ old ++ flat_map report_text updates → m2 ≡ m1 ++ flat_map (λ a. line_of (ask_words a)) asks → m3 ≡ m2 ++ outcome_text o → OnOk r ((asked : List Asked) → new ≡ m3 ++ line_of (state_words (shown asked)))
+    → OnOk r ((asked : List Asked) → new ≡ old ++ output_text (output_of (map plain_report updates) asks o) (shown asked))
+turn_shown (Ok v) old m1 m2 m3 new updates asks o shown p q s appended = λ asked.
+    in_four old m1 m2 m3 new _ _ _ _ p q s (appended asked) ∙ ap (λ l. old ++ l) (sym (turn_text updates asks o (shown asked)))
+turn_shown (Err e) old m1 m2 m3 new updates asks o shown p q s appended = appended

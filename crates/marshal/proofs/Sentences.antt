@@ -7,11 +7,11 @@ use Rattle.std.proofs.lemmas.Bool.Decides.{nat_tests}
 use Rattle.std.proofs.lemmas.Fmt.{decimal_by_steps}
 use Rattle.std.proofs.lemmas.Grind.{common_steps}
 use Rattle.marshal.specs.Text.{comma_list}
-use Rattle.std.proofs.lemmas.List.{append-nil, append_cancel_right}
+use Rattle.std.proofs.lemmas.List.{append-nil, append_cancel_right, map-id}
 use Rattle.std.proofs.lemmas.List.Elements.{All-cons, All-nil, All-push, All-weaker}
 use Rattle.std.proofs.lemmas.List.Splits.{join_with_byte-slice_split, slice_split_at, slice_split_none}
 use Rattle.mar_codec.specs.Varint.{IsNumber}
-use Rattle.marshal.specs.Script.{IsSettings, Settings, sentence, settings_bytes}
+use Rattle.marshal.specs.Script.{IsSettings, Settings, comma_numbers, sentence, settings_bytes}
 use Rattle.marshal.specs.Words.{numbers_of, words_in}
 
 -- neither a space nor a line's end
@@ -66,6 +66,14 @@ shown_list g f (y ∷ ys) tail x some is behind = joined g f y ys ∙ ap (λ v. 
   where
     drop_one : {T : Type 0} (z : T) (zs : List T) → zs ≡ drop 1 (z ∷ zs)
     drop_one z zs = grind (arith, common_steps)
+
+numbers_listed : (xs : List ℕ) → comma_numbers xs ≡ comma_list (map decimal (map (λ p. p) xs))
+numbers_listed [] = refl
+numbers_listed (x ∷ xs) = ap (λ ys. join_with_byte 44 (decimal x ∷ map decimal ys)) (sym (map-id xs))
+
+-- the same of numbers
+pub numbers_shown : (xs tail : List ℕ) (x : ℕ) → 0 < length xs → x ≡ get_or xs 0 x → tail ≡ drop 1 xs → comma_numbers xs ≡ decimal x ++ flat_map (λ p. 44 ∷ decimal p) tail
+numbers_shown xs tail x some is behind = numbers_listed xs ∙ shown_list (λ p. p) decimal xs tail x some is behind
 
 pub first_again : {S : Type 0} (xs : List S) (d : S) → 0 < length xs → get_or xs 0 d ≡ get_or xs 0 (get_or xs 0 d)
 first_again [] d some = absurd (omega arith)

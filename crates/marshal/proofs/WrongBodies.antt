@@ -148,7 +148,7 @@ none_brought n (Some a) = refl
 
 -- a body that begins from block 0 though two blocks are sure and height 1 is processed
 genesis_again : (n : Node) (others : List Report) → Opens config chain ended (from_genesis b0) (record nothing_made { reports = handed_over 0 b0 ∷ others }) n → ⊥
-genesis_again n others o = refuse (ap (λ m. m.processed) o.finds.node ∙ ap (λ p. option_map (processed_at o.finds.blocks) p.processed) (sym (only _ _ o.finds.pair_may)))
+genesis_again n others o = refuse (ap (λ m. m.processed) o.finds.node ∙ ap (λ p. option_map (processed_at o.finds.blocks.held) p.processed) (sym (only _ _ o.finds.pair_may)))
   where
     height_at : (b : Bool) → 2 ≤ first_unprocessed (Some (if b then at_block 1 else at_absent 1))
     height_at true = lit≤ tt
@@ -160,8 +160,8 @@ genesis_again n others o = refuse (ap (λ m. m.processed) o.finds.node ∙ ap (�
     zero_late : (k : ℕ) → 2 ≤ k → 0 ≡ k → ⊥
     zero_late k above e = omega arith
 
-    refuse : o.first.processed ≡ Some (processed_at o.finds.blocks 1) → ⊥
-    refuse is = zero_late _ (late _ _ (o.start.advances.processed ∙ none_brought o.first o.first.awaited ∙ is) _ (height_at (has_height o.finds.blocks 1))) (o.start.advances.hands.in_order).1
+    refuse : o.first.processed ≡ Some (processed_at o.finds.blocks.held 1) → ⊥
+    refuse is = zero_late _ (late _ _ (o.start.advances.processed ∙ none_brought o.first o.first.awaited ∙ is) _ (height_at (has_height o.finds.blocks.held 1))) (o.start.advances.hands.in_order).1
 
 -- AWAITED THOUGH ITS BLOCK CAME
 

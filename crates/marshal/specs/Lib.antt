@@ -10,3 +10,4 @@ pub mod Endings
 pub mod Lines
 pub mod Reading
 pub mod Turn
+pub mod Playing

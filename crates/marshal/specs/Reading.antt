@@ -1,7 +1,11 @@
 -- How far a script is read, and which line is the first outside the grammar.
 use Rattle.std.specs.Prelude.{Err, IfSome, List, None, Ok, Option, Result, Some, [], ℕ, ⊤, ◌++◌, ◌≡◌, ◌≤◌}
+use Rattle.mar_codec.specs.Causes.{Rose}
+use Rattle.mar_actor.specs.Faults.{StoreName}
+use Rattle.mar_actor.specs.Held.{Counts, Remains, count_of}
+use Rattle.mar_actor.specs.Node.{Ended}
 use Rattle.marshal.specs.Lines.{plain_line}
-use Rattle.marshal.specs.Run.{IsConfigBytes, IsLineBytes, IsShownAs, ReadsLines, Status, StopsAt, max_lines, out_of_memory, outside_grammar, read_failed, read_to_end, write_failed}
+use Rattle.marshal.specs.Run.{HeadlineWhereTold, IsConfigBytes, IsLineBytes, IsShownAs, ReadsLines, Status, StopsAt, max_lines, out_of_memory, outside_grammar, read_failed, read_to_end, write_failed}
 use Rattle.marshal.specs.Script.{IsLine, Line, Settings, line_bytes, settings_bytes}
 use Rattle.marshal.specs.Streams.{Gives}
 use Rattle.marshal.specs.declared.line.Line.{Line as LineCode}
@@ -51,6 +55,15 @@ EndsByLine n status.ReadFault = ⊤
 EndsByLine n status.WriteFault = ⊤
 EndsByLine n status.Ok = ⊥
 EndsByLine n status.Usage = ⊥
+
+-- no count of a store rose
+abbrev pub IsQuiet : Counts → Counts → Type 0
+IsQuiet before now = (s : StoreName) → Rose (count_of before s) (count_of now s) → ⊥
+
+-- The headline of a replay: of what its source and sink held before and after, where they tell it, of how it ended, and
+-- of its stores before and after.
+abbrev pub ReplaysWhereTold : Option (List ℕ) → Option (List ℕ) → Option (List ℕ) → Option (List ℕ) → StatusCode → Ended → Counts → Remains → Type 0
+ReplaysWhereTold source left sink sunk code before counts after = IfSome (ending_of code) (λ status. HeadlineWhereTold (IsQuiet counts after.counts) source left sink sunk status before after.ended)
 
 -- ONE LINE
 

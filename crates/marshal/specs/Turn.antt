@@ -1,22 +1,25 @@
--- What one line of a script writes, by what the program keeps of it.
-use Rattle.std.specs.List.{flat_map}
-use Rattle.std.specs.Prelude.{List, Option, [], codes, ℕ, ◌++◌, ◌∷◌, ◌≡◌}
+-- What one line of a script writes of, by what the program keeps of it.
+use Rattle.std.specs.Prelude.{List, None, Option, Some, []}
 use Rattle.mar_codec.specs.declared.Sha256.{Sha256}
 use Rattle.mar_codec.specs.declared.Sha256Digest.{Sha256Digest}
+use Rattle.mar_block.specs.Block.{Block}
 use Rattle.mar_block.specs.declared.EmptyBlock.{EmptyBlock}
-use Rattle.mar_key.specs.Cutoff.{Cutoff}
-use Rattle.mar_store.specs.Changes.{heights}
-use Rattle.mar_store.specs.Ranges.{ranges}
+use Rattle.mar_key.specs.Asked.{Asked}
+use Rattle.mar_key.specs.Keys.{Call}
+use Rattle.mar_actor.specs.Faults.{Fault}
+use Rattle.mar_actor.specs.Held.{Remains, remains_of}
+use Rattle.mar_actor.specs.Promise.{made_of, node_of}
 use Rattle.mar_actor.specs.Step.{Report}
 use Rattle.mar_actor.specs.Views.{fault_of, report_of}
 use Rattle.mar_actor.specs.declared.Update.{Update}
 use Rattle.marshal.specs.Lines.{plain_block}
-use Rattle.marshal.specs.Shown.{ended_shown_words, remark_of, shown_words}
-use Rattle.marshal.specs.Text.{fault_words, line_of, remark_words, report_words}
+use Rattle.marshal.specs.Shown.{remark_of}
+use Rattle.marshal.specs.Text.{Output, Remark, State, line_of, report_words, running, stopped}
 use Rattle.marshal.specs.declared.play.Outcome.{Outcome}
 use Rattle.marshal.specs.declared.play.Outcome.TheVariants as outcome
-use Rattle.marshal.specs.declared.play.State.{State}
+use Rattle.marshal.specs.declared.play.State.{State as StateCode}
 use Rattle.marshal.specs.declared.play.State.TheVariants as state
+use Rattle.std.specs.Prelude.{ℕ}
 
 abbrev pub plain_report : Update Sha256Digest (EmptyBlock Sha256 Sha256Digest) → Report
 plain_report update = report_of (λ digest. digest.bytes) plain_block update
@@ -24,20 +27,26 @@ plain_report update = report_of (λ digest. digest.bytes) plain_block update
 abbrev pub report_text : Update Sha256Digest (EmptyBlock Sha256 Sha256Digest) → List ℕ
 report_text update = line_of (report_words (plain_report update))
 
--- a remark, a fault or nothing
-abbrev pub outcome_text : Outcome → List ℕ
-outcome_text outcome.Done = []
-outcome_text (outcome.Remark remark) = line_of (remark_words (remark_of remark))
-outcome_text (outcome.Fault fault) = line_of (codes "fault" ∷ fault_words (fault_of fault))
+abbrev pub remark_in : Outcome → Option Remark
+remark_in outcome.Done = None
+remark_in (outcome.Remark remark) = Some (remark_of remark)
+remark_in (outcome.Fault fault) = None
 
--- the words that show a node, or what is left of its stores
-abbrev pub ShowsState : {FB FC M H FBW FCW MW HW : Type 0} → State FB FC M H FBW FCW MW HW → List (List ℕ) → Type 0
-ShowsState (state.Running seen buffer) words =
-    words ≡ shown_words seen.held.processed seen.life.out seen.held.cutoff (ranges (heights seen.held.blocks.held)) (ranges (heights seen.held.blocks.sure)) (ranges (heights seen.held.certs.held)) (ranges (heights seen.held.certs.sure))
-ShowsState (state.Stopped left) words =
-    (processed : Option ℕ) × (cutoff : Cutoff)
-    × (words ≡ ended_shown_words processed cutoff (ranges (heights left.ended.blocks_sure)) (ranges (heights left.ended.blocks_may)) (ranges (heights left.ended.certs_sure)) (ranges (heights left.ended.certs_may)))
+abbrev pub fault_in : Outcome → Option Fault
+fault_in outcome.Done = None
+fault_in (outcome.Remark remark) = None
+fault_in (outcome.Fault fault) = Some (fault_of fault)
 
--- reports, requests, a remark or a fault, then the state
-abbrev pub turn_text : List (Update Sha256Digest (EmptyBlock Sha256 Sha256Digest)) → List ℕ → Outcome → List (List ℕ) → List ℕ
-turn_text updates asked outcome words = flat_map report_text updates ++ asked ++ outcome_text outcome ++ line_of words
+-- what a line writes of, but for the node
+abbrev pub output_of : List Report → List Call → Outcome → Output
+output_of reports asks outcome = record { made = made_of reports asks; outcomes = []; remark = remark_in outcome; fault = fault_in outcome }
+
+-- the program's state as plain data, where these requests are open
+abbrev pub state_of : {FB FC M H FBW FCW MW HW : Type 0} → List Asked → StateCode FB FC M H FBW FCW MW HW → State
+state_of asked (state.Running seen buffer) = running (node_of seen buffer.blocks asked)
+state_of asked (state.Stopped left) = stopped left.ended
+
+-- what is left of its stores
+abbrev pub remains_in : {FB FC M H FBW FCW MW HW : Type 0} → StateCode FB FC M H FBW FCW MW HW → Remains
+remains_in (state.Running seen buffer) = remains_of seen.held
+remains_in (state.Stopped left) = left

@@ -1,13 +1,14 @@
 //! Replays a script of events over stores in memory, and writes what the node makes of it.
 #![tactic(auto)]
 
+mod asks;
 mod command;
+mod heard;
 mod help;
 mod laws;
 mod line;
 mod play;
 mod reader;
-mod recorder;
 mod replay;
 mod run;
 mod settings;

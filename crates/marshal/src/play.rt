@@ -1,8 +1,16 @@
 //! What one line of a script makes of a node.
-ghost use Rattle.marshal.specs.Script.{IsSettings};
+ghost use Rattle.std.specs.Prelude.{◌≡◌, ◌↔◌, [], IsTrue, Some, map};
+ghost use Rattle.mar_inbox.specs.Messages.{report_finalization};
+ghost use Rattle.mar_actor.specs.Config.{Config as PlainConfig};
+ghost use Rattle.mar_actor.specs.Faults.{from_genesis, want_of_memory};
+ghost use Rattle.mar_actor.specs.Views.{begin_of, event_of, fault_of, sizes_of};
+ghost use Rattle.marshal.specs.Lines.{plain_block, plain_finalization, plain_line};
+ghost use Rattle.marshal.specs.Playing.{PlaysLine, PlaysOrNot, TakesEvent};
+ghost use Rattle.marshal.specs.Script.{IsSettings, ack_line, buffer_line, config_of, open_line, tell_line};
+ghost use Rattle.marshal.specs.Turn.{fault_in, output_of, plain_report};
 
+use crate::heard::Heard;
 use crate::line::Line;
-use crate::recorder::Recorder;
 use crate::settings::Settings;
 use crate::text::RemarkShown;
 use mar_actor::{Actor, Config, Ended, Event, Fault, Limits, Ruins, Start};
@@ -13,7 +21,7 @@ use mar_inbox::Message;
 use mar_shelf::{Blocks, Certificates, Shelf};
 use mar_store::Meta;
 use mar_types::{Epoch, FixedEpocher, ViewDelta};
-use std::alloc::Global;
+use std::alloc::{AllocError, Global};
 use std::num::NonZeroU64;
 
 /// The actor that a script drives.
@@ -54,7 +62,19 @@ pub enum Outcome {
     Fault(Fault),
 }
 
-/// Does one line.
+impl Outcome {
+    /// Whether the life ended for want of memory.
+    pub fn ran_out(&self) -> bool
+        ensures { IsTrue result ↔ (fault_in self.now ≡ Some want_of_memory) }
+    {
+        match self {
+            Outcome::Fault(Fault::Memory) => true,
+            Outcome::Fault(_) | Outcome::Done | Outcome::Remark(_) => false,
+        }
+    }
+}
+
+/// Does one line, or answers that memory ran out before anything was done.
 pub fn play<
     FB: Blocks<StandardBlocks>,
     FC: Certificates<StandardBlocks, MockFinalization>,
@@ -65,13 +85,16 @@ pub fn play<
     settings: Settings,
     state: State<FB, FC, M, H>,
     line: Line,
-    recorder: &mut Recorder,
-) -> (State<FB, FC, M, H>, Outcome)
-    requires { IsSettings settings }
+    heard: &mut Heard,
+) -> (State<FB, FC, M, H>, Result<Outcome, AllocError>)
+    requires settings { IsSettings settings }
+    requires silent { heard.old.told.updates.items ≡ [] }
+    requires unasked { heard.old.asked.asks ≡ [] }
+    ensures { PlaysOrNot (config_of settings) state (plain_line line) (map plain_report heard.new.told.updates.items) heard.new.asked.asks result.0 result.1 }
 {
     match state {
-        State::Running(actor, buffer) => play_running(alloc, actor, buffer, line, recorder),
-        State::Stopped(stores) => play_stopped(alloc, settings, stores, line, recorder),
+        State::Running(actor, buffer) => play_running(alloc, actor, buffer, line, heard),
+        State::Stopped(stores) => play_stopped(alloc, settings, stores, line, heard),
     }
 }
 
@@ -86,15 +109,18 @@ fn play_stopped<
     settings: Settings,
     stores: Stores<FB, FC, M, H>,
     line: Line,
-    recorder: &mut Recorder,
-) -> (State<FB, FC, M, H>, Outcome)
-    requires { IsSettings settings }
+    heard: &mut Heard,
+) -> (State<FB, FC, M, H>, Result<Outcome, AllocError>)
+    requires settings { IsSettings settings }
+    requires silent { heard.old.told.updates.items ≡ [] }
+    requires unasked { heard.old.asked.asks ≡ [] }
+    ensures { PlaysOrNot (config_of settings) (State.Stopped stores) (plain_line line) (map plain_report heard.new.told.updates.items) heard.new.asked.asks result.0 result.1 }
 {
     match line.into_genesis() {
-        Some(genesis) => open(alloc, settings, stores, genesis, recorder),
+        Some(genesis) => open(alloc, settings, stores, genesis, heard),
         None => (
             State::Stopped(stores),
-            Outcome::Remark(RemarkShown::Stopped),
+            Ok(Outcome::Remark(RemarkShown::Stopped)),
         ),
     }
 }
@@ -110,34 +136,24 @@ fn play_running<
     actor: Node<FB, FC, M, H>,
     buffer: MemBuffer<StandardBlocks>,
     line: Line,
-    recorder: &mut Recorder,
-) -> (State<FB, FC, M, H>, Outcome) {
+    heard: &mut Heard,
+) -> (State<FB, FC, M, H>, Result<Outcome, AllocError>)
+    requires silent { heard.old.told.updates.items ≡ [] }
+    requires unasked { heard.old.asked.asks ≡ [] }
+    ensures { (config : PlainConfig) → PlaysOrNot config (State.Running actor buffer) (plain_line line) (map plain_report heard.new.told.updates.items) heard.new.asked.asks result.0 result.1 }
+{
     match line {
-        Line::OpenGenesis(_) => (
+        Line::OpenGenesis(_genesis) => (
             State::Running(actor, buffer),
-            Outcome::Remark(RemarkShown::Running),
+            Ok(Outcome::Remark(RemarkShown::Running)),
         ),
         Line::Buffer(block) => put(alloc, actor, buffer, block),
-        Line::Final(finalization) => step(
-            actor,
-            buffer,
-            Event::Message(Message::Finalization(finalization)),
-            recorder,
-        ),
-        Line::Sync(_) => (
+        Line::Final(finalization) => finalize(actor, buffer, finalization, heard),
+        Line::Sync(_ticket) => (
             State::Running(actor, buffer),
-            Outcome::Remark(RemarkShown::Ignored),
+            Ok(Outcome::Remark(RemarkShown::Ignored)),
         ),
-        Line::Ack(ticket) => {
-            if actor.owes_ack(ticket) {
-                step(actor, buffer, Event::Ack(ticket), recorder)
-            } else {
-                (
-                    State::Running(actor, buffer),
-                    Outcome::Remark(RemarkShown::Ignored),
-                )
-            }
-        }
+        Line::Ack(ticket) => acknowledge(actor, buffer, ticket, heard),
     }
 }
 
@@ -152,15 +168,63 @@ fn put<
     actor: Node<FB, FC, M, H>,
     buffer: MemBuffer<StandardBlocks>,
     block: EmptyBlock<Sha256>,
-) -> (State<FB, FC, M, H>, Outcome) {
+) -> (State<FB, FC, M, H>, Result<Outcome, AllocError>)
+    ensures { (config : PlainConfig) → PlaysOrNot config (State.Running actor buffer) (buffer_line (plain_block block)) [] [] result.0 result.1 }
+{
     let mut buffer = buffer;
-    let Ok(block) = Digested::compute(alloc, block) else {
-        return (State::Running(actor, buffer), Outcome::Fault(Fault::Memory));
+    let block = match Digested::compute(alloc, block) {
+        Ok(block) => block,
+        Err(error) => return (State::Running(actor, buffer), Err(error)),
     };
     match buffer.put(block) {
-        Ok(()) => (State::Running(actor, buffer), Outcome::Done),
-        Err(_) => (State::Running(actor, buffer), Outcome::Fault(Fault::Memory)),
+        Ok(()) => (State::Running(actor, buffer), Ok(Outcome::Done)),
+        Err(error) => (State::Running(actor, buffer), Err(error)),
     }
+}
+
+// Reports a finalization.
+fn finalize<
+    FB: Blocks<StandardBlocks>,
+    FC: Certificates<StandardBlocks, MockFinalization>,
+    M: Meta,
+    H: Shelf,
+>(
+    actor: Node<FB, FC, M, H>,
+    buffer: MemBuffer<StandardBlocks>,
+    finalization: MockFinalization,
+    heard: &mut Heard,
+) -> (State<FB, FC, M, H>, Result<Outcome, AllocError>)
+    requires silent { heard.old.told.updates.items ≡ [] }
+    requires unasked { heard.old.asked.asks ≡ [] }
+    ensures { (config : PlainConfig) → PlaysOrNot config (State.Running actor buffer) (tell_line (report_finalization (plain_finalization finalization))) (map plain_report heard.new.told.updates.items) heard.new.asked.asks result.0 result.1 }
+{
+    let event = Event::Message(Message::Finalization(finalization));
+    let (state, outcome) = step(actor, buffer, event, heard);
+    (state, Ok(outcome))
+}
+
+// Gives the acknowledgement of this ticket, where it is owed.
+fn acknowledge<
+    FB: Blocks<StandardBlocks>,
+    FC: Certificates<StandardBlocks, MockFinalization>,
+    M: Meta,
+    H: Shelf,
+>(
+    actor: Node<FB, FC, M, H>,
+    buffer: MemBuffer<StandardBlocks>,
+    ticket: u64,
+    heard: &mut Heard,
+) -> (State<FB, FC, M, H>, Result<Outcome, AllocError>)
+    requires silent { heard.old.told.updates.items ≡ [] }
+    requires unasked { heard.old.asked.asks ≡ [] }
+    ensures { (config : PlainConfig) → PlaysOrNot config (State.Running actor buffer) (ack_line ticket) (map plain_report heard.new.told.updates.items) heard.new.asked.asks result.0 result.1 }
+{
+    if !actor.owes_ack(ticket) {
+        let remark = Outcome::Remark(RemarkShown::Ignored);
+        return (State::Running(actor, buffer), Ok(remark));
+    }
+    let (state, outcome) = step(actor, buffer, Event::Ack(ticket), heard);
+    (state, Ok(outcome))
 }
 
 // Takes one event.
@@ -173,12 +237,32 @@ fn step<
     actor: Node<FB, FC, M, H>,
     buffer: MemBuffer<StandardBlocks>,
     event: Event<MockFinalization>,
-    recorder: &mut Recorder,
-) -> (State<FB, FC, M, H>, Outcome) {
-    match actor.step(event, &buffer, &mut recorder.asked, &mut recorder.told) {
+    heard: &mut Heard,
+) -> (State<FB, FC, M, H>, Outcome)
+    requires silent { heard.old.told.updates.items ≡ [] }
+    requires unasked { heard.old.asked.asks ≡ [] }
+    ensures { TakesEvent actor buffer (event_of plain_finalization event) (map plain_report heard.new.told.updates.items) heard.new.asked.asks result.0 result.1 }
+{
+    match actor.step(event, &buffer, &mut heard.asked, &mut heard.told) {
         Ok(actor) => (State::Running(actor, buffer), Outcome::Done),
-        Err(Ended { fault, ruins }) => (State::Stopped(ruins), Outcome::Fault(fault)),
+        Err(ended) => {
+            let (fault, stores) = parts_of(ended);
+            (State::Stopped(stores), Outcome::Fault(fault))
+        }
     }
+}
+
+// Why a life ended, and what is left of its stores.
+fn parts_of<
+    FB: Blocks<StandardBlocks>,
+    FC: Certificates<StandardBlocks, MockFinalization>,
+    M: Meta,
+    H: Shelf,
+>(ended: Ended<StandardBlocks, MockFinalization, FB, FC, M, H>) -> (Fault, Stores<FB, FC, M, H>)
+    ensures { ended ≡ record { fault = fault_of result.0; remains = result.1 } }
+{
+    let Ended { fault, ruins } = ended;
+    (fault, ruins)
 }
 
 // Opens a life over these stores.
@@ -192,25 +276,58 @@ fn open<
     settings: Settings,
     stores: Stores<FB, FC, M, H>,
     genesis: EmptyBlock<Sha256>,
-    recorder: &mut Recorder,
-) -> (State<FB, FC, M, H>, Outcome)
-    requires { IsSettings settings }
+    heard: &mut Heard,
+) -> (State<FB, FC, M, H>, Result<Outcome, AllocError>)
+    requires settings { IsSettings settings }
+    requires silent { heard.old.told.updates.items ≡ [] }
+    requires unasked { heard.old.asked.asks ≡ [] }
+    ensures { PlaysOrNot (config_of settings) (State.Stopped stores) (open_line (from_genesis (plain_block genesis))) (map plain_report heard.new.told.updates.items) heard.new.asked.asks result.0 result.1 }
 {
-    let Ok(genesis) = Digested::compute(alloc, genesis) else {
-        return (State::Stopped(stores), Outcome::Fault(Fault::Memory));
-    };
-    match Actor::init(alloc, stores, config_of(settings, genesis), 0) {
-        Ok((actor, _)) => step(actor, MemBuffer::new(alloc), Event::Start, recorder),
-        Err(Ended { fault, ruins }) => (State::Stopped(ruins), Outcome::Fault(fault)),
+    match Digested::compute(alloc, genesis) {
+        Ok(genesis) => {
+            let (state, outcome) = begin(alloc, settings, stores, genesis, heard);
+            (state, Ok(outcome))
+        }
+        Err(error) => (State::Stopped(stores), Err(error)),
+    }
+}
+
+// Opens a life over these stores from this block.
+fn begin<
+    FB: Blocks<StandardBlocks>,
+    FC: Certificates<StandardBlocks, MockFinalization>,
+    M: Meta,
+    H: Shelf,
+>(
+    alloc: Global,
+    settings: Settings,
+    stores: Stores<FB, FC, M, H>,
+    genesis: Digested<EmptyBlock<Sha256>>,
+    heard: &mut Heard,
+) -> (State<FB, FC, M, H>, Outcome)
+    requires settings { IsSettings settings }
+    requires silent { heard.old.told.updates.items ≡ [] }
+    requires unasked { heard.old.asked.asks ≡ [] }
+    ensures { PlaysLine (config_of settings) (State.Stopped stores) (open_line (from_genesis (plain_block genesis))) (output_of (map plain_report heard.new.told.updates.items) heard.new.asked.asks result.1) result.0 }
+{
+    match Actor::init(alloc, stores, setup(settings, genesis), 0) {
+        Ok((actor, _floor)) => step(actor, MemBuffer::new(alloc), Event::Start, heard),
+        Err(ended) => {
+            let (fault, stores) = parts_of(ended);
+            (State::Stopped(stores), Outcome::Fault(fault))
+        }
     }
 }
 
 // What these settings ask of the actor.
-fn config_of(
+fn setup(
     settings: Settings,
     genesis: Digested<EmptyBlock<Sha256>>,
 ) -> Config<MockProvider, FixedEpocher, Digested<EmptyBlock<Sha256>>>
     requires { IsSettings settings }
+    ensures start { begin_of plain_block result.start ≡ from_genesis (plain_block genesis) }
+    ensures epochs { result.epocher.length ≡ settings.epoch_length }
+    ensures sizes { sizes_of result.limits ≡ record { window = settings.window; max_repair = settings.max_repair; retention = settings.retention; capacity = settings.capacity } }
 {
     let scheme = MockScheme::new(settings.members as u32);
     let first = Epoch::new(settings.first_epoch);

@@ -1,29 +1,33 @@
 //! Replays a script over the stores of a node.
-ghost use Rattle.std.specs.Prelude.{◌≡◌, ◌+◌, ◌++◌, ◌≤◌, ℕ, List, Option, Some, [], IfErr, IfNone, IfOk, IsErrOf, OnOk};
+ghost use Rattle.std.specs.Prelude.{◌≡◌, ◌+◌, ◌++◌, ◌≤◌, ℕ, List, Option, Some, [], IfErr, IfNone, IfOk, IsErrOf, OnErr, OnOk, map};
 ghost use Rattle.mar_codec.specs.Causes.{Rose};
-ghost use Rattle.marshal.specs.Run.{IsShownAs};
-ghost use Rattle.marshal.specs.Script.{IsSettings, settings_bytes};
+ghost use Rattle.mar_key.specs.Asked.{Asked};
+ghost use Rattle.mar_actor.specs.Node.{Ended as PlainEnded};
 ghost use Rattle.marshal.specs.Endings.{IsReadersEnd, IsWritersEnd};
-ghost use Rattle.marshal.specs.Reading.{EndsByLine, IsFirstOutside, Reads, TakesFirst, TakesNext, missing_status, refused_status};
-ghost use Rattle.marshal.specs.Streams.{Gives};
+ghost use Rattle.marshal.specs.Lines.{plain_line};
+ghost use Rattle.marshal.specs.Playing.{IsSetAs, TurnsLine, WritesText};
+ghost use Rattle.marshal.specs.Reading.{EndsByLine, IsFirstOutside, Reads, ReplaysWhereTold, TakesFirst, TakesNext, missing_status, refused_status};
+ghost use Rattle.marshal.specs.Run.{HandsBack, IsShownAs};
+ghost use Rattle.marshal.specs.Script.{IsSettings, config_of, settings_bytes};
+ghost use Rattle.marshal.specs.Streams.{Gives, Takes, TakesFront};
+ghost use Rattle.marshal.specs.Text.{output_text, stopped, text};
+ghost use Rattle.marshal.specs.Turn.{output_of, plain_report, remains_in, state_of};
 
+use crate::heard::Heard;
 use crate::line::{Line, parse_line};
 use crate::play::{Outcome, State, Stores, play};
 use crate::reader::{LineError, ScriptReader};
-use crate::recorder::Recorder;
 use crate::settings::{Settings, parse_settings};
-use crate::shown::push_ended;
 use crate::sink::{Sink, write_all};
 use crate::source::Source;
 use crate::status::Status;
 use crate::turn::push_turn;
 use crate::words::ParseError;
-use mar_actor::Fault;
 use mar_block::StandardBlocks;
 use mar_cert::MockFinalization;
 use mar_shelf::{Blocks, Certificates, Shelf};
 use mar_store::{Meta, Miss};
-use std::alloc::{AllocError, Global};
+use std::alloc::Global;
 
 /// The most lines of a script.
 const MAX_LINES: u64 = 1_000_000;
@@ -62,16 +66,20 @@ pub fn replay<
     ensures script { (all : List ℕ) (n : ℕ) → S.left source.old ≡ Some all → result.status ≡ Status.Script n → IsFirstOutside all n }
     ensures calm { (n : ℕ) → result.status ≡ Status.Script n → (S.faults source.new ≡ S.faults source.old) × (K.faults sink.new ≡ K.faults sink.old) }
     ensures outside { (all : List ℕ) (n : ℕ) → S.left source.old ≡ Some all → IsFirstOutside all n → EndsByLine n result.status }
+    ensures headline { ReplaysWhereTold (S.left source.old) (S.left source.new) (K.written sink.old) (K.written sink.new) result.status stores.ended stores.counts result.stores }
 {
     let mut reader = ScriptReader::new(alloc);
     let settings = match first_line(alloc, &mut reader, source) {
         Ok(settings) => settings,
         Err(status) => return Finished { status, stores },
     };
-    if let Err(status) = write_text(sink, ended_text(alloc, &stores)) {
+    let state = State::Stopped(stores);
+    let heard = Heard::new(alloc);
+    if let Err(status) = write_turn(alloc, sink, &heard, Outcome::Done, &state) {
+        let stores = left_of(state);
         return Finished { status, stores };
     }
-    let (state, status) = later_lines(alloc, settings, &mut reader, source, sink, stores);
+    let (state, status) = later_lines(alloc, settings, &mut reader, source, sink, state);
     Finished {
         status,
         stores: left_of(state),
@@ -84,9 +92,12 @@ fn left_of<
     FC: Certificates<StandardBlocks, MockFinalization>,
     M: Meta,
     H: Shelf,
->(state: State<FB, FC, M, H>) -> Stores<FB, FC, M, H> {
+>(state: State<FB, FC, M, H>) -> Stores<FB, FC, M, H>
+    ensures left { result ≡ remains_in state }
+    ensures hands_back { (asked : List Asked) → HandsBack (state_of asked state) result.ended }
+{
     match state {
-        State::Running(actor, _) => actor.wreck(),
+        State::Running(actor, _buffer) => actor.wreck(),
         State::Stopped(stores) => stores,
     }
 }
@@ -185,75 +196,103 @@ fn later_lines<
     reader: &mut ScriptReader,
     source: &mut S,
     sink: &mut K,
-    stores: Stores<FB, FC, M, H>,
+    state: State<FB, FC, M, H>,
 ) -> (State<FB, FC, M, H>, Status)
-    requires { IsSettings settings }
+    requires settings { IsSettings settings }
+    requires set { IsSetAs (config_of settings) state }
     ensures not_usage { result.1 ≡ Status.Usage → ⊥ }
     ensures to_end { result.1 ≡ Status.Ok → IsShownAs (S.left source.new) [] }
     ensures read_fault { result.1 ≡ Status.ReadFault → Rose (S.faults source.old) (S.faults source.new) }
     ensures write_fault { result.1 ≡ Status.WriteFault → Rose (K.faults sink.old) (K.faults sink.new) }
     ensures calm { (n : ℕ) → result.1 ≡ Status.Script n → (S.faults source.new ≡ S.faults source.old) × (K.faults sink.new ≡ K.faults sink.old) }
     ensures reads { (start : Option (List ℕ)) (taken : List ℕ) → Gives start taken (S.left source.old) → taken ≡ settings_bytes settings ++ reader.old → Reads start (S.left source.new) result.1 }
+    ensures headline { (start : Option (List ℕ)) (taken : List ℕ) (sunk : Option (List ℕ)) (before : PlainEnded) → Gives start taken (S.left source.old) → taken ≡ settings_bytes settings ++ reader.old → ((asked : List Asked) → state_of asked state ≡ stopped before)
+        → Takes sunk (text before []) (K.written sink.old) → ((asked : List Asked) → HandsBack (state_of asked result.0) (remains_in result.0).ended) → ReplaysWhereTold start (S.left source.new) sunk (K.written sink.new) result.1 before (remains_in state).counts (remains_in result.0) }
 {
-    let mut state = State::Stopped(stores);
+    let mut state = state;
     'lines: for number in 2..MAX_LINES + 2 {
         let line = match next_line(alloc, settings, reader, source, number) {
             Ok(Some(line)) => line,
             Ok(None) => return (state, Status::Ok),
             Err(status) => return (state, status),
         };
-        let mut recorder = Recorder::new(alloc);
-        let (next, outcome) = play(alloc, settings, state, line, &mut recorder);
+        let (next, written) = turn(alloc, settings, state, line, sink);
         state = next;
-        if outcome == Outcome::Fault(Fault::Memory) {
-            return (state, Status::Memory);
-        }
-        if let Err(status) = write_text(sink, turn_text(alloc, &recorder, outcome, &state)) {
+        if let Err(status) = written {
             return (state, status);
         }
     }
     (state, Status::Script(MAX_LINES + 1))
 }
 
-// The text of what is left before the first life.
-fn ended_text<
-    FB: Blocks<StandardBlocks>,
-    FC: Certificates<StandardBlocks, MockFinalization>,
-    M: Meta,
-    H: Shelf,
->(alloc: Global, stores: &Stores<FB, FC, M, H>) -> Result<String, AllocError> {
-    let mut text = String::new(alloc);
-    push_ended(&mut text, &stores.shown())?;
-    Ok(text)
-}
-
-// The text of a line.
-fn turn_text<
+// Does one line, and writes what it makes.
+fn turn<
+    K: Sink,
     FB: Blocks<StandardBlocks>,
     FC: Certificates<StandardBlocks, MockFinalization>,
     M: Meta,
     H: Shelf,
 >(
     alloc: Global,
-    recorder: &Recorder,
-    outcome: Outcome,
-    state: &State<FB, FC, M, H>,
-) -> Result<String, AllocError> {
-    let mut text = String::new(alloc);
-    push_turn(alloc, &mut text, recorder, outcome, state)?;
-    Ok(text)
+    settings: Settings,
+    state: State<FB, FC, M, H>,
+    line: Line,
+    sink: &mut K,
+) -> (State<FB, FC, M, H>, Result<(), Status>)
+    requires { IsSettings settings }
+    ensures end { IfErr result.1 IsWritersEnd }
+    ensures calm { OnOk result.1 (K.faults sink.new ≡ K.faults sink.old) }
+    ensures write_fault { IsErrOf result.1 Status.WriteFault → Rose (K.faults sink.old) (K.faults sink.new) }
+    ensures turned { TurnsLine (config_of settings) state (plain_line line) (K.written sink.old) result.0 (K.written sink.new) result.1 }
+{
+    let mut heard = Heard::new(alloc);
+    let (state, outcome) = play(alloc, settings, state, line, &mut heard);
+    let outcome = match outcome {
+        Ok(outcome) => outcome,
+        Err(_error) => return (state, Err(Status::Memory)),
+    };
+    if outcome.ran_out() {
+        return (state, Err(Status::Memory));
+    }
+    let written = write_turn(alloc, sink, &heard, outcome, &state);
+    (state, written)
 }
 
-// Writes a text whole.
-fn write_text<K: Sink>(sink: &mut K, text: Result<String, AllocError>) -> Result<(), Status>
+// Writes what a line made.
+fn write_turn<
+    K: Sink,
+    FB: Blocks<StandardBlocks>,
+    FC: Certificates<StandardBlocks, MockFinalization>,
+    M: Meta,
+    H: Shelf,
+>(
+    alloc: Global,
+    sink: &mut K,
+    heard: &Heard,
+    outcome: Outcome,
+    state: &State<FB, FC, M, H>,
+) -> Result<(), Status>
     ensures end { IfErr result IsWritersEnd }
     ensures calm { OnOk result (K.faults sink.new ≡ K.faults sink.old) }
     ensures write_fault { IsErrOf result Status.WriteFault → Rose (K.faults sink.old) (K.faults sink.new) }
+    ensures wrote { WritesText (K.written sink.old) (λ asked. output_text (output_of (map plain_report heard.now.told.updates.items) heard.now.asked.asks outcome) (state_of asked state.now)) (K.written sink.new) result }
 {
-    let Ok(text) = text else {
+    let mut text = String::new(alloc);
+    if push_turn(alloc, &mut text, heard, outcome, state).is_err() {
         return Err(Status::Memory);
-    };
-    match write_all(sink, text.as_bytes()) {
+    }
+    write_text(sink, text.as_bytes())
+}
+
+// Writes a text whole.
+fn write_text<K: Sink>(sink: &mut K, text: &[u8]) -> Result<(), Status>
+    ensures end { IfErr result IsWritersEnd }
+    ensures calm { OnOk result (K.faults sink.new ≡ K.faults sink.old) }
+    ensures write_fault { IsErrOf result Status.WriteFault → Rose (K.faults sink.old) (K.faults sink.new) }
+    ensures ok { OnOk result (Takes (K.written sink.old) text.now (K.written sink.new)) }
+    ensures err { OnErr result (TakesFront (K.written sink.old) text.now (K.written sink.new)) }
+{
+    match write_all(sink, text) {
         Ok(()) => Ok(()),
         Err(Miss::Fault) => Err(Status::WriteFault),
         Err(Miss::Memory) => Err(Status::Memory),

@@ -1,7 +1,7 @@
 //! What the words of the command line ask for.
 ghost use Rattle.std.specs.Prelude.{◌≡◌, ℕ, List, Some, [], ◌∷◌, codes, map, string_bytes};
 ghost use Rattle.mar_codec.specs.Causes.{Rose};
-ghost use Rattle.marshal.specs.Reading.{EndsByLine, IsFirstOutside, Reads};
+ghost use Rattle.marshal.specs.Reading.{EndsByLine, IsFirstOutside, Reads, ReplaysWhereTold};
 ghost use Rattle.marshal.specs.Run.{IsShownAs};
 
 use crate::command::Command;
@@ -40,6 +40,7 @@ pub fn run<
     ensures script { (all : List ℕ) (n : ℕ) → S.left source.old ≡ Some all → result.status ≡ Status.Script n → IsFirstOutside all n }
     ensures calm { (n : ℕ) → result.status ≡ Status.Script n → (S.faults source.new ≡ S.faults source.old) × (K.faults sink.new ≡ K.faults sink.old) }
     ensures outside { map string_bytes words.now ≡ codes "replay" ∷ [] → (all : List ℕ) (n : ℕ) → S.left source.old ≡ Some all → IsFirstOutside all n → EndsByLine n result.status }
+    ensures headline { ReplaysWhereTold (S.left source.old) (S.left source.new) (K.written sink.old) (K.written sink.new) result.status stores.ended stores.counts result.stores }
 {
     match Command::parse(words) {
         Some(Command::Replay) => replay(alloc, source, sink, stores),
@@ -47,5 +48,48 @@ pub fn run<
             status: Status::Usage,
             stores,
         },
+    }
+}
+
+#[cfg(test)]
+mod tests {
+    use super::*;
+    use crate::empty_stores;
+    use crate::laws::delivery;
+    use crate::sink::Written;
+    use crate::source::Bytes;
+    use std::alloc::AllocError;
+    use std::test::Fail;
+
+    // How a replay of the stored script ends and what it writes, where the reads and writes of these numbers fail.
+    fn replayed(
+        alloc: Global,
+        failing_reads: &[u64],
+        failing_writes: &[u64],
+    ) -> Result<(Status, Vec<u8>), AllocError> {
+        let words = vec![in alloc; "replay".to_string(alloc)?]?;
+        let mut source = Bytes::new(delivery().0, failing_reads);
+        let mut sink = Written::new(alloc, failing_writes);
+        let finished = run(alloc, &words, &mut source, &mut sink, empty_stores(alloc));
+        Ok((finished.status, Vec::from_slice(alloc, sink.bytes())?))
+    }
+
+    #[test]
+    fn the_stored_script_is_replayed(rt: HostRuntime) -> Result<(), Fail> {
+        let output = delivery().1;
+        let rows: [(&[u64], &[u64], Status, usize); 6] = [
+            (&[], &[], Status::Ok, output.len()),
+            (&[0], &[], Status::ReadFault, 0),
+            (&[1], &[], Status::ReadFault, output.len()),
+            (&[], &[0], Status::WriteFault, 0),
+            (&[], &[1], Status::WriteFault, 39),
+            (&[], &[8], Status::Ok, output.len()),
+        ];
+        for (reads, writes, status, length) in rows {
+            let (ended, bytes) = replayed(rt.alloc(), reads, writes)?;
+            assert_eq!(rt; ended, status);
+            assert_eq!(rt; bytes.as_slice(), &output[..length.min(output.len())]);
+        }
+        Ok(())
     }
 }

@@ -1,17 +1,15 @@
 //! The lines of the output.
-ghost use Rattle.std.specs.Prelude.{◌≡◌, ◌++◌, ◌∷◌, ℕ, List, [], None, OnOk, codes, decimal, string_bytes};
+ghost use Rattle.std.specs.Prelude.{◌≡◌, ◌++◌, ◌∷◌, [], OnOk, codes, decimal, string_bytes};
 ghost use Rattle.mar_actor.specs.Step.{new_tip};
-ghost use Rattle.mar_key.specs.Keys.{above_round, block_key, fetch, retain};
-ghost use Rattle.mar_key.specs.Views.{annotation_of, call_of, cutoff_of, retain_of};
+ghost use Rattle.mar_key.specs.Views.{cutoff_of};
 ghost use Rattle.mar_types.specs.Round.{Round};
 ghost use Rattle.marshal.specs.Script.{hex, store_name};
-ghost use Rattle.marshal.specs.Text.{ask_words, cutoff_text, fault_words, kind_name, line_of, remark_words, report_words, round_text, annotation_words, retain_words};
+ghost use Rattle.marshal.specs.Text.{cutoff_text, fault_words, kind_name, line_of, remark_words, report_words, round_text};
 ghost use Rattle.mar_actor.specs.Views.{fault_of, kind_of, store_name_of};
 ghost use Rattle.marshal.specs.Shown.{remark_of};
 
 use mar_actor::{Fault, StoreName, TicketKind};
-use mar_codec::Sha256Digest;
-use mar_key::{Annotation, Cutoff, Fetch, Finalized, Key, Retain};
+use mar_key::Cutoff;
 use mar_types::{Height, Round};
 use std::alloc::{AllocError, Global};
 
@@ -37,7 +35,8 @@ pub fn push_hex(alloc: Global, text: &mut String, bytes: &[u8]) -> Result<(), Al
     text.push_str(spelled.as_str())
 }
 
-fn push_round(text: &mut String, round: Round) -> Result<(), AllocError>
+/// Appends a round: its epoch, a dot and its view.
+pub fn push_round(text: &mut String, round: Round) -> Result<(), AllocError>
     ensures { OnOk result (string_bytes text.new ≡ string_bytes text.old ++ round_text round) }
 {
     let epoch = round.epoch();
@@ -85,75 +84,6 @@ pub fn push_block(
     write!(text, "block {ticket} {height} ")?;
     push_hex(alloc, text, digest)?;
     text.push_str("\n")
-}
-
-fn push_finalized(text: &mut String, finalized: Finalized) -> Result<(), AllocError>
-    ensures { OnOk result (string_bytes text.new ≡ string_bytes text.old ++ line_of (annotation_words (annotation_of (Annotation.Finalized finalized)))) }
-{
-    match finalized {
-        Finalized::ByHeight { height } => writeln!(text, "fin h{height}"),
-        Finalized::ByRound { round } => {
-            text.push_str("fin r")?;
-            push_round(text, round)?;
-            text.push_str("\n")
-        }
-    }
-}
-
-fn push_annotation(text: &mut String, annotation: Annotation) -> Result<(), AllocError>
-    ensures { OnOk result (string_bytes text.new ≡ string_bytes text.old ++ line_of (annotation_words (annotation_of annotation))) }
-{
-    match annotation {
-        Annotation::Notarization { round } => {
-            text.push_str("not r")?;
-            push_round(text, round)?;
-            text.push_str("\n")
-        }
-        Annotation::Untrusted { height } => writeln!(text, "unt h{height}"),
-        Annotation::Certified { height } => writeln!(text, "cer h{height}"),
-        Annotation::Finalized(finalized) => push_finalized(text, finalized),
-    }
-}
-
-/// Appends a request of the block of this commitment.
-pub fn push_fetch(
-    alloc: Global,
-    text: &mut String,
-    commitment: &[u8],
-    annotation: Annotation,
-) -> Result<(), AllocError>
-    ensures { OnOk result (string_bytes text.new ≡ string_bytes text.old ++ line_of (ask_words (fetch (block_key commitment.now) (annotation_of annotation) None))) }
-{
-    let mut key = Vec::from_slice(alloc, &[0])?;
-    key.extend_from_slice(commitment)?;
-    text.push_str("fetch ")?;
-    push_hex(alloc, text, key.as_slice())?;
-    text.push_str(" ")?;
-    push_annotation(text, annotation)?;
-    Ok(())
-}
-
-fn push_above_round(text: &mut String, cutoff: Cutoff) -> Result<(), AllocError>
-    ensures { OnOk result (string_bytes text.new ≡ string_bytes text.old ++ line_of (ask_words (retain (above_round (cutoff_of cutoff))))) }
-{
-    match cutoff {
-        Cutoff::Round(round) => {
-            text.push_str("retain round ")?;
-            push_round(text, round)?;
-            text.push_str("\n")
-        }
-        Cutoff::Epoch(epoch) => writeln!(text, "retain epoch {epoch}"),
-    }
-}
-
-/// Appends what stays open.
-pub fn push_retain(text: &mut String, keep: Retain) -> Result<(), AllocError>
-    ensures { OnOk result (string_bytes text.new ≡ string_bytes text.old ++ line_of (ask_words (retain (retain_of keep)))) }
-{
-    match keep {
-        Retain::AboveHeight(height) => writeln!(text, "retain height {height}"),
-        Retain::AboveRound(cutoff) => push_above_round(text, cutoff),
-    }
 }
 
 /// Appends why a line did nothing.

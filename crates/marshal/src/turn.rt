@@ -1,11 +1,13 @@
 //! The text of one line of a script.
-ghost use Rattle.std.specs.Prelude.{◌≡◌, ◌++◌, ℕ, List, OnOk, string_bytes};
+ghost use Rattle.std.specs.Prelude.{◌≡◌, ◌++◌, ◌∷◌, List, OnOk, codes, map, option_map, string_bytes};
 ghost use Rattle.std.specs.List.{flat_map};
-ghost use Rattle.marshal.specs.Text.{line_of};
-ghost use Rattle.marshal.specs.Turn.{ShowsState, outcome_text, report_text, turn_text};
+ghost use Rattle.mar_key.specs.Asked.{Asked};
+ghost use Rattle.marshal.specs.Text.{fault_words, line_of, output_text, remark_words, some_words, state_words};
+ghost use Rattle.marshal.specs.Turn.{fault_in, output_of, plain_report, remark_in, report_text, state_of};
 
+use crate::asks::push_asks;
+use crate::heard::Heard;
 use crate::play::{Outcome, State};
-use crate::recorder::Recorder;
 use crate::shown::{push_ended, push_node};
 use crate::text::{push_block, push_fault, push_remark, push_tip};
 use mar_actor::Update;
@@ -26,15 +28,14 @@ pub fn push_turn<
 >(
     alloc: Global,
     text: &mut String,
-    recorder: &Recorder,
+    heard: &Heard,
     outcome: Outcome,
     state: &State<FB, FC, M, H>,
 ) -> Result<(), AllocError>
-    ensures { OnOk result ((words : List (List ℕ)) × ShowsState state.now words
-        × (string_bytes text.new ≡ string_bytes text.old ++ turn_text recorder.now.told.updates.items (string_bytes recorder.now.asked.text) outcome words)) }
+    ensures { OnOk result ((asked : List Asked) → string_bytes text.new ≡ string_bytes text.old ++ output_text (output_of (map plain_report heard.now.told.updates.items) heard.now.asked.asks outcome) (state_of asked state.now)) }
 {
-    push_updates(alloc, text, &recorder.told.updates)?;
-    text.push_str(recorder.asked.text.as_str())?;
+    push_updates(alloc, text, &heard.told.updates)?;
+    push_asks(alloc, text, heard.asked.asks())?;
     push_outcome(text, outcome)?;
     push_state(alloc, text, state)
 }
@@ -74,7 +75,7 @@ fn push_update(
 }
 
 fn push_outcome(text: &mut String, outcome: Outcome) -> Result<(), AllocError>
-    ensures { OnOk result (string_bytes text.new ≡ string_bytes text.old ++ outcome_text outcome) }
+    ensures { OnOk result (string_bytes text.new ≡ string_bytes text.old ++ (some_words (option_map remark_words (remark_in outcome)) ++ some_words (option_map (λ f. codes "fault" ∷ fault_words f) (fault_in outcome)))) }
 {
     match outcome {
         Outcome::Done => Ok(()),
@@ -89,7 +90,7 @@ fn push_state<
     M: Meta,
     H: Shelf,
 >(alloc: Global, text: &mut String, state: &State<FB, FC, M, H>) -> Result<(), AllocError>
-    ensures { OnOk result ((words : List (List ℕ)) × ShowsState state.now words × (string_bytes text.new ≡ string_bytes text.old ++ line_of words)) }
+    ensures { OnOk result ((asked : List Asked) → string_bytes text.new ≡ string_bytes text.old ++ line_of (state_words (state_of asked state.now))) }
 {
     match state {
         State::Running(actor, _) => push_node(alloc, text, &actor.shown()),

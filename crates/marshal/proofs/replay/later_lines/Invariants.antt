@@ -1,13 +1,24 @@
-use Rattle.std.proofs.Common.{List, Option, ℕ, ◌++◌, ◌≡◌}
-use Rattle.marshal.specs.Script.{settings_bytes}
-use Rattle.marshal.specs.Streams.{Gives}
+use Rattle.std.proofs.Common.{List, Option, [], ℕ, ◌++◌, ◌≡◌}
+use Rattle.mar_key.specs.Asked.{Asked}
+use Rattle.mar_actor.specs.Held.{NotFewer}
+use Rattle.mar_actor.specs.Node.{Ended}
+use Rattle.marshal.specs.Playing.{IsSetAs}
+use Rattle.marshal.specs.Script.{config_of, settings_bytes}
+use Rattle.marshal.specs.Streams.{Gives, Takes}
+use Rattle.marshal.specs.Text.{stopped, text}
+use Rattle.marshal.specs.Turn.{remains_in, state_of}
+use Rattle.marshal.proofs.Headlines.{HeadSoFar}
 use Rattle.marshal.proofs.ReadSteps.{SoFar}
 use Rattle.marshal.proofs.replay.later_lines.Given as goal
 
--- no count has risen, and the lines that were read are those that were done
+-- no count has risen, and the lines that were read are those that were done and written
 abbrev pub invariant-lines : goal.invariant-lines
 invariant-lines g l = record {
   source_calm : g.S.Source.faults l.source ≡ g.S.Source.faults l.initial.source;
   sink_calm : g.K.Sink.faults l.sink ≡ g.K.Sink.faults l.initial.sink;
   so_far : (start : Option (List ℕ)) (taken : List ℕ) → Gives start taken (g.S.Source.left l.initial.source) → taken ≡ settings_bytes l.settings ++ l.initial.reader → SoFar start l.settings l.reader (g.S.Source.left l.source) l.number;
+  set : IsSetAs (config_of l.settings) l.state;
+  later : NotFewer (remains_in l.fn.state).counts (remains_in l.state).counts;
+  head : (start : Option (List ℕ)) (taken : List ℕ) (sunk : Option (List ℕ)) (before : Ended) → Gives start taken (g.S.Source.left l.initial.source) → taken ≡ settings_bytes l.settings ++ l.initial.reader → ((asked : List Asked) → state_of asked l.fn.state ≡ stopped before)
+      → Takes sunk (text before []) (g.K.Sink.written l.initial.sink) → HeadSoFar _ _ _ _ _ _ _ _ start l.settings l.reader (g.S.Source.left l.source) l.number before (remains_in l.fn.state).counts l.state sunk (g.K.Sink.written l.sink);
 }

@@ -1,6 +1,8 @@
-use Rattle.std.proofs.Common.{subst}
+use Rattle.std.proofs.Common.{Err, Ok, [], ap, map, refl, subst, ◌≡◌}
 use Rattle.marshal.specs.Endings.{IsReadersEnd, IsWritersEnd}
+use Rattle.marshal.specs.Turn.{plain_report}
 use Rattle.marshal.proofs.FirstOutside.{outside_is, script_is}
+use Rattle.marshal.proofs.Headlines.{shown_first, stops_first, stops_unshown}
 use Rattle.marshal.proofs.ReadSteps.{begins, ends_first, ends_unwritten}
 use Rattle.marshal.proofs.replay.replay.Goals as goal
 
@@ -13,16 +15,16 @@ returns-in-Err-clause-script g c = λ all n told is. script_is all _ _ _ n (retu
 pub returns-in-Err-clause-outside : goal.returns-in-Err-clause-outside
 returns-in-Err-clause-outside g c = λ all n told first. outside_is all _ _ _ n (λ usage. subst IsReadersEnd usage c.in-Err.ensures.end) (returns-in-Err-clause-reads g c) told first
 
-pub returns-in-Err-write_text-clause-reads : goal.returns-in-Err-write_text-clause-reads
-returns-in-Err-write_text-clause-reads g c =
+pub returns-in-Err-write_turn-clause-reads : goal.returns-in-Err-write_turn-clause-reads
+returns-in-Err-write_turn-clause-reads g c =
     let first = rw c.new-reader.ensures at c.in-Ok.ensures.first in
-    ends_unwritten _ _ _ _ _ _ c.in-Ok.ensures.valid (begins _ _ _ _ first.read first.gives first.first) c.in-Err-write_text.ensures.end
+    ends_unwritten _ _ _ _ _ _ c.in-Ok.ensures.valid (begins _ _ _ _ first.read first.gives first.first) c.in-Err-write_turn.ensures.end
 
-pub returns-in-Err-write_text-clause-script : goal.returns-in-Err-write_text-clause-script
-returns-in-Err-write_text-clause-script g c = λ all n told is. script_is all _ _ _ n (returns-in-Err-write_text-clause-reads g c) told is
+pub returns-in-Err-write_turn-clause-script : goal.returns-in-Err-write_turn-clause-script
+returns-in-Err-write_turn-clause-script g c = λ all n told is. script_is all _ _ _ n (returns-in-Err-write_turn-clause-reads g c) told is
 
-pub returns-in-Err-write_text-clause-outside : goal.returns-in-Err-write_text-clause-outside
-returns-in-Err-write_text-clause-outside g c = λ all n told first. outside_is all _ _ _ n (λ usage. subst IsWritersEnd usage c.in-Err-write_text.ensures.end) (returns-in-Err-write_text-clause-reads g c) told first
+pub returns-in-Err-write_turn-clause-outside : goal.returns-in-Err-write_turn-clause-outside
+returns-in-Err-write_turn-clause-outside g c = λ all n told first. outside_is all _ _ _ n (λ usage. subst IsWritersEnd usage c.in-Err-write_turn.ensures.end) (returns-in-Err-write_turn-clause-reads g c) told first
 
 pub returns-clause-reads : goal.returns-clause-reads
 returns-clause-reads g c = let first = rw c.new-reader.ensures at c.in-Ok.ensures.first in c.later_lines-state.ensures.reads _ first.read first.gives first.first
@@ -32,3 +34,20 @@ returns-clause-script g c = λ all n told is. script_is all _ _ _ n (returns-cla
 
 pub returns-clause-outside : goal.returns-clause-outside
 returns-clause-outside g c = λ all n told first. outside_is all _ _ _ n c.later_lines-state.ensures.not_usage (returns-clause-reads g c) told first
+
+pub returns-in-Err-clause-headline : goal.returns-in-Err-clause-headline
+returns-in-Err-clause-headline g c = stops_first _ _ _ _ _ c.args.stores c.in-Err.ensures.end (rw c.new-reader.ensures at c.in-Err.ensures.first)
+
+pub returns-in-Err-write_turn-clause-headline : goal.returns-in-Err-write_turn-clause-headline
+returns-in-Err-write_turn-clause-headline g c =
+    let first = rw c.new-reader.ensures at c.in-Ok.ensures.first in
+    let silent : map plain_report c.new-heard.result.told.updates.items ≡ [] = ap (λ us. map plain_report us) c.new-heard.ensures.told in
+    let wrote = shown_first {U = Unit {0}} _ _ _ _ c.args.stores.ended (Err c.in-Err-write_turn.status) silent c.new-heard.ensures.asked (rw c.in-Err-write_turn.is at c.write_turn.ensures.wrote) in
+    rw c.left_of-stores.ensures.left (stops_unshown _ _ c.in-Ok.ensures.valid c.args.stores.ended c.args.stores.counts _ _ _ first.read _ _ c.args.stores refl refl c.in-Err-write_turn.ensures.end first.gives first.first (wrote []))
+
+pub returns-clause-headline : goal.returns-clause-headline
+returns-clause-headline g c =
+    let first = rw c.new-reader.ensures at c.in-Ok.ensures.first in
+    let silent : map plain_report c.new-heard.result.told.updates.items ≡ [] = ap (λ us. map plain_report us) c.new-heard.ensures.told in
+    let wrote = shown_first {U = Unit {0}} _ _ _ _ c.args.stores.ended (Ok c.in_default.field-0) silent c.new-heard.ensures.asked (rw c.in_default.is at c.write_turn.ensures.wrote) in
+    rw c.left_of.ensures.left (c.later_lines-state.ensures.headline _ first.read _ c.args.stores.ended first.gives first.first (λ asked. refl) (wrote []) (rw c.left_of.ensures.left at c.left_of.ensures.hands_back))

@@ -1,0 +1,71 @@
+-- What the actor's promise makes of one event, where it tells all that was told and asked.
+use Rattle.std.proofs.Common.{Err, List, None, Ok, Option, Some, [], ap, arith, subst, sym, ◌++◌, ◌∙◌, ◌∷◌, ◌≡◌}
+use Rattle.std.specs.Prelude.{Result}
+use Rattle.mar_types.specs.Epochs.{fixed_epochs}
+use Rattle.mar_block.specs.Sent.{Held}
+use Rattle.mar_key.specs.Hears.{Hears}
+use Rattle.mar_key.specs.Keys.{Call}
+use Rattle.mar_actor.specs.Event.{Event}
+use Rattle.mar_actor.specs.Faults.{ack_kind, ticket_limit}
+use Rattle.mar_actor.specs.Held.{Counts, Ending, IsEndedBy, NotFewer, Remains}
+use Rattle.mar_actor.specs.Lives.{Cuts}
+use Rattle.mar_actor.specs.Promise.{IsLawfulStep, IsSetTo, KeepsPromise, made_of, node_of}
+use Rattle.mar_actor.specs.Step.{Report, Steps}
+use Rattle.mar_actor.specs.Views.{fault_of}
+use Rattle.mar_actor.specs.declared.fault.Fault.{Fault as FaultCode}
+use Rattle.mar_key.specs.Asked.{Asked, asked_after}
+use Rattle.mar_actor.specs.Chain.{Chain}
+use Rattle.mar_actor.specs.Config.{Config}
+use Rattle.marshal.specs.Playing.{IsLasting, IsSetNode, SeenNode, TakesEvent}
+use Rattle.marshal.specs.declared.play.Outcome.TheVariants as outcome
+use Rattle.marshal.specs.declared.play.State.{State as StateCode}
+use Rattle.marshal.specs.declared.play.State.TheVariants as state
+
+-- all that was told since there was nothing
+told_all : {T : Type 0} (old new more : List T) → old ≡ [] → Hears (Some old) more (Some new) → more ≡ new
+told_all old new more none heard = sym (inside heard ∙ ap (λ xs. xs ++ more) none)
+  where
+    inside : ◌≡◌ {A = Option (List _)} (Some new) (Some (old ++ more)) → new ≡ old ++ more
+    inside is = cc
+
+pub not_fewer : (c : Counts) → NotFewer c c
+not_fewer c s = omega arith
+
+pub not_fewer_same : (before now : Counts) → now ≡ before → NotFewer before now
+not_fewer_same before now same = subst (NotFewer before) (sym same) (not_fewer before)
+
+module _ (FB FC M H FBW FCW MW HW : Type 0) (seen : SeenNode) (buffer : Held) (e : Event) (told0 told1 : List Report) (asks0 asks1 : List Call) (silent : told0 ≡ []) (unasked : asks0 ≡ []) where
+  abbrev Code : Type 0
+  Code = StateCode FB FC M H FBW FCW MW HW
+
+  abbrev Stopped : Remains → Code
+  Stopped left = state.Stopped left
+
+  abbrev Running : SeenNode → Held → Code
+  Running new kept = state.Running new kept
+
+  abbrev Promises : Result SeenNode Ending → Type 0
+  Promises = KeepsPromise (fixed_epochs seen.life.epocher.length) (λ commitment. commitment) seen e buffer.blocks (Some told0) (Some told1) (Some asks0) (Some asks1)
+
+  pub takes_ok : (new : SeenNode) → Promises (Ok new) → new.life.epocher ≡ seen.life.epocher → new.life.sizes ≡ seen.life.sizes → NotFewer seen.held.counts new.held.counts → TakesEvent seen buffer e told1 asks1 (Running new buffer) outcome.Done
+  takes_ok new promise epocher sizes later = record {
+    set = λ config set. subst (λ z. IsSetTo config z (fixed_epochs new.life.epocher.length) (λ commitment. commitment)) (sym sizes) (subst (λ p. IsSetTo config seen.life.sizes (fixed_epochs p.length) (λ commitment. commitment)) (sym epocher) set);
+    later = later;
+    done = λ config chain asked set lawful.
+        let (reports, heard, finishes) = promise config chain asked set lawful in (
+          subst (λ rs. Steps config chain (node_of seen buffer.blocks asked) (e ∷ []) (made_of rs asks1) (node_of new buffer.blocks (asked_after asked [] asks1))) (told_all told0 told1 reports silent heard)
+              (subst (λ cs. Steps config chain (node_of seen buffer.blocks asked) (e ∷ []) (made_of reports cs) (node_of new buffer.blocks (asked_after asked [] cs))) (told_all asks0 asks1 finishes.asks unasked finishes.heard) finishes.steps),
+          λ b has. has,
+        );
+  }
+
+  pub takes_err : (fault : FaultCode) (left : Remains) → Promises (Err (record { fault = fault_of fault; remains = left })) → NotFewer seen.held.counts left.counts → IsEndedBy seen.held.counts (record { fault = fault_of fault; remains = left })
+      → ((config : Config) (chain : Chain) (asked : List Asked) → IsSetNode config seen → IsLawfulStep config chain (node_of seen buffer.blocks asked) e → IsLasting (node_of seen buffer.blocks asked) → fault_of fault ≡ ticket_limit ack_kind → ⊥)
+      → TakesEvent seen buffer e told1 asks1 (Stopped left) (outcome.Fault fault)
+  takes_err fault left promise later cause limit = record {
+    set = λ config set. tt;
+    later = later;
+    done = λ config chain asked set lawful.
+        let (reports, heard, cuts) = promise config chain asked set lawful in
+        (subst (λ rs. Cuts config chain (node_of seen buffer.blocks asked) (e ∷ []) rs (fault_of fault) left.ended) (told_all told0 told1 reports silent heard) cuts, cause, limit config chain asked set lawful);
+  }

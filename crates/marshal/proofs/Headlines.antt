@@ -1,0 +1,265 @@
+-- The headline of a replay, from the lines that were read and done, by each way in which it stops.
+use Rattle.std.proofs.Common.{Err, List, None, Ok, Option, Some, [], arith, inl, inr, length, min, refl, subst, sym, ℕ, ◌++◌, ◌+◌, ◌-◌, ◌<◌, ◌^◌, ◌∙◌, ◌∷◌, ◌≤◌, ◌≡◌}
+use Rattle.std.specs.Prelude.{IfSome, Result}
+use Rattle.std.proofs.lemmas.List.{append-nil}
+use Rattle.mar_block.specs.Block.{Block}
+use Rattle.mar_block.specs.Sent.{Held}
+use Rattle.mar_key.specs.Asked.{Asked}
+use Rattle.mar_key.specs.Keys.{Call}
+use Rattle.mar_store.specs.Changes.{IsNested}
+use Rattle.mar_store.proofs.Lookups.{has_height-within}
+use Rattle.mar_actor.specs.Chain.{Chain}
+use Rattle.mar_actor.specs.Config.{Config}
+use Rattle.mar_actor.specs.Faults.{want_of_memory}
+use Rattle.mar_actor.specs.Held.{Counts, NotFewer, Remains, remains_of}
+use Rattle.mar_actor.specs.Lives.{IsGoodEnded}
+use Rattle.mar_actor.specs.Promise.{node_of}
+use Rattle.mar_actor.specs.Node.{Ended}
+use Rattle.mar_actor.specs.Step.{Report}
+use Rattle.marshal.specs.Endings.{IsReadersEnd, IsWritersEnd}
+use Rattle.marshal.specs.Lines.{plain_line}
+use Rattle.marshal.specs.Playing.{IsSetAs, SeenNode, Turned, TurnsLine, WritesText}
+use Rattle.marshal.specs.Reading.{IsQuiet, ReplaysWhereTold, StopsWith, TakesFirst, TakesNext, ending_of}
+use Rattle.marshal.specs.Run.{HandsBack, HeadlineWhereTold, IsConfigBytes, IsFront, IsLineBytes, Premises, Replays, Status, max_lines, out_of_memory, outside_grammar, read_failed, read_to_end, write_failed}
+use Rattle.marshal.specs.Script.{IsSettings, Line, Settings, config_of, settings_bytes}
+use Rattle.marshal.specs.Streams.{Gives, Takes, TakesFront}
+use Rattle.marshal.specs.Text.{Output, output_text, running, silent_output, stopped, text}
+use Rattle.marshal.specs.Turn.{output_of, remains_in, state_of}
+use Rattle.marshal.specs.declared.line.Line.{Line as LineCode}
+use Rattle.marshal.specs.declared.play.Outcome.TheVariants as outcome
+use Rattle.marshal.specs.declared.play.State.{State as StateCode}
+use Rattle.marshal.specs.declared.play.State.TheVariants as state
+use Rattle.marshal.specs.declared.status.Status.{Status as StatusCode}
+use Rattle.marshal.specs.declared.status.Status.TheVariants as status
+use Rattle.marshal.proofs.EmptyStores.{empty_is_good}
+use Rattle.marshal.proofs.ReadSteps.{SoFar, begins, ends, goes_on, shown}
+use Rattle.marshal.proofs.Replaying.{RunSoFar, StopsBetween, StopsInText, first_run, front_output, lawful_next, left_in, more_run, premises_before, stops_between, stops_in_text}
+use Rattle.marshal.proofs.Streams.{takes_more, takes_none}
+
+not_fewer_then : (a b c : ℕ) → min a (2 ^ 64 - 1) ≤ b → min b (2 ^ 64 - 1) ≤ c → min a (2 ^ 64 - 1) ≤ c
+not_fewer_then a b c p q = omega (arith, p, q)
+
+err_inside : {U : Type 0} (a b : StatusCode) → ◌≡◌ {A = Result U StatusCode} (Err a) (Err b) → a ≡ b
+err_inside a b is = cc
+
+ok_not_err : {U : Type 0} (u : U) (b : StatusCode) → ◌≡◌ {A = Result U StatusCode} (Ok u) (Err b) → ⊥
+ok_not_err u b is = cc
+
+-- a node's stores are handed back
+pub hands_running : (seen : SeenNode) (buffer : Held) → IsNested seen.held.blocks → IsNested seen.held.certs → (asked : List Asked) → HandsBack (running (node_of seen buffer.blocks asked)) (remains_of seen.held).ended
+hands_running seen buffer blocks certs asked = (
+  λ h. refl,
+  λ h. refl,
+  refl,
+  has_height-within seen.held.blocks.held seen.held.blocks.may blocks.held_may,
+  has_height-within seen.held.certs.held seen.held.certs.may certs.held_may,
+)
+
+module _ (source : Option (List ℕ)) (s : Settings) (valid : IsSettings s) (before : Ended) (first : Counts) (sunk : Option (List ℕ)) where
+  -- what was read, with all that was written
+  told : (quiet : Type 0) (pending : List ℕ) (now : Option (List ℕ)) (number : ℕ) (read : List ℕ) (after : Option (List ℕ)) (ending : Status) (sunk' : Option (List ℕ)) (bytes : List ℕ) (left : Ended) (reads : SoFar source s pending now number) → Gives now read after → StopsWith number (IsLineBytes s.members) (pending ++ read) after ending
+      → Takes sunk bytes sunk' → ((chain : Chain) → Premises (config_of s) chain reads.lines before → Replays quiet (config_of s) chain reads.lines bytes ending before left) → HeadlineWhereTold quiet source after sunk sunk' ending before left
+  unfolding ends
+  told quiet pending now number read after ending sunk' bytes left reads gives stops takes runs =
+      let r = ends source s pending now number read after ending valid reads gives stops in
+      let front = shown sunk in (r.taken, r.left, front.0, bytes, r.told, r.still, front.1, takes front.0 front.1, record { settings = Some s; lines = reads.lines; rest = pending ++ read; told = (r.reading.reads, runs) })
+
+  -- nothing more can be said of the source
+  out_here : (number : ℕ) (rest : List ℕ) (after : Option (List ℕ)) → StopsWith number (IsLineBytes s.members) rest after out_of_memory
+  out_here number rest after = record { left = (shown after).0; still = (shown after).1; stops = tt }
+
+  -- the settings were read, and what there is at first was not written whole
+  unshown : (pending : List ℕ) (now : Option (List ℕ)) (taken : List ℕ) (ending : Status) (sunk' : Option (List ℕ)) → StopsInText ending → Gives source taken now → taken ≡ settings_bytes s ++ pending → StopsWith 2 (IsLineBytes s.members) (pending ++ []) now ending → TakesFront sunk (text before []) sunk'
+      → HeadlineWhereTold (IsQuiet first first) source now sunk sunk' ending before before
+  unfolding begins
+  unshown pending now taken ending sunk' inside gives is stops (front, of_text, takes) =
+      told (IsQuiet first first) pending now 2 [] now ending sunk' front before (begins source s pending now taken gives is) (λ rest h. h) stops takes
+      (λ chain p. record {
+        run = [];
+        lines_done = refl;
+        last = stopped before;
+        lives = refl;
+        output = front_output ending front (text before []) inside of_text;
+        hands_back = ((λ h. refl), (λ h. refl), refl, (λ h. refl), (λ h. refl));
+        good = subst (IsGoodEnded chain) (sym p.before_is) (empty_is_good (config_of s) chain p.lawful);
+        some_pair = subst (λ e. 0 < length e.meta) (sym p.before_is) (omega arith);
+        memory = tt;
+        complete = λ q smooth. tt;
+      })
+
+  pub stops_unshown : (pending : List ℕ) (now : Option (List ℕ)) (taken : List ℕ) (sunk' : Option (List ℕ)) (code : StatusCode) (left : Remains) → left.ended ≡ before → left.counts ≡ first → IsWritersEnd code → Gives source taken now → taken ≡ settings_bytes s ++ pending → TakesFront sunk (text before []) sunk'
+      → ReplaysWhereTold source now sunk sunk' code before first left
+  stops_unshown pending now taken sunk' code left ended counts end gives is front =
+      subst (λ k. IfSome (ending_of code) (λ ending. HeadlineWhereTold (IsQuiet first k) source now sunk sunk' ending before left.ended)) (sym counts)
+      (subst (λ e. IfSome (ending_of code) (λ ending. HeadlineWhereTold (IsQuiet first first) source now sunk sunk' ending before e)) (sym ended) (by code end))
+    where
+      by : (code : StatusCode) → IsWritersEnd code → IfSome (ending_of code) (λ ending. HeadlineWhereTold (IsQuiet first first) source now sunk sunk' ending before before)
+      by status.Memory end = unshown pending now taken out_of_memory sunk' tt gives is (out_here 2 (pending ++ []) now) front
+      by status.WriteFault end = unshown pending now taken write_failed sunk' tt gives is (record { left = (shown now).0; still = (shown now).1; stops = omega arith }) front
+      by (status.Script n) end = absurd end
+      by status.ReadFault end = absurd end
+      by status.Ok end = absurd end
+      by status.Usage end = absurd end
+
+-- what there is at first is the text of no lines
+pub shown_first : {U : Type 0} (sunk sunk' : Option (List ℕ)) (reports : List Report) (asks : List Call) (before : Ended) (written : Result U StatusCode) → reports ≡ [] → asks ≡ [] → WritesText sunk (λ asked. output_text (output_of reports asks outcome.Done) (stopped before)) sunk' written → WritesText sunk (λ asked. text before []) sunk' written
+shown_first sunk sunk' reports asks before written silent unasked wrote =
+    subst (λ bs. WritesText sunk (λ asked. bs) sunk' written) (sym (append-nil (output_text silent_output (stopped before))))
+    (subst (λ cs. WritesText sunk (λ asked. output_text (output_of [] cs outcome.Done) (stopped before)) sunk' written) unasked (subst (λ rs. WritesText sunk (λ asked. output_text (output_of rs asks outcome.Done) (stopped before)) sunk' written) silent wrote))
+
+module _ (FB FC M H FBW FCW MW HW : Type 0) where
+  abbrev Code : Type 0
+  Code = StateCode FB FC M H FBW FCW MW HW
+
+  -- a state's text doesn't depend on the open requests
+  text_open : (out : Output) (s : Code) (asked : List Asked) → output_text out (state_of asked s) ≡ output_text out (state_of [] s)
+  unfolding output_text
+  text_open out (state.Running seen buffer) asked = refl
+  text_open out (state.Stopped left) asked = refl
+
+  left_remains : (s : Code) (asked : List Asked) → left_in (state_of asked s) ≡ (remains_in s).ended
+  left_remains (state.Running seen buffer) asked = refl
+  left_remains (state.Stopped left) asked = refl
+
+  -- a line that was written leaves the settings, and no count fell
+  pub turned_set : {U : Type 0} (config : Config) (c d : Code) (l : Line) (sunk sunk' : Option (List ℕ)) (written : Result U StatusCode) → TurnsLine config c l sunk d sunk' written → IsSetAs config c → IsSetAs config d
+  turned_set config c d l sunk sunk' written (inl (memory, same, takes)) set = subst (IsSetAs config) (sym same) set
+  turned_set config c d l sunk sunk' written (inr turned) set = turned.plays.set set
+
+  pub turned_later : {U : Type 0} (config : Config) (c d : Code) (l : Line) (sunk sunk' : Option (List ℕ)) (written : Result U StatusCode) (first : Counts) → TurnsLine config c l sunk d sunk' written → NotFewer first (remains_in c).counts → NotFewer first (remains_in d).counts
+  turned_later config c d l sunk sunk' written first (inl (memory, same, takes)) fewer = subst (λ x. NotFewer first (remains_in x).counts) (sym same) fewer
+  turned_later config c d l sunk sunk' written first (inr turned) fewer = λ s. not_fewer_then _ _ _ (fewer s) (turned.plays.later s)
+
+  -- The lines that were read and done so far, what was written, and the run that it is for each lawful chain.
+  pub record HeadSoFar (source : Option (List ℕ)) (s : Settings) (pending : List ℕ) (now : Option (List ℕ)) (number : ℕ) (before : Ended) (first : Counts) (code : Code) (sunk sunk' : Option (List ℕ)) : Type 0 where
+    pub reads : SoFar source s pending now number
+    pub bytes : List ℕ
+    pub takes : Takes sunk bytes sunk'
+    pub runs : (chain : Chain) → Premises (config_of s) chain reads.lines before → RunSoFar (config_of s) chain before reads.lines first (remains_in code).counts (λ asked. state_of asked code) bytes
+
+  module _ (source : Option (List ℕ)) (s : Settings) (valid : IsSettings s) (before : Ended) (first : Counts) (sunk : Option (List ℕ)) where
+    -- BETWEEN TWO LINES
+
+    module _ (pending : List ℕ) (now : Option (List ℕ)) (number : ℕ) (c : Code) (sunk' : Option (List ℕ)) (so : HeadSoFar source s pending now number before first c sunk sunk') (hands : (asked : List Asked) → HandsBack (state_of asked c) (remains_in c).ended) where
+      between : (read : List ℕ) (after : Option (List ℕ)) (ending : Status) → StopsBetween ending → Gives now read after → StopsWith number (IsLineBytes s.members) (pending ++ read) after ending → HeadlineWhereTold (IsQuiet first (remains_in c).counts) source after sunk sunk' ending before (remains_in c).ended
+      between read after ending here gives stops =
+          told source s valid before first sunk (IsQuiet first (remains_in c).counts) pending now number read after ending sunk' so.bytes (remains_in c).ended so.reads gives stops so.takes
+          (λ chain p. stops_between ending (config_of s) chain before so.reads.lines first (remains_in c).counts (λ asked. state_of asked c) so.bytes (remains_in c).ended here (so.runs chain p) (left_remains c) hands)
+
+      -- there is no next line, or it can't be had
+      pub stops_reading : (code : StatusCode) (still : List ℕ) (after : Option (List ℕ)) → IsReadersEnd code → TakesNext s.members number now pending (Err code) still after → ReplaysWhereTold source after sunk sunk' code before first (remains_in c)
+      stops_reading status.Memory still after end t = between t.read after out_of_memory tt t.gives t.next
+      stops_reading (status.Script n) still after end t = between t.read after (outside_grammar n) tt t.gives t.next
+      stops_reading status.ReadFault still after end t = between t.read after read_failed tt t.gives t.next
+      stops_reading status.WriteFault still after end t = absurd end
+      stops_reading status.Ok still after end t = absurd end
+      stops_reading status.Usage still after end t = absurd end
+
+      pub stops_at_end : (still : List ℕ) (after : Option (List ℕ)) → TakesNext s.members number now pending (Ok None) still after → ReplaysWhereTold source after sunk sunk' status.Ok before first (remains_in c)
+      stops_at_end still after t = between t.read after read_to_end tt t.gives (record { left = []; still = t.next.1; stops = (omega (arith, so.reads.count), t.next.0, refl) })
+
+    -- IN A LINE
+
+    module _ (pending : List ℕ) (now : Option (List ℕ)) (number : ℕ) (c : Code) (sunk' : Option (List ℕ)) (so : HeadSoFar source s pending now number before first c sunk sunk') (l : LineCode) (still : List ℕ) (after : Option (List ℕ)) (t : TakesNext s.members number now pending (Ok (Some l)) still after) where
+      -- memory ran out before the line did anything
+      pub stops_undone : (sunk2 : Option (List ℕ)) → Takes sunk' [] sunk2 → ((asked : List Asked) → HandsBack (state_of asked c) (remains_in c).ended) → ReplaysWhereTold source after sunk sunk2 status.Memory before first (remains_in c)
+      stops_undone sunk2 takes hands =
+          told source s valid before first sunk (IsQuiet first (remains_in c).counts) pending now number t.read after out_of_memory sunk2 so.bytes (remains_in c).ended so.reads t.gives (out_here source s valid before first sunk number (pending ++ t.read) after) (subst (λ bs. Takes sunk bs sunk2) (append-nil so.bytes) (takes_more sunk sunk' sunk2 so.bytes [] so.takes takes))
+          (λ chain p. stops_between out_of_memory (config_of s) chain before so.reads.lines first (remains_in c).counts (λ asked. state_of asked c) so.bytes (remains_in c).ended tt (so.runs chain p) (left_remains c) hands)
+
+      module _ {U : Type 0} (d : Code) (sunk2 : Option (List ℕ)) (written : Result U StatusCode) (set : IsSetAs (config_of s) c) (fewer : NotFewer first (remains_in c).counts) (turned : Turned (config_of s) c (plain_line l) sunk' d sunk2 written) where
+        abbrev text_now : List ℕ
+        text_now = output_text turned.out (state_of [] d)
+
+        -- the line was done and written
+        pub goes_further : (u : U) → written ≡ Ok u → HeadSoFar source s still after (number + 1) before first d sunk sunk2
+        unfolding goes_on
+        goes_further u is = record {
+          reads = goes_on source s pending now number l still after so.reads t;
+          bytes = so.bytes ++ text_now;
+          takes = takes_more sunk sunk' sunk2 so.bytes text_now so.takes (subst (λ w. WritesText sunk' (λ asked. output_text turned.out (state_of asked d)) sunk2 w) is turned.wrote []);
+          runs = λ chain p.
+              let run = so.runs chain (premises_before (config_of s) chain so.reads.lines (plain_line l) before p) in
+              let played = turned.plays.plays set chain run.asked (lawful_next (config_of s) chain before so.reads.lines (plain_line l) first (remains_in c).counts (λ asked. state_of asked c) so.bytes p run) in
+              subst (λ bs. RunSoFar (config_of s) chain before (so.reads.lines ++ plain_line l ∷ []) first (remains_in d).counts (λ asked. state_of asked d) (so.bytes ++ bs)) (text_open turned.out d played.0)
+              (more_run (config_of s) chain before so.reads.lines (plain_line l) first (remains_in c).counts (λ asked. state_of asked c) so.bytes p run (remains_in d).counts turned.out (λ asked. state_of asked d) played.0 played.1 fewer turned.plays.later
+              (λ memory. ok_not_err u status.Memory (sym is ∙ turned.memory memory)));
+        }
+
+        in_text : (ending : Status) → StopsInText ending → (turned.out.fault ≡ Some want_of_memory → ending ≡ out_of_memory) → TakesFront sunk' text_now sunk2 → StopsWith (number + 1) (IsLineBytes s.members) (still ++ []) after ending → ((asked : List Asked) → HandsBack (state_of asked d) (remains_in d).ended)
+            → HeadlineWhereTold (IsQuiet first (remains_in d).counts) source after sunk sunk2 ending before (remains_in d).ended
+        unfolding goes_on
+        in_text ending inside memory (front, is, takes) stops hands =
+            told source s valid before first sunk (IsQuiet first (remains_in d).counts) still after (number + 1) [] after ending sunk2 (so.bytes ++ front) (remains_in d).ended (goes_on source s pending now number l still after so.reads t) (λ rest h. h) stops (takes_more sunk sunk' sunk2 so.bytes front so.takes takes)
+            (λ chain p.
+            let run = so.runs chain (premises_before (config_of s) chain so.reads.lines (plain_line l) before p) in
+            let played = turned.plays.plays set chain run.asked (lawful_next (config_of s) chain before so.reads.lines (plain_line l) first (remains_in c).counts (λ asked. state_of asked c) so.bytes p run) in
+            stops_in_text (config_of s) chain before so.reads.lines (plain_line l) first (remains_in c).counts (λ asked. state_of asked c) so.bytes p run (remains_in d).counts turned.out (λ asked. state_of asked d) played.0 played.1 fewer turned.plays.later
+            ending front (remains_in d).ended inside (subst (λ whole. IsFront front whole) (sym (text_open turned.out d played.0)) is) memory (left_remains d played.0) (hands played.0))
+
+        -- the line was done, and writing or memory failed
+        pub stops_unwritten : (code : StatusCode) → written ≡ Err code → IsWritersEnd code → ((asked : List Asked) → HandsBack (state_of asked d) (remains_in d).ended) → ReplaysWhereTold source after sunk sunk2 code before first (remains_in d)
+        stops_unwritten status.Memory is end hands = in_text out_of_memory tt (λ memory. refl) (subst (λ w. WritesText sunk' (λ asked. output_text turned.out (state_of asked d)) sunk2 w) is turned.wrote []) (out_here source s valid before first sunk (number + 1) (still ++ []) after) hands
+        stops_unwritten status.WriteFault is end hands =
+            in_text write_failed tt (λ memory. absurd (apart (err_inside status.WriteFault status.Memory (sym is ∙ turned.memory memory)))) (subst (λ w. WritesText sunk' (λ asked. output_text turned.out (state_of asked d)) sunk2 w) is turned.wrote [])
+            (record { left = (shown after).0; still = (shown after).1; stops = omega (arith, so.reads.count) }) hands
+          where
+            apart : status.WriteFault ≡ status.Memory → ⊥
+            apart same = cc
+        stops_unwritten (status.Script n) is end hands = absurd end
+        stops_unwritten status.ReadFault is end hands = absurd end
+        stops_unwritten status.Ok is end hands = absurd end
+        stops_unwritten status.Usage is end hands = absurd end
+
+      -- the same of a line that was done or not
+      pub stops_turn : {U : Type 0} (d : Code) (sunk2 : Option (List ℕ)) (written : Result U StatusCode) (code : StatusCode) → IsSetAs (config_of s) c → NotFewer first (remains_in c).counts → TurnsLine (config_of s) c (plain_line l) sunk' d sunk2 written → written ≡ Err code → IsWritersEnd code → ((asked : List Asked) → HandsBack (state_of asked d) (remains_in d).ended)
+          → ReplaysWhereTold source after sunk sunk2 code before first (remains_in d)
+      stops_turn d sunk2 written code set fewer (inl (memory, same, takes)) is end hands =
+          subst (λ k. ReplaysWhereTold source after sunk sunk2 k before first (remains_in d)) (sym (err_inside code status.Memory (sym is ∙ memory)))
+          (subst (λ x. ReplaysWhereTold source after sunk sunk2 status.Memory before first (remains_in x)) (sym same) (stops_undone sunk2 takes (subst (λ x. (asked : List Asked) → HandsBack (state_of asked x) (remains_in x).ended) same hands)))
+      stops_turn d sunk2 written code set fewer (inr turned) is end hands = stops_unwritten d sunk2 written set fewer turned code is end hands
+
+      pub turn_goes_further : {U : Type 0} (d : Code) (sunk2 : Option (List ℕ)) (written : Result U StatusCode) (u : U) → IsSetAs (config_of s) c → NotFewer first (remains_in c).counts → TurnsLine (config_of s) c (plain_line l) sunk' d sunk2 written → written ≡ Ok u → HeadSoFar source s still after (number + 1) before first d sunk sunk2
+      turn_goes_further d sunk2 written u set fewer (inl (memory, same, takes)) is = absurd (ok_not_err u status.Memory (sym is ∙ memory))
+      turn_goes_further d sunk2 written u set fewer (inr turned) is = goes_further d sunk2 written set fewer turned u is
+
+    -- so many lines can't have been done
+    pub head_never : {T : Type 0} (pending : List ℕ) (now : Option (List ℕ)) (number : ℕ) (c : Code) (sunk' : Option (List ℕ)) → HeadSoFar source s pending now number before first c sunk sunk' → max_lines + 1 < number → T
+    head_never pending now number c sunk' so past = absurd (omega (arith, so.reads.count, so.reads.few))
+
+    -- BEFORE THE FIRST LINE
+
+    pub begins_head : (pending : List ℕ) (now : Option (List ℕ)) (taken : List ℕ) (c : Code) (sunk' : Option (List ℕ)) → Gives source taken now → taken ≡ settings_bytes s ++ pending → ((asked : List Asked) → state_of asked c ≡ stopped before) → (remains_in c).counts ≡ first → Takes sunk (text before []) sunk'
+        → HeadSoFar source s pending now 2 before first c sunk sunk'
+    unfolding begins
+    begins_head pending now taken c sunk' gives is stopped_is counts takes = record {
+      reads = begins source s pending now taken gives is;
+      bytes = text before [];
+      takes = takes;
+      runs = λ chain p. subst (λ k. RunSoFar (config_of s) chain before [] first k (λ asked. state_of asked c) (text before [])) (sym counts) (first_run (config_of s) chain before first (λ asked. state_of asked c) p stopped_is);
+    }
+
+-- nothing was read but what couldn't be done
+pub stops_first : (source : Option (List ℕ)) (code : StatusCode) (still : List ℕ) (after sunk : Option (List ℕ)) (left : Remains) → IsReadersEnd code → TakesFirst source [] (Err code) still after → ReplaysWhereTold source after sunk sunk code left.ended left.counts left
+stops_first source code still after sunk left end t = by code end t.first
+  where
+    nothing : (ending : Status) → StopsWith 1 IsConfigBytes t.read after ending → HeadlineWhereTold (IsQuiet left.counts left.counts) source after sunk sunk ending left.ended left.ended
+    nothing ending stops = (
+      t.read,
+      stops.left,
+      (shown sunk).0,
+      [],
+      t.gives stops.left stops.still,
+      stops.still,
+      (shown sunk).1,
+      takes_none sunk (shown sunk).0 (shown sunk).1,
+      record { settings = None; lines = []; rest = t.read; told = ((refl, refl, stops.stops), (refl, ((λ h. refl), (λ h. refl), refl, (λ h. refl), (λ h. refl)), λ chain good. good)) },
+    )
+
+    by : (code : StatusCode) → IsReadersEnd code → IfSome (ending_of code) (StopsWith 1 IsConfigBytes t.read after) → ReplaysWhereTold source after sunk sunk code left.ended left.counts left
+    by status.Memory end stops = nothing out_of_memory stops
+    by (status.Script n) end stops = nothing (outside_grammar n) stops
+    by status.ReadFault end stops = nothing read_failed stops
+    by status.WriteFault end stops = absurd end
+    by status.Ok end stops = absurd end
+    by status.Usage end stops = absurd end

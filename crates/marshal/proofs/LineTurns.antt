@@ -1,0 +1,166 @@
+-- What the program's steps make of a line while a life runs.
+use Rattle.std.proofs.Common.{Bool, IsTrue, List, None, Option, Some, [], ap, false, if◌then◌else◌, inl, inr, option_map, refl, subst, sym, true, ℕ, ◌++◌, ◌∙◌, ◌∷◌, ◌≡◌}
+use Rattle.std.specs.List.{list_any}
+use Rattle.mar_codec.specs.Causes.{Rose}
+use Rattle.mar_block.specs.Block.{Block}
+use Rattle.mar_cert.specs.Finalization.{Finalization}
+use Rattle.mar_inbox.specs.Messages.{report_finalization}
+use Rattle.mar_key.specs.Asked.{Asked, asked_after}
+use Rattle.mar_key.specs.Keys.{Call}
+use Rattle.mar_key.specs.Processed.{height_in}
+use Rattle.mar_parts.specs.Acks.{is_unmarked}
+use Rattle.mar_actor.specs.Chain.{Chain}
+use Rattle.mar_actor.specs.Config.{Config}
+use Rattle.mar_actor.specs.Event.{Event, ack_given, message_told}
+use Rattle.mar_actor.specs.Faults.{Fault, StoreName, ack_kind, event_fault, is_by_value, store_fault, ticket_limit}
+use Rattle.mar_actor.specs.Held.{Counts, Ending, IsEndedBy, Seen, count_of, remains_of}
+use Rattle.mar_actor.specs.Lives.{Cuts, CutsEvent}
+use Rattle.mar_actor.specs.Node.{Ended, IsGood, Node, Rest, block_missing, floor_awaited, window_full, write_uncovered}
+use Rattle.mar_actor.specs.Promise.{IsLawfulStep, ReportsFinalized, RestsBefore, made_of, node_of}
+use Rattle.mar_actor.specs.Step.{AdvancesAll, Made, Report, Steps}
+use Rattle.mar_actor.specs.Views.{fault_of, store_name_of}
+use Rattle.mar_actor.specs.declared.fault.Fault.{Fault as FaultCode}
+use Rattle.mar_actor.specs.declared.fault.Fault.TheVariants as fault
+use Rattle.mar_actor.specs.declared.fault.TicketKind.{TicketKind}
+use Rattle.mar_actor.specs.declared.fault.TicketKind.TheVariants.{Ack}
+use Rattle.marshal.specs.Playing.{IsBetween, IsExcused, IsLasting, IsLawfulLine, Plays}
+use Rattle.marshal.specs.Run.{LineDone, RunningDone, StepDone}
+use Rattle.marshal.specs.Script.{Line, ack_line, buffer_line, tell_line}
+use Rattle.marshal.specs.Text.{Output, Remark, State, remark_ignored, running, stopped}
+use Rattle.marshal.specs.Turn.{fault_in, output_of}
+use Rattle.marshal.specs.declared.play.Outcome.{Outcome}
+use Rattle.marshal.specs.declared.play.Outcome.TheVariants as outcome
+use Rattle.marshal.proofs.Lasting.{IsPlain, acks, lasting-step, no_event_fault, reports, starts}
+
+-- CUTS
+
+-- the only event of a step that was cut is the one that was cut
+pub only_cut : (config : Config) (chain : Chain) (n : Node) (e : Event) (rs : List Report) (fault : Fault) (left : Ended) → Cuts config chain n (e ∷ []) rs fault left → CutsEvent config chain n.meta (option_map height_in n.processed) n e rs fault left
+only_cut config chain n e rs fault left cuts = by cuts.finished cuts.first cuts.mid cuts.event cuts.later cuts.split cuts.advances cuts.reports_split cuts.cut
+  where
+    head : (d : Event) (others : List Event) → e ∷ [] ≡ d ∷ others → d ≡ e
+    head d others is = cc
+
+    tail : (d : Event) (xs : List Event) → e ∷ [] ≡ d ∷ xs → [] ≡ xs
+    tail d xs is = cc
+
+    none_behind : (xs others : List Event) (d : Event) → [] ≡ xs ++ d ∷ others → ⊥
+    none_behind [] others d is = absurd cc
+    none_behind (x ∷ xs) others d is = absurd cc
+
+    by : (finished : List Event) (first : Made) (mid : Node) (d : Event) (later : List Report) → e ∷ [] ≡ finished ++ d ∷ cuts.others → AdvancesAll config chain n finished first mid → rs ≡ first.reports ++ later → CutsEvent config chain n.meta (option_map height_in n.processed) mid d later fault left
+        → CutsEvent config chain n.meta (option_map height_in n.processed) n e rs fault left
+    by [] first mid d later split advances reports_split cut =
+        subst (λ xs. CutsEvent config chain n.meta (option_map height_in n.processed) n e xs fault left) (sym (reports_split ∙ ap (λ m. m.reports ++ later) advances.0))
+        (subst (λ m. CutsEvent config chain n.meta (option_map height_in n.processed) m e later fault left) advances.1
+        (subst (λ x. CutsEvent config chain n.meta (option_map height_in n.processed) mid x later fault left) (head d cuts.others split) cut))
+    by (x ∷ xs) first mid d later split advances reports_split cut = absurd (none_behind xs cuts.others d (tail x (xs ++ d ∷ cuts.others) split))
+
+-- a fault that no value calls for is want of memory or a store's, whose count rose
+pub excused : (before now : Counts) (fault : FaultCode) → (IsTrue (is_by_value (fault_of fault)) → ⊥) → (fault_of fault ≡ ticket_limit ack_kind → ⊥) → ((s : StoreName) → fault_of fault ≡ store_fault s → Rose (count_of before s) (count_of now s)) → IsExcused before now (Some (fault_of fault))
+excused before now (fault.StoreFault s) valued limit caused = inr (store_name_of s, refl, caused (store_name_of s) refl)
+excused before now fault.NotEmpty valued limit caused = absurd (valued refl)
+excused before now (fault.GenesisHeight h) valued limit caused = absurd (valued refl)
+excused before now (fault.HeightLimit h) valued limit caused = absurd (valued refl)
+excused before now (fault.AckDropped h) valued limit caused = absurd (valued refl)
+excused before now (fault.TicketLimit k) valued limit caused = absurd (limit (by k))
+  where
+    by : (k : TicketKind) → fault_of (fault.TicketLimit k) ≡ ticket_limit ack_kind
+    by Ack = refl
+excused before now fault.Memory valued limit caused = inl refl
+
+-- A STEP
+
+module _ {P E : Type 0} (config : Config) (chain : Chain) (a : Seen P E) (buffer : List Block) (asked : List Asked) where
+  abbrev node : Node
+  node = node_of a buffer asked
+
+  -- a step that finished
+  pub step_done : (e : Event) (rs : List Report) (asks : List Call) (b : Seen P E) (kept : List Block) → Steps config chain node (e ∷ []) (made_of rs asks) (node_of b kept (asked_after asked [] asks)) → StepDone config chain node (e ∷ []) [] (λ m. []) (output_of rs asks outcome.Done) (running (node_of b kept (asked_after asked [] asks)))
+  step_done e rs asks b kept steps = (made_of rs asks, steps, refl, refl, refl)
+
+  pub step_between : (e : Event) → IsPlain e → (rs : List Report) (asks : List Call) (b : Seen P E) (kept : List Block) → IsGood config chain node → IsLasting node → Steps config chain node (e ∷ []) (made_of rs asks) (node_of b kept (asked_after asked [] asks)) → IsBetween config chain (running (node_of b kept (asked_after asked [] asks)))
+  step_between e plain rs asks b kept good lasting steps = (steps.good, steps.rests, lasting-step config chain a buffer asked e plain (made_of rs asks) (node_of b kept (asked_after asked [] asks)) good steps lasting)
+
+  -- a step that was cut
+  pub step_cut : (e : Event) (rs : List Report) (asks : List Call) (fault : FaultCode) (left : Ended) → Cuts config chain node (e ∷ []) rs (fault_of fault) left → StepDone config chain node (e ∷ []) [] (λ m. []) (output_of rs asks (outcome.Fault fault)) (stopped left)
+  step_cut e rs asks fault left cuts = (fault_of fault, refl, refl, cuts, ([], refl))
+
+  pub cut_between : (e : Event) (rs : List Report) (fault : Fault) (left : Ended) → Cuts config chain node (e ∷ []) rs fault left → IsBetween config chain (stopped left)
+  cut_between e rs fault left cuts = (cuts.cut.leaves.good, cuts.cut.leaves.some_pair)
+
+  pub cut_excused : (e : Event) → IsPlain e → (rs : List Report) (fault : FaultCode) (x : Ending) → IsLawfulStep config chain node e → IsLasting node → Cuts config chain node (e ∷ []) rs (fault_of fault) x.remains.ended → x.fault ≡ fault_of fault → IsEndedBy a.held.counts x → (x.fault ≡ ticket_limit ack_kind → ⊥) → IsExcused a.held.counts x.remains.counts (Some (fault_of fault))
+  cut_excused e plain rs fault x lawful lasting cuts is cause limit =
+      excused a.held.counts x.remains.counts fault
+      (λ by_value. never (event_fault config node e) (fault_of fault) (no_event_fault config chain a buffer asked e plain lawful lasting) ((only_cut config chain node e rs (fault_of fault) x.remains.ended cuts).cause by_value))
+      (λ same. limit (is ∙ same)) (λ s same. cause.caused s (is ∙ same))
+    where
+      never : (o : Option Fault) (f : Fault) → o ≡ None → o ≡ Some f → ⊥
+      never o f p q = absurd cc
+
+-- what is asked of a step is what was asked of its line
+pub lawful_step : {P E : Type 0} (config : Config) (chain : Chain) (a : Seen P E) (buffer : List Block) (asked : List Asked) (line : Line) (e : Event) → IsPlain e → IsLawfulLine config chain (running (node_of a buffer asked)) line → ((f : Finalization) → e ≡ message_told None (report_finalization f) → line ≡ tell_line (report_finalization f)) → IsLawfulStep config chain (node_of a buffer asked) e
+lawful_step config chain a buffer asked line e plain lawful same = record { lawful = lawful.lawful; one = lawful.one; reported = told plain same; good = lawful.between.0; rests = rests plain }
+  where
+    told : {d : Event} → IsPlain d → ((f : Finalization) → d ≡ message_told None (report_finalization f) → line ≡ tell_line (report_finalization f)) → ReportsFinalized chain d
+    told starts is = tt
+    told (reports f) is = lawful.reported f (is f refl)
+    told (acks t) is = tt
+
+    rests : {d : Event} → IsPlain d → RestsBefore config.window (node_of a buffer asked) d
+    rests starts = tt
+    rests (reports f) = lawful.between.1
+    rests (acks t) = lawful.between.1
+
+-- THE BUFFER
+
+-- a block that is put into the buffer leaves the node good
+pub between-buffer : {P E : Type 0} (config : Config) (chain : Chain) (a : Seen P E) (buffer more : List Block) (asked : List Asked) → IsBetween config chain (running (node_of a buffer asked)) → IsBetween config chain (running (node_of a more asked))
+between-buffer config chain a buffer more asked (good, rests, lasting) = (
+  record {
+    heights = record {
+      sure_blocks = good.heights.sure_blocks;
+      sure_certs = good.heights.sure_certs;
+      consecutive = good.heights.consecutive;
+      out_sure = good.heights.out_sure;
+      within_window = good.heights.within_window;
+      floor_clears = good.heights.floor_clears;
+      anchored = good.heights.anchored;
+      own_pair = good.heights.own_pair;
+      sync_open = good.heights.sync_open;
+    };
+    of_chain = record {
+      held_blocks = good.of_chain.held_blocks;
+      may_blocks = good.of_chain.may_blocks;
+      held_certs = good.of_chain.held_certs;
+      may_certs = good.of_chain.may_certs;
+      cached = good.of_chain.cached;
+      cached_blocks = good.of_chain.cached_blocks;
+      awaits = tt;
+      floor_safe = good.of_chain.floor_safe;
+      honest_asks = good.of_chain.honest_asks;
+      honest_ready = good.of_chain.honest_ready;
+      honest_overflow = good.of_chain.honest_overflow;
+      not_at_hand = tt;
+      tip_reported = good.of_chain.tip_reported;
+    };
+  },
+  by rests,
+  record { undropped = lasting.undropped; tickets = lasting.tickets },
+)
+  where
+    by : Rest config.window (node_of a buffer asked) → Rest config.window (node_of a more asked)
+    by (floor_awaited some) = floor_awaited some
+    by (window_full is) = window_full is
+    by (block_missing is) = block_missing is
+    by (write_uncovered h has low) = write_uncovered h has low
+
+-- THE ACKNOWLEDGEMENT LINE
+
+-- an outstanding ticket is acknowledged
+pub ack_done : {P E : Type 0} (config : Config) (chain : Chain) (a : Seen P E) (buffer : List Block) (asked : List Asked) (t : ℕ) (out : Output) (after : State) → list_any (is_unmarked t) a.life.out ≡ true → StepDone config chain (node_of a buffer asked) (ack_given t ∷ []) [] (λ m. []) out after → LineDone config chain (running (node_of a buffer asked)) (ack_line t) out after
+ack_done config chain a buffer asked t out after owes done = subst (λ (b : Bool). RunningDone config chain (node_of a buffer asked) (ack_line t) (if b then None else Some remark_ignored) out after) (sym owes) done
+
+-- another isn't
+pub ack_ignored : {P E : Type 0} (config : Config) (chain : Chain) (a : Seen P E) (buffer : List Block) (asked : List Asked) (t : ℕ) (out : Output) (after : State) → list_any (is_unmarked t) a.life.out ≡ false → RunningDone config chain (node_of a buffer asked) (ack_line t) (Some remark_ignored) out after → LineDone config chain (running (node_of a buffer asked)) (ack_line t) out after
+ack_ignored config chain a buffer asked t out after owes done = subst (λ (b : Bool). RunningDone config chain (node_of a buffer asked) (ack_line t) (if b then None else Some remark_ignored) out after) (sym owes) done

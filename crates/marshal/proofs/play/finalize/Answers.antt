@@ -1,0 +1,11 @@
+use Rattle.std.proofs.Common.{◌≡◌}
+use Rattle.mar_cert.specs.Finalization.{Finalization}
+use Rattle.mar_inbox.specs.Messages.{report_finalization}
+use Rattle.marshal.specs.Lines.{plain_finalization}
+use Rattle.marshal.specs.Script.{tell_line}
+use Rattle.marshal.proofs.Lasting.{reports}
+use Rattle.marshal.proofs.LinePlays.{plays_event}
+use Rattle.marshal.proofs.play.finalize.Goals as goal
+
+pub returns : goal.returns
+returns g c = plays_event _ _ _ _ _ _ _ _ c.args.actor c.args.buffer _ _ _ _ _ _ (reports (plain_finalization c.args.finalization)) (λ f same. cc) (λ config chain asked out s done. done) c.step-state.ensures

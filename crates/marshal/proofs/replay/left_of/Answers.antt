@@ -1,0 +1,5 @@
+use Rattle.marshal.proofs.Headlines.{hands_running}
+use Rattle.marshal.proofs.replay.left_of.Goals as goal
+
+pub returns-in-Running-clause-hands_back : goal.returns-in-Running-clause-hands_back
+returns-in-Running-clause-hands_back g c = rw (c.in-Running.is, c.wreck.ensures.left) (hands_running c.in-Running.actor c.in-Running._buffer c.wreck.ensures.blocks c.wreck.ensures.certs)

@@ -1,0 +1,11 @@
+use Rattle.std.proofs.Common.{ap, string_bytes, ◌++◌, ◌∙◌}
+use Rattle.std.specs.List.{flat_map}
+use Rattle.marshal.specs.Text.{ask_words, line_of}
+use Rattle.marshal.specs.Turn.{report_text}
+use Rattle.marshal.proofs.SameWords.{turn_shown}
+use Rattle.marshal.proofs.turn.push_turn.Goals as goal
+
+pub returns : goal.returns
+returns g c =
+    turn_shown c.push_state.result _ _ _ _ _ _ _ _ _ (c.in_ok-push_updates.ensures ∙ ap (λ us. string_bytes c.args.text.now ++ flat_map report_text us) c.deref.ensures.value)
+    (c.in_ok-push_asks.ensures ∙ ap (λ asks. string_bytes c.push_updates.new.text ++ flat_map (λ a. line_of (ask_words a)) asks) c.asks.ensures) c.in_ok-push_outcome.ensures c.push_state.ensures

@@ -1,0 +1,56 @@
+//! What a node tells the application and asks of its peers while one line is done.
+ghost use Rattle.std.specs.Prelude.{◌≡◌, ◌∷◌, [], OnErr, OnOk, Some, map};
+ghost use Rattle.mar_key.specs.Hears.{Hears};
+ghost use Rattle.marshal.specs.Turn.{plain_report};
+
+use mar_actor::{Reporter, Update};
+use mar_block::{EmptyBlock, StandardBlocks};
+use mar_codec::{Digested, Sha256, Sha256Digest};
+use mar_key::Recorder;
+use std::alloc::{AllocError, Global};
+
+/// What the application was told, in order.
+#[derive(Drop)]
+pub struct Told {
+    pub updates: Vec<Update<Sha256Digest, Digested<EmptyBlock<Sha256>>>>,
+}
+
+/// What a node told and asked while one line was done.
+#[derive(Drop)]
+pub struct Heard {
+    pub told: Told,
+    pub asked: Recorder<Sha256Digest>,
+}
+
+impl Heard {
+    /// Of a line that has told and asked nothing yet.
+    pub fn new(alloc: Global) -> Self
+        ensures told { result.told.updates.items ≡ [] }
+        ensures asked { result.asked.asks ≡ [] }
+    {
+        Heard {
+            told: Told {
+                updates: Vec::new(alloc),
+            },
+            asked: Recorder::new(alloc),
+        }
+    }
+}
+
+impl Reporter<StandardBlocks> for Told {
+    ghost use Rattle.std.specs.Prelude.{Some, map};
+    ghost use Rattle.marshal.specs.Turn.{plain_report};
+
+    ghost told = { λ t. Some (map plain_report t.updates.items) };
+
+    fn report(
+        &mut self,
+        update: Update<Sha256Digest, Digested<EmptyBlock<Sha256>>>,
+    ) -> Result<(), AllocError>
+        ensures ok { OnOk result (Hears (Some (map plain_report self.old.updates.items)) (plain_report update ∷ []) (Some (map plain_report self.new.updates.items))) }
+        ensures err { OnErr result (Hears (Some (map plain_report self.old.updates.items)) [] (Some (map plain_report self.new.updates.items))) }
+    {
+        self.updates.push(update)?;
+        Ok(())
+    }
+}
