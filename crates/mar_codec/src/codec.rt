@@ -84,6 +84,22 @@ pub trait Read: Write + Drop + Sized {
     ghost unambiguous: { (cfg : Self.Cfg) → IsUnambiguous (in_grammar cfg) };
 }
 
+/// Reads a value from the front, as `read_cfg` does. What was written of a value is read back so, whatever follows it,
+/// and memory alone can refuse it.
+pub fn read_front<T: Read, B: Buf>(alloc: Global, buf: &mut B, cfg: &T::Cfg) -> Result<T, Error>
+    ensures ok { IfOk result (λ value. Takes (T.in_grammar cfg.now) (T.encoded value)
+        (B.unread buf.old) (B.unread buf.new)) }
+    ensures err { IfErr result (λ e. (e ≡ Error.Memory)
+        ⊎ HasNoFront (T.in_grammar cfg.now) (B.unread buf.old)) }
+    ensures cause { IfErr result (λ e. (e ≡ Error.Memory)
+        ⊎ T.refuses cfg.now (B.unread buf.old) e) }
+    ensures memory { IfErr result (λ e. e ≡ Error.Memory → T.takes_memory ≡ true) }
+    ensures back { ReadsBack (T.in_grammar cfg.now) T.encoded result (B.unread buf.old)
+        (B.unread buf.new) }
+{
+    T::read_cfg(alloc, buf, cfg)
+}
+
 /// Reading what needs no configuration.
 pub trait ReadExt: Read<Cfg = ()> {
     /// Reads a value from the front, as `read_cfg` does.
@@ -98,7 +114,7 @@ pub trait ReadExt: Read<Cfg = ()> {
         ensures back { ReadsBack (Self.in_grammar tt) Self.encoded result (B.unread buf.old)
             (B.unread buf.new) }
     {
-        Self::read_cfg(alloc, buf, &())
+        read_front(alloc, buf, &())
     }
 }
 

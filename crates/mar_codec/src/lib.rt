@@ -4,7 +4,7 @@
 pub use array::{Array, Span};
 pub use codec::{
     Decode, Encode, EncodeSize, FixedSize, MaxEncodeSize, Read, ReadExt, Write, read_array,
-    read_byte, read_slice,
+    read_byte, read_front, read_slice,
 };
 pub use digest::{Digest, Digestible, Hasher};
 pub use digested::Digested;

@@ -272,6 +272,18 @@ fn reread<T: EncodeSize + Read<Cfg = ()>>(alloc: Global, value: &T) -> Result<T,
     T::read(alloc, &mut buf)
 }
 
+// The same under a configuration.
+fn reread_front<T: Read>(alloc: Global, value: &T, cfg: &T::Cfg) -> Result<T, Error>
+    requires { T.in_grammar cfg.now (T.encoded value.now) }
+    ensures same { IfOk result (λ read. T.encoded read ≡ T.encoded value.now) }
+    ensures memory { IfErr result (λ e. e ≡ Error.Memory) }
+{
+    let mut buf = BytesMut::new(alloc);
+    value.write(&mut buf)?;
+    buf.put_u8(7)?;
+    read_front(alloc, &mut buf, cfg)
+}
+
 // No value is spelled by more bytes than its type says.
 fn most_bytes<T: EncodeSize + MaxEncodeSize>(value: &T) -> usize
     requires { T.can_encode value.now }
@@ -291,6 +303,7 @@ fn what_was_written_is_read_back(rt: HostRuntime) -> Result<(), Fail> {
         reread(rt.alloc(), &Sha256Digest::empty())?,
         Sha256Digest::empty()
     );
+    assert_eq!(rt; reread_front(rt.alloc(), &UInt(300), &())?, UInt(300));
     assert_eq!(rt; most_bytes(&UInt(u64::MAX)), UInt::MAX_ENCODE_SIZE);
     Ok(())
 }
@@ -310,6 +323,10 @@ fn parts_are_read_in_order(rt: HostRuntime) -> Result<(), Fail> {
     let mut last: &[u8] = b"\x05\x06";
     read_slice(&mut last, &mut out)?;
     assert_eq!(rt; out, [5, 6]);
+    let mut both: &[u8] = b"\x05\xac\x02\x07";
+    let pair: (u8, UInt) = read_front(rt.alloc(), &mut both, &((), ()))?;
+    assert_eq!(rt; (pair.0, pair.1), (5, UInt(300)));
+    assert_eq!(rt; both, b"\x07".as_slice());
     // The second part is cut, and the first one is refused first.
     assert_eq!(rt;
         <(UInt, u8)>::decode_cfg(rt.alloc(), &b"\x07"[..], &((), ())).err(),

@@ -1,5 +1,6 @@
 -- Bytes that are refused as a commitment spell none.
-use Rattle.std.proofs.Common.{◌≡◌, inl, inr, ℕ, ◌+◌, List, [], ◌∷◌, ◌++◌, length, take, refl, sym, ◌∙◌, ap, subst, arith, length-append}
+use Rattle.std.proofs.Common.{◌≡◌, inl, inr, ℕ, ◌+◌, List, length, take, sym, ◌∙◌, ap, subst, arith, length-append}
+use Rattle.std.proofs.Math.Seq.{take-append_seam}
 use Rattle.mar_codec.specs.Codec.{HasNoFront, Takes}
 use Rattle.mar_codec.specs.Digest.{IsBytes}
 use Rattle.mar_codec.specs.DigestLemmas.{bytes_unambiguous}
@@ -25,13 +26,9 @@ module _ (Block Root Context : List ℕ → Type 0) (block_size root_size contex
       let same : front ≡ bytes = bytes_unambiguous 100 front bytes rest new s.sized t.in_grammar (sym is ∙ t.taken) in
       no_parts bytes e parts (subst (SpellsCommitment Block Root Context block_size root_size context_size) same s)
 
-  take_front : (front rest : List ℕ) → take (length front) (front ++ rest) ≡ front
-  take_front [] rest = refl
-  take_front (x ∷ front) rest = ap (λ xs. x ∷ xs) (take_front front rest)
-
   pub refuses_whole : (bytes old new : List ℕ) (e : Error) → Takes (IsBytes 100) bytes old new → RefusesParts Block Root Context block_size root_size context_size bytes e → RefusesCommitment Block Root Context block_size root_size context_size old e
   refuses_whole bytes old new e t parts =
       let long : length bytes ≡ 100 = t.in_grammar.0 in
       let all : length old ≡ length bytes + length new = ap length t.taken ∙ length-append bytes new in
-      let first : take 100 old ≡ bytes = ap (λ n. take n old) (sym long) ∙ ap (take (length bytes)) t.taken ∙ take_front bytes new in
+      let first : take 100 old ≡ bytes = ap (λ n. take n old) (sym long) ∙ ap (take (length bytes)) t.taken ∙ take-append_seam bytes new in
       inr (omega (arith, long, all), subst (λ xs. RefusesParts Block Root Context block_size root_size context_size xs e) (sym first) parts)

@@ -1,6 +1,6 @@
 -- What stands in a commitment's field.
 use Rattle.std.proofs.Common.{◌≡◌, ℕ, Bool, true, false, List, [], ◌∷◌, ◌++◌, length, refl, sym, ◌∙◌, ap, subst, arith}
-use Rattle.mar_codec.specs.Codec.{HasNoFront, Takes}
+use Rattle.mar_codec.specs.Codec.{Takes}
 
 -- a front as long as the whole is the whole
 whole_front : (front rest : List ℕ) → length front ≡ length (front ++ rest) → front ≡ front ++ rest
@@ -10,14 +10,6 @@ whole_front (x ∷ front) rest e = ap (λ xs. x ∷ xs) (whole_front front rest 
 
 pub takes_whole : (Spells : List ℕ → Type 0) (front old new : List ℕ) → length front ≡ length old → Takes Spells front old new → Spells old
 takes_whole Spells front old new long t = subst Spells (whole_front front new (long ∙ ap length t.taken) ∙ sym t.taken) t.in_grammar
-
-append_nothing : (xs : List ℕ) → xs ≡ xs ++ []
-append_nothing [] = refl
-append_nothing (x ∷ xs) = ap (λ ys. x ∷ ys) (append_nothing xs)
-
--- where no front is spelled, the whole isn't
-pub none_whole : (Spells : List ℕ → Type 0) (bytes : List ℕ) → HasNoFront Spells bytes → Spells bytes → ⊥
-none_whole Spells bytes none is = none bytes [] is (append_nothing bytes)
 
 pub clash : (b : Bool) → b ≡ true → b ≡ false → ⊥
 clash b t f = cc

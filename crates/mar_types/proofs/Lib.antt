@@ -5,3 +5,4 @@ pub mod Partition
 pub mod Joins
 pub mod FieldBytes
 pub mod CommitmentBytes
+pub mod CommitmentParts

@@ -1,19 +1,11 @@
 -- Epochs ascend with height: which epoch contains a height, and which are closed at it.
-use Rattle.std.proofs.Common.{◌≡◌, ◌<◌, ◌≤◌, ◌+◌, ◌==◌, ◌&&◌, ℕ, zero, suc, Bool, true, false, Option, Some, None, is_some, if◌then◌else◌, nat_le, option_and_then, refl, sym, ◌∙◌, ap, subst, arith, add-one, leb-true, eqb-true, eq-or-lt_of_le, inl, inr, ◌⊎◌}
+use Rattle.std.proofs.Common.{◌≡◌, ◌<◌, ◌≤◌, ◌+◌, ◌-◌, ◌==◌, ℕ, zero, suc, Bool, true, false, Option, Some, None, if◌then◌else◌, option_and_then, refl, sym, ◌∙◌, ap, subst, arith, eqb-true, eq-or-lt_of_le, inl, inr, ◌⊎◌}
+use Rattle.mar_types.proofs.Partitions.{above, within}
 use Rattle.mar_types.specs.Epochs.{Epochs, IsPartition, Span, closed_epoch, containing, containing_below, epoch_before, is_in_span, is_last_of}
 
 -- the height lies in the epoch
 abbrev pub IsInEpoch : Epochs → ℕ → ℕ → Type 0
 IsInEpoch epochs h e = (s : Span) × (epochs e ≡ Some s) × (s.first ≤ h) × (h ≤ s.last)
-
-in_span : (o : Option Span) (h : ℕ) → is_in_span o h ≡ true → (s : Span) × (o ≡ Some s) × (s.first ≤ h) × (h ≤ s.last)
-in_span None h e = absurd cc
-in_span (Some s) h e = (s, refl, leb-true s.first h (both (nat_le s.first h) (nat_le h s.last) e).0, leb-true h s.last (both (nat_le s.first h) (nat_le h s.last) e).1)
-  where
-    both : (a b : Bool) → (a && b) ≡ true → (a ≡ true) × (b ≡ true)
-    both true true p = (refl, refl)
-    both true false p = absurd cc
-    both false b p = absurd cc
 
 below_is : (epochs : Epochs) (h n e : ℕ) → containing_below epochs h n ≡ Some e → is_in_span (epochs e) h ≡ true
 below_is epochs h zero e p = absurd cc
@@ -27,32 +19,18 @@ below_is epochs h (suc n) e p = by (is_in_span (epochs n) h) refl p (below_is ep
     by false outside q others = others q
 
 pub containing-is : (epochs : Epochs) (h e : ℕ) → containing epochs h ≡ Some e → IsInEpoch epochs h e
-containing-is epochs h e p = in_span (epochs e) h (below_is epochs h (suc h) e p)
+containing-is epochs h e p =
+    let inside = within epochs e h (below_is epochs h (suc h) e p) in
+    (inside.span, inside.there, inside.from, inside.to)
 
 some_inside : {T : Type 0} (a b : T) → ◌≡◌ {A = Option T} (Some a) (Some b) → a ≡ b
 some_inside a b p = cc
 
 -- a later epoch begins above the last height of an earlier one
 pub later_above : (epochs : Epochs) → IsPartition epochs → (e f : ℕ) (s t : Span) → e < f → epochs e ≡ Some s → epochs f ≡ Some t → s.last < t.first
-later_above epochs p e zero s t lt ps pt = absurd (omega arith)
-later_above epochs p e (suc f) s t lt ps pt = by (epochs f) refl (later_above epochs p e f s)
-  where
-    next_is : epochs (f + 1) ≡ Some t
-    next_is = rw (add-one f) pt
-
-    there : is_some (epochs f) ≡ true
-    there = p.unbroken f (ap is_some next_is)
-
-    by : (o : Option Span) → epochs f ≡ o → ((m : Span) → e < f → epochs e ≡ Some s → epochs f ≡ Some m → s.last < m.first) → s.last < t.first
-    by None at others = absurd (let q : is_some {T = Span} None ≡ true = sym (ap is_some at) ∙ there in cc)
-    by (Some m) at others =
-        let step : t.first ≡ m.last + 1 = p.follows f m t at next_is in
-        let inside : m.first ≤ m.last = p.ordered f m at in
-        (let below : e ≤ f = omega arith in from (eq-or-lt_of_le below) step inside)
-      where
-        from : (e ≡ f) ⊎ (e < f) → t.first ≡ m.last + 1 → m.first ≤ m.last → s.last < t.first
-        from (inl same) step inside = let one : s.last ≡ m.last = ap (λ x. x.last) (some_inside s m (sym ps ∙ ap epochs same ∙ at)) in omega arith
-        from (inr less) step inside = let low : s.last < m.first = others m less ps at in omega arith
+later_above epochs p e f s t lt ps pt =
+    let q : f ≡ e + suc (f - e - 1) = omega arith in
+    above epochs p e (f - e - 1) s t ps (rw q at pt)
 
 -- heights of one epoch or of earlier ones are at most its last height
 at_most_last : (epochs : Epochs) → IsPartition epochs → (h e f : ℕ) (s : Span) → IsInEpoch epochs h f → epochs e ≡ Some s → f ≤ e → h ≤ s.last

@@ -9,7 +9,7 @@ the_span (Some s) there = (s, refl)
 the_span None there = absurd cc
 
 -- a later epoch begins above the end of an earlier one
-above : (epochs : Epochs) → IsPartition epochs → (e k : ℕ) (s t : Span) → epochs e ≡ Some s → epochs (e + suc k) ≡ Some t → s.last < t.first
+pub above : (epochs : Epochs) → IsPartition epochs → (e k : ℕ) (s t : Span) → epochs e ≡ Some s → epochs (e + suc k) ≡ Some t → s.last < t.first
 above epochs p e zero s t at_e at_d = let q : e + suc zero ≡ e + 1 = omega arith in let first = p.follows e s t at_e (rw q at at_d) in omega (arith, first)
 above epochs p e (suc k) s t at_e at_d =
     let q : e + suc (suc k) ≡ (e + suc k) + 1 = omega arith in
@@ -21,13 +21,13 @@ above epochs p e (suc k) s t at_e at_d =
     omega arith
 
 -- a span has the heights from its first to its last
-record Within (epochs : Epochs) (e h : ℕ) : Type 0 where
-  span : Span
-  there : epochs e ≡ Some span
-  from : span.first ≤ h
-  to : h ≤ span.last
+pub record Within (epochs : Epochs) (e h : ℕ) : Type 0 where
+  pub span : Span
+  pub there : epochs e ≡ Some span
+  pub from : span.first ≤ h
+  pub to : h ≤ span.last
 
-within : (epochs : Epochs) (e h : ℕ) → is_in_span (epochs e) h ≡ true → Within epochs e h
+pub within : (epochs : Epochs) (e h : ℕ) → is_in_span (epochs e) h ≡ true → Within epochs e h
 within epochs e h = by (epochs e) refl
   where
     from_test : (s : Span) → (nat_le s.first h && nat_le h s.last) ≡ true → s.first ≤ h

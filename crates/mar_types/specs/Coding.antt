@@ -71,6 +71,15 @@ config_bytes minimum extra = to_be_bytes w16 minimum ++ to_be_bytes w16 extra
 abbrev pub commitment_bytes : (block root context config : List ℕ) → List ℕ
 commitment_bytes block root context config = (padded block ++ padded root) ++ (padded context ++ config)
 
+-- a commitment made of these parts: it is valid where they are spelled, and each of them is found in it
+pub record JoinsParts (Block Root Context : List ℕ → Type 0) (block_size root_size context_size : ℕ) (block root context config bytes : List ℕ) : Type 0 where
+  pub joined : bytes ≡ commitment_bytes block root context config
+  pub valid : Block block → Root root → Context context → SpellsCommitment Block Root Context block_size root_size context_size bytes
+  pub block_found : take block_size (slice_range bytes 0 32) ≡ block
+  pub root_found : take root_size (slice_range bytes 32 64) ≡ root
+  pub context_found : take context_size (slice_range bytes 64 96) ≡ context
+  pub config_found : slice_range bytes 96 100 ≡ config
+
 -- a random commitment: a word gives the shards, its low half the least number and its high half that of extra ones, with one in place of none; then come block, root and context
 pub record DrawsCommitment {State : Type 0} (gives_word : State → ℕ → State → Type 0) (draws_block draws_root draws_context : State → List ℕ → State → Type 0) (old : State) (bytes : List ℕ) (new : State) : Type 0 where
   pub word : ℕ

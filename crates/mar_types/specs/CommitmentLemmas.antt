@@ -7,7 +7,7 @@ use Rattle.std.specs.Int.{to_be_bytes, w16}
 use Rattle.std.specs.List.{AllByRecursion, slice_range}
 use Rattle.mar_codec.specs.Digest.{IsByte, IsBytes}
 use Rattle.mar_codec.specs.DigestLemmas.{to_be_bytes_2-injective}
-use Rattle.mar_types.specs.Coding.{SpellsCommitment, SpellsConfig, SpellsField, SpellsShards, commitment_bytes, config_bytes, is_zero, padded}
+use Rattle.mar_types.specs.Coding.{JoinsParts, SpellsCommitment, SpellsConfig, SpellsField, SpellsShards, commitment_bytes, config_bytes, is_zero, padded}
 
 -- a digest that is spelled, and fits a field
 pub record IsPart (Spells : List ℕ → Type 0) (size : ℕ) (digest : List ℕ) : Type 0 where
@@ -133,3 +133,19 @@ config_bytes-injective minimum extra other_minimum other_extra m_fits e_fits om_
   to_be_bytes_2-injective minimum other_minimum m_fits om_fits (ap (take 2) e),
   to_be_bytes_2-injective extra other_extra e_fits oe_fits (ap (drop 2) e),
 )
+
+-- joined parts make a commitment that is valid where they are spelled, and each is found in it
+pub joins_parts : (Block Root Context : List ℕ → Type 0) (block_size root_size context_size : ℕ) (block root context config bytes : List ℕ) → bytes ≡ commitment_bytes block root context config → IsBytes block_size block → block_size ≤ 32 → IsBytes root_size root → root_size ≤ 32 → IsBytes context_size context → context_size ≤ 32 → SpellsConfig config → JoinsParts Block Root Context block_size root_size context_size block root context config bytes
+joins_parts Block Root Context block_size root_size context_size block root context config bytes joined b b_fits r r_fits c c_fits k =
+    let b_short : length block ≤ 32 = omega (arith, b.0) in
+    let r_short : length root ≤ 32 = omega (arith, r.0) in
+    let c_short : length context ≤ 32 = omega (arith, c.0) in
+    record {
+      joined = joined;
+      valid = λ b_is r_is c_is. rw joined (made_commitment Block Root Context block_size root_size context_size block root context config
+          (record { spelled = b_is; sized = b; fits = b_fits }) (record { spelled = r_is; sized = r; fits = r_fits }) (record { spelled = c_is; sized = c; fits = c_fits }) k);
+      block_found = ap (λ xs. take block_size (slice_range xs 0 32)) joined ∙ ap (take block_size) (block_field block root context config b_short) ∙ digest_in_field block_size block b.0;
+      root_found = ap (λ xs. take root_size (slice_range xs 32 64)) joined ∙ ap (take root_size) (root_field block root context config b_short r_short) ∙ digest_in_field root_size root r.0;
+      context_found = ap (λ xs. take context_size (slice_range xs 64 96)) joined ∙ ap (take context_size) (context_field block root context config b_short r_short c_short) ∙ digest_in_field context_size context c.0;
+      config_found = ap (λ xs. slice_range xs 96 100) joined ∙ config_field block root context config b_short r_short c_short (config_is_bytes config k).0;
+    }

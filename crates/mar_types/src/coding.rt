@@ -64,7 +64,8 @@ impl CodingConfig {
 
     // The spelling.
     pub(crate) fn to_bytes(self) -> [u8; 4]
-        ensures { result ≡ config_bytes (non_zero_u16_get self.minimum_shards) (non_zero_u16_get self.extra_shards) }
+        ensures bytes { result ≡ config_bytes (non_zero_u16_get self.minimum_shards) (non_zero_u16_get self.extra_shards) }
+        ensures spelled { SpellsConfig result }
     {
         let [a, b] = self.minimum_shards.get().to_be_bytes();
         let [c, d] = self.extra_shards.get().to_be_bytes();

@@ -5,7 +5,7 @@ ghost use Rattle.std.proofs.Common.{lit<};
 ghost use Rattle.hex.specs.Hex.{encode_lower};
 ghost use Rattle.mar_codec.specs.Digest.{IsBytes, IsBytes-prop};
 ghost use Rattle.mar_codec.specs.DigestLemmas.{same_proof};
-ghost use Rattle.mar_types.specs.Coding.{DrawsCommitment, RefusesCommitment, RefusesParts, SpellsCommitment, SpellsField, commitment_bytes, config_bytes};
+ghost use Rattle.mar_types.specs.Coding.{DrawsCommitment, JoinsParts, RefusesCommitment, RefusesParts, SpellsCommitment, SpellsField, commitment_bytes, config_bytes};
 ghost use Rattle.mar_types.specs.CodingLemmas.{commitment_unambiguous};
 
 use crate::coding::{CodingConfig, CodingScheme};
@@ -235,9 +235,11 @@ where
     C::Commitment: FieldDigest,
     H::Digest: FieldDigest,
 {
-    ghost from_gives = { λ parts commitment. commitment.bytes ≡ commitment_bytes
+    ghost from_gives = { λ parts commitment. JoinsParts (B.Digest.in_grammar tt) (C.Commitment.in_grammar tt)
+        (H.Digest.in_grammar tt) B.Digest.SIZE C.Commitment.SIZE H.Digest.SIZE
         (B.Digest.bytes parts.0) (C.Commitment.bytes parts.1) (H.Digest.bytes parts.2)
-        (config_bytes (non_zero_u16_get parts.3.minimum_shards) (non_zero_u16_get parts.3.extra_shards)) };
+        (config_bytes (non_zero_u16_get parts.3.minimum_shards) (non_zero_u16_get parts.3.extra_shards))
+        commitment.bytes };
 
     fn from(parts: (B::Digest, C::Commitment, H::Digest, CodingConfig)) -> Self {
         let (block, root, context, config) = parts;

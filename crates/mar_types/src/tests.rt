@@ -191,6 +191,7 @@ fn orders_and_hashes(rt: HostRuntime) -> Result<(), Fail> {
     let same = Round::from((Epoch::new(1), View::new(9)));
     assert_eq!(rt; hash_of(&early), hash_of(&same));
     assert_ne!(rt; hash_of(&early), hash_of(&late));
+    ordered_by_number();
     let three = NonZeroU32::new(3).ok_or("zero")?;
     assert_eq!(rt; TermLength::new(three) == TermLength::ONE, false);
     assert_ne!(rt; hash_of(&TermLength::new(three)), hash_of(&TermLength::ONE));
@@ -278,6 +279,12 @@ fn ranges_give_their_items_from_both_ends(rt: HostRuntime) {
         (None, None, 0)
     );
     assert_eq!(rt; View::range(View::new(7), View::new(3)).len(), 0);
+    let mut views = View::range(View::new(u64::MAX - 2), View::new(u64::MAX));
+    assert_eq!(rt; views.next_back(), Some(View::new(u64::MAX - 1)));
+    assert_eq!(rt;
+        (views.next(), views.next(), views.next_back()),
+        (Some(View::new(u64::MAX - 2)), None, None)
+    );
 }
 
 #[test]

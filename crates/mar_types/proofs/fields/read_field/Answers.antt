@@ -1,11 +1,12 @@
 use Rattle.std.proofs.Common.{◌≡◌, ◌∙◌, inl, inr, refl, sym, length}
-use Rattle.mar_types.proofs.FieldBytes.{clash, none_whole, takes_whole}
+use Rattle.mar_codec.specs.CodecLemmas.{no_whole}
+use Rattle.mar_types.proofs.FieldBytes.{clash, takes_whole}
 use Rattle.mar_types.proofs.fields.read_field.Goals as goal
 
 pub returns-in-Err-clause-err : goal.returns-in-Err-clause-err
 returns-in-Err-clause-err g c = elim c.in-Err.ensures.err [
   | inl memory ↦ absurd (clash _ (c.in-Err.ensures.memory memory) g.met.D.Digest.fixed)
-  | inr none ↦ inl (refl, λ is. none_whole (g.D.Read.in_grammar tt) c.split_at.result.0.now none (rw (c.split_at.ensures.front, c.SIZE.ensures) is))
+  | inr none ↦ inl (refl, λ is. no_whole (g.D.Read.in_grammar tt) c.split_at.result.0.now none (rw (c.split_at.ensures.front, c.SIZE.ensures) is))
 ]
 
 pub returns-clause-spelled : goal.returns-clause-spelled
