@@ -4,7 +4,7 @@ ghost use Rattle.mar_cert.specs.Finalization.{Finalization as PlainFinalization,
 ghost use Rattle.mar_cert.specs.declared.finalization.Finalization.{Finalization as FinalizationOf};
 ghost use Rattle.mar_cert.specs.declared.finalization.Proposal.{Proposal as ProposalOf};
 ghost use Rattle.mar_cert.specs.Grammar.{RefusesFinalization, RefusesProposal, SpellsFinalization, SpellsProposal, finalization_unambiguous, proposal_unambiguous};
-ghost use Rattle.mar_cert.specs.Views.{final_of, spelling_of};
+ghost use Rattle.mar_cert.specs.Views.{certified_of, final_of, spelling_of};
 
 use crate::scheme::{Certificate, Scheme, Scoped};
 use crate::subject::Subject;
@@ -33,6 +33,16 @@ impl<D: Digest> Proposal<D> {
         }
     }
 
+    // How many bytes the proposal and a certificate over it take.
+    pub(crate) fn size_with<C: EncodeSize>(&self, certificate: &C) -> usize
+        requires can_encode { C.can_encode certificate.now }
+        requires fits { 30 + D.SIZE + length (C.encoded certificate.now) < 2 ^ 64 }
+        ensures { result ≡ length (finalization_bytes
+            (certified_of D.encoded C.encoded self.now certificate.now)) }
+    {
+        self.encode_size() + certificate.encode_size()
+    }
+
     /// The most bytes that a proposal takes.
     pub fn max_encode_size() -> usize
         ensures size { result ≡ min (30 + D.SIZE) usize.MAX }
@@ -46,9 +56,7 @@ impl<D: Digest> Write for Proposal<D> {
     ghost encoded = { spelling_of D.encoded };
 
     fn write<B: BufMut>(&self, buf: &mut B) -> Result<(), AllocError> {
-        self.round.write(buf)?;
-        self.parent.write(buf)?;
-        self.payload.write(buf)
+        write_pair(&(self.round, self.parent), &self.payload, buf)
     }
 }
 
@@ -70,9 +78,7 @@ impl<D: Digest> Read for Proposal<D> {
     ghost takes_memory = { false };
 
     fn read_cfg<B: Buf>(alloc: Global, buf: &mut B, cfg: &()) -> Result<Self, Error> {
-        let round = Round::read_cfg(alloc, buf, cfg)?;
-        let parent = View::read_cfg(alloc, buf, cfg)?;
-        let payload = D::read_cfg(alloc, buf, cfg)?;
+        let (round, (parent, payload)) = read_pair(alloc, buf, cfg, &((), ()))?;
         Ok(Proposal {
             round,
             parent,
@@ -136,7 +142,7 @@ impl<D: Digest, C: EncodeSize> EncodeSize for Finalization<D, C> {
         × (30 + D.SIZE + length (C.encoded f.certificate) < 2 ^ 64) };
 
     fn encode_size(&self) -> usize {
-        self.proposal.encode_size() + self.certificate.encode_size()
+        self.proposal.size_with(&self.certificate)
     }
 }
 

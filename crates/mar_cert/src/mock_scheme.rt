@@ -1,8 +1,9 @@
 //! The mock scheme, and a provider of it.
-ghost use Rattle.std.specs.Prelude.{◌≡◌, ◌<◌, ◌≤◌, ◌^◌, ◌↔◌, ℕ, IfSome, IsTrue, bytes_eq, is_some};
+ghost use Rattle.std.specs.Prelude.{◌≡◌, ◌<◌, ◌≤◌, ◌^◌, ◌↔◌, ℕ, IfSome, IsTrue, bytes_eq, is_some, length};
 ghost use Rattle.std.specs.List.{list_all};
 ghost use Rattle.mar_cert.specs.MockScheme.{IsFinalization, Verifies, is_ascending_from, mock_max_size, mock_verifies, quorum, tag_over};
 ghost use Rattle.mar_cert.specs.MockViews.{plain_signers};
+ghost use Rattle.mar_cert.specs.declared.mock.MockCertificate.{MockCertificate as MockCertificateOf};
 ghost use Rattle.mar_cert.specs.Verdicts.{Judges};
 ghost use Rattle.mar_cert.specs.Signers.{certificate_bytes};
 ghost use Rattle.mar_cert.specs.Views.{certified_of, plain_subject, proposal_of, spelling_of, verdict_of};
@@ -104,10 +105,14 @@ impl Scheme for MockScheme {
     }
 }
 
-/// A finalization or notarization that was read passes the test exactly where the definition says that it verifies.
+/// A finalization or notarization passes the test exactly where the definition says that it verifies, whether it was read or
+/// its certificate is held as it is.
 pub fn mock_verdicts()
-    ensures { (n m : ℕ) (subject : PlainSubject) (f : Finalization) → n < 2 ^ 64 → m < 2 ^ 64
+    ensures read { (n m : ℕ) (subject : PlainSubject) (f : Finalization) → n < 2 ^ 64 → m < 2 ^ 64
         → IsFinalization m f → IsTrue (mock_verifies n subject f) ↔ Verifies n subject f }
+    ensures held { (n : ℕ) (subject : PlainSubject) (f : Finalization) (c : MockCertificateOf)
+        → n < 2 ^ 64 → length c.signers.items < 2 ^ 64 → f.certificate ≡ certificate_bytes (plain_signers c)
+        → IsTrue (mock_verifies n subject f) ↔ Verifies n subject f }
 {}
 
 // Members strictly ascend and are below so many.

@@ -43,6 +43,7 @@ impl<D: Digest, C: Certificate> Notarization<D, C> {
         scoped.verify(&Subject::Notarize { proposal }, &self.certificate)
     }
 
+    /// The same notarization again. It fails only by memory.
     pub fn try_clone(&self) -> Result<Self, AllocError>
         ensures { IfOk result (λ n. notarization_of D.bytes C.bytes n
             ≡ notarization_of D.bytes C.bytes self.now) }
@@ -77,7 +78,7 @@ impl<D: Digest, C: EncodeSize> EncodeSize for Notarization<D, C> {
         × (30 + D.SIZE + length (C.encoded n.certificate) < 2 ^ 64) };
 
     fn encode_size(&self) -> usize {
-        self.proposal.encode_size() + self.certificate.encode_size()
+        self.proposal.size_with(&self.certificate)
     }
 }
 

@@ -1,7 +1,9 @@
 //! A finalization from outside, and what is refused.
 use crate::*;
 use bytes::BytesMut;
-use mar_codec::{Digest, Encode, EncodeSize, Error, Kind, Read, Reason, Sha256Digest, Write};
+use mar_codec::{
+    Digest, Encode, EncodeSize, Error, Kind, Read, Reason, Sha256Digest, Write, read_front,
+};
 use mar_types::{Epoch, Round, View};
 use std::alloc::{AllocError, Global};
 use std::test::Fail;
@@ -52,17 +54,24 @@ fn finalizations_read_written_and_verified(rt: HostRuntime) -> Result<(), Fail> 
         read.write(&mut written)?;
         assert_eq!(rt; written.as_slice(), bytes.as_slice());
         let proposal = read.proposal.copy();
-        let signers = Vec::new(rt.alloc());
         pairs.push((subject_of(&read), read.certificate))?;
-        pairs.push((Subject::Finalize { proposal }, MockCertificate { signers }))?;
+        if view == 1 {
+            let signers = Vec::new(rt.alloc());
+            pairs.push((Subject::Finalize { proposal }, MockCertificate { signers }))?;
+        }
     }
     let verdicts = verify_certificates(rt.alloc(), &scoped, pairs.as_slice())?;
-    assert_eq!(rt; verdicts.as_slice(), [true, false, true, false].as_slice());
+    assert_eq!(rt; verdicts.as_slice(), [true, false, true].as_slice());
     Ok(())
 }
 
-fn finalization(alloc: Global, mut bytes: &[u8]) -> Result<MockFinalization, Error> {
-    MockFinalization::read_cfg(alloc, &mut bytes, &4)
+// What these bytes begin with, read with four members.
+fn front<T: Read<Cfg = u32>>(alloc: Global, mut bytes: &[u8]) -> Result<T, Error> {
+    read_front(alloc, &mut bytes, &4)
+}
+
+fn finalization(alloc: Global, bytes: &[u8]) -> Result<MockFinalization, Error> {
+    front(alloc, bytes)
 }
 
 fn subject_of<D: Digest, C>(finalization: &Finalization<D, C>) -> Subject<D> {
@@ -155,6 +164,7 @@ fn sizes(rt: HostRuntime) -> Result<(), Fail> {
     let read = finalization(rt.alloc(), &FINALIZATION)?;
     assert_eq!(rt; read.certificate.encode_size(), 100);
     assert_eq!(rt; read.encode_size(), 135);
+    assert_eq!(rt; Proposal::<Sha256Digest>::max_encode_size(), 62);
     assert_eq!(rt; MockFinalization::max_encode_size::<MockScheme>(4), 195);
     assert_eq!(rt; MockNotarization::max_encode_size::<MockScheme>(1), 96);
     Ok(())
@@ -163,9 +173,12 @@ fn sizes(rt: HostRuntime) -> Result<(), Fail> {
 #[test]
 fn a_notarization(rt: HostRuntime) -> Result<(), Fail> {
     let scoped = Scoped::scheme(MockScheme::new(4));
-    let mut left: &[u8] = &FINALIZATION;
-    let read = MockNotarization::read_cfg(rt.alloc(), &mut left, &4)?;
+    let read: MockNotarization = front(rt.alloc(), &FINALIZATION)?;
     assert!(rt; !read.verify(&scoped));
+    assert_eq!(rt; read.round(), Round::new(Epoch::zero(), View::new(1)));
+    assert_eq!(rt; read.epoch(), Epoch::zero());
+    assert_eq!(rt; read.certificate.encode_size(), 100);
+    assert_eq!(rt; read.encode_size(), 135);
     let subject = Subject::Notarize {
         proposal: read.proposal.copy(),
     };
@@ -175,6 +188,11 @@ fn a_notarization(rt: HostRuntime) -> Result<(), Fail> {
         certificate,
     };
     assert!(rt; notarization.verify(&scoped));
+    assert_eq!(rt; notarization.certificate.encode_size(), 100);
+    let written = notarization.encode(rt.alloc())?;
+    assert!(rt; written.as_slice() != FINALIZATION.as_slice());
+    let again: MockNotarization = front(rt.alloc(), written.as_slice())?;
+    assert!(rt; again == notarization && again.verify(&scoped));
     let copy = notarization.try_clone()?;
     assert!(rt; Activity::Certification(copy) == Activity::Certification(notarization));
     Ok(())

@@ -1,8 +1,0 @@
-use Rattle.std.proofs.Common.{arith}
-use Rattle.mar_cert.proofs.Sizes.{length-proposal}
-use Rattle.mar_cert.proofs.notarization.NotarizationEncodeSize.encode_size.Goals as goal
-
-pub overflow_add-result : goal.overflow_add-result
-overflow_add-result g c =
-    let proposal = c.args.self.now.proposal in
-    omega (arith, c.encode_size.ensures, c.encode_size-2.ensures, c.requires.1, length-proposal proposal.round proposal.parent (g.D.Write.encoded proposal.payload), g.met.D.FixedSize.sized proposal.payload)
