@@ -1,3 +1,4 @@
 pub mod CutoffOrder
 pub mod OpenKeys
+pub mod OpenLists
 pub mod KeyReads

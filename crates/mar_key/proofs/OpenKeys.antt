@@ -1,10 +1,10 @@
 -- The open keys, as the recorder edits them.
-use Rattle.std.proofs.Common.{Bool, List, [], add-one, ap, ap₂, append-nil, arith, cond, drop, false, filter, get_or, length, length-drop, map, not, refl, set, suc, sym, take, true, zero, ℕ, ◌+◌, ◌-◌, ◌++◌, ◌<◌, ◌∙◌, ◌∷◌, ◌≡◌}
+use Rattle.std.proofs.Common.{Bool, List, [], add-one, ap, ap₂, append-nil, arith, cond, drop, false, filter, get_or, length, length-drop, map, not, refl, set, subst, suc, sym, take, true, zero, ℕ, ◌+◌, ◌-◌, ◌++◌, ◌<◌, ◌∙◌, ◌∷◌, ◌≡◌}
 use Rattle.std.proofs.Math.ListN.{get_or-map}
 use Rattle.std.proofs.Math.Seq.{take-append_seam}
 use Rattle.std.proofs.lemmas.List.{drop-map, length-map, map-append, map-set, take_all}
 use Rattle.std.specs.List.{list_any}
-use Rattle.mar_key.specs.Asked.{Asked, Judged, Recorded, annotations_of, asked_after, has_none, is_idle, with_annotation, with_fetch, with_retain, without_denied, without_empty}
+use Rattle.mar_key.specs.Asked.{Asked, IsAskedInPart, Judged, Recorded, annotations_of, asked_after, has_none, is_idle, with_annotation, with_fetch, with_retain, without_denied, without_empty}
 use Rattle.mar_key.specs.Fronts.{filter-map, list_any-map}
 use Rattle.mar_key.specs.Keys.{Annotation, Call, Key, Retain, annotation_eq, key_eq}
 
@@ -35,7 +35,7 @@ kept_unless_empty : (key : Key) (annotations : List Annotation) (xs ys : List As
 kept_unless_empty key [] xs ys same = same
 kept_unless_empty key (a ∷ annotations) xs ys same = ap (λ zs. record { key = key; annotations = a ∷ annotations } ∷ zs) same
 
-with_retain-filter : (keep : Retain) (xs : List Asked) → with_retain keep xs ≡ filter (λ x. not (is_idle x)) (map (without_denied keep) xs)
+pub with_retain-filter : (keep : Retain) (xs : List Asked) → with_retain keep xs ≡ filter (λ x. not (is_idle x)) (map (without_denied keep) xs)
 with_retain-filter keep [] = refl
 with_retain-filter keep (x ∷ xs) = kept_unless_empty x.key (without_denied keep x).annotations _ _ (with_retain-filter keep xs)
 
@@ -44,9 +44,21 @@ set_same [] i d = refl
 set_same (x ∷ xs) zero d = refl
 set_same (x ∷ xs) (suc i) d = ap (λ ys. x ∷ ys) (set_same xs i d)
 
+-- an entry was written that shows what the one before it did
+pub entry_same : {A B : Type 0} (f : A → B) (xs ys : List A) (i : ℕ) (new d : A) → ys ≡ xs → f new ≡ f (get_or ys i d) → map f (set ys i new) ≡ map f xs
+entry_same f xs ys i new d same shows =
+    map-set f ys i new
+    ∙ ap (set (map f ys) i) (shows ∙ sym (get_or-map f ys i d))
+    ∙ set_same (map f ys) i (f d)
+    ∙ ap (map f) same
+
 -- a slice of the whole list was written over
 whole_written : {A : Type 0} (n : ℕ) (ws rest : List A) → length ws ≡ n → take n (ws ++ rest) ≡ ws
 whole_written n ws rest long = ap (λ k. take k (ws ++ rest)) (sym long) ∙ take-append_seam ws rest
+
+-- a slice of the whole list was written over with entries that show what those before them did
+pub slice_written : {A B : Type 0} (f : A → B) (n : ℕ) (old view ws rest : List A) → length ws ≡ n → map f ws ≡ map f view → view ≡ old → map f (take n (ws ++ rest)) ≡ map f old
+slice_written f n old view ws rest long shows same = ap (map f) (whole_written n ws rest long) ∙ shows ∙ ap (map f) same
 
 -- the keys without what is denied, where those that are asked for nobody then went
 pub keys_retained : {A : Type 0} (f : A → Asked) (keep : Retain) (old view ws rest new : List A) (n : ℕ) → map f ws ≡ map (without_denied keep) (map f view) → view ≡ old → length ws ≡ n → new ≡ filter (λ x. not (is_idle (f x))) (take n (ws ++ rest)) → map f new ≡ with_retain keep (map f old)
@@ -89,14 +101,21 @@ module _ (key : Key) (a : Annotation) {A : Type 0} (f : A → Asked) (xs ys : Li
 abbrev pub recorded : List Call → ℕ → List Asked → Recorded
 recorded asks settled keys = record { asks = asks; settled = settled; keys = keys }
 
+-- the asks that were not yet taken in, as a slice of all of them
+asks_left : {A : Type 0} (f : A → Call) (asks view : List A) (n : ℕ) → view ≡ asks → map f (take (length view - n) (drop n view)) ≡ drop n (map f asks)
+asks_left f asks view n same =
+    ap (map f) (take_all (length view - n) (drop n view) (omega (arith, length-drop n view)))
+    ∙ ap (λ v. map f (drop n v)) same
+    ∙ sym (drop-map f n asks)
+
 -- judgements first, then the asks that were not yet taken in
 pub keys_settled : {A : Type 0} (f : A → Call) (asks view : List A) (settled n : ℕ) (old new : List Asked) (judged : List Judged) → new ≡ asked_after old judged (map f (take (length view - n) (drop n view))) → view ≡ asks → settled ≡ length asks → recorded (map f asks) settled new ≡ recorded (map f asks) (length (map f asks)) (asked_after old judged (drop n (map f asks)))
 keys_settled f asks view settled n old new judged added same long =
-    ap₂ (recorded (map f asks)) (long ∙ sym (length-map asks f))
-    (added
-    ∙ ap (λ v. asked_after old judged (map f v)) (take_all (length view - n) (drop n view) (omega (arith, length-drop n view)))
-    ∙ ap (λ v. asked_after old judged (map f (drop n v))) same
-    ∙ ap (asked_after old judged) (sym (drop-map f n asks)))
+    ap₂ (recorded (map f asks)) (long ∙ sym (length-map asks f)) (added ∙ ap (asked_after old judged) (asks_left f asks view n same))
+
+-- the same, where only the first part of the asks was taken in
+pub keys_in_part : {A : Type 0} (f : A → Call) (asks view : List A) (n : ℕ) (old new : List Asked) (judged : List Judged) → IsAskedInPart old judged (map f (take (length view - n) (drop n view))) new → view ≡ asks → IsAskedInPart old judged (drop n (map f asks)) new
+keys_in_part f asks view n old new judged part same = subst (λ left. IsAskedInPart old judged left new) (asks_left f asks view n same) part
 
 -- A search for a key's annotations, which has come to the place i.
 module _ (key : Key) {A : Type 0} (f : A → Asked) (xs : List A) (i : ℕ) (d : A) where

@@ -1,6 +1,6 @@
 -- The recorder: the open list of keys and their annotations.
-use Rattle.std.specs.List.{list_any}
-use Rattle.std.specs.Prelude.{Bool, List, [], false, filter, fold, if◌then◌else◌, not, true, ℕ, ◌++◌, ◌∷◌}
+use Rattle.std.specs.List.{AllByRecursion, list_any}
+use Rattle.std.specs.Prelude.{Bool, IsFalse, List, [], false, filter, fold, if◌then◌else◌, not, take, true, ℕ, ◌++◌, ◌∷◌, ◌≡◌}
 use Rattle.mar_key.specs.Keys.{Annotation, Call, Key, Retain, annotation_eq, fetch, is_denied, key_eq, retain}
 
 -- an open key with its annotations, in the order in which they came
@@ -73,10 +73,28 @@ after_outcome asked judged = closing judged.outcome
 abbrev pub asked_after : List Asked → List Judged → List Call → List Asked
 asked_after asked outcomes asks = fold after_ask (fold after_outcome asked outcomes) asks
 
+-- the judgements, and of what was asked the first part
+abbrev pub IsAskedInPart : List Asked → List Judged → List Call → List Asked → Type 0
+IsAskedInPart asked outcomes asks new = (taken : ℕ) × (new ≡ asked_after asked outcomes (take taken asks))
+
 -- the open annotations of a key
 abbrev pub annotations_of : List Asked → Key → List Annotation
 annotations_of [] key = []
 annotations_of (x ∷ xs) key = if key_eq key x.key then x.annotations else annotations_of xs key
+
+-- no later one is the same as an earlier one
+abbrev pub AreDistinct : {T : Type 0} → (T → T → Bool) → List T → Type 0
+AreDistinct same [] = Unit {0}
+AreDistinct same (x ∷ xs) = IsFalse (list_any (λ y. same y x) xs) × AreDistinct same xs
+
+-- the key is asked for somebody, and for nobody twice
+abbrev pub IsAsked : Asked → Type 0
+IsAsked x = IsFalse (is_idle x) × AreDistinct annotation_eq x.annotations
+
+-- open keys, of which none stands twice
+pub record IsOpenList (xs : List Asked) : Type 0 where
+  pub keys : AreDistinct (λ x y. key_eq x.key y.key) xs
+  pub asked : AllByRecursion IsAsked xs
 
 -- what contracts see of a recorder: all that was asked, how much of it the open keys have taken in, and the open keys
 pub record Recorded : Type 0 where

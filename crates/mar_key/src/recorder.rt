@@ -1,7 +1,7 @@
 //! Requests as they were asked, and what of them is open.
-ghost use Rattle.std.specs.Prelude.{◌≡◌, [], ◌∷◌, ◌++◌, IfOk, OnErr, OnOk, Some, drop, filter, fold, if◌then◌else◌, length, map, not, vec_len, ◌≤◌};
+ghost use Rattle.std.specs.Prelude.{◌≡◌, [], ◌∷◌, ◌++◌, IfOk, OnErr, OnOk, Some, drop, false, filter, fold, if◌then◌else◌, length, map, not, take, vec_len, ℕ, ◌≤◌};
 ghost use Rattle.std.specs.List.{list_any};
-ghost use Rattle.mar_key.specs.Asked.{after_ask, after_outcome, annotations_of, asked_after, is_idle, newly_asked, with_annotation, with_fetch, with_retain, without_denied};
+ghost use Rattle.mar_key.specs.Asked.{IsAskedInPart, after_ask, after_outcome, annotations_of, asked_after, is_idle, newly_asked, with_annotation, with_fetch, with_retain, without_denied};
 ghost use Rattle.mar_key.specs.Hears.{Hears};
 ghost use Rattle.mar_key.specs.Keys.{annotation_eq, key_eq, retain};
 ghost use Rattle.mar_key.specs.Views.{annotation_of, call_of, key_of, retain_of, targeted_of};
@@ -83,7 +83,8 @@ fn add_annotation(
     annotations: &mut Vec<Annotation>,
     annotation: Annotation,
 ) -> Result<(), AllocError>
-    ensures { OnOk result (map annotation_of annotations.new.items ≡ with_annotation (annotation_of annotation) (map annotation_of annotations.old.items)) }
+    ensures ok { OnOk result (map annotation_of annotations.new.items ≡ with_annotation (annotation_of annotation) (map annotation_of annotations.old.items)) }
+    ensures err { OnErr result (annotations.new.items ≡ annotations.old.items) }
 {
     let found = has_annotation(annotations.as_slice(), &annotation);
     if !found {
@@ -94,8 +95,10 @@ fn add_annotation(
 
 // Adds the annotation to the key's and answers true, or answers false where the key isn't open.
 fn add_to_key<D: Digest>(keys: &mut [Asked<D>], fetch: &Fetch<D>) -> Result<bool, AllocError>
-    ensures { IfOk result (λ found. map (asked_of D.bytes) keys.new ++ (if found then [] else newly_asked (call_key D.bytes fetch.now) (annotation_of fetch.now.subscriber) ∷ [])
+    ensures ok { IfOk result (λ found. map (asked_of D.bytes) keys.new ++ (if found then [] else newly_asked (call_key D.bytes fetch.now) (annotation_of fetch.now.subscriber) ∷ [])
         ≡ with_fetch (call_key D.bytes fetch.now) (annotation_of fetch.now.subscriber) (map (asked_of D.bytes) keys.old)) }
+    ensures absent { IfOk result (λ found. found ≡ false → map (asked_of D.bytes) keys.new ≡ map (asked_of D.bytes) keys.old) }
+    ensures err { OnErr result (map (asked_of D.bytes) keys.new ≡ map (asked_of D.bytes) keys.old) }
 {
     for asked in keys.iter_mut() {
         let found = same_key(&fetch.key, &asked.key);
@@ -113,7 +116,8 @@ fn add_fetch<D: Digest>(
     keys: &mut Vec<Asked<D>>,
     fetch: &Fetch<D>,
 ) -> Result<(), AllocError>
-    ensures { OnOk result (map (asked_of D.bytes) keys.new.items ≡ with_fetch (call_key D.bytes fetch.now) (annotation_of fetch.now.subscriber) (map (asked_of D.bytes) keys.old.items)) }
+    ensures ok { OnOk result (map (asked_of D.bytes) keys.new.items ≡ with_fetch (call_key D.bytes fetch.now) (annotation_of fetch.now.subscriber) (map (asked_of D.bytes) keys.old.items)) }
+    ensures err { OnErr result (map (asked_of D.bytes) keys.new.items ≡ map (asked_of D.bytes) keys.old.items) }
 {
     let found = add_to_key(keys.as_mut_slice(), fetch)?;
     if !found {
@@ -192,7 +196,8 @@ fn add_ask<D: Digest>(
     keys: &mut Vec<Asked<D>>,
     ask: &Ask<D>,
 ) -> Result<(), AllocError>
-    ensures { OnOk result (map (asked_of D.bytes) keys.new.items ≡ after_ask (map (asked_of D.bytes) keys.old.items) (ask_of D.bytes ask.now)) }
+    ensures ok { OnOk result (map (asked_of D.bytes) keys.new.items ≡ after_ask (map (asked_of D.bytes) keys.old.items) (ask_of D.bytes ask.now)) }
+    ensures err { OnErr result (map (asked_of D.bytes) keys.new.items ≡ map (asked_of D.bytes) keys.old.items) }
 {
     match ask {
         Ask::Fetch(fetch) => add_fetch(alloc, keys, fetch),
@@ -210,7 +215,8 @@ fn add_asks<D: Digest>(
     keys: &mut Vec<Asked<D>>,
     asks: &[Ask<D>],
 ) -> Result<(), AllocError>
-    ensures { OnOk result (map (asked_of D.bytes) keys.new.items ≡ fold after_ask (map (asked_of D.bytes) keys.old.items) (map (ask_of D.bytes) asks.now)) }
+    ensures ok { OnOk result (map (asked_of D.bytes) keys.new.items ≡ fold after_ask (map (asked_of D.bytes) keys.old.items) (map (ask_of D.bytes) asks.now)) }
+    ensures err { OnErr result ((taken : ℕ) × (map (asked_of D.bytes) keys.new.items ≡ fold after_ask (map (asked_of D.bytes) keys.old.items) (take taken (map (ask_of D.bytes) asks.now)))) }
 {
     for ask in asks {
         add_ask(alloc, keys, ask)?;
@@ -225,7 +231,8 @@ fn settle_keys<D: Digest>(
     judged: &[Judged<D>],
     asks: &[Ask<D>],
 ) -> Result<(), AllocError>
-    ensures { OnOk result (map (asked_of D.bytes) keys.new.items ≡ asked_after (map (asked_of D.bytes) keys.old.items) (map (judged_of D.bytes) judged.now) (map (ask_of D.bytes) asks.now)) }
+    ensures ok { OnOk result (map (asked_of D.bytes) keys.new.items ≡ asked_after (map (asked_of D.bytes) keys.old.items) (map (judged_of D.bytes) judged.now) (map (ask_of D.bytes) asks.now)) }
+    ensures err { OnErr result (IsAskedInPart (map (asked_of D.bytes) keys.old.items) (map (judged_of D.bytes) judged.now) (map (ask_of D.bytes) asks.now) (map (asked_of D.bytes) keys.new.items)) }
 {
     close_all(keys, judged);
     add_asks(alloc, keys, asks)
@@ -289,10 +296,12 @@ impl<D: Digest> Recorder<D> {
     }
 
     /// Takes in what a script line did: first the judgements of its deliveries, then what it asked, so that what it asks
-    /// afresh stays open. Where memory runs out the open keys may be any between those before and those after.
+    /// afresh stays open. Where memory runs out the open keys are those after the judgements and the first so many of
+    /// the asks, none of which counts as taken in.
     pub fn settle(&mut self, judged: &[Judged<D>]) -> Result<(), AllocError>
         ensures ok { OnOk result (self.new ≡ record self.old { settled = length self.old.asks; keys = asked_after self.old.keys (map (judged_of D.bytes) judged.now) (drop self.old.settled self.old.asks) }) }
         ensures err { OnErr result (self.new ≡ record self.old { keys = self.new.keys }) }
+        ensures between { OnErr result (IsAskedInPart self.old.keys (map (judged_of D.bytes) judged.now) (drop self.old.settled self.old.asks) self.new.keys) }
     {
         let asks = self.asks.as_slice();
         settle_keys(self.alloc, &mut self.keys, judged, &asks[self.settled..])?;

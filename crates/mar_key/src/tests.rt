@@ -168,6 +168,22 @@ fn keys_are_ordered_and_printed(rt: HostRuntime) -> Result<(), Fail> {
     Ok(())
 }
 
+#[test]
+fn keys_of_digests_print_their_bytes(rt: HostRuntime) -> Result<(), Fail> {
+    let digest = Sha256Digest::from([0xab; 32]);
+    let text = "Block(abababababababababababababababababababababababababababababababab)";
+    assert_eq!(rt; Key::Block(digest).to_string(rt.alloc())?.as_str(), text);
+    let key = Key::Block(digest);
+    assert_eq!(rt; format!(in rt.alloc(); "{key:?}")?.as_str(), text);
+    let bytes = hex::decode(rt.alloc(), "01b960")?;
+    let read = Key::<Sha256Digest>::decode_cfg(rt.alloc(), bytes.as_slice(), &())?;
+    assert_eq!(rt;
+        read.to_string(rt.alloc())?.as_str(),
+        "Finalized(Height(12345))"
+    );
+    Ok(())
+}
+
 // Whether the first comes before the second by every comparison.
 fn ascend<T: Ord + Copy>(lesser: T, greater: T) -> bool {
     lesser < greater
@@ -221,9 +237,14 @@ fn orders_and_hashes(rt: HostRuntime) {
 
 #[test]
 fn keys_are_spelled_and_read_back(rt: HostRuntime) -> Result<(), Fail> {
+    cutoff_laws();
+    key_laws::<Sha256Digest>();
+    digest_keys();
+    open_key_laws();
     let digest = Sha256Digest::from([0xab; 32]);
     let height = Height::new(12345);
     let finalized: Key<Sha256Digest> = Key::Finalized { height };
+    finalized.is_key();
     let cases = [
         (
             Key::Block(digest),
@@ -380,7 +401,7 @@ fn requests_live_above_their_floors(rt: HostRuntime) {
     }
 }
 
-// How many keys are open after these were asked and this was retained.
+// How many annotations are open, over all keys, after these were asked and this was retained.
 fn open_after(
     rt: &HostRuntime,
     asked: &[Request<Sha256Digest>],
@@ -392,35 +413,47 @@ fn open_after(
     }
     recorder.retain(keep)?;
     recorder.settle(&[])?;
-    Ok(recorder.keys().len())
+    Ok(
+        recorder
+            .keys()
+            .iter()
+            .map(|asked| asked.annotations.len())
+            .fold(0, |sum: usize, count| sum.saturating_add(count)),
+    )
 }
 
 #[test]
 fn recorder_drops_what_a_retain_denies(rt: HostRuntime) -> Result<(), Fail> {
     let (one, other) = (Sha256Digest::from([1; 32]), Sha256Digest::from([2; 32]));
-    let low = [
-        Request::finalized(Height::new(100)),
-        Request::certified(one, Height::new(100)),
-    ];
-    let high = [
-        Request::finalized(Height::new(101)),
-        Request::certified(other, Height::new(101)),
-        Request::notarized(round(1, 1)),
-    ];
     let above = Retain::AboveHeight(Height::new(100));
-    assert_eq!(rt; open_after(&rt, low.as_slice(), above)?, 0);
-    assert_eq!(rt; open_after(&rt, high.as_slice(), above)?, 3);
+    for (height, left) in [(Height::new(100), 0), (Height::new(101), 4)] {
+        let asked = [
+            Request::finalized(height),
+            Request::untrusted(one, height),
+            Request::certified(one, height),
+            Request::finalized_by_height(other, height),
+        ];
+        assert_eq!(rt; open_after(&rt, asked.as_slice(), above)?, left);
+    }
+    let by_round = [
+        Request::notarized(round(1, 1)),
+        Request::finalized_by_round(one, round(1, 1)),
+    ];
+    assert_eq!(rt; open_after(&rt, by_round.as_slice(), above)?, 2);
+    let by_height = [
+        Request::finalized(Height::new(1)),
+        Request::certified(one, Height::new(1)),
+    ];
     for (at, cutoff, left) in [
         (round(1, 10), Cutoff::Round(round(1, 10)), 0),
-        (round(1, 11), Cutoff::Round(round(1, 10)), 1),
+        (round(1, 11), Cutoff::Round(round(1, 10)), 2),
         (round(1, u64::MAX), Cutoff::Epoch(Epoch::new(1)), 0),
-        (round(2, 0), Cutoff::Epoch(Epoch::new(1)), 1),
+        (round(2, 0), Cutoff::Epoch(Epoch::new(1)), 2),
     ] {
-        let asked = [Request::notarized(at)];
-        assert_eq!(rt;
-            open_after(&rt, asked.as_slice(), Retain::AboveRound(cutoff))?,
-            left
-        );
+        let asked = [Request::notarized(at), Request::finalized_by_round(one, at)];
+        let keep = Retain::AboveRound(cutoff);
+        assert_eq!(rt; open_after(&rt, asked.as_slice(), keep)?, left);
+        assert_eq!(rt; open_after(&rt, by_height.as_slice(), keep)?, 2);
     }
     Ok(())
 }
@@ -443,7 +476,17 @@ fn recorder_behind_its_bounds(rt: HostRuntime) -> Result<(), Fail> {
     let fetch: Fetch<Sha256Digest> = Fetch::from(Request::notarized(round(1, 1)));
     let mut recorder = Recorder::new(rt.alloc());
     ask_all(&mut recorder, fetch, slice::from_ref(&fetch))?;
-    assert_eq!(rt; recorder.asks().len(), 5);
+    // Each with its number of peers, if it is of certain ones.
+    let mut kept = Vec::new(rt.alloc());
+    for ask in recorder.asks() {
+        kept.push(match ask {
+            Ask::Fetch(asked) => (*asked == fetch, 0),
+            Ask::Targeted(asked, peers) => (*asked == fetch, peers.len()),
+            Ask::Retain(keep) => (*keep == Retain::AboveHeight(Height::zero()), 9),
+        })?;
+    }
+    let wanted = [(true, 0), (true, 2), (true, 0), (true, 1), (true, 9)];
+    assert_eq!(rt; kept.as_slice(), wanted.as_slice());
     assert_eq!(rt; recorder.keys().len(), 0);
     recorder.settle(&[])?;
     assert_eq!(rt; recorder.keys().len(), 1);
