@@ -3,3 +3,13 @@ pub mod Lookups
 pub mod NewestUpto
 pub mod RangeLemmas
 pub mod RangeMembers
+pub mod FirstPlaces
+pub mod NamesOnce
+pub mod Filtered
+pub mod PileSteps
+pub mod Surveys
+pub mod Covered
+pub mod Fronts
+pub mod Settled
+pub mod Stores
+pub mod Finishing

@@ -1,5 +1,5 @@
 -- What the calls of a store change, over what it holds and what a crash leaves of it.
-use Rattle.std.specs.Prelude.{◌≡◌, ℕ, List, [], ◌∷◌, ◌++◌, Some, Bool, if◌then◌else◌, Contains, map}
+use Rattle.std.specs.Prelude.{◌≡◌, ◌≤◌, ◌⊎◌, ℕ, List, [], ◌∷◌, ◌++◌, Some, Bool, if◌then◌else◌, Contains, map}
 use Rattle.mar_store.specs.Kept.{At, Kept, value_at, EachHeightOnce, Reopens, reopened_store}
 
 -- what is left of a store: what every crash leaves, and all that a crash can leave
@@ -51,3 +51,23 @@ pub record IsNested {T : Type 0} (kept : Kept (At T)) : Type 0 where
 -- the heights in a list
 abbrev pub heights : {T : Type 0} → List (At T) → List ℕ
 heights xs = map (λ x. x.height) xs
+
+-- Values at or above a bound stay, and nothing comes.
+pub record KeepsFrom {T : Type 0} (min : ℕ) (old new : List (At T)) : Type 0 where
+  pub from : (h : ℕ) (v : T) → min ≤ h → value_at old h ≡ Some v → value_at new h ≡ Some v
+  pub only : KeepsValues new old
+
+-- A prune keeps all at or above its bound. What it removes may still be left.
+pub record Prunes {T : Type 0} (min : ℕ) (old new : Kept (At T)) : Type 0 where
+  pub held : KeepsFrom min old.held new.held
+  pub sure : KeepsFrom min old.sure new.sure
+  pub may : Within new.may old.may
+
+-- A sync that finished makes sure what it covers, and nothing more. Where that is sure it changes nothing.
+pub record Finishes {T : Type 0} (more : List (At T)) (old new : Kept (At T)) : Type 0 where
+  pub held : new.held ≡ old.held
+  pub sure : KeepsValues old.sure new.sure
+  pub covered : KeepsValues more new.sure
+  pub only : (h : ℕ) (v : T) → value_at new.sure h ≡ Some v → (value_at old.sure h ≡ Some v) ⊎ (value_at more h ≡ Some v)
+  pub may : Within new.may old.may
+  pub same : KeepsValues more old.sure → new ≡ old

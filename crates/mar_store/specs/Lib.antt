@@ -6,3 +6,11 @@ pub mod Ranges
 pub mod Spans
 pub mod MemMeta
 pub mod RangeLemmas
+pub mod Armed
+pub mod Named
+pub mod Tickets
+pub mod Luck
+pub mod Places
+pub mod Entries
+pub mod Props
+pub mod Nested

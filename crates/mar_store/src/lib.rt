@@ -1,13 +1,34 @@
 //! Stores that outlive a crash, by what they hold, what every crash leaves and what a crash can leave.
 #![tactic(auto)]
 
+mod alarm;
+mod archive;
+mod entries;
+mod entry;
+mod identifier;
+mod item;
 mod lost;
+mod luck;
+mod mem_archive;
 mod mem_meta;
 mod meta;
+mod pile;
+mod places;
 mod range_set;
 mod spans;
+mod survey;
+mod ticket;
 
+pub use archive::{Archive, ArchiveRuin};
+pub use identifier::Identifier;
+pub use item::{Item, MAX_VALUE_SIZE};
 pub use lost::{Lost, Miss};
+pub use luck::LuckHalf;
+pub use mem_archive::{MemArchive, MemArchiveWreck};
 pub use mem_meta::{MemMeta, MemMetaWreck};
 pub use meta::{Meta, MetaRuin};
 pub use range_set::{HeightSpan, RangeSet};
+pub use ticket::SyncTicket;
+
+#[cfg(test)]
+mod tests;

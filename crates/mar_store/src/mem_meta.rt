@@ -1,8 +1,12 @@
 //! A metadata store in memory.
-ghost use Rattle.std.specs.Prelude.{◌≡◌, None, [], ◌∷◌, Contains, IfOk};
+ghost use Rattle.std.specs.Prelude.{◌≡◌, None, true, [], ◌∷◌, IfOk, IfErr};
 ghost use Rattle.mar_store.specs.Values.{no_values};
+ghost use Rattle.mar_store.specs.Armed.{HeedsArmed};
+ghost use Rattle.mar_store.specs.Lost.{wreck_of, IsCausedBy};
+ghost use Rattle.mar_store.specs.Luck.{lucky_values};
 ghost use Rattle.mar_store.specs.MemMeta.{values_of, left_with, some_left};
 
+use crate::alarm::Alarm;
 use crate::{Lost, Meta, MetaRuin};
 use std::alloc::{AllocError, Global};
 use std::collections::BTreeMap;
@@ -12,6 +16,7 @@ use std::collections::BTreeMap;
 pub struct MemMeta {
     values: BTreeMap<u64, u64>,
     synced: BTreeMap<u64, u64>,
+    alarm: Alarm,
 }
 
 /// What is left of a `MemMeta`: the map of the last sync that succeeded, and that of one that failed since.
@@ -19,6 +24,7 @@ pub struct MemMeta {
 pub struct MemMetaWreck {
     synced: BTreeMap<u64, u64>,
     failed: Option<BTreeMap<u64, u64>>,
+    alarm: Alarm,
 }
 
 impl MemMeta {
@@ -26,39 +32,70 @@ impl MemMeta {
     pub fn new(alloc: Global) -> Self
         ensures current { ⟦<MemMeta as Meta>⟧.current result ≡ no_values }
         ensures left { ⟦<MemMeta as Meta>⟧.left result ≡ no_values ∷ [] }
+        ensures faults { ⟦<MemMeta as Meta>⟧.faults result ≡ 0 }
+        ensures due { ⟦<MemMeta as Meta>⟧.due result ≡ [] }
     {
         MemMeta {
             values: BTreeMap::new(alloc),
             synced: BTreeMap::new(alloc),
+            alarm: Alarm::new(alloc),
+        }
+    }
+
+    /// Opens what a crash left, with the values of a sync that failed where the lowest bit of luck is set, else
+    /// with those that the last sync left or the last reopening gave.
+    pub fn reopen(wreck: MemMetaWreck, luck: u64) -> Result<Self, Lost<MemMetaWreck>>
+        ensures found { IfOk result (λ s. ⟦<MemMeta as Meta>⟧.current s ≡ lucky_values luck (⟦<MemMetaWreck as MetaRuin>⟧.left wreck)) }
+        ensures synced { IfOk result (λ s. ⟦<MemMeta as Meta>⟧.left s ≡ ⟦<MemMeta as Meta>⟧.current s ∷ []) }
+        ensures still { IfErr result (λ l. ⟦<MemMetaWreck as MetaRuin>⟧.left (wreck_of l) ≡ ⟦<MemMetaWreck as MetaRuin>⟧.left wreck) }
+        ensures cause { IsCausedBy ⟦<MemMeta as Meta>⟧.faults ⟦<MemMetaWreck as MetaRuin>⟧.faults (⟦<MemMetaWreck as MetaRuin>⟧.faults wreck) result }
+        ensures armed { HeedsArmed ⟦<MemMeta as Meta>⟧.due ⟦<MemMetaWreck as MetaRuin>⟧.due true (⟦<MemMetaWreck as MetaRuin>⟧.due wreck) result }
+    {
+        let mut wreck = wreck;
+        if wreck.alarm.rings() {
+            return Err(Lost::Fault(wreck));
+        }
+        match wreck.found(luck) {
+            Ok((values, synced)) => Ok(MemMeta {
+                values,
+                synced,
+                alarm: wreck.alarm,
+            }),
+            Err(_) => Err(Lost::Memory(wreck)),
         }
     }
 }
 
 impl MemMetaWreck {
-    // A store that finds the map of the sync that failed, where there is one and the lowest bit of luck is set,
-    // or else that of the last sync.
-    fn opened(&self, luck: u64) -> Result<MemMeta, AllocError>
-        ensures found { IfOk result (λ s. Contains (left_with self.now.synced self.now.failed) (values_of s.values)) }
-        ensures synced { IfOk result (λ s. values_of s.synced ≡ values_of s.values) }
+    // The map of the sync that failed, where there is one and the lowest bit of luck is set, or else that of the
+    // last sync, and a copy of it.
+    fn found(&self, luck: u64) -> Result<(BTreeMap<u64, u64>, BTreeMap<u64, u64>), AllocError>
+        ensures found { IfOk result (λ m. values_of m.0 ≡ lucky_values luck (left_with self.now.synced self.now.failed)) }
+        ensures copy { IfOk result (λ m. values_of m.1 ≡ values_of m.0) }
     {
         let found = match &self.failed {
             Some(values) if luck % 2 == 1 => values,
             _ => &self.synced,
         };
-        Ok(MemMeta {
-            values: found.clone()?,
-            synced: found.clone()?,
-        })
+        Ok((found.clone()?, found.clone()?))
     }
 }
 
 impl MetaRuin for MemMetaWreck {
     ghost left = { λ w. left_with w.synced w.failed };
 
-    ghost faults = { λ _. 0 };
+    ghost faults = { λ w. w.alarm.faults };
+
+    ghost due = { λ w. w.alarm.due.items };
+
+    ghost armable = { true };
 
     fn synced(&self, key: u64) -> Option<u64> {
         self.synced.get(&key).copied()
+    }
+
+    fn arm(&mut self, calls: u64) -> Result<(), AllocError> {
+        self.alarm.arm(calls)
     }
 
     ghost some = { λ w. some_left w.synced w.failed };
@@ -71,7 +108,13 @@ impl Meta for MemMeta {
 
     ghost left = { λ s. values_of s.synced ∷ [] };
 
-    ghost faults = { λ _. 0 };
+    ghost faults = { λ s. s.alarm.faults };
+
+    ghost due = { λ s. s.alarm.due.items };
+
+    ghost armable = { true };
+
+    ghost only_armed = { true };
 
     ghost some = { λ s. some_left s.synced None };
 
@@ -80,32 +123,62 @@ impl Meta for MemMeta {
     }
 
     fn put(self, key: u64, value: u64) -> Result<Self, Lost<MemMetaWreck>> {
-        let MemMeta { mut values, synced } = self;
+        let MemMeta {
+            mut values,
+            synced,
+            alarm,
+        } = self;
         if values.insert(key, value).is_err() {
             return Err(Lost::Memory(MemMetaWreck {
                 synced,
                 failed: None,
+                alarm,
             }));
         }
-        Ok(MemMeta { values, synced })
+        Ok(MemMeta {
+            values,
+            synced,
+            alarm,
+        })
     }
 
     fn remove(self, key: u64) -> Result<Self, Lost<MemMetaWreck>> {
-        let MemMeta { mut values, synced } = self;
+        let MemMeta {
+            mut values,
+            synced,
+            alarm,
+        } = self;
         let _ = values.remove(&key);
-        Ok(MemMeta { values, synced })
+        Ok(MemMeta {
+            values,
+            synced,
+            alarm,
+        })
     }
 
     fn sync(self) -> Result<Self, Lost<MemMetaWreck>> {
-        let MemMeta { values, synced } = self;
+        let MemMeta {
+            values,
+            synced,
+            mut alarm,
+        } = self;
+        if alarm.rings() {
+            return Err(Lost::Fault(MemMetaWreck {
+                synced,
+                failed: Some(values),
+                alarm,
+            }));
+        }
         match values.clone() {
             Ok(copy) => Ok(MemMeta {
                 values,
                 synced: copy,
+                alarm,
             }),
             Err(_) => Err(Lost::Memory(MemMetaWreck {
                 synced,
                 failed: Some(values),
+                alarm,
             })),
         }
     }
@@ -114,14 +187,16 @@ impl Meta for MemMeta {
         MemMetaWreck {
             synced: self.synced,
             failed: None,
+            alarm: self.alarm,
         }
     }
 
     fn reopen(wreck: MemMetaWreck, luck: u64) -> Result<Self, Lost<MemMetaWreck>> {
-        match wreck.opened(luck) {
-            Ok(store) => Ok(store),
-            Err(_) => Err(Lost::Memory(wreck)),
-        }
+        MemMeta::reopen(wreck, luck)
+    }
+
+    fn arm(&mut self, calls: u64) -> Result<(), AllocError> {
+        self.alarm.arm(calls)
     }
 }
 

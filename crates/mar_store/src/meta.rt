@@ -1,9 +1,11 @@
 // A few numbers that become durable together.
-ghost use Rattle.std.specs.Prelude.{◌≡◌, ◌<◌, ℕ, List, [], ◌∷◌, length, Some, None, Contains, IfOk, MatchResult};
+ghost use Rattle.std.specs.Prelude.{◌≡◌, ◌<◌, ℕ, Bool, List, [], ◌∷◌, length, Some, None, Contains, IfOk, OnOk, OnErr, MatchResult};
 ghost use Rattle.mar_store.specs.Values.{Values, SetsValue, synced_values, LeavesValues};
 ghost use Rattle.mar_store.specs.Lost.{wreck_of, IsCausedBy};
+ghost use Rattle.mar_store.specs.Armed.{with_armed, HeedsArmed};
 
 use crate::Lost;
+use std::alloc::AllocError;
 
 /// What is left of a metadata store.
 pub trait MetaRuin: Drop {
@@ -13,9 +15,23 @@ pub trait MetaRuin: Drop {
     /// How often the store has failed.
     ghost faults: { Self → ℕ };
 
+    // How many counted calls away each armed one is.
+    ghost due: { Self → List ℕ };
+
+    // Whether a call can be armed.
+    ghost armable: { Bool };
+
     /// The value of a key as the last successful sync left it, or the last reopening read it.
     fn synced(&self, key: u64) -> Option<u64>
         ensures { result ≡ synced_values (left self.now) key };
+
+    /// Makes the counted call fail that is so many calls away, 1 being the next. Counted are `sync` and `reopen`.
+    /// Where nothing can be armed it does nothing.
+    fn arm(&mut self, calls: u64) -> Result<(), AllocError>
+        ensures armed { OnOk result (due self.new ≡ with_armed armable calls (due self.old)) }
+        ensures unarmed { OnErr result (due self.new ≡ due self.old) }
+        ensures left { left self.new ≡ left self.old }
+        ensures count { faults self.new ≡ faults self.old };
 
     ghost some: { (w : Self) → 0 < length (left w) };
 }
@@ -33,6 +49,14 @@ pub trait Meta: Drop {
     /// How often the store has failed; the count never falls.
     ghost faults: { Self → ℕ };
 
+    // How many counted calls away each armed one is.
+    ghost due: { Self → List ℕ };
+
+    // Whether a call can be armed, and whether only armed calls fail.
+    ghost armable: { Bool };
+
+    ghost only_armed: { Bool };
+
     fn get(&self, key: u64) -> Option<u64>
         ensures { result ≡ current self.now key };
 
@@ -43,7 +67,8 @@ pub trait Meta: Drop {
             (λ s. SetsValue (current self) key (Some value) (current s))
             (λ l. LeavesValues (left self) [] (Self.Wreck.left (wreck_of l))) }
         ensures durable { IfOk result (λ s. left s ≡ left self) }
-        ensures cause { IsCausedBy faults Self.Wreck.faults (faults self) result };
+        ensures cause { IsCausedBy faults Self.Wreck.faults (faults self) result }
+        ensures due { MatchResult result (λ s. due s ≡ due self) (λ l. Self.Wreck.due (wreck_of l) ≡ due self) };
 
     fn remove(self, key: u64) -> Result<Self, Lost<Self::Wreck>>
     where
@@ -52,7 +77,8 @@ pub trait Meta: Drop {
             (λ s. SetsValue (current self) key None (current s))
             (λ l. LeavesValues (left self) [] (Self.Wreck.left (wreck_of l))) }
         ensures durable { IfOk result (λ s. left s ≡ left self) }
-        ensures cause { IsCausedBy faults Self.Wreck.faults (faults self) result };
+        ensures cause { IsCausedBy faults Self.Wreck.faults (faults self) result }
+        ensures due { MatchResult result (λ s. due s ≡ due self) (λ l. Self.Wreck.due (wreck_of l) ≡ due self) };
 
     /// Makes all changes durable together.
     fn sync(self) -> Result<Self, Lost<Self::Wreck>>
@@ -62,14 +88,16 @@ pub trait Meta: Drop {
             (λ s. left s ≡ current self ∷ [])
             (λ l. LeavesValues (left self) (current self ∷ []) (Self.Wreck.left (wreck_of l))) }
         ensures same { IfOk result (λ s. current s ≡ current self) }
-        ensures cause { IsCausedBy faults Self.Wreck.faults (faults self) result };
+        ensures cause { IsCausedBy faults Self.Wreck.faults (faults self) result }
+        ensures armed { HeedsArmed due Self.Wreck.due only_armed (due self) result };
 
     /// What a crash now leaves.
     fn wreck(self) -> Self::Wreck
     where
         Self: Sized,
         ensures left { Self.Wreck.left result ≡ left self }
-        ensures count { Self.Wreck.faults result ≡ faults self };
+        ensures count { Self.Wreck.faults result ≡ faults self }
+        ensures due { Self.Wreck.due result ≡ due self };
 
     /// Opens what a crash left; luck picks among the maps that may be left.
     fn reopen(wreck: Self::Wreck, luck: u64) -> Result<Self, Lost<Self::Wreck>>
@@ -79,7 +107,17 @@ pub trait Meta: Drop {
             (λ s. Contains (Self.Wreck.left wreck) (current s))
             (λ l. LeavesValues (Self.Wreck.left wreck) [] (Self.Wreck.left (wreck_of l))) }
         ensures synced { IfOk result (λ s. left s ≡ current s ∷ []) }
-        ensures cause { IsCausedBy faults Self.Wreck.faults (Self.Wreck.faults wreck) result };
+        ensures cause { IsCausedBy faults Self.Wreck.faults (Self.Wreck.faults wreck) result }
+        ensures armed { HeedsArmed due Self.Wreck.due only_armed (Self.Wreck.due wreck) result };
+
+    /// Makes the counted call fail that is so many calls away, 1 being the next. Counted are `sync` and `reopen`.
+    /// Where nothing can be armed it does nothing.
+    fn arm(&mut self, calls: u64) -> Result<(), AllocError>
+        ensures armed { OnOk result (due self.new ≡ with_armed armable calls (due self.old)) }
+        ensures unarmed { OnErr result (due self.new ≡ due self.old) }
+        ensures current { current self.new ≡ current self.old }
+        ensures left { left self.new ≡ left self.old }
+        ensures count { faults self.new ≡ faults self.old };
 
     ghost some: { (s : Self) → 0 < length (left s) };
 }

@@ -1,0 +1,104 @@
+-- What a pile keeps as entries come.
+use Rattle.std.proofs.Common.{◌≡◌, ◌∙◌, ◌≤◌, ◌<◌, ◌+◌, ◌^◌, ◌-◌, ℕ, zero, suc, List, [], ◌∷◌, ◌++◌, Bool, true, false, refl, sym, ap, map, take, drop, length, get_or, arith, le-leb, leb-true}
+use Rattle.std.proofs.lemmas.List.{map_push, take-append-le, length-map, length-append}
+use Rattle.std.specs.Prelude.{nat_lt, ◌==◌, ◌||◌, ◌⊎◌, ◌≢◌}
+use Rattle.std.proofs.Common.{inl, inr}
+use Rattle.std.proofs.lemmas.Bool.{cases_lt}
+use Rattle.std.proofs.lemmas.Bool.{or_left, or_right, eq-eqb, eqb-true, eqb-false, lt-ltb, ltb-true}
+use Rattle.mar_store.specs.Tickets.{last_number}
+use Rattle.mar_store.specs.Kept.{EachHeightOnce}
+use Rattle.mar_store.specs.Changes.{heights}
+use Rattle.std.specs.Prelude.{Option, Some}
+use Rattle.mar_store.specs.Named.{EachNameOnce, greatest_of, is_taken, last_index}
+use Rattle.mar_store.specs.Ranges.{Range, ranges, with_height}
+use Rattle.mar_store.specs.RangeLemmas.{ranges_push}
+use Rattle.mar_store.specs.Entries.{AreCounted, is_covered, AreFitting, AreUpto, Ascend, next_number, seen}
+use Rattle.mar_store.specs.declared.entry.Entry.{Entry}
+use Rattle.mar_store.proofs.Lookups.{AllByRecursion-push, AllByRecursion-weaker, EachHeightOnce-push}
+use Rattle.mar_store.proofs.NamesOnce.{EachNameOnce-push, free_index, free_name}
+
+pub push_within : {T : Type 0} (items new : List (Entry T)) (e : Entry T) (n : ℕ) → n ≤ length items → new ≡ items ++ e ∷ [] → n ≤ length new
+push_within items new e n within are = rw (are, length-append) (omega (arith, within))
+
+pub push_once : {T : Type 0} (name : T → List ℕ) (items new : List (Entry T)) (e : Entry T) → new ≡ items ++ e ∷ [] → is_taken name (map seen items) (seen e) ≡ false → EachHeightOnce (map seen items) → EachHeightOnce (map seen new)
+push_once name items new e are free once = rw (are, map_push seen items e) (EachHeightOnce-push (map seen items) e.index e.item once (free_index name (map seen items) (seen e) free))
+
+pub push_named : {T : Type 0} (name : T → List ℕ) (items new : List (Entry T)) (e : Entry T) → new ≡ items ++ e ∷ [] → is_taken name (map seen items) (seen e) ≡ false → EachNameOnce name (map seen items) → EachNameOnce name (map seen new)
+push_named name items new e are free once = rw (are, map_push seen items e) (EachNameOnce-push name (map seen items) (seen e) once (free_name name (map seen items) (seen e) free))
+
+pub push_fits : {T : Type 0} (fits : ℕ → T → Bool) (items new : List (Entry T)) (e : Entry T) → new ≡ items ++ e ∷ [] → fits e.index e.item ≡ true → AreFitting fits (map seen items) → AreFitting fits (map seen new)
+push_fits fits items new e are fit all = rw (are, map_push seen items e) (AllByRecursion-push (λ x. fits x.height x.value ≡ true) (map seen items) (seen e) all fit)
+
+ascend_more : {T : Type 0} (items : List (Entry T)) (e : Entry T) → Ascend items → AreUpto e.number items → Ascend (items ++ e ∷ [])
+ascend_more [] e up upto = (tt, tt)
+ascend_more (f ∷ fs) e up upto = (AllByRecursion-push _ fs e up.0 upto.0, ascend_more fs e up.1 upto.1)
+
+pub push_ascend : {T : Type 0} (items new : List (Entry T)) (e : Entry T) → new ≡ items ++ e ∷ [] → Ascend items → AreUpto e.number items → Ascend new
+push_ascend items new e are up upto = rw are (ascend_more items e up upto)
+
+pub push_upto : {T : Type 0} (items new : List (Entry T)) (e : Entry T) (n : ℕ) → new ≡ items ++ e ∷ [] → n ≡ next_number e.number → e.number ≤ 2 ^ 64 - 1 → AreUpto e.number items → AreUpto n new
+push_upto items new e n are next small upto =
+    let more : e.number ≤ n = omega arith in
+    rw are (AllByRecursion-push _ items e (AllByRecursion-weaker _ _ (λ f below. le-leb f.number n (omega (arith, leb-true f.number e.number below, more))) items upto) (le-leb e.number n more))
+
+pub push_counted : {T : Type 0} (items new : List (Entry T)) (e : Entry T) (n : ℕ) → new ≡ items ++ e ∷ [] → n ≡ next_number e.number → e.number ≤ 2 ^ 64 - 1 → AreCounted e.number items → AreCounted n new
+push_counted {T} items new e n are next small counted = rw are (AllByRecursion-push _ items e (AllByRecursion-weaker _ _ (λ f was. later f (e.number == last_number) refl was) items counted) (here (e.number == last_number) refl))
+  where
+    at_end : e.number ≡ last_number → n ≡ last_number
+    at_end same = omega (arith, same, next)
+
+    here : (b : Bool) → (e.number == last_number) ≡ b → is_covered n e ≡ true
+    here true same = or_right (nat_lt e.number n) (n == last_number) (eq-eqb n last_number (at_end (eqb-true e.number last_number same)))
+    here false other = by (cases_lt e.number n)
+      where
+        by : (e.number < n) ⊎ (n ≤ e.number) → is_covered n e ≡ true
+        by (inl less) = or_left (nat_lt e.number n) (n == last_number) (lt-ltb e.number n less)
+        by (inr more) = or_right (nat_lt e.number n) (n == last_number) (eq-eqb n last_number (omega (arith, more, next)))
+
+    later : (f : Entry T) (b : Bool) → (e.number == last_number) ≡ b → is_covered e.number f ≡ true → is_covered n f ≡ true
+    later f true same was = or_right (nat_lt f.number n) (n == last_number) (eq-eqb n last_number (at_end (eqb-true e.number last_number same)))
+    later f false other was = or_left (nat_lt f.number n) (n == last_number) (lt-ltb f.number n (less (ltb-true f.number e.number (only (nat_lt f.number e.number) (e.number == last_number) was other))))
+      where
+        only : (a c : Bool) → (a || c) ≡ true → c ≡ false → a ≡ true
+        only true c is no_c = refl
+        only false true is no_c = absurd cc
+        only false false is no_c = is
+
+        less : f.number < e.number → f.number < n
+        less lt = omega (arith, lt, next, small, other_than)
+          where
+            other_than : e.number ≢ last_number
+            other_than = eqb-false e.number last_number other
+
+pub push_held : {T : Type 0} (items new : List (Entry T)) (e : Entry T) (old held : List Range) → new ≡ items ++ e ∷ [] → old ≡ ranges (heights (map seen items)) → held ≡ with_height e.index old → held ≡ ranges (heights (map seen new))
+push_held items new e old held are was is =
+    is ∙ (ap (with_height e.index) was ∙ (sym (ranges_push (heights (map seen items)) e.index) ∙ ap ranges (sym (ap (λ es. heights (map seen es)) are ∙ (ap heights (map_push seen items e) ∙ map_push (λ x. x.height) (map seen items) (seen e))))))
+
+pub push_sure : {T : Type 0} (items new : List (Entry T)) (e : Entry T) (n : ℕ) (sure : List Range) → n ≤ length items → new ≡ items ++ e ∷ [] → sure ≡ ranges (heights (take n (map seen items))) → sure ≡ ranges (heights (take n (map seen new)))
+push_sure items new e n sure within are is =
+    is ∙ ap (λ xs. ranges (heights xs)) (sym (ap (λ es. take n (map seen es)) are ∙ (ap (take n) (map_push seen items e) ∙ take-append-le n (map seen items) (seen e ∷ []) (rw length-map within))))
+
+-- one more entry is sure
+front_more : {T : Type 0} (items : List (Entry T)) (i : ℕ) (e : Entry T) → i < length items → e ≡ get_or items i e → take (i + 1) (map seen items) ≡ take i (map seen items) ++ seen e ∷ []
+front_more [] i e lt is = absurd (omega arith)
+front_more (f ∷ fs) zero e lt is = rw is refl
+front_more (f ∷ fs) (suc i) e lt is = let same : suc i + 1 ≡ suc (i + 1) = omega arith in rw same (ap (λ xs. seen f ∷ xs) (front_more fs i e (omega arith) is))
+
+pub sure_more : {T : Type 0} (items : List (Entry T)) (i : ℕ) (e : Entry T) (old new : List Range) → i < length items → e ≡ get_or items i e → old ≡ ranges (heights (take i (map seen items))) → new ≡ with_height e.index old
+    → new ≡ ranges (heights (take (i + 1) (map seen items)))
+sure_more items i e old new lt at was is =
+    is ∙ (ap (with_height e.index) was ∙ (sym (ranges_push (heights (take i (map seen items))) e.index) ∙ ap ranges (sym (ap heights (front_more items i e lt at) ∙ map_push (λ x. x.height) (take i (map seen items)) (seen e)))))
+
+-- THE GREATEST INDEX
+
+drop_at : {T : Type 0} (es : List (Entry T)) (i : ℕ) (d : Entry T) → i < length es → drop i (map seen es) ≡ seen (get_or es i d) ∷ drop (suc i) (map seen es)
+drop_at [] i d lt = absurd (omega arith)
+drop_at (e ∷ es) zero d lt = refl
+drop_at (e ∷ es) (suc i) d lt = drop_at es i d (omega arith)
+
+pub last_step : {T : Type 0} (es : List (Entry T)) (p h : ℕ) (d : Entry T) (old : Option ℕ) → 0 < p → p ≤ length es → d ≡ get_or es (p - 1) d → old ≡ last_index (drop p (map seen es)) → h ≡ greatest_of d.index old → Some h ≡ last_index (drop (p - 1) (map seen es))
+last_step es zero h d old some within at was is = absurd (omega arith)
+last_step es (suc i) h d old some within at was is =
+    let less : suc i - 1 ≡ i = omega arith in
+    let here : d ≡ get_or es i d = (rw less at at) in
+    rw (less, drop_at es i d (omega arith), ← here, ← was) (ap Some is)

@@ -1,0 +1,15 @@
+use Rattle.mar_store.proofs.Settled.{fails_longer}
+use Rattle.mar_store.proofs.Finishing.{finishes}
+use Rattle.mar_store.proofs.entries.Entries.finish.Goals as goal
+
+pub invariant_of-result : goal.invariant_of-result
+invariant_of-result g c = record {
+  by_index = λ h. rw c.in-Ok.ensures.items (c.args.self.by_index h);
+  by_key = λ k. rw c.in-Ok.ensures.items (c.args.self.by_key k);
+}
+
+pub returns-in-Ok-clause-done : goal.returns-in-Ok-clause-done
+returns-in-Ok-clause-done g c = finishes c.args.number c.args.self.pile.items.items _ c.args.self.pile.synced _ c.in-Ok.ensures.items c.args.self.pile.once c.in-Ok.ensures.ok
+
+pub returns-in-Err-clause-done : goal.returns-in-Err-clause-done
+returns-in-Err-clause-done g c = fails_longer _ _ _ _ c.in-Err.ensures.err.1 c.in-Err.ensures.err.0

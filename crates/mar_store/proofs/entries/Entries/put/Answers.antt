@@ -1,0 +1,15 @@
+use Rattle.std.proofs.Common.{◌∙◌, sym}
+use Rattle.mar_store.proofs.Stores.{puts_ignored, puts_entry, fails_put, covers_push}
+use Rattle.mar_store.proofs.entries.Entries.put.Goals as goal
+
+pub returns-then-holds-clause-done : goal.returns-then-holds-clause-done
+returns-then-holds-clause-done g c = puts_ignored _ _ _ _ (sym c.holds.ensures ∙ c.if-holds.true)
+
+pub returns-in-Ok-clause-done : goal.returns-in-Ok-clause-done
+returns-in-Ok-clause-done g c = puts_entry _ _ _ _ _ _ c.args.self.pile.within (sym c.holds.ensures ∙ c.if-holds.false) c.in-Ok.ensures.ok c.in-Ok.ensures.synced
+
+pub returns-in-Err-clause-done : goal.returns-in-Err-clause-done
+returns-in-Err-clause-done g c = fails_put _ _ _ _ _ c.args.self.pile.within c.in-Err.ensures.err c.in-Err.ensures.synced
+
+pub returns-in-Ok-clause-covers : goal.returns-in-Ok-clause-covers
+returns-in-Ok-clause-covers g c = covers_push _ _ _ c.in-Ok.ensures.ok
