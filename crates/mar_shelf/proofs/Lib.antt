@@ -1,2 +1,4 @@
 pub mod Piles
 pub mod Stores
+pub mod Missing
+pub mod Archives

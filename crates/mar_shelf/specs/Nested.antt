@@ -1,11 +1,13 @@
 -- What entries keep holds together: no height stands twice, and what is sure is held.
-use Rattle.std.specs.Prelude.{IsNone, List, None, Option, Some, [], false, is_some, map, nat_eq, suc, take, zero, ℕ, ◌==◌, ◌∷◌, ◌≡◌}
+use Rattle.std.specs.Prelude.{Contains, IsNone, List, None, Option, Some, [], false, is_some, map, nat_eq, suc, take, zero, ℕ, ◌==◌, ◌∷◌, ◌≡◌}
 use Rattle.std.specs.List.{AllByRecursion, IsDistinct}
-use Rattle.std.proofs.Common.{Bool, ap, cond, refl, sym, true}
+use Rattle.std.proofs.Common.{Bool, ap, cond, drop, refl, subst, sym, true}
 use Rattle.std.proofs.lemmas.Bool.{eqb-false, ne_eqb}
+use Rattle.std.proofs.lemmas.List.{take-append-drop}
+use Rattle.std.proofs.lemmas.List.Elements.{Contains-append_left}
 use Rattle.std.proofs.lemmas.Map.Keys.{IsDistinct-head, IsDistinct-tail}
 use Rattle.mar_store.specs.Kept.{At, EachHeightOnce, value_at}
-use Rattle.mar_store.specs.Changes.{IsNested, KeepsValues}
+use Rattle.mar_store.specs.Changes.{IsNested, KeepsValues, Within}
 use Rattle.mar_shelf.specs.Entries.{kept_of}
 
 none_there : {T P : Type 0} (at : T → At P) (h : ℕ) (items : List T) → AllByRecursion (λ k. nat_eq h k ≡ false) (map (λ e. (at e).height) items) → value_at (map at items) h ≡ None
@@ -41,6 +43,10 @@ pub front_kept : {P : Type 0} (n : ℕ) (xs : List (At P)) → KeepsValues (take
 front_kept zero xs h v found = cc
 front_kept (suc n) [] h v found = cc
 front_kept (suc n) (x ∷ xs) h v found = same_or (x.height == h) (Some x.value) (value_at (take n xs) h) (value_at xs h) (Some v) (front_kept n xs h v) found
+
+-- a front is within its list
+pub front_within : {X : Type 0} (n : ℕ) (xs : List X) → Within (take n xs) xs
+front_within n xs x there = let P : List _ → Type 0 = λ l. Contains l x in subst P (take-append-drop n xs) (Contains-append_left (take n xs) (drop n xs) x there)
 
 pub kept_nested : {T P : Type 0} (at : T → At P) (items : List T) (n : ℕ) → IsDistinct nat_eq (map (λ e. (at e).height) items) → IsNested (kept_of at items n)
 kept_nested at items n once = record {

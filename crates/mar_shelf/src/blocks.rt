@@ -1,15 +1,22 @@
 //! The store of finalized blocks.
-ghost use Rattle.std.specs.Prelude.{◌≡◌, ℕ, [], ◌∷◌, IfOk, MatchResult, option_map};
+ghost use Rattle.std.specs.Prelude.{◌≡◌, ◌≤◌, ℕ, Bool, List, [], ◌∷◌, IfOk, MatchResult, OnErr, OnOk, false, option_map, true};
+ghost use Rattle.mar_store.specs.Armed.{HeedsArmed, ReadsArmed, with_armed};
 ghost use Rattle.mar_store.specs.Kept.{At, Kept, value_at};
-ghost use Rattle.mar_store.specs.Changes.{Left, Puts, Syncs, Fails, left_of, IsReopened, IsNested, heights};
+ghost use Rattle.mar_store.specs.Changes.{Left, Within, Puts, Syncs, Finishes, Prunes, Fails, left_of, IsReopened, IsNested, heights};
+ghost use Rattle.mar_store.specs.Named.{last_index};
 ghost use Rattle.mar_store.specs.Ranges.{ranges};
+ghost use Rattle.mar_store.specs.Tickets.{KeepsCovers, KeepsCoversFrom, last_number};
+ghost use Rattle.mar_shelf.specs.Gaps.{missing_items, next_start, range_end};
 ghost use Rattle.mar_store.specs.Lost.{wreck_of, IsCausedBy, IsMissedBy};
 ghost use Rattle.mar_block.specs.Block.{Block as PlainBlock};
+ghost use Rattle.mar_shelf.specs.Heeded.{HeedsPut};
 ghost use Rattle.mar_shelf.specs.Stored.{at_own_height, block_of, is_held, AreOwn};
 
+use crate::gaps::{missing_items, next_gap};
 use mar_block::Variant;
-use mar_store::{Lost, Miss, RangeSet};
+use mar_store::{Lost, Miss, RangeSet, SyncTicket};
 use mar_types::Height;
+use std::alloc::{AllocError, Global};
 
 /// What is left of a store of blocks.
 pub trait BlocksRuin: Drop {
@@ -19,11 +26,27 @@ pub trait BlocksRuin: Drop {
     /// How often the store has failed.
     ghost faults: { Self → ℕ };
 
+    /// How many counted calls away each armed one is.
+    ghost due: { Self → List ℕ };
+
+    /// Whether a call can be armed.
+    ghost armable: { Bool };
+
     fn sure_ranges(&self) -> &RangeSet
         ensures { result.now ≡ ranges (heights (left self.now).sure) };
 
     fn may_ranges(&self) -> &RangeSet
         ensures { result.now ≡ ranges (heights (left self.now).may) };
+
+    /// Makes the counted call fail that is so many calls away, 1 being the next. Counted are `put`, `sync`,
+    /// `start_sync`, `finish`, `get`, `find`, `prune` and `reopen`. Where nothing can be armed it does nothing.
+    fn arm(&mut self, calls: u64) -> Result<(), AllocError>
+        ensures armed { OnOk result (due self.new ≡ with_armed armable calls (due self.old)) }
+        ensures unarmed { OnErr result (due self.new ≡ due self.old) }
+        ensures left { left self.new ≡ left self.old }
+        ensures count { faults self.new ≡ faults self.old };
+
+    ghost within: { (w : Self) → Within (left w).sure (left w).may };
 }
 
 /// Finalized blocks by height and by digest. A put is seen at once and durable after the next sync.
@@ -36,15 +59,38 @@ pub trait Blocks<V: Variant>: Drop {
     /// How often the store has failed; the count never falls.
     ghost faults: { Self → ℕ };
 
+    /// How many counted calls away each armed one is.
+    ghost due: { Self → List ℕ };
+
+    /// Whether a call can be armed, and whether only armed calls fail.
+    ghost armable: { Bool };
+
+    ghost only_armed: { Bool };
+
+    /// The greatest number that a ticket of this life has.
+    ghost number: { Self → ℕ };
+
+    /// What the ticket of a number makes sure.
+    ghost covers: { Self → ℕ → List (At PlainBlock) };
+
+    /// Whether a prune removes anything.
+    ghost prunes: { Bool };
+
     fn get(&mut self, height: Height) -> Result<Option<V::Block>, Miss>
         ensures found { IfOk result (λ o. option_map V.plain o ≡ value_at (stored self.old).held height) }
         ensures same { stored self.new ≡ stored self.old }
-        ensures cause { IsMissedBy (faults self.old) (faults self.new) result };
+        ensures tickets { number self.new ≡ number self.old }
+        ensures covers { KeepsCovers (number self.old) (covers self.old) (covers self.new) }
+        ensures cause { IsMissedBy (faults self.old) (faults self.new) result }
+        ensures armed { ReadsArmed only_armed (due self.old) (due self.new) result };
 
     fn find(&mut self, digest: &V::Digest) -> Result<Option<V::Block>, Miss>
         ensures found { IfOk result (λ o. option_map V.plain o ≡ block_of (stored self.old).held (V.Digest.bytes digest.now)) }
         ensures same { stored self.new ≡ stored self.old }
-        ensures cause { IsMissedBy (faults self.old) (faults self.new) result };
+        ensures tickets { number self.new ≡ number self.old }
+        ensures covers { KeepsCovers (number self.old) (covers self.old) (covers self.new) }
+        ensures cause { IsMissedBy (faults self.old) (faults self.new) result }
+        ensures armed { ReadsArmed only_armed (due self.old) (due self.new) result };
 
     /// Puts a block under its digest at its height; ignored where one of either is held.
     fn put(self, digest: &V::Digest, block: &V::Block) -> Result<Self, Lost<Self::Wreck>>
@@ -54,7 +100,10 @@ pub trait Blocks<V: Variant>: Drop {
         ensures done { MatchResult result
             (λ s. Puts (is_held (stored self).held (V.plain block.now)) (stored self) (at_own_height (V.plain block.now)) (stored s))
             (λ l. Fails (left_of (stored self)) (at_own_height (V.plain block.now) ∷ []) (Self.Wreck.left (wreck_of l))) }
-        ensures cause { IsCausedBy faults Self.Wreck.faults (faults self) result };
+        ensures tickets { IfOk result (λ s. number self ≤ number s) }
+        ensures covers { IfOk result (λ s. KeepsCovers (number self) (covers self) (covers s)) }
+        ensures cause { IsCausedBy faults Self.Wreck.faults (faults self) result }
+        ensures armed { HeedsPut due Self.Wreck.due only_armed (due self) result };
 
     fn sync(self) -> Result<Self, Lost<Self::Wreck>>
     where
@@ -62,14 +111,58 @@ pub trait Blocks<V: Variant>: Drop {
         ensures done { MatchResult result
             (λ s. Syncs (stored self) (stored s))
             (λ l. Fails (left_of (stored self)) [] (Self.Wreck.left (wreck_of l))) }
-        ensures cause { IsCausedBy faults Self.Wreck.faults (faults self) result };
+        ensures tickets { IfOk result (λ s. number self ≤ number s) }
+        ensures covers { IfOk result (λ s. KeepsCovers (number self) (covers self) (covers s)) }
+        ensures cause { IsCausedBy faults Self.Wreck.faults (faults self) result }
+        ensures armed { HeedsArmed due Self.Wreck.due only_armed (due self) result };
+
+    /// Starts a sync, which `finish` of its ticket finishes.
+    fn start_sync(self) -> Result<(Self, SyncTicket), Lost<Self::Wreck>>
+    where
+        Self: Sized,
+        ensures done { MatchResult result
+            (λ s. stored s.0 ≡ stored self)
+            (λ l. Fails (left_of (stored self)) [] (Self.Wreck.left (wreck_of l))) }
+        ensures made { IfOk result (λ s. s.1.number ≤ number s.0) }
+        ensures covered { IfOk result (λ s. covers s.0 s.1.number ≡ (stored self).held) }
+        ensures tickets { IfOk result (λ s. number self ≤ number s.0) }
+        ensures covers { IfOk result (λ s. KeepsCovers (number self) (covers self) (covers s.0)) }
+        ensures cause { IsCausedBy (λ s. faults s.0) Self.Wreck.faults (faults self) result }
+        ensures armed { HeedsArmed (λ s. due s.0) Self.Wreck.due only_armed (due self) result };
+
+    /// Makes sure all that was accepted before this ticket was made. A ticket of an earlier life isn't one.
+    fn finish(self, ticket: SyncTicket) -> Result<Self, Lost<Self::Wreck>>
+    where
+        Self: Sized,
+        requires made { ticket.number ≤ number self }
+        ensures done { MatchResult result
+            (λ s. Finishes (covers self ticket.number) (stored self) (stored s))
+            (λ l. Fails (left_of (stored self)) [] (Self.Wreck.left (wreck_of l))) }
+        ensures tickets { IfOk result (λ s. number self ≤ number s) }
+        ensures covers { IfOk result (λ s. KeepsCovers (number self) (covers self) (covers s)) }
+        ensures cause { IsCausedBy faults Self.Wreck.faults (faults self) result }
+        ensures armed { HeedsArmed due Self.Wreck.due only_armed (due self) result };
+
+    /// Removes blocks below a height; some may stay. A store that prunes nothing doesn't count the call.
+    fn prune(self, min: Height) -> Result<Self, Lost<Self::Wreck>>
+    where
+        Self: Sized,
+        ensures done { MatchResult result
+            (λ s. Prunes min (stored self) (stored s))
+            (λ l. Fails (left_of (stored self)) [] (Self.Wreck.left (wreck_of l))) }
+        ensures idle { prunes ≡ false → IfOk result (λ s. stored s ≡ stored self) }
+        ensures tickets { IfOk result (λ s. number self ≤ number s) }
+        ensures covers { IfOk result (λ s. KeepsCoversFrom min (number self) (covers self) (covers s)) }
+        ensures cause { IsCausedBy faults Self.Wreck.faults (faults self) result }
+        ensures armed { prunes ≡ true → HeedsArmed due Self.Wreck.due only_armed (due self) result };
 
     /// What a crash now leaves.
     fn wreck(self) -> Self::Wreck
     where
         Self: Sized,
         ensures left { Self.Wreck.left result ≡ left_of (stored self) }
-        ensures count { Self.Wreck.faults result ≡ faults self };
+        ensures count { Self.Wreck.faults result ≡ faults self }
+        ensures due { Self.Wreck.due result ≡ due self };
 
     /// Opens what a crash left; luck picks among what may be left.
     fn reopen(wreck: Self::Wreck, luck: u64) -> Result<Self, Lost<Self::Wreck>>
@@ -78,7 +171,42 @@ pub trait Blocks<V: Variant>: Drop {
         ensures done { MatchResult result
             (λ s. IsReopened (Self.Wreck.left wreck) (stored s))
             (λ l. Fails (Self.Wreck.left wreck) [] (Self.Wreck.left (wreck_of l))) }
-        ensures cause { IsCausedBy faults Self.Wreck.faults (Self.Wreck.faults wreck) result };
+        ensures cause { IsCausedBy faults Self.Wreck.faults (Self.Wreck.faults wreck) result }
+        ensures armed { HeedsArmed due Self.Wreck.due only_armed (Self.Wreck.due wreck) result };
+
+    /// Makes the counted call fail that is so many calls away, 1 being the next. Counted are `put`, `sync`,
+    /// `start_sync`, `finish`, `get`, `find`, `prune` and `reopen`. Where nothing can be armed it does nothing.
+    fn arm(&mut self, calls: u64) -> Result<(), AllocError>
+        ensures armed { OnOk result (due self.new ≡ with_armed armable calls (due self.old)) }
+        ensures unarmed { OnErr result (due self.new ≡ due self.old) }
+        ensures same { stored self.new ≡ stored self.old }
+        ensures tickets { number self.new ≡ number self.old }
+        ensures covers { KeepsCovers (number self.old) (covers self.old) (covers self.new) }
+        ensures count { faults self.new ≡ faults self.old };
+
+    /// The greatest height that is held.
+    fn last_index(&self) -> Option<Height>
+        ensures { result ≡ last_index (stored self.now).held };
+
+    /// The missing heights from `start` on that lie below some held one: the lowest, at most `max`.
+    fn missing_items(
+        &self,
+        alloc: Global,
+        start: Height,
+        max: usize,
+    ) -> Result<Vec<Height>, AllocError>
+        ensures { IfOk result (λ v. v.items ≡ missing_items (ranges (heights (stored self.now).held)) start max) }
+    {
+        missing_items(alloc, self.held_ranges().as_slice(), start, max)
+    }
+
+    /// The end of the range of held heights that holds this one, and the start of the next range after it.
+    fn next_gap(&self, height: Height) -> (Option<Height>, Option<Height>)
+        ensures end { result.0 ≡ range_end (ranges (heights (stored self.now).held)) height }
+        ensures start { result.1 ≡ next_start (ranges (heights (stored self.now).held)) height }
+    {
+        next_gap(self.held_ranges().as_slice(), height)
+    }
 
     fn held_ranges(&self) -> &RangeSet
         ensures { result.now ≡ ranges (heights (stored self.now).held) };
@@ -87,6 +215,8 @@ pub trait Blocks<V: Variant>: Drop {
         ensures { result.now ≡ ranges (heights (stored self.now).sure) };
 
     ghost nested: { (s : Self) → IsNested (stored s) };
+
+    ghost last: { (s : Self) → covers s last_number ≡ (stored s).held };
 
     ghost own: { (s : Self) → AreOwn V.inner (stored s).held };
 }

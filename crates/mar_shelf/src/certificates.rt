@@ -1,16 +1,24 @@
 //! The store of finalizations.
-ghost use Rattle.std.specs.Prelude.{◌≡◌, ℕ, [], ◌∷◌, IfOk, MatchResult, option_map};
-ghost use Rattle.mar_store.specs.Kept.{At, Kept, value_at};
-ghost use Rattle.mar_store.specs.Changes.{Left, Puts, Syncs, Fails, left_of, IsReopened, IsNested, heights};
+ghost use Rattle.std.specs.Prelude.{◌≡◌, ◌≤◌, ℕ, Bool, List, [], ◌∷◌, IfOk, MatchResult, OnErr, OnOk, false, option_map, true};
+ghost use Rattle.mar_store.specs.Armed.{HeedsArmed, ReadsArmed, with_armed};
+ghost use Rattle.mar_store.specs.Kept.{At, Kept, value_at, has_height};
+ghost use Rattle.mar_store.specs.Changes.{Left, Within, Puts, Syncs, Finishes, Prunes, Fails, left_of, IsReopened, IsNested, heights};
+ghost use Rattle.mar_store.specs.Named.{last_index};
 ghost use Rattle.mar_store.specs.Ranges.{ranges};
+ghost use Rattle.mar_store.specs.Spans.{ranges_of};
+ghost use Rattle.mar_store.specs.Tickets.{KeepsCovers, KeepsCoversFrom, last_number};
+ghost use Rattle.mar_shelf.specs.Gaps.{ranges_from};
 ghost use Rattle.mar_store.specs.Lost.{wreck_of, IsCausedBy, IsMissedBy};
 ghost use Rattle.mar_cert.specs.Finalization.{Finalization as PlainFinalization};
+ghost use Rattle.mar_shelf.specs.Heeded.{HeedsPut};
 ghost use Rattle.mar_shelf.specs.Stored.{is_certified};
 
+use crate::gaps::ranges_from;
 use mar_block::Variant;
 use mar_cert::AsFinalization;
-use mar_store::{Lost, Miss, RangeSet};
+use mar_store::{HeightSpan, Lost, Miss, RangeSet, SyncTicket};
 use mar_types::Height;
+use std::alloc::AllocError;
 
 /// What is left of a store of finalizations.
 pub trait CertificatesRuin: Drop {
@@ -20,11 +28,27 @@ pub trait CertificatesRuin: Drop {
     /// How often the store has failed.
     ghost faults: { Self → ℕ };
 
+    /// How many counted calls away each armed one is.
+    ghost due: { Self → List ℕ };
+
+    /// Whether a call can be armed.
+    ghost armable: { Bool };
+
     fn sure_ranges(&self) -> &RangeSet
         ensures { result.now ≡ ranges (heights (left self.now).sure) };
 
     fn may_ranges(&self) -> &RangeSet
         ensures { result.now ≡ ranges (heights (left self.now).may) };
+
+    /// Makes the counted call fail that is so many calls away, 1 being the next. Counted are `put`, `sync`,
+    /// `start_sync`, `finish`, `get`, `has`, `prune` and `reopen`. Where nothing can be armed it does nothing.
+    fn arm(&mut self, calls: u64) -> Result<(), AllocError>
+        ensures armed { OnOk result (due self.new ≡ with_armed armable calls (due self.old)) }
+        ensures unarmed { OnErr result (due self.new ≡ due self.old) }
+        ensures left { left self.new ≡ left self.old }
+        ensures count { faults self.new ≡ faults self.old };
+
+    ghost within: { (w : Self) → Within (left w).sure (left w).may };
 }
 
 /// Finalizations by the height of their block. A put is seen at once and durable after the next sync.
@@ -37,10 +61,39 @@ pub trait Certificates<V: Variant, F: AsFinalization>: Drop {
     /// How often the store has failed; the count never falls.
     ghost faults: { Self → ℕ };
 
+    /// How many counted calls away each armed one is.
+    ghost due: { Self → List ℕ };
+
+    /// Whether a call can be armed, and whether only armed calls fail.
+    ghost armable: { Bool };
+
+    ghost only_armed: { Bool };
+
+    /// The greatest number that a ticket of this life has.
+    ghost number: { Self → ℕ };
+
+    /// What the ticket of a number makes sure.
+    ghost covers: { Self → ℕ → List (At PlainFinalization) };
+
+    /// Whether a prune removes anything.
+    ghost prunes: { Bool };
+
     fn get(&mut self, height: Height) -> Result<Option<F>, Miss>
         ensures found { IfOk result (λ o. option_map F.plain o ≡ value_at (stored self.old).held height) }
         ensures same { stored self.new ≡ stored self.old }
-        ensures cause { IsMissedBy (faults self.old) (faults self.new) result };
+        ensures tickets { number self.new ≡ number self.old }
+        ensures covers { KeepsCovers (number self.old) (covers self.old) (covers self.new) }
+        ensures cause { IsMissedBy (faults self.old) (faults self.new) result }
+        ensures armed { ReadsArmed only_armed (due self.old) (due self.new) result };
+
+    /// Whether a finalization is held at a height.
+    fn has(&mut self, height: Height) -> Result<bool, Miss>
+        ensures found { IfOk result (λ b. b ≡ has_height (stored self.old).held height) }
+        ensures same { stored self.new ≡ stored self.old }
+        ensures tickets { number self.new ≡ number self.old }
+        ensures covers { KeepsCovers (number self.old) (covers self.old) (covers self.new) }
+        ensures cause { IsMissedBy (faults self.old) (faults self.new) result }
+        ensures armed { ReadsArmed only_armed (due self.old) (due self.new) result };
 
     /// Puts a finalization at its block's height and digest; ignored where one of either is held.
     fn put(
@@ -55,7 +108,10 @@ pub trait Certificates<V: Variant, F: AsFinalization>: Drop {
         ensures done { MatchResult result
             (λ s. Puts (is_certified V.inner (stored self).held height (V.Digest.bytes digest.now)) (stored self) (record { height = height; value = F.plain finalization.now }) (stored s))
             (λ l. Fails (left_of (stored self)) (record { height = height; value = F.plain finalization.now } ∷ []) (Self.Wreck.left (wreck_of l))) }
-        ensures cause { IsCausedBy faults Self.Wreck.faults (faults self) result };
+        ensures tickets { IfOk result (λ s. number self ≤ number s) }
+        ensures covers { IfOk result (λ s. KeepsCovers (number self) (covers self) (covers s)) }
+        ensures cause { IsCausedBy faults Self.Wreck.faults (faults self) result }
+        ensures armed { HeedsPut due Self.Wreck.due only_armed (due self) result };
 
     fn sync(self) -> Result<Self, Lost<Self::Wreck>>
     where
@@ -63,14 +119,58 @@ pub trait Certificates<V: Variant, F: AsFinalization>: Drop {
         ensures done { MatchResult result
             (λ s. Syncs (stored self) (stored s))
             (λ l. Fails (left_of (stored self)) [] (Self.Wreck.left (wreck_of l))) }
-        ensures cause { IsCausedBy faults Self.Wreck.faults (faults self) result };
+        ensures tickets { IfOk result (λ s. number self ≤ number s) }
+        ensures covers { IfOk result (λ s. KeepsCovers (number self) (covers self) (covers s)) }
+        ensures cause { IsCausedBy faults Self.Wreck.faults (faults self) result }
+        ensures armed { HeedsArmed due Self.Wreck.due only_armed (due self) result };
+
+    /// Starts a sync, which `finish` of its ticket finishes.
+    fn start_sync(self) -> Result<(Self, SyncTicket), Lost<Self::Wreck>>
+    where
+        Self: Sized,
+        ensures done { MatchResult result
+            (λ s. stored s.0 ≡ stored self)
+            (λ l. Fails (left_of (stored self)) [] (Self.Wreck.left (wreck_of l))) }
+        ensures made { IfOk result (λ s. s.1.number ≤ number s.0) }
+        ensures covered { IfOk result (λ s. covers s.0 s.1.number ≡ (stored self).held) }
+        ensures tickets { IfOk result (λ s. number self ≤ number s.0) }
+        ensures covers { IfOk result (λ s. KeepsCovers (number self) (covers self) (covers s.0)) }
+        ensures cause { IsCausedBy (λ s. faults s.0) Self.Wreck.faults (faults self) result }
+        ensures armed { HeedsArmed (λ s. due s.0) Self.Wreck.due only_armed (due self) result };
+
+    /// Makes sure all that was accepted before this ticket was made. A ticket of an earlier life isn't one.
+    fn finish(self, ticket: SyncTicket) -> Result<Self, Lost<Self::Wreck>>
+    where
+        Self: Sized,
+        requires made { ticket.number ≤ number self }
+        ensures done { MatchResult result
+            (λ s. Finishes (covers self ticket.number) (stored self) (stored s))
+            (λ l. Fails (left_of (stored self)) [] (Self.Wreck.left (wreck_of l))) }
+        ensures tickets { IfOk result (λ s. number self ≤ number s) }
+        ensures covers { IfOk result (λ s. KeepsCovers (number self) (covers self) (covers s)) }
+        ensures cause { IsCausedBy faults Self.Wreck.faults (faults self) result }
+        ensures armed { HeedsArmed due Self.Wreck.due only_armed (due self) result };
+
+    /// Removes finalizations below a height; some may stay. A store that prunes nothing doesn't count the call.
+    fn prune(self, min: Height) -> Result<Self, Lost<Self::Wreck>>
+    where
+        Self: Sized,
+        ensures done { MatchResult result
+            (λ s. Prunes min (stored self) (stored s))
+            (λ l. Fails (left_of (stored self)) [] (Self.Wreck.left (wreck_of l))) }
+        ensures idle { prunes ≡ false → IfOk result (λ s. stored s ≡ stored self) }
+        ensures tickets { IfOk result (λ s. number self ≤ number s) }
+        ensures covers { IfOk result (λ s. KeepsCoversFrom min (number self) (covers self) (covers s)) }
+        ensures cause { IsCausedBy faults Self.Wreck.faults (faults self) result }
+        ensures armed { prunes ≡ true → HeedsArmed due Self.Wreck.due only_armed (due self) result };
 
     /// What a crash now leaves.
     fn wreck(self) -> Self::Wreck
     where
         Self: Sized,
         ensures left { Self.Wreck.left result ≡ left_of (stored self) }
-        ensures count { Self.Wreck.faults result ≡ faults self };
+        ensures count { Self.Wreck.faults result ≡ faults self }
+        ensures due { Self.Wreck.due result ≡ due self };
 
     /// Opens what a crash left; luck picks among what may be left.
     fn reopen(wreck: Self::Wreck, luck: u64) -> Result<Self, Lost<Self::Wreck>>
@@ -79,7 +179,29 @@ pub trait Certificates<V: Variant, F: AsFinalization>: Drop {
         ensures done { MatchResult result
             (λ s. IsReopened (Self.Wreck.left wreck) (stored s))
             (λ l. Fails (Self.Wreck.left wreck) [] (Self.Wreck.left (wreck_of l))) }
-        ensures cause { IsCausedBy faults Self.Wreck.faults (Self.Wreck.faults wreck) result };
+        ensures cause { IsCausedBy faults Self.Wreck.faults (Self.Wreck.faults wreck) result }
+        ensures armed { HeedsArmed due Self.Wreck.due only_armed (Self.Wreck.due wreck) result };
+
+    /// Makes the counted call fail that is so many calls away, 1 being the next. Counted are `put`, `sync`,
+    /// `start_sync`, `finish`, `get`, `has`, `prune` and `reopen`. Where nothing can be armed it does nothing.
+    fn arm(&mut self, calls: u64) -> Result<(), AllocError>
+        ensures armed { OnOk result (due self.new ≡ with_armed armable calls (due self.old)) }
+        ensures unarmed { OnErr result (due self.new ≡ due self.old) }
+        ensures same { stored self.new ≡ stored self.old }
+        ensures tickets { number self.new ≡ number self.old }
+        ensures covers { KeepsCovers (number self.old) (covers self.old) (covers self.new) }
+        ensures count { faults self.new ≡ faults self.old };
+
+    /// The greatest height that is held.
+    fn last_index(&self) -> Option<Height>
+        ensures { result ≡ last_index (stored self.now).held };
+
+    /// The ranges of held heights that overlap or follow a height.
+    fn ranges_from(&self, height: Height) -> &[HeightSpan]
+        ensures { ranges_of result.now ≡ ranges_from (ranges (heights (stored self.now).held)) height }
+    {
+        ranges_from(self.held_ranges().as_slice(), height)
+    }
 
     fn held_ranges(&self) -> &RangeSet
         ensures { result.now ≡ ranges (heights (stored self.now).held) };
@@ -88,4 +210,6 @@ pub trait Certificates<V: Variant, F: AsFinalization>: Drop {
         ensures { result.now ≡ ranges (heights (stored self.now).sure) };
 
     ghost nested: { (s : Self) → IsNested (stored s) };
+
+    ghost last: { (s : Self) → covers s last_number ≡ (stored s).held };
 }

@@ -1,5 +1,5 @@
 //! Entries that are found by height and by digest.
-ghost use Rattle.std.specs.Prelude.{◌≡◌, ◌==◌, ◌++◌, ◌⊎◌, ◌||◌, [], ◌∷◌, ℕ, false, bytes_eq, find, length, take, IfOk, IfErr, MatchResult};
+ghost use Rattle.std.specs.Prelude.{◌≡◌, ◌≤◌, ◌==◌, ◌++◌, ◌⊎◌, ◌||◌, [], ◌∷◌, ℕ, false, bytes_eq, find, length, max, take, IfOk, IfErr, MatchResult};
 ghost use Rattle.std.specs.Option.{option_copied};
 ghost use Rattle.std.specs.List.{list_any};
 ghost use Rattle.std.specs.Ordering.{nat_cmp};
@@ -10,6 +10,7 @@ use crate::entry::Entry;
 use crate::pile::Pile;
 use crate::places::Places;
 use mar_codec::Digest;
+use mar_store::SyncTicket;
 use mar_types::Height;
 use std::alloc::{AllocError, Global};
 
@@ -58,6 +59,13 @@ impl<T: Drop, D: Digest> Entries<T, D> {
         }
     }
 
+    /// Whether an entry of that height is there.
+    pub fn has(&self, height: Height) -> bool
+        ensures { result ≡ list_any (λ e. e.height == height) self.now.pile.items.items }
+    {
+        self.places.place_at(height.get()).is_some()
+    }
+
     /// Whether an entry of that height or of that digest is there.
     pub fn holds(&self, height: Height, digest: &D) -> bool
         ensures { result ≡ (list_any (λ e. e.height == height) self.now.pile.items.items
@@ -99,6 +107,28 @@ impl<T: Drop, D: Digest> Entries<T, D> {
             Ok(pile) => Ok(Entries { pile, places }),
             Err(pile) => Err(pile),
         }
+    }
+
+    /// Makes the first so many entries sure. It gives back the pile where memory runs out.
+    pub fn finish(self, count: usize) -> Result<Self, Pile<T, D>>
+        requires { count ≤ length self.pile.items.items }
+        ensures ok { IfOk result (λ s. s.pile.synced ≡ max self.pile.synced count) }
+        ensures err { IfErr result (λ p. p.synced ≡ self.pile.synced) }
+        ensures items { MatchResult result (λ s. s.pile.items.items ≡ self.pile.items.items)
+            (λ p. p.items.items ≡ self.pile.items.items) }
+    {
+        let Entries { pile, places } = self;
+        match pile.finish(count) {
+            Ok(pile) => Ok(Entries { pile, places }),
+            Err(pile) => Err(pile),
+        }
+    }
+
+    /// A ticket for all that is there.
+    pub fn ticket(&self) -> SyncTicket
+        ensures { result.number ≡ length self.now.pile.items.items }
+    {
+        SyncTicket::new(self.pile.items.len() as u64)
     }
 
     /// The pile alone.

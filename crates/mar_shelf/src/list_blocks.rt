@@ -1,10 +1,10 @@
 //! A store of blocks in memory.
-ghost use Rattle.std.specs.Prelude.{◌≡◌, [], IfOk, IfErr, option_map};
+ghost use Rattle.std.specs.Prelude.{◌≡◌, [], IfErr, IfOk, false, length, map, option_map, refl, true};
 ghost use Rattle.std.specs.Option.{option_copied};
 ghost use Rattle.mar_store.specs.Changes.{left_of};
 ghost use Rattle.mar_store.specs.Kept.{reopened_store};
-ghost use Rattle.mar_shelf.specs.Entries.{kept_of};
-ghost use Rattle.mar_shelf.specs.Nested.{kept_nested};
+ghost use Rattle.mar_shelf.specs.Entries.{covered_of, kept_of};
+ghost use Rattle.mar_shelf.specs.Nested.{front_within, kept_nested};
 ghost use Rattle.mar_shelf.specs.Named.{seen, AreNamed, AreNamed-prop, own_of};
 
 use crate::entries::Entries;
@@ -12,9 +12,9 @@ use crate::entry::Entry;
 use crate::pile::Pile;
 use crate::{Blocks, BlocksRuin};
 use mar_block::Variant;
-use mar_store::{Lost, Miss, RangeSet};
+use mar_store::{Lost, Miss, RangeSet, SyncTicket};
 use mar_types::Height;
-use std::alloc::Global;
+use std::alloc::{AllocError, Global};
 
 /// Blocks in memory, in the order of their puts.
 #[derive(Drop)]
@@ -46,12 +46,22 @@ impl<V: Variant> BlocksRuin for ListBlocksWreck<V> {
 
     ghost faults = { λ _. 0 };
 
+    ghost due = { λ _. [] };
+
+    ghost armable = { false };
+
+    ghost within = { λ w. front_within w.pile.synced (map (seen V.plain) w.pile.items.items) };
+
     fn sure_ranges(&self) -> &RangeSet {
         self.pile.sure()
     }
 
     fn may_ranges(&self) -> &RangeSet {
         self.pile.held()
+    }
+
+    fn arm(&mut self, _calls: u64) -> Result<(), AllocError> {
+        Ok(())
     }
 }
 
@@ -62,7 +72,21 @@ impl<V: Variant> Blocks<V> for ListBlocks<V> {
 
     ghost faults = { λ _. 0 };
 
+    ghost due = { λ _. [] };
+
+    ghost armable = { false };
+
+    ghost only_armed = { true };
+
+    ghost number = { λ s. length s.entries.pile.items.items };
+
+    ghost covers = { λ s. covered_of (seen V.plain) s.entries.pile.items.items };
+
+    ghost prunes = { false };
+
     ghost nested = { λ s. kept_nested (seen V.plain) s.entries.pile.items.items s.entries.pile.synced s.entries.pile.once };
+
+    ghost last = { λ s. refl };
 
     ghost own = { λ s. own_of V.plain V.Digest.bytes V.inner V.inner_is s.entries.pile.items.items s.named };
 
@@ -103,6 +127,23 @@ impl<V: Variant> Blocks<V> for ListBlocks<V> {
         }
     }
 
+    fn start_sync(self) -> Result<(Self, SyncTicket), Lost<ListBlocksWreck<V>>> {
+        let ticket = self.entries.ticket();
+        Ok((self, ticket))
+    }
+
+    fn finish(self, ticket: SyncTicket) -> Result<Self, Lost<ListBlocksWreck<V>>> {
+        let ListBlocks { entries } = self;
+        match entries.finish(ticket.number() as usize) {
+            Ok(entries) => Ok(ListBlocks { entries }),
+            Err(pile) => Err(Lost::Memory(ListBlocksWreck { pile })),
+        }
+    }
+
+    fn prune(self, _min: Height) -> Result<Self, Lost<ListBlocksWreck<V>>> {
+        Ok(self)
+    }
+
     fn wreck(self) -> ListBlocksWreck<V> {
         let ListBlocks { entries } = self;
         ListBlocksWreck {
@@ -116,6 +157,14 @@ impl<V: Variant> Blocks<V> for ListBlocks<V> {
             Ok(entries) => Ok(ListBlocks { entries }),
             Err(pile) => Err(Lost::Memory(ListBlocksWreck { pile })),
         }
+    }
+
+    fn arm(&mut self, _calls: u64) -> Result<(), AllocError> {
+        Ok(())
+    }
+
+    fn last_index(&self) -> Option<Height> {
+        self.entries.pile.last()
     }
 
     fn held_ranges(&self) -> &RangeSet {

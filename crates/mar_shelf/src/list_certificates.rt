@@ -1,10 +1,10 @@
 //! A store of finalizations in memory.
-ghost use Rattle.std.specs.Prelude.{◌≡◌, [], IfOk, IfErr, option_map};
+ghost use Rattle.std.specs.Prelude.{◌≡◌, [], IfErr, IfOk, false, length, map, option_map, refl, true};
 ghost use Rattle.std.specs.Option.{option_copied};
 ghost use Rattle.mar_store.specs.Changes.{left_of};
 ghost use Rattle.mar_store.specs.Kept.{reopened_store};
-ghost use Rattle.mar_shelf.specs.Entries.{kept_of};
-ghost use Rattle.mar_shelf.specs.Nested.{kept_nested};
+ghost use Rattle.mar_shelf.specs.Entries.{covered_of, kept_of};
+ghost use Rattle.mar_shelf.specs.Nested.{front_within, kept_nested};
 ghost use Rattle.mar_shelf.specs.Named.{seen, AreBacked, AreBacked-prop};
 
 use crate::entries::Entries;
@@ -13,9 +13,9 @@ use crate::pile::Pile;
 use crate::{Certificates, CertificatesRuin};
 use mar_block::Variant;
 use mar_cert::AsFinalization;
-use mar_store::{Lost, Miss, RangeSet};
+use mar_store::{Lost, Miss, RangeSet, SyncTicket};
 use mar_types::Height;
-use std::alloc::Global;
+use std::alloc::{AllocError, Global};
 
 /// Finalizations in memory, in the order of their puts.
 #[derive(Drop)]
@@ -47,12 +47,22 @@ impl<V: Variant, F: AsFinalization> CertificatesRuin for ListCertificatesWreck<V
 
     ghost faults = { λ _. 0 };
 
+    ghost due = { λ _. [] };
+
+    ghost armable = { false };
+
+    ghost within = { λ w. front_within w.pile.synced (map (seen F.plain) w.pile.items.items) };
+
     fn sure_ranges(&self) -> &RangeSet {
         self.pile.sure()
     }
 
     fn may_ranges(&self) -> &RangeSet {
         self.pile.held()
+    }
+
+    fn arm(&mut self, _calls: u64) -> Result<(), AllocError> {
+        Ok(())
     }
 }
 
@@ -63,10 +73,28 @@ impl<V: Variant, F: AsFinalization> Certificates<V, F> for ListCertificates<V, F
 
     ghost faults = { λ _. 0 };
 
+    ghost due = { λ _. [] };
+
+    ghost armable = { false };
+
+    ghost only_armed = { true };
+
+    ghost number = { λ s. length s.entries.pile.items.items };
+
+    ghost covers = { λ s. covered_of (seen F.plain) s.entries.pile.items.items };
+
+    ghost prunes = { false };
+
     ghost nested = { λ s. kept_nested (seen F.plain) s.entries.pile.items.items s.entries.pile.synced s.entries.pile.once };
+
+    ghost last = { λ s. refl };
 
     fn get(&mut self, height: Height) -> Result<Option<F>, Miss> {
         cloned(self.entries.get(height))
+    }
+
+    fn has(&mut self, height: Height) -> Result<bool, Miss> {
+        Ok(self.entries.has(height))
     }
 
     fn put(
@@ -102,6 +130,23 @@ impl<V: Variant, F: AsFinalization> Certificates<V, F> for ListCertificates<V, F
         }
     }
 
+    fn start_sync(self) -> Result<(Self, SyncTicket), Lost<ListCertificatesWreck<V, F>>> {
+        let ticket = self.entries.ticket();
+        Ok((self, ticket))
+    }
+
+    fn finish(self, ticket: SyncTicket) -> Result<Self, Lost<ListCertificatesWreck<V, F>>> {
+        let ListCertificates { entries } = self;
+        match entries.finish(ticket.number() as usize) {
+            Ok(entries) => Ok(ListCertificates { entries }),
+            Err(pile) => Err(Lost::Memory(ListCertificatesWreck { pile })),
+        }
+    }
+
+    fn prune(self, _min: Height) -> Result<Self, Lost<ListCertificatesWreck<V, F>>> {
+        Ok(self)
+    }
+
     fn wreck(self) -> ListCertificatesWreck<V, F> {
         let ListCertificates { entries } = self;
         ListCertificatesWreck {
@@ -118,6 +163,14 @@ impl<V: Variant, F: AsFinalization> Certificates<V, F> for ListCertificates<V, F
             Ok(entries) => Ok(ListCertificates { entries }),
             Err(pile) => Err(Lost::Memory(ListCertificatesWreck { pile })),
         }
+    }
+
+    fn arm(&mut self, _calls: u64) -> Result<(), AllocError> {
+        Ok(())
+    }
+
+    fn last_index(&self) -> Option<Height> {
+        self.entries.pile.last()
     }
 
     fn held_ranges(&self) -> &RangeSet {

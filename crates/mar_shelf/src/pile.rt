@@ -1,11 +1,14 @@
 //! Entries in the order of their puts, and the ranges of their heights.
-ghost use Rattle.std.specs.Prelude.{◌≡◌, ◌==◌, ◌≤◌, ◌++◌, [], ◌∷◌, ℕ, false, nat_eq, length, map, take, IfOk, IfErr, OnOk, OnErr, MatchResult};
+ghost use Rattle.std.specs.Prelude.{◌≡◌, ◌==◌, ◌≤◌, ◌++◌, [], ◌∷◌, ℕ, false, nat_eq, length, map, max, take, IfOk, IfErr, OnOk, OnErr, MatchResult};
 ghost use Rattle.std.specs.List.{list_any, IsDistinct};
 ghost use Rattle.std.proofs.lemmas.Map.Keys.{IsDistinct-prop};
+ghost use Rattle.mar_store.specs.Named.{greatest_of};
 ghost use Rattle.mar_store.specs.Ranges.{ranges, with_height};
+ghost use Rattle.mar_shelf.specs.Entries.{greatest};
 
 use crate::entry::Entry;
 use mar_store::RangeSet;
+use mar_types::Height;
 use std::alloc::{AllocError, Global};
 
 /// Entries of which a front is synced: what a crash can leave, and what it always leaves.
@@ -107,6 +110,52 @@ impl<T: Drop, D: Drop> Pile<T, D> {
         }
     }
 
+    /// Makes the first so many entries sure. It gives back the pile where memory runs out.
+    pub fn finish(self, count: usize) -> Result<Self, Self>
+        requires { count ≤ length self.items.items }
+        ensures ok { IfOk result (λ p. p.synced ≡ max self.synced count) }
+        ensures err { IfErr result (λ p. p.synced ≡ self.synced) }
+        ensures items { MatchResult result (λ p. p.items.items ≡ self.items.items) (λ p. p.items.items ≡ self.items.items) }
+    {
+        if count <= self.synced {
+            return Ok(self);
+        }
+        let Pile {
+            items,
+            synced,
+            held,
+            sure,
+        } = self;
+        match widened(&items, &sure, synced, count) {
+            Ok(sure) => {
+                let synced = count;
+                Ok(Pile {
+                    items,
+                    synced,
+                    held,
+                    sure,
+                })
+            }
+            Err(_) => Err(Pile {
+                items,
+                synced,
+                held,
+                sure,
+            }),
+        }
+    }
+
+    /// The greatest height.
+    pub fn last(&self) -> Option<Height>
+        ensures { result ≡ greatest (map (λ e. e.height) self.now.items.items) }
+    {
+        let mut last: Option<Height> = None;
+        for (place, entry) in self.items.iter().enumerate() {
+            last = Some(higher(entry.height, last));
+        }
+        last
+    }
+
     /// Keeps the synced entries alone. It gives back the pile where memory runs out.
     pub fn keep_synced(self) -> Result<Self, Self>
         ensures ok { IfOk result (λ p. p.items.items ≡ take self.synced self.items.items) }
@@ -137,6 +186,35 @@ impl<T: Drop, D: Drop> Pile<T, D> {
             }),
         }
     }
+}
+
+// The higher of two heights, or the first where there is no second.
+fn higher(height: Height, other: Option<Height>) -> Height
+    ensures { result ≡ greatest_of height other }
+{
+    match other {
+        Some(other) => height.max(other),
+        None => height,
+    }
+}
+
+// The ranges of the heights of more entries, by those of fewer.
+fn widened<T, D>(
+    items: &[Entry<T, D>],
+    sure: &RangeSet,
+    from: usize,
+    to: usize,
+) -> Result<RangeSet, AllocError>
+    requires ascends { from ≤ to }
+    requires within { to ≤ length items.now }
+    requires are { sure.now ≡ ranges (map (λ e. e.height) (take from items.now)) }
+    ensures { IfOk result (λ r. r ≡ ranges (map (λ e. e.height) (take to items.now))) }
+{
+    let mut spans = sure.try_clone()?;
+    for place in from..to {
+        spans.insert(items[place].height.get())?;
+    }
+    Ok(spans)
 }
 
 // Puts an entry at the end, and its height into the ranges: both or neither.

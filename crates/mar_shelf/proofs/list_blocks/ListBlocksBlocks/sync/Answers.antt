@@ -1,5 +1,5 @@
 use Rattle.mar_shelf.specs.Named.{seen}
-use Rattle.mar_shelf.proofs.Stores.{fails_still, syncs_entries}
+use Rattle.mar_shelf.proofs.Stores.{covers_still, fails_still, syncs_entries}
 use Rattle.mar_shelf.proofs.list_blocks.ListBlocksBlocks.sync.Goals as goal
 
 pub returns-in-Ok-clause-done : goal.returns-in-Ok-clause-done
@@ -7,3 +7,6 @@ returns-in-Ok-clause-done g c = syncs_entries (seen g.V.Variant.plain) _ _ _ _ c
 
 pub returns-in-Err-clause-done : goal.returns-in-Err-clause-done
 returns-in-Err-clause-done g c = fails_still (seen g.V.Variant.plain) _ _ _ _ _ c.in-Err.ensures.items c.in-Err.ensures.err
+
+pub returns-in-Ok-clause-covers : goal.returns-in-Ok-clause-covers
+returns-in-Ok-clause-covers g c = covers_still (seen g.V.Variant.plain) _ _ _ c.in-Ok.ensures.items

@@ -1,6 +1,6 @@
 use Rattle.std.proofs.Common.{◌∙◌, ap, refl}
 use Rattle.mar_shelf.specs.Named.{seen}
-use Rattle.mar_shelf.proofs.Stores.{certified_there, puts_ignored, puts_entry, fails_put, fails_still, entry_is}
+use Rattle.mar_shelf.proofs.Stores.{certified_there, covers_pushed, puts_ignored, puts_entry, fails_put, fails_still, entry_is}
 use Rattle.mar_shelf.proofs.list_certificates.ListCertificatesCertificates.put.Goals as goal
 
 pub returns-then-holds-clause-done : goal.returns-then-holds-clause-done
@@ -19,3 +19,6 @@ returns-in-Err-push-clause-done g c =
 pub returns-in-Err-clause-done : goal.returns-in-Err-clause-done
 returns-in-Err-clause-done g c =
     fails_still (seen g.F.AsFinalization.plain) _ _ _ _ _ (ap (λ p. p.items.items) c.into_pile.ensures) (ap (λ p. p.synced) c.into_pile.ensures)
+
+pub returns-in-Ok-push-clause-covers : goal.returns-in-Ok-push-clause-covers
+returns-in-Ok-push-clause-covers g c = covers_pushed (seen g.F.AsFinalization.plain) _ _ _ c.in-Ok-push.ensures.ok

@@ -1,0 +1,151 @@
+//! Stores of blocks over archives.
+ghost use Rattle.std.specs.Prelude.{◌≡◌, option_map};
+ghost use Rattle.std.specs.Result.{result_map_both};
+ghost use Rattle.mar_shelf.specs.Fitting.{own_blocks};
+
+use crate::archive::{Archived, Pruning, Wreck, wrapped, wrapped_with_ticket};
+use crate::item::{ArchivedBlocks, BlockItem};
+use crate::{Blocks, BlocksRuin};
+use mar_block::Variant;
+use mar_store::{Archive, ArchiveRuin, Identifier, Lost, Miss, RangeSet, SyncTicket};
+use mar_types::Height;
+use std::alloc::AllocError;
+
+impl<V: Variant, W: ArchiveRuin<BlockItem<V>>> BlocksRuin for Wreck<BlockItem<V>, W> {
+    ghost left = { λ w. W.left w };
+
+    ghost faults = { λ w. W.faults w };
+
+    ghost due = { λ w. W.due w };
+
+    ghost armable = { W.armable };
+
+    ghost within = { λ w. W.within w };
+
+    fn sure_ranges(&self) -> &RangeSet {
+        self.ruin.sure_ranges()
+    }
+
+    fn may_ranges(&self) -> &RangeSet {
+        self.ruin.may_ranges()
+    }
+
+    fn arm(&mut self, calls: u64) -> Result<(), AllocError> {
+        self.ruin.arm(calls)
+    }
+}
+
+impl<V: ArchivedBlocks, A: Archive<BlockItem<V>>, P: Pruning> Blocks<V> for Archived<A, P> {
+    type Wreck = Wreck<BlockItem<V>, A::Wreck>;
+
+    ghost stored = { λ s. A.stored s };
+
+    ghost faults = { λ s. A.faults s };
+
+    ghost due = { λ s. A.due s };
+
+    ghost armable = { A.armable };
+
+    ghost only_armed = { A.only_armed };
+
+    ghost number = { λ s. A.number s };
+
+    ghost covers = { λ s. A.covers s };
+
+    ghost prunes = { P.PRUNES };
+
+    ghost nested = { λ s. A.nested s };
+
+    ghost last = { λ s. A.last s };
+
+    ghost own = { λ s. own_blocks V.inner (A.stored s).held (A.fitting s) };
+
+    fn get(&mut self, height: Height) -> Result<Option<V::Block>, Miss> {
+        block_found(self.archive.get(Identifier::Index(height.get())))
+    }
+
+    fn find(&mut self, digest: &V::Digest) -> Result<Option<V::Block>, Miss> {
+        block_found(self.archive.get(Identifier::Key(*digest)))
+    }
+
+    fn put(
+        self,
+        _digest: &V::Digest,
+        block: &V::Block,
+    ) -> Result<Self, Lost<Wreck<BlockItem<V>, A::Wreck>>> {
+        let Archived { archive, of: _ } = self;
+        if !V::fits(block) {
+            return Err(Lost::Memory(Wreck::new(archive.wreck())));
+        }
+        match BlockItem::of(block) {
+            Ok(item) => wrapped(archive.put(V::height(block).get(), item)),
+            Err(_) => Err(Lost::Memory(Wreck::new(archive.wreck()))),
+        }
+    }
+
+    fn sync(self) -> Result<Self, Lost<Wreck<BlockItem<V>, A::Wreck>>> {
+        let Archived { archive, of: _ } = self;
+        wrapped(archive.sync())
+    }
+
+    fn start_sync(self) -> Result<(Self, SyncTicket), Lost<Wreck<BlockItem<V>, A::Wreck>>> {
+        let Archived { archive, of: _ } = self;
+        wrapped_with_ticket(archive.start_sync())
+    }
+
+    fn finish(self, ticket: SyncTicket) -> Result<Self, Lost<Wreck<BlockItem<V>, A::Wreck>>> {
+        let Archived { archive, of: _ } = self;
+        wrapped(archive.finish(ticket))
+    }
+
+    fn prune(self, min: Height) -> Result<Self, Lost<Wreck<BlockItem<V>, A::Wreck>>> {
+        if !P::PRUNES {
+            return Ok(self);
+        }
+        let Archived { archive, of: _ } = self;
+        wrapped(archive.prune(min.get()))
+    }
+
+    fn wreck(self) -> Wreck<BlockItem<V>, A::Wreck> {
+        let Archived { archive, of: _ } = self;
+        Wreck::new(archive.wreck())
+    }
+
+    fn reopen(
+        wreck: Wreck<BlockItem<V>, A::Wreck>,
+        luck: u64,
+    ) -> Result<Self, Lost<Wreck<BlockItem<V>, A::Wreck>>> {
+        let Wreck { ruin, of: _ } = wreck;
+        wrapped(A::reopen(ruin, luck))
+    }
+
+    fn arm(&mut self, calls: u64) -> Result<(), AllocError> {
+        self.archive.arm(calls)
+    }
+
+    fn last_index(&self) -> Option<Height> {
+        let last = self.archive.last_index()?;
+        Some(Height::new(last))
+    }
+
+    fn held_ranges(&self) -> &RangeSet {
+        self.archive.held_ranges()
+    }
+
+    fn sure_ranges(&self) -> &RangeSet {
+        self.archive.sure_ranges()
+    }
+}
+
+// The block of an item that was found.
+fn block_found<V: Variant>(
+    found: Result<Option<BlockItem<V>>, Miss>,
+) -> Result<Option<V::Block>, Miss>
+    ensures { result_map_both (option_map V.plain) (λ m. m) result ≡ found }
+{
+    match found {
+        Ok(Some(item)) => Ok(Some(item.into_block())),
+        Ok(None) => Ok(None),
+        Err(miss) => Err(miss),
+    }
+}

@@ -1,0 +1,164 @@
+//! Stores of finalizations over archives.
+ghost use Rattle.std.specs.Prelude.{◌≡◌, option_map};
+ghost use Rattle.std.specs.Result.{result_map_both};
+
+use crate::archive::{Archived, Pruning, Wreck, wrapped, wrapped_with_ticket};
+use crate::item::{ArchivedFinalization, CertificateItem};
+use crate::{Certificates, CertificatesRuin};
+use mar_block::Variant;
+use mar_cert::CommitsTo;
+use mar_store::{Archive, ArchiveRuin, Identifier, Lost, Miss, RangeSet, SyncTicket};
+use mar_types::Height;
+use std::alloc::AllocError;
+
+impl<
+    V: Variant,
+    F: CommitsTo<V::Commitment>,
+    W: ArchiveRuin<CertificateItem<V, F>>,
+> CertificatesRuin for Wreck<CertificateItem<V, F>, W> {
+    ghost left = { λ w. W.left w };
+
+    ghost faults = { λ w. W.faults w };
+
+    ghost due = { λ w. W.due w };
+
+    ghost armable = { W.armable };
+
+    ghost within = { λ w. W.within w };
+
+    fn sure_ranges(&self) -> &RangeSet {
+        self.ruin.sure_ranges()
+    }
+
+    fn may_ranges(&self) -> &RangeSet {
+        self.ruin.may_ranges()
+    }
+
+    fn arm(&mut self, calls: u64) -> Result<(), AllocError> {
+        self.ruin.arm(calls)
+    }
+}
+
+impl<
+    V: Variant,
+    F: ArchivedFinalization<V::Commitment>,
+    A: Archive<CertificateItem<V, F>>,
+    P: Pruning,
+> Certificates<V, F> for Archived<A, P> {
+    type Wreck = Wreck<CertificateItem<V, F>, A::Wreck>;
+
+    ghost stored = { λ s. A.stored s };
+
+    ghost faults = { λ s. A.faults s };
+
+    ghost due = { λ s. A.due s };
+
+    ghost armable = { A.armable };
+
+    ghost only_armed = { A.only_armed };
+
+    ghost number = { λ s. A.number s };
+
+    ghost covers = { λ s. A.covers s };
+
+    ghost prunes = { P.PRUNES };
+
+    ghost nested = { λ s. A.nested s };
+
+    ghost last = { λ s. A.last s };
+
+    fn get(&mut self, height: Height) -> Result<Option<F>, Miss> {
+        finalization_found::<V, F>(self.archive.get(Identifier::Index(height.get())))
+    }
+
+    fn has(&mut self, height: Height) -> Result<bool, Miss> {
+        self.archive.has(Identifier::Index(height.get()))
+    }
+
+    fn put(
+        self,
+        height: Height,
+        _digest: &V::Digest,
+        finalization: &F,
+    ) -> Result<Self, Lost<Wreck<CertificateItem<V, F>, A::Wreck>>> {
+        let Archived { archive, of: _ } = self;
+        if !finalization.fits() {
+            return Err(Lost::Memory(Wreck::new(archive.wreck())));
+        }
+        match CertificateItem::of(finalization) {
+            Ok(item) => wrapped(archive.put(height.get(), item)),
+            Err(_) => Err(Lost::Memory(Wreck::new(archive.wreck()))),
+        }
+    }
+
+    fn sync(self) -> Result<Self, Lost<Wreck<CertificateItem<V, F>, A::Wreck>>> {
+        let Archived { archive, of: _ } = self;
+        wrapped(archive.sync())
+    }
+
+    fn start_sync(
+        self,
+    ) -> Result<(Self, SyncTicket), Lost<Wreck<CertificateItem<V, F>, A::Wreck>>> {
+        let Archived { archive, of: _ } = self;
+        wrapped_with_ticket(archive.start_sync())
+    }
+
+    fn finish(
+        self,
+        ticket: SyncTicket,
+    ) -> Result<Self, Lost<Wreck<CertificateItem<V, F>, A::Wreck>>> {
+        let Archived { archive, of: _ } = self;
+        wrapped(archive.finish(ticket))
+    }
+
+    fn prune(self, min: Height) -> Result<Self, Lost<Wreck<CertificateItem<V, F>, A::Wreck>>> {
+        if !P::PRUNES {
+            return Ok(self);
+        }
+        let Archived { archive, of: _ } = self;
+        wrapped(archive.prune(min.get()))
+    }
+
+    fn wreck(self) -> Wreck<CertificateItem<V, F>, A::Wreck> {
+        let Archived { archive, of: _ } = self;
+        Wreck::new(archive.wreck())
+    }
+
+    fn reopen(
+        wreck: Wreck<CertificateItem<V, F>, A::Wreck>,
+        luck: u64,
+    ) -> Result<Self, Lost<Wreck<CertificateItem<V, F>, A::Wreck>>> {
+        let Wreck { ruin, of: _ } = wreck;
+        wrapped(A::reopen(ruin, luck))
+    }
+
+    fn arm(&mut self, calls: u64) -> Result<(), AllocError> {
+        self.archive.arm(calls)
+    }
+
+    fn last_index(&self) -> Option<Height> {
+        let last = self.archive.last_index()?;
+        Some(Height::new(last))
+    }
+
+    fn held_ranges(&self) -> &RangeSet {
+        self.archive.held_ranges()
+    }
+
+    fn sure_ranges(&self) -> &RangeSet {
+        self.archive.sure_ranges()
+    }
+}
+
+// The finalization of an item that was found.
+fn finalization_found<V: Variant, F: CommitsTo<V::Commitment>>(
+    found: Result<Option<CertificateItem<V, F>>, Miss>,
+) -> Result<Option<F>, Miss>
+    ensures { result_map_both (option_map F.plain) (λ m. m) result ≡ found }
+{
+    match found {
+        Ok(Some(item)) => Ok(Some(item.into_finalization())),
+        Ok(None) => Ok(None),
+        Err(miss) => Err(miss),
+    }
+}

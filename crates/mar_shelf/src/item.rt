@@ -1,0 +1,140 @@
+//! What an archive keeps of a block and of a finalization.
+ghost use Rattle.std.specs.Prelude.{◌≡◌, ◌≤◌, ◌↔◌, ℕ, IfOk, IsTrue, length, true};
+ghost use Rattle.mar_cert.specs.Finalization.{finalization_bytes};
+ghost use Rattle.mar_shelf.specs.Fitting.{fits_at};
+
+use mar_block::{EmptyBlock, Standard, Variant};
+use mar_cert::{CommitsTo, MockFinalization};
+use mar_codec::{Digest, EncodeSize, Sha256, Sha256Digest};
+use mar_store::Item;
+use std::alloc::AllocError;
+use std::marker::{Model, PhantomData};
+
+/// A kind of blocks that tells which of them fit an archive.
+pub trait ArchivedBlocks: Variant {
+    /// Whether the block takes at most 1,048,576 bytes, the most of an archived value.
+    fn fits(block: &Self::Block) -> bool
+        ensures { IsTrue result ↔ (length (Self.plain block.now).encoded ≤ 1048576) };
+}
+
+/// A finalization that tells whether it fits an archive. Its payload is a commitment of the kind `C`.
+pub trait ArchivedFinalization<C: Digest>: CommitsTo<C> {
+    /// Whether it takes at most 1,048,576 bytes, the most of an archived value.
+    fn fits(&self) -> bool
+        ensures { IsTrue result ↔ (length (finalization_bytes (Self.plain self.now)) ≤ 1048576) };
+}
+
+/// A block as an archive keeps it: at its own height and under its own digest.
+#[derive(Drop)]
+pub struct BlockItem<V: Variant> {
+    block: V::Block,
+}
+
+impl<V: Variant> Model for BlockItem<V> {
+    ghost use Rattle.mar_block.specs.Block.{Block as PlainBlock};
+
+    ghost Value = { PlainBlock };
+
+    ghost view = { λ i. V.plain i.block };
+}
+
+impl<V: Variant> BlockItem<V> {
+    /// A copy of a block.
+    pub fn of(block: &V::Block) -> Result<Self, AllocError>
+        ensures { IfOk result (λ i. i ≡ V.plain block.now) }
+    {
+        let block = V::try_clone(block)?;
+        Ok(BlockItem { block })
+    }
+
+    /// The block.
+    pub fn into_block(self) -> V::Block
+        ensures { V.plain result ≡ self }
+    {
+        self.block
+    }
+}
+
+impl<V: Variant> Item for BlockItem<V> {
+    type Key = V::Digest;
+
+    ghost name = { λ b. b.digest };
+
+    ghost size = { λ b. length b.encoded };
+
+    ghost fits = { fits_at V.inner };
+
+    fn key(&self) -> V::Digest {
+        V::digest(&self.block)
+    }
+
+    fn try_clone(&self) -> Result<Self, AllocError> {
+        BlockItem::of(&self.block)
+    }
+}
+
+/// A finalization as an archive keeps it: under the digest of its payload.
+#[derive(Drop)]
+pub struct CertificateItem<V: Variant, F: CommitsTo<V::Commitment>> {
+    finalization: F,
+    of: PhantomData<V>,
+}
+
+impl<V: Variant, F: CommitsTo<V::Commitment>> Model for CertificateItem<V, F> {
+    ghost use Rattle.mar_cert.specs.Finalization.{Finalization as PlainFinalization};
+
+    ghost Value = { PlainFinalization };
+
+    ghost view = { λ i. F.plain i.finalization };
+}
+
+impl<V: Variant, F: CommitsTo<V::Commitment>> CertificateItem<V, F> {
+    /// A copy of a finalization.
+    pub fn of(finalization: &F) -> Result<Self, AllocError>
+        ensures { IfOk result (λ i. i ≡ F.plain finalization.now) }
+    {
+        let finalization = finalization.try_clone()?;
+        Ok(CertificateItem {
+            finalization,
+            of: PhantomData,
+        })
+    }
+
+    /// The finalization.
+    pub fn into_finalization(self) -> F
+        ensures { F.plain result ≡ self }
+    {
+        self.finalization
+    }
+}
+
+impl<V: Variant, F: CommitsTo<V::Commitment>> Item for CertificateItem<V, F> {
+    type Key = V::Digest;
+
+    ghost name = { λ f. V.inner f.payload };
+
+    ghost size = { λ f. length (finalization_bytes f) };
+
+    ghost fits = { λ index f. true };
+
+    fn key(&self) -> V::Digest {
+        V::commitment_to_inner(self.finalization.payload())
+    }
+
+    fn try_clone(&self) -> Result<Self, AllocError> {
+        CertificateItem::of(&self.finalization)
+    }
+}
+
+impl ArchivedBlocks for Standard<EmptyBlock<Sha256>> {
+    fn fits(block: &Self::Block) -> bool {
+        block.inner().encode_size() <= 1_048_576
+    }
+}
+
+impl ArchivedFinalization<Sha256Digest> for MockFinalization {
+    fn fits(&self) -> bool {
+        let certificate = self.certificate.encode_size();
+        certificate <= 1_048_576 && self.encode_size() <= 1_048_576
+    }
+}

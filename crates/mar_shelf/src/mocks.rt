@@ -1,0 +1,2 @@
+//! Stores for tests.
+pub mod store;
