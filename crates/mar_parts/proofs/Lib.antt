@@ -1,3 +1,9 @@
 pub mod Batches
+pub mod ByHeight
+pub mod ByName
 pub mod Entries
+pub mod Known
 pub mod Pairs
+pub mod Permitted
+pub mod Retained
+pub mod Waiting

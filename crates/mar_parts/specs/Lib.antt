@@ -1,4 +1,10 @@
 pub mod Acks
+pub mod Certified
+pub mod Floors
 pub mod Gate
 pub mod Metadata
+pub mod Staged
 pub mod Views
+pub mod WaitKeys
+pub mod WaitViews
+pub mod Waits

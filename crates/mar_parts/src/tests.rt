@@ -1,10 +1,14 @@
 //! Each call at a concrete type, and the texts that no clause gives.
 use super::*;
+use mar_codec::{Hasher, Sha256, Sha256Digest};
 use mar_key::Cutoff;
-use mar_store::MemMeta;
+use mar_store::{MemMeta, Meta};
 use mar_types::{Epoch, FixedEpocher, Height, Round, View};
 use std::num::NonZeroU64;
 use std::test::Fail;
+
+mod floors;
+mod waiting;
 
 const fn ack(ticket: u64, height: u64, mark: Mark) -> PendingAck {
     PendingAck {
@@ -46,15 +50,41 @@ fn acknowledgements_in_their_order(rt: HostRuntime) -> Result<(), Fail> {
 }
 
 #[test]
+fn acknowledgements_forgotten_together(rt: HostRuntime) -> Result<(), Fail> {
+    let mut acks = PendingAcks::new(rt.alloc(), 2)?;
+    assert_eq!(rt; acks.capacity(), 2);
+    assert_eq!(rt; acks.next_dispatch_height(Height::new(8)), Height::new(8));
+    acks.enqueue(0, Height::new(8));
+    assert!(rt; acks.has_capacity());
+    assert_eq!(rt; acks.next_dispatch_height(Height::new(8)), Height::new(9));
+    acks.enqueue(1, Height::new(9));
+    assert!(rt; !acks.has_capacity());
+    assert_eq!(rt; acks.next_dispatch_height(Height::new(8)), Height::new(10));
+    assert!(rt; acks.give(1));
+    assert_eq!(rt; acks.pop_ready(), Oldest::Unresolved);
+    assert!(rt; acks.give(0));
+    assert_eq!(rt; acks.pop_ready(), Oldest::Given(ack(0, 8, Mark::Given)));
+    assert_eq!(rt; acks.pop_ready(), Oldest::Given(ack(1, 9, Mark::Given)));
+    acks.enqueue(2, Height::new(3));
+    acks.enqueue(3, Height::new(4));
+    acks.clear();
+    assert_eq!(rt; acks.pop_ready(), Oldest::Unresolved);
+    assert!(rt; acks.has_capacity());
+    assert_eq!(rt; acks.next_dispatch_height(Height::new(10)), Height::new(10));
+    Ok(())
+}
+
+#[test]
 fn epochs_close_with_their_last_height(rt: HostRuntime) -> Result<(), Fail> {
-    let epocher = FixedEpocher::new(NonZeroU64::new(10).ok_or("zero")?);
+    let epocher = FixedEpocher::new(NonZeroU64::new(11).ok_or("zero")?);
     for (height, epoch) in [
         (0, None),
-        (8, None),
-        (9, Some(Epoch::zero())),
+        (9, None),
         (10, Some(Epoch::zero())),
-        (18, Some(Epoch::zero())),
-        (19, Some(Epoch::new(1))),
+        (11, Some(Epoch::zero())),
+        (20, Some(Epoch::zero())),
+        (21, Some(Epoch::new(1))),
+        (u64::MAX, None),
     ] {
         assert_eq!(rt;
             closed_epoch(&epocher, Height::new(height)),
@@ -70,15 +100,109 @@ fn gate_holds_what_no_sync_covers(rt: HostRuntime) -> Result<(), Fail> {
     let mut gate = DispatchGate::new(rt.alloc());
     assert_eq!(rt; gate.barrier(), None);
     assert_eq!(rt; gate.adopt()?, None);
-    gate.defer(Height::new(7));
-    gate.defer(Height::new(9));
+    gate.defer(Height::new(5));
     assert_eq!(rt; gate.adopt()?, Some(0));
-    gate.defer(Height::new(8));
-    assert_eq!(rt; gate.barrier(), Some(Height::new(7)));
-    gate.release(0);
-    assert_eq!(rt; gate.barrier(), Some(Height::new(8)));
+    gate.defer(Height::new(3));
     gate.clear();
     assert_eq!(rt; gate.barrier(), None);
+    gate.defer(Height::new(9));
+    assert_eq!(rt; gate.adopt()?, Some(1));
+    gate.release(0);
+    assert_eq!(rt; gate.barrier(), Some(Height::new(9)));
+    let mut gate = DispatchGate::new(rt.alloc());
+    for height in [5, 3, 7] {
+        gate.defer(Height::new(height));
+    }
+    assert_eq!(rt; gate.barrier(), Some(Height::new(3)));
+    for (released, barrier) in [(1, None), (0, Some(Height::new(8)))] {
+        let mut gate = DispatchGate::new(rt.alloc());
+        gate.defer(Height::new(5));
+        assert_eq!(rt; gate.adopt()?, Some(0));
+        gate.defer(Height::new(8));
+        assert_eq!(rt; gate.adopt()?, Some(1));
+        gate.release(released);
+        assert_eq!(rt; gate.barrier(), barrier);
+    }
+    Ok(())
+}
+
+#[test]
+fn staged_blocks_are_the_first_of_their_height(rt: HostRuntime) -> Result<(), Fail> {
+    let mut staged = Staged::new(rt.alloc(), 2);
+    for (height, block) in [(5, 50), (5, 51), (6, 60), (7, 70)] {
+        staged.insert(Height::new(height), block)?;
+    }
+    for (height, block) in [(7, None), (5, Some(50)), (6, Some(60)), (6, None)] {
+        assert_eq!(rt; staged.remove(Height::new(height)), block, "at {height}");
+    }
+    let mut staged = Staged::new(rt.alloc(), 2);
+    for min in [6, 4] {
+        staged.insert(Height::new(5), 5)?;
+        staged.insert(Height::new(6), 6)?;
+        staged.retain(Height::new(min));
+        assert_eq!(rt; staged.remove(Height::new(5)), None);
+        assert_eq!(rt; staged.remove(Height::new(6)), Some(6));
+    }
+    staged.insert(Height::new(9), 9)?;
+    staged.retain(Height::new(8));
+    staged.insert(Height::new(7), 7)?;
+    staged.insert(Height::new(8), 8)?;
+    for (height, block) in [(7, None), (8, Some(8)), (9, Some(9))] {
+        assert_eq!(rt; staged.remove(Height::new(height)), block, "at {height}");
+    }
+    Ok(())
+}
+
+#[test]
+fn commitments_are_known_at_their_heights(rt: HostRuntime) -> Result<(), Fail> {
+    let [a, b, c] = [1, 2, 3].map(Sha256::fill);
+    let mut certified: Certified<Sha256Digest> = Certified::new(rt.alloc());
+    let known = |certified: &Certified<Sha256Digest>, height, commitment: &Sha256Digest| {
+        certified.contains(Height::new(height), commitment)
+    };
+    for (height, commitment) in [(5, a), (6, c), (7, b)] {
+        certified.insert(Height::new(height), commitment)?;
+        assert!(rt; known(&certified, height, &commitment));
+    }
+    assert!(rt; !known(&certified, 6, &a) && !known(&certified, 5, &b));
+    certified.insert(Height::new(5), b)?;
+    certified.retain(Height::new(6));
+    assert!(rt; !known(&certified, 5, &a) && known(&certified, 6, &c));
+    certified.retain(Height::new(4));
+    certified.insert(Height::new(5), a)?;
+    certified.insert(Height::new(6), a)?;
+    assert!(rt; !known(&certified, 5, &a) && known(&certified, 6, &a));
+    certified.insert(Height::zero(), a)?;
+    assert!(rt; !known(&certified, 0, &a));
+    let mut fresh: Certified<Sha256Digest> = Certified::new(rt.alloc());
+    fresh.insert(Height::zero(), a)?;
+    assert!(rt; !known(&fresh, 0, &a));
+    Ok(())
+}
+
+// Makes all durable, crashes, and opens again.
+fn reopened<M: Meta>(stream: Stream<M>) -> Option<Stream<M>> {
+    let stream = stream.sync().ok()?;
+    let meta = M::reopen(stream.wreck(), 0).ok()?;
+    Some(Stream::new(meta))
+}
+
+#[test]
+fn streams_read_again(rt: HostRuntime) -> Result<(), Fail> {
+    let stream = Stream::new(MemMeta::new(rt.alloc()));
+    let stream = stream.acknowledge(Height::new(7)).ok().ok_or("ack")?;
+    let stream = reopened(stream).ok_or("reopened")?;
+    assert_eq!(rt; stream.cutoff(), Cutoff::zero());
+    assert_eq!(rt; stream.processed_height(), Some(Height::new(7)));
+    let round = |epoch, view| Cutoff::Round(Round::new(Epoch::new(epoch), View::new(view)));
+    let mut stream = stream.acknowledge(Height::new(8)).ok().ok_or("ack")?;
+    for cutoff in [round(2, 40), Cutoff::Epoch(Epoch::new(2)), round(3, 5)] {
+        stream = stream.set_cutoff(cutoff).ok().ok_or("set_cutoff")?;
+        stream = reopened(stream).ok_or("reopened")?;
+        assert!(rt; stream.is_synced());
+        assert_eq!(rt; stream.processed_height(), Some(Height::new(8)));
+        assert_eq!(rt; stream.cutoff(), cutoff);
+    }
     Ok(())
 }
 
