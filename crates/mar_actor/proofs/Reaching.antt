@@ -176,15 +176,15 @@ all_nothing : {T : Type 0} (xs : List T) → AllByRecursion (λ x. ⊤) xs
 all_nothing [] = tt
 all_nothing (x ∷ xs) = (tt, all_nothing xs)
 
--- other requests are open beside it
-pub Rest-asked : {P E : Type 0} (window : ℕ) (m : Seen P E) (buffer : List Block) (asked asked' : List Asked) → Rest window (node_of m buffer asked) → Rest window (node_of m buffer asked')
-Rest-asked window m buffer asked asked' (floor_awaited some) = absurd cc
-Rest-asked window m buffer asked asked' (window_full full) = window_full full
-Rest-asked window m buffer asked asked' (block_missing missing) = block_missing missing
-Rest-asked window m buffer asked asked' (write_uncovered h none low) = absurd (let lt : none.0 < 0 = none.1 in omega arith)
+-- another buffer and other requests stand beside it
+pub Rest-beside : {P E : Type 0} (window : ℕ) (m : Seen P E) (buffer buffer' : List Block) (asked asked' : List Asked) → Rest window (node_of m buffer asked) → Rest window (node_of m buffer' asked')
+Rest-beside window m buffer buffer' asked asked' (floor_awaited some) = absurd cc
+Rest-beside window m buffer buffer' asked asked' (window_full full) = window_full full
+Rest-beside window m buffer buffer' asked asked' (block_missing missing) = block_missing missing
+Rest-beside window m buffer buffer' asked asked' (write_uncovered h none low) = absurd (let lt : none.0 < 0 = none.1 in omega arith)
 
-pub IsGood-asked : {P E : Type 0} (config : Config) (chain : Chain) (m : Seen P E) (buffer : List Block) (asked asked' : List Asked) → AllByRecursion (λ x. HonestAsk chain x.key x.annotations) asked' → IsGood config chain (node_of m buffer asked) → IsGood config chain (node_of m buffer asked')
-IsGood-asked config chain m buffer asked asked' honest good = record {
+pub IsGood-beside : {P E : Type 0} (config : Config) (chain : Chain) (m : Seen P E) (buffer buffer' : List Block) (asked asked' : List Asked) → AllByRecursion (λ x. HonestAsk chain x.key x.annotations) asked' → IsGood config chain (node_of m buffer asked) → IsGood config chain (node_of m buffer' asked')
+IsGood-beside config chain m buffer buffer' asked asked' honest good = record {
   heights = record {
     sure_blocks = good.heights.sure_blocks;
     sure_certs = good.heights.sure_certs;
@@ -203,12 +203,12 @@ IsGood-asked config chain m buffer asked asked' honest good = record {
     may_certs = good.of_chain.may_certs;
     cached = good.of_chain.cached;
     cached_blocks = good.of_chain.cached_blocks;
-    awaits = good.of_chain.awaits;
+    awaits = tt;
     floor_safe = good.of_chain.floor_safe;
     honest_asks = honest;
     honest_ready = good.of_chain.honest_ready;
     honest_overflow = good.of_chain.honest_overflow;
-    not_at_hand = good.of_chain.not_at_hand;
+    not_at_hand = tt;
     tip_reported = good.of_chain.tip_reported;
   };
 }
@@ -301,7 +301,7 @@ module _ {P E : Type 0} (config : Config) (chain : Chain) (a m : Seen P E) (e : 
     }
 
     good_after : IsGood config chain n'
-    good_after = IsGood-asked config chain (with_handed m handed) buffer asked (asked_after asked [] asks) (AreHonest-asked_after chain asked [] asks (own_asks-honest config chain n e no_floor reported tt) before.of_chain.honest_asks) (IsGood-handed config chain m buffer asked handed window reach.good next room)
+    good_after = IsGood-beside config chain (with_handed m handed) buffer buffer asked (asked_after asked [] asks) (AreHonest-asked_after chain asked [] asks (own_asks-honest config chain n e no_floor reported tt) before.of_chain.honest_asks) (IsGood-handed config chain m buffer asked handed window reach.good next room)
 
     -- an event that reached some node, and handed over from there until it rests, is a step
     pub Steps-reached : Steps config chain n (e ∷ []) (made_of reports asks) n'
@@ -309,6 +309,6 @@ module _ {P E : Type 0} (config : Config) (chain : Chain) (a m : Seen P E) (e : 
       unticketed = n';
       advances = subst (λ fx. AdvancesBy config chain n e fx (made_of reports asks) n') (sym reach.no_effect) advances_unfloored;
       ticket = sym (with_sync-covered (write_count n) n' refl);
-      rests = Rest-asked config.window (with_handed m handed) buffer asked (asked_after asked [] asks) rests;
+      rests = Rest-beside config.window (with_handed m handed) buffer buffer asked (asked_after asked [] asks) rests;
       good = good_after;
     }
