@@ -20,7 +20,8 @@ use Rattle.marshal.specs.Endings.{IsReadersEnd, IsWritersEnd}
 use Rattle.marshal.specs.Lines.{plain_line}
 use Rattle.marshal.specs.Playing.{IsSetAs, SeenNode, Turned, TurnsLine, WritesText}
 use Rattle.marshal.specs.Reading.{IsQuiet, ReplaysWhereTold, StopsWith, TakesFirst, TakesNext, ending_of}
-use Rattle.marshal.specs.Run.{HandsBack, HeadlineWhereTold, IsConfigBytes, IsFront, IsLineBytes, Premises, Replays, Status, max_lines, out_of_memory, outside_grammar, read_failed, read_to_end, write_failed}
+use Rattle.marshal.specs.Refused.{max_lines}
+use Rattle.marshal.specs.Run.{HandsBack, HeadlineWhereTold, IsConfigBytes, IsFront, IsLineBytes, Premises, Replays, Status, out_of_memory, outside_grammar, read_failed, read_to_end, write_failed}
 use Rattle.marshal.specs.Script.{IsSettings, Line, Settings, config_of, settings_bytes}
 use Rattle.marshal.specs.Streams.{Gives, Takes, TakesFront}
 use Rattle.marshal.specs.Text.{Output, output_text, running, silent_output, stopped, text}
@@ -96,7 +97,7 @@ module _ (source : Option (List ℕ)) (s : Settings) (valid : IsSettings s) (bef
       by : (code : StatusCode) → IsWritersEnd code → IfSome (ending_of code) (λ ending. HeadlineWhereTold (IsQuiet first first) source now sunk sunk' ending before before)
       by status.Memory end = unshown pending now taken out_of_memory sunk' tt gives is (out_here 2 (pending ++ []) now) front
       by status.WriteFault end = unshown pending now taken write_failed sunk' tt gives is (record { left = (shown now).0; still = (shown now).1; stops = omega arith }) front
-      by (status.Script n) end = absurd end
+      by (status.Script n why) end = absurd end
       by status.ReadFault end = absurd end
       by status.Ok end = absurd end
       by status.Usage end = absurd end
@@ -149,7 +150,7 @@ module _ (FB FC M H FBW FCW MW HW : Type 0) where
       -- there is no next line, or it can't be had
       pub stops_reading : (code : StatusCode) (still : List ℕ) (after : Option (List ℕ)) → IsReadersEnd code → TakesNext s.members number now pending (Err code) still after → ReplaysWhereTold source after sunk sunk' code before first (remains_in c)
       stops_reading status.Memory still after end t = between t.read after out_of_memory tt t.gives t.next
-      stops_reading (status.Script n) still after end t = between t.read after (outside_grammar n) tt t.gives t.next
+      stops_reading (status.Script n why) still after end t = between t.read after (outside_grammar n why) tt t.gives t.next
       stops_reading status.ReadFault still after end t = between t.read after read_failed tt t.gives t.next
       stops_reading status.WriteFault still after end t = absurd end
       stops_reading status.Ok still after end t = absurd end
@@ -206,7 +207,7 @@ module _ (FB FC M H FBW FCW MW HW : Type 0) where
           where
             apart : status.WriteFault ≡ status.Memory → ⊥
             apart same = cc
-        stops_unwritten (status.Script n) is end hands = absurd end
+        stops_unwritten (status.Script n why) is end hands = absurd end
         stops_unwritten status.ReadFault is end hands = absurd end
         stops_unwritten status.Ok is end hands = absurd end
         stops_unwritten status.Usage is end hands = absurd end
@@ -258,7 +259,7 @@ stops_first source code still after sunk left end t = by code end t.first
 
     by : (code : StatusCode) → IsReadersEnd code → IfSome (ending_of code) (StopsWith 1 IsConfigBytes t.read after) → ReplaysWhereTold source after sunk sunk code left.ended left.counts left
     by status.Memory end stops = nothing out_of_memory stops
-    by (status.Script n) end stops = nothing (outside_grammar n) stops
+    by (status.Script n why) end stops = nothing (outside_grammar n why) stops
     by status.ReadFault end stops = nothing read_failed stops
     by status.WriteFault end stops = absurd end
     by status.Ok end stops = absurd end

@@ -14,7 +14,7 @@ use Rattle.mar_actor.specs.Faults.{from_genesis}
 use Rattle.mar_cert.specs.Finalization.{finalization_bytes}
 use Rattle.marshal.specs.Run.{IsConfigBytes, IsLineBytes}
 use Rattle.marshal.specs.Script.{HasValues, IsBuilt, IsLine, IsSettings, Line, Settings, ack_line, buffer_line, hex, line_bytes, line_words, open_line, sentence, settings_bytes, settings_words, sync_line, tell_line}
-use Rattle.marshal.specs.Streams.{IsUnended}
+use Rattle.marshal.specs.Refused.{IsUnended}
 use Rattle.marshal.specs.Words.{numbers_of}
 use Rattle.marshal.proofs.FirstWords.{heads}
 use Rattle.marshal.proofs.ReadBytes.{block_is_bytes, finalization_is_bytes}

@@ -15,7 +15,7 @@ use Rattle.mar_actor.specs.Event.{Event, ack_given, message_told}
 use Rattle.mar_actor.specs.Faults.{Fault, StoreName, ack_kind, event_fault, is_by_value, store_fault, ticket_limit}
 use Rattle.mar_actor.specs.Held.{Counts, Ending, IsEndedBy, Seen, count_of, remains_of}
 use Rattle.mar_actor.specs.Lives.{Cuts, CutsEvent}
-use Rattle.mar_actor.specs.Node.{Ended, IsGood, Node, Rest, block_missing, floor_awaited, window_full, write_uncovered}
+use Rattle.mar_actor.specs.Node.{Ended, IsGood, Node}
 use Rattle.mar_actor.specs.Promise.{IsLawfulStep, ReportsFinalized, RestsBefore, made_of, node_of}
 use Rattle.mar_actor.specs.Step.{AdvancesAll, Made, Report, Steps}
 use Rattle.mar_actor.specs.Views.{fault_of, store_name_of}
@@ -30,6 +30,7 @@ use Rattle.marshal.specs.Text.{Output, Remark, State, remark_ignored, running, s
 use Rattle.marshal.specs.Turn.{fault_in, output_of}
 use Rattle.marshal.specs.declared.play.Outcome.{Outcome}
 use Rattle.marshal.specs.declared.play.Outcome.TheVariants as outcome
+use Rattle.mar_actor.proofs.Reaching.{IsGood-beside, Rest-beside}
 use Rattle.marshal.proofs.Lasting.{IsPlain, acks, lasting-step, no_event_fault, reports, starts}
 
 -- CUTS
@@ -116,44 +117,8 @@ lawful_step config chain a buffer asked line e plain lawful same = record { lawf
 
 -- a block that is put into the buffer leaves the node good
 pub between-buffer : {P E : Type 0} (config : Config) (chain : Chain) (a : Seen P E) (buffer more : List Block) (asked : List Asked) → IsBetween config chain (running (node_of a buffer asked)) → IsBetween config chain (running (node_of a more asked))
-between-buffer config chain a buffer more asked (good, rests, lasting) = (
-  record {
-    heights = record {
-      sure_blocks = good.heights.sure_blocks;
-      sure_certs = good.heights.sure_certs;
-      consecutive = good.heights.consecutive;
-      out_sure = good.heights.out_sure;
-      within_window = good.heights.within_window;
-      floor_clears = good.heights.floor_clears;
-      anchored = good.heights.anchored;
-      own_pair = good.heights.own_pair;
-      sync_open = good.heights.sync_open;
-    };
-    of_chain = record {
-      held_blocks = good.of_chain.held_blocks;
-      may_blocks = good.of_chain.may_blocks;
-      held_certs = good.of_chain.held_certs;
-      may_certs = good.of_chain.may_certs;
-      cached = good.of_chain.cached;
-      cached_blocks = good.of_chain.cached_blocks;
-      awaits = tt;
-      floor_safe = good.of_chain.floor_safe;
-      honest_asks = good.of_chain.honest_asks;
-      honest_ready = good.of_chain.honest_ready;
-      honest_overflow = good.of_chain.honest_overflow;
-      not_at_hand = tt;
-      tip_reported = good.of_chain.tip_reported;
-    };
-  },
-  by rests,
-  record { undropped = lasting.undropped; tickets = lasting.tickets },
-)
-  where
-    by : Rest config.window (node_of a buffer asked) → Rest config.window (node_of a more asked)
-    by (floor_awaited some) = floor_awaited some
-    by (window_full is) = window_full is
-    by (block_missing is) = block_missing is
-    by (write_uncovered h has low) = write_uncovered h has low
+between-buffer config chain a buffer more asked (good, rests, lasting) =
+    (IsGood-beside config chain a buffer more asked asked good.of_chain.honest_asks good, Rest-beside config.window a buffer more asked asked rests, record { undropped = lasting.undropped; tickets = lasting.tickets })
 
 -- THE ACKNOWLEDGEMENT LINE
 

@@ -7,7 +7,8 @@ use Rattle.std.proofs.lemmas.List.Elements.{Contains-append_cases, Contains-appe
 use Rattle.std.proofs.Math.Seq.{take-add, take-append_seam}
 use Rattle.std.proofs.Math.ListN.{length-append}
 use Rattle.marshal.specs.Run.{IsShownAs}
-use Rattle.marshal.specs.Streams.{EndsAt, Gives, IsUnended, TakesLine}
+use Rattle.marshal.specs.Refused.{IsUnended}
+use Rattle.marshal.specs.Streams.{EndsAt, Gives, TakesLine}
 use Rattle.marshal.specs.declared.reader.LineError.TheVariants.{Memory, ReadFault, TooLong, Unended}
 use Rattle.marshal.proofs.Streams.{gives_more}
 
@@ -88,14 +89,14 @@ at_end before pending held searched now more still after s empty none is gives e
   );
 }
 
-pub inside : (before : Option (List ℕ)) (pending held : List ℕ) (searched : ℕ) (now : Option (List ℕ)) (more still : List ℕ) (after : Option (List ℕ)) → SoFar before pending held searched now → IsUnended (drop searched held) → 0 < length held → length more ≡ 0 → still ≡ held ++ more → Gives now more after → IsShownAs after [] → TakesLine before pending (Err Unended) still after
-inside before pending held searched now more still after s unended some none is gives end =
+pub inside : (before : Option (List ℕ)) (pending held : List ℕ) (searched : ℕ) (now : Option (List ℕ)) (more still : List ℕ) (after : Option (List ℕ)) → SoFar before pending held searched now → IsUnended (drop searched held) → 0 < length held → length held ≤ 65_536 → length more ≡ 0 → still ≡ held ++ more → Gives now more after → IsShownAs after [] → TakesLine before pending (Err Unended) still after
+inside before pending held searched now more still after s unended some short none is gives end =
     let same : still ≡ pending ++ (s.read ++ more) = is ∙ ap (λ l. l ++ more) s.same ∙ append_assoc pending s.read more in
     let held_is : still ≡ held = is ∙ ap (λ l. held ++ l) (nothing more none) ∙ append-nil held in
     record {
       read = s.read ++ more;
       gives = gives_more before now after s.read more s.gives gives;
-      line = rw (← same) (refl, rw held_is some, rw held_is (unended_whole searched held s.unended unended), end);
+      line = rw (← same) (refl, rw held_is some, rw held_is short, rw held_is (unended_whole searched held s.unended unended), end);
     }
 
 pub failed : (before : Option (List ℕ)) (pending held : List ℕ) (searched : ℕ) (now : Option (List ℕ)) (still : List ℕ) (after : Option (List ℕ)) → SoFar before pending held searched now → IsUnended (drop searched held) → still ≡ held → Gives now [] after → TakesLine before pending (Err ReadFault) still after

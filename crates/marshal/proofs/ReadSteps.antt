@@ -1,28 +1,29 @@
 -- How a script is read, line by line.
-use Rattle.std.proofs.Common.{Err, List, None, Ok, Option, Some, [], ap, append_assoc, arith, drop, inl, inr, length, length-append, refl, subst, sym, take, ℕ, ◌++◌, ◌+◌, ◌-◌, ◌<◌, ◌^◌, ◌∙◌, ◌∷◌, ◌≡◌, ◌≤◌}
-use Rattle.std.proofs.Math.Seq.{drop-append_seam, take-add, take-append_seam}
+use Rattle.std.proofs.Common.{Err, List, None, Ok, Option, Some, [], ap, append_assoc, arith, codes, inl, inr, length, length-append, nat_lt, refl, subst, sym, ℕ, ◌++◌, ◌+◌, ◌<◌, ◌∙◌, ◌∷◌, ◌≡◌, ◌≤◌}
+use Rattle.std.proofs.lemmas.Bool.{cond_both, ltb-false, ltb-true}
 use Rattle.std.proofs.lemmas.List.{append-nil, flat_map_more}
-use Rattle.std.proofs.lemmas.List.Elements.{All-from_recursion, All-push, Contains-append_right, recursion_from_All}
+use Rattle.std.proofs.lemmas.List.Elements.{All-from_recursion, All-push, recursion_from_All}
 use Rattle.std.proofs.lemmas.Option.{IfSome_then}
 use Rattle.std.specs.List.{AllByRecursion}
-use Rattle.std.specs.Prelude.{Contains, IfSome, Vec}
+use Rattle.std.specs.Prelude.{IfSome, Vec}
 use Rattle.std.specs.declared.alloc.Global.{Global}
 use Rattle.marshal.specs.Endings.{IsWritersEnd}
 use Rattle.marshal.specs.Lines.{Spells, plain_line}
-use Rattle.marshal.specs.Reading.{ReadsTo, Reads, StopsWith, TakesFirst, TakesNext, ending_of, missing_status, refused_status}
-use Rattle.marshal.specs.Run.{IsConfigBytes, IsLineBytes, IsShownAs, Status, StopsAt, max_lines, out_of_memory, read_to_end, write_failed}
+use Rattle.marshal.specs.Reading.{ReadsTo, Reads, StopsWith, TakesFirst, TakesNext, ending_of, missing_status, refused_at, refused_status}
+use Rattle.marshal.specs.Refused.{HasFirstWord, IsRefused, IsUnended, max_line, max_lines}
+use Rattle.marshal.specs.Run.{IsConfigBytes, IsLineBytes, IsShownAs, Status, StopsAt, out_of_memory, outside_grammar, read_to_end, write_failed}
 use Rattle.marshal.specs.Script.{IsLine, IsSettings, Line, Settings, line_bytes, script_bytes, settings_bytes}
-use Rattle.marshal.specs.Streams.{Gives, IsLineOf, IsUnended, TakesLine}
+use Rattle.marshal.specs.Streams.{Gives, IsLineOf, TakesLine}
 use Rattle.marshal.specs.Words.{IsWithheld}
 use Rattle.marshal.specs.declared.line.Line.{Line as LineCode}
 use Rattle.marshal.specs.declared.reader.LineError.{LineError}
 use Rattle.marshal.specs.declared.reader.LineError.TheVariants as missing
 use Rattle.marshal.specs.declared.status.Status.{Status as StatusCode}
 use Rattle.marshal.specs.declared.status.Status.TheVariants as status
+use Rattle.marshal.specs.declared.status.Why.{Why}
+use Rattle.marshal.specs.declared.status.Why.TheVariants as why
 use Rattle.marshal.specs.declared.words.ParseError.{ParseError}
 use Rattle.marshal.specs.declared.words.ParseError.TheVariants as refused
-use Rattle.marshal.proofs.LineEnds.{EndsOnce, config_bytes_end, length_within, line_bytes_end, no_front_of_unended, same_line}
-use Rattle.marshal.proofs.Lines.{unended_nothing}
 use Rattle.marshal.proofs.Streams.{gives_more}
 
 -- what a source tells, if it tells something
@@ -32,52 +33,28 @@ shown (Some bytes) = (bytes, refl)
 
 -- WHY THERE IS NO LINE
 
-no_front_of_long : (bytes front more : List ℕ) → IsUnended (take 65_537 bytes) → EndsOnce front → bytes ≡ front ++ more → ⊥
-no_front_of_long bytes front more none ends is =
-    let within = length_within front ends in
-    let room : length front + (65_537 - length front) ≡ 65_537 = omega arith in
-    let cut : take 65_537 bytes ≡ front ++ take (65_537 - length front) more =
-    ap (λ k. take k bytes) (sym room) ∙ take-add (length front) (65_537 - length front) bytes
-    ∙ ap (λ xs. take (length front) xs ++ take (65_537 - length front) (drop (length front) xs)) is
-    ∙ ap (λ xs. xs ++ take (65_537 - length front) (drop (length front) (front ++ more))) (take-append_seam front more)
-    ∙ ap (λ xs. front ++ take (65_537 - length front) xs) (drop-append_seam front more) in
-    no_front_of_unended (take 65_537 bytes) front (take (65_537 - length front) more) none ends cut
-
-no_front_of_other : (P : List ℕ → Type 0) (bytes line still front more : List ℕ) → ((xs : List ℕ) → P xs → EndsOnce xs) → bytes ≡ line ++ 10 ∷ still → IsUnended line → (P (line ++ 10 ∷ []) → ⊥) → P front → bytes ≡ front ++ more → ⊥
-no_front_of_other P bytes line still front more all_end cut none refused is split =
-    let ends = all_end front is in
-    let behind : bytes ≡ ends.front ++ 10 ∷ more = split ∙ ap (λ xs. xs ++ more) ends.spelled ∙ append_assoc ends.front (10 ∷ []) more in
-    let same : line ≡ ends.front = (same_line line ends.front still more none ends.inner (sym cut ∙ behind)).0 in
-    refused (subst P (ends.spelled ∙ ap (λ xs. xs ++ 10 ∷ []) (sym same)) is)
-
 some_byte : (bytes line still : List ℕ) → bytes ≡ line ++ 10 ∷ still → 0 < length bytes
 some_byte bytes line still cut = omega (arith, ap length cut, length-append line (10 ∷ still))
 
-has_end : (bytes line still : List ℕ) → bytes ≡ line ++ 10 ∷ still → Contains bytes 10
-has_end bytes line still cut = subst (λ (xs : List ℕ). Contains xs 10) (sym cut) (Contains-append_right line (10 ∷ still) 10 (0, omega arith, refl))
+-- a line that is refused, unless it is one too many
+at_limit : (k : ℕ) (P : List ℕ → Type 0) (bytes : List ℕ) (now : Option (List ℕ)) (left : List ℕ) (reason : Why) → k ≤ max_lines + 1 → 0 < length bytes → IsShownAs now left → (k ≤ max_lines → IsRefused k P bytes left reason) → IfSome (ending_of (refused_at k reason)) (StopsWith k P bytes now)
+at_limit k P bytes now left reason within some still refuse =
+    cond_both (nat_lt max_lines k) why.TooMany reason (λ told. StopsWith k P bytes now (outside_grammar k told))
+    (λ past. record { left = left; still = still; stops = (refl, (omega (arith, within, ltb-true max_lines k past), some)) })
+    (λ few. record { left = left; still = still; stops = (refl, refuse (ltb-false max_lines k few)) })
 
-stops_missing : (k : ℕ) (P : List ℕ → Type 0) (bytes still : List ℕ) (now : Option (List ℕ)) (e : LineError) → ((xs : List ℕ) → P xs → EndsOnce xs) → IsLineOf bytes (Err e) still now → IfSome (ending_of (missing_status k e)) (StopsWith k P bytes now)
-stops_missing k P bytes still now missing.Unended all_end line = record {
-  left = [];
-  still = line.3;
-  stops = (refl, inr line.1, inr (inr (inr refl), λ front more is split. no_front_of_unended bytes front more line.2 (all_end front is) split));
-}
-stops_missing k P bytes still now missing.TooLong all_end line = record {
-  left = (shown now).0;
-  still = (shown now).1;
-  stops = (refl, inr (omega (arith, line.1)), inr (inr (inl line.1), λ front more is split. no_front_of_long bytes front more line.2 (all_end front is) split));
-}
-stops_missing k P bytes still now missing.ReadFault all_end line = record { left = (shown now).0; still = (shown now).1; stops = line.1 }
-stops_missing k P bytes still now missing.Memory all_end line = record { left = (shown now).0; still = (shown now).1; stops = tt }
+stops_missing : (k : ℕ) (P : List ℕ → Type 0) (bytes still : List ℕ) (now : Option (List ℕ)) (e : LineError) → k ≤ max_lines + 1 → IsLineOf bytes (Err e) still now → IfSome (ending_of (missing_status k e)) (StopsWith k P bytes now)
+stops_missing k P bytes still now missing.Unended within line = at_limit k P bytes now [] why.Unended within line.1 line.4 (λ few. (few, line.1, line.2, line.3, refl))
+stops_missing k P bytes still now missing.TooLong within line = at_limit k P bytes now (shown now).0 why.TooLong within (omega (arith, line.1)) (shown now).1 (λ few. (few, line.1, line.2))
+stops_missing k P bytes still now missing.ReadFault within line = record { left = (shown now).0; still = (shown now).1; stops = line.1 }
+stops_missing k P bytes still now missing.Memory within line = record { left = (shown now).0; still = (shown now).1; stops = tt }
 
-stops_refused : (k : ℕ) (P : List ℕ → Type 0) (bytes line still : List ℕ) (now : Option (List ℕ)) (e : ParseError) → ((xs : List ℕ) → P xs → EndsOnce xs) → bytes ≡ line ++ 10 ∷ still → IsUnended line → (P (line ++ 10 ∷ []) → IsWithheld e)
+stops_refused : (k : ℕ) (P : List ℕ → Type 0) (bytes line still : List ℕ) (now : Option (List ℕ)) (e : ParseError) → k ≤ max_lines + 1 → bytes ≡ line ++ 10 ∷ still → length line ≤ max_line → IsUnended line → (k ≡ 1 → HasFirstWord (codes "config") line) → (P (line ++ 10 ∷ []) → IsWithheld e)
     → IfSome (ending_of (refused_status k e)) (StopsWith k P bytes now)
-stops_refused k P bytes line still now refused.Grammar all_end cut none only = record {
-  left = (shown now).0;
-  still = (shown now).1;
-  stops = (refl, inr (some_byte bytes line still cut), inr (inl (has_end bytes line still cut), λ front more is split. no_front_of_other P bytes line still front more all_end cut none only is split));
-}
-stops_refused k P bytes line still now refused.Memory all_end cut none only = record { left = (shown now).0; still = (shown now).1; stops = tt }
+stops_refused k P bytes line still now refused.Grammar within cut short none first only =
+    at_limit k P bytes now (shown now).0 why.Grammar within (some_byte bytes line still cut) (shown now).1
+    (λ few. (few, record { line = line; behind = still; split = cut; unended = none; short = short; is = (first, only) }))
+stops_refused k P bytes line still now refused.Memory within cut short none first only = record { left = (shown now).0; still = (shown now).1; stops = tt }
 
 -- THE FIRST LINE
 
@@ -87,25 +64,28 @@ first_read before pending line s still after t spelled =
 
 pub first_missing : (before : Option (List ℕ)) (pending : List ℕ) (e : LineError) (code : StatusCode) (still : List ℕ) (after : Option (List ℕ)) → TakesLine before pending (Err e) still after → code ≡ missing_status 1 e → TakesFirst before pending (Err code) still after
 first_missing before pending e code still after t told =
-    record { read = t.read; gives = t.gives; first = subst (λ (c : StatusCode). IfSome (ending_of c) (StopsWith 1 IsConfigBytes (pending ++ t.read) after)) (sym told) (stops_missing 1 IsConfigBytes _ still after e config_bytes_end t.line) }
+    record { read = t.read; gives = t.gives; first = subst (λ (c : StatusCode). IfSome (ending_of c) (StopsWith 1 IsConfigBytes (pending ++ t.read) after)) (sym told) (stops_missing 1 IsConfigBytes _ still after e (omega arith) t.line) }
 
-pub first_refused : (before : Option (List ℕ)) (pending : List ℕ) (line : Vec ℕ Global) (e : ParseError) (code : StatusCode) (still : List ℕ) (after : Option (List ℕ)) → TakesLine before pending (Ok (Some line)) still after
+pub first_refused : (before : Option (List ℕ)) (pending : List ℕ) (line : Vec ℕ Global) (e : ParseError) (code : StatusCode) (still : List ℕ) (after : Option (List ℕ)) → TakesLine before pending (Ok (Some line)) still after → HasFirstWord (codes "config") line.items
     → ((s : Settings) → IsSettings s → line.items ++ 10 ∷ [] ≡ settings_bytes s → IsWithheld e) → code ≡ refused_status 1 e → TakesFirst before pending (Err code) still after
-first_refused before pending line e code still after t only told = record {
+first_refused before pending line e code still after t word only told = record {
   read = t.read;
   gives = t.gives;
   first = subst (λ (c : StatusCode). IfSome (ending_of c) (StopsWith 1 IsConfigBytes (pending ++ t.read) after)) (sym told)
-      (stops_refused 1 IsConfigBytes _ line.items still after e config_bytes_end t.line.0 t.line.2 (λ (s, is, same). only s is same));
+      (stops_refused 1 IsConfigBytes _ line.items still after e (omega arith) t.line.0 t.line.1 t.line.2 (λ first. word) (λ (s, is, same). only s is same));
 }
 
-pub nothing_first : (before : Option (List ℕ)) (pending still : List ℕ) (after : Option (List ℕ)) → TakesLine before pending (Ok None) still after → TakesFirst before pending (Err (status.Script 1)) still after
-nothing_first before pending still after t = record {
+pub nothing_first : (before : Option (List ℕ)) (pending still : List ℕ) (after : Option (List ℕ)) → TakesLine before pending (Ok None) still after → TakesFirst before pending (Err (status.Script 1 why.NoConfig)) still after
+nothing_first before pending still after t = record { read = t.read; gives = t.gives; first = record { left = []; still = t.line.2; stops = (refl, (refl, inl (t.line.0, refl))) } }
+
+pub another_word : (before : Option (List ℕ)) (pending : List ℕ) (line : Vec ℕ Global) (still : List ℕ) (after : Option (List ℕ)) → TakesLine before pending (Ok (Some line)) still after → (HasFirstWord (codes "config") line.items → ⊥) → TakesFirst before pending (Err (status.Script 1 why.NoConfig)) still after
+another_word before pending line still after t other = record {
   read = t.read;
   gives = t.gives;
   first = record {
-    left = [];
-    still = t.line.2;
-    stops = (refl, inl refl, inr (inr (inr refl), λ front more is split. no_front_of_unended _ front more (subst IsUnended (sym t.line.0) unended_nothing) (config_bytes_end front is) split));
+    left = (shown after).0;
+    still = (shown after).1;
+    stops = (refl, (refl, inr (record { line = line.items; behind = still; split = t.line.0; unended = t.line.2; short = t.line.1; is = other })));
   };
 }
 
@@ -123,26 +103,30 @@ next_read n k before pending line l still after t s few = record {
   );
 }
 
-pub next_missing : (n k : ℕ) (before : Option (List ℕ)) (pending : List ℕ) (e : LineError) (code : StatusCode) (still : List ℕ) (after : Option (List ℕ)) → n < 2 ^ 64 → TakesLine before pending (Err e) still after → code ≡ missing_status k e
+pub next_missing : (n k : ℕ) (before : Option (List ℕ)) (pending : List ℕ) (e : LineError) (code : StatusCode) (still : List ℕ) (after : Option (List ℕ)) → k ≤ max_lines + 1 → TakesLine before pending (Err e) still after → code ≡ missing_status k e
     → TakesNext n k before pending (Err code) still after
-next_missing n k before pending e code still after wide t told = record {
+next_missing n k before pending e code still after within t told = record {
   read = t.read;
   gives = t.gives;
-  next = subst (λ (c : StatusCode). IfSome (ending_of c) (StopsWith k (IsLineBytes n) (pending ++ t.read) after)) (sym told) (stops_missing k (IsLineBytes n) _ still after e (λ xs. line_bytes_end n xs wide) t.line);
+  next = subst (λ (c : StatusCode). IfSome (ending_of c) (StopsWith k (IsLineBytes n) (pending ++ t.read) after)) (sym told) (stops_missing k (IsLineBytes n) _ still after e within t.line);
 }
 
-pub next_refused : (n k : ℕ) (before : Option (List ℕ)) (pending : List ℕ) (line : Vec ℕ Global) (e : ParseError) (code : StatusCode) (still : List ℕ) (after : Option (List ℕ)) → n < 2 ^ 64 → TakesLine before pending (Ok (Some line)) still after
+pub next_refused : (n k : ℕ) (before : Option (List ℕ)) (pending : List ℕ) (line : Vec ℕ Global) (e : ParseError) (code : StatusCode) (still : List ℕ) (after : Option (List ℕ)) → 1 < k → k ≤ max_lines → TakesLine before pending (Ok (Some line)) still after
     → ((l : Line) → Spells n line.items l → IsWithheld e) → code ≡ refused_status k e → TakesNext n k before pending (Err code) still after
-next_refused n k before pending line e code still after wide t only told = record {
+next_refused n k before pending line e code still after later few t only told = record {
   read = t.read;
   gives = t.gives;
   next = subst (λ (c : StatusCode). IfSome (ending_of c) (StopsWith k (IsLineBytes n) (pending ++ t.read) after)) (sym told)
-      (stops_refused k (IsLineBytes n) _ line.items still after e (λ xs. line_bytes_end n xs wide) t.line.0 t.line.2 (λ (l, is, same). only l (record { built = is.built; values = is.values; spelled = same })));
+      (stops_refused k (IsLineBytes n) _ line.items still after e (omega (arith, few)) t.line.0 t.line.1 t.line.2 (λ first. absurd (omega (arith, first, later))) (λ (l, is, same). only l (record { built = is.built; values = is.values; spelled = same })));
 }
 
-pub one_too_many : (n k : ℕ) (before : Option (List ℕ)) (pending : List ℕ) (line : Vec ℕ Global) (still : List ℕ) (after : Option (List ℕ)) → TakesLine before pending (Ok (Some line)) still after → k ≡ max_lines + 1 → TakesNext n k before pending (Err (status.Script k)) still after
-one_too_many n k before pending line still after t many =
-    record { read = t.read; gives = t.gives; next = record { left = (shown after).0; still = (shown after).1; stops = (refl, inr (some_byte _ line.items still t.line.0), inl many) } }
+pub one_too_many : (n k : ℕ) (before : Option (List ℕ)) (pending : List ℕ) (line : Vec ℕ Global) (code : StatusCode) (still : List ℕ) (after : Option (List ℕ)) → TakesLine before pending (Ok (Some line)) still after → k ≡ max_lines + 1 → code ≡ refused_at k why.TooMany → TakesNext n k before pending (Err code) still after
+one_too_many n k before pending line code still after t many told = record {
+  read = t.read;
+  gives = t.gives;
+  next = subst (λ (c : StatusCode). IfSome (ending_of c) (StopsWith k (IsLineBytes n) (pending ++ t.read) after)) (sym told)
+      (at_limit k (IsLineBytes n) _ after (shown after).0 why.TooMany (omega (arith, many)) (some_byte _ line.items still t.line.0) (shown after).1 (λ few. absurd (omega (arith, few, many))));
+}
 
 pub nothing_next : (n k : ℕ) (before : Option (List ℕ)) (pending still : List ℕ) (after : Option (List ℕ)) → TakesLine before pending (Ok None) still after → TakesNext n k before pending (Ok None) still after
 nothing_next n k before pending still after t = record { read = t.read; gives = t.gives; next = (t.line.0, t.line.2) }
@@ -221,7 +205,7 @@ ends_unwritten source s pending now number status.Memory valid so end =
     ends source s pending now number [] now out_of_memory valid so (λ rest h. h) (record { left = (shown now).0; still = (shown now).1; stops = tt })
 ends_unwritten source s pending now number status.WriteFault valid so end =
     ends source s pending now number [] now write_failed valid so (λ rest h. h) (record { left = (shown now).0; still = (shown now).1; stops = omega (arith, so.count) })
-ends_unwritten source s pending now number (status.Script n) valid so end = absurd end
+ends_unwritten source s pending now number (status.Script n reason) valid so end = absurd end
 ends_unwritten source s pending now number status.ReadFault valid so end = absurd end
 ends_unwritten source s pending now number status.Ok valid so end = absurd end
 ends_unwritten source s pending now number status.Usage valid so end = absurd end

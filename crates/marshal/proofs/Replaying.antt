@@ -208,7 +208,7 @@ StopsBetween _ = ⊤
 
 whole_output : (status : Status) (bytes whole : List ℕ) → StopsBetween status → bytes ≡ whole → IsOutput status bytes whole
 whole_output read_to_end bytes whole between is = is
-whole_output (outside_grammar k) bytes whole between is = is
+whole_output (outside_grammar k why) bytes whole between is = is
 whole_output read_failed bytes whole between is = is
 whole_output write_failed bytes whole between is = absurd between
 whole_output out_of_memory bytes whole between is = ([], sym is ∙ sym (append-nil bytes))
@@ -236,7 +236,7 @@ StopsInText _ = ⊥
 
 pub front_output : (status : Status) (bytes whole : List ℕ) → StopsInText status → IsFront bytes whole → IsOutput status bytes whole
 front_output read_to_end bytes whole inside is = absurd inside
-front_output (outside_grammar k) bytes whole inside is = absurd inside
+front_output (outside_grammar k why) bytes whole inside is = absurd inside
 front_output read_failed bytes whole inside is = absurd inside
 front_output write_failed bytes whole inside is = is
 front_output out_of_memory bytes whole inside is = is

@@ -6,7 +6,7 @@ use Rattle.std.specs.Prelude.{⊤}
 -- what reading may end in
 abbrev pub IsReadersEnd : Status → Type 0
 IsReadersEnd status.Memory = ⊤
-IsReadersEnd (status.Script line) = ⊤
+IsReadersEnd (status.Script line why) = ⊤
 IsReadersEnd status.ReadFault = ⊤
 IsReadersEnd status.Ok = ⊥
 IsReadersEnd status.Usage = ⊥
@@ -16,7 +16,7 @@ IsReadersEnd status.WriteFault = ⊥
 abbrev pub IsWritersEnd : Status → Type 0
 IsWritersEnd status.Memory = ⊤
 IsWritersEnd status.WriteFault = ⊤
-IsWritersEnd (status.Script line) = ⊥
+IsWritersEnd (status.Script line why) = ⊥
 IsWritersEnd status.ReadFault = ⊥
 IsWritersEnd status.Ok = ⊥
 IsWritersEnd status.Usage = ⊥

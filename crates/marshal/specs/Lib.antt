@@ -1,5 +1,6 @@
 pub mod Script
 pub mod Text
+pub mod Refused
 pub mod Run
 pub mod Streams
 pub mod Words

@@ -1,11 +1,12 @@
 -- How far a script is read, and which line is the first outside the grammar.
-use Rattle.std.specs.Prelude.{Err, IfSome, List, None, Ok, Option, Result, Some, [], ℕ, ⊤, ◌++◌, ◌≡◌, ◌≤◌}
+use Rattle.std.specs.Prelude.{Err, IfSome, if◌then◌else◌, List, nat_lt, None, Ok, Option, Result, Some, [], ℕ, ⊤, ◌++◌, ◌≡◌, ◌≤◌}
 use Rattle.mar_codec.specs.Causes.{Rose}
 use Rattle.mar_actor.specs.Faults.{StoreName}
 use Rattle.mar_actor.specs.Held.{Counts, Remains, count_of}
 use Rattle.mar_actor.specs.Node.{Ended}
 use Rattle.marshal.specs.Lines.{plain_line}
-use Rattle.marshal.specs.Run.{HeadlineWhereTold, IsConfigBytes, IsLineBytes, IsShownAs, ReadsLines, Status, StopsAt, max_lines, out_of_memory, outside_grammar, read_failed, read_to_end, write_failed}
+use Rattle.marshal.specs.Refused.{max_lines}
+use Rattle.marshal.specs.Run.{HeadlineWhereTold, IsConfigBytes, IsLineBytes, IsShownAs, ReadsLines, Status, StopsAt, out_of_memory, outside_grammar, read_failed, read_to_end, write_failed}
 use Rattle.marshal.specs.Script.{IsLine, Line, Settings, line_bytes, settings_bytes}
 use Rattle.marshal.specs.Streams.{Gives}
 use Rattle.marshal.specs.declared.line.Line.{Line as LineCode}
@@ -13,13 +14,15 @@ use Rattle.marshal.specs.declared.reader.LineError.{LineError}
 use Rattle.marshal.specs.declared.reader.LineError.TheVariants as missing
 use Rattle.marshal.specs.declared.status.Status.{Status as StatusCode}
 use Rattle.marshal.specs.declared.status.Status.TheVariants as status
+use Rattle.marshal.specs.declared.status.Why.{Why}
+use Rattle.marshal.specs.declared.status.Why.TheVariants as why
 use Rattle.marshal.specs.declared.words.ParseError.{ParseError}
 use Rattle.marshal.specs.declared.words.ParseError.TheVariants as refused
 
 -- how a replay ended, of the program's statuses
 abbrev pub ending_of : StatusCode → Option Status
 ending_of status.Ok = Some read_to_end
-ending_of (status.Script n) = Some (outside_grammar n)
+ending_of (status.Script n reason) = Some (outside_grammar n reason)
 ending_of status.ReadFault = Some read_failed
 ending_of status.WriteFault = Some write_failed
 ending_of status.Memory = Some out_of_memory
@@ -32,9 +35,9 @@ pub record Reading (status : Status) (taken left : List ℕ) : Type 0 where
   pub rest : List ℕ
   pub reads : ReadsLines settings lines rest status taken left
 
--- read whole, the bytes have this line, counted from 1, as the first outside the grammar
-abbrev pub IsFirstOutside : List ℕ → ℕ → Type 0
-IsFirstOutside all n = Reading (outside_grammar n) all []
+-- read whole, the bytes have this line, counted from 1, as the first outside the grammar, for this reason
+abbrev pub IsFirstOutside : List ℕ → ℕ → Why → Type 0
+IsFirstOutside all n reason = Reading (outside_grammar n reason) all []
 
 -- of the bytes that a source had and those that it has now, where it tells them
 pub record ReadsTo (source now : Option (List ℕ)) (status : Status) : Type 0 where
@@ -47,14 +50,14 @@ pub record ReadsTo (source now : Option (List ℕ)) (status : Status) : Type 0 w
 abbrev pub Reads : Option (List ℕ) → Option (List ℕ) → StatusCode → Type 0
 Reads source now code = IfSome (ending_of code) (ReadsTo source now)
 
--- that line is named, unless want of memory or a fault came before
-abbrev pub EndsByLine : ℕ → StatusCode → Type 0
-EndsByLine n (status.Script m) = m ≡ n
-EndsByLine n status.Memory = ⊤
-EndsByLine n status.ReadFault = ⊤
-EndsByLine n status.WriteFault = ⊤
-EndsByLine n status.Ok = ⊥
-EndsByLine n status.Usage = ⊥
+-- that line is named and why, unless want of memory or a fault came before
+abbrev pub EndsByLine : ℕ → Why → StatusCode → Type 0
+EndsByLine n reason (status.Script m told) = (m ≡ n) × (told ≡ reason)
+EndsByLine n reason status.Memory = ⊤
+EndsByLine n reason status.ReadFault = ⊤
+EndsByLine n reason status.WriteFault = ⊤
+EndsByLine n reason status.Ok = ⊥
+EndsByLine n reason status.Usage = ⊥
 
 -- no count of a store rose
 abbrev pub IsQuiet : Counts → Counts → Type 0
@@ -67,16 +70,20 @@ ReplaysWhereTold source left sink sunk code before counts after = IfSome (ending
 
 -- ONE LINE
 
+-- line n, refused for this reason; past the last that a script may have, a line is one too many whatever it is
+abbrev pub refused_at : ℕ → Why → StatusCode
+refused_at n reason = status.Script n (if nat_lt max_lines n then why.TooMany else reason)
+
 -- why line n can't be had
 abbrev pub missing_status : ℕ → LineError → StatusCode
-missing_status n missing.Unended = status.Script n
-missing_status n missing.TooLong = status.Script n
+missing_status n missing.Unended = refused_at n why.Unended
+missing_status n missing.TooLong = refused_at n why.TooLong
 missing_status n missing.ReadFault = status.ReadFault
 missing_status n missing.Memory = status.Memory
 
 -- why line n is refused
 abbrev pub refused_status : ℕ → ParseError → StatusCode
-refused_status n refused.Grammar = status.Script n
+refused_status n refused.Grammar = refused_at n why.Grammar
 refused_status n refused.Memory = status.Memory
 
 -- nothing of the bytes is done, and why

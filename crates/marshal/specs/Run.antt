@@ -20,10 +20,12 @@ use Rattle.mar_actor.specs.Faults.{Begin, Fault, from_floor, from_genesis, want_
 use Rattle.mar_actor.specs.Answers.{TicketAnswer, is_wanted, no_value, produced_value, to}
 use Rattle.mar_actor.specs.Step.{Made, Steps, nothing_made}
 use Rattle.mar_actor.specs.Lives.{Cuts, CutsOpening, Finds, IsGoodEnded, Opens}
+use Rattle.marshal.specs.Refused.{IsRefused, IsUnended, max_lines}
 use Rattle.marshal.specs.Script.{IsLine, IsSettings, Line, Settings, ack_line, ask_line, bufclose_line, buffer_line, config_of, crash_line, drop_line, fail_line, line_bytes, open_line, peer_line, put_line, script_bytes, serve_line, settings_bytes, sync_line, take_line, tell_line}
 use Rattle.marshal.specs.Text.{Done, Output, Remark, State, remark_empty, remark_ignored, remark_ok, remark_output, remark_overflowed, remark_running, remark_stopped, remark_unasked, running, silent_output, stopped, text}
 use Rattle.mar_inbox.specs.Policy.{Feedback, after_enqueue, after_take, drops_closed, feedback, feedback_accepted, feedback_overflowed, feedback_refused}
 use Rattle.mar_actor.specs.Judge.{Delivery, Reads, in_turn, judged_of, serve_events}
+use Rattle.marshal.specs.declared.status.Why.{Why}
 
 -- LINES
 
@@ -273,26 +275,17 @@ pub record IsLawfulScript (config : Config) (chain : Chain) (lines : List Line) 
 -- how a replay ended
 pub data Status : Type 0 where
   read_to_end : Status
-  outside_grammar : ℕ → Status  -- this line is outside the grammar
+  outside_grammar : ℕ → Why → Status  -- this line is outside the grammar, and why
   read_failed : Status
   write_failed : Status
   out_of_memory : Status
-
-abbrev pub max_lines : ℕ
-max_lines = 1_000_000
-
--- enough was read to judge a line: its end, more than a line may have, or all that there is
-abbrev pub IsJudged : List ℕ → List ℕ → Type 0
-IsJudged rest left = Contains rest 10 ⊎ (65_536 < length rest) ⊎ (left ≡ [])
 
 -- How far the source was read: `rest` is what was taken behind the lines that were done, `left` what was
 -- not taken. `k` is the number of the line that would follow, `IsSpelled` what it may be.
 abbrev pub StopsAt : ℕ → (List ℕ → Type 0) → List ℕ → List ℕ → Status → Type 0
 StopsAt k IsSpelled rest left read_to_end = (1 < k) × (rest ≡ []) × (left ≡ [])
-StopsAt k IsSpelled rest left (outside_grammar j) =
-    (j ≡ k) × ((k ≡ 1) ⊎ (0 < length rest))
-    × ((k ≡ max_lines + 1) ⊎ (IsJudged rest left × ((bytes more : List ℕ) → IsSpelled bytes → rest ≡ bytes ++ more → ⊥)))
-StopsAt k IsSpelled rest left read_failed = Contains rest 10 → ⊥
+StopsAt k IsSpelled rest left (outside_grammar j why) = (j ≡ k) × IsRefused k IsSpelled rest left why
+StopsAt k IsSpelled rest left read_failed = IsUnended rest
 StopsAt k IsSpelled rest left write_failed = 1 < k
 StopsAt k IsSpelled rest left out_of_memory = ⊤
 
@@ -307,7 +300,7 @@ IsLineBytes members bytes = (line : Line) × IsLine members line × (bytes ≡ l
 -- all of the text, or a front of it where writing or memory failed
 abbrev pub IsOutput : Status → List ℕ → List ℕ → Type 0
 IsOutput read_to_end bytes text = bytes ≡ text
-IsOutput (outside_grammar k) bytes text = bytes ≡ text
+IsOutput (outside_grammar k why) bytes text = bytes ≡ text
 IsOutput read_failed bytes text = bytes ≡ text
 IsOutput write_failed bytes text = IsFront bytes text
 IsOutput out_of_memory bytes text = IsFront bytes text

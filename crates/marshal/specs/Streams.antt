@@ -1,6 +1,7 @@
 -- What a read takes of a source and a write gives to a sink, where they tell it, and how a script's lines are taken.
-use Rattle.std.specs.Prelude.{Contains, Err, List, None, Ok, Option, Result, Some, Vec, [], drop, length, take, ℕ, ◌++◌, ◌+◌, ◌<◌, ◌∷◌, ◌≡◌, ◌≤◌}
+use Rattle.std.specs.Prelude.{Err, List, None, Ok, Option, Result, Some, Vec, [], drop, length, take, ℕ, ◌++◌, ◌+◌, ◌<◌, ◌∷◌, ◌≡◌, ◌≤◌}
 use Rattle.std.specs.declared.alloc.Global.{Global}
+use Rattle.marshal.specs.Refused.{IsUnended, max_line}
 use Rattle.marshal.specs.Run.{IsFront, IsShownAs}
 use Rattle.marshal.specs.declared.reader.LineError.{LineError}
 use Rattle.marshal.specs.declared.reader.LineError.TheVariants.{Memory, ReadFault, TooLong, Unended}
@@ -17,10 +18,6 @@ Takes before bytes after = (front : List ℕ) → IsShownAs before front → IsS
 abbrev pub TakesFront : Option (List ℕ) → List ℕ → Option (List ℕ) → Type 0
 TakesFront before bytes after = (front : List ℕ) × IsFront front bytes × Takes before front after
 
--- no line ends in these bytes
-abbrev pub IsUnended : List ℕ → Type 0
-IsUnended bytes = Contains bytes 10 → ⊥
-
 -- the first line of these bytes ends here
 pub record EndsAt (bytes : List ℕ) (n : ℕ) : Type 0 where
   pub within : n < length bytes
@@ -29,10 +26,10 @@ pub record EndsAt (bytes : List ℕ) (n : ℕ) : Type 0 where
 
 -- The answer to the bytes that were pending or read: the first line of them, the end, or why there is none.
 abbrev pub IsLineOf : List ℕ → Result (Option (Vec ℕ Global)) LineError → List ℕ → Option (List ℕ) → Type 0
-IsLineOf bytes (Ok (Some line)) pending left = (bytes ≡ line.items ++ 10 ∷ pending) × (length line.items ≤ 65_536) × IsUnended line.items
+IsLineOf bytes (Ok (Some line)) pending left = (bytes ≡ line.items ++ 10 ∷ pending) × (length line.items ≤ max_line) × IsUnended line.items
 IsLineOf bytes (Ok None) pending left = (bytes ≡ []) × (pending ≡ []) × IsShownAs left []
-IsLineOf bytes (Err Unended) pending left = (pending ≡ bytes) × (0 < length bytes) × IsUnended bytes × IsShownAs left []
-IsLineOf bytes (Err TooLong) pending left = (pending ≡ bytes) × (65_536 < length bytes) × IsUnended (take 65_537 bytes)
+IsLineOf bytes (Err Unended) pending left = (pending ≡ bytes) × (0 < length bytes) × (length bytes ≤ max_line) × IsUnended bytes × IsShownAs left []
+IsLineOf bytes (Err TooLong) pending left = (pending ≡ bytes) × (max_line < length bytes) × IsUnended (take (max_line + 1) bytes)
 IsLineOf bytes (Err ReadFault) pending left = (pending ≡ bytes) × IsUnended bytes
 IsLineOf bytes (Err Memory) pending left = pending ≡ bytes
 

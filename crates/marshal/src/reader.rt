@@ -3,7 +3,8 @@ ghost use Rattle.std.specs.Prelude.{◌≡◌, ◌≤◌, ◌<◌, ◌+◌, ◌+
 ghost use Rattle.mar_codec.specs.Causes.{Rose};
 ghost use Rattle.mar_store.specs.Lost.{IsMissedBy};
 ghost use Rattle.marshal.specs.Run.{IsShownAs};
-ghost use Rattle.marshal.specs.Streams.{EndsAt, Gives, IsUnended, TakesLine};
+ghost use Rattle.marshal.specs.Refused.{IsUnended};
+ghost use Rattle.marshal.specs.Streams.{EndsAt, Gives, TakesLine};
 
 use crate::source::Source;
 use mar_store::Miss;

@@ -1,12 +1,12 @@
 //! Replays a script over the stores of a node.
-ghost use Rattle.std.specs.Prelude.{◌≡◌, ◌+◌, ◌++◌, ◌≤◌, ℕ, List, Option, Some, [], IfErr, IfNone, IfOk, IsErrOf, OnErr, OnOk, map};
+ghost use Rattle.std.specs.Prelude.{◌≡◌, ◌+◌, ◌++◌, ◌<◌, ◌≤◌, ℕ, List, Option, Some, [], IfErr, IfNone, IfOk, IsErrOf, OnErr, OnOk, map};
 ghost use Rattle.mar_codec.specs.Causes.{Rose};
 ghost use Rattle.mar_key.specs.Asked.{Asked};
 ghost use Rattle.mar_actor.specs.Node.{Ended as PlainEnded};
 ghost use Rattle.marshal.specs.Endings.{IsReadersEnd, IsWritersEnd};
 ghost use Rattle.marshal.specs.Lines.{plain_line};
 ghost use Rattle.marshal.specs.Playing.{IsSetAs, TurnsLine, WritesText};
-ghost use Rattle.marshal.specs.Reading.{EndsByLine, IsFirstOutside, Reads, ReplaysWhereTold, TakesFirst, TakesNext, missing_status, refused_status};
+ghost use Rattle.marshal.specs.Reading.{EndsByLine, IsFirstOutside, Reads, ReplaysWhereTold, TakesFirst, TakesNext, missing_status, refused_at, refused_status};
 ghost use Rattle.marshal.specs.Run.{HandsBack, IsShownAs};
 ghost use Rattle.marshal.specs.Script.{IsSettings, config_of, settings_bytes};
 ghost use Rattle.marshal.specs.Streams.{Gives, Takes, TakesFront};
@@ -20,9 +20,9 @@ use crate::reader::{LineError, ScriptReader};
 use crate::settings::{Settings, parse_settings};
 use crate::sink::{Sink, write_all};
 use crate::source::Source;
-use crate::status::Status;
+use crate::status::{Status, Why};
 use crate::turn::push_turn;
-use crate::words::ParseError;
+use crate::words::{ParseError, begins_with};
 use mar_block::StandardBlocks;
 use mar_cert::MockFinalization;
 use mar_shelf::{Blocks, Certificates, Shelf};
@@ -63,9 +63,9 @@ pub fn replay<
     ensures read_fault { result.status ≡ Status.ReadFault → Rose (S.faults source.old) (S.faults source.new) }
     ensures write_fault { result.status ≡ Status.WriteFault → Rose (K.faults sink.old) (K.faults sink.new) }
     ensures reads { Reads (S.left source.old) (S.left source.new) result.status }
-    ensures script { (all : List ℕ) (n : ℕ) → S.left source.old ≡ Some all → result.status ≡ Status.Script n → IsFirstOutside all n }
-    ensures calm { (n : ℕ) → result.status ≡ Status.Script n → (S.faults source.new ≡ S.faults source.old) × (K.faults sink.new ≡ K.faults sink.old) }
-    ensures outside { (all : List ℕ) (n : ℕ) → S.left source.old ≡ Some all → IsFirstOutside all n → EndsByLine n result.status }
+    ensures script { (all : List ℕ) (n : ℕ) (why : Why) → S.left source.old ≡ Some all → result.status ≡ Status.Script n why → IsFirstOutside all n why }
+    ensures calm { (n : ℕ) (why : Why) → result.status ≡ Status.Script n why → (S.faults source.new ≡ S.faults source.old) × (K.faults sink.new ≡ K.faults sink.old) }
+    ensures outside { (all : List ℕ) (n : ℕ) (why : Why) → S.left source.old ≡ Some all → IsFirstOutside all n why → EndsByLine n why result.status }
     ensures headline { ReplaysWhereTold (S.left source.old) (S.left source.new) (K.written sink.old) (K.written sink.new) result.status stores.ended stores.counts result.stores }
 {
     let mut reader = ScriptReader::new(alloc);
@@ -102,6 +102,17 @@ fn left_of<
     }
 }
 
+// The line of this number is refused; past the last that a script may have, it is one too many whatever it is.
+fn refused(number: u64, why: Why) -> Status
+    ensures { result ≡ refused_at number why }
+{
+    if number > MAX_LINES {
+        Status::Script(number, Why::TooMany)
+    } else {
+        Status::Script(number, why)
+    }
+}
+
 // Why there is no line, at the line of this number.
 fn line_status(error: LineError, number: u64) -> Status
     ensures told { result ≡ missing_status number error }
@@ -109,7 +120,8 @@ fn line_status(error: LineError, number: u64) -> Status
     ensures read_fault { result ≡ Status.ReadFault → error ≡ LineError.ReadFault }
 {
     match error {
-        LineError::Unended | LineError::TooLong => Status::Script(number),
+        LineError::Unended => refused(number, Why::Unended),
+        LineError::TooLong => refused(number, Why::TooLong),
         LineError::ReadFault => Status::ReadFault,
         LineError::Memory => Status::Memory,
     }
@@ -122,7 +134,7 @@ fn parse_status(error: ParseError, number: u64) -> Status
     ensures read_fault { result ≡ Status.ReadFault → ⊥ }
 {
     match error {
-        ParseError::Grammar => Status::Script(number),
+        ParseError::Grammar => refused(number, Why::Grammar),
         ParseError::Memory => Status::Memory,
     }
 }
@@ -137,14 +149,17 @@ fn first_line<S: Source>(
     ensures valid { IfOk result IsSettings }
     ensures end { IfErr result IsReadersEnd }
     ensures calm { OnOk result (S.faults source.new ≡ S.faults source.old) }
-    ensures calm_script { (n : ℕ) → IsErrOf result (Status.Script n) → S.faults source.new ≡ S.faults source.old }
+    ensures calm_script { (n : ℕ) (why : Why) → IsErrOf result (Status.Script n why) → S.faults source.new ≡ S.faults source.old }
     ensures read_fault { IsErrOf result Status.ReadFault → Rose (S.faults source.old) (S.faults source.new) }
 {
     let line = match reader.next_line(alloc, source) {
         Ok(Some(line)) => line,
-        Ok(None) => return Err(Status::Script(1)),
+        Ok(None) => return Err(Status::Script(1, Why::NoConfig)),
         Err(error) => return Err(line_status(error, 1)),
     };
+    if !begins_with(&line, b"config") {
+        return Err(Status::Script(1, Why::NoConfig));
+    }
     match parse_settings(alloc, &line) {
         Ok(settings) => Ok(settings),
         Err(error) => Err(parse_status(error, 1)),
@@ -160,12 +175,13 @@ fn next_line<S: Source>(
     number: u64,
 ) -> Result<Option<Line>, Status>
     requires valid { IsSettings settings }
+    requires later { 1 < number }
     requires number { number ≤ MAX_LINES + 1 }
     ensures next { TakesNext settings.members number (S.left source.old) reader.old result reader.new (S.left source.new) }
     ensures end { IfErr result IsReadersEnd }
     ensures to_end { IfOk result (λ o. IfNone o (IsShownAs (S.left source.new) [])) }
     ensures calm { OnOk result (S.faults source.new ≡ S.faults source.old) }
-    ensures calm_script { (n : ℕ) → IsErrOf result (Status.Script n) → S.faults source.new ≡ S.faults source.old }
+    ensures calm_script { (n : ℕ) (why : Why) → IsErrOf result (Status.Script n why) → S.faults source.new ≡ S.faults source.old }
     ensures read_fault { IsErrOf result Status.ReadFault → Rose (S.faults source.old) (S.faults source.new) }
 {
     let line = match reader.next_line(alloc, source) {
@@ -174,7 +190,7 @@ fn next_line<S: Source>(
         Err(error) => return Err(line_status(error, number)),
     };
     if number > MAX_LINES {
-        return Err(Status::Script(number));
+        return Err(refused(number, Why::TooMany));
     }
     match parse_line(alloc, settings, &line) {
         Ok(line) => Ok(Some(line)),
@@ -204,7 +220,7 @@ fn later_lines<
     ensures to_end { result.1 ≡ Status.Ok → IsShownAs (S.left source.new) [] }
     ensures read_fault { result.1 ≡ Status.ReadFault → Rose (S.faults source.old) (S.faults source.new) }
     ensures write_fault { result.1 ≡ Status.WriteFault → Rose (K.faults sink.old) (K.faults sink.new) }
-    ensures calm { (n : ℕ) → result.1 ≡ Status.Script n → (S.faults source.new ≡ S.faults source.old) × (K.faults sink.new ≡ K.faults sink.old) }
+    ensures calm { (n : ℕ) (why : Why) → result.1 ≡ Status.Script n why → (S.faults source.new ≡ S.faults source.old) × (K.faults sink.new ≡ K.faults sink.old) }
     ensures reads { (start : Option (List ℕ)) (taken : List ℕ) → Gives start taken (S.left source.old) → taken ≡ settings_bytes settings ++ reader.old → Reads start (S.left source.new) result.1 }
     ensures headline { (start : Option (List ℕ)) (taken : List ℕ) (sunk : Option (List ℕ)) (before : PlainEnded) → Gives start taken (S.left source.old) → taken ≡ settings_bytes settings ++ reader.old → ((asked : List Asked) → state_of asked state ≡ stopped before)
         → Takes sunk (text before []) (K.written sink.old) → ((asked : List Asked) → HandsBack (state_of asked result.0) (remains_in result.0).ended) → ReplaysWhereTold start (S.left source.new) sunk (K.written sink.new) result.1 before (remains_in state).counts (remains_in result.0) }
@@ -222,7 +238,7 @@ fn later_lines<
             return (state, status);
         }
     }
-    (state, Status::Script(MAX_LINES + 1))
+    (state, Status::Script(MAX_LINES + 1, Why::TooMany))
 }
 
 // Does one line, and writes what it makes.

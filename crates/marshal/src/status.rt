@@ -4,6 +4,39 @@ ghost use Rattle.marshal.specs.Status.{exit_code};
 
 use std::fmt;
 
+/// Why a line is refused. Of several reasons the first is told in this order: one line too many, too long, no end, no
+/// `config`, outside the grammar.
+#[derive(Clone, Copy, Debug, PartialEq, Eq)]
+pub enum Why {
+    /// The script is empty, or the first word of its first line isn't `config`.
+    NoConfig,
+    /// The script ends inside the line.
+    Unended,
+    /// The line has more than 65,536 bytes before its end.
+    TooLong,
+    /// A million lines stand before it.
+    TooMany,
+    /// The line isn't one of the grammar.
+    Grammar,
+}
+
+impl fmt::Display for Why {
+    ghost use Rattle.std.specs.Prelude.{Some};
+    ghost use Rattle.marshal.specs.Status.{why_text};
+
+    ghost output = { λ why. Some (why_text why) };
+
+    fn fmt<W: fmt::Write>(&self, f: &mut fmt::Formatter<W>) -> fmt::Result {
+        f.write_str(match self {
+            Why::NoConfig => "no config",
+            Why::Unended => "no line end",
+            Why::TooLong => "line too long",
+            Why::TooMany => "too many lines",
+            Why::Grammar => "not in the grammar",
+        })
+    }
+}
+
 /// How a run ended.
 #[derive(Clone, Copy, Debug, PartialEq, Eq)]
 pub enum Status {
@@ -13,8 +46,8 @@ pub enum Status {
     Memory,
     /// The words of the command line aren't a command.
     Usage,
-    /// This line, counted from 1, is outside the grammar; the lines before it were done.
-    Script(u64),
+    /// This line, counted from 1, is refused; the lines before it were done.
+    Script(u64, Why),
     /// The source failed.
     ReadFault,
     /// The sink failed.
@@ -30,7 +63,7 @@ impl Status {
             Status::Ok => 0,
             Status::Memory => 1,
             Status::Usage => 2,
-            Status::Script(_) => 3,
+            Status::Script(_, _) => 3,
             Status::ReadFault => 4,
             Status::WriteFault => 5,
         }
@@ -51,7 +84,7 @@ impl fmt::Display for Status {
             Status::Usage => {
                 f.write_str("marshal: usage: replay, threads K, gen SEED N, dir PATH replay")
             }
-            Status::Script(line) => write!(f, "marshal: line {line}: not in the grammar"),
+            Status::Script(line, why) => write!(f, "marshal: line {line}: {why}"),
             Status::ReadFault => f.write_str("marshal: read fault"),
             Status::WriteFault => f.write_str("marshal: write fault"),
         }
@@ -73,7 +106,31 @@ mod tests {
                 "marshal: usage: replay, threads K, gen SEED N, dir PATH replay",
                 2,
             ),
-            (Status::Script(7), "marshal: line 7: not in the grammar", 3),
+            (
+                Status::Script(1, Why::NoConfig),
+                "marshal: line 1: no config",
+                3,
+            ),
+            (
+                Status::Script(2, Why::Unended),
+                "marshal: line 2: no line end",
+                3,
+            ),
+            (
+                Status::Script(3, Why::TooLong),
+                "marshal: line 3: line too long",
+                3,
+            ),
+            (
+                Status::Script(1_000_001, Why::TooMany),
+                "marshal: line 1000001: too many lines",
+                3,
+            ),
+            (
+                Status::Script(7, Why::Grammar),
+                "marshal: line 7: not in the grammar",
+                3,
+            ),
             (Status::ReadFault, "marshal: read fault", 4),
             (Status::WriteFault, "marshal: write fault", 5),
         ];

@@ -1,8 +1,9 @@
 //! The words of script lines.
-ghost use Rattle.std.specs.Prelude.{◌≡◌, ◌<◌, ◌^◌, ◌++◌, ◌∷◌, ℕ, List, IfOk, IfSome, IsSomeAnd, length, decimal, map};
+ghost use Rattle.std.specs.Prelude.{◌≡◌, ◌↔◌, ◌<◌, ◌^◌, ◌++◌, ◌∷◌, ℕ, List, IfOk, IfSome, IsSomeAnd, IsTrue, length, decimal, map};
 ghost use Rattle.std.specs.List.{AllByRecursion};
 ghost use Rattle.hex.specs.Hex.{IsBytes};
 ghost use Rattle.mar_codec.specs.Varint.{IsNumber};
+ghost use Rattle.marshal.specs.Refused.{HasFirstWord};
 ghost use Rattle.marshal.specs.Script.{hex};
 ghost use Rattle.marshal.specs.Words.{Yields, words_in, words_of};
 
@@ -46,6 +47,13 @@ pub fn after<'a>(line: &'a [u8], word: &[u8]) -> Option<&'a [u8]>
         return None;
     }
     Some(back.split_at(1).1)
+}
+
+/// Whether this is the first word of the line.
+pub fn begins_with(line: &[u8], word: &[u8]) -> bool
+    ensures { IsTrue result ↔ HasFirstWord word.now line.now }
+{
+    line == word || after(line, word).is_some()
 }
 
 /// The words of a line.

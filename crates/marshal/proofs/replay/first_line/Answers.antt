@@ -1,5 +1,5 @@
 use Rattle.std.proofs.Common.{[], ap, ◌++◌, ◌∙◌, ◌∷◌}
-use Rattle.marshal.proofs.ReadSteps.{first_missing, first_refused, nothing_first}
+use Rattle.marshal.proofs.ReadSteps.{another_word, first_missing, first_refused, nothing_first}
 use Rattle.marshal.proofs.replay.first_line.Goals as goal
 
 pub returns-in-Ok-None-clause-first : goal.returns-in-Ok-None-clause-first
@@ -10,5 +10,8 @@ returns-in-Err-clause-first g c = first_missing _ _ _ _ _ _ c.in-Err.ensures.lin
 
 pub returns-clause-first : goal.returns-clause-first
 returns-clause-first g c =
-    first_refused _ _ c.in-Ok-Some.line _ _ _ _ (rw c.in-Ok-Some.field-0-is at c.in-Ok-Some.ensures.line)
-    (λ s is same. c.in-Err-parse_settings.ensures.only s is (ap (λ l. l ++ 10 ∷ []) c.deref.ensures.value ∙ same)) c.parse_status.ensures.told
+    first_refused _ _ c.in-Ok-Some.line _ _ _ _ (rw c.in-Ok-Some.field-0-is at c.in-Ok-Some.ensures.line) (rw c.deref.ensures.value at (c.begins_with.ensures.0 c.if-not-begins_with.false))
+    (λ s is same. c.in-Err-parse_settings.ensures.only s is (ap (λ l. l ++ 10 ∷ []) c.deref-2.ensures.value ∙ same)) c.parse_status.ensures.told
+
+pub returns-then-not-begins_with-clause-first : goal.returns-then-not-begins_with-clause-first
+returns-then-not-begins_with-clause-first g c = another_word _ _ c.in-Ok-Some.line _ _ (rw c.in-Ok-Some.field-0-is at c.in-Ok-Some.ensures.line) (λ word. cc (c.begins_with.ensures.1 (rw c.deref.ensures.value word), c.if-not-begins_with.true))

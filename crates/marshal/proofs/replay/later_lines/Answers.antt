@@ -1,5 +1,6 @@
 use Rattle.std.proofs.Common.{arith, refl, ◌∙◌}
 use Rattle.marshal.specs.declared.status.Status.TheVariants as status
+use Rattle.marshal.specs.declared.status.Why.TheVariants as why
 use Rattle.marshal.proofs.EventTurns.{not_fewer}
 use Rattle.marshal.proofs.Headlines.{begins_head, head_never, stops_at_end, stops_reading, stops_turn, turn_goes_further, turned_later, turned_set}
 use Rattle.marshal.proofs.ReadSteps.{begins, ends_never, ends_next, ends_ok, ends_unwritten, goes_on}
@@ -34,7 +35,7 @@ returns-in-Err-clause-reads g c = λ start taken gives is. ends_next _ _ _ _ _ _
 
 -- the line behind the most lines is refused in the loop
 pub returns-clause-reads : goal.returns-clause-reads
-returns-clause-reads g c = λ start taken gives is. ends_never _ _ _ _ _ (status.Script 1_000_001) (c.lines.invariant.so_far start taken gives is) (omega arith)
+returns-clause-reads g c = λ start taken gives is. ends_never _ _ _ _ _ (status.Script 1_000_001 why.TooMany) (c.lines.invariant.so_far start taken gives is) (omega arith)
 
 pub returns-in-Ok-None-clause-headline : goal.returns-in-Ok-None-clause-headline
 returns-in-Ok-None-clause-headline g c = λ start taken sunk before gives is stopped takes hands.

@@ -6,10 +6,10 @@ pub returns-in-Ok-None-clause-next : goal.returns-in-Ok-None-clause-next
 returns-in-Ok-None-clause-next g c = nothing_next _ _ _ _ _ _ (rw c.in-Ok-None.field-0-is at c.in-Ok-None.ensures.line)
 
 pub returns-in-Err-clause-next : goal.returns-in-Err-clause-next
-returns-in-Err-clause-next g c = next_missing _ _ _ _ _ _ _ _ (omega (arith, c.requires.valid.members.1)) c.in-Err.ensures.line c.line_status.ensures.told
+returns-in-Err-clause-next g c = next_missing _ _ _ _ _ _ _ _ c.requires.number c.in-Err.ensures.line c.line_status.ensures.told
 
 pub returns-then-number-gt-MAX_LINES-clause-next : goal.returns-then-number-gt-MAX_LINES-clause-next
-returns-then-number-gt-MAX_LINES-clause-next g c = one_too_many _ _ _ _ c.in-Ok-Some.line _ _ (rw c.in-Ok-Some.field-0-is at c.in-Ok-Some.ensures.line) (omega arith)
+returns-then-number-gt-MAX_LINES-clause-next g c = one_too_many _ _ _ _ c.in-Ok-Some.line _ _ _ (rw c.in-Ok-Some.field-0-is at c.in-Ok-Some.ensures.line) (omega arith) c.refused.ensures
 
 pub returns-in-Ok-clause-next : goal.returns-in-Ok-clause-next
 returns-in-Ok-clause-next g c =
@@ -17,5 +17,5 @@ returns-in-Ok-clause-next g c =
 
 pub returns-clause-next : goal.returns-clause-next
 returns-clause-next g c =
-    next_refused _ _ _ _ c.in-Ok-Some.line _ _ _ _ (omega (arith, c.requires.valid.members.1)) (rw c.in-Ok-Some.field-0-is at c.in-Ok-Some.ensures.line)
+    next_refused _ _ _ _ c.in-Ok-Some.line _ _ _ _ c.requires.later (omega arith) (rw c.in-Ok-Some.field-0-is at c.in-Ok-Some.ensures.line)
     (rw c.deref.ensures.value at c.in-Err-parse_line.ensures.only) c.parse_status.ensures.told

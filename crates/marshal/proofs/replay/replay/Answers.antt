@@ -10,10 +10,10 @@ pub returns-in-Err-clause-reads : goal.returns-in-Err-clause-reads
 returns-in-Err-clause-reads g c = ends_first _ _ _ _ (rw c.new-reader.ensures at c.in-Err.ensures.first)
 
 pub returns-in-Err-clause-script : goal.returns-in-Err-clause-script
-returns-in-Err-clause-script g c = λ all n told is. script_is all _ _ _ n (returns-in-Err-clause-reads g c) told is
+returns-in-Err-clause-script g c = λ all n reason told is. script_is all _ _ _ n reason (returns-in-Err-clause-reads g c) told is
 
 pub returns-in-Err-clause-outside : goal.returns-in-Err-clause-outside
-returns-in-Err-clause-outside g c = λ all n told first. outside_is all _ _ _ n (λ usage. subst IsReadersEnd usage c.in-Err.ensures.end) (returns-in-Err-clause-reads g c) told first
+returns-in-Err-clause-outside g c = λ all n reason told first. outside_is all _ _ _ n reason (λ usage. subst IsReadersEnd usage c.in-Err.ensures.end) (returns-in-Err-clause-reads g c) told first
 
 pub returns-in-Err-write_turn-clause-reads : goal.returns-in-Err-write_turn-clause-reads
 returns-in-Err-write_turn-clause-reads g c =
@@ -21,19 +21,19 @@ returns-in-Err-write_turn-clause-reads g c =
     ends_unwritten _ _ _ _ _ _ c.in-Ok.ensures.valid (begins _ _ _ _ first.read first.gives first.first) c.in-Err-write_turn.ensures.end
 
 pub returns-in-Err-write_turn-clause-script : goal.returns-in-Err-write_turn-clause-script
-returns-in-Err-write_turn-clause-script g c = λ all n told is. script_is all _ _ _ n (returns-in-Err-write_turn-clause-reads g c) told is
+returns-in-Err-write_turn-clause-script g c = λ all n reason told is. script_is all _ _ _ n reason (returns-in-Err-write_turn-clause-reads g c) told is
 
 pub returns-in-Err-write_turn-clause-outside : goal.returns-in-Err-write_turn-clause-outside
-returns-in-Err-write_turn-clause-outside g c = λ all n told first. outside_is all _ _ _ n (λ usage. subst IsWritersEnd usage c.in-Err-write_turn.ensures.end) (returns-in-Err-write_turn-clause-reads g c) told first
+returns-in-Err-write_turn-clause-outside g c = λ all n reason told first. outside_is all _ _ _ n reason (λ usage. subst IsWritersEnd usage c.in-Err-write_turn.ensures.end) (returns-in-Err-write_turn-clause-reads g c) told first
 
 pub returns-clause-reads : goal.returns-clause-reads
 returns-clause-reads g c = let first = rw c.new-reader.ensures at c.in-Ok.ensures.first in c.later_lines-state.ensures.reads _ first.read first.gives first.first
 
 pub returns-clause-script : goal.returns-clause-script
-returns-clause-script g c = λ all n told is. script_is all _ _ _ n (returns-clause-reads g c) told is
+returns-clause-script g c = λ all n reason told is. script_is all _ _ _ n reason (returns-clause-reads g c) told is
 
 pub returns-clause-outside : goal.returns-clause-outside
-returns-clause-outside g c = λ all n told first. outside_is all _ _ _ n c.later_lines-state.ensures.not_usage (returns-clause-reads g c) told first
+returns-clause-outside g c = λ all n reason told first. outside_is all _ _ _ n reason c.later_lines-state.ensures.not_usage (returns-clause-reads g c) told first
 
 pub returns-in-Err-clause-headline : goal.returns-in-Err-clause-headline
 returns-in-Err-clause-headline g c = stops_first _ _ _ _ _ c.args.stores c.in-Err.ensures.end (rw c.new-reader.ensures at c.in-Err.ensures.first)

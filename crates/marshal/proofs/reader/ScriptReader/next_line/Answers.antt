@@ -22,7 +22,7 @@ pub returns-in-Ok-eq0-2-clause-line : goal.returns-in-Ok-eq0-2-clause-line
 returns-in-Ok-eq0-2-clause-line g c =
     let none = c.find_end.ensures.none c.in_default.is in
     let more = c.in-Ok-eq0.ensures.ok in
-    inside _ _ _ _ _ more.0 _ _ c.pieces.invariant.so_far (rw c.behind.ensures at none) (omega (arith, c.len-held.ensures)) (more.1 ∙ c.in-Ok-eq0.field-0-test) more.2 more.3 (c.in-Ok-eq0.ensures.end c.in-Ok-eq0.field-0-test)
+    inside _ _ _ _ _ more.0 _ _ c.pieces.invariant.so_far (rw c.behind.ensures at none) (omega (arith, c.len-held.ensures)) (omega (arith, c.if-held-gt-MAX_LINE.false, c.len-held.ensures)) (more.1 ∙ c.in-Ok-eq0.field-0-test) more.2 more.3 (c.in-Ok-eq0.ensures.end c.in-Ok-eq0.field-0-test)
 
 pub pieces-preserved : goal.pieces-preserved
 pieces-preserved g c =
