@@ -13,3 +13,4 @@ pub mod Fronts
 pub mod Settled
 pub mod Stores
 pub mod Finishing
+pub mod LastEnd

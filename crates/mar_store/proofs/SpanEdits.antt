@@ -153,13 +153,9 @@ reached_end [] (suc i) h all = tt
 reached_end (x ∷ xs) zero h all = absurd (omega arith)
 reached_end (x ∷ xs) (suc i) h all = reached_end xs i h (omega arith)
 
-pub apart_before : (h : ℕ) (xs : List HeightSpan) (i : ℕ) (d : HeightSpan) → 0 < i → i ≤ length xs → (get_or xs (i - 1) d).to + 1 < h → AscendFrom 0 (ranges_of xs)
-    → with_height h (ranges_of xs) ≡ take i (ranges_of xs) ++ with_height h (drop i (ranges_of xs))
-apart_before h xs zero d some within above ascend = absurd (omega arith)
-apart_before h xs (suc i) d some within above ascend =
-    let before : suc i - 1 ≡ i = omega arith in
-    let lower : (get_or xs i d).to + 1 < h = (rw before at above) in
-    apart_there 0 h xs i (get_or xs i d) (omega arith) (get_or_default xs i d _ (omega arith)) lower ascend
+pub apart_after : (h : ℕ) (xs : List HeightSpan) (i : ℕ) (d : HeightSpan) → i < length xs → (get_or xs i d).to + 1 < h → AscendFrom 0 (ranges_of xs)
+    → with_height h (ranges_of xs) ≡ take (i + 1) (ranges_of xs) ++ with_height h (drop (i + 1) (ranges_of xs))
+apart_after h xs i d there above ascend = rw add-one (apart_there 0 h xs i (get_or xs i d) there (get_or_default xs i d _ there) above ascend)
 
 pub high_from_test : (test : Bool) (end h : ℕ) → test ≡ false → (end + 1 < h → IsTrue test) → h ≤ end + 1
 high_from_test test end h is tells = elim (cases_lt (end + 1) h) [ inl below ↦ absurd (both_ways test is (tells below)) | inr at ↦ at ]

@@ -1,5 +1,5 @@
 -- Calls that are armed to fail: how many counted calls away each one is.
-use Rattle.std.specs.Prelude.{Bool, Err, List, Ok, Result, [], if◌then◌else◌, nat_le, true, false, ℕ, ◌++◌, ◌-◌, ◌==◌, ◌∷◌, ◌≡◌}
+use Rattle.std.specs.Prelude.{Bool, Err, List, Ok, Result, [], if◌then◌else◌, nat_le, true, false, ⊤, ℕ, ◌++◌, ◌-◌, ◌==◌, ◌∷◌, ◌≡◌}
 use Rattle.std.specs.List.{list_any}
 use Rattle.mar_store.specs.declared.lost.Lost.{Lost}
 use Rattle.mar_store.specs.declared.lost.Lost.TheVariants.{Fault, Memory}
@@ -30,3 +30,9 @@ abbrev pub ReadsArmed : {T : Type 0} → Bool → List ℕ → List ℕ → Resu
 ReadsArmed only due now (Ok v) = (is_due due ≡ false) × (now ≡ after_call due)
 ReadsArmed only due now (Err Missed) = (only ≡ true → is_due due ≡ true) × (now ≡ after_call due)
 ReadsArmed only due now (Err Forgot) = now ≡ after_call due
+
+-- A call that isn't counted answers no fault where only armed calls fail; want of memory may come at any time.
+abbrev pub IsCalm : {S W : Type 0} → Bool → Result S (Lost W) → Type 0
+IsCalm only (Ok s) = ⊤
+IsCalm only (Err (Fault w)) = only ≡ true → ⊥
+IsCalm only (Err (Memory w)) = ⊤

@@ -14,3 +14,4 @@ pub mod Places
 pub mod Entries
 pub mod Props
 pub mod Nested
+pub mod Names

@@ -1,5 +1,5 @@
 -- Heights as ranges that ascend and do not touch.
-use Rattle.std.specs.Prelude.{List, [], fold, if◌then◌else◌, nat_le, nat_lt, ℕ, ◌+◌, ◌==◌, ◌∷◌}
+use Rattle.std.specs.Prelude.{List, None, Option, Some, [], fold, if◌then◌else◌, nat_le, nat_lt, ℕ, ◌+◌, ◌==◌, ◌∷◌}
 
 -- consecutive heights
 pub record Range : Type 0 where
@@ -21,3 +21,9 @@ with_height h (r ∷ rs) =
 
 abbrev pub ranges : List ℕ → List Range
 ranges heights = fold (λ rs h. with_height h rs) [] heights
+
+-- the end of the last range
+abbrev pub last_end : List Range → Option ℕ
+last_end [] = None
+last_end (r ∷ []) = Some r.to
+last_end (r ∷ s ∷ rs) = last_end (s ∷ rs)

@@ -3,6 +3,7 @@
 
 mod alarm;
 mod archive;
+mod depot;
 mod entries;
 mod entry;
 mod identifier;
@@ -10,6 +11,7 @@ mod item;
 mod lost;
 mod luck;
 mod mem_archive;
+mod mem_depot;
 mod mem_meta;
 mod meta;
 mod pile;
@@ -20,11 +22,13 @@ mod survey;
 mod ticket;
 
 pub use archive::{Archive, ArchiveRuin};
+pub use depot::{Depot, DepotRuin, EmptyStore};
 pub use identifier::Identifier;
 pub use item::{Item, MAX_VALUE_SIZE};
 pub use lost::{Lost, Miss};
 pub use luck::LuckHalf;
 pub use mem_archive::{MemArchive, MemArchiveWreck};
+pub use mem_depot::{MemDepot, MemDepotWreck};
 pub use mem_meta::{MemMeta, MemMetaWreck};
 pub use meta::{Meta, MetaRuin};
 pub use range_set::{HeightSpan, RangeSet};

@@ -2,7 +2,7 @@
 ghost use Rattle.std.specs.Prelude.{◌≡◌, ◌<◌, ℕ, Bool, List, [], ◌∷◌, length, Some, None, Contains, IfOk, OnOk, OnErr, MatchResult};
 ghost use Rattle.mar_store.specs.Values.{Values, SetsValue, synced_values, LeavesValues};
 ghost use Rattle.mar_store.specs.Lost.{wreck_of, IsCausedBy};
-ghost use Rattle.mar_store.specs.Armed.{with_armed, HeedsArmed};
+ghost use Rattle.mar_store.specs.Armed.{with_armed, HeedsArmed, IsCalm};
 
 use crate::Lost;
 use std::alloc::AllocError;
@@ -68,7 +68,8 @@ pub trait Meta: Drop {
             (λ l. LeavesValues (left self) [] (Self.Wreck.left (wreck_of l))) }
         ensures durable { IfOk result (λ s. left s ≡ left self) }
         ensures cause { IsCausedBy faults Self.Wreck.faults (faults self) result }
-        ensures due { MatchResult result (λ s. due s ≡ due self) (λ l. Self.Wreck.due (wreck_of l) ≡ due self) };
+        ensures due { MatchResult result (λ s. due s ≡ due self) (λ l. Self.Wreck.due (wreck_of l) ≡ due self) }
+        ensures calm { IsCalm only_armed result };
 
     fn remove(self, key: u64) -> Result<Self, Lost<Self::Wreck>>
     where
@@ -78,7 +79,8 @@ pub trait Meta: Drop {
             (λ l. LeavesValues (left self) [] (Self.Wreck.left (wreck_of l))) }
         ensures durable { IfOk result (λ s. left s ≡ left self) }
         ensures cause { IsCausedBy faults Self.Wreck.faults (faults self) result }
-        ensures due { MatchResult result (λ s. due s ≡ due self) (λ l. Self.Wreck.due (wreck_of l) ≡ due self) };
+        ensures due { MatchResult result (λ s. due s ≡ due self) (λ l. Self.Wreck.due (wreck_of l) ≡ due self) }
+        ensures calm { IsCalm only_armed result };
 
     /// Makes all changes durable together.
     fn sync(self) -> Result<Self, Lost<Self::Wreck>>

@@ -3,7 +3,7 @@ ghost use Rattle.std.specs.Prelude.{◌≡◌, ◌++◌, if◌then◌else◌, �
 ghost use Rattle.std.specs.List.{AllByRecursion};
 ghost use Rattle.mar_store.specs.Kept.{EachHeightOnce};
 ghost use Rattle.mar_store.specs.Changes.{Fails, heights, left_of};
-ghost use Rattle.mar_store.specs.Named.{EachNameOnce, greatest_of, is_taken, last_index};
+ghost use Rattle.mar_store.specs.Named.{EachNameOnce, is_taken, last_index};
 ghost use Rattle.mar_store.specs.Ranges.{ranges, with_height};
 ghost use Rattle.mar_store.specs.Tickets.{last_number};
 ghost use Rattle.mar_store.specs.Luck.{lucky_from};
@@ -83,13 +83,7 @@ impl<T: Item> Pile<T> {
     pub fn last_index(&self) -> Option<u64>
         ensures { result ≡ last_index (map seen self.now.items.items) }
     {
-        let mut last = None;
-        let mut place = self.items.len();
-        while place > 0 {
-            place -= 1;
-            last = Some(greatest(self.items[place].index, last));
-        }
-        last
+        self.held.last()
     }
 
     /// Puts an entry at the end. It gives back the pile where memory runs out.
@@ -351,16 +345,6 @@ impl<T: Item> Pile<T> {
             Ok(item) => self.push(entry.index, item),
             Err(_) => Err(self),
         }
-    }
-}
-
-// The greater of an index and of another, where there is one.
-fn greatest(index: u64, other: Option<u64>) -> u64
-    ensures { result ≡ greatest_of index other }
-{
-    match other {
-        None => index,
-        Some(other) => index.max(other),
     }
 }
 

@@ -1,8 +1,8 @@
 //! Heights kept as ranges.
 ghost use Rattle.std.specs.Prelude.{◌≡◌, ◌+◌, ◌<◌, ◌≤◌, ◌++◌, ◌↔◌, ℕ, [], take, drop, IfOk, OnOk, OnErr, IsTrue, vec_len, length};
-ghost use Rattle.mar_store.specs.Ranges.{with_height};
+ghost use Rattle.mar_store.specs.Ranges.{last_end, with_height};
 
-use crate::spans::{place_of, widen};
+use crate::spans::{last_of, place_of, widen};
 use std::alloc::{AllocError, Global};
 use std::marker::Model;
 
@@ -57,6 +57,13 @@ impl RangeSet {
         self.spans.as_slice()
     }
 
+    /// The greatest height.
+    pub fn last(&self) -> Option<u64>
+        ensures { result ≡ last_end self.now }
+    {
+        last_of(&self.spans)
+    }
+
     /// Another set of the same heights.
     pub fn try_clone(&self) -> Result<Self, AllocError>
         ensures { IfOk result (λ s. s ≡ self.now) }
@@ -65,7 +72,7 @@ impl RangeSet {
         Ok(RangeSet { spans })
     }
 
-    /// Adds a height. At the end of the heights it takes constant time.
+    /// Adds a height. Its place is found by halving.
     pub fn insert(&mut self, height: u64) -> Result<(), AllocError>
         ensures ok { OnOk result (self.new ≡ with_height height self.old) }
         ensures err { OnErr result (self.new ≡ self.old) }

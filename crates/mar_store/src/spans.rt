@@ -1,6 +1,6 @@
 //! Spans that ascend, and one more height in them.
 ghost use Rattle.std.specs.Prelude.{◌≡◌, ◌+◌, ◌++◌, ◌<◌, ◌≤◌, ◌↔◌, take, drop, length, vec_len, IsTrue, OnOk, OnErr};
-ghost use Rattle.mar_store.specs.Ranges.{with_height};
+ghost use Rattle.mar_store.specs.Ranges.{last_end, with_height};
 ghost use Rattle.mar_store.specs.Spans.{ranges_of, AscendFrom, AreOrdered, IsReached, IsAlone, IsFollowed, BeginsAfter};
 
 use crate::HeightSpan;
@@ -13,7 +13,17 @@ fn ends_before(span: HeightSpan, height: u64) -> bool
     span.to < height && height - span.to > 1
 }
 
-/// The place of the first span that ends less than two below the height, searched from the end.
+/// The end of the last span.
+pub fn last_of(spans: &[HeightSpan]) -> Option<u64>
+    ensures { result ≡ last_end (ranges_of spans.now) }
+{
+    match spans.last() {
+        Some(span) => Some(span.to),
+        None => None,
+    }
+}
+
+/// The place of the first span that ends less than two below the height, found by halving.
 pub fn place_of(spans: &[HeightSpan], height: u64) -> usize
     requires { AscendFrom 0 (ranges_of spans.now) }
     ensures within { result ≤ length spans.now }
@@ -21,15 +31,17 @@ pub fn place_of(spans: &[HeightSpan], height: u64) -> usize
     ensures apart { with_height height (ranges_of spans.now)
         ≡ take result (ranges_of spans.now) ++ with_height height (drop result (ranges_of spans.now)) }
 {
-    let mut place = spans.len();
-    while place > 0 {
-        let span = spans[place - 1];
-        if ends_before(span, height) {
-            return place;
+    let mut low = 0;
+    let mut high = spans.len();
+    'halves: while low < high {
+        let middle = low + (high - low) / 2;
+        if ends_before(spans[middle], height) {
+            low = middle + 1;
+        } else {
+            high = middle;
         }
-        place -= 1;
     }
-    place
+    low
 }
 
 /// Puts the height into the span at that place or before it; spans that then touch are joined.

@@ -1,12 +1,12 @@
 //! What no clause says: each call with ample memory, which bits of luck keep what, and calls that were armed.
-ghost use Rattle.std.specs.Prelude.{true};
+ghost use Rattle.std.specs.Prelude.{◌≤◌, ◌==◌, true, IfOk};
 
 use crate::{
-    Archive, ArchiveRuin, HeightSpan, Identifier, Item, Lost, LuckHalf, MemArchive, MemMeta, Meta,
-    MetaRuin,
+    Archive, ArchiveRuin, Depot, EmptyStore, HeightSpan, Identifier, Item, Lost, LuckHalf,
+    MemArchive, MemArchiveWreck, MemDepot, MemMeta, Meta, MetaRuin, Miss, SyncTicket,
 };
 use mar_codec::{Digest, Sha256Digest};
-use std::alloc::AllocError;
+use std::alloc::{AllocError, Global};
 use std::test::Fail;
 
 // A number under a digest of so many times its last byte.
@@ -171,5 +171,177 @@ fn the_armed_call_fails(rt: HostRuntime) -> Result<(), Fail> {
     wreck.arm(2)?;
     let store = MemMeta::reopen(wreck, 1).ok().ok_or("reopened")?;
     assert_eq!(rt; store.get(1), Some(10));
+    Ok(())
+}
+
+// Puts one more value, and finishes a sync that was started before.
+fn put_and_finish<A: Archive<Numbered>>(
+    archive: A,
+    byte: u8,
+    ticket: SyncTicket,
+) -> Result<A, Lost<A::Wreck>>
+    requires { ticket.number ≤ A.number archive }
+    ensures tickets { IfOk result (λ s. A.number archive ≤ A.number s) }
+{
+    let archive = archive.put(u64::from(byte), item_of(u64::from(byte), byte))?;
+    archive.finish(ticket)
+}
+
+// Eight counted calls: two puts and a sync, a third put, a sync that starts, a fourth put before it finishes, a prune.
+fn eight_calls<A: Archive<Numbered>>(archive: A) -> Result<A, Lost<A::Wreck>> {
+    let archive = archive.put(0, item_of(0, 0))?;
+    let archive = archive.put(1, item_of(1, 1))?;
+    let archive = archive.sync()?;
+    let archive = archive.put(2, item_of(2, 2))?;
+    let (archive, ticket) = archive.start_sync()?;
+    let archive = put_and_finish(archive, 3, ticket)?;
+    archive.prune(1)
+}
+
+// What is left where the counted call of that number fails.
+fn wreck_at(alloc: Global, call: u64) -> Option<MemArchiveWreck<Numbered>> {
+    let mut archive: MemArchive<Numbered> = MemArchive::new(alloc, LuckHalf::Low);
+    archive.arm(call).ok()?;
+    match eight_calls(archive) {
+        Ok(archive) => Some(archive.wreck()),
+        Err(Lost::Fault(wreck)) => Some(wreck),
+        Err(Lost::Memory(_)) => None,
+    }
+}
+
+// What is held where the counted call of that number failed and luck has its say.
+fn held_after(alloc: Global, call: u64, luck: u64) -> Option<(Option<HeightSpan>, usize)> {
+    let wreck = wreck_at(alloc, call)?;
+    let archive: MemArchive<Numbered> = MemArchive::reopen(wreck, luck).ok()?;
+    let held = archive.held_ranges().as_slice();
+    Some((held.first().copied(), held.len()))
+}
+
+#[test]
+fn a_wreck_at_each_counted_call(rt: HostRuntime) -> Result<(), Fail> {
+    let rows = [
+        (1, None, Some(span(0, 0))),
+        (2, None, Some(span(0, 1))),
+        (3, None, Some(span(0, 1))),
+        (4, Some(span(0, 1)), Some(span(0, 2))),
+        (5, Some(span(0, 1)), Some(span(0, 2))),
+        (6, Some(span(0, 1)), Some(span(0, 3))),
+        (7, Some(span(0, 1)), Some(span(0, 3))),
+        (8, Some(span(0, 2)), Some(span(0, 3))),
+        (u64::MAX, Some(span(1, 2)), Some(span(1, 3))),
+    ];
+    for (call, sure, may) in rows {
+        let count = if sure.is_some() { 1 } else { 0 };
+        assert_eq!(rt; held_after(rt.alloc(), call, 0), Some((sure, count)));
+        assert_eq!(rt; held_after(rt.alloc(), call, u64::MAX), Some((may, 1)));
+    }
+    Ok(())
+}
+
+#[test]
+fn an_armed_read_fails(rt: HostRuntime) -> Result<(), Fail> {
+    let archive: MemArchive<Numbered> = MemArchive::new(rt.alloc(), LuckHalf::Low);
+    let mut archive = archive.put(0, item_of(7, 0)).ok().ok_or("put")?;
+    archive.arm(1)?;
+    archive.arm(3)?;
+    assert_eq!(rt; archive.has(Identifier::Index(0)).err(), Some(Miss::Fault));
+    assert_eq!(rt; archive.has(Identifier::Index(0)).ok(), Some(true));
+    assert_eq!(rt; archive.get(Identifier::Index(0)).err(), Some(Miss::Fault));
+    assert_eq!(rt; number_at(&mut archive, Identifier::Index(0)), Some(7));
+    Ok(())
+}
+
+// Puts a value and starts a sync.
+fn put_and_start<A: Archive<Numbered>>(
+    archive: A,
+    byte: u8,
+) -> Result<(A, SyncTicket), Lost<A::Wreck>>
+    ensures made { IfOk result (λ s. s.1.number ≤ A.number s.0) }
+    ensures tickets { IfOk result (λ s. A.number archive ≤ A.number s.0) }
+{
+    let archive = archive.put(u64::from(byte), item_of(u64::from(byte), byte))?;
+    archive.start_sync()
+}
+
+// Finishes the later of two syncs and then the earlier one.
+fn finish_both<A: Archive<Numbered>>(
+    archive: A,
+    earlier: SyncTicket,
+    later: SyncTicket,
+) -> Result<A, Lost<A::Wreck>>
+    requires earlier { earlier.number ≤ A.number archive }
+    requires later { later.number ≤ A.number archive }
+{
+    let archive = put_and_finish(archive, 2, later)?;
+    archive.finish(earlier)
+}
+
+// Starts two syncs with a put before each, and finishes them in reverse order.
+fn in_reverse<A: Archive<Numbered>>(archive: A) -> Result<A, Lost<A::Wreck>> {
+    let (archive, earlier) = put_and_start(archive, 0)?;
+    let (archive, later) = put_and_start(archive, 1)?;
+    finish_both(archive, earlier, later)
+}
+
+#[test]
+fn two_syncs_finish_in_reverse(rt: HostRuntime) -> Result<(), Fail> {
+    let archive: MemArchive<Numbered> = MemArchive::new(rt.alloc(), LuckHalf::High);
+    let archive = in_reverse(archive).ok().ok_or("finished")?;
+    assert_eq!(rt; archive.held_ranges().as_slice(), [span(0, 2)].as_slice());
+    assert_eq!(rt; archive.sure_ranges().as_slice(), [span(0, 1)].as_slice());
+    Ok(())
+}
+
+// What stands under a name in these tests.
+#[derive(Drop)]
+struct Counted {
+    count: u64,
+}
+
+impl EmptyStore for Counted {
+    ghost is_empty = { λ s. s.count == 0 };
+
+    fn empty(_alloc: Global) -> Self {
+        Counted { count: 0 }
+    }
+}
+
+// Opens a name and says the count that stands there, then lets a greater one stand there.
+fn counted_on<D: Depot<Counted>>(depot: D, name: u64) -> Option<(D, u64)> {
+    let (mut depot, content) = depot.open(name).ok()?;
+    let count = content.count;
+    let content = Counted {
+        count: count.saturating_add(1),
+    };
+    depot.close(name, content);
+    Some((depot, count))
+}
+
+#[test]
+fn a_depot_keeps_its_names(rt: HostRuntime) -> Result<(), Fail> {
+    let mut depot: MemDepot<Counted> = MemDepot::new(rt.alloc());
+    assert_eq!(rt; depot.list().ok().ok_or("list")?.as_slice(), [].as_slice());
+    for (name, count) in [(7, 0), (3, 0), (7, 1), (7, 2), (3, 1)] {
+        let (next, found) = counted_on(depot, name).ok_or("opened")?;
+        assert_eq!(rt; found, count);
+        depot = next;
+    }
+    assert_eq!(rt;
+        depot.list().ok().ok_or("list")?.as_slice(),
+        [3, 7].as_slice()
+    );
+    depot.arm(1)?;
+    let Err(Lost::Fault(wreck)) = depot.destroy(3) else {
+        return Err(Fail::from("the removal failed"));
+    };
+    let depot: MemDepot<Counted> = MemDepot::reopen(wreck, 0).ok().ok_or("reopened")?;
+    let depot = depot.destroy(7).ok().ok_or("destroy")?;
+    let mut depot: MemDepot<Counted> = MemDepot::reopen(depot.wreck(), 0).ok().ok_or("reopened")?;
+    assert_eq!(rt; depot.list().ok().ok_or("list")?.as_slice(), [3].as_slice());
+    depot.close(7, Counted { count: 9 });
+    let (depot, count) = counted_on(depot, 3).ok_or("opened")?;
+    assert_eq!(rt; count, 2);
+    let (_depot, count) = counted_on(depot, 7).ok_or("opened")?;
+    assert_eq!(rt; count, 0);
     Ok(())
 }

@@ -1,0 +1,177 @@
+//! A depot in memory.
+ghost use Rattle.std.specs.Prelude.{◌≡◌, ℕ, None, true, [], ◌∷◌, IsTrue, MatchOption};
+ghost use Rattle.mar_store.specs.Names.{names_of, one_left};
+
+use crate::alarm::Alarm;
+use crate::{Depot, DepotRuin, EmptyStore, Lost, Miss};
+use std::alloc::{AllocError, Global};
+use std::collections::BTreeMap;
+
+/// A map in memory.
+#[derive(Drop)]
+pub struct MemDepot<T: EmptyStore> {
+    contents: BTreeMap<u64, T>,
+    alarm: Alarm,
+    alloc: Global,
+}
+
+/// What is left of a `MemDepot`: the whole map.
+#[derive(Drop)]
+pub struct MemDepotWreck<T: EmptyStore> {
+    contents: BTreeMap<u64, T>,
+    alarm: Alarm,
+    alloc: Global,
+}
+
+impl<T: EmptyStore> MemDepot<T> {
+    /// A depot with no names.
+    pub fn new(alloc: Global) -> Self
+        ensures names { (k : ℕ) → ⟦<MemDepot<T> as Depot<T>>⟧.names result k ≡ None }
+        ensures faults { ⟦<MemDepot<T> as Depot<T>>⟧.faults result ≡ 0 }
+        ensures due { ⟦<MemDepot<T> as Depot<T>>⟧.due result ≡ [] }
+    {
+        MemDepot {
+            contents: BTreeMap::new(alloc),
+            alarm: Alarm::new(alloc),
+            alloc,
+        }
+    }
+}
+
+impl<T: EmptyStore> DepotRuin<T> for MemDepotWreck<T> {
+    ghost left = { λ w. names_of w.contents ∷ [] };
+
+    ghost faults = { λ w. w.alarm.faults };
+
+    ghost due = { λ w. w.alarm.due.items };
+
+    ghost armable = { true };
+
+    fn arm(&mut self, calls: u64) -> Result<(), AllocError> {
+        self.alarm.arm(calls)
+    }
+
+    ghost some = { λ w. one_left (names_of w.contents) };
+}
+
+impl<T: EmptyStore> Depot<T> for MemDepot<T> {
+    type Wreck = MemDepotWreck<T>;
+
+    ghost told = { true };
+
+    ghost names = { λ s. names_of s.contents };
+
+    ghost is_empty = { T.is_empty };
+
+    ghost faults = { λ s. s.alarm.faults };
+
+    ghost due = { λ s. s.alarm.due.items };
+
+    ghost armable = { true };
+
+    ghost only_armed = { true };
+
+    fn open(self, name: u64) -> Result<(Self, T), Lost<MemDepotWreck<T>>> {
+        let MemDepot {
+            mut contents,
+            mut alarm,
+            alloc,
+        } = self;
+        if alarm.rings() {
+            return Err(Lost::Fault(MemDepotWreck {
+                contents,
+                alarm,
+                alloc,
+            }));
+        }
+        match contents.insert(name, T::empty(alloc)) {
+            Err(_) => Err(Lost::Memory(MemDepotWreck {
+                contents,
+                alarm,
+                alloc,
+            })),
+            Ok(stood) => {
+                let given = content_or_empty(alloc, stood);
+                Ok((
+                    MemDepot {
+                        contents,
+                        alarm,
+                        alloc,
+                    },
+                    given,
+                ))
+            }
+        }
+    }
+
+    fn close(&mut self, name: u64, content: T) {
+        if let Some(place) = self.contents.get_mut(&name) {
+            *place = content;
+        }
+    }
+
+    fn list(&mut self) -> Result<Vec<u64>, Miss> {
+        if self.alarm.rings() {
+            return Err(Miss::Fault);
+        }
+        match self.contents.keys().copied().collect(self.alloc) {
+            Ok(names) => Ok(names),
+            Err(_) => Err(Miss::Memory),
+        }
+    }
+
+    fn destroy(self, name: u64) -> Result<Self, Lost<MemDepotWreck<T>>> {
+        let MemDepot {
+            mut contents,
+            mut alarm,
+            alloc,
+        } = self;
+        if alarm.rings() {
+            return Err(Lost::Fault(MemDepotWreck {
+                contents,
+                alarm,
+                alloc,
+            }));
+        }
+        let _ = contents.remove(&name);
+        Ok(MemDepot {
+            contents,
+            alarm,
+            alloc,
+        })
+    }
+
+    fn wreck(self) -> MemDepotWreck<T> {
+        MemDepotWreck {
+            contents: self.contents,
+            alarm: self.alarm,
+            alloc: self.alloc,
+        }
+    }
+
+    fn reopen(wreck: MemDepotWreck<T>, _luck: u64) -> Result<Self, Lost<MemDepotWreck<T>>> {
+        let mut wreck = wreck;
+        if wreck.alarm.rings() {
+            return Err(Lost::Fault(wreck));
+        }
+        Ok(MemDepot {
+            contents: wreck.contents,
+            alarm: wreck.alarm,
+            alloc: wreck.alloc,
+        })
+    }
+
+    fn arm(&mut self, calls: u64) -> Result<(), AllocError> {
+        self.alarm.arm(calls)
+    }
+}
+
+// What stood there, or an empty one.
+fn content_or_empty<T: EmptyStore>(alloc: Global, stood: Option<T>) -> T
+    ensures { MatchOption stood (IsTrue (T.is_empty result)) (λ content. result ≡ content) }
+{
+    match stood {
+        Some(content) => content,
+        None => T::empty(alloc),
+    }
+}
