@@ -5,7 +5,7 @@ use Rattle.mar_codec.specs.Codec.{Joined}
 use Rattle.mar_codec.specs.Refusals.{RefusesJoined, RefusesVarint}
 use Rattle.mar_codec.specs.Varint.{IsVarint, varint}
 use Rattle.mar_codec.specs.declared.Error.{Error}
-use Rattle.mar_block.specs.Block.{Block}
+use Rattle.mar_cert.specs.Block.{Block}
 
 -- the bytes that spell a block
 abbrev pub block_bytes : List ℕ → ℕ → ℕ → List ℕ

@@ -7,7 +7,7 @@ use Rattle.mar_codec.specs.Digest.{IsDigest}
 use Rattle.mar_codec.specs.Varint.{IsVarint, varint}
 use Rattle.mar_codec.specs.VarintLemmas.{length-varint, varint-injective, varint_unambiguous}
 use Rattle.mar_cert.specs.SignersLemmas.{same_rest, varint_rest}
-use Rattle.mar_block.specs.Block.{Block, IsBlock}
+use Rattle.mar_cert.specs.Block.{Block, IsBlock}
 use Rattle.mar_block.specs.EmptyBlock.{SpellsBlock, block_bytes, block_message}
 
 pub block_unambiguous : (Parent : List ℕ → Type 0) → IsUnambiguous Parent → IsUnambiguous (SpellsBlock Parent)

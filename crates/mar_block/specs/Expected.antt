@@ -1,6 +1,6 @@
 -- The commitment that a block is expected to have, and the bytes that are a block of it.
 use Rattle.std.specs.Prelude.{List, ℕ, ◌≡◌}
-use Rattle.mar_block.specs.Block.{Block}
+use Rattle.mar_cert.specs.Block.{Block}
 use Rattle.mar_block.specs.declared.expected.ExpectedCommitment.{ExpectedCommitment}
 use Rattle.mar_block.specs.declared.expected.ExpectedCommitment.TheVariants.{Trusted, Untrusted}
 

@@ -1,4 +1,3 @@
-pub mod Block
 pub mod EmptyBlock
 pub mod EmptyBlockLemmas
 pub mod Expected

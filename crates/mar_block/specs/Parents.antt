@@ -1,6 +1,6 @@
 -- The line of parents of a block.
 use Rattle.std.specs.Prelude.{Bool, List, None, Option, Some, [], bytes_eq, find, suc, zero, ℕ, ◌&&◌, ◌==◌, ◌∷◌}
-use Rattle.mar_block.specs.Block.{Block}
+use Rattle.mar_cert.specs.Block.{Block}
 
 abbrev pub is_parent : Block → ℕ → Block → Bool
 is_parent child height b = b.height == height && bytes_eq b.digest child.parent

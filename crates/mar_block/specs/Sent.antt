@@ -1,7 +1,7 @@
 -- What a buffer was handed to send, and what it holds.
 use Rattle.std.specs.Prelude.{Bool, IfSome, List, Option, Some, ℕ, ◌++◌, ◌≡◌}
 use Rattle.mar_types.specs.Round.{Round}
-use Rattle.mar_block.specs.Block.{Block}
+use Rattle.mar_cert.specs.Block.{Block}
 use Rattle.mar_block.specs.Recipients.{named}
 use Rattle.mar_block.specs.declared.recipients.Sent.{Sent}
 

@@ -1,6 +1,6 @@
 -- Blocks whose commitment is their digest: what commits to them, and what is not the block of a commitment.
 use Rattle.std.specs.Prelude.{List, ℕ, ◌≡◌, ◌≢◌}
-use Rattle.mar_block.specs.Block.{Block}
+use Rattle.mar_cert.specs.Block.{Block}
 use Rattle.mar_block.specs.EmptyBlock.{standard_block}
 
 -- the commitment is the block's digest

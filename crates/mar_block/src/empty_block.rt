@@ -170,7 +170,7 @@ impl MaxEncodeSize for EmptyBlock<Sha256> {
 
 impl EmptyBlock<Sha256> {
     ghost use Rattle.std.specs.Prelude.{List, ℕ};
-    ghost use Rattle.mar_block.specs.Block.{Block as PlainBlock, IsBlock};
+    ghost use Rattle.mar_cert.specs.Block.{Block as PlainBlock, IsBlock};
 
     /// A block as plain data is a block of the definition.
     pub fn is_block(&self)

@@ -2,7 +2,7 @@
 ghost use Rattle.std.specs.Prelude.{◌≡◌, ◌⊎◌, IfErr, IfOk, refl, true};
 ghost use Rattle.std.proofs.Common.{sym};
 ghost use Rattle.mar_codec.specs.Refusals.{RefusesWhole};
-ghost use Rattle.mar_block.specs.Block.{Block as PlainBlock};
+ghost use Rattle.mar_cert.specs.Block.{Block as PlainBlock};
 ghost use Rattle.mar_block.specs.EmptyBlock.{standard_block};
 ghost use Rattle.mar_block.specs.Expected.{Decodes, commitment_of};
 ghost use Rattle.mar_block.specs.Standard.{HasDigest, HasOtherDigest, made_standard};

@@ -1,6 +1,6 @@
 //! Kinds of blocks.
 ghost use Rattle.std.specs.Prelude.{◌≡◌, ◌⊎◌, ◌≤◌, ℕ, Bool, List, IfErr, IfOk, length};
-ghost use Rattle.mar_block.specs.Block.{Block as PlainBlock};
+ghost use Rattle.mar_cert.specs.Block.{Block as PlainBlock};
 ghost use Rattle.mar_block.specs.Expected.{Decodes, IsMadeOf, commitment_of};
 
 use crate::blocks::Block;

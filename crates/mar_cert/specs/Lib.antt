@@ -9,3 +9,4 @@ pub mod SignersLemmas
 pub mod VerdictLemmas
 pub mod Verdicts
 pub mod Views
+pub mod Block

@@ -1,0 +1,313 @@
+-- An acknowledgement: what is given at the front is processed, and the node stays good.
+use Rattle.std.proofs.Common.{◌≡◌, inr, ℕ, zero, suc, ◌+◌, ◌<◌, ◌≤◌, List, [], ◌∷◌, ◌++◌, length, flat_map, fold, Bool, true, false, if◌then◌else◌, nat_lt, Option, Some, None, Contains, option_map, option_to_list, refl, sym, ◌∙◌, ap, ap₂, subst, arith, append-nil}
+use Rattle.std.specs.List.{cons_option, filter_map}
+use Rattle.std.proofs.lemmas.Bool.Decides.{nat_tests}
+use Rattle.std.proofs.lemmas.List.{length-map}
+use Rattle.mar_types.specs.Epochs.{IsPartition, closed_epoch}
+use Rattle.mar_types.specs.Round.{Round, round_lt}
+use Rattle.mar_cert.specs.Block.{Block}
+use Rattle.mar_cert.specs.Finalization.{Finalization}
+use Rattle.mar_key.specs.Asked.{Asked}
+use Rattle.mar_key.specs.Cutoff.{Cutoff, at_epoch, at_round, greatest_of}
+use Rattle.mar_key.specs.Keys.{above_height, retain}
+use Rattle.mar_key.specs.Processed.{Processed, first_unprocessed, height_in}
+use Rattle.mar_store.specs.Changes.{KeepsValues}
+use Rattle.mar_store.specs.Kept.{At, value_at}
+use Rattle.mar_node.specs.Acks.{Mark, Outstanding, after_given, dropped_oldest, given_front, is_dropped, is_given, mark_dropped, mark_given, mark_waiting, marked_entry, with_mark}
+use Rattle.mar_node.specs.Metadata.{Pair, pair_of}
+use Rattle.mar_node.specs.Cache.{Witnessing, prunes_by, with_witness, witnessing_of}
+use Rattle.mar_node.specs.Chain.{Chain, IsLawful}
+use Rattle.mar_node.specs.Config.{Config}
+use Rattle.mar_node.specs.Event.{ack_given, acked_to, cutoff_after, no_floor, processed_after, retired_cutoffs}
+use Rattle.mar_node.specs.Faults.{dropped_first, next_after}
+use Rattle.mar_node.specs.Held.{Counts, Seen}
+use Rattle.mar_node.specs.Lives.{NotBelow, later_round}
+use Rattle.mar_node.specs.Moves.{Drains, progress_asks, retired, round_at}
+use Rattle.mar_node.specs.Node.{FloorSafe, IsGood, Node, Rest, block_missing, floor_awaited, window_full, write_uncovered}
+use Rattle.mar_node.specs.Promise.{node_of}
+use Rattle.mar_node.specs.Requests.{own_asks, raise_asks, retire_asks}
+use Rattle.mar_node.specs.Sound.{IsSafePair}
+use Rattle.mar_node.proofs.Cutting.{MayBeLeft, keeps_heights}
+use Rattle.mar_node.proofs.FloorSafety.{FloorSafe-after, next_after-is}
+use Rattle.mar_node.proofs.OutstandingLemmas.{ConsecutiveFrom-after_given, ConsecutiveFrom-with_mark, all_sure-drained, all_sure-kept, first_unprocessed-rises}
+use Rattle.mar_node.proofs.PlainEvents.{KeepsFrom-same, Writes-none}
+use Rattle.mar_node.proofs.Reaching.{Reaches}
+use Rattle.mar_node.proofs.Soundness.{HasAnchor-acked_to, IsFrom, IsSafePair-kept, own_pair_safe}
+
+-- MARKS
+
+-- no fault is called for where the oldest wasn't dropped
+pub dropped_first-none : (out : List Outstanding) → dropped_oldest out ≡ None → dropped_first out ≡ None
+dropped_first-none [] none = refl
+dropped_first-none (o ∷ out) none = by o.mark none
+  where
+    by : (mark : Mark) → (if is_dropped mark then Some o else None) ≡ None → dropped_first (record o { mark = mark } ∷ out) ≡ None
+    by mark_waiting e = refl
+    by mark_given e = refl
+    by mark_dropped e = absurd cc
+
+-- no more stay than there were
+pub length-after_given : (out : List Outstanding) → length (after_given out) ≤ length out
+length-after_given [] = omega arith
+length-after_given (o ∷ out) = by (is_given o.mark) (length-after_given out)
+  where
+    by : (given : Bool) → length (after_given out) ≤ length out → length (if given then after_given out else o ∷ out) ≤ suc (length out)
+    by true fewer = omega arith
+    by false fewer = omega arith
+
+-- where none is given at the front, all stay
+pub after_given-none : (out : List Outstanding) → given_front out ≡ [] → after_given out ≡ out
+after_given-none [] none = refl
+after_given-none (o ∷ out) none = by (is_given o.mark) none
+  where
+    by : (given : Bool) → (if given then o ∷ given_front out else []) ≡ [] → (if given then after_given out else o ∷ out) ≡ o ∷ out
+    by true e = absurd cc
+    by false e = refl
+
+-- a list that isn't longer than none is empty
+none_of_length : {T : Type 0} (xs : List T) → false ≡ nat_lt 0 (length xs) → xs ≡ []
+none_of_length [] e = refl
+none_of_length (x ∷ xs) e = absurd (clash (length xs) e)
+  where
+    clash : (k : ℕ) → false ≡ nat_lt 0 (suc k) → ⊥
+    clash k is = grind (arith, nat_tests)
+
+-- THE WITNESSED ROUND
+
+-- the later of the rounds at these heights is the last one witnessed
+pub later_rounds-are : (certs : List (At Finalization)) (retention : ℕ) (w : Witnessing) (out : List Outstanding) → fold (λ r o. later_round r (round_at certs o.height)) w.last out ≡ (fold (with_witness retention) w (filter_map (λ o. round_at certs o.height) out)).last
+later_rounds-are certs retention w [] = refl
+later_rounds-are certs retention w (o ∷ out) = by (round_at certs o.height) (λ v. later_rounds-are certs retention v out)
+  where
+    later : Round → Round
+    later r = fold (λ s x. later_round s (round_at certs x.height)) r out
+
+    rounds : List Round
+    rounds = filter_map (λ x. round_at certs x.height) out
+
+    newer : (r : Round) (b : Bool) → ((v : Witnessing) → later v.last ≡ (fold (with_witness retention) v rounds).last) → later (if b then r else w.last) ≡ (fold (with_witness retention) (if b then record { last = r; prunes = w.prunes ++ prunes_by retention w.last ∷ [] } else w) rounds).last
+    newer r true others = others (record { last = r; prunes = w.prunes ++ prunes_by retention w.last ∷ [] })
+    newer r false others = others w
+
+    by : (r : Option Round) → ((v : Witnessing) → later v.last ≡ (fold (with_witness retention) v rounds).last) → later (later_round w.last r) ≡ (fold (with_witness retention) w (cons_option r rounds)).last
+    by None others = others w
+    by (Some r) others = newer r (round_lt w.last r) others
+
+-- CUTOFFS
+
+module _ (config : Config) (n : Node) where
+  -- the cutoffs of a drained height, said of its certificate and of its round
+  retired-is : (o : Outstanding) → retired config.epochs n.certs.held o.height ≡ retired_cutoffs config n o
+  retired-is o = by (value_at n.certs.held o.height)
+    where
+      closed : List Cutoff
+      closed = option_to_list (option_map at_epoch (closed_epoch config.epochs o.height))
+
+      by : (f : Option Finalization) → option_to_list (option_map at_round (option_map (λ x. x.round) f)) ++ closed ≡ option_to_list (option_map (λ x. at_round x.round) f) ++ closed
+      by None = refl
+      by (Some f) = refl
+
+  -- and those of all of them
+  all_retired-are : (out : List Outstanding) → flat_map (λ o. retired config.epochs n.certs.held o.height) out ≡ flat_map (retired_cutoffs config n) out
+  all_retired-are [] = refl
+  all_retired-are (o ∷ out) = ap₂ (λ xs ys. xs ++ ys) (retired-is o) (all_retired-are out)
+
+  -- what is asked as these are processed is what the node asks as it drains them
+  progress_asks-are : (cutoff : Cutoff) (out : List Outstanding) → progress_asks config.epochs n.certs.held cutoff out ≡ retire_asks config n cutoff out
+  progress_asks-are cutoff [] = refl
+  progress_asks-are cutoff (o ∷ out) =
+      ap (λ cs. retain (above_height o.height) ∷ raise_asks cutoff cs ++ progress_asks config.epochs n.certs.held (greatest_of cutoff cs) out) (retired-is o)
+      ∙ ap (λ asks. retain (above_height o.height) ∷ raise_asks cutoff (retired_cutoffs config n o) ++ asks) (progress_asks-are (greatest_of cutoff (retired_cutoffs config n o)) out)
+
+-- THE EVENT
+
+-- an actor once its own pair was synced
+abbrev pub with_own_pair : {P E : Type 0} → Counts → Seen P E → Seen P E
+with_own_pair counts b = record b { held = record b.held { pairs = pair_of b.held.processed b.held.cutoff ∷ []; counts = counts } }
+
+module _ {P E : Type 0} (config : Config) (chain : Chain) (lawful : IsLawful config.epochs chain) (partition : IsPartition config.epochs) (a : Seen P E) (t : ℕ) (buffer : List Block) (asked : List Asked) (good : IsGood config chain (node_of a buffer asked)) where
+  abbrev pub n : Node
+  n = node_of a buffer asked
+
+  -- the actor with the mark
+  abbrev pub given : Seen P E
+  given = record a { life = record a.life { out = with_mark t mark_given a.life.out } }
+
+  -- the blocks that are drained
+  abbrev pub drained : List Outstanding
+  drained = given_front given.life.out
+
+  -- the processed height and the cutoff after it
+  abbrev pub processed : Option Processed
+  processed = acked_to a.held.processed drained
+
+  abbrev pub cutoff : Cutoff
+  cutoff = greatest_of a.held.cutoff (flat_map (λ o. retired config.epochs a.held.certs.held o.height) drained)
+
+  -- the actor once they are drained, with these pairs and counts
+  abbrev pub drained_to : List Pair → Counts → Seen P E
+  drained_to pairs counts = record a {
+    held = record a.held { processed = processed; cutoff = cutoff; pairs = pairs; counts = counts };
+    life = record a.life {
+      out = after_given given.life.out;
+      witnessed = fold (λ r o. later_round r (round_at a.held.certs.held o.height)) a.life.witnessed drained;
+    };
+  }
+
+  -- what its own sync leaves of them
+  abbrev pub own_pairs : List Pair
+  own_pairs = pair_of processed cutoff ∷ []
+
+  -- the cutoff is the event's
+  pub cutoff-is : cutoff ≡ cutoff_after config n (ack_given t) no_floor
+  cutoff-is = ap (greatest_of a.held.cutoff) (all_retired-are config n drained ∙ sym (append-nil (flat_map (retired_cutoffs config n) drained ++ []) ∙ append-nil (flat_map (retired_cutoffs config n) drained)))
+
+  -- what is asked is what the event asks
+  pub asks-drained : progress_asks config.epochs a.held.certs.held a.held.cutoff drained ≡ own_asks config n (ack_given t) no_floor
+  asks-drained = progress_asks-are config n a.held.cutoff drained ∙ sym (append-nil (retire_asks config n a.held.cutoff drained ++ []) ∙ append-nil (retire_asks config n a.held.cutoff drained))
+
+  -- and so is the round that is witnessed last
+  witnessed-is : fold (λ r o. later_round r (round_at a.held.certs.held o.height)) a.life.witnessed drained ≡ (witnessing_of config n (ack_given t) no_floor).last
+  witnessed-is = later_rounds-are a.held.certs.held config.retention start drained ∙ ap (λ rounds. (fold (with_witness config.retention) start rounds).last) (sym (append-nil (filter_map (λ o. round_at a.held.certs.held o.height) drained)))
+    where
+      start : Witnessing
+      start = record { last = a.life.witnessed; prunes = [] }
+
+  -- it covers nothing but what is processed or, next after that, sure
+  floor_safe : FloorSafe (option_map height_in processed) cutoff a.held.blocks.sure chain
+  floor_safe = subst (λ c. FloorSafe (option_map height_in processed) c a.held.blocks.sure chain) (sym cutoff-is) (FloorSafe-after config chain lawful partition n (ack_given t) a.held.blocks.sure good.of_chain.held_certs good.heights.consecutive good.of_chain.floor_safe (λ h low has. has) tt tt)
+
+  -- the window still holds what stays
+  still_within : length (after_given given.life.out) ≤ config.window
+  still_within =
+      let fewer : length (after_given given.life.out) ≤ length given.life.out = length-after_given given.life.out in
+      let same : length given.life.out ≡ length a.life.out = length-map a.life.out (marked_entry t mark_given) in
+      let before : length a.life.out ≤ config.window = good.heights.within_window in
+      omega arith
+
+  -- it is good
+  IsGood-drained : (counts : Counts) → IsGood config chain (node_of (drained_to own_pairs counts) buffer asked)
+  IsGood-drained counts = record {
+    heights = record {
+      sure_blocks = good.heights.sure_blocks;
+      sure_certs = good.heights.sure_certs;
+      consecutive = ConsecutiveFrom-after_given a.held.processed given.life.out (ConsecutiveFrom-with_mark t mark_given (first_unprocessed a.held.processed) a.life.out good.heights.consecutive);
+      out_sure = all_sure-kept n (ack_given t) no_floor good.heights.out_sure;
+      within_window = still_within;
+      floor_clears = λ some. absurd cc;
+      anchored = HasAnchor-acked_to a.held.processed drained a.held.blocks.sure good.heights.anchored (all_sure-drained n (ack_given t) good.heights.out_sure);
+      own_pair = refl;
+      sync_open = λ more. absurd (omega arith);
+    };
+    of_chain = record {
+      held_blocks = good.of_chain.held_blocks;
+      may_blocks = good.of_chain.may_blocks;
+      held_certs = good.of_chain.held_certs;
+      may_certs = good.of_chain.may_certs;
+      cached = good.of_chain.cached;
+      cached_blocks = good.of_chain.cached_blocks;
+      awaits = good.of_chain.awaits;
+      floor_safe = floor_safe;
+      honest_asks = good.of_chain.honest_asks;
+      honest_ready = good.of_chain.honest_ready;
+      honest_overflow = good.of_chain.honest_overflow;
+      not_at_hand = good.of_chain.not_at_hand;
+      tip_reported = good.of_chain.tip_reported;
+    };
+  }
+
+  -- and the event reached it, where the oldest that stays wasn't dropped
+  Reaches-drained : (counts : Counts) → dropped_oldest (after_given given.life.out) ≡ None → Reaches config chain a (ack_given t) buffer asked [] (drained_to own_pairs counts)
+  Reaches-drained counts not_dropped = record {
+    no_effect = refl;
+    kept = refl;
+    next_ack = refl;
+    sizes = refl;
+    processed = refl;
+    cutoff = cutoff-is;
+    blocks = KeepsFrom-same _ a.held.blocks;
+    certs = KeepsFrom-same _ a.held.certs;
+    writes = (Writes-none a (drained_to own_pairs counts) (ack_given t) buffer asked refl refl refl refl refl).0;
+    no_repair = (Writes-none a (drained_to own_pairs counts) (ack_given t) buffer asked refl refl refl refl refl).1;
+    are_tips = tt;
+    tips_rise = refl;
+    tips_chain = tt;
+    witnessed = witnessed-is;
+    stored = tt;
+    stored_late = tt;
+    no_query = refl;
+    no_fault = dropped_first-none (after_given given.life.out) not_dropped;
+    sends = refl;
+    answers = refl;
+    subscriptions = refl;
+    certified = λ tip. refl;
+    no_syncs = λ n'. refl;
+    good = IsGood-drained counts;
+  }
+
+  module _ (is_drained : Bool) (b : Seen P E) (drains : Drains config.epochs given is_drained b) where
+    -- An acknowledgement reaches the actor whose pair was synced after it drained.
+    pub Reaches-ack : (m : Seen P E) → m ≡ with_own_pair m.held.counts b → Reaches config chain a (ack_given t) buffer asked [] m
+    Reaches-ack m after = subst (λ x. Reaches config chain a (ack_given t) buffer asked [] x) (sym (after ∙ ap (with_own_pair m.held.counts) drains.same)) (Reaches-drained m.held.counts drains.not_dropped)
+
+    -- its pair, said of the actor before
+    pair-is : pair_of b.held.processed b.held.cutoff ≡ pair_of processed cutoff
+    pair-is = ap (λ x. pair_of x.held.processed x.held.cutoff) drains.same
+
+    -- the pair that it gives to the sync is the event's
+    pub pair_after-is : pair_of (processed_after n (ack_given t) no_floor) (cutoff_after config n (ack_given t) no_floor) ≡ pair_of b.held.processed b.held.cutoff
+    pair_after-is = ap (pair_of processed) (sym cutoff-is) ∙ sym pair-is
+
+    -- which is safe
+    pub pair_after-safe : IsSafePair chain a.held.blocks.sure (pair_of b.held.processed b.held.cutoff)
+    pair_after-safe = subst (IsSafePair chain a.held.blocks.sure) (sym pair-is) (own_pair_safe chain (node_of (drained_to own_pairs a.held.counts) buffer asked) (IsGood-drained a.held.counts).heights.anchored floor_safe)
+
+    -- and not below the one before
+    pub NotBelow-drained : NotBelow (option_map height_in a.held.processed) (option_map height_in b.held.processed)
+    NotBelow-drained = subst (λ o. NotBelow (option_map height_in a.held.processed) (option_map height_in o)) (sym (ap (λ x. x.held.processed) drains.same))
+        (let low : first_unprocessed a.held.processed ≤ first_unprocessed processed = first_unprocessed-rises n (ack_given t) no_floor good.heights.consecutive in
+        subst (λ k. k ≤ next_after (option_map height_in processed)) (sym (next_after-is a.held.processed)) (subst (λ k. first_unprocessed a.held.processed ≤ k) (sym (next_after-is processed)) low))
+
+    -- so it may be left where the sync of that pair fails
+    pub MayBeLeft-drained : (sure : List (At Block)) → KeepsValues a.held.blocks.sure sure → (p : Pair) → Contains (pair_of b.held.processed b.held.cutoff ∷ []) p → MayBeLeft config chain a (ack_given t) buffer asked sure p
+    MayBeLeft-drained sure keeps p (suc k, lt, is) = absurd (omega arith)
+    MayBeLeft-drained sure keeps p (zero, lt, is) = subst (MayBeLeft config chain a (ack_given t) buffer asked sure) is (inr (pair_after-is, kept, NotBelow-drained))
+      where
+        from : (o : Option ℕ) → IsFrom 0 o
+        from None = tt
+        from (Some h) = omega arith
+
+        kept : IsSafePair chain sure (pair_of b.held.processed b.held.cutoff)
+        kept = IsSafePair-kept chain 0 a.held.blocks.sure sure (pair_of b.held.processed b.held.cutoff) (λ h low there. keeps_heights a.held.blocks.sure sure keeps h there) (from (option_map height_in b.held.processed)) pair_after-safe
+
+  -- WHERE NOTHING WAS DRAINED
+
+  module _ (b : Seen P E) (drains : Drains config.epochs given false b) where
+    -- none was given at the front
+    none_drained : drained ≡ []
+    none_drained = none_of_length drained drains.drained
+
+    -- so the pair is the one that was synced before
+    pairs-are : a.held.pairs ≡ own_pairs
+    pairs-are = good.heights.own_pair ∙ sym (ap (λ out. pair_of (acked_to a.held.processed out) (greatest_of a.held.cutoff (flat_map (λ o. retired config.epochs a.held.certs.held o.height) out)) ∷ []) none_drained)
+
+    -- An acknowledgement behind one that is waited for reaches the actor with its mark.
+    pub Reaches-undrained : Reaches config chain a (ack_given t) buffer asked [] b
+    Reaches-undrained = subst (λ x. Reaches config chain a (ack_given t) buffer asked [] x) (sym (drains.same ∙ ap (λ pairs. drained_to pairs b.held.counts) pairs-are)) (Reaches-drained b.held.counts drains.not_dropped)
+
+    -- as many are waited for, from the same height on, over the same blocks
+    same_length : length b.life.out ≡ length a.life.out
+    same_length = ap (λ x. length x.life.out) drains.same ∙ (ap (λ out. length out) (after_given-none given.life.out none_drained) ∙ length-map a.life.out (marked_entry t mark_given))
+
+    same_processed : b.held.processed ≡ a.held.processed
+    same_processed = ap (λ x. x.held.processed) drains.same ∙ ap (acked_to a.held.processed) none_drained
+
+    same_blocks : b.held.blocks ≡ a.held.blocks
+    same_blocks = ap (λ x. x.held.blocks) drains.same
+
+    -- and it rests as before
+    pub Rest-undrained : Rest config.window n → Rest config.window (node_of b buffer asked)
+    Rest-undrained (floor_awaited some) = absurd cc
+    Rest-undrained (window_full full) = window_full (same_length ∙ full)
+    Rest-undrained (block_missing missing) = block_missing (subst (λ k. value_at b.held.blocks.held k ≡ None) (sym (ap₂ (λ p k. first_unprocessed p + k) same_processed same_length)) (subst (λ kept. value_at kept.held (first_unprocessed a.held.processed + length a.life.out) ≡ None) (sym same_blocks) missing))
+    Rest-undrained (write_uncovered h none low) = absurd (let lt : none.0 < 0 = none.1 in omega arith)

@@ -1,0 +1,261 @@
+-- Acknowledged blocks that are processed one after another.
+use Rattle.std.proofs.Common.{◌≡◌, ◌⊎◌, inl, inr, ℕ, suc, ◌+◌, ◌≤◌, List, [], ◌∷◌, ◌++◌, length, flat_map, fold, Bool, true, false, if◌then◌else◌, nat_lt, is_some, Option, Some, None, option_to_list, refl, sym, ◌∙◌, ap, subst, arith, append_assoc, append-nil, length-append}
+use Rattle.std.proofs.lemmas.Bool.Decides.{nat_tests}
+use Rattle.std.proofs.lemmas.Grind.{flat_map-append}
+use Rattle.mar_types.specs.Round.{Round}
+use Rattle.mar_types.specs.Epochs.{Epochs}
+use Rattle.mar_cert.specs.Finalization.{Finalization}
+use Rattle.mar_key.specs.Cutoff.{Cutoff, greatest_of}
+use Rattle.mar_key.specs.Hears.{Hears}
+use Rattle.mar_key.specs.Keys.{Call, above_height, retain}
+use Rattle.mar_key.specs.Processed.{Processed, at_block}
+use Rattle.mar_key.proofs.CutoffOrder.{greatest_of-append}
+use Rattle.mar_store.specs.Kept.{At}
+use Rattle.mar_node.specs.Acks.{Mark, Outstanding, after_given, after_oldest, dropped_oldest, given_front, given_oldest, is_dropped, is_given, mark_dropped, mark_given, mark_waiting}
+use Rattle.mar_node.specs.Event.{acked_to}
+use Rattle.mar_node.specs.Held.{Counts, Ending, Grew, IsUsual, Seen}
+use Rattle.mar_node.specs.Lives.{later_round}
+use Rattle.mar_node.specs.Moves.{Drains, DrainsNext, EndsDropped, EndsOldest, progress_asks, retired, round_at, with_processed}
+use Rattle.mar_node.specs.Requests.{raise_asks}
+use Rattle.mar_node.proofs.Growing.{Grew-refl}
+use Rattle.mar_node.proofs.Handing.{Hears-nothing, Hears-then}
+
+-- THE OLDEST, AND THE GIVEN ONES AT THE FRONT
+
+-- one given entry after another
+front_next : (out : List Outstanding) → given_front out ≡ option_to_list (given_oldest out) ++ given_front (after_oldest out)
+front_next [] = refl
+front_next (a ∷ out) = by (is_given a.mark) refl
+  where
+    by : (b : Bool) → is_given a.mark ≡ b → (if b then a ∷ given_front out else []) ≡ option_to_list (if b then Some a else None) ++ given_front (if b then out else a ∷ out)
+    by true given = refl
+    by false waits = ap (λ (b : Bool). if b then a ∷ given_front out else []) (sym waits)
+
+rest_next : (out : List Outstanding) → after_given (after_oldest out) ≡ after_given out
+rest_next [] = refl
+rest_next (a ∷ out) = by (is_given a.mark) refl
+  where
+    by : (b : Bool) → is_given a.mark ≡ b → after_given (if b then out else a ∷ out) ≡ (if b then after_given out else a ∷ out)
+    by true given = refl
+    by false waits = ap (λ (b : Bool). if b then after_given out else a ∷ out) waits
+
+-- where the oldest isn't given, none is at the front
+none_front : (out : List Outstanding) → is_some (given_oldest out) ≡ false → given_front out ≡ []
+none_front [] none = refl
+none_front (a ∷ out) none = by (is_given a.mark) none
+  where
+    by : (b : Bool) → is_some (if b then Some a else None) ≡ false → (if b then a ∷ given_front out else []) ≡ []
+    by true e = absurd cc
+    by false e = refl
+
+none_after : (out : List Outstanding) → is_some (given_oldest out) ≡ false → after_given out ≡ out
+none_after [] none = refl
+none_after (a ∷ out) none = by (is_given a.mark) none
+  where
+    by : (b : Bool) → is_some (if b then Some a else None) ≡ false → (if b then after_given out else a ∷ out) ≡ a ∷ out
+    by true e = absurd cc
+    by false e = refl
+
+same_oldest : (out : List Outstanding) → is_some (given_oldest out) ≡ false → after_oldest out ≡ out
+same_oldest [] none = refl
+same_oldest (a ∷ out) none = by (is_given a.mark) none
+  where
+    by : (b : Bool) → is_some (if b then Some a else None) ≡ false → (if b then out else a ∷ out) ≡ a ∷ out
+    by true e = absurd cc
+    by false e = refl
+
+one_oldest : (out : List Outstanding) → is_some (given_oldest out) ≡ true → length (option_to_list (given_oldest out)) ≡ 1
+one_oldest out some = by (given_oldest out) some
+  where
+    by : (o : Option Outstanding) → is_some o ≡ true → length (option_to_list o) ≡ 1
+    by None e = absurd cc
+    by (Some a) e = refl
+
+none_oldest : (out : List Outstanding) → is_some (given_oldest out) ≡ false → option_to_list (given_oldest out) ≡ []
+none_oldest out none = by (given_oldest out) none
+  where
+    by : (o : Option Outstanding) → is_some o ≡ false → option_to_list o ≡ []
+    by None e = refl
+    by (Some a) e = absurd cc
+
+-- the front and what is behind it are all
+both_parts : (out : List Outstanding) → length (given_front out) + length (after_given out) ≡ length out
+both_parts [] = refl
+both_parts (a ∷ out) = by (is_given a.mark) (both_parts out)
+  where
+    by : (b : Bool) → length (given_front out) + length (after_given out) ≡ length out → length (if b then a ∷ given_front out else []) + length (if b then after_given out else a ∷ out) ≡ suc (length out)
+    by true rest = omega arith
+    by false rest = omega arith
+
+empty_list : {T : Type 0} (xs : List T) → length xs ≡ 0 → xs ≡ []
+empty_list [] e = refl
+empty_list (x ∷ xs) e = absurd (omega arith)
+
+-- a dropped oldest stays behind the front
+dropped_stays : (out : List Outstanding) (a : Outstanding) → dropped_oldest out ≡ Some a → dropped_oldest (after_given out) ≡ Some a
+dropped_stays [] a is = is
+dropped_stays (x ∷ out) a is = by x.mark refl is
+  where
+    by : (m : Mark) → x.mark ≡ m → (if is_dropped m then Some x else None) ≡ Some a → dropped_oldest (if is_given m then after_given out else x ∷ out) ≡ Some a
+    by mark_waiting e d = absurd cc
+    by mark_given e d = absurd cc
+    by mark_dropped e d = ap (λ m. if is_dropped m then Some x else None) e ∙ d
+
+-- WHAT IS ASKED AND WITNESSED
+
+progress_asks-append : (epochs : Epochs) (certs : List (At Finalization)) (c : Cutoff) (xs ys : List Outstanding) → progress_asks epochs certs c (xs ++ ys) ≡ progress_asks epochs certs c xs ++ progress_asks epochs certs (greatest_of c (flat_map (λ o. retired epochs certs o.height) xs)) ys
+progress_asks-append epochs certs c [] ys = refl
+progress_asks-append epochs certs c (x ∷ xs) ys =
+    ap (λ zs. retain (above_height x.height) ∷ zs)
+    (ap (λ zs. raise_asks c (retired epochs certs x.height) ++ zs) (progress_asks-append epochs certs (greatest_of c (retired epochs certs x.height)) xs ys)
+    ∙ sym (append_assoc (raise_asks c (retired epochs certs x.height)) (progress_asks epochs certs (greatest_of c (retired epochs certs x.height)) xs) _)
+    ∙ ap (λ d. (raise_asks c (retired epochs certs x.height) ++ progress_asks epochs certs (greatest_of c (retired epochs certs x.height)) xs) ++ progress_asks epochs certs d ys) (sym (greatest_of-append c (retired epochs certs x.height) (flat_map (λ o. retired epochs certs o.height) xs))))
+
+acked_to-append : (p : Option Processed) (xs ys : List Outstanding) → acked_to p (xs ++ ys) ≡ acked_to (acked_to p xs) ys
+acked_to-append p [] ys = refl
+acked_to-append p (x ∷ xs) ys = acked_to-append (Some (at_block x.height)) xs ys
+
+fold-append : {X Y : Type 0} (f : Y → X → Y) (y : Y) (xs zs : List X) → fold f y (xs ++ zs) ≡ fold f (fold f y xs) zs
+fold-append f y [] zs = refl
+fold-append f y (x ∷ xs) zs = fold-append f (f y x) xs zs
+
+abbrev cutoffs_of : {P E : Type 0} → Epochs → Seen P E → List Outstanding → List Cutoff
+cutoffs_of epochs a zs = flat_map (λ o. retired epochs a.held.certs.held o.height) zs
+
+abbrev later_in : {P E : Type 0} → Seen P E → Round → Outstanding → Round
+later_in a r o = later_round r (round_at a.held.certs.held o.height)
+
+abbrev remade : {P E : Type 0} → Seen P E → List Outstanding → Counts → Option Processed → Cutoff → Round → Seen P E
+remade a out counts p c w = record a { held = record a.held { processed = p; cutoff = c; counts = counts }; life = record a.life { out = out; witnessed = w } }
+
+pub with_processed-then : {P E : Type 0} (epochs : Epochs) (a : Seen P E) (xs ys out out' : List Outstanding) (counts counts' : Counts) → with_processed epochs (with_processed epochs a xs out counts) ys out' counts' ≡ with_processed epochs a (xs ++ ys) out' counts'
+with_processed-then epochs a xs ys out out' counts counts' =
+    ap (λ p. remade a out' counts' p (greatest_of (greatest_of a.held.cutoff (cutoffs_of epochs a xs)) (cutoffs_of epochs a ys)) (fold (later_in a) (fold (later_in a) a.life.witnessed xs) ys)) (sym (acked_to-append a.held.processed xs ys))
+    ∙ (ap (λ c. remade a out' counts' (acked_to a.held.processed (xs ++ ys)) c (fold (later_in a) (fold (later_in a) a.life.witnessed xs) ys)) (sym (greatest_of-append a.held.cutoff (cutoffs_of epochs a xs) (cutoffs_of epochs a ys)) ∙ ap (λ cs. greatest_of a.held.cutoff cs) (sym (flat_map-append (λ o. retired epochs a.held.certs.held o.height) xs ys)))
+    ∙ ap (λ w. remade a out' counts' (acked_to a.held.processed (xs ++ ys)) (greatest_of a.held.cutoff (cutoffs_of epochs a (xs ++ ys))) w) (sym (fold-append (later_in a) a.life.witnessed xs ys)))
+
+-- SO FAR
+
+-- What was drained so far.
+pub record DrainsSoFar {P E : Type 0} (epochs : Epochs) (start now : Seen P E) (told told' : Option (List Call)) (drained : Bool) (count : ℕ) : Type 0 where
+  pub done : List Outstanding
+  pub front : given_front start.life.out ≡ done ++ given_front now.life.out
+  pub rest : after_given now.life.out ≡ after_given start.life.out
+  pub heard : Hears told (progress_asks epochs start.held.certs.held start.held.cutoff done) told'
+  pub same : now ≡ with_processed epochs start done now.life.out now.held.counts
+  pub grew : Grew start.held [] [] now.held
+  pub is_drained : drained ≡ nat_lt 0 (length done)
+  pub counted : count ≡ length done
+
+pub DrainsSoFar-first : {P E : Type 0} (epochs : Epochs) (start : Seen P E) (told : Option (List Call)) → DrainsSoFar epochs start start told told false 0
+DrainsSoFar-first epochs start told = record { done = []; front = refl; rest = refl; heard = Hears-nothing told; same = refl; grew = Grew-refl start.held [] []; is_drained = refl; counted = refl }
+
+module _ {P E : Type 0} (epochs_of : E → Epochs) (start now : Seen P E) (told told' : Option (List Call)) (drained : Bool) (count : ℕ) (so_far : DrainsSoFar (epochs_of start.life.epocher) start now told told' drained count) where
+  abbrev pub epochs : Epochs
+  epochs = epochs_of start.life.epocher
+
+  abbrev pub one : List Outstanding
+  one = option_to_list (given_oldest now.life.out)
+
+  epochs_now : epochs_of now.life.epocher ≡ epochs
+  epochs_now = ap (λ a. epochs_of a.life.epocher) so_far.same
+
+  certs_now : now.held.certs.held ≡ start.held.certs.held
+  certs_now = ap (λ a. a.held.certs.held) so_far.same
+
+  -- one more was processed, or there was none
+  after_next : (new : Seen P E) (is_processed : Bool) → DrainsNext (epochs_of now.life.epocher) now is_processed new → new ≡ with_processed epochs start (so_far.done ++ one) (after_oldest now.life.out) new.held.counts
+  after_next new is_processed next =
+      next.same
+      ∙ (ap (λ es. with_processed es now one (after_oldest now.life.out) new.held.counts) epochs_now
+      ∙ (ap (λ a. with_processed epochs a one (after_oldest now.life.out) new.held.counts) so_far.same
+      ∙ with_processed-then epochs start so_far.done one now.life.out (after_oldest now.life.out) now.held.counts new.held.counts))
+
+  out_is : (new : Seen P E) (is_processed : Bool) → DrainsNext (epochs_of now.life.epocher) now is_processed new → new.life.out ≡ after_oldest now.life.out
+  out_is new is_processed next = ap (λ a. a.life.out) next.same
+
+  heard_next : (told'' : Option (List Call)) → Hears told' (progress_asks (epochs_of now.life.epocher) now.held.certs.held now.held.cutoff one) told'' → Hears told (progress_asks epochs start.held.certs.held start.held.cutoff (so_far.done ++ one)) told''
+  heard_next told'' heard = subst (λ zs. Hears told zs told'') (sym (progress_asks-append epochs start.held.certs.held start.held.cutoff so_far.done one))
+      (Hears-then told told' told'' (progress_asks epochs start.held.certs.held start.held.cutoff so_far.done) _ so_far.heard
+      (subst (λ c. Hears told' (progress_asks epochs start.held.certs.held c one) told'') (ap (λ a. a.held.cutoff) so_far.same)
+      (subst (λ cs. Hears told' (progress_asks epochs cs now.held.cutoff one) told'') certs_now
+      (subst (λ es. Hears told' (progress_asks es now.held.certs.held now.held.cutoff one) told'') epochs_now heard))))
+
+  pub DrainsSoFar-more : (new : Seen P E) (told'' : Option (List Call)) (is_processed : Bool) → is_processed ≡ true → DrainsNext (epochs_of now.life.epocher) now is_processed new → Hears told' (progress_asks (epochs_of now.life.epocher) now.held.certs.held now.held.cutoff one) told'' → Grew start.held [] [] new.held → DrainsSoFar epochs start new told told'' true (count + 1)
+  DrainsSoFar-more new told'' is_processed was next heard grew = record {
+    done = so_far.done ++ one;
+    front = so_far.front ∙ (ap (λ zs. so_far.done ++ zs) (front_next now.life.out) ∙ (sym (append_assoc so_far.done one (given_front (after_oldest now.life.out))) ∙ ap (λ o. (so_far.done ++ one) ++ given_front o) (sym (out_is new is_processed next))));
+    rest = ap after_given (out_is new is_processed next) ∙ (rest_next now.life.out ∙ so_far.rest);
+    heard = heard_next told'' heard;
+    same = after_next new is_processed next ∙ ap (λ o. with_processed epochs start (so_far.done ++ one) o new.held.counts) (sym (out_is new is_processed next));
+    grew = grew;
+    is_drained = sym (more (length (so_far.done ++ one)) longer);
+    counted = counted;
+  }
+    where
+      single : length one ≡ 1
+      single = one_oldest now.life.out (sym next.processed ∙ was)
+
+      longer : length (so_far.done ++ one) ≡ length so_far.done + 1
+      longer = length-append so_far.done one ∙ ap (λ k. length so_far.done + k) single
+
+      counted : count + 1 ≡ length (so_far.done ++ one)
+      counted = ap (λ k. k + 1) so_far.counted ∙ sym longer
+
+      more : (k : ℕ) → k ≡ length so_far.done + 1 → nat_lt 0 k ≡ true
+      more k is = grind (arith, nat_tests)
+
+  -- no given one is left at the front
+  pub Drains-still : (new : Seen P E) (told'' : Option (List Call)) (is_processed : Bool) → is_processed ≡ false → DrainsNext (epochs_of now.life.epocher) now is_processed new → Hears told' (progress_asks (epochs_of now.life.epocher) now.held.certs.held now.held.cutoff one) told'' → Drains epochs start drained new × Hears told (progress_asks epochs start.held.certs.held start.held.cutoff (given_front start.life.out)) told''
+  Drains-still new told'' is_processed was next heard = (
+    record {
+      same = after_next new is_processed next ∙ (ap (λ zs. with_processed epochs start zs (after_oldest now.life.out) new.held.counts) all ∙ ap (λ o. with_processed epochs start (given_front start.life.out) o new.held.counts) (same_oldest now.life.out none ∙ (sym (none_after now.life.out none) ∙ so_far.rest)));
+      drained = so_far.is_drained ∙ ap (λ zs. nat_lt 0 (length zs)) done_is;
+      not_dropped = ap dropped_oldest (sym so_far.rest ∙ none_after now.life.out none) ∙ next.not_dropped;
+    },
+    subst (λ zs. Hears told (progress_asks epochs start.held.certs.held start.held.cutoff zs) told'') all (heard_next told'' heard),
+  )
+    where
+      none : is_some (given_oldest now.life.out) ≡ false
+      none = sym next.processed ∙ was
+
+      done_is : so_far.done ≡ given_front start.life.out
+      done_is = sym (append-nil so_far.done) ∙ (ap (λ zs. so_far.done ++ zs) (sym (none_front now.life.out none)) ∙ sym so_far.front)
+
+      all : so_far.done ++ one ≡ given_front start.life.out
+      all = ap (λ zs. so_far.done ++ zs) (none_oldest now.life.out none) ∙ (append-nil so_far.done ∙ done_is)
+
+  -- as many were processed as there were
+  pub Drains-all : length start.life.out ≤ count → Drains epochs start drained now × Hears told (progress_asks epochs start.held.certs.held start.held.cutoff (given_front start.life.out)) told'
+  Drains-all full = (
+    record {
+      same = so_far.same ∙ (ap (λ zs. with_processed epochs start zs now.life.out now.held.counts) done_is ∙ ap (λ o. with_processed epochs start (given_front start.life.out) o now.held.counts) (none_left ∙ sym none_behind));
+      drained = so_far.is_drained ∙ ap (λ zs. nat_lt 0 (length zs)) done_is;
+      not_dropped = ap dropped_oldest none_behind;
+    },
+    subst (λ zs. Hears told (progress_asks epochs start.held.certs.held start.held.cutoff zs) told') done_is so_far.heard,
+  )
+    where
+      parts : length so_far.done + length (given_front now.life.out) ≡ length (given_front start.life.out)
+      parts = sym (length-append so_far.done (given_front now.life.out)) ∙ ap length (sym so_far.front)
+
+      none_more : given_front now.life.out ≡ []
+      none_more = empty_list (given_front now.life.out) (let sum : length (given_front start.life.out) + length (after_given start.life.out) ≡ length start.life.out = both_parts start.life.out in let p : length so_far.done + length (given_front now.life.out) ≡ length (given_front start.life.out) = parts in let k : count ≡ length so_far.done = so_far.counted in omega arith)
+
+      none_behind : after_given start.life.out ≡ []
+      none_behind = empty_list (after_given start.life.out) (let sum : length (given_front start.life.out) + length (after_given start.life.out) ≡ length start.life.out = both_parts start.life.out in let p : length so_far.done + length (given_front now.life.out) ≡ length (given_front start.life.out) = parts in let k : count ≡ length so_far.done = so_far.counted in omega arith)
+
+      none_left : now.life.out ≡ []
+      none_left = empty_list now.life.out (let sum : length (given_front now.life.out) + length (after_given now.life.out) ≡ length now.life.out = both_parts now.life.out in let f : length (given_front now.life.out) ≡ 0 = ap length none_more in let b : length (after_given now.life.out) ≡ 0 = ap length (so_far.rest ∙ none_behind) in omega arith)
+
+      done_is : so_far.done ≡ given_front start.life.out
+      done_is = sym (append-nil so_far.done) ∙ (ap (λ zs. so_far.done ++ zs) (sym none_more) ∙ sym so_far.front)
+
+  pub EndsDropped-oldest : (e : Ending) → IsUsual e.fault ⊎ EndsOldest now e → IsUsual e.fault ⊎ EndsDropped start e
+  EndsDropped-oldest e (inl usual) = inl usual
+  EndsDropped-oldest e (inr ends) = inr (record {
+    oldest = ends.oldest;
+    dropped = ap dropped_oldest (sym so_far.rest) ∙ dropped_stays now.life.out ends.oldest ends.dropped;
+    fault = ends.fault;
+    unsynced = ends.unsynced ∙ so_far.grew.pairs_same;
+  })

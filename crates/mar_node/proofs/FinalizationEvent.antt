@@ -1,0 +1,638 @@
+-- A reported finalization: its block isn't at hand, or is stored above the processed height, or is noted at or below it.
+use Rattle.std.proofs.Common.{◌≡◌, ◌⊎◌, inl, inr, ℕ, zero, suc, ◌+◌, ◌-◌, ◌^◌, ◌<◌, ◌≤◌, List, [], ◌∷◌, ◌++◌, length, map, find, drop, fold, Bool, true, false, ◌&&◌, ◌||◌, not, ◌==◌, nat_lt, if◌then◌else◌, Option, Some, None, is_some, option_map, IfSome, IsTrue, IsFalse, Contains, bytes_eq, slice_get, refl, sym, ◌∙◌, ap, subst, arith, append-nil, le_refl, eqb-true, eq-eqb}
+use Rattle.std.specs.List.{AllByRecursion, list_any}
+use Rattle.std.proofs.lemmas.List.Elements.{Contains-append_left, Contains-append_right}
+use Rattle.mar_types.specs.Epochs.{IsPartition}
+use Rattle.mar_types.specs.Round.{Round, round_lt}
+use Rattle.mar_cert.specs.Block.{Block}
+use Rattle.mar_cert.specs.Finalization.{Finalization}
+use Rattle.mar_node.specs.Messages.{report_finalization}
+use Rattle.mar_key.specs.Asked.{Asked}
+use Rattle.mar_key.specs.Cutoff.{Cutoff, at_round, greatest_of}
+use Rattle.mar_key.specs.Processed.{first_unprocessed, height_in, height_of}
+use Rattle.mar_store.specs.Kept.{At, Kept, has_height, value_at}
+use Rattle.mar_store.specs.Changes.{IsNested, KeepsValues}
+use Rattle.mar_store.proofs.Lookups.{AllByRecursion-contains, AllByRecursion-from_contains, AllByRecursion-push, AllByRecursion-weaker, AllByRecursion-within, has_height-from_contains, has_height-push_cases, has_height-push_same, value_at-append_found}
+use Rattle.mar_node.specs.Metadata.{Pair, pair_of}
+use Rattle.mar_node.specs.Stored.{at_own_height, block_of, is_certified, is_held, values_of}
+use Rattle.mar_node.specs.Answers.{served_answers, unserved_subscriptions}
+use Rattle.mar_node.specs.Cache.{Witnessing, prunes_by, with_witness, witnessing_of}
+use Rattle.mar_node.specs.Chain.{Chain, Finalizes, IsBlockAt, IsFinal, IsLawful, commitment_at}
+use Rattle.mar_node.specs.Config.{Config}
+use Rattle.mar_node.specs.Event.{Event, Met, Storing, cutoff_after, message_told, met_finalization, met_of, met_rounds, no_floor, own_writes, processed_after, storing_of}
+use Rattle.mar_node.specs.Faults.{height_limit, last_height, storing_fault}
+use Rattle.mar_node.specs.Held.{Seen}
+use Rattle.mar_node.specs.Lives.{later_round}
+use Rattle.mar_node.specs.Moves.{RaisesTo, Stores, StoresLate, StoresValue, StoresWhere, at_height, is_due, late_tip, late_tips, tip_after, tip_reports, wants}
+use Rattle.mar_node.specs.Node.{Agrees, AreBlocksOf, AreFinalizationsOf, ConsecutiveFrom, FloorSafe, HasAnchor, IsFinalized, IsGood, Node, SureOrWritten, at_hand, write_count}
+use Rattle.mar_node.specs.Promise.{AreOne, node_of}
+use Rattle.mar_node.specs.Requests.{own_asks, raise_asks, reported_asks}
+use Rattle.mar_node.specs.Sound.{IsSafePair}
+use Rattle.mar_node.specs.Step.{AreTipsOf, IsStored, IsStoredLate, KeepsFrom, Report, TipsFrom, Writes, is_repaired}
+use Rattle.mar_node.proofs.AtHand.{at_hand-all, at_hand-commitment, block_of_final, bytes_same}
+use Rattle.mar_node.proofs.Cutting.{MayBeLeft, keeps_heights}
+use Rattle.mar_node.proofs.FloorSafety.{FloorSafe-still, KeepsHeightsFrom, MeetsFinal}
+use Rattle.mar_node.proofs.FoundBlocks.{Contains-slice_get, values_in_chain}
+use Rattle.mar_node.proofs.PairsAfter.{HasAnchor-kept, IsSafePair-after}
+use Rattle.mar_node.proofs.PlainEvents.{KeepsFrom-same, Writes-none}
+use Rattle.mar_node.proofs.Reaching.{AreTips, Reaches}
+use Rattle.mar_node.proofs.Soundness.{IsFrom, IsSafePair-kept}
+use Rattle.mar_node.proofs.Tips.{above_from, low_from, tip_after-high, tip_reports-chain, tip_reports-rise, tip_reports-tips}
+
+-- WHAT A REPORT STORES AND TELLS
+
+abbrev storing_met : Met → Storing
+storing_met m = record { height = m.block.height; with_certificate = true }
+
+-- nobody waits
+serves_none : (o : Option Block) → served_answers [] o ≡ []
+serves_none None = refl
+serves_none (Some b) = refl
+
+-- and nobody is left waiting
+leaves_none : (o : Option Block) → unserved_subscriptions [] o ≡ []
+leaves_none None = refl
+leaves_none (Some b) = refl
+
+-- PUTS THAT WERE SYNCED
+
+-- what was held is held
+held_kept : {T : Type 0} (ignored : Bool) (old : Kept (At T)) (x : At T) (new : Kept (At T)) → StoresValue ignored old x new → KeepsValues old.held new.held
+held_kept true old x new stores h v is = subst (λ xs. value_at xs h ≡ Some v) (sym stores.held) is
+held_kept false old x new stores h v is = subst (λ xs. value_at xs h ≡ Some v) (sym stores.held) (value_at-append_found old.held (x ∷ []) h v is)
+
+-- and what was sure is sure
+sure_kept : {T : Type 0} (ignored : Bool) (old : Kept (At T)) (x : At T) (new : Kept (At T)) → IsNested old → StoresValue ignored old x new → KeepsValues old.sure new.sure
+sure_kept ignored old x new nested stores h v is = subst (λ xs. value_at xs h ≡ Some v) (sym stores.sure) (held_kept ignored old x new stores h v (nested.sure_held h v is))
+
+-- so it keeps all that stood
+KeepsFrom-stored : {T : Type 0} (bound : ℕ) (ignored : Bool) (old : Kept (At T)) (x : At T) (new : Kept (At T)) → IsNested old → StoresValue ignored old x new → KeepsFrom bound old new
+KeepsFrom-stored bound ignored old x new nested stores = record {
+  held = λ h v low is. held_kept ignored old x new stores h v is;
+  sure = λ h v is has. sure_kept ignored old x new nested stores h v is;
+}
+
+-- its height is held, where it was only ignored for being held
+stored_height : {T : Type 0} (ignored : Bool) (old : Kept (At T)) (x : At T) (new : Kept (At T)) → (IsTrue ignored → IsTrue (has_height old.held x.height)) → StoresValue ignored old x new → IsTrue (has_height new.held x.height)
+stored_height true old x new there stores = subst (λ xs. IsTrue (has_height xs x.height)) (sym stores.held) (there refl)
+stored_height false old x new there stores = subst (λ xs. IsTrue (has_height xs x.height)) (sym stores.held) (has_height-push_same old.held x.height x.value)
+
+-- no other height entered
+entered_height : {T : Type 0} (ignored : Bool) (old : Kept (At T)) (x : At T) (new : Kept (At T)) (h : ℕ) → StoresValue ignored old x new → IsTrue (has_height new.held h) → IsTrue (has_height old.held h) ⊎ (x.height ≡ h)
+entered_height true old x new h stores has = inl (subst (λ xs. IsTrue (has_height xs h)) stores.held has)
+entered_height false old x new h stores has = has_height-push_cases old.held x.height h x.value (subst (λ xs. IsTrue (has_height xs h)) stores.held has)
+
+-- what holds of all that was held and of the put holds of all that is held
+all_held : {T : Type 0} (Q : At T → Type 0) (ignored : Bool) (old : Kept (At T)) (x : At T) (new : Kept (At T)) → StoresValue ignored old x new → AllByRecursion Q old.held → Q x → AllByRecursion Q new.held
+all_held Q true old x new stores all put = subst (AllByRecursion Q) (sym stores.held) all
+all_held Q false old x new stores all put = subst (AllByRecursion Q) (sym stores.held) (AllByRecursion-push Q old.held x all put)
+
+-- and so for all that a crash can leave
+all_may : {T : Type 0} (Q : At T → Type 0) (ignored : Bool) (old : Kept (At T)) (x : At T) (new : Kept (At T)) → StoresValue ignored old x new → AllByRecursion Q old.may → Q x → AllByRecursion Q new.may
+all_may Q ignored old x new stores all put = AllByRecursion-within Q new.may (old.may ++ x ∷ []) stores.may (AllByRecursion-push Q old.may x all put)
+
+-- all that is held is sure
+all_sure : {T : Type 0} (ignored : Bool) (old : Kept (At T)) (x : At T) (new : Kept (At T)) → StoresValue ignored old x new → SureOrWritten new []
+all_sure ignored old x new stores h has = inl (subst (λ xs. IsTrue (has_height xs h)) (sym stores.sure) has)
+
+-- LOOKING FOR A DIGEST
+
+-- what stands in a list stands behind one more
+later_place : {T : Type 0} (y : T) (xs : List T) (x : T) → Contains xs x → Contains (y ∷ xs) x
+later_place y xs x has = Contains-append_right (y ∷ []) xs x has
+
+-- what is found stands in the list
+found_place : {T : Type 0} (test : T → Bool) (xs : List (At T)) → IsTrue (is_some (find test (values_of xs))) → (x : At T) × Contains xs x × (test x.value ≡ true)
+found_place test [] some = absurd cc
+found_place {T = T} test (y ∷ xs) some = by (test y.value) refl some (found_place test xs)
+  where
+    by : (b : Bool) → test y.value ≡ b → IsTrue (is_some (if b then Some y.value else find test (values_of xs))) → (IsTrue (is_some (find test (values_of xs))) → (x : At T) × Contains xs x × (test x.value ≡ true)) → (x : At T) × Contains (y ∷ xs) x × (test x.value ≡ true)
+    by true is found others = (y, (zero, omega arith, refl), is)
+    by false is found others = let there = others found in (there.0, later_place y xs there.0 there.1, there.2)
+
+-- so does what passes a test
+any_place : {T : Type 0} (test : T → Bool) (xs : List T) → IsTrue (list_any test xs) → (x : T) × Contains xs x × (test x ≡ true)
+any_place test [] some = absurd cc
+any_place {T = T} test (y ∷ xs) some = by (test y) refl some (any_place test xs)
+  where
+    by : (b : Bool) → test y ≡ b → IsTrue (b || list_any test xs) → (IsTrue (list_any test xs) → (x : T) × Contains xs x × (test x ≡ true)) → (x : T) × Contains (y ∷ xs) x × (test x ≡ true)
+    by true is found others = (y, (zero, omega arith, refl), is)
+    by false is found others = let there = others found in (there.0, later_place y xs there.0 there.1, there.2)
+
+-- one of two tests passes
+either_test : (c d : Bool) → IsTrue (c || d) → IsTrue c ⊎ IsTrue d
+either_test true d is = inl refl
+either_test false d is = inr is
+
+-- TIPS
+
+-- the test of heights
+-- only the own height entered
+only_own : (held was own above : Bool) → (IsTrue held → IsTrue was ⊎ IsTrue own) → (above && (held && (not was && not own))) ≡ false
+only_own held was own false from = refl
+only_own false was own true from = refl
+only_own true true own true from = refl
+only_own true false true true from = refl
+only_own true false false true from = by (from refl)
+  where
+    by : (false ≡ true) ⊎ (false ≡ true) → true ≡ false
+    by (inl never) = cc
+    by (inr never) = cc
+
+-- a height below the last is no fault
+no_limit : (above : Bool) (h : ℕ) → (h ≡ 2 ^ 64 - 1 → ⊥) → (above && h == last_height) ≡ false
+no_limit false h apart = refl
+no_limit true h apart = by (h == last_height) refl
+  where
+    by : (c : Bool) → (h == last_height) ≡ c → c ≡ false
+    by true same = absurd (apart (eqb-true h last_height same))
+    by false other = refl
+
+-- PUTS THAT ARE DUE
+
+-- a certificate that is due only where none is held: its height is held where a block is
+due_height : {T : Type 0} (ignored has_block : Bool) (old : Kept (At T)) (x : At T) (new : Kept (At T)) → (IsTrue ignored → IsTrue (has_height old.held x.height)) → StoresWhere (has_block && not (has_height old.held x.height)) ignored old x new → IsTrue has_block → IsTrue (has_height new.held x.height)
+due_height ignored false old x new there stores none = absurd cc
+due_height ignored true old x new there stores has = by (has_height old.held x.height) refl stores
+  where
+    by : (c : Bool) → has_height old.held x.height ≡ c → StoresWhere (not c) ignored old x new → IsTrue (has_height new.held x.height)
+    by true held same = subst (λ k. IsTrue (has_height k.held x.height)) (sym same) held
+    by false lacks put = stored_height ignored old x new there put
+
+-- due or not, it keeps all that stood
+KeepsFrom-due : {T : Type 0} (bound : ℕ) (due ignored : Bool) (old : Kept (At T)) (x : At T) (new : Kept (At T)) → IsNested old → StoresWhere due ignored old x new → KeepsFrom bound old new
+KeepsFrom-due bound true ignored old x new nested stores = KeepsFrom-stored bound ignored old x new nested stores
+KeepsFrom-due bound false ignored old x new nested stores = subst (KeepsFrom bound old) (sym stores) (KeepsFrom-same bound old)
+
+-- what holds of all that was held and of the put, where it is due, holds of all that is held
+held_due : {T : Type 0} (Q : At T → Type 0) (due ignored : Bool) (old : Kept (At T)) (x : At T) (new : Kept (At T)) → StoresWhere due ignored old x new → AllByRecursion Q old.held → (IsTrue due → Q x) → AllByRecursion Q new.held
+held_due Q true ignored old x new stores all put = all_held Q ignored old x new stores all (put refl)
+held_due Q false ignored old x new stores all put = subst (λ k. AllByRecursion Q k.held) (sym stores) all
+
+-- and so for all that a crash can leave
+may_due : {T : Type 0} (Q : At T → Type 0) (due ignored : Bool) (old : Kept (At T)) (x : At T) (new : Kept (At T)) → StoresWhere due ignored old x new → AllByRecursion Q old.may → Q x → AllByRecursion Q new.may
+may_due Q true ignored old x new stores all put = all_may Q ignored old x new stores all put
+may_due Q false ignored old x new stores all put = subst (λ k. AllByRecursion Q k.may) (sym stores) all
+
+-- what is held stays sure
+sure_due : {T : Type 0} (due ignored : Bool) (old : Kept (At T)) (x : At T) (new : Kept (At T)) → StoresWhere due ignored old x new → SureOrWritten old [] → SureOrWritten new []
+sure_due true ignored old x new stores all = all_sure ignored old x new stores
+sure_due false ignored old x new stores all = subst (λ k. SureOrWritten k []) (sym stores) all
+
+-- the round that is witnessed last
+last_witnessed : (retention : ℕ) (last r : Round) → later_round last (Some r) ≡ (fold (with_witness retention) (record { last = last; prunes = [] }) (r ∷ [])).last
+last_witnessed retention last r = by (round_lt last r) refl
+  where
+    by : (c : Bool) → round_lt last r ≡ c → (if c then r else last) ≡ (if◌then◌else◌ {A = Witnessing} c (record { last = r; prunes = prunes_by retention last ∷ [] }) (record { last = last; prunes = [] })).last
+    by true newer = refl
+    by false older = refl
+
+-- The actor after its cutoff was raised and synced: what is left open are the certificates, the tip and the counts.
+abbrev pub noted : {P E : Type 0} → Seen P E → List Cutoff → Round → Seen P E → Seen P E
+noted a cutoffs r m = record a {
+  held = record a.held { certs = m.held.certs; cutoff = greatest_of a.held.cutoff cutoffs; pairs = pair_of a.held.processed (greatest_of a.held.cutoff cutoffs) ∷ []; counts = m.held.counts };
+  life = record a.life { witnessed = r; tip = m.life.tip };
+}
+
+-- a raised cutoff, its sync and a late put leave that, with the tip that the put may make
+noted_same : {P E : Type 0} (inner : List ℕ → List ℕ) (a w s m : Seen P E) (cutoffs : List Cutoff) (r : Round) (f : Finalization) (b : Block) → RaisesTo a cutoffs r w → s ≡ record w { held = record w.held { pairs = pair_of w.held.processed w.held.cutoff ∷ []; counts = s.held.counts } } → StoresLate inner s f b m → (m ≡ noted a cutoffs r m) × (m.life.tip ≡ late_tip (is_due a.held b) a.life.tip b)
+noted_same {P = P} {E = E} inner a w s m cutoffs r f b raised synced stores = (same ∙ ap (λ t. record (noted a cutoffs r m) { life = record a.life { witnessed = r; tip = t } }) (sym tip), tip)
+  where
+    same : m ≡ record (noted a cutoffs r m) { life = record a.life { witnessed = r; tip = late_tip (is_due a.held b) a.life.tip b } }
+    same =
+        stores.same
+        ∙ (ap (λ (x : Seen P E). record x { held = record x.held { certs = m.held.certs; counts = m.held.counts }; life = record x.life { tip = late_tip (is_due x.held b) x.life.tip b } }) synced
+        ∙ ap (λ (x : Seen P E). record x { held = record x.held { certs = m.held.certs; pairs = pair_of x.held.processed x.held.cutoff ∷ []; counts = m.held.counts }; life = record x.life { tip = late_tip (is_due x.held b) x.life.tip b } }) raised.same)
+
+    tip : m.life.tip ≡ late_tip (is_due a.held b) a.life.tip b
+    tip = ap (λ x. x.life.tip) same
+
+-- and the late put is due by what was held before
+noted_certs : {P E : Type 0} (inner : List ℕ → List ℕ) (a w s m : Seen P E) (cutoffs : List Cutoff) (r : Round) (f : Finalization) (b : Block) → RaisesTo a cutoffs r w → s ≡ record w { held = record w.held { pairs = pair_of w.held.processed w.held.cutoff ∷ []; counts = s.held.counts } } → StoresLate inner s f b m → StoresWhere (has_height a.held.blocks.held b.height && not (has_height a.held.certs.held b.height)) (is_certified inner a.held.certs.held b.height (inner f.payload)) a.held.certs (at_height b.height f) m.held.certs
+noted_certs inner a w s m cutoffs r f b raised synced stores =
+    subst (λ k. StoresWhere (has_height k.held b.height && not (has_height a.held.certs.held b.height)) (is_certified inner a.held.certs.held b.height (inner f.payload)) a.held.certs (at_height b.height f) m.held.certs) (ap (λ x. x.held.blocks) synced ∙ ap (λ x. x.held.blocks) raised.same)
+    (subst (λ k. StoresWhere (has_height s.held.blocks.held b.height && not (has_height k.held b.height)) (is_certified inner k.held b.height (inner f.payload)) k (at_height b.height f) m.held.certs) (ap (λ x. x.held.certs) synced ∙ ap (λ x. x.held.certs) raised.same) stores.certs)
+
+-- A BLOCK AT HAND
+
+module _ {P E : Type 0} (config : Config) (chain : Chain) (a : Seen P E) (f : Finalization) (buffer : List Block) (asked : List Asked)
+    (lawful : IsLawful config.epochs chain) (one : AreOne config.inner (chain.blocks ++ buffer))
+    (good : IsGood config chain (node_of a buffer asked)) (final : IsFinalized chain f.round f.payload)
+  where
+    abbrev pub n : Node
+    n = node_of a buffer asked
+
+    abbrev pub e : Event
+    e = message_told None (report_finalization f)
+
+    -- the blocks of which no two share a digest
+    abbrev pub known : List Block
+    known = chain.blocks ++ buffer
+
+    -- a block at hand is the buffer's or the chain's
+    at_hand-known : (b : Block) → at_hand n f.payload ≡ Some b → Contains known b
+    at_hand-known b is =
+        at_hand-all (Contains known) n f.payload b
+        (AllByRecursion-from_contains (Contains known) buffer (λ x has. Contains-append_right chain.blocks buffer x has)) tt
+        (AllByRecursion-weaker (Contains chain.blocks) (Contains known) (λ x has. Contains-append_left chain.blocks buffer x has) (values_of a.held.blocks.held) (values_in_chain chain a.held.blocks.held good.of_chain.held_blocks)) is
+
+    -- and so is each block of the chain
+    chain_known : (h : ℕ) (c : Block) → IsBlockAt chain h c → Contains known c
+    chain_known h c at = Contains-append_left chain.blocks buffer c (Contains-slice_get chain.blocks h c at)
+
+    -- blocks of one commitment are one
+    known_agrees : (b : Block) → Contains known b → Agrees chain b
+    known_agrees b there h c at same = one.one c b (chain_known h c at) there (sym (one.names c (chain_known h c at)) ∙ (ap config.inner same ∙ one.names b there))
+
+    -- a reported block that is at hand is the finalized one
+    pub block-final : (b : Block) → at_hand n f.payload ≡ Some b → IsFinal chain f.round b.height × IsBlockAt chain b.height b
+    block-final b is = (subst (λ k. IsFinal chain f.round k) (sym found.1) final.1.named, subst (λ k. IsBlockAt chain k b) (sym found.1) found.0)
+      where
+        found : IsBlockAt chain final.0 b × (b.height ≡ final.0)
+        found = block_of_final config.epochs chain lawful final.0 f.round b (subst (Finalizes chain final.0 f.round) (sym (at_hand-commitment n f.payload b is)) final.1) (known_agrees b (at_hand-known b is))
+
+    -- WHAT A REPORT MEETS
+
+    -- what is met, by the block at hand
+    rounds_by : (o : Option Block) → at_hand n f.payload ≡ o → met_rounds n (met_finalization n e) ≡ met_rounds n (option_map (λ b. met_of b f) o)
+    rounds_by o is = ap (λ p. met_rounds n (option_map (λ b. met_of b f) p)) is
+
+    -- above the processed height no round is met, at or below it the reported one
+    rounds_at : (b : Block) → at_hand n f.payload ≡ Some b → (c : Bool) → nat_lt (height_of a.held.processed) b.height ≡ c → met_rounds n (met_finalization n e) ≡ (if c then [] else f.round ∷ [])
+    rounds_at b is c above = rounds_by (Some b) is ∙ ap (λ (d : Bool). if d then [] else f.round ∷ []) above
+
+    -- what is stored
+    storing_by : (o : Option Block) → at_hand n f.payload ≡ o → storing_of n e ≡ option_map storing_met (option_map (λ b. met_of b f) o)
+    storing_by o is = ap (λ p. option_map storing_met (option_map (λ b. met_of b f) p)) is
+
+    -- the cutoff after it, the round witnessed last, and what is asked, by the rounds that are met
+    cutoff_by : (rs : List Round) → met_rounds n (met_finalization n e) ≡ rs → cutoff_after config n e no_floor ≡ greatest_of a.held.cutoff (map at_round rs)
+    cutoff_by rs is = ap (λ cs. greatest_of a.held.cutoff cs) (append-nil (map at_round (met_rounds n (met_finalization n e)))) ∙ ap (λ xs. greatest_of a.held.cutoff (map at_round xs)) is
+
+    witnessed_by : (rs : List Round) → met_rounds n (met_finalization n e) ≡ rs → (witnessing_of config n e no_floor).last ≡ (fold (with_witness config.retention) (record { last = a.life.witnessed; prunes = [] }) rs).last
+    witnessed_by rs is = ap (λ xs. (fold (with_witness config.retention) (record { last = a.life.witnessed; prunes = [] }) xs).last) is
+
+    asks_by : (o : Option Block) (rs : List Round) → at_hand n f.payload ≡ o → met_rounds n (met_finalization n e) ≡ rs → own_asks config n e no_floor ≡ reported_asks n f o ++ raise_asks a.held.cutoff (map at_round rs)
+    asks_by o rs is met = ap (λ p. reported_asks n f p ++ raise_asks a.held.cutoff (map at_round (met_rounds n (met_finalization n e)))) is ∙ ap (λ xs. reported_asks n f o ++ raise_asks a.held.cutoff (map at_round xs)) met
+
+    -- NOT AT HAND
+
+    -- a finalization whose block isn't at hand changes nothing
+    pub Reaches-absent : at_hand n f.payload ≡ None → Reaches config chain a e buffer asked [] a
+    Reaches-absent absent = record {
+      no_effect = refl;
+      kept = refl;
+      next_ack = refl;
+      sizes = refl;
+      processed = refl;
+      cutoff = sym (cutoff_by [] met);
+      blocks = KeepsFrom-same _ a.held.blocks;
+      certs = KeepsFrom-same _ a.held.certs;
+      writes = written.0;
+      no_repair = written.1;
+      are_tips = tt;
+      tips_rise = refl;
+      tips_chain = tt;
+      witnessed = sym (witnessed_by [] met);
+      stored = subst (λ s. IfSome s (IsStored n)) (sym stores) tt;
+      stored_late = subst (λ s. IfSome s (IsStoredLate n no_floor n)) (sym stores) tt;
+      no_query = refl;
+      no_fault = ap (λ s. storing_fault n s no_floor) stores;
+      sends = refl;
+      answers = ap (λ xs. xs ++ []) (serves_none (at_hand n f.payload));
+      subscriptions = ap (λ xs. xs ++ []) (leaves_none (at_hand n f.payload));
+      certified = λ tip. refl;
+      no_syncs = λ n'. refl;
+      good = good;
+    }
+      where
+        met : met_rounds n (met_finalization n e) ≡ []
+        met = rounds_by None absent
+
+        stores : storing_of n e ≡ None
+        stores = storing_by None absent
+
+        written : (w : Writes n e no_floor n) × (w.repaired ≡ [])
+        written = Writes-none a a e buffer asked (ap (λ s. own_writes n s no_floor) stores) refl refl refl refl
+
+    -- its block is asked for
+    pub asks-absent : at_hand n f.payload ≡ None → wants a.held.cutoff f ≡ own_asks config n e no_floor
+    asks-absent absent = sym (asks_by None [] absent (rounds_by None absent) ∙ append-nil (wants a.held.cutoff f))
+
+    -- HELD BY ITS DIGEST
+
+    -- a known block of the same digest as one at hand is that one
+    one_block : (b c : Block) → at_hand n f.payload ≡ Some b → Contains known c → c.digest ≡ b.digest → c ≡ b
+    one_block b c is there same = one.one c b there (at_hand-known b is) same
+
+    -- a put of the block is only ignored where its height is held
+    block_there : (b : Block) → at_hand n f.payload ≡ Some b → IsTrue (is_held a.held.blocks.held b) → IsTrue (has_height a.held.blocks.held b.height)
+    block_there b is ignored = by (either_test (has_height a.held.blocks.held b.height) (is_some (block_of a.held.blocks.held b.digest)) ignored)
+      where
+        same : (x : At Block) → Contains a.held.blocks.held x → bytes_eq x.value.digest b.digest ≡ true → x.height ≡ b.height
+        same x has digest = sym (lawful.heights x.height x.value at) ∙ ap (λ c. c.height) (one_block b x.value is (chain_known x.height x.value at) (bytes_same x.value.digest b.digest digest))
+          where
+            at : IsBlockAt chain x.height x.value
+            at = AllByRecursion-contains (λ y. IsBlockAt chain y.height y.value) a.held.blocks.held x good.of_chain.held_blocks has
+
+        by : IsTrue (has_height a.held.blocks.held b.height) ⊎ IsTrue (is_some (block_of a.held.blocks.held b.digest)) → IsTrue (has_height a.held.blocks.held b.height)
+        by (inl has) = has
+        by (inr some) = let place = found_place (λ c. bytes_eq c.digest b.digest) a.held.blocks.held some in subst (λ k. IsTrue (has_height a.held.blocks.held k)) (same place.0 place.1 place.2) (has_height-from_contains a.held.blocks.held place.0 place.1)
+
+    -- and a put of its certificate
+    cert_there : (b : Block) → at_hand n f.payload ≡ Some b → IsTrue (is_certified config.inner a.held.certs.held b.height (config.inner f.payload)) → IsTrue (has_height a.held.certs.held b.height)
+    cert_there b is ignored = by (either_test (has_height a.held.certs.held b.height) (list_any (λ x. bytes_eq (config.inner x.value.payload) (config.inner f.payload)) a.held.certs.held) ignored)
+      where
+        digest_is : config.inner f.payload ≡ b.digest
+        digest_is = ap config.inner (sym (at_hand-commitment n f.payload b is)) ∙ one.names b (at_hand-known b is)
+
+        same : (x : At Finalization) → Contains a.held.certs.held x → bytes_eq (config.inner x.value.payload) (config.inner f.payload) ≡ true → x.height ≡ b.height
+        same x has digest = of_block (slice_get chain.blocks x.height) refl payload
+          where
+            payload : commitment_at chain x.height ≡ Some x.value.payload
+            payload = (AllByRecursion-contains (λ y. Finalizes chain y.height y.value.round y.value.payload) a.held.certs.held x good.of_chain.held_certs has).payload_is
+
+            of_block : (o : Option Block) → slice_get chain.blocks x.height ≡ o → option_map (λ c. c.commitment) o ≡ Some x.value.payload → x.height ≡ b.height
+            of_block None at named = absurd cc
+            of_block (Some c) at named = sym (lawful.heights x.height c at) ∙ ap (λ d. d.height) (one_block b c is (chain_known x.height c at) (sym (one.names c (chain_known x.height c at)) ∙ (ap config.inner (inside named) ∙ (bytes_same (config.inner x.value.payload) (config.inner f.payload) digest ∙ digest_is))))
+              where
+                inside : ◌≡◌ {A = Option (List ℕ)} (Some c.commitment) (Some x.value.payload) → c.commitment ≡ x.value.payload
+                inside p = cc
+
+        by : IsTrue (has_height a.held.certs.held b.height) ⊎ IsTrue (list_any (λ x. bytes_eq (config.inner x.value.payload) (config.inner f.payload)) a.held.certs.held) → IsTrue (has_height a.held.certs.held b.height)
+        by (inl has) = has
+        by (inr some) = let place = any_place (λ x. bytes_eq (config.inner x.value.payload) (config.inner f.payload)) a.held.certs.held some in subst (λ k. IsTrue (has_height a.held.certs.held k)) (same place.0 place.1 place.2) (has_height-from_contains a.held.certs.held place.0 place.1)
+
+    -- MORE IS HELD
+
+    -- the node stays good as more is held and sure, with the same blocks outstanding
+    IsGood-grown : (m : Seen P E) → m.life.out ≡ a.life.out → m.held.processed ≡ a.held.processed → m.held.pairs ≡ pair_of m.held.processed m.held.cutoff ∷ [] → SureOrWritten m.held.blocks [] → SureOrWritten m.held.certs [] → KeepsHeightsFrom 0 a.held.blocks.sure m.held.blocks.sure → AreBlocksOf chain m.held.blocks.held → AreBlocksOf chain m.held.blocks.may → AreFinalizationsOf chain m.held.certs.held → AreFinalizationsOf chain m.held.certs.may → FloorSafe (option_map height_in a.held.processed) m.held.cutoff m.held.blocks.sure chain → AllByRecursion (λ x. x.height ≤ m.life.tip) m.held.certs.held → IsGood config chain (node_of m buffer asked)
+    IsGood-grown m out processed own sure_blocks sure_certs stays held_blocks may_blocks held_certs may_certs safe below_tip = record {
+      heights = record {
+        sure_blocks = sure_blocks;
+        sure_certs = sure_certs;
+        consecutive = subst (λ p. ConsecutiveFrom (first_unprocessed p) m.life.out) (sym processed) (subst (λ o. ConsecutiveFrom (first_unprocessed a.held.processed) o) (sym out) good.heights.consecutive);
+        out_sure = subst (λ o. AllByRecursion (λ x. IsTrue (has_height m.held.blocks.sure x.height)) o) (sym out) (AllByRecursion-weaker (λ x. IsTrue (has_height a.held.blocks.sure x.height)) (λ x. IsTrue (has_height m.held.blocks.sure x.height)) (λ x has. stays x.height (omega arith) has) a.life.out good.heights.out_sure);
+        within_window = subst (λ o. length o ≤ config.window) (sym out) good.heights.within_window;
+        floor_clears = λ some. absurd cc;
+        anchored = subst (λ p. HasAnchor p m.held.blocks.sure) (sym processed) (HasAnchor-kept 0 a.held.processed a.held.blocks.sure m.held.blocks.sure (omega arith) stays good.heights.anchored);
+        own_pair = own;
+        sync_open = λ more. absurd (omega arith);
+      };
+      of_chain = record {
+        held_blocks = held_blocks;
+        may_blocks = may_blocks;
+        held_certs = held_certs;
+        may_certs = may_certs;
+        cached = tt;
+        cached_blocks = tt;
+        awaits = tt;
+        floor_safe = subst (λ p. FloorSafe (option_map height_in p) m.held.cutoff m.held.blocks.sure chain) (sym processed) safe;
+        honest_asks = good.of_chain.honest_asks;
+        honest_ready = tt;
+        honest_overflow = tt;
+        not_at_hand = tt;
+        tip_reported = below_tip;
+      };
+    }
+
+    -- STORED ABOVE THE PROCESSED HEIGHT
+
+    -- the reported finalization is the chain's at the height of its block
+    pub finalizes : (b : Block) → at_hand n f.payload ≡ Some b → Finalizes chain b.height f.round f.payload
+    finalizes b is = record {
+      named = (block-final b is).0;
+      payload_is = ap (λ o. option_map (λ c. c.commitment) o) (block-final b is).1 ∙ ap Some (at_hand-commitment n f.payload b is);
+    }
+
+    -- it stands below the last height
+    pub not_last : (b : Block) → at_hand n f.payload ≡ Some b → b.height ≡ 2 ^ 64 - 1 → ⊥
+    not_last b is last = let low : b.height < length chain.blocks = lawful.in_list f.round b.height (block-final b is).0 in let bound : length chain.blocks < 2 ^ 64 - 1 = lawful.bounded in omega arith
+
+    -- what it writes: its own height, which the sync of both archives covers
+    Writes-stored : (b : Block) (m : Seen P E) → at_hand n f.payload ≡ Some b → IsTrue (nat_lt (height_of a.held.processed) b.height) → Stores config.inner a f b m → (w : Writes n e no_floor (node_of m buffer asked)) × (w.repaired ≡ [])
+    Writes-stored b m is above stores = (
+      record {
+        repaired = [];
+        by_repair = λ h. sym (ap (λ ws. is_repaired n (ws ++ []) (node_of m buffer asked) h) own ∙ entered h);
+        each_once = λ h. omega arith;
+        blocking = write_count n + 1;
+        within = subst (λ ws. write_count n + 1 ≤ write_count n + length (ws ++ [])) (sym own) (omega arith);
+        at_least = omega arith;
+        covered = ap (λ s. s.life.covered) stores.same ∙ omega arith;
+        uncovered = sym (ap (λ ws. drop (m.life.covered - a.life.covered) (ws ++ [])) own ∙ ap (λ k. drop k (b.height ∷ [])) more);
+        syncs = refl;
+      },
+      refl,
+    )
+      where
+        own : own_writes n (storing_of n e) no_floor ≡ b.height ∷ []
+        own = ap (λ s. own_writes n s no_floor) (storing_by (Some b) is) ∙ ap (λ (c : Bool). if c then b.height ∷ [] else []) above
+
+        more : m.life.covered - a.life.covered ≡ 1
+        more = let after : m.life.covered ≡ a.life.covered + 1 = ap (λ s. s.life.covered) stores.same in omega arith
+
+        entered : (h : ℕ) → is_repaired n (b.height ∷ []) (node_of m buffer asked) h ≡ false
+        entered h = only_own (has_height m.held.blocks.held h) (has_height a.held.blocks.held h) (b.height == h || false) (nat_lt (height_of m.held.processed) h) (λ has. from (entered_height (is_held a.held.blocks.held b) a.held.blocks (at_own_height b) m.held.blocks h stores.blocks has))
+          where
+            from : IsTrue (has_height a.held.blocks.held h) ⊎ (b.height ≡ h) → IsTrue (has_height a.held.blocks.held h) ⊎ IsTrue (b.height == h || false)
+            from (inl was) = inl was
+            from (inr same) = inr (ap (λ c. c || false) (eq-eqb b.height h same))
+
+    -- the node that it leaves is good
+    IsGood-stored : (b : Block) (m : Seen P E) → IsNested a.held.blocks → IsNested a.held.certs → at_hand n f.payload ≡ Some b → Stores config.inner a f b m → IsGood config chain (node_of m buffer asked)
+    IsGood-stored b m blocks_nested certs_nested is stores =
+        IsGood-grown m (ap (λ s. s.life.out) stores.same) processed own (all_sure _ _ _ _ stores.blocks) (all_sure _ _ _ _ stores.certs) stays
+        (all_held (λ x. IsBlockAt chain x.height x.value) _ _ _ _ stores.blocks good.of_chain.held_blocks (block-final b is).1)
+        (all_may (λ x. IsBlockAt chain x.height x.value) _ _ _ _ stores.blocks good.of_chain.may_blocks (block-final b is).1)
+        (all_held (λ x. Finalizes chain x.height x.value.round x.value.payload) _ _ _ _ stores.certs good.of_chain.held_certs (finalizes b is))
+        (all_may (λ x. Finalizes chain x.height x.value.round x.value.payload) _ _ _ _ stores.certs good.of_chain.may_certs (finalizes b is))
+        (subst (λ c. FloorSafe (option_map height_in a.held.processed) c m.held.blocks.sure chain) (sym cutoff) (FloorSafe-still chain (option_map height_in a.held.processed) a.held.cutoff a.held.blocks.sure m.held.blocks.sure (λ has. stays _ (omega arith) has) good.of_chain.floor_safe))
+        (subst (λ t. AllByRecursion (λ x. x.height ≤ t) m.held.certs.held) (sym tip) (all_held (λ x. x.height ≤ tip_after a.life.tip b) _ _ _ _ stores.certs (AllByRecursion-weaker (λ x. x.height ≤ a.life.tip) (λ x. x.height ≤ tip_after a.life.tip b) (λ x low. let high : a.life.tip ≤ tip_after a.life.tip b = (tip_after-high a.life.tip b).0 in omega arith) a.held.certs.held good.of_chain.tip_reported) (tip_after-high a.life.tip b).1))
+      where
+        processed : m.held.processed ≡ a.held.processed
+        processed = ap (λ s. s.held.processed) stores.same
+
+        cutoff : m.held.cutoff ≡ a.held.cutoff
+        cutoff = ap (λ s. s.held.cutoff) stores.same
+
+        tip : m.life.tip ≡ tip_after a.life.tip b
+        tip = ap (λ s. s.life.tip) stores.same
+
+        own : m.held.pairs ≡ pair_of m.held.processed m.held.cutoff ∷ []
+        own = ap (λ s. s.held.pairs) stores.same ∙ (good.heights.own_pair ∙ sym (ap (λ s. pair_of s.held.processed s.held.cutoff ∷ []) stores.same))
+
+        stays : KeepsHeightsFrom 0 a.held.blocks.sure m.held.blocks.sure
+        stays h low has = keeps_heights a.held.blocks.sure m.held.blocks.sure (sure_kept _ _ _ _ blocks_nested stores.blocks) h has
+
+    -- a block above the processed height is stored with its finalization
+    pub Reaches-stored : (b : Block) (m : Seen P E) → IsNested a.held.blocks → IsNested a.held.certs → at_hand n f.payload ≡ Some b → IsTrue (nat_lt (height_of a.held.processed) b.height) → Stores config.inner a f b m → Reaches config chain a e buffer asked (tip_reports a.life.tip f b) m
+    Reaches-stored b m blocks_nested certs_nested is above stores = record {
+      no_effect = refl;
+      kept = ap (λ s. s.life.out) stores.same;
+      next_ack = ap (λ s. s.life.next_ack) stores.same;
+      sizes = ap (λ s. s.life.sizes) stores.same;
+      processed = processed;
+      cutoff = ap (λ s. s.held.cutoff) stores.same ∙ sym (cutoff_by [] met);
+      blocks = KeepsFrom-stored _ _ _ _ _ blocks_nested stores.blocks;
+      certs = KeepsFrom-stored _ _ _ _ _ certs_nested stores.certs;
+      writes = (Writes-stored b m is above stores).0;
+      no_repair = (Writes-stored b m is above stores).1;
+      are_tips = tip_reports-tips a.life.tip f b;
+      tips_rise = subst (TipsFrom a.life.tip (tip_reports a.life.tip f b)) (sym (ap (λ s. s.life.tip) stores.same)) (tip_reports-rise a.life.tip f b);
+      tips_chain = tip_reports-chain chain a.life.tip f b (block-final b is).0 (block-final b is).1;
+      witnessed = ap (λ s. s.life.witnessed) stores.same ∙ sym (witnessed_by [] met);
+      stored = subst (λ s. IfSome s (IsStored (node_of m buffer asked))) (sym storing) stored;
+      stored_late = subst (λ s. IfSome s (IsStoredLate n no_floor (node_of m buffer asked))) (sym storing) (λ with low held. absurd (let high : height_of a.held.processed < b.height = above_from (height_of a.held.processed) b.height above in omega arith));
+      no_query = refl;
+      no_fault = ap (λ s. storing_fault n s no_floor) storing ∙ ap (λ (c : Bool). if c then Some (height_limit b.height) else None) (no_limit (nat_lt (height_of a.held.processed) b.height) b.height (not_last b is));
+      sends = refl;
+      answers = ap (λ xs. xs ++ []) (serves_none (at_hand n f.payload));
+      subscriptions = ap (λ xs. xs ++ []) (leaves_none (at_hand n f.payload));
+      certified = λ tip. refl;
+      no_syncs = λ n'. refl;
+      good = IsGood-stored b m blocks_nested certs_nested is stores;
+    }
+      where
+        met : met_rounds n (met_finalization n e) ≡ []
+        met = rounds_at b is true above
+
+        storing : storing_of n e ≡ Some (storing_met (met_of b f))
+        storing = storing_by (Some b) is
+
+        processed : m.held.processed ≡ a.held.processed
+        processed = ap (λ s. s.held.processed) stores.same
+
+        stored : IsStored (node_of m buffer asked) (storing_met (met_of b f))
+        stored = record {
+          block = inl (stored_height (is_held a.held.blocks.held b) a.held.blocks (at_own_height b) m.held.blocks (λ ignored. block_there b is ignored) stores.blocks);
+          certificate = λ with high. stored_height (is_certified config.inner a.held.certs.held b.height (config.inner f.payload)) a.held.certs (at_height b.height f) m.held.certs (λ ignored. cert_there b is ignored) stores.certs;
+        }
+
+    -- and nothing is asked for
+    pub asks-stored : (b : Block) → at_hand n f.payload ≡ Some b → IsTrue (nat_lt (height_of a.held.processed) b.height) → [] ≡ own_asks config n e no_floor
+    asks-stored b is above = sym (asks_by (Some b) [] is (rounds_at b is true above))
+
+    -- NOTED AT OR BELOW THE PROCESSED HEIGHT
+
+    -- the pair that is synced is the event's
+    pub pair_late-is : (b : Block) → at_hand n f.payload ≡ Some b → IsFalse (nat_lt (height_of a.held.processed) b.height) → pair_of a.held.processed (greatest_of a.held.cutoff (at_round f.round ∷ [])) ≡ pair_of (processed_after n e no_floor) (cutoff_after config n e no_floor)
+    pair_late-is b is low = ap (λ c. pair_of a.held.processed c) (sym (cutoff_by (f.round ∷ []) (rounds_at b is false low)))
+
+    -- and a life may begin with it
+    pub pair_late-safe : IsPartition config.epochs → (b : Block) → at_hand n f.payload ≡ Some b → IsFalse (nat_lt (height_of a.held.processed) b.height) → IsSafePair chain a.held.blocks.sure (pair_of a.held.processed (greatest_of a.held.cutoff (at_round f.round ∷ [])))
+    pair_late-safe partition b is low =
+        subst (IsSafePair chain a.held.blocks.sure) (sym (pair_late-is b is low))
+        (IsSafePair-after config chain lawful partition n e a.held.blocks.sure good.of_chain.held_certs good.heights.anchored good.heights.consecutive good.heights.out_sure good.of_chain.floor_safe (λ h bound has. has) (subst (MeetsFinal chain) (sym (ap (λ o. option_map (λ c. met_of c f) o) is)) (block-final b is).0) tt tt)
+
+    -- so a sync of it that failed may leave it
+    pub pair_late-left : IsPartition config.epochs → (b : Block) → at_hand n f.payload ≡ Some b → IsFalse (nat_lt (height_of a.held.processed) b.height) → (sure : List (At Block)) → KeepsValues a.held.blocks.sure sure → (p : Pair) → Contains (pair_of a.held.processed (greatest_of a.held.cutoff (at_round f.round ∷ [])) ∷ []) p → MayBeLeft config chain a e buffer asked sure p
+    pair_late-left partition b is low sure keeps p (suc k, lt, same) = absurd (omega arith)
+    pair_late-left partition b is low sure keeps p (zero, lt, same) = subst (MayBeLeft config chain a e buffer asked sure) same (inr (sym (pair_late-is b is low), IsSafePair-kept chain 0 a.held.blocks.sure sure _ (λ h bound has. keeps_heights a.held.blocks.sure sure keeps h has) (from (option_map height_in a.held.processed)) (pair_late-safe partition b is low), le_refl _))
+      where
+        from : (o : Option ℕ) → IsFrom 0 o
+        from None = tt
+        from (Some h) = omega arith
+
+    -- a cutoff retain is asked for where the round rises above the cutoff
+    pub asks-late : (b : Block) → at_hand n f.payload ≡ Some b → IsFalse (nat_lt (height_of a.held.processed) b.height) → raise_asks a.held.cutoff (at_round f.round ∷ []) ≡ own_asks config n e no_floor
+    asks-late b is low = sym (asks_by (Some b) (f.round ∷ []) is (rounds_at b is false low))
+
+    -- the put of a certificate that is due
+    abbrev pub PutsLate : Block → Kept (At Finalization) → Type 0
+    PutsLate b certs = StoresWhere (is_due a.held b) (is_certified config.inner a.held.certs.held b.height (config.inner f.payload)) a.held.certs (at_height b.height f) certs
+
+    -- the actor with the raised cutoff
+    abbrev pub IsNoted : Seen P E → Type 0
+    IsNoted m = m ≡ noted a (at_round f.round ∷ []) (later_round a.life.witnessed (Some f.round)) m
+
+    -- the node that it leaves is good, where the tip reaches what was put
+    IsGood-late : IsPartition config.epochs → (b : Block) (m : Seen P E) → at_hand n f.payload ≡ Some b → IsFalse (nat_lt (height_of a.held.processed) b.height) → a.life.tip ≤ m.life.tip → (IsTrue (is_due a.held b) → b.height ≤ m.life.tip) → IsNoted m → PutsLate b m.held.certs → IsGood config chain (node_of m buffer asked)
+    IsGood-late partition b m is low rises below_tip same certs =
+        IsGood-grown m (ap (λ s. s.life.out) same) (ap (λ s. s.held.processed) same) own
+        (subst (λ k. SureOrWritten k []) (sym blocks) good.heights.sure_blocks)
+        (sure_due _ _ _ _ _ certs good.heights.sure_certs)
+        (λ h bound has. subst (λ k. IsTrue (has_height k.sure h)) (sym blocks) has)
+        (subst (λ k. AreBlocksOf chain k.held) (sym blocks) good.of_chain.held_blocks)
+        (subst (λ k. AreBlocksOf chain k.may) (sym blocks) good.of_chain.may_blocks)
+        (held_due (λ x. Finalizes chain x.height x.value.round x.value.payload) _ _ _ _ _ certs good.of_chain.held_certs (λ due. finalizes b is))
+        (may_due (λ x. Finalizes chain x.height x.value.round x.value.payload) _ _ _ _ _ certs good.of_chain.may_certs (finalizes b is))
+        (subst (λ k. FloorSafe (option_map height_in a.held.processed) m.held.cutoff k.sure chain) (sym blocks) (subst (λ c. FloorSafe (option_map height_in a.held.processed) c a.held.blocks.sure chain) (sym (ap (λ s. s.held.cutoff) same)) (pair_late-safe partition b is low).floor_safe))
+        (held_due (λ x. x.height ≤ m.life.tip) _ _ _ _ _ certs (AllByRecursion-weaker (λ x. x.height ≤ a.life.tip) (λ x. x.height ≤ m.life.tip) (λ x at_most. omega arith) a.held.certs.held good.of_chain.tip_reported) below_tip)
+      where
+        blocks : m.held.blocks ≡ a.held.blocks
+        blocks = ap (λ s. s.held.blocks) same
+
+        own : m.held.pairs ≡ pair_of m.held.processed m.held.cutoff ∷ []
+        own = ap (λ s. s.held.pairs) same ∙ sym (ap (λ s. pair_of s.held.processed s.held.cutoff ∷ []) same)
+
+    -- with these tips
+    Reaches-told : IsPartition config.epochs → (b : Block) (tips : List Report) (m : Seen P E) → IsNested a.held.certs → at_hand n f.payload ≡ Some b → IsFalse (nat_lt (height_of a.held.processed) b.height) → AreTips tips → TipsFrom a.life.tip tips m.life.tip → AreTipsOf chain tips → a.life.tip ≤ m.life.tip → (IsTrue (is_due a.held b) → b.height ≤ m.life.tip) → IsNoted m → PutsLate b m.held.certs → Reaches config chain a e buffer asked tips m
+    Reaches-told partition b tips m certs_nested is low only rise of_chain rises below_tip same certs = record {
+      no_effect = refl;
+      kept = ap (λ s. s.life.out) same;
+      next_ack = ap (λ s. s.life.next_ack) same;
+      sizes = ap (λ s. s.life.sizes) same;
+      processed = processed;
+      cutoff = ap (λ s. s.held.cutoff) same ∙ sym (cutoff_by (f.round ∷ []) met);
+      blocks = subst (KeepsFrom _ a.held.blocks) (sym blocks) (KeepsFrom-same _ a.held.blocks);
+      certs = KeepsFrom-due _ _ _ _ _ _ certs_nested certs;
+      writes = written.0;
+      no_repair = written.1;
+      are_tips = only;
+      tips_rise = rise;
+      tips_chain = of_chain;
+      witnessed = ap (λ s. s.life.witnessed) same ∙ (last_witnessed config.retention a.life.witnessed f.round ∙ sym (witnessed_by (f.round ∷ []) met));
+      stored = subst (λ s. IfSome s (IsStored (node_of m buffer asked))) (sym storing) stored;
+      stored_late = subst (λ s. IfSome s (IsStoredLate n no_floor (node_of m buffer asked))) (sym storing) (λ with at_most has. due_height _ (has_height a.held.blocks.held b.height) a.held.certs (at_height b.height f) m.held.certs (λ ignored. cert_there b is ignored) certs has);
+      no_query = refl;
+      no_fault = ap (λ s. storing_fault n s no_floor) storing ∙ ap (λ (c : Bool). if c && b.height == last_height then Some (height_limit b.height) else None) low;
+      sends = refl;
+      answers = ap (λ xs. xs ++ []) (serves_none (at_hand n f.payload));
+      subscriptions = ap (λ xs. xs ++ []) (leaves_none (at_hand n f.payload));
+      certified = λ tip. refl;
+      no_syncs = λ n'. refl;
+      good = IsGood-late partition b m is low rises below_tip same certs;
+    }
+      where
+        met : met_rounds n (met_finalization n e) ≡ f.round ∷ []
+        met = rounds_at b is false low
+
+        storing : storing_of n e ≡ Some (storing_met (met_of b f))
+        storing = storing_by (Some b) is
+
+        blocks : m.held.blocks ≡ a.held.blocks
+        blocks = ap (λ s. s.held.blocks) same
+
+        processed : m.held.processed ≡ a.held.processed
+        processed = ap (λ s. s.held.processed) same
+
+        written : (v : Writes n e no_floor (node_of m buffer asked)) × (v.repaired ≡ [])
+        written = Writes-none a m e buffer asked (ap (λ s. own_writes n s no_floor) storing ∙ ap (λ (c : Bool). if c then b.height ∷ [] else []) low) (ap (λ k. k.held) blocks) (ap (λ s. s.life.covered) same) refl refl
+
+        at_most : b.height ≤ height_of m.held.processed
+        at_most = subst (λ p. b.height ≤ height_of p) (sym processed) (low_from (height_of a.held.processed) b.height low)
+
+        stored : IsStored (node_of m buffer asked) (storing_met (met_of b f))
+        stored = record { block = inr at_most; certificate = λ with high. absurd (let le : b.height ≤ height_of m.held.processed = at_most in omega arith) }
+
+    -- a block at or below the processed height: its round is witnessed, its certificate put where the block is held without
+    -- one, and that told as the tip where it is above the last one
+    pub Reaches-noted : IsPartition config.epochs → (b : Block) (m : Seen P E) → IsNested a.held.certs → at_hand n f.payload ≡ Some b → IsFalse (nat_lt (height_of a.held.processed) b.height) → IsNoted m → PutsLate b m.held.certs → m.life.tip ≡ late_tip (is_due a.held b) a.life.tip b → Reaches config chain a e buffer asked (late_tips (is_due a.held b) a.life.tip f b) m
+    Reaches-noted partition b m certs_nested is low same certs tip = by (is_due a.held b) refl tip
+      where
+        by : (c : Bool) → is_due a.held b ≡ c → m.life.tip ≡ late_tip c a.life.tip b → Reaches config chain a e buffer asked (late_tips c a.life.tip f b) m
+        by true due at =
+            Reaches-told partition b (tip_reports a.life.tip f b) m certs_nested is low (tip_reports-tips a.life.tip f b)
+            (subst (TipsFrom a.life.tip (tip_reports a.life.tip f b)) (sym at) (tip_reports-rise a.life.tip f b))
+            (tip_reports-chain chain a.life.tip f b (block-final b is).0 (block-final b is).1)
+            (subst (λ k. a.life.tip ≤ k) (sym at) (tip_after-high a.life.tip b).0)
+            (λ put. subst (λ k. b.height ≤ k) (sym at) (tip_after-high a.life.tip b).1) same certs
+        by false not_due at = Reaches-told partition b [] m certs_nested is low tt at tt (subst (λ k. a.life.tip ≤ k) (sym at) (omega arith)) (λ put. absurd (let both : false ≡ true = sym not_due ∙ put in cc)) same certs
+
+    -- from the raise, the sync and the late put
+    pub Reaches-late : IsPartition config.epochs → (b : Block) (w s m : Seen P E) → IsNested a.held.certs → at_hand n f.payload ≡ Some b → IsFalse (nat_lt (height_of a.held.processed) b.height) → RaisesTo a (at_round f.round ∷ []) (later_round a.life.witnessed (Some f.round)) w → s ≡ record w { held = record w.held { pairs = pair_of w.held.processed w.held.cutoff ∷ []; counts = s.held.counts } } → StoresLate config.inner s f b m → Reaches config chain a e buffer asked (late_tips (is_due a.held b) a.life.tip f b) m
+    Reaches-late partition b w s m certs_nested is low raised synced stores = Reaches-noted partition b m certs_nested is low as_noted.0 (noted_certs config.inner a w s m (at_round f.round ∷ []) (later_round a.life.witnessed (Some f.round)) f b raised synced stores) as_noted.1
+      where
+        as_noted : IsNoted m × (m.life.tip ≡ late_tip (is_due a.held b) a.life.tip b)
+        as_noted = noted_same config.inner a w s m (at_round f.round ∷ []) (later_round a.life.witnessed (Some f.round)) f b raised synced stores

@@ -1,0 +1,152 @@
+-- An event that reached some node, and handed over from there, is a step or a cut.
+use Rattle.std.proofs.Common.{◌≡◌, ◌⊎◌, inl, inr, ℕ, ◌+◌, ◌≤◌, List, [], ◌∷◌, ◌++◌, length, map, false, Option, Some, None, option_map, Result, Ok, Err, IsTrue, Contains, sym, ◌∙◌, ap, ap₂, subst, arith, append-nil}
+use Rattle.mar_cert.specs.Block.{Block}
+use Rattle.mar_key.specs.Asked.{Asked, asked_after}
+use Rattle.mar_key.specs.Hears.{Hears}
+use Rattle.mar_key.specs.Keys.{Call}
+use Rattle.mar_key.specs.Processed.{first_unprocessed, height_in}
+use Rattle.mar_store.specs.Kept.{At, has_height, value_at}
+use Rattle.mar_store.specs.Changes.{KeepsValues}
+use Rattle.mar_store.proofs.Lookups.{AllByRecursion-value_at, has_height-from_value}
+use Rattle.mar_node.specs.Metadata.{Pair, first_pair, pair_of}
+use Rattle.mar_node.specs.Chain.{Chain, IsBlockAt}
+use Rattle.mar_node.specs.Config.{Config}
+use Rattle.mar_node.specs.Event.{Event, cutoff_after, no_floor, processed_after, undrained_blocks}
+use Rattle.mar_node.specs.Faults.{Fault, ack_kind, is_by_value, next_after, ticket_limit}
+use Rattle.mar_node.specs.Held.{Ending, IsUsual, Seen}
+use Rattle.mar_node.specs.Lives.{Cuts, NotBelow, is_dropped_ack, is_refused_floor}
+use Rattle.mar_node.specs.Moves.{HeldFrom, IsAtLimit, IsStill, StopsHanding, handed_report, next_in, with_handed}
+use Rattle.mar_node.specs.Node.{AreBlocksOf, Ended, Node, Rest}
+use Rattle.mar_node.specs.Promise.{IsGoodUntold, IsLawfulStep, StepsOrCuts, made_of, node_of}
+use Rattle.mar_node.specs.Requests.{own_asks}
+use Rattle.mar_node.specs.Sound.{IsSafePair}
+use Rattle.mar_node.specs.Step.{AreHandedOf, HandedBlock, HandedFrom, Report, Steps, handed_blocks}
+use Rattle.mar_node.proofs.Cutting.{Cuts-left, LeavesOf, LeavesOf-lost, MayBeLeft, contains_first, keeps_heights, never, only_one, some_from_first, usual_not_by_value, usual_not_dropped}
+use Rattle.mar_node.proofs.FloorSafety.{next_after-is}
+use Rattle.mar_node.proofs.Handing.{HandedFrom-held, Hears-then, Ran, sure_value, with_handed-none}
+use Rattle.mar_node.proofs.OutstandingLemmas.{first_unprocessed-rises}
+use Rattle.mar_node.proofs.Reaching.{Reaches, Rest-still, Steps-reached, handed_after_tips, held_sure, next_is, tips_before_handed, tips_of_both, IsGood-handed}
+use Rattle.mar_node.proofs.Soundness.{IsFrom, IsSafePair-kept, own_pair_safe, untold}
+
+-- each held block that is handed over is sure with its value
+AreHandedOf-values : (chain : Chain) (held sure : List (At Block)) (ticket height : ℕ) (xs : List HandedBlock) → AreBlocksOf chain held → ((h : ℕ) (b : Block) → value_at held h ≡ Some b → value_at sure h ≡ Some b) → HeldFrom held ticket height xs → AreHandedOf chain sure xs
+AreHandedOf-values chain held sure ticket height [] blocks all line = tt
+AreHandedOf-values chain held sure ticket height (x ∷ xs) blocks all line = ((subst (λ k. IsBlockAt chain k x.block) (sym line.1) (AllByRecursion-value_at (λ y. IsBlockAt chain y.height y.value) held height x.block blocks line.2), subst (λ k. value_at sure k ≡ Some x.block) (sym line.1) (all height x.block line.2)), AreHandedOf-values chain held sure (ticket + 1) (height + 1) xs blocks all line.3)
+
+module _ {P E : Type 0} (config : Config) (chain : Chain) (a m : Seen P E) (e : Event) (buffer : List Block) (asked : List Asked) (tips : List Report)
+    (window : config.window ≡ m.life.sizes.window) (step : IsLawfulStep config chain (node_of a buffer asked) e) (unrefused : (fault : Fault) → is_refused_floor e fault ≡ false)
+    (reach : Reaches config chain a e buffer asked tips m) (sure_held : KeepsValues m.held.blocks.sure m.held.blocks.held)
+    (blocks_kept : KeepsValues a.held.blocks.sure m.held.blocks.sure) (certs_kept : KeepsValues a.held.certs.sure m.held.certs.sure)
+  where
+    abbrev pub n : Node
+    n = node_of a buffer asked
+
+    -- the node before, once some tip is told
+    good_before : IsGoodUntold config chain n
+    good_before = untold config chain n e step.good
+
+    -- the pair of the reached node is what the event gives to the metadata
+    pub pair_is : pair_of (processed_after n e no_floor) (cutoff_after config n e no_floor) ≡ pair_of m.held.processed m.held.cutoff
+    pair_is = ap₂ pair_of (sym reach.processed) (sym reach.cutoff)
+
+    not_below : NotBelow (option_map height_in a.held.processed) (option_map height_in m.held.processed)
+    not_below =
+        let before : next_after (option_map height_in a.held.processed) ≡ first_unprocessed a.held.processed = next_after-is a.held.processed in
+        let after : next_after (option_map height_in m.held.processed) ≡ first_unprocessed m.held.processed = next_after-is m.held.processed in
+        let rises : first_unprocessed a.held.processed ≤ first_unprocessed m.held.processed = subst (λ p. first_unprocessed a.held.processed ≤ first_unprocessed p) (sym reach.processed) (first_unprocessed-rises n e no_floor good_before.1.heights.consecutive) in
+        omega arith
+
+    module _ (handed : List HandedBlock) (x : Ending) (stops : StopsHanding m handed x) where
+      abbrev left : Ended
+      left = x.remains.ended
+
+      leaves : LeavesOf chain m.held left
+      leaves = LeavesOf-lost chain m.held [] [] [] x reach.good.of_chain.may_blocks reach.good.of_chain.may_certs tt tt stops.lost
+
+      leaves_all : LeavesOf chain a.held left
+      leaves_all = record {
+        blocks = λ h v is. leaves.blocks h v (blocks_kept h v is);
+        certs = λ h v is. leaves.certs h v (certs_kept h v is);
+        may_blocks = leaves.may_blocks;
+        may_certs = leaves.may_certs;
+        no_cache = leaves.no_cache;
+      }
+
+      sure_from_held : (h : ℕ) → IsTrue (has_height m.held.blocks.held h) → IsTrue (has_height left.blocks_sure h)
+      sure_from_held h has = keeps_heights m.held.blocks.sure left.blocks_sure leaves.blocks h (held_sure m.held.blocks reach.good.heights.sure_blocks h has)
+
+      value_from_held : (h : ℕ) (b : Block) → value_at m.held.blocks.held h ≡ Some b → value_at left.blocks_sure h ≡ Some b
+      value_from_held h b is = leaves.blocks h b (sure_value m.held.blocks.held m.held.blocks.sure h b sure_held (held_sure m.held.blocks reach.good.heights.sure_blocks h (has_height-from_value m.held.blocks.held h b is)) is)
+
+      blocks_are : handed_blocks (tips ++ map handed_report handed) ≡ handed
+      blocks_are = handed_after_tips tips handed reach.are_tips
+
+      first : first_pair left.meta ≡ Some (pair_of m.held.processed m.held.cutoff)
+      first = stops.lost.first_pair_kept ∙ ap first_pair reach.good.heights.own_pair
+
+      in_order : HandedFrom left.blocks_sure a.life.next_ack (next_after (option_map height_in m.held.processed) + length (undrained_blocks n e)) handed
+      in_order =
+          subst (λ k. HandedFrom left.blocks_sure a.life.next_ack (k + length (undrained_blocks n e)) handed) (sym (next_after-is m.held.processed))
+          (subst (λ o. HandedFrom left.blocks_sure a.life.next_ack (first_unprocessed m.held.processed + length o) handed) reach.kept
+          (subst (λ t. HandedFrom left.blocks_sure t (first_unprocessed m.held.processed + length m.life.out) handed) reach.next_ack
+          (subst (λ k. HandedFrom left.blocks_sure m.life.next_ack k handed) (next_is config chain m buffer asked reach.good)
+          (HandedFrom-held m.held.blocks.held left.blocks_sure m.life.next_ack (next_in m) handed sure_from_held stops.next))))
+
+      each : (p : Pair) → Contains left.meta p → MayBeLeft config chain a e buffer asked left.blocks_sure p
+      each p has = inr (pair_is ∙ is, subst (IsSafePair chain left.blocks_sure) is safe, subst (λ q. NotBelow (option_map height_in a.held.processed) q.processed) is not_below)
+        where
+          is : pair_of m.held.processed m.held.cutoff ≡ p
+          is = only_one (pair_of m.held.processed m.held.cutoff) p (subst (λ ps. Contains ps p) (append-nil m.held.pairs ∙ reach.good.heights.own_pair) (stops.lost.pairs_within p has))
+
+          from : (o : Option ℕ) → IsFrom 0 o
+          from None = tt
+          from (Some h) = omega arith
+
+          safe : IsSafePair chain left.blocks_sure (pair_of m.held.processed m.held.cutoff)
+          safe = IsSafePair-kept chain 0 m.held.blocks.sure left.blocks_sure (pair_of m.held.processed m.held.cutoff) (λ h low there. keeps_heights m.held.blocks.sure left.blocks_sure leaves.blocks h there) (from (option_map height_in m.held.processed)) (own_pair_safe chain (node_of m buffer asked) reach.good.heights.anchored reach.good.of_chain.floor_safe)
+
+      by_kind : IsUsual x.fault ⊎ ((x.fault ≡ ticket_limit ack_kind) × IsAtLimit m handed) → (is_by_value x.fault ≡ false) × (is_dropped_ack x.fault ≡ false)
+      by_kind (inl usual) = (usual_not_by_value x.fault usual, usual_not_dropped x.fault usual)
+      by_kind (inr limit) = (ap is_by_value limit.0, ap is_dropped_ack limit.0)
+
+      -- a life that ended while blocks were handed over is cut there
+      pub Cuts-handing : Cuts config chain n (e ∷ []) (tips ++ map handed_report handed) x.fault left
+      Cuts-handing =
+          Cuts-left config chain a e buffer asked good_before.0 good_before.1 reach.no_effect (tips ++ map handed_report handed) m.life.tip (option_map height_in m.held.processed) x.fault left
+          (tips_before_handed a.life.tip m.life.tip tips handed reach.are_tips reach.tips_rise) (tips_of_both chain tips handed reach.are_tips reach.tips_chain)
+          (inr (contains_first left.meta (pair_of m.held.processed m.held.cutoff) first))
+          (subst (λ xs. HandedFrom left.blocks_sure a.life.next_ack (next_after (option_map height_in m.held.processed) + length (undrained_blocks n e)) xs) (sym blocks_are) in_order)
+          (subst (AreHandedOf chain left.blocks_sure) (sym blocks_are) (AreHandedOf-values chain m.held.blocks.held left.blocks_sure m.life.next_ack (next_in m) handed reach.good.of_chain.held_blocks value_from_held stops.next))
+          leaves_all (some_from_first left.meta (pair_of m.held.processed m.held.cutoff) first) each
+          (λ is. absurd (never (is_by_value x.fault) (by_kind stops.kind).0 is))
+          (never (is_refused_floor e x.fault) (unrefused x.fault))
+          (λ is. absurd (never (is_dropped_ack x.fault) (by_kind stops.kind).1 is))
+
+    -- what a dispatch from the reached node makes of the step
+    pub dispatched : (told told1 told' : Option (List Report)) (heard heard' : Option (List Call)) (result : Result (Seen P E) Ending) → Hears told tips told1 → Ran m told1 told' result → Hears heard (own_asks config n e no_floor) heard' → (reports : List Report) × Hears told reports told' × StepsOrCuts config chain a e buffer asked reports heard heard' result
+    dispatched told told1 told' heard heard' (Ok d) tips_heard (handed, handed_heard, ran) asks_heard = (
+      tips ++ map handed_report handed,
+      Hears-then told told1 told' tips (map handed_report handed) tips_heard handed_heard,
+      record {
+        asks = own_asks config n e no_floor;
+        heard = asks_heard;
+        steps = subst (λ s. Steps config chain n (e ∷ []) (made_of (tips ++ map handed_report handed) (own_asks config n e no_floor)) (node_of s buffer (asked_after asked [] (own_asks config n e no_floor)))) (sym ran.same)
+            (Steps-reached config chain a m e buffer asked tips handed step.lawful window sure_held step.reported good_before.1.of_chain.honest_asks reach ran.next ran.room
+            (Rest-still config chain (with_handed m handed) buffer asked step.lawful window (IsGood-handed config chain m buffer asked handed window reach.good ran.next ran.room) (subst IsStill ran.same ran.still)));
+      },
+    )
+    dispatched told told1 told' heard heard' (Err x) tips_heard (handed, handed_heard, stops) asks_heard = (tips ++ map handed_report handed, Hears-then told told1 told' tips (map handed_report handed) tips_heard handed_heard, Cuts-handing handed x stops)
+
+    -- what a step without a dispatch makes of it, where the reached node rests
+    pub undispatched : (told told' : Option (List Report)) (heard heard' : Option (List Call)) → Hears told tips told' → Hears heard (own_asks config n e no_floor) heard' → Rest config.window (node_of m buffer asked) → (reports : List Report) × Hears told reports told' × StepsOrCuts config chain a e buffer asked reports heard heard' (Ok m)
+    undispatched told told' heard heard' tips_heard asks_heard rests = (
+      tips,
+      tips_heard,
+      record {
+        asks = own_asks config n e no_floor;
+        heard = asks_heard;
+        steps = subst (λ rs. Steps config chain n (e ∷ []) (made_of rs (own_asks config n e no_floor)) (node_of m buffer (asked_after asked [] (own_asks config n e no_floor)))) (append-nil tips)
+            (subst (λ s. Steps config chain n (e ∷ []) (made_of (tips ++ []) (own_asks config n e no_floor)) (node_of s buffer (asked_after asked [] (own_asks config n e no_floor)))) (with_handed-none m)
+            (Steps-reached config chain a m e buffer asked tips [] step.lawful window sure_held step.reported good_before.1.of_chain.honest_asks reach tt (λ more. absurd (omega arith)) (subst (λ s. Rest config.window (node_of s buffer asked)) (sym (with_handed-none m)) rests)));
+      },
+    )

@@ -1,0 +1,80 @@
+-- What is asked as a cutoff rises twice is what is asked as it rises over both.
+use Rattle.std.proofs.Common.{◌≡◌, ℕ, List, [], ◌∷◌, ◌++◌, Bool, true, false, if◌then◌else◌, ◌==◌, ◌&&◌, ◌||◌, nat_le, nat_lt, Option, option_map, option_to_list, Result, Ok, Err, OnOk, IsTrue, refl, sym, ◌∙◌, ap, ap₂, subst, arith}
+use Rattle.std.proofs.lemmas.Bool.Decides.{nat_tests}
+use Rattle.mar_types.specs.Round.{Round}
+use Rattle.mar_key.specs.Cutoff.{Cutoff, at_epoch, at_round, cutoff_le, cutoff_max, greatest_of}
+use Rattle.mar_key.specs.Hears.{Hears}
+use Rattle.mar_key.specs.Keys.{Call, above_height, above_round, retain}
+use Rattle.mar_key.proofs.CutoffOrder.{cutoff_le-total}
+use Rattle.mar_key.specs.Processed.{Processed}
+use Rattle.mar_types.specs.Epochs.{Epochs, closed_epoch}
+use Rattle.mar_node.specs.Held.{Counts, Ending, Seen}
+use Rattle.mar_node.specs.Moves.{RaisesTo, retired, round_at}
+use Rattle.mar_node.specs.Requests.{raise_asks}
+use Rattle.mar_node.proofs.Handing.{Hears-then}
+
+-- two cutoffs that reach each other are one
+cutoff_le-both : (c d : Cutoff) → IsTrue (cutoff_le c d) → IsTrue (cutoff_le d c) → c ≡ d
+cutoff_le-both (at_round a) (at_round b) ab ba = ap₂ (λ e v. at_round (record { epoch = e; view = v })) (epochs a.epoch b.epoch a.view b.view ab ba) (views a.epoch b.epoch a.view b.view ab ba)
+  where
+    epochs : (e f v w : ℕ) → (nat_lt e f || (e == f && nat_le v w)) ≡ true → (nat_lt f e || (f == e && nat_le w v)) ≡ true → e ≡ f
+    epochs e f v w ef fe = grind (arith, nat_tests)
+
+    views : (e f v w : ℕ) → (nat_lt e f || (e == f && nat_le v w)) ≡ true → (nat_lt f e || (f == e && nat_le w v)) ≡ true → v ≡ w
+    views e f v w ef fe = grind (arith, nat_tests)
+cutoff_le-both (at_round a) (at_epoch e) ab ba = absurd (clash a.epoch e ab ba)
+  where
+    clash : (f e : ℕ) → nat_le f e ≡ true → nat_lt e f ≡ true → ⊥
+    clash f e ab ba = grind (arith, nat_tests)
+cutoff_le-both (at_epoch e) (at_round b) ab ba = absurd (clash b.epoch e ba ab)
+  where
+    clash : (f e : ℕ) → nat_le f e ≡ true → nat_lt e f ≡ true → ⊥
+    clash f e ab ba = grind (arith, nat_tests)
+cutoff_le-both (at_epoch e) (at_epoch f) ab ba = ap at_epoch (same e f ab ba)
+  where
+    same : (e f : ℕ) → nat_le e f ≡ true → nat_le f e ≡ true → e ≡ f
+    same e f ab ba = grind (arith, nat_tests)
+
+-- the greater of two, by whether the second reaches no further
+max_low : (c d : Cutoff) → cutoff_le d c ≡ true → cutoff_max c d ≡ c
+max_low c d low = by (cutoff_le c d) refl
+  where
+    by : (b : Bool) → cutoff_le c d ≡ b → (if b then d else c) ≡ c
+    by true high = cutoff_le-both d c low high
+    by false less = refl
+
+max_high : (c d : Cutoff) → cutoff_le d c ≡ false → cutoff_max c d ≡ d
+max_high c d above = ap (λ (b : Bool). if b then d else c) (cutoff_le-total d c above)
+
+pub raise_asks-append : (c : Cutoff) (xs ys : List Cutoff) → raise_asks c (xs ++ ys) ≡ raise_asks c xs ++ raise_asks (greatest_of c xs) ys
+raise_asks-append c [] ys = refl
+raise_asks-append c (x ∷ xs) ys = by (cutoff_le x c) refl (raise_asks-append c xs ys) (raise_asks-append x xs ys)
+  where
+    by : (b : Bool) → cutoff_le x c ≡ b → raise_asks c (xs ++ ys) ≡ raise_asks c xs ++ raise_asks (greatest_of c xs) ys → raise_asks x (xs ++ ys) ≡ raise_asks x xs ++ raise_asks (greatest_of x xs) ys → (if b then raise_asks c (xs ++ ys) else retain (above_round x) ∷ raise_asks x (xs ++ ys)) ≡ (if b then raise_asks c xs else retain (above_round x) ∷ raise_asks x xs) ++ raise_asks (greatest_of (cutoff_max c x) xs) ys
+    by true low same other = same ∙ ap (λ d. raise_asks c xs ++ raise_asks (greatest_of d xs) ys) (sym (max_low c x low))
+    by false above same other = ap (λ zs. retain (above_round x) ∷ zs) (other ∙ ap (λ d. raise_asks x xs ++ raise_asks (greatest_of d xs) ys) (sym (max_high c x above)))
+
+-- what is heard as a height is processed: one retain, the raise to its round, the raise over epochs
+pub Hears-processed : {T F : Type 0} (result : Result T F) (first second third last : Option (List Call)) (call : Call) (c d : Cutoff) (xs ys : List Cutoff) → Hears first (call ∷ []) second → Hears second (raise_asks c xs) third → d ≡ greatest_of c xs → OnOk result (Hears third (raise_asks d ys) last) → OnOk result (Hears first (call ∷ raise_asks c (xs ++ ys)) last)
+Hears-processed (Ok r) first second third last call c d xs ys before raised is after =
+    subst (λ zs. Hears first (call ∷ zs) last) (sym (raise_asks-append c xs ys))
+    (Hears-then first third last (call ∷ raise_asks c xs) (raise_asks (greatest_of c xs) ys) (Hears-then first second third (call ∷ []) (raise_asks c xs) before raised) (subst (λ k. Hears third (raise_asks k ys) last) is after))
+Hears-processed (Err e) first second third last call c d xs ys before raised is after = tt
+
+-- the same, of the actors between
+pub process_asks : {P E : Type 0} (epochs_of : E → Epochs) (old one two three : Seen P E) (result : Result (Seen P E) Ending) (first second third last : Option (List Call)) (processed : Option Processed) (counts : Counts) (height : ℕ) (round : Option Round) (witnessed : Round) → one ≡ record old { held = record old.held { processed = processed; counts = counts } } → two ≡ one → round ≡ round_at one.held.certs.held height → RaisesTo two (option_to_list (option_map at_round round)) witnessed three → Hears first (retain (above_height height) ∷ []) second → Hears second (raise_asks two.held.cutoff (option_to_list (option_map at_round round))) third → OnOk result (Hears third (raise_asks three.held.cutoff (option_to_list (option_map at_epoch (closed_epoch (epochs_of three.life.epocher) height)))) last) → OnOk result (Hears first (retain (above_height height) ∷ raise_asks old.held.cutoff (retired (epochs_of old.life.epocher) old.held.certs.held height)) last)
+process_asks epochs_of old one two three result first second third last processed counts height round witnessed one_is two_is round_is raised before between after =
+    Hears-processed result first second third last (retain (above_height height)) old.held.cutoff three.held.cutoff (option_to_list (option_map at_round (round_at old.held.certs.held height))) (option_to_list (option_map at_epoch (closed_epoch (epochs_of old.life.epocher) height)))
+    before
+    (subst (λ c. Hears second (raise_asks c (option_to_list (option_map at_round (round_at old.held.certs.held height)))) third) cutoff_is (subst (λ o. Hears second (raise_asks two.held.cutoff (option_to_list (option_map at_round o))) third) round_old between))
+    (ap (λ a. a.held.cutoff) raised.same ∙ (ap (λ c. greatest_of c (option_to_list (option_map at_round round))) cutoff_is ∙ ap (λ o. greatest_of old.held.cutoff (option_to_list (option_map at_round o))) round_old))
+    (subst (λ e. OnOk result (Hears third (raise_asks three.held.cutoff (option_to_list (option_map at_epoch (closed_epoch (epochs_of e) height)))) last)) (ap (λ a. a.life.epocher) raised.same ∙ epocher_is) after)
+  where
+    cutoff_is : two.held.cutoff ≡ old.held.cutoff
+    cutoff_is = ap (λ a. a.held.cutoff) two_is ∙ ap (λ a. a.held.cutoff) one_is
+
+    epocher_is : two.life.epocher ≡ old.life.epocher
+    epocher_is = ap (λ a. a.life.epocher) two_is ∙ ap (λ a. a.life.epocher) one_is
+
+    round_old : round ≡ round_at old.held.certs.held height
+    round_old = round_is ∙ ap (λ a. round_at a.held.certs.held height) one_is

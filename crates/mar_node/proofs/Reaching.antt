@@ -1,0 +1,314 @@
+-- An event in two parts: what it does first, and then the blocks that it hands over.
+use Rattle.std.proofs.Common.{◌≡◌, ◌⊎◌, inl, inr, ℕ, zero, suc, ◌+◌, ◌-◌, ◌<◌, ◌≤◌, ◌^◌, List, [], ◌∷◌, ◌++◌, length, map, true, false, Option, Some, None, IfSome, IsTrue, Contains, slice_get, ◌==◌, refl, sym, ◌∙◌, ap, subst, arith, length-append}
+use Rattle.std.specs.Bool.{⊤}
+use Rattle.std.specs.List.{AllByRecursion, list_any}
+use Rattle.mar_cert.specs.Block.{Block}
+use Rattle.mar_key.specs.Asked.{Asked, asked_after}
+use Rattle.mar_key.specs.Keys.{Call}
+use Rattle.mar_key.specs.Processed.{first_unprocessed}
+use Rattle.mar_store.specs.Kept.{At, Kept, has_height, value_at}
+use Rattle.mar_store.specs.Changes.{KeepsValues}
+use Rattle.mar_store.proofs.Lookups.{AllByRecursion-append, AllByRecursion-value_at}
+use Rattle.mar_node.specs.Answers.{answers_of, certified_after, is_known, sends_of, subscriptions_after}
+use Rattle.mar_node.specs.Cache.{started_syncs, witnessing_of}
+use Rattle.mar_node.specs.Chain.{Chain, IsBlockAt, IsLawful}
+use Rattle.mar_node.specs.Config.{Config}
+use Rattle.mar_node.specs.Event.{Event, acked_to, blocks_from, certs_from, cutoff_after, drained_blocks, effect_of, is_query, no_floor, storing_of, undrained_blocks}
+use Rattle.mar_node.specs.Faults.{event_fault}
+use Rattle.mar_node.specs.Held.{Seen}
+use Rattle.mar_node.specs.Moves.{AreNextHeld, HasRoom, IsStill, handed_report, next_in, with_handed}
+use Rattle.mar_node.specs.Node.{HonestAsk, IsGood, Node, Rest, SureOrWritten, block_missing, floor_awaited, window_full, write_count, write_uncovered}
+use Rattle.mar_node.specs.Promise.{ReportsFinalized, made_of, node_of}
+use Rattle.mar_node.specs.Requests.{own_asks}
+use Rattle.mar_node.specs.Step.{AdvancesBy, AreHandedOf, AreTipsOf, HandedBlock, HandedFrom, HandsOver, IsStored, IsStoredLate, KeepsFrom, Report, Steps, TipsFrom, Writes, handed_blocks, handed_over, new_tip, outstanding_of}
+use Rattle.mar_node.proofs.Handing.{AreHandedOf-held, HandedFrom-held, handed_blocks-is, height_after-consecutive}
+use Rattle.mar_node.proofs.HonestAsks.{AreHonest-asked_after, own_asks-honest}
+use Rattle.mar_node.proofs.OutstandingLemmas.{ConsecutiveFrom-append, ConsecutiveFrom-handed}
+use Rattle.mar_node.proofs.SyncTickets.{with_sync-covered}
+
+-- REPORTS
+
+-- no block is handed over in these
+abbrev pub AreTips : List Report → Type 0
+AreTips [] = ⊤
+AreTips (new_tip r h d ∷ reports) = AreTips reports
+AreTips (handed_over t b ∷ reports) = ⊥
+
+pub handed_after_tips : (tips : List Report) (xs : List HandedBlock) → AreTips tips → handed_blocks (tips ++ map handed_report xs) ≡ xs
+handed_after_tips [] xs only = handed_blocks-is xs
+handed_after_tips (new_tip r h d ∷ tips) xs only = handed_after_tips tips xs only
+handed_after_tips (handed_over t b ∷ tips) xs only = absurd only
+
+tips_from_handed : (tip : ℕ) (xs : List HandedBlock) → TipsFrom tip (map handed_report xs) tip
+tips_from_handed tip [] = refl
+tips_from_handed tip (x ∷ xs) = tips_from_handed tip xs
+
+pub tips_before_handed : (tip last : ℕ) (tips : List Report) (xs : List HandedBlock) → AreTips tips → TipsFrom tip tips last → TipsFrom tip (tips ++ map handed_report xs) last
+tips_before_handed tip last [] xs only is = subst (λ k. TipsFrom tip (map handed_report xs) k) (sym is) (tips_from_handed tip xs)
+tips_before_handed tip last (new_tip r h d ∷ tips) xs only is = (is.0, tips_before_handed h last tips xs only is.1)
+tips_before_handed tip last (handed_over t b ∷ tips) xs only is = absurd only
+
+tips_of_handed : (chain : Chain) (xs : List HandedBlock) → AreTipsOf chain (map handed_report xs)
+tips_of_handed chain [] = tt
+tips_of_handed chain (x ∷ xs) = tips_of_handed chain xs
+
+pub tips_of_both : (chain : Chain) (tips : List Report) (xs : List HandedBlock) → AreTips tips → AreTipsOf chain tips → AreTipsOf chain (tips ++ map handed_report xs)
+tips_of_both chain [] xs only is = tips_of_handed chain xs
+tips_of_both chain (new_tip r h d ∷ tips) xs only is = (is.0, is.1, tips_of_both chain tips xs only is.2)
+tips_of_both chain (handed_over t b ∷ tips) xs only is = absurd only
+
+-- HANDING OVER FROM A GOOD NODE
+
+-- where all writes are covered, a held height is sure
+pub held_sure : {T : Type 0} (kept : Kept (At T)) → SureOrWritten kept [] → (h : ℕ) → IsTrue (has_height kept.held h) → IsTrue (has_height kept.sure h)
+held_sure kept covered h has = by (covered h has)
+  where
+    by : IsTrue (has_height kept.sure h) ⊎ Contains [] h → IsTrue (has_height kept.sure h)
+    by (inl is) = is
+    by (inr none) = absurd (let lt : none.0 < 0 = none.1 in omega arith)
+
+all_out_sure : (sure : List (At Block)) (ticket height : ℕ) (xs : List HandedBlock) → HandedFrom sure ticket height xs → AllByRecursion (λ o. IsTrue (has_height sure o.height)) (map outstanding_of xs)
+all_out_sure sure ticket height [] line = tt
+all_out_sure sure ticket height (x ∷ xs) line = (subst (λ k. IsTrue (has_height sure k)) (sym line.1) line.2, all_out_sure sure (ticket + 1) (height + 1) xs line.3)
+
+room_for : (out window k : ℕ) → out ≤ window → (0 < k → out + k ≤ window) → out + k ≤ window
+room_for out window zero within room = omega arith
+room_for out window (suc k) within room = room (omega arith)
+
+pub next_is : {P E : Type 0} (config : Config) (chain : Chain) (m : Seen P E) (buffer : List Block) (asked : List Asked) → IsGood config chain (node_of m buffer asked) → next_in m ≡ first_unprocessed m.held.processed + length m.life.out
+next_is config chain m buffer asked good = height_after-consecutive (first_unprocessed m.held.processed) m.life.out good.heights.consecutive
+
+-- the first part's node stays good as blocks are handed over
+pub IsGood-handed : {P E : Type 0} (config : Config) (chain : Chain) (m : Seen P E) (buffer : List Block) (asked : List Asked) (handed : List HandedBlock) → config.window ≡ m.life.sizes.window → IsGood config chain (node_of m buffer asked) → AreNextHeld m handed → HasRoom m handed → IsGood config chain (node_of (with_handed m handed) buffer asked)
+IsGood-handed config chain m buffer asked handed window good next room = record {
+  heights = record {
+    sure_blocks = good.heights.sure_blocks;
+    sure_certs = good.heights.sure_certs;
+    consecutive = ConsecutiveFrom-append (first_unprocessed m.held.processed) m.life.out (map outstanding_of handed) good.heights.consecutive (ConsecutiveFrom-handed m.held.blocks.sure m.life.next_ack (first_unprocessed m.held.processed + length m.life.out) handed (subst (λ k. HandedFrom m.held.blocks.sure m.life.next_ack k handed) (next_is config chain m buffer asked good) handed_sure));
+    out_sure = AllByRecursion-append (λ o. IsTrue (has_height m.held.blocks.sure o.height)) m.life.out (map outstanding_of handed) good.heights.out_sure (all_out_sure m.held.blocks.sure m.life.next_ack (next_in m) handed handed_sure);
+    within_window = subst (λ w. length (m.life.out ++ map outstanding_of handed) ≤ w) (sym window) (subst (λ k. k ≤ m.life.sizes.window) (sym counted) (room_for (length m.life.out) m.life.sizes.window (length handed) (subst (λ w. length m.life.out ≤ w) window good.heights.within_window) room));
+    floor_clears = λ some. absurd cc;
+    anchored = good.heights.anchored;
+    own_pair = good.heights.own_pair;
+    sync_open = λ more. absurd (omega arith);
+  };
+  of_chain = record {
+    held_blocks = good.of_chain.held_blocks;
+    may_blocks = good.of_chain.may_blocks;
+    held_certs = good.of_chain.held_certs;
+    may_certs = good.of_chain.may_certs;
+    cached = good.of_chain.cached;
+    cached_blocks = good.of_chain.cached_blocks;
+    awaits = good.of_chain.awaits;
+    floor_safe = good.of_chain.floor_safe;
+    honest_asks = good.of_chain.honest_asks;
+    honest_ready = good.of_chain.honest_ready;
+    honest_overflow = good.of_chain.honest_overflow;
+    not_at_hand = good.of_chain.not_at_hand;
+    tip_reported = good.of_chain.tip_reported;
+  };
+}
+  where
+    handed_sure : HandedFrom m.held.blocks.sure m.life.next_ack (next_in m) handed
+    handed_sure = HandedFrom-held m.held.blocks.held m.held.blocks.sure m.life.next_ack (next_in m) handed (held_sure m.held.blocks good.heights.sure_blocks) next
+
+    length_mapped : (xs : List HandedBlock) → length (map outstanding_of xs) ≡ length xs
+    length_mapped [] = refl
+    length_mapped (x ∷ xs) = ap (λ k. suc k) (length_mapped xs)
+
+    counted : length (m.life.out ++ map outstanding_of handed) ≡ length m.life.out + length handed
+    counted = length-append m.life.out (map outstanding_of handed) ∙ ap (λ k. length m.life.out + k) (length_mapped handed)
+
+pub in_list : (blocks : List Block) (i : ℕ) (b : Block) → slice_get blocks i ≡ Some b → i < length blocks
+in_list [] i b at = absurd cc
+in_list (c ∷ blocks) zero b at = omega arith
+in_list (c ∷ blocks) (suc i) b at = let low : i < length blocks = in_list blocks i b at in omega arith
+
+-- a good node that can hand over no more rests
+pub Rest-still : {P E : Type 0} (config : Config) (chain : Chain) (m : Seen P E) (buffer : List Block) (asked : List Asked) → IsLawful config.epochs chain → config.window ≡ m.life.sizes.window → IsGood config chain (node_of m buffer asked) → IsStill m → Rest config.window (node_of m buffer asked)
+Rest-still config chain m buffer asked lawful window good (inl full) = window_full (let within : length m.life.out ≤ config.window = good.heights.within_window in omega arith)
+Rest-still config chain m buffer asked lawful window good (inr (inl missing)) = block_missing (subst (λ k. value_at m.held.blocks.held k ≡ None) (next_is config chain m buffer asked good) missing)
+Rest-still config chain m buffer asked lawful window good (inr (inr end)) = block_missing (beyond (value_at m.held.blocks.held next) refl)
+  where
+    next : ℕ
+    next = first_unprocessed m.held.processed + length m.life.out
+
+    beyond : (o : Option Block) → value_at m.held.blocks.held next ≡ o → value_at m.held.blocks.held next ≡ None
+    beyond None is = is
+    beyond (Some b) is = absurd (let at : IsBlockAt chain next b = AllByRecursion-value_at (λ x. IsBlockAt chain x.height x.value) m.held.blocks.held next b good.of_chain.held_blocks is in let low : next < length chain.blocks = in_list chain.blocks next b at in let bound : length chain.blocks < 2 ^ 64 - 1 = lawful.bounded in let high : 2 ^ 64 ≤ first_unprocessed m.held.processed = end in omega arith)
+
+-- THE FIRST PART
+
+-- What an event does before it hands over: from `a` to `m`, with these tips and asks.
+pub record Reaches {P E : Type 0} (config : Config) (chain : Chain) (a : Seen P E) (e : Event) (buffer : List Block) (asked : List Asked) (tips : List Report) (m : Seen P E) : Type 0 where
+  pub no_effect : effect_of config (node_of a buffer asked) e ≡ no_floor
+  pub kept : m.life.out ≡ undrained_blocks (node_of a buffer asked) e
+  pub next_ack : m.life.next_ack ≡ a.life.next_ack
+  pub sizes : m.life.sizes ≡ a.life.sizes
+  pub processed : m.held.processed ≡ acked_to a.held.processed (drained_blocks (node_of a buffer asked) e)
+  pub cutoff : m.held.cutoff ≡ cutoff_after config (node_of a buffer asked) e no_floor
+  pub blocks : KeepsFrom (blocks_from (node_of a buffer asked) e no_floor) a.held.blocks m.held.blocks
+  pub certs : KeepsFrom (certs_from (node_of a buffer asked) e no_floor) a.held.certs m.held.certs
+  pub writes : Writes (node_of a buffer asked) e no_floor (node_of m buffer asked)
+  pub no_repair : writes.repaired ≡ []
+  pub are_tips : AreTips tips
+  pub tips_rise : TipsFrom a.life.tip tips m.life.tip
+  pub tips_chain : AreTipsOf chain tips
+  pub witnessed : m.life.witnessed ≡ (witnessing_of config (node_of a buffer asked) e no_floor).last
+  pub stored : IfSome (storing_of (node_of a buffer asked) e) (IsStored (node_of m buffer asked))
+  pub stored_late : IfSome (storing_of (node_of a buffer asked) e) (IsStoredLate (node_of a buffer asked) no_floor (node_of m buffer asked))
+  pub no_query : is_query e ≡ false
+  pub no_fault : event_fault config (node_of a buffer asked) e ≡ None
+  pub sends : sends_of (node_of a buffer asked) e ≡ []
+  pub answers : answers_of config (node_of a buffer asked) 0 e no_floor ≡ []
+  pub subscriptions : subscriptions_after (node_of a buffer asked) e no_floor ≡ []
+  pub certified : (tip : ℕ) → certified_after (node_of a buffer asked) e no_floor tip ≡ []
+  pub no_syncs : (n' : Node) → started_syncs (node_of a buffer asked) n' e ≡ []
+  pub good : IsGood config chain (node_of m buffer asked)
+
+-- BOTH PARTS
+
+IfSome-more : {T : Type 0} (P Q : T → Type 0) → ((x : T) → P x → Q x) → (o : Option T) → IfSome o P → IfSome o Q
+IfSome-more P Q more None is = tt
+IfSome-more P Q more (Some x) is = more x is
+
+all_nothing : {T : Type 0} (xs : List T) → AllByRecursion (λ x. ⊤) xs
+all_nothing [] = tt
+all_nothing (x ∷ xs) = (tt, all_nothing xs)
+
+-- another buffer and other requests stand beside it
+pub Rest-beside : {P E : Type 0} (window : ℕ) (m : Seen P E) (buffer buffer' : List Block) (asked asked' : List Asked) → Rest window (node_of m buffer asked) → Rest window (node_of m buffer' asked')
+Rest-beside window m buffer buffer' asked asked' (floor_awaited some) = absurd cc
+Rest-beside window m buffer buffer' asked asked' (window_full full) = window_full full
+Rest-beside window m buffer buffer' asked asked' (block_missing missing) = block_missing missing
+Rest-beside window m buffer buffer' asked asked' (write_uncovered h none low) = absurd (let lt : none.0 < 0 = none.1 in omega arith)
+
+pub IsGood-beside : {P E : Type 0} (config : Config) (chain : Chain) (m : Seen P E) (buffer buffer' : List Block) (asked asked' : List Asked) → AllByRecursion (λ x. HonestAsk chain x.key x.annotations) asked' → IsGood config chain (node_of m buffer asked) → IsGood config chain (node_of m buffer' asked')
+IsGood-beside config chain m buffer buffer' asked asked' honest good = record {
+  heights = record {
+    sure_blocks = good.heights.sure_blocks;
+    sure_certs = good.heights.sure_certs;
+    consecutive = good.heights.consecutive;
+    out_sure = good.heights.out_sure;
+    within_window = good.heights.within_window;
+    floor_clears = good.heights.floor_clears;
+    anchored = good.heights.anchored;
+    own_pair = good.heights.own_pair;
+    sync_open = good.heights.sync_open;
+  };
+  of_chain = record {
+    held_blocks = good.of_chain.held_blocks;
+    may_blocks = good.of_chain.may_blocks;
+    held_certs = good.of_chain.held_certs;
+    may_certs = good.of_chain.may_certs;
+    cached = good.of_chain.cached;
+    cached_blocks = good.of_chain.cached_blocks;
+    awaits = tt;
+    floor_safe = good.of_chain.floor_safe;
+    honest_asks = honest;
+    honest_ready = good.of_chain.honest_ready;
+    honest_overflow = good.of_chain.honest_overflow;
+    not_at_hand = tt;
+    tip_reported = good.of_chain.tip_reported;
+  };
+}
+
+module _ {P E : Type 0} (config : Config) (chain : Chain) (a m : Seen P E) (e : Event) (buffer : List Block) (asked : List Asked) (tips : List Report) (handed : List HandedBlock)
+    (lawful : IsLawful config.epochs chain) (window : config.window ≡ m.life.sizes.window) (sure_is_held : KeepsValues m.held.blocks.sure m.held.blocks.held) (reported : ReportsFinalized chain e)
+    (honest : AllByRecursion (λ x. HonestAsk chain x.key x.annotations) asked) (reach : Reaches config chain a e buffer asked tips m) (next : AreNextHeld m handed) (room : HasRoom m handed)
+    (rests : Rest config.window (node_of (with_handed m handed) buffer asked))
+  where
+    abbrev pub n : Node
+    n = node_of a buffer asked
+
+    abbrev pub reports : List Report
+    reports = tips ++ map handed_report handed
+
+    abbrev pub asks : List Call
+    asks = own_asks config n e no_floor
+
+    abbrev pub n' : Node
+    n' = node_of (with_handed m handed) buffer (asked_after asked [] asks)
+
+    blocks_are : handed_blocks reports ≡ handed
+    blocks_are = handed_after_tips tips handed reach.are_tips
+
+    sure_from_held : (h : ℕ) → IsTrue (has_height m.held.blocks.held h) → IsTrue (has_height m.held.blocks.sure h)
+    sure_from_held = held_sure m.held.blocks reach.good.heights.sure_blocks
+
+    in_order : HandedFrom m.held.blocks.sure a.life.next_ack (first_unprocessed m.held.processed + length (undrained_blocks n e)) handed
+    in_order =
+        subst (λ o. HandedFrom m.held.blocks.sure a.life.next_ack (first_unprocessed m.held.processed + length o) handed) reach.kept
+        (subst (λ t. HandedFrom m.held.blocks.sure t (first_unprocessed m.held.processed + length m.life.out) handed) reach.next_ack
+        (subst (λ k. HandedFrom m.held.blocks.sure m.life.next_ack k handed) (next_is config chain m buffer asked reach.good)
+        (HandedFrom-held m.held.blocks.held m.held.blocks.sure m.life.next_ack (next_in m) handed sure_from_held next)))
+
+    hands : HandsOver n (undrained_blocks n e) reports n'
+    hands = record {
+      in_order = subst (λ xs. HandedFrom m.held.blocks.sure a.life.next_ack (first_unprocessed m.held.processed + length (undrained_blocks n e)) xs) (sym blocks_are) in_order;
+      counted = ap (λ k. k + length handed) reach.next_ack ∙ ap (λ xs. a.life.next_ack + length xs) (sym blocks_are);
+      out = ap (λ o. o ++ map outstanding_of handed) reach.kept ∙ ap (λ xs. undrained_blocks n e ++ map outstanding_of xs) (sym blocks_are);
+      below_barrier = all_nothing (handed_blocks reports);
+    }
+
+    hands_chain : AreHandedOf chain m.held.blocks.sure (handed_blocks reports)
+    hands_chain = subst (AreHandedOf chain m.held.blocks.sure) (sym blocks_are) (AreHandedOf-held chain m.held.blocks.held m.held.blocks.sure m.life.next_ack (next_in m) handed reach.good.of_chain.held_blocks sure_is_held sure_from_held next)
+
+    none_repaired : (h : ℕ) → IsTrue (list_any (λ k. k == h) reach.writes.repaired) → ⊥
+    none_repaired h any = let none : false ≡ true = subst (λ xs. IsTrue (list_any (λ k. k == h) xs)) reach.no_repair any in cc
+
+    untouched : n' ≡ record n' { buffer = n.buffer; buffer_closed = n.buffer_closed; unanswered = n.unanswered; peers = n.peers; inbox = n.inbox; next_answer = n.next_answer }
+    untouched = ap (λ (k : ℕ). record n' { peers = record { ready = []; capacity = k; overflow = []; closed = [] }; inbox = record { ready = []; capacity = k; floor = None; prune = None; overflow = []; closed = []; seats = 0; shut = false } }) (ap (λ s. s.capacity) reach.sizes)
+
+    advances_unfloored : AdvancesBy config chain n e no_floor (made_of reports asks) n'
+    advances_unfloored = record {
+      hands = hands;
+      hands_chain = hands_chain;
+      processed = reach.processed;
+      cutoff = reach.cutoff;
+      blocks = reach.blocks;
+      certs = reach.certs;
+      writes = record {
+        repaired = reach.writes.repaired;
+        by_repair = reach.writes.by_repair;
+        each_once = reach.writes.each_once;
+        blocking = reach.writes.blocking;
+        within = reach.writes.within;
+        at_least = reach.writes.at_least;
+        covered = reach.writes.covered;
+        uncovered = reach.writes.uncovered;
+        syncs = reach.writes.syncs;
+      };
+      repairs = record { at_hand = λ h b any is. absurd (none_repaired h any); with_finalization = λ h b any is some. absurd (none_repaired h any) };
+      tips = tips_before_handed a.life.tip m.life.tip tips handed reach.are_tips reach.tips_rise;
+      tips_chain = tips_of_both chain tips handed reach.are_tips reach.tips_chain;
+      awaited = refl;
+      cache = record { cache = refl; lowest = refl; lowests = refl; cache_syncs = refl; witnessed = reach.witnessed };
+      stored = IfSome-more (IsStored (node_of m buffer asked)) (IsStored n') (λ s is. record { block = is.block; certificate = is.certificate }) (storing_of n e) reach.stored;
+      stored_late = IfSome-more (IsStoredLate n no_floor (node_of m buffer asked)) (IsStoredLate n no_floor n') (λ s is. is) (storing_of n e) reach.stored_late;
+      floor_stored = tt;
+      query = λ is. absurd (let none : false ≡ true = sym reach.no_query ∙ is in cc);
+      no_fault = reach.no_fault;
+      beside = record {
+        asks = refl;
+        sends = sym reach.sends;
+        answers = sym reach.answers;
+        subscriptions = sym reach.subscriptions;
+        certified = λ h c. ap (λ xs. is_known xs h c) (sym (reach.certified m.life.tip));
+        next_sync = sym (ap (λ xs. 0 + length xs) (reach.no_syncs n'));
+        untouched = untouched;
+      };
+    }
+
+    good_after : IsGood config chain n'
+    good_after = IsGood-beside config chain (with_handed m handed) buffer buffer asked (asked_after asked [] asks) (AreHonest-asked_after chain asked [] asks (own_asks-honest config chain n e no_floor reported tt) honest) (IsGood-handed config chain m buffer asked handed window reach.good next room)
+
+    -- an event that reached some node, and handed over from there until it rests, is a step
+    pub Steps-reached : Steps config chain n (e ∷ []) (made_of reports asks) n'
+    Steps-reached = record {
+      unticketed = n';
+      advances = subst (λ fx. AdvancesBy config chain n e fx (made_of reports asks) n') (sym reach.no_effect) advances_unfloored;
+      ticket = sym (with_sync-covered (write_count n) n' refl);
+      rests = Rest-beside config.window (with_handed m handed) buffer buffer asked (asked_after asked [] asks) rests;
+      good = good_after;
+    }

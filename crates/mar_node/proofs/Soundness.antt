@@ -1,0 +1,260 @@
+-- A good node is sound, honest and steady; what a crash leaves of a sound one is good; what keeps a node sound.
+use Rattle.std.proofs.Common.{◌⊎◌, inl, inr, ℕ, ◌+◌, ◌≤◌, List, [], ◌∷◌, ◌++◌, Option, Some, None, option_map, IsTrue, Contains, sym, subst, arith}
+use Rattle.std.specs.Bool.{⊤}
+use Rattle.std.specs.List.{AllByRecursion, filter_map}
+use Rattle.std.proofs.lemmas.List.Elements.{filter_map-append}
+use Rattle.mar_cert.specs.Block.{Block}
+use Rattle.mar_cert.specs.Finalization.{Finalization}
+use Rattle.mar_key.specs.Processed.{Processed, at_absent, at_block, height_in}
+use Rattle.mar_store.specs.Kept.{At, Kept, has_height}
+use Rattle.mar_store.proofs.Lookups.{AllByRecursion-append_right, AllByRecursion-contains, AllByRecursion-weaker}
+use Rattle.mar_node.specs.Acks.{Outstanding}
+use Rattle.mar_node.specs.Metadata.{Pair, pair_of}
+use Rattle.mar_node.specs.Cached.{Cached, cached_block, cached_finalization}
+use Rattle.mar_node.specs.Chain.{Chain}
+use Rattle.mar_node.specs.Config.{Config}
+use Rattle.mar_node.specs.Event.{Event, ack_dropped, ack_given, acked_to, block_buffered, buffer_ended, life_started, message_told, peer_answered, serve_ended, sync_finished}
+use Rattle.mar_node.specs.Node.{Agrees, AreBlocksOf, AreCachedOf, AreFinalizationsOf, Awaited, AwaitsFinalized, BlocksAgree, Ended, FloorSafe, HasAnchor, IsFinalized, IsGood, Node, left_by}
+use Rattle.mar_node.specs.Lives.{BackedBy, IsGoodEnded}
+use Rattle.mar_node.specs.Promise.{IsGoodFor, IsGoodUntold}
+use Rattle.mar_node.specs.Sound.{IsHonest, IsSafePair, IsSound, IsSteady}
+use Rattle.mar_node.proofs.FloorSafety.{FloorSafe-still, KeepsHeightsFrom}
+
+-- PAIRS
+
+pub BackedBy-anchor : (p : Option Processed) (sure : List (At Block)) → HasAnchor p sure → BackedBy sure (option_map height_in p)
+BackedBy-anchor None sure a = tt
+BackedBy-anchor (Some (at_block h)) sure a = inl a
+BackedBy-anchor (Some (at_absent h)) sure a = inr a
+
+-- the processed height, if any, is not below the bound
+abbrev pub IsFrom : ℕ → Option ℕ → Type 0
+IsFrom bound None = ⊤
+IsFrom bound (Some h) = bound ≤ h
+
+pub IsSafePair-kept : (chain : Chain) (bound : ℕ) (sure sure' : List (At Block)) (p : Pair) → KeepsHeightsFrom bound sure sure' → IsFrom bound p.processed → IsSafePair chain sure p → IsSafePair chain sure' p
+IsSafePair-kept chain bound sure sure' p keeps from safe = record {
+  backed = backed p.processed from safe.backed;
+  floor_safe = floor p.processed from safe.floor_safe;
+}
+  where
+    backed : (o : Option ℕ) → IsFrom bound o → BackedBy sure o → BackedBy sure' o
+    backed None low b = tt
+    backed (Some h) low (inl at) = inl (keeps h low at)
+    backed (Some h) low (inr next) = inr (keeps (h + 1) (omega arith) next)
+
+    floor : (o : Option ℕ) → IsFrom bound o → FloorSafe o p.cutoff sure chain → FloorSafe o p.cutoff sure' chain
+    floor None low f = f
+    floor (Some h) low f = FloorSafe-still chain (Some h) p.cutoff sure sure' (λ has. keeps (h + 1) (omega arith) has) f
+
+pub all_pairs_kept : (chain : Chain) (bound : ℕ) (sure sure' : List (At Block)) (pairs : List Pair) → KeepsHeightsFrom bound sure sure' → AllByRecursion (λ p. IsFrom bound p.processed) pairs → AllByRecursion (IsSafePair chain sure) pairs → AllByRecursion (IsSafePair chain sure') pairs
+all_pairs_kept chain bound sure sure' [] keeps from safe = tt
+all_pairs_kept chain bound sure sure' (p ∷ pairs) keeps from safe = (IsSafePair-kept chain bound sure sure' p keeps from.0 safe.0, all_pairs_kept chain bound sure sure' pairs keeps from.1 safe.1)
+
+-- no pair is below 0
+pub all_from_zero : (pairs : List Pair) → AllByRecursion (λ p. IsFrom 0 p.processed) pairs
+all_from_zero [] = tt
+all_from_zero (p ∷ pairs) = (at p.processed, all_from_zero pairs)
+  where
+    at : (o : Option ℕ) → IsFrom 0 o
+    at None = tt
+    at (Some h) = omega arith
+
+-- the pair of the processed height and cutoff in memory
+pub own_pair_safe : (chain : Chain) (n : Node) → HasAnchor n.processed n.blocks.sure → FloorSafe (option_map height_in n.processed) n.cutoff n.blocks.sure chain → IsSafePair chain n.blocks.sure (pair_of n.processed n.cutoff)
+own_pair_safe chain n anchored safe = record { backed = BackedBy-anchor n.processed n.blocks.sure anchored; floor_safe = safe }
+
+-- the last drained block is sure
+pub HasAnchor-acked_to : (p : Option Processed) (out : List Outstanding) (sure : List (At Block)) → HasAnchor p sure → AllByRecursion (λ a. IsTrue (has_height sure a.height)) out → HasAnchor (acked_to p out) sure
+HasAnchor-acked_to p [] sure anchored there = anchored
+HasAnchor-acked_to p (a ∷ out) sure anchored there = HasAnchor-acked_to (Some (at_block a.height)) out sure there.0 there.1
+
+-- GOOD
+
+-- a tip tells nothing of what a crash leaves
+pub IsSound-untold : (chain : Chain) (n : Node) (tip : ℕ) → IsSound chain (record n { tip = tip }) → IsSound chain n
+IsSound-untold chain n tip sound = record {
+  held_blocks = sound.held_blocks;
+  may_blocks = sound.may_blocks;
+  held_certs = sound.held_certs;
+  may_certs = sound.may_certs;
+  cached = sound.cached;
+  cached_blocks = sound.cached_blocks;
+  awaits = sound.awaits;
+  pairs = sound.pairs;
+}
+
+-- whatever the event, the node before it is good once some tip is told
+pub untold : (config : Config) (chain : Chain) (n : Node) (e : Event) → IsGoodFor config chain n e → IsGoodUntold config chain n
+untold config chain n (life_started f) good = good
+untold config chain n (message_told t m) good = (n.tip, good)
+untold config chain n (ack_given t) good = (n.tip, good)
+untold config chain n (ack_dropped t) good = (n.tip, good)
+untold config chain n (sync_finished t) good = (n.tip, good)
+untold config chain n (peer_answered a) good = (n.tip, good)
+untold config chain n serve_ended good = (n.tip, good)
+untold config chain n (block_buffered b) good = (n.tip, good)
+untold config chain n buffer_ended good = (n.tip, good)
+
+pub IsGood-from_parts : (config : Config) (chain : Chain) (n : Node) → IsSound chain n → IsHonest chain n → IsSteady config n → IsGood config chain n
+IsGood-from_parts config chain n sound honest steady = record {
+  heights = steady.heights;
+  of_chain = record {
+    held_blocks = sound.held_blocks;
+    may_blocks = sound.may_blocks;
+    held_certs = sound.held_certs;
+    may_certs = sound.may_certs;
+    cached = sound.cached;
+    cached_blocks = sound.cached_blocks;
+    awaits = sound.awaits;
+    floor_safe = (subst (λ m. AllByRecursion (IsSafePair chain n.blocks.sure) m) steady.heights.own_pair sound.pairs).0.floor_safe;
+    honest_asks = honest.asks;
+    honest_ready = honest.ready;
+    honest_overflow = honest.overflow;
+    not_at_hand = steady.not_at_hand;
+    tip_reported = steady.tip_reported;
+  };
+}
+
+pub IsSound-from_good : (config : Config) (chain : Chain) (n : Node) → IsGood config chain n → IsSound chain n
+IsSound-from_good config chain n good = record {
+  held_blocks = good.of_chain.held_blocks;
+  may_blocks = good.of_chain.may_blocks;
+  held_certs = good.of_chain.held_certs;
+  may_certs = good.of_chain.may_certs;
+  cached = good.of_chain.cached;
+  cached_blocks = good.of_chain.cached_blocks;
+  awaits = good.of_chain.awaits;
+  pairs = subst (λ m. AllByRecursion (IsSafePair chain n.blocks.sure) m) (sym good.heights.own_pair) (own_pair_safe chain n good.heights.anchored good.of_chain.floor_safe, tt);
+}
+
+pub IsHonest-from_good : (config : Config) (chain : Chain) (n : Node) → IsGood config chain n → IsHonest chain n
+IsHonest-from_good config chain n good = record { asks = good.of_chain.honest_asks; ready = good.of_chain.honest_ready; overflow = good.of_chain.honest_overflow }
+
+pub IsSteady-from_good : (config : Config) (chain : Chain) (n : Node) → IsGood config chain n → IsSteady config n
+IsSteady-from_good config chain n good = record { heights = good.heights; not_at_hand = good.of_chain.not_at_hand; tip_reported = good.of_chain.tip_reported }
+
+-- WHAT IS LEFT
+
+right_part : {T U : Type 0} (f : T → Option U) (P : U → Type 0) (xs ys : List T) → AllByRecursion P (filter_map f (xs ++ ys)) → AllByRecursion P (filter_map f ys)
+right_part f P xs ys all = AllByRecursion-append_right P (filter_map f xs) (filter_map f ys) (subst (AllByRecursion P) (filter_map-append f xs ys) all)
+
+pub may_cached_of : (chain : Chain) (n : Node) → IsSound chain n → AreCachedOf chain n.cache.may
+may_cached_of chain n sound = right_part cached_finalization (λ f. IsFinalized chain f.round f.payload) n.cache.held n.cache.may sound.cached
+
+pub may_cached_blocks_of : (chain : Chain) (n : Node) → IsSound chain n → BlocksAgree chain n.cache.may
+may_cached_blocks_of chain n sound = right_part cached_block (Agrees chain) n.cache.held n.cache.may sound.cached_blocks
+
+-- what any fault leaves of a sound node is good: may lists of the chain, sure blocks kept from a bound
+-- on, each pair one of the node's that is not below it, or a safe one
+pub IsGoodEnded-from_sound : (chain : Chain) (n : Node) (bound : ℕ) (left : Ended) → IsSound chain n → AreBlocksOf chain left.blocks_may → AreFinalizationsOf chain left.certs_may → AreCachedOf chain left.cache_may → BlocksAgree chain left.cache_may → KeepsHeightsFrom bound n.blocks.sure left.blocks_sure → AllByRecursion (λ p. (Contains n.meta p × IsFrom bound p.processed) ⊎ IsSafePair chain left.blocks_sure p) left.meta → IsGoodEnded chain left
+IsGoodEnded-from_sound chain n bound left sound blocks certs cached cached_blocks keeps pairs = record {
+  may_blocks = blocks;
+  may_certs = certs;
+  may_cached = cached;
+  may_cached_blocks = cached_blocks;
+  backed = AllByRecursion-weaker (IsSafePair chain left.blocks_sure) _ (λ p safe. safe.backed) left.meta all_safe;
+  floor_safe = AllByRecursion-weaker (IsSafePair chain left.blocks_sure) _ (λ p safe. safe.floor_safe) left.meta all_safe;
+}
+  where
+    each : (p : Pair) → (Contains n.meta p × IsFrom bound p.processed) ⊎ IsSafePair chain left.blocks_sure p → IsSafePair chain left.blocks_sure p
+    each p (inl (has, from)) = IsSafePair-kept chain bound n.blocks.sure left.blocks_sure p keeps from (AllByRecursion-contains (IsSafePair chain n.blocks.sure) n.meta p sound.pairs has)
+    each p (inr safe) = safe
+
+    all_safe : AllByRecursion (IsSafePair chain left.blocks_sure) left.meta
+    all_safe = AllByRecursion-weaker _ _ each left.meta pairs
+
+-- a crash between two store calls
+pub IsGoodEnded-left_by : (chain : Chain) (n : Node) → IsSound chain n → IsGoodEnded chain (left_by n)
+IsGoodEnded-left_by chain n sound = record {
+  may_blocks = sound.may_blocks;
+  may_certs = sound.may_certs;
+  may_cached = may_cached_of chain n sound;
+  may_cached_blocks = may_cached_blocks_of chain n sound;
+  backed = AllByRecursion-weaker (IsSafePair chain n.blocks.sure) _ (λ p safe. safe.backed) n.meta sound.pairs;
+  floor_safe = AllByRecursion-weaker (IsSafePair chain n.blocks.sure) _ (λ p safe. safe.floor_safe) n.meta sound.pairs;
+}
+
+-- what a crash between steps leaves of a good node is good
+pub crash_is_good : (config : Config) (chain : Chain) (n : Node) → IsGood config chain n → IsGoodEnded chain (left_by n)
+crash_is_good config chain n good = IsGoodEnded-left_by chain n (IsSound-from_good config chain n good)
+
+-- WHAT KEEPS A NODE SOUND
+
+-- what is not in the stores may change, but for the awaited floor
+pub IsSound-moved : (chain : Chain) (n new : Node) → IsSound chain n → IsSound chain (record new { blocks = n.blocks; certs = n.certs; cache = n.cache; awaited = n.awaited; meta = n.meta })
+IsSound-moved chain n new sound = record {
+  held_blocks = sound.held_blocks;
+  may_blocks = sound.may_blocks;
+  held_certs = sound.held_certs;
+  may_certs = sound.may_certs;
+  cached = sound.cached;
+  cached_blocks = sound.cached_blocks;
+  awaits = sound.awaits;
+  pairs = sound.pairs;
+}
+
+-- a put, a sync, a finished sync, a prune of the blocks
+pub IsSound-blocks : (chain : Chain) (n : Node) (bound : ℕ) (blocks : Kept (At Block)) → IsSound chain n → AreBlocksOf chain blocks.held → AreBlocksOf chain blocks.may → KeepsHeightsFrom bound n.blocks.sure blocks.sure → AllByRecursion (λ p. IsFrom bound p.processed) n.meta → IsSound chain (record n { blocks = blocks })
+IsSound-blocks chain n bound blocks sound held may keeps from = record {
+  held_blocks = held;
+  may_blocks = may;
+  held_certs = sound.held_certs;
+  may_certs = sound.may_certs;
+  cached = sound.cached;
+  cached_blocks = sound.cached_blocks;
+  awaits = sound.awaits;
+  pairs = all_pairs_kept chain bound n.blocks.sure blocks.sure n.meta keeps from sound.pairs;
+}
+
+-- where no sure height was lost
+pub IsSound-more_blocks : (chain : Chain) (n : Node) (blocks : Kept (At Block)) → IsSound chain n → AreBlocksOf chain blocks.held → AreBlocksOf chain blocks.may → ((h : ℕ) → IsTrue (has_height n.blocks.sure h) → IsTrue (has_height blocks.sure h)) → IsSound chain (record n { blocks = blocks })
+IsSound-more_blocks chain n blocks sound held may keeps = IsSound-blocks chain n 0 blocks sound held may (λ h low has. keeps h has) (all_from_zero n.meta)
+
+pub IsSound-certs : (chain : Chain) (n : Node) (certs : Kept (At Finalization)) → IsSound chain n → AreFinalizationsOf chain certs.held → AreFinalizationsOf chain certs.may → IsSound chain (record n { certs = certs })
+IsSound-certs chain n certs sound held may = record {
+  held_blocks = sound.held_blocks;
+  may_blocks = sound.may_blocks;
+  held_certs = held;
+  may_certs = may;
+  cached = sound.cached;
+  cached_blocks = sound.cached_blocks;
+  awaits = sound.awaits;
+  pairs = sound.pairs;
+}
+
+pub IsSound-cache : (chain : Chain) (n : Node) (cache : Kept Cached) → IsSound chain n → AreCachedOf chain (cache.held ++ cache.may) → BlocksAgree chain (cache.held ++ cache.may) → IsSound chain (record n { cache = cache })
+IsSound-cache chain n cache sound cached cached_blocks = record {
+  held_blocks = sound.held_blocks;
+  may_blocks = sound.may_blocks;
+  held_certs = sound.held_certs;
+  may_certs = sound.may_certs;
+  cached = cached;
+  cached_blocks = cached_blocks;
+  awaits = sound.awaits;
+  pairs = sound.pairs;
+}
+
+pub IsSound-meta : (chain : Chain) (n : Node) (meta : List Pair) → IsSound chain n → AllByRecursion (IsSafePair chain n.blocks.sure) meta → IsSound chain (record n { meta = meta })
+IsSound-meta chain n meta sound pairs = record {
+  held_blocks = sound.held_blocks;
+  may_blocks = sound.may_blocks;
+  held_certs = sound.held_certs;
+  may_certs = sound.may_certs;
+  cached = sound.cached;
+  cached_blocks = sound.cached_blocks;
+  awaits = sound.awaits;
+  pairs = pairs;
+}
+
+pub IsSound-awaited : (chain : Chain) (n : Node) (awaited : Option Awaited) → IsSound chain n → AwaitsFinalized awaited chain → IsSound chain (record n { awaited = awaited })
+IsSound-awaited chain n awaited sound awaits = record {
+  held_blocks = sound.held_blocks;
+  may_blocks = sound.may_blocks;
+  held_certs = sound.held_certs;
+  may_certs = sound.may_certs;
+  cached = sound.cached;
+  cached_blocks = sound.cached_blocks;
+  awaits = awaits;
+  pairs = sound.pairs;
+}

@@ -1,0 +1,101 @@
+-- The start of a life: the newest stored finalization is told as the tip, and then blocks are handed over.
+use Rattle.std.proofs.Common.{ℕ, List, [], ◌++◌, None, Option, Result, Err, refl, sym, subst}
+use Rattle.mar_types.specs.Epochs.{Epochs, IsPartition}
+use Rattle.mar_cert.specs.Block.{Block}
+use Rattle.mar_key.specs.Asked.{Asked}
+use Rattle.mar_key.specs.Hears.{Hears}
+use Rattle.mar_key.specs.Keys.{Call}
+use Rattle.mar_store.specs.Changes.{IsNested}
+use Rattle.mar_node.specs.Chain.{Chain}
+use Rattle.mar_node.specs.Config.{Config}
+use Rattle.mar_node.specs.Event.{life_started}
+use Rattle.mar_node.specs.Held.{Ending, IsUsual, Loses, Seen}
+use Rattle.mar_node.specs.Moves.{LivesOn, newest, newest_tips, with_newest}
+use Rattle.mar_node.specs.Node.{IsGood}
+use Rattle.mar_node.specs.Promise.{AreOne, IsGoodUntold, KeepsPromise, node_of}
+use Rattle.mar_node.specs.Step.{Report}
+use Rattle.mar_node.proofs.EventPromises.{no_pair, quiet_cut}
+use Rattle.mar_node.proofs.Handing.{Hears-nothing, Ran}
+use Rattle.mar_node.proofs.Lasting.{IsPart, LivesOn-ran, LivesOn-then}
+use Rattle.mar_node.proofs.PlainEvents.{KeepsFrom-same, Writes-none}
+use Rattle.mar_node.proofs.Promises.{dispatched}
+use Rattle.mar_node.proofs.Reaching.{Reaches}
+use Rattle.mar_node.proofs.Tips.{newest_tip-high, newest_tips-chain, newest_tips-rise, newest_tips-tips}
+
+module _ {P E : Type 0} (config : Config) (chain : Chain) (a : Seen P E) (buffer : List Block) (asked : List Asked) (untold : IsGoodUntold config chain (node_of a buffer asked)) where
+  -- once its newest finalization is told, a node is good
+  IsGood-told : IsGood config chain (node_of (with_newest a) buffer asked)
+  IsGood-told = record {
+    heights = record {
+      sure_blocks = untold.1.heights.sure_blocks;
+      sure_certs = untold.1.heights.sure_certs;
+      consecutive = untold.1.heights.consecutive;
+      out_sure = untold.1.heights.out_sure;
+      within_window = untold.1.heights.within_window;
+      floor_clears = untold.1.heights.floor_clears;
+      anchored = untold.1.heights.anchored;
+      own_pair = untold.1.heights.own_pair;
+      sync_open = untold.1.heights.sync_open;
+    };
+    of_chain = record {
+      held_blocks = untold.1.of_chain.held_blocks;
+      may_blocks = untold.1.of_chain.may_blocks;
+      held_certs = untold.1.of_chain.held_certs;
+      may_certs = untold.1.of_chain.may_certs;
+      cached = untold.1.of_chain.cached;
+      cached_blocks = untold.1.of_chain.cached_blocks;
+      awaits = untold.1.of_chain.awaits;
+      floor_safe = untold.1.of_chain.floor_safe;
+      honest_asks = untold.1.of_chain.honest_asks;
+      honest_ready = untold.1.of_chain.honest_ready;
+      honest_overflow = untold.1.of_chain.honest_overflow;
+      not_at_hand = untold.1.of_chain.not_at_hand;
+      tip_reported = newest_tip-high a.life.tip a.held.certs.held;
+    };
+  }
+
+  pub Reaches-start : AreOne config.inner (chain.blocks ++ buffer) → Reaches config chain a (life_started None) buffer asked (newest_tips config.inner a.life.tip (newest a.held.certs.held)) (with_newest a)
+  Reaches-start one = record {
+    no_effect = refl;
+    kept = refl;
+    next_ack = refl;
+    sizes = refl;
+    processed = refl;
+    cutoff = refl;
+    blocks = KeepsFrom-same _ a.held.blocks;
+    certs = KeepsFrom-same _ a.held.certs;
+    writes = (Writes-none a (with_newest a) (life_started None) buffer asked refl refl refl refl refl).0;
+    no_repair = (Writes-none a (with_newest a) (life_started None) buffer asked refl refl refl refl refl).1;
+    are_tips = newest_tips-tips config.inner a.life.tip (newest a.held.certs.held);
+    tips_rise = newest_tips-rise config.inner a.life.tip (newest a.held.certs.held);
+    tips_chain = newest_tips-chain config.inner chain buffer one a.life.tip a.held.certs.held untold.1.of_chain.held_certs;
+    witnessed = refl;
+    stored = tt;
+    stored_late = tt;
+    no_query = refl;
+    no_fault = refl;
+    sends = refl;
+    answers = refl;
+    subscriptions = refl;
+    certified = λ tip. refl;
+    no_syncs = λ n'. refl;
+    good = IsGood-told;
+  }
+
+-- the tip alone moves
+IsPart-newest : {P E : Type 0} (a : Seen P E) → IsPart a (with_newest a)
+IsPart-newest a = record { same = record { counts = refl; provider = refl; epocher = refl; sizes = refl }; next_ack = refl; next = refl }
+
+pub LivesOn-start : {P E : Type 0} (a : Seen P E) (told told' : Option (List Report)) (result : Result (Seen P E) Ending) → Ran (with_newest a) told told' result → LivesOn a result
+LivesOn-start a told told' result ran = LivesOn-then a (with_newest a) result (IsPart-newest a) (LivesOn-ran (with_newest a) told told' result ran)
+
+module _ {P E : Type 0} (epochs : Epochs) (inner : List ℕ → List ℕ) (partition : IsPartition epochs) (a : Seen P E) (buffer : List Block) where
+  -- nothing could be told
+  pub promise-untold : (told told' : Option (List Report)) (heard : Option (List Call)) (x : Ending) → Hears told [] told' → Loses a.held [] [] [] x → IsUsual x.fault → KeepsPromise epochs inner a (life_started None) buffer told told' heard heard (Err x)
+  promise-untold told told' heard x silent lost usual config chain asked set step =
+      quiet_cut epochs inner partition a buffer config chain asked (life_started None) step refl (λ fault. refl) told told' [] [] [] x silent tt tt lost (λ p has. no_pair epochs inner partition a buffer p has) usual
+
+  pub promise-start : (told told1 told' : Option (List Report)) (heard : Option (List Call)) (result : Result (Seen P E) Ending) → IsNested a.held.blocks → Hears told (newest_tips inner a.life.tip (newest a.held.certs.held)) told1 → Ran (with_newest a) told1 told' result → KeepsPromise epochs inner a (life_started None) buffer told told' heard heard result
+  promise-start told told1 told' heard result nested tips ran config chain asked set step =
+      dispatched config chain a (with_newest a) (life_started None) buffer asked (newest_tips config.inner a.life.tip (newest a.held.certs.held)) set.window step (λ fault. refl) (Reaches-start config chain a buffer asked step.good step.one) nested.sure_held (λ h v is. is) (λ h v is. is) told told1 told' heard heard result
+      (subst (λ i. Hears told (newest_tips i a.life.tip (newest a.held.certs.held)) told1) (sym set.inner_is) tips) ran (Hears-nothing heard)

@@ -1,0 +1,262 @@
+-- What the parts of a step change: what is seen of an actor before and after them.
+use Rattle.std.specs.Prelude.{Bool, Contains, List, MatchResult, None, Option, Result, Some, [], bytes_eq, false, find, flat_map, fold, if◌then◌else◌, is_some, length, map, nat_lt, not, option_map, option_to_list, true, ℕ, ⊤, ◌&&◌, ◌++◌, ◌+◌, ◌-◌, ◌<◌, ◌^◌, ◌∷◌, ◌≡◌, ◌≤◌, ◌⊎◌}
+use Rattle.std.specs.Option.{option_or}
+use Rattle.mar_types.specs.Round.{Round}
+use Rattle.mar_types.specs.Epochs.{Epochs, closed_epoch}
+use Rattle.mar_cert.specs.Block.{Block}
+use Rattle.mar_cert.specs.Finalization.{Finalization}
+use Rattle.mar_key.specs.Cutoff.{Cutoff, at_epoch, at_round, covers, greatest_of}
+use Rattle.mar_key.specs.Keys.{Call, above_height, block_key, fetch, finalized_by_round, retain}
+use Rattle.mar_key.specs.Processed.{first_unprocessed}
+use Rattle.mar_store.specs.Kept.{At, Kept, has_height, value_at}
+use Rattle.mar_store.specs.Changes.{Within}
+use Rattle.mar_store.specs.Named.{last_index}
+use Rattle.mar_node.specs.Stored.{at_own_height, block_of, is_certified, is_held}
+use Rattle.mar_node.specs.Acks.{Outstanding, after_given, after_oldest, dropped_oldest, given_front, given_oldest, height_after}
+use Rattle.mar_node.specs.Event.{acked_to}
+use Rattle.mar_node.specs.Faults.{ack_kind, dropped_ack, ticket_limit}
+use Rattle.mar_node.specs.Lives.{later_round}
+use Rattle.mar_node.specs.Requests.{raise_asks}
+use Rattle.mar_node.specs.Step.{HandedBlock, Report, handed_over, new_tip, outstanding_of}
+use Rattle.mar_node.specs.Held.{Counts, Ending, Held, IsEndedBy, IsUsual, Loses, Seen}
+use Rattle.mar_node.specs.Node.{Ended}
+
+-- HANDING OVER
+
+-- the height of the next block to hand over
+abbrev pub next_in : {P E : Type 0} → Seen P E → ℕ
+next_in a = height_after (first_unprocessed a.held.processed) a.life.out
+
+abbrev pub handed_report : HandedBlock → Report
+handed_report x = handed_over x.ticket x.block
+
+-- from this ticket and height on, each the held block at its height
+abbrev pub HeldFrom : List (At Block) → ℕ → ℕ → List HandedBlock → Type 0
+HeldFrom held ticket height [] = ⊤
+HeldFrom held ticket height (x ∷ xs) = (x.ticket ≡ ticket) × (x.block.height ≡ height) × (value_at held height ≡ Some x.block) × HeldFrom held (ticket + 1) (height + 1) xs
+
+-- an actor after these were handed over
+abbrev pub with_handed : {P E : Type 0} → Seen P E → List HandedBlock → Seen P E
+with_handed a handed = record a { life = record a.life { out = a.life.out ++ map outstanding_of handed; next_ack = a.life.next_ack + length handed } }
+
+-- these are the next blocks that are held
+abbrev pub AreNextHeld : {P E : Type 0} → Seen P E → List HandedBlock → Type 0
+AreNextHeld a handed = HeldFrom a.held.blocks.held a.life.next_ack (next_in a) handed
+
+-- there was room for each of them
+abbrev pub HasRoom : {P E : Type 0} → Seen P E → List HandedBlock → Type 0
+HasRoom a handed = 0 < length handed → length a.life.out + length handed ≤ a.life.sizes.window
+
+-- the next block, for which there is room
+pub record IsNext {P E : Type 0} (a : Seen P E) (b : Block) : Type 0 where
+  pub room : length a.life.out < a.life.sizes.window
+  pub held : value_at a.held.blocks.held (next_in a) ≡ Some b
+  pub height : b.height ≡ next_in a
+
+-- nothing more can be handed over: the window is full, the next block isn't held, or no height is left
+abbrev pub IsStill : {P E : Type 0} → Seen P E → Type 0
+IsStill a = (a.life.sizes.window ≤ length a.life.out) ⊎ (value_at a.held.blocks.held (next_in a) ≡ None) ⊎ (2 ^ 64 ≤ first_unprocessed a.held.processed)
+
+-- the last ticket is reached, or the last height
+abbrev pub IsLast : {P E : Type 0} → Seen P E → Block → Type 0
+IsLast a b = (a.life.next_ack ≡ 2 ^ 64 - 1) ⊎ (b.height ≡ 2 ^ 64 - 1)
+
+abbrev pub IsAtLimit : {P E : Type 0} → Seen P E → List HandedBlock → Type 0
+IsAtLimit a handed = (2 ^ 64 - 1 ≤ a.life.next_ack + length handed) ⊎ (2 ^ 64 - 1 ≤ next_in a + length handed)
+
+-- a block that may be left stands at the last height, or above it
+abbrev pub HasLastBlock : Ended → Type 0
+HasLastBlock e = (x : At Block) × Contains e.blocks_may x × (2 ^ 64 - 1 ≤ x.height)
+
+-- where no more tickets were given than heights lie below the next block, the last ticket comes with a block at the last height
+abbrev pub RunsOutLast : {P E : Type 0} → Seen P E → Ending → Type 0
+RunsOutLast a e = e.fault ≡ ticket_limit ack_kind → a.life.next_ack ≤ next_in a → HasLastBlock e.remains.ended
+
+-- The life ended while blocks were handed over.
+pub record StopsHanding {P E : Type 0} (old : Seen P E) (handed : List HandedBlock) (e : Ending) : Type 0 where
+  pub next : AreNextHeld old handed
+  pub room : HasRoom old handed
+  pub lost : Loses old.held [] [] [] e
+  pub kind : IsUsual e.fault ⊎ ((e.fault ≡ ticket_limit ack_kind) × IsAtLimit old handed)
+  pub runs_out : RunsOutLast old e
+
+-- All was handed over that could be.
+pub record Dispatches {P E : Type 0} (old : Seen P E) (handed : List HandedBlock) (new : Seen P E) : Type 0 where
+  pub next : AreNextHeld old handed
+  pub room : HasRoom old handed
+  pub same : new ≡ with_handed old handed
+  pub still : IsStill new
+
+-- LIVING ON
+
+-- What no step changes.
+pub record SameLife {P E : Type 0} (old new : Seen P E) : Type 0 where
+  pub counts : new.held.counts ≡ old.held.counts
+  pub provider : new.life.provider ≡ old.life.provider
+  pub epocher : new.life.epocher ≡ old.life.epocher
+  pub sizes : new.life.sizes ≡ old.life.sizes
+
+-- Why a step ended a life.
+pub record EndsLife {P E : Type 0} (old : Seen P E) (e : Ending) : Type 0 where
+  pub cause : IsEndedBy old.held.counts e
+  pub runs_out : RunsOutLast old e
+
+-- the life goes on with what it was set to, or ends for a cause
+abbrev pub LivesOn : {P E : Type 0} → Seen P E → Result (Seen P E) Ending → Type 0
+LivesOn old result = MatchResult result (SameLife old) (EndsLife old)
+
+-- TIPS
+
+-- a tip is reported where it is above the last one
+abbrev pub tips_above : ℕ → Round → ℕ → List ℕ → List Report
+tips_above tip round height digest = if nat_lt tip height then new_tip round height digest ∷ [] else []
+
+abbrev pub risen_to : ℕ → ℕ → ℕ
+risen_to tip height = if nat_lt tip height then height else tip
+
+-- the entry at that height
+abbrev pub entry_at : {T : Type 0} → List (At T) → Option ℕ → Option (At T)
+entry_at xs None = None
+entry_at xs (Some h) = option_map (λ v. record { height = h; value = v }) (value_at xs h)
+
+-- the entry of the greatest height
+abbrev pub newest : {T : Type 0} → List (At T) → Option (At T)
+newest xs = entry_at xs (last_index xs)
+
+-- the newest stored finalization is the tip; `inner` says which digest its payload names
+abbrev pub newest_tips : (List ℕ → List ℕ) → ℕ → Option (At Finalization) → List Report
+newest_tips inner tip None = []
+newest_tips inner tip (Some x) = tips_above tip x.value.round x.height (inner x.value.payload)
+
+abbrev pub newest_tip : ℕ → Option (At Finalization) → ℕ
+newest_tip tip None = tip
+newest_tip tip (Some x) = risen_to tip x.height
+
+-- an actor whose newest stored finalization was reported
+abbrev pub with_newest : {P E : Type 0} → Seen P E → Seen P E
+with_newest a = record a { life = record a.life { tip = newest_tip a.life.tip (newest a.held.certs.held) } }
+
+-- STORING
+
+-- the block of this commitment, in the buffer or else, by the digest that the commitment names, among the held blocks
+abbrev pub of_commitment : List ℕ → Option Block → Option Block
+of_commitment commitment None = None
+of_commitment commitment (Some b) = if bytes_eq b.commitment commitment then Some b else None
+
+abbrev pub found_at_hand : (List ℕ → List ℕ) → List Block → List (At Block) → List ℕ → Option Block
+found_at_hand inner buffer held commitment = option_or (find (λ b. bytes_eq b.commitment commitment) buffer) (of_commitment commitment (block_of held (inner commitment)))
+
+-- what a finalization without its block asks for
+abbrev pub wants : Cutoff → Finalization → List Call
+wants cutoff f = if covers cutoff f.round then [] else fetch (block_key f.payload) (finalized_by_round f.round) None ∷ []
+
+-- A put that was synced, with all that was held before.
+pub record StoresValue {T : Type 0} (ignored : Bool) (old : Kept (At T)) (x : At T) (new : Kept (At T)) : Type 0 where
+  pub held : new.held ≡ (if ignored then old.held else old.held ++ x ∷ [])
+  pub sure : new.sure ≡ new.held
+  pub may : Within new.may (old.may ++ x ∷ [])
+
+abbrev pub at_height : ℕ → Finalization → At Finalization
+at_height height f = record { height = height; value = f }
+
+abbrev pub tip_reports : ℕ → Finalization → Block → List Report
+tip_reports tip f b = tips_above tip f.round b.height b.digest
+
+abbrev pub tip_after : ℕ → Block → ℕ
+tip_after tip b = risen_to tip b.height
+
+-- A finalized block is stored above the processed height, with its finalization.
+pub record Stores {P E : Type 0} (inner : List ℕ → List ℕ) (old : Seen P E) (f : Finalization) (b : Block) (new : Seen P E) : Type 0 where
+  pub blocks : StoresValue (is_held old.held.blocks.held b) old.held.blocks (at_own_height b) new.held.blocks
+  pub certs : StoresValue (is_certified inner old.held.certs.held b.height (inner f.payload)) old.held.certs (at_height b.height f) new.held.certs
+  pub same : new ≡ record old {
+    held = record old.held { blocks = new.held.blocks; certs = new.held.certs; counts = new.held.counts };
+    life = record old.life { tip = tip_after old.life.tip b; covered = old.life.covered + 1 };
+  }
+
+-- a put that was synced, where it was due
+abbrev pub StoresWhere : {T : Type 0} → Bool → Bool → Kept (At T) → At T → Kept (At T) → Type 0
+StoresWhere true ignored old x new = StoresValue ignored old x new
+StoresWhere false ignored old x new = new ≡ old
+
+-- a block is held, and no certificate at its height
+abbrev pub is_due : Held → Block → Bool
+is_due held b = has_height held.blocks.held b.height && not (has_height held.certs.held b.height)
+
+abbrev pub late_tips : Bool → ℕ → Finalization → Block → List Report
+late_tips true tip f b = tip_reports tip f b
+late_tips false tip f b = []
+
+abbrev pub late_tip : Bool → ℕ → Block → ℕ
+late_tip true tip b = tip_after tip b
+late_tip false tip b = tip
+
+-- The finalization of a held block is stored where it is due, and reported where that block is the newest.
+pub record StoresLate {P E : Type 0} (inner : List ℕ → List ℕ) (old : Seen P E) (f : Finalization) (b : Block) (new : Seen P E) : Type 0 where
+  pub certs : StoresWhere (is_due old.held b) (is_certified inner old.held.certs.held b.height (inner f.payload)) old.held.certs (at_height b.height f) new.held.certs
+  pub same : new ≡ record old {
+    held = record old.held { certs = new.held.certs; counts = new.held.counts };
+    life = record old.life { tip = late_tip (is_due old.held b) old.life.tip b };
+  }
+
+-- PROGRESS
+
+-- the round of the held certificate at a height
+abbrev pub round_at : List (At Finalization) → ℕ → Option Round
+round_at certs height = option_map (λ f. f.round) (value_at certs height)
+
+-- the cutoffs of a processed height: the round of its held certificate, and the epoch that is closed there
+abbrev pub retired : Epochs → List (At Finalization) → ℕ → List Cutoff
+retired epochs certs height = option_to_list (option_map at_round (round_at certs height)) ++ option_to_list (option_map at_epoch (closed_epoch epochs height))
+
+-- what is asked as these are processed
+abbrev pub progress_asks : Epochs → List (At Finalization) → Cutoff → List Outstanding → List Call
+progress_asks epochs certs cutoff [] = []
+progress_asks epochs certs cutoff (a ∷ out) = retain (above_height a.height) ∷ raise_asks cutoff (retired epochs certs a.height) ++ progress_asks epochs certs (greatest_of cutoff (retired epochs certs a.height)) out
+
+-- The cutoff rises to the greatest of these, and this round is the last one witnessed.
+pub record RaisesTo {P E : Type 0} (old : Seen P E) (cutoffs : List Cutoff) (witnessed : Round) (new : Seen P E) : Type 0 where
+  pub same : new ≡ record old {
+    held = record old.held { cutoff = greatest_of old.held.cutoff cutoffs; counts = new.held.counts };
+    life = record old.life { witnessed = witnessed };
+  }
+
+-- an actor after these blocks were processed in order, with what is left of the outstanding ones
+abbrev pub with_processed : {P E : Type 0} → Epochs → Seen P E → List Outstanding → List Outstanding → Counts → Seen P E
+with_processed epochs a done out counts = record a {
+  held = record a.held {
+    processed = acked_to a.held.processed done;
+    cutoff = greatest_of a.held.cutoff (flat_map (λ o. retired epochs a.held.certs.held o.height) done);
+    counts = counts;
+  };
+  life = record a.life {
+    out = out;
+    witnessed = fold (λ r o. later_round r (round_at a.held.certs.held o.height)) a.life.witnessed done;
+  };
+}
+
+-- The oldest block is processed where it was given.
+pub record DrainsNext {P E : Type 0} (epochs : Epochs) (old : Seen P E) (is_processed : Bool) (new : Seen P E) : Type 0 where
+  pub same : new ≡ with_processed epochs old (option_to_list (given_oldest old.life.out)) (after_oldest old.life.out) new.held.counts
+  pub processed : is_processed ≡ is_some (given_oldest old.life.out)
+  pub not_dropped : dropped_oldest old.life.out ≡ None
+
+-- The given blocks at the front are processed, in order.
+pub record Drains {P E : Type 0} (epochs : Epochs) (old : Seen P E) (is_drained : Bool) (new : Seen P E) : Type 0 where
+  pub same : new ≡ with_processed epochs old (given_front old.life.out) (after_given old.life.out) new.held.counts
+  pub drained : is_drained ≡ nat_lt 0 (length (given_front old.life.out))
+  pub not_dropped : dropped_oldest (after_given old.life.out) ≡ None
+
+-- The oldest was dropped, which ended the life before its sync.
+pub record EndsOldest {P E : Type 0} (old : Seen P E) (e : Ending) : Type 0 where
+  pub oldest : Outstanding
+  pub dropped : dropped_oldest old.life.out ≡ Some oldest
+  pub fault : e.fault ≡ dropped_ack oldest.height
+  pub unsynced : e.remains.ended.meta ≡ old.held.pairs
+
+-- The oldest that is not given was dropped.
+pub record EndsDropped {P E : Type 0} (old : Seen P E) (e : Ending) : Type 0 where
+  pub oldest : Outstanding
+  pub dropped : dropped_oldest (after_given old.life.out) ≡ Some oldest
+  pub fault : e.fault ≡ dropped_ack oldest.height
+  pub unsynced : e.remains.ended.meta ≡ old.held.pairs
