@@ -4,6 +4,7 @@ use Rattle.std.specs.Prelude.{MatchResult, bytes_eq, find, option_map, ◌&&◌,
 use Rattle.std.specs.List.{list_any}
 use Rattle.std.specs.Result.{result_map_both}
 use Rattle.std.proofs.lemmas.Bool.{eq-eqb}
+use Rattle.std.proofs.lemmas.List.Elements.{Contains-append_left}
 use Rattle.std.proofs.lemmas.Slice.Eq.{bytes_eq-Decides}
 use Rattle.mar_store.specs.Armed.{HeedsArmed}
 use Rattle.mar_store.specs.Changes.{Fails, Left, Puts, left_of}
@@ -12,11 +13,11 @@ use Rattle.mar_store.specs.Lost.{wreck_of}
 use Rattle.mar_store.specs.Named.{is_taken, value_named}
 use Rattle.mar_store.specs.declared.Lost.{Lost}
 use Rattle.mar_store.specs.declared.Lost.TheVariants.{Fault, Memory}
-use Rattle.mar_block.specs.Block.{Block}
+use Rattle.mar_cert.specs.Block.{Block}
 use Rattle.mar_cert.specs.Finalization.{Finalization}
 use Rattle.mar_shelf.specs.Fitting.{fits_at}
 use Rattle.mar_shelf.specs.Heeded.{HeedsPut, LostAtPut, LostHeeding}
-use Rattle.mar_shelf.specs.Stored.{at_own_height, is_certified, is_held}
+use Rattle.mar_node.specs.Stored.{at_own_height, is_certified, is_held}
 
 -- an archive that heeds armed calls does so at a put
 pub heeds_put : {S W : Type 0} (now : S → List ℕ) (left : W → List ℕ) (only : Bool) (due : List ℕ) (r : Result S (Lost W)) → HeedsArmed now left only due r → HeedsPut now left only due r
@@ -77,3 +78,7 @@ puts_finalization inner stored left old f item h d r is under puts = rw (← tak
 pub found_in : {B P E : Type 0} (plain : B → P) (result : Result (Option B) E) (found : Result (Option P) E) (value : Option P) → result_map_both (option_map plain) (λ e. e) result ≡ found → IfOk found (λ o. o ≡ value) → IfOk result (λ o. option_map plain o ≡ value)
 found_in plain (Ok o) found value is has = rw (← is) at has
 found_in plain (Err e) found value is has = tt
+
+-- a store that is left as it was
+pub fails_unchanged : {P : Type 0} (old left : Left (At P)) (more : List (At P)) → left ≡ old → Fails old more left
+fails_unchanged old left more is = rw is (record { sure = λ h v found. found; may = λ x there. Contains-append_left old.may more x there })

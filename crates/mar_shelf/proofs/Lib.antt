@@ -1,4 +1,4 @@
-pub mod Piles
-pub mod Stores
 pub mod Missing
 pub mod Archives
+pub mod MissingHeights
+pub mod GapHeights

@@ -4,8 +4,8 @@ use Rattle.std.specs.List.{AllByRecursion}
 use Rattle.std.proofs.Common.{eqb-true, false, refl}
 use Rattle.std.proofs.lemmas.Slice.Eq.{bytes_eq-Decides}
 use Rattle.mar_store.specs.Kept.{At}
-use Rattle.mar_block.specs.Block.{Block}
-use Rattle.mar_shelf.specs.Stored.{AreOwn}
+use Rattle.mar_cert.specs.Block.{Block}
+use Rattle.mar_node.specs.Stored.{AreOwn}
 
 -- the block may stand at this index
 abbrev pub fits_at : (List ℕ → List ℕ) → ℕ → Block → Bool

@@ -8,9 +8,9 @@ ghost use Rattle.mar_store.specs.Ranges.{ranges};
 ghost use Rattle.mar_store.specs.Tickets.{KeepsCovers, KeepsCoversFrom, last_number};
 ghost use Rattle.mar_shelf.specs.Gaps.{missing_items, next_start, range_end};
 ghost use Rattle.mar_store.specs.Lost.{wreck_of, IsCausedBy, IsMissedBy};
-ghost use Rattle.mar_block.specs.Block.{Block as PlainBlock};
+ghost use Rattle.mar_cert.specs.Block.{Block as PlainBlock};
 ghost use Rattle.mar_shelf.specs.Heeded.{HeedsPut};
-ghost use Rattle.mar_shelf.specs.Stored.{at_own_height, block_of, is_held, AreOwn};
+ghost use Rattle.mar_node.specs.Stored.{at_own_height, block_of, is_held, AreOwn};
 
 use crate::gaps::{missing_items, next_gap};
 use mar_block::Variant;
@@ -151,6 +151,7 @@ pub trait Blocks<V: Variant>: Drop {
             (λ s. Prunes min (stored self) (stored s))
             (λ l. Fails (left_of (stored self)) [] (Self.Wreck.left (wreck_of l))) }
         ensures idle { prunes ≡ false → IfOk result (λ s. stored s ≡ stored self) }
+        ensures unchanged { prunes ≡ false → result ≡ Ok self }
         ensures tickets { IfOk result (λ s. number self ≤ number s) }
         ensures covers { IfOk result (λ s. KeepsCoversFrom min (number self) (covers self) (covers s)) }
         ensures cause { IsCausedBy faults Self.Wreck.faults (faults self) result }

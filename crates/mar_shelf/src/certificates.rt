@@ -11,7 +11,7 @@ ghost use Rattle.mar_shelf.specs.Gaps.{ranges_from};
 ghost use Rattle.mar_store.specs.Lost.{wreck_of, IsCausedBy, IsMissedBy};
 ghost use Rattle.mar_cert.specs.Finalization.{Finalization as PlainFinalization};
 ghost use Rattle.mar_shelf.specs.Heeded.{HeedsPut};
-ghost use Rattle.mar_shelf.specs.Stored.{is_certified};
+ghost use Rattle.mar_node.specs.Stored.{is_certified};
 
 use crate::gaps::ranges_from;
 use mar_block::Variant;
@@ -159,6 +159,7 @@ pub trait Certificates<V: Variant, F: AsFinalization>: Drop {
             (λ s. Prunes min (stored self) (stored s))
             (λ l. Fails (left_of (stored self)) [] (Self.Wreck.left (wreck_of l))) }
         ensures idle { prunes ≡ false → IfOk result (λ s. stored s ≡ stored self) }
+        ensures unchanged { prunes ≡ false → result ≡ Ok self }
         ensures tickets { IfOk result (λ s. number self ≤ number s) }
         ensures covers { IfOk result (λ s. KeepsCoversFrom min (number self) (covers self) (covers s)) }
         ensures cause { IsCausedBy faults Self.Wreck.faults (faults self) result }

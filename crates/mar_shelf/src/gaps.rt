@@ -1,7 +1,8 @@
 //! What ranges of heights hold, and what is missing between them.
-ghost use Rattle.std.specs.Prelude.{◌≡◌, ◌≤◌, ◌++◌, ◌&&◌, IfOk, OnOk, nat_le, nat_lt, vec_len, take};
+ghost use Rattle.std.specs.Prelude.{◌≡◌, ◌<◌, ◌≤◌, ◌++◌, ◌&&◌, ◌-◌, ℕ, List, Contains, IfOk, OnOk, nat_le, nat_lt, vec_len, take};
+ghost use Rattle.mar_store.specs.Ranges.{ranges};
 ghost use Rattle.mar_store.specs.Spans.{ranges_of};
-ghost use Rattle.mar_shelf.specs.Gaps.{missing_items, next_start, numbers, range_end, ranges_from};
+ghost use Rattle.mar_shelf.specs.Gaps.{AscendAbove, BeginsNext, EndsRun, IsMissing, missing_from, missing_items, next_start, numbers, range_end, ranges_from};
 
 use mar_store::HeightSpan;
 use mar_types::Height;
@@ -106,3 +107,17 @@ pub fn ranges_from(spans: &[HeightSpan], height: Height) -> &[HeightSpan]
     }
     &[]
 }
+
+/// What the missing items and the ends and starts of ranges say of the heights that make the ranges: the missing ones
+/// ascend, and are all that the heights lack below one of them; an end is that of a run without a hole, and the
+/// next start is the first height above whose forerunner is missing.
+pub fn gap_laws()
+    ensures ascending { (heights : List ℕ) (start : ℕ) → AscendAbove start (missing_from (ranges heights) start) }
+    ensures only { (heights : List ℕ) (start h : ℕ) → Contains (missing_from (ranges heights) start) h → IsMissing heights start h }
+    ensures all { (heights : List ℕ) (start h : ℕ) → IsMissing heights start h → Contains (missing_from (ranges heights) start) h }
+    ensures end { (heights : List ℕ) (h e : ℕ) → range_end (ranges heights) h ≡ Some e → EndsRun heights h e }
+    ensures no_end { (heights : List ℕ) (h : ℕ) → range_end (ranges heights) h ≡ None → Contains heights h → ⊥ }
+    ensures next { (heights : List ℕ) (h s : ℕ) → next_start (ranges heights) h ≡ Some s → BeginsNext heights h s }
+    ensures no_next { (heights : List ℕ) (h : ℕ) → next_start (ranges heights) h ≡ None
+        → (k : ℕ) → h < k → Contains heights k → Contains heights (k - 1) }
+{}

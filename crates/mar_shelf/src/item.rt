@@ -31,7 +31,7 @@ pub struct BlockItem<V: Variant> {
 }
 
 impl<V: Variant> Model for BlockItem<V> {
-    ghost use Rattle.mar_block.specs.Block.{Block as PlainBlock};
+    ghost use Rattle.mar_cert.specs.Block.{Block as PlainBlock};
 
     ghost Value = { PlainBlock };
 

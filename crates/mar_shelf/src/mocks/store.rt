@@ -1,7 +1,13 @@
 //! A store of blocks that keeps what it was asked.
-ghost use Rattle.std.specs.Prelude.{◌≡◌, [], Bool, List, ℕ};
-ghost use Rattle.mar_store.specs.Lost.{LostBy, wreck_of};
-ghost use Rattle.mar_shelf.specs.Heeded.{LostAtPut, LostHeeding};
+ghost use Rattle.std.specs.Prelude.{◌≡◌, ◌≤◌, ◌⊎◌, [], ◌∷◌, ◌++◌, Bool, List, ℕ, IfNone, IfOk, IfSome, IsTrue, MatchResult, OnErr, OnOk, false, option_map, true};
+ghost use Rattle.mar_store.specs.Armed.{HeedsArmed, ReadsArmed, with_armed};
+ghost use Rattle.mar_store.specs.Changes.{Fails, Finishes, IsReopened, Prunes, Puts, Syncs, left_of};
+ghost use Rattle.mar_store.specs.Kept.{value_at};
+ghost use Rattle.mar_store.specs.Lost.{IsCausedBy, IsMissedBy, LostBy, wreck_of};
+ghost use Rattle.mar_store.specs.Tickets.{KeepsCovers, KeepsCoversFrom};
+ghost use Rattle.mar_shelf.specs.Heeded.{HeedsPut, LostAtPut, LostHeeding};
+ghost use Rattle.mar_shelf.specs.Recorded.{KeepsAll, KeepsPut, KeepsRead};
+ghost use Rattle.mar_node.specs.Stored.{at_own_height, block_of, is_held};
 
 use crate::{Blocks, BlocksRuin};
 use mar_block::Variant;
@@ -49,6 +55,28 @@ impl<B> Recording<B> {
         ensures { result.now ≡ self.now.recorded.items }
     {
         self.recorded.as_slice()
+    }
+}
+
+// Keeps a put at the end, where there is room for it.
+fn keep_put(recorded: &mut Vec<Op>, height: Height) -> Option<()>
+    ensures kept { IfSome result (λ _. recorded.new.items ≡ recorded.old.items ++ Op.Put height ∷ []) }
+    ensures not_kept { IfNone result (recorded.new.items ≡ recorded.old.items) }
+{
+    match recorded.push(Op::Put(height)) {
+        Ok(()) => Some(()),
+        Err(_) => None,
+    }
+}
+
+// Keeps a get at the end, and tells whether there was room for it.
+fn keep_get(recorded: &mut Vec<Op>, height: Option<Height>) -> bool
+    ensures kept { IsTrue result → recorded.new.items ≡ recorded.old.items ++ Op.Get height ∷ [] }
+    ensures or_not { (recorded.new.items ≡ recorded.old.items ++ Op.Get height ∷ []) ⊎ (recorded.new.items ≡ recorded.old.items) }
+{
+    match recorded.push(Op::Get(height)) {
+        Ok(()) => true,
+        Err(_) => false,
     }
 }
 
@@ -115,22 +143,36 @@ impl<V: Variant, B: Blocks<V>> Blocks<V> for Recording<B> {
 
     ghost own = { λ s. B.own s.inner };
 
-    fn get(&mut self, height: Height) -> Result<Option<V::Block>, Miss> {
+    fn get(&mut self, height: Height) -> Result<Option<V::Block>, Miss>
+        ensures found { IfOk result (λ o. option_map V.plain o ≡ value_at (B.stored self.old.inner).held height) }
+        ensures same { B.stored self.new.inner ≡ B.stored self.old.inner }
+        ensures tickets { B.number self.new.inner ≡ B.number self.old.inner }
+        ensures covers { KeepsCovers (B.number self.old.inner) (B.covers self.old.inner) (B.covers self.new.inner) }
+        ensures cause { IsMissedBy (B.faults self.old.inner) (B.faults self.new.inner) result }
+        ensures armed { ReadsArmed B.only_armed (B.due self.old.inner) (B.due self.new.inner) result }
+        ensures recorded { KeepsRead result self.old.recorded.items (Op.Get (Some height)) self.new.recorded.items }
+    {
+        let kept = keep_get(&mut self.recorded, Some(height));
         match self.inner.get(height) {
-            Ok(found) => match self.recorded.push(Op::Get(Some(height))) {
-                Ok(()) => Ok(found),
-                Err(_) => Err(Miss::Memory),
-            },
+            Ok(found) if kept => Ok(found),
+            Ok(_) => Err(Miss::Memory),
             Err(miss) => Err(miss),
         }
     }
 
-    fn find(&mut self, digest: &V::Digest) -> Result<Option<V::Block>, Miss> {
+    fn find(&mut self, digest: &V::Digest) -> Result<Option<V::Block>, Miss>
+        ensures found { IfOk result (λ o. option_map V.plain o ≡ block_of (B.stored self.old.inner).held (V.Digest.bytes digest.now)) }
+        ensures same { B.stored self.new.inner ≡ B.stored self.old.inner }
+        ensures tickets { B.number self.new.inner ≡ B.number self.old.inner }
+        ensures covers { KeepsCovers (B.number self.old.inner) (B.covers self.old.inner) (B.covers self.new.inner) }
+        ensures cause { IsMissedBy (B.faults self.old.inner) (B.faults self.new.inner) result }
+        ensures armed { ReadsArmed B.only_armed (B.due self.old.inner) (B.due self.new.inner) result }
+        ensures recorded { KeepsRead result self.old.recorded.items (Op.Get None) self.new.recorded.items }
+    {
+        let kept = keep_get(&mut self.recorded, None);
         match self.inner.find(digest) {
-            Ok(found) => match self.recorded.push(Op::Get(None)) {
-                Ok(()) => Ok(found),
-                Err(_) => Err(Miss::Memory),
-            },
+            Ok(found) if kept => Ok(found),
+            Ok(_) => Err(Miss::Memory),
             Err(miss) => Err(miss),
         }
     }
@@ -139,24 +181,41 @@ impl<V: Variant, B: Blocks<V>> Blocks<V> for Recording<B> {
         self,
         digest: &V::Digest,
         block: &V::Block,
-    ) -> Result<Self, Lost<RecordingWreck<B::Wreck>>> {
+    ) -> Result<Self, Lost<RecordingWreck<B::Wreck>>>
+        requires { V.Digest.bytes digest.now ≡ (V.plain block.now).digest }
+        ensures done { MatchResult result
+            (λ s. Puts (is_held (B.stored self.inner).held (V.plain block.now)) (B.stored self.inner) (at_own_height (V.plain block.now)) (B.stored s.inner))
+            (λ l. Fails (left_of (B.stored self.inner)) (at_own_height (V.plain block.now) ∷ []) (B.Wreck.left (wreck_of l).inner)) }
+        ensures tickets { IfOk result (λ s. B.number self.inner ≤ B.number s.inner) }
+        ensures covers { IfOk result (λ s. KeepsCovers (B.number self.inner) (B.covers self.inner) (B.covers s.inner)) }
+        ensures cause { IsCausedBy (λ s. B.faults s.inner) (λ w. B.Wreck.faults w.inner) (B.faults self.inner) result }
+        ensures armed { HeedsPut (λ s. B.due s.inner) (λ w. B.Wreck.due w.inner) B.only_armed (B.due self.inner) result }
+        ensures recorded { KeepsPut (λ s. s.recorded.items) (λ w. w.recorded.items) self.recorded.items (Op.Put (V.plain block.now).height) result }
+    {
         let Recording {
             inner,
             mut recorded,
         } = self;
+        let Some(()) = keep_put(&mut recorded, V::height(block)) else {
+            let inner = inner.wreck();
+            return Err(Lost::Memory(RecordingWreck { inner, recorded }));
+        };
         match inner.put(digest, block) {
-            Ok(inner) => match recorded.push(Op::Put(V::height(block))) {
-                Ok(()) => Ok(Recording { inner, recorded }),
-                Err(_) => {
-                    let inner = inner.wreck();
-                    Err(Lost::Memory(RecordingWreck { inner, recorded }))
-                }
-            },
+            Ok(inner) => Ok(Recording { inner, recorded }),
             Err(lost) => Err(lost_with(lost, recorded)),
         }
     }
 
-    fn sync(self) -> Result<Self, Lost<RecordingWreck<B::Wreck>>> {
+    fn sync(self) -> Result<Self, Lost<RecordingWreck<B::Wreck>>>
+        ensures done { MatchResult result
+            (λ s. Syncs (B.stored self.inner) (B.stored s.inner))
+            (λ l. Fails (left_of (B.stored self.inner)) [] (B.Wreck.left (wreck_of l).inner)) }
+        ensures tickets { IfOk result (λ s. B.number self.inner ≤ B.number s.inner) }
+        ensures covers { IfOk result (λ s. KeepsCovers (B.number self.inner) (B.covers self.inner) (B.covers s.inner)) }
+        ensures cause { IsCausedBy (λ s. B.faults s.inner) (λ w. B.Wreck.faults w.inner) (B.faults self.inner) result }
+        ensures armed { HeedsArmed (λ s. B.due s.inner) (λ w. B.Wreck.due w.inner) B.only_armed (B.due self.inner) result }
+        ensures recorded { KeepsAll (λ s. s.recorded.items) (λ w. w.recorded.items) self.recorded.items result }
+    {
         let Recording { inner, recorded } = self;
         match inner.sync() {
             Ok(inner) => Ok(Recording { inner, recorded }),
@@ -164,7 +223,18 @@ impl<V: Variant, B: Blocks<V>> Blocks<V> for Recording<B> {
         }
     }
 
-    fn start_sync(self) -> Result<(Self, SyncTicket), Lost<RecordingWreck<B::Wreck>>> {
+    fn start_sync(self) -> Result<(Self, SyncTicket), Lost<RecordingWreck<B::Wreck>>>
+        ensures done { MatchResult result
+            (λ s. B.stored s.0.inner ≡ B.stored self.inner)
+            (λ l. Fails (left_of (B.stored self.inner)) [] (B.Wreck.left (wreck_of l).inner)) }
+        ensures made { IfOk result (λ s. s.1.number ≤ B.number s.0.inner) }
+        ensures covered { IfOk result (λ s. B.covers s.0.inner s.1.number ≡ (B.stored self.inner).held) }
+        ensures tickets { IfOk result (λ s. B.number self.inner ≤ B.number s.0.inner) }
+        ensures covers { IfOk result (λ s. KeepsCovers (B.number self.inner) (B.covers self.inner) (B.covers s.0.inner)) }
+        ensures cause { IsCausedBy (λ s. B.faults s.0.inner) (λ w. B.Wreck.faults w.inner) (B.faults self.inner) result }
+        ensures armed { HeedsArmed (λ s. B.due s.0.inner) (λ w. B.Wreck.due w.inner) B.only_armed (B.due self.inner) result }
+        ensures recorded { KeepsAll (λ s. s.0.recorded.items) (λ w. w.recorded.items) self.recorded.items result }
+    {
         let Recording { inner, recorded } = self;
         match inner.start_sync() {
             Ok((inner, ticket)) => Ok((Recording { inner, recorded }, ticket)),
@@ -172,7 +242,17 @@ impl<V: Variant, B: Blocks<V>> Blocks<V> for Recording<B> {
         }
     }
 
-    fn finish(self, ticket: SyncTicket) -> Result<Self, Lost<RecordingWreck<B::Wreck>>> {
+    fn finish(self, ticket: SyncTicket) -> Result<Self, Lost<RecordingWreck<B::Wreck>>>
+        requires made { ticket.number ≤ B.number self.inner }
+        ensures done { MatchResult result
+            (λ s. Finishes (B.covers self.inner ticket.number) (B.stored self.inner) (B.stored s.inner))
+            (λ l. Fails (left_of (B.stored self.inner)) [] (B.Wreck.left (wreck_of l).inner)) }
+        ensures tickets { IfOk result (λ s. B.number self.inner ≤ B.number s.inner) }
+        ensures covers { IfOk result (λ s. KeepsCovers (B.number self.inner) (B.covers self.inner) (B.covers s.inner)) }
+        ensures cause { IsCausedBy (λ s. B.faults s.inner) (λ w. B.Wreck.faults w.inner) (B.faults self.inner) result }
+        ensures armed { HeedsArmed (λ s. B.due s.inner) (λ w. B.Wreck.due w.inner) B.only_armed (B.due self.inner) result }
+        ensures recorded { KeepsAll (λ s. s.recorded.items) (λ w. w.recorded.items) self.recorded.items result }
+    {
         let Recording { inner, recorded } = self;
         match inner.finish(ticket) {
             Ok(inner) => Ok(Recording { inner, recorded }),
@@ -180,7 +260,18 @@ impl<V: Variant, B: Blocks<V>> Blocks<V> for Recording<B> {
         }
     }
 
-    fn prune(self, min: Height) -> Result<Self, Lost<RecordingWreck<B::Wreck>>> {
+    fn prune(self, min: Height) -> Result<Self, Lost<RecordingWreck<B::Wreck>>>
+        ensures done { MatchResult result
+            (λ s. Prunes min (B.stored self.inner) (B.stored s.inner))
+            (λ l. Fails (left_of (B.stored self.inner)) [] (B.Wreck.left (wreck_of l).inner)) }
+        ensures idle { B.prunes ≡ false → IfOk result (λ s. B.stored s.inner ≡ B.stored self.inner) }
+        ensures unchanged { B.prunes ≡ false → result ≡ Ok self }
+        ensures tickets { IfOk result (λ s. B.number self.inner ≤ B.number s.inner) }
+        ensures covers { IfOk result (λ s. KeepsCoversFrom min (B.number self.inner) (B.covers self.inner) (B.covers s.inner)) }
+        ensures cause { IsCausedBy (λ s. B.faults s.inner) (λ w. B.Wreck.faults w.inner) (B.faults self.inner) result }
+        ensures armed { B.prunes ≡ true → HeedsArmed (λ s. B.due s.inner) (λ w. B.Wreck.due w.inner) B.only_armed (B.due self.inner) result }
+        ensures recorded { KeepsAll (λ s. s.recorded.items) (λ w. w.recorded.items) self.recorded.items result }
+    {
         let Recording { inner, recorded } = self;
         match inner.prune(min) {
             Ok(inner) => Ok(Recording { inner, recorded }),
@@ -188,7 +279,12 @@ impl<V: Variant, B: Blocks<V>> Blocks<V> for Recording<B> {
         }
     }
 
-    fn wreck(self) -> RecordingWreck<B::Wreck> {
+    fn wreck(self) -> RecordingWreck<B::Wreck>
+        ensures left { B.Wreck.left result.inner ≡ left_of (B.stored self.inner) }
+        ensures count { B.Wreck.faults result.inner ≡ B.faults self.inner }
+        ensures due { B.Wreck.due result.inner ≡ B.due self.inner }
+        ensures recorded { result.recorded.items ≡ self.recorded.items }
+    {
         let Recording { inner, recorded } = self;
         RecordingWreck {
             inner: inner.wreck(),
@@ -199,7 +295,14 @@ impl<V: Variant, B: Blocks<V>> Blocks<V> for Recording<B> {
     fn reopen(
         wreck: RecordingWreck<B::Wreck>,
         luck: u64,
-    ) -> Result<Self, Lost<RecordingWreck<B::Wreck>>> {
+    ) -> Result<Self, Lost<RecordingWreck<B::Wreck>>>
+        ensures done { MatchResult result
+            (λ s. IsReopened (B.Wreck.left wreck.inner) (B.stored s.inner))
+            (λ l. Fails (B.Wreck.left wreck.inner) [] (B.Wreck.left (wreck_of l).inner)) }
+        ensures cause { IsCausedBy (λ s. B.faults s.inner) (λ w. B.Wreck.faults w.inner) (B.Wreck.faults wreck.inner) result }
+        ensures armed { HeedsArmed (λ s. B.due s.inner) (λ w. B.Wreck.due w.inner) B.only_armed (B.Wreck.due wreck.inner) result }
+        ensures recorded { KeepsAll (λ s. s.recorded.items) (λ w. w.recorded.items) wreck.recorded.items result }
+    {
         let RecordingWreck { inner, recorded } = wreck;
         match B::reopen(inner, luck) {
             Ok(inner) => Ok(Recording { inner, recorded }),
@@ -207,7 +310,15 @@ impl<V: Variant, B: Blocks<V>> Blocks<V> for Recording<B> {
         }
     }
 
-    fn arm(&mut self, calls: u64) -> Result<(), AllocError> {
+    fn arm(&mut self, calls: u64) -> Result<(), AllocError>
+        ensures armed { OnOk result (B.due self.new.inner ≡ with_armed B.armable calls (B.due self.old.inner)) }
+        ensures unarmed { OnErr result (B.due self.new.inner ≡ B.due self.old.inner) }
+        ensures same { B.stored self.new.inner ≡ B.stored self.old.inner }
+        ensures tickets { B.number self.new.inner ≡ B.number self.old.inner }
+        ensures covers { KeepsCovers (B.number self.old.inner) (B.covers self.old.inner) (B.covers self.new.inner) }
+        ensures count { B.faults self.new.inner ≡ B.faults self.old.inner }
+        ensures recorded { self.new.recorded.items ≡ self.old.recorded.items }
+    {
         self.inner.arm(calls)
     }
 
