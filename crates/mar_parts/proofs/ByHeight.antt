@@ -1,15 +1,14 @@
 -- Entries by height.
-use native.Mathlib.Numerals.{unary_clauses}
-use Rattle.std.proofs.Common.{Bool, List, None, Option, Some, [], ap, arith, cond, false, length, map, refl, sym, true, ℕ, ◌++◌, ◌+◌, ◌<◌, ◌==◌, ◌∙◌, ◌∷◌, ◌≡◌, ◌≤◌}
+use Rattle.std.proofs.Common.{Bool, List, Some, [], ap, arith, cond, false, length, map, refl, sym, true, ℕ, ◌+◌, ◌<◌, ◌==◌, ◌∙◌, ◌∷◌, ◌≡◌, ◌≤◌}
 use Rattle.std.proofs.lemmas.Bool.{and_parts, leb-true, ltb-true}
 use Rattle.std.proofs.lemmas.Bool.Decides.{nat_tests}
 use Rattle.std.specs.BTreeMap.{insert_entry, is_at}
 use Rattle.std.specs.List.{AllByRecursion}
 use Rattle.std.specs.Map.{lookup, remove_entry}
 use Rattle.std.specs.Ordering.{is_eq, match_ordering, nat_cmp}
-use Rattle.std.specs.Prelude.{filter, if◌then◌else◌, is_some, max, nat_le, nat_lt, not, option_map, ◌&&◌}
+use Rattle.std.specs.Prelude.{filter, if◌then◌else◌, max, nat_le, option_map}
 use Rattle.std.specs.declared.cmp.Ordering.TheVariants.{Equal, Greater, Less}
-use Rattle.mar_parts.specs.Staged.{Staged, has_place, kept_from, staged_at}
+use Rattle.mar_parts.specs.Staged.{Staged, has_place, kept_from}
 
 same_height : (h k : ℕ) → is_eq (nat_cmp h k) ≡ (k == h)
 same_height h k = grind (arith, nat_tests)

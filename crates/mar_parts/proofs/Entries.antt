@@ -1,11 +1,12 @@
 -- Lists of outstanding blocks, entry by entry.
 use native.Mathlib.Numerals.{unary_clauses}
 use Rattle.std.proofs.Common.{Bool, List, [], false, if◌then◌else◌, true, ap, arith, get_or, length, map, refl, sym, take, ℕ, ◌++◌, ◌+◌, ◌-◌, ◌<◌, ◌||◌, ◌∙◌, ◌∷◌, ◌≡◌}
+use Rattle.std.proofs.lemmas.Bool.{false≢true}
 use Rattle.std.proofs.lemmas.List.{length-map}
 use Rattle.std.proofs.lemmas.List.Folds.{list_any_more}
 use Rattle.std.specs.List.{AllByRecursion, list_any}
 use Rattle.mar_key.specs.Fronts.{entry_here, list_any-map, mapped_front}
-use Rattle.mar_parts.specs.Acks.{HasNextHeight, Mark, Outstanding, height_after, is_unmarked, with_mark}
+use Rattle.mar_node.specs.Acks.{HasNextHeight, Mark, Outstanding, height_after, is_unmarked, with_mark}
 
 -- a loop over `ys`, which writes an entry at a time and tells whether one passed, where the first `i` of them are written
 pub entry_found : {A B : Type 0} (f : A → B) (g : B → B) (i : ℕ) (xs ys : List A) (d : A) → map f ys ≡ mapped_front g i (map f xs) → (p : B → Bool) (found hit : Bool) → i < length xs → found ≡ list_any p (take i (map f xs)) → hit ≡ p (f (get_or ys i d)) → (found || hit) ≡ list_any p (take (i + 1) (map f xs))
@@ -48,3 +49,15 @@ list_any-append p (x ∷ xs) ys = ap (λ b. p x || b) (list_any-append p xs ys) 
 -- an entry passes, where the entries stand in two parts
 pub list_any-parts : {A B : Type 0} (p : B → Bool) (f : A → B) (front back items : List A) → front ++ back ≡ items → (list_any (λ x. p (f x)) front || list_any (λ x. p (f x)) back) ≡ list_any p (map f items)
 list_any-parts p f front back items parts = sym (list_any-map p f items ∙ ap (list_any (λ x. p (f x))) (sym parts) ∙ list_any-append (λ x. p (f x)) front back)
+
+-- where no unmarked entry has the ticket no mark is set
+with_mark-none : (ticket : ℕ) (mark : Mark) (out : List Outstanding) → list_any (is_unmarked ticket) out ≡ false → with_mark ticket mark out ≡ out
+with_mark-none ticket mark [] none = refl
+with_mark-none ticket mark (a ∷ out) none =
+    elim (is_unmarked ticket a) as (λ b. (b || list_any (is_unmarked ticket) out) ≡ false → (if b then record a { mark = mark } else a) ∷ with_mark ticket mark out ≡ a ∷ out) [
+      | true ↦ λ found. absurd (false≢true (sym found))
+      | false ↦ λ rest. ap (λ xs. a ∷ xs) (with_mark-none ticket mark out rest)
+    ] none
+
+pub marked_none : {A : Type 0} (f : A → Outstanding) (ticket : ℕ) (mark : Mark) (old new items : List A) (found : Bool) → map f new ≡ with_mark ticket mark (map f old) → old ≡ items → found ≡ list_any (is_unmarked ticket) (map f old) → found ≡ false → map f new ≡ map f items
+marked_none f ticket mark old new items found marked same is none = marked ∙ with_mark-none ticket mark (map f old) (sym is ∙ none) ∙ ap (map f) same

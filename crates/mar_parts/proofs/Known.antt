@@ -1,18 +1,21 @@
 -- Commitments that are known at a height.
-use Rattle.std.proofs.Common.{Bool, List, None, Option, Some, [], ap, arith, cond, false, map, refl, sym, true, ℕ, ◌&&◌, ◌<◌, ◌==◌, ◌||◌, ◌∙◌, ◌∷◌, ◌≡◌, ◌≤◌}
+use Rattle.std.proofs.Common.{Bool, List, None, Option, Some, [], ap, arith, cond, false, get_or, map, refl, sym, true, ℕ, ◌&&◌, ◌<◌, ◌==◌, ◌||◌, ◌∙◌, ◌∷◌, ◌≡◌, ◌≤◌}
 use Rattle.std.proofs.lemmas.Bool.Decides.{nat_tests}
+use Rattle.std.proofs.lemmas.List.Folds.{list_any_at}
 use Rattle.std.proofs.lemmas.Map.Entries.{lookup-filter-keys}
 use Rattle.std.proofs.lemmas.Map.Steps.{set_value_same}
+use Rattle.std.proofs.lemmas.Map.Views.{Contains-from_any}
+use Rattle.std.proofs.lemmas.Slice.Eq.{bytes_eq-Decides}
 use Rattle.std.specs.BTreeMap.{BTreeMap, get, is_at}
-use Rattle.std.specs.BTreeSet.{BTreeSet, contains}
-use Rattle.std.specs.List.{list_any}
+use Rattle.std.specs.BTreeSet.{BTreeSet}
+use Rattle.std.specs.List.{Contains, list_any}
 use Rattle.std.specs.Map.{lookup, set_value}
 use Rattle.std.specs.Option.{unwrap_or}
 use Rattle.std.specs.Ordering.{nat_cmp}
 use Rattle.std.specs.Prelude.{Err, Ok, OnErr, OnOk, Result, bytes_eq, filter, nat_le, nat_lt, option_map}
 use Rattle.std.specs.declared.cmp.Ordering.{Ordering}
-use Rattle.mar_parts.specs.Certified.{Certified, is_among, is_known}
-use Rattle.mar_parts.proofs.ByHeight.{lookup_height, seen_at}
+use Rattle.mar_parts.specs.Certified.{is_among, is_known}
+use Rattle.mar_parts.proofs.ByHeight.{seen_at}
 use Rattle.mar_parts.proofs.ByName.{IsByBytes, same_name}
 
 any_agrees : {X : Type 0} (p q : X → Bool) → ((x : X) → p x ≡ q x) → (xs : List X) → list_any p xs ≡ list_any q xs
@@ -88,3 +91,16 @@ known_more bytes cmp ordered m n min least height commitment kept more h c =
     ∙ more h c
     ∙ ap (λ b. b || (h == height && bytes_eq (bytes commitment) (bytes c))) (sym (known_among bytes cmp ordered m min h c))
     ∙ ap (λ b. is_known bytes (record { commitments = seen m.entries; min = min }) h (bytes c) || (b && h == height && bytes_eq (bytes commitment) (bytes c))) (sym from)
+
+known_set : {C : Type 0} (bytes : C → List ℕ) (m : BTreeMap ℕ (BTreeSet C)) (min h : ℕ) (s : BTreeSet C) (c : List ℕ) → get nat_cmp m h ≡ Some s → is_known bytes (record { commitments = seen m.entries; min = min }) h c ≡ list_any (λ d. bytes_eq c (bytes d)) s.keys
+known_set bytes m min h s c found = ap (λ o. list_any (λ d. bytes_eq c (bytes d)) (unwrap_or o [])) (seen_at (λ s. s.keys) h m.entries ∙ ap (option_map (λ s. s.keys)) found)
+
+-- a commitment of the set of a height is known there
+pub known_of : {C : Type 0} (bytes : C → List ℕ) (m : BTreeMap ℕ (BTreeSet C)) (min h : ℕ) (s : BTreeSet C) → get nat_cmp m h ≡ Some s → (c : C) → Contains s.keys c → is_known bytes (record { commitments = seen m.entries; min = min }) h (bytes c) ≡ true
+known_of bytes m min h s found c has =
+    let is_itself : bytes_eq (bytes c) (bytes (get_or s.keys has.0 c)) ≡ true = (bytes_eq-Decides (bytes c) (bytes (get_or s.keys has.0 c))).1 (ap bytes (sym has.2)) in
+    known_set bytes m min h s (bytes c) found ∙ list_any_at (λ d. bytes_eq (bytes c) (bytes d)) s.keys has.0 c has.1 is_itself
+
+-- and what is known there is a commitment of the set, since equal bytes are one commitment
+pub known_in : {C : Type 0} (bytes : C → List ℕ) → ((c d : C) → bytes c ≡ bytes d → c ≡ d) → (m : BTreeMap ℕ (BTreeSet C)) (min h : ℕ) (s : BTreeSet C) → get nat_cmp m h ≡ Some s → (c : C) → is_known bytes (record { commitments = seen m.entries; min = min }) h (bytes c) ≡ true → Contains s.keys c
+known_in bytes injective m min h s found c known = Contains-from_any {eq = λ x y. bytes_eq (bytes x) (bytes y)} (λ x y same. injective x y ((bytes_eq-Decides (bytes x) (bytes y)).0 same)) c s.keys (sym (known_set bytes m min h s (bytes c) found) ∙ known)

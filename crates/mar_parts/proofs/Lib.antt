@@ -3,7 +3,6 @@ pub mod ByHeight
 pub mod ByName
 pub mod Entries
 pub mod Known
-pub mod Pairs
 pub mod Permitted
 pub mod Retained
 pub mod Waiting

@@ -1,10 +1,10 @@
 -- Waits under the bytes of their names.
-use Rattle.std.proofs.Common.{Bool, List, None, Option, Some, [], ap, cond, false, length, map, refl, sym, true, ℕ, ◌++◌, ◌∙◌, ◌∷◌, ◌≡◌}
+use Rattle.std.proofs.Common.{Bool, List, None, Option, Some, [], ap, cond, false, length, refl, sym, true, ℕ, ◌++◌, ◌∙◌, ◌∷◌, ◌≡◌}
 use Rattle.std.specs.BTreeMap.{BTreeMap, get, is_at}
 use Rattle.std.specs.Map.{lookup}
 use Rattle.std.specs.Prelude.{bytes_eq, nat_lt, option_map}
 use Rattle.std.specs.declared.cmp.Ordering.{Ordering}
-use Rattle.mar_parts.specs.Waits.{Wait, joined, open_of, still_open, wait_for}
+use Rattle.mar_parts.specs.Waits.{Wait, joined, open_of, still_open}
 use Rattle.mar_parts.proofs.ByName.{IsByBytes, named, same_name, seen}
 
 through : {X Y : Type 0} (see : X → Y) (b : Bool) (w o : Option X) → option_map see (cond b w o) ≡ cond b (option_map see w) (option_map see o)

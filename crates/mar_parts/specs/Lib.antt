@@ -1,8 +1,6 @@
-pub mod Acks
 pub mod Certified
 pub mod Floors
 pub mod Gate
-pub mod Metadata
 pub mod Staged
 pub mod Views
 pub mod WaitKeys

@@ -2,7 +2,7 @@
 use Rattle.std.specs.BTreeMap.{insert_entry}
 use Rattle.std.specs.Map.{lookup, remove_entry}
 use Rattle.std.specs.Ordering.{nat_cmp}
-use Rattle.std.specs.Prelude.{Bool, List, Option, filter, if◌then◌else◌, is_some, length, max, nat_le, nat_lt, not, ℕ, ◌&&◌, ◌==◌, ◌≤◌}
+use Rattle.std.specs.Prelude.{Bool, List, Option, filter, if◌then◌else◌, is_some, length, max, nat_le, nat_lt, not, ℕ, ◌&&◌, ◌==◌}
 
 -- What contracts see of what is staged: the blocks by height, the least height that is kept, and the most blocks.
 pub record Staged (B : Type 0) : Type 0 where

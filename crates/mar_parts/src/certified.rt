@@ -1,6 +1,7 @@
 //! Commitments that are known as certified.
-ghost use Rattle.std.specs.Prelude.{◌≡◌, ◌==◌, ◌&&◌, ◌||◌, ℕ, [], IsTrue, List, OnErr, OnOk, bytes_eq, false, max, nat_le, true};
+ghost use Rattle.std.specs.Prelude.{◌≡◌, ◌==◌, ◌&&◌, ◌||◌, ℕ, [], All, Contains, IsTrue, List, OnErr, OnOk, bytes_eq, false, max, nat_le, true};
 ghost use Rattle.std.specs.BTreeMap.{get};
+ghost use Rattle.std.specs.Fn.{FnReturnsAt};
 ghost use Rattle.std.specs.Ordering.{nat_cmp};
 ghost use Rattle.mar_parts.specs.Certified.{is_among, is_known};
 
@@ -67,6 +68,18 @@ impl<C: Digest> Certified<C> {
         }
     }
 
+    /// Whether a commitment that is known as certified at a height passes a test.
+    pub fn contains_matching<P: Fn(&C) -> bool>(&self, height: Height, predicate: P) -> bool
+        requires { P.IsAlwaysCallable predicate }
+        ensures found { result ≡ true → (c : C) × (is_known C.bytes self.now height (C.bytes c) ≡ true) × FnReturnsAt P.Fn predicate c true }
+        ensures absent { result ≡ false → (c : C) → is_known C.bytes self.now height (C.bytes c) ≡ true → FnReturnsAt P.Fn predicate c false }
+    {
+        let Some(known) = self.commitments.get(&height.get()) else {
+            return false;
+        };
+        has_matching(known, predicate)
+    }
+
     /// Forgets what is known at heights below `min`, and takes note of nothing there from now on. What was forgotten
     /// before stays so: the least height never falls.
     pub fn retain(&mut self, min: Height)
@@ -102,4 +115,18 @@ fn add<C: Digest>(
     known.insert(commitment)?;
     commitments.insert(height, known)?;
     Ok(())
+}
+
+// Whether a commitment of a set passes a test.
+fn has_matching<C: Digest, P: Fn(&C) -> bool>(known: &BTreeSet<C>, predicate: P) -> bool
+    requires { P.IsAlwaysCallable predicate }
+    ensures found { result ≡ true → (c : C) × Contains known.now.keys c × FnReturnsAt P.Fn predicate c true }
+    ensures absent { result ≡ false → All (λ c. FnReturnsAt P.Fn predicate c false) known.now.keys }
+{
+    for commitment in known {
+        if predicate(commitment) {
+            return true;
+        }
+    }
+    false
 }

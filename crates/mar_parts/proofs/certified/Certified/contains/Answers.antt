@@ -1,7 +1,4 @@
 use Rattle.std.proofs.Common.{refl}
-use Rattle.std.specs.BTreeMap.{get}
-use Rattle.std.specs.Ordering.{nat_cmp}
-use Rattle.mar_parts.specs.Certified.{is_among}
 use Rattle.mar_parts.proofs.Known.{known_among}
 use Rattle.mar_parts.proofs.certified.Certified.contains.Goals as goal
 

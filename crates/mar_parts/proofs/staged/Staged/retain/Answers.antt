@@ -1,6 +1,6 @@
-use Rattle.std.proofs.Common.{arith, rules, ◌<◌, ◌≡◌, ◌≤◌}
+use Rattle.std.proofs.Common.{arith, rules, ◌<◌, ◌≤◌}
 use Rattle.std.proofs.lemmas.Map.Made.{filter_same_pairs}
-use Rattle.std.specs.Prelude.{filter, nat_le}
+use Rattle.std.specs.Prelude.{nat_le}
 use Rattle.mar_parts.proofs.ByHeight.{all_from, kept_raised, kept_same}
 use Rattle.mar_parts.proofs.staged.Staged.retain.Goals as goal
 

@@ -1,4 +1,4 @@
-use Rattle.mar_parts.proofs.Pairs.{leaves_pairs}
+use Rattle.mar_node.proofs.Pairs.{leaves_pairs}
 use Rattle.mar_parts.proofs.stream.Stream.set_cutoff.Goals as goal
 
 pub returns-in-Err-clause-done : goal.returns-in-Err-clause-done
