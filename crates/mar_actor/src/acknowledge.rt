@@ -6,16 +6,16 @@ ghost use Rattle.mar_types.specs.Epochs.{closed_epoch};
 ghost use Rattle.mar_key.specs.Cutoff.{at_epoch, at_round, cutoff_le, greatest_of};
 ghost use Rattle.mar_key.specs.Processed.{at_block};
 ghost use Rattle.mar_key.specs.Views.{cutoff_of};
-ghost use Rattle.mar_parts.specs.Acks.{given_front, given_oldest, mark_given, with_mark};
-ghost use Rattle.mar_parts.specs.Metadata.{pair_of};
+ghost use Rattle.mar_node.specs.Acks.{given_front, given_oldest, mark_given, with_mark};
+ghost use Rattle.mar_node.specs.Metadata.{pair_of};
 ghost use Rattle.mar_store.specs.Changes.{IsNested};
-ghost use Rattle.mar_block.specs.Block.{Block};
-ghost use Rattle.mar_actor.specs.Event.{ack_given};
-ghost use Rattle.mar_actor.specs.Promise.{KeepsPromise};
-ghost use Rattle.mar_actor.specs.Held.{GoesOn, IsUsual, Loses};
-ghost use Rattle.mar_actor.specs.Lives.{later_round};
-ghost use Rattle.mar_actor.specs.Moves.{Drains, DrainsNext, EndsDropped, EndsOldest, LivesOn, RaisesTo, progress_asks, retired, round_at};
-ghost use Rattle.mar_actor.specs.Requests.{raise_asks};
+ghost use Rattle.mar_cert.specs.Block.{Block};
+ghost use Rattle.mar_node.specs.Event.{ack_given};
+ghost use Rattle.mar_node.specs.Promise.{KeepsPromise};
+ghost use Rattle.mar_node.specs.Held.{GoesOn, IsUsual, Loses};
+ghost use Rattle.mar_node.specs.Lives.{later_round};
+ghost use Rattle.mar_node.specs.Moves.{Drains, DrainsNext, EndsDropped, EndsOldest, LivesOn, RaisesTo, progress_asks, retired, round_at};
+ghost use Rattle.mar_node.specs.Requests.{raise_asks};
 
 use crate::actor::Actor;
 use crate::fault::Fault;
@@ -158,9 +158,8 @@ impl<
         ensures usual { IfErr result (λ e. IsUsual e.fault) }
     {
         let Actor { stores, life } = self;
-        let (stores, certificate) = stores.certificate_at(height)?;
-        let actor = Actor { stores, life };
-        Ok((actor, certificate.map(|finalization| finalization.round())))
+        let (stores, round) = stores.round_at(height)?;
+        Ok((Actor { stores, life }, round))
     }
 
     /// Takes note of a finalized round, if there is one.

@@ -2,13 +2,13 @@
 ghost use Rattle.std.specs.Prelude.{◌≡◌, [], Err, IfErr, IfOk};
 ghost use Rattle.std.specs.List.{list_any};
 ghost use Rattle.mar_store.specs.Changes.{IsNested};
-ghost use Rattle.mar_parts.specs.Acks.{is_unmarked};
-ghost use Rattle.mar_actor.specs.Held.{GoesOn, IsEndedBy, IsNoStores, IsUsual, Loses, remains_of};
-ghost use Rattle.mar_actor.specs.Promise.{KeepsCounting, KeepsPromise};
+ghost use Rattle.mar_node.specs.Acks.{is_unmarked};
+ghost use Rattle.mar_node.specs.Held.{GoesOn, IsEndedBy, IsNoStores, IsUsual, Loses, remains_of};
+ghost use Rattle.mar_node.specs.Promise.{KeepsCounting, KeepsPromise};
 ghost use Rattle.mar_actor.specs.Views.{event_of, fault_of};
 
 use crate::event::Event;
-use crate::fault::Fault;
+use crate::fault::{Fault, StoreName};
 use crate::life::Life;
 use crate::reporter::Reporter;
 use crate::ruins::{Ended, Ruins};
@@ -20,6 +20,7 @@ use mar_key::Resolver;
 use mar_shelf::{Blocks, Certificates, Shelf};
 use mar_store::Meta;
 use mar_types::Epocher;
+use std::alloc::AllocError;
 use std::marker::Model;
 
 /// A node while a life runs.
@@ -48,7 +49,7 @@ impl<
     M: Meta,
     H: Shelf,
 > Model for Actor<V, F, P, E, FB, FC, M, H> {
-    ghost use Rattle.mar_actor.specs.Held.{Seen};
+    ghost use Rattle.mar_node.specs.Held.{Seen};
 
     ghost Value = { Seen P E };
 
@@ -82,7 +83,7 @@ impl<
     {
         self.law();
         match event {
-            Event::Start => self.dispatch(application),
+            Event::Start => self.start(application),
             Event::Message(Message::Finalization(finalization)) => {
                 self.report_finalization(&finalization, buffer, resolver, application)
             }
@@ -97,6 +98,13 @@ impl<
         ensures certs { IsNested self.now.held.certs }
     {
         self.stores.law();
+    }
+
+    /// Makes the counted call of a store fail that is so many calls away, 1 being the next. The cache counts none yet.
+    pub fn arm(&mut self, store: StoreName, calls: u64) -> Result<(), AllocError>
+        ensures { self.new ≡ self.old }
+    {
+        self.stores.arm(store, calls)
     }
 
     /// Ends the life; what a crash now leaves is handed back.
@@ -126,9 +134,9 @@ impl<
     }
 
     /// Ends the life without a fault of a store.
-    pub(crate) fn end(self, fault: Fault) -> Ended<V, F, FB, FC, M, H>
-        ensures value { result ≡ record { fault = fault_of fault; remains = remains_of self.held } }
-        ensures lost { IsNoStores (fault_of fault) → Loses self.held [] [] [] result }
+    pub(crate) fn end(self, fault: Fault<V::Commitment>) -> Ended<V, F, FB, FC, M, H>
+        ensures value { result ≡ record { fault = fault_of V.Commitment.bytes fault; remains = remains_of self.held } }
+        ensures lost { IsNoStores (fault_of V.Commitment.bytes fault) → Loses self.held [] [] [] result }
     {
         self.stores.end(fault)
     }

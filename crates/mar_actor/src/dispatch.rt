@@ -3,10 +3,10 @@ ghost use Rattle.std.specs.Prelude.{◌≡◌, ◌<◌, ◌≤◌, ◌^◌, ◌�
 ghost use Rattle.mar_key.specs.Hears.{Hears};
 ghost use Rattle.mar_key.specs.Processed.{first_unprocessed};
 ghost use Rattle.mar_store.specs.Kept.{value_at};
-ghost use Rattle.mar_actor.specs.Faults.{ack_kind, ticket_limit};
-ghost use Rattle.mar_actor.specs.Held.{GoesOn, IsUsual, Loses, remains_of};
-ghost use Rattle.mar_actor.specs.Moves.{Dispatches, IsLast, IsNext, IsStill, StopsHanding, handed_report, next_in, with_handed};
-ghost use Rattle.mar_actor.specs.Step.{HandedBlock, handed_over};
+ghost use Rattle.mar_node.specs.Faults.{ack_kind, ticket_limit};
+ghost use Rattle.mar_node.specs.Held.{GoesOn, IsUsual, Loses, remains_of};
+ghost use Rattle.mar_node.specs.Moves.{Dispatches, IsLast, IsNext, IsStill, StopsHanding, handed_report, next_in, with_handed};
+ghost use Rattle.mar_node.specs.Step.{HandedBlock, handed_over};
 
 use crate::actor::Actor;
 use crate::fault::{Fault, TicketKind};

@@ -16,16 +16,21 @@ pub enum TicketKind {
     Ack,
 }
 
-/// Why a life ended.
+/// Why a life ended, with commitments of the kind `C`.
 #[derive(Clone, Copy, Debug, PartialEq, Eq)]
-pub enum Fault {
+pub enum Fault<C> {
     /// A call of this store failed.
     StoreFault(StoreName),
-    /// Something is stored already.
-    NotEmpty,
     /// The genesis block stands at this height, and not at zero.
     GenesisHeight(Height),
-    /// A finalized block stands at this height, the last one, which has no next.
+    /// The genesis block has the first commitment, and the stored block zero the second.
+    GenesisMismatch(C, C),
+    /// The block at this height, just above the processed one, has the first commitment, and its certificate names the
+    /// second.
+    Corrupt(Height, C, C),
+    /// Neither the block at this height, the processed one, nor the one above it is stored.
+    Unbacked(Height),
+    /// This height, the last one, is stored or processed, or a finalized block stands there; it has no next.
     HeightLimit(Height),
     /// The application dropped the acknowledgement of the block at this height, the oldest one that it owed.
     AckDropped(Height),

@@ -3,17 +3,20 @@
 
 mod acknowledge;
 mod actor;
+mod derived;
 mod dispatch;
 mod event;
 mod fault;
 mod life;
+mod newest;
 mod open;
-mod progress;
+mod reopened;
 mod report;
 mod reporter;
 mod ruins;
 mod settings;
 mod shown;
+mod start;
 mod stores;
 
 pub use actor::Actor;

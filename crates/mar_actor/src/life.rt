@@ -1,6 +1,6 @@
 //! What a life keeps beside its stores.
 ghost use Rattle.std.specs.Prelude.{◌≡◌, []};
-ghost use Rattle.mar_actor.specs.Held.{first_life};
+ghost use Rattle.mar_node.specs.Held.{first_life};
 ghost use Rattle.mar_actor.specs.Views.{sizes_of};
 
 use crate::settings::Limits;
@@ -26,7 +26,7 @@ pub(crate) struct Life<P, E> {
 }
 
 impl<P, E> Model for Life<P, E> {
-    ghost use Rattle.mar_actor.specs.Held.{Remembered};
+    ghost use Rattle.mar_node.specs.Held.{Remembered};
     ghost use Rattle.mar_actor.specs.Views.{sizes_of};
 
     ghost Value = { Remembered P E };
@@ -44,10 +44,16 @@ impl<P, E> Model for Life<P, E> {
 }
 
 impl<P, E> Life<P, E> {
-    /// What a life begins with where nothing is stored.
-    pub(crate) fn new(provider: P, epocher: E, limits: Limits, acks: PendingAcks) -> Self
+    /// What a life begins with, where this round was the last one witnessed.
+    pub(crate) fn new(
+        provider: P,
+        epocher: E,
+        limits: Limits,
+        acks: PendingAcks,
+        witnessed: Round,
+    ) -> Self
         requires { acks.entries ≡ [] }
-        ensures { result ≡ first_life provider epocher (record (sizes_of limits) { window = acks.max }) }
+        ensures { result ≡ first_life provider epocher (record (sizes_of limits) { window = acks.max }) witnessed }
     {
         Life {
             provider,
@@ -56,7 +62,7 @@ impl<P, E> Life<P, E> {
             acks,
             next_ack: 0,
             tip: Height::zero(),
-            witnessed: Round::zero(),
+            witnessed,
             written: 0,
         }
     }

@@ -1,17 +1,17 @@
 //! Finalizations that consensus reports.
 ghost use Rattle.std.specs.Prelude.{◌≡◌, ◌+◌, ◌&&◌, ◌∷◌, [], IfErr, IfOk, List, None, OnErr, OnOk, Option, Some, false, nat_lt, not, option_map, true};
-ghost use Rattle.mar_block.specs.Block.{Block};
-ghost use Rattle.mar_inbox.specs.Messages.{report_finalization};
+ghost use Rattle.mar_cert.specs.Block.{Block};
+ghost use Rattle.mar_node.specs.Messages.{report_finalization};
 ghost use Rattle.mar_key.specs.Hears.{Hears};
 ghost use Rattle.mar_key.specs.Keys.{Call};
 ghost use Rattle.mar_key.specs.Processed.{height_of};
 ghost use Rattle.mar_store.specs.Kept.{has_height};
 ghost use Rattle.mar_store.specs.Changes.{IsNested, Puts, Syncs};
-ghost use Rattle.mar_shelf.specs.Stored.{at_own_height, block_of, is_certified, is_held};
-ghost use Rattle.mar_actor.specs.Event.{message_told};
-ghost use Rattle.mar_actor.specs.Promise.{KeepsPromise};
-ghost use Rattle.mar_actor.specs.Held.{GoesOn, IsUsual};
-ghost use Rattle.mar_actor.specs.Moves.{LivesOn, Stores, StoresLate, StoresValue, at_height, found_at_hand, is_due, late_tips, of_commitment, tip_after, tip_reports, wants};
+ghost use Rattle.mar_node.specs.Stored.{at_own_height, block_of, is_certified, is_held};
+ghost use Rattle.mar_node.specs.Event.{message_told};
+ghost use Rattle.mar_node.specs.Promise.{KeepsPromise};
+ghost use Rattle.mar_node.specs.Held.{GoesOn, IsUsual};
+ghost use Rattle.mar_node.specs.Moves.{LivesOn, Stores, StoresLate, StoresValue, at_height, found_at_hand, is_due, late_tips, of_commitment, risen_to, tip_after, tip_reports, tips_above, wants};
 
 use crate::actor::Actor;
 use crate::fault::Fault;
@@ -22,7 +22,7 @@ use mar_cert::{CommitsTo, Provider};
 use mar_key::{Request, Resolver};
 use mar_shelf::{Blocks, Certificates, Shelf};
 use mar_store::Meta;
-use mar_types::{Epocher, Height};
+use mar_types::{Epocher, Height, Round};
 
 impl<
     V: Variant,
@@ -159,7 +159,8 @@ impl<
     {
         let actor = self.put(finalization, block)?;
         let actor = actor.sync_both()?;
-        actor.report_tip(finalization, block, application)
+        let height = V::height(block);
+        actor.report_tip(finalization.round(), height, V::digest(block), application)
     }
 
     /// Puts a block and its finalization.
@@ -177,23 +178,23 @@ impl<
     }
 
     /// Reports a finalized block as the tip where it is above the last one reported.
-    fn report_tip<A: Reporter<V>>(
+    pub(crate) fn report_tip<A: Reporter<V>>(
         self,
-        finalization: &F,
-        block: &V::Block,
+        round: Round,
+        height: Height,
+        digest: V::Digest,
         application: &mut A,
     ) -> Result<Self, Ended<V, F, FB, FC, M, H>>
-        ensures ok { OnOk result (Hears (A.told application.old) (tip_reports self.life.tip (F.plain finalization.now) (V.plain block.now)) (A.told application.new)) }
+        ensures ok { OnOk result (Hears (A.told application.old) (tips_above self.life.tip round height (V.Digest.bytes digest)) (A.told application.new)) }
         ensures err { OnErr result (Hears (A.told application.old) [] (A.told application.new)) }
-        ensures same { IfOk result (λ a. a ≡ record self { life = record self.life { tip = tip_after self.life.tip (V.plain block.now) } }) }
+        ensures same { IfOk result (λ a. a ≡ record self { life = record self.life { tip = risen_to self.life.tip height } }) }
         ensures goes_on { GoesOn (λ a. a.held) self.held [] [] result }
         ensures usual { IfErr result (λ e. IsUsual e.fault) }
     {
-        let height = V::height(block);
         if height <= self.life.tip {
             return Ok(self);
         }
-        let tip = Update::Tip(finalization.round(), height, V::digest(block));
+        let tip = Update::Tip(round, height, digest);
         match application.report(tip) {
             Ok(()) => Ok(self.with_tip(height)),
             Err(_) => Err(self.run_out()),
@@ -304,7 +305,8 @@ impl<
         ensures usual { IfErr result (λ e. IsUsual e.fault) }
     {
         let actor = self.store_certificate(V::height(block), finalization)?;
-        actor.report_tip(finalization, block, application)
+        let height = V::height(block);
+        actor.report_tip(finalization.round(), height, V::digest(block), application)
     }
 
     /// Stores a finalization alone, and makes it durable.

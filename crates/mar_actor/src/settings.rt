@@ -1,7 +1,7 @@
 //! What an actor is set to.
 ghost use Rattle.std.specs.Prelude.{◌≡◌};
-ghost use Rattle.mar_block.specs.Block.{Block};
-ghost use Rattle.mar_actor.specs.Faults.{from_genesis};
+ghost use Rattle.mar_cert.specs.Block.{Block};
+ghost use Rattle.mar_node.specs.Faults.{from_genesis};
 ghost use Rattle.mar_actor.specs.Views.{begin_of};
 
 use mar_types::ViewDelta;

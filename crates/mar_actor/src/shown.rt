@@ -3,7 +3,7 @@ ghost use Rattle.std.specs.Prelude.{◌≡◌, Some, option_map};
 ghost use Rattle.mar_key.specs.Views.{cutoff_of, processed_of};
 ghost use Rattle.mar_store.specs.Changes.{heights};
 ghost use Rattle.mar_store.specs.Ranges.{ranges};
-ghost use Rattle.mar_parts.specs.Metadata.{first_pair};
+ghost use Rattle.mar_node.specs.Metadata.{first_pair};
 
 use crate::actor::Actor;
 use crate::ruins::Ruins;

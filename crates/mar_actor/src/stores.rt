@@ -5,21 +5,24 @@ ghost use Rattle.mar_key.specs.Views.{cutoff_of};
 ghost use Rattle.mar_store.specs.Kept.{value_at};
 ghost use Rattle.mar_store.specs.Changes.{IsNested, Puts, Syncs, left_of};
 ghost use Rattle.mar_store.specs.Lost.{wreck_of};
-ghost use Rattle.mar_shelf.specs.Stored.{at_own_height, block_of, is_certified, is_held};
-ghost use Rattle.mar_actor.specs.Held.{GoesOn, IsNoStores, IsUsual, Loses, LosesOpening, ReopensAs, ended_of, lost_fault, missed_fault, remains_of};
-ghost use Rattle.mar_actor.specs.Faults.{block_store, cache_store, cert_store, is_empty, meta_store};
-ghost use Rattle.mar_actor.specs.Views.{fault_of, store_name_of};
-ghost use Rattle.mar_parts.specs.Metadata.{pair_at, pair_of};
+ghost use Rattle.mar_node.specs.Stored.{at_own_height, block_of, is_certified, is_held};
+ghost use Rattle.mar_node.specs.Held.{GoesOn, IsNoStores, IsUsual, Loses, LosesOpening, ReopensAs, ended_of, lost_fault, missed_fault, remains_of};
+ghost use Rattle.mar_node.specs.Faults.{block_store, cache_store, cert_store, meta_store};
+ghost use Rattle.mar_node.specs.Moves.{newest, round_at};
+ghost use Rattle.mar_actor.specs.Views.{entry_of, fault_of, store_name_of};
+ghost use Rattle.mar_node.specs.Metadata.{pair_at, pair_of};
 
 use crate::fault::{Fault, StoreName};
-use crate::progress::Progress;
 use crate::ruins::{Ended, Ruins};
 use mar_block::Variant;
 use mar_cert::CommitsTo;
+use mar_codec::Digest;
 use mar_key::Cutoff;
+use mar_parts::Progress;
 use mar_shelf::{Blocks, Certificates, Shelf};
 use mar_store::{Lost, Meta, Miss};
-use mar_types::Height;
+use mar_types::{Height, Round};
+use std::alloc::AllocError;
 use std::marker::{Model, PhantomData};
 
 #[derive(Drop)]
@@ -46,7 +49,7 @@ impl<
     M: Meta,
     H: Shelf,
 > Model for Stores<V, F, FB, FC, M, H> {
-    ghost use Rattle.mar_actor.specs.Held.{Held};
+    ghost use Rattle.mar_node.specs.Held.{Held};
 
     ghost Value = { Held };
 
@@ -74,7 +77,7 @@ impl<
         luck: u64,
     ) -> Result<Self, Ended<V, F, FB, FC, M, H>>
         ensures ok { IfOk result (λ s. ReopensAs ruins s) }
-        ensures lost { IfErr result (LosesOpening ruins []) }
+        ensures lost { IfErr result (LosesOpening ruins [] []) }
         ensures usual { IfErr result (λ e. IsUsual e.fault) }
     {
         let Ruins {
@@ -116,14 +119,16 @@ impl<
         let _certs = &self.certs;
     }
 
-    /// Whether nothing is stored: no block, no certificate, no processed height and no cutoff.
-    pub(crate) fn is_empty(&self) -> bool
-        ensures { result ≡ is_empty self.now.blocks.held self.now.certs.held (pair_of self.now.processed self.now.cutoff) }
+    /// Makes the counted call of a store fail that is so many calls away, 1 being the next. The cache counts none yet.
+    pub(crate) fn arm(&mut self, store: StoreName, calls: u64) -> Result<(), AllocError>
+        ensures { self.new ≡ self.old }
     {
-        self.blocks.held_ranges().is_empty()
-            && self.certs.held_ranges().is_empty()
-            && self.progress.processed().is_none()
-            && Cutoff::zero().reaches(self.progress.cutoff())
+        match store {
+            StoreName::Blocks => self.blocks.arm(calls),
+            StoreName::Certs => self.certs.arm(calls),
+            StoreName::Meta => self.progress.arm(calls),
+            StoreName::Cache => Ok(()),
+        }
     }
 
     /// Ends the life for want of memory.
@@ -136,9 +141,9 @@ impl<
     }
 
     /// Ends the life without a fault of a store.
-    pub(crate) fn end(self, fault: Fault) -> Ended<V, F, FB, FC, M, H>
-        ensures value { result ≡ record { fault = fault_of fault; remains = remains_of self } }
-        ensures lost { IsNoStores (fault_of fault) → Loses self [] [] [] result }
+    pub(crate) fn end(self, fault: Fault<V::Commitment>) -> Ended<V, F, FB, FC, M, H>
+        ensures value { result ≡ record { fault = fault_of V.Commitment.bytes fault; remains = remains_of self } }
+        ensures lost { IsNoStores (fault_of V.Commitment.bytes fault) → Loses self [] [] [] result }
     {
         Ended {
             fault,
@@ -221,6 +226,38 @@ impl<
         match stores.certs.get(height) {
             Ok(certificate) => Ok((stores, certificate)),
             Err(miss) => Err(stores.missed(StoreName::Certs, miss)),
+        }
+    }
+
+    /// The round that finalized the block at a height, where its certificate is held.
+    pub(crate) fn round_at(
+        self,
+        height: Height,
+    ) -> Result<(Self, Option<Round>), Ended<V, F, FB, FC, M, H>>
+        ensures found { IfOk result (λ r. r.1 ≡ round_at self.certs.held height) }
+        ensures same { IfOk result (λ r. r.0 ≡ self) }
+        ensures goes_on { GoesOn (λ r. r.0) self [] [] result }
+        ensures usual { IfErr result (λ e. IsUsual e.fault) }
+    {
+        let (stores, certificate) = self.certificate_at(height)?;
+        Ok((stores, certificate.map(|finalization| finalization.round())))
+    }
+
+    /// The finalization of the greatest height, with that height.
+    pub(crate) fn newest_certificate(
+        self,
+    ) -> Result<(Self, Option<(Height, F)>), Ended<V, F, FB, FC, M, H>>
+        ensures found { IfOk result (λ r. option_map (entry_of F.plain) r.1 ≡ newest self.certs.held) }
+        ensures same { IfOk result (λ r. r.0 ≡ self) }
+        ensures goes_on { GoesOn (λ r. r.0) self [] [] result }
+        ensures usual { IfErr result (λ e. IsUsual e.fault) }
+    {
+        match self.certs.last_index() {
+            None => Ok((self, None)),
+            Some(height) => {
+                let (stores, found) = self.certificate_at(height)?;
+                Ok((stores, found.map(|finalization| (height, finalization))))
+            }
         }
     }
 
@@ -409,8 +446,8 @@ impl<
 }
 
 /// The fault by which a store is lost, and what is left of the store.
-fn lost_by<W>(lost: Lost<W>, store: StoreName) -> (Fault, W)
-    ensures fault { fault_of result.0 ≡ lost_fault (store_name_of store) lost }
+fn lost_by<C: Digest, W>(lost: Lost<W>, store: StoreName) -> (Fault<C>, W)
+    ensures fault { fault_of C.bytes result.0 ≡ lost_fault (store_name_of store) lost }
     ensures wreck { result.1 ≡ wreck_of lost }
 {
     match lost {

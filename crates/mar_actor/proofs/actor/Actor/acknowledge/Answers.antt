@@ -1,8 +1,8 @@
 use Rattle.std.proofs.Common.{[], None}
 use Rattle.std.proofs.lemmas.Result.{err_from_is_err_and}
-use Rattle.mar_actor.proofs.Growing.{Grew-refl}
-use Rattle.mar_actor.proofs.Lasting.{EndsLife-drained, EndsLife-then, EndsLife-usual, IsPart-drained, IsPart-synced, IsPart-then, LivesOn-ran, LivesOn-then}
-use Rattle.mar_actor.proofs.ProgressPromises.{promise-ack_unsynced, promise-acked, promise-not_drained, promise-undrained}
+use Rattle.mar_node.proofs.Growing.{Grew-refl}
+use Rattle.mar_node.proofs.Lasting.{EndsLife-drained, EndsLife-then, EndsLife-usual, IsPart-drained, IsPart-synced, IsPart-then, LivesOn-ran, LivesOn-then}
+use Rattle.mar_node.proofs.ProgressPromises.{promise-ack_unsynced, promise-acked, promise-not_drained, promise-undrained}
 use Rattle.mar_actor.proofs.actor.Actor.acknowledge.Goals as goal
 
 pub returns-in_err-actor : goal.returns-in_err-actor

@@ -1,6 +1,6 @@
 use Rattle.std.proofs.Common.{[]}
-use Rattle.mar_actor.proofs.Growing.{Grew-refl}
-use Rattle.mar_actor.proofs.Handing.{HandsSoFar-first, HandsSoFar-more, Ran-ended, Ran-failed}
+use Rattle.mar_node.proofs.Growing.{Grew-refl}
+use Rattle.mar_node.proofs.Handing.{HandsSoFar-first, HandsSoFar-more, Ran-ended, Ran-failed}
 use Rattle.mar_actor.proofs.actor.Actor.dispatch.Goals as goal
 
 pub window-init : goal.window-init

@@ -1,4 +1,4 @@
-use Rattle.mar_actor.proofs.Handing.{HandsSoFar}
+use Rattle.mar_node.proofs.Handing.{HandsSoFar}
 use Rattle.mar_actor.proofs.actor.Actor.dispatch.Given as goal
 
 abbrev pub invariant-window : goal.invariant-window

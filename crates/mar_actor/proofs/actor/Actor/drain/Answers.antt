@@ -1,6 +1,6 @@
 use Rattle.std.proofs.Common.{[], arith, length, ◌≡◌}
-use Rattle.mar_actor.proofs.Draining.{Drains-all, Drains-still, DrainsSoFar-first, DrainsSoFar-more}
-use Rattle.mar_actor.proofs.Growing.{Grew-then, Within-none}
+use Rattle.mar_node.proofs.Draining.{Drains-all, Drains-still, DrainsSoFar-first, DrainsSoFar-more}
+use Rattle.mar_node.proofs.Growing.{Grew-then, Within-none}
 use Rattle.mar_actor.proofs.actor.Actor.drain.Goals as goal
 
 pub entries-init : goal.entries-init

@@ -1,4 +1,4 @@
-use Rattle.mar_actor.proofs.Draining.{DrainsSoFar}
+use Rattle.mar_node.proofs.Draining.{DrainsSoFar}
 use Rattle.mar_actor.proofs.actor.Actor.drain.Given as goal
 
 abbrev pub invariant-entries : goal.invariant-entries

@@ -1,9 +1,9 @@
 use Rattle.std.proofs.Common.{[], None}
 use Rattle.std.proofs.lemmas.Result.{err_from_is_err_and}
-use Rattle.mar_actor.proofs.EventPromises.{promise-unread}
-use Rattle.mar_actor.proofs.Growing.{Grew-refl}
-use Rattle.mar_actor.proofs.Lasting.{EndsLife-then, EndsLife-usual, IsPart-raised, IsPart-synced, IsPart-then, LivesOn-late, LivesOn-then}
-use Rattle.mar_actor.proofs.ProgressPromises.{promise-noted, promise-unsynced}
+use Rattle.mar_node.proofs.EventPromises.{promise-unread}
+use Rattle.mar_node.proofs.Growing.{Grew-refl}
+use Rattle.mar_node.proofs.Lasting.{EndsLife-then, EndsLife-usual, IsPart-raised, IsPart-synced, IsPart-then, LivesOn-late, LivesOn-then}
+use Rattle.mar_node.proofs.ProgressPromises.{promise-noted, promise-unsynced}
 use Rattle.mar_actor.proofs.actor.Actor.note.Goals as goal
 
 pub returns-in_err-actor : goal.returns-in_err-actor

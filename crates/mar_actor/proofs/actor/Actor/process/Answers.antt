@@ -1,6 +1,6 @@
 use Rattle.std.proofs.Common.{Some}
 use Rattle.mar_key.specs.Processed.{at_block}
-use Rattle.mar_actor.proofs.RaiseAsks.{process_asks}
+use Rattle.mar_node.proofs.RaiseAsks.{process_asks}
 use Rattle.mar_actor.proofs.actor.Actor.process.Goals as goal
 
 pub returns-clause-asks : goal.returns-clause-asks

@@ -1,4 +1,4 @@
-use Rattle.mar_actor.proofs.Growing.{Within-none}
+use Rattle.mar_node.proofs.Growing.{Within-none}
 use Rattle.mar_actor.proofs.actor.Actor.put.Goals as goal
 
 pub returns-clause-goes_on : goal.returns-clause-goes_on

@@ -1,8 +1,8 @@
 use Rattle.std.proofs.Common.{[], None, sym, ◌∙◌}
 use Rattle.std.proofs.lemmas.Result.{err_from_is_err_and}
-use Rattle.mar_actor.proofs.EventPromises.{promise-absent, promise-unread}
-use Rattle.mar_actor.proofs.Growing.{Grew-refl}
-use Rattle.mar_actor.proofs.Lasting.{EndsLife-usual, LivesOn-same}
+use Rattle.mar_node.proofs.EventPromises.{promise-absent, promise-unread}
+use Rattle.mar_node.proofs.Growing.{Grew-refl}
+use Rattle.mar_node.proofs.Lasting.{EndsLife-usual, LivesOn-same}
 use Rattle.mar_actor.proofs.actor.Actor.report_finalization.Goals as goal
 
 pub returns-in_err-actor : goal.returns-in_err-actor

@@ -1,18 +1,18 @@
 use Rattle.std.proofs.Common.{None, refl, rules}
-use Rattle.mar_actor.specs.Event.{ack_given, life_started}
+use Rattle.mar_node.specs.Event.{ack_given, life_started}
 use Rattle.mar_actor.specs.Views.{event_of}
-use Rattle.mar_actor.proofs.EventPromises.{promise-start, promise-sync}
-use Rattle.mar_actor.proofs.Lasting.{KeepsCounting-kept, LivesOn-ran, counts_kept, ended_by, settings_kept}
+use Rattle.mar_node.proofs.EventPromises.{promise-sync}
+use Rattle.mar_node.proofs.Lasting.{KeepsCounting-kept, counts_kept, ended_by, settings_kept}
 use Rattle.mar_actor.proofs.actor.Actor.step.Goals as goal
 
 pub returns-in-Start : goal.returns-in-Start
 returns-in-Start g c =
-    let lives = LivesOn-ran c.args.self _ _ c.dispatch.result c.dispatch.ensures.ran in
+    let lives = c.start.ensures.lives in
     rw c.in-Start.is (record {
-      promise = promise-start (g.E.Epocher.epochs c.args.self.life.epocher) g.V.Variant.inner (g.met.E.Epocher.partition c.args.self.life.epocher) c.args.self _ _ _ _ _ c.law.ensures.blocks c.dispatch.ensures.ran;
+      promise = c.start.ensures.promise c.law.ensures.blocks _ _;
       counts = counts_kept c.args.self _ lives;
       cause = ended_by c.args.self _ lives;
-      lasting = KeepsCounting-kept (g.E.Epocher.epochs c.args.self.life.epocher) g.V.Variant.inner c.args.self (life_started None) _ _ _ None None _ (promise-start (g.E.Epocher.epochs c.args.self.life.epocher) g.V.Variant.inner (g.met.E.Epocher.partition c.args.self.life.epocher) c.args.self _ _ _ None _ c.law.ensures.blocks c.dispatch.ensures.ran) lives;
+      lasting = KeepsCounting-kept (g.E.Epocher.epochs c.args.self.life.epocher) g.V.Variant.inner c.args.self (life_started None) _ _ _ None None _ (c.start.ensures.promise c.law.ensures.blocks None _) lives;
       same_life = settings_kept c.args.self _ lives;
     })
 

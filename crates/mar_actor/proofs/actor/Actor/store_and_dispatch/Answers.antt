@@ -1,10 +1,10 @@
 use Rattle.std.proofs.Common.{[], ◌∷◌, ap, arith, sym, ◌∙◌}
 use Rattle.std.proofs.lemmas.Result.{err_from_is_err_and}
-use Rattle.mar_shelf.specs.Stored.{at_own_height}
-use Rattle.mar_actor.specs.Moves.{at_height}
-use Rattle.mar_actor.proofs.EventPromises.{promise-limit, promise-stored, promise-unstored}
-use Rattle.mar_actor.proofs.Growing.{Grew-refl}
-use Rattle.mar_actor.proofs.Lasting.{EndsLife-other, EndsLife-usual, IsPart-stored, LivesOn-ran, LivesOn-then}
+use Rattle.mar_node.specs.Stored.{at_own_height}
+use Rattle.mar_node.specs.Moves.{at_height}
+use Rattle.mar_node.proofs.EventPromises.{promise-limit, promise-stored, promise-unstored}
+use Rattle.mar_node.proofs.Growing.{Grew-refl}
+use Rattle.mar_node.proofs.Lasting.{EndsLife-other, EndsLife-usual, IsPart-stored, LivesOn-ran, LivesOn-then}
 use Rattle.mar_actor.proofs.actor.Actor.store_and_dispatch.Goals as goal
 
 pub returns-then-get : goal.returns-then-get

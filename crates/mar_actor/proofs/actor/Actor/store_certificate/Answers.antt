@@ -1,5 +1,5 @@
-use Rattle.mar_actor.proofs.Growing.{Within-none}
-use Rattle.mar_actor.proofs.Storing.{StoresValue-synced}
+use Rattle.mar_node.proofs.Growing.{Within-none}
+use Rattle.mar_node.proofs.Storing.{StoresValue-synced}
 use Rattle.mar_actor.proofs.actor.Actor.store_certificate.Goals as goal
 
 pub returns-clause-certs : goal.returns-clause-certs

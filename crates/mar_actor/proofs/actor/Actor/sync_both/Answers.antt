@@ -1,4 +1,4 @@
-use Rattle.mar_actor.proofs.Growing.{Within-none}
+use Rattle.mar_node.proofs.Growing.{Within-none}
 use Rattle.mar_actor.proofs.actor.Actor.sync_both.Goals as goal
 
 pub returns-in-Some-clause-goes_on : goal.returns-in-Some-clause-goes_on

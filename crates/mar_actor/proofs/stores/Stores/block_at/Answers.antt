@@ -1,4 +1,4 @@
-use Rattle.mar_actor.proofs.FoundBlocks.{own_height}
+use Rattle.mar_node.proofs.FoundBlocks.{own_height}
 use Rattle.mar_actor.proofs.stores.Stores.block_at.Goals as goal
 
 pub returns-in-Ok-clause-own : goal.returns-in-Ok-clause-own

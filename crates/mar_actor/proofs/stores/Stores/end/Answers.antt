@@ -1,4 +1,4 @@
-use Rattle.mar_actor.proofs.StoreLosses.{Loses-nothing}
+use Rattle.mar_node.proofs.StoreLosses.{Loses-nothing}
 use Rattle.mar_actor.proofs.stores.Stores.end.Goals as goal
 
 pub returns-clause-lost : goal.returns-clause-lost

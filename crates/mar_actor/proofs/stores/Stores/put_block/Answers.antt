@@ -1,5 +1,5 @@
-use Rattle.mar_actor.proofs.Growing.{Fails-put, Grew-blocks, Grew-then, Loses-then}
-use Rattle.mar_actor.proofs.StoreLosses.{Loses-blocks}
+use Rattle.mar_node.proofs.Growing.{Fails-put, Grew-blocks, Grew-then, Loses-then}
+use Rattle.mar_node.proofs.StoreLosses.{Loses-blocks}
 use Rattle.mar_actor.proofs.stores.Stores.put_block.Goals as goal
 
 pub returns-in-Ok-clause-goes_on : goal.returns-in-Ok-clause-goes_on

@@ -1,4 +1,4 @@
-use Rattle.mar_actor.proofs.Reopenings.{lost_certs, lost_meta, lost_shelf}
+use Rattle.mar_node.proofs.Reopenings.{lost_certs, lost_meta, lost_shelf}
 use Rattle.mar_actor.proofs.stores.Stores.reopen.Goals as goal
 
 pub returns-in-Err-reopen-clause-lost : goal.returns-in-Err-reopen-clause-lost

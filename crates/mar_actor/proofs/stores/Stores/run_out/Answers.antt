@@ -1,4 +1,4 @@
-use Rattle.mar_actor.proofs.Growing.{Loses-then}
+use Rattle.mar_node.proofs.Growing.{Loses-then}
 use Rattle.mar_actor.proofs.stores.Stores.run_out.Goals as goal
 
 pub returns-clause-goes_on : goal.returns-clause-goes_on

@@ -1,7 +1,7 @@
 use Rattle.std.proofs.Common.{map}
-use Rattle.mar_parts.specs.Metadata.{pair_at}
-use Rattle.mar_actor.proofs.Growing.{Loses-then}
-use Rattle.mar_actor.proofs.StoreLosses.{Loses-meta}
+use Rattle.mar_node.specs.Metadata.{pair_at}
+use Rattle.mar_node.proofs.Growing.{Loses-then}
+use Rattle.mar_node.proofs.StoreLosses.{Loses-meta}
 use Rattle.mar_actor.proofs.stores.Stores.set_cutoff.Goals as goal
 
 pub returns-in-Err-clause-goes_on : goal.returns-in-Err-clause-goes_on

@@ -1,5 +1,5 @@
-use Rattle.mar_actor.proofs.Growing.{Fails-sync, Grew-certs, Grew-then, Loses-then}
-use Rattle.mar_actor.proofs.StoreLosses.{Loses-certs}
+use Rattle.mar_node.proofs.Growing.{Fails-sync, Grew-certs, Grew-then, Loses-then}
+use Rattle.mar_node.proofs.StoreLosses.{Loses-certs}
 use Rattle.mar_actor.proofs.stores.Stores.sync_certificates.Goals as goal
 
 pub returns-in-Ok-clause-goes_on : goal.returns-in-Ok-clause-goes_on

@@ -1,6 +1,6 @@
 use Rattle.std.proofs.Common.{map}
-use Rattle.mar_parts.specs.Metadata.{pair_at}
-use Rattle.mar_actor.proofs.StoreLosses.{Loses-meta}
+use Rattle.mar_node.specs.Metadata.{pair_at}
+use Rattle.mar_node.proofs.StoreLosses.{Loses-meta}
 use Rattle.mar_actor.proofs.stores.Stores.sync_metadata.Goals as goal
 
 pub returns-in-Err-clause-lost : goal.returns-in-Err-clause-lost
