@@ -1,11 +1,11 @@
 -- The cache over three lines: a verified block is put, its sync finishes, its block is finalized.
 use Rattle.std.proofs.Common.{◌≡◌, [], ◌∷◌, Some, None, refl, Contains, inl, IsTrue}
-use Rattle.mar_inbox.specs.Messages.{report_finalization, verified, get_verified}
-use Rattle.mar_actor.specs.Node.{Node}
-use Rattle.mar_shelf.specs.Cached.{Cached, finalization_entry, verified_entry}
-use Rattle.mar_actor.specs.Event.{message_told, sync_finished, no_floor}
-use Rattle.mar_actor.specs.Cache.{AdvancesCache, is_synced}
-use Rattle.mar_actor.specs.Answers.{answers_of, to, sync_value, true_value, bytes_value}
+use Rattle.mar_node.specs.Messages.{report_finalization, verified, get_verified}
+use Rattle.mar_node.specs.Node.{Node}
+use Rattle.mar_node.specs.Cached.{Cached, finalization_entry, verified_entry}
+use Rattle.mar_node.specs.Event.{message_told, sync_finished, no_floor}
+use Rattle.mar_node.specs.Cache.{AdvancesCache, is_synced}
+use Rattle.mar_node.specs.Answers.{answers_of, to, sync_value, true_value, bytes_value}
 use Rattle.std.proofs.Common.{lit<}
 use Rattle.marshal.proofs.SmallFacts.{none_in, only}
 use Rattle.marshal.proofs.SmallChain.{b1, f1, r1, config}

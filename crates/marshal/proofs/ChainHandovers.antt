@@ -2,22 +2,22 @@
 use Rattle.std.proofs.Common.{Bool, true, false, ◌≡◌, List, [], ◌∷◌, ◌++◌, Option, Some, None, refl, sym, ap, subst, inl, inr, true, if◌then◌else◌, map, filter}
 use Rattle.std.specs.List.{AllByRecursion}
 use Rattle.marshal.specs.Laws.{AreChains, RunHandsChain}
-use Rattle.mar_block.specs.Block.{Block}
-use Rattle.mar_actor.specs.Chain.{Chain, IsBlockAt}
+use Rattle.mar_cert.specs.Block.{Block}
+use Rattle.mar_node.specs.Chain.{Chain, IsBlockAt}
 use Rattle.mar_store.specs.Kept.{At}
 use Rattle.mar_store.proofs.Lookups.{AllByRecursion-append}
 use Rattle.mar_key.specs.Asked.{Judged}
-use Rattle.mar_inbox.specs.Messages.{Queued}
-use Rattle.mar_actor.specs.Config.{Config}
-use Rattle.mar_actor.specs.Node.{Node, Ended}
-use Rattle.mar_actor.specs.Event.{Event, life_started, ack_given, ack_dropped, sync_finished, block_buffered, buffer_ended}
+use Rattle.mar_node.specs.Messages.{Queued}
+use Rattle.mar_node.specs.Config.{Config}
+use Rattle.mar_node.specs.Node.{Node, Ended}
+use Rattle.mar_node.specs.Event.{Event, life_started, ack_given, ack_dropped, sync_finished, block_buffered, buffer_ended}
 use Rattle.mar_inbox.specs.Policy.{after_take}
 use Rattle.mar_key.specs.PeerQueue.{is_open, after_peer_take}
-use Rattle.mar_actor.specs.Judge.{serve_events, judged_of, in_turn}
-use Rattle.mar_actor.specs.Answers.{TicketAnswer}
-use Rattle.mar_actor.specs.Faults.{Fault, Begin, floor_of}
-use Rattle.mar_actor.specs.Step.{Report, new_tip, handed_over, HandedBlock, Made, handed_blocks, AreHandedOf, AdvancesAll}
-use Rattle.mar_actor.specs.Lives.{Cuts, CutsOpening}
+use Rattle.mar_node.specs.Judge.{serve_events, judged_of, in_turn}
+use Rattle.mar_node.specs.Answers.{TicketAnswer}
+use Rattle.mar_node.specs.Faults.{Fault, Begin, floor_of}
+use Rattle.mar_node.specs.Step.{Report, new_tip, handed_over, HandedBlock, Made, handed_blocks, AreHandedOf, AdvancesAll}
+use Rattle.mar_node.specs.Lives.{Cuts, CutsOpening}
 use Rattle.marshal.specs.Script.{Line, open_line, tell_line, peer_line, ask_line, serve_line, buffer_line, bufclose_line, put_line, take_line, sync_line, ack_line, drop_line, fail_line, crash_line}
 use Rattle.marshal.specs.Text.{State, running, stopped, Output, Done, Remark}
 use Rattle.marshal.specs.Run.{refusal, with_close, with_ticket, told_events, queued_of, is_subscribed, produced_answers, StepDone, EventsDone, OpenDone, TakeDone, TakenDone, closes_nothing, Acts, RunningDone, LineDone, Run}

@@ -4,11 +4,11 @@ use Rattle.std.specs.Fmt.{digits}
 use Rattle.hex.specs.Hex.{encode_with}
 use Rattle.mar_key.specs.Cutoff.{cutoff_zero}
 use Rattle.mar_key.specs.Keys.{retain, above_height}
-use Rattle.mar_actor.specs.Node.{Ended}
-use Rattle.mar_actor.specs.Event.{ack_given}
-use Rattle.mar_actor.specs.Faults.{store_fault, meta_store}
-use Rattle.mar_actor.specs.Step.{nothing_made}
-use Rattle.mar_actor.specs.Lives.{CutsEvent, IsGoodEnded}
+use Rattle.mar_node.specs.Node.{Ended}
+use Rattle.mar_node.specs.Event.{ack_given}
+use Rattle.mar_node.specs.Faults.{store_fault, meta_store}
+use Rattle.mar_node.specs.Step.{nothing_made}
+use Rattle.mar_node.specs.Lives.{CutsEvent, IsGoodEnded}
 use Rattle.marshal.specs.Script.{ack_line}
 use Rattle.marshal.specs.Text.{silent_output, output_text, running, stopped}
 use Rattle.marshal.specs.Run.{LineDone}

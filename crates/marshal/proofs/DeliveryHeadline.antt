@@ -6,12 +6,12 @@ use Rattle.std.specs.Fmt.{digits}
 use Rattle.hex.specs.Hex.{encode_with}
 use Rattle.sha2.specs.Sha256.{sha256, digest_bytes, hash_after, compress, rounds, schedule, first_words}
 use Rattle.mar_types.specs.Round.{Round, round_lt}
-use Rattle.mar_block.specs.Block.{Block, IsBlock}
+use Rattle.mar_cert.specs.Block.{Block, IsBlock}
 use Rattle.mar_cert.specs.Finalization.{finalize}
 use Rattle.mar_key.specs.Cutoff.{at_round, covers, cutoff_zero}
-use Rattle.mar_actor.specs.Chain.{Chain, IsBlockAt, IsFinal, commitment_at}
+use Rattle.mar_node.specs.Chain.{Chain, IsBlockAt, IsFinal, commitment_at}
 use Rattle.mar_store.specs.Kept.{At}
-use Rattle.mar_actor.specs.Node.{FloorSafe, left_by}
+use Rattle.mar_node.specs.Node.{FloorSafe, left_by}
 use Rattle.mar_codec.specs.Digest.{IsByte}
 use Rattle.mar_cert.specs.MockScheme.{IsFinalization, Signer, read_signers, mock_verifies}
 use Rattle.mar_codec.specs.Varint.{varint_within, read_varint_within}
@@ -22,7 +22,7 @@ use Rattle.marshal.proofs.SmallDigests.{digest_0_is, digest_1_is}
 use Rattle.marshal.proofs.SmallChain.{chain as small_chain, d1, b0, b1, r1, f1, tag_0, tag_1, tag_2, settings, config}
 use Rattle.marshal.specs.Laws.{IsRunOf}
 use Rattle.marshal.proofs.DeliveryRun.{delivery_run, delivery_text, n4, line, output}
-use Rattle.mar_actor.proofs.Soundness.{crash_is_good}
+use Rattle.mar_node.proofs.Soundness.{crash_is_good}
 use Rattle.marshal.proofs.DeliverySteps.{good4, delivery_is_run}
 use Rattle.marshal.proofs.PremisesMet.{delivery_lives, lines, premises}
 

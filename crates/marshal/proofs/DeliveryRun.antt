@@ -6,12 +6,12 @@ use Rattle.mar_key.specs.Cutoff.{at_round, cutoff_zero}
 use Rattle.mar_key.specs.Processed.{at_block}
 use Rattle.mar_store.specs.Kept.{reopened_store}
 use Rattle.mar_key.specs.Keys.{retain, above_height, above_round}
-use Rattle.mar_inbox.specs.Messages.{report_finalization}
-use Rattle.mar_actor.specs.Node.{Node}
-use Rattle.mar_parts.specs.Acks.{mark_waiting}
-use Rattle.mar_actor.specs.Faults.{from_genesis}
-use Rattle.mar_actor.specs.Step.{new_tip, handed_over, Made, nothing_made}
-use Rattle.mar_actor.specs.Lives.{opened_node}
+use Rattle.mar_node.specs.Messages.{report_finalization}
+use Rattle.mar_node.specs.Node.{Node}
+use Rattle.mar_node.specs.Acks.{mark_waiting}
+use Rattle.mar_node.specs.Faults.{from_genesis}
+use Rattle.mar_node.specs.Step.{new_tip, handed_over, Made, nothing_made}
+use Rattle.mar_node.specs.Lives.{opened_node}
 use Rattle.marshal.specs.Script.{open_line, tell_line, buffer_line, sync_line, ack_line}
 use Rattle.marshal.specs.Text.{output_text, text, Output, silent_output, remark_output, remark_ignored, running, Done}
 use Rattle.marshal.specs.Run.{empty_stores}

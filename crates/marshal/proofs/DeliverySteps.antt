@@ -1,17 +1,17 @@
 -- The delivery run's lines are lines of a run; their nodes are good.
 use Rattle.std.proofs.Common.{ap, option_map, List, ℕ, ◌==◌, [], ◌∷◌, Some, None, refl, IsFalse, inl, true, nat_lt, lit<, lit≤, arith, take}
-use Rattle.mar_block.specs.Block.{Block}
+use Rattle.mar_cert.specs.Block.{Block}
 use Rattle.mar_types.specs.Round.{Round}
 use Rattle.mar_key.specs.Cutoff.{at_round, covers, cutoff_zero}
-use Rattle.mar_actor.specs.Chain.{Chain, IsBlockAt, IsFinal, Finalizes}
+use Rattle.mar_node.specs.Chain.{Chain, IsBlockAt, IsFinal, Finalizes}
 use Rattle.mar_store.specs.Kept.{At, has_height, reopened_store}
-use Rattle.mar_actor.specs.Node.{FloorSafe, window_full, block_missing, IsGood}
-use Rattle.mar_actor.specs.Event.{life_started, message_told, ack_given}
+use Rattle.mar_node.specs.Node.{FloorSafe, window_full, block_missing, IsGood}
+use Rattle.mar_node.specs.Event.{life_started, message_told, ack_given}
 use Rattle.mar_key.specs.Keys.{retain, above_height, above_round}
-use Rattle.mar_actor.specs.Faults.{from_genesis}
-use Rattle.mar_inbox.specs.Messages.{report_finalization}
-use Rattle.mar_actor.specs.Step.{nothing_made, handed_over, new_tip, Advances}
-use Rattle.mar_actor.specs.Lives.{Finds}
+use Rattle.mar_node.specs.Faults.{from_genesis}
+use Rattle.mar_node.specs.Messages.{report_finalization}
+use Rattle.mar_node.specs.Step.{nothing_made, handed_over, new_tip, Advances}
+use Rattle.mar_node.specs.Lives.{Finds}
 use Rattle.marshal.specs.Script.{open_line, tell_line, buffer_line, sync_line, ack_line}
 use Rattle.marshal.specs.Text.{silent_output, remark_output, remark_ignored, running, stopped}
 use Rattle.marshal.specs.Run.{LineDone, Run, empty_stores}

@@ -1,8 +1,8 @@
 -- Empty stores are good for every lawful chain.
 use Rattle.std.proofs.Common.{◌≡◌, ℕ, ◌≤◌, ◌==◌, nat_lt, nat_le, false, ◌&&◌, ◌||◌, arith}
-use Rattle.mar_actor.specs.Chain.{Chain, IsLawful}
-use Rattle.mar_actor.specs.Config.{Config}
-use Rattle.mar_actor.specs.Lives.{IsGoodEnded}
+use Rattle.mar_node.specs.Chain.{Chain, IsLawful}
+use Rattle.mar_node.specs.Config.{Config}
+use Rattle.mar_node.specs.Lives.{IsGoodEnded}
 use Rattle.marshal.specs.Run.{empty_stores}
 
 pub empty_is_good : (config : Config) (chain : Chain) → IsLawful config.epochs chain → IsGoodEnded chain empty_stores

@@ -1,22 +1,23 @@
 -- What the actor's promise makes of one event, where it tells all that was told and asked.
-use Rattle.std.proofs.Common.{Err, List, None, Ok, Option, Some, [], ap, arith, subst, sym, ◌++◌, ◌∙◌, ◌∷◌, ◌≡◌}
+use Rattle.std.proofs.Common.{Err, List, None, Ok, Option, Some, [], ap, arith, refl, subst, sym, ◌++◌, ◌∙◌, ◌∷◌, ◌≡◌}
 use Rattle.std.specs.Prelude.{Result}
+use Rattle.mar_codec.specs.declared.Sha256Digest.{Sha256Digest}
 use Rattle.mar_types.specs.Epochs.{fixed_epochs}
 use Rattle.mar_block.specs.Sent.{Held}
 use Rattle.mar_key.specs.Hears.{Hears}
 use Rattle.mar_key.specs.Keys.{Call}
-use Rattle.mar_actor.specs.Event.{Event}
-use Rattle.mar_actor.specs.Faults.{ack_kind, ticket_limit}
-use Rattle.mar_actor.specs.Held.{Counts, Ending, IsEndedBy, NotFewer, Remains}
-use Rattle.mar_actor.specs.Lives.{Cuts}
-use Rattle.mar_actor.specs.Promise.{IsLawfulStep, IsSetTo, KeepsPromise, made_of, node_of}
-use Rattle.mar_actor.specs.Step.{Report, Steps}
-use Rattle.mar_actor.specs.Views.{fault_of}
+use Rattle.mar_node.specs.Event.{Event}
+use Rattle.mar_node.specs.Faults.{ack_kind, ticket_limit}
+use Rattle.mar_node.specs.Held.{Counts, Ending, IsEndedBy, NotFewer, Remains}
+use Rattle.mar_node.specs.Lives.{Cuts}
+use Rattle.mar_node.specs.Promise.{IsLawfulStep, IsSetTo, KeepsPromise, made_of, node_of}
+use Rattle.mar_node.specs.Step.{Report, Steps}
 use Rattle.mar_actor.specs.declared.fault.Fault.{Fault as FaultCode}
 use Rattle.mar_key.specs.Asked.{Asked, asked_after}
-use Rattle.mar_actor.specs.Chain.{Chain}
-use Rattle.mar_actor.specs.Config.{Config}
+use Rattle.mar_node.specs.Chain.{Chain}
+use Rattle.mar_node.specs.Config.{Config}
 use Rattle.marshal.specs.Playing.{IsLasting, IsSetNode, SeenNode, TakesEvent}
+use Rattle.marshal.specs.Turn.{plain_fault}
 use Rattle.marshal.specs.declared.play.Outcome.TheVariants as outcome
 use Rattle.marshal.specs.declared.play.State.{State as StateCode}
 use Rattle.marshal.specs.declared.play.State.TheVariants as state
@@ -39,7 +40,7 @@ module _ (FB FC M H FBW FCW MW HW : Type 0) (seen : SeenNode) (buffer : Held) (e
   Code = StateCode FB FC M H FBW FCW MW HW
 
   abbrev Stopped : Remains → Code
-  Stopped left = state.Stopped left
+  Stopped left = state.Stopped left 0
 
   abbrev Running : SeenNode → Held → Code
   Running new kept = state.Running new kept
@@ -51,6 +52,7 @@ module _ (FB FC M H FBW FCW MW HW : Type 0) (seen : SeenNode) (buffer : Held) (e
   takes_ok new promise epocher sizes later = record {
     set = λ config set. subst (λ z. IsSetTo config z (fixed_epochs new.life.epocher.length) (λ commitment. commitment)) (sym sizes) (subst (λ p. IsSetTo config seen.life.sizes (fixed_epochs p.length) (λ commitment. commitment)) (sym epocher) set);
     later = later;
+    luck = λ before line. tt;
     done = λ config chain asked set lawful.
         let (reports, heard, finishes) = promise config chain asked set lawful in (
           subst (λ rs. Steps config chain (node_of seen buffer.blocks asked) (e ∷ []) (made_of rs asks1) (node_of new buffer.blocks (asked_after asked [] asks1))) (told_all told0 told1 reports silent heard)
@@ -59,13 +61,14 @@ module _ (FB FC M H FBW FCW MW HW : Type 0) (seen : SeenNode) (buffer : Held) (e
         );
   }
 
-  pub takes_err : (fault : FaultCode) (left : Remains) → Promises (Err (record { fault = fault_of fault; remains = left })) → NotFewer seen.held.counts left.counts → IsEndedBy seen.held.counts (record { fault = fault_of fault; remains = left })
-      → ((config : Config) (chain : Chain) (asked : List Asked) → IsSetNode config seen → IsLawfulStep config chain (node_of seen buffer.blocks asked) e → IsLasting (node_of seen buffer.blocks asked) → fault_of fault ≡ ticket_limit ack_kind → ⊥)
+  pub takes_err : (fault : FaultCode Sha256Digest) (left : Remains) → Promises (Err (record { fault = plain_fault fault; remains = left })) → NotFewer seen.held.counts left.counts → IsEndedBy seen.held.counts (record { fault = plain_fault fault; remains = left })
+      → ((config : Config) (chain : Chain) (asked : List Asked) → IsSetNode config seen → IsLawfulStep config chain (node_of seen buffer.blocks asked) e → IsLasting (node_of seen buffer.blocks asked) → plain_fault fault ≡ ticket_limit ack_kind → ⊥)
       → TakesEvent seen buffer e told1 asks1 (Stopped left) (outcome.Fault fault)
   takes_err fault left promise later cause limit = record {
     set = λ config set. tt;
     later = later;
+    luck = λ before line. refl;
     done = λ config chain asked set lawful.
         let (reports, heard, cuts) = promise config chain asked set lawful in
-        (subst (λ rs. Cuts config chain (node_of seen buffer.blocks asked) (e ∷ []) rs (fault_of fault) left.ended) (told_all told0 told1 reports silent heard) cuts, cause, limit config chain asked set lawful);
+        (subst (λ rs. Cuts config chain (node_of seen buffer.blocks asked) (e ∷ []) rs (plain_fault fault) left.ended) (told_all told0 told1 reports silent heard) cuts, cause, limit config chain asked set lawful);
   }

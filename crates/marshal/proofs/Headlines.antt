@@ -2,20 +2,19 @@
 use Rattle.std.proofs.Common.{Err, List, None, Ok, Option, Some, [], arith, inl, inr, length, min, refl, subst, sym, ℕ, ◌++◌, ◌+◌, ◌-◌, ◌<◌, ◌^◌, ◌∙◌, ◌∷◌, ◌≤◌, ◌≡◌}
 use Rattle.std.specs.Prelude.{IfSome, Result}
 use Rattle.std.proofs.lemmas.List.{append-nil}
-use Rattle.mar_block.specs.Block.{Block}
+use Rattle.mar_cert.specs.Block.{Block}
 use Rattle.mar_block.specs.Sent.{Held}
 use Rattle.mar_key.specs.Asked.{Asked}
 use Rattle.mar_key.specs.Keys.{Call}
 use Rattle.mar_store.specs.Changes.{IsNested}
 use Rattle.mar_store.proofs.Lookups.{has_height-within}
-use Rattle.mar_actor.specs.Chain.{Chain}
-use Rattle.mar_actor.specs.Config.{Config}
-use Rattle.mar_actor.specs.Faults.{want_of_memory}
-use Rattle.mar_actor.specs.Held.{Counts, NotFewer, Remains, remains_of}
-use Rattle.mar_actor.specs.Lives.{IsGoodEnded}
-use Rattle.mar_actor.specs.Promise.{node_of}
-use Rattle.mar_actor.specs.Node.{Ended}
-use Rattle.mar_actor.specs.Step.{Report}
+use Rattle.mar_node.specs.Chain.{Chain}
+use Rattle.mar_node.specs.Config.{Config}
+use Rattle.mar_node.specs.Faults.{want_of_memory}
+use Rattle.mar_node.specs.Held.{Counts, NotFewer, Remains, remains_of}
+use Rattle.mar_node.specs.Promise.{node_of}
+use Rattle.mar_node.specs.Node.{Ended}
+use Rattle.mar_node.specs.Step.{Report}
 use Rattle.marshal.specs.Endings.{IsReadersEnd, IsWritersEnd}
 use Rattle.marshal.specs.Lines.{plain_line}
 use Rattle.marshal.specs.Playing.{IsSetAs, SeenNode, Turned, TurnsLine, WritesText}
@@ -32,7 +31,6 @@ use Rattle.marshal.specs.declared.play.State.{State as StateCode}
 use Rattle.marshal.specs.declared.play.State.TheVariants as state
 use Rattle.marshal.specs.declared.status.Status.{Status as StatusCode}
 use Rattle.marshal.specs.declared.status.Status.TheVariants as status
-use Rattle.marshal.proofs.EmptyStores.{empty_is_good}
 use Rattle.marshal.proofs.ReadSteps.{SoFar, begins, ends, goes_on, shown}
 use Rattle.marshal.proofs.Replaying.{RunSoFar, StopsBetween, StopsInText, first_run, front_output, lawful_next, left_in, more_run, premises_before, stops_between, stops_in_text}
 use Rattle.marshal.proofs.Streams.{takes_more, takes_none}
@@ -82,8 +80,8 @@ module _ (source : Option (List ℕ)) (s : Settings) (valid : IsSettings s) (bef
         lives = refl;
         output = front_output ending front (text before []) inside of_text;
         hands_back = ((λ h. refl), (λ h. refl), refl, (λ h. refl), (λ h. refl));
-        good = subst (IsGoodEnded chain) (sym p.before_is) (empty_is_good (config_of s) chain p.lawful);
-        some_pair = subst (λ e. 0 < length e.meta) (sym p.before_is) (omega arith);
+        good = p.good;
+        some_pair = p.some_pair;
         memory = tt;
         complete = λ q smooth. tt;
       })
@@ -116,11 +114,11 @@ module _ (FB FC M H FBW FCW MW HW : Type 0) where
   text_open : (out : Output) (s : Code) (asked : List Asked) → output_text out (state_of asked s) ≡ output_text out (state_of [] s)
   unfolding output_text
   text_open out (state.Running seen buffer) asked = refl
-  text_open out (state.Stopped left) asked = refl
+  text_open out (state.Stopped left luck) asked = refl
 
   left_remains : (s : Code) (asked : List Asked) → left_in (state_of asked s) ≡ (remains_in s).ended
   left_remains (state.Running seen buffer) asked = refl
-  left_remains (state.Stopped left) asked = refl
+  left_remains (state.Stopped left luck) asked = refl
 
   -- a line that was written leaves the settings, and no count fell
   pub turned_set : {U : Type 0} (config : Config) (c d : Code) (l : Line) (sunk sunk' : Option (List ℕ)) (written : Result U StatusCode) → TurnsLine config c l sunk d sunk' written → IsSetAs config c → IsSetAs config d

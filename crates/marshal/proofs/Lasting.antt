@@ -2,23 +2,23 @@
 use Rattle.std.proofs.Common.{Bool, List, None, Option, Some, [], ap, arith, eqb-true, false, if◌then◌else◌, length, length-append, map, nat_lt, option_map, refl, subst, suc, sym, true, ℕ, ◌&&◌, ◌++◌, ◌+◌, ◌-◌, ◌==◌, ◌^◌, ◌∙◌, ◌∷◌, ◌≡◌}
 use Rattle.std.specs.List.{AllByRecursion}
 use Rattle.std.proofs.lemmas.List.{length-map}
-use Rattle.mar_block.specs.Block.{Block}
+use Rattle.mar_cert.specs.Block.{Block}
 use Rattle.mar_cert.specs.Finalization.{Finalization}
-use Rattle.mar_inbox.specs.Messages.{report_finalization}
+use Rattle.mar_node.specs.Messages.{report_finalization}
 use Rattle.mar_key.specs.Asked.{Asked}
 use Rattle.mar_key.specs.Processed.{first_unprocessed, height_of}
-use Rattle.mar_parts.specs.Acks.{Mark, Outstanding, after_given, given_front, is_given, is_unmarked, mark_dropped, mark_given, mark_waiting, with_mark}
+use Rattle.mar_node.specs.Acks.{Mark, Outstanding, after_given, given_front, is_given, is_unmarked, mark_dropped, mark_given, mark_waiting, with_mark}
 use Rattle.mar_store.proofs.Lookups.{AllByRecursion-append}
-use Rattle.mar_actor.specs.Chain.{Chain}
-use Rattle.mar_actor.specs.Config.{Config}
-use Rattle.mar_actor.specs.Event.{Event, ack_given, acked_to, life_started, message_told, met_of, no_floor, processed_after, undrained_blocks}
-use Rattle.mar_actor.specs.Faults.{dropped_first, event_fault, height_limit, last_height, storing_fault}
-use Rattle.mar_actor.specs.Held.{Seen}
-use Rattle.mar_actor.specs.Node.{ConsecutiveFrom, IsGood, Node, at_hand, next_height, write_count}
-use Rattle.mar_actor.specs.Promise.{IsLawfulStep, node_of}
-use Rattle.mar_actor.specs.Step.{HandedBlock, HandsOver, Made, Steps, handed_blocks, outstanding_of, with_sync}
-use Rattle.mar_actor.proofs.FinalizationEvent.{not_last}
-use Rattle.mar_actor.proofs.OutstandingLemmas.{ConsecutiveFrom-given_front, ConsecutiveFrom-with_mark, first_unprocessed-acked_to}
+use Rattle.mar_node.specs.Chain.{Chain}
+use Rattle.mar_node.specs.Config.{Config}
+use Rattle.mar_node.specs.Event.{Event, ack_given, acked_to, life_started, message_told, met_of, no_floor, processed_after, undrained_blocks}
+use Rattle.mar_node.specs.Faults.{dropped_first, event_fault, height_limit, last_height, storing_fault}
+use Rattle.mar_node.specs.Held.{Seen}
+use Rattle.mar_node.specs.Node.{ConsecutiveFrom, Node, at_hand, next_height, write_count}
+use Rattle.mar_node.specs.Promise.{IsGoodFor, IsLawfulStep, node_of}
+use Rattle.mar_node.specs.Step.{HandedBlock, HandsOver, Made, Steps, handed_blocks, outstanding_of, with_sync}
+use Rattle.mar_node.proofs.FinalizationEvent.{not_last}
+use Rattle.mar_node.proofs.OutstandingLemmas.{ConsecutiveFrom-given_front, ConsecutiveFrom-with_mark, first_unprocessed-acked_to}
 use Rattle.marshal.specs.Playing.{IsLasting}
 
 -- no block of these was dropped
@@ -102,7 +102,7 @@ module _ {P E : Type 0} (config : Config) (chain : Chain) (a : Seen P E) (buffer
   abbrev node : Node
   node = node_of a buffer asked
 
-  pub lasting-step : (e : Event) → IsPlain e → (made : Made) (n' : Node) → IsGood config chain node → Steps config chain node (e ∷ []) made n' → IsLasting node → IsLasting n'
+  pub lasting-step : (e : Event) → IsPlain e → (made : Made) (n' : Node) → IsGoodFor config chain node e → Steps config chain node (e ∷ []) made n' → IsLasting node → IsLasting n'
   lasting-step e starts made n' good steps lasting = subst IsLasting (sym steps.ticket) (lasting-with_sync (write_count node) steps.unticketed (lasting-handed node (life_started None) made steps.unticketed steps.advances.hands steps.advances.processed refl lasting.undropped lasting))
   lasting-step e (reports f) made n' good steps lasting = subst IsLasting (sym steps.ticket) (lasting-with_sync (write_count node) steps.unticketed (lasting-handed node (message_told None (report_finalization f)) made steps.unticketed steps.advances.hands steps.advances.processed refl lasting.undropped lasting))
   lasting-step e (acks t) made n' good steps lasting = subst IsLasting (sym steps.ticket) (lasting-with_sync (write_count node) steps.unticketed

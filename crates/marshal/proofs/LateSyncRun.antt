@@ -3,10 +3,10 @@ use Rattle.std.proofs.Common.{◌≡◌, ℕ, ◌==◌, Bool, true, false, if◌
 use Rattle.std.specs.Fmt.{digits}
 use Rattle.hex.specs.Hex.{encode_with}
 use Rattle.mar_store.specs.Kept.{has_height}
-use Rattle.mar_inbox.specs.Messages.{report_finalization}
-use Rattle.mar_actor.specs.Node.{Node, window_full, write_uncovered, IsGood, SureOrWritten}
-use Rattle.mar_actor.specs.Event.{message_told, sync_finished}
-use Rattle.mar_actor.specs.Step.{new_tip, handed_over, nothing_made, Advances}
+use Rattle.mar_node.specs.Messages.{report_finalization}
+use Rattle.mar_node.specs.Node.{Node, window_full, write_uncovered, IsGood, SureOrWritten}
+use Rattle.mar_node.specs.Event.{message_told, sync_finished}
+use Rattle.mar_node.specs.Step.{new_tip, handed_over, nothing_made, Advances}
 use Rattle.marshal.specs.Script.{tell_line, sync_line}
 use Rattle.marshal.specs.Text.{output_text, running, Done}
 use Rattle.marshal.specs.Run.{LineDone, Run}

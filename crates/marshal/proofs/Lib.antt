@@ -10,6 +10,7 @@ pub mod SmallCutoffs
 pub mod DeliverySteps
 pub mod WrongBodies
 pub mod WrongStorings
+pub mod WrongLives
 pub mod WorkedValues
 pub mod TicketClosings
 pub mod PremisesMet
@@ -27,6 +28,7 @@ pub mod Spelled
 pub mod Pushed
 pub mod ReadBytes
 pub mod FirstWords
+pub mod FailingWords
 pub mod LineEnds
 pub mod ReadSteps
 pub mod FirstOutside

@@ -9,11 +9,11 @@ use Rattle.std.proofs.lemmas.List.Elements.{All-append, All-cons, All-contains, 
 use Rattle.hex.specs.Hex.{IsBytes, encode_lower, encode_with, hex_digit_value, lower_digits}
 use Rattle.hex.proofs.HexLemmas.{IsDigits-lower_digits}
 use Rattle.mar_codec.specs.Varint.{IsNumber}
-use Rattle.mar_inbox.specs.Messages.{report_finalization}
-use Rattle.mar_actor.specs.Faults.{from_genesis}
+use Rattle.mar_node.specs.Messages.{report_finalization}
+use Rattle.mar_node.specs.Faults.{StoreName, block_store, cache_store, cert_store, from_genesis, meta_store}
 use Rattle.mar_cert.specs.Finalization.{finalization_bytes}
 use Rattle.marshal.specs.Run.{IsConfigBytes, IsLineBytes}
-use Rattle.marshal.specs.Script.{HasValues, IsBuilt, IsLine, IsSettings, Line, Settings, ack_line, buffer_line, hex, line_bytes, line_words, open_line, sentence, settings_bytes, settings_words, sync_line, tell_line}
+use Rattle.marshal.specs.Script.{HasValues, IsBuilt, IsLine, IsSettings, Line, Settings, ack_line, buffer_line, crash_line, fail_line, hex, line_bytes, line_words, open_line, sentence, settings_bytes, settings_words, store_name, sync_line, tell_line}
 use Rattle.marshal.specs.Refused.{IsUnended}
 use Rattle.marshal.specs.Words.{numbers_of}
 use Rattle.marshal.proofs.FirstWords.{heads}
@@ -81,12 +81,20 @@ pub record EndsOnce (bytes : List ℕ) : Type 0 where
   pub inner : IsUnended front
   pub short : length front ≤ 65_536
 
+store_inner : (store : StoreName) → All IsInner (store_name store)
+store_inner block_store = by_test (codes "blocks") refl
+store_inner cert_store = by_test (codes "certs") refl
+store_inner meta_store = by_test (codes "meta") refl
+store_inner cache_store = by_test (codes "cache") refl
+
 words_inner : (n : ℕ) (l : Line) → n < 2 ^ 64 → IsBuilt l → HasValues n l → AllByRecursion (All IsInner) (line_words l)
 words_inner n (open_line (from_genesis b)) wide built values = (by_test (codes "open") refl, (by_test (codes "genesis") refl, (hex_inner b.encoded (block_is_bytes b values), tt)))
 words_inner n (buffer_line b) wide built values = (by_test (codes "buffer") refl, (hex_inner b.encoded (block_is_bytes b values), tt))
 words_inner n (tell_line (report_finalization f)) wide built values = (by_test (codes "final") refl, (hex_inner (finalization_bytes f) (finalization_is_bytes n f wide values), tt))
 words_inner n (sync_line t) wide built values = (by_test (codes "sync") refl, (decimal_inner t values, tt))
 words_inner n (ack_line t) wide built values = (by_test (codes "ack") refl, (decimal_inner t values, tt))
+words_inner n (fail_line store k) wide built values = (by_test (codes "fail") refl, (store_inner store, (decimal_inner k values.1, tt)))
+words_inner n (crash_line luck) wide built values = (by_test (codes "crash") refl, (decimal_inner luck values, tt))
 words_inner n l wide built values = absurd built
 
 pub line_ends : (n : ℕ) (l : Line) → n < 2 ^ 64 → IsLine n l → EndsOnce (line_bytes l)

@@ -2,23 +2,24 @@
 use Rattle.std.proofs.Common.{Bool, IsTrue, List, None, Option, Some, [], ap, false, if◌then◌else◌, inl, inr, option_map, refl, subst, sym, true, ℕ, ◌++◌, ◌∙◌, ◌∷◌, ◌≡◌}
 use Rattle.std.specs.List.{list_any}
 use Rattle.mar_codec.specs.Causes.{Rose}
-use Rattle.mar_block.specs.Block.{Block}
+use Rattle.mar_codec.specs.declared.Sha256Digest.{Sha256Digest}
+use Rattle.mar_cert.specs.Block.{Block}
 use Rattle.mar_cert.specs.Finalization.{Finalization}
-use Rattle.mar_inbox.specs.Messages.{report_finalization}
+use Rattle.mar_node.specs.Messages.{report_finalization}
 use Rattle.mar_key.specs.Asked.{Asked, asked_after}
 use Rattle.mar_key.specs.Keys.{Call}
 use Rattle.mar_key.specs.Processed.{height_in}
-use Rattle.mar_parts.specs.Acks.{is_unmarked}
-use Rattle.mar_actor.specs.Chain.{Chain}
-use Rattle.mar_actor.specs.Config.{Config}
-use Rattle.mar_actor.specs.Event.{Event, ack_given, message_told}
-use Rattle.mar_actor.specs.Faults.{Fault, StoreName, ack_kind, event_fault, is_by_value, store_fault, ticket_limit}
-use Rattle.mar_actor.specs.Held.{Counts, Ending, IsEndedBy, Seen, count_of, remains_of}
-use Rattle.mar_actor.specs.Lives.{Cuts, CutsEvent}
-use Rattle.mar_actor.specs.Node.{Ended, IsGood, Node}
-use Rattle.mar_actor.specs.Promise.{IsLawfulStep, ReportsFinalized, RestsBefore, made_of, node_of}
-use Rattle.mar_actor.specs.Step.{AdvancesAll, Made, Report, Steps}
-use Rattle.mar_actor.specs.Views.{fault_of, store_name_of}
+use Rattle.mar_node.specs.Acks.{is_unmarked}
+use Rattle.mar_node.specs.Chain.{Chain}
+use Rattle.mar_node.specs.Config.{Config}
+use Rattle.mar_node.specs.Event.{Event, ack_given, message_told}
+use Rattle.mar_node.specs.Faults.{Fault, StoreName, ack_kind, event_fault, is_by_value, store_fault, ticket_limit}
+use Rattle.mar_node.specs.Held.{Counts, Ending, IsEndedBy, Seen, count_of, remains_of}
+use Rattle.mar_node.specs.Lives.{Cuts, CutsEvent}
+use Rattle.mar_node.specs.Node.{Ended, IsGood, Node}
+use Rattle.mar_node.specs.Promise.{IsGoodFor, IsLawfulStep, ReportsFinalized, RestsBefore, made_of, node_of}
+use Rattle.mar_node.specs.Step.{AdvancesAll, Made, Report, Steps}
+use Rattle.mar_actor.specs.Views.{store_name_of}
 use Rattle.mar_actor.specs.declared.fault.Fault.{Fault as FaultCode}
 use Rattle.mar_actor.specs.declared.fault.Fault.TheVariants as fault
 use Rattle.mar_actor.specs.declared.fault.TicketKind.{TicketKind}
@@ -27,10 +28,10 @@ use Rattle.marshal.specs.Playing.{IsBetween, IsExcused, IsLasting, IsLawfulLine,
 use Rattle.marshal.specs.Run.{LineDone, RunningDone, StepDone}
 use Rattle.marshal.specs.Script.{Line, ack_line, buffer_line, tell_line}
 use Rattle.marshal.specs.Text.{Output, Remark, State, remark_ignored, running, stopped}
-use Rattle.marshal.specs.Turn.{fault_in, output_of}
+use Rattle.marshal.specs.Turn.{fault_in, output_of, plain_fault}
 use Rattle.marshal.specs.declared.play.Outcome.{Outcome}
 use Rattle.marshal.specs.declared.play.Outcome.TheVariants as outcome
-use Rattle.mar_actor.proofs.Reaching.{IsGood-beside, Rest-beside}
+use Rattle.mar_node.proofs.Reaching.{IsGood-beside, Rest-beside}
 use Rattle.marshal.proofs.Lasting.{IsPlain, acks, lasting-step, no_event_fault, reports, starts}
 
 -- CUTS
@@ -58,15 +59,17 @@ only_cut config chain n e rs fault left cuts = by cuts.finished cuts.first cuts.
     by (x ∷ xs) first mid d later split advances reports_split cut = absurd (none_behind xs cuts.others d (tail x (xs ++ d ∷ cuts.others) split))
 
 -- a fault that no value calls for is want of memory or a store's, whose count rose
-pub excused : (before now : Counts) (fault : FaultCode) → (IsTrue (is_by_value (fault_of fault)) → ⊥) → (fault_of fault ≡ ticket_limit ack_kind → ⊥) → ((s : StoreName) → fault_of fault ≡ store_fault s → Rose (count_of before s) (count_of now s)) → IsExcused before now (Some (fault_of fault))
+pub excused : (before now : Counts) (fault : FaultCode Sha256Digest) → (IsTrue (is_by_value (plain_fault fault)) → ⊥) → (plain_fault fault ≡ ticket_limit ack_kind → ⊥) → ((s : StoreName) → plain_fault fault ≡ store_fault s → Rose (count_of before s) (count_of now s)) → IsExcused before now (Some (plain_fault fault))
 excused before now (fault.StoreFault s) valued limit caused = inr (store_name_of s, refl, caused (store_name_of s) refl)
-excused before now fault.NotEmpty valued limit caused = absurd (valued refl)
 excused before now (fault.GenesisHeight h) valued limit caused = absurd (valued refl)
+excused before now (fault.GenesisMismatch a b) valued limit caused = absurd (valued refl)
+excused before now (fault.Corrupt h a b) valued limit caused = absurd (valued refl)
+excused before now (fault.Unbacked h) valued limit caused = absurd (valued refl)
 excused before now (fault.HeightLimit h) valued limit caused = absurd (valued refl)
 excused before now (fault.AckDropped h) valued limit caused = absurd (valued refl)
 excused before now (fault.TicketLimit k) valued limit caused = absurd (limit (by k))
   where
-    by : (k : TicketKind) → fault_of (fault.TicketLimit k) ≡ ticket_limit ack_kind
+    by : (k : TicketKind) → plain_fault (fault.TicketLimit k) ≡ ticket_limit ack_kind
     by Ack = refl
 excused before now fault.Memory valued limit caused = inl refl
 
@@ -80,20 +83,20 @@ module _ {P E : Type 0} (config : Config) (chain : Chain) (a : Seen P E) (buffer
   pub step_done : (e : Event) (rs : List Report) (asks : List Call) (b : Seen P E) (kept : List Block) → Steps config chain node (e ∷ []) (made_of rs asks) (node_of b kept (asked_after asked [] asks)) → StepDone config chain node (e ∷ []) [] (λ m. []) (output_of rs asks outcome.Done) (running (node_of b kept (asked_after asked [] asks)))
   step_done e rs asks b kept steps = (made_of rs asks, steps, refl, refl, refl)
 
-  pub step_between : (e : Event) → IsPlain e → (rs : List Report) (asks : List Call) (b : Seen P E) (kept : List Block) → IsGood config chain node → IsLasting node → Steps config chain node (e ∷ []) (made_of rs asks) (node_of b kept (asked_after asked [] asks)) → IsBetween config chain (running (node_of b kept (asked_after asked [] asks)))
+  pub step_between : (e : Event) → IsPlain e → (rs : List Report) (asks : List Call) (b : Seen P E) (kept : List Block) → IsGoodFor config chain node e → IsLasting node → Steps config chain node (e ∷ []) (made_of rs asks) (node_of b kept (asked_after asked [] asks)) → IsBetween config chain (running (node_of b kept (asked_after asked [] asks)))
   step_between e plain rs asks b kept good lasting steps = (steps.good, steps.rests, lasting-step config chain a buffer asked e plain (made_of rs asks) (node_of b kept (asked_after asked [] asks)) good steps lasting)
 
   -- a step that was cut
-  pub step_cut : (e : Event) (rs : List Report) (asks : List Call) (fault : FaultCode) (left : Ended) → Cuts config chain node (e ∷ []) rs (fault_of fault) left → StepDone config chain node (e ∷ []) [] (λ m. []) (output_of rs asks (outcome.Fault fault)) (stopped left)
-  step_cut e rs asks fault left cuts = (fault_of fault, refl, refl, cuts, ([], refl))
+  pub step_cut : (e : Event) (rs : List Report) (asks : List Call) (fault : FaultCode Sha256Digest) (left : Ended) → Cuts config chain node (e ∷ []) rs (plain_fault fault) left → StepDone config chain node (e ∷ []) [] (λ m. []) (output_of rs asks (outcome.Fault fault)) (stopped left)
+  step_cut e rs asks fault left cuts = (plain_fault fault, refl, refl, cuts, ([], refl))
 
   pub cut_between : (e : Event) (rs : List Report) (fault : Fault) (left : Ended) → Cuts config chain node (e ∷ []) rs fault left → IsBetween config chain (stopped left)
   cut_between e rs fault left cuts = (cuts.cut.leaves.good, cuts.cut.leaves.some_pair)
 
-  pub cut_excused : (e : Event) → IsPlain e → (rs : List Report) (fault : FaultCode) (x : Ending) → IsLawfulStep config chain node e → IsLasting node → Cuts config chain node (e ∷ []) rs (fault_of fault) x.remains.ended → x.fault ≡ fault_of fault → IsEndedBy a.held.counts x → (x.fault ≡ ticket_limit ack_kind → ⊥) → IsExcused a.held.counts x.remains.counts (Some (fault_of fault))
+  pub cut_excused : (e : Event) → IsPlain e → (rs : List Report) (fault : FaultCode Sha256Digest) (x : Ending) → IsLawfulStep config chain node e → IsLasting node → Cuts config chain node (e ∷ []) rs (plain_fault fault) x.remains.ended → x.fault ≡ plain_fault fault → IsEndedBy a.held.counts x → (x.fault ≡ ticket_limit ack_kind → ⊥) → IsExcused a.held.counts x.remains.counts (Some (plain_fault fault))
   cut_excused e plain rs fault x lawful lasting cuts is cause limit =
       excused a.held.counts x.remains.counts fault
-      (λ by_value. never (event_fault config node e) (fault_of fault) (no_event_fault config chain a buffer asked e plain lawful lasting) ((only_cut config chain node e rs (fault_of fault) x.remains.ended cuts).cause by_value))
+      (λ by_value. never (event_fault config node e) (plain_fault fault) (no_event_fault config chain a buffer asked e plain lawful lasting) ((only_cut config chain node e rs (plain_fault fault) x.remains.ended cuts).cause by_value))
       (λ same. limit (is ∙ same)) (λ s same. cause.caused s (is ∙ same))
     where
       never : (o : Option Fault) (f : Fault) → o ≡ None → o ≡ Some f → ⊥
@@ -101,12 +104,17 @@ module _ {P E : Type 0} (config : Config) (chain : Chain) (a : Seen P E) (buffer
 
 -- what is asked of a step is what was asked of its line
 pub lawful_step : {P E : Type 0} (config : Config) (chain : Chain) (a : Seen P E) (buffer : List Block) (asked : List Asked) (line : Line) (e : Event) → IsPlain e → IsLawfulLine config chain (running (node_of a buffer asked)) line → ((f : Finalization) → e ≡ message_told None (report_finalization f) → line ≡ tell_line (report_finalization f)) → IsLawfulStep config chain (node_of a buffer asked) e
-lawful_step config chain a buffer asked line e plain lawful same = record { lawful = lawful.lawful; one = lawful.one; reported = told plain same; good = lawful.between.0; rests = rests plain }
+lawful_step config chain a buffer asked line e plain lawful same = record { lawful = lawful.lawful; one = lawful.one; reported = told plain same; good = good plain; rests = rests plain }
   where
     told : {d : Event} → IsPlain d → ((f : Finalization) → d ≡ message_told None (report_finalization f) → line ≡ tell_line (report_finalization f)) → ReportsFinalized chain d
     told starts is = tt
     told (reports f) is = lawful.reported f (is f refl)
     told (acks t) is = tt
+
+    good : {d : Event} → IsPlain d → IsGoodFor config chain (node_of a buffer asked) d
+    good starts = (a.life.tip, lawful.between.0)
+    good (reports f) = lawful.between.0
+    good (acks t) = lawful.between.0
 
     rests : {d : Event} → IsPlain d → RestsBefore config.window (node_of a buffer asked) d
     rests starts = tt

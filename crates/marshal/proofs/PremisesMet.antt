@@ -1,19 +1,20 @@
 -- The premises can be met: the small chain and the delivery script are lawful.
 use Rattle.std.proofs.Common.{◌≡◌, ℕ, zero, suc, ◌+◌, ◌-◌, ◌≤◌, ◌<◌, List, [], ◌∷◌, Option, Some, None, refl, sym, ◌∙◌, ap, subst, arith, lit<, lit≤, Contains, Any, map, inl, inr, ◌⊎◌, add-one}
-use Rattle.mar_block.specs.Block.{Block}
+use Rattle.mar_cert.specs.Block.{Block}
 use Rattle.mar_cert.specs.Finalization.{Finalization}
 use Rattle.mar_types.specs.Epochs.{containing}
 use Rattle.mar_types.specs.Fixed.{fixed_partition}
-use Rattle.mar_actor.specs.Chain.{IsLawful, IsBlockAt}
+use Rattle.mar_node.specs.Chain.{IsLawful, IsBlockAt}
+use Rattle.marshal.proofs.EmptyStores.{empty_is_good}
 use Rattle.marshal.specs.Run.{Run, IsLawfulScript, Premises, Appears, EndsWith, HonestBytes, read_to_end, Replays, empty_stores}
 use Rattle.marshal.specs.Text.{running, stopped, text}
-use Rattle.mar_actor.specs.Node.{IsFinalized, left_by}
-use Rattle.mar_actor.specs.Faults.{from_genesis, from_floor}
-use Rattle.mar_inbox.specs.Messages.{report_finalization, set_floor}
+use Rattle.mar_node.specs.Node.{IsFinalized, left_by}
+use Rattle.mar_node.specs.Faults.{from_genesis, from_floor}
+use Rattle.mar_node.specs.Messages.{report_finalization, set_floor}
 use Rattle.marshal.specs.Script.{Line, open_line}
 use Rattle.marshal.proofs.SmallChain.{chain, config, b0, b1, f1}
 use Rattle.marshal.proofs.DeliveryRun.{delivery_run, n4}
-use Rattle.mar_actor.proofs.Soundness.{crash_is_good}
+use Rattle.mar_node.proofs.Soundness.{crash_is_good}
 use Rattle.marshal.proofs.DeliverySteps.{good4, delivery_is_run}
 use Rattle.marshal.proofs.SmallCutoffs.{zero_safe, safe_at_zero, safe_at_one}
 use Rattle.marshal.proofs.SmallFacts.{only, final_round, final_height}
@@ -169,7 +170,7 @@ lawful_script = record {
     not_floor f e = cc
 
 pub premises : Premises config chain lines empty_stores
-premises = record { partition = fixed_partition 10 (lit< tt) (lit< tt); lawful = lawful; script = lawful_script; before_is = refl }
+premises = record { partition = fixed_partition 10 (lit< tt) (lit< tt); lawful = lawful; script = lawful_script; good = empty_is_good config chain lawful; some_pair = lit< tt }
 
 -- THE HEADLINE'S CLAUSE HOLDS OF THE DELIVERY RUN
 

@@ -16,7 +16,7 @@ use Rattle.mar_cert.specs.MockScheme.{IsFinalization, Signer, signer_bytes}
 use Rattle.mar_cert.specs.Signers.{AreSigners}
 use Rattle.mar_cert.specs.SignersLemmas.{length-signers, signers_of_certificate}
 use Rattle.mar_types.specs.Round.{round_bytes}
-use Rattle.mar_block.specs.Block.{Block, IsBlock}
+use Rattle.mar_cert.specs.Block.{Block, IsBlock}
 
 abbrev AreBytes : List ℕ → Type 0
 AreBytes xs = All IsByte xs

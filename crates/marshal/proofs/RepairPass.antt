@@ -1,11 +1,11 @@
 -- A repair pass: blocks 0 and 3 are held, 1 and 2 are missing.
 use Rattle.std.proofs.Common.{◌≡◌, ℕ, ◌-◌, ◌==◌, ◌≤◌, Bool, true, false, if◌then◌else◌, List, [], ◌∷◌, replicate, Option, Some, None, is_some, refl, sym, ap, subst, IsTrue, IsFalse, length, AllPairs, ◌≢◌, ◌<◌, ◌⊎◌, inl, inr, lit<, lit≤, arith}
-use Rattle.mar_block.specs.Block.{Block}
+use Rattle.mar_cert.specs.Block.{Block}
 use Rattle.mar_cert.specs.Finalization.{Finalization}
 use Rattle.mar_store.specs.Kept.{has_height, value_at, reopened_store}
 use Rattle.mar_key.specs.Keys.{block_key, finalized_key, finalized_by_height, Call, fetch}
-use Rattle.mar_actor.specs.Node.{Node}
-use Rattle.mar_actor.specs.Requests.{IsRepairAsk, IsGap, AsksHeight, AsksParent, Repaired}
+use Rattle.mar_node.specs.Node.{Node}
+use Rattle.mar_node.specs.Requests.{IsRepairAsk, IsGap, AsksHeight, AsksParent, Repaired}
 use Rattle.std.specs.List.{AllByRecursion}
 use Rattle.marshal.proofs.SmallChain.{config, b0}
 use Rattle.marshal.proofs.DeliveryRun.{begun}

@@ -6,26 +6,25 @@ use Rattle.std.proofs.lemmas.Grind.{flat_map-append}
 use Rattle.std.proofs.lemmas.List.{append-nil, map-append}
 use Rattle.std.proofs.lemmas.List.Elements.{Contains-append_cases, Contains-append_left, Contains-append_right}
 use Rattle.mar_codec.specs.Causes.{Rose}
-use Rattle.mar_block.specs.Block.{Block}
+use Rattle.mar_cert.specs.Block.{Block}
 use Rattle.mar_cert.specs.Finalization.{Finalization}
-use Rattle.mar_inbox.specs.Messages.{report_finalization, set_floor}
+use Rattle.mar_node.specs.Messages.{report_finalization, set_floor}
 use Rattle.mar_key.specs.Asked.{Asked}
 use Rattle.mar_store.proofs.Lookups.{AllByRecursion-from_contains, AllByRecursion-push, AllByRecursion-weaker}
-use Rattle.mar_actor.specs.Chain.{Chain}
-use Rattle.mar_actor.specs.Config.{Config}
-use Rattle.mar_actor.specs.Faults.{Fault, StoreName, from_floor, from_genesis, want_of_memory}
-use Rattle.mar_actor.specs.Held.{Counts, NotFewer, count_of}
-use Rattle.mar_actor.specs.Lives.{IsGoodEnded}
-use Rattle.mar_actor.specs.Node.{Agrees, Ended, IsFinalized, left_by}
-use Rattle.mar_shelf.specs.Cached.{cached_block, cached_finalization}
-use Rattle.mar_actor.proofs.Openings.{all_found_within}
-use Rattle.mar_actor.proofs.Soundness.{IsFrom, IsGoodEnded-from_sound, IsSound-from_good}
-use Rattle.marshal.specs.Playing.{IsBetween, IsExcused, IsFresh, IsLawfulLine, Plays, buffer_in}
+use Rattle.mar_node.specs.Chain.{Chain}
+use Rattle.mar_node.specs.Config.{Config}
+use Rattle.mar_node.specs.Faults.{Fault, StoreName, from_floor, from_genesis, want_of_memory}
+use Rattle.mar_node.specs.Held.{Counts, NotFewer, count_of}
+use Rattle.mar_node.specs.Lives.{IsGoodEnded}
+use Rattle.mar_node.specs.Node.{Agrees, Ended, IsFinalized, left_by}
+use Rattle.mar_node.specs.Cached.{cached_block, cached_finalization}
+use Rattle.mar_node.proofs.Openings.{all_found_within}
+use Rattle.mar_node.proofs.Soundness.{IsFrom, IsGoodEnded-from_sound, IsSound-from_good}
+use Rattle.marshal.specs.Playing.{IsBetween, IsExcused, IsLawfulLine, Plays, buffer_in}
 use Rattle.marshal.specs.Reading.{IsQuiet}
 use Rattle.marshal.specs.Run.{Appears, EndsWith, HandsBack, IsFaultFree, IsFront, IsOutput, LineDone, MemoryEnds, Premises, Replays, Run, Status, line_blocks, messages_of, out_of_memory, outside_grammar, read_failed, read_to_end, write_failed}
 use Rattle.marshal.specs.Script.{Line, open_line, tell_line}
 use Rattle.marshal.specs.Text.{Done, Output, State, output_text, running, silent_output, stopped, text}
-use Rattle.marshal.proofs.EmptyStores.{empty_is_good}
 
 -- COUNTS
 
@@ -69,7 +68,8 @@ premises_before config chain lines l before p = record {
     inner = λ b appears. p.script.inner b (more b appears);
     one_block = λ a b first second. p.script.one_block a b (more a first) (more b second);
   };
-  before_is = p.before_is;
+  good = p.good;
+  some_pair = p.some_pair;
 }
   where
     more : (b : Block) → Appears chain lines b → Appears chain (lines ++ l ∷ []) b
@@ -89,7 +89,7 @@ pub record RunSoFar (config : Config) (chain : Chain) (before : Ended) (lines : 
   pub between : IsBetween config chain (now asked)
   pub buffered : (b : Block) → Contains (buffer_in (now asked)) b → Contains (flat_map line_blocks lines) b
   pub no_memory : AllByRecursion (λ d. d.output.fault ≡ Some want_of_memory → ⊥) run
-  pub quiet : IsQuiet first counts → AllByRecursion (λ d. d.output.fault ≡ None) run × IsFresh (now asked)
+  pub quiet : IsQuiet first counts → AllByRecursion (λ d. d.output.fault ≡ None) run
 
 pub first_run : (config : Config) (chain : Chain) (before : Ended) (counts : Counts) (now : List Asked → State) → Premises config chain [] before → ((asked : List Asked) → now asked ≡ stopped before) → RunSoFar config chain before [] counts counts now (text before [])
 first_run config chain before counts now p is = record {
@@ -98,10 +98,10 @@ first_run config chain before counts now p is = record {
   asked = [];
   lives = is [];
   wrote = refl;
-  between = subst (λ s. IsBetween config chain s) (sym (is [])) (subst (IsGoodEnded chain) (sym p.before_is) (empty_is_good config chain p.lawful), subst (λ e. 0 < length e.meta) (sym p.before_is) (omega arith));
+  between = subst (λ s. IsBetween config chain s) (sym (is [])) (p.good, p.some_pair);
   buffered = λ b has. absurd (none b (subst (λ s. Contains (buffer_in s) b) (is []) has));
   no_memory = tt;
-  quiet = λ q. (tt, subst IsFresh (sym (is [])) p.before_is);
+  quiet = λ q. tt;
 }
   where
     none : (b : Block) → Contains [] b → ⊥
@@ -157,9 +157,7 @@ module _ (config : Config) (chain : Chain) (before : Ended) (lines : List Line) 
       buffered = λ b has. by b (Contains-append_cases (buffer_in (now so.asked)) (line_blocks l) b (plays.buffered b has));
       no_memory = AllByRecursion-push (λ d. d.output.fault ≡ Some want_of_memory → ⊥) so.run done so.no_memory remembered;
       quiet = λ q.
-          let was = so.quiet (quiet_before first counts counts' later q) in
-          let none = no_fault (quiet_fault first counts counts' out.fault not_fewer q (plays.excused was.1)) in
-          (AllByRecursion-push (λ d. d.output.fault ≡ None) so.run done was.0 none, plays.fresh was.1 none);
+          AllByRecursion-push (λ d. d.output.fault ≡ None) so.run done (so.quiet (quiet_before first counts counts' later q)) (no_fault (quiet_fault first counts counts' out.fault not_fewer q plays.excused));
     }
       where
         by : (b : Block) → Contains (buffer_in (now so.asked)) b ⊎ Contains (line_blocks l) b → Contains (flat_map line_blocks (lines ++ l ∷ [])) b
@@ -225,7 +223,7 @@ stops_between status config chain before lines first counts now bytes after betw
   good = subst (IsGoodEnded chain) (left so.asked) (between_left config chain (now so.asked) so.between).0;
   some_pair = subst (λ e. 0 < length e.meta) (left so.asked) (between_left config chain (now so.asked) so.between).1;
   memory = memory_never status so.run so.no_memory;
-  complete = λ q smooth. AllByRecursion-weaker (λ d. d.output.fault ≡ None) IsFaultFree (λ d none. inl none) so.run (so.quiet q).0;
+  complete = λ q smooth. AllByRecursion-weaker (λ d. d.output.fault ≡ None) IsFaultFree (λ d none. inl none) so.run (so.quiet q);
 }
 
 -- or in the text of a line
@@ -262,6 +260,5 @@ module _ (config : Config) (chain : Chain) (before : Ended) (lines : List Line) 
           some_pair = subst (λ e. 0 < length e.meta) left_is (between_left config chain (after asked') plays.between).1;
           memory = memory_last status so.run d so.no_memory memory;
           complete = λ q smooth.
-              let was = so.quiet (quiet_before first counts counts' later q) in
-              AllByRecursion-push IsFaultFree so.run d (AllByRecursion-weaker (λ x. x.output.fault ≡ None) IsFaultFree (λ x none. inl none) so.run was.0) (quiet_fault first counts counts' out.fault not_fewer q (plays.excused was.1));
+              AllByRecursion-push IsFaultFree so.run d (AllByRecursion-weaker (λ x. x.output.fault ≡ None) IsFaultFree (λ x none. inl none) so.run (so.quiet (quiet_before first counts counts' later q))) (quiet_fault first counts counts' out.fault not_fewer q plays.excused);
         }

@@ -3,27 +3,27 @@ use Rattle.std.proofs.Common.{◌≡◌, ℕ, zero, suc, ◌+◌, ◌≤◌, nat
 use Rattle.std.specs.List.{AllByRecursion}
 use Rattle.marshal.specs.Laws.{IsInOrder, AtLeast}
 use Rattle.mar_store.proofs.Lookups.{AllByRecursion-contains, AllByRecursion-weaker}
-use Rattle.mar_actor.proofs.OutstandingLemmas.{ConsecutiveFrom-handed_over, ConsecutiveFrom-kept, first_unprocessed-rises}
-use Rattle.mar_actor.proofs.FloorSafety.{next_after-is}
-use Rattle.mar_block.specs.Block.{Block}
+use Rattle.mar_node.proofs.OutstandingLemmas.{ConsecutiveFrom-handed_over, ConsecutiveFrom-kept, first_unprocessed-rises}
+use Rattle.mar_node.proofs.FloorSafety.{next_after-is}
+use Rattle.mar_cert.specs.Block.{Block}
 use Rattle.mar_key.specs.Processed.{at_block, at_absent, height_in, first_unprocessed}
-use Rattle.mar_actor.specs.Chain.{Chain}
+use Rattle.mar_node.specs.Chain.{Chain}
 use Rattle.mar_store.specs.Kept.{At, has_height}
-use Rattle.mar_actor.specs.Config.{Config}
-use Rattle.mar_actor.specs.Node.{Node, write_count, Ended, ConsecutiveFrom}
-use Rattle.mar_parts.specs.Metadata.{Pair, pair_of}
-use Rattle.mar_actor.specs.Event.{Event, life_started, ack_given, ack_dropped, sync_finished, block_buffered, buffer_ended, Effect, effect_of, kept_blocks, processed_after}
-use Rattle.mar_actor.specs.Faults.{Begin, floor_of, next_after}
-use Rattle.mar_actor.specs.Step.{Made, Advances, AdvancesAll, with_sync, Steps}
-use Rattle.mar_actor.specs.Lives.{processed_at, Finds, Opens, NotBelow, OpeningPair, CutsOpening}
+use Rattle.mar_node.specs.Config.{Config}
+use Rattle.mar_node.specs.Node.{Node, write_count, Ended, ConsecutiveFrom}
+use Rattle.mar_node.specs.Metadata.{Pair, pair_of}
+use Rattle.mar_node.specs.Event.{Event, life_started, ack_given, ack_dropped, sync_finished, block_buffered, buffer_ended, Effect, effect_of, kept_blocks, processed_after}
+use Rattle.mar_node.specs.Faults.{Begin, floor_of, next_after}
+use Rattle.mar_node.specs.Step.{Made, Advances, AdvancesAll, with_sync, Steps}
+use Rattle.mar_node.specs.Lives.{processed_at, Finds, Opens, NotBelow, OpeningPair, CutsOpening}
 use Rattle.marshal.specs.Text.{State, running, stopped, Output, Done, Remark}
-use Rattle.mar_inbox.specs.Messages.{Message, close_ticket, Queued}
+use Rattle.mar_node.specs.Messages.{Message, close_ticket, Queued}
 use Rattle.mar_inbox.specs.Policy.{after_take}
 use Rattle.mar_key.specs.PeerQueue.{is_open, after_peer_take}
-use Rattle.mar_actor.specs.Judge.{serve_events, judged_of, in_turn}
+use Rattle.mar_node.specs.Judge.{serve_events, judged_of, in_turn}
 use Rattle.marshal.specs.Script.{Line, open_line, tell_line, peer_line, ask_line, serve_line, buffer_line, bufclose_line, put_line, take_line, sync_line, ack_line, drop_line, fail_line, crash_line}
 use Rattle.mar_key.specs.Asked.{Judged}
-use Rattle.mar_actor.specs.Answers.{TicketAnswer}
+use Rattle.mar_node.specs.Answers.{TicketAnswer}
 use Rattle.marshal.specs.Run.{takes_ticket, with_answer_ticket, told_events, with_ticket, queued_of, with_close, is_subscribed, produced_answers, refusal, StepDone, EventsDone, OneDone, OpenDone, TakeDone, TakenDone, closes_nothing, Acts, RunningDone, LineDone, Run}
 
 synced_processed : (k : ℕ) (n : Node) → (with_sync k n).processed ≡ n.processed

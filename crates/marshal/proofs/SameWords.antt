@@ -10,12 +10,12 @@ use Rattle.mar_block.specs.declared.EmptyBlock.{EmptyBlock}
 use Rattle.mar_key.specs.Asked.{Asked}
 use Rattle.mar_key.specs.Keys.{Call}
 use Rattle.mar_store.specs.Changes.{heights}
-use Rattle.mar_parts.specs.Metadata.{Pair, first_pair}
-use Rattle.mar_actor.specs.Node.{Ended}
+use Rattle.mar_node.specs.Metadata.{Pair, first_pair}
+use Rattle.mar_node.specs.Node.{Ended}
 use Rattle.mar_actor.specs.declared.Update.{Update}
 use Rattle.mar_key.specs.Cutoff.{Cutoff}
 use Rattle.mar_key.specs.Processed.{Processed}
-use Rattle.mar_parts.specs.Acks.{Outstanding}
+use Rattle.mar_node.specs.Acks.{Outstanding}
 use Rattle.mar_store.specs.Ranges.{Range, ranges}
 use Rattle.marshal.specs.Shown.{ended_shown_words, shown_words}
 use Rattle.marshal.specs.Text.{State, ask_words, cutoff_text, ended_words, fault_words, line_of, or_dash, output_text, pair_words, ranges_text, remark_words, report_words, some_words, state_words}

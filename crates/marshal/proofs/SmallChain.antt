@@ -1,10 +1,10 @@
 -- Blocks 0 and 1, a finalization of block 1, settings, and the chain of the two: what the instances are made of.
 use Rattle.std.proofs.Common.{ℕ, List, [], ◌∷◌, ◌++◌, replicate}
 use Rattle.mar_types.specs.Round.{Round}
-use Rattle.mar_block.specs.Block.{Block}
+use Rattle.mar_cert.specs.Block.{Block}
 use Rattle.mar_cert.specs.Finalization.{Finalization}
-use Rattle.mar_actor.specs.Chain.{Chain}
-use Rattle.mar_actor.specs.Config.{Config}
+use Rattle.mar_node.specs.Chain.{Chain}
+use Rattle.mar_node.specs.Config.{Config}
 use Rattle.marshal.specs.Script.{Settings, config_of}
 use Rattle.marshal.proofs.SmallDigests.{digest_0, digest_1}
 

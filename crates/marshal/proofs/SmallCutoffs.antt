@@ -1,11 +1,11 @@
 -- The small chain's cutoffs are safe.
 use Rattle.std.proofs.Common.{List, ℕ, ◌≤◌, Some, refl, subst, IsTrue, IsFalse, inl, lit<, lit≤}
-use Rattle.mar_block.specs.Block.{Block}
+use Rattle.mar_cert.specs.Block.{Block}
 use Rattle.mar_types.specs.Round.{Round}
 use Rattle.mar_key.specs.Cutoff.{at_round, covers, cutoff_zero}
-use Rattle.mar_actor.specs.Chain.{IsFinal, Finalizes}
+use Rattle.mar_node.specs.Chain.{IsFinal, Finalizes}
 use Rattle.mar_store.specs.Kept.{At}
-use Rattle.mar_actor.specs.Node.{FloorSafe}
+use Rattle.mar_node.specs.Node.{FloorSafe}
 use Rattle.marshal.proofs.SmallChain.{d1, r1, chain}
 use Rattle.marshal.proofs.SmallFacts.{final_round, final_height}
 

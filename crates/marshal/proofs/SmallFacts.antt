@@ -1,10 +1,10 @@
 -- Small facts for the instances.
 use Rattle.std.proofs.Common.{◌≡◌, ℕ, zero, suc, Bool, true, false, not, ◌&&◌, ◌||◌, List, [], ◌∷◌, ◌++◌, Some, None, is_some, Contains, refl, ap, arith, if◌then◌else◌}
 use Rattle.mar_types.specs.Round.{Round}
-use Rattle.mar_actor.specs.Chain.{IsFinal}
+use Rattle.mar_node.specs.Chain.{IsFinal}
 use Rattle.mar_store.proofs.Lookups.{value_at-append_found}
 use Rattle.mar_store.specs.Kept.{At, Kept}
-use Rattle.mar_actor.specs.Step.{KeepsFrom}
+use Rattle.mar_node.specs.Step.{KeepsFrom}
 use Rattle.marshal.proofs.SmallChain.{chain, r1}
 
 -- the one element

@@ -2,19 +2,19 @@
 use Rattle.std.proofs.Common.{◌-◌, ◌^◌, ◌≡◌, ℕ, List, [], ◌∷◌, ◌++◌, Some, None, refl, codes, replicate}
 use Rattle.std.specs.Fmt.{digits}
 use Rattle.hex.specs.Hex.{encode_with}
-use Rattle.mar_block.specs.Block.{Block}
+use Rattle.mar_cert.specs.Block.{Block}
 use Rattle.mar_key.specs.Cutoff.{at_epoch}
 use Rattle.mar_key.specs.Processed.{at_block, at_absent}
 use Rattle.mar_store.specs.Kept.{At}
 use Rattle.mar_key.specs.Keys.{block_key, finalized_key, notarized_key, finalized_by_height, finalized_by_round, untrusted_at, above_round, fetch, retain, key_bytes}
 use Rattle.mar_key.specs.Asked.{judged_invalid}
-use Rattle.mar_inbox.specs.Messages.{hint_finalized, get_info, of_height, subscribe_commitment, fetch_by_commitment}
-use Rattle.mar_actor.specs.Node.{Node}
-use Rattle.mar_parts.specs.Acks.{mark_waiting, mark_given, mark_dropped}
+use Rattle.mar_node.specs.Messages.{hint_finalized, get_info, of_height, subscribe_commitment, fetch_by_commitment}
+use Rattle.mar_node.specs.Node.{Node}
+use Rattle.mar_node.specs.Acks.{mark_waiting, mark_given, mark_dropped}
 use Rattle.mar_codec.specs.Varint.{varint, read_varint, read_varint_within, varint_within}
 use Rattle.mar_cert.specs.MockScheme.{read_signers, signers_of}
-use Rattle.mar_actor.specs.Faults.{meta_store}
-use Rattle.mar_actor.specs.Answers.{info_value, anchor_value, sync_value, to}
+use Rattle.mar_node.specs.Faults.{meta_store}
+use Rattle.mar_node.specs.Answers.{info_value, anchor_value, sync_value, to}
 use Rattle.marshal.specs.Script.{tell_line, peer_line, fail_line, line_bytes, settings_bytes, hex}
 use Rattle.marshal.specs.Text.{line_of, ask_words, answer_words, outcome_words, node_words}
 use Rattle.marshal.proofs.SmallChain.{d1, b1}

@@ -1,11 +1,11 @@
 -- Closed tickets, and the order of answers for one block.
 use Rattle.std.proofs.Common.{◌≡◌, ℕ, List, [], ◌∷◌, Some, true, false, refl, replicate}
 use Rattle.mar_types.specs.Round.{Round}
-use Rattle.mar_inbox.specs.Messages.{get_processed, close_ticket, verified}
-use Rattle.mar_actor.specs.Node.{digest_wanted, commitment_wanted, Subscription, Node}
-use Rattle.mar_actor.specs.Event.{message_told, buffer_ended, block_buffered, no_floor, applies_floor}
-use Rattle.mar_actor.specs.Cache.{lowest_after}
-use Rattle.mar_actor.specs.Answers.{answers_of, to, true_value, bytes_value, closed_value}
+use Rattle.mar_node.specs.Messages.{get_processed, close_ticket, verified}
+use Rattle.mar_node.specs.Node.{digest_wanted, commitment_wanted, Subscription, Node}
+use Rattle.mar_node.specs.Event.{message_told, buffer_ended, block_buffered, no_floor, applies_floor}
+use Rattle.mar_node.specs.Cache.{lowest_after}
+use Rattle.mar_node.specs.Answers.{answers_of, to, true_value, bytes_value, closed_value}
 use Rattle.marshal.specs.Run.{queued_of, with_ticket, with_close, told_events, closes_nothing}
 use Rattle.mar_inbox.specs.Policy.{after_enqueue, after_take}
 use Rattle.marshal.proofs.SmallChain.{b1, d1, config}

@@ -1,20 +1,20 @@
 -- Values of the definitions at small nodes, queues and epochs.
 use Rattle.std.proofs.Common.{true, ◌≡◌, ℕ, ◌+◌, ◌-◌, List, [], ◌∷◌, Some, None, refl, map, replicate, lit<, lit≤}
-use Rattle.mar_block.specs.Block.{Block}
+use Rattle.mar_cert.specs.Block.{Block}
 use Rattle.mar_cert.specs.Finalization.{Finalization}
 use Rattle.mar_key.specs.Cutoff.{at_round, at_epoch}
 use Rattle.mar_key.specs.Processed.{at_block, at_absent}
 use Rattle.mar_store.specs.Kept.{At, reopened_store}
 use Rattle.mar_key.specs.Keys.{block_key, finalized_by_round, above_height, above_round, fetch, retain}
-use Rattle.mar_inbox.specs.Messages.{Message, get_processed, set_floor, prune_below, hint_finalized, Queued, Inbox}
+use Rattle.mar_node.specs.Messages.{Message, get_processed, set_floor, prune_below, hint_finalized, Queued, Inbox}
 use Rattle.mar_types.specs.Epochs.{fixed_epochs, closed_epoch}
-use Rattle.mar_actor.specs.Config.{Config}
-use Rattle.mar_parts.specs.Acks.{mark_waiting, mark_given, mark_dropped, Outstanding}
-use Rattle.mar_actor.specs.Node.{Node, Rest, write_uncovered}
-use Rattle.mar_actor.specs.Event.{message_told, ack_given, block_buffered, Effect, no_floor, applies_floor, awaits_floor, effect_of, kept_blocks, processed_after, cutoff_after}
-use Rattle.mar_actor.specs.Cache.{lowest_after}
-use Rattle.mar_actor.specs.Faults.{dropped_ack, event_fault}
-use Rattle.mar_actor.specs.Requests.{own_asks}
+use Rattle.mar_node.specs.Config.{Config}
+use Rattle.mar_node.specs.Acks.{mark_waiting, mark_given, mark_dropped, Outstanding}
+use Rattle.mar_node.specs.Node.{Node, Rest, write_uncovered}
+use Rattle.mar_node.specs.Event.{message_told, ack_given, block_buffered, Effect, no_floor, applies_floor, awaits_floor, effect_of, kept_blocks, processed_after, cutoff_after}
+use Rattle.mar_node.specs.Cache.{lowest_after}
+use Rattle.mar_node.specs.Faults.{dropped_ack, event_fault}
+use Rattle.mar_node.specs.Requests.{own_asks}
 use Rattle.mar_inbox.specs.Policy.{Feedback, feedback_accepted, feedback_overflowed, feedback, after_enqueue, after_take, new_inbox}
 use Rattle.marshal.proofs.SmallChain.{config}
 use Rattle.marshal.proofs.DeliveryRun.{begun}

@@ -1,9 +1,9 @@
 -- The number of writes grows by exactly the heights that an event writes.
 use Rattle.std.proofs.Common.{◌≡◌, ℕ, ◌+◌, ◌-◌, ◌≤◌, max, List, ◌++◌, length, ap, ◌∙◌, arith}
 use Rattle.std.proofs.lemmas.List.{length-append, length-drop}
-use Rattle.mar_actor.specs.Node.{Node, write_count}
-use Rattle.mar_actor.specs.Event.{Event, Effect, storing_of, own_writes}
-use Rattle.mar_actor.specs.Step.{Writes, finished_position}
+use Rattle.mar_node.specs.Node.{Node, write_count}
+use Rattle.mar_node.specs.Event.{Event, Effect, storing_of, own_writes}
+use Rattle.mar_node.specs.Step.{Writes, finished_position}
 
 counts : (c c' u : ℕ) → c ≤ c' → c' ≤ c + u → c' + (u - (c' - c)) ≡ c + u
 counts c c' u low high = omega arith

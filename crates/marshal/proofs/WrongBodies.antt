@@ -1,21 +1,21 @@
 -- Bodies that the definitions refuse: from a step, a cut, an opening or a node that such a body would give follows nothing but a contradiction.
 use Rattle.std.proofs.Common.{◌≡◌, ℕ, ◌≤◌, ◌+◌, List, [], ◌∷◌, ◌++◌, Option, Some, None, refl, sym, ◌∙◌, ap, subst, IsTrue, inl, inr, ◌⊎◌, Bool, true, false, ◌&&◌, nat_lt, lit<, lit≤, arith, length, option_map, is_some, if◌then◌else◌}
 use Rattle.std.specs.List.{AllByRecursion}
-use Rattle.mar_block.specs.Block.{Block}
+use Rattle.mar_cert.specs.Block.{Block}
 use Rattle.mar_key.specs.Processed.{Processed, at_absent, height_of, first_unprocessed, at_block}
 use Rattle.mar_key.specs.Cutoff.{at_round, at_epoch, Cutoff, cutoff_zero}
 use Rattle.mar_store.specs.Kept.{At, has_height, value_at}
-use Rattle.mar_actor.specs.Node.{Awaited, OpenSync, Node, write_count, Ended, FloorSafe, Rest, floor_awaited, window_full, block_missing, write_uncovered, ConsecutiveFrom, AreBlocksOf, IsGood}
-use Rattle.mar_parts.specs.Metadata.{Pair}
-use Rattle.mar_parts.specs.Acks.{mark_waiting}
-use Rattle.mar_actor.specs.Event.{Answer, processed_after, brought_effect, life_started, message_told, ack_given, sync_finished, block_buffered}
-use Rattle.mar_actor.specs.Faults.{Fault, from_genesis}
+use Rattle.mar_node.specs.Node.{Awaited, OpenSync, Node, write_count, Ended, FloorSafe, Rest, floor_awaited, window_full, block_missing, write_uncovered, ConsecutiveFrom, AreBlocksOf, IsGood}
+use Rattle.mar_node.specs.Metadata.{Pair}
+use Rattle.mar_node.specs.Acks.{mark_waiting}
+use Rattle.mar_node.specs.Event.{Answer, processed_after, brought_effect, life_started, message_told, ack_given, sync_finished, block_buffered}
+use Rattle.mar_node.specs.Faults.{Fault, from_genesis}
 use Rattle.mar_key.specs.Keys.{Key, Annotation}
 use Rattle.mar_key.specs.Asked.{judged_invalid}
-use Rattle.mar_actor.specs.Judge.{Completes, Judges}
-use Rattle.mar_inbox.specs.Messages.{report_finalization}
-use Rattle.mar_actor.specs.Step.{Report, Made, nothing_made, handed_over, new_tip, Advances, Steps, with_sync}
-use Rattle.mar_actor.specs.Lives.{CutsEvent, BackedBy, processed_at, Opens, IsGoodEnded}
+use Rattle.mar_node.specs.Judge.{Completes, Judges}
+use Rattle.mar_node.specs.Messages.{report_finalization}
+use Rattle.mar_node.specs.Step.{Report, Made, nothing_made, handed_over, new_tip, Advances, Steps, with_sync}
+use Rattle.mar_node.specs.Lives.{CutsEvent, BackedBy, processed_at, Opens, IsGoodEnded}
 use Rattle.marshal.specs.Text.{running}
 use Rattle.marshal.specs.Run.{empty_stores, HandsBack}
 use Rattle.marshal.proofs.SmallFacts.{only}

@@ -1,21 +1,21 @@
 -- More bodies that the definitions refuse: they store, cache, ask, sync or leave the wrong thing.
 use Rattle.std.proofs.Common.{◌≡◌, ℕ, ◌<◌, ◌≤◌, max, List, [], ◌∷◌, Option, Some, None, refl, sym, ◌∙◌, ap, subst, IsSome, IsTrue, Contains, lit<, ◌⊎◌, inl, inr, false, true, ◌&&◌, nat_lt, lit≤, arith}
 use Rattle.std.specs.List.{AllByRecursion}
-use Rattle.mar_block.specs.Block.{Block}
+use Rattle.mar_cert.specs.Block.{Block}
 use Rattle.mar_cert.specs.Finalization.{Finalization}
 use Rattle.mar_key.specs.Processed.{Processed, height_of}
 use Rattle.mar_store.specs.Kept.{At, has_height, value_at}
 use Rattle.mar_key.specs.Keys.{finalized_key, finalized_by_height, above_height, Call, fetch, retain}
-use Rattle.mar_inbox.specs.Messages.{report_finalization, set_floor, verified}
-use Rattle.mar_parts.specs.Metadata.{Pair}
-use Rattle.mar_actor.specs.Node.{Node, Ended, left_by, IsGood}
-use Rattle.mar_actor.specs.Event.{Event, Effect, no_floor, message_told, ack_dropped, peer_answered, gave_nothing, block_buffered}
-use Rattle.mar_shelf.specs.Cached.{epoch_of, verified_entry}
-use Rattle.mar_actor.specs.Cache.{AdvancesCache, entries_with_puts, is_pruned}
-use Rattle.mar_actor.specs.Faults.{dropped_ack, floor_invalid}
-use Rattle.mar_actor.specs.Requests.{Repaired, Passes}
-use Rattle.mar_actor.specs.Step.{Report, Made, nothing_made, handed_over, Advances}
-use Rattle.mar_actor.specs.Lives.{CutsEvent}
+use Rattle.mar_node.specs.Messages.{report_finalization, set_floor, verified}
+use Rattle.mar_node.specs.Metadata.{Pair}
+use Rattle.mar_node.specs.Node.{Node, Ended, left_by, IsGood}
+use Rattle.mar_node.specs.Event.{Event, Effect, no_floor, message_told, ack_dropped, peer_answered, gave_nothing, block_buffered}
+use Rattle.mar_node.specs.Cached.{epoch_of, verified_entry}
+use Rattle.mar_node.specs.Cache.{AdvancesCache, entries_with_puts, is_pruned}
+use Rattle.mar_node.specs.Faults.{dropped_ack, floor_invalid}
+use Rattle.mar_node.specs.Requests.{Repaired, Passes}
+use Rattle.mar_node.specs.Step.{Report, Made, nothing_made, handed_over, Advances}
+use Rattle.mar_node.specs.Lives.{CutsEvent}
 use Rattle.marshal.proofs.SmallChain.{b0, b1, d1, f1, r1, chain, config}
 use Rattle.marshal.proofs.DeliveryRun.{begun, n0, n1, n3, n4}
 use Rattle.marshal.proofs.SmallFacts.{none_in}

@@ -2,13 +2,13 @@
 use Rattle.std.specs.List.{AllByRecursion}
 use Rattle.std.specs.Prelude.{List, [], map, ℕ, ◌∷◌, ◌≡◌, ◌≤◌}
 use Rattle.mar_key.specs.Processed.{first_unprocessed}
-use Rattle.mar_actor.specs.Chain.{Chain, IsBlockAt}
-use Rattle.mar_actor.specs.Config.{Config}
-use Rattle.mar_actor.specs.Node.{ConsecutiveFrom}
-use Rattle.mar_parts.specs.Metadata.{pair_of}
-use Rattle.mar_actor.specs.Faults.{next_after}
-use Rattle.mar_actor.specs.Step.{Report, handed_blocks}
-use Rattle.mar_actor.specs.Node.{Ended}
+use Rattle.mar_node.specs.Chain.{Chain, IsBlockAt}
+use Rattle.mar_node.specs.Config.{Config}
+use Rattle.mar_node.specs.Node.{ConsecutiveFrom}
+use Rattle.mar_node.specs.Metadata.{pair_of}
+use Rattle.mar_node.specs.Faults.{next_after}
+use Rattle.mar_node.specs.Step.{Report, handed_blocks}
+use Rattle.mar_node.specs.Node.{Ended}
 use Rattle.marshal.specs.Script.{Line, Settings, config_of, script_bytes}
 use Rattle.marshal.specs.Text.{Done, State, running, stopped, text}
 use Rattle.marshal.specs.Run.{Headline, Premises, Run, empty_stores, read_to_end}

@@ -1,9 +1,9 @@
 -- How far a script is read, and which line is the first outside the grammar.
 use Rattle.std.specs.Prelude.{Err, IfSome, if◌then◌else◌, List, nat_lt, None, Ok, Option, Result, Some, [], ℕ, ⊤, ◌++◌, ◌≡◌, ◌≤◌}
 use Rattle.mar_codec.specs.Causes.{Rose}
-use Rattle.mar_actor.specs.Faults.{StoreName}
-use Rattle.mar_actor.specs.Held.{Counts, Remains, count_of}
-use Rattle.mar_actor.specs.Node.{Ended}
+use Rattle.mar_node.specs.Faults.{StoreName}
+use Rattle.mar_node.specs.Held.{Counts, Remains, count_of}
+use Rattle.mar_node.specs.Node.{Ended}
 use Rattle.marshal.specs.Lines.{plain_line}
 use Rattle.marshal.specs.Refused.{max_lines}
 use Rattle.marshal.specs.Run.{HeadlineWhereTold, IsConfigBytes, IsLineBytes, IsShownAs, ReadsLines, Status, StopsAt, out_of_memory, outside_grammar, read_failed, read_to_end, write_failed}

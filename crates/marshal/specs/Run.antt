@@ -1,30 +1,30 @@
 -- What each script line does, runs of lines, and the headline.
 use Rattle.std.specs.List.{AllByRecursion, flat_map, list_any}
 use Rattle.std.specs.Prelude.{Any, Bool, Contains, IfSome, IsFalse, IsTrue, List, None, Option, Some, [], bytes_eq, false, filter, if◌then◌else◌, length, map, not, true, ℕ, ⊤, ◌&&◌, ◌++◌, ◌+◌, ◌<◌, ◌==◌, ◌||◌, ◌∷◌, ◌≡◌, ◌⊎◌}
-use Rattle.mar_block.specs.Block.{Block, IsBlock}
+use Rattle.mar_cert.specs.Block.{Block, IsBlock}
 use Rattle.mar_cert.specs.Finalization.{Finalization, finalization_bytes}
 use Rattle.mar_key.specs.Cutoff.{covers, cutoff_zero}
 use Rattle.mar_types.specs.Epochs.{IsPartition}
-use Rattle.mar_actor.specs.Chain.{Chain, IsBlockAt, IsLawful}
+use Rattle.mar_node.specs.Chain.{Chain, IsBlockAt, IsLawful}
 use Rattle.mar_store.specs.Kept.{At, has_height}
 use Rattle.mar_key.specs.Keys.{Annotation}
 use Rattle.mar_key.specs.Asked.{Judged, annotations_of, asked_after}
-use Rattle.mar_inbox.specs.Messages.{Message, Queued, certify, close_ticket, get_anchor, get_block, get_finalization, get_info, get_processed, get_verified, prepared, proposed, report_finalization, set_floor, subscribe_commitment, subscribe_digest, verified}
+use Rattle.mar_node.specs.Messages.{Message, Queued, certify, close_ticket, get_anchor, get_block, get_finalization, get_info, get_processed, get_verified, prepared, proposed, report_finalization, set_floor, subscribe_commitment, subscribe_digest, verified}
 use Rattle.mar_key.specs.PeerQueue.{PeerMessage, after_peer_close, after_peer_enqueue, after_peer_take, deliver, is_open, peer_room, produce}
-use Rattle.mar_actor.specs.Config.{Config}
-use Rattle.mar_parts.specs.Acks.{is_unmarked}
-use Rattle.mar_actor.specs.Node.{Awaited, Ended, IsFinalized, Node, left_by}
-use Rattle.mar_actor.specs.Event.{Event, ack_dropped, ack_given, block_buffered, buffer_ended, message_told, sync_finished}
+use Rattle.mar_node.specs.Config.{Config}
+use Rattle.mar_node.specs.Acks.{is_unmarked}
+use Rattle.mar_node.specs.Node.{Awaited, Ended, IsFinalized, Node, left_by}
+use Rattle.mar_node.specs.Event.{Event, ack_dropped, ack_given, block_buffered, buffer_ended, message_told, sync_finished}
 use Rattle.mar_cert.specs.MockScheme.{IsFinalization}
-use Rattle.mar_actor.specs.Faults.{Begin, Fault, from_floor, from_genesis, want_of_memory}
-use Rattle.mar_actor.specs.Answers.{TicketAnswer, is_wanted, no_value, produced_value, to}
-use Rattle.mar_actor.specs.Step.{Made, Steps, nothing_made}
-use Rattle.mar_actor.specs.Lives.{Cuts, CutsOpening, Finds, IsGoodEnded, Opens}
+use Rattle.mar_node.specs.Faults.{Begin, Fault, from_floor, from_genesis, want_of_memory}
+use Rattle.mar_node.specs.Answers.{TicketAnswer, is_wanted, no_value, produced_value, to}
+use Rattle.mar_node.specs.Step.{Made, Steps, nothing_made}
+use Rattle.mar_node.specs.Lives.{Cuts, CutsOpening, Finds, IsGoodEnded, Opens}
 use Rattle.marshal.specs.Refused.{IsRefused, IsUnended, max_lines}
 use Rattle.marshal.specs.Script.{IsLine, IsSettings, Line, Settings, ack_line, ask_line, bufclose_line, buffer_line, config_of, crash_line, drop_line, fail_line, line_bytes, open_line, peer_line, put_line, script_bytes, serve_line, settings_bytes, sync_line, take_line, tell_line}
 use Rattle.marshal.specs.Text.{Done, Output, Remark, State, remark_empty, remark_ignored, remark_ok, remark_output, remark_overflowed, remark_running, remark_stopped, remark_unasked, running, silent_output, stopped, text}
 use Rattle.mar_inbox.specs.Policy.{Feedback, after_enqueue, after_take, drops_closed, feedback, feedback_accepted, feedback_overflowed, feedback_refused}
-use Rattle.mar_actor.specs.Judge.{Delivery, Reads, in_turn, judged_of, serve_events}
+use Rattle.mar_node.specs.Judge.{Delivery, Reads, in_turn, judged_of, serve_events}
 use Rattle.marshal.specs.declared.status.Why.{Why}
 
 -- LINES
@@ -332,12 +332,14 @@ empty_stores = record {
   meta = record { processed = None; cutoff = cutoff_zero } ∷ [];
 }
 
--- What the headline asks: a partition into epochs, a lawful chain, a lawful script on it, and stores that are empty at first.
+-- What the headline asks: a partition into epochs, a lawful chain, a lawful script on it, and stores that are good for the chain, as an
+-- earlier run hands them back; those in which nothing was ever put are.
 pub record Premises (config : Config) (chain : Chain) (lines : List Line) (before : Ended) : Type 0 where
   pub partition : IsPartition config.epochs
   pub lawful : IsLawful config.epochs chain
   pub script : IsLawfulScript config chain lines
-  pub before_is : before ≡ empty_stores
+  pub good : IsGoodEnded chain before
+  pub some_pair : 0 < length before.meta
 
 -- COMPLETENESS
 

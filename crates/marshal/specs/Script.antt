@@ -3,16 +3,16 @@ use Rattle.std.specs.List.{AllByRecursion, flat_map, join_with_byte}
 use Rattle.std.specs.Prelude.{AllPairs, List, [], codes, decimal, length, map, nat_le, ℕ, ⊤, ◌&&◌, ◌++◌, ◌-◌, ◌<◌, ◌^◌, ◌∷◌, ◌≢◌, ◌≤◌}
 use Rattle.hex.specs.Hex.{encode_lower}
 use Rattle.mar_types.specs.Round.{IsRound}
-use Rattle.mar_block.specs.Block.{Block, IsBlock}
+use Rattle.mar_cert.specs.Block.{Block, IsBlock}
 use Rattle.mar_cert.specs.Finalization.{finalization_bytes, finalize, notarize}
 use Rattle.mar_types.specs.Epochs.{fixed_epochs}
 use Rattle.mar_key.specs.Keys.{IsKey, Key, key_bytes}
-use Rattle.mar_inbox.specs.Messages.{Fallback, Identifier, Message, Peers, all_peers, certify, close_ticket, fetch_by_commitment, fetch_by_round, forward, get_anchor, get_block, get_finalization, get_info, get_processed, get_verified, hint_finalized, hint_notarized, latest, of_digest, of_height, prepared, proposed, prune_below, report_certification, report_finalization, report_notarization, set_floor, some_peers, subscribe_commitment, subscribe_digest, verified, wait}
-use Rattle.mar_actor.specs.Config.{Config}
+use Rattle.mar_node.specs.Messages.{Fallback, Identifier, Message, Peers, all_peers, certify, close_ticket, fetch_by_commitment, fetch_by_round, forward, get_anchor, get_block, get_finalization, get_info, get_processed, get_verified, hint_finalized, hint_notarized, latest, of_digest, of_height, prepared, proposed, prune_below, report_certification, report_finalization, report_notarization, set_floor, some_peers, subscribe_commitment, subscribe_digest, verified, wait}
+use Rattle.mar_node.specs.Config.{Config}
 use Rattle.mar_codec.specs.Varint.{IsNumber}
 use Rattle.mar_codec.specs.Digest.{IsByte, IsDigest}
 use Rattle.mar_cert.specs.MockScheme.{IsFinalization, mock_verifies}
-use Rattle.mar_actor.specs.Faults.{Begin, StoreName, block_store, cache_store, cert_store, from_floor, from_genesis, meta_store}
+use Rattle.mar_node.specs.Faults.{Begin, StoreName, block_store, cache_store, cert_store, from_floor, from_genesis, meta_store}
 
 -- the first line
 pub record Settings : Type 0 where
@@ -232,6 +232,8 @@ IsBuilt (tell_line m) = IsBuiltMessage m
 IsBuilt (buffer_line b) = ⊤
 IsBuilt (sync_line t) = ⊤
 IsBuilt (ack_line t) = ⊤
+IsBuilt (fail_line store k) = ⊤
+IsBuilt (crash_line luck) = ⊤
 IsBuilt _ = ⊥
 
 -- at most 65,536 bytes without the LF

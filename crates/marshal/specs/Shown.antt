@@ -2,7 +2,7 @@
 use Rattle.std.specs.Prelude.{List, Option, [], codes, decimal, map, option_map, ℕ, ◌++◌, ◌∷◌}
 use Rattle.mar_key.specs.Cutoff.{Cutoff}
 use Rattle.mar_key.specs.Processed.{Processed}
-use Rattle.mar_parts.specs.Acks.{Outstanding}
+use Rattle.mar_node.specs.Acks.{Outstanding}
 use Rattle.mar_store.specs.Ranges.{Range}
 use Rattle.marshal.specs.Text.{Remark, comma_list, cutoff_text, or_dash, outstanding_text, processed_text, range_text, remark_ignored, remark_running, remark_stopped}
 use Rattle.marshal.specs.declared.text.RemarkShown.{RemarkShown}

@@ -2,15 +2,16 @@
 use Rattle.std.specs.Prelude.{List, None, Option, Some, []}
 use Rattle.mar_codec.specs.declared.Sha256.{Sha256}
 use Rattle.mar_codec.specs.declared.Sha256Digest.{Sha256Digest}
-use Rattle.mar_block.specs.Block.{Block}
+use Rattle.mar_cert.specs.Block.{Block}
 use Rattle.mar_block.specs.declared.EmptyBlock.{EmptyBlock}
 use Rattle.mar_key.specs.Asked.{Asked}
 use Rattle.mar_key.specs.Keys.{Call}
-use Rattle.mar_actor.specs.Faults.{Fault}
-use Rattle.mar_actor.specs.Held.{Remains, remains_of}
-use Rattle.mar_actor.specs.Promise.{made_of, node_of}
-use Rattle.mar_actor.specs.Step.{Report}
+use Rattle.mar_node.specs.Faults.{Fault}
+use Rattle.mar_node.specs.Held.{Remains, remains_of}
+use Rattle.mar_node.specs.Promise.{made_of, node_of}
+use Rattle.mar_node.specs.Step.{Report}
 use Rattle.mar_actor.specs.Views.{fault_of, report_of}
+use Rattle.mar_actor.specs.declared.Fault.{Fault as FaultCode}
 use Rattle.mar_actor.specs.declared.Update.{Update}
 use Rattle.marshal.specs.Lines.{plain_block}
 use Rattle.marshal.specs.Shown.{remark_of}
@@ -20,6 +21,9 @@ use Rattle.marshal.specs.declared.play.Outcome.TheVariants as outcome
 use Rattle.marshal.specs.declared.play.State.{State as StateCode}
 use Rattle.marshal.specs.declared.play.State.TheVariants as state
 use Rattle.std.specs.Prelude.{ℕ}
+
+abbrev pub plain_fault : FaultCode Sha256Digest → Fault
+plain_fault fault = fault_of (λ digest. digest.bytes) fault
 
 abbrev pub plain_report : Update Sha256Digest (EmptyBlock Sha256 Sha256Digest) → Report
 plain_report update = report_of (λ digest. digest.bytes) plain_block update
@@ -35,7 +39,7 @@ remark_in (outcome.Fault fault) = None
 abbrev pub fault_in : Outcome → Option Fault
 fault_in outcome.Done = None
 fault_in (outcome.Remark remark) = None
-fault_in (outcome.Fault fault) = Some (fault_of fault)
+fault_in (outcome.Fault fault) = Some (plain_fault fault)
 
 -- what a line writes of, but for the node
 abbrev pub output_of : List Report → List Call → Outcome → Output
@@ -44,9 +48,9 @@ output_of reports asks outcome = record { made = made_of reports asks; outcomes 
 -- the program's state as plain data, where these requests are open
 abbrev pub state_of : {FB FC M H FBW FCW MW HW : Type 0} → List Asked → StateCode FB FC M H FBW FCW MW HW → State
 state_of asked (state.Running seen buffer) = running (node_of seen buffer.blocks asked)
-state_of asked (state.Stopped left) = stopped left.ended
+state_of asked (state.Stopped left luck) = stopped left.ended
 
 -- what is left of its stores
 abbrev pub remains_in : {FB FC M H FBW FCW MW HW : Type 0} → StateCode FB FC M H FBW FCW MW HW → Remains
 remains_in (state.Running seen buffer) = remains_of seen.held
-remains_in (state.Stopped left) = left
+remains_in (state.Stopped left luck) = left

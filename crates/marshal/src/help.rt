@@ -18,6 +18,15 @@ commands:
   --help          writes this text
   --version       writes the version
 
+the lines of a script behind its settings, `config` and eight numbers:
+  open genesis HEX    begins a life from this block at height zero
+  buffer HEX          a block arrives
+  final HEX           consensus reports a finalization
+  ack T               the application acknowledges the block of ticket T
+  sync T              a sync finishes
+  fail STORE N        the Nth call of this store from here on fails: blocks, certs, meta or cache
+  crash N             ends the life; of what a crash may leave, the next opening finds what N picks
+
 exit status: 0 the input was read to its end, 1 out of memory, 2 usage, 3 a line is outside the grammar,
 4 standard input failed, 5 standard output failed
 ";

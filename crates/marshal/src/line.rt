@@ -1,15 +1,17 @@
 //! The lines of a script behind the first.
-ghost use Rattle.std.specs.Prelude.{◌≡◌, ◌++◌, ◌∷◌, ℕ, None, IfOk, IfSome, codes};
-ghost use Rattle.mar_block.specs.Block.{Block as PlainBlock, IsBlock};
+ghost use Rattle.std.specs.Prelude.{◌≡◌, ◌++◌, ◌∷◌, ℕ, IfOk, codes};
+ghost use Rattle.mar_cert.specs.Block.{Block as PlainBlock, IsBlock};
 ghost use Rattle.mar_cert.specs.Finalization.{Finalization as PlainFinalization, finalization_bytes};
 ghost use Rattle.mar_cert.specs.MockScheme.{IsFinalization};
 ghost use Rattle.mar_codec.specs.declared.Sha256Digest.{Sha256Digest};
-ghost use Rattle.marshal.specs.Lines.{Spells, plain_block, plain_finalization, plain_line};
+ghost use Rattle.mar_actor.specs.Views.{store_name_of};
+ghost use Rattle.marshal.specs.Lines.{IsFailing, Spells, fail_words, plain_block, plain_finalization, plain_line};
 ghost use Rattle.marshal.specs.Script.{IsSettings, Line as PlainLine, hex};
 ghost use Rattle.marshal.specs.Words.{Yields};
 
 use crate::settings::Settings;
 use crate::words::{ParseError, after, bytes_of, number};
+use mar_actor::StoreName;
 use mar_block::EmptyBlock;
 use mar_cert::MockFinalization;
 use mar_codec::{Decode, Error, Sha256};
@@ -28,22 +30,10 @@ pub enum Line {
     Sync(u64),
     /// The block of this ticket is acknowledged.
     Ack(u64),
-}
-
-impl Line {
-    /// The block that the line opens a life from.
-    pub fn into_genesis(self) -> Option<EmptyBlock<Sha256>>
-        ensures found { IfSome result (λ b. self ≡ Line.OpenGenesis b) }
-        ensures none { result ≡ None → (b : EmptyBlock Sha256 Sha256Digest) → self ≡ Line.OpenGenesis b → ⊥ }
-    {
-        match self {
-            Line::OpenGenesis(genesis) => Some(genesis),
-            Line::Buffer(_block) => None,
-            Line::Final(_finalization) => None,
-            Line::Sync(_ticket) => None,
-            Line::Ack(_ticket) => None,
-        }
-    }
+    /// The counted call of this store fails that is so many calls away, 1 being the next.
+    Fail(StoreName, u64),
+    /// The life ends at once, and the next opening has this luck.
+    Crash(u64),
 }
 
 /// The line that these bytes spell, without its end.
@@ -66,6 +56,29 @@ pub fn parse_line(alloc: Global, settings: Settings, line: &[u8]) -> Result<Line
     }
     if let Some(word) = after(line, b"ack") {
         return ack(alloc, word);
+    }
+    parse_failing(alloc, line)
+}
+
+// The same of the lines that make a store fail or end a life.
+fn parse_failing(alloc: Global, line: &[u8]) -> Result<Line, ParseError>
+    ensures found { (n : ℕ) → IfOk result (λ l. Spells n line.now (plain_line l)) }
+    ensures only { (n : ℕ) (l : PlainLine) → Spells n line.now l → IsFailing l → Yields (λ found. plain_line found ≡ l) result }
+{
+    if let Some(word) = after(line, b"fail blocks") {
+        return fail(alloc, StoreName::Blocks, word);
+    }
+    if let Some(word) = after(line, b"fail certs") {
+        return fail(alloc, StoreName::Certs, word);
+    }
+    if let Some(word) = after(line, b"fail meta") {
+        return fail(alloc, StoreName::Meta, word);
+    }
+    if let Some(word) = after(line, b"fail cache") {
+        return fail(alloc, StoreName::Cache, word);
+    }
+    if let Some(word) = after(line, b"crash") {
+        return crash(alloc, word);
     }
     Err(ParseError::Grammar)
 }
@@ -121,6 +134,33 @@ fn ack(alloc: Global, word: &[u8]) -> Result<Line, ParseError>
 {
     match number(alloc, word) {
         Ok(ticket) => Ok(Line::Ack(ticket)),
+        Err(error) => Err(error),
+    }
+}
+
+// The line `fail` of this store with this word.
+fn fail(alloc: Global, store: StoreName, word: &[u8]) -> Result<Line, ParseError>
+    ensures found { (n : ℕ) → IfOk result (λ l. Spells n (fail_words (store_name_of store) ++ 32 ∷ word.now) (plain_line l)) }
+    ensures only { (n : ℕ) (l : PlainLine) → Spells n (fail_words (store_name_of store) ++ 32 ∷ word.now) l → IsFailing l → Yields (λ found. plain_line found ≡ l) result }
+{
+    match number(alloc, word) {
+        Ok(calls) => {
+            if calls == 0 {
+                return Err(ParseError::Grammar);
+            }
+            Ok(Line::Fail(store, calls))
+        }
+        Err(error) => Err(error),
+    }
+}
+
+// The line `crash` with this word.
+fn crash(alloc: Global, word: &[u8]) -> Result<Line, ParseError>
+    ensures found { (n : ℕ) → IfOk result (λ l. Spells n (codes "crash" ++ 32 ∷ word.now) (plain_line l)) }
+    ensures only { (n : ℕ) (l : PlainLine) → Spells n (codes "crash" ++ 32 ∷ word.now) l → IsFailing l → Yields (λ found. plain_line found ≡ l) result }
+{
+    match number(alloc, word) {
+        Ok(luck) => Ok(Line::Crash(luck)),
         Err(error) => Err(error),
     }
 }

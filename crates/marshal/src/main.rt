@@ -29,20 +29,22 @@ use crate::status::Status;
 use mar_actor::Ruins;
 use mar_block::StandardBlocks;
 use mar_cert::MockFinalization;
-use mar_shelf::{Blocks, Certificates, ListBlocks, ListCertificates, NoShelf, Shelf};
-use mar_store::{MemMeta, Meta};
+use mar_shelf::prunable::Archive;
+use mar_shelf::{BlockItem, Blocks, CertificateItem, Certificates, NoShelf, Shelf};
+use mar_store::{LuckHalf, MemArchive, MemMeta, Meta};
 use std::alloc::Global;
 use std::process::ExitCode;
 use std::rt::Env;
 use std::{env, io};
 
+/// Blocks in memory.
+type BlockStore = Archive<MemArchive<BlockItem<StandardBlocks>>>;
+
+/// Certificates in memory.
+type CertificateStore = Archive<MemArchive<CertificateItem<StandardBlocks, MockFinalization>>>;
+
 /// What is left of stores in memory.
-type MemoryStores = Stores<
-    ListBlocks<StandardBlocks>,
-    ListCertificates<StandardBlocks, MockFinalization>,
-    MemMeta,
-    NoShelf,
->;
+type MemoryStores = Stores<BlockStore, CertificateStore, MemMeta, NoShelf>;
 
 /// The words of the command line behind the program's name.
 fn words_of(rt: &(impl Env + AllocGlobal)) -> io::Result<Vec<String>> {
@@ -68,8 +70,8 @@ fn run_words(rt: &(impl AllocGlobal + Input + Print), words: &[String]) -> Statu
 /// Stores in memory that hold nothing.
 fn empty_stores(alloc: Global) -> MemoryStores {
     Ruins {
-        blocks: ListBlocks::new(alloc).wreck(),
-        certs: ListCertificates::new(alloc).wreck(),
+        blocks: Blocks::wreck(BlockStore::new(MemArchive::new(alloc, LuckHalf::Low))),
+        certs: Certificates::wreck(CertificateStore::new(MemArchive::new(alloc, LuckHalf::High))),
         meta: MemMeta::new(alloc).wreck(),
         shelf: NoShelf.wreck(),
     }

@@ -1,22 +1,23 @@
 //! What one line of a script makes of a node.
-ghost use Rattle.std.specs.Prelude.{◌≡◌, ◌↔◌, [], IsTrue, Some, map};
-ghost use Rattle.mar_inbox.specs.Messages.{report_finalization};
-ghost use Rattle.mar_actor.specs.Config.{Config as PlainConfig};
-ghost use Rattle.mar_actor.specs.Faults.{from_genesis, want_of_memory};
-ghost use Rattle.mar_actor.specs.Views.{begin_of, event_of, fault_of, sizes_of};
+ghost use Rattle.std.specs.Prelude.{◌≡◌, ◌↔◌, [], IsTrue, Ok, Some, map};
+ghost use Rattle.mar_node.specs.Messages.{report_finalization};
+ghost use Rattle.mar_node.specs.Config.{Config as PlainConfig};
+ghost use Rattle.mar_node.specs.Faults.{from_genesis, want_of_memory};
+ghost use Rattle.mar_node.specs.Held.{remains_of};
+ghost use Rattle.mar_actor.specs.Views.{begin_of, event_of, sizes_of, store_name_of};
 ghost use Rattle.marshal.specs.Lines.{plain_block, plain_finalization, plain_line};
 ghost use Rattle.marshal.specs.Playing.{PlaysLine, PlaysOrNot, TakesEvent};
-ghost use Rattle.marshal.specs.Script.{IsSettings, ack_line, buffer_line, config_of, open_line, tell_line};
-ghost use Rattle.marshal.specs.Turn.{fault_in, output_of, plain_report};
+ghost use Rattle.marshal.specs.Script.{IsSettings, ack_line, buffer_line, config_of, fail_line, open_line, tell_line};
+ghost use Rattle.marshal.specs.Turn.{fault_in, output_of, plain_fault, plain_report};
 
 use crate::heard::Heard;
 use crate::line::Line;
 use crate::settings::Settings;
 use crate::text::RemarkShown;
-use mar_actor::{Actor, Config, Ended, Event, Fault, Limits, Ruins, Start};
+use mar_actor::{Actor, Config, Ended, Event, Fault, Limits, Ruins, Start, StoreName};
 use mar_block::{EmptyBlock, MemBuffer, StandardBlocks};
 use mar_cert::{MockFinalization, MockProvider, MockScheme};
-use mar_codec::{Digested, Sha256};
+use mar_codec::{Digested, Sha256, Sha256Digest};
 use mar_inbox::Message;
 use mar_shelf::{Blocks, Certificates, Shelf};
 use mar_store::Meta;
@@ -39,7 +40,8 @@ pub type Node<FB, FC, M, H> = Actor<
 /// What is left of a node's stores.
 pub type Stores<FB, FC, M, H> = Ruins<StandardBlocks, MockFinalization, FB, FC, M, H>;
 
-/// A node while a life runs, with the blocks that its buffer has; else what is left of its stores.
+/// A node while a life runs, with the blocks that its buffer has; else what is left of its stores, and the luck of the
+/// next opening.
 #[derive(Drop)]
 pub enum State<
     FB: Blocks<StandardBlocks>,
@@ -48,7 +50,7 @@ pub enum State<
     H: Shelf,
 > {
     Running(Node<FB, FC, M, H>, MemBuffer<StandardBlocks>),
-    Stopped(Stores<FB, FC, M, H>),
+    Stopped(Stores<FB, FC, M, H>, u64),
 }
 
 /// What a line did, beside what the node told and asked.
@@ -59,7 +61,7 @@ pub enum Outcome {
     /// The line did nothing, for this reason.
     Remark(RemarkShown),
     /// The life ended.
-    Fault(Fault),
+    Fault(Fault<Sha256Digest>),
 }
 
 impl Outcome {
@@ -94,7 +96,7 @@ pub fn play<
 {
     match state {
         State::Running(actor, buffer) => play_running(alloc, actor, buffer, line, heard),
-        State::Stopped(stores) => play_stopped(alloc, settings, stores, line, heard),
+        State::Stopped(stores, luck) => play_stopped(alloc, settings, stores, luck, line, heard),
     }
 }
 
@@ -108,21 +110,59 @@ fn play_stopped<
     alloc: Global,
     settings: Settings,
     stores: Stores<FB, FC, M, H>,
+    luck: u64,
     line: Line,
     heard: &mut Heard,
 ) -> (State<FB, FC, M, H>, Result<Outcome, AllocError>)
     requires settings { IsSettings settings }
     requires silent { heard.old.told.updates.items ≡ [] }
     requires unasked { heard.old.asked.asks ≡ [] }
-    ensures { PlaysOrNot (config_of settings) (State.Stopped stores) (plain_line line) (map plain_report heard.new.told.updates.items) heard.new.asked.asks result.0 result.1 }
+    ensures { PlaysOrNot (config_of settings) (State.Stopped stores luck) (plain_line line) (map plain_report heard.new.told.updates.items) heard.new.asked.asks result.0 result.1 }
 {
-    match line.into_genesis() {
-        Some(genesis) => open(alloc, settings, stores, genesis, heard),
-        None => (
-            State::Stopped(stores),
-            Ok(Outcome::Remark(RemarkShown::Stopped)),
-        ),
+    match line {
+        Line::OpenGenesis(genesis) => open(alloc, settings, stores, luck, genesis, heard),
+        Line::Fail(store, calls) => arm_left(stores, luck, store, calls),
+        Line::Crash(next) => (State::Stopped(stores, next), Ok(Outcome::Done)),
+        Line::Buffer(_block) => pass(stores, luck),
+        Line::Final(_finalization) => pass(stores, luck),
+        Line::Sync(_ticket) => pass(stores, luck),
+        Line::Ack(_ticket) => pass(stores, luck),
     }
+}
+
+// Does nothing, where no life runs.
+fn pass<
+    FB: Blocks<StandardBlocks>,
+    FC: Certificates<StandardBlocks, MockFinalization>,
+    M: Meta,
+    H: Shelf,
+>(stores: Stores<FB, FC, M, H>, luck: u64) -> (State<FB, FC, M, H>, Result<Outcome, AllocError>)
+    ensures state { result.0 ≡ State.Stopped stores luck }
+    ensures outcome { result.1 ≡ Ok (Outcome.Remark RemarkShown.Stopped) }
+{
+    let remark = Outcome::Remark(RemarkShown::Stopped);
+    (State::Stopped(stores, luck), Ok(remark))
+}
+
+// Makes a call of a store that is left fail, so many calls away.
+fn arm_left<
+    FB: Blocks<StandardBlocks>,
+    FC: Certificates<StandardBlocks, MockFinalization>,
+    M: Meta,
+    H: Shelf,
+>(
+    stores: Stores<FB, FC, M, H>,
+    luck: u64,
+    store: StoreName,
+    calls: u64,
+) -> (State<FB, FC, M, H>, Result<Outcome, AllocError>)
+    ensures { (config : PlainConfig) → PlaysOrNot config (State.Stopped stores luck) (fail_line (store_name_of store) calls) [] [] result.0 result.1 }
+{
+    let mut stores = stores;
+    if let Err(error) = stores.arm(store, calls) {
+        return (State::Stopped(stores, luck), Err(error));
+    }
+    (State::Stopped(stores, luck), Ok(Outcome::Done))
 }
 
 // Does one line while a life runs.
@@ -154,7 +194,42 @@ fn play_running<
             Ok(Outcome::Remark(RemarkShown::Ignored)),
         ),
         Line::Ack(ticket) => acknowledge(actor, buffer, ticket, heard),
+        Line::Fail(store, calls) => arm(actor, buffer, store, calls),
+        Line::Crash(luck) => (crash(actor, buffer, luck), Ok(Outcome::Done)),
     }
+}
+
+// Ends the life at once, and its buffer with it; the next opening has this luck.
+fn crash<
+    FB: Blocks<StandardBlocks>,
+    FC: Certificates<StandardBlocks, MockFinalization>,
+    M: Meta,
+    H: Shelf,
+>(actor: Node<FB, FC, M, H>, _buffer: MemBuffer<StandardBlocks>, luck: u64) -> State<FB, FC, M, H>
+    ensures { result ≡ State.Stopped (remains_of actor.held) luck }
+{
+    State::Stopped(actor.wreck(), luck)
+}
+
+// Makes a call of a store fail, so many calls away.
+fn arm<
+    FB: Blocks<StandardBlocks>,
+    FC: Certificates<StandardBlocks, MockFinalization>,
+    M: Meta,
+    H: Shelf,
+>(
+    actor: Node<FB, FC, M, H>,
+    buffer: MemBuffer<StandardBlocks>,
+    store: StoreName,
+    calls: u64,
+) -> (State<FB, FC, M, H>, Result<Outcome, AllocError>)
+    ensures { (config : PlainConfig) → PlaysOrNot config (State.Running actor buffer) (fail_line (store_name_of store) calls) [] [] result.0 result.1 }
+{
+    let mut actor = actor;
+    if let Err(error) = actor.arm(store, calls) {
+        return (State::Running(actor, buffer), Err(error));
+    }
+    (State::Running(actor, buffer), Ok(Outcome::Done))
 }
 
 // Puts a block into the buffer.
@@ -247,7 +322,7 @@ fn step<
         Ok(actor) => (State::Running(actor, buffer), Outcome::Done),
         Err(ended) => {
             let (fault, stores) = parts_of(ended);
-            (State::Stopped(stores), Outcome::Fault(fault))
+            (State::Stopped(stores, 0), Outcome::Fault(fault))
         }
     }
 }
@@ -258,8 +333,10 @@ fn parts_of<
     FC: Certificates<StandardBlocks, MockFinalization>,
     M: Meta,
     H: Shelf,
->(ended: Ended<StandardBlocks, MockFinalization, FB, FC, M, H>) -> (Fault, Stores<FB, FC, M, H>)
-    ensures { ended ≡ record { fault = fault_of result.0; remains = result.1 } }
+>(
+    ended: Ended<StandardBlocks, MockFinalization, FB, FC, M, H>,
+) -> (Fault<Sha256Digest>, Stores<FB, FC, M, H>)
+    ensures { ended ≡ record { fault = plain_fault result.0; remains = result.1 } }
 {
     let Ended { fault, ruins } = ended;
     (fault, ruins)
@@ -275,20 +352,21 @@ fn open<
     alloc: Global,
     settings: Settings,
     stores: Stores<FB, FC, M, H>,
+    luck: u64,
     genesis: EmptyBlock<Sha256>,
     heard: &mut Heard,
 ) -> (State<FB, FC, M, H>, Result<Outcome, AllocError>)
     requires settings { IsSettings settings }
     requires silent { heard.old.told.updates.items ≡ [] }
     requires unasked { heard.old.asked.asks ≡ [] }
-    ensures { PlaysOrNot (config_of settings) (State.Stopped stores) (open_line (from_genesis (plain_block genesis))) (map plain_report heard.new.told.updates.items) heard.new.asked.asks result.0 result.1 }
+    ensures { PlaysOrNot (config_of settings) (State.Stopped stores luck) (open_line (from_genesis (plain_block genesis))) (map plain_report heard.new.told.updates.items) heard.new.asked.asks result.0 result.1 }
 {
     match Digested::compute(alloc, genesis) {
         Ok(genesis) => {
-            let (state, outcome) = begin(alloc, settings, stores, genesis, heard);
+            let (state, outcome) = begin(alloc, settings, stores, luck, genesis, heard);
             (state, Ok(outcome))
         }
-        Err(error) => (State::Stopped(stores), Err(error)),
+        Err(error) => (State::Stopped(stores, luck), Err(error)),
     }
 }
 
@@ -302,19 +380,20 @@ fn begin<
     alloc: Global,
     settings: Settings,
     stores: Stores<FB, FC, M, H>,
+    luck: u64,
     genesis: Digested<EmptyBlock<Sha256>>,
     heard: &mut Heard,
 ) -> (State<FB, FC, M, H>, Outcome)
     requires settings { IsSettings settings }
     requires silent { heard.old.told.updates.items ≡ [] }
     requires unasked { heard.old.asked.asks ≡ [] }
-    ensures { PlaysLine (config_of settings) (State.Stopped stores) (open_line (from_genesis (plain_block genesis))) (output_of (map plain_report heard.new.told.updates.items) heard.new.asked.asks result.1) result.0 }
+    ensures { PlaysLine (config_of settings) (State.Stopped stores luck) (open_line (from_genesis (plain_block genesis))) (output_of (map plain_report heard.new.told.updates.items) heard.new.asked.asks result.1) result.0 }
 {
-    match Actor::init(alloc, stores, setup(settings, genesis), 0) {
+    match Actor::init(alloc, stores, setup(settings, genesis), luck) {
         Ok((actor, _floor)) => step(actor, MemBuffer::new(alloc), Event::Start, heard),
         Err(ended) => {
             let (fault, stores) = parts_of(ended);
-            (State::Stopped(stores), Outcome::Fault(fault))
+            (State::Stopped(stores, 0), Outcome::Fault(fault))
         }
     }
 }

@@ -2,7 +2,7 @@
 ghost use Rattle.std.specs.Prelude.{◌≡◌, ◌+◌, ◌++◌, ◌<◌, ◌≤◌, ℕ, List, Option, Some, [], IfErr, IfNone, IfOk, IsErrOf, OnErr, OnOk, map};
 ghost use Rattle.mar_codec.specs.Causes.{Rose};
 ghost use Rattle.mar_key.specs.Asked.{Asked};
-ghost use Rattle.mar_actor.specs.Node.{Ended as PlainEnded};
+ghost use Rattle.mar_node.specs.Node.{Ended as PlainEnded};
 ghost use Rattle.marshal.specs.Endings.{IsReadersEnd, IsWritersEnd};
 ghost use Rattle.marshal.specs.Lines.{plain_line};
 ghost use Rattle.marshal.specs.Playing.{IsSetAs, TurnsLine, WritesText};
@@ -73,7 +73,7 @@ pub fn replay<
         Ok(settings) => settings,
         Err(status) => return Finished { status, stores },
     };
-    let state = State::Stopped(stores);
+    let state = State::Stopped(stores, 0);
     let heard = Heard::new(alloc);
     if let Err(status) = write_turn(alloc, sink, &heard, Outcome::Done, &state) {
         let stores = left_of(state);
@@ -98,7 +98,7 @@ fn left_of<
 {
     match state {
         State::Running(actor, _buffer) => actor.wreck(),
-        State::Stopped(stores) => stores,
+        State::Stopped(stores, _luck) => stores,
     }
 }
 

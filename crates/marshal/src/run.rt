@@ -75,6 +75,32 @@ mod tests {
         Ok((finished.status, Vec::from_slice(alloc, sink.bytes())?))
     }
 
+    // What a run over stores in which blocks 0 and 1 were processed opens.
+    const AGAIN: &[u8] = b"\
+config 4 10 2 4 5 8 0 100\n\
+open genesis 00000000000000000000000000000000000000000000000000000000000000000000\n";
+
+    const AGAIN_OUTPUT: &[u8] = b"\
+node end p=1 c=0.1 bs=0-1 bm=0-1 fs=1-1 fm=1-1\n\
+tip 0.1 1 ce32c67642e5135e430855a082568f3b774ee1efc23b9f2d1bc13c3f65ce873a\n\
+node p=b1 o=- c=0.1 w=- b=0-1 bs=0-1 f=1-1 fs=1-1 u=- s=- y=-\n";
+
+    #[test]
+    fn stores_that_are_handed_back_are_opened_again(rt: HostRuntime) -> Result<(), Fail> {
+        let alloc = rt.alloc();
+        let words = vec![in alloc; "replay".to_string(alloc)?]?;
+        let mut source = Bytes::new(delivery().0, &[]);
+        let mut sink = Written::new(alloc, &[]);
+        let first = run(alloc, &words, &mut source, &mut sink, empty_stores(alloc));
+        assert_eq!(rt; first.status, Status::Ok);
+        let mut source = Bytes::new(AGAIN, &[]);
+        let mut sink = Written::new(alloc, &[]);
+        let second = run(alloc, &words, &mut source, &mut sink, first.stores);
+        assert_eq!(rt; second.status, Status::Ok);
+        assert_eq!(rt; sink.bytes(), AGAIN_OUTPUT);
+        Ok(())
+    }
+
     #[test]
     fn the_stored_script_is_replayed(rt: HostRuntime) -> Result<(), Fail> {
         let output = delivery().1;

@@ -1,17 +1,20 @@
 //! The lines of the output.
 ghost use Rattle.std.specs.Prelude.{◌≡◌, ◌++◌, ◌∷◌, [], OnOk, codes, decimal, string_bytes};
-ghost use Rattle.mar_actor.specs.Step.{new_tip};
+ghost use Rattle.mar_node.specs.Step.{new_tip};
 ghost use Rattle.mar_key.specs.Views.{cutoff_of};
 ghost use Rattle.mar_types.specs.Round.{Round};
 ghost use Rattle.marshal.specs.Script.{hex, store_name};
 ghost use Rattle.marshal.specs.Text.{cutoff_text, fault_words, kind_name, line_of, remark_words, report_words, round_text};
-ghost use Rattle.mar_actor.specs.Views.{fault_of, kind_of, store_name_of};
+ghost use Rattle.mar_actor.specs.Views.{kind_of, store_name_of};
 ghost use Rattle.marshal.specs.Shown.{remark_of};
+ghost use Rattle.marshal.specs.Turn.{plain_fault};
 
 use mar_actor::{Fault, StoreName, TicketKind};
+use mar_codec::Sha256Digest;
 use mar_key::Cutoff;
 use mar_types::{Height, Round};
 use std::alloc::{AllocError, Global};
+use std::convert::AsSlice;
 
 /// Why a line did nothing.
 #[derive(Clone, Copy, Debug, PartialEq, Eq)]
@@ -116,17 +119,45 @@ fn kind_text(kind: TicketKind) -> &'static str
     }
 }
 
+// Appends two commitments, each with a space before it, and the line's end.
+fn push_commitments(
+    alloc: Global,
+    text: &mut String,
+    first: Sha256Digest,
+    second: Sha256Digest,
+) -> Result<(), AllocError>
+    ensures { OnOk result (string_bytes text.new ≡ string_bytes text.old ++ (32 ∷ (hex first.bytes ++ (32 ∷ (hex second.bytes ++ (10 ∷ [])))))) }
+{
+    text.push_str(" ")?;
+    push_hex(alloc, text, first.as_slice())?;
+    text.push_str(" ")?;
+    push_hex(alloc, text, second.as_slice())?;
+    text.push_str("\n")
+}
+
 /// Appends why a life ended.
-pub fn push_fault(text: &mut String, fault: Fault) -> Result<(), AllocError>
-    ensures { OnOk result (string_bytes text.new ≡ string_bytes text.old ++ line_of (codes "fault" ∷ fault_words (fault_of fault))) }
+pub fn push_fault(
+    alloc: Global,
+    text: &mut String,
+    fault: Fault<Sha256Digest>,
+) -> Result<(), AllocError>
+    ensures { OnOk result (string_bytes text.new ≡ string_bytes text.old ++ line_of (codes "fault" ∷ fault_words (plain_fault fault))) }
 {
     match fault {
         Fault::StoreFault(store) => {
             let name = store_text(store);
             writeln!(text, "fault StoreFault {name}")
         }
-        Fault::NotEmpty => text.push_str("fault NotEmpty\n"),
         Fault::GenesisHeight(height) => writeln!(text, "fault GenesisHeight {height}"),
+        Fault::GenesisMismatch(configured, stored) => {
+            text.push_str("fault GenesisMismatch")?;
+            push_commitments(alloc, text, configured, stored)
+        }
+        Fault::Corrupt(height, block, payload) => {
+            write!(text, "fault Corrupt {height}")?;
+            push_commitments(alloc, text, block, payload)
+        }
+        Fault::Unbacked(height) => writeln!(text, "fault Unbacked {height}"),
         Fault::HeightLimit(height) => writeln!(text, "fault HeightLimit {height}"),
         Fault::AckDropped(height) => writeln!(text, "fault AckDropped {height}"),
         Fault::TicketLimit(kind) => {

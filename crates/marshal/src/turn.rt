@@ -36,7 +36,7 @@ pub fn push_turn<
 {
     push_updates(alloc, text, &heard.told.updates)?;
     push_asks(alloc, text, heard.asked.asks())?;
-    push_outcome(text, outcome)?;
+    push_outcome(alloc, text, outcome)?;
     push_state(alloc, text, state)
 }
 
@@ -74,13 +74,13 @@ fn push_update(
     }
 }
 
-fn push_outcome(text: &mut String, outcome: Outcome) -> Result<(), AllocError>
+fn push_outcome(alloc: Global, text: &mut String, outcome: Outcome) -> Result<(), AllocError>
     ensures { OnOk result (string_bytes text.new ≡ string_bytes text.old ++ (some_words (option_map remark_words (remark_in outcome)) ++ some_words (option_map (λ f. codes "fault" ∷ fault_words f) (fault_in outcome)))) }
 {
     match outcome {
         Outcome::Done => Ok(()),
         Outcome::Remark(remark) => push_remark(text, remark),
-        Outcome::Fault(fault) => push_fault(text, fault),
+        Outcome::Fault(fault) => push_fault(alloc, text, fault),
     }
 }
 
@@ -94,6 +94,6 @@ fn push_state<
 {
     match state {
         State::Running(actor, _) => push_node(alloc, text, &actor.shown()),
-        State::Stopped(stores) => push_ended(text, &stores.shown()),
+        State::Stopped(stores, _) => push_ended(text, &stores.shown()),
     }
 }

@@ -1,5 +1,5 @@
 use Rattle.std.proofs.Common.{ap, ◌∙◌}
-use Rattle.mar_inbox.specs.Messages.{report_finalization}
+use Rattle.mar_node.specs.Messages.{report_finalization}
 use Rattle.marshal.specs.Script.{tell_line}
 use Rattle.marshal.proofs.FirstWords.{reports, reports_with}
 use Rattle.marshal.proofs.line.finalization.Goals as goal

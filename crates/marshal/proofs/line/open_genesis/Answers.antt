@@ -1,5 +1,5 @@
 use Rattle.std.proofs.Common.{ap, ◌∙◌}
-use Rattle.mar_actor.specs.Faults.{from_genesis}
+use Rattle.mar_node.specs.Faults.{from_genesis}
 use Rattle.marshal.specs.Script.{open_line}
 use Rattle.marshal.proofs.FirstWords.{opens, opens_with}
 use Rattle.marshal.proofs.line.open_genesis.Goals as goal

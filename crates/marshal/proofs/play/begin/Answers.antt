@@ -1,14 +1,13 @@
 use Rattle.std.proofs.Common.{ap, ◌∙◌}
-use Rattle.marshal.specs.Lines.{plain_block}
 use Rattle.marshal.specs.Script.{config_of}
 use Rattle.marshal.proofs.LinePlays.{plays_opening, plays_unopened, set_node}
-use Rattle.marshal.proofs.OpeningTurns.{lawful_opening, not_limit}
+use Rattle.marshal.proofs.OpeningTurns.{lawful_opening}
 use Rattle.marshal.proofs.play.begin.Goals as goal
 
 pub returns-in-Ok : goal.returns-in-Ok
 returns-in-Ok g c =
     let set = set_node c.args.settings _ c.setup.result.epocher.length c.setup.ensures.sizes c.setup.ensures.epochs in
-    plays_opening _ _ _ _ _ _ _ _ (config_of c.args.settings) c.args.stores _ c.in-Ok.actor _ _ _ _
+    plays_opening _ _ _ _ _ _ _ _ (config_of c.args.settings) c.args.stores c.args.luck _ c.in-Ok.actor _ _ _ _
     (set_node c.args.settings _ c.in-Ok.actor.life.epocher.length (c.in-Ok.ensures.same_life.2 ∙ c.setup.ensures.sizes) (ap (λ e. e.length) c.in-Ok.ensures.same_life.1 ∙ c.setup.ensures.epochs)) c.in-Ok.ensures.counts
     (λ chain lawful. let begun = (rw c.setup.ensures.start at c.in-Ok.ensures.opens) (config_of c.args.settings) chain set (lawful_opening _ chain _ _ lawful) in (begun.finds, begun.good)) (rw c.new.ensures at c.step.ensures)
 
@@ -17,6 +16,6 @@ returns-in-Err g c =
     let set = set_node c.args.settings _ c.setup.result.epocher.length c.setup.ensures.sizes c.setup.ensures.epochs in
     let is = c.parts_of-fault.ensures in
     rw (c.requires.silent, c.requires.unasked)
-    (plays_unopened _ _ _ _ _ _ _ _ (config_of c.args.settings) c.args.stores _ _ _
+    (plays_unopened _ _ _ _ _ _ _ _ (config_of c.args.settings) c.args.stores _ c.args.luck _ _
     (λ chain asked lawful. (rw (c.setup.ensures.start, is) at c.in-Err.ensures.opens) (config_of c.args.settings) chain set (lawful_opening _ chain _ _ lawful)) (rw is at c.in-Err.ensures.cause) (rw is at c.in-Err.ensures.cause.later)
-    (not_limit c.args.stores.ended (plain_block c.args.genesis) _ (rw (c.setup.ensures.start, is) at c.in-Err.ensures.by_value)))
+    (rw (c.setup.ensures.start, is) at c.in-Err.ensures.by_value))

@@ -1,6 +1,6 @@
 use Rattle.std.proofs.Common.{◌≡◌}
 use Rattle.mar_cert.specs.Finalization.{Finalization}
-use Rattle.mar_inbox.specs.Messages.{report_finalization}
+use Rattle.mar_node.specs.Messages.{report_finalization}
 use Rattle.marshal.specs.Lines.{plain_finalization}
 use Rattle.marshal.specs.Script.{tell_line}
 use Rattle.marshal.proofs.Lasting.{reports}

@@ -1,7 +1,7 @@
 use Rattle.std.proofs.Common.{List, Option, [], ℕ, ◌++◌, ◌≡◌}
 use Rattle.mar_key.specs.Asked.{Asked}
-use Rattle.mar_actor.specs.Held.{NotFewer}
-use Rattle.mar_actor.specs.Node.{Ended}
+use Rattle.mar_node.specs.Held.{NotFewer}
+use Rattle.mar_node.specs.Node.{Ended}
 use Rattle.marshal.specs.Playing.{IsSetAs}
 use Rattle.marshal.specs.Script.{config_of, settings_bytes}
 use Rattle.marshal.specs.Streams.{Gives, Takes}

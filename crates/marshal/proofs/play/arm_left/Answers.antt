@@ -1,0 +1,6 @@
+use Rattle.mar_actor.specs.Views.{store_name_of}
+use Rattle.marshal.proofs.LinePlays.{plays_fail_left}
+use Rattle.marshal.proofs.play.arm_left.Goals as goal
+
+pub returns : goal.returns
+returns g c = rw c.arm.ensures (λ config. plays_fail_left _ _ _ _ _ _ _ _ config c.args.stores c.args.luck (store_name_of c.args.store) c.args.calls)
