@@ -18,14 +18,12 @@ ghost use Rattle.mar_node.specs.Moves.{Drains, DrainsNext, EndsDropped, EndsOlde
 ghost use Rattle.mar_node.specs.Requests.{raise_asks};
 
 use crate::actor::Actor;
-use crate::fault::Fault;
 use crate::reporter::Reporter;
-use crate::ruins::Ended;
 use mar_block::Variant;
 use mar_cert::{CommitsTo, Provider};
 use mar_key::{Cutoff, Resolver, Retain};
 use mar_parts::{Oldest, closed_epoch};
-use mar_shelf::{Blocks, Certificates, Shelf};
+use mar_shelf::{Blocks, Certificates, Ended, Fault, Shelf};
 use mar_store::Meta;
 use mar_types::{Epocher, Height, Round};
 

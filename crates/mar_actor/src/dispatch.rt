@@ -9,12 +9,10 @@ ghost use Rattle.mar_node.specs.Moves.{Dispatches, IsLast, IsNext, IsStill, Stop
 ghost use Rattle.mar_node.specs.Step.{HandedBlock, handed_over};
 
 use crate::actor::Actor;
-use crate::fault::{Fault, TicketKind};
 use crate::reporter::{Exact, Reporter, Update};
-use crate::ruins::Ended;
 use mar_block::Variant;
 use mar_cert::{CommitsTo, Provider};
-use mar_shelf::{Blocks, Certificates, Shelf};
+use mar_shelf::{Blocks, Certificates, Ended, Fault, Shelf, TicketKind};
 use mar_store::Meta;
 use mar_types::{Epocher, Height};
 

@@ -6,14 +6,12 @@ ghost use Rattle.mar_actor.specs.Views.{begin_of, sizes_of};
 
 use crate::actor::Actor;
 use crate::life::Life;
-use crate::ruins::{Ended, Ruins};
 use crate::settings::Config;
-use crate::stores::Stores;
 use mar_block::Variant;
 use mar_cert::{CommitsTo, Provider};
 use mar_key::Floor;
 use mar_parts::PendingAcks;
-use mar_shelf::{Blocks, Certificates, Shelf};
+use mar_shelf::{Blocks, Certificates, Ended, Ruins, Shelf, Stores};
 use mar_store::Meta;
 use mar_types::Epocher;
 use std::alloc::Global;

@@ -14,13 +14,11 @@ ghost use Rattle.mar_node.specs.Held.{GoesOn, IsUsual};
 ghost use Rattle.mar_node.specs.Moves.{LivesOn, Stores, StoresLate, StoresValue, at_height, found_at_hand, is_due, late_tips, of_commitment, risen_to, tip_after, tip_reports, tips_above, wants};
 
 use crate::actor::Actor;
-use crate::fault::Fault;
 use crate::reporter::{Reporter, Update};
-use crate::ruins::Ended;
 use mar_block::{Buffer, Variant};
 use mar_cert::{CommitsTo, Provider};
 use mar_key::{Request, Resolver};
-use mar_shelf::{Blocks, Certificates, Shelf};
+use mar_shelf::{Blocks, Certificates, Ended, Fault, Shelf};
 use mar_store::Meta;
 use mar_types::{Epocher, Height, Round};
 

@@ -8,14 +8,13 @@ ghost use Rattle.mar_node.specs.Event.{life_started};
 ghost use Rattle.mar_node.specs.Held.{GoesOn, IsUsual};
 ghost use Rattle.mar_node.specs.Moves.{LivesOn, newest, newest_tips, with_newest};
 ghost use Rattle.mar_node.specs.Promise.{KeepsPromise};
-ghost use Rattle.mar_actor.specs.Views.{entry_of};
+ghost use Rattle.mar_shelf.specs.Views.{entry_of};
 
 use crate::actor::Actor;
 use crate::reporter::Reporter;
-use crate::ruins::Ended;
 use mar_block::Variant;
 use mar_cert::{CommitsTo, Provider};
-use mar_shelf::{Blocks, Certificates, Shelf};
+use mar_shelf::{Blocks, Certificates, Ended, Shelf};
 use mar_store::Meta;
 use mar_types::{Epocher, Height};
 

@@ -1,4 +1,4 @@
-//! Stores of finalized blocks and of their certificates.
+//! Stores of finalized blocks and of their certificates, and the four stores of a life.
 #![tactic(auto)]
 
 mod archive;
@@ -6,21 +6,32 @@ mod archive_blocks;
 mod archive_certificates;
 mod blocks;
 mod certificates;
+mod derived;
+mod fault;
 mod gaps;
 pub mod immutable;
 mod item;
 pub mod mocks;
+mod newest;
 mod no_shelf;
 pub mod prunable;
+mod reopened;
+mod ruins;
 mod shelf;
+mod shown;
+mod stores;
 
 pub use archive::{Archived, Immutable, Prunable, Pruning, Wreck};
 pub use blocks::{Blocks, BlocksRuin};
 pub use certificates::{Certificates, CertificatesRuin};
+pub use fault::{Fault, StoreName, TicketKind};
 pub use gaps::gap_laws;
 pub use item::{ArchivedBlocks, ArchivedFinalization, BlockItem, CertificateItem};
 pub use no_shelf::NoShelf;
+pub use ruins::{Ended, Ruins};
 pub use shelf::{Shelf, ShelfRuin};
+pub use shown::ShownRuins;
+pub use stores::Stores;
 
 #[cfg(test)]
 mod tests;

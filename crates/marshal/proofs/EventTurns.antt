@@ -12,7 +12,7 @@ use Rattle.mar_node.specs.Held.{Counts, Ending, IsEndedBy, NotFewer, Remains}
 use Rattle.mar_node.specs.Lives.{Cuts}
 use Rattle.mar_node.specs.Promise.{IsLawfulStep, IsSetTo, KeepsPromise, made_of, node_of}
 use Rattle.mar_node.specs.Step.{Report, Steps}
-use Rattle.mar_actor.specs.declared.fault.Fault.{Fault as FaultCode}
+use Rattle.mar_shelf.specs.declared.fault.Fault.{Fault as FaultCode}
 use Rattle.mar_key.specs.Asked.{Asked, asked_after}
 use Rattle.mar_node.specs.Chain.{Chain}
 use Rattle.mar_node.specs.Config.{Config}

@@ -24,7 +24,7 @@ use Rattle.mar_node.specs.Lives.{CutsReopening, Finds}
 use Rattle.mar_node.specs.Node.{IsGood}
 use Rattle.mar_node.specs.Promise.{IsAlone, IsGoodUntold, IsOpeningFault, IsSetTo, node_of}
 use Rattle.mar_node.specs.Step.{Report}
-use Rattle.mar_actor.specs.declared.fault.Fault.{Fault as FaultCode}
+use Rattle.mar_shelf.specs.declared.fault.Fault.{Fault as FaultCode}
 use Rattle.marshal.specs.Lines.{plain_line}
 use Rattle.marshal.specs.Playing.{AfterEvent, HasLuck, IsExcused, IsLawfulLine, IsSetAs, IsSetNode, Plays, PlaysLine, SeenNode, TakesEvent, empty_buffer, luck_after, luck_in}
 use Rattle.marshal.specs.Run.{LineDone, StepDone}

@@ -19,11 +19,11 @@ use Rattle.mar_node.specs.Lives.{Cuts, CutsEvent}
 use Rattle.mar_node.specs.Node.{Ended, IsGood, Node}
 use Rattle.mar_node.specs.Promise.{IsGoodFor, IsLawfulStep, ReportsFinalized, RestsBefore, made_of, node_of}
 use Rattle.mar_node.specs.Step.{AdvancesAll, Made, Report, Steps}
-use Rattle.mar_actor.specs.Views.{store_name_of}
-use Rattle.mar_actor.specs.declared.fault.Fault.{Fault as FaultCode}
-use Rattle.mar_actor.specs.declared.fault.Fault.TheVariants as fault
-use Rattle.mar_actor.specs.declared.fault.TicketKind.{TicketKind}
-use Rattle.mar_actor.specs.declared.fault.TicketKind.TheVariants.{Ack}
+use Rattle.mar_shelf.specs.Views.{store_name_of}
+use Rattle.mar_shelf.specs.declared.fault.Fault.{Fault as FaultCode}
+use Rattle.mar_shelf.specs.declared.fault.Fault.TheVariants as fault
+use Rattle.mar_shelf.specs.declared.fault.TicketKind.{TicketKind}
+use Rattle.mar_shelf.specs.declared.fault.TicketKind.TheVariants.{Ack}
 use Rattle.marshal.specs.Playing.{IsBetween, IsExcused, IsLasting, IsLawfulLine, Plays}
 use Rattle.marshal.specs.Run.{LineDone, RunningDone, StepDone}
 use Rattle.marshal.specs.Script.{Line, ack_line, buffer_line, tell_line}

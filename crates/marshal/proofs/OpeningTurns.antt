@@ -20,7 +20,7 @@ use Rattle.mar_node.specs.Lives.{Cuts, CutsEvent, CutsReopening, Finds, NotBelow
 use Rattle.mar_node.specs.Node.{Ended, IsGood, Node}
 use Rattle.mar_node.specs.Promise.{IsAlone, IsGoodUntold, IsLawfulOpening, IsLawfulStep, IsOpeningFault, made_of, node_of}
 use Rattle.mar_node.specs.Step.{Report, Steps}
-use Rattle.mar_actor.specs.declared.fault.Fault.{Fault as FaultCode}
+use Rattle.mar_shelf.specs.declared.fault.Fault.{Fault as FaultCode}
 use Rattle.mar_node.proofs.Cutting.{only_one}
 use Rattle.mar_node.proofs.GoodOpenings.{IsOpeningFault-none}
 use Rattle.mar_node.proofs.OpeningEvent.{IsAlone-lawful}

@@ -14,7 +14,7 @@ use Rattle.mar_block.specs.EmptyBlock.{block_bytes, block_message, standard_bloc
 use Rattle.mar_block.specs.declared.EmptyBlock.{EmptyBlock}
 use Rattle.mar_node.specs.Messages.{report_finalization}
 use Rattle.mar_node.specs.Faults.{StoreName, from_genesis}
-use Rattle.mar_actor.specs.Views.{store_name_of}
+use Rattle.mar_shelf.specs.Views.{store_name_of}
 use Rattle.marshal.specs.Script.{HasValues, IsBuilt, Line, ack_line, buffer_line, crash_line, fail_line, line_bytes, open_line, store_name, sync_line, tell_line}
 use Rattle.marshal.specs.declared.line.Line.{Line as LineCode}
 use Rattle.marshal.specs.declared.line.Line.TheVariants as line

@@ -10,8 +10,9 @@ use Rattle.mar_node.specs.Faults.{Fault}
 use Rattle.mar_node.specs.Held.{Remains, remains_of}
 use Rattle.mar_node.specs.Promise.{made_of, node_of}
 use Rattle.mar_node.specs.Step.{Report}
-use Rattle.mar_actor.specs.Views.{fault_of, report_of}
-use Rattle.mar_actor.specs.declared.Fault.{Fault as FaultCode}
+use Rattle.mar_actor.specs.Views.{report_of}
+use Rattle.mar_shelf.specs.Views.{fault_of}
+use Rattle.mar_shelf.specs.declared.Fault.{Fault as FaultCode}
 use Rattle.mar_actor.specs.declared.Update.{Update}
 use Rattle.marshal.specs.Lines.{plain_block}
 use Rattle.marshal.specs.Shown.{remark_of}

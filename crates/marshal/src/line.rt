@@ -4,7 +4,7 @@ ghost use Rattle.mar_cert.specs.Block.{Block as PlainBlock, IsBlock};
 ghost use Rattle.mar_cert.specs.Finalization.{Finalization as PlainFinalization, finalization_bytes};
 ghost use Rattle.mar_cert.specs.MockScheme.{IsFinalization};
 ghost use Rattle.mar_codec.specs.declared.Sha256Digest.{Sha256Digest};
-ghost use Rattle.mar_actor.specs.Views.{store_name_of};
+ghost use Rattle.mar_shelf.specs.Views.{store_name_of};
 ghost use Rattle.marshal.specs.Lines.{IsFailing, Spells, fail_words, plain_block, plain_finalization, plain_line};
 ghost use Rattle.marshal.specs.Script.{IsSettings, Line as PlainLine, hex};
 ghost use Rattle.marshal.specs.Words.{Yields};

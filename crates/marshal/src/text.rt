@@ -5,7 +5,7 @@ ghost use Rattle.mar_key.specs.Views.{cutoff_of};
 ghost use Rattle.mar_types.specs.Round.{Round};
 ghost use Rattle.marshal.specs.Script.{hex, store_name};
 ghost use Rattle.marshal.specs.Text.{cutoff_text, fault_words, kind_name, line_of, remark_words, report_words, round_text};
-ghost use Rattle.mar_actor.specs.Views.{kind_of, store_name_of};
+ghost use Rattle.mar_shelf.specs.Views.{kind_of, store_name_of};
 ghost use Rattle.marshal.specs.Shown.{remark_of};
 ghost use Rattle.marshal.specs.Turn.{plain_fault};
 

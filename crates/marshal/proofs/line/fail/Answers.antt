@@ -1,6 +1,6 @@
 use Rattle.std.proofs.Common.{ap, arith, ◌<◌, ◌≡◌, ◌≤◌, ◌∙◌}
 use Rattle.marshal.specs.Script.{fail_line}
-use Rattle.mar_actor.specs.Views.{store_name_of}
+use Rattle.mar_shelf.specs.Views.{store_name_of}
 use Rattle.marshal.proofs.FailingWords.{fails, fails_with, positive}
 use Rattle.marshal.proofs.line.fail.Goals as goal
 

@@ -1,4 +1,4 @@
-use Rattle.mar_actor.specs.Views.{store_name_of}
+use Rattle.mar_shelf.specs.Views.{store_name_of}
 use Rattle.marshal.proofs.LinePlays.{plays_fail_left}
 use Rattle.marshal.proofs.play.arm_left.Goals as goal
 
