@@ -114,8 +114,7 @@ impl<
         resolver: &mut R,
     ) -> Result<Self, Ended<V, F, FB, FC, M, H>>
         ensures ok { IfOk result (λ a. a ≡ record self {
-          held = record self.held { processed = Some (at_block height); cutoff = greatest_of self.held.cutoff (retired (E.epochs self.life.epocher) self.held.certs.held height); counts = a.held.counts };
-          life = record self.life { witnessed = later_round self.life.witnessed (round_at self.held.certs.held height) };
+          held = record self.held { processed = Some (at_block height); cutoff = greatest_of self.held.cutoff (retired (E.epochs self.life.epocher) self.held.certs.held height); witnessed = later_round self.held.witnessed (round_at self.held.certs.held height); counts = a.held.counts };
         }) }
         ensures asks { OnOk result (Hears (R.told resolver.old) (retain (above_height height) ∷ raise_asks self.held.cutoff (retired (E.epochs self.life.epocher) self.held.certs.held height)) (R.told resolver.new)) }
         ensures goes_on { GoesOn (λ a. a.held) self.held [] [] result }
@@ -166,7 +165,7 @@ impl<
         round: Option<Round>,
         resolver: &mut R,
     ) -> Result<Self, Ended<V, F, FB, FC, M, H>>
-        ensures ok { IfOk result (λ a. RaisesTo self (option_to_list (option_map at_round round)) (later_round self.life.witnessed round) a) }
+        ensures ok { IfOk result (λ a. RaisesTo self (option_to_list (option_map at_round round)) (later_round self.held.witnessed round) a) }
         ensures asks { OnOk result (Hears (R.told resolver.old) (raise_asks self.held.cutoff (option_to_list (option_map at_round round))) (R.told resolver.new)) }
         ensures goes_on { GoesOn (λ a. a.held) self.held [] [] result }
         ensures usual { IfErr result (λ e. IsUsual e.fault) }
@@ -183,15 +182,13 @@ impl<
         round: Round,
         resolver: &mut R,
     ) -> Result<Self, Ended<V, F, FB, FC, M, H>>
-        ensures ok { IfOk result (λ a. RaisesTo self (at_round round ∷ []) (later_round self.life.witnessed (Some round)) a) }
+        ensures ok { IfOk result (λ a. RaisesTo self (at_round round ∷ []) (later_round self.held.witnessed (Some round)) a) }
         ensures asks { OnOk result (Hears (R.told resolver.old) (raise_asks self.held.cutoff (at_round round ∷ [])) (R.told resolver.new)) }
         ensures goes_on { GoesOn (λ a. a.held) self.held [] [] result }
         ensures usual { IfErr result (λ e. IsUsual e.fault) }
     {
         let mut actor = self;
-        if actor.life.witnessed < round {
-            actor.life.witnessed = round;
-        }
+        actor.stores.progress.witness(round);
         actor.raise(&Cutoff::Round(round), resolver)
     }
 
@@ -201,7 +198,7 @@ impl<
         height: Height,
         resolver: &mut R,
     ) -> Result<Self, Ended<V, F, FB, FC, M, H>>
-        ensures ok { IfOk result (λ a. RaisesTo self (option_to_list (option_map at_epoch (closed_epoch (E.epochs self.life.epocher) height))) self.life.witnessed a) }
+        ensures ok { IfOk result (λ a. RaisesTo self (option_to_list (option_map at_epoch (closed_epoch (E.epochs self.life.epocher) height))) self.held.witnessed a) }
         ensures asks { OnOk result (Hears (R.told resolver.old) (raise_asks self.held.cutoff (option_to_list (option_map at_epoch (closed_epoch (E.epochs self.life.epocher) height)))) (R.told resolver.new)) }
         ensures goes_on { GoesOn (λ a. a.held) self.held [] [] result }
         ensures usual { IfErr result (λ e. IsUsual e.fault) }
@@ -218,7 +215,7 @@ impl<
         cutoff: &Cutoff,
         resolver: &mut R,
     ) -> Result<Self, Ended<V, F, FB, FC, M, H>>
-        ensures ok { IfOk result (λ a. RaisesTo self (cutoff_of cutoff.now ∷ []) self.life.witnessed a) }
+        ensures ok { IfOk result (λ a. RaisesTo self (cutoff_of cutoff.now ∷ []) self.held.witnessed a) }
         ensures asks { OnOk result (Hears (R.told resolver.old) (raise_asks self.held.cutoff (cutoff_of cutoff.now ∷ [])) (R.told resolver.new)) }
         ensures goes_on { GoesOn (λ a. a.held) self.held [] [] result }
         ensures usual { IfErr result (λ e. IsUsual e.fault) }

@@ -5,7 +5,7 @@ ghost use Rattle.mar_actor.specs.Views.{sizes_of};
 
 use crate::settings::Limits;
 use mar_parts::PendingAcks;
-use mar_types::{Height, Round};
+use mar_types::Height;
 use std::marker::Model;
 
 /// What a life keeps beside its stores: what it was set to, and what it remembers.
@@ -19,8 +19,6 @@ pub(crate) struct Life<P, E> {
     pub(crate) next_ack: u64,
     /// The height of the last reported tip.
     pub(crate) tip: Height,
-    /// The last witnessed round.
-    pub(crate) witnessed: Round,
     /// How many storings above the processed height this life has made; syncs cover all of them.
     pub(crate) written: u64,
 }
@@ -38,22 +36,15 @@ impl<P, E> Model for Life<P, E> {
       out = l.acks.entries;
       covered = l.written;
       tip = l.tip;
-      witnessed = l.witnessed;
       next_ack = l.next_ack;
     } };
 }
 
 impl<P, E> Life<P, E> {
-    /// What a life begins with, where this round was the last one witnessed.
-    pub(crate) fn new(
-        provider: P,
-        epocher: E,
-        limits: Limits,
-        acks: PendingAcks,
-        witnessed: Round,
-    ) -> Self
+    /// What a life begins with.
+    pub(crate) fn new(provider: P, epocher: E, limits: Limits, acks: PendingAcks) -> Self
         requires { acks.entries ≡ [] }
-        ensures { result ≡ first_life provider epocher (record (sizes_of limits) { window = acks.max }) witnessed }
+        ensures { result ≡ first_life provider epocher (record (sizes_of limits) { window = acks.max }) }
     {
         Life {
             provider,
@@ -62,7 +53,6 @@ impl<P, E> Life<P, E> {
             acks,
             next_ack: 0,
             tip: Height::zero(),
-            witnessed,
             written: 0,
         }
     }

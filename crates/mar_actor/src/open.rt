@@ -54,9 +54,9 @@ impl<
         };
         let stores = Stores::reopen(ruins, luck)?;
         let stores = stores.begin(&genesis)?;
-        let (stores, witnessed) = stores.derive(&epocher)?;
-        let life = Life::new(provider, epocher, limits, acks, witnessed);
-        let floor = Floor::new(stores.progress.processed(), stores.progress.cutoff());
+        let stores = stores.derive(&epocher)?;
+        let life = Life::new(provider, epocher, limits, acks);
+        let floor = stores.progress.floor().snapshot();
         Ok((Actor { stores, life }, floor))
     }
 }

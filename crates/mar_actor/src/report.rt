@@ -111,13 +111,10 @@ impl<
         ensures goes_on { GoesOn (λ a. a.held) self.held [] [] result }
         ensures usual { IfErr result (λ e. IsUsual e.fault) }
     {
-        let round = finalization.round();
-        if self.stores.progress.cutoff().covers(round) {
-            return Ok(self);
-        }
-        let request = Request::finalized_by_round(finalization.payload(), round);
-        match resolver.fetch(request.into()) {
-            Ok(()) => Ok(self),
+        let request = Request::finalized_by_round(finalization.payload(), finalization.round());
+        let floor = self.stores.progress.floor();
+        match floor.fetch_if_permitted(resolver, request) {
+            Ok(_admission) => Ok(self),
             Err(_) => Err(self.run_out()),
         }
     }

@@ -5,8 +5,9 @@ ghost use Rattle.mar_block.specs.Recipients.{named};
 ghost use Rattle.mar_block.specs.Sent.{Sending, Sends};
 
 use crate::Variant;
-use crate::recipients::{Recipients, Subscription};
+use crate::recipients::Recipients;
 use mar_codec::Participant;
+use mar_key::Subscription;
 use mar_types::Round;
 use std::alloc::AllocError;
 

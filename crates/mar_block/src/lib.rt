@@ -16,8 +16,9 @@ pub use blocks::{Block, BoundedBlock, CertifiableBlock, Heightable};
 pub use buffer::{Buffer, NoBuffer};
 pub use empty_block::{EmptyBlock, StandardBlocks};
 pub use expected::ExpectedCommitment;
+pub use mar_key::Subscription;
 pub use mem_buffer::MemBuffer;
-pub use recipients::{Recipients, Sent, Subscription};
+pub use recipients::{Recipients, Sent};
 pub use standard::Standard;
 pub use variant::{Variant, WireVariant};
 

@@ -4,9 +4,10 @@ ghost use Rattle.mar_block.specs.Places.{at_place};
 ghost use Rattle.mar_block.specs.Sent.{sending};
 
 use crate::places::Places;
-use crate::recipients::{Recipients, Sent, Subscription};
+use crate::recipients::{Recipients, Sent};
 use crate::{Buffer, Variant};
 use mar_codec::Participant;
+use mar_key::Subscription;
 use mar_types::Round;
 use std::alloc::{AllocError, Global};
 use std::marker::Model;

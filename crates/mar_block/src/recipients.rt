@@ -18,9 +18,3 @@ pub struct Sent<B> {
     pub block: B,
     pub recipients: Recipients<Participant>,
 }
-
-/// The promise of a buffer that the block of this name is handed to the node as it comes.
-#[derive(Clone, Copy, Debug, PartialEq, Eq)]
-pub struct Subscription<K> {
-    pub name: K,
-}

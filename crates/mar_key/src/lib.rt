@@ -11,6 +11,7 @@ mod peers;
 mod recorder;
 mod requests;
 mod resolvers;
+mod subscription;
 
 pub use annotations::{Annotation, Finalized, Retain};
 pub use cutoffs::Cutoff;
@@ -22,6 +23,7 @@ pub use peers::{Consumer, Producer};
 pub use recorder::{Ask, Asked, Judged, Recorder, same_key};
 pub use requests::{Fetch, Request};
 pub use resolvers::{Resolver, TargetedResolver};
+pub use subscription::Subscription;
 
 #[cfg(test)]
 mod tests;

@@ -147,11 +147,14 @@ module _ {P E : Type 0} (config : Config) (chain : Chain) (lawful : IsLawful con
   -- the actor once they are drained, with these pairs and counts
   abbrev pub drained_to : List Pair → Counts → Seen P E
   drained_to pairs counts = record a {
-    held = record a.held { processed = processed; cutoff = cutoff; pairs = pairs; counts = counts };
-    life = record a.life {
-      out = after_given given.life.out;
-      witnessed = fold (λ r o. later_round r (round_at a.held.certs.held o.height)) a.life.witnessed drained;
+    held = record a.held {
+      processed = processed;
+      cutoff = cutoff;
+      witnessed = fold (λ r o. later_round r (round_at a.held.certs.held o.height)) a.held.witnessed drained;
+      pairs = pairs;
+      counts = counts;
     };
+    life = record a.life { out = after_given given.life.out };
   }
 
   -- what its own sync leaves of them
@@ -167,11 +170,11 @@ module _ {P E : Type 0} (config : Config) (chain : Chain) (lawful : IsLawful con
   asks-drained = progress_asks-are config n a.held.cutoff drained ∙ sym (append-nil (retire_asks config n a.held.cutoff drained ++ []) ∙ append-nil (retire_asks config n a.held.cutoff drained))
 
   -- and so is the round that is witnessed last
-  witnessed-is : fold (λ r o. later_round r (round_at a.held.certs.held o.height)) a.life.witnessed drained ≡ (witnessing_of config n (ack_given t) no_floor).last
+  witnessed-is : fold (λ r o. later_round r (round_at a.held.certs.held o.height)) a.held.witnessed drained ≡ (witnessing_of config n (ack_given t) no_floor).last
   witnessed-is = later_rounds-are a.held.certs.held config.retention start drained ∙ ap (λ rounds. (fold (with_witness config.retention) start rounds).last) (sym (append-nil (filter_map (λ o. round_at a.held.certs.held o.height) drained)))
     where
       start : Witnessing
-      start = record { last = a.life.witnessed; prunes = [] }
+      start = record { last = a.held.witnessed; prunes = [] }
 
   -- it covers nothing but what is processed or, next after that, sure
   floor_safe : FloorSafe (option_map height_in processed) cutoff a.held.blocks.sure chain

@@ -126,13 +126,13 @@ abbrev later_in : {P E : Type 0} → Seen P E → Round → Outstanding → Roun
 later_in a r o = later_round r (round_at a.held.certs.held o.height)
 
 abbrev remade : {P E : Type 0} → Seen P E → List Outstanding → Counts → Option Processed → Cutoff → Round → Seen P E
-remade a out counts p c w = record a { held = record a.held { processed = p; cutoff = c; counts = counts }; life = record a.life { out = out; witnessed = w } }
+remade a out counts p c w = record a { held = record a.held { processed = p; cutoff = c; witnessed = w; counts = counts }; life = record a.life { out = out } }
 
 pub with_processed-then : {P E : Type 0} (epochs : Epochs) (a : Seen P E) (xs ys out out' : List Outstanding) (counts counts' : Counts) → with_processed epochs (with_processed epochs a xs out counts) ys out' counts' ≡ with_processed epochs a (xs ++ ys) out' counts'
 with_processed-then epochs a xs ys out out' counts counts' =
-    ap (λ p. remade a out' counts' p (greatest_of (greatest_of a.held.cutoff (cutoffs_of epochs a xs)) (cutoffs_of epochs a ys)) (fold (later_in a) (fold (later_in a) a.life.witnessed xs) ys)) (sym (acked_to-append a.held.processed xs ys))
-    ∙ (ap (λ c. remade a out' counts' (acked_to a.held.processed (xs ++ ys)) c (fold (later_in a) (fold (later_in a) a.life.witnessed xs) ys)) (sym (greatest_of-append a.held.cutoff (cutoffs_of epochs a xs) (cutoffs_of epochs a ys)) ∙ ap (λ cs. greatest_of a.held.cutoff cs) (sym (flat_map-append (λ o. retired epochs a.held.certs.held o.height) xs ys)))
-    ∙ ap (λ w. remade a out' counts' (acked_to a.held.processed (xs ++ ys)) (greatest_of a.held.cutoff (cutoffs_of epochs a (xs ++ ys))) w) (sym (fold-append (later_in a) a.life.witnessed xs ys)))
+    ap (λ p. remade a out' counts' p (greatest_of (greatest_of a.held.cutoff (cutoffs_of epochs a xs)) (cutoffs_of epochs a ys)) (fold (later_in a) (fold (later_in a) a.held.witnessed xs) ys)) (sym (acked_to-append a.held.processed xs ys))
+    ∙ (ap (λ c. remade a out' counts' (acked_to a.held.processed (xs ++ ys)) c (fold (later_in a) (fold (later_in a) a.held.witnessed xs) ys)) (sym (greatest_of-append a.held.cutoff (cutoffs_of epochs a xs) (cutoffs_of epochs a ys)) ∙ ap (λ cs. greatest_of a.held.cutoff cs) (sym (flat_map-append (λ o. retired epochs a.held.certs.held o.height) xs ys)))
+    ∙ ap (λ w. remade a out' counts' (acked_to a.held.processed (xs ++ ys)) (greatest_of a.held.cutoff (cutoffs_of epochs a (xs ++ ys))) w) (sym (fold-append (later_in a) a.held.witnessed xs ys)))
 
 -- SO FAR
 

@@ -190,15 +190,15 @@ last_witnessed retention last r = by (round_lt last r) refl
 -- The actor after its cutoff was raised and synced: what is left open are the certificates, the tip and the counts.
 abbrev pub noted : {P E : Type 0} → Seen P E → List Cutoff → Round → Seen P E → Seen P E
 noted a cutoffs r m = record a {
-  held = record a.held { certs = m.held.certs; cutoff = greatest_of a.held.cutoff cutoffs; pairs = pair_of a.held.processed (greatest_of a.held.cutoff cutoffs) ∷ []; counts = m.held.counts };
-  life = record a.life { witnessed = r; tip = m.life.tip };
+  held = record a.held { certs = m.held.certs; cutoff = greatest_of a.held.cutoff cutoffs; witnessed = r; pairs = pair_of a.held.processed (greatest_of a.held.cutoff cutoffs) ∷ []; counts = m.held.counts };
+  life = record a.life { tip = m.life.tip };
 }
 
 -- a raised cutoff, its sync and a late put leave that, with the tip that the put may make
 noted_same : {P E : Type 0} (inner : List ℕ → List ℕ) (a w s m : Seen P E) (cutoffs : List Cutoff) (r : Round) (f : Finalization) (b : Block) → RaisesTo a cutoffs r w → s ≡ record w { held = record w.held { pairs = pair_of w.held.processed w.held.cutoff ∷ []; counts = s.held.counts } } → StoresLate inner s f b m → (m ≡ noted a cutoffs r m) × (m.life.tip ≡ late_tip (is_due a.held b) a.life.tip b)
-noted_same {P = P} {E = E} inner a w s m cutoffs r f b raised synced stores = (same ∙ ap (λ t. record (noted a cutoffs r m) { life = record a.life { witnessed = r; tip = t } }) (sym tip), tip)
+noted_same {P = P} {E = E} inner a w s m cutoffs r f b raised synced stores = (same ∙ ap (λ t. record (noted a cutoffs r m) { life = record a.life { tip = t } }) (sym tip), tip)
   where
-    same : m ≡ record (noted a cutoffs r m) { life = record a.life { witnessed = r; tip = late_tip (is_due a.held b) a.life.tip b } }
+    same : m ≡ record (noted a cutoffs r m) { life = record a.life { tip = late_tip (is_due a.held b) a.life.tip b } }
     same =
         stores.same
         ∙ (ap (λ (x : Seen P E). record x { held = record x.held { certs = m.held.certs; counts = m.held.counts }; life = record x.life { tip = late_tip (is_due x.held b) x.life.tip b } }) synced
@@ -269,8 +269,8 @@ module _ {P E : Type 0} (config : Config) (chain : Chain) (a : Seen P E) (f : Fi
     cutoff_by : (rs : List Round) → met_rounds n (met_finalization n e) ≡ rs → cutoff_after config n e no_floor ≡ greatest_of a.held.cutoff (map at_round rs)
     cutoff_by rs is = ap (λ cs. greatest_of a.held.cutoff cs) (append-nil (map at_round (met_rounds n (met_finalization n e)))) ∙ ap (λ xs. greatest_of a.held.cutoff (map at_round xs)) is
 
-    witnessed_by : (rs : List Round) → met_rounds n (met_finalization n e) ≡ rs → (witnessing_of config n e no_floor).last ≡ (fold (with_witness config.retention) (record { last = a.life.witnessed; prunes = [] }) rs).last
-    witnessed_by rs is = ap (λ xs. (fold (with_witness config.retention) (record { last = a.life.witnessed; prunes = [] }) xs).last) is
+    witnessed_by : (rs : List Round) → met_rounds n (met_finalization n e) ≡ rs → (witnessing_of config n e no_floor).last ≡ (fold (with_witness config.retention) (record { last = a.held.witnessed; prunes = [] }) rs).last
+    witnessed_by rs is = ap (λ xs. (fold (with_witness config.retention) (record { last = a.held.witnessed; prunes = [] }) xs).last) is
 
     asks_by : (o : Option Block) (rs : List Round) → at_hand n f.payload ≡ o → met_rounds n (met_finalization n e) ≡ rs → own_asks config n e no_floor ≡ reported_asks n f o ++ raise_asks a.held.cutoff (map at_round rs)
     asks_by o rs is met = ap (λ p. reported_asks n f p ++ raise_asks a.held.cutoff (map at_round (met_rounds n (met_finalization n e)))) is ∙ ap (λ xs. reported_asks n f o ++ raise_asks a.held.cutoff (map at_round xs)) met
@@ -481,7 +481,7 @@ module _ {P E : Type 0} (config : Config) (chain : Chain) (a : Seen P E) (f : Fi
       are_tips = tip_reports-tips a.life.tip f b;
       tips_rise = subst (TipsFrom a.life.tip (tip_reports a.life.tip f b)) (sym (ap (λ s. s.life.tip) stores.same)) (tip_reports-rise a.life.tip f b);
       tips_chain = tip_reports-chain chain a.life.tip f b (block-final b is).0 (block-final b is).1;
-      witnessed = ap (λ s. s.life.witnessed) stores.same ∙ sym (witnessed_by [] met);
+      witnessed = ap (λ s. s.held.witnessed) stores.same ∙ sym (witnessed_by [] met);
       stored = subst (λ s. IfSome s (IsStored (node_of m buffer asked))) (sym storing) stored;
       stored_late = subst (λ s. IfSome s (IsStoredLate n no_floor (node_of m buffer asked))) (sym storing) (λ with low held. absurd (let high : height_of a.held.processed < b.height = above_from (height_of a.held.processed) b.height above in omega arith));
       no_query = refl;
@@ -544,7 +544,7 @@ module _ {P E : Type 0} (config : Config) (chain : Chain) (a : Seen P E) (f : Fi
 
     -- the actor with the raised cutoff
     abbrev pub IsNoted : Seen P E → Type 0
-    IsNoted m = m ≡ noted a (at_round f.round ∷ []) (later_round a.life.witnessed (Some f.round)) m
+    IsNoted m = m ≡ noted a (at_round f.round ∷ []) (later_round a.held.witnessed (Some f.round)) m
 
     -- the node that it leaves is good, where the tip reaches what was put
     IsGood-late : IsPartition config.epochs → (b : Block) (m : Seen P E) → at_hand n f.payload ≡ Some b → IsFalse (nat_lt (height_of a.held.processed) b.height) → a.life.tip ≤ m.life.tip → (IsTrue (is_due a.held b) → b.height ≤ m.life.tip) → IsNoted m → PutsLate b m.held.certs → IsGood config chain (node_of m buffer asked)
@@ -582,7 +582,7 @@ module _ {P E : Type 0} (config : Config) (chain : Chain) (a : Seen P E) (f : Fi
       are_tips = only;
       tips_rise = rise;
       tips_chain = of_chain;
-      witnessed = ap (λ s. s.life.witnessed) same ∙ (last_witnessed config.retention a.life.witnessed f.round ∙ sym (witnessed_by (f.round ∷ []) met));
+      witnessed = ap (λ s. s.held.witnessed) same ∙ (last_witnessed config.retention a.held.witnessed f.round ∙ sym (witnessed_by (f.round ∷ []) met));
       stored = subst (λ s. IfSome s (IsStored (node_of m buffer asked))) (sym storing) stored;
       stored_late = subst (λ s. IfSome s (IsStoredLate n no_floor (node_of m buffer asked))) (sym storing) (λ with at_most has. due_height _ (has_height a.held.blocks.held b.height) a.held.certs (at_height b.height f) m.held.certs (λ ignored. cert_there b is ignored) certs has);
       no_query = refl;
@@ -631,8 +631,8 @@ module _ {P E : Type 0} (config : Config) (chain : Chain) (a : Seen P E) (f : Fi
         by false not_due at = Reaches-told partition b [] m certs_nested is low tt at tt (subst (λ k. a.life.tip ≤ k) (sym at) (omega arith)) (λ put. absurd (let both : false ≡ true = sym not_due ∙ put in cc)) same certs
 
     -- from the raise, the sync and the late put
-    pub Reaches-late : IsPartition config.epochs → (b : Block) (w s m : Seen P E) → IsNested a.held.certs → at_hand n f.payload ≡ Some b → IsFalse (nat_lt (height_of a.held.processed) b.height) → RaisesTo a (at_round f.round ∷ []) (later_round a.life.witnessed (Some f.round)) w → s ≡ record w { held = record w.held { pairs = pair_of w.held.processed w.held.cutoff ∷ []; counts = s.held.counts } } → StoresLate config.inner s f b m → Reaches config chain a e buffer asked (late_tips (is_due a.held b) a.life.tip f b) m
-    Reaches-late partition b w s m certs_nested is low raised synced stores = Reaches-noted partition b m certs_nested is low as_noted.0 (noted_certs config.inner a w s m (at_round f.round ∷ []) (later_round a.life.witnessed (Some f.round)) f b raised synced stores) as_noted.1
+    pub Reaches-late : IsPartition config.epochs → (b : Block) (w s m : Seen P E) → IsNested a.held.certs → at_hand n f.payload ≡ Some b → IsFalse (nat_lt (height_of a.held.processed) b.height) → RaisesTo a (at_round f.round ∷ []) (later_round a.held.witnessed (Some f.round)) w → s ≡ record w { held = record w.held { pairs = pair_of w.held.processed w.held.cutoff ∷ []; counts = s.held.counts } } → StoresLate config.inner s f b m → Reaches config chain a e buffer asked (late_tips (is_due a.held b) a.life.tip f b) m
+    Reaches-late partition b w s m certs_nested is low raised synced stores = Reaches-noted partition b m certs_nested is low as_noted.0 (noted_certs config.inner a w s m (at_round f.round ∷ []) (later_round a.held.witnessed (Some f.round)) f b raised synced stores) as_noted.1
       where
         as_noted : IsNoted m × (m.life.tip ≡ late_tip (is_due a.held b) a.life.tip b)
-        as_noted = noted_same config.inner a w s m (at_round f.round ∷ []) (later_round a.life.witnessed (Some f.round)) f b raised synced stores
+        as_noted = noted_same config.inner a w s m (at_round f.round ∷ []) (later_round a.held.witnessed (Some f.round)) f b raised synced stores

@@ -95,8 +95,8 @@ LivesOn-then a m (Err x) part ends = EndsLife-then a m x part ends
 -- an actor with other stores, cutoff, pairs, tip, writes and witnessed round
 abbrev pub moved : {P E : Type 0} → Seen P E → Kept (At Block) → Kept (At Finalization) → Cutoff → List Pair → Counts → ℕ → ℕ → Round → Seen P E
 moved a blocks certs cutoff pairs counts tip covered witnessed = record a {
-  held = record a.held { blocks = blocks; certs = certs; cutoff = cutoff; pairs = pairs; counts = counts };
-  life = record a.life { tip = tip; covered = covered; witnessed = witnessed };
+  held = record a.held { blocks = blocks; certs = certs; cutoff = cutoff; witnessed = witnessed; pairs = pairs; counts = counts };
+  life = record a.life { tip = tip; covered = covered };
 }
 
 pub IsPart-moved : {P E : Type 0} (a m : Seen P E) (blocks : Kept (At Block)) (certs : Kept (At Finalization)) (cutoff : Cutoff) (pairs : List Pair) (counts : Counts) (tip covered : ℕ) (witnessed : Round) → m ≡ moved a blocks certs cutoff pairs counts tip covered witnessed → m.held.counts ≡ a.held.counts → IsPart a m

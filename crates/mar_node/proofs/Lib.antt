@@ -32,3 +32,4 @@ pub mod OpeningJudged
 pub mod Newest
 pub mod Pairs
 pub mod GoodOpenings
+pub mod Permitted

@@ -18,7 +18,7 @@ use Rattle.mar_node.specs.Chain.{Chain, Finalizes, IsBlockAt}
 use Rattle.mar_node.specs.Config.{Config}
 use Rattle.mar_node.specs.Faults.{Begin, Fault, anchor_fault, from_genesis, genesis_fault, genesis_height, is_by_value, next_after, opening_fault, stored_mismatch, successor_fault, unbacked, with_genesis}
 use Rattle.mar_node.specs.Held.{Ending, Grew, Held, IsEndedBy, IsUsual, Loses, LosesOpening, Remains, Remembered, ReopensAs, Sizes, first_life}
-use Rattle.mar_node.specs.Lives.{BackedBy, CutsReopening, Finds, IsGoodEnded, IsSettled, OpeningPair, SameAt, opened_cutoff, opened_node, opened_witnessed, processed_at}
+use Rattle.mar_node.specs.Lives.{BackedBy, CutsReopening, Finds, IsGoodEnded, IsSettled, OpeningPair, SameAt, opened_cutoff, opened_node, opened_witnessed, processed_at, round_zero}
 use Rattle.mar_node.specs.Moves.{newest, newest_tip}
 use Rattle.mar_node.specs.Node.{AreBlocksOf, AreCachedOf, BlocksAgree, Ended, FloorSafe, IsGood, IsGoodInHeights, Node}
 use Rattle.mar_node.specs.Opening.{BeginsWith, Derives, Enters, IsBeginFault, LosesDeriving, derived_cutoff, derived_pair, is_begun, next_fault, pair_in}
@@ -293,7 +293,7 @@ module _ (old : Remains) (first : Held) (reopens : ReopensAs old first) where
 
           module _ {P E : Type 0} (provider : P) (epocher : E) (sizes : Sizes) (new : Held) (derives : Derives config.epochs s new) (capacity : config.capacity ≡ sizes.capacity) where
             abbrev life : Remembered P E
-            life = first_life provider epocher sizes (opened_witnessed s.blocks.held s.certs.held (pair_in s))
+            life = first_life provider epocher sizes
 
             -- a node of these values
             abbrev of_values : Option Processed → Cutoff → List Pair → Round → Kept (At Finalization) → ℕ → Node
@@ -420,6 +420,10 @@ module _ (old : Remains) (begin : Begin) (first : Held) (reopens : ReopensAs old
     pub begun_pairs : s.pairs ≡ pair_in s ∷ []
     begun_pairs = ap (λ (k : Held). k.pairs) begins_with.same ∙ (first_pairs old first reopens ∙ ap (λ (p : Pair). p ∷ []) (sym (ap pair_in begins_with.same ∙ ap (λ (p : Option ℕ). record { processed = p; cutoff = first.cutoff }) (processed_at-height s.blocks.held (pair_in first).processed))))
 
+    -- and no round is witnessed yet
+    pub begun_fresh : s.witnessed ≡ round_zero
+    begun_fresh = ap (λ (k : Held). k.witnessed) begins_with.same ∙ reopens.witnessed
+
     since_first : (more : List Pair) (e : Ending) → Grew first (at_own_height g ∷ []) [] s → Loses s [] [] more e → LosesOpening old (at_own_height g ∷ []) more e
     since_first more e grew lost = LosesOpening-then old first (at_own_height g ∷ []) more e reopens (Loses-then first s (at_own_height g ∷ []) [] [] [] more e lost grew (Within-none (at_own_height g ∷ [])) (Within-none []))
 
@@ -467,9 +471,9 @@ module _ (config : Config) (chain : Chain) (old : Remains) (begin : Begin) where
                   derived : derived_pair config.epochs s ≡ p
                   derived = only_one (derived_pair config.epochs s) p has
 
-      pub begins : {P E : Type 0} (provider : P) (epocher : E) (sizes : Sizes) (new : Held) (life : Remembered P E) → IsLawfulOpening config chain old.ended begin → config.capacity ≡ sizes.capacity → Derives config.epochs s new → life ≡ first_life provider epocher sizes (opened_witnessed s.blocks.held s.certs.held (pair_in s)) → Begins config chain old.ended begin (node_of (record { held = new; life = life }) [] [])
-      begins provider epocher sizes new life asks capacity derives life_is =
+      pub begins : {P E : Type 0} (provider : P) (epocher : E) (sizes : Sizes) (new : Held) (life : Remembered P E) → IsLawfulOpening config chain old.ended begin → config.capacity ≡ sizes.capacity → Derives config.epochs s new → life ≡ first_life provider epocher sizes → Begins config chain old.ended begin (node_of (record { held = new; life = life }) [] [])
+      begins provider epocher sizes new _ asks capacity derives life_is =
           let own = subst (IsLawfulOpening config chain old.ended) is asks in
           subst (λ l. Begins config chain old.ended begin (node_of (record { held = new; life = l }) [] [])) (sym life_is)
-          (subst (λ b. Begins config chain old.ended b (node_of (record { held = new; life = first_life provider epocher sizes (opened_witnessed s.blocks.held s.certs.held (pair_in s)) }) [] [])) (sym is)
+          (subst (λ b. Begins config chain old.ended b (node_of (record { held = new; life = first_life provider epocher sizes }) [] [])) (sym is)
           (Begins-opened old first reopens g s begins_with (IsAlone-lawful config chain old.ended g own) config derives.successor chain own provider epocher sizes new derives capacity))

@@ -97,13 +97,13 @@ module _ {P E : Type 0} (epochs : Epochs) (inner : List ℕ → List ℕ) (parti
     may : (config : Config) (chain : Chain) (asked : List Asked) (set : IsSetTo config a.life.sizes epochs inner) (step : IsLawfulStep config chain (node_of a buffer asked) (message_told None (report_finalization f))) (sure : List (At Block)) → KeepsValues a.held.blocks.sure sure → (p : Pair) → Contains (noted ∷ []) p → MayBeLeft config chain a (message_told None (report_finalization f)) buffer asked sure p
     may config chain asked set step sure keeps p has = final.pair_late-left config chain a f buffer asked step.lawful step.one step.good step.reported (event.partition_of epochs inner partition a buffer config set.epochs_are) b (hand config chain asked set step) low sure keeps p has
 
-    pub promise-unsynced : (told : Option (List Report)) (heard heard' : Option (List Call)) (w : Seen P E) (x : Ending) → RaisesTo a (at_round f.round ∷ []) (later_round a.life.witnessed (Some f.round)) w → Grew a.held [] [] w.held → Loses w.held [] [] (pair_of w.held.processed w.held.cutoff ∷ []) x → IsUsual x.fault → KeepsPromise epochs inner a (message_told None (report_finalization f)) buffer told told heard heard' (Err x)
+    pub promise-unsynced : (told : Option (List Report)) (heard heard' : Option (List Call)) (w : Seen P E) (x : Ending) → RaisesTo a (at_round f.round ∷ []) (later_round a.held.witnessed (Some f.round)) w → Grew a.held [] [] w.held → Loses w.held [] [] (pair_of w.held.processed w.held.cutoff ∷ []) x → IsUsual x.fault → KeepsPromise epochs inner a (message_told None (report_finalization f)) buffer told told heard heard' (Err x)
     promise-unsynced told heard heard' w x raised grew lost usual config chain asked set step =
         let whole = Loses-then a.held w.held [] [] [] [] (pair_of w.held.processed w.held.cutoff ∷ []) x lost grew (λ y has. has) (λ y has. has) in
         event.quiet_cut epochs inner partition a buffer config chain asked (message_told None (report_finalization f)) step refl (λ fault. refl) told told [] [] (pair_of w.held.processed w.held.cutoff ∷ []) x (Hears-nothing told) tt tt whole
         (λ p has. may config chain asked set step x.remains.ended.blocks_sure whole.blocks_kept.sure p (subst (λ q. Contains (q ∷ []) p) (ap₂ pair_of (ap (λ s. s.held.processed) raised.same) (ap (λ s. s.held.cutoff) raised.same)) has)) usual
 
-    module _ (w s : Seen P E) (raised : RaisesTo a (at_round f.round ∷ []) (later_round a.life.witnessed (Some f.round)) w) (synced : s ≡ record w { held = record w.held { pairs = pair_of w.held.processed w.held.cutoff ∷ []; counts = s.held.counts } }) where
+    module _ (w s : Seen P E) (raised : RaisesTo a (at_round f.round ∷ []) (later_round a.held.witnessed (Some f.round)) w) (synced : s ≡ record w { held = record w.held { pairs = pair_of w.held.processed w.held.cutoff ∷ []; counts = s.held.counts } }) where
       pairs_are : s.held.pairs ≡ noted ∷ []
       pairs_are = ap (λ k. k.held.pairs) synced ∙ ap (λ k. pair_of k.held.processed k.held.cutoff ∷ []) raised.same
 

@@ -154,7 +154,7 @@ pub record Reaches {P E : Type 0} (config : Config) (chain : Chain) (a : Seen P 
   pub are_tips : AreTips tips
   pub tips_rise : TipsFrom a.life.tip tips m.life.tip
   pub tips_chain : AreTipsOf chain tips
-  pub witnessed : m.life.witnessed ≡ (witnessing_of config (node_of a buffer asked) e no_floor).last
+  pub witnessed : m.held.witnessed ≡ (witnessing_of config (node_of a buffer asked) e no_floor).last
   pub stored : IfSome (storing_of (node_of a buffer asked) e) (IsStored (node_of m buffer asked))
   pub stored_late : IfSome (storing_of (node_of a buffer asked) e) (IsStoredLate (node_of a buffer asked) no_floor (node_of m buffer asked))
   pub no_query : is_query e ≡ false

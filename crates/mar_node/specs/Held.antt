@@ -15,6 +15,7 @@ use Rattle.mar_cert.specs.Block.{Block}
 use Rattle.mar_node.specs.Acks.{Outstanding}
 use Rattle.mar_node.specs.Metadata.{Pair, first_pair}
 use Rattle.mar_node.specs.Faults.{Fault, store_fault, want_of_memory, StoreName, block_store, cert_store, meta_store, cache_store}
+use Rattle.mar_node.specs.Lives.{round_zero}
 use Rattle.mar_node.specs.Node.{Ended}
 
 -- how often each store has failed
@@ -30,23 +31,26 @@ count_of c cert_store = c.certs
 count_of c meta_store = c.meta
 count_of c cache_store = c.cache
 
--- How far delivery has come, and what a crash can leave of that.
+-- How far delivery has come, the last round that was witnessed, and what a crash can leave of the first two.
 pub record Progress : Type 0 where
   pub processed : Option Processed
   pub cutoff : Cutoff
+  pub witnessed : Round
   pub pairs : List Pair
   pub faults : ℕ
 
 -- as a store says that was just reopened
 abbrev pub progress_of : Pair → ℕ → Progress
-progress_of p faults = record { processed = option_map at_block p.processed; cutoff = p.cutoff; pairs = p ∷ []; faults = faults }
+progress_of p faults = record { processed = option_map at_block p.processed; cutoff = p.cutoff; witnessed = round_zero; pairs = p ∷ []; faults = faults }
 
--- The stores of a life, with the processed height, the cutoff, and the pairs that a crash can leave of them.
+-- The stores of a life, with the processed height, the cutoff, the last witnessed round, and the pairs that a crash can
+-- leave of the first two.
 pub record Held : Type 0 where
   pub blocks : Kept (At Block)
   pub certs : Kept (At Finalization)
   pub processed : Option Processed
   pub cutoff : Cutoff
+  pub witnessed : Round
   pub pairs : List Pair
   pub counts : Counts
 
@@ -65,19 +69,17 @@ pub record Remembered (P E : Type 0) : Type 0 where
   pub out : List Outstanding
   pub covered : ℕ
   pub tip : ℕ
-  pub witnessed : Round
   pub next_ack : ℕ
 
--- what a life begins with, where this round was the last one witnessed
-abbrev pub first_life : {P E : Type 0} → P → E → Sizes → Round → Remembered P E
-first_life provider epocher sizes witnessed = record {
+-- what a life begins with
+abbrev pub first_life : {P E : Type 0} → P → E → Sizes → Remembered P E
+first_life provider epocher sizes = record {
   provider = provider;
   epocher = epocher;
   sizes = sizes;
   out = [];
   covered = 0;
   tip = 0;
-  witnessed = witnessed;
   next_ack = 0;
 }
 
@@ -146,6 +148,7 @@ pub record ReopensAs (old : Remains) (new : Held) : Type 0 where
   pub pair_may : Contains old.ended.meta pair
   pub processed : new.processed ≡ option_map at_block pair.processed
   pub cutoff : new.cutoff ≡ pair.cutoff
+  pub witnessed : new.witnessed ≡ round_zero
   pub pairs : new.pairs ≡ pair ∷ []
   pub counts : new.counts ≡ old.counts
   pub no_cache : old.ended ≡ ended_of (blocks_left old.ended) (certs_left old.ended) old.ended.meta

@@ -20,3 +20,4 @@ pub mod Cached
 pub mod Stored
 pub mod Acks
 pub mod Metadata
+pub mod Floors

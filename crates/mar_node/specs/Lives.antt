@@ -68,10 +68,14 @@ abbrev pub later_round : Round → Option Round → Round
 later_round r None = r
 later_round r (Some s) = if round_lt r s then s else r
 
+-- the round that is witnessed before any other
+abbrev pub round_zero : Round
+round_zero = record { epoch = 0; view = 0 }
+
 -- the later of the two rounds that the cutoff is derived from
 abbrev pub opened_witnessed : List (At Block) → List (At Finalization) → Pair → Round
 opened_witnessed blocks certs pair =
-    later_round (later_round (record { epoch = 0; view = 0 }) (processed_round certs pair.processed)) (successor_round blocks certs (next_after pair.processed))
+    later_round (later_round round_zero (processed_round certs pair.processed)) (successor_round blocks certs (next_after pair.processed))
 
 -- a node that begins a life on these stores
 abbrev pub opened_node : Config → Kept (At Block) → List (At Finalization) → List Cached → ℕ → List ℕ → Pair → Node

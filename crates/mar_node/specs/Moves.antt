@@ -217,8 +217,7 @@ progress_asks epochs certs cutoff (a ∷ out) = retain (above_height a.height) �
 -- The cutoff rises to the greatest of these, and this round is the last one witnessed.
 pub record RaisesTo {P E : Type 0} (old : Seen P E) (cutoffs : List Cutoff) (witnessed : Round) (new : Seen P E) : Type 0 where
   pub same : new ≡ record old {
-    held = record old.held { cutoff = greatest_of old.held.cutoff cutoffs; counts = new.held.counts };
-    life = record old.life { witnessed = witnessed };
+    held = record old.held { cutoff = greatest_of old.held.cutoff cutoffs; witnessed = witnessed; counts = new.held.counts };
   }
 
 -- an actor after these blocks were processed in order, with what is left of the outstanding ones
@@ -227,12 +226,10 @@ with_processed epochs a done out counts = record a {
   held = record a.held {
     processed = acked_to a.held.processed done;
     cutoff = greatest_of a.held.cutoff (flat_map (λ o. retired epochs a.held.certs.held o.height) done);
+    witnessed = fold (λ r o. later_round r (round_at a.held.certs.held o.height)) a.held.witnessed done;
     counts = counts;
   };
-  life = record a.life {
-    out = out;
-    witnessed = fold (λ r o. later_round r (round_at a.held.certs.held o.height)) a.life.witnessed done;
-  };
+  life = record a.life { out = out };
 }
 
 -- The oldest block is processed where it was given.

@@ -8,7 +8,7 @@ use Rattle.mar_node.specs.Stored.{at_own_height, is_held}
 use Rattle.mar_node.specs.Metadata.{Pair, pair_of}
 use Rattle.mar_node.specs.Faults.{Fault, anchor_fault, from_genesis, genesis_fault, limit_fault, next_after, successor_fault}
 use Rattle.mar_node.specs.Held.{Ending, Held, Loses}
-use Rattle.mar_node.specs.Lives.{opened_cutoff, processed_at}
+use Rattle.mar_node.specs.Lives.{opened_cutoff, opened_witnessed, processed_at}
 use Rattle.mar_node.specs.Moves.{StoresValue}
 
 -- the processed height and the cutoff in memory
@@ -59,10 +59,16 @@ derived_cutoff epochs s = opened_cutoff epochs s.blocks.held s.certs.held (pair_
 abbrev pub derived_pair : Epochs → Held → Pair
 derived_pair epochs s = pair_of s.processed (derived_cutoff epochs s)
 
--- The successor is the one that its certificate names, and the cutoff is the derived one and durable.
+-- The successor is the one that its certificate names, the cutoff is the derived one and durable, and the later of the
+-- rounds that it is derived from is witnessed.
 pub record Derives (epochs : Epochs) (old new : Held) : Type 0 where
   pub successor : next_fault old ≡ None
-  pub same : new ≡ record old { cutoff = derived_cutoff epochs old; pairs = derived_pair epochs old ∷ []; counts = new.counts }
+  pub same : new ≡ record old {
+    cutoff = derived_cutoff epochs old;
+    witnessed = opened_witnessed old.blocks.held old.certs.held (pair_in old);
+    pairs = derived_pair epochs old ∷ [];
+    counts = new.counts;
+  }
 
 -- What is left where the cutoff couldn't be derived or made durable.
 abbrev pub LosesDeriving : Epochs → Held → Ending → Type 0

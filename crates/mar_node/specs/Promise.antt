@@ -43,7 +43,7 @@ node_of a buffer asked = record {
   inbox = record { ready = []; capacity = a.life.sizes.capacity; floor = None; prune = None; overflow = []; closed = []; seats = 0; shut = false };
   subscriptions = [];
   certified = [];
-  witnessed = a.life.witnessed;
+  witnessed = a.held.witnessed;
   buffer_closed = false;
   unanswered = [];
   next_answer = 0;

@@ -1,5 +1,6 @@
 //! How far delivery has come.
 ghost use Rattle.std.specs.Prelude.{◌≡◌, ◌^◌, ◌<◌, ◌≤◌, ◌∷◌, [], IfNone, IfSome, MatchResult, Some, false, map, nat_lt, option_map};
+ghost use Rattle.mar_node.specs.Lives.{later_round};
 ghost use Rattle.mar_key.specs.Processed.{at_absent, at_block, first_unprocessed, height_in, height_of};
 ghost use Rattle.mar_key.specs.Views.{cutoff_of, processed_of};
 ghost use Rattle.mar_store.specs.Lost.{IsCausedBy, wreck_of};
@@ -7,36 +8,37 @@ ghost use Rattle.mar_node.specs.Metadata.{LeavesPairs, pair_at, pair_of};
 ghost use Rattle.mar_node.specs.Held.{progress_of};
 ghost use Rattle.mar_node.specs.Faults.{is_at_limit};
 
+use crate::floor::State;
 use crate::stream::Stream;
-use mar_key::{Cutoff, Processed};
+use mar_cert::CommitsTo;
+use mar_codec::Digest;
+use mar_key::{Cutoff, Floor, Processed};
 use mar_store::{Lost, Meta};
-use mar_types::Height;
+use mar_types::{Height, Round};
 use std::alloc::AllocError;
 use std::marker::Model;
 
-/// The processed height and the round cutoff, with the stream that keeps them. Changes are seen at once and become
-/// durable together with the next sync.
+/// The floors of a node, with the stream that keeps the processed height and the round cutoff. Changes are seen at once;
+/// those of the two become durable together with the next sync.
 #[derive(Drop)]
-pub struct Progress<M: Meta> {
+pub struct Progress<M: Meta, C: Digest, F: CommitsTo<C>> {
     stream: Stream<M>,
-    processed: Option<Processed>,
-    cutoff: Cutoff,
+    floor: State<C, F>,
 }
 
-impl<M: Meta> Model for Progress<M> {
-    ghost use Rattle.std.specs.Prelude.{◌≡◌, option_map};
-    ghost use Rattle.mar_key.specs.Views.{cutoff_of, processed_of};
+impl<M: Meta, C: Digest, F: CommitsTo<C>> Model for Progress<M, C, F> {
+    ghost use Rattle.std.specs.Prelude.{◌≡◌};
     ghost use Rattle.mar_node.specs.Metadata.{pair_of};
     ghost use Rattle.mar_node.specs.Held.{Progress};
 
     ghost Value = { Progress };
 
-    ghost view = { λ p. record { processed = option_map processed_of p.processed; cutoff = cutoff_of p.cutoff; pairs = p.stream.left; faults = p.stream.faults } };
+    ghost view = { λ p. record { processed = p.floor.processed; cutoff = p.floor.cutoff; witnessed = p.floor.witnessed; pairs = p.stream.left; faults = p.stream.faults } };
 
-    ghost invariant = { λ p. p.stream.pair ≡ pair_of (option_map processed_of p.processed) (cutoff_of p.cutoff) };
+    ghost invariant = { λ p. p.stream.pair ≡ pair_of p.floor.processed p.floor.cutoff };
 }
 
-impl<M: Meta> Progress<M> {
+impl<M: Meta, C: Digest, F: CommitsTo<C>> Progress<M, C, F> {
     /// What a reopened store says.
     pub fn new(meta: M) -> Self
         requires { M.left meta ≡ M.current meta ∷ [] }
@@ -44,34 +46,39 @@ impl<M: Meta> Progress<M> {
     {
         let stream = Stream::new(meta);
         let processed = stream.processed_height().map(Processed::Block);
-        let cutoff = stream.cutoff();
+        let floor = Floor::new(processed, stream.cutoff());
         Progress {
             stream,
-            processed,
-            cutoff,
+            floor: State::new(None, floor, Round::zero()),
         }
+    }
+
+    /// The floors of the node.
+    pub fn floor(&self) -> &State<C, F>
+        ensures processed { result.now.processed ≡ self.now.processed }
+        ensures cutoff { result.now.cutoff ≡ self.now.cutoff }
+        ensures witnessed { result.now.witnessed ≡ self.now.witnessed }
+    {
+        &self.floor
     }
 
     pub fn processed(&self) -> Option<Processed>
         ensures { option_map processed_of result ≡ self.now.processed }
     {
-        self.processed
+        self.floor.processed()
     }
 
     pub fn cutoff(&self) -> Cutoff
         ensures { cutoff_of result ≡ self.now.cutoff }
     {
-        self.cutoff
+        self.floor.cutoff()
     }
 
     /// Whether the height is above the processed one, which is zero where nothing is processed.
     pub fn is_above(&self, height: Height) -> bool
         ensures { result ≡ nat_lt (height_of self.now.processed) height }
     {
-        match self.processed {
-            None => !height.is_zero(),
-            Some(processed) => processed.height() < height,
-        }
+        self.floor.processed_height() < height
     }
 
     /// Whether the processed height is the last one.
@@ -79,7 +86,7 @@ impl<M: Meta> Progress<M> {
         ensures value { result ≡ is_at_limit (option_map height_in self.now.processed) }
         ensures below { result ≡ false → first_unprocessed self.now.processed < 2 ^ 64 }
     {
-        match self.processed {
+        match self.floor.processed() {
             None => false,
             Some(processed) => processed.height().get() == u64::MAX,
         }
@@ -90,7 +97,7 @@ impl<M: Meta> Progress<M> {
         requires { first_unprocessed self.now.processed < 2 ^ 64 }
         ensures { result ≡ first_unprocessed self.now.processed }
     {
-        match self.processed {
+        match self.floor.processed() {
             None => Height::zero(),
             Some(processed) => processed.height().next(),
         }
@@ -101,7 +108,7 @@ impl<M: Meta> Progress<M> {
         ensures found { IfSome result (λ h. h ≡ first_unprocessed self.now.processed) }
         ensures none { IfNone result (2 ^ 64 ≤ first_unprocessed self.now.processed) }
     {
-        match self.processed {
+        match self.floor.processed() {
             None => Some(Height::zero()),
             Some(processed) if processed.height().get() == u64::MAX => None,
             Some(processed) => Some(processed.height().next()),
@@ -109,20 +116,18 @@ impl<M: Meta> Progress<M> {
     }
 
     /// The processed height, whose block isn't there.
-    pub fn without_block(self, height: Height) -> Self
-        requires { self.processed ≡ Some (at_block height) }
-        ensures { result ≡ record self { processed = Some (at_absent height) } }
+    pub fn without_block(&mut self, height: Height)
+        requires { self.old.processed ≡ Some (at_block height) }
+        ensures { self.new ≡ record self.old { processed = Some (at_absent height) } }
     {
-        let Progress {
-            stream,
-            processed: _,
-            cutoff,
-        } = self;
-        Progress {
-            stream,
-            processed: Some(Processed::Absent(height)),
-            cutoff,
-        }
+        self.floor.set_processed(Processed::Absent(height));
+    }
+
+    /// Takes note of a round: the last one witnessed is the later of it and the one before.
+    pub fn witness(&mut self, round: Round)
+        ensures { self.new ≡ record self.old { witnessed = later_round self.old.witnessed (Some round) } }
+    {
+        let _before = self.floor.witness(round);
     }
 
     /// Makes the counted call of the store fail that is so many calls away, 1 being the next.
@@ -137,32 +142,23 @@ impl<M: Meta> Progress<M> {
         ensures left { map pair_at (M.Wreck.left result) ≡ self.pairs }
         ensures count { M.Wreck.faults result ≡ self.faults }
     {
-        let Progress {
-            stream,
-            processed: _,
-            cutoff: _,
-        } = self;
+        let Progress { stream, floor: _ } = self;
         stream.wreck()
     }
 
     /// The block at this height is processed.
     pub fn set_processed(self, height: Height) -> Result<Self, Lost<M::Wreck>>
         ensures done { MatchResult result
-            (λ p. (p.processed ≡ Some (at_block height)) × (p.cutoff ≡ self.cutoff) × (p.pairs ≡ self.pairs))
+            (λ p. (p.processed ≡ Some (at_block height)) × (p.cutoff ≡ self.cutoff) × (p.witnessed ≡ self.witnessed) × (p.pairs ≡ self.pairs))
             (λ l. LeavesPairs self.pairs [] (map pair_at (M.Wreck.left (wreck_of l)))) }
         ensures cause { IsCausedBy (λ p. p.faults) M.Wreck.faults self.faults result }
     {
-        let Progress {
-            stream,
-            processed: _,
-            cutoff,
-        } = self;
+        let Progress { stream, mut floor } = self;
         match stream.acknowledge(height) {
-            Ok(stream) => Ok(Progress {
-                stream,
-                processed: Some(Processed::Block(height)),
-                cutoff,
-            }),
+            Ok(stream) => {
+                floor.set_processed(Processed::Block(height));
+                Ok(Progress { stream, floor })
+            }
             Err(lost) => Err(lost),
         }
     }
@@ -170,21 +166,16 @@ impl<M: Meta> Progress<M> {
     /// The cutoff is this one now.
     pub fn set_cutoff(self, cutoff: &Cutoff) -> Result<Self, Lost<M::Wreck>>
         ensures done { MatchResult result
-            (λ p. (p.processed ≡ self.processed) × (p.cutoff ≡ cutoff_of cutoff.now) × (p.pairs ≡ self.pairs))
+            (λ p. (p.processed ≡ self.processed) × (p.cutoff ≡ cutoff_of cutoff.now) × (p.witnessed ≡ self.witnessed) × (p.pairs ≡ self.pairs))
             (λ l. LeavesPairs self.pairs [] (map pair_at (M.Wreck.left (wreck_of l)))) }
         ensures cause { IsCausedBy (λ p. p.faults) M.Wreck.faults self.faults result }
     {
-        let Progress {
-            stream,
-            processed,
-            cutoff: _,
-        } = self;
+        let Progress { stream, mut floor } = self;
         match stream.set_cutoff(*cutoff) {
-            Ok(stream) => Ok(Progress {
-                stream,
-                processed,
-                cutoff: *cutoff,
-            }),
+            Ok(stream) => {
+                floor.set_cutoff(*cutoff);
+                Ok(Progress { stream, floor })
+            }
             Err(lost) => Err(lost),
         }
     }
@@ -192,21 +183,13 @@ impl<M: Meta> Progress<M> {
     /// Makes both durable together.
     pub fn sync(self) -> Result<Self, Lost<M::Wreck>>
         ensures done { MatchResult result
-            (λ p. (p.processed ≡ self.processed) × (p.cutoff ≡ self.cutoff) × (p.pairs ≡ pair_of self.processed self.cutoff ∷ []))
+            (λ p. (p.processed ≡ self.processed) × (p.cutoff ≡ self.cutoff) × (p.witnessed ≡ self.witnessed) × (p.pairs ≡ pair_of self.processed self.cutoff ∷ []))
             (λ l. LeavesPairs self.pairs (pair_of self.processed self.cutoff ∷ []) (map pair_at (M.Wreck.left (wreck_of l)))) }
         ensures cause { IsCausedBy (λ p. p.faults) M.Wreck.faults self.faults result }
     {
-        let Progress {
-            stream,
-            processed,
-            cutoff,
-        } = self;
+        let Progress { stream, floor } = self;
         match stream.sync() {
-            Ok(stream) => Ok(Progress {
-                stream,
-                processed,
-                cutoff,
-            }),
+            Ok(stream) => Ok(Progress { stream, floor }),
             Err(lost) => Err(lost),
         }
     }

@@ -3,6 +3,5 @@ pub mod ByHeight
 pub mod ByName
 pub mod Entries
 pub mod Known
-pub mod Permitted
 pub mod Retained
 pub mod Waiting

@@ -1,5 +1,4 @@
 pub mod Certified
-pub mod Floors
 pub mod Gate
 pub mod Staged
 pub mod Views

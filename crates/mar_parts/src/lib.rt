@@ -1,10 +1,9 @@
-//! The parts of the actor: acknowledgements, the gate before dispatch, what is staged, certified or waited for, the
-//! floor, and the metadata.
+//! The parts of the actor: acknowledgements, the gate before dispatch, and what is staged, certified or waited for. The
+//! state of the floors and the stream that keeps them stand below, and are handed on here.
 #![tactic(auto)]
 
 mod acks;
 mod certified;
-mod floor;
 mod gate;
 mod staged;
 mod subscriptions;
@@ -12,9 +11,8 @@ mod waiters;
 
 pub use acks::{Mark, Oldest, PendingAck, PendingAcks};
 pub use certified::Certified;
-pub use floor::{FetchAdmission, State};
 pub use gate::DispatchGate;
-pub use mar_node::{Stream, closed_epoch, synced_cutoff, synced_height};
+pub use mar_node::{FetchAdmission, State, Stream, closed_epoch, synced_cutoff, synced_height};
 pub use staged::Staged;
 pub use subscriptions::{Key, Served, Subscriptions};
 

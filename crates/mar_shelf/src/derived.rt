@@ -4,11 +4,11 @@ ghost use Rattle.mar_types.specs.Epochs.{closed_epoch};
 ghost use Rattle.mar_key.specs.Cutoff.{at_epoch, at_round, greatest_of};
 ghost use Rattle.mar_key.specs.Processed.{first_unprocessed};
 ghost use Rattle.mar_key.specs.Views.{cutoff_of};
-ghost use Rattle.mar_store.specs.Kept.{EachHeightOnce, newest_upto, value_at};
+ghost use Rattle.mar_store.specs.Kept.{EachHeightOnce, newest_upto};
 ghost use Rattle.mar_node.specs.Metadata.{pair_of};
 ghost use Rattle.mar_node.specs.Faults.{next_after, successor_fault};
 ghost use Rattle.mar_node.specs.Held.{GoesOn, IsUsual, Loses};
-ghost use Rattle.mar_node.specs.Lives.{closed_epoch_at, later_round, opened_witnessed, processed_round, successor_round};
+ghost use Rattle.mar_node.specs.Lives.{closed_epoch_at, later_round, processed_round, round_zero, successor_round};
 ghost use Rattle.mar_node.specs.Opening.{Derives, LosesDeriving, next_fault, pair_in};
 
 use crate::fault::Fault;
@@ -31,23 +31,35 @@ impl<
     M: Meta,
     H: Shelf,
 > Stores<V, F, FB, FC, M, H> {
-    /// Raises the cutoff to what the archives show, and makes it durable. The round is the last one that was witnessed.
-    pub fn derive<E: Epocher>(self, epocher: &E) -> Result<(Self, Round), Ended<V, F, FB, FC, M, H>>
+    /// Raises the cutoff to what the archives show, and makes it durable. The later of the rounds that show it is
+    /// witnessed.
+    pub fn derive<E: Epocher>(self, epocher: &E) -> Result<Self, Ended<V, F, FB, FC, M, H>>
         requires once { EachHeightOnce self.certs.held }
         requires pairs { self.pairs ≡ pair_in self ∷ [] }
+        requires fresh { self.witnessed ≡ round_zero }
         requires below { first_unprocessed self.processed < 2 ^ 64 }
-        ensures ok { IfOk result (λ r. Derives (E.epochs epocher.now) self r.0) }
-        ensures witnessed { IfOk result (λ r. r.1 ≡ opened_witnessed self.blocks.held self.certs.held (pair_in self)) }
-        ensures counts { IfOk result (λ r. r.0.counts ≡ self.counts) }
+        ensures ok { IfOk result (Derives (E.epochs epocher.now) self) }
+        ensures counts { IfOk result (λ s. s.counts ≡ self.counts) }
         ensures lost { IfErr result (LosesDeriving (E.epochs epocher.now) self) }
         ensures kind { IfErr result (λ e. IsUsual e.fault ⊎ (next_fault self ≡ Some e.fault)) }
     {
         let (stores, successor) = self.successor()?;
         let (stores, newest) = stores.processed_round()?;
         let cutoff = stores.derived_cutoff(epocher, &newest, &successor);
-        let witnessed = later(later(Round::zero(), &newest), &successor);
         let stores = stores.raise_to(&cutoff)?;
-        Ok((stores, witnessed))
+        let stores = stores.witness_some(&newest);
+        Ok(stores.witness_some(&successor))
+    }
+
+    /// Takes note of a round, if there is one.
+    fn witness_some(self, round: &Option<Round>) -> Self
+        ensures { result ≡ record self { witnessed = later_round self.witnessed round.now } }
+    {
+        let mut stores = self;
+        if let Some(round) = round {
+            stores.progress.witness(*round);
+        }
+        stores
     }
 
     /// The round of the certificate just above the processed height, where its block is held too. Where that is another
@@ -181,15 +193,5 @@ fn raised_over(cutoff: Cutoff, epoch: Option<Epoch>) -> Cutoff
     match epoch {
         None => cutoff,
         Some(epoch) => cutoff.raised_to(Cutoff::Epoch(epoch)),
-    }
-}
-
-/// The later of a round and another, if there is one.
-fn later(round: Round, other: &Option<Round>) -> Round
-    ensures { result ≡ later_round round other.now }
-{
-    match other {
-        None => round,
-        Some(other) => { if round < *other { *other } else { round } }
     }
 }

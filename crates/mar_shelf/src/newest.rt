@@ -1,5 +1,5 @@
 //! The newest of the heights that ranges hold.
-ghost use Rattle.std.specs.Prelude.{◌≡◌, ◌≤◌, nat_le};
+ghost use Rattle.std.specs.Prelude.{◌≡◌};
 ghost use Rattle.mar_store.specs.Spans.{range_of, ranges_of};
 ghost use Rattle.mar_node.specs.Newest.{upto, upto_in};
 

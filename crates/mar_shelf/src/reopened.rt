@@ -197,7 +197,7 @@ impl<
         ensures { result ≡ record self { processed = Some (at_absent height) } }
     {
         let mut stores = self;
-        stores.progress = stores.progress.without_block(height);
+        stores.progress.without_block(height);
         stores
     }
 }

@@ -38,7 +38,7 @@ pub struct Stores<
 > {
     pub blocks: FB,
     pub certs: FC,
-    pub progress: Progress<M>,
+    pub progress: Progress<M, V::Commitment, F>,
     shelf: H,
     of: PhantomData<(V, F)>,
 }
@@ -60,6 +60,7 @@ impl<
       certs = FC.stored s.certs;
       processed = s.progress.processed;
       cutoff = s.progress.cutoff;
+      witnessed = s.progress.witnessed;
       pairs = s.progress.pairs;
       counts = record { blocks = FB.faults s.blocks; certs = FC.faults s.certs; meta = s.progress.faults; cache = H.faults s.shelf };
     } };
@@ -532,10 +533,15 @@ impl<
         }
     }
 
-    fn of_shelf(blocks: FB, certs: FC, progress: Progress<M>, lost: Lost<H::Wreck>) -> Self
+    fn of_shelf(
+        blocks: FB,
+        certs: FC,
+        progress: Progress<M, V::Commitment, F>,
+        lost: Lost<H::Wreck>,
+    ) -> Self
         ensures { result ≡ record {
           fault = lost_fault cache_store lost;
-          remains = record { ended = ended_of (left_of (FB.stored blocks)) (left_of (FC.stored certs)) (progress.pairs); counts = record { blocks = FB.faults blocks; certs = FC.faults certs; meta = progress.faults; cache = H.Wreck.faults (wreck_of lost) } };
+          remains = record { ended = ended_of (left_of (FB.stored blocks)) (left_of (FC.stored certs)) progress.pairs; counts = record { blocks = FB.faults blocks; certs = FC.faults certs; meta = progress.faults; cache = H.Wreck.faults (wreck_of lost) } };
         } }
     {
         let (fault, shelf) = lost_by(lost, StoreName::Cache);
@@ -550,10 +556,15 @@ impl<
         }
     }
 
-    fn of_blocks(lost: Lost<FB::Wreck>, certs: FC, progress: Progress<M>, shelf: H) -> Self
+    fn of_blocks(
+        lost: Lost<FB::Wreck>,
+        certs: FC,
+        progress: Progress<M, V::Commitment, F>,
+        shelf: H,
+    ) -> Self
         ensures { result ≡ record {
           fault = lost_fault block_store lost;
-          remains = record { ended = ended_of (FB.Wreck.left (wreck_of lost)) (left_of (FC.stored certs)) (progress.pairs); counts = record { blocks = FB.Wreck.faults (wreck_of lost); certs = FC.faults certs; meta = progress.faults; cache = H.faults shelf } };
+          remains = record { ended = ended_of (FB.Wreck.left (wreck_of lost)) (left_of (FC.stored certs)) progress.pairs; counts = record { blocks = FB.Wreck.faults (wreck_of lost); certs = FC.faults certs; meta = progress.faults; cache = H.faults shelf } };
         } }
     {
         let (fault, blocks) = lost_by(lost, StoreName::Blocks);
@@ -568,10 +579,15 @@ impl<
         }
     }
 
-    fn of_certs(blocks: FB, lost: Lost<FC::Wreck>, progress: Progress<M>, shelf: H) -> Self
+    fn of_certs(
+        blocks: FB,
+        lost: Lost<FC::Wreck>,
+        progress: Progress<M, V::Commitment, F>,
+        shelf: H,
+    ) -> Self
         ensures { result ≡ record {
           fault = lost_fault cert_store lost;
-          remains = record { ended = ended_of (left_of (FB.stored blocks)) (FC.Wreck.left (wreck_of lost)) (progress.pairs); counts = record { blocks = FB.faults blocks; certs = FC.Wreck.faults (wreck_of lost); meta = progress.faults; cache = H.faults shelf } };
+          remains = record { ended = ended_of (left_of (FB.stored blocks)) (FC.Wreck.left (wreck_of lost)) progress.pairs; counts = record { blocks = FB.faults blocks; certs = FC.Wreck.faults (wreck_of lost); meta = progress.faults; cache = H.faults shelf } };
         } }
     {
         let (fault, certs) = lost_by(lost, StoreName::Certs);

@@ -1,48 +1,37 @@
 -- What the program's play makes of each line.
-use Rattle.std.proofs.Common.{Bool, Contains, List, None, Option, Some, [], ap, arith, false, inl, inr, le_refl, refl, subst, sym, true, ℕ, ◌++◌, ◌<◌, ◌∙◌, ◌∷◌, ◌≡◌, ◌⊎◌}
-use Rattle.std.specs.Prelude.{Err, Ok, Result}
-use Rattle.std.specs.List.{list_any}
-use Rattle.std.proofs.lemmas.List.{append-nil}
+use Rattle.std.proofs.Common.{Contains, List, None, Some, [], ap, arith, refl, subst, sym, ℕ, ◌++◌, ◌<◌, ◌∷◌, ◌≡◌, ◌⊎◌}
 use Rattle.std.proofs.lemmas.List.Elements.{Contains-append_left}
-use Rattle.mar_codec.specs.declared.Sha256.{Sha256}
 use Rattle.mar_codec.specs.declared.Sha256Digest.{Sha256Digest}
 use Rattle.mar_types.specs.Epochs.{fixed_epochs}
 use Rattle.mar_cert.specs.Block.{Block}
 use Rattle.mar_block.specs.Sent.{Held}
-use Rattle.mar_block.specs.declared.EmptyBlock.{EmptyBlock}
 use Rattle.mar_cert.specs.Finalization.{Finalization}
 use Rattle.mar_node.specs.Messages.{report_finalization}
 use Rattle.mar_key.specs.Asked.{Asked, asked_after}
 use Rattle.mar_key.specs.Keys.{Call}
-use Rattle.mar_node.specs.Acks.{is_unmarked}
 use Rattle.mar_node.specs.Chain.{Chain}
 use Rattle.mar_node.specs.Config.{Config}
-use Rattle.mar_node.specs.Event.{Event, ack_given, life_started, message_told}
+use Rattle.mar_node.specs.Event.{Event, life_started, message_told}
 use Rattle.mar_node.specs.Faults.{StoreName, from_genesis}
 use Rattle.mar_node.specs.Held.{IsEndedBy, IsUsual, NotFewer, Remains, Sizes, remains_of}
 use Rattle.mar_node.specs.Lives.{CutsReopening, Finds}
-use Rattle.mar_node.specs.Node.{IsGood}
 use Rattle.mar_node.specs.Promise.{IsAlone, IsGoodUntold, IsOpeningFault, IsSetTo, node_of}
 use Rattle.mar_node.specs.Step.{Report}
 use Rattle.mar_shelf.specs.declared.fault.Fault.{Fault as FaultCode}
-use Rattle.marshal.specs.Lines.{plain_line}
-use Rattle.marshal.specs.Playing.{AfterEvent, HasLuck, IsExcused, IsLawfulLine, IsSetAs, IsSetNode, Plays, PlaysLine, SeenNode, TakesEvent, empty_buffer, luck_after, luck_in}
+use Rattle.marshal.specs.Playing.{AfterEvent, HasLuck, IsExcused, IsLawfulLine, IsSetNode, Plays, PlaysLine, SeenNode, TakesEvent, empty_buffer, luck_after, luck_in}
 use Rattle.marshal.specs.Run.{LineDone, StepDone}
 use Rattle.marshal.specs.Script.{Line, Settings, buffer_line, config_of, crash_line, fail_line, open_line, tell_line}
-use Rattle.marshal.specs.Shown.{remark_of}
 use Rattle.marshal.specs.Text.{Output, State, running, silent_output, stopped}
-use Rattle.marshal.specs.Turn.{fault_in, output_of, plain_fault, remains_in, state_of}
-use Rattle.marshal.specs.declared.line.Line.{Line as LineCode}
+use Rattle.marshal.specs.Turn.{output_of, plain_fault, remains_in, state_of}
 use Rattle.marshal.specs.declared.line.Line.TheVariants as line
 use Rattle.marshal.specs.declared.play.Outcome.{Outcome}
 use Rattle.marshal.specs.declared.play.Outcome.TheVariants as outcome
 use Rattle.marshal.specs.declared.play.State.{State as StateCode}
 use Rattle.marshal.specs.declared.play.State.TheVariants as state
 use Rattle.marshal.specs.declared.text.RemarkShown.{RemarkShown}
-use Rattle.marshal.specs.declared.text.RemarkShown.TheVariants as remark
 use Rattle.marshal.proofs.EventTurns.{not_fewer}
-use Rattle.marshal.proofs.Lasting.{IsPlain, acks, reports, starts}
-use Rattle.marshal.proofs.LineTurns.{ack_done, between-buffer, cut_between, cut_excused, excused, lawful_step, step_between, step_cut, step_done}
+use Rattle.marshal.proofs.Lasting.{IsPlain, starts}
+use Rattle.marshal.proofs.LineTurns.{between-buffer, cut_between, cut_excused, excused, lawful_step, step_between, step_cut, step_done}
 use Rattle.marshal.proofs.Replaying.{between_left}
 use Rattle.marshal.proofs.OpeningTurns.{lasting-found, lawful_start, opening_cut, opening_done, opening_excused, start_cut}
 

@@ -14,7 +14,7 @@ use Rattle.mar_node.specs.Chain.{Chain}
 use Rattle.mar_node.specs.Config.{Config}
 use Rattle.mar_node.specs.Event.{Event, ack_given, message_told}
 use Rattle.mar_node.specs.Faults.{Fault, StoreName, ack_kind, event_fault, is_by_value, store_fault, ticket_limit}
-use Rattle.mar_node.specs.Held.{Counts, Ending, IsEndedBy, Seen, count_of, remains_of}
+use Rattle.mar_node.specs.Held.{Counts, Ending, IsEndedBy, Seen, count_of}
 use Rattle.mar_node.specs.Lives.{Cuts, CutsEvent}
 use Rattle.mar_node.specs.Node.{Ended, IsGood, Node}
 use Rattle.mar_node.specs.Promise.{IsGoodFor, IsLawfulStep, ReportsFinalized, RestsBefore, made_of, node_of}
@@ -24,12 +24,11 @@ use Rattle.mar_shelf.specs.declared.fault.Fault.{Fault as FaultCode}
 use Rattle.mar_shelf.specs.declared.fault.Fault.TheVariants as fault
 use Rattle.mar_shelf.specs.declared.fault.TicketKind.{TicketKind}
 use Rattle.mar_shelf.specs.declared.fault.TicketKind.TheVariants.{Ack}
-use Rattle.marshal.specs.Playing.{IsBetween, IsExcused, IsLasting, IsLawfulLine, Plays}
+use Rattle.marshal.specs.Playing.{IsBetween, IsExcused, IsLasting, IsLawfulLine}
 use Rattle.marshal.specs.Run.{LineDone, RunningDone, StepDone}
-use Rattle.marshal.specs.Script.{Line, ack_line, buffer_line, tell_line}
-use Rattle.marshal.specs.Text.{Output, Remark, State, remark_ignored, running, stopped}
-use Rattle.marshal.specs.Turn.{fault_in, output_of, plain_fault}
-use Rattle.marshal.specs.declared.play.Outcome.{Outcome}
+use Rattle.marshal.specs.Script.{Line, ack_line, tell_line}
+use Rattle.marshal.specs.Text.{Output, State, remark_ignored, running, stopped}
+use Rattle.marshal.specs.Turn.{output_of, plain_fault}
 use Rattle.marshal.specs.declared.play.Outcome.TheVariants as outcome
 use Rattle.mar_node.proofs.Reaching.{IsGood-beside, Rest-beside}
 use Rattle.marshal.proofs.Lasting.{IsPlain, acks, lasting-step, no_event_fault, reports, starts}

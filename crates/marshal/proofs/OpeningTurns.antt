@@ -1,15 +1,13 @@
 -- What the program's openings make of a line where no life runs.
-use Rattle.std.proofs.Common.{Bool, Contains, List, None, Option, Some, [], ap, arith, bytes_eq, eq-eqb, false, if◌then◌else◌, inl, inr, option_map, refl, subst, suc, sym, true, zero, ℕ, ◌++◌, ◌<◌, ◌==◌, ◌∙◌, ◌∷◌, ◌≡◌, ◌⊎◌}
+use Rattle.std.proofs.Common.{Contains, List, None, Some, [], arith, inl, inr, option_map, refl, subst, sym, ◌++◌, ◌∷◌, ◌≡◌, ◌⊎◌}
 use Rattle.std.proofs.lemmas.List.Elements.{Contains-append_cases, Contains-append_left, Contains-append_right}
 use Rattle.mar_codec.specs.Causes.{Rose}
 use Rattle.mar_codec.specs.declared.Sha256Digest.{Sha256Digest}
 use Rattle.mar_cert.specs.Block.{Block}
-use Rattle.mar_cert.specs.Finalization.{Finalization}
 use Rattle.mar_key.specs.Asked.{asked_after}
 use Rattle.mar_key.specs.Keys.{Call}
 use Rattle.mar_key.specs.Processed.{height_in}
 use Rattle.mar_node.specs.Metadata.{Pair, pair_of}
-use Rattle.mar_store.specs.Kept.{At, Reopens, value_at}
 use Rattle.mar_store.proofs.Lookups.{AllByRecursion-weaker}
 use Rattle.mar_node.specs.Chain.{Chain, IsBlockAt}
 use Rattle.mar_node.specs.Config.{Config}
@@ -17,7 +15,7 @@ use Rattle.mar_node.specs.Event.{cutoff_after, life_started, no_floor, processed
 use Rattle.mar_node.specs.Faults.{Begin, StoreName, ack_kind, from_genesis, store_fault, ticket_limit}
 use Rattle.mar_node.specs.Held.{Counts, IsUsual, Seen, count_of}
 use Rattle.mar_node.specs.Lives.{Cuts, CutsEvent, CutsReopening, Finds, NotBelow}
-use Rattle.mar_node.specs.Node.{Ended, IsGood, Node}
+use Rattle.mar_node.specs.Node.{Ended, Node}
 use Rattle.mar_node.specs.Promise.{IsAlone, IsGoodUntold, IsLawfulOpening, IsLawfulStep, IsOpeningFault, made_of, node_of}
 use Rattle.mar_node.specs.Step.{Report, Steps}
 use Rattle.mar_shelf.specs.declared.fault.Fault.{Fault as FaultCode}

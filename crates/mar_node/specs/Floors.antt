@@ -7,8 +7,8 @@ use Rattle.mar_key.specs.Keys.{Annotation, above_height, above_round, is_denied}
 use Rattle.mar_key.specs.Processed.{Processed, height_in}
 use Rattle.mar_key.specs.Views.{annotation_of}
 use Rattle.mar_key.specs.declared.requests.Fetch.{Fetch}
-use Rattle.mar_parts.specs.declared.floor.FetchAdmission.{FetchAdmission}
-use Rattle.mar_parts.specs.declared.floor.FetchAdmission.TheVariants.{Denied, Issued}
+use Rattle.mar_node.specs.declared.floor.FetchAdmission.{FetchAdmission}
+use Rattle.mar_node.specs.declared.floor.FetchAdmission.TheVariants.{Denied, Issued}
 
 -- a floor whose block is awaited, and the commitment of the block that the buffer tells of as it comes
 pub record Pending : Type 0 where

@@ -4,12 +4,11 @@ ghost use Rattle.std.specs.List.{list_any};
 ghost use Rattle.mar_key.specs.Hears.{Hears};
 ghost use Rattle.mar_key.specs.Processed.{height_of};
 ghost use Rattle.mar_key.specs.Views.{call_of, cutoff_of, processed_of, targeted_of};
-ghost use Rattle.mar_parts.specs.Floors.{admission, awaits, floor_of, pending_finalization, permits, permitted, round_before, with_witness, without_floor};
+ghost use Rattle.mar_node.specs.Floors.{admission, awaits, floor_of, pending_finalization, permits, permitted, round_before, with_witness, without_floor};
 
-use mar_block::Subscription;
 use mar_cert::CommitsTo;
 use mar_codec::Digest;
-use mar_key::{Cutoff, Fetch, Floor, Processed, Request, Resolver, TargetedResolver};
+use mar_key::{Cutoff, Fetch, Floor, Processed, Request, Resolver, Subscription, TargetedResolver};
 use mar_types::{Height, Round};
 use std::alloc::{AllocError, Global};
 use std::marker::Model;
@@ -46,7 +45,7 @@ pub struct State<C: Digest, F: CommitsTo<C>> {
 impl<C: Digest, F: CommitsTo<C>> Model for State<C, F> {
     ghost use Rattle.std.specs.Prelude.{option_map};
     ghost use Rattle.mar_key.specs.Views.{cutoff_of, processed_of};
-    ghost use Rattle.mar_parts.specs.Floors.{Floors};
+    ghost use Rattle.mar_node.specs.Floors.{Floors};
 
     ghost Value = { Floors };
 

@@ -1,8 +1,8 @@
 use Rattle.std.proofs.Common.{ap, false, length, rules, sym, true, ◌∙◌, ◌≡◌}
 use Rattle.std.specs.Prelude.{nat_lt}
-use Rattle.mar_parts.specs.Floors.{admission, permits}
-use Rattle.mar_parts.proofs.Permitted.{any_kept}
-use Rattle.mar_parts.proofs.floor.State.fetch_all_if_permitted.Goals as goal
+use Rattle.mar_node.specs.Floors.{admission, permits}
+use Rattle.mar_node.proofs.Permitted.{any_kept}
+use Rattle.mar_node.proofs.floor.State.fetch_all_if_permitted.Goals as goal
 
 pub returns-then-is_empty-clause-answer : goal.returns-then-is_empty-clause-answer
 returns-then-is_empty-clause-answer g c =
