@@ -1,3 +1,2 @@
 pub mod BlockSteps
-pub mod FirstPlaces
 pub mod SameDigests

@@ -4,7 +4,6 @@ pub mod Expected
 pub mod MockBlock
 pub mod MockBlockLemmas
 pub mod Parents
-pub mod Places
 pub mod Standard
 pub mod Recipients
 pub mod Sent

@@ -1,6 +1,6 @@
 //! A buffer in memory.
 ghost use Rattle.std.specs.Prelude.{◌≡◌, ◌++◌, ◌∷◌, [], IfOk, OnErr, OnOk, Some, false, map, option_map, true};
-ghost use Rattle.mar_block.specs.Places.{at_place};
+ghost use Rattle.mar_codec.specs.Places.{at_place};
 ghost use Rattle.mar_block.specs.Sent.{sending};
 
 use crate::places::Places;
@@ -25,7 +25,7 @@ pub struct MemBuffer<V: Variant> {
 impl<V: Variant> Model for MemBuffer<V> {
     ghost use Rattle.std.specs.Prelude.{map};
     ghost use Rattle.std.specs.BTreeMap.{get};
-    ghost use Rattle.mar_block.specs.Places.{PlacesFirst};
+    ghost use Rattle.mar_codec.specs.Places.{PlacesFirst};
     ghost use Rattle.mar_block.specs.Sent.{Held, sending};
 
     ghost Value = { Held };

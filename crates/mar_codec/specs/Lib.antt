@@ -8,3 +8,5 @@ pub mod VarintLemmas
 pub mod DigestLemmas
 pub mod CodecLemmas
 pub mod Texts
+pub mod Places
+pub mod PlacesLemmas

@@ -3,7 +3,6 @@ pub mod Lookups
 pub mod NewestUpto
 pub mod RangeLemmas
 pub mod RangeMembers
-pub mod FirstPlaces
 pub mod NamesOnce
 pub mod Filtered
 pub mod PileSteps

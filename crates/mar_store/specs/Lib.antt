@@ -10,7 +10,6 @@ pub mod Armed
 pub mod Named
 pub mod Tickets
 pub mod Luck
-pub mod Places
 pub mod Entries
 pub mod Props
 pub mod Nested

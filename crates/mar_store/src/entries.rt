@@ -7,7 +7,7 @@ ghost use Rattle.mar_store.specs.Changes.{Fails, Finishes, Puts, Syncs, left_of}
 ghost use Rattle.mar_store.specs.Kept.{value_at};
 ghost use Rattle.mar_store.specs.Named.{is_taken, value_found, value_named};
 ghost use Rattle.mar_store.specs.Luck.{lucky_from};
-ghost use Rattle.mar_store.specs.Places.{at_place, first_place};
+ghost use Rattle.mar_codec.specs.Places.{at_place, first_place};
 ghost use Rattle.mar_store.specs.Tickets.{KeepsCovers};
 ghost use Rattle.mar_store.specs.Entries.{covered_by, kept_of, next_number, seen};
 

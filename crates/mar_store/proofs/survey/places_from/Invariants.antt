@@ -2,7 +2,7 @@ use Rattle.std.proofs.Common.{◌≡◌, ◌≤◌, ◌-◌, ℕ, take, length, 
 use Rattle.std.specs.Prelude.{filter, bytes_eq, ◌==◌}
 use Rattle.std.specs.Ordering.{nat_cmp}
 use Rattle.std.specs.BTreeMap.{get}
-use Rattle.mar_store.specs.Places.{first_place}
+use Rattle.mar_codec.specs.Places.{first_place}
 use Rattle.mar_store.proofs.survey.places_from.Given as goal
 
 abbrev pub decreases-loop-place : goal.decreases-loop-place

@@ -4,7 +4,7 @@ use Rattle.std.specs.Prelude.{find, option_map, if◌then◌else◌}
 use Rattle.std.specs.List.{list_any}
 use Rattle.std.proofs.lemmas.Bool.{or_left}
 use Rattle.std.proofs.lemmas.List.{take_more, length-take-le}
-use Rattle.mar_store.specs.Places.{first_place, or_place, at_place}
+use Rattle.mar_codec.specs.Places.{first_place, or_place, at_place}
 
 later : (a b : Option ℕ) → option_map suc (or_place a b) ≡ or_place (option_map suc a) (option_map suc b)
 later None b = refl
