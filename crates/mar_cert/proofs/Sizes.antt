@@ -1,13 +1,12 @@
 -- How many bytes proposals, signers and certificates take.
-use Rattle.std.proofs.Common.{List, arith, length, length-append, suc, zero, ℕ, ◌++◌, ◌+◌, ◌*◌, ◌<◌, ◌^◌, ◌≡◌, ◌≤◌, ap, [], ◌∷◌}
+use Rattle.std.proofs.Common.{List, arith, length, length-append, ℕ, ◌++◌, ◌+◌, ◌*◌, ◌≡◌, ◌≤◌, ap, [], ◌∷◌}
 use Rattle.std.specs.List.{flat_map}
-use Rattle.std.proofs.lemmas.Bool.{cases_lt}
-use Rattle.mar_codec.specs.Varint.{IsNumber, varint}
+use Rattle.mar_codec.specs.Varint.{varint}
 use Rattle.mar_codec.specs.VarintLemmas.{length-varint, varint-small}
 use Rattle.mar_types.specs.Round.{Round, round_bytes}
 use Rattle.mar_types.specs.RoundBytes.{length-round_bytes}
-use Rattle.mar_cert.specs.MockScheme.{IsCertificate, Signer, signer_bytes}
-use Rattle.mar_cert.specs.Signers.{AreSigners, IsMockCertificate, certificate_bytes}
+use Rattle.mar_cert.specs.MockScheme.{Signer, signer_bytes}
+use Rattle.mar_cert.specs.Signers.{AreSigners, IsMockCertificate}
 use Rattle.mar_cert.specs.SignersLemmas.{length-signers, signers_of_certificate}
 
 -- a proposal's parts but its payload

@@ -1,11 +1,10 @@
 -- The parts of a verdict, in the order that the code takes them.
-use Rattle.std.proofs.Common.{Bool, List, [], add-one, ap, arith, drop, drop-cons, false, get_or, length, map, refl, suc, sym, true, ℕ, ◌&&◌, ◌+◌, ◌<◌, ◌^◌, ◌∙◌, ◌∷◌, ◌≡◌, ◌≤◌, ◌↔◌}
+use Rattle.std.proofs.Common.{Bool, List, [], add-one, ap, arith, drop, drop-cons, false, get_or, length, map, suc, sym, true, ℕ, ◌&&◌, ◌+◌, ◌<◌, ◌^◌, ◌∙◌, ◌∷◌, ◌≡◌, ◌≤◌, ◌↔◌}
 use Rattle.std.specs.List.{list_all}
 use Rattle.std.specs.Prelude.{IsTrue, bytes_eq, nat_le, nat_lt}
 use Rattle.std.proofs.lemmas.Bool.{and_left, and_right, le-leb, le-ltb, lt-leb}
 use Rattle.std.proofs.lemmas.List.{length-map}
 use Rattle.std.proofs.lemmas.List.Folds.{list_all-map}
-use Rattle.mar_codec.specs.Varint.{IsNumber}
 use Rattle.mar_cert.specs.Finalization.{Finalization, Subject}
 use Rattle.mar_cert.specs.MockScheme.{Verifies, is_ascending_from, mock_verifies, quorum, tag_of}
 use Rattle.mar_cert.specs.MockViews.{plain_signer}

@@ -1,9 +1,8 @@
 -- The mock scheme's test says exactly whether a certificate verifies.
-use Rattle.std.proofs.Common.{Bool, List, None, Option, Some, [], ap, arith, inl, inr, length, refl, subst, sym, true, ℕ, ◌&&◌, ◌+◌, ◌<◌, ◌^◌, ◌∙◌, ◌∷◌, ◌≡◌, ◌≤◌, ◌↔◌}
+use Rattle.std.proofs.Common.{List, Some, [], ap, arith, length, refl, subst, sym, true, ℕ, ◌+◌, ◌<◌, ◌^◌, ◌∙◌, ◌∷◌, ◌≡◌, ◌≤◌, ◌↔◌}
 use Rattle.std.specs.List.{AllByRecursion, list_all}
-use Rattle.std.specs.Prelude.{IsTrue, bytes_eq, nat_le, nat_lt}
+use Rattle.std.specs.Prelude.{IsTrue, bytes_eq}
 use Rattle.std.proofs.lemmas.Bool.{and_from, and_parts, le-leb, leb-true, lt-ltb, ltb-true}
-use Rattle.mar_codec.specs.Digest.{IsDigest}
 use Rattle.mar_codec.specs.Varint.{IsNumber}
 use Rattle.mar_cert.specs.Finalization.{Finalization, Subject}
 use Rattle.mar_cert.specs.MockScheme.{IsCertificate, IsFinalization, Signer, Verifies, is_ascending_from, is_signed_by, mock_verifies, quorum, signers_of, tag_of}

@@ -1,5 +1,5 @@
 -- On a lawful chain no opening of good stores ends in a fault that values call for.
-use Rattle.std.proofs.Common.{◌≡◌, ◌⊎◌, inl, inr, ⊎_elim, ℕ, ◌+◌, ◌-◌, ◌^◌, ◌<◌, ◌==◌, ◌||◌, Bool, true, false, List, length, Option, Some, None, option_map, if◌then◌else◌, IsTrue, Contains, bytes_eq, slice_get, refl, sym, ◌∙◌, ap, ap₂, subst, arith, eq-eqb, eqb-true}
+use Rattle.std.proofs.Common.{◌≡◌, ◌⊎◌, inl, inr, ⊎_elim, ℕ, ◌+◌, ◌-◌, ◌^◌, ◌<◌, ◌==◌, ◌||◌, Bool, true, false, List, length, Option, Some, None, option_map, if◌then◌else◌, IsTrue, Contains, refl, sym, ◌∙◌, ap, ap₂, subst, arith, eq-eqb, eqb-true}
 use Rattle.std.specs.Option.{option_or}
 use Rattle.std.proofs.lemmas.Option.{slice_get_within}
 use Rattle.mar_cert.specs.Block.{Block}
@@ -11,7 +11,7 @@ use Rattle.mar_node.specs.Chain.{Chain, Finalizes, IsBlockAt}
 use Rattle.mar_node.specs.Config.{Config}
 use Rattle.mar_node.specs.Faults.{Begin, Fault, anchor_fault, corrupt, from_floor, from_genesis, genesis_fault, genesis_height, genesis_mismatch, height_limit, is_at_limit, last_height, limit_fault, next_after, opening_fault, stored_mismatch, successor_fault, unbacked, with_genesis}
 use Rattle.mar_node.specs.Lives.{BackedBy}
-use Rattle.mar_node.specs.Node.{AreFinalizationsOf, Ended}
+use Rattle.mar_node.specs.Node.{Ended}
 use Rattle.mar_node.specs.Promise.{IsLawfulOpening, IsOpeningFault}
 use Rattle.mar_node.proofs.FoundBlocks.{same_bytes}
 use Rattle.mar_node.proofs.Openings.{AreFinalizationsOf-reopened, value-from_with_genesis, value_at-with_genesis}

@@ -1,6 +1,6 @@
 -- What the calls of a store over an archive rest on.
-use Rattle.std.proofs.Common.{◌≡◌, ℕ, List, [], ◌∷◌, Bool, true, false, cond, Option, None, Some, refl, ap, ◌∙◌, sym, is_some, map, Result, Ok, Err, inl, IfOk, inr, ◌⊎◌, ◌||◌}
-use Rattle.std.specs.Prelude.{MatchResult, bytes_eq, find, option_map, ◌&&◌, ◌==◌}
+use Rattle.std.proofs.Common.{◌≡◌, ℕ, List, [], ◌∷◌, Bool, true, false, cond, Option, Some, refl, ap, ◌∙◌, sym, is_some, Result, Ok, Err, inl, IfOk, ◌||◌}
+use Rattle.std.specs.Prelude.{MatchResult, bytes_eq, option_map, ◌&&◌, ◌==◌}
 use Rattle.std.specs.List.{list_any}
 use Rattle.std.specs.Result.{result_map_both}
 use Rattle.std.proofs.lemmas.Bool.{eq-eqb}

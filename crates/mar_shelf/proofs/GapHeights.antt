@@ -1,5 +1,5 @@
 -- The gaps of ranges are those of the heights that the ranges hold.
-use Rattle.std.proofs.Common.{◌≡◌, ◌⊎◌, inl, inr, ℕ, ◌+◌, ◌-◌, ◌<◌, ◌≤◌, List, [], ◌∷◌, Bool, true, false, cond, nat_lt, nat_le, Option, None, Some, Contains, refl, sym, ◌∙◌, subst, arith, le_refl}
+use Rattle.std.proofs.Common.{◌≡◌, inl, inr, ℕ, ◌+◌, ◌-◌, ◌<◌, ◌≤◌, List, [], ◌∷◌, Bool, true, false, cond, nat_lt, nat_le, None, Some, Contains, refl, sym, ◌∙◌, arith, le_refl}
 use Rattle.std.specs.Prelude.{find, option_map, ◌&&◌}
 use Rattle.std.proofs.lemmas.Bool.Decides.{nat_tests}
 use Rattle.mar_store.specs.Ranges.{Range, ranges}

@@ -1,6 +1,6 @@
 -- The missing heights, range by range.
-use Rattle.std.proofs.Common.{◌≡◌, ℕ, zero, suc, ◌+◌, ◌-◌, ◌<◌, ◌≤◌, ◌^◌, List, [], ◌∷◌, ◌++◌, length, take, drop, min, max, get_or, Bool, true, false, cond, refl, ap, ◌∙◌, sym, arith, inl, inr, append_assoc}
-use Rattle.std.specs.Prelude.{find, nat_lt, None, Option, Some}
+use Rattle.std.proofs.Common.{◌≡◌, ℕ, zero, suc, ◌+◌, ◌-◌, ◌<◌, ◌≤◌, List, [], ◌∷◌, ◌++◌, length, take, drop, min, max, get_or, Bool, true, false, cond, refl, ap, ◌∙◌, sym, arith, inl, inr, append_assoc}
+use Rattle.std.specs.Prelude.{find, nat_lt, None, Some}
 use Rattle.std.specs.List.{range_with_len}
 use Rattle.std.proofs.lemmas.Bool.{cases_lt}
 use Rattle.std.proofs.lemmas.Bool.Decides.{nat_tests}

@@ -32,6 +32,3 @@ pub use ruins::{Ended, Ruins};
 pub use shelf::{Shelf, ShelfRuin};
 pub use shown::ShownRuins;
 pub use stores::Stores;
-
-#[cfg(test)]
-mod tests;

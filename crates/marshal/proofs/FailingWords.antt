@@ -1,7 +1,7 @@
 -- What a line is that makes a store fail or ends a life, by its first words.
 use Rattle.std.proofs.Common.{List, [], ap, arith, refl, suc, sym, zero, ℕ, ◌++◌, ◌∙◌, ◌∷◌, ◌≡◌, ◌<◌, ◌≤◌}
 use Rattle.std.specs.Prelude.{codes, decimal}
-use Rattle.std.proofs.lemmas.List.{append_assoc, append_cancel_left, append_cancel_right}
+use Rattle.std.proofs.lemmas.List.{append_cancel_left, append_cancel_right}
 use Rattle.mar_codec.specs.Varint.{IsNumber}
 use Rattle.mar_node.specs.Faults.{StoreName, block_store, cache_store, cert_store, meta_store}
 use Rattle.marshal.specs.Lines.{IsFailing, Spells, fail_words}

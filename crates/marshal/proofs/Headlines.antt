@@ -1,8 +1,7 @@
 -- The headline of a replay, from the lines that were read and done, by each way in which it stops.
-use Rattle.std.proofs.Common.{Err, List, None, Ok, Option, Some, [], arith, inl, inr, length, min, refl, subst, sym, ℕ, ◌++◌, ◌+◌, ◌-◌, ◌<◌, ◌^◌, ◌∙◌, ◌∷◌, ◌≤◌, ◌≡◌}
+use Rattle.std.proofs.Common.{Err, List, None, Ok, Option, Some, [], arith, inl, inr, min, refl, subst, sym, ℕ, ◌++◌, ◌+◌, ◌-◌, ◌<◌, ◌^◌, ◌∙◌, ◌∷◌, ◌≤◌, ◌≡◌}
 use Rattle.std.specs.Prelude.{IfSome, Result}
 use Rattle.std.proofs.lemmas.List.{append-nil}
-use Rattle.mar_cert.specs.Block.{Block}
 use Rattle.mar_block.specs.Sent.{Held}
 use Rattle.mar_key.specs.Asked.{Asked}
 use Rattle.mar_key.specs.Keys.{Call}

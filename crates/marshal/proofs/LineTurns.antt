@@ -16,7 +16,7 @@ use Rattle.mar_node.specs.Event.{Event, ack_given, message_told}
 use Rattle.mar_node.specs.Faults.{Fault, StoreName, ack_kind, event_fault, is_by_value, store_fault, ticket_limit}
 use Rattle.mar_node.specs.Held.{Counts, Ending, IsEndedBy, Seen, count_of}
 use Rattle.mar_node.specs.Lives.{Cuts, CutsEvent}
-use Rattle.mar_node.specs.Node.{Ended, IsGood, Node}
+use Rattle.mar_node.specs.Node.{Ended, Node}
 use Rattle.mar_node.specs.Promise.{IsGoodFor, IsLawfulStep, ReportsFinalized, RestsBefore, made_of, node_of}
 use Rattle.mar_node.specs.Step.{AdvancesAll, Made, Report, Steps}
 use Rattle.mar_shelf.specs.Views.{store_name_of}

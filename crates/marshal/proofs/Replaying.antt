@@ -7,13 +7,12 @@ use Rattle.std.proofs.lemmas.List.{append-nil, map-append}
 use Rattle.std.proofs.lemmas.List.Elements.{Contains-append_cases, Contains-append_left, Contains-append_right}
 use Rattle.mar_codec.specs.Causes.{Rose}
 use Rattle.mar_cert.specs.Block.{Block}
-use Rattle.mar_cert.specs.Finalization.{Finalization}
 use Rattle.mar_node.specs.Messages.{report_finalization, set_floor}
 use Rattle.mar_key.specs.Asked.{Asked}
 use Rattle.mar_store.proofs.Lookups.{AllByRecursion-from_contains, AllByRecursion-push, AllByRecursion-weaker}
 use Rattle.mar_node.specs.Chain.{Chain}
 use Rattle.mar_node.specs.Config.{Config}
-use Rattle.mar_node.specs.Faults.{Fault, StoreName, from_floor, from_genesis, want_of_memory}
+use Rattle.mar_node.specs.Faults.{Fault, from_floor, from_genesis, want_of_memory}
 use Rattle.mar_node.specs.Held.{Counts, NotFewer, count_of}
 use Rattle.mar_node.specs.Lives.{IsGoodEnded}
 use Rattle.mar_node.specs.Node.{Agrees, Ended, IsFinalized, left_by}
@@ -23,7 +22,7 @@ use Rattle.mar_node.proofs.Soundness.{IsFrom, IsGoodEnded-from_sound, IsSound-fr
 use Rattle.marshal.specs.Playing.{IsBetween, IsExcused, IsLawfulLine, Plays, buffer_in}
 use Rattle.marshal.specs.Reading.{IsQuiet}
 use Rattle.marshal.specs.Run.{Appears, EndsWith, HandsBack, IsFaultFree, IsFront, IsOutput, LineDone, MemoryEnds, Premises, Replays, Run, Status, line_blocks, messages_of, out_of_memory, outside_grammar, read_failed, read_to_end, write_failed}
-use Rattle.marshal.specs.Script.{Line, open_line, tell_line}
+use Rattle.marshal.specs.Script.{Line, open_line}
 use Rattle.marshal.specs.Text.{Done, Output, State, output_text, running, silent_output, stopped, text}
 
 -- COUNTS

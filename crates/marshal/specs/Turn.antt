@@ -2,7 +2,6 @@
 use Rattle.std.specs.Prelude.{List, None, Option, Some, []}
 use Rattle.mar_codec.specs.declared.Sha256.{Sha256}
 use Rattle.mar_codec.specs.declared.Sha256Digest.{Sha256Digest}
-use Rattle.mar_cert.specs.Block.{Block}
 use Rattle.mar_block.specs.declared.EmptyBlock.{EmptyBlock}
 use Rattle.mar_key.specs.Asked.{Asked}
 use Rattle.mar_key.specs.Keys.{Call}

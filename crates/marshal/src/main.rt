@@ -16,6 +16,8 @@ mod shown;
 mod sink;
 mod source;
 mod status;
+#[cfg(test)]
+mod tests;
 mod text;
 mod turn;
 mod words;

@@ -1,5 +1,4 @@
 use Rattle.std.proofs.Common.{drop, ◌≡◌, fold}
-use Rattle.std.specs.Prelude.{None}
 use Rattle.mar_store.specs.Spans.{ranges_of}
 use Rattle.mar_node.specs.Newest.{upto, upto_in}
 use Rattle.mar_shelf.proofs.newest.last_upto.Given as goal

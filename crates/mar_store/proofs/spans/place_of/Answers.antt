@@ -1,4 +1,4 @@
-use Rattle.std.proofs.Common.{arith, ◌+◌, ◌-◌, ◌/◌, ◌<◌, ◌≤◌, ℕ, length}
+use Rattle.std.proofs.Common.{arith, ◌+◌, ◌-◌, ◌/◌, ◌<◌, ℕ, length}
 use Rattle.std.proofs.lemmas.List.{get_or_default}
 use Rattle.mar_store.proofs.SpanEdits.{apart_after, high_from_test, reached_at}
 use Rattle.mar_store.proofs.spans.place_of.Goals as goal

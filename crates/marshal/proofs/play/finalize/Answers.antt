@@ -1,8 +1,4 @@
-use Rattle.std.proofs.Common.{◌≡◌}
-use Rattle.mar_cert.specs.Finalization.{Finalization}
-use Rattle.mar_node.specs.Messages.{report_finalization}
 use Rattle.marshal.specs.Lines.{plain_finalization}
-use Rattle.marshal.specs.Script.{tell_line}
 use Rattle.marshal.proofs.Lasting.{reports}
 use Rattle.marshal.proofs.LinePlays.{plays_event}
 use Rattle.marshal.proofs.play.finalize.Goals as goal

@@ -1,8 +1,8 @@
 //! Calls of the stores over archives through their bounds, at blocks of the program's kind.
-use super::*;
-use crate::mocks::store::Recording;
 use mar_block::{EmptyBlock, StandardBlocks, Variant};
 use mar_codec::{Digest, Digested, Sha256, Sha256Digest};
+use mar_shelf::mocks::store::Recording;
+use mar_shelf::{BlockItem, Blocks, NoShelf, Shelf, immutable, prunable};
 use mar_store::{Item, LuckHalf, MemArchive};
 use mar_types::Height;
 use std::alloc::{AllocError, Global};

@@ -1,0 +1,3 @@
+//! Calls that cross crates: marshal as a library, and its stores one by one.
+mod library;
+mod stores;
