@@ -3,7 +3,7 @@ ghost use Rattle.std.specs.Prelude.{◌≡◌, ◌∷◌, [], Err, IfErr, IfOk, 
 ghost use Rattle.mar_key.specs.Processed.{at_block};
 ghost use Rattle.mar_key.specs.Views.{cutoff_of};
 ghost use Rattle.mar_store.specs.Kept.{value_at};
-ghost use Rattle.mar_store.specs.Changes.{IsNested, Puts, Syncs, left_of};
+ghost use Rattle.mar_store.specs.Changes.{IsNested, Puts, Syncs};
 ghost use Rattle.mar_store.specs.Lost.{wreck_of};
 ghost use Rattle.mar_node.specs.Stored.{at_own_height, block_of, is_certified, is_held};
 ghost use Rattle.mar_node.specs.Held.{GoesOn, IsNoStores, IsUsual, Loses, LosesOpening, ReopensAs, ended_of, lost_fault, missed_fault, remains_of};
@@ -91,15 +91,17 @@ impl<
         } = ruins;
         let blocks = match FB::reopen(blocks, luck) {
             Ok(blocks) => blocks,
-            Err(lost) => return Err(Ended::before_blocks(lost, certs, meta, shelf)),
+            Err(lost) => return Err(Ended::of_blocks(lost, certs, meta, shelf)),
         };
         let certs = match FC::reopen(certs, luck) {
             Ok(certs) => certs,
-            Err(lost) => return Err(Ended::before_certs(blocks, lost, meta, shelf)),
+            Err(lost) => return Err(Ended::of_certs(blocks.wreck(), lost, meta, shelf)),
         };
         let progress = match M::reopen(meta, luck) {
             Ok(meta) => Progress::new(meta),
-            Err(lost) => return Err(Ended::before_meta(blocks, certs, lost, shelf)),
+            Err(lost) => {
+                return Err(Ended::of_meta(blocks.wreck(), certs.wreck(), lost, shelf));
+            }
         };
         match H::reopen(shelf, luck) {
             Ok(shelf) => Ok(Stores {
@@ -109,7 +111,10 @@ impl<
                 shelf,
                 of: PhantomData,
             }),
-            Err(lost) => Err(Ended::of_shelf(blocks, certs, progress, lost)),
+            Err(lost) => {
+                let meta = progress.wreck();
+                Err(Ended::of_shelf(blocks.wreck(), certs.wreck(), meta, lost))
+            }
         }
     }
 
@@ -289,7 +294,10 @@ impl<
                 shelf,
                 of,
             }),
-            Err(lost) => Err(Ended::of_blocks(lost, certs, progress, shelf)),
+            Err(lost) => {
+                let meta = progress.wreck();
+                Err(Ended::of_blocks(lost, certs.wreck(), meta, shelf.wreck()))
+            }
         }
     }
 
@@ -315,7 +323,10 @@ impl<
                 shelf,
                 of,
             }),
-            Err(lost) => Err(Ended::of_blocks(lost, certs, progress, shelf)),
+            Err(lost) => {
+                let meta = progress.wreck();
+                Err(Ended::of_blocks(lost, certs.wreck(), meta, shelf.wreck()))
+            }
         }
     }
 
@@ -349,7 +360,10 @@ impl<
                 shelf,
                 of,
             }),
-            Err(lost) => Err(Ended::of_certs(blocks, lost, progress, shelf)),
+            Err(lost) => {
+                let meta = progress.wreck();
+                Err(Ended::of_certs(blocks.wreck(), lost, meta, shelf.wreck()))
+            }
         }
     }
 
@@ -375,7 +389,10 @@ impl<
                 shelf,
                 of,
             }),
-            Err(lost) => Err(Ended::of_certs(blocks, lost, progress, shelf)),
+            Err(lost) => {
+                let meta = progress.wreck();
+                Err(Ended::of_certs(blocks.wreck(), lost, meta, shelf.wreck()))
+            }
         }
     }
 
@@ -400,7 +417,10 @@ impl<
                 shelf,
                 of,
             }),
-            Err(lost) => Err(Ended::of_meta(blocks, certs, lost, shelf)),
+            Err(lost) => {
+                let (blocks, certs) = (blocks.wreck(), certs.wreck());
+                Err(Ended::of_meta(blocks, certs, lost, shelf.wreck()))
+            }
         }
     }
 
@@ -425,7 +445,10 @@ impl<
                 shelf,
                 of,
             }),
-            Err(lost) => Err(Ended::of_meta(blocks, certs, lost, shelf)),
+            Err(lost) => {
+                let (blocks, certs) = (blocks.wreck(), certs.wreck());
+                Err(Ended::of_meta(blocks, certs, lost, shelf.wreck()))
+            }
         }
     }
 
@@ -450,7 +473,10 @@ impl<
                 shelf,
                 of,
             }),
-            Err(lost) => Err(Ended::of_meta(blocks, certs, lost, shelf)),
+            Err(lost) => {
+                let (blocks, certs) = (blocks.wreck(), certs.wreck());
+                Err(Ended::of_meta(blocks, certs, lost, shelf.wreck()))
+            }
         }
     }
 }
@@ -474,12 +500,7 @@ impl<
     M: Meta,
     H: Shelf,
 > Ended<V, F, FB, FC, M, H> {
-    fn before_blocks(
-        lost: Lost<FB::Wreck>,
-        certs: FC::Wreck,
-        meta: M::Wreck,
-        shelf: H::Wreck,
-    ) -> Self
+    fn of_blocks(lost: Lost<FB::Wreck>, certs: FC::Wreck, meta: M::Wreck, shelf: H::Wreck) -> Self
         ensures { result ≡ record {
           fault = lost_fault block_store lost;
           remains = record { ended = ended_of (FB.Wreck.left (wreck_of lost)) (FC.Wreck.left certs) (map pair_at (M.Wreck.left meta)); counts = record { blocks = FB.Wreck.faults (wreck_of lost); certs = FC.Wreck.faults certs; meta = M.Wreck.faults meta; cache = H.Wreck.faults shelf } };
@@ -497,17 +518,17 @@ impl<
         }
     }
 
-    fn before_certs(blocks: FB, lost: Lost<FC::Wreck>, meta: M::Wreck, shelf: H::Wreck) -> Self
+    fn of_certs(blocks: FB::Wreck, lost: Lost<FC::Wreck>, meta: M::Wreck, shelf: H::Wreck) -> Self
         ensures { result ≡ record {
           fault = lost_fault cert_store lost;
-          remains = record { ended = ended_of (left_of (FB.stored blocks)) (FC.Wreck.left (wreck_of lost)) (map pair_at (M.Wreck.left meta)); counts = record { blocks = FB.faults blocks; certs = FC.Wreck.faults (wreck_of lost); meta = M.Wreck.faults meta; cache = H.Wreck.faults shelf } };
+          remains = record { ended = ended_of (FB.Wreck.left blocks) (FC.Wreck.left (wreck_of lost)) (map pair_at (M.Wreck.left meta)); counts = record { blocks = FB.Wreck.faults blocks; certs = FC.Wreck.faults (wreck_of lost); meta = M.Wreck.faults meta; cache = H.Wreck.faults shelf } };
         } }
     {
         let (fault, certs) = lost_by(lost, StoreName::Certs);
         Ended {
             fault,
             ruins: Ruins {
-                blocks: blocks.wreck(),
+                blocks,
                 certs,
                 meta,
                 shelf,
@@ -515,107 +536,38 @@ impl<
         }
     }
 
-    fn before_meta(blocks: FB, certs: FC, lost: Lost<M::Wreck>, shelf: H::Wreck) -> Self
+    fn of_meta(blocks: FB::Wreck, certs: FC::Wreck, lost: Lost<M::Wreck>, shelf: H::Wreck) -> Self
         ensures { result ≡ record {
           fault = lost_fault meta_store lost;
-          remains = record { ended = ended_of (left_of (FB.stored blocks)) (left_of (FC.stored certs)) (map pair_at (M.Wreck.left (wreck_of lost))); counts = record { blocks = FB.faults blocks; certs = FC.faults certs; meta = M.Wreck.faults (wreck_of lost); cache = H.Wreck.faults shelf } };
+          remains = record { ended = ended_of (FB.Wreck.left blocks) (FC.Wreck.left certs) (map pair_at (M.Wreck.left (wreck_of lost))); counts = record { blocks = FB.Wreck.faults blocks; certs = FC.Wreck.faults certs; meta = M.Wreck.faults (wreck_of lost); cache = H.Wreck.faults shelf } };
         } }
     {
         let (fault, meta) = lost_by(lost, StoreName::Meta);
         Ended {
             fault,
             ruins: Ruins {
-                blocks: blocks.wreck(),
-                certs: certs.wreck(),
+                blocks,
+                certs,
                 meta,
                 shelf,
             },
         }
     }
 
-    fn of_shelf(
-        blocks: FB,
-        certs: FC,
-        progress: Progress<M, V::Commitment, F>,
-        lost: Lost<H::Wreck>,
-    ) -> Self
+    fn of_shelf(blocks: FB::Wreck, certs: FC::Wreck, meta: M::Wreck, lost: Lost<H::Wreck>) -> Self
         ensures { result ≡ record {
           fault = lost_fault cache_store lost;
-          remains = record { ended = ended_of (left_of (FB.stored blocks)) (left_of (FC.stored certs)) progress.pairs; counts = record { blocks = FB.faults blocks; certs = FC.faults certs; meta = progress.faults; cache = H.Wreck.faults (wreck_of lost) } };
+          remains = record { ended = ended_of (FB.Wreck.left blocks) (FC.Wreck.left certs) (map pair_at (M.Wreck.left meta)); counts = record { blocks = FB.Wreck.faults blocks; certs = FC.Wreck.faults certs; meta = M.Wreck.faults meta; cache = H.Wreck.faults (wreck_of lost) } };
         } }
     {
         let (fault, shelf) = lost_by(lost, StoreName::Cache);
         Ended {
             fault,
             ruins: Ruins {
-                blocks: blocks.wreck(),
-                certs: certs.wreck(),
-                meta: progress.wreck(),
-                shelf,
-            },
-        }
-    }
-
-    fn of_blocks(
-        lost: Lost<FB::Wreck>,
-        certs: FC,
-        progress: Progress<M, V::Commitment, F>,
-        shelf: H,
-    ) -> Self
-        ensures { result ≡ record {
-          fault = lost_fault block_store lost;
-          remains = record { ended = ended_of (FB.Wreck.left (wreck_of lost)) (left_of (FC.stored certs)) progress.pairs; counts = record { blocks = FB.Wreck.faults (wreck_of lost); certs = FC.faults certs; meta = progress.faults; cache = H.faults shelf } };
-        } }
-    {
-        let (fault, blocks) = lost_by(lost, StoreName::Blocks);
-        Ended {
-            fault,
-            ruins: Ruins {
                 blocks,
-                certs: certs.wreck(),
-                meta: progress.wreck(),
-                shelf: shelf.wreck(),
-            },
-        }
-    }
-
-    fn of_certs(
-        blocks: FB,
-        lost: Lost<FC::Wreck>,
-        progress: Progress<M, V::Commitment, F>,
-        shelf: H,
-    ) -> Self
-        ensures { result ≡ record {
-          fault = lost_fault cert_store lost;
-          remains = record { ended = ended_of (left_of (FB.stored blocks)) (FC.Wreck.left (wreck_of lost)) progress.pairs; counts = record { blocks = FB.faults blocks; certs = FC.Wreck.faults (wreck_of lost); meta = progress.faults; cache = H.faults shelf } };
-        } }
-    {
-        let (fault, certs) = lost_by(lost, StoreName::Certs);
-        Ended {
-            fault,
-            ruins: Ruins {
-                blocks: blocks.wreck(),
                 certs,
-                meta: progress.wreck(),
-                shelf: shelf.wreck(),
-            },
-        }
-    }
-
-    fn of_meta(blocks: FB, certs: FC, lost: Lost<M::Wreck>, shelf: H) -> Self
-        ensures { result ≡ record {
-          fault = lost_fault meta_store lost;
-          remains = record { ended = ended_of (left_of (FB.stored blocks)) (left_of (FC.stored certs)) (map pair_at (M.Wreck.left (wreck_of lost))); counts = record { blocks = FB.faults blocks; certs = FC.faults certs; meta = M.Wreck.faults (wreck_of lost); cache = H.faults shelf } };
-        } }
-    {
-        let (fault, meta) = lost_by(lost, StoreName::Meta);
-        Ended {
-            fault,
-            ruins: Ruins {
-                blocks: blocks.wreck(),
-                certs: certs.wreck(),
                 meta,
-                shelf: shelf.wreck(),
+                shelf,
             },
         }
     }

@@ -1,5 +1,5 @@
 //! The lines of what the resolver was asked.
-ghost use Rattle.std.specs.Prelude.{◌≡◌, ◌++◌, ◌∷◌, IfOk, OnOk, codes, decimal, map, string_bytes};
+ghost use Rattle.std.specs.Prelude.{◌≡◌, ◌++◌, ◌∷◌, OnOk, codes, decimal, map, string_bytes};
 ghost use Rattle.std.specs.List.{flat_map};
 ghost use Rattle.mar_key.specs.Keys.{above_round, key_bytes, retain};
 ghost use Rattle.mar_key.specs.Recorded.{ask_of};
@@ -8,31 +8,9 @@ ghost use Rattle.marshal.specs.Script.{comma_numbers, hex, sentence};
 ghost use Rattle.marshal.specs.Text.{annotation_words, ask_words, line_of};
 
 use crate::text::{push_hex, push_round};
-use mar_codec::{Sha256Digest, Write};
-use mar_key::{Annotation, Ask, Cutoff, Fetch, Finalized, Key, Retain};
+use mar_codec::{Encode, Sha256Digest};
+use mar_key::{Annotation, Ask, Cutoff, Fetch, Finalized, Retain};
 use std::alloc::{AllocError, Global};
-
-// The bytes of a key.
-fn bytes_of(alloc: Global, key: &Key<Sha256Digest>) -> Result<Vec<u8>, AllocError>
-    ensures { IfOk result (λ v. v.items ≡ key_bytes (key_of (λ d. d.bytes) key.now)) }
-{
-    let mut bytes = Vec::new(alloc);
-    match key {
-        Key::Block(commitment) => {
-            bytes.push(0)?;
-            commitment.write(&mut bytes)?;
-        }
-        Key::Finalized { height } => {
-            bytes.push(1)?;
-            height.write(&mut bytes)?;
-        }
-        Key::Notarized { round } => {
-            bytes.push(2)?;
-            round.write(&mut bytes)?;
-        }
-    }
-    Ok(bytes)
-}
 
 fn push_finalized(text: &mut String, finalized: Finalized) -> Result<(), AllocError>
     ensures { OnOk result (string_bytes text.new ≡ string_bytes text.old ++ sentence (annotation_words (finalized_of finalized))) }
@@ -90,7 +68,7 @@ fn push_request(
 ) -> Result<(), AllocError>
     ensures { OnOk result (string_bytes text.new ≡ string_bytes text.old ++ (codes "fetch " ++ (hex (key_bytes (key_of (λ d. d.bytes) fetch.now.key)) ++ (codes " " ++ sentence (annotation_words (annotation_of fetch.now.subscriber)))))) }
 {
-    let key = bytes_of(alloc, &fetch.key)?;
+    let key = fetch.key.encode(alloc)?;
     text.push_str("fetch ")?;
     push_hex(alloc, text, key.as_slice())?;
     text.push_str(" ")?;
