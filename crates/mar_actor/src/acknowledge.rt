@@ -16,6 +16,7 @@ ghost use Rattle.mar_node.specs.Held.{GoesOn, IsUsual, Loses};
 ghost use Rattle.mar_node.specs.Lives.{later_round};
 ghost use Rattle.mar_node.specs.Moves.{Drains, DrainsNext, EndsDropped, EndsOldest, LivesOn, RaisesTo, progress_asks, retired, round_at};
 ghost use Rattle.mar_node.specs.Requests.{raise_asks};
+ghost use Rattle.mar_actor.specs.Due.{EndsWhereDue, dropping_due};
 
 use crate::actor::Actor;
 use crate::reporter::Reporter;
@@ -47,6 +48,7 @@ impl<
     ) -> Result<Self, Ended<V, F, FB, FC, M, H>>
         ensures promise { IsNested self.held.blocks → (buffer : List Block) → KeepsPromise (E.epochs self.life.epocher) V.inner self (ack_given ticket) buffer (A.told application.old) (A.told application.new) (R.told resolver.old) (R.told resolver.new) result }
         ensures lives { LivesOn self result }
+        ensures by_value { EndsWhereDue (dropping_due self.life.out ticket) result }
     {
         let (actor, is_drained) = self.give(ticket).drain(resolver)?;
         if !is_drained {

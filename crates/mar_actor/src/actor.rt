@@ -6,6 +6,7 @@ ghost use Rattle.mar_node.specs.Acks.{is_unmarked};
 ghost use Rattle.mar_node.specs.Held.{GoesOn, IsEndedBy, IsNoStores, IsUsual, Loses, remains_of};
 ghost use Rattle.mar_node.specs.Promise.{KeepsCounting, KeepsPromise};
 ghost use Rattle.mar_shelf.specs.Views.{fault_of};
+ghost use Rattle.mar_actor.specs.Due.{EndsWhereDue, due_fault};
 ghost use Rattle.mar_actor.specs.Views.{event_of};
 
 use crate::event::Event;
@@ -65,7 +66,8 @@ impl<
     H: Shelf,
 > Actor<V, F, P, E, FB, FC, M, H> {
     /// Takes one event. An end of the life says why and hands back what is left. On a lawful chain the step is a step of
-    /// the node, or a cut. A store's fault ends it only where that store has failed.
+    /// the node, or a cut. A store's fault ends it only where that store has failed, and a fault by value exactly where it is
+    /// due.
     pub fn step<B: Buffer<V>, R: Resolver<V::Commitment>, A: Reporter<V>>(
         self,
         event: Event<F>,
@@ -76,6 +78,7 @@ impl<
         ensures promise { KeepsPromise (E.epochs self.life.epocher) V.inner self (event_of F.plain event) (B.blocks buffer.now) (A.told application.old) (A.told application.new) (R.told resolver.old) (R.told resolver.new) result }
         ensures counts { IfOk result (λ a. a.held.counts ≡ self.held.counts) }
         ensures cause { IfErr result (λ e. IsEndedBy self.held.counts e) }
+        ensures by_value { EndsWhereDue (due_fault V.inner self (B.blocks buffer.now) (event_of F.plain event)) result }
         ensures lasting { KeepsCounting (E.epochs self.life.epocher) V.inner self (event_of F.plain event) (B.blocks buffer.now) result }
         ensures same_life { IfOk result (λ a. (a.life.provider ≡ self.life.provider) × (a.life.epocher ≡ self.life.epocher) × (a.life.sizes ≡ self.life.sizes)) }
     {

@@ -1,7 +1,7 @@
 //! Opening the stores of a node that begins.
 ghost use Rattle.std.specs.Prelude.{◌≡◌, ◌⊎◌, IfErr, IfOk};
 ghost use Rattle.mar_node.specs.Held.{IsEndedBy, IsUsual};
-ghost use Rattle.mar_node.specs.Promise.{IsAlone, IsOpeningFault, KeepsOpening};
+ghost use Rattle.mar_node.specs.Promise.{IsAlone, IsFound, IsOpeningFault, KeepsOpening};
 ghost use Rattle.mar_actor.specs.Views.{begin_of, sizes_of};
 
 use crate::actor::Actor;
@@ -40,6 +40,7 @@ impl<
         ensures counts { IfOk result (λ r. r.0.held.counts ≡ ruins.counts) }
         ensures cause { IfErr result (λ e. IsEndedBy ruins.counts e) }
         ensures by_value { IsAlone ruins.ended (begin_of V.plain config.start) → IfErr result (λ e. IsUsual e.fault ⊎ IsOpeningFault ruins.ended (begin_of V.plain config.start) e.fault) }
+        ensures finds { IfOk result (λ r. IsFound (E.epochs config.epocher) V.inner (sizes_of config.limits) ruins.ended (begin_of V.plain config.start) r.0) }
         ensures floor { IfOk result (λ r. r.1 ≡ record { processed = r.0.held.processed; cutoff = r.0.held.cutoff }) }
     {
         let Config {

@@ -12,6 +12,7 @@ ghost use Rattle.mar_node.specs.Event.{message_told};
 ghost use Rattle.mar_node.specs.Promise.{KeepsPromise};
 ghost use Rattle.mar_node.specs.Held.{GoesOn, IsUsual};
 ghost use Rattle.mar_node.specs.Moves.{LivesOn, Stores, StoresLate, StoresValue, at_height, found_at_hand, is_due, late_tips, of_commitment, risen_to, tip_after, tip_reports, tips_above, wants};
+ghost use Rattle.mar_actor.specs.Due.{EndsWhereDue, storing_due};
 
 use crate::actor::Actor;
 use crate::reporter::{Reporter, Update};
@@ -43,6 +44,7 @@ impl<
     ) -> Result<Self, Ended<V, F, FB, FC, M, H>>
         ensures promise { IsNested self.held.blocks → IsNested self.held.certs → KeepsPromise (E.epochs self.life.epocher) V.inner self (message_told None (report_finalization (F.plain finalization.now))) (B.blocks buffer.now) (A.told application.old) (A.told application.new) (R.told resolver.old) (R.told resolver.new) result }
         ensures lives { LivesOn self result }
+        ensures by_value { EndsWhereDue (storing_due self.held (found_at_hand V.inner (B.blocks buffer.now) self.held.blocks.held (F.plain finalization.now).payload)) result }
     {
         let (actor, block) = self.block_at_hand(finalization.payload(), buffer)?;
         match block {
@@ -130,6 +132,7 @@ impl<
             → found_at_hand V.inner buffer self.held.blocks.held (F.plain finalization.now).payload ≡ Some (V.plain block.now) → nat_lt (height_of self.held.processed) (V.plain block.now).height ≡ true
             → KeepsPromise (E.epochs self.life.epocher) V.inner self (message_told None (report_finalization (F.plain finalization.now))) buffer (A.told application.old) (A.told application.new) heard heard result }
         ensures lives { LivesOn self result }
+        ensures by_value { nat_lt (height_of self.held.processed) (V.plain block.now).height ≡ true → EndsWhereDue (storing_due self.held (Some (V.plain block.now))) result }
     {
         let height = V::height(block);
         if height.get() == u64::MAX {
@@ -240,6 +243,7 @@ impl<
             → found_at_hand V.inner buffer self.held.blocks.held (F.plain finalization.now).payload ≡ Some (V.plain block.now) → nat_lt (height_of self.held.processed) (V.plain block.now).height ≡ false
             → KeepsPromise (E.epochs self.life.epocher) V.inner self (message_told None (report_finalization (F.plain finalization.now))) buffer (A.told application.old) (A.told application.new) (R.told resolver.old) (R.told resolver.new) result }
         ensures lives { LivesOn self result }
+        ensures by_value { EndsWhereDue None result }
     {
         let actor = self.witness(finalization.round(), resolver)?;
         let actor = actor.sync_metadata()?;

@@ -9,6 +9,7 @@ ghost use Rattle.mar_node.specs.Held.{GoesOn, IsUsual};
 ghost use Rattle.mar_node.specs.Moves.{LivesOn, newest, newest_tips, with_newest};
 ghost use Rattle.mar_node.specs.Promise.{KeepsPromise};
 ghost use Rattle.mar_shelf.specs.Views.{entry_of};
+ghost use Rattle.mar_actor.specs.Due.{EndsWhereDue};
 
 use crate::actor::Actor;
 use crate::reporter::Reporter;
@@ -35,6 +36,7 @@ impl<
     ) -> Result<Self, Ended<V, F, FB, FC, M, H>>
         ensures promise { IsNested self.held.blocks → (heard : Option (List Call)) (buffer : List Block) → KeepsPromise (E.epochs self.life.epocher) V.inner self (life_started None) buffer (A.told application.old) (A.told application.new) heard heard result }
         ensures lives { LivesOn self result }
+        ensures by_value { EndsWhereDue None result }
     {
         let actor = self.report_newest(application)?;
         actor.dispatch(application)

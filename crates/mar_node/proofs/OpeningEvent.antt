@@ -255,6 +255,38 @@ module _ (old : Remains) (first : Held) (reopens : ReopensAs old first) where
         OpeningPair-derived : OpeningPair config old.ended begin (derived_pair config.epochs s)
         OpeningPair-derived = (opened, Finds-opened, derived_is)
 
+        module _ {P E : Type 0} (provider : P) (epocher : E) (sizes : Sizes) (new : Held) (derives : Derives config.epochs s new) (capacity : config.capacity ≡ sizes.capacity) where
+          abbrev life : Remembered P E
+          life = first_life provider epocher sizes
+
+          -- a node of these values
+          abbrev of_values : Option Processed → Cutoff → List Pair → Round → Kept (At Finalization) → ℕ → Node
+          of_values p c pairs witnessed certs k = record opened {
+            processed = p;
+            cutoff = c;
+            meta = pairs;
+            witnessed = witnessed;
+            certs = certs;
+            peers = record { ready = []; capacity = k; overflow = []; closed = [] };
+            inbox = record { ready = []; capacity = k; floor = None; prune = None; overflow = []; closed = []; seats = 0; shut = false };
+          }
+
+          same_values : (p p' : Option Processed) (c c' : Cutoff) (m m' : List Pair) (w w' : Round) (f f' : Kept (At Finalization)) (k k' : ℕ) → p ≡ p' → c ≡ c' → m ≡ m' → w ≡ w' → f ≡ f' → k ≡ k' → of_values p c m w f k ≡ of_values p' c' m' w' f' k'
+          same_values p p' c c' m m' w w' f f' k k' ep ec em ew ef ek =
+              ap (λ x. of_values x c m w f k) ep ∙ (ap (λ x. of_values p' x m w f k) ec ∙ (ap (λ x. of_values p' c' x w f k) em ∙ (ap (λ x. of_values p' c' m' x f k) ew ∙ (ap (λ x. of_values p' c' m' w' x k) ef ∙ ap (λ x. of_values p' c' m' w' f' x) ek))))
+
+          witnessed_is : opened_witnessed s.blocks.held s.certs.held (pair_in s) ≡ opened_witnessed s.blocks.held first.certs.held (pair_in first)
+          witnessed_is = ap (λ p. opened_witnessed s.blocks.held s.certs.held p) pair_same ∙ ap (λ k. opened_witnessed s.blocks.held k.held (pair_in first)) certs_same
+
+          begins_is : node_of (record { held = new; life = life }) [] [] ≡ opened
+          begins_is =
+              ap (λ h. node_of (record { held = h; life = life }) [] []) derives.same
+              ∙ same_values s.processed _ (derived_cutoff config.epochs s) _ (derived_pair config.epochs s ∷ []) _ (opened_witnessed s.blocks.held s.certs.held (pair_in s)) _ s.certs _ sizes.capacity _
+              processed_is cutoff_is (ap (λ p. p ∷ []) derived_is) witnessed_is (certs_same ∙ first_certs) (sym capacity)
+
+          pub Finds-begun : Finds config old.ended begin (node_of (record { held = new; life = life }) [] [])
+          Finds-begun = subst (Finds config old.ended begin) (sym begins_is) Finds-opened
+
         module _ (chain : Chain) (asks : IsLawfulOpening config chain old.ended begin) where
           sound : IsSound chain opened
           sound = IsSound-opened config chain asks.lawful asks.partition old.ended begin opened Finds-opened asks.good asks_genesis
@@ -291,37 +323,8 @@ module _ (old : Remains) (first : Held) (reopens : ReopensAs old first) where
             tip_reported = newest_tip-high 0 first.certs.held;
           })
 
-          module _ {P E : Type 0} (provider : P) (epocher : E) (sizes : Sizes) (new : Held) (derives : Derives config.epochs s new) (capacity : config.capacity ≡ sizes.capacity) where
-            abbrev life : Remembered P E
-            life = first_life provider epocher sizes
-
-            -- a node of these values
-            abbrev of_values : Option Processed → Cutoff → List Pair → Round → Kept (At Finalization) → ℕ → Node
-            of_values p c pairs witnessed certs k = record opened {
-              processed = p;
-              cutoff = c;
-              meta = pairs;
-              witnessed = witnessed;
-              certs = certs;
-              peers = record { ready = []; capacity = k; overflow = []; closed = [] };
-              inbox = record { ready = []; capacity = k; floor = None; prune = None; overflow = []; closed = []; seats = 0; shut = false };
-            }
-
-            same_values : (p p' : Option Processed) (c c' : Cutoff) (m m' : List Pair) (w w' : Round) (f f' : Kept (At Finalization)) (k k' : ℕ) → p ≡ p' → c ≡ c' → m ≡ m' → w ≡ w' → f ≡ f' → k ≡ k' → of_values p c m w f k ≡ of_values p' c' m' w' f' k'
-            same_values p p' c c' m m' w w' f f' k k' ep ec em ew ef ek =
-                ap (λ x. of_values x c m w f k) ep ∙ (ap (λ x. of_values p' x m w f k) ec ∙ (ap (λ x. of_values p' c' x w f k) em ∙ (ap (λ x. of_values p' c' m' x f k) ew ∙ (ap (λ x. of_values p' c' m' w' x k) ef ∙ ap (λ x. of_values p' c' m' w' f' x) ek))))
-
-            witnessed_is : opened_witnessed s.blocks.held s.certs.held (pair_in s) ≡ opened_witnessed s.blocks.held first.certs.held (pair_in first)
-            witnessed_is = ap (λ p. opened_witnessed s.blocks.held s.certs.held p) pair_same ∙ ap (λ k. opened_witnessed s.blocks.held k.held (pair_in first)) certs_same
-
-            begins_is : node_of (record { held = new; life = life }) [] [] ≡ opened
-            begins_is =
-                ap (λ h. node_of (record { held = h; life = life }) [] []) derives.same
-                ∙ same_values s.processed _ (derived_cutoff config.epochs s) _ (derived_pair config.epochs s ∷ []) _ (opened_witnessed s.blocks.held s.certs.held (pair_in s)) _ s.certs _ sizes.capacity _
-                processed_is cutoff_is (ap (λ p. p ∷ []) derived_is) witnessed_is (certs_same ∙ first_certs) (sym capacity)
-
-            pub Begins-opened : Begins config chain old.ended begin (node_of (record { held = new; life = life }) [] [])
-            Begins-opened = subst (Begins config chain old.ended begin) (sym begins_is) (record { finds = Finds-opened; good = (tip, good) })
+          pub Begins-opened : {P E : Type 0} (provider : P) (epocher : E) (sizes : Sizes) (new : Held) → Derives config.epochs s new → config.capacity ≡ sizes.capacity → Begins config chain old.ended begin (node_of (record { held = new; life = first_life provider epocher sizes }) [] [])
+          Begins-opened provider epocher sizes new derives capacity = subst (Begins config chain old.ended begin) (sym (begins_is provider epocher sizes new derives capacity)) (record { finds = Finds-opened; good = (tip, good) })
 
 -- A CUT
 
@@ -426,6 +429,13 @@ module _ (old : Remains) (begin : Begin) (first : Held) (reopens : ReopensAs old
 
     since_first : (more : List Pair) (e : Ending) → Grew first (at_own_height g ∷ []) [] s → Loses s [] [] more e → LosesOpening old (at_own_height g ∷ []) more e
     since_first more e grew lost = LosesOpening-then old first (at_own_height g ∷ []) more e reopens (Loses-then first s (at_own_height g ∷ []) [] [] [] more e lost grew (Within-none (at_own_height g ∷ [])) (Within-none []))
+
+    -- a node that begins is what was found, whatever the chain
+    pub finds : {P E : Type 0} (config : Config) (provider : P) (epocher : E) (sizes : Sizes) (new : Held) (life : Remembered P E) → IsAlone old.ended begin → config.capacity ≡ sizes.capacity → Derives config.epochs s new → life ≡ first_life provider epocher sizes → Finds config old.ended begin (node_of (record { held = new; life = life }) [] [])
+    finds config provider epocher sizes new _ alone capacity derives life_is =
+        subst (λ l. Finds config old.ended begin (node_of (record { held = new; life = l }) [] [])) (sym life_is)
+        (subst (λ b. Finds config old.ended b (node_of (record { held = new; life = first_life provider epocher sizes }) [] [])) (sym is)
+        (Finds-begun old first reopens g s begins_with (subst (IsAlone old.ended) is alone) config derives.successor provider epocher sizes new derives capacity))
 
     pub deriving_cause : (epochs : Epochs) (e : Ending) → Grew first (at_own_height g ∷ []) [] s → LosesDeriving epochs s e → IsEndedBy old.counts e
     deriving_cause epochs e grew (inl lost) = (since_first [] e grew lost).cause

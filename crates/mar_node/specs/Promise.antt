@@ -149,6 +149,10 @@ abbrev pub IsAlone : Ended → Begin → Type 0
 IsAlone e (from_genesis g) = (x : At Block) → Contains e.blocks_may x → x.value.digest ≡ g.digest → x.height ≡ g.height
 IsAlone e (from_floor f) = ⊤
 
+-- a node that begins is what some reopening of these stores finds, in which no fault is due, whatever the chain
+abbrev pub IsFound : {P E : Type 0} → Epochs → (List ℕ → List ℕ) → Sizes → Ended → Begin → Seen P E → Type 0
+IsFound epochs inner sizes e begin a = (config : Config) → IsSetTo config sizes epochs inner → IsAlone e begin → Finds config e begin (node_of a [] [])
+
 -- the fault that an opening must end in, by what some reopening of these stores finds
 abbrev pub IsOpeningFault : Ended → Begin → Fault → Type 0
 IsOpeningFault e begin fault = (pair : Pair) × (blocks : List (At Block)) × (certs : List (At Finalization)) × Contains e.meta pair × Reopens e.blocks_sure e.blocks_may blocks × Reopens e.certs_sure e.certs_may certs × (opening_fault blocks certs pair begin ≡ Some fault)

@@ -13,6 +13,7 @@ use Rattle.mar_node.specs.Messages.{Message, Queued, certify, close_ticket, get_
 use Rattle.mar_key.specs.PeerQueue.{PeerMessage, after_peer_close, after_peer_enqueue, after_peer_take, deliver, is_open, peer_room, produce}
 use Rattle.mar_node.specs.Config.{Config}
 use Rattle.mar_node.specs.Acks.{is_unmarked}
+use Rattle.mar_node.specs.Held.{Counts}
 use Rattle.mar_node.specs.Node.{Awaited, Ended, IsFinalized, Node, left_by}
 use Rattle.mar_node.specs.Event.{Event, ack_dropped, ack_given, block_buffered, buffer_ended, message_told, sync_finished}
 use Rattle.mar_cert.specs.MockScheme.{IsFinalization}
@@ -331,6 +332,10 @@ empty_stores = record {
   lowests = [];
   meta = record { processed = None; cutoff = cutoff_zero } ∷ [];
 }
+
+-- stores none of which ever failed
+abbrev pub no_faults : Counts
+no_faults = record { blocks = 0; certs = 0; meta = 0; cache = 0 }
 
 -- What the headline asks: a partition into epochs, a lawful chain, a lawful script on it, and stores that are good for the chain, as an
 -- earlier run hands them back; those in which nothing was ever put are.

@@ -1,10 +1,14 @@
--- The words of a line, and what a reader of words answers.
+-- The words of the command line and of a script's line, and what a reader of words answers.
 use Rattle.std.specs.Borrow.{Bor}
 use Rattle.std.specs.List.{slice_split}
-use Rattle.std.specs.Prelude.{Err, List, Ok, Result, [], map, ℕ, ⊤, ◌==◌, ◌∷◌}
+use Rattle.std.specs.Prelude.{Err, List, Ok, Result, [], codes, map, ℕ, ⊤, ◌==◌, ◌≡◌, ◌∷◌, ◌⊎◌}
 use Rattle.marshal.specs.Script.{Settings}
 use Rattle.marshal.specs.declared.words.ParseError.{ParseError}
 use Rattle.marshal.specs.declared.words.ParseError.TheVariants.{Grammar, Memory}
+
+-- the words of a command line that the program has
+abbrev pub IsCommand : List (List ℕ) → Type 0
+IsCommand words = (words ≡ codes "replay" ∷ []) ⊎ (words ≡ codes "--help" ∷ []) ⊎ (words ≡ codes "--version" ∷ [])
 
 -- cut at each space
 abbrev pub words_in : List ℕ → List (List ℕ)

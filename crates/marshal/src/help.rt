@@ -1,6 +1,7 @@
 //! What the program says of itself.
 ghost use Rattle.std.specs.Prelude.{◌≡◌, ◌∷◌, ◌↔◌, ◌⊎◌, [], IsSome, codes, map, string_bytes};
 ghost use Rattle.mar_codec.specs.Causes.{Rose};
+ghost use Rattle.marshal.specs.Endings.{IsWritersEnd};
 ghost use Rattle.marshal.specs.Streams.{Takes, TakesFront};
 
 use crate::command::are_only;
@@ -48,6 +49,7 @@ pub fn text_for(words: &[String]) -> Option<&'static str>
 
 /// Writes the text to the sink.
 pub fn show<K: Sink>(sink: &mut K, text: &str) -> Status
+    ensures end { (result ≡ Status.Ok) ⊎ IsWritersEnd result }
     ensures written { result ≡ Status.Ok → Takes (K.written sink.old) text.now (K.written sink.new) }
     ensures front { TakesFront (K.written sink.old) text.now (K.written sink.new) }
     ensures fault { result ≡ Status.WriteFault → Rose (K.faults sink.old) (K.faults sink.new) }

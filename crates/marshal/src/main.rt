@@ -1,6 +1,10 @@
 //! Replays a script of events over stores in memory, and writes what the node makes of it.
 #![tactic(auto)]
 
+ghost use Rattle.std.specs.Prelude.{◌≡◌, ◌↔◌, map, string_bytes};
+ghost use Rattle.marshal.specs.Run.{empty_stores as nothing_stored, no_faults};
+ghost use Rattle.marshal.specs.Words.{IsCommand};
+
 mod asks;
 mod command;
 mod heard;
@@ -58,7 +62,9 @@ fn words_of(rt: &(impl Env + AllocGlobal)) -> io::Result<Vec<String>> {
 }
 
 /// Does what the words ask for, over standard input and output.
-fn run_words(rt: &(impl AllocGlobal + Input + Print), words: &[String]) -> Status {
+fn run_words(rt: &(impl AllocGlobal + Input + Print), words: &[String]) -> Status
+    ensures usage { result ≡ Status.Usage ↔ (IsCommand (map string_bytes words.now) → ⊥) }
+{
     let mut sink = Output::new(io::writer(rt));
     if let Some(text) = text_for(words) {
         return show(&mut sink, text);
@@ -70,7 +76,10 @@ fn run_words(rt: &(impl AllocGlobal + Input + Print), words: &[String]) -> Statu
 }
 
 /// Stores in memory that hold nothing.
-fn empty_stores(alloc: Global) -> MemoryStores {
+fn empty_stores(alloc: Global) -> MemoryStores
+    ensures empty { result.ended ≡ nothing_stored }
+    ensures calm { result.counts ≡ no_faults }
+{
     Ruins {
         blocks: Blocks::wreck(BlockStore::new(MemArchive::new(alloc, LuckHalf::Low))),
         certs: Certificates::wreck(CertificateStore::new(MemArchive::new(alloc, LuckHalf::High))),

@@ -4,7 +4,7 @@ use Rattle.mar_node.specs.Opening.{Derives}
 use Rattle.mar_node.specs.Stored.{at_own_height}
 use Rattle.mar_actor.specs.Views.{sizes_of}
 use Rattle.mar_node.proofs.Growing.{Grew-refl}
-use Rattle.mar_node.proofs.OpeningEvent.{begin_by_value, begins, cut_begun, cut_deriving, cut_early, deriving_cause, next_by_value}
+use Rattle.mar_node.proofs.OpeningEvent.{begin_by_value, begins, cut_begun, cut_deriving, cut_early, deriving_cause, finds, next_by_value}
 use Rattle.mar_node.proofs.Reopenings.{LosesOpening-then}
 use Rattle.mar_actor.proofs.actor.Actor.init.Goals as goal
 
@@ -70,6 +70,14 @@ returns-clause-opens g c =
     let is = c.genesis-genesis.ensures g.V.Variant.plain in
     let life = rw c.in-Ok.ensures at c.new-life.ensures in
     λ config chain set asks. begins config chain c.args.ruins _ c.in_ok-stores.stores c.in_ok-stores.ensures.ok block is c.in_ok-stores-2.stores c.in_ok-stores-2.ensures.ok c.args.config.provider c.args.config.epocher (sizes_of c.args.config.limits) c.in_ok-stores-3.stores c.new-life.result asks set.capacity
+    (subst (λ es. Derives es c.in_ok-stores-2.stores c.in_ok-stores-3.stores) (sym set.epochs_are) c.in_ok-stores-3.ensures.ok) life
+
+pub returns-clause-finds : goal.returns-clause-finds
+returns-clause-finds g c =
+    let block = g.V.Variant.plain c.genesis-genesis.result in
+    let is = c.genesis-genesis.ensures g.V.Variant.plain in
+    let life = rw c.in-Ok.ensures at c.new-life.ensures in
+    λ config set alone. finds c.args.ruins _ c.in_ok-stores.stores c.in_ok-stores.ensures.ok block is c.in_ok-stores-2.stores c.in_ok-stores-2.ensures.ok config c.args.config.provider c.args.config.epocher (sizes_of c.args.config.limits) c.in_ok-stores-3.stores c.new-life.result alone set.capacity
     (subst (λ es. Derives es c.in_ok-stores-2.stores c.in_ok-stores-3.stores) (sym set.epochs_are) c.in_ok-stores-3.ensures.ok) life
 
 pub returns-clause-counts : goal.returns-clause-counts
