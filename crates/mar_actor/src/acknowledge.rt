@@ -17,6 +17,7 @@ ghost use Rattle.mar_node.specs.Lives.{later_round};
 ghost use Rattle.mar_node.specs.Moves.{Drains, DrainsNext, EndsDropped, EndsOldest, LivesOn, RaisesTo, progress_asks, retired, round_at};
 ghost use Rattle.mar_node.specs.Requests.{raise_asks};
 ghost use Rattle.mar_actor.specs.Due.{EndsWhereDue, dropping_due};
+ghost use Rattle.mar_actor.specs.Told.{TellsInOrder};
 
 use crate::actor::Actor;
 use crate::reporter::Reporter;
@@ -49,6 +50,7 @@ impl<
         ensures promise { IsNested self.held.blocks → (buffer : List Block) → KeepsPromise (E.epochs self.life.epocher) V.inner self (ack_given ticket) buffer (A.told application.old) (A.told application.new) (R.told resolver.old) (R.told resolver.new) result }
         ensures lives { LivesOn self result }
         ensures by_value { EndsWhereDue (dropping_due self.life.out ticket) result }
+        ensures tells { TellsInOrder (A.told application.old) [] (A.told application.new) result }
     {
         let (actor, is_drained) = self.give(ticket).drain(resolver)?;
         if !is_drained {

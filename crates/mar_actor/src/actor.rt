@@ -7,6 +7,7 @@ ghost use Rattle.mar_node.specs.Held.{GoesOn, IsEndedBy, IsNoStores, IsUsual, Lo
 ghost use Rattle.mar_node.specs.Promise.{KeepsCounting, KeepsPromise};
 ghost use Rattle.mar_shelf.specs.Views.{fault_of};
 ghost use Rattle.mar_actor.specs.Due.{EndsWhereDue, due_fault};
+ghost use Rattle.mar_actor.specs.Told.{TellsInOrder, tips_of};
 ghost use Rattle.mar_actor.specs.Views.{event_of};
 
 use crate::event::Event;
@@ -79,6 +80,7 @@ impl<
         ensures counts { IfOk result (λ a. a.held.counts ≡ self.held.counts) }
         ensures cause { IfErr result (λ e. IsEndedBy self.held.counts e) }
         ensures by_value { EndsWhereDue (due_fault V.inner self (B.blocks buffer.now) (event_of F.plain event)) result }
+        ensures tells { TellsInOrder (A.told application.old) (tips_of V.inner self (B.blocks buffer.now) (event_of F.plain event)) (A.told application.new) result }
         ensures lasting { KeepsCounting (E.epochs self.life.epocher) V.inner self (event_of F.plain event) (B.blocks buffer.now) result }
         ensures same_life { IfOk result (λ a. (a.life.provider ≡ self.life.provider) × (a.life.epocher ≡ self.life.epocher) × (a.life.sizes ≡ self.life.sizes)) }
     {

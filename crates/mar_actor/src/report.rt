@@ -13,6 +13,7 @@ ghost use Rattle.mar_node.specs.Promise.{KeepsPromise};
 ghost use Rattle.mar_node.specs.Held.{GoesOn, IsUsual};
 ghost use Rattle.mar_node.specs.Moves.{LivesOn, Stores, StoresLate, StoresValue, at_height, found_at_hand, is_due, late_tips, of_commitment, risen_to, tip_after, tip_reports, tips_above, wants};
 ghost use Rattle.mar_actor.specs.Due.{EndsWhereDue, storing_due};
+ghost use Rattle.mar_actor.specs.Told.{TellsInOrder, finalized_tips};
 
 use crate::actor::Actor;
 use crate::reporter::{Reporter, Update};
@@ -45,6 +46,7 @@ impl<
         ensures promise { IsNested self.held.blocks → IsNested self.held.certs → KeepsPromise (E.epochs self.life.epocher) V.inner self (message_told None (report_finalization (F.plain finalization.now))) (B.blocks buffer.now) (A.told application.old) (A.told application.new) (R.told resolver.old) (R.told resolver.new) result }
         ensures lives { LivesOn self result }
         ensures by_value { EndsWhereDue (storing_due self.held (found_at_hand V.inner (B.blocks buffer.now) self.held.blocks.held (F.plain finalization.now).payload)) result }
+        ensures tells { TellsInOrder (A.told application.old) (finalized_tips self (F.plain finalization.now) (found_at_hand V.inner (B.blocks buffer.now) self.held.blocks.held (F.plain finalization.now).payload)) (A.told application.new) result }
     {
         let (actor, block) = self.block_at_hand(finalization.payload(), buffer)?;
         match block {
@@ -133,6 +135,7 @@ impl<
             → KeepsPromise (E.epochs self.life.epocher) V.inner self (message_told None (report_finalization (F.plain finalization.now))) buffer (A.told application.old) (A.told application.new) heard heard result }
         ensures lives { LivesOn self result }
         ensures by_value { nat_lt (height_of self.held.processed) (V.plain block.now).height ≡ true → EndsWhereDue (storing_due self.held (Some (V.plain block.now))) result }
+        ensures tells { TellsInOrder (A.told application.old) (tip_reports self.life.tip (F.plain finalization.now) (V.plain block.now)) (A.told application.new) result }
     {
         let height = V::height(block);
         if height.get() == u64::MAX {
@@ -244,6 +247,7 @@ impl<
             → KeepsPromise (E.epochs self.life.epocher) V.inner self (message_told None (report_finalization (F.plain finalization.now))) buffer (A.told application.old) (A.told application.new) (R.told resolver.old) (R.told resolver.new) result }
         ensures lives { LivesOn self result }
         ensures by_value { EndsWhereDue None result }
+        ensures tells { TellsInOrder (A.told application.old) (late_tips (is_due self.held (V.plain block.now)) self.life.tip (F.plain finalization.now) (V.plain block.now)) (A.told application.new) result }
     {
         let actor = self.witness(finalization.round(), resolver)?;
         let actor = actor.sync_metadata()?;

@@ -10,6 +10,7 @@ ghost use Rattle.mar_node.specs.Moves.{LivesOn, newest, newest_tips, with_newest
 ghost use Rattle.mar_node.specs.Promise.{KeepsPromise};
 ghost use Rattle.mar_shelf.specs.Views.{entry_of};
 ghost use Rattle.mar_actor.specs.Due.{EndsWhereDue};
+ghost use Rattle.mar_actor.specs.Told.{TellsInOrder};
 
 use crate::actor::Actor;
 use crate::reporter::Reporter;
@@ -37,6 +38,7 @@ impl<
         ensures promise { IsNested self.held.blocks → (heard : Option (List Call)) (buffer : List Block) → KeepsPromise (E.epochs self.life.epocher) V.inner self (life_started None) buffer (A.told application.old) (A.told application.new) heard heard result }
         ensures lives { LivesOn self result }
         ensures by_value { EndsWhereDue None result }
+        ensures tells { TellsInOrder (A.told application.old) (newest_tips V.inner self.life.tip (newest self.held.certs.held)) (A.told application.new) result }
     {
         let actor = self.report_newest(application)?;
         actor.dispatch(application)

@@ -72,7 +72,7 @@ fn run_words(rt: &(impl AllocGlobal + Input + Print), words: &[String]) -> Statu
     let mut source = InputSource::new(rt.reader());
     let alloc = rt.alloc();
     let stores = empty_stores(alloc);
-    run(alloc, words, &mut source, &mut sink, stores).status
+    run(rt, alloc, words, &mut source, &mut sink, stores).status
 }
 
 /// Stores in memory that hold nothing.

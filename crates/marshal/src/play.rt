@@ -407,6 +407,7 @@ fn setup(
     requires { IsSettings settings }
     ensures start { begin_of plain_block result.start ≡ from_genesis (plain_block genesis) }
     ensures epochs { result.epocher.length ≡ settings.epoch_length }
+    ensures provider { result.provider ≡ record { members = settings.members; first = settings.first_epoch; last = settings.last_epoch } }
     ensures sizes { sizes_of result.limits ≡ record { window = settings.window; max_repair = settings.max_repair; retention = settings.retention; capacity = settings.capacity } }
 {
     let scheme = MockScheme::new(settings.members as u32);

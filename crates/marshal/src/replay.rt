@@ -44,7 +44,8 @@ pub struct Finished<
     pub stores: Stores<FB, FC, M, H>,
 }
 
-/// Reads a script to its end, does its lines one after another, and writes what each makes.
+/// Reads a script to its end, does its lines one after another, and writes what each makes. All words that ask for it ask
+/// for the same.
 pub fn replay<
     S: Source,
     K: Sink,
@@ -54,6 +55,7 @@ pub fn replay<
     H: Shelf,
 >(
     alloc: Global,
+    _words: &[String],
     source: &mut S,
     sink: &mut K,
     stores: Stores<FB, FC, M, H>,

@@ -17,8 +17,9 @@ use mar_shelf::{Blocks, Certificates, Shelf};
 use mar_store::Meta;
 use std::alloc::Global;
 
-/// Does what the words ask for, reading from the source and writing to the sink.
+/// Does what the words ask for, reading from the source and writing to the sink. No command needs the runtime yet.
 pub fn run<
+    R,
     S: Source,
     K: Sink,
     FB: Blocks<StandardBlocks>,
@@ -26,6 +27,7 @@ pub fn run<
     M: Meta,
     H: Shelf,
 >(
+    _rt: &R,
     alloc: Global,
     words: &[String],
     source: &mut S,
@@ -44,7 +46,7 @@ pub fn run<
     ensures headline { ReplaysWhereTold (S.left source.old) (S.left source.new) (K.written sink.old) (K.written sink.new) result.status stores.ended stores.counts result.stores }
 {
     match Command::parse(words) {
-        Some(Command::Replay) => replay(alloc, source, sink, stores),
+        Some(Command::Replay) => replay(alloc, words, source, sink, stores),
         None => Finished {
             status: Status::Usage,
             stores,
@@ -64,14 +66,22 @@ mod tests {
 
     // How a replay of the stored script ends and what it writes, where the reads and writes of these numbers fail.
     fn replayed(
-        alloc: Global,
+        rt: &HostRuntime,
         failing_reads: &[u64],
         failing_writes: &[u64],
     ) -> Result<(Status, Vec<u8>), AllocError> {
+        let alloc = rt.alloc();
         let words = vec![in alloc; "replay".to_string(alloc)?]?;
         let mut source = Bytes::new(delivery().0, failing_reads);
         let mut sink = Written::new(alloc, failing_writes);
-        let finished = run(alloc, &words, &mut source, &mut sink, empty_stores(alloc));
+        let finished = run(
+            rt,
+            alloc,
+            &words,
+            &mut source,
+            &mut sink,
+            empty_stores(alloc),
+        );
         Ok((finished.status, Vec::from_slice(alloc, sink.bytes())?))
     }
 
@@ -91,11 +101,18 @@ node p=b1 o=- c=0.1 w=- b=0-1 bs=0-1 f=1-1 fs=1-1 u=- s=- y=-\n";
         let words = vec![in alloc; "replay".to_string(alloc)?]?;
         let mut source = Bytes::new(delivery().0, &[]);
         let mut sink = Written::new(alloc, &[]);
-        let first = run(alloc, &words, &mut source, &mut sink, empty_stores(alloc));
+        let first = run(
+            &rt,
+            alloc,
+            &words,
+            &mut source,
+            &mut sink,
+            empty_stores(alloc),
+        );
         assert_eq!(rt; first.status, Status::Ok);
         let mut source = Bytes::new(AGAIN, &[]);
         let mut sink = Written::new(alloc, &[]);
-        let second = run(alloc, &words, &mut source, &mut sink, first.stores);
+        let second = run(&rt, alloc, &words, &mut source, &mut sink, first.stores);
         assert_eq!(rt; second.status, Status::Ok);
         assert_eq!(rt; sink.bytes(), AGAIN_OUTPUT);
         Ok(())
@@ -113,7 +130,7 @@ node p=b1 o=- c=0.1 w=- b=0-1 bs=0-1 f=1-1 fs=1-1 u=- s=- y=-\n";
             (&[], &[8], Status::Ok, output.len()),
         ];
         for (reads, writes, status, length) in rows {
-            let (ended, bytes) = replayed(rt.alloc(), reads, writes)?;
+            let (ended, bytes) = replayed(&rt, reads, writes)?;
             assert_eq!(rt; ended, status);
             assert_eq!(rt; bytes.as_slice(), &output[..length.min(output.len())]);
         }

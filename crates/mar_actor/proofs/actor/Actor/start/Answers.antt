@@ -4,6 +4,7 @@ use Rattle.mar_node.proofs.Growing.{Grew-refl}
 use Rattle.mar_node.proofs.Lasting.{EndsLife-usual}
 use Rattle.mar_node.proofs.StartEvent.{LivesOn-start, promise-start, promise-untold}
 use Rattle.mar_actor.proofs.Due.{EndsWhereDue-ran, usual-due}
+use Rattle.mar_actor.proofs.Told.{TellsInOrder-ended, TellsInOrder-ran}
 use Rattle.mar_actor.proofs.actor.Actor.start.Goals as goal
 
 pub returns-in_err-actor : goal.returns-in_err-actor
@@ -14,6 +15,7 @@ returns-in_err-actor g c =
       promise = λ nested heard buffer. promise-untold (g.E.Epocher.epochs c.args.self.life.epocher) g.V.Variant.inner (g.met.E.Epocher.partition c.args.self.life.epocher) c.args.self buffer _ _ heard _ c.in_err-actor.ensures.err lost c.in_err-actor.ensures.usual;
       lives = EndsLife-usual c.args.self [] [] [] _ lost c.in_err-actor.ensures.usual;
       by_value = usual-due None _ c.in_err-actor.ensures.usual;
+      tells = TellsInOrder-ended _ _ _ _ c.in_err-actor.ensures.err;
     })
 
 pub returns : goal.returns
@@ -23,4 +25,5 @@ returns g c =
       promise = λ nested heard buffer. promise-start (g.E.Epocher.epochs c.args.self.life.epocher) g.V.Variant.inner (g.met.E.Epocher.partition c.args.self.life.epocher) c.args.self buffer _ _ _ heard _ nested c.in_ok-actor.ensures.ok ran;
       lives = LivesOn-start c.args.self _ _ _ ran;
       by_value = EndsWhereDue-ran None refl _ _ _ _ c.dispatch.ensures.ran;
+      tells = TellsInOrder-ran _ _ _ _ _ _ c.in_ok-actor.ensures.ok c.dispatch.ensures.ran;
     }

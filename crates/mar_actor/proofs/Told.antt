@@ -1,0 +1,27 @@
+-- Calls that tell tips, and then hand blocks over.
+use Rattle.std.proofs.Common.{◌≡◌, inl, inr, List, [], ◌++◌, map, Option, Result, Ok, Err, IfErr, OnErr, OnOk, append-nil, subst, sym}
+use Rattle.mar_key.specs.Hears.{Hears}
+use Rattle.mar_node.specs.Held.{Ending, Seen}
+use Rattle.mar_node.specs.Moves.{handed_report}
+use Rattle.mar_node.specs.Step.{Report}
+use Rattle.mar_node.proofs.Handing.{Hears-nothing, Hears-then, Ran}
+use Rattle.mar_actor.specs.Told.{TellsInOrder}
+
+-- nothing was told before the end
+pub TellsInOrder-ended : {T : Type 0} (told : Option (List Report)) (tips : List Report) (told' : Option (List Report)) (e : Ending) → Hears told [] told' → TellsInOrder {T = T} told tips told' (Err e)
+TellsInOrder-ended told tips told' e heard = ([], inl heard)
+
+-- nothing is told
+pub TellsInOrder-nothing : {T : Type 0} (told : Option (List Report)) (result : Result T Ending) → TellsInOrder told [] told result
+TellsInOrder-nothing told (Ok new) = ([], Hears-nothing told)
+TellsInOrder-nothing told (Err e) = ([], inl (Hears-nothing told))
+
+-- tips alone are told
+pub TellsInOrder-tips : {T : Type 0} (told : Option (List Report)) (tips : List Report) (told' : Option (List Report)) (result : Result T Ending) → OnOk result (Hears told tips told') → OnErr result (Hears told [] told') → TellsInOrder told tips told' result
+TellsInOrder-tips told tips told' (Ok new) heard silent = ([], subst (λ rs. Hears told rs told') (sym (append-nil tips)) heard)
+TellsInOrder-tips told tips told' (Err e) heard silent = ([], inl silent)
+
+-- blocks are handed over behind them
+pub TellsInOrder-ran : {P E : Type 0} (start : Seen P E) (told : Option (List Report)) (tips : List Report) (told1 told' : Option (List Report)) (result : Result (Seen P E) Ending) → Hears told tips told1 → Ran start told1 told' result → TellsInOrder told tips told' result
+TellsInOrder-ran start told tips told1 told' (Ok new) heard (handed, hands, dispatched) = (handed, Hears-then told told1 told' tips (map handed_report handed) heard hands)
+TellsInOrder-ran start told tips told1 told' (Err e) heard (handed, hands, stopped) = (handed, inr (Hears-then told told1 told' tips (map handed_report handed) heard hands))
