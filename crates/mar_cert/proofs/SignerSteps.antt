@@ -44,9 +44,9 @@ pub refused_count : (n : ℕ) (bytes : List ℕ) (e : Error) → (e ≡ Memory) 
 refused_count n bytes e (inl memory) = inl memory
 refused_count n bytes e (inr none) = inr (inl none)
 
-pub refused_signers : (n count : ℕ) (bytes after : List ℕ) (e : Error) → bytes ≡ varint count ++ after → (e ≡ Memory) ⊎ RefusesSigners n count after e → (e ≡ Memory) ⊎ RefusesCertificate n bytes e
-refused_signers n count bytes after e spelled (inl memory) = inl memory
-refused_signers n count bytes after e spelled (inr refused) = inr (inr (record { count = count; after = after; spelled = spelled; refused = inr refused }))
+pub refused_signers : (n count : ℕ) (bytes after : List ℕ) (e : Error) → bytes ≡ varint count ++ after → count ≤ n → (e ≡ Memory) ⊎ RefusesSigners n count after e → (e ≡ Memory) ⊎ RefusesCertificate n bytes e
+refused_signers n count bytes after e spelled few (inl memory) = inl memory
+refused_signers n count bytes after e spelled few (inr refused) = inr (inr (record { count = count; after = after; spelled = spelled; refused = inr (few, refused) }))
 
 pub too_many : (n count : ℕ) (bytes after : List ℕ) → bytes ≡ varint count ++ after → n < count → RefusesCertificate n bytes (Invalid Certificate Signers)
 too_many n count bytes after spelled over = inr (record { count = count; after = after; spelled = spelled; refused = inl (refl, over) })
@@ -55,10 +55,10 @@ pub no_front : (n : ℕ) (bytes : List ℕ) (e : Error) → n < 2 ^ 64 → (e �
 no_front n bytes e wide (inl memory) = inl memory
 no_front n bytes e wide (inr refused) = inr (no_certificate n bytes e wide refused)
 
-pub signers_err : {T : Type 0} (r : Result T Error) (n count : ℕ) (bytes after : List ℕ) → n < 2 ^ 64 → bytes ≡ varint count ++ after
+pub signers_err : {T : Type 0} (r : Result T Error) (n count : ℕ) (bytes after : List ℕ) → n < 2 ^ 64 → bytes ≡ varint count ++ after → count ≤ n
     → IfErr r (λ e. (e ≡ Memory) ⊎ RefusesSigners n count after e) → IfErr r (λ e. (e ≡ Memory) ⊎ HasNoFront (IsMockCertificate n) bytes)
-signers_err (Ok v) n count bytes after wide spelled refused = refused
-signers_err (Err e) n count bytes after wide spelled refused = no_front n bytes e wide (refused_signers n count bytes after e spelled refused)
+signers_err (Ok v) n count bytes after wide spelled few refused = refused
+signers_err (Err e) n count bytes after wide spelled few refused = no_front n bytes e wide (refused_signers n count bytes after e spelled few refused)
 
 pub certificate_taken : {T E : Type 0} (r : Result T E) (signers : T → List Signer) (n count : ℕ) (bytes after rest : List ℕ) → bytes ≡ varint count ++ after
     → IfOk r (λ c. length (signers c) ≡ count) → IfOk r (λ c. AreSigners n 0 (signers c)) → IfOk r (λ c. after ≡ flat_map signer_bytes (signers c) ++ rest)

@@ -31,12 +31,12 @@ pub record IsMockCertificate (n : ℕ) (bytes : List ℕ) : Type 0 where
 abbrev pub IsSignersError : Error → Type 0
 IsSignersError e = e ≡ Invalid Certificate Signers
 
--- a member stands at the front that is none of n from this one on, or its tag is cut off
+-- a member stands at the front that is none of n from this one on, or one that is, and its tag is cut off
 pub record RefusesMember (n low : ℕ) (bytes : List ℕ) (e : Error) : Type 0 where
   pub member : ℕ
   pub after : List ℕ
   pub spelled : bytes ≡ varint member ++ after
-  pub refused : (IsSignersError e × ((member < low) ⊎ (n ≤ member))) ⊎ RefusesShort 32 after e
+  pub refused : (IsSignersError e × ((member < low) ⊎ (n ≤ member))) ⊎ ((low ≤ member) × (member < n) × RefusesShort 32 after e)
 
 -- no signer stands at the front
 abbrev pub RefusesSigner : ℕ → ℕ → List ℕ → Error → Type 0
@@ -51,12 +51,12 @@ pub record RefusesSigners (n count : ℕ) (bytes : List ℕ) (e : Error) : Type 
   pub spelled : bytes ≡ flat_map signer_bytes done ++ after
   pub refused : RefusesSigner n (next_member 0 done) after e
 
--- a count stands at the front that is above n, or fewer signers
+-- a count stands at the front that is above n, or one that isn't, and fewer signers
 pub record RefusesCount (n : ℕ) (bytes : List ℕ) (e : Error) : Type 0 where
   pub count : ℕ
   pub after : List ℕ
   pub spelled : bytes ≡ varint count ++ after
-  pub refused : (IsSignersError e × (n < count)) ⊎ RefusesSigners n count after e
+  pub refused : (IsSignersError e × (n < count)) ⊎ ((count ≤ n) × RefusesSigners n count after e)
 
 -- no certificate of n members stands at the front, and the first byte that shows it is refused so
 abbrev pub RefusesCertificate : ℕ → List ℕ → Error → Type 0

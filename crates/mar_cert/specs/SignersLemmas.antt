@@ -129,7 +129,7 @@ no_signer n low bytes e (inr bad) wide s rest above below tag is =
     let same = varint_rest bad.member s.member bad.after (s.tag ++ rest) (sym bad.spelled ∙ is ∙ append_assoc (varint s.member) s.tag rest) in
     elim bad.refused [
       | inl outside ↦ elim outside.1 [ inl under ↦ omega (arith, same.0) | inr over ↦ omega (arith, same.0) ]
-      | inr short ↦ short_tag s.tag bad.after rest tag.0 short.1 same.1
+      | inr short ↦ short_tag s.tag bad.after rest tag.0 short.2.1 same.1
     ]
 
 no_signers : (n low : ℕ) (done signers : List Signer) (after rest : List ℕ) (e : Error) → n ≤ 2 ^ 64 → AreSigners n low done → AreSigners n low signers → length done < length signers
@@ -156,6 +156,8 @@ no_certificate n bytes e wide refused front rest is spelled =
           let same = varint_rest counted.count (length is.signers) counted.after (flat_map signer_bytes is.signers ++ rest) (sym counted.spelled ∙ joined) in
           elim counted.refused [
             | inl many ↦ omega (arith, many.1, same.0)
-            | inr bad ↦ no_signers n 0 bad.done is.signers bad.after rest e (omega arith) bad.are_signers are (omega (arith, bad.fewer, same.0)) bad.refused (sym bad.spelled ∙ same.1)
+            | inr few_stand ↦
+                let bad = few_stand.1 in
+                no_signers n 0 bad.done is.signers bad.after rest e (omega arith) bad.are_signers are (omega (arith, bad.fewer, same.0)) bad.refused (sym bad.spelled ∙ same.1)
           ]
     ]

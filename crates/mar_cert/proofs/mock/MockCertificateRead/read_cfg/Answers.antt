@@ -17,4 +17,4 @@ pub returns-clause-ok : goal.returns-clause-ok
 returns-clause-ok g c = certificate_taken c.read_signers.result plain_signers _ _ _ _ _ c.in_ok-count.ensures.ok.taken c.read_signers.ensures.count c.read_signers.ensures.signers c.read_signers.ensures.taken
 
 pub returns-clause-err : goal.returns-clause-err
-returns-clause-err g c = signers_err c.read_signers.result _ _ _ _ (omega arith) c.in_ok-count.ensures.ok.taken c.read_signers.ensures.cause
+returns-clause-err g c = signers_err c.read_signers.result _ _ _ _ (omega arith) c.in_ok-count.ensures.ok.taken c.if-count-members.false c.read_signers.ensures.cause
