@@ -201,16 +201,22 @@ fn a_notarization(rt: HostRuntime) -> Result<(), Fail> {
 #[test]
 fn refused_certificates(rt: HostRuntime) -> Result<(), Fail> {
     let signers = Error::Invalid(Kind::Certificate, Reason::Signers);
-    let certificate: &[u8] = &FINALIZATION[35..];
-    for (length, members, error) in [
-        (0, 4, Error::EndOfBuffer),
-        (1, 2, signers),
-        (1, 4, Error::EndOfBuffer),
-        (33, 4, Error::EndOfBuffer),
-        (68, 2, signers),
-        (99, 4, Error::EndOfBuffer),
-    ] {
-        let mut left = certificate.get(..length).ok_or("too short")?;
+    // Two signers, of which the second is member zero again and has no tag.
+    let mut again = [0; 35];
+    again[0] = 2;
+    let cases: [(&[u8], u32, Error); 9] = [
+        (&FINALIZATION[35..35], 4, Error::EndOfBuffer),
+        (&FINALIZATION[35..36], 2, signers),
+        (&FINALIZATION[35..36], 4, Error::EndOfBuffer),
+        (&FINALIZATION[35..68], 4, Error::EndOfBuffer),
+        (&FINALIZATION[35..103], 2, signers),
+        (&FINALIZATION[35..134], 4, Error::EndOfBuffer),
+        (b"\x01\x04", 4, signers),
+        (&again, 4, signers),
+        (b"\x05\x00", 4, signers),
+    ];
+    for (bytes, members, error) in cases {
+        let mut left = bytes;
         let read = MockCertificate::read_cfg(rt.alloc(), &mut left, &members);
         assert_eq!(rt; read.err(), Some(error));
     }
@@ -285,5 +291,119 @@ fn debug_texts(rt: HostRuntime) -> Result<(), Fail> {
     let text =
         "MockProvider { scheme: MockScheme { members: 4 }, first: Epoch(2), last: Epoch(3) }";
     assert_eq!(rt; format!(in rt.alloc(); "{provider:?}")?.as_str(), text);
+    Ok(())
+}
+
+// Whether a value equals itself and none of the others.
+fn differs<T: PartialEq>(value: &T, others: &[T]) -> bool {
+    let mut differs = value == value;
+    for other in others {
+        differs = differs && value != other && other != value;
+    }
+    differs
+}
+
+fn proposed(epoch: u64, view: u64, parent: u64, payload: u8) -> Proposal<Sha256Digest> {
+    Proposal {
+        round: Round::new(Epoch::new(epoch), View::new(view)),
+        parent: View::new(parent),
+        payload: Sha256Digest::from([payload; 32]),
+    }
+}
+
+fn signer_of(member: u32, tag: u8) -> Signer {
+    Signer {
+        member,
+        tag: Sha256Digest::from([tag; 32]),
+    }
+}
+
+#[test]
+fn each_part_tells_values_apart(rt: HostRuntime) {
+    let others = [
+        proposed(0, 2, 1, 7),
+        proposed(1, 3, 1, 7),
+        proposed(1, 2, 0, 7),
+        proposed(1, 2, 1, 8),
+    ];
+    let proposal = proposed(1, 2, 1, 7);
+    assert!(rt; differs(&proposal, &others));
+    let subject = Subject::Notarize {
+        proposal: proposal.copy(),
+    };
+    let others = [
+        Subject::Finalize { proposal },
+        Subject::Notarize {
+            proposal: proposed(1, 2, 1, 8),
+        },
+    ];
+    assert!(rt; differs(&subject, &others));
+    assert!(rt; differs(&signer_of(1, 7), &[signer_of(2, 7), signer_of(1, 8)]));
+    let (four, five) = (MockScheme::new(4), MockScheme::new(5));
+    assert!(rt; differs(&four, &[five]));
+    assert!(rt; differs(&Scoped::scheme(four), &[Scoped::scheme(five)]));
+    let (one, two, three) = (Epoch::new(1), Epoch::new(2), Epoch::new(3));
+    let others = [
+        MockProvider::new(five, one, two),
+        MockProvider::new(four, two, two),
+        MockProvider::new(four, one, three),
+    ];
+    assert!(rt; differs(&MockProvider::new(four, one, two), &others));
+}
+
+// A certificate of members, each with the same tag.
+fn signed_by(alloc: Global, members: &[u32]) -> Result<MockCertificate, AllocError> {
+    let mut signers = Vec::new(alloc);
+    for member in members {
+        signers.push(signer_of(*member, 7))?;
+    }
+    Ok(MockCertificate { signers })
+}
+
+fn notarized(alloc: Global, payload: u8, members: &[u32]) -> Result<MockNotarization, AllocError> {
+    let certificate = signed_by(alloc, members)?;
+    let proposal = proposed(1, 2, 1, payload);
+    Ok(Notarization {
+        proposal,
+        certificate,
+    })
+}
+
+fn finalized(alloc: Global, payload: u8, members: &[u32]) -> Result<MockFinalization, AllocError> {
+    let certificate = signed_by(alloc, members)?;
+    let proposal = proposed(1, 2, 1, payload);
+    Ok(Finalization {
+        proposal,
+        certificate,
+    })
+}
+
+#[test]
+fn each_part_tells_certificates_apart(rt: HostRuntime) -> Result<(), Fail> {
+    let alloc = rt.alloc();
+    let others = [
+        signed_by(alloc, &[0])?,
+        signed_by(alloc, &[0, 2])?,
+        signed_by(alloc, &[0, 1, 2])?,
+    ];
+    assert!(rt; differs(&signed_by(alloc, &[0, 1])?, &others));
+    let notarization = notarized(alloc, 7, &[0, 1])?;
+    let others = [notarized(alloc, 8, &[0, 1])?, notarized(alloc, 7, &[0])?];
+    assert!(rt; differs(&notarization, &others));
+    let finalization = finalized(alloc, 7, &[0, 1])?;
+    let others = [finalized(alloc, 8, &[0, 1])?, finalized(alloc, 7, &[0])?];
+    assert!(rt; differs(&finalization, &others));
+    let others = [
+        Activity::Certification(notarized(alloc, 7, &[0, 1])?),
+        Activity::Notarization(notarized(alloc, 8, &[0, 1])?),
+        Activity::Finalization(finalized(alloc, 7, &[0, 1])?),
+        Activity::Other,
+    ];
+    assert!(rt; differs(&Activity::Notarization(notarization), &others));
+    let others = [
+        Activity::Finalization(finalized(alloc, 7, &[0])?),
+        Activity::Notarization(notarized(alloc, 7, &[0, 1])?),
+    ];
+    assert!(rt; differs(&Activity::Finalization(finalization), &others));
     Ok(())
 }

@@ -469,10 +469,18 @@ fn printed_texts(rt: HostRuntime) -> Result<(), Fail> {
 #[test]
 fn texts_of_numbers(rt: HostRuntime) -> Result<(), Fail> {
     let member = Participant::from(3);
-    assert_eq!(rt; member.to_string(rt.alloc())?.as_str(), "3");
     assert_eq!(rt; u32::from(member), member.get());
     let error = Error::Invalid(Kind::Certificate, Reason::Signers);
     for (shown, text) in [
+        (member.to_string(rt.alloc())?, "3"),
+        (
+            Participant::new(u32::MAX).to_string(rt.alloc())?,
+            "4294967295",
+        ),
+        (
+            U64::new(u64::MAX).to_string(rt.alloc())?,
+            "18446744073709551615",
+        ),
         (
             format!(in rt.alloc(); "{error:?}")?,
             "Invalid(Certificate, Signers)",
@@ -484,4 +492,50 @@ fn texts_of_numbers(rt: HostRuntime) -> Result<(), Fail> {
         assert_eq!(rt; shown.as_str(), text);
     }
     Ok(())
+}
+
+// Whether a value equals itself and none of the others.
+fn differs<T: PartialEq>(value: &T, others: &[T]) -> bool {
+    let mut differs = value == value;
+    for other in others {
+        differs = differs && value != other && other != value;
+    }
+    differs
+}
+
+// Whether no two of these values are equal.
+fn all_differ<T: PartialEq>(values: &[T]) -> bool {
+    let mut differ = true;
+    for (place, value) in values.iter().enumerate() {
+        differ = differ && differs(value, values.get(place + 1..).unwrap_or(&[]));
+    }
+    differ
+}
+
+#[test]
+fn errors_are_told_apart(rt: HostRuntime) {
+    let kinds = [Kind::Block, Kind::Certificate, Kind::Commitment];
+    let reasons = [
+        Reason::DigestMismatch,
+        Reason::Signers,
+        Reason::BlockDigest,
+        Reason::CodingRoot,
+        Reason::ContextDigest,
+        Reason::DigestPadding,
+        Reason::CodingConfig,
+    ];
+    let errors = [
+        Error::EndOfBuffer,
+        Error::InvalidVarint,
+        Error::InvalidEnum(7),
+        Error::InvalidEnum(8),
+        Error::Invalid(Kind::Block, Reason::DigestMismatch),
+        Error::Invalid(Kind::Block, Reason::Signers),
+        Error::Invalid(Kind::Certificate, Reason::Signers),
+        Error::ExtraData,
+        Error::Memory,
+    ];
+    assert!(rt; all_differ(&kinds));
+    assert!(rt; all_differ(&reasons));
+    assert!(rt; all_differ(&errors));
 }

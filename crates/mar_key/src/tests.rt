@@ -28,11 +28,17 @@ fn cutoffs_are_ordered_by_what_they_cover(rt: HostRuntime) -> Result<(), Fail> {
     assert!(rt; !Cutoff::zero().covers(round(0, 1)));
     assert!(rt; epoch.reaches(Cutoff::Round(round(3, 7))));
     assert_eq!(rt; Cutoff::zero().raised_to(epoch), epoch);
-    assert_eq!(rt; epoch.to_string(rt.alloc())?.as_str(), "3");
-    assert_eq!(rt;
-        Cutoff::Round(round(2, 40)).to_string(rt.alloc())?.as_str(),
-        "(2, 40)"
-    );
+    for (cutoff, text) in [
+        (epoch, "3"),
+        (Cutoff::Epoch(Epoch::new(u64::MAX)), "18446744073709551615"),
+        (Cutoff::Round(round(2, 40)), "(2, 40)"),
+        (
+            Cutoff::Round(round(u64::MAX, u64::MAX)),
+            "(18446744073709551615, 18446744073709551615)",
+        ),
+    ] {
+        assert_eq!(rt; cutoff.to_string(rt.alloc())?.as_str(), text);
+    }
     Ok(())
 }
 
@@ -157,8 +163,20 @@ fn keys_are_ordered_and_printed(rt: HostRuntime) -> Result<(), Fail> {
             "Finalized(Height(12345))",
         ),
         (
+            Key::Finalized {
+                height: Height::new(u64::MAX),
+            },
+            "Finalized(Height(18446744073709551615))",
+        ),
+        (
             Key::Notarized { round: round(2, 7) },
             "Notarized(Round { epoch: Epoch(2), view: View(7) })",
+        ),
+        (
+            Key::Notarized {
+                round: round(u64::MAX, u64::MAX),
+            },
+            "Notarized(Round { epoch: Epoch(18446744073709551615), view: View(18446744073709551615) })",
         ),
     ];
     for (key, text) in texts {
@@ -210,9 +228,11 @@ fn orders_and_hashes(rt: HostRuntime) {
         Annotation::Untrusted { height: low },
         Annotation::Untrusted { height: high },
         Annotation::Certified { height: low },
+        Annotation::Certified { height: high },
         Annotation::Finalized(Finalized::ByHeight { height: low }),
         Annotation::Finalized(Finalized::ByHeight { height: high }),
         Annotation::Finalized(Finalized::ByRound { round: early }),
+        Annotation::Finalized(Finalized::ByRound { round: late }),
     ];
     for pair in annotations.windows(2) {
         let [lesser, greater] = *pair else { continue };
@@ -527,4 +547,84 @@ fn recorder_closes_what_is_judged(rt: HostRuntime) -> Result<(), Fail> {
     assert!(rt; !is_open_after(&rt, Outcome::Ignored)?);
     assert!(rt; !is_open_after(&rt, Outcome::Complete)?);
     Ok(())
+}
+
+// Whether a value equals itself and none of the others.
+fn differs<T: PartialEq>(value: &T, others: &[T]) -> bool {
+    let mut differs = value == value;
+    for other in others {
+        differs = differs && value != other && other != value;
+    }
+    differs
+}
+
+fn floor_of(processed: Option<Processed>, view: u64) -> Floor {
+    Floor::new(processed, Cutoff::Round(round(1, view)))
+}
+
+#[test]
+fn each_part_tells_values_apart(rt: HostRuntime) {
+    let (low, high) = (Height::new(4), Height::new(5));
+    let others = [
+        Processed::Block(low),
+        Processed::Block(high),
+        Processed::Absent(high),
+    ];
+    assert!(rt; differs(&Processed::Absent(low), &others));
+    assert!(rt; differs(&Processed::Block(low), &[Processed::Block(high)]));
+    let others = [
+        floor_of(None, 8),
+        floor_of(Some(Processed::Absent(low)), 8),
+        floor_of(Some(Processed::Block(low)), 9),
+    ];
+    let floor = floor_of(Some(Processed::Block(low)), 8);
+    assert!(rt; differs(&floor, &others));
+    let others = [
+        Retain::AboveHeight(high),
+        Retain::AboveRound(Cutoff::Epoch(Epoch::new(4))),
+    ];
+    assert!(rt; differs(&Retain::AboveHeight(low), &others));
+    let others = [
+        Retain::AboveRound(Cutoff::Epoch(Epoch::new(5))),
+        Retain::AboveRound(Cutoff::Round(round(4, 0))),
+    ];
+    let keep = Retain::AboveRound(Cutoff::Epoch(Epoch::new(4)));
+    assert!(rt; differs(&keep, &others));
+    let others = [Outcome::Invalid, Outcome::Ignored];
+    assert!(rt; differs(&Outcome::Complete, &others));
+    assert!(rt; differs(&Outcome::Invalid, &[Outcome::Ignored]));
+}
+
+fn judged_of(ticket: u64, height: Height, outcome: Outcome) -> Judged<u64> {
+    let key = Key::Finalized { height };
+    Judged {
+        ticket,
+        key,
+        outcome,
+    }
+}
+
+#[test]
+fn each_part_tells_requests_apart(rt: HostRuntime) {
+    let (low, high) = (Height::new(4), Height::new(5));
+    // The first two differ from the request in the annotation alone.
+    let others = [
+        Request::untrusted(1u64, low),
+        Request::certified(1, high),
+        Request::certified(2, low),
+        Request::finalized(low),
+    ];
+    let request = Request::certified(1, low);
+    assert!(rt; differs(&request, &others));
+    let fetch = Fetch::from(request);
+    for other in others {
+        assert!(rt; differs(&fetch, &[Fetch::from(other)]));
+    }
+    let others = [
+        judged_of(1, low, Outcome::Complete),
+        judged_of(0, high, Outcome::Complete),
+        judged_of(0, low, Outcome::Ignored),
+    ];
+    assert!(rt; differs(&judged_of(0, low, Outcome::Complete), &others));
+    assert!(rt; differs(&Subscription { name: 1u64 }, &[Subscription { name: 2 }]));
 }

@@ -1,4 +1,4 @@
-//! How numbers, rounds and numbers of shards are ordered.
+//! How epochs, heights, views, distances and rounds are ordered.
 ghost use Rattle.std.specs.Prelude.{◌≡◌, ◌&&◌, ◌==◌, ℕ};
 ghost use Rattle.std.specs.Ordering.{nat_cmp, ordering_then};
 ghost use Rattle.mar_types.specs.Round.{Round as PlainRound, round_eq};

@@ -185,6 +185,8 @@ fn orders_and_hashes(rt: HostRuntime) -> Result<(), Fail> {
     let few = config_of(1, 9).ok_or("zero")?;
     let many = config_of(2, 1).ok_or("zero")?;
     assert!(rt; ascend(few, many));
+    let extra = config_of(1, 2).ok_or("zero")?;
+    assert!(rt; ascend(config_of(1, 1).ok_or("zero")?, extra));
     let first = Coded::from((Sha256::fill(1), Sha256::fill(9), Sha256::fill(9), many));
     let second = Coded::from((Sha256::fill(2), Sha256::fill(0), Sha256::fill(0), few));
     assert!(rt; ascend(first, second));
@@ -202,7 +204,19 @@ fn orders_and_hashes(rt: HostRuntime) -> Result<(), Fail> {
 fn printed_texts(rt: HostRuntime) -> Result<(), Fail> {
     let three = NonZeroU32::new(3).ok_or("zero")?;
     let config = config_of(2, 3).ok_or("zero")?;
+    let max = "18446744073709551615";
+    let round = Round::new(Epoch::new(u64::MAX), View::new(u64::MAX));
     for (shown, text) in [
+        (Epoch::new(u64::MAX).to_string(rt.alloc())?, max),
+        (Height::new(u64::MAX).to_string(rt.alloc())?, max),
+        (View::new(u64::MAX).to_string(rt.alloc())?, max),
+        (EpochDelta::new(u64::MAX).to_string(rt.alloc())?, max),
+        (HeightDelta::new(u64::MAX).to_string(rt.alloc())?, max),
+        (ViewDelta::new(u64::MAX).to_string(rt.alloc())?, max),
+        (
+            round.to_string(rt.alloc())?,
+            "(18446744073709551615, 18446744073709551615)",
+        ),
         (Epoch::new(7).to_string(rt.alloc())?, "7"),
         (View::new(0).to_string(rt.alloc())?, "0"),
         (TermLength::new(three).to_string(rt.alloc())?, "3"),
@@ -642,5 +656,42 @@ fn the_first_refused_part_gives_the_reason(rt: HostRuntime) -> Result<(), Fail> 
             "at {place}"
         );
     }
+    Ok(())
+}
+
+// Whether a value equals itself and none of the others.
+fn differs<T: PartialEq>(value: &T, others: &[T]) -> bool {
+    let mut differs = value == value;
+    for other in others {
+        differs = differs && value != other && other != value;
+    }
+    differs
+}
+
+fn info_of(epoch: u64, height: u64, first: u64, last: u64) -> EpochInfo {
+    EpochInfo::new(
+        Epoch::new(epoch),
+        Height::new(height),
+        Height::new(first),
+        Height::new(last),
+    )
+}
+
+#[test]
+fn each_part_tells_epochs_apart(rt: HostRuntime) -> Result<(), Fail> {
+    let (early, middle, late) = (EpochPhase::Early, EpochPhase::Midpoint, EpochPhase::Late);
+    assert!(rt; differs(&early, &[middle, late]));
+    assert!(rt; differs(&middle, &[early, late]));
+    let others = [
+        info_of(1, 25, 20, 29),
+        info_of(2, 24, 20, 29),
+        info_of(2, 25, 21, 29),
+        info_of(2, 25, 20, 28),
+    ];
+    assert!(rt; differs(&info_of(2, 25, 20, 29), &others));
+    let ten = NonZeroU64::new(10).ok_or("zero")?;
+    let eleven = NonZeroU64::new(11).ok_or("zero")?;
+    assert!(rt; ten.get() > 1 && eleven.get() > 1);
+    assert!(rt; differs(&FixedEpocher::new(ten), &[FixedEpocher::new(eleven)]));
     Ok(())
 }
