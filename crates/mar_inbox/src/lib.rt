@@ -1,4 +1,4 @@
-//! What callers tell the actor, and the queue that their messages wait in.
+//! What callers tell the actor. The queue that their messages will wait in is so far a definition (specs/Policy.antt).
 #![tactic(auto)]
 
 mod message;

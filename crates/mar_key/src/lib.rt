@@ -1,4 +1,4 @@
-//! What is asked of peers and for whom, what stays open of it, and the queue of what peers send.
+//! What is asked of peers and for whom, what stays open of it, and who takes what peers send.
 #![tactic(auto)]
 
 mod annotations;

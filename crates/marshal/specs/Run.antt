@@ -411,7 +411,7 @@ ReplaysLines quiet settings lines rest status taken left bytes before after =
     ReadsLines settings lines rest status taken left × RunsLines quiet settings lines status bytes before after
 
 -- THE HEADLINE: what `replay` took of its source and left in it, what it wrote, what it answered, and
--- its stores before and after. `quiet` says that no count of source, sink or stores rose.
+-- its stores before and after. `quiet` says that no count of the stores rose.
 pub record Headline (quiet : Type 0) (taken left bytes : List ℕ) (status : Status) (before after : Ended) : Type 0 where
   pub settings : Option Settings
   pub lines : List Line
