@@ -1,5 +1,5 @@
 -- Why a store is lost or a read has no answer, told by a count of faults.
-use Rattle.std.specs.Prelude.{ℕ, ◌≡◌, ◌≤◌, Result, Ok, Err}
+use Rattle.std.specs.Prelude.{ℕ, ⊤, ◌≡◌, ◌≤◌, Result, Ok, Err}
 use Rattle.mar_codec.specs.Causes.{Rose}
 use Rattle.mar_store.specs.declared.lost.Lost.{Lost}
 use Rattle.mar_store.specs.declared.lost.Lost.TheVariants.{Fault, Memory}
@@ -10,6 +10,11 @@ use Rattle.mar_store.specs.declared.lost.Miss.TheVariants.{Fault as Missed, Memo
 abbrev pub wreck_of : {W : Type 0} → Lost W → W
 wreck_of (Fault w) = w
 wreck_of (Memory w) = w
+
+-- what holds of what a fault leaves; of want of memory it says nothing
+abbrev pub OnFault : {W : Type 0} → (W → Type 0) → Lost W → Type 0
+OnFault holds (Fault w) = holds w
+OnFault holds (Memory w) = ⊤
 
 -- a fault comes only where the count rose; want of memory may come at any time
 abbrev pub LostBy : {W : Type 0} → (W → ℕ) → ℕ → Lost W → Type 0

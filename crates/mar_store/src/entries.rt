@@ -32,6 +32,7 @@ impl<T: Item> Entries<T> {
     pub fn new(alloc: Global) -> Self
         ensures items { result.pile.items.items ≡ [] }
         ensures synced { result.pile.synced ≡ 0 }
+        ensures tickets { result.pile.accepted ≡ 0 }
     {
         Entries {
             pile: Pile::new(alloc),
@@ -88,7 +89,7 @@ impl<T: Item> Entries<T> {
         ensures done { MatchResult result
             (λ s. Puts (is_taken T.name (map seen self.pile.items.items) (record { height = index; value = item })) (kept_of self.pile.items.items self.pile.synced) (record { height = index; value = item }) (kept_of s.pile.items.items s.pile.synced))
             (λ p. Fails (left_of (kept_of self.pile.items.items self.pile.synced)) (record { height = index; value = item } ∷ []) (left_of (kept_of p.items.items p.synced))) }
-        ensures tickets { IfOk result (λ s. self.pile.accepted ≤ s.pile.accepted) }
+        ensures tickets { MatchResult result (λ s. self.pile.accepted ≤ s.pile.accepted) (λ p. self.pile.accepted ≤ p.accepted) }
         ensures covers { IfOk result (λ s. KeepsCovers self.pile.accepted (covered_by self.pile.items.items) (covered_by s.pile.items.items)) }
     {
         if self.holds(index, &item) {
@@ -109,6 +110,7 @@ impl<T: Item> Entries<T> {
             ⊎ (p.items.items ≡ self.pile.items.items ++ record { index = index; number = self.pile.accepted; item = item } ∷ [])) }
         ensures synced { MatchResult result (λ s. s.pile.synced ≡ self.pile.synced) (λ p. p.synced ≡ self.pile.synced) }
         ensures tickets { IfOk result (λ s. s.pile.accepted ≡ next_number self.pile.accepted) }
+        ensures goes_on { MatchResult result (λ s. self.pile.accepted ≤ s.pile.accepted) (λ p. self.pile.accepted ≤ p.accepted) }
     {
         let Entries { pile, mut places } = self;
         let place = pile.items.len();
@@ -128,7 +130,7 @@ impl<T: Item> Entries<T> {
             (λ s. Syncs (kept_of self.pile.items.items self.pile.synced) (kept_of s.pile.items.items s.pile.synced))
             (λ p. Fails (left_of (kept_of self.pile.items.items self.pile.synced)) [] (left_of (kept_of p.items.items p.synced))) }
         ensures items { IfOk result (λ s. s.pile.items.items ≡ self.pile.items.items) }
-        ensures tickets { IfOk result (λ s. s.pile.accepted ≡ self.pile.accepted) }
+        ensures tickets { MatchResult result (λ s. s.pile.accepted ≡ self.pile.accepted) (λ p. p.accepted ≡ self.pile.accepted) }
     {
         let Entries { pile, places } = self;
         match pile.sync() {
@@ -143,7 +145,7 @@ impl<T: Item> Entries<T> {
             (λ s. Finishes (covered_by self.pile.items.items number) (kept_of self.pile.items.items self.pile.synced) (kept_of s.pile.items.items s.pile.synced))
             (λ p. Fails (left_of (kept_of self.pile.items.items self.pile.synced)) [] (left_of (kept_of p.items.items p.synced))) }
         ensures items { IfOk result (λ s. s.pile.items.items ≡ self.pile.items.items) }
-        ensures tickets { IfOk result (λ s. s.pile.accepted ≡ self.pile.accepted) }
+        ensures tickets { MatchResult result (λ s. s.pile.accepted ≡ self.pile.accepted) (λ p. p.accepted ≡ self.pile.accepted) }
     {
         let Entries { pile, places } = self;
         match pile.finish(number) {
@@ -175,6 +177,7 @@ impl<T: Item> Entries<T> {
             ≡ take pile.synced (map seen pile.items.items) ++ lucky_from half 0 (drop pile.synced (map seen pile.items.items))) }
         ensures synced { IfOk result (λ s. s.pile.synced ≡ length s.pile.items.items) }
         ensures err { IfErr result (λ p. Fails (left_of (kept_of pile.items.items pile.synced)) [] (left_of (kept_of p.items.items p.synced))) }
+        ensures tickets { MatchResult result (λ s. pile.accepted ≤ s.pile.accepted) (λ p. pile.accepted ≤ p.accepted) }
     {
         match pile.settle(half) {
             Err(pile) => Err(pile),

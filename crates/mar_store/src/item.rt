@@ -7,6 +7,8 @@ use std::alloc::AllocError;
 /// The most bytes that an archived value may take.
 pub const MAX_VALUE_SIZE: u64 = 1_048_576;
 
+const _: () = prove!(MAX_VALUE_SIZE == 1_048_576);
+
 /// A value that an archive keeps. Its digest names it.
 pub trait Item: Drop {
     type Key: Digest;

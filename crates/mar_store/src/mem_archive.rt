@@ -1,17 +1,18 @@
 //! An archive in memory.
-ghost use Rattle.std.specs.Prelude.{◌≡◌, [], true, is_some, map, IfOk, IfErr};
-ghost use Rattle.mar_store.specs.Changes.{Fails, left_of};
+ghost use Rattle.std.specs.Prelude.{◌≡◌, ◌≤◌, [], ◌∷◌, true, is_some, filter, length, map, nat_le, take, IfOk, IfErr, MatchResult};
+ghost use Rattle.mar_store.specs.Changes.{Fails, Finishes, IsReopened, Prunes, Puts, Syncs, left_of};
 ghost use Rattle.mar_store.specs.Kept.{reopened_store};
 ghost use Rattle.mar_store.specs.Entries.{covered_by, kept_of, seen};
 ghost use Rattle.mar_store.specs.Armed.{HeedsArmed, ReadsArmed};
-ghost use Rattle.mar_store.specs.Lost.{wreck_of, IsCausedBy, IsMissedBy};
-ghost use Rattle.mar_store.specs.Named.{value_found};
-ghost use Rattle.mar_store.specs.Tickets.{KeepsCovers};
+ghost use Rattle.mar_store.specs.Lost.{wreck_of, IsCausedBy, IsMissedBy, OnFault};
+ghost use Rattle.mar_store.specs.Named.{is_taken, value_found};
+ghost use Rattle.mar_store.specs.Tickets.{KeepsCovers, KeepsCoversFrom};
 ghost use Rattle.mar_store.specs.Luck.{half_of, lucky_found};
 ghost use Rattle.mar_store.specs.Nested.{covers_last, front_within, kept_nested};
 
 use crate::alarm::Alarm;
 use crate::entries::Entries;
+use crate::item::MAX_VALUE_SIZE;
 use crate::pile::Pile;
 use crate::{Archive, ArchiveRuin, Identifier, Item, Lost, LuckHalf, Miss, RangeSet, SyncTicket};
 use std::alloc::{AllocError, Global};
@@ -39,6 +40,7 @@ impl<T: Item> MemArchive<T> {
         ensures faults { ⟦<MemArchive<T> as Archive<T>>⟧.faults result ≡ 0 }
         ensures due { ⟦<MemArchive<T> as Archive<T>>⟧.due result ≡ [] }
         ensures half { result.half ≡ half }
+        ensures number { ⟦<MemArchive<T> as Archive<T>>⟧.number result ≡ 0 }
     {
         MemArchive {
             entries: Entries::new(alloc),
@@ -55,7 +57,9 @@ impl<T: Item> MemArchive<T> {
         ensures failed { IfErr result (λ l. Fails (⟦<MemArchiveWreck<T> as ArchiveRuin<T>>⟧.left wreck) [] (⟦<MemArchiveWreck<T> as ArchiveRuin<T>>⟧.left (wreck_of l))) }
         ensures cause { IsCausedBy ⟦<MemArchive<T> as Archive<T>>⟧.faults ⟦<MemArchiveWreck<T> as ArchiveRuin<T>>⟧.faults (⟦<MemArchiveWreck<T> as ArchiveRuin<T>>⟧.faults wreck) result }
         ensures armed { HeedsArmed ⟦<MemArchive<T> as Archive<T>>⟧.due ⟦<MemArchiveWreck<T> as ArchiveRuin<T>>⟧.due true (⟦<MemArchiveWreck<T> as ArchiveRuin<T>>⟧.due wreck) result }
-        ensures half { IfOk result (λ s. s.half ≡ wreck.half) }
+        ensures half { MatchResult result (λ s. s.half ≡ wreck.half) (λ l. (wreck_of l).half ≡ wreck.half) }
+        ensures still { IfErr result (λ l. OnFault (λ w. w.pile ≡ wreck.pile) l) }
+        ensures tickets { MatchResult result (λ s. wreck.pile.accepted ≤ s.entries.pile.accepted) (λ l. wreck.pile.accepted ≤ (wreck_of l).pile.accepted) }
     {
         let MemArchiveWreck {
             pile,
@@ -159,7 +163,18 @@ impl<T: Item> Archive<T> for MemArchive<T> {
         Ok(self.entries.find(&identifier).is_some())
     }
 
-    fn put(self, index: u64, item: T) -> Result<Self, Lost<MemArchiveWreck<T>>> {
+    fn put(self, index: u64, item: T) -> Result<Self, Lost<MemArchiveWreck<T>>>
+        requires size { T.size item ≤ MAX_VALUE_SIZE }
+        requires fits { T.fits index item ≡ true }
+        ensures done { MatchResult result
+            (λ s. Puts (is_taken T.name (map seen self.entries.pile.items.items) (record { height = index; value = item })) (kept_of self.entries.pile.items.items self.entries.pile.synced) (record { height = index; value = item }) (kept_of s.entries.pile.items.items s.entries.pile.synced))
+            (λ l. Fails (left_of (kept_of self.entries.pile.items.items self.entries.pile.synced)) (record { height = index; value = item } ∷ []) (left_of (kept_of (wreck_of l).pile.items.items (wreck_of l).pile.synced))) }
+        ensures tickets { MatchResult result (λ s. self.entries.pile.accepted ≤ s.entries.pile.accepted) (λ l. self.entries.pile.accepted ≤ (wreck_of l).pile.accepted) }
+        ensures covers { IfOk result (λ s. KeepsCovers self.entries.pile.accepted (covered_by self.entries.pile.items.items) (covered_by s.entries.pile.items.items)) }
+        ensures cause { IsCausedBy (λ s. s.alarm.faults) (λ w. w.alarm.faults) self.alarm.faults result }
+        ensures armed { HeedsArmed (λ s. s.alarm.due.items) (λ w. w.alarm.due.items) true self.alarm.due.items result }
+        ensures half { MatchResult result (λ s. s.half ≡ self.half) (λ l. (wreck_of l).half ≡ self.half) }
+    {
         let MemArchive {
             entries,
             half,
@@ -182,7 +197,17 @@ impl<T: Item> Archive<T> for MemArchive<T> {
         }
     }
 
-    fn sync(self) -> Result<Self, Lost<MemArchiveWreck<T>>> {
+    fn sync(self) -> Result<Self, Lost<MemArchiveWreck<T>>>
+        ensures done { MatchResult result
+            (λ s. Syncs (kept_of self.entries.pile.items.items self.entries.pile.synced) (kept_of s.entries.pile.items.items s.entries.pile.synced))
+            (λ l. Fails (left_of (kept_of self.entries.pile.items.items self.entries.pile.synced)) [] (left_of (kept_of (wreck_of l).pile.items.items (wreck_of l).pile.synced))) }
+        ensures tickets { MatchResult result (λ s. self.entries.pile.accepted ≤ s.entries.pile.accepted) (λ l. self.entries.pile.accepted ≤ (wreck_of l).pile.accepted) }
+        ensures covers { IfOk result (λ s. KeepsCovers self.entries.pile.accepted (covered_by self.entries.pile.items.items) (covered_by s.entries.pile.items.items)) }
+        ensures cause { IsCausedBy (λ s. s.alarm.faults) (λ w. w.alarm.faults) self.alarm.faults result }
+        ensures armed { HeedsArmed (λ s. s.alarm.due.items) (λ w. w.alarm.due.items) true self.alarm.due.items result }
+        ensures half { MatchResult result (λ s. s.half ≡ self.half) (λ l. (wreck_of l).half ≡ self.half) }
+        ensures still { IfErr result (λ l. OnFault (λ w. w.pile ≡ self.entries.pile) l) }
+    {
         let MemArchive {
             entries,
             half,
@@ -202,7 +227,19 @@ impl<T: Item> Archive<T> for MemArchive<T> {
         }
     }
 
-    fn start_sync(self) -> Result<(Self, SyncTicket), Lost<MemArchiveWreck<T>>> {
+    fn start_sync(self) -> Result<(Self, SyncTicket), Lost<MemArchiveWreck<T>>>
+        ensures done { MatchResult result
+            (λ s. kept_of s.0.entries.pile.items.items s.0.entries.pile.synced ≡ kept_of self.entries.pile.items.items self.entries.pile.synced)
+            (λ l. Fails (left_of (kept_of self.entries.pile.items.items self.entries.pile.synced)) [] (left_of (kept_of (wreck_of l).pile.items.items (wreck_of l).pile.synced))) }
+        ensures made { IfOk result (λ s. s.1.number ≤ s.0.entries.pile.accepted) }
+        ensures covered { IfOk result (λ s. covered_by s.0.entries.pile.items.items s.1.number ≡ map seen self.entries.pile.items.items) }
+        ensures tickets { MatchResult result (λ s. self.entries.pile.accepted ≤ s.0.entries.pile.accepted) (λ l. self.entries.pile.accepted ≤ (wreck_of l).pile.accepted) }
+        ensures covers { IfOk result (λ s. KeepsCovers self.entries.pile.accepted (covered_by self.entries.pile.items.items) (covered_by s.0.entries.pile.items.items)) }
+        ensures cause { IsCausedBy (λ s. s.0.alarm.faults) (λ w. w.alarm.faults) self.alarm.faults result }
+        ensures armed { HeedsArmed (λ s. s.0.alarm.due.items) (λ w. w.alarm.due.items) true self.alarm.due.items result }
+        ensures half { MatchResult result (λ s. s.0.half ≡ self.half) (λ l. (wreck_of l).half ≡ self.half) }
+        ensures still { IfErr result (λ l. OnFault (λ w. w.pile ≡ self.entries.pile) l) }
+    {
         let MemArchive {
             entries,
             half,
@@ -223,7 +260,18 @@ impl<T: Item> Archive<T> for MemArchive<T> {
         ))
     }
 
-    fn finish(self, ticket: SyncTicket) -> Result<Self, Lost<MemArchiveWreck<T>>> {
+    fn finish(self, ticket: SyncTicket) -> Result<Self, Lost<MemArchiveWreck<T>>>
+        requires made { ticket.number ≤ self.entries.pile.accepted }
+        ensures done { MatchResult result
+            (λ s. Finishes (covered_by self.entries.pile.items.items ticket.number) (kept_of self.entries.pile.items.items self.entries.pile.synced) (kept_of s.entries.pile.items.items s.entries.pile.synced))
+            (λ l. Fails (left_of (kept_of self.entries.pile.items.items self.entries.pile.synced)) [] (left_of (kept_of (wreck_of l).pile.items.items (wreck_of l).pile.synced))) }
+        ensures tickets { MatchResult result (λ s. self.entries.pile.accepted ≤ s.entries.pile.accepted) (λ l. self.entries.pile.accepted ≤ (wreck_of l).pile.accepted) }
+        ensures covers { IfOk result (λ s. KeepsCovers self.entries.pile.accepted (covered_by self.entries.pile.items.items) (covered_by s.entries.pile.items.items)) }
+        ensures cause { IsCausedBy (λ s. s.alarm.faults) (λ w. w.alarm.faults) self.alarm.faults result }
+        ensures armed { HeedsArmed (λ s. s.alarm.due.items) (λ w. w.alarm.due.items) true self.alarm.due.items result }
+        ensures half { MatchResult result (λ s. s.half ≡ self.half) (λ l. (wreck_of l).half ≡ self.half) }
+        ensures still { IfErr result (λ l. OnFault (λ w. w.pile ≡ self.entries.pile) l) }
+    {
         let MemArchive {
             entries,
             half,
@@ -243,7 +291,19 @@ impl<T: Item> Archive<T> for MemArchive<T> {
         }
     }
 
-    fn prune(self, min: u64) -> Result<Self, Lost<MemArchiveWreck<T>>> {
+    fn prune(self, min: u64) -> Result<Self, Lost<MemArchiveWreck<T>>>
+        ensures done { MatchResult result
+            (λ s. Prunes min (kept_of self.entries.pile.items.items self.entries.pile.synced) (kept_of s.entries.pile.items.items s.entries.pile.synced))
+            (λ l. Fails (left_of (kept_of self.entries.pile.items.items self.entries.pile.synced)) [] (left_of (kept_of (wreck_of l).pile.items.items (wreck_of l).pile.synced))) }
+        ensures tickets { MatchResult result (λ s. self.entries.pile.accepted ≤ s.entries.pile.accepted) (λ l. self.entries.pile.accepted ≤ (wreck_of l).pile.accepted) }
+        ensures covers { IfOk result (λ s. KeepsCoversFrom min self.entries.pile.accepted (covered_by self.entries.pile.items.items) (covered_by s.entries.pile.items.items)) }
+        ensures cause { IsCausedBy (λ s. s.alarm.faults) (λ w. w.alarm.faults) self.alarm.faults result }
+        ensures armed { HeedsArmed (λ s. s.alarm.due.items) (λ w. w.alarm.due.items) true self.alarm.due.items result }
+        ensures half { MatchResult result (λ s. s.half ≡ self.half) (λ l. (wreck_of l).half ≡ self.half) }
+        ensures cut { IfOk result (λ s. s.entries.pile.items.items ≡ filter (λ e. nat_le min e.index) self.entries.pile.items.items) }
+        ensures synced { IfOk result (λ s. s.entries.pile.synced ≡ length (filter (λ e. nat_le min e.index) (take self.entries.pile.synced self.entries.pile.items.items))) }
+        ensures still { IfErr result (λ l. (wreck_of l).pile ≡ self.entries.pile) }
+    {
         let MemArchive {
             entries,
             half,
@@ -263,7 +323,13 @@ impl<T: Item> Archive<T> for MemArchive<T> {
         }
     }
 
-    fn wreck(self) -> MemArchiveWreck<T> {
+    fn wreck(self) -> MemArchiveWreck<T>
+        ensures left { left_of (kept_of result.pile.items.items result.pile.synced) ≡ left_of (kept_of self.entries.pile.items.items self.entries.pile.synced) }
+        ensures count { result.alarm.faults ≡ self.alarm.faults }
+        ensures due { result.alarm.due.items ≡ self.alarm.due.items }
+        ensures pile { result.pile ≡ self.entries.pile }
+        ensures half { result.half ≡ self.half }
+    {
         let MemArchive {
             entries,
             half,
@@ -276,7 +342,17 @@ impl<T: Item> Archive<T> for MemArchive<T> {
         }
     }
 
-    fn reopen(wreck: MemArchiveWreck<T>, luck: u64) -> Result<Self, Lost<MemArchiveWreck<T>>> {
+    fn reopen(wreck: MemArchiveWreck<T>, luck: u64) -> Result<Self, Lost<MemArchiveWreck<T>>>
+        ensures done { MatchResult result
+            (λ s. IsReopened (left_of (kept_of wreck.pile.items.items wreck.pile.synced)) (kept_of s.entries.pile.items.items s.entries.pile.synced))
+            (λ l. Fails (left_of (kept_of wreck.pile.items.items wreck.pile.synced)) [] (left_of (kept_of (wreck_of l).pile.items.items (wreck_of l).pile.synced))) }
+        ensures cause { IsCausedBy (λ s. s.alarm.faults) (λ w. w.alarm.faults) wreck.alarm.faults result }
+        ensures armed { HeedsArmed (λ s. s.alarm.due.items) (λ w. w.alarm.due.items) true wreck.alarm.due.items result }
+        ensures found { IfOk result (λ s. kept_of s.entries.pile.items.items s.entries.pile.synced ≡ reopened_store (lucky_found (half_of wreck.half luck) (left_of (kept_of wreck.pile.items.items wreck.pile.synced)))) }
+        ensures tickets { MatchResult result (λ s. wreck.pile.accepted ≤ s.entries.pile.accepted) (λ l. wreck.pile.accepted ≤ (wreck_of l).pile.accepted) }
+        ensures still { IfErr result (λ l. OnFault (λ w. w.pile ≡ wreck.pile) l) }
+        ensures half { MatchResult result (λ s. s.half ≡ wreck.half) (λ l. (wreck_of l).half ≡ wreck.half) }
+    {
         match MemArchive::reopen(wreck, luck) {
             Ok(archive) => Ok(archive),
             Err(lost) => Err(lost),

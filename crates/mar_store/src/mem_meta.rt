@@ -1,6 +1,6 @@
 //! A metadata store in memory.
-ghost use Rattle.std.specs.Prelude.{◌≡◌, None, true, [], ◌∷◌, IfOk, IfErr};
-ghost use Rattle.mar_store.specs.Values.{no_values};
+ghost use Rattle.std.specs.Prelude.{◌≡◌, None, true, [], ◌∷◌, Contains, IfOk, IfErr, MatchResult};
+ghost use Rattle.mar_store.specs.Values.{LeavesValues, no_values};
 ghost use Rattle.mar_store.specs.Armed.{HeedsArmed};
 ghost use Rattle.mar_store.specs.Lost.{wreck_of, IsCausedBy};
 ghost use Rattle.mar_store.specs.Luck.{lucky_values};
@@ -191,7 +191,16 @@ impl Meta for MemMeta {
         }
     }
 
-    fn reopen(wreck: MemMetaWreck, luck: u64) -> Result<Self, Lost<MemMetaWreck>> {
+    fn reopen(wreck: MemMetaWreck, luck: u64) -> Result<Self, Lost<MemMetaWreck>>
+        ensures done { MatchResult result
+            (λ s. Contains (left_with wreck.synced wreck.failed) (values_of s.values))
+            (λ l. LeavesValues (left_with wreck.synced wreck.failed) [] (left_with (wreck_of l).synced (wreck_of l).failed)) }
+        ensures synced { IfOk result (λ s. values_of s.synced ∷ [] ≡ values_of s.values ∷ []) }
+        ensures cause { IsCausedBy (λ s. s.alarm.faults) (λ w. w.alarm.faults) wreck.alarm.faults result }
+        ensures armed { HeedsArmed (λ s. s.alarm.due.items) (λ w. w.alarm.due.items) true wreck.alarm.due.items result }
+        ensures found { IfOk result (λ s. values_of s.values ≡ lucky_values luck (left_with wreck.synced wreck.failed)) }
+        ensures still { IfErr result (λ l. left_with (wreck_of l).synced (wreck_of l).failed ≡ left_with wreck.synced wreck.failed) }
+    {
         MemMeta::reopen(wreck, luck)
     }
 

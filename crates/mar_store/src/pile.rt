@@ -47,6 +47,7 @@ impl<T: Item> Pile<T> {
     pub fn new(alloc: Global) -> Self
         ensures items { result.items.items ≡ [] }
         ensures synced { result.synced ≡ 0 }
+        ensures accepted { result.accepted ≡ 0 }
     {
         Pile {
             items: Vec::new(alloc),
@@ -93,7 +94,8 @@ impl<T: Item> Pile<T> {
         ensures ok { IfOk result (λ p. p.items.items ≡ self.items.items ++ record { index = index; number = self.accepted; item = item } ∷ []) }
         ensures err { IfErr result (λ p. p.items.items ≡ self.items.items) }
         ensures synced { MatchResult result (λ p. p.synced ≡ self.synced) (λ p. p.synced ≡ self.synced) }
-        ensures accepted { IfOk result (λ p. p.accepted ≡ next_number self.accepted) }
+        ensures accepted { MatchResult result (λ p. p.accepted ≡ next_number self.accepted) (λ p. p.accepted ≡ self.accepted) }
+        ensures goes_on { IfOk result (λ p. self.accepted ≤ p.accepted) }
     {
         let Pile {
             mut items,
@@ -265,6 +267,7 @@ impl<T: Item> Pile<T> {
         ensures synced { IfOk result (λ p. p.0.synced ≡ self.synced) }
         ensures rest { IfOk result (λ p. p.1.items ≡ drop self.synced self.items.items) }
         ensures err { IfErr result (λ p. (p.items.items ≡ self.items.items) × (p.synced ≡ self.synced)) }
+        ensures accepted { MatchResult result (λ p. p.0.accepted ≡ self.accepted) (λ p. p.accepted ≡ self.accepted) }
     {
         let Pile {
             mut items,
@@ -301,6 +304,7 @@ impl<T: Item> Pile<T> {
             ≡ take self.synced (map seen self.items.items) ++ lucky_from half 0 (drop self.synced (map seen self.items.items))) }
         ensures synced { IfOk result (λ p. p.synced ≡ length p.items.items) }
         ensures err { IfErr result (λ p. Fails (left_of (kept_of self.items.items self.synced)) [] (left_of (kept_of p.items.items p.synced))) }
+        ensures accepted { MatchResult result (λ p. self.accepted ≤ p.accepted) (λ p. self.accepted ≤ p.accepted) }
     {
         match self.split() {
             Err(pile) => Err(pile),
@@ -317,6 +321,7 @@ impl<T: Item> Pile<T> {
         ensures ok { IfOk result (λ p. map seen p.items.items ≡ map seen self.items.items ++ lucky_from half 0 (map seen rest.now)) }
         ensures synced { IfOk result (λ p. p.synced ≡ length p.items.items) }
         ensures err { IfErr result (λ p. Fails (left_of (kept_of (self.items.items ++ rest.now) (length self.items.items))) [] (left_of (kept_of p.items.items p.synced))) }
+        ensures accepted { MatchResult result (λ p. self.accepted ≤ p.accepted) (λ p. self.accepted ≤ p.accepted) }
     {
         let mut pile = self;
         let mut place = 0;
@@ -337,6 +342,8 @@ impl<T: Item> Pile<T> {
         ensures ok { IfOk result (λ p. map seen p.items.items ≡ map seen self.items.items ++ (if lucky then seen entry.now ∷ [] else [])) }
         ensures err { IfErr result (λ p. p.items.items ≡ self.items.items) }
         ensures synced { MatchResult result (λ p. p.synced ≡ self.synced) (λ p. p.synced ≡ self.synced) }
+        ensures accepted { MatchResult result (λ p. p.accepted ≡ (if lucky then next_number self.accepted else self.accepted)) (λ p. p.accepted ≡ self.accepted) }
+        ensures goes_on { IfOk result (λ p. self.accepted ≤ p.accepted) }
     {
         if !lucky {
             return Ok(self);

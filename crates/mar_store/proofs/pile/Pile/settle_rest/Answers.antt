@@ -15,6 +15,7 @@ loop-place-preserved g c = record {
   within = omega arith;
   items = lucky_more c.args.half _ c.args.rest.now c.loop-place.place c.index-rest-place.result c.loop-place.pile.items.items _ _ (omega arith) c.is_lucky.ensures c.index-rest-place.is c.loop-place.invariant.items c.in-Ok.ensures.ok;
   synced = c.in-Ok.ensures.synced ∙ c.loop-place.invariant.synced;
+  accepted = omega (arith, c.in-Ok.ensures.goes_on, c.loop-place.invariant.accepted);
 }
 
 pub returns-in-Err-clause-err : goal.returns-in-Err-clause-err

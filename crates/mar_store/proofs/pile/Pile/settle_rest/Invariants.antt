@@ -8,6 +8,7 @@ invariant-loop-place g l = record {
   within : l.place ≤ length l.rest;
   items : map seen l.pile.items.items ≡ map seen l.fn.self.items.items ++ lucky_from l.half 0 (take l.place (map seen l.rest));
   synced : l.pile.synced ≡ length l.fn.self.items.items;
+  accepted : l.fn.self.accepted ≤ l.pile.accepted;
 }
 
 abbrev pub decreases-loop-place : goal.decreases-loop-place
