@@ -1,7 +1,9 @@
 //! Each call at a concrete type, and the texts that no clause gives.
 use super::*;
+use mar_cert::MockFinalization;
 use mar_codec::{Hasher, Sha256, Sha256Digest};
 use mar_key::Cutoff;
+use mar_node::Progress;
 use mar_store::{MemMeta, Meta};
 use mar_types::{Epoch, FixedEpocher, Height, Round, View};
 use std::num::NonZeroU64;
@@ -227,6 +229,50 @@ fn a_stream_lasts_from_a_sync_on(rt: HostRuntime) -> Result<(), Fail> {
     let wreck = stream.wreck();
     assert_eq!(rt; synced_height(&wreck), Some(Height::new(4)));
     assert_eq!(rt; synced_cutoff(&wreck), round);
+    Ok(())
+}
+
+type Kept = Progress<MemMeta, Sha256Digest, MockFinalization>;
+
+// Makes all durable, crashes, and opens again; with the values of the three keys of a stream, and of others.
+fn reread(progress: Kept) -> Option<(Kept, [Option<u64>; 8])> {
+    let progress = progress.sync().ok()?;
+    let meta = <MemMeta as Meta>::reopen(progress.wreck(), 0).ok()?;
+    let values = [0xFF, 0xFE, 0xFD, 0xFC, 0xFB, 0, 1, 0x100].map(|key| meta.get(key));
+    Some((Progress::new(meta), values))
+}
+
+#[test]
+fn a_stream_has_three_keys(rt: HostRuntime) -> Result<(), Fail> {
+    let progress: Kept = Progress::new(MemMeta::new(rt.alloc()));
+    let (mut progress, values) = reread(progress).ok_or("fresh")?;
+    assert_eq!(rt; values, [None; 8]);
+    let round = |epoch, view| Cutoff::Round(Round::new(Epoch::new(epoch), View::new(view)));
+    for (height, cutoff, epoch, view) in [
+        (7, Cutoff::Epoch(Epoch::new(2)), 2, None),
+        (8, round(3, 40), 3, Some(40)),
+        (9, Cutoff::Epoch(Epoch::new(4)), 4, None),
+    ] {
+        progress.witness(Round::new(Epoch::new(5), View::new(height)));
+        progress = progress
+            .set_processed(Height::new(height))
+            .ok()
+            .ok_or("height")?;
+        progress = progress.set_cutoff(&cutoff).ok().ok_or("cutoff")?;
+        let (next, values) = reread(progress).ok_or("reread")?;
+        let keys = [
+            Some(height),
+            Some(epoch),
+            view,
+            None,
+            None,
+            None,
+            None,
+            None,
+        ];
+        assert_eq!(rt; values, keys);
+        progress = next;
+    }
     Ok(())
 }
 

@@ -1,6 +1,6 @@
 //! Subscriptions, over buffers that promise and buffers that don't.
 use crate::*;
-use mar_block::{Buffer, EmptyBlock, NoBuffer, Recipients, StandardBlocks, Subscription, Variant};
+use mar_block::{Buffer, EmptyBlock, NoBuffer, Recipients, StandardBlocks, Subscription};
 use mar_codec::{Digest, Digested, Digestible, Participant, Sha256, Sha256Digest};
 use mar_types::{Height, Round};
 use std::alloc::{AllocError, Global};
@@ -9,19 +9,30 @@ use std::test::Fail;
 
 type Name = Key<Sha256Digest, Sha256Digest>;
 
-// A buffer that has nothing, promises to tell of each block, and counts what it promised.
+type Block = Digested<EmptyBlock<Sha256>>;
+
+// A buffer that has nothing, promises to tell of each block, counts what it promised, and keeps the last name.
 #[derive(Drop)]
 struct Promising {
     promised: Cell<u64>,
+    last: Cell<Option<Name>>,
 }
 
 impl Promising {
-    fn promise(&self) {
+    fn new() -> Self {
+        Promising {
+            promised: Cell::new(0),
+            last: Cell::new(None),
+        }
+    }
+
+    fn promise(&self, name: Name) {
         self.promised.set(self.promised.get().saturating_add(1));
+        self.last.set(Some(name));
     }
 }
 
-impl<V: Variant> Buffer<V> for Promising {
+impl Buffer<StandardBlocks> for Promising {
     ghost use Rattle.std.specs.Prelude.{[], None, true};
 
     ghost blocks = { λ _. [] };
@@ -30,41 +41,38 @@ impl<V: Variant> Buffer<V> for Promising {
 
     ghost sent = { λ _. None };
 
-    fn find_by_digest(&self, _digest: &V::Digest) -> Result<Option<V::Block>, AllocError> {
+    fn find_by_digest(&self, _digest: &Sha256Digest) -> Result<Option<Block>, AllocError> {
         Ok(None)
     }
 
-    fn find_by_commitment(
-        &self,
-        _commitment: &V::Commitment,
-    ) -> Result<Option<V::Block>, AllocError> {
+    fn find_by_commitment(&self, _commitment: &Sha256Digest) -> Result<Option<Block>, AllocError> {
         Ok(None)
     }
 
-    fn subscribe_by_digest(&self, digest: &V::Digest) -> Option<Subscription<V::Digest>> {
-        self.promise();
+    fn subscribe_by_digest(&self, digest: &Sha256Digest) -> Option<Subscription<Sha256Digest>> {
+        self.promise(Key::Digest(*digest));
         Some(Subscription { name: *digest })
     }
 
     fn subscribe_by_commitment(
         &self,
-        commitment: &V::Commitment,
-    ) -> Option<Subscription<V::Commitment>> {
-        self.promise();
+        commitment: &Sha256Digest,
+    ) -> Option<Subscription<Sha256Digest>> {
+        self.promise(Key::Commitment(*commitment));
         Some(Subscription { name: *commitment })
     }
 
     fn send(
         &mut self,
         _round: Round,
-        _block: V::Block,
+        _block: Block,
         _recipients: Recipients<Participant>,
     ) -> Result<(), AllocError> {
         Ok(())
     }
 }
 
-fn block_at(alloc: Global, height: u64) -> Result<Digested<EmptyBlock<Sha256>>, AllocError> {
+fn block_at(alloc: Global, height: u64) -> Result<Block, AllocError> {
     Digested::compute(
         alloc,
         EmptyBlock::new(Sha256Digest::empty(), Height::new(height), 0),
@@ -73,9 +81,7 @@ fn block_at(alloc: Global, height: u64) -> Result<Digested<EmptyBlock<Sha256>>, 
 
 #[test]
 fn one_promise_a_key_serves_all_that_wait(rt: HostRuntime) -> Result<(), Fail> {
-    let buffer = Promising {
-        promised: Cell::new(0),
-    };
+    let buffer = Promising::new();
     let block = block_at(rt.alloc(), 1)?;
     let other = block_at(rt.alloc(), 2)?;
     let digest: Name = Key::Digest(block.digest());
@@ -85,16 +91,18 @@ fn one_promise_a_key_serves_all_that_wait(rt: HostRuntime) -> Result<(), Fail> {
         (digest, 4, 1),
         (digest, 2, 1),
         (commitment, 3, 2),
+        (commitment, 5, 2),
         (Key::Digest(other.digest()), 7, 3),
     ] {
         waits.insert(key, ticket, &buffer)?;
         assert_eq!(rt; buffer.promised.get(), promised);
+        assert_eq!(rt; buffer.last.get(), Some(key));
         assert!(rt; waits.is_subscribed(&key));
     }
     let served = waits.notify(&block);
     assert_eq!(rt; served.by_digest.as_slice(), [4, 2].as_slice());
-    assert_eq!(rt; served.by_commitment.as_slice(), [3].as_slice());
-    assert!(rt; !waits.is_subscribed(&digest));
+    assert_eq!(rt; served.by_commitment.as_slice(), [3, 5].as_slice());
+    assert!(rt; !waits.is_subscribed(&digest) && !waits.is_subscribed(&commitment));
     let served = waits.notify(&block);
     assert!(rt; served.by_digest.is_empty() && served.by_commitment.is_empty());
     let served = waits.notify(&other);
@@ -104,9 +112,7 @@ fn one_promise_a_key_serves_all_that_wait(rt: HostRuntime) -> Result<(), Fail> {
 
 #[test]
 fn closed_tickets_wait_no_more(rt: HostRuntime) -> Result<(), Fail> {
-    let buffer = Promising {
-        promised: Cell::new(0),
-    };
+    let buffer = Promising::new();
     let block = block_at(rt.alloc(), 1)?;
     let digest: Name = Key::Digest(block.digest());
     let commitment: Name = Key::Commitment(block.digest());
