@@ -113,8 +113,15 @@ impl<W: BlocksRuin> BlocksRuin for RecordingWreck<W> {
         self.inner.may_ranges()
     }
 
-    fn arm(&mut self, calls: u64) -> Result<(), AllocError> {
-        self.inner.arm(calls)
+    fn arm(&mut self, calls: u64) -> Result<(), AllocError>
+        ensures armed { OnOk result (W.due self.new.inner ≡ with_armed W.armable calls (W.due self.old.inner)) }
+        ensures unarmed { OnErr result (W.due self.new.inner ≡ W.due self.old.inner) }
+        ensures left { W.left self.new.inner ≡ W.left self.old.inner }
+        ensures count { W.faults self.new.inner ≡ W.faults self.old.inner }
+        ensures recorded { self.new.recorded.items ≡ self.old.recorded.items }
+    {
+        let RecordingWreck { inner, recorded: _ } = self;
+        inner.arm(calls)
     }
 }
 
