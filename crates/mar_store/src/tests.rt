@@ -101,6 +101,41 @@ fn luck_keeps_by_its_bits(rt: HostRuntime) -> Result<(), Fail> {
     Ok(())
 }
 
+// Ten values that are sure and fifty more, all below a bound pruned.
+fn pruned_below(alloc: Global, half: LuckHalf, min: u64) -> Option<MemArchive<Numbered>> {
+    let archive: MemArchive<Numbered> = MemArchive::new(alloc, half);
+    let archive = with_bytes(archive, 0, 10)?;
+    let archive = archive.sync().ok()?;
+    let archive = with_bytes(archive, 10, 60)?;
+    archive.prune(min).ok()
+}
+
+#[test]
+fn luck_keeps_of_what_was_not_synced_or_pruned(rt: HostRuntime) -> Result<(), Fail> {
+    let from_six = [span(6, 10), span(12, 13), span(42, 42), span(44, 45)];
+    let from_nine = [span(9, 10), span(12, 13), span(42, 42), span(44, 45)];
+    let from_twelve = [span(12, 12), span(14, 15), span(44, 44), span(46, 47)];
+    let sure = [span(7, 9)];
+    let rows: [(LuckHalf, u64, u64, &[HeightSpan]); 9] = [
+        (LuckHalf::Low, 0x0000_0000_0000_000d, 6, &from_six),
+        (LuckHalf::Low, 0xffff_fff2_0000_000d, 9, &from_nine),
+        (LuckHalf::Low, 0x0000_0006_0000_000d, 12, &from_twelve),
+        (LuckHalf::Low, 0xffff_ffff_0000_0000, 7, &sure),
+        (LuckHalf::Low, 0xffff_ffff_0000_0000, 10, &[]),
+        (LuckHalf::High, 0x0000_000d_0000_0000, 6, &from_six),
+        (LuckHalf::High, 0x0000_000d_ffff_fff2, 9, &from_nine),
+        (LuckHalf::High, 0x0000_000d_0000_0006, 12, &from_twelve),
+        (LuckHalf::High, 0x0000_0000_ffff_ffff, 7, &sure),
+    ];
+    for (half, luck, min, kept) in rows {
+        let archive = pruned_below(rt.alloc(), half, min).ok_or("pruned")?;
+        let archive = crashed(archive, luck).ok_or("reopened")?;
+        assert_eq!(rt; archive.held_ranges().as_slice(), kept);
+        assert_eq!(rt; archive.sure_ranges().as_slice(), kept);
+    }
+    Ok(())
+}
+
 #[test]
 fn each_call_with_ample_memory(rt: HostRuntime) -> Result<(), Fail> {
     let archive: MemArchive<Numbered> = MemArchive::new(rt.alloc(), LuckHalf::Low);
@@ -156,9 +191,13 @@ fn the_armed_call_fails(rt: HostRuntime) -> Result<(), Fail> {
     };
     assert_eq!(rt; wreck.may_ranges().as_slice(), [span(0, 1)].as_slice());
     wreck.arm(1)?;
-    let Err(Lost::Fault(wreck)) = MemArchive::reopen(wreck, u64::MAX) else {
-        return Err(Fail::from("the reopening failed"));
-    };
+    wreck.arm(2)?;
+    for luck in [u64::MAX, 0] {
+        let Err(Lost::Fault(left)) = MemArchive::reopen(wreck, luck) else {
+            return Err(Fail::from("the reopening failed"));
+        };
+        wreck = left;
+    }
     let archive: MemArchive<Numbered> = MemArchive::reopen(wreck, u64::MAX).ok().ok_or("reopened")?;
     assert_eq!(rt; archive.held_ranges().as_slice(), [span(0, 1)].as_slice());
 
@@ -171,6 +210,35 @@ fn the_armed_call_fails(rt: HostRuntime) -> Result<(), Fail> {
     wreck.arm(2)?;
     let store = MemMeta::reopen(wreck, 1).ok().ok_or("reopened")?;
     assert_eq!(rt; store.get(1), Some(10));
+    Ok(())
+}
+
+// The value that a luck finds, where 10 was synced and a sync of 20 failed.
+fn value_picked(alloc: Global, luck: u64) -> Option<u64> {
+    let store = MemMeta::new(alloc).put(1, 10).ok()?;
+    let store = store.sync().ok()?;
+    let mut store = store.put(1, 20).ok()?;
+    store.arm(1).ok()?;
+    let Err(Lost::Fault(wreck)) = store.sync() else {
+        return None;
+    };
+    let store = MemMeta::reopen(wreck, luck).ok()?;
+    store.get(1)
+}
+
+#[test]
+fn the_lowest_bit_picks_a_map(rt: HostRuntime) -> Result<(), Fail> {
+    let rows = [
+        (0, 10),
+        (1, 20),
+        (2, 10),
+        (3, 20),
+        (u64::MAX - 1, 10),
+        (u64::MAX, 20),
+    ];
+    for (luck, value) in rows {
+        assert_eq!(rt; value_picked(rt.alloc(), luck), Some(value));
+    }
     Ok(())
 }
 
@@ -263,32 +331,46 @@ fn put_and_start<A: Archive<Numbered>>(
     archive.start_sync()
 }
 
-// Finishes the later of two syncs and then the earlier one.
+// Puts one more value, and finishes the later of two syncs and then the earlier one.
 fn finish_both<A: Archive<Numbered>>(
     archive: A,
+    byte: u8,
     earlier: SyncTicket,
     later: SyncTicket,
 ) -> Result<A, Lost<A::Wreck>>
     requires earlier { earlier.number ≤ A.number archive }
     requires later { later.number ≤ A.number archive }
 {
-    let archive = put_and_finish(archive, 2, later)?;
+    let archive = put_and_finish(archive, byte, later)?;
     archive.finish(earlier)
 }
 
-// Starts two syncs with a put before each, and finishes them in reverse order.
-fn in_reverse<A: Archive<Numbered>>(archive: A) -> Result<A, Lost<A::Wreck>> {
-    let (archive, earlier) = put_and_start(archive, 0)?;
-    let (archive, later) = put_and_start(archive, 1)?;
-    finish_both(archive, earlier, later)
+// Starts two syncs with a put before each, and finishes them in reverse order after a third put.
+fn in_reverse<A: Archive<Numbered>>(
+    archive: A,
+    (first, second, third): (u8, u8, u8),
+) -> Result<A, Lost<A::Wreck>> {
+    let (archive, earlier) = put_and_start(archive, first)?;
+    let (archive, later) = put_and_start(archive, second)?;
+    finish_both(archive, third, earlier, later)
 }
 
 #[test]
 fn two_syncs_finish_in_reverse(rt: HostRuntime) -> Result<(), Fail> {
     let archive: MemArchive<Numbered> = MemArchive::new(rt.alloc(), LuckHalf::High);
-    let archive = in_reverse(archive).ok().ok_or("finished")?;
+    let archive = in_reverse(archive, (0, 1, 2)).ok().ok_or("finished")?;
     assert_eq!(rt; archive.held_ranges().as_slice(), [span(0, 2)].as_slice());
     assert_eq!(rt; archive.sure_ranges().as_slice(), [span(0, 1)].as_slice());
+    let archive = crashed(archive, 0).ok_or("reopened")?;
+    let archive = in_reverse(archive, (10, 11, 12)).ok().ok_or("finished")?;
+    assert_eq!(rt;
+        archive.held_ranges().as_slice(),
+        [span(0, 1), span(10, 12)].as_slice()
+    );
+    assert_eq!(rt;
+        archive.sure_ranges().as_slice(),
+        [span(0, 1), span(10, 11)].as_slice()
+    );
     Ok(())
 }
 
