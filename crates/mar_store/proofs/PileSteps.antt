@@ -1,6 +1,9 @@
 -- What a pile keeps as entries come.
 use Rattle.std.proofs.Common.{◌≡◌, ◌∙◌, ◌≤◌, ◌<◌, ◌+◌, ◌^◌, ◌-◌, ℕ, zero, suc, List, [], ◌∷◌, ◌++◌, Bool, true, false, refl, sym, ap, map, take, drop, length, get_or, arith, le-leb, leb-true}
-use Rattle.std.proofs.lemmas.List.{map_push, take-append-le, length-map, length-append}
+use Rattle.std.proofs.lemmas.List.{map_push, take-append-le, length-map, length-append, take-map, map-append}
+use Rattle.std.proofs.lemmas.List.Sums.{fold-append, fold_push}
+use Rattle.std.proofs.Math.Seq.{take-add}
+use Rattle.std.specs.Prelude.{fold}
 use Rattle.std.specs.Prelude.{nat_lt, ◌==◌, ◌||◌, ◌⊎◌, ◌≢◌}
 use Rattle.std.proofs.Common.{inl, inr}
 use Rattle.std.proofs.lemmas.Bool.{cases_lt}
@@ -88,6 +91,24 @@ pub sure_more : {T : Type 0} (items : List (Entry T)) (i : ℕ) (e : Entry T) (o
     → new ≡ ranges (heights (take (i + 1) (map seen items)))
 sure_more items i e old new lt at was is =
     is ∙ (ap (with_height e.index) was ∙ (sym (ranges_push (heights (take i (map seen items))) e.index) ∙ ap ranges (sym (ap heights (front_more items i e lt at) ∙ map_push (λ x. x.height) (take i (map seen items)) (seen e)))))
+
+-- the index of one more entry in the ranges
+pub widened_more : {T : Type 0} (entries : List (Entry T)) (i h : ℕ) (e : Entry T) (base old new : List Range) → i < length entries → e ≡ get_or entries i e → e.index ≡ h
+    → old ≡ fold (λ rs k. with_height k rs) base (heights (map seen (take i entries))) → new ≡ with_height h old → new ≡ fold (λ rs h. with_height h rs) base (heights (map seen (take (i + 1) entries)))
+widened_more entries i h e base old new lt at here was is =
+    let more : heights (map seen (take (i + 1) entries)) ≡ heights (map seen (take i entries)) ++ e.index ∷ [] =
+    ap heights (sym (take-map seen (i + 1) entries) ∙ (front_more entries i e lt at ∙ ap (λ xs. xs ++ seen e ∷ []) (take-map seen i entries))) ∙ map_push (λ x. x.height) (map seen (take i entries)) (seen e) in
+    is ∙ (rw (← here) (ap (with_height e.index) was) ∙ sym (ap (fold (λ rs h. with_height h rs) base) more ∙ fold_push (λ rs h. with_height h rs) base (heights (map seen (take i entries))) e.index))
+
+-- all entries below a place are sure
+pub sure_all : {T : Type 0} (items part : List (Entry T)) (n m : ℕ) (old new : List Range) → n ≤ m → part ≡ take (m - n) (drop n items) → old ≡ ranges (heights (take n (map seen items)))
+    → new ≡ fold (λ rs h. with_height h rs) old (heights (map seen part)) → new ≡ ranges (heights (take m (map seen items)))
+sure_all items part n m old new le is was are =
+    let count : m ≡ n + (m - n) = omega (arith, le) in
+    let front : take m items ≡ take n items ++ part = ap (λ k. take k items) count ∙ (take-add n (m - n) items ∙ ap (λ es. take n items ++ es) (sym is)) in
+    let high : heights (take m (map seen items)) ≡ heights (take n (map seen items)) ++ heights (map seen part) =
+    ap heights (take-map seen m items ∙ (ap (map seen) front ∙ map-append seen (take n items) part)) ∙ (map-append (λ x. x.height) (map seen (take n items)) (map seen part) ∙ ap (λ xs. heights xs ++ heights (map seen part)) (sym (take-map seen n items))) in
+    are ∙ (ap (λ rs. fold (λ qs h. with_height h qs) rs (heights (map seen part))) was ∙ (sym (fold-append (λ rs h. with_height h rs) [] (heights (take n (map seen items))) (heights (map seen part))) ∙ ap ranges (sym high)))
 
 -- THE GREATEST INDEX
 

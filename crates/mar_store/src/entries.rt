@@ -124,13 +124,14 @@ impl<T: Item> Entries<T> {
         }
     }
 
-    /// Makes all entries sure. It gives back the pile where memory runs out.
+    /// Makes all entries sure. It gives back the pile as it was where memory runs out.
     pub fn sync(self) -> Result<Self, Pile<T>>
         ensures done { MatchResult result
             (λ s. Syncs (kept_of self.pile.items.items self.pile.synced) (kept_of s.pile.items.items s.pile.synced))
             (λ p. Fails (left_of (kept_of self.pile.items.items self.pile.synced)) [] (left_of (kept_of p.items.items p.synced))) }
         ensures items { IfOk result (λ s. s.pile.items.items ≡ self.pile.items.items) }
         ensures tickets { MatchResult result (λ s. s.pile.accepted ≡ self.pile.accepted) (λ p. p.accepted ≡ self.pile.accepted) }
+        ensures still { IfErr result (λ p. (p.items.items ≡ self.pile.items.items) × (p.synced ≡ self.pile.synced)) }
     {
         let Entries { pile, places } = self;
         match pile.sync() {
@@ -139,13 +140,14 @@ impl<T: Item> Entries<T> {
         }
     }
 
-    /// Makes sure what the ticket of a number covers. It gives back the pile where memory runs out.
+    /// Makes sure what the ticket of a number covers. It gives back the pile as it was where memory runs out.
     pub fn finish(self, number: u64) -> Result<Self, Pile<T>>
         ensures done { MatchResult result
             (λ s. Finishes (covered_by self.pile.items.items number) (kept_of self.pile.items.items self.pile.synced) (kept_of s.pile.items.items s.pile.synced))
             (λ p. Fails (left_of (kept_of self.pile.items.items self.pile.synced)) [] (left_of (kept_of p.items.items p.synced))) }
         ensures items { IfOk result (λ s. s.pile.items.items ≡ self.pile.items.items) }
         ensures tickets { MatchResult result (λ s. s.pile.accepted ≡ self.pile.accepted) (λ p. p.accepted ≡ self.pile.accepted) }
+        ensures still { IfErr result (λ p. (p.items.items ≡ self.pile.items.items) × (p.synced ≡ self.pile.synced)) }
     {
         let Entries { pile, places } = self;
         match pile.finish(number) {

@@ -127,50 +127,46 @@ impl<T: Item> Pile<T> {
         }
     }
 
-    /// Makes the entries below a place sure. It gives back the pile, in which some of them may be sure, where
-    /// memory runs out.
+    /// Makes the entries below a place sure. It gives back the pile as it was where memory runs out.
     fn keep_sure(self, until: usize) -> Result<Self, Self>
         requires from { self.synced ≤ until }
         requires within { until ≤ length self.items.items }
         ensures ok { IfOk result (λ p. p.synced ≡ until) }
         ensures err { IfErr result (λ p. (self.synced ≤ p.synced) × (p.items.items ≡ self.items.items)) }
+        ensures still { IfErr result (λ p. p.synced ≡ self.synced) }
         ensures items { MatchResult result (λ p. p.items.items ≡ self.items.items) (λ p. p.items.items ≡ self.items.items) }
         ensures accepted { MatchResult result (λ p. p.accepted ≡ self.accepted) (λ p. p.accepted ≡ self.accepted) }
     {
         let Pile {
             items,
-            mut synced,
+            synced,
             held,
             mut sure,
             accepted,
         } = self;
-        while synced < until {
-            match sure.insert(items[synced].index) {
-                Ok(()) => synced += 1,
-                Err(_) => {
-                    return Err(Pile {
-                        items,
-                        synced,
-                        held,
-                        sure,
-                        accepted,
-                    });
-                }
-            }
+        match sure.insert_all(&items[synced..until]) {
+            Ok(()) => Ok(Pile {
+                items,
+                synced: until,
+                held,
+                sure,
+                accepted,
+            }),
+            Err(_) => Err(Pile {
+                items,
+                synced,
+                held,
+                sure,
+                accepted,
+            }),
         }
-        Ok(Pile {
-            items,
-            synced,
-            held,
-            sure,
-            accepted,
-        })
     }
 
     /// Makes all entries sure.
     pub fn sync(self) -> Result<Self, Self>
         ensures ok { IfOk result (λ p. p.synced ≡ length self.items.items) }
         ensures err { IfErr result (λ p. (self.synced ≤ p.synced) × (p.items.items ≡ self.items.items)) }
+        ensures still { IfErr result (λ p. p.synced ≡ self.synced) }
         ensures items { MatchResult result (λ p. p.items.items ≡ self.items.items) (λ p. p.items.items ≡ self.items.items) }
         ensures accepted { MatchResult result (λ p. p.accepted ≡ self.accepted) (λ p. p.accepted ≡ self.accepted) }
     {
@@ -201,6 +197,7 @@ impl<T: Item> Pile<T> {
             × AllByRecursion (λ e. is_covered number e ≡ true) (drop self.synced (take p.synced self.items.items))
             × (filter (is_covered number) (drop p.synced self.items.items) ≡ [])) }
         ensures err { IfErr result (λ p. (self.synced ≤ p.synced) × (p.items.items ≡ self.items.items)) }
+        ensures still { IfErr result (λ p. p.synced ≡ self.synced) }
         ensures items { MatchResult result (λ p. p.items.items ≡ self.items.items) (λ p. p.items.items ≡ self.items.items) }
         ensures accepted { MatchResult result (λ p. p.accepted ≡ self.accepted) (λ p. p.accepted ≡ self.accepted) }
     {

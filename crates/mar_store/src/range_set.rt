@@ -1,8 +1,12 @@
 //! Heights kept as ranges.
-ghost use Rattle.std.specs.Prelude.{◌≡◌, ◌+◌, ◌<◌, ◌≤◌, ◌++◌, ◌↔◌, ℕ, [], take, drop, IfOk, OnOk, OnErr, IsTrue, vec_len, length};
+ghost use Rattle.std.specs.Prelude.{◌≡◌, ◌+◌, ◌<◌, ◌≤◌, ◌++◌, ◌↔◌, ℕ, [], take, drop, fold, map, IfOk, OnOk, OnErr, IsTrue, vec_len, length};
+ghost use Rattle.mar_store.specs.Changes.{heights};
+ghost use Rattle.mar_store.specs.Entries.{seen};
 ghost use Rattle.mar_store.specs.Ranges.{last_end, with_height};
 
-use crate::spans::{last_of, place_of, widen};
+use crate::Item;
+use crate::entry::Entry;
+use crate::spans::{last_of, place_of, widen, widen_by};
 use std::alloc::{AllocError, Global};
 use std::marker::Model;
 
@@ -79,6 +83,14 @@ impl RangeSet {
     {
         let place = place_of(&self.spans, height);
         widen(&mut self.spans, place, height)
+    }
+
+    /// Adds the indexes of entries: all of them, or none where memory runs out.
+    pub(crate) fn insert_all<T: Item>(&mut self, entries: &[Entry<T>]) -> Result<(), AllocError>
+        ensures ok { OnOk result (self.new ≡ fold (λ rs h. with_height h rs) self.old (heights (map seen entries.now))) }
+        ensures err { OnErr result (self.new ≡ self.old) }
+    {
+        widen_by(&mut self.spans, entries)
     }
 }
 

@@ -1,9 +1,12 @@
 //! Spans that ascend, and one more height in them.
-ghost use Rattle.std.specs.Prelude.{◌≡◌, ◌+◌, ◌++◌, ◌<◌, ◌≤◌, ◌↔◌, take, drop, length, vec_len, IsTrue, OnOk, OnErr};
+ghost use Rattle.std.specs.Prelude.{◌≡◌, ◌+◌, ◌++◌, ◌<◌, ◌≤◌, ◌↔◌, take, drop, fold, length, map, vec_capacity, vec_len, IsTrue, OnOk, OnErr};
+ghost use Rattle.mar_store.specs.Changes.{heights};
+ghost use Rattle.mar_store.specs.Entries.{seen};
 ghost use Rattle.mar_store.specs.Ranges.{last_end, with_height};
 ghost use Rattle.mar_store.specs.Spans.{ranges_of, AscendFrom, AreOrdered, IsReached, IsAlone, IsFollowed, BeginsAfter};
 
-use crate::HeightSpan;
+use crate::entry::Entry;
+use crate::{HeightSpan, Item};
 use std::alloc::AllocError;
 
 // Whether the span ends two or more below the height.
@@ -44,6 +47,28 @@ pub fn place_of(spans: &[HeightSpan], height: u64) -> usize
     low
 }
 
+/// Adds the indexes of entries: all of them, or none where memory runs out. Room is made before the first.
+pub fn widen_by<T: Item>(
+    spans: &mut Vec<HeightSpan>,
+    entries: &[Entry<T>],
+) -> Result<(), AllocError>
+    requires { AscendFrom 0 (ranges_of spans.old.items) }
+    ensures ok { OnOk result (ranges_of spans.new.items
+        ≡ fold (λ rs h. with_height h rs) (ranges_of spans.old.items) (heights (map seen entries.now))) }
+    ensures err { OnErr result (spans.new.items ≡ spans.old.items) }
+    ensures ascend { AscendFrom 0 (ranges_of spans.new.items) }
+{
+    spans.reserve(entries.len())?;
+    let mut place = 0;
+    while place < entries.len() {
+        let height = entries[place].index;
+        let at = place_of(spans, height);
+        widen(spans, at, height)?;
+        place += 1;
+    }
+    Ok(())
+}
+
 /// Puts the height into the span at that place or before it; spans that then touch are joined.
 pub fn widen(spans: &mut Vec<HeightSpan>, place: usize, height: u64) -> Result<(), AllocError>
     requires within { place ≤ vec_len spans.old }
@@ -52,6 +77,9 @@ pub fn widen(spans: &mut Vec<HeightSpan>, place: usize, height: u64) -> Result<(
     ensures ok { OnOk result (ranges_of spans.new.items
         ≡ take place (ranges_of spans.old.items) ++ with_height height (drop place (ranges_of spans.old.items))) }
     ensures err { OnErr result (spans.new.items ≡ spans.old.items) }
+    ensures len { vec_len spans.new ≤ vec_len spans.old + 1 }
+    ensures capacity { vec_capacity spans.old ≤ vec_capacity spans.new }
+    ensures full { OnErr result (vec_capacity spans.old ≤ vec_len spans.old) }
 {
     if place == spans.len() {
         return insert_alone(spans, place, height);
@@ -85,6 +113,9 @@ fn insert_alone(spans: &mut Vec<HeightSpan>, place: usize, height: u64) -> Resul
     ensures ok { OnOk result (ranges_of spans.new.items
         ≡ take place (ranges_of spans.old.items) ++ with_height height (drop place (ranges_of spans.old.items))) }
     ensures err { OnErr result (spans.new.items ≡ spans.old.items) }
+    ensures len { vec_len spans.new ≤ vec_len spans.old + 1 }
+    ensures capacity { vec_capacity spans.old ≤ vec_capacity spans.new }
+    ensures full { OnErr result (vec_capacity spans.old ≤ vec_len spans.old) }
 {
     spans.insert(
         place,
@@ -101,8 +132,10 @@ fn insert_alone(spans: &mut Vec<HeightSpan>, place: usize, height: u64) -> Resul
 fn extend(spans: &mut Vec<HeightSpan>, place: usize, height: u64)
     requires within { place < vec_len spans.old }
     requires followed { IsFollowed height (drop place (ranges_of spans.old.items)) }
-    ensures { ranges_of spans.new.items
+    ensures ok { ranges_of spans.new.items
         ≡ take place (ranges_of spans.old.items) ++ with_height height (drop place (ranges_of spans.old.items)) }
+    ensures len { vec_len spans.new ≤ vec_len spans.old + 1 }
+    ensures capacity { vec_capacity spans.old ≤ vec_capacity spans.new }
 {
     let from = spans[place].from;
     if begins_after(spans, place + 1, height) {

@@ -1,10 +1,16 @@
-use Rattle.std.proofs.Common.{arith}
-use Rattle.mar_store.proofs.PileSteps.{sure_more}
+use Rattle.std.proofs.Common.{ap, drop, take, ◌-◌}
+use Rattle.mar_store.proofs.PileSteps.{sure_all}
 use Rattle.mar_store.proofs.pile.Pile.keep_sure.Goals as goal
 
-pub loop-synced-preserved : goal.loop-synced-preserved
-loop-synced-preserved g c = record {
-  from = omega (arith, c.loop-synced.invariant.from);
-  within = omega arith;
-  sure = sure_more c.args.self.items.items c.loop-synced.synced _ _ _ (omega (arith, c.requires.within)) c.index.ensures c.loop-synced.invariant.sure c.in-Ok.ensures.ok;
+pub invariant_of-result : goal.invariant_of-result
+invariant_of-result g c = record {
+  within = c.requires.within;
+  once = c.args.self.once;
+  named = c.args.self.named;
+  fits = c.args.self.fits;
+  ascend = c.args.self.ascend;
+  upto = c.args.self.upto;
+  counted = c.args.self.counted;
+  held_is = c.args.self.held_is;
+  sure_is = sure_all c.args.self.items.items _ c.args.self.synced c.args.until _ _ c.requires.from (ap (λ es. take (c.args.until - c.args.self.synced) (drop c.args.self.synced es)) c.deref.ensures.value) c.args.self.sure_is c.in-Ok.ensures.ok;
 }
