@@ -81,16 +81,11 @@ pub push_sure : {T : Type 0} (items new : List (Entry T)) (e : Entry T) (n : ℕ
 push_sure items new e n sure within are is =
     is ∙ ap (λ xs. ranges (heights xs)) (sym (ap (λ es. take n (map seen es)) are ∙ (ap (take n) (map_push seen items e) ∙ take-append-le n (map seen items) (seen e ∷ []) (rw length-map within))))
 
--- one more entry is sure
+-- the front with one more entry
 front_more : {T : Type 0} (items : List (Entry T)) (i : ℕ) (e : Entry T) → i < length items → e ≡ get_or items i e → take (i + 1) (map seen items) ≡ take i (map seen items) ++ seen e ∷ []
 front_more [] i e lt is = absurd (omega arith)
 front_more (f ∷ fs) zero e lt is = rw is refl
 front_more (f ∷ fs) (suc i) e lt is = let same : suc i + 1 ≡ suc (i + 1) = omega arith in rw same (ap (λ xs. seen f ∷ xs) (front_more fs i e (omega arith) is))
-
-pub sure_more : {T : Type 0} (items : List (Entry T)) (i : ℕ) (e : Entry T) (old new : List Range) → i < length items → e ≡ get_or items i e → old ≡ ranges (heights (take i (map seen items))) → new ≡ with_height e.index old
-    → new ≡ ranges (heights (take (i + 1) (map seen items)))
-sure_more items i e old new lt at was is =
-    is ∙ (ap (with_height e.index) was ∙ (sym (ranges_push (heights (take i (map seen items))) e.index) ∙ ap ranges (sym (ap heights (front_more items i e lt at) ∙ map_push (λ x. x.height) (take i (map seen items)) (seen e)))))
 
 -- the index of one more entry in the ranges
 pub widened_more : {T : Type 0} (entries : List (Entry T)) (i h : ℕ) (e : Entry T) (base old new : List Range) → i < length entries → e ≡ get_or entries i e → e.index ≡ h
