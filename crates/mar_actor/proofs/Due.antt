@@ -1,5 +1,5 @@
 -- Which calls end in a fault that is due.
-use Rattle.std.proofs.Common.{◌≡◌, ◌⊎◌, inl, inr, ℕ, ◌^◌, ◌-◌, ◌&&◌, ◌==◌, List, [], ◌∷◌, Bool, true, false, if◌then◌else◌, nat_lt, Option, Some, None, option_map, Result, Ok, Err, IfErr, IsTrue, refl, sym, ◌∙◌, ap, ap₂, eq-eqb, eqb-true}
+use Rattle.std.proofs.Common.{◌≡◌, ◌⊎◌, inl, inr, ◌^◌, ◌-◌, ◌&&◌, ◌==◌, List, [], ◌∷◌, Bool, true, false, if◌then◌else◌, nat_lt, Option, Some, None, option_map, Result, Ok, Err, IfErr, IsTrue, refl, sym, ◌∙◌, ap, ap₂, eq-eqb, eqb-true}
 use Rattle.mar_cert.specs.Block.{Block}
 use Rattle.mar_key.specs.Processed.{height_of}
 use Rattle.mar_node.specs.Acks.{Mark, Outstanding, after_given, dropped_oldest, mark_dropped, mark_given, mark_waiting}

@@ -1,5 +1,5 @@
 -- Calls that tell tips, and then hand blocks over.
-use Rattle.std.proofs.Common.{◌≡◌, inl, inr, List, [], ◌++◌, map, Option, Result, Ok, Err, IfErr, OnErr, OnOk, append-nil, subst, sym}
+use Rattle.std.proofs.Common.{inl, inr, List, [], map, Option, Result, Ok, Err, OnErr, OnOk, append-nil, subst, sym}
 use Rattle.mar_key.specs.Hears.{Hears}
 use Rattle.mar_node.specs.Held.{Ending, Seen}
 use Rattle.mar_node.specs.Moves.{handed_report}
