@@ -207,6 +207,7 @@ impl<T: Item> Archive<T> for MemArchive<T> {
         ensures armed { HeedsArmed (λ s. s.alarm.due.items) (λ w. w.alarm.due.items) true self.alarm.due.items result }
         ensures half { MatchResult result (λ s. s.half ≡ self.half) (λ l. (wreck_of l).half ≡ self.half) }
         ensures still { IfErr result (λ l. OnFault (λ w. w.pile ≡ self.entries.pile) l) }
+        ensures sure { IfErr result (λ l. ((wreck_of l).pile.items.items ≡ self.entries.pile.items.items) × ((wreck_of l).pile.synced ≡ self.entries.pile.synced)) }
     {
         let MemArchive {
             entries,
@@ -271,6 +272,7 @@ impl<T: Item> Archive<T> for MemArchive<T> {
         ensures armed { HeedsArmed (λ s. s.alarm.due.items) (λ w. w.alarm.due.items) true self.alarm.due.items result }
         ensures half { MatchResult result (λ s. s.half ≡ self.half) (λ l. (wreck_of l).half ≡ self.half) }
         ensures still { IfErr result (λ l. OnFault (λ w. w.pile ≡ self.entries.pile) l) }
+        ensures sure { IfErr result (λ l. ((wreck_of l).pile.items.items ≡ self.entries.pile.items.items) × ((wreck_of l).pile.synced ≡ self.entries.pile.synced)) }
     {
         let MemArchive {
             entries,
