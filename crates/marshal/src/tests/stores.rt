@@ -8,6 +8,8 @@ use mar_types::Height;
 use std::alloc::{AllocError, Global};
 use std::test::Fail;
 
+mod lives;
+
 type Block = Digested<EmptyBlock<Sha256>>;
 
 fn block(alloc: Global, height: u64, timestamp: u64) -> Result<Block, AllocError> {
