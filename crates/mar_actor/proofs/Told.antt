@@ -1,15 +1,15 @@
 -- Calls that tell tips, and then hand blocks over.
-use Rattle.std.proofs.Common.{inl, inr, List, [], map, Option, Result, Ok, Err, OnErr, OnOk, append-nil, subst, sym}
+use Rattle.std.proofs.Common.{◌⊎◌, inl, inr, List, [], ◌++◌, map, Option, Result, Ok, Err, OnErr, OnOk, append-nil, subst, sym}
 use Rattle.mar_key.specs.Hears.{Hears}
 use Rattle.mar_node.specs.Held.{Ending, Seen}
 use Rattle.mar_node.specs.Moves.{handed_report}
-use Rattle.mar_node.specs.Step.{Report}
+use Rattle.mar_node.specs.Step.{HandedBlock, Report}
 use Rattle.mar_node.proofs.Handing.{Hears-nothing, Hears-then, Ran}
 use Rattle.mar_actor.specs.Told.{TellsInOrder}
 
 -- nothing was told before the end
-pub TellsInOrder-ended : {T : Type 0} (told : Option (List Report)) (tips : List Report) (told' : Option (List Report)) (e : Ending) → Hears told [] told' → TellsInOrder {T = T} told tips told' (Err e)
-TellsInOrder-ended told tips told' e heard = ([], inl heard)
+pub TellsInOrder-ended : (told : Option (List Report)) (tips : List Report) (told' : Option (List Report)) → Hears told [] told' → (handed : List HandedBlock) × (Hears told [] told' ⊎ Hears told (tips ++ map handed_report handed) told')
+TellsInOrder-ended told tips told' heard = ([], inl heard)
 
 -- nothing is told
 pub TellsInOrder-nothing : {T : Type 0} (told : Option (List Report)) (result : Result T Ending) → TellsInOrder told [] told result

@@ -19,7 +19,7 @@ returns-in_err-actor g c =
           promise-unread (g.E.Epocher.epochs c.args.self.life.epocher) g.V.Variant.inner (g.met.E.Epocher.partition c.args.self.life.epocher) c.args.self buffer _ _ None None _ (c.in_err-actor.ensures.goes_on _ [] [] (Grew-refl _ [] []) (λ x has. has) (λ x has. has)) c.in_err-actor.ensures.usual;
       lives = EndsLife-usual c.args.self [] [] [] _ (c.in_err-actor.ensures.goes_on _ [] [] (Grew-refl _ [] []) (λ x has. has) (λ x has. has)) c.in_err-actor.ensures.usual;
       by_value = usual-due None _ c.in_err-actor.ensures.usual;
-      tells = TellsInOrder-ended _ _ _ _ (Hears-nothing _);
+      tells = TellsInOrder-ended _ _ _ (Hears-nothing _);
     })
 
 pub returns-in_err-actor-2 : goal.returns-in_err-actor-2
@@ -31,7 +31,7 @@ returns-in_err-actor-2 g c =
           promise-unsynced (g.E.Epocher.epochs c.args.self.life.epocher) g.V.Variant.inner (g.met.E.Epocher.partition c.args.self.life.epocher) c.args.self buffer _ _ found low _ None None _ _ raised (c.in_ok-actor.ensures.goes_on _ [] [] (Grew-refl _ [] []) (λ x has. has) (λ x has. has)) c.in_err-actor-2.ensures.lost c.in_err-actor-2.ensures.usual;
       lives = EndsLife-then c.args.self _ _ (IsPart-raised c.args.self _ _ _ [] [] raised (c.in_ok-actor.ensures.goes_on _ [] [] (Grew-refl _ [] []) (λ x has. has) (λ x has. has))) (EndsLife-usual _ [] [] _ _ c.in_err-actor-2.ensures.lost c.in_err-actor-2.ensures.usual);
       by_value = usual-due None _ c.in_err-actor-2.ensures.usual;
-      tells = TellsInOrder-ended _ _ _ _ (Hears-nothing _);
+      tells = TellsInOrder-ended _ _ _ (Hears-nothing _);
     })
 
 pub returns : goal.returns
@@ -46,5 +46,5 @@ returns g c =
           promise-noted (g.E.Epocher.epochs c.args.self.life.epocher) g.V.Variant.inner (g.met.E.Epocher.partition c.args.self.life.epocher) c.args.self buffer _ _ found low _ _ raised c.in_ok-actor-2.ensures.ok _ _ _ _ _ nested certs_nested c.store_late.ensures.ok c.store_late.ensures.err c.store_late.ensures.stores c.store_late.ensures.goes_on c.store_late.ensures.usual asks;
       lives = LivesOn-then c.args.self _ _ (IsPart-then c.args.self _ _ (IsPart-raised c.args.self _ _ _ [] [] raised (c.in_ok-actor.ensures.goes_on _ [] [] (Grew-refl _ [] []) (λ x has. has) (λ x has. has))) (IsPart-synced _ _ _ c.in_ok-actor-2.ensures.ok c.in_ok-actor-2.ensures.counts)) (LivesOn-late g.V.Variant.inner _ (g.F.AsFinalization.plain c.args.finalization.now) (g.V.Variant.plain c.args.block.now) _ c.store_late.ensures.stores c.store_late.ensures.goes_on c.store_late.ensures.usual);
       by_value = EndsWhereDue-usual _ c.store_late.ensures.usual;
-      tells = TellsInOrder-tips _ _ _ _ (subst (λ rs. OnOk c.store_late.result (Hears _ rs _)) same_tips c.store_late.ensures.ok) c.store_late.ensures.err;
+      tells = TellsInOrder-tips _ _ _ _ (subst (λ rs. OnOk c.store_late.result (Hears (g.A.Reporter.told c.args.application.now) rs (g.A.Reporter.told c.store_late.new.application))) same_tips c.store_late.ensures.ok) c.store_late.ensures.err;
     }

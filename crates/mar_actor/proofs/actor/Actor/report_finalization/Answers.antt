@@ -18,7 +18,7 @@ returns-in_err-actor g c =
           promise-unread (g.E.Epocher.epochs c.args.self.life.epocher) g.V.Variant.inner (g.met.E.Epocher.partition c.args.self.life.epocher) c.args.self _ _ _ None None _ (c.in_err-actor.ensures.goes_on _ [] [] (Grew-refl _ [] []) (λ x has. has) (λ x has. has)) c.in_err-actor.ensures.usual;
       lives = EndsLife-usual c.args.self [] [] [] _ (c.in_err-actor.ensures.goes_on _ [] [] (Grew-refl _ [] []) (λ x has. has) (λ x has. has)) c.in_err-actor.ensures.usual;
       by_value = usual-due _ _ c.in_err-actor.ensures.usual;
-      tells = TellsInOrder-ended _ _ _ _ (Hears-nothing _);
+      tells = TellsInOrder-ended _ _ _ (Hears-nothing _);
     })
 
 pub returns-in-None : goal.returns-in-None

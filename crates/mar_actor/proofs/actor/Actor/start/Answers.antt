@@ -15,7 +15,7 @@ returns-in_err-actor g c =
       promise = λ nested heard buffer. promise-untold (g.E.Epocher.epochs c.args.self.life.epocher) g.V.Variant.inner (g.met.E.Epocher.partition c.args.self.life.epocher) c.args.self buffer _ _ heard _ c.in_err-actor.ensures.err lost c.in_err-actor.ensures.usual;
       lives = EndsLife-usual c.args.self [] [] [] _ lost c.in_err-actor.ensures.usual;
       by_value = usual-due None _ c.in_err-actor.ensures.usual;
-      tells = TellsInOrder-ended _ _ _ _ c.in_err-actor.ensures.err;
+      tells = TellsInOrder-ended _ _ _ c.in_err-actor.ensures.err;
     })
 
 pub returns : goal.returns

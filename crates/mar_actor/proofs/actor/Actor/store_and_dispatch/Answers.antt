@@ -17,7 +17,7 @@ returns-then-get g c = record {
       promise-limit (g.E.Epocher.epochs c.args.self.life.epocher) g.V.Variant.inner (g.met.E.Epocher.partition c.args.self.life.epocher) c.args.self buffer _ _ found config chain asked set step (omega (arith, c.if-get.true, c.get.ensures.value, c.height-height.ensures));
   lives = EndsLife-other c.args.self [] [] [] _ (c.end.ensures.lost tt) (λ is. let both = sym (ap (λ e. e.fault) c.end.ensures.value) ∙ is in cc);
   by_value = λ above is. storing_due-last c.args.self.held (g.V.Variant.plain c.args.block.now) above (omega (arith, c.if-get.true, c.get.ensures.value, c.height-height.ensures)) ∙ ap (λ f. Some f) (ap height_limit (sym c.height-height.ensures) ∙ sym (ap (λ e. e.fault) c.end.ensures.value));
-  tells = TellsInOrder-ended _ _ _ _ (Hears-nothing _);
+  tells = TellsInOrder-ended _ _ _ (Hears-nothing _);
 }
 
 pub returns-in_err-actor : goal.returns-in_err-actor
@@ -28,7 +28,7 @@ returns-in_err-actor g c =
           promise-unstored (g.E.Epocher.epochs c.args.self.life.epocher) g.V.Variant.inner (g.met.E.Epocher.partition c.args.self.life.epocher) c.args.self buffer _ _ found _ _ heard _ c.in_err-actor.ensures.err (c.in_err-actor.ensures.goes_on _ _ _ (Grew-refl _ _ _) (λ x has. has) (λ x has. has)) c.in_err-actor.ensures.usual;
       lives = EndsLife-usual c.args.self (at_own_height (g.V.Variant.plain c.args.block.now) ∷ []) (at_height (g.V.Variant.plain c.args.block.now).height (g.F.AsFinalization.plain c.args.finalization.now) ∷ []) [] _ (c.in_err-actor.ensures.goes_on _ _ _ (Grew-refl _ _ _) (λ x has. has) (λ x has. has)) c.in_err-actor.ensures.usual;
       by_value = λ above. usual-due _ _ c.in_err-actor.ensures.usual;
-      tells = TellsInOrder-ended _ _ _ _ c.in_err-actor.ensures.err;
+      tells = TellsInOrder-ended _ _ _ c.in_err-actor.ensures.err;
     })
 
 pub returns : goal.returns
