@@ -1,11 +1,14 @@
 -- Calls that tell tips, and then hand blocks over.
-use Rattle.std.proofs.Common.{◌⊎◌, inl, inr, List, [], ◌++◌, map, Option, Result, Ok, Err, OnErr, OnOk, append-nil, subst, sym}
+use Rattle.std.proofs.Common.{◌≡◌, ◌⊎◌, inl, inr, List, [], ◌++◌, map, if◌then◌else◌, nat_lt, true, false, Option, Some, Result, Ok, Err, OnErr, OnOk, ap, append-nil, subst, sym}
+use Rattle.mar_cert.specs.Block.{Block}
+use Rattle.mar_cert.specs.Finalization.{Finalization}
 use Rattle.mar_key.specs.Hears.{Hears}
+use Rattle.mar_key.specs.Processed.{height_of}
 use Rattle.mar_node.specs.Held.{Ending, Seen}
-use Rattle.mar_node.specs.Moves.{handed_report}
+use Rattle.mar_node.specs.Moves.{handed_report, is_due, late_tips, tip_reports}
 use Rattle.mar_node.specs.Step.{HandedBlock, Report}
 use Rattle.mar_node.proofs.Handing.{Hears-nothing, Hears-then, Ran}
-use Rattle.mar_actor.specs.Told.{TellsInOrder}
+use Rattle.mar_actor.specs.Told.{TellsInOrder, finalized_tips}
 
 -- nothing was told before the end
 pub TellsInOrder-ended : (told : Option (List Report)) (tips : List Report) (told' : Option (List Report)) → Hears told [] told' → (handed : List HandedBlock) × (Hears told [] told' ⊎ Hears told (tips ++ map handed_report handed) told')
@@ -25,3 +28,10 @@ TellsInOrder-tips told tips told' (Err e) heard silent = ([], inl silent)
 pub TellsInOrder-ran : {P E : Type 0} (start : Seen P E) (told : Option (List Report)) (tips : List Report) (told1 told' : Option (List Report)) (result : Result (Seen P E) Ending) → Hears told tips told1 → Ran start told1 told' result → TellsInOrder told tips told' result
 TellsInOrder-ran start told tips told1 told' (Ok new) heard (handed, hands, dispatched) = (handed, Hears-then told told1 told' tips (map handed_report handed) heard hands)
 TellsInOrder-ran start told tips told1 told' (Err e) heard (handed, hands, stopped) = (handed, inr (Hears-then told told1 told' tips (map handed_report handed) heard hands))
+
+-- the tips of a block above the processed height, and of one that isn't
+pub finalized_tips-above : {P E : Type 0} (a : Seen P E) (f : Finalization) (b : Block) → nat_lt (height_of a.held.processed) b.height ≡ true → finalized_tips a f (Some b) ≡ tip_reports a.life.tip f b
+finalized_tips-above a f b above = ap (λ is. if is then tip_reports a.life.tip f b else late_tips (is_due a.held b) a.life.tip f b) above
+
+pub finalized_tips-low : {P E : Type 0} (a : Seen P E) (f : Finalization) (b : Block) → nat_lt (height_of a.held.processed) b.height ≡ false → finalized_tips a f (Some b) ≡ late_tips (is_due a.held b) a.life.tip f b
+finalized_tips-low a f b low = ap (λ is. if is then tip_reports a.life.tip f b else late_tips (is_due a.held b) a.life.tip f b) low

@@ -1,4 +1,4 @@
-use Rattle.std.proofs.Common.{[], None, if◌then◌else◌, subst, sym, ◌∙◌}
+use Rattle.std.proofs.Common.{[], None, subst, sym, ◌∙◌}
 use Rattle.std.proofs.lemmas.Result.{err_from_is_err_and}
 use Rattle.mar_node.proofs.EventPromises.{promise-absent, promise-unread}
 use Rattle.mar_node.proofs.Growing.{Grew-refl}
@@ -7,7 +7,7 @@ use Rattle.mar_node.proofs.Lasting.{EndsLife-usual, LivesOn-same}
 use Rattle.mar_actor.specs.Due.{EndsWhereDue, storing_due}
 use Rattle.mar_actor.specs.Told.{TellsInOrder, finalized_tips}
 use Rattle.mar_actor.proofs.Due.{EndsWhereDue-usual, storing_due-low, usual-due}
-use Rattle.mar_actor.proofs.Told.{TellsInOrder-ended, TellsInOrder-nothing}
+use Rattle.mar_actor.proofs.Told.{TellsInOrder-ended, TellsInOrder-nothing, finalized_tips-above, finalized_tips-low}
 use Rattle.mar_actor.proofs.actor.Actor.report_finalization.Goals as goal
 
 pub returns-in_err-actor : goal.returns-in_err-actor
@@ -30,7 +30,7 @@ returns-in-None g c =
           promise-absent (g.E.Epocher.epochs c.args.self.life.epocher) g.V.Variant.inner (g.met.E.Epocher.partition c.args.self.life.epocher) c.args.self _ _ _ _ _ _ nested (sym found) (rw same at c.request.ensures.asks) (rw same at c.request.ensures.same) (rw same at c.request.ensures.goes_on) c.request.ensures.usual;
       lives = LivesOn-same c.args.self _ (rw same at c.request.ensures.same) (rw same at c.request.ensures.goes_on) c.request.ensures.usual;
       by_value = subst (λ o. EndsWhereDue (storing_due c.args.self.held o) c.request.result) found (EndsWhereDue-usual _ c.request.ensures.usual);
-      tells = subst (λ o. TellsInOrder _ (finalized_tips c.args.self _ o) _ c.request.result) found (TellsInOrder-nothing _ _);
+      tells = subst (λ o. TellsInOrder (g.A.Reporter.told c.args.application.now) (finalized_tips c.args.self (g.F.AsFinalization.plain c.args.finalization.now) o) (g.A.Reporter.told c.args.application.now) c.request.result) found (TellsInOrder-nothing (g.A.Reporter.told c.args.application.now) c.request.result);
     }
 
 pub returns-then-is_above : goal.returns-then-is_above
@@ -39,18 +39,18 @@ returns-then-is_above g c =
     let found = rw (c.in-Some.is, c.payload.ensures) at c.in_ok-actor.ensures.found in
     let above = rw (same, c.height.ensures) at (sym c.is_above.ensures ∙ c.if-is_above.true) in
     let promise = rw same at c.store_and_dispatch.ensures.promise in
-    record { promise = λ nested certs_nested. promise _ nested certs_nested _ (sym found) above; lives = rw same at c.store_and_dispatch.ensures.lives; by_value = subst (λ o. EndsWhereDue (storing_due c.args.self.held o) c.store_and_dispatch.result) found (rw same at c.store_and_dispatch.ensures.by_value above); tells = subst (λ o. TellsInOrder _ (finalized_tips c.args.self _ o) _ c.store_and_dispatch.result) found (subst (λ is. TellsInOrder _ (if is then _ else _) _ c.store_and_dispatch.result) (sym above) (rw same at c.store_and_dispatch.ensures.tells)) }
+    record { promise = λ nested certs_nested. promise _ nested certs_nested _ (sym found) above; lives = rw same at c.store_and_dispatch.ensures.lives; by_value = subst (λ o. EndsWhereDue (storing_due c.args.self.held o) c.store_and_dispatch.result) found (rw same at c.store_and_dispatch.ensures.by_value above); tells = subst (λ o. TellsInOrder (g.A.Reporter.told c.args.application.now) (finalized_tips c.args.self (g.F.AsFinalization.plain c.args.finalization.now) o) (g.A.Reporter.told c.store_and_dispatch.new.application) c.store_and_dispatch.result) found (subst (λ tips. TellsInOrder (g.A.Reporter.told c.args.application.now) tips (g.A.Reporter.told c.store_and_dispatch.new.application) c.store_and_dispatch.result) (sym (finalized_tips-above c.args.self _ _ above)) (rw same at c.store_and_dispatch.ensures.tells)) }
 
-pub returns-then-not-is_above-clause-by_value : goal.returns-then-not-is_above-clause-by_value
-returns-then-not-is_above-clause-by_value g c =
+pub returns-clause-by_value : goal.returns-clause-by_value
+returns-clause-by_value g c =
     let same = c.in_ok-actor.ensures.same in
     let found = rw (c.in-Some.is, c.payload.ensures) at c.in_ok-actor.ensures.found in
     let low = rw (same, c.height.ensures) at (sym c.is_above.ensures ∙ c.if-is_above.false) in
-    subst (λ o. EndsWhereDue (storing_due c.args.self.held o) c.note.result) found (subst (λ due. EndsWhereDue due c.note.result) (sym (storing_due-low c.args.self.held _ low)) c.note.ensures.by_value)
+    subst (λ o. EndsWhereDue (storing_due c.args.self.held o) c.note.result) found (subst (λ due. EndsWhereDue due c.note.result) (sym (storing_due-low c.args.self.held (g.V.Variant.plain c.in-Some.block) low)) c.note.ensures.by_value)
 
-pub returns-then-not-is_above-clause-tells : goal.returns-then-not-is_above-clause-tells
-returns-then-not-is_above-clause-tells g c =
+pub returns-clause-tells : goal.returns-clause-tells
+returns-clause-tells g c =
     let same = c.in_ok-actor.ensures.same in
     let found = rw (c.in-Some.is, c.payload.ensures) at c.in_ok-actor.ensures.found in
     let low = rw (same, c.height.ensures) at (sym c.is_above.ensures ∙ c.if-is_above.false) in
-    subst (λ o. TellsInOrder _ (finalized_tips c.args.self _ o) _ c.note.result) found (subst (λ is. TellsInOrder _ (if is then _ else _) _ c.note.result) (sym low) (rw same at c.note.ensures.tells))
+    subst (λ o. TellsInOrder (g.A.Reporter.told c.args.application.now) (finalized_tips c.args.self (g.F.AsFinalization.plain c.args.finalization.now) o) (g.A.Reporter.told c.note.new.application) c.note.result) found (subst (λ tips. TellsInOrder (g.A.Reporter.told c.args.application.now) tips (g.A.Reporter.told c.note.new.application) c.note.result) (sym (finalized_tips-low c.args.self (g.F.AsFinalization.plain c.args.finalization.now) (g.V.Variant.plain c.in-Some.block) low)) (rw same at c.note.ensures.tells))

@@ -1,7 +1,8 @@
-use Rattle.std.proofs.Common.{None, refl, rules}
+use Rattle.std.proofs.Common.{None, [], refl, rules}
 use Rattle.mar_node.specs.Event.{ack_given, life_started}
 use Rattle.mar_actor.specs.Views.{event_of}
 use Rattle.mar_node.proofs.EventPromises.{promise-sync}
+use Rattle.mar_node.proofs.Handing.{Hears-nothing}
 use Rattle.mar_node.proofs.Lasting.{KeepsCounting-kept, counts_kept, ended_by, settings_kept}
 use Rattle.mar_actor.proofs.actor.Actor.step.Goals as goal
 
@@ -12,6 +13,8 @@ returns-in-Start g c =
       promise = c.start.ensures.promise c.law.ensures.blocks _ _;
       counts = counts_kept c.args.self _ lives;
       cause = ended_by c.args.self _ lives;
+      by_value = c.start.ensures.by_value;
+      tells = c.start.ensures.tells;
       lasting = KeepsCounting-kept (g.E.Epocher.epochs c.args.self.life.epocher) g.V.Variant.inner c.args.self (life_started None) _ _ _ None None _ (c.start.ensures.promise c.law.ensures.blocks None _) lives;
       same_life = settings_kept c.args.self _ lives;
     })
@@ -27,6 +30,8 @@ returns-in-Sync g c = rw c.in-Sync.is (record {
   promise = promise-sync (g.E.Epocher.epochs c.args.self.life.epocher) g.V.Variant.inner (g.met.E.Epocher.partition c.args.self.life.epocher) c.args.self _ _ _ _ c.law.ensures.blocks;
   counts = refl;
   cause = tt;
+  by_value = refl;
+  tells = ([], Hears-nothing _);
   lasting = λ config chain asked set step low. tt;
   same_life = (refl, refl, refl);
 })
