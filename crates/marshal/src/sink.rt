@@ -89,7 +89,7 @@ impl<'a> Written<'a> {
     pub fn new(alloc: Global, failing: &'a [u64]) -> Self
         ensures written { ⟦<Written<'a> as Sink>⟧.written result ≡ Some [] }
         ensures faults { ⟦<Written<'a> as Sink>⟧.faults result ≡ 0 }
-        ensures failing { result.failing ≡ failing }
+        ensures failing { result.failing.now ≡ failing.now }
     {
         Written {
             bytes: Vec::new(alloc),

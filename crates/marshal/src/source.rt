@@ -72,7 +72,7 @@ impl<'a> Bytes<'a> {
     pub fn new(left: &'a [u8], failing: &'a [u64]) -> Self
         ensures left { ⟦<Bytes<'a> as Source>⟧.left result ≡ Some left.now }
         ensures faults { ⟦<Bytes<'a> as Source>⟧.faults result ≡ 0 }
-        ensures failing { result.failing ≡ failing }
+        ensures failing { result.failing.now ≡ failing.now }
     {
         Bytes {
             left,
