@@ -12,7 +12,7 @@ RefusesShort size bytes e = (e ≡ EndOfBuffer) × (length bytes < size)
 abbrev pub RefusesVarint : List ℕ → Error → Type 0
 RefusesVarint bytes e = ((e ≡ EndOfBuffer) × IsCutVarint bytes) ⊎ ((e ≡ InvalidVarint) × IsBadVarint bytes)
 
--- the first part is refused, or it stands at the front and the bytes after it are refused as a second part
+-- A first part stands at the front, and the bytes after it are refused as a second part.
 pub record RefusesSecond (First : List ℕ → Type 0) (refuses : List ℕ → Error → Type 0) (bytes : List ℕ) (e : Error) : Type 0 where
   pub first : List ℕ
   pub after : List ℕ
@@ -20,6 +20,7 @@ pub record RefusesSecond (First : List ℕ → Type 0) (refuses : List ℕ → E
   pub spelled : bytes ≡ first ++ after
   pub refused : refuses after e
 
+-- the first part is refused, or it stands at the front and the second is refused behind it
 abbrev pub RefusesJoined : (List ℕ → Type 0) → (List ℕ → Error → Type 0) → (List ℕ → Error → Type 0) → List ℕ → Error → Type 0
 RefusesJoined First refuses_first refuses_second bytes e = refuses_first bytes e ⊎ RefusesSecond First refuses_second bytes e
 

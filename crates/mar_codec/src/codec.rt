@@ -174,11 +174,13 @@ pub fn read_byte<B: Buf>(buf: &mut B) -> Result<u8, Error>
     Ok(buf.get_u8())
 }
 
-/// Fills `out` from the front, or answers `EndOfBuffer` where there are fewer bytes.
+/// Fills `out` from the front, or answers `EndOfBuffer` where there are fewer bytes; then nothing is taken or filled.
 pub fn read_slice<B: Buf>(buf: &mut B, out: &mut [u8]) -> Result<(), Error>
     ensures ok { OnOk result (Takes (IsBytes (length out.old)) out.new (B.unread buf.old)
         (B.unread buf.new)) }
     ensures err { IfErr result (RefusesShort (length out.old) (B.unread buf.old)) }
+    ensures kept { OnErr result (out.new ≡ out.old) }
+    ensures left { OnErr result (B.unread buf.new ≡ B.unread buf.old) }
 {
     match buf.try_copy_to_slice(out) {
         Ok(()) => Ok(()),
@@ -186,11 +188,12 @@ pub fn read_slice<B: Buf>(buf: &mut B, out: &mut [u8]) -> Result<(), Error>
     }
 }
 
-/// Takes `N` bytes from the front, or answers `EndOfBuffer` where there are fewer.
+/// Takes `N` bytes from the front, or answers `EndOfBuffer` where there are fewer; then nothing is taken.
 pub fn read_array<const N: usize, B: Buf>(buf: &mut B) -> Result<[u8; N], Error>
     ensures ok { IfOk result (λ bytes. Takes (IsBytes N) bytes (B.unread buf.old)
         (B.unread buf.new)) }
     ensures err { IfErr result (RefusesShort N (B.unread buf.old)) }
+    ensures left { OnErr result (B.unread buf.new ≡ B.unread buf.old) }
 {
     let mut bytes = [0; N];
     read_slice(buf, &mut bytes)?;

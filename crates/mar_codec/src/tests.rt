@@ -4,6 +4,7 @@ ghost use Rattle.std.specs.Prelude.{◌≡◌, ◌≤◌, IfErr, IfOk, length};
 use crate::*;
 use bytes::{Buf, BufMut, BytesMut};
 use std::alloc::{AllocError, Global};
+use std::cell::Cell;
 use std::cmp::Ordering;
 use std::convert::AsSlice;
 use std::hash::{DefaultHasher, Hash, Hasher as _};
@@ -408,6 +409,54 @@ fn digested_values_share_their_value(rt: HostRuntime) -> Result<(), Fail> {
     Ok(())
 }
 
+// A value that counts how often its digest is computed.
+#[derive(Drop)]
+struct Counted<'a> {
+    computed: &'a Cell<u64>,
+}
+
+impl Digestible for Counted<'_> {
+    type Digest = Sha256Digest;
+
+    ghost use Rattle.std.specs.Prelude.{replicate};
+
+    ghost digest_bytes = { λ _. replicate 32 7 };
+
+    fn digest(&self) -> Sha256Digest {
+        self.computed.set(self.computed.get().saturating_add(1));
+        Sha256::fill(7)
+    }
+}
+
+#[test]
+fn a_digest_is_computed_once(rt: HostRuntime) -> Result<(), Fail> {
+    let computed = Cell::new(0);
+    let first = Counted {
+        computed: &computed,
+    };
+    let second = Counted {
+        computed: &computed,
+    };
+    let value = Digested::compute(rt.alloc(), first)?;
+    assert_eq!(rt; value.digest(), value.clone()?.digest());
+    assert_eq!(rt; computed.get(), 1);
+    let given = Digested::precomputed(rt.alloc(), second, value.digest())?;
+    assert_eq!(rt; given.digest(), value.digest());
+    assert_eq!(rt; computed.get(), 1);
+    Ok(())
+}
+
+#[test]
+fn a_list_grows(rt: HostRuntime) -> Result<(), Fail> {
+    let mut list = NonEmptyVec::new(rt.alloc(), 0u32)?;
+    for item in 1..100 {
+        list.push(item)?;
+    }
+    assert_eq!(rt; list.len(), 100);
+    assert_eq!(rt; list.as_slice().get(97..), Some([97, 98, 99].as_slice()));
+    Ok(())
+}
+
 #[test]
 fn lists_with_a_first_item(rt: HostRuntime) -> Result<(), Fail> {
     let mut list = NonEmptyVec::new(rt.alloc(), 7u32)?;
@@ -473,6 +522,8 @@ fn texts_of_numbers(rt: HostRuntime) -> Result<(), Fail> {
     let error = Error::Invalid(Kind::Certificate, Reason::Signers);
     for (shown, text) in [
         (member.to_string(rt.alloc())?, "3"),
+        (Participant::new(0).to_string(rt.alloc())?, "0"),
+        (U64::new(0).to_string(rt.alloc())?, "0"),
         (
             Participant::new(u32::MAX).to_string(rt.alloc())?,
             "4294967295",
