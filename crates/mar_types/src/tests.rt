@@ -237,6 +237,67 @@ fn printed_texts(rt: HostRuntime) -> Result<(), Fail> {
     ] {
         assert_eq!(rt; shown.as_str(), text);
     }
+    let eleven = NonZeroU64::new(11).ok_or("zero")?;
+    assert!(rt; eleven.get() > 1);
+    let epocher = FixedEpocher::new(eleven);
+    assert_eq!(rt;
+        format!(in rt.alloc(); "{epocher:?}")?.as_str(),
+        "FixedEpocher { length: 11 }"
+    );
+    Ok(())
+}
+
+#[test]
+fn printed_texts_of_the_least(rt: HostRuntime) -> Result<(), Fail> {
+    for (shown, text) in [
+        (Epoch::zero().to_string(rt.alloc())?, "0"),
+        (Height::zero().to_string(rt.alloc())?, "0"),
+        (View::new(10).to_string(rt.alloc())?, "10"),
+        (EpochDelta::zero().to_string(rt.alloc())?, "0"),
+        (HeightDelta::zero().to_string(rt.alloc())?, "0"),
+        (ViewDelta::new(10).to_string(rt.alloc())?, "10"),
+        (TermLength::ONE.to_string(rt.alloc())?, "1"),
+        (Round::zero().to_string(rt.alloc())?, "(0, 0)"),
+        (
+            Round::new(Epoch::zero(), View::new(9)).to_string(rt.alloc())?,
+            "(0, 9)",
+        ),
+        (
+            Round::new(Epoch::new(9), View::zero()).to_string(rt.alloc())?,
+            "(9, 0)",
+        ),
+    ] {
+        assert_eq!(rt; shown.as_str(), text);
+    }
+    Ok(())
+}
+
+// Whether the values differ, and each has the hash of its copy alone.
+fn hashes_differ<T: Copy + Eq + Hash>(one: T, other: T) -> bool {
+    let (copy, copied) = (one, other);
+    one != other
+        && hash_of(&one) == hash_of(&copy)
+        && hash_of(&other) == hash_of(&copied)
+        && hash_of(&one) != hash_of(&other)
+}
+
+#[test]
+fn each_part_is_hashed(rt: HostRuntime) -> Result<(), Fail> {
+    assert!(rt; hashes_differ(Epoch::new(1), Epoch::new(2)));
+    assert!(rt; hashes_differ(Height::new(1), Height::new(2)));
+    assert!(rt; hashes_differ(View::new(1), View::new(2)));
+    assert!(rt; hashes_differ(HeightDelta::new(1), HeightDelta::new(2)));
+    let round = Round::new(Epoch::new(1), View::new(9));
+    let later = Round::new(Epoch::new(2), View::new(9));
+    assert!(rt; hashes_differ(round, later));
+    assert!(rt; hashes_differ(round, Round::new(Epoch::new(1), View::new(8))));
+    let config = config_of(2, 3).ok_or("zero")?;
+    assert!(rt; hashes_differ(config, config_of(3, 3).ok_or("zero")?));
+    assert!(rt; hashes_differ(config, config_of(2, 2).ok_or("zero")?));
+    let (one, two) = (Sha256::fill(1), Sha256::fill(2));
+    let made = Coded::from((one, one, one, config));
+    assert!(rt; hashes_differ(made, Coded::from((two, one, one, config))));
+    assert!(rt; hashes_differ(one, two));
     Ok(())
 }
 
