@@ -1,5 +1,5 @@
 -- Signers that are read one after another.
-use Rattle.std.proofs.Common.{Err, Ok, Result, ◌^◌, List, [], ap, append_assoc, inl, inr, length, refl, subst, sym, ℕ, ◌++◌, ◌+◌, ◌<◌, ◌∙◌, ◌∷◌, ◌≡◌, ◌≤◌, ◌⊎◌}
+use Rattle.std.proofs.Common.{Err, Ok, Result, ◌^◌, List, [], ap, append_assoc, arith, inl, inr, length, refl, subst, sym, ℕ, ◌++◌, ◌+◌, ◌<◌, ◌∙◌, ◌∷◌, ◌≡◌, ◌≤◌, ◌⊎◌}
 use Rattle.std.specs.List.{flat_map}
 use Rattle.std.proofs.lemmas.Grind.{flat_map-append}
 use Rattle.std.proofs.lemmas.List.{append-nil}
@@ -9,11 +9,12 @@ use Rattle.std.proofs.lemmas.List.{length-map}
 use Rattle.std.proofs.lemmas.List.Folds.{flat_map-map}
 use Rattle.mar_cert.specs.MockViews.{plain_signer}
 use Rattle.mar_cert.specs.declared.signer.Signer.{Signer as SignerOf}
-use Rattle.mar_cert.specs.Signers.{AreSigners, IsMockCertificate, RefusesCertificate, RefusesSigner, RefusesSigners, certificate_bytes, next_member}
+use Rattle.mar_cert.specs.Signers.{AreSigners, CountsWithin, IsMockCertificate, RefusesCertificate, RefusesSigner, RefusesSigners, certificate_bytes, next_member}
 use Rattle.mar_cert.specs.SignersLemmas.{certificate_of_signers, no_certificate}
 use Rattle.mar_codec.specs.Codec.{HasNoFront, Takes}
 use Rattle.mar_codec.specs.Refusals.{RefusesVarint}
-use Rattle.mar_codec.specs.Varint.{varint}
+use Rattle.mar_codec.specs.Varint.{IsNumber, IsVarint, varint}
+use Rattle.mar_codec.specs.VarintLemmas.{varint-injective}
 use Rattle.mar_codec.specs.Digest.{IsDigest}
 use Rattle.mar_codec.specs.declared.Error.{Error}
 use Rattle.mar_codec.specs.declared.Error.TheVariants.{Invalid, Memory}
@@ -44,12 +45,15 @@ pub refused_count : (n : ℕ) (bytes : List ℕ) (e : Error) → (e ≡ Memory) 
 refused_count n bytes e (inl memory) = inl memory
 refused_count n bytes e (inr none) = inr (inl none)
 
-pub refused_signers : (n count : ℕ) (bytes after : List ℕ) (e : Error) → bytes ≡ varint count ++ after → count ≤ n → (e ≡ Memory) ⊎ RefusesSigners n count after e → (e ≡ Memory) ⊎ RefusesCertificate n bytes e
-refused_signers n count bytes after e spelled few (inl memory) = inl memory
-refused_signers n count bytes after e spelled few (inr refused) = inr (inr (record { count = count; after = after; spelled = spelled; refused = inr (few, refused) }))
+pub refused_signers : (n count : ℕ) (bytes after : List ℕ) (e : Error) → IsNumber count → bytes ≡ varint count ++ after → count ≤ n → (e ≡ Memory) ⊎ RefusesSigners n count after e → (e ≡ Memory) ⊎ RefusesCertificate n bytes e
+refused_signers n count bytes after e fits spelled few (inl memory) = inl memory
+refused_signers n count bytes after e fits spelled few (inr refused) = inr (inr (record { count = count; fits = fits; after = after; spelled = spelled; refused = inr (few, refused) }))
 
-pub too_many : (n count : ℕ) (bytes after : List ℕ) → bytes ≡ varint count ++ after → n < count → RefusesCertificate n bytes (Invalid Certificate Signers)
-too_many n count bytes after spelled over = inr (record { count = count; after = after; spelled = spelled; refused = inl (refl, over) })
+varint_fits : (n : ℕ) → IsVarint (varint n) → IsNumber n
+varint_fits n is = subst (λ k. IsNumber k) (sym (varint-injective n is.number is.spelled)) is.fits
+
+pub too_many : (n count : ℕ) (bytes after : List ℕ) → Takes IsVarint (varint count) bytes after → n < count → RefusesCertificate n bytes (Invalid Certificate Signers)
+too_many n count bytes after t over = inr (record { count = count; fits = varint_fits count t.in_grammar; after = after; spelled = t.taken; refused = inl (refl, over) })
 
 pub no_front : (n : ℕ) (bytes : List ℕ) (e : Error) → n < 2 ^ 64 → (e ≡ Memory) ⊎ RefusesCertificate n bytes e → (e ≡ Memory) ⊎ HasNoFront (IsMockCertificate n) bytes
 no_front n bytes e wide (inl memory) = inl memory
@@ -58,7 +62,12 @@ no_front n bytes e wide (inr refused) = inr (no_certificate n bytes e wide refus
 pub signers_err : {T : Type 0} (r : Result T Error) (n count : ℕ) (bytes after : List ℕ) → n < 2 ^ 64 → bytes ≡ varint count ++ after → count ≤ n
     → IfErr r (λ e. (e ≡ Memory) ⊎ RefusesSigners n count after e) → IfErr r (λ e. (e ≡ Memory) ⊎ HasNoFront (IsMockCertificate n) bytes)
 signers_err (Ok v) n count bytes after wide spelled few refused = refused
-signers_err (Err e) n count bytes after wide spelled few refused = no_front n bytes e wide (refused_signers n count bytes after e spelled few refused)
+signers_err (Err e) n count bytes after wide spelled few refused = no_front n bytes e wide (refused_signers n count bytes after e (omega arith) spelled few refused)
+
+-- whatever is answered behind a count that is few, memory is asked for as few
+pub few_asked : {T : Type 0} (r : Result T Error) (n count : ℕ) (bytes after : List ℕ) → bytes ≡ varint count ++ after → count ≤ n → IfErr r (λ e. e ≡ Memory → CountsWithin n bytes)
+few_asked (Ok v) n count bytes after spelled few = tt
+few_asked (Err e) n count bytes after spelled few = λ memory. record { count = count; after = after; spelled = spelled; few = few }
 
 pub certificate_taken : {T E : Type 0} (r : Result T E) (signers : T → List Signer) (n count : ℕ) (bytes after rest : List ℕ) → bytes ≡ varint count ++ after
     → IfOk r (λ c. length (signers c) ≡ count) → IfOk r (λ c. AreSigners n 0 (signers c)) → IfOk r (λ c. after ≡ flat_map signer_bytes (signers c) ++ rest)

@@ -4,7 +4,7 @@ use Rattle.std.specs.Prelude.{List, [], length, ℕ, ◌++◌, ◌+◌, ◌<◌,
 use Rattle.mar_cert.specs.MockScheme.{IsCertificate, Signer, signer_bytes}
 use Rattle.mar_codec.specs.Digest.{IsDigest}
 use Rattle.mar_codec.specs.Refusals.{RefusesShort, RefusesVarint}
-use Rattle.mar_codec.specs.Varint.{varint}
+use Rattle.mar_codec.specs.Varint.{IsNumber, varint}
 use Rattle.mar_codec.specs.declared.Error.{Error}
 use Rattle.mar_codec.specs.declared.Error.TheVariants.{Invalid}
 use Rattle.mar_codec.specs.declared.Kind.TheVariants.{Certificate}
@@ -34,6 +34,7 @@ IsSignersError e = e ≡ Invalid Certificate Signers
 -- a member stands at the front that is none of n from this one on, or one that is, and its tag is cut off
 pub record RefusesMember (n low : ℕ) (bytes : List ℕ) (e : Error) : Type 0 where
   pub member : ℕ
+  pub fits : IsNumber member
   pub after : List ℕ
   pub spelled : bytes ≡ varint member ++ after
   pub refused : (IsSignersError e × ((member < low) ⊎ (n ≤ member))) ⊎ ((low ≤ member) × (member < n) × RefusesShort 32 after e)
@@ -54,9 +55,17 @@ pub record RefusesSigners (n count : ℕ) (bytes : List ℕ) (e : Error) : Type 
 -- a count stands at the front that is above n, or one that isn't, and fewer signers
 pub record RefusesCount (n : ℕ) (bytes : List ℕ) (e : Error) : Type 0 where
   pub count : ℕ
+  pub fits : IsNumber count
   pub after : List ℕ
   pub spelled : bytes ≡ varint count ++ after
   pub refused : (IsSignersError e × (n < count)) ⊎ ((count ≤ n) × RefusesSigners n count after e)
+
+-- a count of at most n stands at the front
+pub record CountsWithin (n : ℕ) (bytes : List ℕ) : Type 0 where
+  pub count : ℕ
+  pub after : List ℕ
+  pub spelled : bytes ≡ varint count ++ after
+  pub few : count ≤ n
 
 -- no certificate of n members stands at the front, and the first byte that shows it is refused so
 abbrev pub RefusesCertificate : ℕ → List ℕ → Error → Type 0

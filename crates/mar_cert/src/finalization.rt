@@ -16,8 +16,11 @@ use std::alloc::{AllocError, Global};
 /// What is proposed in a round, over the view of its parent's proposal.
 #[derive(Debug, PartialEq, Eq, Drop)]
 pub struct Proposal<D> {
+    /// Its epoch and view.
     pub round: Round,
+    /// The view of its parent's proposal, in the same epoch.
     pub parent: View,
+    /// What it commits to.
     pub payload: D,
 }
 
@@ -92,7 +95,9 @@ impl<D: Digest> Read for Proposal<D> {
 /// A certificate that a proposal is final.
 #[derive(Debug, PartialEq, Eq, Drop)]
 pub struct Finalization<D, C> {
+    /// What is final.
     pub proposal: Proposal<D>,
+    /// The certificate over it.
     pub certificate: C,
 }
 
@@ -172,9 +177,11 @@ pub trait AsFinalization: Drop {
     /// The finalization as plain data.
     ghost plain: { Self → PlainFinalization };
 
+    /// The round of its proposal.
     fn round(&self) -> Round
         ensures { result ≡ (plain self.now).round };
 
+    /// The same finalization again.
     fn try_clone(&self) -> Result<Self, AllocError>
     where
         Self: Sized,
@@ -183,6 +190,7 @@ pub trait AsFinalization: Drop {
 
 /// A finalization whose payload is a digest of the kind `D`.
 pub trait CommitsTo<D: Digest>: AsFinalization {
+    /// What its proposal commits to.
     fn payload(&self) -> D
         ensures { D.bytes result ≡ (Self.plain self.now).payload };
 }

@@ -1,11 +1,12 @@
 //! The mock scheme: a member's tag is a digest, so anyone can make one.
 ghost use Rattle.std.specs.Prelude.{◌≡◌, ◌++◌, ◌+◌, ◌<◌, ◌≤◌, ◌⊎◌, ◌^◌, length, ℕ, List, IfOk, IfErr, map, refl};
 ghost use Rattle.std.specs.List.{flat_map};
-ghost use Rattle.mar_cert.specs.Signers.{AreSigners, IsMockCertificate, RefusesCertificate, RefusesCount, RefusesSigner, RefusesSigners, certificate_bytes};
+ghost use Rattle.mar_cert.specs.Signers.{AreSigners, CountsWithin, IsMockCertificate, RefusesCertificate, RefusesCount, RefusesSigner, RefusesSigners, certificate_bytes};
 ghost use Rattle.mar_cert.specs.SignersLemmas.{certificate_unambiguous};
 ghost use Rattle.mar_cert.specs.MockScheme.{IsFinalization, signer_bytes};
 ghost use Rattle.mar_cert.specs.Finalization.{Finalization as PlainFinalization, finalization_bytes};
 ghost use Rattle.mar_cert.specs.MockViews.{plain_signer, plain_signers};
+ghost use Rattle.mar_codec.specs.Codec.{HasNoFront, Takes};
 ghost use Rattle.mar_codec.specs.Varint.{IsNumber, varint};
 ghost use Rattle.mar_codec.specs.Digest.{IsDigest};
 
@@ -75,7 +76,16 @@ impl Read for MockCertificate {
 
     ghost refuses = { RefusesCertificate };
 
-    fn read_cfg<B: Buf>(alloc: Global, buf: &mut B, members: &u32) -> Result<Self, Error> {
+    fn read_cfg<B: Buf>(alloc: Global, buf: &mut B, members: &u32) -> Result<Self, Error>
+        ensures ok { IfOk result (λ c. Takes (IsMockCertificate members.now)
+            (certificate_bytes (plain_signers c)) (B.unread buf.old) (B.unread buf.new)) }
+        ensures err { IfErr result (λ e. (e ≡ Error.Memory)
+            ⊎ HasNoFront (IsMockCertificate members.now) (B.unread buf.old)) }
+        ensures cause { IfErr result (λ e. (e ≡ Error.Memory)
+            ⊎ RefusesCertificate members.now (B.unread buf.old) e) }
+        ensures counted { IfErr result (λ e. e ≡ Error.Memory
+            → CountsWithin members.now (B.unread buf.old)) }
+    {
         let members = *members;
         let count = UInt::read_cfg(alloc, buf, &())?.0;
         if count > members as u64 {

@@ -160,6 +160,51 @@ fn quorums(rt: HostRuntime) -> Result<(), Fail> {
 }
 
 #[test]
+fn certificates_of_all_members(rt: HostRuntime) -> Result<(), Fail> {
+    let proposal = finalization(rt.alloc(), &FINALIZATION)?.proposal;
+    let subject = Subject::Finalize { proposal };
+    for (members, size) in [(1, 34), (4, 133), (5, 166), (43, 1420), (64, 2113)] {
+        let scoped = Scoped::scheme(MockScheme::new(members));
+        let certificate = certificate(rt.alloc(), &subject, members)?;
+        let bytes = certificate.encode(rt.alloc())?;
+        assert_eq!(rt; bytes.len(), size);
+        assert!(rt; judged(rt.alloc(), &scoped, &subject, bytes.as_slice())?);
+        let mut left = bytes.as_slice();
+        let read = MockCertificate::read_cfg(rt.alloc(), &mut left, &members)?;
+        assert!(rt; left.is_empty());
+        assert!(rt; read == certificate);
+        assert!(rt; certificate_copy(&read)? == certificate);
+    }
+    Ok(())
+}
+
+#[test]
+fn batches_of_certificates(rt: HostRuntime) -> Result<(), Fail> {
+    let scoped = Scoped::scheme(MockScheme::new(4));
+    let proposal = finalization(rt.alloc(), &FINALIZATION)?.proposal;
+    // How many signed each certificate of a batch, and whether they are a quorum.
+    let batches: [&[(u32, bool)]; 3] = [
+        &[],
+        &[(3, true)],
+        &[(3, true), (2, false), (4, true), (0, false), (3, true)],
+    ];
+    for batch in batches {
+        let mut pairs = Vec::new(rt.alloc());
+        let mut wanted = Vec::new(rt.alloc());
+        for (signers, verdict) in batch {
+            let proposal = proposal.copy();
+            let subject = Subject::Finalize { proposal };
+            let certificate = certificate(rt.alloc(), &subject, *signers)?;
+            pairs.push((subject, certificate))?;
+            wanted.push(*verdict)?;
+        }
+        let verdicts = verify_certificates(rt.alloc(), &scoped, pairs.as_slice())?;
+        assert_eq!(rt; verdicts.as_slice(), wanted.as_slice());
+    }
+    Ok(())
+}
+
+#[test]
 fn sizes(rt: HostRuntime) -> Result<(), Fail> {
     let read = finalization(rt.alloc(), &FINALIZATION)?;
     assert_eq!(rt; read.certificate.encode_size(), 100);
@@ -201,10 +246,11 @@ fn a_notarization(rt: HostRuntime) -> Result<(), Fail> {
 #[test]
 fn refused_certificates(rt: HostRuntime) -> Result<(), Fail> {
     let signers = Error::Invalid(Kind::Certificate, Reason::Signers);
+    let varint = Error::InvalidVarint;
     // Two signers, of which the second is member zero again and has no tag.
     let mut again = [0; 35];
     again[0] = 2;
-    let cases: [(&[u8], u32, Error); 9] = [
+    let cases: [(&[u8], u32, Error); 17] = [
         (&FINALIZATION[35..35], 4, Error::EndOfBuffer),
         (&FINALIZATION[35..36], 2, signers),
         (&FINALIZATION[35..36], 4, Error::EndOfBuffer),
@@ -214,6 +260,14 @@ fn refused_certificates(rt: HostRuntime) -> Result<(), Fail> {
         (b"\x01\x04", 4, signers),
         (&again, 4, signers),
         (b"\x05\x00", 4, signers),
+        (b"\x83", 4, Error::EndOfBuffer),
+        (b"\x83\x00", 4, varint),
+        (b"\xff\xff\xff\xff\xff\xff\xff\xff\xff\x01", 4, signers),
+        (b"\xff\xff\xff\xff\xff\xff\xff\xff\xff\x02", 4, varint),
+        (b"\x01\x83", 4, Error::EndOfBuffer),
+        (b"\x01\x83\x00", 4, varint),
+        (b"\x01\xff\xff\xff\xff\xff\xff\xff\xff\xff\x01", 4, signers),
+        (b"\x01\xff\xff\xff\xff\xff\xff\xff\xff\xff\x02", 4, varint),
     ];
     for (bytes, members, error) in cases {
         let mut left = bytes;
