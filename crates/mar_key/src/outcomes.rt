@@ -16,6 +16,8 @@ pub enum Outcome {
 /// A key for which something came, and for whom it was asked.
 #[derive(Drop)]
 pub struct Delivery<D> {
+    /// What was asked for.
     pub key: Key<D>,
+    /// For whom, in the order in which they asked.
     pub annotations: Vec<Annotation>,
 }

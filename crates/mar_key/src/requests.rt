@@ -12,11 +12,14 @@ use std::marker::Model;
 /// A key, and for whom it is asked.
 #[derive(Clone, Copy, Debug, PartialEq, Eq)]
 pub struct Fetch<D> {
+    /// What is asked for.
     pub key: Key<D>,
+    /// For whom.
     pub subscriber: Annotation,
 }
 
-/// A request whose key and annotation fit together. A contract sees it as its `Fetch`.
+/// A request, which only the calls below make: the clause of each says which key it asks, and for whom. A contract sees
+/// it as its `Fetch`.
 #[derive(Clone, Copy, Debug, PartialEq, Eq)]
 pub struct Request<D> {
     fetch: Fetch<D>,

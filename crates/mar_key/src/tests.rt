@@ -9,7 +9,7 @@ use mar_codec::{
     Decode, Digest, Encode, EncodeSize, Error, MaxEncodeSize, ReadExt, Sha256Digest, Write,
 };
 use mar_types::{Epoch, Height, Round, View};
-use std::alloc::AllocError;
+use std::alloc::{AllocError, Global};
 use std::cmp::Ordering;
 use std::hash::{DefaultHasher, Hash, Hasher};
 use std::slice;
@@ -546,6 +546,69 @@ fn recorder_closes_what_is_judged(rt: HostRuntime) -> Result<(), Fail> {
     assert!(rt; is_open_after(&rt, Outcome::Invalid)?);
     assert!(rt; !is_open_after(&rt, Outcome::Ignored)?);
     assert!(rt; !is_open_after(&rt, Outcome::Complete)?);
+    Ok(())
+}
+
+// The key that is asked, and the peers that are.
+fn ask_text(alloc: Global, ask: &Ask<Sha256Digest>) -> Result<String, AllocError> {
+    match ask {
+        Ask::Fetch(fetch) => format!(in alloc; "{} of any", fetch.key),
+        Ask::Targeted(fetch, peers) => format!(in alloc; "{} of {peers:?}", fetch.key),
+        Ask::Retain(keep) => format!(in alloc; "{keep:?}"),
+    }
+}
+
+#[test]
+fn recorder_takes_none_and_several(rt: HostRuntime) -> Result<(), Fail> {
+    let at = |height| Fetch::<Sha256Digest>::from(Request::finalized(Height::new(height)));
+    let pair = [at(5), at(6)];
+    let mut recorder = Recorder::new(rt.alloc());
+    recorder.fetch_all(&[])?;
+    recorder.fetch_all_targeted(&[], &[1, 2])?;
+    assert!(rt; recorder.asks().is_empty());
+    recorder.fetch_targeted(at(6), &[])?;
+    recorder.fetch_targeted(at(5), &[1, 2])?;
+    recorder.fetch_all(&pair)?;
+    recorder.fetch_all_targeted(&pair, &[3, 4])?;
+    recorder.fetch_all_targeted(&pair, &[])?;
+    let texts = [
+        "Finalized(Height(6)) of []",
+        "Finalized(Height(5)) of [1, 2]",
+        "Finalized(Height(5)) of any",
+        "Finalized(Height(6)) of any",
+        "Finalized(Height(5)) of [3, 4]",
+        "Finalized(Height(6)) of [3, 4]",
+        "Finalized(Height(5)) of []",
+        "Finalized(Height(6)) of []",
+    ];
+    assert_eq!(rt; recorder.asks().len(), texts.len());
+    for (ask, text) in recorder.asks().iter().zip(texts) {
+        assert_eq!(rt; ask_text(rt.alloc(), ask)?.as_str(), text);
+    }
+    Ok(())
+}
+
+#[test]
+fn recorder_judges_before_it_asks(rt: HostRuntime) -> Result<(), Fail> {
+    let at = |height| Fetch::<Sha256Digest>::from(Request::finalized(Height::new(height)));
+    let mut recorder = Recorder::new(rt.alloc());
+    recorder.fetch_all(&[at(5), at(6)])?;
+    recorder.settle(&[])?;
+    // The key of the first isn't open.
+    let judged = [9, 5].map(|height| Judged {
+        ticket: height,
+        key: at(height).key,
+        outcome: Outcome::Complete,
+    });
+    recorder.fetch_targeted(at(5), &[1, 2])?;
+    recorder.fetch(at(7))?;
+    recorder.settle(&judged)?;
+    let heights = [6, 5, 7];
+    assert_eq!(rt; recorder.keys().len(), heights.len());
+    for (asked, height) in recorder.keys().iter().zip(heights) {
+        assert!(rt; same_key(&asked.key, &at(height).key), "at {height}");
+        assert_eq!(rt; asked.annotations.len(), 1, "at {height}");
+    }
     Ok(())
 }
 
