@@ -31,6 +31,18 @@ ReadsArmed only due now (Ok v) = (is_due due ≡ false) × (now ≡ after_call d
 ReadsArmed only due now (Err Missed) = (only ≡ true → is_due due ≡ true) × (now ≡ after_call due)
 ReadsArmed only due now (Err Forgot) = now ≡ after_call due
 
+-- An armed call answers a fault, and nothing else.
+abbrev pub FaultsIfArmed : {S W : Type 0} → List ℕ → Result S (Lost W) → Type 0
+FaultsIfArmed due (Ok s) = is_due due ≡ false
+FaultsIfArmed due (Err (Fault w)) = ⊤
+FaultsIfArmed due (Err (Memory w)) = is_due due ≡ false
+
+-- the same for a read
+abbrev pub ReadFaultsIfArmed : {T : Type 0} → List ℕ → Result T Miss → Type 0
+ReadFaultsIfArmed due (Ok v) = is_due due ≡ false
+ReadFaultsIfArmed due (Err Missed) = ⊤
+ReadFaultsIfArmed due (Err Forgot) = is_due due ≡ false
+
 -- A call that isn't counted answers no fault where only armed calls fail; want of memory may come at any time.
 abbrev pub IsCalm : {S W : Type 0} → Bool → Result S (Lost W) → Type 0
 IsCalm only (Ok s) = ⊤

@@ -27,7 +27,7 @@ pub record Syncs {T : Type 0} (old new : Kept (At T)) : Type 0 where
   pub sure : new.sure ≡ old.held
   pub may : Within new.may old.may
 
--- A call that failed leaves what was sure, and what may be left with what it was to write.
+-- A call that failed leaves what was sure, and nothing new but what it was to write; of the rest some may be gone.
 pub record Fails {T : Type 0} (old : Left (At T)) (more : List (At T)) (left : Left (At T)) : Type 0 where
   pub sure : KeepsValues old.sure left.sure
   pub may : Within left.may (old.may ++ more)

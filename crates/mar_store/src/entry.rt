@@ -1,3 +1,5 @@
+//! What is kept of a put.
+
 /// A value at an index, with the number of its put.
 #[derive(Drop)]
 pub struct Entry<T> {

@@ -1,3 +1,5 @@
+//! Why a store is lost, or a read has no answer.
+
 /// Why a store is lost, with what is left of it.
 #[derive(Drop)]
 pub enum Lost<W> {

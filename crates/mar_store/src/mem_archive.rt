@@ -1,9 +1,9 @@
 //! An archive in memory.
-ghost use Rattle.std.specs.Prelude.{◌≡◌, ◌≤◌, [], ◌∷◌, true, is_some, filter, length, map, nat_le, take, IfOk, IfErr, MatchResult};
+ghost use Rattle.std.specs.Prelude.{◌≡◌, ◌≤◌, [], ◌∷◌, true, is_some, filter, length, map, nat_le, take, IfOk, IfErr, OnOk, OnErr, MatchResult};
 ghost use Rattle.mar_store.specs.Changes.{Fails, Finishes, IsReopened, Prunes, Puts, Syncs, left_of};
 ghost use Rattle.mar_store.specs.Kept.{reopened_store};
 ghost use Rattle.mar_store.specs.Entries.{covered_by, kept_of, seen};
-ghost use Rattle.mar_store.specs.Armed.{HeedsArmed, ReadsArmed};
+ghost use Rattle.mar_store.specs.Armed.{with_armed, HeedsArmed, ReadsArmed};
 ghost use Rattle.mar_store.specs.Lost.{wreck_of, IsCausedBy, IsMissedBy, OnFault};
 ghost use Rattle.mar_store.specs.Named.{is_taken, value_found};
 ghost use Rattle.mar_store.specs.Tickets.{KeepsCovers, KeepsCoversFrom};
@@ -99,7 +99,13 @@ impl<T: Item> ArchiveRuin<T> for MemArchiveWreck<T> {
         self.pile.held()
     }
 
-    fn arm(&mut self, calls: u64) -> Result<(), AllocError> {
+    fn arm(&mut self, calls: u64) -> Result<(), AllocError>
+        ensures armed { OnOk result (self.new.alarm.due.items ≡ with_armed true calls self.old.alarm.due.items) }
+        ensures unarmed { OnErr result (self.new.alarm.due.items ≡ self.old.alarm.due.items) }
+        ensures left { left_of (kept_of self.new.pile.items.items self.new.pile.synced) ≡ left_of (kept_of self.old.pile.items.items self.old.pile.synced) }
+        ensures count { self.new.alarm.faults ≡ self.old.alarm.faults }
+        ensures half { self.new.half ≡ self.old.half }
+    {
         self.alarm.arm(calls)
     }
 }
@@ -136,6 +142,7 @@ impl<T: Item> Archive<T> for MemArchive<T> {
         ensures covers { KeepsCovers self.old.entries.pile.accepted (covered_by self.old.entries.pile.items.items) (covered_by self.new.entries.pile.items.items) }
         ensures cause { IsMissedBy self.old.alarm.faults self.new.alarm.faults result }
         ensures armed { ReadsArmed true self.old.alarm.due.items self.new.alarm.due.items result }
+        ensures half { self.new.half ≡ self.old.half }
     {
         if self.alarm.rings() {
             return Err(Miss::Fault);
@@ -156,6 +163,7 @@ impl<T: Item> Archive<T> for MemArchive<T> {
         ensures covers { KeepsCovers self.old.entries.pile.accepted (covered_by self.old.entries.pile.items.items) (covered_by self.new.entries.pile.items.items) }
         ensures cause { IsMissedBy self.old.alarm.faults self.new.alarm.faults result }
         ensures armed { ReadsArmed true self.old.alarm.due.items self.new.alarm.due.items result }
+        ensures half { self.new.half ≡ self.old.half }
     {
         if self.alarm.rings() {
             return Err(Miss::Fault);
@@ -361,7 +369,15 @@ impl<T: Item> Archive<T> for MemArchive<T> {
         }
     }
 
-    fn arm(&mut self, calls: u64) -> Result<(), AllocError> {
+    fn arm(&mut self, calls: u64) -> Result<(), AllocError>
+        ensures armed { OnOk result (self.new.alarm.due.items ≡ with_armed true calls self.old.alarm.due.items) }
+        ensures unarmed { OnErr result (self.new.alarm.due.items ≡ self.old.alarm.due.items) }
+        ensures same { kept_of self.new.entries.pile.items.items self.new.entries.pile.synced ≡ kept_of self.old.entries.pile.items.items self.old.entries.pile.synced }
+        ensures tickets { self.new.entries.pile.accepted ≡ self.old.entries.pile.accepted }
+        ensures covers { KeepsCovers self.old.entries.pile.accepted (covered_by self.old.entries.pile.items.items) (covered_by self.new.entries.pile.items.items) }
+        ensures count { self.new.alarm.faults ≡ self.old.alarm.faults }
+        ensures half { self.new.half ≡ self.old.half }
+    {
         self.alarm.arm(calls)
     }
 

@@ -1,6 +1,11 @@
 //! A depot in memory.
-ghost use Rattle.std.specs.Prelude.{◌≡◌, ℕ, None, true, [], ◌∷◌, IsTrue, MatchOption};
-ghost use Rattle.mar_store.specs.Names.{names_of, one_left};
+ghost use Rattle.std.specs.Prelude.{◌≡◌, ◌↔◌, ℕ, None, true, [], ◌∷◌, Contains, IfOk, IsSome, IsTrue, MatchOption, MatchResult};
+ghost use Rattle.std.specs.List.{AllByRecursion};
+ghost use Rattle.std.specs.List.Sorted.{IsStrictlyIncreasing};
+ghost use Rattle.mar_store.specs.Changes.{Within};
+ghost use Rattle.mar_store.specs.Names.{names_of, one_left, Opens, SetsName, IsOpenedOrNot, IsDestroyedOrNot};
+ghost use Rattle.mar_store.specs.Lost.{wreck_of, IsCausedBy, IsMissedBy};
+ghost use Rattle.mar_store.specs.Armed.{HeedsArmed, ReadsArmed, FaultsIfArmed, ReadFaultsIfArmed};
 
 use crate::alarm::Alarm;
 use crate::{Depot, DepotRuin, EmptyStore, Lost, Miss};
@@ -71,7 +76,14 @@ impl<T: EmptyStore> Depot<T> for MemDepot<T> {
 
     ghost only_armed = { true };
 
-    fn open(self, name: u64) -> Result<(Self, T), Lost<MemDepotWreck<T>>> {
+    fn open(self, name: u64) -> Result<(Self, T), Lost<MemDepotWreck<T>>>
+        ensures done { MatchResult result
+            (λ s. Opens T.is_empty (names_of self.contents) name s.1 (names_of s.0.contents))
+            (λ l. AllByRecursion (IsOpenedOrNot T.is_empty (names_of self.contents) name) (names_of (wreck_of l).contents ∷ [])) }
+        ensures cause { IsCausedBy (λ s. s.0.alarm.faults) (λ w. w.alarm.faults) self.alarm.faults result }
+        ensures armed { HeedsArmed (λ s. s.0.alarm.due.items) (λ w. w.alarm.due.items) true self.alarm.due.items result }
+        ensures fault { FaultsIfArmed self.alarm.due.items result }
+    {
         let MemDepot {
             mut contents,
             mut alarm,
@@ -110,7 +122,14 @@ impl<T: EmptyStore> Depot<T> for MemDepot<T> {
         }
     }
 
-    fn list(&mut self) -> Result<Vec<u64>, Miss> {
+    fn list(&mut self) -> Result<Vec<u64>, Miss>
+        ensures found { IfOk result (λ ns. (n : ℕ) → IsSome (names_of self.old.contents n) ↔ Contains ns.items n) }
+        ensures ascend { IfOk result (λ ns. IsStrictlyIncreasing ns.items) }
+        ensures same { names_of self.new.contents ≡ names_of self.old.contents }
+        ensures cause { IsMissedBy self.old.alarm.faults self.new.alarm.faults result }
+        ensures armed { ReadsArmed true self.old.alarm.due.items self.new.alarm.due.items result }
+        ensures fault { ReadFaultsIfArmed self.old.alarm.due.items result }
+    {
         if self.alarm.rings() {
             return Err(Miss::Fault);
         }
@@ -120,7 +139,14 @@ impl<T: EmptyStore> Depot<T> for MemDepot<T> {
         }
     }
 
-    fn destroy(self, name: u64) -> Result<Self, Lost<MemDepotWreck<T>>> {
+    fn destroy(self, name: u64) -> Result<Self, Lost<MemDepotWreck<T>>>
+        ensures done { MatchResult result
+            (λ s. SetsName (names_of self.contents) name None (names_of s.contents))
+            (λ l. AllByRecursion (IsDestroyedOrNot (names_of self.contents) name) (names_of (wreck_of l).contents ∷ [])) }
+        ensures cause { IsCausedBy (λ s. s.alarm.faults) (λ w. w.alarm.faults) self.alarm.faults result }
+        ensures armed { HeedsArmed (λ s. s.alarm.due.items) (λ w. w.alarm.due.items) true self.alarm.due.items result }
+        ensures fault { FaultsIfArmed self.alarm.due.items result }
+    {
         let MemDepot {
             mut contents,
             mut alarm,
@@ -149,7 +175,14 @@ impl<T: EmptyStore> Depot<T> for MemDepot<T> {
         }
     }
 
-    fn reopen(wreck: MemDepotWreck<T>, _luck: u64) -> Result<Self, Lost<MemDepotWreck<T>>> {
+    fn reopen(wreck: MemDepotWreck<T>, _luck: u64) -> Result<Self, Lost<MemDepotWreck<T>>>
+        ensures done { MatchResult result
+            (λ s. Contains (names_of wreck.contents ∷ []) (names_of s.contents))
+            (λ l. Within (names_of (wreck_of l).contents ∷ []) (names_of wreck.contents ∷ [])) }
+        ensures cause { IsCausedBy (λ s. s.alarm.faults) (λ w. w.alarm.faults) wreck.alarm.faults result }
+        ensures armed { HeedsArmed (λ s. s.alarm.due.items) (λ w. w.alarm.due.items) true wreck.alarm.due.items result }
+        ensures fault { FaultsIfArmed wreck.alarm.due.items result }
+    {
         let mut wreck = wreck;
         if wreck.alarm.rings() {
             return Err(Lost::Fault(wreck));

@@ -156,7 +156,15 @@ impl Meta for MemMeta {
         })
     }
 
-    fn sync(self) -> Result<Self, Lost<MemMetaWreck>> {
+    fn sync(self) -> Result<Self, Lost<MemMetaWreck>>
+        ensures done { MatchResult result
+            (λ s. values_of s.synced ∷ [] ≡ values_of self.values ∷ [])
+            (λ l. LeavesValues (values_of self.synced ∷ []) (values_of self.values ∷ []) (left_with (wreck_of l).synced (wreck_of l).failed)) }
+        ensures same { IfOk result (λ s. values_of s.values ≡ values_of self.values) }
+        ensures cause { IsCausedBy (λ s. s.alarm.faults) (λ w. w.alarm.faults) self.alarm.faults result }
+        ensures armed { HeedsArmed (λ s. s.alarm.due.items) (λ w. w.alarm.due.items) true self.alarm.due.items result }
+        ensures kept { IfErr result (λ l. left_with (wreck_of l).synced (wreck_of l).failed ≡ values_of self.synced ∷ values_of self.values ∷ []) }
+    {
         let MemMeta {
             values,
             synced,

@@ -1,4 +1,4 @@
-// A few numbers that become durable together.
+//! A few numbers that become durable together.
 ghost use Rattle.std.specs.Prelude.{◌≡◌, ◌<◌, ℕ, Bool, List, [], ◌∷◌, length, Some, None, Contains, IfOk, OnOk, OnErr, MatchResult};
 ghost use Rattle.mar_store.specs.Values.{Values, SetsValue, synced_values, LeavesValues};
 ghost use Rattle.mar_store.specs.Lost.{wreck_of, IsCausedBy};
@@ -57,9 +57,11 @@ pub trait Meta: Drop {
 
     ghost only_armed: { Bool };
 
+    /// The value of a key, as it was put last.
     fn get(&self, key: u64) -> Option<u64>
         ensures { result ≡ current self.now key };
 
+    /// Sets the value of a key; it is durable after the next sync.
     fn put(self, key: u64, value: u64) -> Result<Self, Lost<Self::Wreck>>
     where
         Self: Sized,
@@ -71,6 +73,7 @@ pub trait Meta: Drop {
         ensures due { MatchResult result (λ s. due s ≡ due self) (λ l. Self.Wreck.due (wreck_of l) ≡ due self) }
         ensures calm { IsCalm only_armed result };
 
+    /// Removes a key; it is gone for good after the next sync.
     fn remove(self, key: u64) -> Result<Self, Lost<Self::Wreck>>
     where
         Self: Sized,

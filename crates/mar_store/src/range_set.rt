@@ -13,7 +13,9 @@ use std::marker::Model;
 /// Consecutive heights, both ends in.
 #[derive(Clone, Copy, Debug, PartialEq, Eq)]
 pub struct HeightSpan {
+    /// The least of them.
     pub from: u64,
+    /// The greatest of them.
     pub to: u64,
 }
 

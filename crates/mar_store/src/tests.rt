@@ -1,9 +1,10 @@
-//! What no clause says: each call with ample memory, which bits of luck keep what, and calls that were armed.
+//! What no clause says: each call with ample memory, which bits of luck keep what, calls that were armed, and values that
+//! are told apart.
 ghost use Rattle.std.specs.Prelude.{◌≤◌, ◌==◌, true, IfOk};
 
 use crate::{
-    Archive, ArchiveRuin, Depot, EmptyStore, HeightSpan, Identifier, Item, Lost, LuckHalf,
-    MemArchive, MemArchiveWreck, MemDepot, MemMeta, Meta, MetaRuin, Miss, SyncTicket,
+    Archive, ArchiveRuin, Depot, DepotRuin, EmptyStore, HeightSpan, Identifier, Item, Lost,
+    LuckHalf, MemArchive, MemArchiveWreck, MemDepot, MemMeta, Meta, MetaRuin, Miss, SyncTicket,
 };
 use mar_codec::{Digest, Sha256Digest};
 use std::alloc::{AllocError, Global};
@@ -426,4 +427,48 @@ fn a_depot_keeps_its_names(rt: HostRuntime) -> Result<(), Fail> {
     let (_depot, count) = counted_on(depot, 7).ok_or("opened")?;
     assert_eq!(rt; count, 0);
     Ok(())
+}
+
+#[test]
+fn an_armed_call_of_a_depot_fails(rt: HostRuntime) -> Result<(), Fail> {
+    let depot: MemDepot<Counted> = MemDepot::new(rt.alloc());
+    let (mut depot, _count) = counted_on(depot, 3).ok_or("opened")?;
+    depot.arm(1)?;
+    assert_eq!(rt; depot.list().err(), Some(Miss::Fault));
+    depot.arm(1)?;
+    let Err(Lost::Fault(mut wreck)) = depot.open(4) else {
+        return Err(Fail::from("the opening failed"));
+    };
+    wreck.arm(1)?;
+    let Err(Lost::Fault(wreck)) = MemDepot::<Counted>::reopen(wreck, 0) else {
+        return Err(Fail::from("the reopening failed"));
+    };
+    let depot: MemDepot<Counted> = MemDepot::reopen(wreck, 0).ok().ok_or("reopened")?;
+    // The name of the opening that failed doesn't stand.
+    let mut depot = depot.destroy(4).ok().ok_or("destroy")?;
+    assert_eq!(rt; depot.list().ok().ok_or("list")?.as_slice(), [3].as_slice());
+    let (_depot, count) = counted_on(depot, 3).ok_or("opened")?;
+    assert_eq!(rt; count, 1);
+    Ok(())
+}
+
+// Whether a value equals itself and none of the others.
+fn differs<T: PartialEq>(value: &T, others: &[T]) -> bool {
+    let mut differs = value == value;
+    for other in others {
+        differs = differs && value != other && other != value;
+    }
+    differs
+}
+
+#[test]
+fn each_part_tells_values_apart(rt: HostRuntime) {
+    assert!(rt; differs(&SyncTicket::new(4), &[SyncTicket::new(5)]));
+    assert!(rt; differs(&LuckHalf::Low, &[LuckHalf::High]));
+    assert!(rt; differs(&Miss::Fault, &[Miss::Memory]));
+    assert!(rt; differs(&span(4, 6), &[span(5, 6), span(4, 7), span(6, 4)]));
+    let others = [Identifier::Index(5), Identifier::Key(4u64)];
+    assert!(rt; differs(&Identifier::Index(4), &others));
+    let others = [Identifier::Key(5), Identifier::Index(4)];
+    assert!(rt; differs(&Identifier::Key(4u64), &others));
 }
