@@ -1,5 +1,5 @@
 //! Blocks that were received and are not yet stored.
-ghost use Rattle.std.specs.Prelude.{◌≡◌, ℕ, Bool, false, List, [], ◌∷◌, IfOk, IfSome, None, OnErr, OnOk, Option, find, bytes_eq, is_some, option_map};
+ghost use Rattle.std.specs.Prelude.{◌≡◌, ℕ, Bool, false, List, [], ◌∷◌, IfOk, IfSome, IsOk, None, OnErr, OnOk, Option, find, bytes_eq, is_some, option_map};
 ghost use Rattle.mar_cert.specs.Block.{Block as PlainBlock};
 ghost use Rattle.mar_block.specs.Recipients.{named};
 ghost use Rattle.mar_block.specs.Sent.{Sending, Sends};
@@ -70,14 +70,20 @@ impl<V: Variant> Buffer<V> for NoBuffer {
 
     ghost sent = { λ _. None };
 
-    fn find_by_digest(&self, _digest: &V::Digest) -> Result<Option<V::Block>, AllocError> {
+    fn find_by_digest(&self, _digest: &V::Digest) -> Result<Option<V::Block>, AllocError>
+        ensures found { IfOk result (λ o. option_map V.plain o ≡ None) }
+        ensures succeeds { IsOk result }
+    {
         Ok(None)
     }
 
     fn find_by_commitment(
         &self,
         _commitment: &V::Commitment,
-    ) -> Result<Option<V::Block>, AllocError> {
+    ) -> Result<Option<V::Block>, AllocError>
+        ensures found { IfOk result (λ o. option_map V.plain o ≡ None) }
+        ensures succeeds { IsOk result }
+    {
         Ok(None)
     }
 
@@ -97,7 +103,9 @@ impl<V: Variant> Buffer<V> for NoBuffer {
         _round: Round,
         _block: V::Block,
         _recipients: Recipients<Participant>,
-    ) -> Result<(), AllocError> {
+    ) -> Result<(), AllocError>
+        ensures succeeds { IsOk result }
+    {
         Ok(())
     }
 }

@@ -1,5 +1,5 @@
 //! Blocks without content.
-ghost use Rattle.std.specs.Prelude.{◌≡◌, ◌+◌, ◌<◌, ◌^◌, false};
+ghost use Rattle.std.specs.Prelude.{◌≡◌, ◌+◌, ◌<◌, ◌^◌, false, IfOk, IsOk};
 ghost use Rattle.std.proofs.Common.{sym, ◌∙◌};
 ghost use Rattle.mar_block.specs.EmptyBlock.{RefusesBlock, SpellsBlock, block_bytes, block_message};
 ghost use Rattle.mar_block.specs.EmptyBlockLemmas.{block_identified, block_unambiguous, length-block_bytes-within};
@@ -20,8 +20,11 @@ use std::convert::AsSlice;
 #[derive(Drop)]
 #[derive_where(Debug, PartialEq, Eq)]
 pub struct EmptyBlock<H: Hasher> {
+    /// The digest of its parent.
     pub parent: H::Digest,
+    /// Its height.
     pub height: Height,
+    /// When it was made, in milliseconds.
     pub timestamp: u64,
 }
 
@@ -43,6 +46,8 @@ impl<H: Hasher> EmptyBlock<H> {
 impl<H: Hasher> Clone for EmptyBlock<H> {
     ghost is_clone = { λ b copy. (copy.parent ≡ b.parent) × (copy.height ≡ b.height)
         × (copy.timestamp ≡ b.timestamp) };
+
+    ghost is_infallible = { λ _. Unit {0} };
 
     fn clone(&self) -> Result<Self, AllocError> {
         Ok(EmptyBlock {
@@ -143,7 +148,10 @@ impl<H: Hasher> CertifiableBlock for EmptyBlock<H> {
 
     ghost is_context = { λ b context. context ≡ b.parent };
 
-    fn context(&self) -> Result<H::Digest, AllocError> {
+    fn context(&self) -> Result<H::Digest, AllocError>
+        ensures context { IfOk result (λ context. context ≡ self.now.parent) }
+        ensures succeeds { IsOk result }
+    {
         Ok(self.parent)
     }
 }

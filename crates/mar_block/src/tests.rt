@@ -75,7 +75,7 @@ fn finds<V: Variant, B: Buffer<V>>(buffer: &B, block: &V::Block) -> Result<bool,
 #[test]
 fn blocks_found_by_name(rt: HostRuntime) -> Result<(), Fail> {
     let mut buffer: MemBuffer<StandardBlocks> = MemBuffer::new(rt.alloc());
-    for height in 0..20 {
+    for height in 0..300 {
         let parent = Sha256Digest::empty();
         let block = EmptyBlock::new(parent, Height::new(height), height / 2);
         let block = Digested::compute(rt.alloc(), block)?;
@@ -85,7 +85,7 @@ fn blocks_found_by_name(rt: HostRuntime) -> Result<(), Fail> {
         buffer.put(StandardBlocks::try_clone(&block)?)?;
         assert!(rt; finds(&buffer, &block)?);
     }
-    for height in 0..20 {
+    for height in 0..300 {
         let block: Zero = EmptyBlock::new(Sha256Digest::empty(), Height::new(height), height / 2);
         let name = block.digest();
         let found = buffer.find_by_digest(&name)?.ok_or("no such block")?;
@@ -329,10 +329,11 @@ fn buffers_tell_and_send(rt: HostRuntime) -> Result<(), Fail> {
     let block = ready(rt.alloc(), child())?;
     assert!(rt; subscribes(&buffer, &block));
     assert!(rt; !subscribes::<StandardBlocks, NoBuffer>(&NoBuffer, &block));
-    let peers = vec![in rt.alloc(); Participant::new(3)]?;
+    let peers = peers_of(rt.alloc(), &[3])?;
     send::<StandardBlocks, NoBuffer>(&mut NoBuffer, block.clone()?, Recipients::All)?;
+    send::<StandardBlocks, NoBuffer>(&mut NoBuffer, block.clone()?, peers.clone()?)?;
     send(&mut buffer, block.clone()?, Recipients::All)?;
-    send(&mut buffer, block.clone()?, Recipients::Some(peers))?;
+    send(&mut buffer, block.clone()?, peers)?;
     let last = buffer.sent().last().ok_or("nothing was sent")?;
     let round = last.round;
     let recipients = &last.recipients;
@@ -344,10 +345,132 @@ fn buffers_tell_and_send(rt: HostRuntime) -> Result<(), Fail> {
     assert_eq!(rt; buffer.sent().len(), 2);
     assert!(rt; recipients.clone()? == *recipients);
     assert!(rt; buffer.is_open());
-    buffer.put(block.clone()?)?;
+    Ok(())
+}
+
+// The heights of the blocks that a buffer was handed to send, in order.
+fn heights_sent(alloc: Global, buffer: &MemBuffer<StandardBlocks>) -> Result<Vec<u64>, AllocError> {
+    let mut heights = Vec::new(alloc);
+    for sent in buffer.sent() {
+        heights.push(sent.block.inner().height.get())?;
+    }
+    Ok(heights)
+}
+
+#[test]
+fn a_closed_buffer_holds_and_sends(rt: HostRuntime) -> Result<(), Fail> {
+    let mut buffer: MemBuffer<StandardBlocks> = MemBuffer::new(rt.alloc());
+    let first = ready(rt.alloc(), genesis())?;
+    let second = ready(rt.alloc(), child())?;
+    buffer.put(first.clone()?)?;
+    send(&mut buffer, first.clone()?, Recipients::All)?;
+    send(&mut buffer, second.clone()?, Recipients::All)?;
     buffer.close();
     assert!(rt; !buffer.is_open());
-    assert!(rt; !subscribes(&buffer, &block));
-    assert!(rt; finds(&buffer, &block)?);
+    assert!(rt; !subscribes(&buffer, &first));
+    assert!(rt; finds(&buffer, &first)?);
+    assert!(rt; !finds(&buffer, &second)?);
+    let peers = peers_of(rt.alloc(), &[3])?;
+    send(&mut buffer, second.clone()?, peers)?;
+    send(&mut buffer, first.clone()?, Recipients::All)?;
+    buffer.put(second.clone()?)?;
+    assert!(rt; finds(&buffer, &first)?);
+    assert!(rt; finds(&buffer, &second)?);
+    assert!(rt; !subscribes(&buffer, &second));
+    let heights = heights_sent(rt.alloc(), &buffer)?;
+    assert_eq!(rt; heights.as_slice(), [0, 1, 1, 0].as_slice());
+    Ok(())
+}
+
+// Whether a value equals itself and none of the others.
+fn differs<T: PartialEq>(value: &T, others: &[T]) -> bool {
+    let mut differs = value == value;
+    for other in others {
+        differs = differs && value != other && other != value;
+    }
+    differs
+}
+
+fn empty_block(parent: u8, height: u64, timestamp: u64) -> Zero {
+    EmptyBlock::new(Sha256::fill(parent), Height::new(height), timestamp)
+}
+
+// What a block's spelling is read as where one bit of this byte is changed.
+fn changed_at(alloc: Global, block: &Mock, place: usize) -> Result<Mock, Fail> {
+    let mut written = BytesMut::new(alloc);
+    block.write(&mut written)?;
+    let mut bytes = Vec::from_slice(alloc, written.as_slice())?;
+    let byte = bytes.get_mut(place).ok_or("no such place")?;
+    *byte ^= 1;
+    let changed = Mock::decode_cfg(alloc, bytes.as_slice(), &())?;
+    Ok(changed)
+}
+
+#[test]
+fn each_part_tells_blocks_apart(rt: HostRuntime) -> Result<(), Fail> {
+    let others = [
+        empty_block(2, 1, 1),
+        empty_block(1, 2, 1),
+        empty_block(1, 1, 2),
+    ];
+    assert!(rt; differs(&empty_block(1, 1, 1), &others));
+    let parent = Sha256::fill(1);
+    let block = Mock::new::<Sha256>(rt.alloc(), UInt(1), parent, Height::new(1), 1)?;
+    let mut others = Vec::new(rt.alloc());
+    // The context; the first byte and the last of the parent; the height; the timestamp; the first and the last of the digest.
+    for place in [0, 1, 32, 33, 34, 35, 66] {
+        let other = changed_at(rt.alloc(), &block, place)?;
+        others.push(other)?;
+    }
+    assert!(rt; differs(&block, others.as_slice()));
+    Ok(())
+}
+
+fn peers_of(alloc: Global, numbers: &[u32]) -> Result<Recipients<Participant>, AllocError> {
+    let mut peers = Vec::new(alloc);
+    for number in numbers {
+        peers.push(Participant::new(*number))?;
+    }
+    Ok(Recipients::Some(peers))
+}
+
+fn sending(view: u64, block: Zero, recipients: Recipients<Participant>) -> Sent<Zero> {
+    let round = Round::new(Epoch::new(2), View::new(view));
+    Sent {
+        round,
+        block,
+        recipients,
+    }
+}
+
+#[test]
+fn each_part_tells_sendings_apart(rt: HostRuntime) -> Result<(), Fail> {
+    let alloc = rt.alloc();
+    let (one, two) = (Sha256::fill(1), Sha256::fill(2));
+    let others = [
+        ExpectedCommitment::Trusted(two),
+        ExpectedCommitment::Untrusted(one),
+    ];
+    assert!(rt; differs(&ExpectedCommitment::Trusted(one), &others));
+    let others = [
+        ExpectedCommitment::Untrusted(two),
+        ExpectedCommitment::Trusted(one),
+    ];
+    assert!(rt; differs(&ExpectedCommitment::Untrusted(one), &others));
+    let others = [peers_of(alloc, &[])?, peers_of(alloc, &[3])?];
+    assert!(rt; differs(&Recipients::All, &others));
+    let others = [
+        Recipients::All,
+        peers_of(alloc, &[])?,
+        peers_of(alloc, &[4])?,
+        peers_of(alloc, &[3, 4])?,
+    ];
+    assert!(rt; differs(&peers_of(alloc, &[3])?, &others));
+    let others = [
+        sending(8, child(), Recipients::All),
+        sending(7, genesis(), Recipients::All),
+        sending(7, child(), peers_of(alloc, &[3])?),
+    ];
+    assert!(rt; differs(&sending(7, child(), Recipients::All), &others));
     Ok(())
 }

@@ -30,12 +30,15 @@ pub trait Variant {
     /// The digest that a commitment names.
     ghost inner: { List ℕ → List ℕ };
 
+    /// The block's height.
     fn height(block: &Self::Block) -> Height
         ensures { result ≡ (plain block.now).height };
 
+    /// The block's digest.
     fn digest(block: &Self::Block) -> Self::Digest
         ensures { Self.Digest.bytes result ≡ (plain block.now).digest };
 
+    /// The block's commitment.
     fn commitment(block: &Self::Block) -> Self::Commitment
         ensures { Self.Commitment.bytes result ≡ (plain block.now).commitment };
 
@@ -47,6 +50,7 @@ pub trait Variant {
     fn parent_commitment(block: &Self::Block) -> Self::Commitment
         ensures { Self.Commitment.bytes result ≡ (plain block.now).parent_commitment };
 
+    /// Another handle of the same block.
     fn try_clone(block: &Self::Block) -> Result<Self::Block, AllocError>
         ensures { IfOk result (λ b. plain b ≡ plain block.now) };
 
