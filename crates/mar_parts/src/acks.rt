@@ -23,8 +23,11 @@ pub enum Mark {
 /// A block that was handed to the application, under the ticket of its acknowledgement.
 #[derive(Clone, Copy, Debug, PartialEq, Eq)]
 pub struct PendingAck {
+    /// The ticket that names it.
     pub ticket: u64,
+    /// The block's height.
     pub height: Height,
+    /// What the application said of it.
     pub mark: Mark,
 }
 

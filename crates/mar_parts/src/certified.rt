@@ -1,5 +1,5 @@
 //! Commitments that are known as certified.
-ghost use Rattle.std.specs.Prelude.{◌≡◌, ◌==◌, ◌&&◌, ◌||◌, ℕ, [], All, Contains, IsTrue, List, OnErr, OnOk, bytes_eq, false, max, nat_le, true};
+ghost use Rattle.std.specs.Prelude.{◌≡◌, ◌==◌, ◌&&◌, ◌||◌, ◌≤◌, ℕ, [], All, Contains, IsTrue, List, OnErr, OnOk, bytes_eq, false, max, nat_le, true};
 ghost use Rattle.std.specs.BTreeMap.{get};
 ghost use Rattle.std.specs.Fn.{FnReturnsAt};
 ghost use Rattle.std.specs.Ordering.{nat_cmp};
@@ -45,12 +45,15 @@ impl<C: Digest> Certified<C> {
         }
     }
 
-    /// Takes note of a commitment as certified at a height, where that is kept. Where memory runs out nothing changes.
+    /// Takes note of a commitment as certified at a height, where that is kept. Where memory runs out nothing changes,
+    /// and it runs out only for a commitment that isn't known there yet.
     pub fn insert(&mut self, height: Height, commitment: C) -> Result<(), AllocError>
         ensures known { OnOk result ((h : ℕ) (c : C) → is_known C.bytes self.new h (C.bytes c)
             ≡ (is_known C.bytes self.old h (C.bytes c) || (nat_le self.old.min height && h == height && bytes_eq (C.bytes commitment) (C.bytes c)))) }
         ensures min { self.new.min ≡ self.old.min }
         ensures err { OnErr result (self.new ≡ self.old) }
+        ensures kept { OnErr result (self.old.min ≤ height) }
+        ensures absent { OnErr result (is_known C.bytes self.old height (C.bytes commitment) ≡ false) }
     {
         if height < self.min {
             return Ok(());
@@ -106,6 +109,7 @@ fn add<C: Digest>(
         ≡ (is_among C.cmp (get nat_cmp commitments.old h) c || (h == height && bytes_eq (C.bytes commitment) (C.bytes c)))) }
     ensures others { OnOk result ((h : ℕ) → (h == height) ≡ false → get nat_cmp commitments.new h ≡ get nat_cmp commitments.old h) }
     ensures err { OnErr result (commitments.new.entries ≡ commitments.old.entries) }
+    ensures absent { OnErr result (is_among C.cmp (get nat_cmp commitments.old height) commitment ≡ false) }
 {
     if let Some(known) = commitments.get_mut(&height) {
         known.insert(commitment)?;

@@ -1,5 +1,5 @@
 //! The gate that holds dispatch back until written blocks are durable.
-ghost use Rattle.std.specs.Prelude.{◌≡◌, ◌+◌, ◌^◌, ◌<◌, [], None, OnErr, OnOk, IfOk, option_map};
+ghost use Rattle.std.specs.Prelude.{◌≡◌, ◌+◌, ◌^◌, ◌<◌, [], None, OnErr, OnOk, IfOk, is_some, option_map, true};
 ghost use Rattle.mar_parts.specs.Gate.{adopted, after_clear, after_defer, after_release, lower_of, IsBarrier};
 
 use mar_types::Height;
@@ -52,12 +52,14 @@ impl DispatchGate {
     }
 
     /// Takes the deferred writes into a new batch, and answers the number under which its sync is to be released, or
-    /// `None` where each write is covered already, so that no sync has to start. Where memory runs out nothing changes.
+    /// `None` where each write is covered already, so that no sync has to start. Where memory runs out nothing changes,
+    /// and it runs out only where a write is deferred.
     pub fn adopt(&mut self) -> Result<Option<u64>, AllocError>
         requires { self.old.next + 1 < 2 ^ 64 }
         ensures number { IfOk result (λ n. n ≡ option_map (λ _. self.old.next) self.old.unsynced) }
         ensures ok { OnOk result (self.new ≡ adopted self.old.unsynced self.old) }
         ensures err { OnErr result (self.new ≡ self.old) }
+        ensures deferred { OnErr result (is_some self.old.unsynced ≡ true) }
     {
         let Some(lowest) = self.unsynced else {
             return Ok(None);

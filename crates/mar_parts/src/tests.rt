@@ -9,6 +9,7 @@ use mar_types::{Epoch, FixedEpocher, Height, Round, View};
 use std::num::NonZeroU64;
 use std::test::Fail;
 
+mod equality;
 mod floors;
 mod waiting;
 
@@ -77,6 +78,35 @@ fn acknowledgements_forgotten_together(rt: HostRuntime) -> Result<(), Fail> {
 }
 
 #[test]
+fn acknowledgements_within_their_window(rt: HostRuntime) -> Result<(), Fail> {
+    for (window, oldest) in [
+        (0, Oldest::Unresolved),
+        (1, Oldest::Given(ack(4, 6, Mark::Given))),
+    ] {
+        let mut acks = PendingAcks::new(rt.alloc(), window)?;
+        assert_eq!(rt; acks.capacity(), window);
+        assert_eq!(rt; acks.has_capacity(), window > 0);
+        if acks.has_capacity() {
+            acks.enqueue(4, Height::new(6));
+        }
+        assert_eq!(rt; acks.len(), window);
+        assert!(rt; !acks.has_capacity());
+        assert_eq!(rt; acks.give(4), window > 0);
+        assert_eq!(rt; acks.pop_ready(), oldest);
+        assert_eq!(rt; acks.has_capacity(), window > 0);
+    }
+    for (mark, ticket, is_unmarked) in [
+        (Mark::Waiting, 4, true),
+        (Mark::Waiting, 5, false),
+        (Mark::Given, 4, false),
+        (Mark::Dropped, 4, false),
+    ] {
+        assert_eq!(rt; ack(4, 6, mark).is_unmarked(ticket), is_unmarked);
+    }
+    Ok(())
+}
+
+#[test]
 fn epochs_close_with_their_last_height(rt: HostRuntime) -> Result<(), Fail> {
     let epocher = FixedEpocher::new(NonZeroU64::new(11).ok_or("zero")?);
     for (height, epoch) in [
@@ -129,6 +159,24 @@ fn gate_holds_what_no_sync_covers(rt: HostRuntime) -> Result<(), Fail> {
 }
 
 #[test]
+fn gate_adopts_each_write_once(rt: HostRuntime) -> Result<(), Fail> {
+    let mut gate = DispatchGate::new(rt.alloc());
+    gate.defer(Height::new(5));
+    assert_eq!(rt; gate.adopt()?, Some(0));
+    assert_eq!(rt; gate.adopt()?, None);
+    assert_eq!(rt; gate.barrier(), Some(Height::new(5)));
+    gate.defer(Height::new(6));
+    assert_eq!(rt; gate.adopt()?, Some(1));
+    gate.release(1);
+    assert_eq!(rt; gate.adopt()?, None);
+    gate.defer(Height::new(7));
+    gate.clear();
+    assert_eq!(rt; gate.adopt()?, None);
+    assert_eq!(rt; gate.barrier(), None);
+    Ok(())
+}
+
+#[test]
 fn staged_blocks_are_the_first_of_their_height(rt: HostRuntime) -> Result<(), Fail> {
     let mut staged = Staged::new(rt.alloc(), 2);
     for (height, block) in [(5, 50), (5, 51), (6, 60), (7, 70)] {
@@ -138,10 +186,11 @@ fn staged_blocks_are_the_first_of_their_height(rt: HostRuntime) -> Result<(), Fa
         assert_eq!(rt; staged.remove(Height::new(height)), block, "at {height}");
     }
     let mut staged = Staged::new(rt.alloc(), 2);
-    for min in [6, 4] {
+    for (before, after) in [(0, 6), (4, 4)] {
+        staged.retain(Height::new(before));
         staged.insert(Height::new(5), 5)?;
         staged.insert(Height::new(6), 6)?;
-        staged.retain(Height::new(min));
+        staged.retain(Height::new(after));
         assert_eq!(rt; staged.remove(Height::new(5)), None);
         assert_eq!(rt; staged.remove(Height::new(6)), Some(6));
     }
@@ -179,6 +228,29 @@ fn commitments_are_known_at_their_heights(rt: HostRuntime) -> Result<(), Fail> {
     let mut fresh: Certified<Sha256Digest> = Certified::new(rt.alloc());
     fresh.insert(Height::zero(), a)?;
     assert!(rt; !known(&fresh, 0, &a));
+    Ok(())
+}
+
+#[test]
+fn commitments_are_taken_in_again(rt: HostRuntime) -> Result<(), Fail> {
+    let [a, b, c] = [1, 2, 3].map(Sha256::fill);
+    let mut certified: Certified<Sha256Digest> = Certified::new(rt.alloc());
+    for commitment in [a, b, b, a] {
+        certified.insert(Height::new(6), commitment)?;
+        certified.insert(Height::zero(), commitment)?;
+    }
+    for (height, commitment, found) in [
+        (6, a, true),
+        (6, b, true),
+        (6, c, false),
+        (5, a, false),
+        (0, a, false),
+    ] {
+        let at = Height::new(height);
+        let matches = certified.contains_matching(at, |known| *known == commitment);
+        assert_eq!(rt; matches, found, "at {height}");
+        assert_eq!(rt; certified.contains(at, &commitment), found, "at {height}");
+    }
     Ok(())
 }
 

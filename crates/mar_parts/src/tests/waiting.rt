@@ -11,33 +11,36 @@ type Name = Key<Sha256Digest, Sha256Digest>;
 
 type Block = Digested<EmptyBlock<Sha256>>;
 
-// A buffer that has nothing, promises to tell of each block, counts what it promised, and keeps the last name.
+// A buffer that has nothing, counts how often it is asked to tell of a block, and keeps the last name. It promises to
+// tell of each block, or of none.
 #[derive(Drop)]
-struct Promising {
-    promised: Cell<u64>,
+struct Counting {
+    promises: bool,
+    asked: Cell<u64>,
     last: Cell<Option<Name>>,
 }
 
-impl Promising {
-    fn new() -> Self {
-        Promising {
-            promised: Cell::new(0),
+impl Counting {
+    fn new(promises: bool) -> Self {
+        Counting {
+            promises,
+            asked: Cell::new(0),
             last: Cell::new(None),
         }
     }
 
-    fn promise(&self, name: Name) {
-        self.promised.set(self.promised.get().saturating_add(1));
+    fn count(&self, name: Name) {
+        self.asked.set(self.asked.get().saturating_add(1));
         self.last.set(Some(name));
     }
 }
 
-impl Buffer<StandardBlocks> for Promising {
-    ghost use Rattle.std.specs.Prelude.{[], None, true};
+impl Buffer<StandardBlocks> for Counting {
+    ghost use Rattle.std.specs.Prelude.{[], None};
 
     ghost blocks = { λ _. [] };
 
-    ghost notifies = { λ _. true };
+    ghost notifies = { λ b. b.promises };
 
     ghost sent = { λ _. None };
 
@@ -50,7 +53,10 @@ impl Buffer<StandardBlocks> for Promising {
     }
 
     fn subscribe_by_digest(&self, digest: &Sha256Digest) -> Option<Subscription<Sha256Digest>> {
-        self.promise(Key::Digest(*digest));
+        self.count(Key::Digest(*digest));
+        if !self.promises {
+            return None;
+        }
         Some(Subscription { name: *digest })
     }
 
@@ -58,7 +64,10 @@ impl Buffer<StandardBlocks> for Promising {
         &self,
         commitment: &Sha256Digest,
     ) -> Option<Subscription<Sha256Digest>> {
-        self.promise(Key::Commitment(*commitment));
+        self.count(Key::Commitment(*commitment));
+        if !self.promises {
+            return None;
+        }
         Some(Subscription { name: *commitment })
     }
 
@@ -81,13 +90,13 @@ fn block_at(alloc: Global, height: u64) -> Result<Block, AllocError> {
 
 #[test]
 fn one_promise_a_key_serves_all_that_wait(rt: HostRuntime) -> Result<(), Fail> {
-    let buffer = Promising::new();
+    let buffer = Counting::new(true);
     let block = block_at(rt.alloc(), 1)?;
     let other = block_at(rt.alloc(), 2)?;
     let digest: Name = Key::Digest(block.digest());
     let commitment: Name = Key::Commitment(block.digest());
     let mut waits: Subscriptions<StandardBlocks> = Subscriptions::new(rt.alloc());
-    for (key, ticket, promised) in [
+    for (key, ticket, asked) in [
         (digest, 4, 1),
         (digest, 2, 1),
         (commitment, 3, 2),
@@ -95,7 +104,7 @@ fn one_promise_a_key_serves_all_that_wait(rt: HostRuntime) -> Result<(), Fail> {
         (Key::Digest(other.digest()), 7, 3),
     ] {
         waits.insert(key, ticket, &buffer)?;
-        assert_eq!(rt; buffer.promised.get(), promised);
+        assert_eq!(rt; buffer.asked.get(), asked);
         assert_eq!(rt; buffer.last.get(), Some(key));
         assert!(rt; waits.is_subscribed(&key));
     }
@@ -111,8 +120,34 @@ fn one_promise_a_key_serves_all_that_wait(rt: HostRuntime) -> Result<(), Fail> {
 }
 
 #[test]
+fn a_buffer_without_promises_is_asked_once_a_key(rt: HostRuntime) -> Result<(), Fail> {
+    let buffer = Counting::new(false);
+    let block = block_at(rt.alloc(), 1)?;
+    let digest: Name = Key::Digest(block.digest());
+    let commitment: Name = Key::Commitment(block.digest());
+    let mut waits: Subscriptions<StandardBlocks> = Subscriptions::new(rt.alloc());
+    // One ticket waits under one key as often as it is put there.
+    for (key, ticket, asked) in [
+        (digest, 4, 1),
+        (digest, 4, 1),
+        (commitment, 5, 2),
+        (commitment, 4, 2),
+    ] {
+        waits.insert(key, ticket, &buffer)?;
+        assert_eq!(rt; buffer.asked.get(), asked);
+        assert!(rt; !waits.is_subscribed(&key));
+    }
+    let served = waits.notify(&block);
+    assert_eq!(rt; served.by_digest.as_slice(), [4, 4].as_slice());
+    assert_eq!(rt; served.by_commitment.as_slice(), [5, 4].as_slice());
+    waits.insert(digest, 6, &buffer)?;
+    assert_eq!(rt; buffer.asked.get(), 3);
+    Ok(())
+}
+
+#[test]
 fn closed_tickets_wait_no_more(rt: HostRuntime) -> Result<(), Fail> {
-    let buffer = Promising::new();
+    let buffer = Counting::new(true);
     let block = block_at(rt.alloc(), 1)?;
     let digest: Name = Key::Digest(block.digest());
     let commitment: Name = Key::Commitment(block.digest());
