@@ -32,9 +32,11 @@ pub trait BlocksRuin: Drop {
     /// Whether a call can be armed.
     ghost armable: { Bool };
 
+    /// The heights of what every crash leaves.
     fn sure_ranges(&self) -> &RangeSet
         ensures { result.now ≡ ranges (heights (left self.now).sure) };
 
+    /// The heights of all that a crash can leave.
     fn may_ranges(&self) -> &RangeSet
         ensures { result.now ≡ ranges (heights (left self.now).may) };
 
@@ -76,6 +78,7 @@ pub trait Blocks<V: Variant>: Drop {
     /// Whether a prune removes anything.
     ghost prunes: { Bool };
 
+    /// The block that is held at a height.
     fn get(&mut self, height: Height) -> Result<Option<V::Block>, Miss>
         ensures found { IfOk result (λ o. option_map V.plain o ≡ value_at (stored self.old).held height) }
         ensures same { stored self.new ≡ stored self.old }
@@ -84,6 +87,7 @@ pub trait Blocks<V: Variant>: Drop {
         ensures cause { IsMissedBy (faults self.old) (faults self.new) result }
         ensures armed { ReadsArmed only_armed (due self.old) (due self.new) result };
 
+    /// The block that is held under a digest.
     fn find(&mut self, digest: &V::Digest) -> Result<Option<V::Block>, Miss>
         ensures found { IfOk result (λ o. option_map V.plain o ≡ block_of (stored self.old).held (V.Digest.bytes digest.now)) }
         ensures same { stored self.new ≡ stored self.old }
@@ -105,6 +109,7 @@ pub trait Blocks<V: Variant>: Drop {
         ensures cause { IsCausedBy faults Self.Wreck.faults (faults self) result }
         ensures armed { HeedsPut due Self.Wreck.due only_armed (due self) result };
 
+    /// Makes all blocks that were put durable.
     fn sync(self) -> Result<Self, Lost<Self::Wreck>>
     where
         Self: Sized,
@@ -209,9 +214,11 @@ pub trait Blocks<V: Variant>: Drop {
         next_gap(self.held_ranges().as_slice(), height)
     }
 
+    /// The heights of what is held.
     fn held_ranges(&self) -> &RangeSet
         ensures { result.now ≡ ranges (heights (stored self.now).held) };
 
+    /// The heights of what every crash leaves.
     fn sure_ranges(&self) -> &RangeSet
         ensures { result.now ≡ ranges (heights (stored self.now).sure) };
 

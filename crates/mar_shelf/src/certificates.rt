@@ -34,9 +34,11 @@ pub trait CertificatesRuin: Drop {
     /// Whether a call can be armed.
     ghost armable: { Bool };
 
+    /// The heights of what every crash leaves.
     fn sure_ranges(&self) -> &RangeSet
         ensures { result.now ≡ ranges (heights (left self.now).sure) };
 
+    /// The heights of all that a crash can leave.
     fn may_ranges(&self) -> &RangeSet
         ensures { result.now ≡ ranges (heights (left self.now).may) };
 
@@ -78,6 +80,7 @@ pub trait Certificates<V: Variant, F: AsFinalization>: Drop {
     /// Whether a prune removes anything.
     ghost prunes: { Bool };
 
+    /// The finalization that is held at a height.
     fn get(&mut self, height: Height) -> Result<Option<F>, Miss>
         ensures found { IfOk result (λ o. option_map F.plain o ≡ value_at (stored self.old).held height) }
         ensures same { stored self.new ≡ stored self.old }
@@ -113,6 +116,7 @@ pub trait Certificates<V: Variant, F: AsFinalization>: Drop {
         ensures cause { IsCausedBy faults Self.Wreck.faults (faults self) result }
         ensures armed { HeedsPut due Self.Wreck.due only_armed (due self) result };
 
+    /// Makes all finalizations that were put durable.
     fn sync(self) -> Result<Self, Lost<Self::Wreck>>
     where
         Self: Sized,
@@ -204,9 +208,11 @@ pub trait Certificates<V: Variant, F: AsFinalization>: Drop {
         ranges_from(self.held_ranges().as_slice(), height)
     }
 
+    /// The heights of what is held.
     fn held_ranges(&self) -> &RangeSet
         ensures { result.now ≡ ranges (heights (stored self.now).held) };
 
+    /// The heights of what every crash leaves.
     fn sure_ranges(&self) -> &RangeSet
         ensures { result.now ≡ ranges (heights (stored self.now).sure) };
 

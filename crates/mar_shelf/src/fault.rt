@@ -4,15 +4,20 @@ use mar_types::Height;
 /// The stores of a node.
 #[derive(Clone, Copy, Debug, PartialEq, Eq)]
 pub enum StoreName {
+    /// Finalized blocks.
     Blocks,
+    /// Finalizations.
     Certs,
+    /// The processed height and the cutoff.
     Meta,
+    /// What isn't final yet.
     Cache,
 }
 
 /// What tickets are given for.
 #[derive(Clone, Copy, Debug, PartialEq, Eq)]
 pub enum TicketKind {
+    /// Acknowledgements.
     Ack,
 }
 

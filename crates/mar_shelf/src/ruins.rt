@@ -20,9 +20,13 @@ pub struct Ruins<
     M: Meta,
     H: Shelf,
 > {
+    /// What is left of the finalized blocks.
     pub blocks: FB::Wreck,
+    /// What is left of the finalizations.
     pub certs: FC::Wreck,
+    /// What is left of the metadata.
     pub meta: M::Wreck,
+    /// What is left of the cache.
     pub shelf: H::Wreck,
 }
 
@@ -77,7 +81,9 @@ pub struct Ended<
     M: Meta,
     H: Shelf,
 > {
+    /// Why it ended.
     pub fault: Fault<V::Commitment>,
+    /// What the next opening is given.
     pub ruins: Ruins<V, F, FB, FC, M, H>,
 }
 

@@ -452,6 +452,7 @@ impl<
         }
     }
 
+    /// Makes the processed height and the cutoff durable together.
     pub fn sync_metadata(self) -> Result<Self, Ended<V, F, FB, FC, M, H>>
         ensures ok { IfOk result (λ s. s ≡ record self { pairs = pair_of self.processed self.cutoff ∷ []; counts = s.counts }) }
         ensures counts { IfOk result (λ s. s.counts ≡ self.counts) }
