@@ -66,9 +66,12 @@ impl<
     M: Meta,
     H: Shelf,
 > Actor<V, F, P, E, FB, FC, M, H> {
-    /// Takes one event. An end of the life says why and hands back what is left. On a lawful chain the step is a step of
-    /// the node, or a cut. A store's fault ends it only where that store has failed, and a fault by value exactly where it is
-    /// due.
+    /// Takes one event, the first of a life being `Event::Start`. An end of the life says why and hands back what is left.
+    /// On a lawful chain the step is a step of the node, or a cut.
+    ///
+    /// The fault of a step is `StoreFault` only where that store has failed, `HeightLimit` where a finalized block stands
+    /// at the last height and `AckDropped` where the application dropped the oldest acknowledgement, each exactly where
+    /// it is due unless a store or memory fails first, `TicketLimit` where no ticket is left, and `Memory`.
     pub fn step<B: Buffer<V>, R: Resolver<V::Commitment>, A: Reporter<V>>(
         self,
         event: Event<F>,

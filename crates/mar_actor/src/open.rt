@@ -27,8 +27,16 @@ impl<
     H: Shelf,
 > Actor<V, F, P, E, FB, FC, M, H> {
     /// Opens what an earlier life left, or nothing, in the order blocks, certificates, metadata, cache: the genesis is
-    /// stored where it is missing, and the cutoff is raised to what the archives show. `Event::Start` comes next. On a
-    /// lawful chain the node begins, or its opening is cut.
+    /// stored where it is missing and delivery isn't past it, and the cutoff is raised to what the archives show.
+    /// `Event::Start` comes next. On a lawful chain the node begins, or its opening is cut.
+    ///
+    /// Beside the actor it answers the processed height and the cutoff. Stores in memory keep, of what a crash may have
+    /// left, what `luck` picks; stores over a disk keep what the disk has.
+    ///
+    /// The fault of an opening is `StoreFault` where a store failed, `GenesisHeight` where the genesis isn't at height
+    /// zero, `GenesisMismatch` where another block zero is stored, `Unbacked` where neither the processed block nor the
+    /// next one is stored, `Corrupt` where the next block isn't the one that its certificate names, `HeightLimit` where
+    /// the last height is processed or stored, and `Memory`.
     pub fn init(
         alloc: Global,
         ruins: Ruins<V, F, FB, FC, M, H>,

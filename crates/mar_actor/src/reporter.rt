@@ -31,7 +31,7 @@ impl Exact {
 }
 
 /// What the application is told, with digests of the kind `D` and blocks of the kind `B`.
-#[derive(Drop)]
+#[derive(Debug, Drop)]
 pub enum Update<D, B> {
     /// The newest finalized block that is known: the round that finalized it, its height and its digest.
     Tip(Round, Height, D),
@@ -44,6 +44,7 @@ pub trait Reporter<V: Variant> {
     // What it was told, in order, where it tells that.
     ghost told: { Self → Option (List Report) };
 
+    /// Tells the application. An error is want of memory; it ends the life, and the application was told nothing.
     fn report(&mut self, update: Update<V::Digest, V::Block>) -> Result<(), AllocError>
         ensures ok { OnOk result (Hears (told self.old) (report_of V.Digest.bytes V.plain update ∷ []) (told self.new)) }
         ensures err { OnErr result (Hears (told self.old) [] (told self.new)) };

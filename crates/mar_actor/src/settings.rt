@@ -11,16 +11,16 @@ use mar_types::ViewDelta;
 pub struct Limits {
     /// How many blocks may be handed over and not yet acknowledged; at least 1.
     pub max_pending_acks: usize,
-    /// How many messages wait in order; at least 1.
+    /// How many messages wait in order; at least 1. No message waits yet: each is a step of its own.
     pub mailbox_size: usize,
-    /// How many missing heights are asked for at once; at least 1.
+    /// How many missing heights are asked for at once; at least 1. None is asked for by its height yet.
     pub max_repair: usize,
-    /// How many views below the last witnessed round the cache keeps.
+    /// How many views below the last witnessed round the cache keeps. There is no cache yet.
     pub view_retention: ViewDelta,
 }
 
 /// What a chain begins from, with blocks of the kind `B`.
-#[derive(Drop)]
+#[derive(Debug, Drop)]
 pub enum Start<B> {
     /// The block at height zero.
     Genesis(B),
@@ -40,8 +40,12 @@ impl<B> Start<B> {
 /// What an actor is opened with: who gives the schemes of epochs, which heights an epoch has, and the rest.
 #[derive(Drop)]
 pub struct Config<P, E, B> {
+    /// Who gives the scheme of an epoch. Nothing is verified with it yet.
     pub provider: P,
+    /// Which heights an epoch has.
     pub epocher: E,
+    /// What the chain begins from: the same at each opening.
     pub start: Start<B>,
+    /// The sizes.
     pub limits: Limits,
 }
