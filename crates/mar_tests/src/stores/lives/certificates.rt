@@ -2,7 +2,7 @@
 ghost use Rattle.std.specs.Prelude.{◌≤◌, IfOk};
 
 use super::{AtReopening, InLife, KEPT, Life, Nowhere, PRUNED, held, said};
-use crate::tests::stores::archive;
+use crate::stores::archive;
 use mar_block::{StandardBlocks, Variant};
 use mar_cert::{CommitsTo, MockCertificate, MockFinalization, Proposal};
 use mar_codec::{Hasher, Sha256};

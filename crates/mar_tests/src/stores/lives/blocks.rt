@@ -2,7 +2,7 @@
 ghost use Rattle.std.specs.Prelude.{◌≤◌};
 
 use super::{AtReopening, InLife, KEPT, Life, Nowhere, PRUNED, held, said};
-use crate::tests::stores::{Block, BlockArchive, archive, block, recording};
+use crate::stores::{Block, BlockArchive, archive, block, recording};
 use mar_block::{StandardBlocks, Variant};
 use mar_shelf::{Blocks, immutable, prunable};
 use mar_store::{Lost, SyncTicket};

@@ -1,3 +1,0 @@
-//! Calls that cross crates: marshal as a library, and its stores one by one.
-mod library;
-mod stores;
