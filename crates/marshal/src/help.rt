@@ -25,7 +25,7 @@ the lines of a script behind its settings, `config` and eight numbers:
   final HEX           consensus reports a finalization
   ack T               the application acknowledges the block of ticket T
   sync T              a sync finishes
-  fail STORE N        the Nth call of this store from here on fails: blocks, certs, meta or cache
+  fail STORE N        the Nth counted call of this store from here on fails: blocks, certs or meta (cache has none yet)
   crash N             ends the life; of what a crash may leave, the next opening finds what N picks
 
 exit status: 0 the input was read to its end, 1 out of memory, 2 usage, 3 a line is outside the grammar,

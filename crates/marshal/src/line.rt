@@ -205,7 +205,8 @@ fn finalization_of(alloc: Global, members: u32, word: &[u8]) -> Result<MockFinal
 
 // Why bytes that aren't read as a value are refused.
 fn refusal(error: Error) -> ParseError
-    ensures { result ≡ ParseError.Grammar → error ≡ Error.Memory → ⊥ }
+    ensures grammar { result ≡ ParseError.Grammar → error ≡ Error.Memory → ⊥ }
+    ensures memory { result ≡ ParseError.Memory → error ≡ Error.Memory }
 {
     match error {
         Error::Memory => ParseError::Memory,

@@ -1,6 +1,7 @@
 //! Replays a script of events over stores in memory, and writes what the node makes of it.
 #![tactic(auto)]
 
+ghost use Rattle.std.specs.IoError.{error_kind};
 ghost use Rattle.std.specs.Prelude.{◌≡◌, ◌↔◌, map, string_bytes};
 ghost use Rattle.marshal.specs.Run.{empty_stores as nothing_stored, no_faults};
 ghost use Rattle.marshal.specs.Words.{IsCommand};
@@ -20,8 +21,6 @@ mod shown;
 mod sink;
 mod source;
 mod status;
-#[cfg(test)]
-mod tests;
 mod text;
 mod turn;
 mod words;
@@ -39,6 +38,7 @@ use mar_shelf::prunable::Archive;
 use mar_shelf::{BlockItem, Blocks, CertificateItem, Certificates, NoShelf, Shelf};
 use mar_store::{LuckHalf, MemArchive, MemMeta, Meta};
 use std::alloc::Global;
+use std::io::ErrorKind;
 use std::process::ExitCode;
 use std::rt::Env;
 use std::{env, io};
@@ -88,11 +88,22 @@ fn empty_stores(alloc: Global) -> MemoryStores
     }
 }
 
+/// The end of a run whose words can't be told.
+fn untold(error: &io::Error) -> Status
+    ensures memory { error_kind error.now ≡ ErrorKind.OutOfMemory → result ≡ Status.Memory }
+    ensures usage { (error_kind error.now ≡ ErrorKind.OutOfMemory → ⊥) → result ≡ Status.Usage }
+{
+    if error.kind() == ErrorKind::OutOfMemory {
+        Status::Memory
+    } else {
+        Status::Usage
+    }
+}
+
 fn main(rt: HostRuntime) -> ExitCode {
     let status = match words_of(&rt) {
         Ok(words) => run_words(&rt, &words),
-        Err(error) if error.kind() == io::ErrorKind::OutOfMemory => Status::Memory,
-        Err(_) => Status::Usage,
+        Err(error) => untold(&error),
     };
     if status != Status::Ok {
         let _ = eprintln!(rt; "{status}");

@@ -36,6 +36,7 @@ pub fn run<
 ) -> Finished<FB, FC, M, H>
     ensures usage { (map string_bytes words.now ≡ codes "replay" ∷ [] → ⊥) → result.status ≡ Status.Usage }
     ensures not_usage { map string_bytes words.now ≡ codes "replay" ∷ [] → result.status ≡ Status.Usage → ⊥ }
+    ensures untouched { result.status ≡ Status.Usage → (result.stores ≡ stores) × (S.left source.new ≡ S.left source.old) × (S.faults source.new ≡ S.faults source.old) × (K.written sink.new ≡ K.written sink.old) × (K.faults sink.new ≡ K.faults sink.old) }
     ensures to_end { result.status ≡ Status.Ok → IsShownAs (S.left source.new) [] }
     ensures read_fault { result.status ≡ Status.ReadFault → Rose (S.faults source.old) (S.faults source.new) }
     ensures write_fault { result.status ≡ Status.WriteFault → Rose (K.faults sink.old) (K.faults sink.new) }
@@ -115,6 +116,49 @@ node p=b1 o=- c=0.1 w=- b=0-1 bs=0-1 f=1-1 fs=1-1 u=- s=- y=-\n";
         let second = run(&rt, alloc, &words, &mut source, &mut sink, first.stores);
         assert_eq!(rt; second.status, Status::Ok);
         assert_eq!(rt; sink.bytes(), AGAIN_OUTPUT);
+        Ok(())
+    }
+
+    // A life in which block 1 is put and not made durable, and its finalization too.
+    const CUT: &[u8] = b"\
+config 4 10 2 4 5 8 0 100\n\
+open genesis 00000000000000000000000000000000000000000000000000000000000000000000\n\
+buffer 17b0761f87b081d5cf10757ccc89f12be355c70e2e29df288b65b30710dcbcd10100\n\
+fail blocks 2\n\
+final 000100ce32c67642e5135e430855a082568f3b774ee1efc23b9f2d1bc13c3f65ce873a00\n";
+
+    const CUT_AGAIN: &[u8] = b"\
+node end p=- c=0.0 bs=0-0 bm=0-1 fs=- fm=1-1\n\
+block 0 0 17b0761f87b081d5cf10757ccc89f12be355c70e2e29df288b65b30710dcbcd1\n\
+node p=- o=0:0 c=0.0 w=- b=0-0 bs=0-0 f=- fs=- u=- s=- y=-\n";
+
+    #[test]
+    fn the_first_opening_of_a_run_has_no_luck(rt: HostRuntime) -> Result<(), Fail> {
+        let alloc = rt.alloc();
+        let words = vec![in alloc; "replay".to_string(alloc)?]?;
+        let mut source = Bytes::new(CUT, &[]);
+        let mut sink = Written::new(alloc, &[]);
+        let stores = empty_stores(alloc);
+        let first = run(&rt, alloc, &words, &mut source, &mut sink, stores);
+        assert_eq!(rt; first.status, Status::Ok);
+        let mut source = Bytes::new(AGAIN, &[]);
+        let mut sink = Written::new(alloc, &[]);
+        let second = run(&rt, alloc, &words, &mut source, &mut sink, first.stores);
+        assert_eq!(rt; second.status, Status::Ok);
+        assert_eq!(rt; sink.bytes(), CUT_AGAIN);
+        Ok(())
+    }
+
+    #[test]
+    fn other_words_leave_all_as_it_was(rt: HostRuntime) -> Result<(), Fail> {
+        let alloc = rt.alloc();
+        let words = vec![in alloc; "relay".to_string(alloc)?]?;
+        let mut source = Bytes::new(CUT, &[]);
+        let mut sink = Written::new(alloc, &[]);
+        let stores = empty_stores(alloc);
+        let ended = run(&rt, alloc, &words, &mut source, &mut sink, stores);
+        assert_eq!(rt; ended.status, Status::Usage);
+        assert_eq!(rt; sink.bytes().len(), 0);
         Ok(())
     }
 

@@ -205,3 +205,44 @@ pub fn push_ended(text: &mut String, ended: &ShownRuins<'_>) -> Result<(), Alloc
     text.push_str("\n")?;
     Ok(())
 }
+
+#[cfg(test)]
+mod tests {
+    use super::*;
+    use std::test::Fail;
+
+    #[test]
+    fn processed_heights_and_acknowledgements(rt: HostRuntime) -> Result<(), Fail> {
+        let alloc = rt.alloc();
+        let (low, last) = (Height::zero(), Height::new(u64::MAX));
+        let heights = [
+            (None, "-"),
+            (Some(Processed::Block(low)), "b0"),
+            (Some(Processed::Block(last)), "b18446744073709551615"),
+            (Some(Processed::Absent(low)), "a0"),
+            (Some(Processed::Absent(last)), "a18446744073709551615"),
+        ];
+        for (processed, words) in heights {
+            let mut text = String::new(alloc);
+            push_processed(&mut text, processed)?;
+            assert_eq!(rt; text.as_str(), words);
+        }
+        let acks = [
+            (7, low, Mark::Waiting),
+            (8, low, Mark::Given),
+            (u64::MAX, last, Mark::Dropped),
+        ]
+        .map(|(ticket, height, mark)| PendingAck {
+            ticket,
+            height,
+            mark,
+        });
+        let mut text = String::new(alloc);
+        push_ack_list(&mut text, &acks)?;
+        assert_eq!(rt;
+            text.as_str(),
+            "7:0,8:0+,18446744073709551615:18446744073709551615x"
+        );
+        Ok(())
+    }
+}

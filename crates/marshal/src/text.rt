@@ -167,3 +167,38 @@ pub fn push_fault(
         Fault::Memory => text.push_str("fault Memory\n"),
     }
 }
+
+#[cfg(test)]
+mod tests {
+    use super::*;
+    use std::test::Fail;
+
+    #[test]
+    fn each_cutoff_and_remark_has_its_text(rt: HostRuntime) -> Result<(), Fail> {
+        let alloc = rt.alloc();
+        let cutoffs = [
+            (Cutoff::Round(Round::zero()), "0.0"),
+            (Cutoff::Epoch(Round::zero().epoch()), "0.*"),
+        ];
+        for (cutoff, words) in cutoffs {
+            let mut text = String::new(alloc);
+            push_cutoff(&mut text, cutoff)?;
+            assert_eq!(rt; text.as_str(), words);
+        }
+        let remarks = [
+            (RemarkShown::Ignored, "ignored\n"),
+            (RemarkShown::Stopped, "stopped\n"),
+            (RemarkShown::Running, "running\n"),
+        ];
+        for (remark, words) in remarks {
+            let mut text = String::new(alloc);
+            push_remark(&mut text, remark)?;
+            assert_eq!(rt; text.as_str(), words);
+        }
+        let mut text = String::new(alloc);
+        push_hex(alloc, &mut text, b"")?;
+        push_hex(alloc, &mut text, b"\x00\xff")?;
+        assert_eq!(rt; text.as_str(), "-00ff");
+        Ok(())
+    }
+}

@@ -127,7 +127,8 @@ pub fn bytes_of(alloc: Global, word: &[u8]) -> Result<Vec<u8>, ParseError>
 
 // Why bytes that aren't decoded are refused.
 fn refusal(error: FromHexError) -> ParseError
-    ensures { result ≡ ParseError.Grammar → error ≡ FromHexError.OutOfMemory → ⊥ }
+    ensures grammar { result ≡ ParseError.Grammar → error ≡ FromHexError.OutOfMemory → ⊥ }
+    ensures memory { result ≡ ParseError.Memory → error ≡ FromHexError.OutOfMemory }
 {
     match error {
         FromHexError::OutOfMemory => ParseError::Memory,

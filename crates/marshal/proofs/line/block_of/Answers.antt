@@ -19,4 +19,4 @@ returns-in-Ok-decode_cfg-clause-only c = λ b is same.
 
 pub returns-clause-only : goal.returns-clause-only
 returns-clause-only c = λ b is same.
-    withheld _ (λ grammar. refused (SpellsBlock IsDigest) _ b.encoded _ (c.refusal.ensures grammar) c.in-Err-decode_cfg.ensures.err (c.as_slice.ensures.value ∙ c.in-Ok.ensures.only b.encoded (block_is_bytes b is) (block_some_bytes b is) same) (spelled_block b is))
+    withheld _ (λ grammar. refused (SpellsBlock IsDigest) _ b.encoded _ (c.refusal.ensures.grammar grammar) c.in-Err-decode_cfg.ensures.err (c.as_slice.ensures.value ∙ c.in-Ok.ensures.only b.encoded (block_is_bytes b is) (block_some_bytes b is) same) (spelled_block b is))

@@ -19,5 +19,5 @@ returns-in-Ok-decode_cfg-clause-only c = λ f is same.
 
 pub returns-clause-only : goal.returns-clause-only
 returns-clause-only c = λ f is same.
-    withheld _ (λ grammar. refused (SpellsMockFinalization c.args.members) _ (finalization_bytes f) _ (c.refusal.ensures grammar) c.in-Err-decode_cfg.ensures.err
+    withheld _ (λ grammar. refused (SpellsMockFinalization c.args.members) _ (finalization_bytes f) _ (c.refusal.ensures.grammar grammar) c.in-Err-decode_cfg.ensures.err
     (c.as_slice.ensures.value ∙ c.in-Ok.ensures.only (finalization_bytes f) (finalization_is_bytes c.args.members f (omega arith) is) (finalization_some_bytes c.args.members f is) same) (spelled_finalization c.args.members f is))

@@ -7,7 +7,7 @@ use Rattle.marshal.proofs.words.bytes_of.Goals as goal
 pub returns-in-Err-clause-only : goal.returns-in-Err-clause-only
 returns-in-Err-clause-only c = λ bytes are some is.
     let read : decode_of c.args.word.now ≡ Ok bytes = decodes c.args.word.now bytes are some is in
-    withheld _ (λ grammar. elim c.in-Err.ensures.err [ inl memory ↦ c.refusal.ensures grammar memory | inr other ↦ cc (read, other) ])
+    withheld _ (λ grammar. elim c.in-Err.ensures.err [ inl memory ↦ c.refusal.ensures.grammar grammar memory | inr other ↦ cc (read, other) ])
 
 pub returns-then-is_empty-clause-only : goal.returns-then-is_empty-clause-only
 returns-then-is_empty-clause-only c = λ bytes are some is.
