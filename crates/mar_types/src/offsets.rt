@@ -24,7 +24,7 @@ impl<T> Model for Delta<T> {
 }
 
 impl<T> Delta<T> {
-    /// No distance.
+    /// The distance from a value to itself.
     pub const fn zero() -> Self
         ensures { result ≡ 0 }
     {
