@@ -3,7 +3,7 @@ ghost use Rattle.std.specs.Prelude.{◌≡◌, ◌≤◌, [], ◌∷◌, true, i
 ghost use Rattle.mar_store.specs.Changes.{Fails, Finishes, IsReopened, Prunes, Puts, Syncs, left_of};
 ghost use Rattle.mar_store.specs.Kept.{reopened_store};
 ghost use Rattle.mar_store.specs.Entries.{covered_by, kept_of, seen};
-ghost use Rattle.mar_store.specs.Armed.{with_armed, HeedsArmed, ReadsArmed};
+ghost use Rattle.mar_store.specs.Armed.{with_armed, HeedsArmed, ReadsArmed, FaultsIfArmed, ReadFaultsIfArmed};
 ghost use Rattle.mar_store.specs.Lost.{wreck_of, IsCausedBy, IsMissedBy, OnFault};
 ghost use Rattle.mar_store.specs.Named.{is_taken, value_found};
 ghost use Rattle.mar_store.specs.Tickets.{KeepsCovers, KeepsCoversFrom};
@@ -57,25 +57,22 @@ impl<T: Item> MemArchive<T> {
         ensures failed { IfErr result (λ l. Fails (⟦<MemArchiveWreck<T> as ArchiveRuin<T>>⟧.left wreck) [] (⟦<MemArchiveWreck<T> as ArchiveRuin<T>>⟧.left (wreck_of l))) }
         ensures cause { IsCausedBy ⟦<MemArchive<T> as Archive<T>>⟧.faults ⟦<MemArchiveWreck<T> as ArchiveRuin<T>>⟧.faults (⟦<MemArchiveWreck<T> as ArchiveRuin<T>>⟧.faults wreck) result }
         ensures armed { HeedsArmed ⟦<MemArchive<T> as Archive<T>>⟧.due ⟦<MemArchiveWreck<T> as ArchiveRuin<T>>⟧.due true (⟦<MemArchiveWreck<T> as ArchiveRuin<T>>⟧.due wreck) result }
+        ensures fault { FaultsIfArmed (⟦<MemArchiveWreck<T> as ArchiveRuin<T>>⟧.due wreck) result }
         ensures half { MatchResult result (λ s. s.half ≡ wreck.half) (λ l. (wreck_of l).half ≡ wreck.half) }
         ensures still { IfErr result (λ l. OnFault (λ w. w.pile ≡ wreck.pile) l) }
         ensures tickets { MatchResult result (λ s. wreck.pile.accepted ≤ s.entries.pile.accepted) (λ l. wreck.pile.accepted ≤ (wreck_of l).pile.accepted) }
     {
-        let MemArchiveWreck {
-            pile,
-            half,
-            mut alarm,
-        } = wreck;
-        if alarm.rings() {
-            return Err(Lost::Fault(MemArchiveWreck { pile, half, alarm }));
+        let mut wreck = wreck;
+        if wreck.alarm.rings() {
+            return Err(Lost::Fault(wreck));
         }
-        match Entries::open(pile, half.of(luck)) {
+        match Entries::open(wreck.pile, wreck.half.of(luck)) {
             Ok(entries) => Ok(MemArchive {
                 entries,
-                half,
-                alarm,
+                half: wreck.half,
+                alarm: wreck.alarm,
             }),
-            Err(pile) => Err(Lost::Memory(MemArchiveWreck { pile, half, alarm })),
+            Err(pile) => Err(Lost::Memory(MemArchiveWreck { pile, ..wreck })),
         }
     }
 }
@@ -142,6 +139,7 @@ impl<T: Item> Archive<T> for MemArchive<T> {
         ensures covers { KeepsCovers self.old.entries.pile.accepted (covered_by self.old.entries.pile.items.items) (covered_by self.new.entries.pile.items.items) }
         ensures cause { IsMissedBy self.old.alarm.faults self.new.alarm.faults result }
         ensures armed { ReadsArmed true self.old.alarm.due.items self.new.alarm.due.items result }
+        ensures fault { ReadFaultsIfArmed self.old.alarm.due.items result }
         ensures half { self.new.half ≡ self.old.half }
     {
         if self.alarm.rings() {
@@ -163,6 +161,7 @@ impl<T: Item> Archive<T> for MemArchive<T> {
         ensures covers { KeepsCovers self.old.entries.pile.accepted (covered_by self.old.entries.pile.items.items) (covered_by self.new.entries.pile.items.items) }
         ensures cause { IsMissedBy self.old.alarm.faults self.new.alarm.faults result }
         ensures armed { ReadsArmed true self.old.alarm.due.items self.new.alarm.due.items result }
+        ensures fault { ReadFaultsIfArmed self.old.alarm.due.items result }
         ensures half { self.new.half ≡ self.old.half }
     {
         if self.alarm.rings() {
@@ -183,24 +182,20 @@ impl<T: Item> Archive<T> for MemArchive<T> {
         ensures armed { HeedsArmed (λ s. s.alarm.due.items) (λ w. w.alarm.due.items) true self.alarm.due.items result }
         ensures half { MatchResult result (λ s. s.half ≡ self.half) (λ l. (wreck_of l).half ≡ self.half) }
     {
-        let MemArchive {
-            entries,
-            half,
-            mut alarm,
-        } = self;
-        let rings = alarm.rings();
-        match entries.put(index, item) {
-            Err(pile) => Err(Lost::Memory(MemArchiveWreck { pile, half, alarm })),
+        let mut archive = self;
+        let rings = archive.alarm.rings();
+        match archive.entries.put(index, item) {
+            Err(pile) => Err(Lost::Memory(MemArchiveWreck {
+                pile,
+                half: archive.half,
+                alarm: archive.alarm,
+            })),
             Ok(entries) => {
+                let archive = MemArchive { entries, ..archive };
                 if rings {
-                    let pile = entries.into_pile();
-                    return Err(Lost::Fault(MemArchiveWreck { pile, half, alarm }));
+                    return Err(Lost::Fault(archive.wreck()));
                 }
-                Ok(MemArchive {
-                    entries,
-                    half,
-                    alarm,
-                })
+                Ok(archive)
             }
         }
     }
@@ -213,26 +208,22 @@ impl<T: Item> Archive<T> for MemArchive<T> {
         ensures covers { IfOk result (λ s. KeepsCovers self.entries.pile.accepted (covered_by self.entries.pile.items.items) (covered_by s.entries.pile.items.items)) }
         ensures cause { IsCausedBy (λ s. s.alarm.faults) (λ w. w.alarm.faults) self.alarm.faults result }
         ensures armed { HeedsArmed (λ s. s.alarm.due.items) (λ w. w.alarm.due.items) true self.alarm.due.items result }
+        ensures fault { FaultsIfArmed self.alarm.due.items result }
         ensures half { MatchResult result (λ s. s.half ≡ self.half) (λ l. (wreck_of l).half ≡ self.half) }
         ensures still { IfErr result (λ l. OnFault (λ w. w.pile ≡ self.entries.pile) l) }
         ensures sure { IfErr result (λ l. ((wreck_of l).pile.items.items ≡ self.entries.pile.items.items) × ((wreck_of l).pile.synced ≡ self.entries.pile.synced)) }
     {
-        let MemArchive {
-            entries,
-            half,
-            mut alarm,
-        } = self;
-        if alarm.rings() {
-            let pile = entries.into_pile();
-            return Err(Lost::Fault(MemArchiveWreck { pile, half, alarm }));
+        let mut archive = self;
+        if archive.alarm.rings() {
+            return Err(Lost::Fault(archive.wreck()));
         }
-        match entries.sync() {
-            Ok(entries) => Ok(MemArchive {
-                entries,
-                half,
-                alarm,
-            }),
-            Err(pile) => Err(Lost::Memory(MemArchiveWreck { pile, half, alarm })),
+        match archive.entries.sync() {
+            Ok(entries) => Ok(MemArchive { entries, ..archive }),
+            Err(pile) => Err(Lost::Memory(MemArchiveWreck {
+                pile,
+                half: archive.half,
+                alarm: archive.alarm,
+            })),
         }
     }
 
@@ -246,27 +237,16 @@ impl<T: Item> Archive<T> for MemArchive<T> {
         ensures covers { IfOk result (λ s. KeepsCovers self.entries.pile.accepted (covered_by self.entries.pile.items.items) (covered_by s.0.entries.pile.items.items)) }
         ensures cause { IsCausedBy (λ s. s.0.alarm.faults) (λ w. w.alarm.faults) self.alarm.faults result }
         ensures armed { HeedsArmed (λ s. s.0.alarm.due.items) (λ w. w.alarm.due.items) true self.alarm.due.items result }
+        ensures fault { FaultsIfArmed self.alarm.due.items result }
         ensures half { MatchResult result (λ s. s.0.half ≡ self.half) (λ l. (wreck_of l).half ≡ self.half) }
         ensures still { IfErr result (λ l. OnFault (λ w. w.pile ≡ self.entries.pile) l) }
     {
-        let MemArchive {
-            entries,
-            half,
-            mut alarm,
-        } = self;
-        if alarm.rings() {
-            let pile = entries.into_pile();
-            return Err(Lost::Fault(MemArchiveWreck { pile, half, alarm }));
+        let mut archive = self;
+        if archive.alarm.rings() {
+            return Err(Lost::Fault(archive.wreck()));
         }
-        let ticket = entries.pile.ticket();
-        Ok((
-            MemArchive {
-                entries,
-                half,
-                alarm,
-            },
-            ticket,
-        ))
+        let ticket = archive.entries.pile.ticket();
+        Ok((archive, ticket))
     }
 
     fn finish(self, ticket: SyncTicket) -> Result<Self, Lost<MemArchiveWreck<T>>>
@@ -278,26 +258,22 @@ impl<T: Item> Archive<T> for MemArchive<T> {
         ensures covers { IfOk result (λ s. KeepsCovers self.entries.pile.accepted (covered_by self.entries.pile.items.items) (covered_by s.entries.pile.items.items)) }
         ensures cause { IsCausedBy (λ s. s.alarm.faults) (λ w. w.alarm.faults) self.alarm.faults result }
         ensures armed { HeedsArmed (λ s. s.alarm.due.items) (λ w. w.alarm.due.items) true self.alarm.due.items result }
+        ensures fault { FaultsIfArmed self.alarm.due.items result }
         ensures half { MatchResult result (λ s. s.half ≡ self.half) (λ l. (wreck_of l).half ≡ self.half) }
         ensures still { IfErr result (λ l. OnFault (λ w. w.pile ≡ self.entries.pile) l) }
         ensures sure { IfErr result (λ l. ((wreck_of l).pile.items.items ≡ self.entries.pile.items.items) × ((wreck_of l).pile.synced ≡ self.entries.pile.synced)) }
     {
-        let MemArchive {
-            entries,
-            half,
-            mut alarm,
-        } = self;
-        if alarm.rings() {
-            let pile = entries.into_pile();
-            return Err(Lost::Fault(MemArchiveWreck { pile, half, alarm }));
+        let mut archive = self;
+        if archive.alarm.rings() {
+            return Err(Lost::Fault(archive.wreck()));
         }
-        match entries.finish(ticket.number()) {
-            Ok(entries) => Ok(MemArchive {
-                entries,
-                half,
-                alarm,
-            }),
-            Err(pile) => Err(Lost::Memory(MemArchiveWreck { pile, half, alarm })),
+        match archive.entries.finish(ticket.number()) {
+            Ok(entries) => Ok(MemArchive { entries, ..archive }),
+            Err(pile) => Err(Lost::Memory(MemArchiveWreck {
+                pile,
+                half: archive.half,
+                alarm: archive.alarm,
+            })),
         }
     }
 
@@ -309,27 +285,23 @@ impl<T: Item> Archive<T> for MemArchive<T> {
         ensures covers { IfOk result (λ s. KeepsCoversFrom min self.entries.pile.accepted (covered_by self.entries.pile.items.items) (covered_by s.entries.pile.items.items)) }
         ensures cause { IsCausedBy (λ s. s.alarm.faults) (λ w. w.alarm.faults) self.alarm.faults result }
         ensures armed { HeedsArmed (λ s. s.alarm.due.items) (λ w. w.alarm.due.items) true self.alarm.due.items result }
+        ensures fault { FaultsIfArmed self.alarm.due.items result }
         ensures half { MatchResult result (λ s. s.half ≡ self.half) (λ l. (wreck_of l).half ≡ self.half) }
         ensures cut { IfOk result (λ s. s.entries.pile.items.items ≡ filter (λ e. nat_le min e.index) self.entries.pile.items.items) }
         ensures synced { IfOk result (λ s. s.entries.pile.synced ≡ length (filter (λ e. nat_le min e.index) (take self.entries.pile.synced self.entries.pile.items.items))) }
         ensures still { IfErr result (λ l. (wreck_of l).pile ≡ self.entries.pile) }
     {
-        let MemArchive {
-            entries,
-            half,
-            mut alarm,
-        } = self;
-        if alarm.rings() {
-            let pile = entries.into_pile();
-            return Err(Lost::Fault(MemArchiveWreck { pile, half, alarm }));
+        let mut archive = self;
+        if archive.alarm.rings() {
+            return Err(Lost::Fault(archive.wreck()));
         }
-        match entries.prune(min) {
-            Ok(entries) => Ok(MemArchive {
-                entries,
-                half,
-                alarm,
-            }),
-            Err(pile) => Err(Lost::Memory(MemArchiveWreck { pile, half, alarm })),
+        match archive.entries.prune(min) {
+            Ok(entries) => Ok(MemArchive { entries, ..archive }),
+            Err(pile) => Err(Lost::Memory(MemArchiveWreck {
+                pile,
+                half: archive.half,
+                alarm: archive.alarm,
+            })),
         }
     }
 
@@ -340,15 +312,10 @@ impl<T: Item> Archive<T> for MemArchive<T> {
         ensures pile { result.pile ≡ self.entries.pile }
         ensures half { result.half ≡ self.half }
     {
-        let MemArchive {
-            entries,
-            half,
-            alarm,
-        } = self;
         MemArchiveWreck {
-            pile: entries.into_pile(),
-            half,
-            alarm,
+            pile: self.entries.into_pile(),
+            half: self.half,
+            alarm: self.alarm,
         }
     }
 
@@ -358,6 +325,7 @@ impl<T: Item> Archive<T> for MemArchive<T> {
             (λ l. Fails (left_of (kept_of wreck.pile.items.items wreck.pile.synced)) [] (left_of (kept_of (wreck_of l).pile.items.items (wreck_of l).pile.synced))) }
         ensures cause { IsCausedBy (λ s. s.alarm.faults) (λ w. w.alarm.faults) wreck.alarm.faults result }
         ensures armed { HeedsArmed (λ s. s.alarm.due.items) (λ w. w.alarm.due.items) true wreck.alarm.due.items result }
+        ensures fault { FaultsIfArmed wreck.alarm.due.items result }
         ensures found { IfOk result (λ s. kept_of s.entries.pile.items.items s.entries.pile.synced ≡ reopened_store (lucky_found (half_of wreck.half luck) (left_of (kept_of wreck.pile.items.items wreck.pile.synced)))) }
         ensures tickets { MatchResult result (λ s. wreck.pile.accepted ≤ s.entries.pile.accepted) (λ l. wreck.pile.accepted ≤ (wreck_of l).pile.accepted) }
         ensures still { IfErr result (λ l. OnFault (λ w. w.pile ≡ wreck.pile) l) }

@@ -84,34 +84,15 @@ impl<T: EmptyStore> Depot<T> for MemDepot<T> {
         ensures armed { HeedsArmed (λ s. s.0.alarm.due.items) (λ w. w.alarm.due.items) true self.alarm.due.items result }
         ensures fault { FaultsIfArmed self.alarm.due.items result }
     {
-        let MemDepot {
-            mut contents,
-            mut alarm,
-            alloc,
-        } = self;
-        if alarm.rings() {
-            return Err(Lost::Fault(MemDepotWreck {
-                contents,
-                alarm,
-                alloc,
-            }));
+        let mut depot = self;
+        if depot.alarm.rings() {
+            return Err(Lost::Fault(depot.wreck()));
         }
-        match contents.insert(name, T::empty(alloc)) {
-            Err(_) => Err(Lost::Memory(MemDepotWreck {
-                contents,
-                alarm,
-                alloc,
-            })),
+        match depot.contents.insert(name, T::empty(depot.alloc)) {
+            Err(_) => Err(Lost::Memory(depot.wreck())),
             Ok(stood) => {
-                let given = content_or_empty(alloc, stood);
-                Ok((
-                    MemDepot {
-                        contents,
-                        alarm,
-                        alloc,
-                    },
-                    given,
-                ))
+                let given = content_or_empty(depot.alloc, stood);
+                Ok((depot, given))
             }
         }
     }
@@ -147,27 +128,20 @@ impl<T: EmptyStore> Depot<T> for MemDepot<T> {
         ensures armed { HeedsArmed (λ s. s.alarm.due.items) (λ w. w.alarm.due.items) true self.alarm.due.items result }
         ensures fault { FaultsIfArmed self.alarm.due.items result }
     {
-        let MemDepot {
-            mut contents,
-            mut alarm,
-            alloc,
-        } = self;
-        if alarm.rings() {
-            return Err(Lost::Fault(MemDepotWreck {
-                contents,
-                alarm,
-                alloc,
-            }));
+        let mut depot = self;
+        if depot.alarm.rings() {
+            return Err(Lost::Fault(depot.wreck()));
         }
-        let _ = contents.remove(&name);
-        Ok(MemDepot {
-            contents,
-            alarm,
-            alloc,
-        })
+        let _ = depot.contents.remove(&name);
+        Ok(depot)
     }
 
-    fn wreck(self) -> MemDepotWreck<T> {
+    fn wreck(self) -> MemDepotWreck<T>
+        ensures left { names_of result.contents ∷ [] ≡ names_of self.contents ∷ [] }
+        ensures count { result.alarm.faults ≡ self.alarm.faults }
+        ensures due { result.alarm.due.items ≡ self.alarm.due.items }
+        ensures contents { result.contents ≡ self.contents }
+    {
         MemDepotWreck {
             contents: self.contents,
             alarm: self.alarm,

@@ -1,7 +1,7 @@
 //! A metadata store in memory.
-ghost use Rattle.std.specs.Prelude.{◌≡◌, None, true, [], ◌∷◌, Contains, IfOk, IfErr, MatchResult};
+ghost use Rattle.std.specs.Prelude.{◌≡◌, None, Some, true, [], ◌∷◌, Contains, IfOk, IfErr, MatchResult};
 ghost use Rattle.mar_store.specs.Values.{LeavesValues, no_values};
-ghost use Rattle.mar_store.specs.Armed.{HeedsArmed};
+ghost use Rattle.mar_store.specs.Armed.{HeedsArmed, FaultsIfArmed};
 ghost use Rattle.mar_store.specs.Lost.{wreck_of, IsCausedBy};
 ghost use Rattle.mar_store.specs.Luck.{lucky_values};
 ghost use Rattle.mar_store.specs.MemMeta.{values_of, left_with, some_left};
@@ -50,6 +50,7 @@ impl MemMeta {
         ensures still { IfErr result (λ l. ⟦<MemMetaWreck as MetaRuin>⟧.left (wreck_of l) ≡ ⟦<MemMetaWreck as MetaRuin>⟧.left wreck) }
         ensures cause { IsCausedBy ⟦<MemMeta as Meta>⟧.faults ⟦<MemMetaWreck as MetaRuin>⟧.faults (⟦<MemMetaWreck as MetaRuin>⟧.faults wreck) result }
         ensures armed { HeedsArmed ⟦<MemMeta as Meta>⟧.due ⟦<MemMetaWreck as MetaRuin>⟧.due true (⟦<MemMetaWreck as MetaRuin>⟧.due wreck) result }
+        ensures fault { FaultsIfArmed (⟦<MemMetaWreck as MetaRuin>⟧.due wreck) result }
     {
         let mut wreck = wreck;
         if wreck.alarm.rings() {
@@ -62,6 +63,19 @@ impl MemMeta {
                 alarm: wreck.alarm,
             }),
             Err(_) => Err(Lost::Memory(wreck)),
+        }
+    }
+
+    // What a sync that failed leaves: the synced values, and after them those that it was to write.
+    fn unsynced(self) -> MemMetaWreck
+        ensures synced { result.synced ≡ self.synced }
+        ensures failed { result.failed ≡ Some self.values }
+        ensures alarm { result.alarm ≡ self.alarm }
+    {
+        MemMetaWreck {
+            synced: self.synced,
+            failed: Some(self.values),
+            alarm: self.alarm,
         }
     }
 }
@@ -123,37 +137,17 @@ impl Meta for MemMeta {
     }
 
     fn put(self, key: u64, value: u64) -> Result<Self, Lost<MemMetaWreck>> {
-        let MemMeta {
-            mut values,
-            synced,
-            alarm,
-        } = self;
-        if values.insert(key, value).is_err() {
-            return Err(Lost::Memory(MemMetaWreck {
-                synced,
-                failed: None,
-                alarm,
-            }));
+        let mut store = self;
+        match store.values.insert(key, value) {
+            Ok(_) => Ok(store),
+            Err(_) => Err(Lost::Memory(store.wreck())),
         }
-        Ok(MemMeta {
-            values,
-            synced,
-            alarm,
-        })
     }
 
     fn remove(self, key: u64) -> Result<Self, Lost<MemMetaWreck>> {
-        let MemMeta {
-            mut values,
-            synced,
-            alarm,
-        } = self;
-        let _ = values.remove(&key);
-        Ok(MemMeta {
-            values,
-            synced,
-            alarm,
-        })
+        let mut store = self;
+        let _ = store.values.remove(&key);
+        Ok(store)
     }
 
     fn sync(self) -> Result<Self, Lost<MemMetaWreck>>
@@ -163,31 +157,16 @@ impl Meta for MemMeta {
         ensures same { IfOk result (λ s. values_of s.values ≡ values_of self.values) }
         ensures cause { IsCausedBy (λ s. s.alarm.faults) (λ w. w.alarm.faults) self.alarm.faults result }
         ensures armed { HeedsArmed (λ s. s.alarm.due.items) (λ w. w.alarm.due.items) true self.alarm.due.items result }
+        ensures fault { FaultsIfArmed self.alarm.due.items result }
         ensures kept { IfErr result (λ l. left_with (wreck_of l).synced (wreck_of l).failed ≡ values_of self.synced ∷ values_of self.values ∷ []) }
     {
-        let MemMeta {
-            values,
-            synced,
-            mut alarm,
-        } = self;
-        if alarm.rings() {
-            return Err(Lost::Fault(MemMetaWreck {
-                synced,
-                failed: Some(values),
-                alarm,
-            }));
+        let mut store = self;
+        if store.alarm.rings() {
+            return Err(Lost::Fault(store.unsynced()));
         }
-        match values.clone() {
-            Ok(copy) => Ok(MemMeta {
-                values,
-                synced: copy,
-                alarm,
-            }),
-            Err(_) => Err(Lost::Memory(MemMetaWreck {
-                synced,
-                failed: Some(values),
-                alarm,
-            })),
+        match store.values.clone() {
+            Ok(synced) => Ok(MemMeta { synced, ..store }),
+            Err(_) => Err(Lost::Memory(store.unsynced())),
         }
     }
 
@@ -206,6 +185,7 @@ impl Meta for MemMeta {
         ensures synced { IfOk result (λ s. values_of s.synced ∷ [] ≡ values_of s.values ∷ []) }
         ensures cause { IsCausedBy (λ s. s.alarm.faults) (λ w. w.alarm.faults) wreck.alarm.faults result }
         ensures armed { HeedsArmed (λ s. s.alarm.due.items) (λ w. w.alarm.due.items) true wreck.alarm.due.items result }
+        ensures fault { FaultsIfArmed wreck.alarm.due.items result }
         ensures found { IfOk result (λ s. values_of s.values ≡ lucky_values luck (left_with wreck.synced wreck.failed)) }
         ensures still { IfErr result (λ l. left_with (wreck_of l).synced (wreck_of l).failed ≡ left_with wreck.synced wreck.failed) }
     {

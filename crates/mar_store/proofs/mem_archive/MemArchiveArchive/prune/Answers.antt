@@ -4,7 +4,7 @@ use Rattle.mar_store.proofs.Stores.{prunes, covers_pruned}
 use Rattle.mar_store.proofs.mem_archive.MemArchiveArchive.prune.Goals as goal
 
 pub returns-then-rings-clause-done : goal.returns-then-rings-clause-done
-returns-then-rings-clause-done g c = fails_same c.args.self.entries.pile.items.items _ c.args.self.entries.pile.synced _ (ap (λ p. p.items.items) c.into_pile-pile.ensures) (ap (λ p. p.synced) c.into_pile-pile.ensures)
+returns-then-rings-clause-done g c = fails_same c.args.self.entries.pile.items.items _ c.args.self.entries.pile.synced _ (ap (λ p. p.items.items) c.wreck.ensures.pile) (ap (λ p. p.synced) c.wreck.ensures.pile)
 
 pub returns-in-Ok-clause-done : goal.returns-in-Ok-clause-done
 returns-in-Ok-clause-done g c = prunes c.args.min c.args.self.entries.pile.items.items _ c.args.self.entries.pile.synced _ c.args.self.entries.pile.once c.in-Ok.ensures.items c.in-Ok.ensures.synced
