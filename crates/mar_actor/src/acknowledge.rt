@@ -143,9 +143,8 @@ impl<
         if resolver.retain(Retain::AboveHeight(height)).is_err() {
             return Err(self.run_out());
         }
-        let Actor { stores, life } = self;
-        let stores = stores.set_processed(height)?;
-        Ok(Actor { stores, life })
+        let stores = self.stores.set_processed(height)?;
+        Ok(Actor { stores, ..self })
     }
 
     /// The round that finalized the block at a height, where its certificate is held.
@@ -158,9 +157,8 @@ impl<
         ensures goes_on { GoesOn (λ r. r.0.held) self.held [] [] result }
         ensures usual { IfErr result (λ e. IsUsual e.fault) }
     {
-        let Actor { stores, life } = self;
-        let (stores, round) = stores.round_at(height)?;
-        Ok((Actor { stores, life }, round))
+        let (stores, round) = self.stores.round_at(height)?;
+        Ok((Actor { stores, ..self }, round))
     }
 
     /// Takes note of a finalized round, if there is one.
@@ -252,9 +250,8 @@ impl<
         if resolver.retain(Retain::AboveRound(*cutoff)).is_err() {
             return Err(self.run_out());
         }
-        let Actor { stores, life } = self;
-        let stores = stores.set_cutoff(cutoff)?;
-        Ok(Actor { stores, life })
+        let stores = self.stores.set_cutoff(cutoff)?;
+        Ok(Actor { stores, ..self })
     }
 
     pub(crate) fn sync_metadata(self) -> Result<Self, Ended<V, F, FB, FC, M, H>>
@@ -263,8 +260,7 @@ impl<
         ensures lost { IfErr result (Loses self.held [] [] (pair_of self.held.processed self.held.cutoff ∷ [])) }
         ensures usual { IfErr result (λ e. IsUsual e.fault) }
     {
-        let Actor { stores, life } = self;
-        let stores = stores.sync_metadata()?;
-        Ok(Actor { stores, life })
+        let stores = self.stores.sync_metadata()?;
+        Ok(Actor { stores, ..self })
     }
 }

@@ -89,9 +89,8 @@ impl<
         ensures goes_on { GoesOn (λ r. r.0.held) self.held [] [] result }
         ensures usual { IfErr result (λ e. IsUsual e.fault) }
     {
-        let Actor { stores, life } = self;
-        let (stores, block) = stores.block_at(height)?;
-        Ok((Actor { stores, life }, block))
+        let (stores, block) = self.stores.block_at(height)?;
+        Ok((Actor { stores, ..self }, block))
     }
 
     /// Hands over a block under a new ticket.

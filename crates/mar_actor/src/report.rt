@@ -96,10 +96,9 @@ impl<
         ensures goes_on { GoesOn (λ r. r.0.held) self.held [] [] result }
         ensures usual { IfErr result (λ e. IsUsual e.fault) }
     {
-        let Actor { stores, life } = self;
-        let (stores, block) = stores.block_of(&V::commitment_to_inner(commitment))?;
+        let (stores, block) = self.stores.block_of(&V::commitment_to_inner(commitment))?;
         Ok((
-            Actor { stores, life },
+            Actor { stores, ..self },
             of_commitment::<V>(block, commitment),
         ))
     }
@@ -172,10 +171,9 @@ impl<
         ensures goes_on { GoesOn (λ a. a.held) self.held (at_own_height (V.plain block.now) ∷ []) (at_height (V.plain block.now).height (F.plain finalization.now) ∷ []) result }
         ensures usual { IfErr result (λ e. IsUsual e.fault) }
     {
-        let Actor { stores, life } = self;
-        let stores = stores.put_block(block)?;
+        let stores = self.stores.put_block(block)?;
         let stores = stores.put_certificate(V::height(block), finalization)?;
-        Ok(Actor { stores, life })
+        Ok(Actor { stores, ..self })
     }
 
     /// Reports a finalized block as the tip where it is above the last one reported.
@@ -323,10 +321,9 @@ impl<
         ensures goes_on { GoesOn (λ a. a.held) self.held [] (at_height height (F.plain finalization.now) ∷ []) result }
         ensures usual { IfErr result (λ e. IsUsual e.fault) }
     {
-        let Actor { stores, life } = self;
-        let stores = stores.put_certificate(height, finalization)?;
+        let stores = self.stores.put_certificate(height, finalization)?;
         let stores = stores.sync_certificates()?;
-        Ok(Actor { stores, life })
+        Ok(Actor { stores, ..self })
     }
 }
 

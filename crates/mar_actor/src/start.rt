@@ -72,8 +72,7 @@ impl<
         ensures goes_on { GoesOn (λ r. r.0.held) self.held [] [] result }
         ensures usual { IfErr result (λ e. IsUsual e.fault) }
     {
-        let Actor { stores, life } = self;
-        let (stores, found) = stores.newest_certificate()?;
-        Ok((Actor { stores, life }, found))
+        let (stores, found) = self.stores.newest_certificate()?;
+        Ok((Actor { stores, ..self }, found))
     }
 }

@@ -142,8 +142,7 @@ impl<M: Meta, C: Digest, F: CommitsTo<C>> Progress<M, C, F> {
         ensures left { map pair_at (M.Wreck.left result) ≡ self.pairs }
         ensures count { M.Wreck.faults result ≡ self.faults }
     {
-        let Progress { stream, floor: _ } = self;
-        stream.wreck()
+        self.stream.wreck()
     }
 
     /// The block at this height is processed.
@@ -153,14 +152,10 @@ impl<M: Meta, C: Digest, F: CommitsTo<C>> Progress<M, C, F> {
             (λ l. LeavesPairs self.pairs [] (map pair_at (M.Wreck.left (wreck_of l)))) }
         ensures cause { IsCausedBy (λ p. p.faults) M.Wreck.faults self.faults result }
     {
-        let Progress { stream, mut floor } = self;
-        match stream.acknowledge(height) {
-            Ok(stream) => {
-                floor.set_processed(Processed::Block(height));
-                Ok(Progress { stream, floor })
-            }
-            Err(lost) => Err(lost),
-        }
+        let stream = self.stream.acknowledge(height)?;
+        let mut floor = self.floor;
+        floor.set_processed(Processed::Block(height));
+        Ok(Progress { stream, floor })
     }
 
     /// The cutoff is this one now.
@@ -170,14 +165,10 @@ impl<M: Meta, C: Digest, F: CommitsTo<C>> Progress<M, C, F> {
             (λ l. LeavesPairs self.pairs [] (map pair_at (M.Wreck.left (wreck_of l)))) }
         ensures cause { IsCausedBy (λ p. p.faults) M.Wreck.faults self.faults result }
     {
-        let Progress { stream, mut floor } = self;
-        match stream.set_cutoff(*cutoff) {
-            Ok(stream) => {
-                floor.set_cutoff(*cutoff);
-                Ok(Progress { stream, floor })
-            }
-            Err(lost) => Err(lost),
-        }
+        let stream = self.stream.set_cutoff(*cutoff)?;
+        let mut floor = self.floor;
+        floor.set_cutoff(*cutoff);
+        Ok(Progress { stream, floor })
     }
 
     /// Makes both durable together.
@@ -187,10 +178,7 @@ impl<M: Meta, C: Digest, F: CommitsTo<C>> Progress<M, C, F> {
             (λ l. LeavesPairs self.pairs (pair_of self.processed self.cutoff ∷ []) (map pair_at (M.Wreck.left (wreck_of l)))) }
         ensures cause { IsCausedBy (λ p. p.faults) M.Wreck.faults self.faults result }
     {
-        let Progress { stream, floor } = self;
-        match stream.sync() {
-            Ok(stream) => Ok(Progress { stream, floor }),
-            Err(lost) => Err(lost),
-        }
+        let stream = self.stream.sync()?;
+        Ok(Progress { stream, ..self })
     }
 }

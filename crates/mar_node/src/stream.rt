@@ -57,8 +57,7 @@ impl<M: Meta> Stream<M> {
         ensures count { M.Wreck.faults result ≡ self.faults }
         ensures due { M.Wreck.due result ≡ self.due }
     {
-        let Stream { meta, synced: _ } = self;
-        meta.wreck()
+        self.meta.wreck()
     }
 
     /// Makes the counted call of the store fail that is so many calls away, 1 being the next. Counted are a sync that
@@ -118,8 +117,7 @@ impl<M: Meta> Stream<M> {
         ensures cause { IsCausedBy (λ s. s.faults) M.Wreck.faults self.faults result }
         ensures due { MatchResult result (λ s. s.due ≡ self.due) (λ l. M.Wreck.due (wreck_of l) ≡ self.due) }
     {
-        let Stream { meta, synced: _ } = self;
-        match meta.put(LATEST_KEY, height.get()) {
+        match self.meta.put(LATEST_KEY, height.get()) {
             Ok(meta) => Ok(Stream {
                 meta,
                 synced: false,
@@ -136,8 +134,7 @@ impl<M: Meta> Stream<M> {
         ensures cause { IsCausedBy (λ s. s.faults) M.Wreck.faults self.faults result }
         ensures due { MatchResult result (λ s. s.due ≡ self.due) (λ l. M.Wreck.due (wreck_of l) ≡ self.due) }
     {
-        let Stream { meta, synced: _ } = self;
-        match put_cutoff(meta, cutoff) {
+        match put_cutoff(self.meta, cutoff) {
             Ok(meta) => Ok(Stream {
                 meta,
                 synced: false,
@@ -155,11 +152,10 @@ impl<M: Meta> Stream<M> {
         ensures idle { IsTrue self.synced → result ≡ Ok self }
         ensures armed { self.synced ≡ false → HeedsArmed (λ s. s.due) M.Wreck.due M.only_armed self.due result }
     {
-        let Stream { meta, synced } = self;
-        if synced {
-            return Ok(Stream { meta, synced });
+        if self.synced {
+            return Ok(self);
         }
-        match meta.sync() {
+        match self.meta.sync() {
             Ok(meta) => Ok(Stream { meta, synced: true }),
             Err(lost) => Err(lost),
         }

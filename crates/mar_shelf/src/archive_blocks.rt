@@ -73,50 +73,43 @@ impl<V: ArchivedBlocks, A: Archive<BlockItem<V>>, P: Pruning> Blocks<V> for Arch
         _digest: &V::Digest,
         block: &V::Block,
     ) -> Result<Self, Lost<Wreck<BlockItem<V>, A::Wreck>>> {
-        let Archived { archive, of: _ } = self;
         if !V::fits(block) {
-            return Err(Lost::Memory(Wreck::new(archive.wreck())));
+            return Err(Lost::Memory(Wreck::new(self.archive.wreck())));
         }
         match BlockItem::of(block) {
-            Ok(item) => wrapped(archive.put(V::height(block).get(), item)),
-            Err(_) => Err(Lost::Memory(Wreck::new(archive.wreck()))),
+            Ok(item) => wrapped(self.archive.put(V::height(block).get(), item)),
+            Err(_) => Err(Lost::Memory(Wreck::new(self.archive.wreck()))),
         }
     }
 
     fn sync(self) -> Result<Self, Lost<Wreck<BlockItem<V>, A::Wreck>>> {
-        let Archived { archive, of: _ } = self;
-        wrapped(archive.sync())
+        wrapped(self.archive.sync())
     }
 
     fn start_sync(self) -> Result<(Self, SyncTicket), Lost<Wreck<BlockItem<V>, A::Wreck>>> {
-        let Archived { archive, of: _ } = self;
-        wrapped_with_ticket(archive.start_sync())
+        wrapped_with_ticket(self.archive.start_sync())
     }
 
     fn finish(self, ticket: SyncTicket) -> Result<Self, Lost<Wreck<BlockItem<V>, A::Wreck>>> {
-        let Archived { archive, of: _ } = self;
-        wrapped(archive.finish(ticket))
+        wrapped(self.archive.finish(ticket))
     }
 
     fn prune(self, min: Height) -> Result<Self, Lost<Wreck<BlockItem<V>, A::Wreck>>> {
         if !P::PRUNES {
             return Ok(self);
         }
-        let Archived { archive, of: _ } = self;
-        wrapped(archive.prune(min.get()))
+        wrapped(self.archive.prune(min.get()))
     }
 
     fn wreck(self) -> Wreck<BlockItem<V>, A::Wreck> {
-        let Archived { archive, of: _ } = self;
-        Wreck::new(archive.wreck())
+        Wreck::new(self.archive.wreck())
     }
 
     fn reopen(
         wreck: Wreck<BlockItem<V>, A::Wreck>,
         luck: u64,
     ) -> Result<Self, Lost<Wreck<BlockItem<V>, A::Wreck>>> {
-        let Wreck { ruin, of: _ } = wreck;
-        wrapped(A::reopen(ruin, luck))
+        wrapped(A::reopen(wreck.ruin, luck))
     }
 
     fn arm(&mut self, calls: u64) -> Result<(), AllocError> {

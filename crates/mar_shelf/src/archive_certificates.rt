@@ -81,55 +81,48 @@ impl<
         _digest: &V::Digest,
         finalization: &F,
     ) -> Result<Self, Lost<Wreck<CertificateItem<V, F>, A::Wreck>>> {
-        let Archived { archive, of: _ } = self;
         if !finalization.fits() {
-            return Err(Lost::Memory(Wreck::new(archive.wreck())));
+            return Err(Lost::Memory(Wreck::new(self.archive.wreck())));
         }
         match CertificateItem::of(finalization) {
-            Ok(item) => wrapped(archive.put(height.get(), item)),
-            Err(_) => Err(Lost::Memory(Wreck::new(archive.wreck()))),
+            Ok(item) => wrapped(self.archive.put(height.get(), item)),
+            Err(_) => Err(Lost::Memory(Wreck::new(self.archive.wreck()))),
         }
     }
 
     fn sync(self) -> Result<Self, Lost<Wreck<CertificateItem<V, F>, A::Wreck>>> {
-        let Archived { archive, of: _ } = self;
-        wrapped(archive.sync())
+        wrapped(self.archive.sync())
     }
 
     fn start_sync(
         self,
     ) -> Result<(Self, SyncTicket), Lost<Wreck<CertificateItem<V, F>, A::Wreck>>> {
-        let Archived { archive, of: _ } = self;
-        wrapped_with_ticket(archive.start_sync())
+        wrapped_with_ticket(self.archive.start_sync())
     }
 
     fn finish(
         self,
         ticket: SyncTicket,
     ) -> Result<Self, Lost<Wreck<CertificateItem<V, F>, A::Wreck>>> {
-        let Archived { archive, of: _ } = self;
-        wrapped(archive.finish(ticket))
+        wrapped(self.archive.finish(ticket))
     }
 
     fn prune(self, min: Height) -> Result<Self, Lost<Wreck<CertificateItem<V, F>, A::Wreck>>> {
         if !P::PRUNES {
             return Ok(self);
         }
-        let Archived { archive, of: _ } = self;
-        wrapped(archive.prune(min.get()))
+        wrapped(self.archive.prune(min.get()))
     }
 
     fn wreck(self) -> Wreck<CertificateItem<V, F>, A::Wreck> {
-        let Archived { archive, of: _ } = self;
-        Wreck::new(archive.wreck())
+        Wreck::new(self.archive.wreck())
     }
 
     fn reopen(
         wreck: Wreck<CertificateItem<V, F>, A::Wreck>,
         luck: u64,
     ) -> Result<Self, Lost<Wreck<CertificateItem<V, F>, A::Wreck>>> {
-        let Wreck { ruin, of: _ } = wreck;
-        wrapped(A::reopen(ruin, luck))
+        wrapped(A::reopen(wreck.ruin, luck))
     }
 
     fn arm(&mut self, calls: u64) -> Result<(), AllocError> {

@@ -163,18 +163,11 @@ impl<
     pub fn wreck(self) -> Ruins<V, F, FB, FC, M, H>
         ensures { result ≡ remains_of self }
     {
-        let Stores {
-            blocks,
-            certs,
-            progress,
-            shelf,
-            of: _,
-        } = self;
         Ruins {
-            blocks: blocks.wreck(),
-            certs: certs.wreck(),
-            meta: progress.wreck(),
-            shelf: shelf.wreck(),
+            blocks: self.blocks.wreck(),
+            certs: self.certs.wreck(),
+            meta: self.progress.wreck(),
+            shelf: self.shelf.wreck(),
         }
     }
 
@@ -279,24 +272,11 @@ impl<
         ensures goes_on { GoesOn (λ s. s) self (at_own_height (V.plain block.now) ∷ []) [] result }
         ensures usual { IfErr result (λ e. IsUsual e.fault) }
     {
-        let Stores {
-            blocks,
-            certs,
-            progress,
-            shelf,
-            of,
-        } = self;
-        match blocks.put(&V::digest(block), block) {
-            Ok(blocks) => Ok(Stores {
-                blocks,
-                certs,
-                progress,
-                shelf,
-                of,
-            }),
+        match self.blocks.put(&V::digest(block), block) {
+            Ok(blocks) => Ok(Stores { blocks, ..self }),
             Err(lost) => {
-                let meta = progress.wreck();
-                Err(Ended::of_blocks(lost, certs.wreck(), meta, shelf.wreck()))
+                let meta = self.progress.wreck();
+                Err(Ended::of_blocks(lost, self.certs.wreck(), meta, self.shelf.wreck()))
             }
         }
     }
@@ -308,24 +288,11 @@ impl<
         ensures goes_on { GoesOn (λ s. s) self [] [] result }
         ensures usual { IfErr result (λ e. IsUsual e.fault) }
     {
-        let Stores {
-            blocks,
-            certs,
-            progress,
-            shelf,
-            of,
-        } = self;
-        match blocks.sync() {
-            Ok(blocks) => Ok(Stores {
-                blocks,
-                certs,
-                progress,
-                shelf,
-                of,
-            }),
+        match self.blocks.sync() {
+            Ok(blocks) => Ok(Stores { blocks, ..self }),
             Err(lost) => {
-                let meta = progress.wreck();
-                Err(Ended::of_blocks(lost, certs.wreck(), meta, shelf.wreck()))
+                let meta = self.progress.wreck();
+                Err(Ended::of_blocks(lost, self.certs.wreck(), meta, self.shelf.wreck()))
             }
         }
     }
@@ -341,28 +308,15 @@ impl<
         ensures goes_on { GoesOn (λ s. s) self [] (record { height = height; value = F.plain finalization.now } ∷ []) result }
         ensures usual { IfErr result (λ e. IsUsual e.fault) }
     {
-        let Stores {
-            blocks,
-            certs,
-            progress,
-            shelf,
-            of,
-        } = self;
-        match certs.put(
+        match self.certs.put(
             height,
             &V::commitment_to_inner(finalization.payload()),
             finalization,
         ) {
-            Ok(certs) => Ok(Stores {
-                blocks,
-                certs,
-                progress,
-                shelf,
-                of,
-            }),
+            Ok(certs) => Ok(Stores { certs, ..self }),
             Err(lost) => {
-                let meta = progress.wreck();
-                Err(Ended::of_certs(blocks.wreck(), lost, meta, shelf.wreck()))
+                let meta = self.progress.wreck();
+                Err(Ended::of_certs(self.blocks.wreck(), lost, meta, self.shelf.wreck()))
             }
         }
     }
@@ -374,24 +328,11 @@ impl<
         ensures goes_on { GoesOn (λ s. s) self [] [] result }
         ensures usual { IfErr result (λ e. IsUsual e.fault) }
     {
-        let Stores {
-            blocks,
-            certs,
-            progress,
-            shelf,
-            of,
-        } = self;
-        match certs.sync() {
-            Ok(certs) => Ok(Stores {
-                blocks,
-                certs,
-                progress,
-                shelf,
-                of,
-            }),
+        match self.certs.sync() {
+            Ok(certs) => Ok(Stores { certs, ..self }),
             Err(lost) => {
-                let meta = progress.wreck();
-                Err(Ended::of_certs(blocks.wreck(), lost, meta, shelf.wreck()))
+                let meta = self.progress.wreck();
+                Err(Ended::of_certs(self.blocks.wreck(), lost, meta, self.shelf.wreck()))
             }
         }
     }
@@ -402,24 +343,11 @@ impl<
         ensures goes_on { GoesOn (λ s. s) self [] [] result }
         ensures usual { IfErr result (λ e. IsUsual e.fault) }
     {
-        let Stores {
-            blocks,
-            certs,
-            progress,
-            shelf,
-            of,
-        } = self;
-        match progress.set_processed(height) {
-            Ok(progress) => Ok(Stores {
-                blocks,
-                certs,
-                progress,
-                shelf,
-                of,
-            }),
+        match self.progress.set_processed(height) {
+            Ok(progress) => Ok(Stores { progress, ..self }),
             Err(lost) => {
-                let (blocks, certs) = (blocks.wreck(), certs.wreck());
-                Err(Ended::of_meta(blocks, certs, lost, shelf.wreck()))
+                let (blocks, certs) = (self.blocks.wreck(), self.certs.wreck());
+                Err(Ended::of_meta(blocks, certs, lost, self.shelf.wreck()))
             }
         }
     }
@@ -430,24 +358,11 @@ impl<
         ensures goes_on { GoesOn (λ s. s) self [] [] result }
         ensures usual { IfErr result (λ e. IsUsual e.fault) }
     {
-        let Stores {
-            blocks,
-            certs,
-            progress,
-            shelf,
-            of,
-        } = self;
-        match progress.set_cutoff(cutoff) {
-            Ok(progress) => Ok(Stores {
-                blocks,
-                certs,
-                progress,
-                shelf,
-                of,
-            }),
+        match self.progress.set_cutoff(cutoff) {
+            Ok(progress) => Ok(Stores { progress, ..self }),
             Err(lost) => {
-                let (blocks, certs) = (blocks.wreck(), certs.wreck());
-                Err(Ended::of_meta(blocks, certs, lost, shelf.wreck()))
+                let (blocks, certs) = (self.blocks.wreck(), self.certs.wreck());
+                Err(Ended::of_meta(blocks, certs, lost, self.shelf.wreck()))
             }
         }
     }
@@ -459,24 +374,11 @@ impl<
         ensures lost { IfErr result (Loses self [] [] (pair_of self.processed self.cutoff ∷ [])) }
         ensures usual { IfErr result (λ e. IsUsual e.fault) }
     {
-        let Stores {
-            blocks,
-            certs,
-            progress,
-            shelf,
-            of,
-        } = self;
-        match progress.sync() {
-            Ok(progress) => Ok(Stores {
-                blocks,
-                certs,
-                progress,
-                shelf,
-                of,
-            }),
+        match self.progress.sync() {
+            Ok(progress) => Ok(Stores { progress, ..self }),
             Err(lost) => {
-                let (blocks, certs) = (blocks.wreck(), certs.wreck());
-                Err(Ended::of_meta(blocks, certs, lost, shelf.wreck()))
+                let (blocks, certs) = (self.blocks.wreck(), self.certs.wreck());
+                Err(Ended::of_meta(blocks, certs, lost, self.shelf.wreck()))
             }
         }
     }

@@ -120,8 +120,7 @@ impl<W: BlocksRuin> BlocksRuin for RecordingWreck<W> {
         ensures count { W.faults self.new.inner ≡ W.faults self.old.inner }
         ensures recorded { self.new.recorded.items ≡ self.old.recorded.items }
     {
-        let RecordingWreck { inner, recorded: _ } = self;
-        inner.arm(calls)
+        self.inner.arm(calls)
     }
 }
 
