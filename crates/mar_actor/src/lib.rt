@@ -15,7 +15,7 @@ mod start;
 
 pub use actor::Actor;
 pub use event::Event;
+pub use mar_parts::Shown;
 pub use mar_shelf::{Ended, Fault, Ruins, ShownRuins, StoreName, TicketKind};
 pub use reporter::{Exact, Reporter, Update};
 pub use settings::{Config, Limits, Start};
-pub use shown::Shown;

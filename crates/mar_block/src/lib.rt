@@ -21,6 +21,3 @@ pub use mem_buffer::MemBuffer;
 pub use recipients::{Recipients, Sent};
 pub use standard::Standard;
 pub use variant::{Variant, WireVariant};
-
-#[cfg(test)]
-mod tests;

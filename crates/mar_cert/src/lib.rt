@@ -18,6 +18,3 @@ pub use notarization::Notarization;
 pub use scheme::{Certificate, Provider, Scheme, Scoped, verify_certificates};
 pub use signer::Signer;
 pub use subject::{Activity, Subject};
-
-#[cfg(test)]
-mod tests;

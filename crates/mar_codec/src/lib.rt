@@ -29,7 +29,5 @@ mod non_empty_vec;
 mod participant;
 mod parts;
 mod sha256;
-#[cfg(test)]
-mod tests;
 mod varint;
 mod words;

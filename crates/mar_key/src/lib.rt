@@ -24,6 +24,3 @@ pub use recorder::{Ask, Asked, Judged, Recorder, same_key};
 pub use requests::{Fetch, Request};
 pub use resolvers::{Resolver, TargetedResolver};
 pub use subscription::Subscription;
-
-#[cfg(test)]
-mod tests;

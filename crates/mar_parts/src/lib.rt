@@ -5,6 +5,7 @@
 mod acks;
 mod certified;
 mod gate;
+mod shown;
 mod staged;
 mod subscriptions;
 mod waiters;
@@ -13,8 +14,6 @@ pub use acks::{Mark, Oldest, PendingAck, PendingAcks};
 pub use certified::Certified;
 pub use gate::DispatchGate;
 pub use mar_node::{FetchAdmission, State, Stream, closed_epoch, synced_cutoff, synced_height};
+pub use shown::Shown;
 pub use staged::Staged;
 pub use subscriptions::{Key, Served, Subscriptions};
-
-#[cfg(test)]
-mod tests;

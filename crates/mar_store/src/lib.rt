@@ -33,6 +33,3 @@ pub use mem_meta::{MemMeta, MemMetaWreck};
 pub use meta::{Meta, MetaRuin};
 pub use range_set::{HeightSpan, RangeSet};
 pub use ticket::SyncTicket;
-
-#[cfg(test)]
-mod tests;

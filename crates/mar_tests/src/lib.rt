@@ -5,4 +5,8 @@
 #[cfg(test)]
 mod library;
 #[cfg(test)]
+mod script;
+#[cfg(test)]
 mod stores;
+#[cfg(test)]
+mod tell;

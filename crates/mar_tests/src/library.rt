@@ -1,7 +1,6 @@
 //! How to use marshal as a library: an actor over stores of one's own is opened, given events, ended by a crash, and
 //! opened again.
-ghost use Rattle.std.specs.Prelude.{⊤, OnErr, OnOk};
-
+use crate::tell::*;
 use mar_actor::{Actor, Config, Event, Limits, Reporter, Ruins, Start, Update};
 use mar_block::{EmptyBlock, MemBuffer, StandardBlocks};
 use mar_cert::{
@@ -12,20 +11,22 @@ use mar_codec::{Digest, Digested, Sha256, Sha256Digest};
 use mar_inbox::Message;
 use mar_key::Recorder;
 use mar_shelf::{BlockItem, Blocks, CertificateItem, Certificates, NoShelf, Shelf, immutable};
-use mar_store::{LuckHalf, MemArchive, MemMeta, Meta};
+use mar_store::{Item, LuckHalf, MemArchive, MemMeta, Meta};
 use mar_types::{Epoch, FixedEpocher, Height, Round, View, ViewDelta};
 use std::alloc::{AllocError, Global};
 use std::num::NonZeroU64;
-use std::test::Fail;
+use std::process::Abort;
 
 type Block = Digested<EmptyBlock<Sha256>>;
 
 /// The stores of this example: archives in memory that are never pruned.
-type BlockStore = immutable::Archive<MemArchive<BlockItem<StandardBlocks>>>;
+type Store<T> = immutable::Archive<MemArchive<T>>;
 
-type CertificateStore = immutable::Archive<
-    MemArchive<CertificateItem<StandardBlocks, MockFinalization>>,
->;
+type BlockStore = Store<BlockItem<StandardBlocks>>;
+
+type CertificateStore = Store<CertificateItem<StandardBlocks, MockFinalization>>;
+
+type Left<FB, FC, M, H> = Ruins<StandardBlocks, MockFinalization, FB, FC, M, H>;
 
 type Node<FB, FC, M, H> = Actor<
     StandardBlocks,
@@ -45,7 +46,7 @@ struct Application {
 }
 
 impl Reporter<StandardBlocks> for Application {
-    ghost use Rattle.std.specs.Prelude.{None};
+    ghost use Rattle.std.specs.Prelude.{⊤, None, OnErr, OnOk};
 
     // It tells no clause what it was told.
     ghost told = { λ _. None };
@@ -92,15 +93,14 @@ fn opened<
     M: Meta,
     H: Shelf,
 >(
+    rt: &impl Abort,
     alloc: Global,
-    ruins: Ruins<StandardBlocks, MockFinalization, FB, FC, M, H>,
-    genesis: Block,
+    left: Left<FB, FC, M, H>,
     around: &mut Surroundings,
-) -> Result<Node<FB, FC, M, H>, Fail> {
-    let (actor, _floor) = Actor::init(alloc, ruins, config(genesis), 0)
-        .ok()
-        .ok_or("opening")?;
-    stepped(actor, Event::Start, around)
+) -> Node<FB, FC, M, H> {
+    let genesis = block(rt, alloc, Sha256Digest::empty(), 0);
+    let (node, _floor) = given(rt, Actor::init(alloc, left, config(genesis), 0));
+    stepped(rt, node, Event::Start, around)
 }
 
 // Gives an actor one event.
@@ -110,42 +110,109 @@ fn stepped<
     M: Meta,
     H: Shelf,
 >(
-    actor: Node<FB, FC, M, H>,
+    rt: &impl Abort,
+    node: Node<FB, FC, M, H>,
     event: Event<MockFinalization>,
     around: &mut Surroundings,
-) -> Result<Node<FB, FC, M, H>, Fail> {
+) -> Node<FB, FC, M, H> {
     let Surroundings {
         buffer,
         peers,
         application,
     } = around;
-    let actor = actor
-        .step(event, &*buffer, peers, application)
-        .ok()
-        .ok_or("the life ended")?;
-    Ok(actor)
+    given(rt, node.step(event, &*buffer, peers, application))
 }
 
-// A life that hands over the genesis, is acknowledged, learns of a finalized block, and ends before that is acknowledged.
-fn lived<
+// A life in which the genesis is handed over and acknowledged, and the next block is handed over once it is finalized.
+// A crash ends it before that block is acknowledged. Says whether the next life owes it under the ticket 0.
+fn lived_twice<
     FB: Blocks<StandardBlocks>,
     FC: Certificates<StandardBlocks, MockFinalization>,
     M: Meta,
     H: Shelf,
 >(
-    actor: Node<FB, FC, M, H>,
-    finalization: MockFinalization,
+    rt: &impl Abort,
+    alloc: Global,
+    nothing: Left<FB, FC, M, H>,
+    finalized: MockFinalization,
     around: &mut Surroundings,
-) -> Result<Ruins<StandardBlocks, MockFinalization, FB, FC, M, H>, Fail> {
-    let actor = stepped(actor, Event::Ack(0), around)?;
-    let message = Message::Finalization(finalization);
-    let actor = stepped(actor, Event::Message(message), around)?;
-    Ok(actor.wreck())
+) -> bool {
+    let node = opened(rt, alloc, nothing, around);
+    let node = stepped(rt, node, Event::Ack(0), around);
+    let message = Message::Finalization(finalized);
+    let node = stepped(rt, node, Event::Message(message), around);
+    let left = node.wreck();
+    let node = opened(rt, alloc, left, around);
+    node.owes_ack(0)
+}
+
+// The same over stores that hold nothing yet.
+fn lived_over<
+    FB: Blocks<StandardBlocks>,
+    FC: Certificates<StandardBlocks, MockFinalization>,
+    M: Meta,
+    H: Shelf,
+>(
+    rt: &impl Abort,
+    alloc: Global,
+    blocks: FB,
+    certificates: FC,
+    meta: M,
+    shelf: H,
+    finalized: MockFinalization,
+    around: &mut Surroundings,
+) -> bool {
+    let nothing: Left<FB, FC, M, H> = Ruins {
+        blocks: blocks.wreck(),
+        certs: certificates.wreck(),
+        meta: meta.wreck(),
+        shelf: shelf.wreck(),
+    };
+    lived_twice(rt, alloc, nothing, finalized, around)
+}
+
+fn store<T: Item>(alloc: Global, half: LuckHalf) -> Store<T> {
+    immutable::Archive::new(MemArchive::new(alloc, half))
+}
+
+fn block_store(alloc: Global) -> BlockStore {
+    store(alloc, LuckHalf::Low)
+}
+
+fn certificate_store(alloc: Global) -> CertificateStore {
+    store(alloc, LuckHalf::High)
+}
+
+fn metadata(alloc: Global) -> MemMeta {
+    MemMeta::new(alloc)
+}
+
+// The same over the library's stores in memory.
+fn lived_in_memory(
+    rt: &impl Abort,
+    alloc: Global,
+    finalized: MockFinalization,
+    around: &mut Surroundings,
+) -> bool {
+    let blocks = block_store(alloc);
+    let certificates = certificate_store(alloc);
+    let meta = metadata(alloc);
+    lived_over(
+        rt,
+        alloc,
+        blocks,
+        certificates,
+        meta,
+        NoShelf,
+        finalized,
+        around,
+    )
 }
 
 // The block of a height over a parent.
-fn block(alloc: Global, parent: Sha256Digest, height: u64) -> Result<Block, AllocError> {
-    Digested::compute(alloc, EmptyBlock::new(parent, Height::new(height), 0))
+fn block(rt: &impl Abort, alloc: Global, parent: Sha256Digest, height: u64) -> Block {
+    let block = EmptyBlock::new(parent, Height::new(height), 0);
+    given(rt, Digested::compute(alloc, block))
 }
 
 // A block's finalization in the first view, by members 0, 1 and 2.
@@ -170,41 +237,26 @@ fn finalization(alloc: Global, payload: Sha256Digest) -> Result<MockFinalization
     })
 }
 
-// Stores that hold nothing.
-fn nothing(
-    alloc: Global,
-) -> Ruins<StandardBlocks, MockFinalization, BlockStore, CertificateStore, MemMeta, NoShelf> {
-    let certificates = CertificateStore::new(MemArchive::new(alloc, LuckHalf::High));
-    Ruins {
-        blocks: Blocks::wreck(BlockStore::new(MemArchive::new(alloc, LuckHalf::Low))),
-        certs: Certificates::wreck(certificates),
-        meta: MemMeta::new(alloc).wreck(),
-        shelf: NoShelf.wreck(),
-    }
-}
-
-#[test]
-fn a_block_is_handed_over_again_until_it_is_acknowledged(rt: HostRuntime) -> Result<(), Fail> {
-    let alloc = rt.alloc();
-    let genesis = block(alloc, Sha256Digest::empty(), 0)?;
-    let next = block(alloc, genesis.digest(), 1)?;
-    let mut around = Surroundings {
-        buffer: MemBuffer::new(alloc),
+// Where the block of height 1 is at hand, though no one knows yet that it is finalized.
+fn around_at_first(rt: &impl Abort, alloc: Global, next: Block) -> Surroundings {
+    let mut buffer = MemBuffer::new(alloc);
+    given(rt, buffer.put(next));
+    Surroundings {
+        buffer,
         peers: Recorder::new(alloc),
         application: Application {
             handed: Vec::new(alloc),
         },
-    };
-    let finalized = finalization(alloc, next.digest())?;
-    around.buffer.put(next)?;
-    let actor = opened(alloc, nothing(alloc), genesis, &mut around)?;
-    let ruins = lived(actor, finalized, &mut around)?;
-    let genesis = block(alloc, Sha256Digest::empty(), 0)?;
-    let actor = opened(alloc, ruins, genesis, &mut around)?;
-    assert!(rt; actor.owes_ack(0));
-    assert_eq!(rt;
-        around.application.handed.as_slice(),
-        [(0, 0), (1, 1), (1, 0)].as_slice()
-    );
-    Ok(())
+    }
+}
+
+#[test]
+fn a_block_is_handed_over_again_until_it_is_acknowledged(rt: HostRuntime) {
+    let alloc = rt.alloc();
+    let genesis = block(&rt, alloc, Sha256Digest::empty(), 0);
+    let next = block(&rt, alloc, genesis.digest(), 1);
+    let finalized = given(&rt, finalization(alloc, next.digest()));
+    let mut around = around_at_first(&rt, alloc, next);
+    assert!(rt; lived_in_memory(&rt, alloc, finalized, &mut around));
+    assert!(rt; around.application.handed.as_slice() == [(0, 0), (1, 1), (1, 0)].as_slice());
 }

@@ -24,6 +24,3 @@ pub use orders::ordered_by_number;
 pub use rounds::{Epochable, Round, Viewable};
 pub use terms::TermLength;
 pub use views::{View, ViewRange};
-
-#[cfg(test)]
-mod tests;

@@ -1,25 +1,23 @@
 //! Lives of stores of blocks.
-ghost use Rattle.std.specs.Prelude.{◌≤◌};
-
-use super::{AtReopening, InLife, KEPT, Life, Nowhere, PRUNED, held, said};
-use crate::stores::{Block, BlockArchive, archive, block, recording};
+use super::{AtReopening, InLife, KEPT, Life, Nowhere, PRUNED, Row, are, lives_of};
+use crate::stores::{Block, Kind, Script, block, wrong_in};
+use crate::tell::*;
 use mar_block::{StandardBlocks, Variant};
-use mar_shelf::{Blocks, immutable, prunable};
-use mar_store::{Lost, SyncTicket};
+use mar_shelf::Blocks;
+use mar_store::Lost;
 use mar_types::Height;
 use std::alloc::Global;
-use std::test::Fail;
+use std::process::Abort;
 
-// Puts one more block, and finishes a sync that was started before.
-fn put_and_finish<S: Blocks<StandardBlocks>>(
-    store: S,
-    block: &Block,
-    ticket: SyncTicket,
-) -> Result<S, Lost<S::Wreck>>
-    requires { ticket.number ≤ S.number store }
-{
+// Starts a sync, and finishes it after one more put.
+fn sync_around<S: Blocks<StandardBlocks>>(store: S, block: &Block) -> Result<S, Lost<S::Wreck>> {
+    let (store, ticket) = store.start_sync()?;
     let store = store.put(&StandardBlocks::digest(block), block)?;
     store.finish(ticket)
+}
+
+fn put<S: Blocks<StandardBlocks>>(store: S, block: &Block) -> Result<S, Lost<S::Wreck>> {
+    store.put(&StandardBlocks::digest(block), block)
 }
 
 // Puts a block and syncs, puts one, starts a sync, puts one before that finishes, and prunes below 1.
@@ -28,88 +26,61 @@ fn seven_calls<S: Blocks<StandardBlocks>>(
     blocks: &[Block; 3],
 ) -> Result<S, Lost<S::Wreck>> {
     let [first, second, third] = blocks;
-    let store = store.put(&StandardBlocks::digest(first), first)?;
+    let store = put(store, first)?;
     let store = store.sync()?;
-    let store = store.put(&StandardBlocks::digest(second), second)?;
-    let (store, ticket) = store.start_sync()?;
-    let store = put_and_finish(store, third, ticket)?;
+    let store = put(store, second)?;
+    let store = sync_around(store, third)?;
     store.prune(Height::new(1))
 }
 
-// Opens what a crash left, twice where the first time fails.
-fn reopened<S: Blocks<StandardBlocks>>(wreck: S::Wreck, luck: u64) -> Life {
-    match S::reopen(wreck, luck) {
-        Ok(store) => Some((Nowhere, held(store.held_ranges()))),
-        Err(Lost::Fault(wreck)) => {
-            let store = S::reopen(wreck, luck).ok()?;
-            Some((AtReopening, held(store.held_ranges())))
-        }
-        Err(Lost::Memory(_)) => None,
+// What is left where the armed call fails as it is to.
+fn left<S: Blocks<StandardBlocks>>(store: S, blocks: &[Block; 3], life: Life) -> Option<S::Wreck> {
+    match (seven_calls(store, blocks), life.failed) {
+        (Err(Lost::Fault(wreck)), InLife) => Some(wreck),
+        (Ok(store), Nowhere) => Some(store.wreck()),
+        (Ok(store), AtReopening) => match S::reopen(store.wreck(), life.luck) {
+            Err(Lost::Fault(wreck)) => Some(wreck),
+            _ => None,
+        },
+        _ => None,
     }
 }
 
-// A life of blocks in which one call is armed, and what is held after it.
-fn lived<S: Blocks<StandardBlocks>>(store: S, blocks: &[Block; 3], call: u64, luck: u64) -> Life {
+// The store after a life that goes as it is to.
+pub fn lived<S: Blocks<StandardBlocks>>(store: S, blocks: &[Block; 3], life: Life) -> Option<S> {
     let mut store = store;
-    store.arm(call).ok()?;
-    match seven_calls(store, blocks) {
-        Ok(store) => reopened::<S>(store.wreck(), luck),
-        Err(Lost::Fault(wreck)) => {
-            let store = S::reopen(wreck, luck).ok()?;
-            Some((InLife, held(store.held_ranges())))
-        }
-        Err(Lost::Memory(_)) => None,
+    if store.arm(life.call).is_err() {
+        return None;
     }
+    let wreck = left(store, blocks, life)?;
+    let store = S::reopen(wreck, life.luck).ok()?;
+    let is_so = are(store.held_ranges(), life.held);
+    if is_so { Some(store) } else { None }
 }
 
-fn prunable_store(alloc: Global) -> prunable::Archive<BlockArchive> {
-    prunable::Archive::new(archive(alloc))
+fn is_lived(alloc: Global, kind: Kind, script: Script) -> bool {
+    wrong_in(alloc, kind, script).is_none()
 }
 
-fn immutable_store(alloc: Global) -> immutable::Archive<BlockArchive> {
-    immutable::Archive::new(archive(alloc))
-}
-
-// Two lives of a store that prunes, in which one call is armed.
-fn pruned(alloc: Global, blocks: &[Block; 3], call: u64) -> [Life; 2] {
-    [
-        lived(prunable_store(alloc), blocks, call, 0),
-        lived(prunable_store(alloc), blocks, call, u64::MAX),
-    ]
-}
-
-// The same of a store that keeps what it was asked.
-fn recorded(alloc: Global, blocks: &[Block; 3], call: u64) -> [Life; 2] {
-    [
-        lived(recording(alloc), blocks, call, 0),
-        lived(recording(alloc), blocks, call, u64::MAX),
-    ]
-}
-
-// The same of a store that prunes nothing.
-fn kept(alloc: Global, blocks: &[Block; 3], call: u64) -> [Life; 2] {
-    [
-        lived(immutable_store(alloc), blocks, call, 0),
-        lived(immutable_store(alloc), blocks, call, u64::MAX),
-    ]
+fn live(rt: &impl Abort, alloc: Global, kind: Kind, blocks: &[Block; 3], rows: &[Row]) {
+    for row in rows {
+        let [first, second] = lives_of(*row);
+        let is_so = is_lived(alloc, kind, Script::Life(blocks, first))
+            & is_lived(alloc, kind, Script::Life(blocks, second));
+        let call = row.0;
+        assert!(rt; is_so, "call {call}");
+    }
 }
 
 #[test]
-fn lives_of_blocks(rt: HostRuntime) -> Result<(), Fail> {
+fn lives_of_blocks(rt: HostRuntime) {
     let alloc = rt.alloc();
     let blocks = [
-        block(alloc, 0, 7)?,
-        block(alloc, 1, 7)?,
-        block(alloc, 2, 7)?,
+        given(&rt, block(alloc, 0, 7)),
+        given(&rt, block(alloc, 1, 7)),
+        given(&rt, block(alloc, 2, 7)),
     ];
-    for (call, failed, sure, may) in PRUNED {
-        let answers = said(failed, sure, may);
-        assert_eq!(rt; pruned(alloc, &blocks, call), answers, "call {call}");
-        assert_eq!(rt; recorded(alloc, &blocks, call), answers, "call {call}");
-    }
-    for (call, failed, sure, may) in KEPT {
-        let answers = said(failed, sure, may);
-        assert_eq!(rt; kept(alloc, &blocks, call), answers, "call {call}");
-    }
-    Ok(())
+    live(&rt, alloc, Kind::Prunable, &blocks, &PRUNED);
+    live(&rt, alloc, Kind::Recorded, &blocks, &PRUNED);
+    live(&rt, alloc, Kind::Immutable, &blocks, &KEPT);
 }

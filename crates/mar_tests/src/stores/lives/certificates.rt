@@ -1,18 +1,14 @@
 //! Lives of stores of finalizations.
-ghost use Rattle.std.specs.Prelude.{◌≤◌, IfOk};
-
-use super::{AtReopening, InLife, KEPT, Life, Nowhere, PRUNED, held, said};
-use crate::stores::archive;
+use super::{AtReopening, InLife, KEPT, Life, Nowhere, PRUNED, Row, are, lives_of};
+use crate::stores::{Immutable, Prunable, immutable_store, prunable_store};
 use mar_block::{StandardBlocks, Variant};
 use mar_cert::{CommitsTo, MockCertificate, MockFinalization, Proposal};
 use mar_codec::{Hasher, Sha256};
-use mar_shelf::{CertificateItem, Certificates, immutable, prunable};
-use mar_store::{Lost, MemArchive, SyncTicket};
+use mar_shelf::{CertificateItem, Certificates};
+use mar_store::Lost;
 use mar_types::{Height, Round, View};
 use std::alloc::Global;
-use std::test::Fail;
-
-type FinalizationArchive = MemArchive<CertificateItem<StandardBlocks, MockFinalization>>;
+use std::process::Abort;
 
 // A finalization of a payload of this byte throughout.
 fn finalization(alloc: Global, byte: u8) -> MockFinalization {
@@ -28,27 +24,24 @@ fn finalization(alloc: Global, byte: u8) -> MockFinalization {
     }
 }
 
-fn put_finalization<S: Certificates<StandardBlocks, MockFinalization>>(
+fn put<S: Certificates<StandardBlocks, MockFinalization>>(
     store: S,
     height: u64,
     finalization: &MockFinalization,
-) -> Result<S, Lost<S::Wreck>>
-    ensures tickets { IfOk result (λ s. S.number store ≤ S.number s) }
-{
+) -> Result<S, Lost<S::Wreck>> {
     let digest = StandardBlocks::commitment_to_inner(finalization.payload());
     store.put(Height::new(height), &digest, finalization)
 }
 
-// Puts one more finalization, and finishes a sync that was started before.
-fn put_and_finish<S: Certificates<StandardBlocks, MockFinalization>>(
+// Starts a sync, and finishes it after one more put.
+fn sync_around<S: Certificates<StandardBlocks, MockFinalization>>(
     store: S,
     height: u64,
     finalization: &MockFinalization,
-    ticket: SyncTicket,
-) -> Result<S, Lost<S::Wreck>>
-    requires { ticket.number ≤ S.number store }
-{
-    let store = put_finalization(store, height, finalization)?;
+) -> Result<S, Lost<S::Wreck>> {
+    let digest = StandardBlocks::commitment_to_inner(finalization.payload());
+    let (store, ticket) = store.start_sync()?;
+    let store = store.put(Height::new(height), &digest, finalization)?;
     store.finish(ticket)
 }
 
@@ -58,80 +51,105 @@ fn seven_calls<S: Certificates<StandardBlocks, MockFinalization>>(
     finalizations: &[MockFinalization; 3],
 ) -> Result<S, Lost<S::Wreck>> {
     let [first, second, third] = finalizations;
-    let store = put_finalization(store, 0, first)?;
+    let store = put(store, 0, first)?;
     let store = store.sync()?;
-    let store = put_finalization(store, 1, second)?;
-    let (store, ticket) = store.start_sync()?;
-    let store = put_and_finish(store, 2, third, ticket)?;
+    let store = put(store, 1, second)?;
+    let store = sync_around(store, 2, third)?;
     store.prune(Height::new(1))
 }
 
-// Opens what a crash left, twice where the first time fails.
-fn reopened<S: Certificates<StandardBlocks, MockFinalization>>(wreck: S::Wreck, luck: u64) -> Life {
-    match S::reopen(wreck, luck) {
-        Ok(store) => Some((Nowhere, held(store.held_ranges()))),
-        Err(Lost::Fault(wreck)) => {
-            let store = S::reopen(wreck, luck).ok()?;
-            Some((AtReopening, held(store.held_ranges())))
-        }
-        Err(Lost::Memory(_)) => None,
-    }
-}
-
-// A life of finalizations in which one call is armed, and what is held after it.
-fn lived<S: Certificates<StandardBlocks, MockFinalization>>(
+// What is left where the armed call fails as it is to.
+fn left<S: Certificates<StandardBlocks, MockFinalization>>(
     store: S,
     finalizations: &[MockFinalization; 3],
-    call: u64,
-    luck: u64,
-) -> Life {
-    let mut store = store;
-    store.arm(call).ok()?;
-    match seven_calls(store, finalizations) {
-        Ok(store) => reopened::<S>(store.wreck(), luck),
-        Err(Lost::Fault(wreck)) => {
-            let store = S::reopen(wreck, luck).ok()?;
-            Some((InLife, held(store.held_ranges())))
-        }
-        Err(Lost::Memory(_)) => None,
+    life: Life,
+) -> Option<S::Wreck> {
+    match (seven_calls(store, finalizations), life.failed) {
+        (Err(Lost::Fault(wreck)), InLife) => Some(wreck),
+        (Ok(store), Nowhere) => Some(store.wreck()),
+        (Ok(store), AtReopening) => match S::reopen(store.wreck(), life.luck) {
+            Err(Lost::Fault(wreck)) => Some(wreck),
+            _ => None,
+        },
+        _ => None,
     }
 }
 
-fn prunable_store(alloc: Global) -> prunable::Archive<FinalizationArchive> {
-    prunable::Archive::new(archive(alloc))
+// Whether a life goes as it is to.
+fn is_lived<S: Certificates<StandardBlocks, MockFinalization>>(
+    store: S,
+    finalizations: &[MockFinalization; 3],
+    life: Life,
+) -> bool {
+    let mut store = store;
+    if store.arm(life.call).is_err() {
+        return false;
+    }
+    let Some(wreck) = left(store, finalizations, life) else {
+        return false;
+    };
+    match S::reopen(wreck, life.luck) {
+        Ok(store) => are(store.held_ranges(), life.held),
+        Err(_) => false,
+    }
 }
 
-fn immutable_store(alloc: Global) -> immutable::Archive<FinalizationArchive> {
-    immutable::Archive::new(archive(alloc))
+type Item = CertificateItem<StandardBlocks, MockFinalization>;
+
+fn kept(alloc: Global) -> Immutable<Item> {
+    immutable_store(alloc)
 }
 
-// Two lives of a store that prunes, in which one call is armed.
-fn pruned(alloc: Global, finalizations: &[MockFinalization; 3], call: u64) -> [Life; 2] {
-    [
-        lived(prunable_store(alloc), finalizations, call, 0),
-        lived(prunable_store(alloc), finalizations, call, u64::MAX),
-    ]
+fn pruned(alloc: Global) -> Prunable<Item> {
+    prunable_store(alloc)
 }
 
-// The same of a store that prunes nothing.
-fn kept(alloc: Global, finalizations: &[MockFinalization; 3], call: u64) -> [Life; 2] {
-    [
-        lived(immutable_store(alloc), finalizations, call, 0),
-        lived(immutable_store(alloc), finalizations, call, u64::MAX),
-    ]
+fn is_lived_keeping(alloc: Global, finalizations: &[MockFinalization; 3], life: Life) -> bool {
+    is_lived(kept(alloc), finalizations, life)
+}
+
+fn is_lived_pruning(alloc: Global, finalizations: &[MockFinalization; 3], life: Life) -> bool {
+    is_lived(pruned(alloc), finalizations, life)
+}
+
+fn live_pruning(
+    rt: &impl Abort,
+    alloc: Global,
+    finalizations: &[MockFinalization; 3],
+    rows: &[Row],
+) {
+    for row in rows {
+        let [first, second] = lives_of(*row);
+        let is_so = is_lived_pruning(alloc, finalizations, first)
+            & is_lived_pruning(alloc, finalizations, second);
+        let call = row.0;
+        assert!(rt; is_so, "call {call}");
+    }
+}
+
+fn live_keeping(
+    rt: &impl Abort,
+    alloc: Global,
+    finalizations: &[MockFinalization; 3],
+    rows: &[Row],
+) {
+    for row in rows {
+        let [first, second] = lives_of(*row);
+        let is_so = is_lived_keeping(alloc, finalizations, first)
+            & is_lived_keeping(alloc, finalizations, second);
+        let call = row.0;
+        assert!(rt; is_so, "call {call}");
+    }
 }
 
 #[test]
-fn lives_of_finalizations(rt: HostRuntime) -> Result<(), Fail> {
+fn lives_of_finalizations(rt: HostRuntime) {
     let alloc = rt.alloc();
-    let finalizations = [1, 2, 3].map(|byte| finalization(alloc, byte));
-    for (call, failed, sure, may) in PRUNED {
-        let answers = said(failed, sure, may);
-        assert_eq!(rt; pruned(alloc, &finalizations, call), answers, "call {call}");
-    }
-    for (call, failed, sure, may) in KEPT {
-        let answers = said(failed, sure, may);
-        assert_eq!(rt; kept(alloc, &finalizations, call), answers, "call {call}");
-    }
-    Ok(())
+    let finalizations = [
+        finalization(alloc, 1),
+        finalization(alloc, 2),
+        finalization(alloc, 3),
+    ];
+    live_pruning(&rt, alloc, &finalizations, &PRUNED);
+    live_keeping(&rt, alloc, &finalizations, &KEPT);
 }

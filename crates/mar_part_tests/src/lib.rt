@@ -1,0 +1,29 @@
+//! Tests of stores and of the parts of a node, as scripts of their calls and tables of cases.
+#![tactic(auto)]
+
+#[cfg(test)]
+mod acknowledgements;
+#[cfg(test)]
+mod archives;
+#[cfg(test)]
+mod certified;
+#[cfg(test)]
+mod depots;
+#[cfg(test)]
+mod dispatch_gate;
+#[cfg(test)]
+mod floors;
+#[cfg(test)]
+mod metadata;
+#[cfg(test)]
+mod ranges;
+#[cfg(test)]
+mod staged_blocks;
+#[cfg(test)]
+mod streams;
+#[cfg(test)]
+mod subscriptions;
+#[cfg(test)]
+mod tell;
+#[cfg(test)]
+mod told_apart;

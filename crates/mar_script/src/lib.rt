@@ -1,0 +1,26 @@
+//! Scripts and their output as text: where their bytes come from and go to, their lines, and what is written of each.
+#![tactic(auto)]
+
+mod asks;
+mod line;
+mod reader;
+mod reading;
+mod settings;
+mod shown;
+mod sink;
+mod source;
+mod status;
+mod text;
+mod words;
+
+pub use asks::push_asks;
+pub use line::{Line, parse_line};
+pub use reader::{LineError, ScriptReader};
+pub use reading::{MAX_LINES, first_line, next_line};
+pub use settings::{Settings, parse_settings};
+pub use shown::{push_ack_list, push_ended, push_node, push_processed};
+pub use sink::{Output, Sink, Written, write_all};
+pub use source::{Bytes, Input, Source};
+pub use status::{Status, Why};
+pub use text::{RemarkShown, push_block, push_cutoff, push_fault, push_hex, push_remark, push_tip};
+pub use words::ParseError;

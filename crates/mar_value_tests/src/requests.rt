@@ -1,0 +1,182 @@
+//! Requests and annotations: which floors let them live, how they are told apart, and their order.
+use crate::tell::*;
+use mar_key::{
+    Annotation, Cutoff, Fetch, Finalized, Judged, Key, Outcome, Request, Retain, Subscription,
+};
+use mar_types::{Epoch, Height, Round, View};
+use std::alloc::Global;
+use std::process::Abort;
+
+const fn round(epoch: u64, view: u64) -> Round {
+    Round::new(Epoch::new(epoch), View::new(view))
+}
+
+const fn notarization(epoch: u64, view: u64) -> Annotation {
+    Annotation::Notarization {
+        round: round(epoch, view),
+    }
+}
+
+const fn untrusted(height: u64) -> Annotation {
+    Annotation::Untrusted {
+        height: Height::new(height),
+    }
+}
+
+const fn certified(height: u64) -> Annotation {
+    Annotation::Certified {
+        height: Height::new(height),
+    }
+}
+
+const fn by_height(height: u64) -> Annotation {
+    Annotation::Finalized(Finalized::ByHeight {
+        height: Height::new(height),
+    })
+}
+
+const fn by_round(epoch: u64, view: u64) -> Annotation {
+    Annotation::Finalized(Finalized::ByRound {
+        round: round(epoch, view),
+    })
+}
+
+// Whether the height 6 bounds it, or else the round of view 7 in epoch 2; with whether it asks for a finalized block,
+// and its text.
+fn is_bound(
+    rt: &impl Abort,
+    alloc: Global,
+    annotation: Annotation,
+    by_a_height: bool,
+    finalized: bool,
+    text: &str,
+) {
+    let at = Height::new(6);
+    same(rt, annotation.is_finalized(), finalized);
+    same(rt, annotation.is_at_or_below(at), by_a_height);
+    assert!(rt; !annotation.is_at_or_below(Height::new(5)));
+    let cutoff = Cutoff::Round(round(2, 7));
+    same(rt, annotation.is_covered_by(cutoff), !by_a_height);
+    assert!(rt; !annotation.is_covered_by(Cutoff::Epoch(Epoch::new(1))));
+    same(rt, Retain::AboveHeight(at).denies(&annotation), by_a_height);
+    debugs(rt, alloc, &annotation, text);
+}
+
+#[test]
+fn annotations_are_told_apart(rt: HostRuntime) {
+    let alloc = rt.alloc();
+    let text = "Notarization { round: Round { epoch: Epoch(2), view: View(7) } }";
+    is_bound(&rt, alloc, notarization(2, 7), false, false, text);
+    let text = "Untrusted { height: Height(6) }";
+    is_bound(&rt, alloc, untrusted(6), true, false, text);
+    let text = "Certified { height: Height(6) }";
+    is_bound(&rt, alloc, certified(6), true, false, text);
+    let text = "Finalized(ByHeight { height: Height(6) })";
+    is_bound(&rt, alloc, by_height(6), true, true, text);
+    let text = "Finalized(ByRound { round: Round { epoch: Epoch(2), view: View(7) } })";
+    is_bound(&rt, alloc, by_round(2, 7), false, true, text);
+}
+
+// Whether each comes before the next one, with another hash.
+fn all_ascend(annotations: &[Annotation]) -> bool {
+    let mut ascends = true;
+    for (lesser, greater) in annotations.iter().zip(annotations.iter().skip(1)) {
+        ascends = ascends && ascend(*lesser, *greater) && hash_of(lesser) != hash_of(greater);
+    }
+    ascends
+}
+
+#[test]
+fn annotations_are_ordered_by_kind_and_then_by_what_they_hold(rt: HostRuntime) {
+    let annotations = [
+        notarization(1, 9),
+        notarization(2, 0),
+        untrusted(255),
+        untrusted(256),
+        certified(255),
+        certified(256),
+        by_height(255),
+        by_height(256),
+        by_round(1, 9),
+        by_round(2, 0),
+    ];
+    assert!(rt; all_ascend(&annotations));
+    let height = Height::new(256);
+    let round = round(1, 9);
+    assert!(rt; ascend(Finalized::ByHeight { height }, Finalized::ByRound { round }));
+}
+
+fn lives_by_its_height(rt: &impl Abort, request: Request<u64>) {
+    assert!(rt; request.above_height_floor(Height::new(5)));
+    assert!(rt; !request.above_height_floor(Height::new(6)));
+    assert!(rt; request.above_round_floor(Cutoff::Epoch(Epoch::new(9))));
+}
+
+fn lives_by_its_round(rt: &impl Abort, request: Request<u64>) {
+    assert!(rt; request.above_height_floor(Height::new(9)));
+    assert!(rt; request.above_round_floor(Cutoff::Round(round(0, 5))));
+    assert!(rt; !request.above_round_floor(Cutoff::Round(round(0, 6))));
+    assert!(rt; !request.above_round_floor(Cutoff::Epoch(Epoch::zero())));
+}
+
+#[test]
+fn requests_live_above_their_floors(rt: HostRuntime) {
+    let height = Height::new(6);
+    lives_by_its_height(&rt, Request::finalized(height));
+    lives_by_its_height(&rt, Request::untrusted(1, height));
+    lives_by_its_height(&rt, Request::certified(1, height));
+    lives_by_its_height(&rt, Request::finalized_by_height(1, height));
+    lives_by_its_round(&rt, Request::notarized(round(0, 6)));
+    lives_by_its_round(&rt, Request::finalized_by_round(1, round(0, 6)));
+    let text =
+        "Request { fetch: Fetch { key: Block(9), subscriber: Finalized(ByHeight { height: Height(6) }) } }";
+    let request = Request::finalized_by_height(9u64, height);
+    debugs(&rt, rt.alloc(), &request, text);
+}
+
+// Whether the request differs from the others, and what is fetched for it from what is fetched for them.
+fn requests_differ(request: Request<u64>, others: &[Request<u64>]) -> bool {
+    let mut is_so = differs(&request, others);
+    let fetch = Fetch::from(request);
+    for other in others {
+        is_so = is_so && differs(&fetch, &[Fetch::from(*other)]);
+    }
+    is_so
+}
+
+#[test]
+fn each_part_of_a_request_tells(rt: HostRuntime) {
+    let (low, high) = (Height::new(4), Height::new(5));
+    // The first two differ from the request in the annotation alone.
+    let others = [
+        Request::untrusted(1, low),
+        Request::certified(1, high),
+        Request::certified(2, low),
+        Request::finalized(low),
+    ];
+    assert!(rt; requests_differ(Request::certified(1, low), &others));
+}
+
+fn judged_of(ticket: u64, height: u64, outcome: Outcome) -> Judged<u64> {
+    let height = Height::new(height);
+    let key = Key::Finalized { height };
+    Judged {
+        ticket,
+        key,
+        outcome,
+    }
+}
+
+#[test]
+fn each_part_of_a_judgement_tells(rt: HostRuntime) {
+    let others = [
+        judged_of(1, 4, Outcome::Complete),
+        judged_of(0, 5, Outcome::Complete),
+        judged_of(0, 4, Outcome::Ignored),
+    ];
+    assert!(rt; differs(&judged_of(0, 4, Outcome::Complete), &others));
+    let others = [Outcome::Invalid, Outcome::Ignored];
+    assert!(rt; differs(&Outcome::Complete, &others));
+    assert!(rt; differs(&Outcome::Invalid, &[Outcome::Ignored]));
+    assert!(rt; differs(&Subscription { name: 1u64 }, &[Subscription { name: 2 }]));
+}

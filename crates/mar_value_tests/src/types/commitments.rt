@@ -1,0 +1,183 @@
+//! Commitments to coded blocks, of digests that fill their fields.
+ghost use Rattle.std.specs.Prelude.{IfSome, replicate, ◌≡◌};
+ghost use Rattle.std.specs.Int.NonZero.{non_zero_u16_get};
+
+use crate::tell::*;
+use mar_codec::{Array, Digest, Digestible, FixedSize, Hasher, Sha256, Sha256Digest, Span, Words};
+use mar_types::coding::{self, CodingConfig, CodingScheme};
+use mar_types::{COMMITMENT_DIGEST_SIZE, COMMITMENT_SIZE, Commitment};
+use std::alloc::{AllocError, Global};
+use std::convert::AsSlice;
+use std::num::NonZeroU16;
+use std::process::Abort;
+
+pub fn config_of(minimum_shards: u16, extra_shards: u16) -> Option<CodingConfig>
+    ensures { IfSome result (λ config. (non_zero_u16_get config.minimum_shards ≡ minimum_shards)
+        × (non_zero_u16_get config.extra_shards ≡ extra_shards)) }
+{
+    let minimum_shards = NonZeroU16::new(minimum_shards)?;
+    let extra_shards = NonZeroU16::new(extra_shards)?;
+    Some(CodingConfig {
+        minimum_shards,
+        extra_shards,
+    })
+}
+
+pub fn config(rt: &impl Abort, minimum_shards: u16, extra_shards: u16) -> CodingConfig {
+    match config_of(minimum_shards, extra_shards) {
+        Some(config) => config,
+        None => panic!(rt; "zero"),
+    }
+}
+
+struct Plain;
+
+impl Digestible for Plain {
+    type Digest = Sha256Digest;
+
+    ghost digest_bytes = { λ _. replicate 32 1 };
+
+    fn digest(&self) -> Sha256Digest {
+        Sha256::fill(1)
+    }
+}
+
+struct Scheme;
+
+impl CodingScheme for Scheme {
+    type Commitment = Sha256Digest;
+}
+
+type Coded = Commitment<Plain, Scheme, Sha256>;
+
+type Parts = (Sha256Digest, Sha256Digest, Sha256Digest, CodingConfig);
+
+// A commitment gives back the parts that it was made of.
+fn parts_again(alloc: Global, parts: &Parts, minimum: u16, extra: u16) -> Option<(Parts, u16, u16)>
+    ensures block { IfSome result (λ again. again.0.0.bytes ≡ parts.now.0.bytes) }
+    ensures root { IfSome result (λ again. again.0.1.bytes ≡ parts.now.1.bytes) }
+    ensures context { IfSome result (λ again. again.0.2.bytes ≡ parts.now.2.bytes) }
+    ensures minimum { IfSome result (λ again. again.1 ≡ minimum) }
+    ensures extra { IfSome result (λ again. again.2 ≡ extra) }
+{
+    let (block, root, context, _) = *parts;
+    let config = config_of(minimum, extra)?;
+    let made = Coded::from((block, root, context, config));
+    let block = made.block(alloc);
+    let root = made.root(alloc);
+    let context = made.context(alloc);
+    let config = made.config(alloc);
+    let shards = (config.minimum_shards.get(), config.extra_shards.get());
+    Some(((block, root, context, config), shards.0, shards.1))
+}
+
+// A generator that counts.
+#[derive(Drop)]
+struct Counting(u8);
+
+impl Words for Counting {
+    ghost gives_word = { λ _ _ _. Unit {0} };
+
+    ghost gives_bytes = { λ _ _ _. Unit {0} };
+
+    fn next_u32(&mut self) -> u32 {
+        self.0 = self.0.wrapping_add(1);
+        u32::from(self.0)
+    }
+
+    fn fill(&mut self, out: &mut [u8]) {
+        self.0 = self.0.wrapping_add(1);
+        out.fill(self.0);
+    }
+}
+
+fn random_by<D: Digest, W: Words>(words: &mut W) -> D {
+    D::random(words)
+}
+
+fn text_of<T: Span>(alloc: Global, value: &T) -> Result<String, AllocError> {
+    value.to_string(alloc)
+}
+
+fn size_of_array<T: Array>(value: &T) -> usize {
+    value.as_slice().len()
+}
+
+const MADE: &str = "0101010101010101010101010101010101010101010101010101010101010101\
+0202020202020202020202020202020202020202020202020202020202020202\
+030303030303030303030303030303030303030303030303030303030303030301020003";
+
+const DRAWN: &str = "0606060606060606060606060606060606060606060606060606060606060606\
+0707070707070707070707070707070707070707070707070707070707070707\
+080808080808080808080808080808080808080808080808080808080808080800050001";
+
+const NOTHING: &str = "0000000000000000000000000000000000000000000000000000000000000000\
+0000000000000000000000000000000000000000000000000000000000000000\
+000000000000000000000000000000000000000000000000000000000000000000000000";
+
+fn made(rt: &impl Abort) -> Coded {
+    let config = config(rt, 258, 3);
+    Coded::from((Plain.digest(), Sha256::fill(2), Sha256::fill(3), config))
+}
+
+// The word is 5, so there are 5 shards, and 1 in place of 0.
+fn drawn(rt: &impl Abort) -> Parts {
+    let config = config(rt, 5, 1);
+    (Sha256::fill(6), Sha256::fill(7), Sha256::fill(8), config)
+}
+
+#[test]
+fn commitments_are_spelled_by_their_parts(rt: HostRuntime) {
+    let alloc = rt.alloc();
+    let made = made(&rt);
+    spells(&rt, alloc, &made, MADE);
+    in_hex(&rt, alloc, made.as_slice(), MADE);
+    same(&rt, size_of_array(&made), COMMITMENT_SIZE);
+    let drawn = drawn(&rt);
+    same(&rt, parts_again(alloc, &drawn, 5, 1), Some((drawn, 5, 1)));
+}
+
+#[test]
+fn commitments_are_digests(rt: HostRuntime) {
+    let mut words = Counting(4);
+    let random: Coded = random_by(&mut words);
+    same(&rt, random, Coded::from(drawn(&rt)));
+    same(&rt, size_of_array(&random), Coded::SIZE);
+    reads(
+        &rt,
+        given(&rt, text_of(rt.alloc(), &random)).as_str(),
+        DRAWN,
+    );
+    same(&rt, Coded::empty(), Coded::default());
+    in_hex(&rt, rt.alloc(), Coded::empty().as_slice(), NOTHING);
+    same(&rt, COMMITMENT_DIGEST_SIZE, 32);
+    same(&rt, coding::COMMITMENT_SIZE, 100);
+}
+
+#[test]
+fn commitments_are_ordered_by_their_parts(rt: HostRuntime) {
+    let (few, many) = (config(&rt, 1, 9), config(&rt, 2, 1));
+    assert!(rt; ascend(few, many));
+    assert!(rt; ascend(config(&rt, 1, 1), config(&rt, 1, 2)));
+    let first = Coded::from((Sha256::fill(1), Sha256::fill(9), Sha256::fill(9), many));
+    let second = Coded::from((Sha256::fill(2), Sha256::fill(0), Sha256::fill(0), few));
+    assert!(rt; ascend(first, second));
+}
+
+#[test]
+fn each_part_of_a_commitment_is_hashed(rt: HostRuntime) {
+    let config_of_two = config(&rt, 2, 3);
+    assert!(rt; hashes_differ(config_of_two, config(&rt, 3, 3)));
+    assert!(rt; hashes_differ(config_of_two, config(&rt, 2, 2)));
+    let (one, two) = (Sha256::fill(1), Sha256::fill(2));
+    let made = Coded::from((one, one, one, config_of_two));
+    assert!(rt; hashes_differ(made, Coded::from((two, one, one, config_of_two))));
+    assert!(rt; hashes_differ(one, two));
+}
+
+#[test]
+fn configs_are_two_numbers(rt: HostRuntime) {
+    let config = config(&rt, 258, 3);
+    spells(&rt, rt.alloc(), &config, "01020003");
+    same(&rt, CodingConfig::SIZE, 4);
+}

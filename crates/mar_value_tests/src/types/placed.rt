@@ -1,0 +1,87 @@
+//! Where heights stand in their epochs.
+use crate::tell::*;
+use mar_types::{Epoch, EpochInfo, EpochPhase, Epocher, FixedEpocher, Height};
+use std::num::NonZeroU64;
+use std::process::Abort;
+
+fn epochs_of(rt: &impl Abort, length: u64) -> FixedEpocher {
+    let Some(length) = NonZeroU64::new(length) else {
+        panic!(rt; "zero")
+    };
+    assert!(rt; length.get() > 1);
+    FixedEpocher::new(length)
+}
+
+fn info_of(epoch: u64, height: u64, first: u64, last: u64) -> EpochInfo {
+    EpochInfo::new(
+        Epoch::new(epoch),
+        Height::new(height),
+        Height::new(first),
+        Height::new(last),
+    )
+}
+
+// Through the bound, as generic code asks an epocher.
+fn epoch_of<E: Epocher>(epocher: &E, height: u64) -> Option<EpochInfo> {
+    epocher.containing(Height::new(height))
+}
+
+// A height, its epoch, the epoch's first and last height, how long it is, how far in the height is, and the phase.
+type Row = (u64, u64, u64, u64, u64, u64, EpochPhase);
+
+fn are_placed(rt: &impl Abort, epocher: &FixedEpocher, rows: &[Row]) {
+    for (height, epoch, first, last, length, relative, phase) in rows {
+        let info = info_of(*epoch, *height, *first, *last);
+        same(rt, epoch_of(epocher, *height), Some(info));
+        same(rt, info.epoch().get(), *epoch);
+        let (from, at, to) = (info.first().get(), info.height().get(), info.last().get());
+        same(rt, (from, at, to), (*first, *height, *last));
+        assert!(rt; from <= at && from <= to && to < 1000);
+        same(rt, info.length().get(), *length);
+        same(rt, info.relative().get(), *relative);
+        same(rt, info.phase(), *phase);
+    }
+}
+
+const ELEVENS: [Row; 4] = [
+    (0, 0, 0, 10, 11, 0, EpochPhase::Early),
+    (5, 0, 0, 10, 11, 5, EpochPhase::Midpoint),
+    (10, 0, 0, 10, 11, 10, EpochPhase::Late),
+    (11, 1, 11, 21, 11, 0, EpochPhase::Early),
+];
+
+const TENS: [Row; 1] = [(25, 2, 20, 29, 10, 5, EpochPhase::Midpoint)];
+
+#[test]
+fn fixed_epochs_have_their_length(rt: HostRuntime) {
+    let epocher = epochs_of(&rt, 11);
+    are_placed(&rt, &epocher, &ELEVENS);
+    are_placed(&rt, &epochs_of(&rt, 10), &TENS);
+    same(&rt, epoch_of(&epocher, u64::MAX), None);
+}
+
+#[test]
+fn fixed_epochs_have_their_bounds(rt: HostRuntime) {
+    let epocher = epochs_of(&rt, 11);
+    same(&rt, epocher.first(Epoch::new(0)), Some(Height::new(0)));
+    same(&rt, epocher.first(Epoch::new(1)), Some(Height::new(11)));
+    same(&rt, epocher.last(Epoch::new(0)), Some(Height::new(10)));
+    same(&rt, epocher.last(Epoch::new(1)), Some(Height::new(21)));
+    same(&rt, epocher.midpoint(Epoch::new(0)), Some(Height::new(5)));
+    same(&rt, epocher.midpoint(Epoch::new(1)), Some(Height::new(16)));
+    same(&rt, epocher.last(Epoch::new(u64::MAX)), None);
+}
+
+#[test]
+fn each_part_tells_epochs_apart(rt: HostRuntime) {
+    let phases = [EpochPhase::Early, EpochPhase::Midpoint, EpochPhase::Late];
+    are_apart(&rt, &phases);
+    let others = [
+        info_of(1, 25, 20, 29),
+        info_of(2, 24, 20, 29),
+        info_of(2, 25, 21, 29),
+        info_of(2, 25, 20, 28),
+    ];
+    assert!(rt; differs(&info_of(2, 25, 20, 29), &others));
+    assert!(rt; differs(&epochs_of(&rt, 10), &[epochs_of(&rt, 11)]));
+}

@@ -1,0 +1,111 @@
+//! Rounds: their order, their parts, and how they are read back.
+ghost use Rattle.std.specs.Prelude.{IfErr, IfOk, ◌≡◌};
+ghost use Rattle.mar_types.specs.Round.{round_lt};
+
+use crate::tell::*;
+use bytes::{BufMut, BytesMut};
+use mar_codec::{Error, Read, ReadExt, Span, Write};
+use mar_types::{Epoch, Epochable, Height, Round, View, Viewable};
+use std::alloc::{AllocError, Global};
+use std::process::Abort;
+
+// The derived order is that of the definitions.
+fn comes_before(a: Round, b: Round) -> bool
+    ensures { result ≡ round_lt a b }
+{
+    a < b
+}
+
+fn spelled<T: Write>(alloc: Global, value: &T) -> Result<BytesMut, AllocError>
+    ensures { IfOk result (λ buf. buf.items ≡ T.encoded value.now) }
+{
+    let mut buf = BytesMut::new(alloc);
+    value.write(&mut buf)?;
+    Ok(buf)
+}
+
+// What was written of a value is read back as that value, whatever follows it.
+fn reread<T: Span + Read<Cfg = ()>>(alloc: Global, value: &T) -> Result<T, Error>
+    requires { T.in_grammar tt (T.encoded value.now) }
+    ensures same { IfOk result (λ read. read ≡ value.now) }
+    ensures memory { IfErr result (λ e. e ≡ Error.Memory) }
+{
+    let mut buf = spelled(alloc, value)?;
+    buf.put_u8(7)?;
+    T::read(alloc, &mut buf)
+}
+
+fn reread_round(alloc: Global, epoch: u64, view: u64) -> Result<Round, Error>
+    ensures same { IfOk result (λ round. round ≡ record { epoch = epoch; view = view }) }
+    ensures memory { IfErr result (λ e. e ≡ Error.Memory) }
+{
+    reread(alloc, &Round::new(Epoch::new(epoch), View::new(view)))
+}
+
+fn reread_height(alloc: Global, height: u64) -> Result<Height, Error>
+    ensures same { IfOk result (λ read. read ≡ height) }
+    ensures memory { IfErr result (λ e. e ≡ Error.Memory) }
+{
+    reread(alloc, &Height::new(height))
+}
+
+fn round(epoch: u64, view: u64) -> Round {
+    Round::new(Epoch::new(epoch), View::new(view))
+}
+
+const ASCENDING: [(u64, u64); 5] = [(0, 0), (0, 9), (1, 0), (1, 1), (2, 0)];
+
+// That each round comes before the next.
+fn follow(rt: &impl Abort, rounds: &[(u64, u64)]) {
+    for pair in rounds.windows(2) {
+        let [(e, v), (f, w)] = *pair else { continue };
+        assert!(rt; comes_before(round(e, v), round(f, w)), "{e} {v}");
+    }
+}
+
+#[test]
+fn rounds_are_ordered_and_read_back(rt: HostRuntime) {
+    follow(&rt, &ASCENDING);
+    let alloc = rt.alloc();
+    same(
+        &rt,
+        reread_round(alloc, 12345, 67890),
+        Ok(round(12345, 67890)),
+    );
+    same(&rt, reread_height(alloc, 12345), Ok(Height::new(12345)));
+}
+
+const HEIGHTS: [(u64, &str); 4] = [
+    (0, "00"),
+    (12345, "b960"),
+    (67890, "b29204"),
+    (u64::MAX, "ffffffffffffffffff01"),
+];
+
+fn are_spelled(rt: &impl Abort, alloc: Global, heights: &[(u64, &str)]) {
+    for (number, text) in heights {
+        spells(rt, alloc, &Height::new(*number), text);
+    }
+}
+
+#[test]
+fn heights_and_rounds_have_their_sizes(rt: HostRuntime) {
+    let alloc = rt.alloc();
+    are_spelled(&rt, alloc, &HEIGHTS);
+    spells(&rt, alloc, &round(12345, 67890), "b960b29204");
+    let mut rest: &[u8] = b"\xb9\x60\xb2\x92\x04\x07";
+    let read = Round::read_cfg(alloc, &mut rest, &());
+    same(&rt, read, Ok(round(12345, 67890)));
+    in_hex(&rt, alloc, rest, "07");
+}
+
+#[test]
+fn rounds_have_their_parts(rt: HostRuntime) {
+    let round = Round::from((Epoch::new(12345), View::new(67890)));
+    let (epoch, view) = round.into();
+    same(&rt, (epoch, view), (Epoch::new(12345), View::new(67890)));
+    same(&rt, Epochable::epoch(&round), epoch);
+    same(&rt, Viewable::view(&round), view);
+    same(&rt, Round::default(), Round::zero());
+    same(&rt, Round::zero(), Round::new(Epoch::zero(), View::zero()));
+}
