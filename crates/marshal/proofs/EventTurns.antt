@@ -16,8 +16,9 @@ use Rattle.mar_shelf.specs.declared.fault.Fault.{Fault as FaultCode}
 use Rattle.mar_key.specs.Asked.{Asked, asked_after}
 use Rattle.mar_node.specs.Chain.{Chain}
 use Rattle.mar_node.specs.Config.{Config}
-use Rattle.marshal.specs.Playing.{IsLasting, IsSetNode, SeenNode, TakesEvent}
-use Rattle.marshal.specs.Turn.{plain_fault}
+use Rattle.mar_script.specs.Plays.{IsLasting}
+use Rattle.marshal.specs.Playing.{IsSetNode, SeenNode, TakesEvent}
+use Rattle.mar_script.specs.Shown.{plain_fault}
 use Rattle.marshal.specs.declared.play.Outcome.TheVariants as outcome
 use Rattle.marshal.specs.declared.play.State.{State as StateCode}
 use Rattle.marshal.specs.declared.play.State.TheVariants as state

@@ -14,25 +14,25 @@ use Rattle.mar_node.specs.Held.{Counts, NotFewer, Remains, remains_of}
 use Rattle.mar_node.specs.Promise.{node_of}
 use Rattle.mar_node.specs.Node.{Ended}
 use Rattle.mar_node.specs.Step.{Report}
-use Rattle.marshal.specs.Endings.{IsReadersEnd, IsWritersEnd}
-use Rattle.marshal.specs.Lines.{plain_line}
+use Rattle.mar_script.specs.Endings.{IsReadersEnd, IsWritersEnd}
+use Rattle.mar_script.specs.Lines.{plain_line}
 use Rattle.marshal.specs.Playing.{IsSetAs, SeenNode, Turned, TurnsLine, WritesText}
-use Rattle.marshal.specs.Reading.{IsQuiet, ReplaysWhereTold, StopsWith, TakesFirst, TakesNext, ending_of}
-use Rattle.marshal.specs.Refused.{max_lines}
-use Rattle.marshal.specs.Run.{HandsBack, HeadlineWhereTold, IsConfigBytes, IsFront, IsLineBytes, Premises, Replays, Status, out_of_memory, outside_grammar, read_failed, read_to_end, write_failed}
-use Rattle.marshal.specs.Script.{IsSettings, Line, Settings, config_of, settings_bytes}
-use Rattle.marshal.specs.Streams.{Gives, Takes, TakesFront}
-use Rattle.marshal.specs.Text.{Output, output_text, running, silent_output, stopped, text}
+use Rattle.mar_script.specs.Reading.{IsQuiet, ReplaysWhereTold, StopsWith, TakesFirst, TakesNext, ending_of}
+use Rattle.mar_script.specs.Refused.{max_lines}
+use Rattle.mar_script.specs.Run.{HandsBack, HeadlineWhereTold, IsConfigBytes, IsFront, IsLineBytes, Premises, Replays, Status, out_of_memory, outside_grammar, read_failed, read_to_end, write_failed}
+use Rattle.mar_script.specs.Script.{IsSettings, Line, Settings, config_of, settings_bytes}
+use Rattle.mar_script.specs.Streams.{Gives, Takes, TakesFront}
+use Rattle.mar_script.specs.Text.{Output, output_text, running, silent_output, stopped, text}
 use Rattle.marshal.specs.Turn.{output_of, remains_in, state_of}
-use Rattle.marshal.specs.declared.line.Line.{Line as LineCode}
+use Rattle.mar_script.specs.declared.Line.{Line as LineCode}
 use Rattle.marshal.specs.declared.play.Outcome.TheVariants as outcome
 use Rattle.marshal.specs.declared.play.State.{State as StateCode}
 use Rattle.marshal.specs.declared.play.State.TheVariants as state
-use Rattle.marshal.specs.declared.status.Status.{Status as StatusCode}
-use Rattle.marshal.specs.declared.status.Status.TheVariants as status
-use Rattle.marshal.proofs.ReadSteps.{SoFar, begins, ends, goes_on, shown}
+use Rattle.mar_script.specs.declared.Status.{Status as StatusCode}
+use Rattle.mar_script.specs.declared.Status.TheVariants as status
+use Rattle.mar_script.proofs.ReadSteps.{SoFar, begins, ends, goes_on, shown}
 use Rattle.marshal.proofs.Replaying.{RunSoFar, StopsBetween, StopsInText, first_run, front_output, lawful_next, left_in, more_run, premises_before, stops_between, stops_in_text}
-use Rattle.marshal.proofs.Streams.{takes_more, takes_none}
+use Rattle.mar_script.proofs.Streams.{takes_more, takes_none}
 
 not_fewer_then : (a b c : ℕ) → min a (2 ^ 64 - 1) ≤ b → min b (2 ^ 64 - 1) ≤ c → min a (2 ^ 64 - 1) ≤ c
 not_fewer_then a b c p q = omega (arith, p, q)

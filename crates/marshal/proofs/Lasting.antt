@@ -19,7 +19,7 @@ use Rattle.mar_node.specs.Promise.{IsGoodFor, IsLawfulStep, node_of}
 use Rattle.mar_node.specs.Step.{HandedBlock, HandsOver, Made, Steps, handed_blocks, outstanding_of, with_sync}
 use Rattle.mar_node.proofs.FinalizationEvent.{not_last}
 use Rattle.mar_node.proofs.OutstandingLemmas.{ConsecutiveFrom-given_front, ConsecutiveFrom-with_mark, first_unprocessed-acked_to}
-use Rattle.marshal.specs.Playing.{IsLasting}
+use Rattle.mar_script.specs.Plays.{IsLasting}
 
 -- no block of these was dropped
 abbrev pub Undropped : List Outstanding → Type 0

@@ -1,5 +1,5 @@
 -- What the program's play makes of each line.
-use Rattle.std.proofs.Common.{Contains, List, None, Some, [], ap, arith, refl, subst, sym, ℕ, ◌++◌, ◌<◌, ◌∷◌, ◌≡◌, ◌⊎◌}
+use Rattle.std.proofs.Common.{Contains, List, None, Some, [], ap, arith, refl, subst, sym, ℕ, ◌<◌, ◌∷◌, ◌≡◌, ◌⊎◌}
 use Rattle.std.proofs.lemmas.List.Elements.{Contains-append_left}
 use Rattle.mar_codec.specs.declared.Sha256Digest.{Sha256Digest}
 use Rattle.mar_types.specs.Epochs.{fixed_epochs}
@@ -18,20 +18,21 @@ use Rattle.mar_node.specs.Lives.{CutsReopening, Finds}
 use Rattle.mar_node.specs.Promise.{IsAlone, IsGoodUntold, IsOpeningFault, IsSetTo, node_of}
 use Rattle.mar_node.specs.Step.{Report}
 use Rattle.mar_shelf.specs.declared.fault.Fault.{Fault as FaultCode}
-use Rattle.marshal.specs.Playing.{AfterEvent, HasLuck, IsExcused, IsLawfulLine, IsSetNode, Plays, PlaysLine, SeenNode, TakesEvent, empty_buffer, luck_after, luck_in}
-use Rattle.marshal.specs.Run.{LineDone, StepDone}
-use Rattle.marshal.specs.Script.{Line, Settings, buffer_line, config_of, crash_line, fail_line, open_line, tell_line}
-use Rattle.marshal.specs.Text.{Output, State, running, silent_output, stopped}
-use Rattle.marshal.specs.Turn.{output_of, plain_fault, remains_in, state_of}
-use Rattle.marshal.specs.declared.line.Line.TheVariants as line
+use Rattle.mar_script.specs.Plays.{IsExcused, IsLawfulLine, Plays}
+use Rattle.marshal.specs.Playing.{AfterEvent, HasLuck, IsSetNode, PlaysLine, SeenNode, TakesEvent, empty_buffer, luck_after, luck_in}
+use Rattle.mar_script.specs.Run.{LineDone, StepDone}
+use Rattle.mar_script.specs.Script.{Line, Settings, config_of, crash_line, fail_line, open_line, tell_line}
+use Rattle.mar_script.specs.Text.{Output, State, running, silent_output, stopped}
+use Rattle.mar_script.specs.Shown.{plain_fault}
+use Rattle.marshal.specs.Turn.{output_of, remains_in, state_of}
 use Rattle.marshal.specs.declared.play.Outcome.{Outcome}
 use Rattle.marshal.specs.declared.play.Outcome.TheVariants as outcome
 use Rattle.marshal.specs.declared.play.State.{State as StateCode}
 use Rattle.marshal.specs.declared.play.State.TheVariants as state
-use Rattle.marshal.specs.declared.text.RemarkShown.{RemarkShown}
+use Rattle.mar_script.specs.declared.RemarkShown.{RemarkShown}
 use Rattle.marshal.proofs.EventTurns.{not_fewer}
 use Rattle.marshal.proofs.Lasting.{IsPlain, starts}
-use Rattle.marshal.proofs.LineTurns.{between-buffer, cut_between, cut_excused, excused, lawful_step, step_between, step_cut, step_done}
+use Rattle.marshal.proofs.LineTurns.{cut_between, cut_excused, lawful_step, step_between, step_cut, step_done}
 use Rattle.marshal.proofs.Replaying.{between_left}
 use Rattle.marshal.proofs.OpeningTurns.{lasting-found, lawful_start, opening_cut, opening_done, opening_excused, start_cut}
 
@@ -89,15 +90,6 @@ module _ (FB FC M H FBW FCW MW HW : Type 0) where
     later = not_fewer left.counts;
     luck = refl;
     plays = λ is chain asked lawful. (asked, record { done = (refl, refl); between = lawful.between; buffered = λ b has. absurd (none_in b has); excused = tt });
-  }
-
-  -- a block is put into the buffer
-  pub plays_put : (config : Config) (seen : SeenNode) (buffer : Held) (b : Block) → PlaysLine config (Running seen buffer) (buffer_line b) (output_of [] [] outcome.Done) (Running seen (record buffer { blocks = buffer.blocks ++ b ∷ [] }))
-  plays_put config seen buffer b = record {
-    set = λ is. is;
-    later = not_fewer seen.held.counts;
-    luck = tt;
-    plays = λ is chain asked lawful. (asked, record { done = (refl, refl); between = between-buffer config chain seen buffer.blocks (buffer.blocks ++ b ∷ []) asked lawful.between; buffered = λ x has. has; excused = tt });
   }
 
   -- a line that is one event of the life

@@ -24,13 +24,13 @@ use Rattle.mar_shelf.specs.declared.fault.Fault.{Fault as FaultCode}
 use Rattle.mar_shelf.specs.declared.fault.Fault.TheVariants as fault
 use Rattle.mar_shelf.specs.declared.fault.TicketKind.{TicketKind}
 use Rattle.mar_shelf.specs.declared.fault.TicketKind.TheVariants.{Ack}
-use Rattle.marshal.specs.Playing.{IsBetween, IsExcused, IsLasting, IsLawfulLine}
-use Rattle.marshal.specs.Run.{LineDone, RunningDone, StepDone}
-use Rattle.marshal.specs.Script.{Line, ack_line, tell_line}
-use Rattle.marshal.specs.Text.{Output, State, remark_ignored, running, stopped}
-use Rattle.marshal.specs.Turn.{output_of, plain_fault}
+use Rattle.mar_script.specs.Plays.{IsBetween, IsExcused, IsLasting, IsLawfulLine}
+use Rattle.mar_script.specs.Run.{LineDone, RunningDone, StepDone}
+use Rattle.mar_script.specs.Script.{Line, ack_line, tell_line}
+use Rattle.mar_script.specs.Text.{Output, State, remark_ignored, running, stopped}
+use Rattle.mar_script.specs.Shown.{plain_fault}
+use Rattle.marshal.specs.Turn.{output_of}
 use Rattle.marshal.specs.declared.play.Outcome.TheVariants as outcome
-use Rattle.mar_node.proofs.Reaching.{IsGood-beside, Rest-beside}
 use Rattle.marshal.proofs.Lasting.{IsPlain, acks, lasting-step, no_event_fault, reports, starts}
 
 -- CUTS
@@ -121,11 +121,6 @@ lawful_step config chain a buffer asked line e plain lawful same = record { lawf
     rests (acks t) = lawful.between.1
 
 -- THE BUFFER
-
--- a block that is put into the buffer leaves the node good
-pub between-buffer : {P E : Type 0} (config : Config) (chain : Chain) (a : Seen P E) (buffer more : List Block) (asked : List Asked) → IsBetween config chain (running (node_of a buffer asked)) → IsBetween config chain (running (node_of a more asked))
-between-buffer config chain a buffer more asked (good, rests, lasting) =
-    (IsGood-beside config chain a buffer more asked asked good.of_chain.honest_asks good, Rest-beside config.window a buffer more asked asked rests, record { undropped = lasting.undropped; tickets = lasting.tickets })
 
 -- THE ACKNOWLEDGEMENT LINE
 

@@ -22,11 +22,12 @@ use Rattle.mar_shelf.specs.declared.fault.Fault.{Fault as FaultCode}
 use Rattle.mar_node.proofs.Cutting.{only_one}
 use Rattle.mar_node.proofs.GoodOpenings.{IsOpeningFault-none}
 use Rattle.mar_node.proofs.OpeningEvent.{IsAlone-lawful}
-use Rattle.marshal.specs.Playing.{IsExcused, IsLasting, IsLawfulLine}
-use Rattle.marshal.specs.Run.{OpenDone}
-use Rattle.marshal.specs.Script.{open_line}
-use Rattle.marshal.specs.Text.{running, stopped}
-use Rattle.marshal.specs.Turn.{output_of, plain_fault}
+use Rattle.mar_script.specs.Plays.{IsExcused, IsLasting, IsLawfulLine}
+use Rattle.mar_script.specs.Run.{OpenDone}
+use Rattle.mar_script.specs.Script.{open_line}
+use Rattle.mar_script.specs.Text.{running, stopped}
+use Rattle.mar_script.specs.Shown.{plain_fault}
+use Rattle.marshal.specs.Turn.{output_of}
 use Rattle.marshal.specs.declared.play.Outcome.TheVariants as outcome
 use Rattle.marshal.proofs.LineTurns.{excused, only_cut}
 

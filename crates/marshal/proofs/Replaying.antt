@@ -1,5 +1,5 @@
 -- The lines that were done so far as a run of lives, and what a replay is where it stops.
-use Rattle.std.proofs.Common.{Contains, List, None, Option, Some, [], ap, append_assoc, arith, inl, inr, length, map, min, refl, subst, sym, ℕ, ◌++◌, ◌+◌, ◌-◌, ◌<◌, ◌^◌, ◌∙◌, ◌∷◌, ◌≡◌, ◌≤◌, ◌⊎◌}
+use Rattle.std.proofs.Common.{Contains, List, None, Option, Some, [], ap, append_assoc, arith, inl, inr, length, map, min, refl, subst, sym, ℕ, ◌++◌, ◌-◌, ◌<◌, ◌^◌, ◌∙◌, ◌∷◌, ◌≡◌, ◌≤◌, ◌⊎◌}
 use Rattle.std.specs.List.{AllByRecursion, flat_map}
 use Rattle.std.specs.Prelude.{Any, ⊤}
 use Rattle.std.proofs.lemmas.Grind.{flat_map-append}
@@ -19,11 +19,11 @@ use Rattle.mar_node.specs.Node.{Agrees, Ended, IsFinalized, left_by}
 use Rattle.mar_node.specs.Cached.{cached_block, cached_finalization}
 use Rattle.mar_node.proofs.Openings.{all_found_within}
 use Rattle.mar_node.proofs.Soundness.{IsFrom, IsGoodEnded-from_sound, IsSound-from_good}
-use Rattle.marshal.specs.Playing.{IsBetween, IsExcused, IsLawfulLine, Plays, buffer_in}
-use Rattle.marshal.specs.Reading.{IsQuiet}
-use Rattle.marshal.specs.Run.{Appears, EndsWith, HandsBack, IsFaultFree, IsFront, IsOutput, LineDone, MemoryEnds, Premises, Replays, Run, Status, line_blocks, messages_of, out_of_memory, outside_grammar, read_failed, read_to_end, write_failed}
-use Rattle.marshal.specs.Script.{Line, open_line}
-use Rattle.marshal.specs.Text.{Done, Output, State, output_text, running, silent_output, stopped, text}
+use Rattle.mar_script.specs.Plays.{IsBetween, IsExcused, IsLawfulLine, Plays, buffer_in}
+use Rattle.mar_script.specs.Reading.{IsQuiet}
+use Rattle.mar_script.specs.Run.{Appears, EndsWith, HandsBack, IsFaultFree, IsFront, IsOutput, LineDone, MemoryEnds, Premises, Replays, Run, Status, line_blocks, messages_of, out_of_memory, outside_grammar, read_failed, read_to_end, write_failed}
+use Rattle.mar_script.specs.Script.{Line, open_line}
+use Rattle.mar_script.specs.Text.{Done, Output, State, output_text, running, silent_output, stopped, text}
 
 -- COUNTS
 

@@ -17,11 +17,11 @@ use Rattle.mar_key.specs.Cutoff.{Cutoff}
 use Rattle.mar_key.specs.Processed.{Processed}
 use Rattle.mar_node.specs.Acks.{Outstanding}
 use Rattle.mar_store.specs.Ranges.{Range, ranges}
-use Rattle.marshal.specs.Shown.{ended_shown_words, shown_words}
-use Rattle.marshal.specs.Text.{State, ask_words, cutoff_text, ended_words, fault_words, line_of, or_dash, output_text, pair_words, ranges_text, remark_words, report_words, some_words, state_words}
+use Rattle.mar_script.specs.Shown.{ended_shown_words, shown_words}
+use Rattle.mar_script.specs.Text.{State, ask_words, cutoff_text, ended_words, fault_words, line_of, or_dash, output_text, pair_words, ranges_text, remark_words, report_words, some_words, state_words}
 use Rattle.marshal.specs.Turn.{fault_in, output_of, plain_report, remark_in, report_text}
 use Rattle.marshal.specs.declared.play.Outcome.{Outcome}
-use Rattle.marshal.proofs.Pushed.{in_four}
+use Rattle.mar_script.proofs.Pushed.{in_four}
 
 pub node_shown : (p p' : Option Processed) (o o' : List Outstanding) (c c' : Cutoff) (b b' bs bs' f f' fs fs' : List Range) → p ≡ p' → o ≡ o' → c ≡ c' → b ≡ b' → bs ≡ bs' → f ≡ f' → fs ≡ fs' → shown_words p o c b bs f fs ≡ shown_words p' o' c' b' bs' f' fs'
 node_shown p p' o o' c c' b b' bs bs' f f' fs fs' e1 e2 e3 e4 e5 e6 e7 =

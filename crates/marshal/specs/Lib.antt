@@ -1,14 +1,2 @@
-pub mod Script
-pub mod Text
-pub mod Refused
-pub mod Run
-pub mod Streams
-pub mod Words
-pub mod Status
-pub mod Shown
-pub mod Laws
-pub mod Endings
-pub mod Lines
-pub mod Reading
 pub mod Turn
 pub mod Playing

@@ -1,73 +1,32 @@
--- What is asked of one line of a script and of the state before it, and what the line makes of that state.
-use Rattle.std.specs.List.{AllByRecursion}
-use Rattle.std.specs.Prelude.{Contains, Err, IsErrOf, List, MatchResult, None, Ok, Option, Result, Some, [], length, true, ℕ, ⊤, ◌++◌, ◌<◌, ◌∷◌, ◌≡◌, ◌≤◌, ◌⊎◌}
-use Rattle.mar_codec.specs.Causes.{Rose}
-use Rattle.mar_types.specs.Epochs.{IsPartition, fixed_epochs}
+-- What one line of a script makes of the program's state.
+use Rattle.std.specs.Prelude.{Contains, Err, IsErrOf, List, MatchResult, None, Ok, Option, Result, Some, [], true, ℕ, ⊤, ◌∷◌, ◌≡◌, ◌⊎◌}
+use Rattle.mar_types.specs.Epochs.{fixed_epochs}
 use Rattle.mar_types.specs.declared.FixedEpocher.{FixedEpocher}
 use Rattle.mar_cert.specs.Block.{Block}
 use Rattle.mar_block.specs.Sent.{Held}
 use Rattle.mar_cert.specs.Provided.{Provided}
-use Rattle.mar_cert.specs.Finalization.{Finalization}
-use Rattle.mar_node.specs.Messages.{report_finalization}
 use Rattle.mar_key.specs.Asked.{Asked, asked_after}
 use Rattle.mar_key.specs.Keys.{Call}
-use Rattle.mar_node.specs.Acks.{mark_dropped}
-use Rattle.mar_node.specs.Chain.{Chain, IsBlockAt, IsLawful}
+use Rattle.mar_node.specs.Chain.{Chain}
 use Rattle.mar_node.specs.Config.{Config}
 use Rattle.mar_node.specs.Event.{Event}
-use Rattle.mar_node.specs.Faults.{Fault, StoreName, ack_kind, from_genesis, store_fault, ticket_limit, want_of_memory}
-use Rattle.mar_node.specs.Held.{Counts, IsEndedBy, NotFewer, Seen, count_of}
-use Rattle.mar_node.specs.Lives.{Cuts, IsGoodEnded}
-use Rattle.mar_node.specs.Node.{IsFinalized, IsGood, Node, Rest, next_height}
-use Rattle.mar_node.specs.Promise.{AreOne, IsLawfulStep, IsSetTo, made_of, node_of}
+use Rattle.mar_node.specs.Faults.{Fault, ack_kind, ticket_limit, want_of_memory}
+use Rattle.mar_node.specs.Held.{IsEndedBy, NotFewer, Seen}
+use Rattle.mar_node.specs.Lives.{Cuts}
+use Rattle.mar_node.specs.Promise.{IsLawfulStep, IsSetTo, made_of, node_of}
 use Rattle.mar_node.specs.Step.{Report, Steps}
-use Rattle.marshal.specs.Run.{LineDone, line_blocks}
-use Rattle.marshal.specs.Script.{Line, crash_line, open_line, tell_line}
-use Rattle.marshal.specs.Streams.{Takes, TakesFront}
-use Rattle.marshal.specs.Text.{Output, State, output_text, running, stopped}
-use Rattle.marshal.specs.Turn.{fault_in, output_of, plain_fault, remains_in, state_of}
+use Rattle.mar_script.specs.Script.{Line, crash_line}
+use Rattle.mar_script.specs.Streams.{Takes, TakesFront}
+use Rattle.mar_script.specs.Text.{Output, output_text}
+use Rattle.mar_script.specs.Shown.{plain_fault}
+use Rattle.marshal.specs.Turn.{fault_in, output_of, remains_in, state_of}
 use Rattle.marshal.specs.declared.play.Outcome.{Outcome}
 use Rattle.marshal.specs.declared.play.Outcome.TheVariants as outcome
 use Rattle.marshal.specs.declared.play.State.{State as StateCode}
 use Rattle.marshal.specs.declared.play.State.TheVariants as state
-use Rattle.marshal.specs.declared.status.Status.{Status as StatusCode}
-use Rattle.marshal.specs.declared.status.Status.TheVariants as status
-
--- no block was dropped, and there are no more tickets than heights
-pub record IsLasting (n : Node) : Type 0 where
-  pub undropped : AllByRecursion (λ a. a.mark ≡ mark_dropped → ⊥) n.out
-  pub tickets : n.next_ack ≤ next_height n
-
--- A state between two lines: a good node that rests, or what is left good for the chain.
-abbrev pub IsBetween : Config → Chain → State → Type 0
-IsBetween config chain (running n) = IsGood config chain n × Rest config.window n × IsLasting n
-IsBetween config chain (stopped e) = IsGoodEnded chain e × (0 < length e.meta)
-
-abbrev pub buffer_in : State → List Block
-buffer_in (running n) = n.buffer
-buffer_in (stopped e) = []
-
--- What is asked of the chain, of the state and of one line: a digest names one block, a genesis is the chain's block 0,
--- a reported finalization is the chain's.
-pub record IsLawfulLine (config : Config) (chain : Chain) (before : State) (line : Line) : Type 0 where
-  pub partition : IsPartition config.epochs
-  pub lawful : IsLawful config.epochs chain
-  pub between : IsBetween config chain before
-  pub one : AreOne config.inner (chain.blocks ++ buffer_in before)
-  pub genesis : (b : Block) → line ≡ open_line (from_genesis b) → IsBlockAt chain 0 b
-  pub reported : (f : Finalization) → line ≡ tell_line (report_finalization f) → IsFinalized chain f.round f.payload
-
--- a fault is want of memory, or that of a store whose count rose
-abbrev pub IsExcused : Counts → Counts → Option Fault → Type 0
-IsExcused before now None = ⊤
-IsExcused before now (Some fault) = (fault ≡ want_of_memory) ⊎ ((s : StoreName) × (fault ≡ store_fault s) × Rose (count_of before s) (count_of now s))
-
--- What a line that was done makes of a state.
-pub record Plays (config : Config) (chain : Chain) (before : State) (line : Line) (out : Output) (after : State) (counts counts' : Counts) : Type 0 where
-  pub done : LineDone config chain before line out after
-  pub between : IsBetween config chain after
-  pub buffered : (b : Block) → Contains (buffer_in after) b → Contains (buffer_in before ++ line_blocks line) b
-  pub excused : IsExcused counts counts' out.fault
+use Rattle.mar_script.specs.declared.Status.{Status as StatusCode}
+use Rattle.mar_script.specs.declared.Status.TheVariants as status
+use Rattle.mar_script.specs.Plays.{IsLawfulLine, IsLasting, Plays}
 
 -- what a script's node is seen as
 abbrev pub SeenNode : Type 0

@@ -10,20 +10,15 @@ use Rattle.mar_node.specs.Held.{Remains, remains_of}
 use Rattle.mar_node.specs.Promise.{made_of, node_of}
 use Rattle.mar_node.specs.Step.{Report}
 use Rattle.mar_actor.specs.Views.{report_of}
-use Rattle.mar_shelf.specs.Views.{fault_of}
-use Rattle.mar_shelf.specs.declared.Fault.{Fault as FaultCode}
 use Rattle.mar_actor.specs.declared.Update.{Update}
-use Rattle.marshal.specs.Lines.{plain_block}
-use Rattle.marshal.specs.Shown.{remark_of}
-use Rattle.marshal.specs.Text.{Output, Remark, State, line_of, report_words, running, stopped}
+use Rattle.mar_script.specs.Lines.{plain_block}
+use Rattle.mar_script.specs.Shown.{plain_fault, remark_of}
+use Rattle.mar_script.specs.Text.{Output, Remark, State, line_of, report_words, running, stopped}
 use Rattle.marshal.specs.declared.play.Outcome.{Outcome}
 use Rattle.marshal.specs.declared.play.Outcome.TheVariants as outcome
 use Rattle.marshal.specs.declared.play.State.{State as StateCode}
 use Rattle.marshal.specs.declared.play.State.TheVariants as state
 use Rattle.std.specs.Prelude.{ℕ}
-
-abbrev pub plain_fault : FaultCode Sha256Digest → Fault
-plain_fault fault = fault_of (λ digest. digest.bytes) fault
 
 abbrev pub plain_report : Update Sha256Digest (EmptyBlock Sha256 Sha256Digest) → Report
 plain_report update = report_of (λ digest. digest.bytes) plain_block update

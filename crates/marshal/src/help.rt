@@ -1,12 +1,11 @@
 //! What the program says of itself.
 ghost use Rattle.std.specs.Prelude.{◌≡◌, ◌∷◌, ◌↔◌, ◌⊎◌, [], IsSome, codes, map, string_bytes};
 ghost use Rattle.mar_codec.specs.Causes.{Rose};
-ghost use Rattle.marshal.specs.Endings.{IsWritersEnd};
-ghost use Rattle.marshal.specs.Streams.{Takes, TakesFront};
+ghost use Rattle.mar_script.specs.Endings.{IsWritersEnd};
+ghost use Rattle.mar_script.specs.Streams.{Takes, TakesFront};
 
 use crate::command::are_only;
-use crate::sink::{Sink, write_all};
-use crate::status::Status;
+use mar_script::{Sink, Status, write_all};
 use mar_store::Miss;
 
 const HELP: &str = "usage: marshal COMMAND

@@ -3,37 +3,24 @@
 
 ghost use Rattle.std.specs.IoError.{error_kind};
 ghost use Rattle.std.specs.Prelude.{◌≡◌, ◌↔◌, map, string_bytes};
-ghost use Rattle.marshal.specs.Run.{empty_stores as nothing_stored, no_faults};
-ghost use Rattle.marshal.specs.Words.{IsCommand};
+ghost use Rattle.mar_script.specs.Run.{empty_stores as nothing_stored, no_faults};
+ghost use Rattle.mar_script.specs.Words.{IsCommand};
 
-mod asks;
 mod command;
 mod heard;
 mod help;
-mod laws;
-mod line;
 mod play;
-mod reader;
 mod replay;
 mod run;
-mod settings;
-mod shown;
-mod sink;
-mod source;
-mod status;
-mod text;
 mod turn;
-mod words;
 
 use crate::help::{show, text_for};
 use crate::play::Stores;
 use crate::run::run;
-use crate::sink::Output;
-use crate::source::Input as InputSource;
-use crate::status::Status;
 use mar_actor::Ruins;
 use mar_block::StandardBlocks;
 use mar_cert::MockFinalization;
+use mar_script::{Input as InputSource, Output, Status};
 use mar_shelf::prunable::Archive;
 use mar_shelf::{BlockItem, Blocks, CertificateItem, Certificates, NoShelf, Shelf};
 use mar_store::{LuckHalf, MemArchive, MemMeta, Meta};

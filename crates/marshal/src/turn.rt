@@ -2,18 +2,16 @@
 ghost use Rattle.std.specs.Prelude.{◌≡◌, ◌++◌, ◌∷◌, List, OnOk, codes, map, option_map, string_bytes};
 ghost use Rattle.std.specs.List.{flat_map};
 ghost use Rattle.mar_key.specs.Asked.{Asked};
-ghost use Rattle.marshal.specs.Text.{fault_words, line_of, output_text, remark_words, some_words, state_words};
+ghost use Rattle.mar_script.specs.Text.{fault_words, line_of, output_text, remark_words, some_words, state_words};
 ghost use Rattle.marshal.specs.Turn.{fault_in, output_of, plain_report, remark_in, report_text, state_of};
 
-use crate::asks::push_asks;
 use crate::heard::Heard;
 use crate::play::{Outcome, State};
-use crate::shown::{push_ended, push_node};
-use crate::text::{push_block, push_fault, push_remark, push_tip};
 use mar_actor::Update;
 use mar_block::{EmptyBlock, StandardBlocks, Variant};
 use mar_cert::MockFinalization;
 use mar_codec::{Digested, Sha256, Sha256Digest};
+use mar_script::{push_asks, push_block, push_ended, push_fault, push_node, push_remark, push_tip};
 use mar_shelf::{Blocks, Certificates, Shelf};
 use mar_store::Meta;
 use std::alloc::{AllocError, Global};

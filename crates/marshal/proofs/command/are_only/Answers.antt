@@ -1,5 +1,5 @@
 use Rattle.std.proofs.Common.{arith, ap, map, string_bytes, ◌∙◌, ◌∷◌, [], sym}
-use Rattle.marshal.proofs.Spelled.{only_word, single}
+use Rattle.mar_script.proofs.Spelled.{only_word, single}
 use Rattle.marshal.proofs.command.are_only.Goals as goal
 
 pub returns-in-len1 : goal.returns-in-len1

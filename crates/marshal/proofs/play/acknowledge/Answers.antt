@@ -1,5 +1,5 @@
 use Rattle.std.proofs.Common.{refl, sym, ◌∙◌}
-use Rattle.marshal.specs.declared.text.RemarkShown.TheVariants as remark
+use Rattle.mar_script.specs.declared.RemarkShown.TheVariants as remark
 use Rattle.marshal.proofs.Lasting.{acks}
 use Rattle.marshal.proofs.LinePlays.{plays_event, plays_remark}
 use Rattle.marshal.proofs.LineTurns.{ack_done, ack_ignored}

@@ -1,5 +1,5 @@
 use Rattle.std.proofs.Common.{ap, ◌∙◌}
-use Rattle.marshal.specs.Script.{config_of}
+use Rattle.mar_script.specs.Script.{config_of}
 use Rattle.marshal.proofs.LinePlays.{plays_opening, plays_unopened, set_node}
 use Rattle.marshal.proofs.OpeningTurns.{lawful_opening}
 use Rattle.marshal.proofs.play.begin.Goals as goal

@@ -1,4 +1,4 @@
-use Rattle.marshal.specs.Lines.{plain_finalization}
+use Rattle.mar_script.specs.Lines.{plain_finalization}
 use Rattle.marshal.proofs.Lasting.{reports}
 use Rattle.marshal.proofs.LinePlays.{plays_event}
 use Rattle.marshal.proofs.play.finalize.Goals as goal

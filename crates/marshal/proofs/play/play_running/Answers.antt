@@ -1,5 +1,5 @@
 use Rattle.std.proofs.Common.{refl}
-use Rattle.marshal.specs.declared.text.RemarkShown.TheVariants as remark
+use Rattle.mar_script.specs.declared.RemarkShown.TheVariants as remark
 use Rattle.marshal.proofs.LinePlays.{plays_crash, plays_remark}
 use Rattle.marshal.proofs.play.play_running.Goals as goal
 

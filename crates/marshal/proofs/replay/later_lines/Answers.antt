@@ -1,9 +1,9 @@
 use Rattle.std.proofs.Common.{arith, refl, ◌∙◌}
-use Rattle.marshal.specs.declared.status.Status.TheVariants as status
-use Rattle.marshal.specs.declared.status.Why.TheVariants as why
+use Rattle.mar_script.specs.declared.Status.TheVariants as status
+use Rattle.mar_script.specs.declared.Why.TheVariants as why
 use Rattle.marshal.proofs.EventTurns.{not_fewer}
 use Rattle.marshal.proofs.Headlines.{begins_head, head_never, stops_at_end, stops_reading, stops_turn, turn_goes_further, turned_later, turned_set}
-use Rattle.marshal.proofs.ReadSteps.{begins, ends_never, ends_next, ends_ok, ends_unwritten, goes_on}
+use Rattle.mar_script.proofs.ReadSteps.{begins, ends_never, ends_next, ends_ok, ends_unwritten, goes_on}
 use Rattle.marshal.proofs.replay.later_lines.Goals as goal
 
 pub lines-init : goal.lines-init

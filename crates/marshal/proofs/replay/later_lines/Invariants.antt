@@ -3,12 +3,12 @@ use Rattle.mar_key.specs.Asked.{Asked}
 use Rattle.mar_node.specs.Held.{NotFewer}
 use Rattle.mar_node.specs.Node.{Ended}
 use Rattle.marshal.specs.Playing.{IsSetAs}
-use Rattle.marshal.specs.Script.{config_of, settings_bytes}
-use Rattle.marshal.specs.Streams.{Gives, Takes}
-use Rattle.marshal.specs.Text.{stopped, text}
+use Rattle.mar_script.specs.Script.{config_of, settings_bytes}
+use Rattle.mar_script.specs.Streams.{Gives, Takes}
+use Rattle.mar_script.specs.Text.{stopped, text}
 use Rattle.marshal.specs.Turn.{remains_in, state_of}
 use Rattle.marshal.proofs.Headlines.{HeadSoFar}
-use Rattle.marshal.proofs.ReadSteps.{SoFar}
+use Rattle.mar_script.proofs.ReadSteps.{SoFar}
 use Rattle.marshal.proofs.replay.later_lines.Given as goal
 
 -- no count has risen, and the lines that were read are those that were done and written

@@ -1,9 +1,9 @@
 use Rattle.std.proofs.Common.{Err, Ok, [], ap, map, refl, subst, ◌≡◌}
-use Rattle.marshal.specs.Endings.{IsReadersEnd, IsWritersEnd}
+use Rattle.mar_script.specs.Endings.{IsReadersEnd, IsWritersEnd}
 use Rattle.marshal.specs.Turn.{plain_report}
-use Rattle.marshal.proofs.FirstOutside.{outside_is, script_is}
+use Rattle.mar_script.proofs.FirstOutside.{outside_is, script_is}
 use Rattle.marshal.proofs.Headlines.{shown_first, stops_first, stops_unshown}
-use Rattle.marshal.proofs.ReadSteps.{begins, ends_first, ends_unwritten}
+use Rattle.mar_script.proofs.ReadSteps.{begins, ends_first, ends_unwritten}
 use Rattle.marshal.proofs.replay.replay.Goals as goal
 
 pub returns-in-Err-clause-reads : goal.returns-in-Err-clause-reads

@@ -1,6 +1,6 @@
 use Rattle.std.proofs.Common.{[], inr, map, refl}
 use Rattle.marshal.specs.Turn.{output_of, plain_report}
-use Rattle.marshal.proofs.Streams.{takes_none}
+use Rattle.mar_script.proofs.Streams.{takes_none}
 use Rattle.marshal.proofs.replay.turn.Goals as goal
 
 pub returns-then-ran_out-clause-turned : goal.returns-then-ran_out-clause-turned

@@ -1,6 +1,6 @@
 use Rattle.std.proofs.Common.{ap, string_bytes, ◌++◌, ◌∙◌}
 use Rattle.std.specs.List.{flat_map}
-use Rattle.marshal.specs.Text.{ask_words, line_of}
+use Rattle.mar_script.specs.Text.{ask_words, line_of}
 use Rattle.marshal.specs.Turn.{report_text}
 use Rattle.marshal.proofs.SameWords.{turn_shown}
 use Rattle.marshal.proofs.turn.push_turn.Goals as goal

@@ -1,0 +1,327 @@
+-- The delivery run's lines are lines of a run; their nodes are good.
+use Rattle.std.proofs.Common.{ap, option_map, List, ℕ, ◌==◌, [], ◌∷◌, Some, None, refl, IsFalse, inl, true, nat_lt, lit<, lit≤, arith, take}
+use Rattle.mar_cert.specs.Block.{Block}
+use Rattle.mar_types.specs.Round.{Round}
+use Rattle.mar_key.specs.Cutoff.{at_round, covers, cutoff_zero}
+use Rattle.mar_node.specs.Chain.{Chain, IsBlockAt, IsFinal, Finalizes}
+use Rattle.mar_store.specs.Kept.{At, has_height, reopened_store}
+use Rattle.mar_node.specs.Node.{FloorSafe, window_full, block_missing, IsGood}
+use Rattle.mar_node.specs.Event.{life_started, message_told, ack_given}
+use Rattle.mar_key.specs.Keys.{retain, above_height, above_round}
+use Rattle.mar_node.specs.Faults.{from_genesis}
+use Rattle.mar_node.specs.Messages.{report_finalization}
+use Rattle.mar_node.specs.Step.{nothing_made, handed_over, new_tip, Advances}
+use Rattle.mar_node.specs.Lives.{Finds}
+use Rattle.mar_script.specs.Script.{open_line, tell_line, buffer_line, sync_line, ack_line}
+use Rattle.mar_script.specs.Text.{silent_output, remark_output, remark_ignored, running, stopped}
+use Rattle.mar_script.specs.Run.{LineDone, Run, empty_stores}
+use Rattle.mar_laws.proofs.SmallChain.{b0, b1, d1, f1, r1, config}
+use Rattle.mar_laws.proofs.DeliveryRun.{making, begun, n0, n1, n2, n3, n4, delivery_run}
+use Rattle.mar_laws.proofs.SmallFacts.{same_kept, grown_kept, not_entered, entered_own}
+
+-- Of any chain that has these two blocks and this finalized round, and whose other rounds the cutoffs
+-- zero, zero and (0, 1) cover safely.
+module _ (chain : Chain) (at0 : IsBlockAt chain 0 b0) (at1 : IsBlockAt chain 1 b1) (named : IsFinal chain r1 1)
+    (zero_safe : (r : Round) (h : ℕ) → IsFinal chain r h → IsFalse (covers cutoff_zero r))
+    (safe_at_zero : (sure : List (At Block)) → FloorSafe (Some 0) cutoff_zero sure chain)
+    (safe_at_one : (sure : List (At Block)) → FloorSafe (Some 1) (at_round r1) sure chain)
+  where
+    finalizes : Finalizes chain 1 r1 d1
+    finalizes = record { named = named; payload_is = ap (option_map (λ b. b.commitment)) at1 }
+
+    good0 : IsGood config chain n0
+    good0 = record {
+      heights = record {
+        sure_blocks = λ h held. inl held;
+        sure_certs = λ h held. inl held;
+        consecutive = (refl, tt);
+        out_sure = (refl, tt);
+        within_window = lit≤ tt;
+        floor_clears = λ some. cc;
+        anchored = tt;
+        own_pair = refl;
+        sync_open = λ more. absurd (omega arith);
+      };
+      of_chain = record {
+        held_blocks = (at0, tt);
+        may_blocks = (at0, tt);
+        held_certs = tt;
+        may_certs = tt;
+        cached = tt;
+        cached_blocks = tt;
+        awaits = tt;
+        floor_safe = zero_safe;
+        honest_asks = tt;
+        honest_ready = tt;
+        honest_overflow = tt;
+        not_at_hand = tt;
+        tip_reported = tt;
+      };
+    }
+
+    good2 : IsGood config chain n2
+    good2 = record {
+      heights = record {
+        sure_blocks = λ h held. inl held;
+        sure_certs = λ h held. inl held;
+        consecutive = (refl, (refl, tt));
+        out_sure = (refl, (refl, tt));
+        within_window = lit≤ tt;
+        floor_clears = λ some. cc;
+        anchored = tt;
+        own_pair = refl;
+        sync_open = λ more. absurd (omega arith);
+      };
+      of_chain = record {
+        held_blocks = (at0, (at1, tt));
+        may_blocks = (at0, (at1, tt));
+        held_certs = (finalizes, tt);
+        may_certs = (finalizes, tt);
+        cached = tt;
+        cached_blocks = tt;
+        awaits = tt;
+        floor_safe = zero_safe;
+        honest_asks = tt;
+        honest_ready = tt;
+        honest_overflow = tt;
+        not_at_hand = tt;
+        tip_reported = (lit≤ tt, tt);
+      };
+    }
+
+    good3 : IsGood config chain n3
+    good3 = record {
+      heights = record {
+        sure_blocks = λ h held. inl held;
+        sure_certs = λ h held. inl held;
+        consecutive = (refl, tt);
+        out_sure = (refl, tt);
+        within_window = lit≤ tt;
+        floor_clears = λ some. cc;
+        anchored = refl;
+        own_pair = refl;
+        sync_open = λ more. absurd (omega arith);
+      };
+      of_chain = record {
+        held_blocks = (at0, (at1, tt));
+        may_blocks = (at0, (at1, tt));
+        held_certs = (finalizes, tt);
+        may_certs = (finalizes, tt);
+        cached = tt;
+        cached_blocks = tt;
+        awaits = tt;
+        floor_safe = safe_at_zero n3.blocks.sure;
+        honest_asks = tt;
+        honest_ready = tt;
+        honest_overflow = tt;
+        not_at_hand = tt;
+        tip_reported = (lit≤ tt, tt);
+      };
+    }
+
+    pub good4 : IsGood config chain n4
+    good4 = record {
+      heights = record {
+        sure_blocks = λ h held. inl held;
+        sure_certs = λ h held. inl held;
+        consecutive = tt;
+        out_sure = tt;
+        within_window = lit≤ tt;
+        floor_clears = λ some. cc;
+        anchored = refl;
+        own_pair = refl;
+        sync_open = λ more. absurd (omega arith);
+      };
+      of_chain = record {
+        held_blocks = (at0, (at1, tt));
+        may_blocks = (at0, (at1, tt));
+        held_certs = (finalizes, tt);
+        may_certs = (finalizes, tt);
+        cached = tt;
+        cached_blocks = tt;
+        awaits = tt;
+        floor_safe = safe_at_one n4.blocks.sure;
+        honest_asks = tt;
+        honest_ready = tt;
+        honest_overflow = tt;
+        not_at_hand = tt;
+        tip_reported = (lit≤ tt, tt);
+      };
+    }
+
+    -- LINES
+
+    finds : Finds config empty_stores (from_genesis b0) begun
+    finds = record {
+      pair = record { processed = None; cutoff = cutoff_zero };
+      pair_may = (0, lit< tt, refl);
+      found = [];
+      found_may = record { with_sure = λ h v e. e; within_may = λ h v e. absurd cc; once = tt };
+      certs = [];
+      certs_may = record { with_sure = λ h v e. e; within_may = λ h v e. absurd cc; once = tt };
+      cache = [];
+      cache_may = record { with_sure = λ x e. e; within_may = λ x e. e; once = tt };
+      lowest = 0;
+      lowests = [];
+      lowests_were = λ k there. there;
+      lowest_was = (0, lit< tt, refl);
+      blocks = reopened_store (record { height = 0; value = b0 } ∷ []);
+      settled = record { sure = refl; may = λ x has. has };
+      entered = ((refl, tt), λ h. refl);
+      no_fault = refl;
+      node = refl;
+    }
+
+    starts : Advances config chain begun (life_started None) (record nothing_made { reports = handed_over 0 b0 ∷ [] }) n0
+    starts = record {
+      hands = record { in_order = (refl, refl, refl, tt); counted = refl; out = refl; below_barrier = (tt, tt) };
+      hands_chain = ((at0, refl), tt);
+      processed = refl;
+      cutoff = refl;
+      blocks = same_kept 0 begun.blocks;
+      certs = same_kept 0 begun.certs;
+      writes = record {
+        repaired = [];
+        by_repair = λ h. not_entered (nat_lt 0 h) (has_height begun.blocks.held h) true;
+        each_once = λ h. lit≤ tt;
+        blocking = 0;
+        within = lit≤ tt;
+        at_least = lit≤ tt;
+        covered = refl;
+        uncovered = refl;
+        syncs = refl;
+      };
+      repairs = record { at_hand = λ h b is. absurd cc; with_finalization = λ h b is. absurd cc };
+      tips = refl;
+      tips_chain = tt;
+      awaited = refl;
+      cache = record { cache = refl; lowest = refl; lowests = refl; cache_syncs = refl; witnessed = refl };
+      stored = tt;
+      stored_late = tt;
+      floor_stored = tt;
+      query = λ is. cc;
+      no_fault = refl;
+      beside = record { asks = refl; sends = refl; answers = refl; subscriptions = refl; certified = λ h c. refl; next_sync = refl; untouched = refl };
+    }
+
+    opens : LineDone config chain (stopped empty_stores) (open_line (from_genesis b0)) (making (record nothing_made { reports = handed_over 0 b0 ∷ [] })) (running n0)
+    opens = (_, record { first = begun; finds = finds; start = record { unticketed = n0; advances = starts; ticket = refl; rests = block_missing refl; good = good0 } }, refl, refl)
+
+    buffers : LineDone config chain (running n0) (buffer_line b1) silent_output (running n1)
+    buffers = (refl, refl)
+
+    finalized : Advances config chain n1 (message_told None (report_finalization f1)) (record nothing_made { reports = new_tip r1 1 d1 ∷ handed_over 1 b1 ∷ [] }) n2
+    finalized = record {
+      hands = record { in_order = (refl, refl, refl, tt); counted = refl; out = refl; below_barrier = (tt, tt) };
+      hands_chain = ((at1, refl), tt);
+      processed = refl;
+      cutoff = refl;
+      blocks = grown_kept 0 (record { height = 0; value = b0 } ∷ []) (record { height = 1; value = b1 } ∷ []);
+      certs = grown_kept 0 [] (record { height = 1; value = f1 } ∷ []);
+      writes = record {
+        repaired = [];
+        by_repair = λ h. entered_own (nat_lt 0 h) (0 == h) (1 == h) b0 b1;
+        each_once = λ h. lit≤ tt;
+        blocking = 1;
+        within = lit≤ tt;
+        at_least = lit≤ tt;
+        covered = refl;
+        uncovered = refl;
+        syncs = refl;
+      };
+      repairs = record { at_hand = λ h b is. absurd cc; with_finalization = λ h b is. absurd cc };
+      tips = (lit< tt, refl);
+      tips_chain = (named, ap (option_map (λ b. b.digest)) at1, tt);
+      awaited = refl;
+      cache = record { cache = refl; lowest = refl; lowests = refl; cache_syncs = refl; witnessed = refl };
+      stored = record { block = inl refl; certificate = λ with_it above. refl };
+      stored_late = λ with_it late held. absurd (omega arith);
+      floor_stored = tt;
+      query = λ is. cc;
+      no_fault = refl;
+      beside = record { asks = refl; sends = refl; answers = refl; subscriptions = refl; certified = λ h c. refl; next_sync = refl; untouched = refl };
+    }
+
+    finals : LineDone config chain (running n1) (tell_line (report_finalization f1)) (making (record nothing_made { reports = new_tip r1 1 d1 ∷ handed_over 1 b1 ∷ [] })) (running n2)
+    finals = (_, record { unticketed = n2; advances = finalized; ticket = refl; rests = window_full refl; good = good2 }, refl, refl, refl)
+
+    ignores : LineDone config chain (running n2) (sync_line 0) (remark_output remark_ignored) (running n2)
+    ignores = (refl, refl)
+
+    acked0 : Advances config chain n2 (ack_given 0) (record nothing_made { asks = retain (above_height 0) ∷ [] }) n3
+    acked0 = record {
+      hands = record { in_order = tt; counted = refl; out = refl; below_barrier = tt };
+      hands_chain = tt;
+      processed = refl;
+      cutoff = refl;
+      blocks = same_kept 0 n2.blocks;
+      certs = same_kept 0 n2.certs;
+      writes = record {
+        repaired = [];
+        by_repair = λ h. not_entered (nat_lt 0 h) (has_height n2.blocks.held h) true;
+        each_once = λ h. lit≤ tt;
+        blocking = 0;
+        within = lit≤ tt;
+        at_least = lit≤ tt;
+        covered = refl;
+        uncovered = refl;
+        syncs = refl;
+      };
+      repairs = record { at_hand = λ h b is. absurd cc; with_finalization = λ h b is. absurd cc };
+      tips = refl;
+      tips_chain = tt;
+      awaited = refl;
+      cache = record { cache = refl; lowest = refl; lowests = refl; cache_syncs = refl; witnessed = refl };
+      stored = tt;
+      stored_late = tt;
+      floor_stored = tt;
+      query = λ is. cc;
+      no_fault = refl;
+      beside = record { asks = refl; sends = refl; answers = refl; subscriptions = refl; certified = λ h c. refl; next_sync = refl; untouched = refl };
+    }
+
+    acks0 : LineDone config chain (running n2) (ack_line 0) (making (record nothing_made { asks = retain (above_height 0) ∷ [] })) (running n3)
+    acks0 = (_, record { unticketed = n3; advances = acked0; ticket = refl; rests = block_missing refl; good = good3 }, refl, refl, refl)
+
+    acked1 : Advances config chain n3 (ack_given 1) (record nothing_made { asks = retain (above_height 1) ∷ retain (above_round (at_round r1)) ∷ [] }) n4
+    acked1 = record {
+      hands = record { in_order = tt; counted = refl; out = refl; below_barrier = tt };
+      hands_chain = tt;
+      processed = refl;
+      cutoff = refl;
+      blocks = same_kept 0 n3.blocks;
+      certs = same_kept 0 n3.certs;
+      writes = record {
+        repaired = [];
+        by_repair = λ h. not_entered (nat_lt 1 h) (has_height n3.blocks.held h) true;
+        each_once = λ h. lit≤ tt;
+        blocking = 0;
+        within = lit≤ tt;
+        at_least = lit≤ tt;
+        covered = refl;
+        uncovered = refl;
+        syncs = refl;
+      };
+      repairs = record { at_hand = λ h b is. absurd cc; with_finalization = λ h b is. absurd cc };
+      tips = refl;
+      tips_chain = tt;
+      awaited = refl;
+      cache = record { cache = refl; lowest = refl; lowests = refl; cache_syncs = refl; witnessed = refl };
+      stored = tt;
+      stored_late = tt;
+      floor_stored = tt;
+      query = λ is. cc;
+      no_fault = refl;
+      beside = record { asks = refl; sends = refl; answers = refl; subscriptions = refl; certified = λ h c. refl; next_sync = refl; untouched = refl };
+    }
+
+    acks1 : LineDone config chain (running n3) (ack_line 1) (making (record nothing_made { asks = retain (above_height 1) ∷ retain (above_round (at_round r1)) ∷ [] })) (running n4)
+    acks1 = (_, record { unticketed = n4; advances = acked1; ticket = refl; rests = block_missing refl; good = good4 }, refl, refl, refl)
+
+    -- all of it is a run of lives
+    pub delivery_is_run : Run config chain (stopped empty_stores) delivery_run (running n4)
+    delivery_is_run = (opens, (buffers, (finals, (ignores, (acks0, (acks1, refl))))))
+
+    -- and so is its first line: nothing more is handed over, since block 1 is missing
+    pub opening_is_run : Run config chain (stopped empty_stores) (take 1 delivery_run) (running n0)
+    opening_is_run = (opens, refl)

@@ -1,0 +1,12 @@
+pub mod Streams
+pub mod Lines
+pub mod Numbers
+pub mod Sentences
+pub mod Spelled
+pub mod Pushed
+pub mod ReadBytes
+pub mod FirstWords
+pub mod LineKinds
+pub mod LineEnds
+pub mod ReadSteps
+pub mod FirstOutside

@@ -1,0 +1,17 @@
+use Rattle.std.proofs.Common.{[], ap, ◌++◌, ◌∙◌, ◌∷◌}
+use Rattle.mar_script.proofs.ReadSteps.{another_word, first_missing, first_refused, nothing_first}
+use Rattle.mar_script.proofs.reading.first_line.Goals as goal
+
+pub returns-in-Ok-None-clause-first : goal.returns-in-Ok-None-clause-first
+returns-in-Ok-None-clause-first g c = nothing_first _ _ _ _ (rw c.in-Ok-None.field-0-is at c.in-Ok-None.ensures.line)
+
+pub returns-in-Err-clause-first : goal.returns-in-Err-clause-first
+returns-in-Err-clause-first g c = first_missing _ _ _ _ _ _ c.in-Err.ensures.line c.line_status.ensures.told
+
+pub returns-clause-first : goal.returns-clause-first
+returns-clause-first g c =
+    first_refused _ _ c.in-Ok-Some.line _ _ _ _ (rw c.in-Ok-Some.field-0-is at c.in-Ok-Some.ensures.line) (rw c.deref.ensures.value at (c.begins_with.ensures.0 c.if-not-begins_with.false))
+    (λ s is same. c.in-Err-parse_settings.ensures.only s is (ap (λ l. l ++ 10 ∷ []) c.deref-2.ensures.value ∙ same)) c.parse_status.ensures.told
+
+pub returns-then-not-begins_with-clause-first : goal.returns-then-not-begins_with-clause-first
+returns-then-not-begins_with-clause-first g c = another_word _ _ c.in-Ok-Some.line _ _ (rw c.in-Ok-Some.field-0-is at c.in-Ok-Some.ensures.line) (λ word. cc (c.begins_with.ensures.1 (rw c.deref.ensures.value word), c.if-not-begins_with.true))

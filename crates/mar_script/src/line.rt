@@ -1,0 +1,194 @@
+//! The lines of a script behind the first.
+ghost use Rattle.std.specs.Prelude.{◌≡◌, ℕ, IfOk};
+ghost use Rattle.mar_cert.specs.Block.{Block as PlainBlock, IsBlock};
+ghost use Rattle.mar_cert.specs.Finalization.{Finalization as PlainFinalization, finalization_bytes};
+ghost use Rattle.mar_cert.specs.MockScheme.{IsFinalization};
+ghost use Rattle.mar_codec.specs.declared.Sha256Digest.{Sha256Digest};
+ghost use Rattle.mar_script.specs.Lines.{Behind, Parses, Spells, kinds, named, plain_block, plain_finalization, plain_line, stores};
+ghost use Rattle.mar_script.specs.Script.{IsSettings, Line as PlainLine, hex};
+ghost use Rattle.mar_script.specs.Words.{Yields};
+
+use crate::settings::Settings;
+use crate::words::{ParseError, bytes_of, look_up, number, split_word};
+use mar_block::EmptyBlock;
+use mar_cert::MockFinalization;
+use mar_codec::{Decode, Error, Sha256};
+use mar_shelf::StoreName;
+use std::alloc::Global;
+
+/// A line of a script behind the first.
+#[derive(Drop)]
+pub enum Line {
+    /// Opens a life from this block at height zero.
+    OpenGenesis(EmptyBlock<Sha256>),
+    /// Puts a block into the buffer.
+    Buffer(EmptyBlock<Sha256>),
+    /// Reports a finalization.
+    Final(MockFinalization),
+    /// The sync of this ticket finishes.
+    Sync(u64),
+    /// The block of this ticket is acknowledged.
+    Ack(u64),
+    /// The counted call of this store fails that is so many calls away, 1 being the next.
+    Fail(StoreName, u64),
+    /// The life ends at once, and the next opening has this luck.
+    Crash(u64),
+}
+
+// What a line is, by its first word.
+#[derive(Clone, Copy)]
+enum Kind {
+    Open,
+    Buffer,
+    Final,
+    Sync,
+    Ack,
+    Fail,
+    Crash,
+}
+
+// The first word of each kind of line.
+const KINDS: [(&[u8], Kind); 7] = [
+    (b"open", Kind::Open),
+    (b"buffer", Kind::Buffer),
+    (b"final", Kind::Final),
+    (b"sync", Kind::Sync),
+    (b"ack", Kind::Ack),
+    (b"fail", Kind::Fail),
+    (b"crash", Kind::Crash),
+];
+
+// The stores, by their names.
+const STORES: [(&[u8], StoreName); 4] = [
+    (b"blocks", StoreName::Blocks),
+    (b"certs", StoreName::Certs),
+    (b"meta", StoreName::Meta),
+    (b"cache", StoreName::Cache),
+];
+
+/// The line that these bytes spell, without its end.
+pub fn parse_line(alloc: Global, settings: Settings, line: &[u8]) -> Result<Line, ParseError>
+    requires { IsSettings settings }
+    ensures found { IfOk result (λ l. Spells settings.members line.now (plain_line l)) }
+    ensures only { (l : PlainLine) → Spells settings.members line.now l → Yields (λ found. plain_line found ≡ l) result }
+{
+    let Some((word, rest)) = split_word(line) else {
+        return Err(ParseError::Grammar);
+    };
+    let Some(kind) = kind_named(word) else {
+        return Err(ParseError::Grammar);
+    };
+    parse_kind(alloc, settings.members as u32, kind, rest)
+}
+
+// The kind of a line with this first word.
+fn kind_named(word: &[u8]) -> Option<Kind>
+    ensures { result ≡ named kinds word.now }
+{
+    look_up(&KINDS, word)
+}
+
+// The store with this name.
+fn store_named(word: &[u8]) -> Option<StoreName>
+    ensures { result ≡ named stores word.now }
+{
+    look_up(&STORES, word)
+}
+
+// The line of this kind, with these bytes behind its first word and a space.
+fn parse_kind(alloc: Global, members: u32, kind: Kind, rest: &[u8]) -> Result<Line, ParseError>
+    ensures { Parses (Behind members kind rest.now) result }
+{
+    match kind {
+        Kind::Open => open(alloc, rest),
+        Kind::Buffer => block_of(alloc, rest).map(Line::Buffer),
+        Kind::Final => finalization_of(alloc, members, rest).map(Line::Final),
+        Kind::Sync => number(alloc, rest).map(Line::Sync),
+        Kind::Ack => number(alloc, rest).map(Line::Ack),
+        Kind::Fail => fail(alloc, rest),
+        Kind::Crash => number(alloc, rest).map(Line::Crash),
+    }
+}
+
+// The line `open` with these words.
+fn open(alloc: Global, words: &[u8]) -> Result<Line, ParseError>
+    ensures { (n : ℕ) → Parses (Behind n Kind.Open words.now) result }
+{
+    let Some((word, rest)) = split_word(words) else {
+        return Err(ParseError::Grammar);
+    };
+    if word == b"genesis".as_slice() {
+        return block_of(alloc, rest).map(Line::OpenGenesis);
+    }
+    Err(ParseError::Grammar)
+}
+
+// The line `fail` with these words.
+fn fail(alloc: Global, words: &[u8]) -> Result<Line, ParseError>
+    ensures { (n : ℕ) → Parses (Behind n Kind.Fail words.now) result }
+{
+    let Some((word, rest)) = split_word(words) else {
+        return Err(ParseError::Grammar);
+    };
+    let Some(store) = store_named(word) else {
+        return Err(ParseError::Grammar);
+    };
+    match number(alloc, rest) {
+        Ok(calls) => {
+            if calls == 0 {
+                return Err(ParseError::Grammar);
+            }
+            Ok(Line::Fail(store, calls))
+        }
+        Err(error) => Err(error),
+    }
+}
+
+// The block that a word spells, whole.
+fn block_of(alloc: Global, word: &[u8]) -> Result<EmptyBlock<Sha256>, ParseError>
+    ensures is_block { IfOk result (λ b. IsBlock (plain_block b)) }
+    ensures found { IfOk result (λ b. word.now ≡ hex (plain_block b).encoded) }
+    ensures only { (b : PlainBlock) → IsBlock b → word.now ≡ hex b.encoded → Yields (λ found. plain_block found ≡ b) result }
+{
+    let bytes = match bytes_of(alloc, word) {
+        Ok(bytes) => bytes,
+        Err(error) => return Err(error),
+    };
+    match EmptyBlock::<Sha256>::decode_cfg(alloc, bytes.as_slice(), &()) {
+        Ok(block) => {
+            block.is_block();
+            Ok(block)
+        }
+        Err(error) => Err(refusal(error)),
+    }
+}
+
+// The finalization of so many members that a word spells, whole.
+fn finalization_of(alloc: Global, members: u32, word: &[u8]) -> Result<MockFinalization, ParseError>
+    ensures is_finalization { IfOk result (λ f. IsFinalization members (plain_finalization f)) }
+    ensures found { IfOk result (λ f. word.now ≡ hex (finalization_bytes (plain_finalization f))) }
+    ensures only { (f : PlainFinalization) → IsFinalization members f → word.now ≡ hex (finalization_bytes f) → Yields (λ found. plain_finalization found ≡ f) result }
+{
+    let bytes = match bytes_of(alloc, word) {
+        Ok(bytes) => bytes,
+        Err(error) => return Err(error),
+    };
+    match MockFinalization::decode_cfg(alloc, bytes.as_slice(), &members) {
+        Ok(finalization) => {
+            finalization.is_finalization(members);
+            Ok(finalization)
+        }
+        Err(error) => Err(refusal(error)),
+    }
+}
+
+// Why bytes that aren't read as a value are refused.
+fn refusal(error: Error) -> ParseError
+    ensures grammar { result ≡ ParseError.Grammar → error ≡ Error.Memory → ⊥ }
+    ensures memory { result ≡ ParseError.Memory → error ≡ Error.Memory }
+{
+    match error {
+        Error::Memory => ParseError::Memory,
+        _ => ParseError::Grammar,
+    }
+}

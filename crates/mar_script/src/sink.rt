@@ -1,0 +1,127 @@
+//! Where the output of a script goes.
+ghost use Rattle.std.specs.Prelude.{◌≡◌, ◌≤◌, ◌<◌, ℕ, Option, List, [], Some, None, IfOk, OnOk, OnErr, take, length};
+ghost use Rattle.mar_store.specs.Lost.{IsMissedBy};
+ghost use Rattle.mar_script.specs.Streams.{Takes, TakesFront};
+
+use mar_store::Miss;
+use std::alloc::Global;
+use std::io::Write;
+
+/// Bytes that are written at the end, and a count of the writes that failed.
+pub trait Sink {
+    // The bytes that were written, where that is told.
+    ghost written: { Self → Option (List ℕ) };
+
+    // How many writes failed. The count stops at its last value.
+    ghost faults: { Self → ℕ };
+
+    /// Writes some bytes from the front of these and answers how many, at least one where there are some.
+    fn write(&mut self, bytes: &[u8]) -> Result<usize, Miss>
+        ensures within { IfOk result (λ n. n ≤ length bytes.now) }
+        ensures some { IfOk result (λ n. 0 < length bytes.now → 0 < n) }
+        ensures ok { IfOk result (λ n. Takes (written self.old) (take n bytes.now) (written self.new)) }
+        ensures err { OnErr result (Takes (written self.old) [] (written self.new)) }
+        ensures later { faults self.old ≤ faults self.new }
+        ensures cause { IsMissedBy (faults self.old) (faults self.new) result };
+}
+
+/// Writes all of the bytes. A write that fails leaves a front of them written.
+pub fn write_all<K: Sink>(sink: &mut K, bytes: &[u8]) -> Result<(), Miss>
+    ensures ok { OnOk result (Takes (K.written sink.old) bytes.now (K.written sink.new)) }
+    ensures err { OnErr result (TakesFront (K.written sink.old) bytes.now (K.written sink.new)) }
+    ensures later { K.faults sink.old ≤ K.faults sink.new }
+    ensures cause { IsMissedBy (K.faults sink.old) (K.faults sink.new) result }
+{
+    let mut rest = bytes;
+    while !rest.is_empty() {
+        let n = match sink.write(rest) {
+            Ok(n) => n,
+            Err(miss) => return Err(miss),
+        };
+        rest = rest.split_at(n).1;
+    }
+    Ok(())
+}
+
+/// A writer, of which nothing is told but its faults. It has failed where it takes nothing of a piece that isn't empty.
+#[derive(Drop)]
+pub struct Output<W: Write + Drop> {
+    writer: W,
+    faults: u64,
+}
+
+impl<W: Write + Drop> Output<W> {
+    /// Of a writer that has not failed yet.
+    pub fn new(writer: W) -> Self
+        ensures { ⟦<Output<W> as Sink>⟧.faults result ≡ 0 }
+    {
+        Output { writer, faults: 0 }
+    }
+}
+
+impl<W: Write + Drop> Sink for Output<W> {
+    ghost written = { λ _. None };
+
+    ghost faults = { λ s. s.faults };
+
+    fn write(&mut self, bytes: &[u8]) -> Result<usize, Miss> {
+        match self.writer.write(bytes) {
+            Ok(n) if n > 0 || bytes.is_empty() => Ok(n),
+            _ => {
+                self.faults = self.faults.saturating_add(1);
+                Err(Miss::Fault)
+            }
+        }
+    }
+}
+
+/// Bytes in memory, which tell what was written. The writes fail whose numbers, counted from 0, are listed.
+#[derive(Drop)]
+pub struct Written<'a> {
+    bytes: Vec<u8>,
+    failing: &'a [u64],
+    writes: u64,
+    faults: u64,
+}
+
+impl<'a> Written<'a> {
+    /// Of no bytes.
+    pub fn new(alloc: Global, failing: &'a [u64]) -> Self
+        ensures written { ⟦<Written<'a> as Sink>⟧.written result ≡ Some [] }
+        ensures faults { ⟦<Written<'a> as Sink>⟧.faults result ≡ 0 }
+        ensures failing { result.failing.now ≡ failing.now }
+    {
+        Written {
+            bytes: Vec::new(alloc),
+            failing,
+            writes: 0,
+            faults: 0,
+        }
+    }
+
+    /// The bytes that were written.
+    pub fn bytes(&self) -> &[u8]
+        ensures { ⟦<Written<'a> as Sink>⟧.written self.now ≡ Some result.now }
+    {
+        &self.bytes
+    }
+}
+
+impl Sink for Written<'_> {
+    ghost written = { λ s. Some s.bytes.items };
+
+    ghost faults = { λ s. s.faults };
+
+    fn write(&mut self, bytes: &[u8]) -> Result<usize, Miss> {
+        let number = self.writes;
+        self.writes = self.writes.saturating_add(1);
+        if self.failing.contains(&number) {
+            self.faults = self.faults.saturating_add(1);
+            return Err(Miss::Fault);
+        }
+        match self.bytes.extend_from_slice(bytes) {
+            Ok(()) => Ok(bytes.len()),
+            Err(_) => Err(Miss::Memory),
+        }
+    }
+}

@@ -1,0 +1,161 @@
+//! The words of script lines.
+ghost use Rattle.std.specs.Prelude.{◌≡◌, ◌↔◌, ◌<◌, ◌^◌, ◌++◌, ◌∷◌, ℕ, List, IfOk, IfSome, IsSomeAnd, IsTrue, length, decimal, map};
+ghost use Rattle.std.specs.List.{AllByRecursion};
+ghost use Rattle.hex.specs.Hex.{IsBytes};
+ghost use Rattle.mar_codec.specs.Varint.{IsNumber};
+ghost use Rattle.mar_script.specs.Lines.{IsWord, named};
+ghost use Rattle.mar_script.specs.Refused.{HasFirstWord};
+ghost use Rattle.mar_script.specs.Script.{hex};
+ghost use Rattle.mar_script.specs.Words.{Yields, words_in, words_of};
+
+use hex::FromHexError;
+use std::alloc::{AllocError, Global};
+use std::str;
+
+/// Why bytes aren't read as a line.
+#[derive(Clone, Copy, Debug, PartialEq, Eq)]
+pub enum ParseError {
+    /// They are outside the grammar.
+    Grammar,
+    /// Memory ran out.
+    Memory,
+}
+
+impl From<AllocError> for ParseError {
+    ghost use Rattle.std.specs.Prelude.{◌≡◌};
+    ghost use Rattle.mar_script.specs.declared.words.ParseError.TheVariants.{Memory};
+
+    ghost from_gives = { λ _ e. e ≡ Memory };
+
+    fn from(_error: AllocError) -> ParseError {
+        ParseError::Memory
+    }
+}
+
+/// What stands behind this word and the space after it.
+pub fn after<'a>(line: &'a [u8], word: &[u8]) -> Option<&'a [u8]>
+    ensures found { IfSome result (λ rest. line.now ≡ word.now ++ 32 ∷ rest.now) }
+    ensures only { (rest : List ℕ) → line.now ≡ word.now ++ 32 ∷ rest → IsSomeAnd result (λ found. found.now ≡ rest) }
+{
+    if line.len() < word.len() {
+        return None;
+    }
+    let (front, back) = line.split_at(word.len());
+    if front != word {
+        return None;
+    }
+    if back.is_empty() || back[0] != b' ' {
+        return None;
+    }
+    Some(back.split_at(1).1)
+}
+
+/// The first word of a line, and what stands behind it and a space.
+pub fn split_word(line: &[u8]) -> Option<(&[u8], &[u8])>
+    ensures found { IfSome result (λ parts. (line.now ≡ parts.0.now ++ 32 ∷ parts.1.now) × IsWord parts.0.now) }
+    ensures none { result ≡ None → IsWord line.now }
+{
+    let space = line.iter().position(|byte| *byte == b' ')?;
+    let (word, rest) = line.split_at(space);
+    Some((word, rest.split_at(1).1))
+}
+
+/// What a table of words has for this one.
+pub fn look_up<K: Copy>(table: &[(&[u8], K)], word: &[u8]) -> Option<K>
+    ensures { result ≡ named (map (λ row. (row.0.now, row.1)) table.now) word.now }
+{
+    for (name, value) in table {
+        if *name == word {
+            return Some(*value);
+        }
+    }
+    None
+}
+
+/// Whether this is the first word of the line.
+pub fn begins_with(line: &[u8], word: &[u8]) -> bool
+    ensures { IsTrue result ↔ HasFirstWord word.now line.now }
+{
+    line == word || after(line, word).is_some()
+}
+
+/// The words of a line.
+pub fn split_words<'a>(alloc: Global, line: &'a [u8]) -> Result<Vec<&'a [u8]>, AllocError>
+    ensures { IfOk result (λ words. words_of words.items ≡ words_in line.now) }
+{
+    line.split(|byte| *byte == b' ').collect(alloc)
+}
+
+/// The number that a word spells.
+pub fn number(alloc: Global, word: &[u8]) -> Result<u64, ParseError>
+    ensures fits { IfOk result IsNumber }
+    ensures found { IfOk result (λ n. word.now ≡ decimal n) }
+    ensures only { (n : ℕ) → n < 2 ^ 64 → word.now ≡ decimal n → Yields (λ m. m ≡ n) result }
+{
+    let Ok(text) = str::from_utf8(word) else {
+        return Err(ParseError::Grammar);
+    };
+    let Ok(n) = text.parse::<u64>() else {
+        return Err(ParseError::Grammar);
+    };
+    let again = n.to_string(alloc)?;
+    if again.as_bytes() == word {
+        Ok(n)
+    } else {
+        Err(ParseError::Grammar)
+    }
+}
+
+/// The numbers that words spell.
+pub fn numbers(alloc: Global, words: &[&[u8]]) -> Result<Vec<u64>, ParseError>
+    ensures found { IfOk result (λ ns. words_of words.now ≡ map decimal ns.items) }
+    ensures only { (ns : List ℕ) → AllByRecursion IsNumber ns → words_of words.now ≡ map decimal ns → Yields (λ found. found.items ≡ ns) result }
+{
+    let mut numbers = Vec::new(alloc);
+    for word in words {
+        let n = match number(alloc, word) {
+            Ok(n) => n,
+            Err(error) => return Err(error),
+        };
+        if numbers.push(n).is_err() {
+            return Err(ParseError::Memory);
+        }
+    }
+    Ok(numbers)
+}
+
+/// The bytes that a word spells in lower case; at least one.
+pub fn bytes_of(alloc: Global, word: &[u8]) -> Result<Vec<u8>, ParseError>
+    ensures found { IfOk result (λ bytes. word.now ≡ hex bytes.items) }
+    ensures some { IfOk result (λ bytes. 0 < length bytes.items) }
+    ensures only { (bytes : List ℕ) → IsBytes bytes → 0 < length bytes → word.now ≡ hex bytes → Yields (λ found. found.items ≡ bytes) result }
+{
+    let bytes = match hex::decode(alloc, word) {
+        Ok(bytes) => bytes,
+        Err(error) => return Err(refusal(error)),
+    };
+    let items = bytes.as_slice();
+    if items.is_empty() {
+        return Err(ParseError::Grammar);
+    }
+    let again = match hex::encode(alloc, items) {
+        Ok(again) => again,
+        Err(_) => return Err(ParseError::Memory),
+    };
+    if again.as_bytes() == word {
+        Ok(bytes)
+    } else {
+        Err(ParseError::Grammar)
+    }
+}
+
+// Why bytes that aren't decoded are refused.
+fn refusal(error: FromHexError) -> ParseError
+    ensures grammar { result ≡ ParseError.Grammar → error ≡ FromHexError.OutOfMemory → ⊥ }
+    ensures memory { result ≡ ParseError.Memory → error ≡ FromHexError.OutOfMemory }
+{
+    match error {
+        FromHexError::OutOfMemory => ParseError::Memory,
+        _ => ParseError::Grammar,
+    }
+}

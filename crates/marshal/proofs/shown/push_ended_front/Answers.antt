@@ -1,5 +1,0 @@
-use Rattle.marshal.proofs.Pushed.{in_four}
-use Rattle.marshal.proofs.shown.push_ended_front.Goals as goal
-
-pub returns : goal.returns
-returns c = in_four _ _ _ _ _ _ _ _ _ c.in_ok-push_str.ensures.bytes c.in_ok-push_height.ensures c.in_ok-push_str-2.ensures.bytes c.in_ok-push_cutoff.ensures
