@@ -2,7 +2,6 @@
 use Rattle.std.proofs.Common.{List, inl, inr, ℕ, ◌≡◌, ◌⊎◌}
 use Rattle.mar_codec.specs.CodecLemmas.{joined_no_first, joined_no_second}
 use Rattle.mar_codec.specs.Codec.{HasNoFront, IsUnambiguous, Joined, Takes}
-use Rattle.mar_codec.specs.Refusals.{RefusesJoined}
 use Rattle.mar_codec.specs.declared.Error.{Error}
 use Rattle.mar_codec.specs.declared.Error.TheVariants.{Memory}
 
@@ -14,14 +13,3 @@ pub second_err : (First Second : List ℕ → Type 0) (first old middle : List �
     → (e ≡ Memory) ⊎ HasNoFront Second middle → (e ≡ Memory) ⊎ HasNoFront (Joined First Second) old
 second_err First Second first old middle e one taken (inl memory) = inl memory
 second_err First Second first old middle e one taken (inr none) = inr (joined_no_second First Second old first middle one taken.in_grammar taken.taken none)
-
-pub first_cause : (First : List ℕ → Type 0) (refuses_first refuses_second : List ℕ → Error → Type 0) (bytes : List ℕ) (e : Error)
-    → (e ≡ Memory) ⊎ refuses_first bytes e → (e ≡ Memory) ⊎ RefusesJoined First refuses_first refuses_second bytes e
-first_cause First refuses_first refuses_second bytes e (inl memory) = inl memory
-first_cause First refuses_first refuses_second bytes e (inr refused) = inr (inl refused)
-
-pub second_cause : (First : List ℕ → Type 0) (refuses_first refuses_second : List ℕ → Error → Type 0) (first old middle : List ℕ) (e : Error) → Takes First first old middle
-    → (e ≡ Memory) ⊎ refuses_second middle e → (e ≡ Memory) ⊎ RefusesJoined First refuses_first refuses_second old e
-second_cause First refuses_first refuses_second first old middle e taken (inl memory) = inl memory
-second_cause First refuses_first refuses_second first old middle e taken (inr refused) =
-    inr (inr (record { first = first; after = middle; first_is = taken.in_grammar; spelled = taken.taken; refused = refused }))

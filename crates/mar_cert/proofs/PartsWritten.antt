@@ -2,8 +2,8 @@
 use Rattle.std.proofs.Common.{Err, List, Ok, Result, [], add-one, ap, append_assoc, arith, drop, drop-cons, get_or, length, length-append, refl, suc, sym, ℕ, ◌++◌, ◌+◌, ◌<◌, ◌∙◌, ◌≡◌, ◌≤◌}
 use Rattle.std.proofs.lemmas.List.{append-nil}
 use Rattle.std.specs.List.{flat_map}
-use Rattle.std.specs.Prelude.{OnErr, OnOk}
-use Rattle.mar_codec.specs.Codec.{AppendsFront, UsesRoom}
+use Rattle.std.specs.Prelude.{OnErr}
+use Rattle.mar_codec.specs.Codec.{AppendsFront}
 
 -- a front of the bytes stands in the buffer, and `left` is to come
 pub record IsPartWritten (bytes left start now : List ℕ) (room spare : ℕ) : Type 0 where
@@ -37,22 +37,8 @@ stops bytes part left start now now' room spare p more = record {
   appended = more.appended ∙ ap (λ xs. xs ++ more.front) p.wrote ∙ append_assoc start p.front more.front;
 }
 
-pub lacks : (bytes part left start now : List ℕ) (room spare : ℕ) → IsPartWritten bytes (part ++ left) start now room spare → spare < length part → room < length bytes
-lacks bytes part left start now room spare p less =
-    omega (arith, p.room_left, less, ap length p.spelled, length-append p.front (part ++ left), length-append part left)
-
-pub ends : (bytes start now : List ℕ) (room spare : ℕ) → IsPartWritten bytes [] start now room spare → now ≡ start ++ bytes
-ends bytes start now room spare p = p.wrote ∙ ap (λ xs. start ++ xs) (sym (append-nil p.front) ∙ sym p.spelled)
-
 pub used : (bytes start now : List ℕ) (room spare : ℕ) → IsPartWritten bytes [] start now room spare → room ≤ spare + length bytes
 used bytes start now room spare p = omega (arith, p.room_left, ap length p.spelled, ap length (append-nil p.front))
-
--- the last part, whose answer is the answer
-pub last_ok : {T E : Type 0} (r : Result T E) (bytes part start now now' : List ℕ) (room spare : ℕ) → IsPartWritten bytes part start now room spare
-    → OnOk r (now' ≡ now ++ part) → OnOk r (now' ≡ start ++ bytes)
-last_ok (Ok v) bytes part start now now' room spare p wrote =
-    wrote ∙ ap (λ xs. xs ++ part) p.wrote ∙ append_assoc start p.front part ∙ ap (λ xs. start ++ xs) (sym p.spelled)
-last_ok (Err e) bytes part start now now' room spare p wrote = wrote
 
 whole : (bytes part start now : List ℕ) (room spare : ℕ) → IsPartWritten bytes part start now room spare → IsPartWritten bytes (part ++ []) start now room spare
 whole bytes part start now room spare p = record { front = p.front; spelled = p.spelled ∙ ap (λ xs. p.front ++ xs) (sym (append-nil part)); wrote = p.wrote; room_left = p.room_left }
@@ -61,11 +47,6 @@ pub last_err : {T E : Type 0} (r : Result T E) (bytes part start now now' : List
     → OnErr r (AppendsFront part now now') → OnErr r (AppendsFront bytes start now')
 last_err (Ok v) bytes part start now now' room spare p more = more
 last_err (Err e) bytes part start now now' room spare p more = stops bytes part [] start now now' room spare (whole bytes part start now room spare p) more
-
-pub last_room : {T E : Type 0} (r : Result T E) (bytes part start now : List ℕ) (room spare spare' : ℕ) → IsPartWritten bytes part start now room spare
-    → UsesRoom r spare spare' (length part) → UsesRoom r room spare' (length bytes)
-last_room (Ok v) bytes part start now room spare spare' p more = omega (arith, more, p.room_left, ap length p.spelled, length-append p.front part)
-last_room (Err e) bytes part start now room spare spare' p more = lacks bytes part [] start now room spare (whole bytes part start now room spare p) more
 
 -- parts of one kind, the one at i next
 pub flat_map-drop : {X : Type 0} (f : X → List ℕ) (xs : List X) (i : ℕ) (x : X) → i < length xs → x ≡ get_or xs i x → flat_map f (drop i xs) ≡ f x ++ flat_map f (drop (i + 1) xs)

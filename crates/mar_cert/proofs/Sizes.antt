@@ -14,9 +14,6 @@ pub length-proposal : (r : Round) (parent : ℕ) (payload : List ℕ) → length
 length-proposal r parent payload =
     omega (arith, length-append (round_bytes r ++ varint parent) payload, length-append (round_bytes r) (varint parent), length-round_bytes r, length-varint parent)
 
-pub length-certified : (proposal certificate : List ℕ) (most size : ℕ) → length proposal ≤ most → length certificate ≤ size → length (proposal ++ certificate) ≤ most + size
-length-certified proposal certificate most size p c = omega (arith, length-append proposal certificate)
-
 -- a signer of at most 128 members takes 33 bytes
 length-small_signers : (n low : ℕ) (signers : List Signer) → n ≤ 128 → AreSigners n low signers → length (flat_map signer_bytes signers) ≡ 33 * length signers
 length-small_signers n low [] few are = omega arith

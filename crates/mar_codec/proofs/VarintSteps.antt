@@ -3,13 +3,11 @@ use Rattle.std.proofs.Common.{Err, List, Ok, Result, [], ap, append_assoc, arith
 use Rattle.std.proofs.lemmas.List.{append-nil}
 use Rattle.std.proofs.Math.Nat.{mul-le-mul, mul-le-mul_left, pow-le-pow_right, pow-suc}
 use Rattle.std.proofs.lemmas.Bool.{cases_lt}
-use Rattle.mar_codec.specs.Codec.{AppendsFront, HasNoFront, Takes, UsesRoom}
+use Rattle.mar_codec.specs.Codec.{Takes, UsesRoom}
 use Rattle.bytes.specs.Filled.{UsesSpare}
 use Rattle.std.specs.Prelude.{OnOk}
-use Rattle.mar_codec.specs.Refusals.{RefusesVarint}
-use Rattle.mar_codec.specs.declared.error.Error.{Error}
 use Rattle.mar_codec.specs.Varint.{IsBadByte, IsBadVarint, IsContinued, IsCutVarint, IsNumber, IsVarint, varint}
-use Rattle.mar_codec.specs.VarintLemmas.{no_bad_varint, no_cut_varint, varint-large, varint-small}
+use Rattle.mar_codec.specs.VarintLemmas.{varint-large, varint-small}
 
 pub length-varint-small : (n : ℕ) → n < 128 → length (varint n) ≡ 1
 length-varint-small n h = ap length (varint-small n h)
@@ -34,10 +32,6 @@ pub record IsPartWritten (number value : ℕ) (start now : List ℕ) (room left 
   pub room_left : room ≤ left + length front
   pub fits : IsNumber value
 
-pub write_starts : (n : ℕ) (start : List ℕ) (room : ℕ) → IsNumber n → IsPartWritten n n start start room room
-write_starts n start room fits =
-    record { front = []; spelled = refl; wrote = sym (append-nil start); room_left = omega arith; fits = fits }
-
 pub write_goes_on : (n value room left left' : ℕ) (start now now' : List ℕ) → IsPartWritten n value start now room left → 128 ≤ value → now' ≡ now ++ (value % 128 + 128) ∷ [] → left ≤ left' + 1 → IsPartWritten n (value / 128) start now' room left'
 write_goes_on n value room left left' start now now' p large put spare = record {
   front = p.front ++ (value % 128 + 128) ∷ [];
@@ -46,10 +40,6 @@ write_goes_on n value room left left' start now now' p large put spare = record 
   room_left = omega (arith, p.room_left, length-append p.front ((value % 128 + 128) ∷ []));
   fits = omega (arith, p.fits);
 }
-
-pub write_stops : (n value room left : ℕ) (start now now' : List ℕ) → IsPartWritten n value start now room left → now' ≡ now → AppendsFront (varint n) start now'
-write_stops n value room left start now now' p same =
-    record { front = p.front; missing = varint value; spelled = p.spelled; appended = same ∙ p.wrote }
 
 pub write_lacks : (n value room left : ℕ) (start now : List ℕ) → IsPartWritten n value start now room left → left < 1 → room < length (varint n)
 write_lacks n value room left start now p full =
@@ -81,17 +71,6 @@ pub record IsPartRead (place value weight : ℕ) (start now : List ℕ) : Type 0
   pub weighs : weight ≡ 128 ^ place
   pub below : value < weight
   pub begins : (n : ℕ) → value + n * weight < 2 ^ 64 → (0 < place → 0 < n) → varint (value + n * weight) ≡ high ++ varint n
-
-pub read_starts : (start : List ℕ) → IsPartRead 0 0 1 start start
-read_starts start = record {
-  high = [];
-  spelled = refl;
-  continued = tt;
-  so_many = refl;
-  weighs = refl;
-  below = omega arith;
-  begins = λ n fits positive. ap varint (omega arith);
-}
 
 continued_more : (high : List ℕ) (b : ℕ) → IsContinued high → 128 ≤ b → IsContinued (high ++ b ∷ [])
 continued_more [] b c h = (h, tt)
@@ -185,7 +164,3 @@ bad_tenth place b tenth other = elim (cases_lt 1 b) [
   | inl above ↦ inr (above, tenth)
   | inr low ↦ inl (omega arith, omega arith, omega arith)
 ]
-
--- bytes that are refused begin with no varint
-pub no_varint : (bytes : List ℕ) (e : Error) → RefusesVarint bytes e → HasNoFront IsVarint bytes
-no_varint bytes e r = elim r [ inl cut ↦ no_cut_varint bytes cut.1 | inr bad ↦ no_bad_varint bytes bad.1 ]

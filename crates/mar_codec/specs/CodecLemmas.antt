@@ -61,10 +61,6 @@ pub leaves_rest : (InGrammar : List ℕ → Type 0) (written rest front new : Li
 leaves_rest InGrammar written rest front new one is t =
     sym (append_cancel_left written rest new (t.taken ∙ ap (λ xs. xs ++ new) (reads_back InGrammar written rest front new one is t)))
 
--- .. and never refuses it.
-pub is_not_refused : (InGrammar : List ℕ → Type 0) (written rest : List ℕ) → InGrammar written → HasNoFront InGrammar (written ++ rest) → ⊥
-is_not_refused InGrammar written rest is none = none written rest is refl
-
 -- where no front is in the grammar, the whole isn't
 pub no_whole : (InGrammar : List ℕ → Type 0) (bytes : List ℕ) → HasNoFront InGrammar bytes → InGrammar bytes → ⊥
 no_whole InGrammar bytes none is = none bytes [] is (sym (append-nil bytes))
@@ -74,13 +70,3 @@ pub overlong_is_no_whole : (InGrammar : List ℕ → Type 0) (bytes front extra 
 overlong_is_no_whole InGrammar bytes front extra one f spelled more is =
     let same : front ≡ bytes = one front bytes extra [] f is (sym spelled ∙ sym (append-nil bytes)) in
     omega (arith, ap length same, ap length spelled, length-append front extra)
-
--- Two grammars of the same spellings, as a record of a value's own and a joined one, are read alike.
-pub takes_as : (InGrammar Same : List ℕ → Type 0) (front old new : List ℕ) → (InGrammar front → Same front) → Takes InGrammar front old new → Takes Same front old new
-takes_as InGrammar Same front old new to t = record { in_grammar = to t.in_grammar; taken = t.taken }
-
-pub has_no_front_as : (InGrammar Same : List ℕ → Type 0) (bytes : List ℕ) → ((front : List ℕ) → Same front → InGrammar front) → HasNoFront InGrammar bytes → HasNoFront Same bytes
-has_no_front_as InGrammar Same bytes from none front rest is e = none front rest (from front is) e
-
-pub unambiguous_as : (InGrammar Same : List ℕ → Type 0) → ((front : List ℕ) → Same front → InGrammar front) → IsUnambiguous InGrammar → IsUnambiguous Same
-unambiguous_as InGrammar Same from one front other rest left f o e = one front other rest left (from front f) (from other o) e

@@ -1,9 +1,9 @@
 -- Bytes of one length, and what they begin.
-use Rattle.std.proofs.Common.{List, [], ap, arith, drop, get_or, length, length-append, refl, replicate, suc, sym, take, zero, ℕ, ◌++◌, ◌<◌, ◌^◌, ◌∙◌, ◌∷◌, ◌≡◌}
+use Rattle.std.proofs.Common.{List, [], ap, arith, drop, get_or, length, length-append, refl, suc, sym, take, zero, ℕ, ◌++◌, ◌<◌, ◌∙◌, ◌∷◌, ◌≡◌}
 use Rattle.std.proofs.Math.Path.{PathP}
 use Rattle.std.proofs.lemmas.List.{take-append-drop}
-use Rattle.std.proofs.lemmas.Nat.{be_bytes_2, be_bytes_4, be_bytes_8, from_be_bytes-to_be_bytes_2, from_be_bytes-to_be_bytes_4, from_be_bytes-to_be_bytes_8}
-use Rattle.std.specs.Int.{from_be_bytes, to_be_bytes, w16, w32, w64}
+use Rattle.std.proofs.lemmas.Nat.{be_bytes_8}
+use Rattle.std.specs.Int.{from_be_bytes, to_be_bytes, w64}
 use Rattle.std.specs.List.{AllByRecursion}
 use Rattle.mar_codec.specs.Codec.{HasNoFront, IsUnambiguous, Takes}
 use Rattle.mar_codec.specs.Digest.{IsByte, IsBytes, IsBytes-prop}
@@ -16,10 +16,6 @@ all_from_index (b ∷ bytes) below = (below 0, all_from_index bytes (λ k. below
 -- an array of bytes
 pub is_bytes : (size : ℕ) (bytes : List ℕ) → length bytes ≡ size → ((k : ℕ) → get_or bytes k 0 < 256) → IsBytes size bytes
 is_bytes size bytes long below = (long, all_from_index bytes below)
-
-zeros : (size : ℕ) → AllByRecursion IsByte (replicate size 0)
-zeros zero = tt
-zeros (suc size) = (omega arith, zeros size)
 
 -- fronts of one length are one
 pub same_front : (front other rest left : List ℕ) → length front ≡ length other → front ++ rest ≡ other ++ left → front ≡ other
@@ -58,22 +54,5 @@ below_from_all (b ∷ bytes) all (suc k) = below_from_all bytes all.1 k
 same_taken : (InGrammar : List ℕ → Type 0) (bytes other old new : List ℕ) → other ≡ bytes → Takes InGrammar bytes old new → Takes InGrammar other old new
 same_taken InGrammar bytes other old new e t = rw e t
 
--- the number that big-endian bytes are is spelled by these bytes
-pub takes_be_2 : (n : ℕ) (bytes old new : List ℕ) → n ≡ from_be_bytes w16 bytes → Takes (IsBytes 2) bytes old new → Takes (IsBytes 2) (to_be_bytes w16 n) old new
-takes_be_2 n bytes old new e t = same_taken (IsBytes 2) bytes _ old new (be_bytes_2 bytes n t.in_grammar.0 (below_from_all bytes t.in_grammar.1) e) t
-
-pub takes_be_4 : (n : ℕ) (bytes old new : List ℕ) → n ≡ from_be_bytes w32 bytes → Takes (IsBytes 4) bytes old new → Takes (IsBytes 4) (to_be_bytes w32 n) old new
-takes_be_4 n bytes old new e t = same_taken (IsBytes 4) bytes _ old new (be_bytes_4 bytes n t.in_grammar.0 (below_from_all bytes t.in_grammar.1) e) t
-
 pub takes_be_8 : (n : ℕ) (bytes old new : List ℕ) → n ≡ from_be_bytes w64 bytes → Takes (IsBytes 8) bytes old new → Takes (IsBytes 8) (to_be_bytes w64 n) old new
 takes_be_8 n bytes old new e t = same_taken (IsBytes 8) bytes _ old new (be_bytes_8 bytes n t.in_grammar.0 (below_from_all bytes t.in_grammar.1) e) t
-
--- big-endian bytes tell numbers that fit apart
-pub to_be_bytes_2-injective : (m n : ℕ) → m < 2 ^ 16 → n < 2 ^ 16 → to_be_bytes w16 m ≡ to_be_bytes w16 n → m ≡ n
-to_be_bytes_2-injective m n m_fits n_fits e = sym (from_be_bytes-to_be_bytes_2 m m_fits) ∙ ap (from_be_bytes w16) e ∙ from_be_bytes-to_be_bytes_2 n n_fits
-
-pub to_be_bytes_4-injective : (m n : ℕ) → m < 2 ^ 32 → n < 2 ^ 32 → to_be_bytes w32 m ≡ to_be_bytes w32 n → m ≡ n
-to_be_bytes_4-injective m n m_fits n_fits e = sym (from_be_bytes-to_be_bytes_4 m m_fits) ∙ ap (from_be_bytes w32) e ∙ from_be_bytes-to_be_bytes_4 n n_fits
-
-pub to_be_bytes_8-injective : (m n : ℕ) → m < 2 ^ 64 → n < 2 ^ 64 → to_be_bytes w64 m ≡ to_be_bytes w64 n → m ≡ n
-to_be_bytes_8-injective m n m_fits n_fits e = sym (from_be_bytes-to_be_bytes_8 m m_fits) ∙ ap (from_be_bytes w64) e ∙ from_be_bytes-to_be_bytes_8 n n_fits

@@ -1,9 +1,8 @@
 -- Where the first entry that passes stands.
-use Rattle.std.proofs.Common.{◌≡◌, ℕ, suc, List, [], ◌∷◌, ◌++◌, length, Bool, true, false, cond, Option, None, Some, refl, ap, ◌∙◌, sym, is_some, ◌||◌, ◌<◌, ◌+◌, take, get_or, arith}
+use Rattle.std.proofs.Common.{◌≡◌, ℕ, suc, List, [], ◌∷◌, ◌++◌, length, Bool, true, false, cond, Option, None, Some, refl, ap, ◌∙◌, sym, is_some, ◌||◌}
 use Rattle.std.specs.Prelude.{find, option_map, if◌then◌else◌}
 use Rattle.std.specs.List.{list_any}
 use Rattle.std.proofs.lemmas.Bool.{or_left}
-use Rattle.std.proofs.lemmas.List.{take_more, length-take-le}
 use Rattle.mar_codec.specs.Places.{first_place, or_place, at_place}
 
 later : (a b : Option ℕ) → option_map suc (or_place a b) ≡ or_place (option_map suc a) (option_map suc b)
@@ -59,10 +58,3 @@ first_or r a b is set = set ∙ sym (or_left a b (sym is ∙ set))
 
 pub second_or : (r s a b : Bool) → r ≡ a → r ≡ false → s ≡ b → s ≡ (a || b)
 second_or r s a b is unset second = second ∙ ap (λ t. t || b) (sym unset ∙ is)
-
--- one more entry of a list
-pub taken_more : {T : Type 0} (xs : List T) (i : ℕ) (x : T) → i < length xs → x ≡ get_or xs i x → take (i + 1) xs ≡ take i xs ++ x ∷ []
-taken_more xs i x lt is = take_more xs i x lt ∙ ap (λ y. take i xs ++ y ∷ []) (sym is)
-
-pub length_taken : {T : Type 0} (xs : List T) (i : ℕ) → i < length xs → i ≡ length (take i xs)
-length_taken xs i lt = sym (length-take-le i xs (omega arith))

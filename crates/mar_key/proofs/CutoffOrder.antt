@@ -6,29 +6,8 @@ use Rattle.std.proofs.lemmas.Bool.Decides.{nat_tests}
 use Rattle.mar_types.specs.Round.{Round, round_le, round_lt}
 use Rattle.mar_key.specs.Cutoff.{Cutoff, at_epoch, at_round, covers, cutoff_le, cutoff_max, greatest_of}
 
-nat_le-trans : (a b c : ℕ) → nat_le a b ≡ true → nat_le b c ≡ true → nat_le a c ≡ true
-nat_le-trans a b c p q = grind (arith, nat_tests)
-
 abbrev round_of : ℕ → ℕ → Round
 round_of e v = record { epoch = e; view = v }
-
-pub round_le-refl : (r : Round) → IsTrue (round_le r r)
-round_le-refl r = le r.epoch r.view
-  where
-    le : (e v : ℕ) → (nat_lt e e || (e == e && nat_le v v)) ≡ true
-    le e v = grind (arith, nat_tests)
-
-pub round_le-trans : (r s t : Round) → IsTrue (round_le r s) → IsTrue (round_le s t) → IsTrue (round_le r t)
-round_le-trans r s t p q = le r.epoch r.view s.epoch s.view t.epoch t.view p q
-  where
-    le : (a b c d e f : ℕ) → (nat_lt a c || (a == c && nat_le b d)) ≡ true → (nat_lt c e || (c == e && nat_le d f)) ≡ true → (nat_lt a e || (a == e && nat_le b f)) ≡ true
-    le a b c d e f p q = grind (arith, nat_tests)
-
-pub round_le-total : (r s : Round) → IsFalse (round_le r s) → IsTrue (round_lt s r)
-round_le-total r s p = lt r.epoch r.view s.epoch s.view p
-  where
-    lt : (a b c d : ℕ) → (nat_lt a c || (a == c && nat_le b d)) ≡ false → (nat_lt c a || (c == a && nat_lt d b)) ≡ true
-    lt a b c d p = grind (arith, nat_tests)
 
 -- a round at or below another is below it, or the same
 pub round_le-cases : (r s : Round) → IsTrue (round_le r s) → IsTrue (round_lt r s) ⊎ (r ≡ s)
@@ -43,38 +22,6 @@ round_le-cases r s p = by (round_lt r s) refl
     by : (b : Bool) → round_lt r s ≡ b → IsTrue (round_lt r s) ⊎ (r ≡ s)
     by true lt = inl lt
     by false no_lt = inr (ap₂ round_of (epochs r.epoch r.view s.epoch s.view p no_lt) (views r.epoch r.view s.epoch s.view p no_lt))
-
-pub cutoff_le-refl : (c : Cutoff) → IsTrue (cutoff_le c c)
-cutoff_le-refl (at_round r) = round_le-refl r
-cutoff_le-refl (at_epoch e) = le e
-  where
-    le : (e : ℕ) → nat_le e e ≡ true
-    le e = grind (arith, nat_tests)
-
-pub cutoff_le-trans : (c d e : Cutoff) → IsTrue (cutoff_le c d) → IsTrue (cutoff_le d e) → IsTrue (cutoff_le c e)
-cutoff_le-trans (at_round r) (at_round s) (at_round t) p q = round_le-trans r s t p q
-cutoff_le-trans (at_round r) (at_round s) (at_epoch e) p q = le r.epoch r.view s.epoch s.view e p q
-  where
-    le : (a b c d e : ℕ) → (nat_lt a c || (a == c && nat_le b d)) ≡ true → nat_le c e ≡ true → nat_le a e ≡ true
-    le a b c d e p q = grind (arith, nat_tests)
-cutoff_le-trans (at_round r) (at_epoch e) (at_round s) p q = le r.epoch e s.epoch s.view r.view p q
-  where
-    le : (a e c d b : ℕ) → nat_le a e ≡ true → nat_lt e c ≡ true → (nat_lt a c || (a == c && nat_le b d)) ≡ true
-    le a e c d b p q = grind (arith, nat_tests)
-cutoff_le-trans (at_round r) (at_epoch e) (at_epoch f) p q = nat_le-trans r.epoch e f p q
-cutoff_le-trans (at_epoch e) (at_round r) (at_round s) p q = le e r.epoch r.view s.epoch s.view p q
-  where
-    le : (e a b c d : ℕ) → nat_lt e a ≡ true → (nat_lt a c || (a == c && nat_le b d)) ≡ true → nat_lt e c ≡ true
-    le e a b c d p q = grind (arith, nat_tests)
-cutoff_le-trans (at_epoch e) (at_round r) (at_epoch f) p q = le e r.epoch f p q
-  where
-    le : (e a f : ℕ) → nat_lt e a ≡ true → nat_le a f ≡ true → nat_le e f ≡ true
-    le e a f p q = grind (arith, nat_tests)
-cutoff_le-trans (at_epoch e) (at_epoch f) (at_round r) p q = le e f r.epoch p q
-  where
-    le : (e f a : ℕ) → nat_le e f ≡ true → nat_lt f a ≡ true → nat_lt e a ≡ true
-    le e f a p q = grind (arith, nat_tests)
-cutoff_le-trans (at_epoch e) (at_epoch f) (at_epoch g) p q = nat_le-trans e f g p q
 
 pub cutoff_le-total : (c d : Cutoff) → IsFalse (cutoff_le c d) → IsTrue (cutoff_le d c)
 cutoff_le-total (at_round r) (at_round s) p = le r.epoch r.view s.epoch s.view p
@@ -96,18 +43,12 @@ cutoff_le-total (at_epoch e) (at_epoch f) p = le e f p
 
 -- COVERS
 
-pub covers-higher : (c d : Cutoff) (r : Round) → IsTrue (cutoff_le c d) → IsTrue (covers c r) → IsTrue (covers d r)
-covers-higher c d r le covered = cutoff_le-trans (at_round r) c d covered le
-
 -- a round cutoff covers the rounds at or below it, an epoch's those of its epoch and of earlier ones
 pub covers-at_round : (s r : Round) → IsTrue (covers (at_round s) r) → IsTrue (round_lt r s) ⊎ (r ≡ s)
 covers-at_round s r covered = round_le-cases r s covered
 
 pub covers-at_epoch : (e : ℕ) (r : Round) → IsTrue (covers (at_epoch e) r) → r.epoch ≤ e
 covers-at_epoch e r covered = leb-true r.epoch e covered
-
-pub covers-own_round : (r : Round) → IsTrue (covers (at_round r) r)
-covers-own_round r = round_le-refl r
 
 -- THE GREATEST
 
@@ -118,20 +59,6 @@ cutoff_max-cases c d = by (cutoff_le c d)
     by true = inr refl
     by false = inl refl
 
-pub cutoff_max-left : (c d : Cutoff) → IsTrue (cutoff_le c (cutoff_max c d))
-cutoff_max-left c d = by (cutoff_le c d) refl
-  where
-    by : (b : Bool) → cutoff_le c d ≡ b → IsTrue (cutoff_le c (if b then d else c))
-    by true le = le
-    by false gt = cutoff_le-refl c
-
-pub cutoff_max-right : (c d : Cutoff) → IsTrue (cutoff_le d (cutoff_max c d))
-cutoff_max-right c d = by (cutoff_le c d) refl
-  where
-    by : (b : Bool) → cutoff_le c d ≡ b → IsTrue (cutoff_le d (if b then d else c))
-    by true le = cutoff_le-refl d
-    by false gt = cutoff_le-total c d gt
-
 -- what holds of the first and of all others holds of the greatest, which is one of them
 pub greatest_of-all : (P : Cutoff → Type 0) (c : Cutoff) (cs : List Cutoff) → P c → AllByRecursion P cs → P (greatest_of c cs)
 greatest_of-all P c [] p all = p
@@ -140,11 +67,6 @@ greatest_of-all P c (d ∷ cs) p all = greatest_of-all P (cutoff_max c d) cs (of
     of : (cutoff_max c d ≡ c) ⊎ (cutoff_max c d ≡ d) → P (cutoff_max c d)
     of (inl same) = subst P (sym same) p
     of (inr same) = subst P (sym same) all.0
-
--- it is at least the first
-pub greatest_of-first : (c : Cutoff) (cs : List Cutoff) → IsTrue (cutoff_le c (greatest_of c cs))
-greatest_of-first c [] = cutoff_le-refl c
-greatest_of-first c (d ∷ cs) = cutoff_le-trans c (cutoff_max c d) (greatest_of (cutoff_max c d) cs) (cutoff_max-left c d) (greatest_of-first (cutoff_max c d) cs)
 
 pub greatest_of-append : (c : Cutoff) (cs ds : List Cutoff) → greatest_of c (cs ++ ds) ≡ greatest_of (greatest_of c cs) ds
 greatest_of-append c cs ds = fold-append cutoff_max c cs ds

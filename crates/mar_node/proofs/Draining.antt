@@ -1,5 +1,5 @@
 -- Acknowledged blocks that are processed one after another.
-use Rattle.std.proofs.Common.{◌≡◌, ◌⊎◌, inl, inr, ℕ, suc, ◌+◌, ◌≤◌, List, [], ◌∷◌, ◌++◌, length, flat_map, fold, Bool, true, false, if◌then◌else◌, nat_lt, is_some, Option, Some, None, option_to_list, refl, sym, ◌∙◌, ap, subst, arith, append_assoc, append-nil, length-append}
+use Rattle.std.proofs.Common.{◌≡◌, ℕ, suc, ◌+◌, ◌≤◌, List, [], ◌∷◌, ◌++◌, length, flat_map, fold, Bool, true, false, if◌then◌else◌, nat_lt, is_some, Option, Some, None, option_to_list, refl, sym, ◌∙◌, ap, subst, arith, append_assoc, append-nil, length-append}
 use Rattle.std.proofs.lemmas.Bool.Decides.{nat_tests}
 use Rattle.std.proofs.lemmas.Grind.{flat_map-append}
 use Rattle.mar_types.specs.Round.{Round}
@@ -11,11 +11,11 @@ use Rattle.mar_key.specs.Keys.{Call, above_height, retain}
 use Rattle.mar_key.specs.Processed.{Processed, at_block}
 use Rattle.mar_key.proofs.CutoffOrder.{greatest_of-append}
 use Rattle.mar_store.specs.Kept.{At}
-use Rattle.mar_node.specs.Acks.{Mark, Outstanding, after_given, after_oldest, dropped_oldest, given_front, given_oldest, is_dropped, is_given, mark_dropped, mark_given, mark_waiting}
+use Rattle.mar_node.specs.Acks.{Outstanding, after_given, after_oldest, dropped_oldest, given_front, given_oldest, is_given}
 use Rattle.mar_node.specs.Event.{acked_to}
-use Rattle.mar_node.specs.Held.{Counts, Ending, Grew, IsUsual, Seen}
+use Rattle.mar_node.specs.Held.{Counts, Grew, Seen}
 use Rattle.mar_node.specs.Lives.{later_round}
-use Rattle.mar_node.specs.Moves.{Drains, DrainsNext, EndsDropped, EndsOldest, progress_asks, retired, round_at, with_processed}
+use Rattle.mar_node.specs.Moves.{Drains, DrainsNext, progress_asks, retired, round_at, with_processed}
 use Rattle.mar_node.specs.Requests.{raise_asks}
 use Rattle.mar_node.proofs.Growing.{Grew-refl}
 use Rattle.mar_node.proofs.Handing.{Hears-nothing, Hears-then}
@@ -90,16 +90,6 @@ both_parts (a ∷ out) = by (is_given a.mark) (both_parts out)
 empty_list : {T : Type 0} (xs : List T) → length xs ≡ 0 → xs ≡ []
 empty_list [] e = refl
 empty_list (x ∷ xs) e = absurd (omega arith)
-
--- a dropped oldest stays behind the front
-dropped_stays : (out : List Outstanding) (a : Outstanding) → dropped_oldest out ≡ Some a → dropped_oldest (after_given out) ≡ Some a
-dropped_stays [] a is = is
-dropped_stays (x ∷ out) a is = by x.mark refl is
-  where
-    by : (m : Mark) → x.mark ≡ m → (if is_dropped m then Some x else None) ≡ Some a → dropped_oldest (if is_given m then after_given out else x ∷ out) ≡ Some a
-    by mark_waiting e d = absurd cc
-    by mark_given e d = absurd cc
-    by mark_dropped e d = ap (λ m. if is_dropped m then Some x else None) e ∙ d
 
 -- WHAT IS ASKED AND WITNESSED
 
@@ -250,12 +240,3 @@ module _ {P E : Type 0} (epochs_of : E → Epochs) (start now : Seen P E) (told 
 
       done_is : so_far.done ≡ given_front start.life.out
       done_is = sym (append-nil so_far.done) ∙ (ap (λ zs. so_far.done ++ zs) (sym none_more) ∙ sym so_far.front)
-
-  pub EndsDropped-oldest : (e : Ending) → IsUsual e.fault ⊎ EndsOldest now e → IsUsual e.fault ⊎ EndsDropped start e
-  EndsDropped-oldest e (inl usual) = inl usual
-  EndsDropped-oldest e (inr ends) = inr (record {
-    oldest = ends.oldest;
-    dropped = ap dropped_oldest (sym so_far.rest) ∙ dropped_stays now.life.out ends.oldest ends.dropped;
-    fault = ends.fault;
-    unsynced = ends.unsynced ∙ so_far.grew.pairs_same;
-  })

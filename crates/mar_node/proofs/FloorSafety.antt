@@ -1,5 +1,5 @@
 -- The cutoff stays safe on a lawful chain: after acknowledgements, a witnessed round, a closed epoch, an applied floor.
-use Rattle.std.proofs.Common.{◌≡◌, ◌⊎◌, inl, inr, ℕ, ◌+◌, ◌-◌, ◌<◌, ◌≤◌, ◌==◌, List, [], ◌∷◌, ◌++◌, Bool, true, false, if◌then◌else◌, nat_lt, Option, Some, None, option_map, option_to_list, IsTrue, IsFalse, map, flat_map, refl, sym, ◌∙◌, ap, subst, arith, eq-or-lt_of_le, le_refl, append-nil, ◌&&◌, ◌||◌, nat_le, leb-true}
+use Rattle.std.proofs.Common.{◌≡◌, ◌⊎◌, inl, inr, ℕ, ◌+◌, ◌-◌, ◌<◌, ◌≤◌, List, [], ◌∷◌, ◌++◌, Bool, true, false, if◌then◌else◌, nat_lt, Option, Some, None, option_map, option_to_list, IsTrue, IsFalse, map, flat_map, refl, sym, ◌∙◌, ap, subst, arith, eq-or-lt_of_le, le_refl, append-nil, nat_le, leb-true}
 use Rattle.std.specs.Bool.{⊤}
 use Rattle.std.specs.List.{AllByRecursion}
 use Rattle.std.proofs.lemmas.Bool.Decides.{nat_tests}
@@ -9,7 +9,7 @@ use Rattle.mar_types.proofs.Partition.{closed_epoch-bounds}
 use Rattle.mar_cert.specs.Block.{Block}
 use Rattle.mar_cert.specs.Finalization.{Finalization}
 use Rattle.mar_node.specs.Messages.{prune_below}
-use Rattle.mar_key.specs.Cutoff.{Cutoff, at_epoch, at_round, covers, cutoff_zero, greatest_of}
+use Rattle.mar_key.specs.Cutoff.{Cutoff, at_epoch, at_round, covers, greatest_of}
 use Rattle.mar_key.specs.Processed.{Processed, at_absent, at_block, first_unprocessed, height_in, height_of}
 use Rattle.mar_key.proofs.CutoffOrder.{covers-at_epoch, covers-at_round, greatest_of-all}
 use Rattle.mar_store.specs.Kept.{At, has_height, value_at}
@@ -60,12 +60,6 @@ module _ (config : Config) (chain : Chain) (lawful : IsLawful config.epochs chai
       by r h final false e = e
       by r h final true e = absurd (let low : h ≤ 0 = upto r h final e in let high : 1 ≤ h = lawful.above_zero r h final in omega arith)
 
-  pub FloorSafe-zero : (sure : List (At Block)) → FloorSafe None cutoff_zero sure chain
-  FloorSafe-zero sure r h final = none r.epoch r.view (lawful.views r h final)
-    where
-      none : (e v : ℕ) → 1 ≤ v → (nat_lt e 0 || (e == 0 && nat_le v 0)) ≡ false
-      none e v seen = grind (arith, nat_tests)
-
 -- or where the next block is sure
 pub FloorSafe-at_next : (chain : Chain) (p : ℕ) (c : Cutoff) (sure : List (At Block)) → CoversUpto chain (p + 1) c → IsTrue (has_height sure (p + 1)) → FloorSafe (Some p) c sure chain
 FloorSafe-at_next chain p c sure upto next r h final covered = by (eq-or-lt_of_le low)
@@ -94,10 +88,6 @@ FloorSafe-still chain (Some p) c sure sure' still safe = λ r h final covered. b
     by : (h : ℕ) → (h ≤ p) ⊎ ((h ≡ p + 1) × IsTrue (has_height sure h)) → (h ≤ p) ⊎ ((h ≡ p + 1) × IsTrue (has_height sure' h))
     by h (inl low) = inl low
     by h (inr (same, has)) = inr (same, subst (λ k. IsTrue (has_height sure' k)) (sym same) (still (subst (λ k. IsTrue (has_height sure k)) same has)))
-
--- and as the processed height rises
-pub FloorSafe-higher : (chain : Chain) (o : Option ℕ) (k : ℕ) (c : Cutoff) (sure sure' : List (At Block)) → next_after o ≤ k → FloorSafe o c sure chain → FloorSafe (Some k) c sure' chain
-FloorSafe-higher chain o k c sure sure' le safe r h final covered = inl (let low : h ≤ next_after o = CoversUpto-from_safe chain o c sure safe r h final covered in omega arith)
 
 -- the greatest of safe cutoffs is safe
 pub FloorSafe-greatest_of : (chain : Chain) (o : Option ℕ) (c : Cutoff) (cs : List Cutoff) (sure : List (At Block)) → FloorSafe o c sure chain → AllByRecursion (λ d. FloorSafe o d sure chain) cs → FloorSafe o (greatest_of c cs) sure chain

@@ -1,12 +1,10 @@
 -- What calls one after another leave: each keeps what was sure, and adds no more than it was to write.
-use Rattle.std.proofs.Common.{◌≡◌, ⊎_elim, ℕ, Option, Some, List, [], ◌∷◌, ◌++◌, Bool, Contains, refl, sym, ◌∙◌, ap, subst, append-nil, ◌<◌, arith}
+use Rattle.std.proofs.Common.{◌≡◌, ⊎_elim, ℕ, Some, List, [], ◌∷◌, ◌++◌, Bool, Contains, refl, sym, ◌∙◌, ap, subst, append-nil, ◌<◌, arith}
 use Rattle.std.proofs.lemmas.List.Elements.{Contains-append_cases, Contains-append_left, Contains-append_right}
 use Rattle.mar_cert.specs.Block.{Block}
 use Rattle.mar_cert.specs.Finalization.{Finalization}
 use Rattle.mar_store.specs.Kept.{At, Kept, value_at}
 use Rattle.mar_store.specs.Changes.{Fails, IsNested, Left, Puts, Syncs, Within, left_of}
-use Rattle.mar_key.specs.Cutoff.{Cutoff}
-use Rattle.mar_key.specs.Processed.{Processed}
 use Rattle.mar_node.specs.Metadata.{Pair, first_pair}
 use Rattle.mar_node.specs.Held.{Ending, Grew, Held, IsEndedBy, Loses, blocks_left, certs_left}
 
@@ -28,23 +26,11 @@ Fails-sync old new nested syncs = record {
   may = λ x has. subst (λ xs. Contains xs x) (sym (append-nil old.may)) (syncs.may x has);
 }
 
--- where the durable lists are the same
-pub Grew-same : (old new : Held) → new.blocks ≡ old.blocks → new.certs ≡ old.certs → new.pairs ≡ old.pairs → new.counts ≡ old.counts → Grew old [] [] new
-Grew-same old new blocks certs pairs counts = record {
-  blocks_grew = subst (λ k. Fails (left_of old.blocks) [] (left_of k)) (sym blocks) (Fails-same (left_of old.blocks) []);
-  certs_grew = subst (λ k. Fails (left_of old.certs) [] (left_of k)) (sym certs) (Fails-same (left_of old.certs) []);
-  pairs_same = pairs;
-  counts_same = counts;
-}
-
 pub Grew-blocks : (old : Held) (more : List (At Block)) (blocks : Kept (At Block)) (k : ℕ) → Fails (left_of old.blocks) more (left_of blocks) → k ≡ old.counts.blocks → Grew old more [] (record old { blocks = blocks; counts = record old.counts { blocks = k } })
 Grew-blocks old more blocks k fails same = record { blocks_grew = fails; certs_grew = Fails-same (left_of old.certs) []; pairs_same = refl; counts_same = ap (λ j. record old.counts { blocks = j }) same }
 
 pub Grew-certs : (old : Held) (more : List (At Finalization)) (certs : Kept (At Finalization)) (k : ℕ) → Fails (left_of old.certs) more (left_of certs) → k ≡ old.counts.certs → Grew old [] more (record old { certs = certs; counts = record old.counts { certs = k } })
 Grew-certs old more certs k fails same = record { blocks_grew = Fails-same (left_of old.blocks) []; certs_grew = fails; pairs_same = refl; counts_same = ap (λ j. record old.counts { certs = j }) same }
-
-pub Grew-meta : (old : Held) (processed : Option Processed) (cutoff : Cutoff) (pairs : List Pair) (k : ℕ) → pairs ≡ old.pairs → k ≡ old.counts.meta → Grew old [] [] (record old { processed = processed; cutoff = cutoff; pairs = pairs; counts = record old.counts { meta = k } })
-Grew-meta old processed cutoff pairs k same_pairs same = record { blocks_grew = Fails-same (left_of old.blocks) []; certs_grew = Fails-same (left_of old.certs) []; pairs_same = same_pairs; counts_same = ap (λ j. record old.counts { meta = j }) same }
 
 pub Grew-refl : (old : Held) (blocks : List (At Block)) (certs : List (At Finalization)) → Grew old blocks certs old
 Grew-refl old blocks certs = record { blocks_grew = Fails-same (left_of old.blocks) blocks; certs_grew = Fails-same (left_of old.certs) certs; pairs_same = refl; counts_same = refl }

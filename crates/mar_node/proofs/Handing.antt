@@ -1,5 +1,5 @@
 -- Blocks that are handed over one after another: each the next held one, under the next ticket.
-use Rattle.std.proofs.Common.{◌≡◌, ◌⊎◌, inl, inr, ℕ, suc, ◌+◌, ◌<◌, ◌≤◌, List, [], ◌∷◌, ◌++◌, length, map, Option, Some, None, Result, Ok, Err, MatchResult, Contains, IsTrue, refl, sym, ◌∙◌, ap, subst, arith, append_assoc, append-nil, length-append}
+use Rattle.std.proofs.Common.{◌≡◌, ◌⊎◌, inl, inr, ℕ, suc, ◌+◌, ◌<◌, ◌≤◌, List, [], ◌∷◌, ◌++◌, length, map, Option, Some, None, Result, Err, MatchResult, Contains, IsTrue, refl, sym, ◌∙◌, ap, subst, arith, append_assoc, append-nil, length-append}
 use Rattle.mar_cert.specs.Block.{Block}
 use Rattle.mar_key.specs.Hears.{Hears}
 use Rattle.mar_key.specs.Processed.{first_unprocessed}
@@ -10,7 +10,7 @@ use Rattle.mar_node.specs.Acks.{Outstanding, height_after}
 use Rattle.mar_node.specs.Chain.{Chain, IsBlockAt}
 use Rattle.mar_node.specs.Faults.{Fault, ack_kind, ticket_limit}
 use Rattle.mar_node.specs.Held.{Ending, IsUsual, Loses, Seen, remains_of}
-use Rattle.mar_node.specs.Moves.{AreNextHeld, Dispatches, HasLastBlock, HasRoom, HeldFrom, IsAtLimit, IsLast, IsNext, IsStill, StopsHanding, handed_report, next_in, with_handed}
+use Rattle.mar_node.specs.Moves.{AreNextHeld, Dispatches, HasLastBlock, HasRoom, HeldFrom, IsAtLimit, IsLast, IsNext, StopsHanding, handed_report, next_in, with_handed}
 use Rattle.mar_node.specs.Node.{AreBlocksOf, ConsecutiveFrom}
 use Rattle.mar_node.specs.Step.{AreHandedOf, HandedBlock, HandedFrom, Report, handed_blocks, handed_over, outstanding_of}
 
@@ -170,13 +170,6 @@ module _ {P E : Type 0} (start now : Seen P E) (told told' : Option (List Report
           let both : length (so_far.handed ++ x ∷ []) ≡ length so_far.handed + 1 = length-append so_far.handed (x ∷ []) in
           let room : length now.life.out < now.life.sizes.window = is_next.room in
           omega arith
-
-  -- nothing more is held, or there is no room
-  pub Ran-still : IsStill now → Ran start told told' (Ok now)
-  Ran-still still = (so_far.handed, so_far.heard, record { next = so_far.next; room = so_far.room; same = so_far.same; still = still })
-
-  pub Ran-full : start.life.sizes.window ≤ count → Ran start told told' (Ok now)
-  Ran-full full = Ran-still (inl (let out : length now.life.out ≡ length start.life.out + length so_far.handed = ap (λ a. length a.life.out) so_far.same ∙ length_with start so_far.handed in let window : now.life.sizes.window ≡ start.life.sizes.window = ap (λ a. a.life.sizes.window) so_far.same in let all : count ≡ length so_far.handed = so_far.counted in omega arith))
 
   -- a call failed
   pub Ran-failed : (e : Ending) → Loses now.held [] [] [] e → IsUsual e.fault → Ran start told told' (Err e)

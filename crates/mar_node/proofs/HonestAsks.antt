@@ -1,5 +1,5 @@
 -- The asks that are open with peers stay honest: a `Finalized` annotation stands on a chain block's commitment alone.
-use Rattle.std.proofs.Common.{◌≡◌, ◌⊎◌, inl, inr, ⊎_elim, ◌-◌, ℕ, List, [], ◌∷◌, ◌++◌, Bool, true, false, not, ◌||◌, if◌then◌else◌, Option, Some, None, IsTrue, filter, fold, refl, sym, subst}
+use Rattle.std.proofs.Common.{◌≡◌, ◌⊎◌, inl, inr, ⊎_elim, ◌-◌, ℕ, List, [], ◌∷◌, ◌++◌, Bool, true, false, not, ◌||◌, if◌then◌else◌, Option, Some, None, IsTrue, filter, fold, refl, subst}
 use Rattle.std.specs.Bool.{⊤}
 use Rattle.std.specs.List.{AllByRecursion, list_any}
 use Rattle.mar_types.specs.Round.{Round}
@@ -16,7 +16,7 @@ use Rattle.mar_cert.specs.Finalization.{Finalization}
 use Rattle.mar_store.specs.Kept.{value_at}
 use Rattle.mar_node.specs.Messages.{Fallback, fetch_by_commitment, fetch_by_round, hint_finalized, hint_notarized, report_finalization, subscribe_commitment, subscribe_digest, wait}
 use Rattle.mar_node.specs.Requests.{fallback_asks, height_asks, hint_asks, notarized_asks, notarized_hint_asks, own_asks, permits_height, raise_asks, reported_asks, retire_asks, told_asks, want_asks}
-use Rattle.mar_key.specs.Asked.{Asked, Judged, Outcome, after_ask, after_outcome, annotations_of, asked_after, judged_complete, judged_ignored, judged_invalid, with_annotation, with_fetch, with_retain, without_empty}
+use Rattle.mar_key.specs.Asked.{Asked, Judged, Outcome, after_ask, after_outcome, asked_after, judged_complete, judged_ignored, judged_invalid, with_annotation, with_fetch, with_retain, without_empty}
 use Rattle.mar_node.specs.Chain.{Chain}
 use Rattle.mar_node.specs.Node.{HonestAsk, IsFinalized, Node, at_hand}
 use Rattle.mar_node.proofs.AtHand.{bytes_same}
@@ -34,19 +34,6 @@ pub HonestAsk-fewer : (chain : Chain) (key : Key) (more fewer : List Annotation)
 HonestAsk-fewer chain (block_key c) more fewer has honest = λ some. honest (has some)
 HonestAsk-fewer chain (finalized_key h) more fewer has honest = tt
 HonestAsk-fewer chain (notarized_key r) more fewer has honest = tt
-
-HonestAsk-none : (chain : Chain) (key : Key) → HonestAsk chain key []
-HonestAsk-none chain (block_key c) = λ some. absurd cc
-HonestAsk-none chain (finalized_key h) = tt
-HonestAsk-none chain (notarized_key r) = tt
-
--- under an equal key
-HonestAsk-same : (chain : Chain) (key other : Key) (annotations : List Annotation) → key_eq key other ≡ true → HonestAsk chain other annotations → HonestAsk chain key annotations
-HonestAsk-same chain (block_key c) (block_key d) annotations same honest = subst (λ e. HonestAsk chain (block_key e) annotations) (sym (bytes_same c d same)) honest
-HonestAsk-same chain (block_key c) (finalized_key h) annotations same honest = absurd cc
-HonestAsk-same chain (block_key c) (notarized_key r) annotations same honest = absurd cc
-HonestAsk-same chain (finalized_key h) other annotations same honest = tt
-HonestAsk-same chain (notarized_key r) other annotations same honest = tt
 
 or_more : (c a d : Bool) → (a ≡ true → d ≡ true) → (c || a) ≡ true → (c || d) ≡ true
 or_more true a d more e = refl
@@ -146,15 +133,6 @@ after_asks chain asked (call ∷ asks) calls all = after_asks chain (after_ask a
 -- a line's outcomes and honest asks leave the open list honest
 pub AreHonest-asked_after : (chain : Chain) (asked : List Asked) (outcomes : List Judged) (asks : List Call) → AllByRecursion (HonestCall chain) asks → AreHonest chain asked → AreHonest chain (asked_after asked outcomes asks)
 AreHonest-asked_after chain asked outcomes asks calls all = after_asks chain (fold after_outcome asked outcomes) asks calls (after_outcomes chain asked outcomes all)
-
--- the annotations of an open key
-pub HonestAsk-annotations_of : (chain : Chain) (asked : List Asked) (key : Key) → AreHonest chain asked → HonestAsk chain key (annotations_of asked key)
-HonestAsk-annotations_of chain [] key all = HonestAsk-none chain key
-HonestAsk-annotations_of chain (x ∷ xs) key all = by (key_eq key x.key) refl (HonestAsk-annotations_of chain xs key all.1)
-  where
-    by : (b : Bool) → key_eq key x.key ≡ b → HonestAsk chain key (annotations_of xs key) → HonestAsk chain key (if b then x.annotations else annotations_of xs key)
-    by true same others = HonestAsk-same chain key x.key x.annotations same all.0
-    by false other others = others
 
 -- WHAT AN EVENT ASKS
 

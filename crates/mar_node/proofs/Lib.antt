@@ -2,12 +2,10 @@ pub mod OutstandingLemmas
 pub mod FloorSafety
 pub mod Soundness
 pub mod Openings
-pub mod CutsQuietly
 pub mod PairsAfter
 pub mod AtHand
 pub mod HonestAsks
 pub mod SyncTickets
-pub mod LeavesMore
 pub mod StoreLosses
 pub mod Growing
 pub mod Storing

@@ -9,7 +9,7 @@ use Rattle.mar_cert.specs.Block.{Block}
 use Rattle.mar_cert.specs.Finalization.{Finalization}
 use Rattle.mar_key.specs.Cutoff.{Cutoff}
 use Rattle.mar_key.specs.Processed.{Processed, at_block, height_in}
-use Rattle.mar_store.specs.Kept.{At, EachHeightOnce, Kept, Reopens, has_height, reopened_store, value_at}
+use Rattle.mar_store.specs.Kept.{At, Kept, Reopens, has_height, reopened_store, value_at}
 use Rattle.mar_store.specs.Changes.{KeepsValues}
 use Rattle.mar_store.proofs.Lookups.{AllByRecursion-append, AllByRecursion-contains, AllByRecursion-from_contains, AllByRecursion-within, EachHeightOnce-push, has_height-from_contains, missing-from_has_height, value_at-append, value_at-from_contains, value_at-one_other}
 use Rattle.mar_node.specs.Stored.{at_own_height, is_held, values_of}
@@ -18,7 +18,7 @@ use Rattle.mar_node.specs.Chain.{Chain, Finalizes, IsBlockAt}
 use Rattle.mar_node.specs.Config.{Config}
 use Rattle.mar_node.specs.Faults.{Begin, Fault, anchor_fault, from_genesis, genesis_fault, genesis_height, is_by_value, next_after, opening_fault, stored_mismatch, successor_fault, unbacked, with_genesis}
 use Rattle.mar_node.specs.Held.{Ending, Grew, Held, IsEndedBy, IsUsual, Loses, LosesOpening, Remains, Remembered, ReopensAs, Sizes, first_life}
-use Rattle.mar_node.specs.Lives.{BackedBy, CutsReopening, Finds, IsGoodEnded, IsSettled, OpeningPair, SameAt, opened_cutoff, opened_node, opened_witnessed, processed_at, round_zero}
+use Rattle.mar_node.specs.Lives.{BackedBy, CutsReopening, Finds, IsGoodEnded, IsSettled, OpeningPair, SameAt, opened_cutoff, opened_node, opened_witnessed, processed_at}
 use Rattle.mar_node.specs.Moves.{newest, newest_tip}
 use Rattle.mar_node.specs.Node.{AreBlocksOf, AreCachedOf, BlocksAgree, Ended, FloorSafe, IsGood, IsGoodInHeights, Node}
 use Rattle.mar_node.specs.Opening.{BeginsWith, Derives, Enters, IsBeginFault, LosesDeriving, derived_cutoff, derived_pair, is_begun, next_fault, pair_in}
@@ -87,15 +87,6 @@ module _ (old : Remains) (first : Held) (reopens : ReopensAs old first) where
 
   first_certs : first.certs ≡ reopened_store first.certs.held
   first_certs = reopens.certs.is ∙ ap reopened_store (sym (ap (λ k. k.held) reopens.certs.is))
-
-  pub first_once : EachHeightOnce first.certs.held
-  first_once = certs_may.once
-
-  pub first_pairs : first.pairs ≡ pair_in first ∷ []
-  first_pairs = reopens.pairs ∙ ap (λ p. p ∷ []) (sym found_pair)
-
-  pub first_processed : first.processed ≡ option_map at_block (pair_in first).processed
-  first_processed = reopens.processed ∙ ap (λ p. option_map at_block p) (sym (ap (λ q. q.processed) found_pair))
 
   abbrev processed : Option ℕ
   processed = (pair_in first).processed
@@ -415,17 +406,6 @@ module _ (old : Remains) (begin : Begin) (first : Held) (reopens : ReopensAs old
     pub next_by_value : (fault : Fault) → IsUsual fault ⊎ (next_fault s ≡ Some fault) → IsAlone old.ended begin → IsUsual fault ⊎ IsOpeningFault old.ended begin fault
     next_by_value fault (inl usual) alone = inl usual
     next_by_value fault (inr judged) alone = inr (subst (λ b. IsOpeningFault old.ended b fault) (sym is) (IsOpeningFault-next old first reopens g s begins_with (subst (IsAlone old.ended) is alone) fault judged))
-
-    -- what the certificates and the pairs still are
-    pub begun_once : EachHeightOnce s.certs.held
-    begun_once = subst (λ k. EachHeightOnce k.held) (sym (ap (λ (k : Held). k.certs) begins_with.same)) (first_once old first reopens)
-
-    pub begun_pairs : s.pairs ≡ pair_in s ∷ []
-    begun_pairs = ap (λ (k : Held). k.pairs) begins_with.same ∙ (first_pairs old first reopens ∙ ap (λ (p : Pair). p ∷ []) (sym (ap pair_in begins_with.same ∙ ap (λ (p : Option ℕ). record { processed = p; cutoff = first.cutoff }) (processed_at-height s.blocks.held (pair_in first).processed))))
-
-    -- and no round is witnessed yet
-    pub begun_fresh : s.witnessed ≡ round_zero
-    begun_fresh = ap (λ (k : Held). k.witnessed) begins_with.same ∙ reopens.witnessed
 
     since_first : (more : List Pair) (e : Ending) → Grew first (at_own_height g ∷ []) [] s → Loses s [] [] more e → LosesOpening old (at_own_height g ∷ []) more e
     since_first more e grew lost = LosesOpening-then old first (at_own_height g ∷ []) more e reopens (Loses-then first s (at_own_height g ∷ []) [] [] [] more e lost grew (Within-none (at_own_height g ∷ [])) (Within-none []))

@@ -17,7 +17,7 @@ use Rattle.mar_node.specs.Chain.{Chain, Finalizes, IsBlockAt, IsFinal, IsLawful}
 use Rattle.mar_node.specs.Config.{Config}
 use Rattle.mar_node.specs.Faults.{Begin, from_floor, from_genesis, next_after, with_genesis}
 use Rattle.mar_node.specs.Node.{Agrees, AreBlocksOf, AreCachedOf, AreFinalizationsOf, BlocksAgree, Ended, FloorSafe, HasAnchor, IsFinalized, IsGoodInHeights, Node}
-use Rattle.mar_node.specs.Lives.{BackedBy, Finds, IsGoodEnded, closed_epoch_at, opened_cutoff, opened_node, processed_at, processed_round, successor_round}
+use Rattle.mar_node.specs.Lives.{BackedBy, Finds, IsGoodEnded, closed_epoch_at, opened_cutoff, processed_at, processed_round, successor_round}
 use Rattle.mar_node.specs.Sound.{IsSafePair, IsSound}
 use Rattle.mar_node.proofs.FloorSafety.{CoversUpto, CoversUpto-at_round, CoversUpto-closed_at, CoversUpto-from_safe, CoversUpto-greatest_of, CoversUpto-more, FloorSafe-at_next, FloorSafe-from_upto, FloorSafe-greatest_of, FloorSafe-still}
 
@@ -214,9 +214,6 @@ module _ (config : Config) (chain : Chain) (lawful : IsLawful config.epochs chai
   pub opened_safe : FloorSafe finds.pair.processed (opened_cutoff config.epochs finds.blocks.held finds.certs finds.pair) finds.blocks.held chain
   opened_safe = FloorSafe-opened config chain lawful partition finds.blocks.held finds.certs finds.pair (opened_certs config chain e begin n finds good)
       (FloorSafe-still chain finds.pair.processed finds.pair.cutoff e.blocks_sure finds.blocks.held (λ has. opened_heights config chain e begin n finds _ has) safe_before)
-
-  opened : Node
-  opened = opened_node config finds.blocks finds.certs finds.cache finds.lowest finds.lowests finds.pair
 
   cached_found : AreCachedOf chain (finds.cache ++ finds.cache)
   cached_found = all_found_within cached_finalization (λ f. IsFinalized chain f.round f.payload) (finds.cache ++ finds.cache) e.cache_may (λ x has. finds.cache_may.within_may x (⊎_elim (λ h. h) (λ h. h) (Contains-append_cases finds.cache finds.cache x has))) good.may_cached

@@ -4,7 +4,6 @@ use Rattle.std.specs.List.{AllByRecursion}
 use Rattle.mar_cert.specs.Block.{Block}
 use Rattle.mar_key.specs.Processed.{Processed, at_absent, at_block, first_unprocessed, height_in, height_of}
 use Rattle.mar_store.specs.Kept.{At, has_height}
-use Rattle.mar_store.proofs.Lookups.{AllByRecursion-append}
 use Rattle.mar_node.specs.Acks.{Mark, Outstanding, after_given, given_front, is_given, is_unmarked, mark_dropped, mark_given, with_mark}
 use Rattle.mar_node.specs.Config.{Config}
 use Rattle.mar_node.specs.Event.{Effect, Event, ack_dropped, ack_given, acked_to, applies_floor, awaits_floor, block_buffered, brought_effect, buffer_ended, drained_blocks, effect_of, is_above, kept_blocks, life_started, message_told, no_floor, peer_answered, processed_after, serve_ended, sync_finished, undrained_blocks}
@@ -146,20 +145,11 @@ pub ConsecutiveFrom-handed : (sure : List (At Block)) (t h : ℕ) (xs : List Han
 ConsecutiveFrom-handed sure t h [] handed = tt
 ConsecutiveFrom-handed sure t h (x ∷ xs) handed = (handed.1, ConsecutiveFrom-handed sure (t + 1) (h + 1) xs handed.3)
 
-all_sure-handed : (sure : List (At Block)) (t h : ℕ) (xs : List HandedBlock) → HandedFrom sure t h xs → AllByRecursion (λ a. IsTrue (has_height sure a.height)) (map outstanding_of xs)
-all_sure-handed sure t h [] handed = tt
-all_sure-handed sure t h (x ∷ xs) handed = (subst (λ k. IsTrue (has_height sure k)) (sym handed.1) handed.2, all_sure-handed sure (t + 1) (h + 1) xs handed.3)
-
 -- with what is handed over they stay consecutive, and sure
 pub ConsecutiveFrom-handed_over : (n : Node) (kept : List Outstanding) (reports : List Report) (n' : Node) → HandsOver n kept reports n' → ConsecutiveFrom (first_unprocessed n'.processed) kept → ConsecutiveFrom (first_unprocessed n'.processed) n'.out
 ConsecutiveFrom-handed_over n kept reports n' hands line =
     subst (λ out. ConsecutiveFrom (first_unprocessed n'.processed) out) (sym hands.out)
     (ConsecutiveFrom-append (first_unprocessed n'.processed) kept (map outstanding_of (handed_blocks reports)) line (ConsecutiveFrom-handed _ _ _ (handed_blocks reports) hands.in_order))
-
-pub all_sure-handed_over : (n : Node) (kept : List Outstanding) (reports : List Report) (n' : Node) → HandsOver n kept reports n' → AllByRecursion (λ a. IsTrue (has_height n'.blocks.sure a.height)) kept → AllByRecursion (λ a. IsTrue (has_height n'.blocks.sure a.height)) n'.out
-all_sure-handed_over n kept reports n' hands sure =
-    subst (λ out. AllByRecursion {X = Outstanding} (λ a. IsTrue (has_height n'.blocks.sure a.height)) out) (sym hands.out)
-    (AllByRecursion-append (λ a. IsTrue (has_height n'.blocks.sure a.height)) kept (map outstanding_of (handed_blocks reports)) sure (all_sure-handed _ _ _ (handed_blocks reports) hands.in_order))
 
 -- KEPT ONES ARE SURE
 

@@ -4,17 +4,16 @@ use Rattle.std.specs.Bool.{⊤}
 use Rattle.std.specs.List.{AllByRecursion, filter_map}
 use Rattle.std.proofs.lemmas.List.Elements.{filter_map-append}
 use Rattle.mar_cert.specs.Block.{Block}
-use Rattle.mar_cert.specs.Finalization.{Finalization}
 use Rattle.mar_key.specs.Processed.{Processed, at_absent, at_block, height_in}
-use Rattle.mar_store.specs.Kept.{At, Kept, has_height}
+use Rattle.mar_store.specs.Kept.{At, has_height}
 use Rattle.mar_store.proofs.Lookups.{AllByRecursion-append_right, AllByRecursion-contains, AllByRecursion-weaker}
 use Rattle.mar_node.specs.Acks.{Outstanding}
 use Rattle.mar_node.specs.Metadata.{Pair, pair_of}
-use Rattle.mar_node.specs.Cached.{Cached, cached_block, cached_finalization}
+use Rattle.mar_node.specs.Cached.{cached_block, cached_finalization}
 use Rattle.mar_node.specs.Chain.{Chain}
 use Rattle.mar_node.specs.Config.{Config}
 use Rattle.mar_node.specs.Event.{Event, ack_dropped, ack_given, acked_to, block_buffered, buffer_ended, life_started, message_told, peer_answered, serve_ended, sync_finished}
-use Rattle.mar_node.specs.Node.{Agrees, AreBlocksOf, AreCachedOf, AreFinalizationsOf, Awaited, AwaitsFinalized, BlocksAgree, Ended, FloorSafe, HasAnchor, IsFinalized, IsGood, Node, left_by}
+use Rattle.mar_node.specs.Node.{Agrees, AreBlocksOf, AreCachedOf, AreFinalizationsOf, BlocksAgree, Ended, FloorSafe, HasAnchor, IsFinalized, IsGood, Node, left_by}
 use Rattle.mar_node.specs.Lives.{BackedBy, IsGoodEnded}
 use Rattle.mar_node.specs.Promise.{IsGoodFor, IsGoodUntold}
 use Rattle.mar_node.specs.Sound.{IsHonest, IsSafePair, IsSound, IsSteady}
@@ -46,19 +45,6 @@ IsSafePair-kept chain bound sure sure' p keeps from safe = record {
     floor : (o : Option ℕ) → IsFrom bound o → FloorSafe o p.cutoff sure chain → FloorSafe o p.cutoff sure' chain
     floor None low f = f
     floor (Some h) low f = FloorSafe-still chain (Some h) p.cutoff sure sure' (λ has. keeps (h + 1) (omega arith) has) f
-
-pub all_pairs_kept : (chain : Chain) (bound : ℕ) (sure sure' : List (At Block)) (pairs : List Pair) → KeepsHeightsFrom bound sure sure' → AllByRecursion (λ p. IsFrom bound p.processed) pairs → AllByRecursion (IsSafePair chain sure) pairs → AllByRecursion (IsSafePair chain sure') pairs
-all_pairs_kept chain bound sure sure' [] keeps from safe = tt
-all_pairs_kept chain bound sure sure' (p ∷ pairs) keeps from safe = (IsSafePair-kept chain bound sure sure' p keeps from.0 safe.0, all_pairs_kept chain bound sure sure' pairs keeps from.1 safe.1)
-
--- no pair is below 0
-pub all_from_zero : (pairs : List Pair) → AllByRecursion (λ p. IsFrom 0 p.processed) pairs
-all_from_zero [] = tt
-all_from_zero (p ∷ pairs) = (at p.processed, all_from_zero pairs)
-  where
-    at : (o : Option ℕ) → IsFrom 0 o
-    at None = tt
-    at (Some h) = omega arith
 
 -- the pair of the processed height and cutoff in memory
 pub own_pair_safe : (chain : Chain) (n : Node) → HasAnchor n.processed n.blocks.sure → FloorSafe (option_map height_in n.processed) n.cutoff n.blocks.sure chain → IsSafePair chain n.blocks.sure (pair_of n.processed n.cutoff)
@@ -128,12 +114,6 @@ IsSound-from_good config chain n good = record {
   pairs = subst (λ m. AllByRecursion (IsSafePair chain n.blocks.sure) m) (sym good.heights.own_pair) (own_pair_safe chain n good.heights.anchored good.of_chain.floor_safe, tt);
 }
 
-pub IsHonest-from_good : (config : Config) (chain : Chain) (n : Node) → IsGood config chain n → IsHonest chain n
-IsHonest-from_good config chain n good = record { asks = good.of_chain.honest_asks; ready = good.of_chain.honest_ready; overflow = good.of_chain.honest_overflow }
-
-pub IsSteady-from_good : (config : Config) (chain : Chain) (n : Node) → IsGood config chain n → IsSteady config n
-IsSteady-from_good config chain n good = record { heights = good.heights; not_at_hand = good.of_chain.not_at_hand; tip_reported = good.of_chain.tip_reported }
-
 -- WHAT IS LEFT
 
 right_part : {T U : Type 0} (f : T → Option U) (P : U → Type 0) (xs ys : List T) → AllByRecursion P (filter_map f (xs ++ ys)) → AllByRecursion P (filter_map f ys)
@@ -191,70 +171,5 @@ IsSound-moved chain n new sound = record {
   cached = sound.cached;
   cached_blocks = sound.cached_blocks;
   awaits = sound.awaits;
-  pairs = sound.pairs;
-}
-
--- a put, a sync, a finished sync, a prune of the blocks
-pub IsSound-blocks : (chain : Chain) (n : Node) (bound : ℕ) (blocks : Kept (At Block)) → IsSound chain n → AreBlocksOf chain blocks.held → AreBlocksOf chain blocks.may → KeepsHeightsFrom bound n.blocks.sure blocks.sure → AllByRecursion (λ p. IsFrom bound p.processed) n.meta → IsSound chain (record n { blocks = blocks })
-IsSound-blocks chain n bound blocks sound held may keeps from = record {
-  held_blocks = held;
-  may_blocks = may;
-  held_certs = sound.held_certs;
-  may_certs = sound.may_certs;
-  cached = sound.cached;
-  cached_blocks = sound.cached_blocks;
-  awaits = sound.awaits;
-  pairs = all_pairs_kept chain bound n.blocks.sure blocks.sure n.meta keeps from sound.pairs;
-}
-
--- where no sure height was lost
-pub IsSound-more_blocks : (chain : Chain) (n : Node) (blocks : Kept (At Block)) → IsSound chain n → AreBlocksOf chain blocks.held → AreBlocksOf chain blocks.may → ((h : ℕ) → IsTrue (has_height n.blocks.sure h) → IsTrue (has_height blocks.sure h)) → IsSound chain (record n { blocks = blocks })
-IsSound-more_blocks chain n blocks sound held may keeps = IsSound-blocks chain n 0 blocks sound held may (λ h low has. keeps h has) (all_from_zero n.meta)
-
-pub IsSound-certs : (chain : Chain) (n : Node) (certs : Kept (At Finalization)) → IsSound chain n → AreFinalizationsOf chain certs.held → AreFinalizationsOf chain certs.may → IsSound chain (record n { certs = certs })
-IsSound-certs chain n certs sound held may = record {
-  held_blocks = sound.held_blocks;
-  may_blocks = sound.may_blocks;
-  held_certs = held;
-  may_certs = may;
-  cached = sound.cached;
-  cached_blocks = sound.cached_blocks;
-  awaits = sound.awaits;
-  pairs = sound.pairs;
-}
-
-pub IsSound-cache : (chain : Chain) (n : Node) (cache : Kept Cached) → IsSound chain n → AreCachedOf chain (cache.held ++ cache.may) → BlocksAgree chain (cache.held ++ cache.may) → IsSound chain (record n { cache = cache })
-IsSound-cache chain n cache sound cached cached_blocks = record {
-  held_blocks = sound.held_blocks;
-  may_blocks = sound.may_blocks;
-  held_certs = sound.held_certs;
-  may_certs = sound.may_certs;
-  cached = cached;
-  cached_blocks = cached_blocks;
-  awaits = sound.awaits;
-  pairs = sound.pairs;
-}
-
-pub IsSound-meta : (chain : Chain) (n : Node) (meta : List Pair) → IsSound chain n → AllByRecursion (IsSafePair chain n.blocks.sure) meta → IsSound chain (record n { meta = meta })
-IsSound-meta chain n meta sound pairs = record {
-  held_blocks = sound.held_blocks;
-  may_blocks = sound.may_blocks;
-  held_certs = sound.held_certs;
-  may_certs = sound.may_certs;
-  cached = sound.cached;
-  cached_blocks = sound.cached_blocks;
-  awaits = sound.awaits;
-  pairs = pairs;
-}
-
-pub IsSound-awaited : (chain : Chain) (n : Node) (awaited : Option Awaited) → IsSound chain n → AwaitsFinalized awaited chain → IsSound chain (record n { awaited = awaited })
-IsSound-awaited chain n awaited sound awaits = record {
-  held_blocks = sound.held_blocks;
-  may_blocks = sound.may_blocks;
-  held_certs = sound.held_certs;
-  may_certs = sound.may_certs;
-  cached = sound.cached;
-  cached_blocks = sound.cached_blocks;
-  awaits = awaits;
   pairs = sound.pairs;
 }

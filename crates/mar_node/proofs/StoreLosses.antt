@@ -8,16 +8,9 @@ use Rattle.mar_store.specs.Changes.{Fails, Left, Within, left_of}
 use Rattle.mar_store.specs.Lost.{LostBy, wreck_of}
 use Rattle.mar_store.specs.declared.Lost.{Lost}
 use Rattle.mar_store.specs.declared.Lost.TheVariants.{Fault as Broke, Memory as Forgot}
-use Rattle.mar_store.specs.declared.Miss.{Miss}
-use Rattle.mar_store.specs.declared.Miss.TheVariants.{Fault as Missed, Memory as NoRoom}
 use Rattle.mar_node.specs.Metadata.{LeavesPairs, Pair}
 use Rattle.mar_node.specs.Faults.{Fault, StoreName, block_store, cache_store, cert_store, meta_store, store_fault, want_of_memory}
-use Rattle.mar_node.specs.Held.{Counts, Ending, Held, IsEndedBy, IsNoStores, IsUsual, Loses, count_of, ended_of, Remains, lost_fault, missed_fault, remains_of}
-
--- a read without an answer, by its store's count before and after
-abbrev pub MissedBy : ℕ → ℕ → Miss → Type 0
-MissedBy before now Missed = Rose before now
-MissedBy before now NoRoom = before ≤ now
+use Rattle.mar_node.specs.Held.{Counts, Ending, Held, IsEndedBy, IsNoStores, Loses, count_of, ended_of, Remains, lost_fault, remains_of}
 
 -- the counts with this one in place of a store's
 abbrev pub counted : Counts → StoreName → ℕ → Counts
@@ -95,14 +88,6 @@ by_lost count before s (Forgot w) fault is le = inr (is, le)
 IsEndedBy-lost : {W : Type 0} (count : W → ℕ) (old : Held) (s : StoreName) (lost : Lost W) (blocks : Left (At Block)) (certs : Left (At Finalization)) (pairs : List Pair) → LostBy count (count_of old.counts s) lost → IsEndedBy old.counts (lost_ending old s (count (wreck_of lost)) lost blocks certs pairs)
 IsEndedBy-lost count old s lost blocks certs pairs cause = IsEndedBy-counted old.counts s (count (wreck_of lost)) (lost_ending old s (count (wreck_of lost)) lost blocks certs pairs) refl (by_lost count old.counts s lost (lost_fault s lost) refl cause)
 
-pub IsUsual-lost : {W : Type 0} (s : StoreName) (lost : Lost W) → IsUsual (lost_fault s lost)
-IsUsual-lost s (Broke w) = tt
-IsUsual-lost s (Forgot w) = tt
-
-pub IsUsual-missed : (s : StoreName) (miss : Miss) → IsUsual (missed_fault s miss)
-IsUsual-missed s Missed = tt
-IsUsual-missed s NoRoom = tt
-
 Fails-nothing : {T : Type 0} (old : Left (At T)) → Fails old [] old
 Fails-nothing old = record { sure = λ h v is. is; may = λ x has. subst (λ xs. Contains xs x) (sym (append-nil old.may)) has }
 
@@ -140,21 +125,6 @@ Loses-meta count left old more lost leaves cause = record {
 }
 
 -- A READ HAS NO ANSWER
-
-by_missed : (before : Counts) (s : StoreName) (k : ℕ) (miss : Miss) → MissedBy (count_of before s) k miss → (missed_fault s miss ≡ store_fault s) × Rose (count_of before s) k ⊎ ((missed_fault s miss ≡ want_of_memory) × (count_of before s ≤ k))
-by_missed before s k Missed rose = inl (refl, rose)
-by_missed before s k NoRoom le = inr (refl, le)
-
--- what is left where a read failed: all that there was, with the store's count
-pub Loses-read : (old : Held) (s : StoreName) (k : ℕ) (miss : Miss) → MissedBy (count_of old.counts s) k miss → Loses old [] [] [] (record { fault = missed_fault s miss; remains = remains_of (record old { counts = counted old.counts s k }) })
-Loses-read old s k miss cause = record {
-  blocks_kept = Fails-nothing (left_of old.blocks);
-  certs_kept = Fails-nothing (left_of old.certs);
-  first_pair_kept = refl;
-  pairs_within = within_self old.pairs;
-  no_cache = refl;
-  cause = IsEndedBy-counted old.counts s k _ refl (by_missed old.counts s k miss cause);
-}
 
 -- A LIFE ENDS WITHOUT A STORE'S FAULT
 

@@ -13,21 +13,6 @@ use Rattle.mar_parts.specs.Staged.{Staged, has_place, kept_from}
 same_height : (h k : ℕ) → is_eq (nat_cmp h k) ≡ (k == h)
 same_height h k = grind (arith, nat_tests)
 
--- two tests that agree find the same
-pub lookup_agrees : {K X : Type 0} (t u : K → Bool) → ((k : K) → t k ≡ u k) → (es : List (K × X)) → lookup t es ≡ lookup u es
-lookup_agrees t u agree [] = refl
-lookup_agrees t u agree (e ∷ es) = ap (λ b. cond b (Some e.1) (lookup t es)) (agree e.0) ∙ ap (cond (u e.0) (Some e.1)) (lookup_agrees t u agree es)
-
-remove_agrees : {K X : Type 0} (t u : K → Bool) → ((k : K) → t k ≡ u k) → (es : List (K × X)) → remove_entry t es ≡ remove_entry u es
-remove_agrees t u agree [] = refl
-remove_agrees t u agree (e ∷ es) = ap (λ b. cond b es (e ∷ remove_entry t es)) (agree e.0) ∙ ap (λ rest. cond (u e.0) es (e ∷ rest)) (remove_agrees t u agree es)
-
-pub lookup_height : {X : Type 0} (h : ℕ) (es : List (ℕ × X)) → lookup (is_at (nat_cmp h)) es ≡ lookup (λ k. k == h) es
-lookup_height h es = lookup_agrees (is_at (nat_cmp h)) (λ k. k == h) (same_height h) es
-
-pub remove_height : {X : Type 0} (h : ℕ) (es : List (ℕ × X)) → remove_entry (is_at (nat_cmp h)) es ≡ remove_entry (λ k. k == h) es
-remove_height h es = remove_agrees (is_at (nat_cmp h)) (λ k. k == h) (same_height h) es
-
 -- from their least height on all entries are kept
 pub all_kept : {X : Type 0} (min h : ℕ) (es : List (ℕ × X)) → AllByRecursion (λ e. min ≤ e.0) es → h ≤ min → filter (λ e. nat_le h e.0) es ≡ es
 all_kept min h [] all below = refl

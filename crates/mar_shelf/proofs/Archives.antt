@@ -1,11 +1,9 @@
 -- What the calls of a store over an archive rest on.
-use Rattle.std.proofs.Common.{◌≡◌, ℕ, List, [], ◌∷◌, Bool, true, false, cond, Option, Some, refl, ap, ◌∙◌, sym, is_some, Result, Ok, Err, inl, IfOk, ◌||◌}
-use Rattle.std.specs.Prelude.{MatchResult, bytes_eq, option_map, ◌&&◌, ◌==◌}
+use Rattle.std.proofs.Common.{◌≡◌, ℕ, List, [], ◌∷◌, Bool, true, false, cond, Option, Some, refl, ap, ◌∙◌, sym, is_some, Result, Ok, Err, IfOk, ◌||◌}
+use Rattle.std.specs.Prelude.{MatchResult, bytes_eq, option_map}
 use Rattle.std.specs.List.{list_any}
 use Rattle.std.specs.Result.{result_map_both}
-use Rattle.std.proofs.lemmas.Bool.{eq-eqb}
 use Rattle.std.proofs.lemmas.List.Elements.{Contains-append_left}
-use Rattle.std.proofs.lemmas.Slice.Eq.{bytes_eq-Decides}
 use Rattle.mar_store.specs.Armed.{HeedsArmed}
 use Rattle.mar_store.specs.Changes.{Fails, Left, Puts, left_of}
 use Rattle.mar_store.specs.Kept.{At, Kept, has_height}
@@ -15,15 +13,8 @@ use Rattle.mar_store.specs.declared.Lost.{Lost}
 use Rattle.mar_store.specs.declared.Lost.TheVariants.{Fault, Memory}
 use Rattle.mar_cert.specs.Block.{Block}
 use Rattle.mar_cert.specs.Finalization.{Finalization}
-use Rattle.mar_shelf.specs.Fitting.{fits_at}
 use Rattle.mar_shelf.specs.Heeded.{HeedsPut, LostAtPut, LostHeeding}
 use Rattle.mar_node.specs.Stored.{at_own_height, is_certified, is_held}
-
--- an archive that heeds armed calls does so at a put
-pub heeds_put : {S W : Type 0} (now : S → List ℕ) (left : W → List ℕ) (only : Bool) (due : List ℕ) (r : Result S (Lost W)) → HeedsArmed now left only due r → HeedsPut now left only due r
-heeds_put now left only due (Ok s) heeds = heeds
-heeds_put now left only due (Err (Fault w)) heeds = heeds
-heeds_put now left only due (Err (Memory w)) heeds = inl heeds
 
 pub lost_heeds : {S W : Type 0} (now : S → List ℕ) (left : W → List ℕ) (only : Bool) (due : List ℕ) (l : Lost W) → HeedsArmed now left only due (Err l) → LostHeeding left only due l
 lost_heeds now left only due (Fault w) heeds = heeds
@@ -40,18 +31,6 @@ lost_at_put now left only due (Memory w) heeds = heeds
 pub put_lost : {S W : Type 0} (now : S → List ℕ) (left : W → List ℕ) (only : Bool) (due : List ℕ) (l : Lost W) → LostAtPut left only due l → HeedsPut now left only due (Err l)
 put_lost now left only due (Fault w) heeds = heeds
 put_lost now left only due (Memory w) heeds = heeds
-
-both : (a b : Bool) → a ≡ true → b ≡ true → (a && b) ≡ true
-both true true p q = refl
-both true false p q = q
-both false b p q = p
-
--- a block fits at its own height, where its commitment names its digest
-pub fits_own : (inner : List ℕ → List ℕ) (b item : Block) (h : ℕ) → item ≡ b → h ≡ b.height → inner b.commitment ≡ b.digest → fits_at inner h item ≡ true
-fits_own inner b item h is at names = rw (is, at) (both (b.height == b.height) (bytes_eq (inner b.commitment) b.digest) (eq-eqb b.height b.height refl) ((bytes_eq-Decides (inner b.commitment) b.digest).1 names))
-
-abbrev entry_of : {P : Type 0} → ℕ → P → At P
-entry_of h v = record { height = h; value = v }
 
 -- what a put of a copy of a block puts
 pub puts_block : {S W : Type 0} (stored : S → Kept (At Block)) (left : W → Left (At Block)) (old : Kept (At Block)) (b item : Block) (h : ℕ) (r : Result S (Lost W)) → item ≡ b → h ≡ b.height

@@ -96,9 +96,6 @@ pub record Gathered (all : List ℕ) (most next last : ℕ) (items : List ℕ) (
   pub next_is : next ≡ min above last
   pub all_is : take most all ≡ take most (items ++ missing_from rest above)
 
-pub gathered_first : (most start last : ℕ) (rs : List Range) → start ≤ last → Gathered (missing_from rs start) most start last [] rs
-gathered_first most start last rs le = record { above = start; next_is = omega arith; all_is = refl }
-
 pub gathered_more : (all : List ℕ) (most k next next' last : ℕ) (spans : List HeightSpan) (span : HeightSpan) (items items' : List ℕ)
     → k < length spans → span ≡ get_or spans k span → span.from ≤ last → items' ≡ take most (items ++ numbers next span.from) → next' ≡ max next (min (span.to + 1) last)
     → Gathered all most next last items (drop k (ranges_of spans)) → Gathered all most next' last items' (drop (k + 1) (ranges_of spans))
@@ -118,20 +115,6 @@ gathered_more all most k next next' last spans span items items' lt is within ar
 
     higher : (a b c l d : ℕ) → b ≡ min a l → d ≡ max b (min c l) → d ≡ min (max a c) l
     higher a b c l d p q = omega arith
-
-pub gathered_all : (all : List ℕ) (most next last k : ℕ) (items : List ℕ) (spans : List HeightSpan) → length spans ≤ k → length items ≤ most → Gathered all most next last items (drop k (ranges_of spans)) → items ≡ take most all
-gathered_all all most next last k items spans past room so_far =
-    sym (take_all most items room) ∙ (ap (take most) (sym (append_nil items)) ∙ (ap (λ rs. take most (items ++ missing_from rs so_far.above)) (sym (none k spans past)) ∙ sym so_far.all_is))
-  where
-    append_nil : (xs : List ℕ) → xs ++ [] ≡ xs
-    append_nil [] = refl
-    append_nil (x ∷ xs) = ap (λ zs. x ∷ zs) (append_nil xs)
-
-    none : (n : ℕ) (xs : List HeightSpan) → length xs ≤ n → drop n (ranges_of xs) ≡ []
-    none zero [] le = refl
-    none (suc n) [] le = refl
-    none zero (x ∷ xs) le = absurd (omega arith)
-    none (suc n) (x ∷ xs) le = none n xs (omega arith)
 
 pub take_short : (n : ℕ) (xs : List ℕ) → length (take n xs) ≤ n
 take_short zero xs = omega arith
@@ -191,12 +174,6 @@ reached spans k h span lt is above = drop_ranges ∙ (at_place spans k span lt i
           where
             clash : true ≡ false → ⊥
             clash e = cc
-
-pub none_reach : (spans : List HeightSpan) (k h : ℕ) → length spans ≤ k → ranges_from (drop k (ranges_of spans)) h ≡ []
-none_reach [] zero h past = refl
-none_reach [] (suc k) h past = refl
-none_reach (x ∷ xs) zero h past = absurd (omega arith)
-none_reach (x ∷ xs) (suc k) h past = none_reach xs k h (omega arith)
 
 -- ---- the first range that passes
 

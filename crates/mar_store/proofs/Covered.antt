@@ -26,12 +26,6 @@ none_after t [] i d up lt other = absurd (omega arith)
 none_after t (e ∷ es) zero d up lt other = rw other (none_later t e es other up.0)
 none_after t (e ∷ es) (suc i) d up lt other = none_after t es i d up.1 (omega arith) other
 
-pub none_at_end : {X : Type 0} (p : X → Bool) (xs : List X) (i : ℕ) → length xs ≤ i → filter p (drop i xs) ≡ []
-none_at_end p [] zero all = refl
-none_at_end p [] (suc i) all = refl
-none_at_end p (x ∷ xs) zero all = absurd (omega arith)
-none_at_end p (x ∷ xs) (suc i) all = none_at_end p xs i (omega arith)
-
 drop_take_more : {X : Type 0} (xs : List X) (n i : ℕ) (d : X) → n ≤ i → i < length xs → drop n (take (suc i) xs) ≡ drop n (take i xs) ++ get_or xs i d ∷ []
 drop_take_more [] n i d le lt = absurd (omega arith)
 drop_take_more (x ∷ xs) zero zero d le lt = refl
@@ -43,8 +37,3 @@ pub covered_more : {T : Type 0} (t : ℕ) (items : List (Entry T)) (n i : ℕ) (
     → AllByRecursion (λ e. is_covered t e ≡ true) (drop n (take (i + 1) items))
 covered_more t items n i d le lt is all = let same : i + 1 ≡ suc i = omega arith in
     rw (same, drop_take_more items n i d le lt) (AllByRecursion-push (λ e. is_covered t e ≡ true) (drop n (take i items)) (get_or items i d) all is)
-
-pub none_begun : {X : Type 0} (P : X → Type 0) (n : ℕ) (xs : List X) → AllByRecursion P (drop n (take n xs))
-none_begun P zero xs = tt
-none_begun P (suc n) [] = tt
-none_begun P (suc n) (x ∷ xs) = none_begun P n xs

@@ -11,10 +11,6 @@ pub AllByRecursion-append : {X : Type 0} (P : X → Type 0) (xs ys : List X) →
 AllByRecursion-append P [] ys p q = q
 AllByRecursion-append P (x ∷ xs) ys p q = (p.0, AllByRecursion-append P xs ys p.1 q)
 
-pub AllByRecursion-append_left : {X : Type 0} (P : X → Type 0) (xs ys : List X) → AllByRecursion P (xs ++ ys) → AllByRecursion P xs
-AllByRecursion-append_left P [] ys p = tt
-AllByRecursion-append_left P (x ∷ xs) ys p = (p.0, AllByRecursion-append_left P xs ys p.1)
-
 pub AllByRecursion-append_right : {X : Type 0} (P : X → Type 0) (xs ys : List X) → AllByRecursion P (xs ++ ys) → AllByRecursion P ys
 AllByRecursion-append_right P [] ys p = p
 AllByRecursion-append_right P (x ∷ xs) ys p = AllByRecursion-append_right P xs ys p.1
@@ -46,11 +42,6 @@ by_test : {T : Type 0} (P : Option T → Type 0) (b : Bool) (a c : Option T) →
 by_test P true a c p q = p refl
 by_test P false a c p q = q refl
 
--- the same test, and what stands where it fails
-if_others : {X : Type 0} (b : Bool) (a c d : X) → c ≡ d → (if b then a else c) ≡ (if b then a else d)
-if_others true a c d same = refl
-if_others false a c d same = same
-
 found_more : {X : Type 0} (b : Bool) (x v : X) (a c : Option X) → (a ≡ Some v → c ≡ Some v) → (if b then Some x else a) ≡ Some v → (if b then Some x else c) ≡ Some v
 found_more true x v a c more e = e
 found_more false x v a c more e = more e
@@ -67,18 +58,11 @@ pub value_at-append : {T : Type 0} (xs ys : List (At T)) (h : ℕ) → value_at 
 value_at-append [] ys h = refl
 value_at-append (x ∷ xs) ys h = first_or (x.height == h) x.value _ _ _ (value_at-append xs ys h)
 
-pub value_at-append_missing : {T : Type 0} (xs ys : List (At T)) (h : ℕ) → value_at xs h ≡ None → value_at (xs ++ ys) h ≡ value_at ys h
-value_at-append_missing xs ys h none = value_at-append xs ys h ∙ ap (λ o. option_or o (value_at ys h)) none
-
 pub value_at-one : {T : Type 0} (h : ℕ) (v : T) → value_at (record { height = h; value = v } ∷ []) h ≡ Some v
 value_at-one h v = ap (λ (b : Bool). if b then Some v else None) (eq-eqb h h refl)
 
 pub value_at-one_other : {T : Type 0} (h k : ℕ) (v : T) → h ≢ k → value_at (record { height = h; value = v } ∷ []) k ≡ None
 value_at-one_other h k v apart = by_test (λ o. o ≡ None) (h == k) (Some v) None (λ same. absurd (apart (eqb-true h k same))) (λ other. refl)
-
--- a new height is read back, and no other height changes
-pub value_at-push_same : {T : Type 0} (xs : List (At T)) (h : ℕ) (v : T) → value_at xs h ≡ None → value_at (xs ++ record { height = h; value = v } ∷ []) h ≡ Some v
-value_at-push_same xs h v none = value_at-append_missing xs _ h none ∙ value_at-one h v
 
 pub value_at-push_other : {T : Type 0} (xs : List (At T)) (h k : ℕ) (v : T) → h ≢ k → value_at (xs ++ record { height = h; value = v } ∷ []) k ≡ value_at xs k
 value_at-push_other xs h k v apart = value_at-append xs _ k ∙ ap (λ o. option_or (value_at xs k) o) (value_at-one_other h k v apart) ∙ or_none (value_at xs k)
@@ -112,9 +96,6 @@ has_height-append {T = T} xs ys h = ap is_some (value_at-append xs ys h) ∙ eit
     either : (a c : Option T) → is_some (option_or a c) ≡ (is_some a || is_some c)
     either None c = refl
     either (Some v) c = refl
-
-pub has_height-append_left : {T : Type 0} (xs ys : List (At T)) (h : ℕ) → IsTrue (has_height xs h) → IsTrue (has_height (xs ++ ys) h)
-has_height-append_left xs ys h has = has_height-append xs ys h ∙ ap (λ b. b || has_height ys h) has
 
 pub has_height-one : {T : Type 0} (h : ℕ) (v : T) → IsTrue (has_height (record { height = h; value = v } ∷ []) h)
 has_height-one h v = ap is_some (value_at-one h v)
@@ -195,6 +176,3 @@ EachHeightOnce-push {T = T} (x ∷ xs) h v once none = (still (x.height == h) re
 -- a list within another has no other height, and no other value where no height stands twice there
 pub has_height-within : {T : Type 0} (xs ys : List (At T)) → ((x : At T) → Contains xs x → Contains ys x) → (h : ℕ) → IsTrue (has_height xs h) → IsTrue (has_height ys h)
 has_height-within xs ys within h has = let at = value-from_has_height xs h has in has_height-from_contains ys _ (within _ (Contains-from_value xs h at.0 at.1))
-
-pub value_at-within : {T : Type 0} (xs ys : List (At T)) → ((x : At T) → Contains xs x → Contains ys x) → EachHeightOnce ys → (h : ℕ) (v : T) → value_at xs h ≡ Some v → value_at ys h ≡ Some v
-value_at-within xs ys within once h v e = value_at-from_contains ys _ once (within _ (Contains-from_value xs h v e))

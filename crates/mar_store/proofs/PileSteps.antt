@@ -11,8 +11,7 @@ use Rattle.std.proofs.lemmas.Bool.{or_left, or_right, eq-eqb, eqb-true, eqb-fals
 use Rattle.mar_store.specs.Tickets.{last_number}
 use Rattle.mar_store.specs.Kept.{EachHeightOnce}
 use Rattle.mar_store.specs.Changes.{heights}
-use Rattle.std.specs.Prelude.{Option, Some}
-use Rattle.mar_store.specs.Named.{EachNameOnce, greatest_of, is_taken, last_index}
+use Rattle.mar_store.specs.Named.{EachNameOnce, is_taken}
 use Rattle.mar_store.specs.Ranges.{Range, ranges, with_height}
 use Rattle.mar_store.specs.RangeLemmas.{ranges_push}
 use Rattle.mar_store.specs.Entries.{AreCounted, is_covered, AreFitting, AreUpto, Ascend, next_number, seen}
@@ -104,17 +103,3 @@ sure_all items part n m old new le is was are =
     let high : heights (take m (map seen items)) ≡ heights (take n (map seen items)) ++ heights (map seen part) =
     ap heights (take-map seen m items ∙ (ap (map seen) front ∙ map-append seen (take n items) part)) ∙ (map-append (λ x. x.height) (map seen (take n items)) (map seen part) ∙ ap (λ xs. heights xs ++ heights (map seen part)) (sym (take-map seen n items))) in
     are ∙ (ap (λ rs. fold (λ qs h. with_height h qs) rs (heights (map seen part))) was ∙ (sym (fold-append (λ rs h. with_height h rs) [] (heights (take n (map seen items))) (heights (map seen part))) ∙ ap ranges (sym high)))
-
--- THE GREATEST INDEX
-
-drop_at : {T : Type 0} (es : List (Entry T)) (i : ℕ) (d : Entry T) → i < length es → drop i (map seen es) ≡ seen (get_or es i d) ∷ drop (suc i) (map seen es)
-drop_at [] i d lt = absurd (omega arith)
-drop_at (e ∷ es) zero d lt = refl
-drop_at (e ∷ es) (suc i) d lt = drop_at es i d (omega arith)
-
-pub last_step : {T : Type 0} (es : List (Entry T)) (p h : ℕ) (d : Entry T) (old : Option ℕ) → 0 < p → p ≤ length es → d ≡ get_or es (p - 1) d → old ≡ last_index (drop p (map seen es)) → h ≡ greatest_of d.index old → Some h ≡ last_index (drop (p - 1) (map seen es))
-last_step es zero h d old some within at was is = absurd (omega arith)
-last_step es (suc i) h d old some within at was is =
-    let less : suc i - 1 ≡ i = omega arith in
-    let here : d ≡ get_or es i d = (rw less at at) in
-    rw (less, drop_at es i d (omega arith), ← here, ← was) (ap Some is)

@@ -1,13 +1,10 @@
 -- Which heights stand in ranges, and that these tell the ranges: two lists of ranges with the same heights are one.
-use Rattle.std.proofs.Common.{◌≡◌, ◌⊎◌, inl, inr, ⊎_elim, ◌<◌, ◌≤◌, ◌+◌, ◌==◌, ℕ, zero, suc, List, [], ◌∷◌, Bool, true, false, if◌then◌else◌, nat_lt, nat_le, fold, Contains, refl, sym, ap₂, subst, arith, eqb-true, leb-true, leb-false, le_refl}
+use Rattle.std.proofs.Common.{◌≡◌, ◌⊎◌, inl, inr, ⊎_elim, ◌<◌, ◌≤◌, ◌+◌, ◌==◌, ℕ, zero, suc, List, [], ◌∷◌, Bool, true, false, if◌then◌else◌, nat_lt, nat_le, fold, Contains, refl, sym, arith, eqb-true, leb-true, leb-false, le_refl}
 use Rattle.std.specs.Bool.{⊤}
 use Rattle.std.proofs.lemmas.Bool.{eqb-false}
 use Rattle.std.proofs.lemmas.Bool.Decides.{nat_tests}
 use Rattle.mar_store.specs.Ranges.{Range, range_before, ranges, with_height}
 use Rattle.mar_store.proofs.RangeLemmas.{IsInRanges}
-
-abbrev pub IsInRange : Range → ℕ → Type 0
-IsInRange r k = (r.from ≤ k) × (k ≤ r.to)
 
 -- from this height on ascending, none touching the next
 abbrev pub AscendFrom : ℕ → List Range → Type 0
@@ -169,51 +166,3 @@ ranges-members heights k inside = ⊎_elim (λ none. absurd none) (λ has. has) 
 
 pub ranges-has : (heights : List ℕ) (k : ℕ) → Contains heights k → IsInRanges (ranges heights) k
 ranges-has heights k has = folded_has [] heights k tt (inr has)
-
--- THE HEIGHTS TELL THE RANGES
-
-first_not_above : (low other : ℕ) (r q : Range) (rs qs : List Range) → AscendFrom low (r ∷ rs) → AscendFrom other (q ∷ qs) → ((k : ℕ) → IsInRanges (r ∷ rs) k → IsInRanges (q ∷ qs) k) → q.from ≤ r.from
-first_not_above low other r q rs qs up down within = bound_of q.from r.from (q ∷ qs) (le_refl _, down.1, down.2) (within r.from (inl (le_refl _, up.1)))
-
-end_not_above : (low other : ℕ) (r q : Range) (rs qs : List Range) → AscendFrom low (r ∷ rs) → AscendFrom other (q ∷ qs) → r.from ≡ q.from → ((k : ℕ) → IsInRanges (q ∷ qs) k → IsInRanges (r ∷ rs) k) → q.to ≤ r.to
-end_not_above low other r q rs qs up down same within = by (nat_le q.to r.to) refl
-  where
-    past : r.to < q.to → IsInRanges (r ∷ rs) (r.to + 1) → ⊥
-    past lt (inl (from, to)) = omega arith
-    past lt (inr later) = let far : r.to + 2 ≤ r.to + 1 = bound_of (r.to + 2) (r.to + 1) rs up.2 later in omega arith
-
-    by : (b : Bool) → nat_le q.to r.to ≡ b → q.to ≤ r.to
-    by true is = leb-true q.to r.to is
-    by false is = absurd (let lt : r.to < q.to = leb-false q.to r.to is in let ordered : r.from ≤ r.to = up.1 in past lt (within (r.to + 1) (inl (omega arith, omega arith))))
-
-rest_within : (low other : ℕ) (r q : Range) (rs qs : List Range) → AscendFrom low (r ∷ rs) → AscendFrom other (q ∷ qs) → r.to ≡ q.to → ((k : ℕ) → IsInRanges (r ∷ rs) k → IsInRanges (q ∷ qs) k) → (k : ℕ) → IsInRanges rs k → IsInRanges qs k
-rest_within low other r q rs qs up down same within k later = by (bound_of (r.to + 2) k rs up.2 later) (within k (inr later))
-  where
-    by : r.to + 2 ≤ k → IsInRanges (q ∷ qs) k → IsInRanges qs k
-    by far (inl (from, to)) = absurd (omega arith)
-    by far (inr there) = there
-
-abbrev range_of : ℕ → ℕ → Range
-range_of from to = record { from = from; to = to }
-
-pub same_ranges : (low : ℕ) (rs qs : List Range) → AscendFrom low rs → AscendFrom low qs → ((k : ℕ) → IsInRanges rs k → IsInRanges qs k) → ((k : ℕ) → IsInRanges qs k → IsInRanges rs k) → rs ≡ qs
-same_ranges low [] [] up down there back = refl
-same_ranges low [] (q ∷ qs) up down there back = absurd (back q.from (inl (le_refl _, down.1)))
-same_ranges low (r ∷ rs) [] up down there back = absurd (there r.from (inl (le_refl _, up.1)))
-same_ranges low (r ∷ rs) (q ∷ qs) up down there back =
-    ap₂ (λ x xs. x ∷ xs) (ap₂ range_of from to)
-    (same_ranges (r.to + 2) rs qs up.2 (subst (λ t. AscendFrom (t + 2) qs) (sym to) down.2) (rest_within low low r q rs qs up down to there) (rest_within low low q r qs rs down up (sym to) back))
-  where
-    from : r.from ≡ q.from
-    from = let a : q.from ≤ r.from = first_not_above low low r q rs qs up down there in let b : r.from ≤ q.from = first_not_above low low q r qs rs down up back in omega arith
-
-    to : r.to ≡ q.to
-    to = let a : q.to ≤ r.to = end_not_above low low r q rs qs up down from back in let b : r.to ≤ q.to = end_not_above low low q r qs rs down up (sym from) there in omega arith
-
--- lists with the same heights have the same ranges, in whatever order and however often they stand
-pub ranges-same : (xs ys : List ℕ) → ((k : ℕ) → Contains xs k → Contains ys k) → ((k : ℕ) → Contains ys k → Contains xs k) → ranges xs ≡ ranges ys
-ranges-same xs ys there back = same_ranges 0 (ranges xs) (ranges ys) (ranges-ascend xs) (ranges-ascend ys) (λ k inside. ranges-has ys k (there k (ranges-members xs k inside))) (λ k inside. ranges-has xs k (back k (ranges-members ys k inside)))
-
--- ascending ranges that hold exactly these heights are theirs
-pub ranges-are : (heights : List ℕ) (rs : List Range) → AscendFrom 0 rs → ((k : ℕ) → IsInRanges rs k → Contains heights k) → ((k : ℕ) → Contains heights k → IsInRanges rs k) → ranges heights ≡ rs
-ranges-are heights rs up there back = same_ranges 0 (ranges heights) rs (ranges-ascend heights) up (λ k inside. back k (ranges-members heights k inside)) (λ k inside. ranges-has heights k (there k inside))

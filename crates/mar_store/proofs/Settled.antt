@@ -28,10 +28,6 @@ none_of : {V : Type 0} (o : Option V) → IsNone o → o ≡ None
 none_of None is = refl
 none_of (Some v) is = cc
 
-has_here : {V : Type 0} (b : Bool) (v : V) (o : Option V) → b ≡ true → is_some (cond b (Some v) o) ≡ false → ⊥
-has_here true v o here none = cc
-has_here false v o here none = cc
-
 index_apart : {T : Type 0} (bs cs : List (At T)) (x : At T) (h : ℕ) → value_at (bs ++ x ∷ cs) h ≡ None → (x.height == h) ≡ false
 index_apart [] cs x h none = (past (x.height == h) x.value (value_at cs h) none).0
 index_apart (b ∷ bs) cs x h none = index_apart bs cs x h (past (b.height == h) b.value (value_at (bs ++ x ∷ cs) h) none).1
@@ -176,10 +172,6 @@ settle_fails half k m items rest now left are same long = record {
   where
     front_of : {X : Type 0} (bs xs : List X) (n : ℕ) → n ≡ length bs → take n (bs ++ xs) ≡ bs
     front_of bs xs n is = rw is (take-append-le (length bs) bs xs (omega arith) ∙ take_all (length bs) bs (omega arith))
-
--- all have been looked at
-pub settled : {T : Type 0} (half k : ℕ) (items rest now left : List (Entry T)) → length rest ≤ k → map seen now ≡ map seen items ++ lucky_from half 0 (take k (map seen rest)) → left ≡ now → map seen left ≡ map seen items ++ lucky_from half 0 (map seen rest)
-settled half k items rest now left all are same = rw same (are ∙ ap (λ xs. map seen items ++ lucky_from half 0 xs) (take_all k (map seen rest) (rw length-map all)))
 
 -- a pile that was split is whole again
 pub whole_once : {T : Type 0} (n : ℕ) (items front rest : List (Entry T)) → front ≡ take n items → rest ≡ drop n items → EachHeightOnce (map seen items) → EachHeightOnce (map seen (front ++ rest))

@@ -1,5 +1,5 @@
 -- One more height in ranges that ascend, and spans as ranges.
-use Rattle.std.proofs.Common.{◌≡◌, ℕ, zero, suc, ◌+◌, ◌<◌, ◌≤◌, List, [], ◌∷◌, ◌++◌, length, get_or, set, take, drop, refl, ap, sym, ◌∙◌, arith, add-one, suc-add, inl, inr, Bool, false, ◌-◌, IsTrue, Result, Ok, Err, OnOk, OnErr}
+use Rattle.std.proofs.Common.{◌≡◌, ℕ, zero, suc, ◌+◌, ◌<◌, ◌≤◌, List, [], ◌∷◌, ◌++◌, length, get_or, set, take, drop, refl, ap, sym, ◌∙◌, arith, add-one, suc-add, inl, inr, Bool, false, IsTrue, Result, Ok, Err, OnOk, OnErr}
 use Rattle.std.proofs.lemmas.List.{drop-map, get_or_default, take-append-drop}
 use Rattle.std.proofs.lemmas.Bool.{both_ways, cases_lt, cases_eq}
 use Rattle.std.proofs.lemmas.Bool.Decides.{nat_tests}
@@ -146,12 +146,6 @@ apart_there low h (y ∷ ys) (suc i) x lt is above ascend =
 
 pub reached_at : (xs : List HeightSpan) (i h : ℕ) (x : HeightSpan) → i < length xs → x ≡ get_or xs i x → h ≤ x.to + 1 → IsReached h (drop i (ranges_of xs))
 reached_at xs i h x lt is low = rw (at_place xs i x lt is) low
-
-pub reached_end : (xs : List HeightSpan) (i h : ℕ) → length xs ≤ i → IsReached h (drop i (ranges_of xs))
-reached_end [] zero h all = tt
-reached_end [] (suc i) h all = tt
-reached_end (x ∷ xs) zero h all = absurd (omega arith)
-reached_end (x ∷ xs) (suc i) h all = reached_end xs i h (omega arith)
 
 pub apart_after : (h : ℕ) (xs : List HeightSpan) (i : ℕ) (d : HeightSpan) → i < length xs → (get_or xs i d).to + 1 < h → AscendFrom 0 (ranges_of xs)
     → with_height h (ranges_of xs) ≡ take (i + 1) (ranges_of xs) ++ with_height h (drop (i + 1) (ranges_of xs))

@@ -1,13 +1,10 @@
 -- A commitment made of its parts: it is valid where they are, and they are found in it.
-use Rattle.std.proofs.Common.{List, [], ap, append_assoc, arith, drop, length, length-append, refl, replicate, suc, sym, take, true, zero, ℕ, ◌++◌, ◌-◌, ◌<◌, ◌^◌, ◌∙◌, ◌∷◌, ◌≡◌, ◌≤◌}
+use Rattle.std.proofs.Common.{List, [], ap, append_assoc, arith, drop, length, length-append, refl, replicate, suc, sym, take, true, zero, ℕ, ◌++◌, ◌-◌, ◌∙◌, ◌∷◌, ◌≡◌, ◌≤◌}
 use Rattle.std.proofs.Math.Seq.{drop-append_seam, take-append_seam}
 use Rattle.std.proofs.lemmas.List.{append-nil, length-replicate}
-use Rattle.std.proofs.lemmas.Nat.{from_be_bytes-to_be_bytes_2}
-use Rattle.std.specs.Int.{to_be_bytes, w16}
 use Rattle.std.specs.List.{AllByRecursion, slice_range}
 use Rattle.mar_codec.specs.Digest.{IsByte, IsBytes}
-use Rattle.mar_codec.specs.DigestLemmas.{to_be_bytes_2-injective}
-use Rattle.mar_types.specs.Coding.{JoinsParts, SpellsCommitment, SpellsConfig, SpellsField, SpellsShards, commitment_bytes, config_bytes, is_zero, padded}
+use Rattle.mar_types.specs.Coding.{JoinsParts, SpellsCommitment, SpellsConfig, SpellsField, commitment_bytes, is_zero, padded}
 
 -- a digest that is spelled, and fits a field
 pub record IsPart (Spells : List ℕ → Type 0) (size : ℕ) (digest : List ℕ) : Type 0 where
@@ -113,26 +110,6 @@ made_commitment Block Root Context block_size root_size context_size block root 
       context = rw (context_field block root context config b_fits r_fits c_fits) (field_is Context context_size context c);
       config = rw (config_field block root context config b_fits r_fits c_fits four.0) k;
     }
-
--- numbers of shards above zero are spelled
-spelled_shards : (n : ℕ) → 0 < n → n < 2 ^ 16 → SpellsShards (to_be_bytes w16 n)
-spelled_shards n some fits = ((refl, (omega arith, (omega arith, tt))), rw (from_be_bytes-to_be_bytes_2 n fits) some)
-
-pub spelled_config : (minimum extra : ℕ) → 0 < minimum → minimum < 2 ^ 16 → 0 < extra → extra < 2 ^ 16 → SpellsConfig (config_bytes minimum extra)
-spelled_config minimum extra some fits more extra_fits = record {
-  first = to_be_bytes w16 minimum;
-  second = to_be_bytes w16 extra;
-  first_is = spelled_shards minimum some fits;
-  second_is = spelled_shards extra more extra_fits;
-  spelled = refl;
-}
-
--- the bytes of a config tell its numbers
-pub config_bytes-injective : (minimum extra other_minimum other_extra : ℕ) → minimum < 2 ^ 16 → extra < 2 ^ 16 → other_minimum < 2 ^ 16 → other_extra < 2 ^ 16 → config_bytes minimum extra ≡ config_bytes other_minimum other_extra → (minimum ≡ other_minimum) × (extra ≡ other_extra)
-config_bytes-injective minimum extra other_minimum other_extra m_fits e_fits om_fits oe_fits e = (
-  to_be_bytes_2-injective minimum other_minimum m_fits om_fits (ap (take 2) e),
-  to_be_bytes_2-injective extra other_extra e_fits oe_fits (ap (drop 2) e),
-)
 
 -- joined parts make a commitment that is valid where they are spelled, and each is found in it
 pub joins_parts : (Block Root Context : List ℕ → Type 0) (block_size root_size context_size : ℕ) (block root context config bytes : List ℕ) → bytes ≡ commitment_bytes block root context config → IsBytes block_size block → block_size ≤ 32 → IsBytes root_size root → root_size ≤ 32 → IsBytes context_size context → context_size ≤ 32 → SpellsConfig config → JoinsParts Block Root Context block_size root_size context_size block root context config bytes
