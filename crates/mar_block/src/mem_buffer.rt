@@ -3,10 +3,10 @@ ghost use Rattle.std.specs.Prelude.{◌≡◌, ◌++◌, ◌∷◌, [], IfOk, On
 ghost use Rattle.mar_codec.specs.Places.{at_place};
 ghost use Rattle.mar_block.specs.Sent.{sending};
 
-use crate::places::Places;
+use crate::places::BlockPlaces;
 use crate::recipients::{Recipients, Sent};
 use crate::{Buffer, Variant};
-use mar_codec::Participant;
+use mar_codec::{Digest, Participant};
 use mar_key::Subscription;
 use mar_types::Round;
 use std::alloc::{AllocError, Global};
@@ -15,14 +15,22 @@ use std::marker::Model;
 /// Keeps the blocks that are put, in order, and the first place of each digest and of each commitment. It tells of the
 /// blocks that come until it is closed, and keeps what it was handed to send. A contract sees the blocks as plain data.
 #[derive(Drop)]
-pub struct MemBuffer<V: Variant> {
+pub struct MemBuffer<V: Variant>
+where
+    V::Digest: Digest,
+    V::Commitment: Digest,
+{
     blocks: Vec<V::Block>,
-    places: Places<V>,
+    places: BlockPlaces<V>,
     is_open: bool,
     sent: Vec<Sent<V::Block>>,
 }
 
-impl<V: Variant> Model for MemBuffer<V> {
+impl<V: Variant> Model for MemBuffer<V>
+where
+    V::Digest: Digest,
+    V::Commitment: Digest,
+{
     ghost use Rattle.std.specs.Prelude.{map};
     ghost use Rattle.std.specs.BTreeMap.{get};
     ghost use Rattle.mar_codec.specs.Places.{PlacesFirst};
@@ -36,14 +44,18 @@ impl<V: Variant> Model for MemBuffer<V> {
         × PlacesFirst V.Commitment.bytes (λ x. x.commitment) (map V.plain b.blocks.items) (get V.Commitment.cmp b.places.commitments.places) };
 }
 
-impl<V: Variant> MemBuffer<V> {
+impl<V: Variant> MemBuffer<V>
+where
+    V::Digest: Digest,
+    V::Commitment: Digest,
+{
     /// A buffer that has no block, is open and has sent nothing.
     pub fn new(alloc: Global) -> Self
         ensures { result ≡ record { blocks = []; is_open = true; sent = [] } }
     {
         MemBuffer {
             blocks: Vec::new(alloc),
-            places: Places::new(alloc),
+            places: BlockPlaces::new(alloc),
             is_open: true,
             sent: Vec::new(alloc),
         }
@@ -84,7 +96,11 @@ impl<V: Variant> MemBuffer<V> {
     }
 }
 
-impl<V: Variant> Buffer<V> for MemBuffer<V> {
+impl<V: Variant> Buffer<V> for MemBuffer<V>
+where
+    V::Digest: Digest,
+    V::Commitment: Digest,
+{
     ghost blocks = { λ b. b.blocks };
 
     ghost notifies = { λ b. b.is_open };

@@ -56,18 +56,26 @@ impl<D: Digest> FirstPlaces<D> {
 
 /// The first place of each digest and of each commitment.
 #[derive(Drop)]
-pub struct Places<V: Variant> {
+pub struct BlockPlaces<V: Variant>
+where
+    V::Digest: Digest,
+    V::Commitment: Digest,
+{
     pub digests: FirstPlaces<V::Digest>,
     pub commitments: FirstPlaces<V::Commitment>,
 }
 
-impl<V: Variant> Places<V> {
+impl<V: Variant> BlockPlaces<V>
+where
+    V::Digest: Digest,
+    V::Commitment: Digest,
+{
     /// No name has a place.
     pub fn new(alloc: Global) -> Self
         ensures digests { (d : V.Digest) → get V.Digest.cmp result.digests.places d ≡ None }
         ensures commitments { (c : V.Commitment) → get V.Commitment.cmp result.commitments.places c ≡ None }
     {
-        Places {
+        BlockPlaces {
             digests: FirstPlaces::new(alloc),
             commitments: FirstPlaces::new(alloc),
         }
@@ -83,9 +91,11 @@ impl<V: Variant> Places<V> {
         ensures digests { OnOk result ((d : V.Digest) → get V.Digest.cmp self.new.digests.places d
             ≡ or_place (get V.Digest.cmp self.old.digests.places d) (if bytes_eq (V.Digest.bytes digest) (V.Digest.bytes d) then Some place else None)) }
         ensures commitments { OnOk result ((c : V.Commitment) → get V.Commitment.cmp self.new.commitments.places c
-            ≡ or_place (get V.Commitment.cmp self.old.commitments.places c) (if bytes_eq (V.Commitment.bytes commitment) (V.Commitment.bytes c) then Some place else None)) }
+            ≡ or_place (get V.Commitment.cmp self.old.commitments.places c) (if bytes_eq (V.Commitment.bytes commitment) (V.Commitment.bytes c) then Some
+            place else None)) }
         ensures no_digest { OnErr result ((d : V.Digest) → get V.Digest.cmp self.new.digests.places d ≡ get V.Digest.cmp self.old.digests.places d) }
-        ensures no_commitment { OnErr result ((c : V.Commitment) → get V.Commitment.cmp self.new.commitments.places c ≡ get V.Commitment.cmp self.old.commitments.places c) }
+        ensures no_commitment { OnErr result ((c : V.Commitment) → get V.Commitment.cmp self.new.commitments.places c
+            ≡ get V.Commitment.cmp self.old.commitments.places c) }
     {
         let noted = self.digests.note(digest, place)?;
         match self.commitments.note(commitment, place) {

@@ -7,7 +7,7 @@ use crate::blocks::Block;
 use crate::expected::ExpectedCommitment;
 use bytes::Buf;
 use mar_cert::Scheme;
-use mar_codec::{Digest, Error, Read};
+use mar_codec::{Error, Named, Read};
 use mar_types::Height;
 use std::alloc::{AllocError, Global};
 
@@ -19,10 +19,10 @@ pub trait Variant {
     type Block: Drop;
 
     /// What names a block alone.
-    type Digest: Digest;
+    type Digest: Named;
 
     /// What a certificate over a block signs.
-    type Commitment: Digest;
+    type Commitment: Named;
 
     /// A block as plain data.
     ghost plain: { Self.Block → PlainBlock };

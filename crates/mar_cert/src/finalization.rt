@@ -9,7 +9,7 @@ ghost use Rattle.mar_cert.specs.Views.{certified_of, final_of, spelling_of};
 use crate::scheme::{Certificate, Scheme, Scoped};
 use crate::subject::Subject;
 use bytes::{Buf, BufMut};
-use mar_codec::{Digest, EncodeSize, Error, Read, Write, read_pair, write_pair};
+use mar_codec::{Digest, EncodeSize, Error, Named, Read, Write, read_pair, write_pair};
 use mar_types::{Epoch, Round, View};
 use std::alloc::{AllocError, Global};
 
@@ -188,8 +188,8 @@ pub trait AsFinalization: Drop {
         ensures { IfOk result (λ f. plain f ≡ plain self.now) };
 }
 
-/// A finalization whose payload is a digest of the kind `D`.
-pub trait CommitsTo<D: Digest>: AsFinalization {
+/// A finalization whose payload is a commitment of the kind `D`.
+pub trait CommitsTo<D: Named>: AsFinalization {
     /// What its proposal commits to.
     fn payload(&self) -> D
         ensures { D.bytes result ≡ (Self.plain self.now).payload };

@@ -12,41 +12,43 @@ use std::convert::AsSlice;
 use std::fmt::{Debug, Display};
 use std::hash::Hash;
 
-/// A digest: so many bytes, which spell it, order it and tell it from others.
-pub trait Digest: FixedSize + Read<Cfg = ()> + AsSlice<u8> + Copy + Ord + Hash + Debug + Display {
-    // The digest's bytes.
+/// A name: its bytes tell it from others.
+pub trait Named: Copy + PartialEq {
+    // The name's bytes.
     ghost bytes: { Self → List ℕ };
 
+    ghost equal: { (name other : Self) → Self.eq name other ≡ bytes_eq (bytes name) (bytes other) };
+}
+
+/// A digest: so many bytes, which spell it, order it and tell it from others.
+pub trait Digest: Named + FixedSize + Read<Cfg = ()> + AsSlice<u8> + Ord + Hash + Debug + Display {
     // How a digest's bytes are drawn, by what a generator says of its words and of its bytes.
     ghost drawn: { {State : Type 0} → (State → ℕ → State → Type 0)
         → (State → List ℕ → State → Type 0) → State → List ℕ → State → Type 0 };
 
     /// The digest whose bytes are all zero.
     fn empty() -> Self
-        ensures { bytes result ≡ replicate Self.SIZE 0 };
+        ensures { Self.bytes result ≡ replicate Self.SIZE 0 };
 
     /// A digest of random bytes.
     fn random<W: Words>(words: &mut W) -> Self
-        ensures { drawn W.gives_word W.gives_bytes words.old (bytes result) words.new };
+        ensures { drawn W.gives_word W.gives_bytes words.old (Self.bytes result) words.new };
 
-    ghost spelled: { (digest : Self) → Self.encoded digest ≡ bytes digest };
+    ghost spelled: { (digest : Self) → Self.encoded digest ≡ Self.bytes digest };
 
-    ghost shown: { (digest : Self) → Self.items digest ≡ bytes digest };
+    ghost shown: { (digest : Self) → Self.items digest ≡ Self.bytes digest };
 
-    ghost printed: { (digest : Self) → Self.output digest ≡ Some (encode_lower (bytes digest)) };
+    ghost printed: { (digest : Self) → Self.output digest ≡ Some (encode_lower (Self.bytes digest)) };
 
     ghost debugged: { (digest : Self) → Self.debug_output digest
-        ≡ Some (encode_lower (bytes digest)) };
+        ≡ Some (encode_lower (Self.bytes digest)) };
 
-    ghost are_bytes: { (digest : Self) → AllByRecursion IsByte (bytes digest) };
+    ghost are_bytes: { (digest : Self) → AllByRecursion IsByte (Self.bytes digest) };
 
-    ghost injective: { (digest other : Self) → bytes digest ≡ bytes other → digest ≡ other };
-
-    ghost equal: { (digest other : Self) → Self.eq digest other
-        ≡ bytes_eq (bytes digest) (bytes other) };
+    ghost injective: { (digest other : Self) → Self.bytes digest ≡ Self.bytes other → digest ≡ other };
 
     ghost ordered: { (digest other : Self) → Self.cmp digest other
-        ≡ slice_cmp nat_cmp (bytes digest) (bytes other) };
+        ≡ slice_cmp nat_cmp (Self.bytes digest) (Self.bytes other) };
 
     ghost fixed: { Self.takes_memory ≡ false };
 

@@ -6,7 +6,7 @@ pub use codec::{
     Decode, Encode, EncodeSize, FixedSize, MaxEncodeSize, Read, ReadExt, Write, read_array,
     read_byte, read_front, read_slice,
 };
-pub use digest::{Digest, Digestible, Hasher};
+pub use digest::{Digest, Digestible, Hasher, Named};
 pub use digested::Digested;
 pub use error::{Error, Kind, Reason};
 pub use hexadecimal::write_hex;

@@ -10,7 +10,7 @@ ghost use Rattle.mar_codec.specs.Refusals.{RefusesShort};
 
 use crate::array::{Array, Span};
 use crate::codec::{EncodeSize, FixedSize, Read, Write, read_array};
-use crate::digest::{Digest, Hasher};
+use crate::digest::{Digest, Hasher, Named};
 use crate::error::Error;
 use crate::hexadecimal::write_hex;
 use crate::words::Words;
@@ -128,9 +128,13 @@ impl Read for Sha256Digest {
     ghost unambiguous = { λ _. bytes_unambiguous 32 };
 }
 
-impl Digest for Sha256Digest {
+impl Named for Sha256Digest {
     ghost bytes = { λ digest. digest.bytes };
 
+    ghost equal = { λ digest other. refl };
+}
+
+impl Digest for Sha256Digest {
     ghost drawn = { λ gives_word gives_bytes old bytes new. gives_bytes old bytes new };
 
     fn empty() -> Self {
@@ -157,8 +161,6 @@ impl Digest for Sha256Digest {
       bytes = e i;
       is_digest = same_proof 32 _ _ e digest.is_digest other.is_digest i;
     } };
-
-    ghost equal = { λ digest other. refl };
 
     ghost ordered = { λ digest other. refl };
 

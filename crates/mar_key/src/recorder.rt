@@ -95,7 +95,8 @@ fn add_annotation(
 
 // Adds the annotation to the key's and answers true, or answers false where the key isn't open.
 fn add_to_key<D: Digest>(keys: &mut [Asked<D>], fetch: &Fetch<D>) -> Result<bool, AllocError>
-    ensures ok { IfOk result (λ found. map (asked_of D.bytes) keys.new ++ (if found then [] else newly_asked (call_key D.bytes fetch.now) (annotation_of fetch.now.subscriber) ∷ [])
+    ensures ok { IfOk result (λ found. map (asked_of D.bytes) keys.new ++ (if found then [] else newly_asked (call_key D.bytes fetch.now)
+        (annotation_of fetch.now.subscriber) ∷ [])
         ≡ with_fetch (call_key D.bytes fetch.now) (annotation_of fetch.now.subscriber) (map (asked_of D.bytes) keys.old)) }
     ensures absent { IfOk result (λ found. found ≡ false → map (asked_of D.bytes) keys.new ≡ map (asked_of D.bytes) keys.old) }
     ensures err { OnErr result (map (asked_of D.bytes) keys.new ≡ map (asked_of D.bytes) keys.old) }
@@ -116,7 +117,8 @@ fn add_fetch<D: Digest>(
     keys: &mut Vec<Asked<D>>,
     fetch: &Fetch<D>,
 ) -> Result<(), AllocError>
-    ensures ok { OnOk result (map (asked_of D.bytes) keys.new.items ≡ with_fetch (call_key D.bytes fetch.now) (annotation_of fetch.now.subscriber) (map (asked_of D.bytes) keys.old.items)) }
+    ensures ok { OnOk result (map (asked_of D.bytes) keys.new.items ≡ with_fetch (call_key D.bytes fetch.now) (annotation_of fetch.now.subscriber)
+        (map (asked_of D.bytes) keys.old.items)) }
     ensures err { OnErr result (map (asked_of D.bytes) keys.new.items ≡ map (asked_of D.bytes) keys.old.items) }
 {
     let found = add_to_key(keys.as_mut_slice(), fetch)?;
@@ -216,7 +218,8 @@ fn add_asks<D: Digest>(
     asks: &[Ask<D>],
 ) -> Result<(), AllocError>
     ensures ok { OnOk result (map (asked_of D.bytes) keys.new.items ≡ fold after_ask (map (asked_of D.bytes) keys.old.items) (map (ask_of D.bytes) asks.now)) }
-    ensures err { OnErr result ((taken : ℕ) × (map (asked_of D.bytes) keys.new.items ≡ fold after_ask (map (asked_of D.bytes) keys.old.items) (take taken (map (ask_of D.bytes) asks.now)))) }
+    ensures err { OnErr result ((taken : ℕ) × (map (asked_of D.bytes) keys.new.items ≡ fold after_ask (map (asked_of D.bytes) keys.old.items)
+        (take taken (map (ask_of D.bytes) asks.now)))) }
 {
     for ask in asks {
         add_ask(alloc, keys, ask)?;
@@ -231,8 +234,10 @@ fn settle_keys<D: Digest>(
     judged: &[Judged<D>],
     asks: &[Ask<D>],
 ) -> Result<(), AllocError>
-    ensures ok { OnOk result (map (asked_of D.bytes) keys.new.items ≡ asked_after (map (asked_of D.bytes) keys.old.items) (map (judged_of D.bytes) judged.now) (map (ask_of D.bytes) asks.now)) }
-    ensures err { OnErr result (IsAskedInPart (map (asked_of D.bytes) keys.old.items) (map (judged_of D.bytes) judged.now) (map (ask_of D.bytes) asks.now) (map (asked_of D.bytes) keys.new.items)) }
+    ensures ok { OnOk result (map (asked_of D.bytes) keys.new.items ≡ asked_after (map (asked_of D.bytes) keys.old.items) (map (judged_of D.bytes) judged.now)
+        (map (ask_of D.bytes) asks.now)) }
+    ensures err { OnErr result (IsAskedInPart (map (asked_of D.bytes) keys.old.items) (map (judged_of D.bytes) judged.now) (map (ask_of D.bytes) asks.now)
+        (map (asked_of D.bytes) keys.new.items)) }
 {
     close_all(keys, judged);
     add_asks(alloc, keys, asks)
@@ -299,7 +304,11 @@ impl<D: Digest> Recorder<D> {
     /// afresh stays open. Where memory runs out the open keys are those after the judgements and the first so many of
     /// the asks, none of which counts as taken in.
     pub fn settle(&mut self, judged: &[Judged<D>]) -> Result<(), AllocError>
-        ensures ok { OnOk result (self.new ≡ record self.old { settled = length self.old.asks; keys = asked_after self.old.keys (map (judged_of D.bytes) judged.now) (drop self.old.settled self.old.asks) }) }
+        ensures ok { OnOk result (self.new ≡ record self.old {
+          settled = length self.old.asks;
+          keys = asked_after self.old.keys
+              (map (judged_of D.bytes) judged.now) (drop self.old.settled self.old.asks);
+        }) }
         ensures err { OnErr result (self.new ≡ record self.old { keys = self.new.keys }) }
         ensures between { OnErr result (IsAskedInPart self.old.keys (map (judged_of D.bytes) judged.now) (drop self.old.settled self.old.asks) self.new.keys) }
     {

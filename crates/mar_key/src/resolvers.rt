@@ -6,11 +6,11 @@ ghost use Rattle.mar_key.specs.Views.{call_of, retain_of, targeted_of};
 
 use crate::annotations::Retain;
 use crate::requests::Fetch;
-use mar_codec::Digest;
+use mar_codec::Named;
 use std::alloc::AllocError;
 
-/// Fetches from peers what it is asked for, commitments being digests `D`.
-pub trait Resolver<D: Digest> {
+/// Fetches from peers what it is asked for, naming commitments by `D`.
+pub trait Resolver<D: Named> {
     // The requests and retains that it was handed, in order, where it tells that.
     ghost told: { Self → Option (List Call) };
 
@@ -31,7 +31,7 @@ pub trait Resolver<D: Digest> {
 }
 
 /// A resolver that can ask certain peers, each named by its number.
-pub trait TargetedResolver<D: Digest>: Resolver<D> {
+pub trait TargetedResolver<D: Named>: Resolver<D> {
     /// Asks these peers for a key.
     fn fetch_targeted(&mut self, fetch: Fetch<D>, targets: &[u32]) -> Result<(), AllocError>
         ensures ok { OnOk result (Hears (Self.told self.old) (targeted_of D.bytes fetch targets.now ∷ []) (Self.told self.new)) }

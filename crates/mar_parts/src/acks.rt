@@ -62,7 +62,8 @@ impl Model for PendingAcks {
 
     ghost view = { λ a. record { entries = map outstanding_of a.entries.items; max = a.max } };
 
-    ghost invariant = { λ a. (deque_len a.entries ≤ a.max) × (a.max ≤ deque_capacity a.entries) × AllByRecursion HasNextHeight (map outstanding_of a.entries.items) };
+    ghost invariant = { λ a. (deque_len a.entries ≤ a.max) × (a.max ≤ deque_capacity a.entries)
+        × AllByRecursion HasNextHeight (map outstanding_of a.entries.items) };
 }
 
 impl PendingAcks {

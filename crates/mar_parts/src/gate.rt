@@ -29,7 +29,12 @@ impl Model for DispatchGate {
 
     ghost Value = { Gate };
 
-    ghost view = { λ g. record { unsynced = g.unsynced; inflight = map (λ b. record { number = b.number; lowest = b.lowest }) g.inflight.items; next = g.next_number } };
+    ghost view = { λ g. record {
+      unsynced = g.unsynced;
+      inflight = map (λ b. record { number = b.number; lowest = b.lowest }) g.inflight.items;
+      next
+          = g.next_number;
+    } };
 }
 
 impl DispatchGate {

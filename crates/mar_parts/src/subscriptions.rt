@@ -5,6 +5,7 @@ ghost use Rattle.mar_parts.specs.WaitKeys.{is_commitment_key, is_digest_key, wai
 
 use crate::waiters::Waiters;
 use mar_block::{Buffer, Variant};
+use mar_codec::Digest;
 use std::alloc::{AllocError, Global};
 use std::marker::Model;
 
@@ -31,13 +32,21 @@ pub struct Served {
 /// and its promise is kept as long as somebody waits under the key. A contract sees a record of the waits by digest and
 /// of those by commitment.
 #[derive(Drop)]
-pub struct Subscriptions<V: Variant> {
+pub struct Subscriptions<V: Variant>
+where
+    V::Digest: Digest,
+    V::Commitment: Digest,
+{
     alloc: Global,
     digests: Waiters<V::Digest>,
     commitments: Waiters<V::Commitment>,
 }
 
-impl<V: Variant> Model for Subscriptions<V> {
+impl<V: Variant> Model for Subscriptions<V>
+where
+    V::Digest: Digest,
+    V::Commitment: Digest,
+{
     ghost use Rattle.mar_parts.specs.Waits.{Waits};
 
     ghost Value = { Waits };
@@ -45,7 +54,11 @@ impl<V: Variant> Model for Subscriptions<V> {
     ghost view = { λ s. record { digests = s.digests; commitments = s.commitments } };
 }
 
-impl<V: Variant> Subscriptions<V> {
+impl<V: Variant> Subscriptions<V>
+where
+    V::Digest: Digest,
+    V::Commitment: Digest,
+{
     /// Nobody waits.
     pub fn new(alloc: Global) -> Self
         ensures { result ≡ record { digests = []; commitments = [] } }
@@ -66,9 +79,12 @@ impl<V: Variant> Subscriptions<V> {
         buffer: &B,
     ) -> Result<(), AllocError>
         ensures digests { OnOk result ((d : V.Digest) → wait_for self.new.digests (V.Digest.bytes d)
-            ≡ (if is_digest_key V.Digest.bytes key (V.Digest.bytes d) then Some (wait_with V.Commitment.bytes V.Digest.bytes self.old key ticket (B.notifies buffer.now)) else wait_for self.old.digests (V.Digest.bytes d))) }
+            ≡ (if is_digest_key V.Digest.bytes key (V.Digest.bytes d) then Some (wait_with V.Commitment.bytes V.Digest.bytes self.old key ticket
+            (B.notifies buffer.now)) else wait_for self.old.digests (V.Digest.bytes d))) }
         ensures commitments { OnOk result ((c : V.Commitment) → wait_for self.new.commitments (V.Commitment.bytes c)
-            ≡ (if is_commitment_key V.Commitment.bytes key (V.Commitment.bytes c) then Some (wait_with V.Commitment.bytes V.Digest.bytes self.old key ticket (B.notifies buffer.now)) else wait_for self.old.commitments (V.Commitment.bytes c))) }
+            ≡ (if is_commitment_key V.Commitment.bytes key (V.Commitment.bytes c) then Some
+            (wait_with V.Commitment.bytes V.Digest.bytes self.old key ticket (B.notifies buffer.now)) else wait_for self.old.commitments
+            (V.Commitment.bytes c))) }
         ensures err { OnErr result (self.new ≡ self.old) }
     {
         match key {

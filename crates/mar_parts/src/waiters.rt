@@ -57,7 +57,8 @@ impl<K: Digest> Waiters<K> {
     pub(crate) fn join(&mut self, name: &K, ticket: u64) -> Result<bool, AllocError>
         ensures found { IfOk result (λ found. found ≡ is_some (wait_for self.old (K.bytes name.now))) }
         ensures joined { IfOk result (λ found. IsTrue found → (is_told : Bool) (other : K) → wait_for self.new (K.bytes other)
-            ≡ (if bytes_eq (K.bytes name.now) (K.bytes other) then Some (joined ticket is_told (wait_for self.old (K.bytes name.now))) else wait_for self.old (K.bytes other))) }
+            ≡ (if bytes_eq (K.bytes name.now) (K.bytes other) then Some (joined ticket is_told (wait_for self.old (K.bytes name.now))) else wait_for self.old
+            (K.bytes other))) }
         ensures alone { IfOk result (λ found. found ≡ false → self.new ≡ self.old) }
         ensures err { OnErr result (self.new ≡ self.old) }
     {

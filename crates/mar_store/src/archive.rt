@@ -94,7 +94,8 @@ pub trait Archive<T: Item>: Drop {
         requires size { T.size item ≤ 1048576 }
         requires fits { T.fits index item ≡ true }
         ensures done { MatchResult result
-            (λ s. Puts (is_taken T.name (stored self).held (record { height = index; value = item })) (stored self) (record { height = index; value = item }) (stored s))
+            (λ s. Puts (is_taken T.name (stored self).held (record { height = index; value = item })) (stored self) (record { height = index; value = item })
+            (stored s))
             (λ l. Fails (left_of (stored self)) (record { height = index; value = item } ∷ []) (Self.Wreck.left (wreck_of l))) }
         ensures tickets { IfOk result (λ s. number self ≤ number s) }
         ensures covers { IfOk result (λ s. KeepsCovers (number self) (covers self) (covers s)) }

@@ -13,7 +13,7 @@ ghost use Rattle.mar_store.specs.Entries.{covered_by, kept_of, next_number, seen
 
 use crate::entry::Entry;
 use crate::pile::Pile;
-use crate::places::Places;
+use crate::places::EntryPlaces;
 use crate::survey::places_from;
 use crate::{Identifier, Item};
 use std::alloc::Global;
@@ -22,7 +22,7 @@ use std::alloc::Global;
 #[derive(Drop)]
 pub struct Entries<T: Item> {
     pub pile: Pile<T>,
-    places: Places<T::Key>,
+    places: EntryPlaces<T::Key>,
     ghost by_index: { (h : ℕ) → get nat_cmp places.by_index h ≡ first_place (λ e. e.index == h) pile.items.items },
     ghost by_key: { (k : T.Key) → get T.Key.cmp places.by_key k
         ≡ first_place (λ e. bytes_eq (T.name e.item) (T.Key.bytes k)) pile.items.items },
@@ -36,7 +36,7 @@ impl<T: Item> Entries<T> {
     {
         Entries {
             pile: Pile::new(alloc),
-            places: Places::new(alloc),
+            places: EntryPlaces::new(alloc),
         }
     }
 
@@ -87,8 +87,10 @@ impl<T: Item> Entries<T> {
     pub fn put(self, index: u64, item: T) -> Result<Self, Pile<T>>
         requires fits { T.fits index item ≡ true }
         ensures done { MatchResult result
-            (λ s. Puts (is_taken T.name (map seen self.pile.items.items) (record { height = index; value = item })) (kept_of self.pile.items.items self.pile.synced) (record { height = index; value = item }) (kept_of s.pile.items.items s.pile.synced))
-            (λ p. Fails (left_of (kept_of self.pile.items.items self.pile.synced)) (record { height = index; value = item } ∷ []) (left_of (kept_of p.items.items p.synced))) }
+            (λ s. Puts (is_taken T.name (map seen self.pile.items.items) (record { height = index; value = item }))
+            (kept_of self.pile.items.items self.pile.synced) (record { height = index; value = item }) (kept_of s.pile.items.items s.pile.synced))
+            (λ p. Fails (left_of (kept_of self.pile.items.items self.pile.synced)) (record { height = index; value = item } ∷ [])
+            (left_of (kept_of p.items.items p.synced))) }
         ensures tickets { MatchResult result (λ s. self.pile.accepted ≤ s.pile.accepted) (λ p. self.pile.accepted ≤ p.accepted) }
         ensures covers { IfOk result (λ s. KeepsCovers self.pile.accepted (covered_by self.pile.items.items) (covered_by s.pile.items.items)) }
     {
@@ -143,7 +145,8 @@ impl<T: Item> Entries<T> {
     /// Makes sure what the ticket of a number covers. It gives back the pile as it was where memory runs out.
     pub fn finish(self, number: u64) -> Result<Self, Pile<T>>
         ensures done { MatchResult result
-            (λ s. Finishes (covered_by self.pile.items.items number) (kept_of self.pile.items.items self.pile.synced) (kept_of s.pile.items.items s.pile.synced))
+            (λ s. Finishes (covered_by self.pile.items.items number) (kept_of self.pile.items.items self.pile.synced)
+            (kept_of s.pile.items.items s.pile.synced))
             (λ p. Fails (left_of (kept_of self.pile.items.items self.pile.synced)) [] (left_of (kept_of p.items.items p.synced))) }
         ensures items { IfOk result (λ s. s.pile.items.items ≡ self.pile.items.items) }
         ensures tickets { MatchResult result (λ s. s.pile.accepted ≡ self.pile.accepted) (λ p. p.accepted ≡ self.pile.accepted) }

@@ -54,9 +54,12 @@ impl<T: Item> MemArchive<T> {
     pub fn reopen(wreck: MemArchiveWreck<T>, luck: u64) -> Result<Self, Lost<MemArchiveWreck<T>>>
         ensures found { IfOk result (λ s. ⟦<MemArchive<T> as Archive<T>>⟧.stored s ≡ reopened_store
             (lucky_found (half_of wreck.half luck) (⟦<MemArchiveWreck<T> as ArchiveRuin<T>>⟧.left wreck))) }
-        ensures failed { IfErr result (λ l. Fails (⟦<MemArchiveWreck<T> as ArchiveRuin<T>>⟧.left wreck) [] (⟦<MemArchiveWreck<T> as ArchiveRuin<T>>⟧.left (wreck_of l))) }
-        ensures cause { IsCausedBy ⟦<MemArchive<T> as Archive<T>>⟧.faults ⟦<MemArchiveWreck<T> as ArchiveRuin<T>>⟧.faults (⟦<MemArchiveWreck<T> as ArchiveRuin<T>>⟧.faults wreck) result }
-        ensures armed { HeedsArmed ⟦<MemArchive<T> as Archive<T>>⟧.due ⟦<MemArchiveWreck<T> as ArchiveRuin<T>>⟧.due true (⟦<MemArchiveWreck<T> as ArchiveRuin<T>>⟧.due wreck) result }
+        ensures failed { IfErr result (λ l. Fails (⟦<MemArchiveWreck<T> as ArchiveRuin<T>>⟧.left wreck) []
+            (⟦<MemArchiveWreck<T> as ArchiveRuin<T>>⟧.left (wreck_of l))) }
+        ensures cause { IsCausedBy ⟦<MemArchive<T> as Archive<T>>⟧.faults ⟦<MemArchiveWreck<T> as ArchiveRuin<T>>⟧.faults
+            (⟦<MemArchiveWreck<T> as ArchiveRuin<T>>⟧.faults wreck) result }
+        ensures armed { HeedsArmed ⟦<MemArchive<T> as Archive<T>>⟧.due ⟦<MemArchiveWreck<T> as ArchiveRuin<T>>⟧.due true
+            (⟦<MemArchiveWreck<T> as ArchiveRuin<T>>⟧.due wreck) result }
         ensures fault { FaultsIfArmed (⟦<MemArchiveWreck<T> as ArchiveRuin<T>>⟧.due wreck) result }
         ensures half { MatchResult result (λ s. s.half ≡ wreck.half) (λ l. (wreck_of l).half ≡ wreck.half) }
         ensures still { IfErr result (λ l. OnFault (λ w. w.pile ≡ wreck.pile) l) }
@@ -134,9 +137,11 @@ impl<T: Item> Archive<T> for MemArchive<T> {
 
     fn get(&mut self, identifier: Identifier<T::Key>) -> Result<Option<T>, Miss>
         ensures found { IfOk result (λ o. o ≡ value_found T.name T.Key.bytes (map seen self.old.entries.pile.items.items) identifier) }
-        ensures same { kept_of self.new.entries.pile.items.items self.new.entries.pile.synced ≡ kept_of self.old.entries.pile.items.items self.old.entries.pile.synced }
+        ensures same { kept_of self.new.entries.pile.items.items self.new.entries.pile.synced
+            ≡ kept_of self.old.entries.pile.items.items self.old.entries.pile.synced }
         ensures tickets { self.new.entries.pile.accepted ≡ self.old.entries.pile.accepted }
-        ensures covers { KeepsCovers self.old.entries.pile.accepted (covered_by self.old.entries.pile.items.items) (covered_by self.new.entries.pile.items.items) }
+        ensures covers { KeepsCovers self.old.entries.pile.accepted (covered_by self.old.entries.pile.items.items)
+            (covered_by self.new.entries.pile.items.items) }
         ensures cause { IsMissedBy self.old.alarm.faults self.new.alarm.faults result }
         ensures armed { ReadsArmed true self.old.alarm.due.items self.new.alarm.due.items result }
         ensures fault { ReadFaultsIfArmed self.old.alarm.due.items result }
@@ -156,9 +161,11 @@ impl<T: Item> Archive<T> for MemArchive<T> {
 
     fn has(&mut self, identifier: Identifier<T::Key>) -> Result<bool, Miss>
         ensures found { IfOk result (λ b. b ≡ is_some (value_found T.name T.Key.bytes (map seen self.old.entries.pile.items.items) identifier)) }
-        ensures same { kept_of self.new.entries.pile.items.items self.new.entries.pile.synced ≡ kept_of self.old.entries.pile.items.items self.old.entries.pile.synced }
+        ensures same { kept_of self.new.entries.pile.items.items self.new.entries.pile.synced
+            ≡ kept_of self.old.entries.pile.items.items self.old.entries.pile.synced }
         ensures tickets { self.new.entries.pile.accepted ≡ self.old.entries.pile.accepted }
-        ensures covers { KeepsCovers self.old.entries.pile.accepted (covered_by self.old.entries.pile.items.items) (covered_by self.new.entries.pile.items.items) }
+        ensures covers { KeepsCovers self.old.entries.pile.accepted (covered_by self.old.entries.pile.items.items)
+            (covered_by self.new.entries.pile.items.items) }
         ensures cause { IsMissedBy self.old.alarm.faults self.new.alarm.faults result }
         ensures armed { ReadsArmed true self.old.alarm.due.items self.new.alarm.due.items result }
         ensures fault { ReadFaultsIfArmed self.old.alarm.due.items result }
@@ -174,10 +181,15 @@ impl<T: Item> Archive<T> for MemArchive<T> {
         requires size { T.size item ≤ MAX_VALUE_SIZE }
         requires fits { T.fits index item ≡ true }
         ensures done { MatchResult result
-            (λ s. Puts (is_taken T.name (map seen self.entries.pile.items.items) (record { height = index; value = item })) (kept_of self.entries.pile.items.items self.entries.pile.synced) (record { height = index; value = item }) (kept_of s.entries.pile.items.items s.entries.pile.synced))
-            (λ l. Fails (left_of (kept_of self.entries.pile.items.items self.entries.pile.synced)) (record { height = index; value = item } ∷ []) (left_of (kept_of (wreck_of l).pile.items.items (wreck_of l).pile.synced))) }
-        ensures tickets { MatchResult result (λ s. self.entries.pile.accepted ≤ s.entries.pile.accepted) (λ l. self.entries.pile.accepted ≤ (wreck_of l).pile.accepted) }
-        ensures covers { IfOk result (λ s. KeepsCovers self.entries.pile.accepted (covered_by self.entries.pile.items.items) (covered_by s.entries.pile.items.items)) }
+            (λ s. Puts (is_taken T.name (map seen self.entries.pile.items.items) (record { height = index; value = item }))
+            (kept_of self.entries.pile.items.items self.entries.pile.synced) (record { height = index; value = item })
+            (kept_of s.entries.pile.items.items s.entries.pile.synced))
+            (λ l. Fails (left_of (kept_of self.entries.pile.items.items self.entries.pile.synced)) (record { height = index; value = item } ∷ [])
+            (left_of (kept_of (wreck_of l).pile.items.items (wreck_of l).pile.synced))) }
+        ensures tickets { MatchResult result (λ s. self.entries.pile.accepted ≤ s.entries.pile.accepted)
+            (λ l. self.entries.pile.accepted ≤ (wreck_of l).pile.accepted) }
+        ensures covers { IfOk result (λ s. KeepsCovers self.entries.pile.accepted (covered_by self.entries.pile.items.items)
+            (covered_by s.entries.pile.items.items)) }
         ensures cause { IsCausedBy (λ s. s.alarm.faults) (λ w. w.alarm.faults) self.alarm.faults result }
         ensures armed { HeedsArmed (λ s. s.alarm.due.items) (λ w. w.alarm.due.items) true self.alarm.due.items result }
         ensures half { MatchResult result (λ s. s.half ≡ self.half) (λ l. (wreck_of l).half ≡ self.half) }
@@ -203,15 +215,19 @@ impl<T: Item> Archive<T> for MemArchive<T> {
     fn sync(self) -> Result<Self, Lost<MemArchiveWreck<T>>>
         ensures done { MatchResult result
             (λ s. Syncs (kept_of self.entries.pile.items.items self.entries.pile.synced) (kept_of s.entries.pile.items.items s.entries.pile.synced))
-            (λ l. Fails (left_of (kept_of self.entries.pile.items.items self.entries.pile.synced)) [] (left_of (kept_of (wreck_of l).pile.items.items (wreck_of l).pile.synced))) }
-        ensures tickets { MatchResult result (λ s. self.entries.pile.accepted ≤ s.entries.pile.accepted) (λ l. self.entries.pile.accepted ≤ (wreck_of l).pile.accepted) }
-        ensures covers { IfOk result (λ s. KeepsCovers self.entries.pile.accepted (covered_by self.entries.pile.items.items) (covered_by s.entries.pile.items.items)) }
+            (λ l. Fails (left_of (kept_of self.entries.pile.items.items self.entries.pile.synced)) []
+            (left_of (kept_of (wreck_of l).pile.items.items (wreck_of l).pile.synced))) }
+        ensures tickets { MatchResult result (λ s. self.entries.pile.accepted ≤ s.entries.pile.accepted)
+            (λ l. self.entries.pile.accepted ≤ (wreck_of l).pile.accepted) }
+        ensures covers { IfOk result (λ s. KeepsCovers self.entries.pile.accepted (covered_by self.entries.pile.items.items)
+            (covered_by s.entries.pile.items.items)) }
         ensures cause { IsCausedBy (λ s. s.alarm.faults) (λ w. w.alarm.faults) self.alarm.faults result }
         ensures armed { HeedsArmed (λ s. s.alarm.due.items) (λ w. w.alarm.due.items) true self.alarm.due.items result }
         ensures fault { FaultsIfArmed self.alarm.due.items result }
         ensures half { MatchResult result (λ s. s.half ≡ self.half) (λ l. (wreck_of l).half ≡ self.half) }
         ensures still { IfErr result (λ l. OnFault (λ w. w.pile ≡ self.entries.pile) l) }
-        ensures sure { IfErr result (λ l. ((wreck_of l).pile.items.items ≡ self.entries.pile.items.items) × ((wreck_of l).pile.synced ≡ self.entries.pile.synced)) }
+        ensures sure { IfErr result (λ l. ((wreck_of l).pile.items.items ≡ self.entries.pile.items.items)
+            × ((wreck_of l).pile.synced ≡ self.entries.pile.synced)) }
     {
         let mut archive = self;
         if archive.alarm.rings() {
@@ -230,11 +246,14 @@ impl<T: Item> Archive<T> for MemArchive<T> {
     fn start_sync(self) -> Result<(Self, SyncTicket), Lost<MemArchiveWreck<T>>>
         ensures done { MatchResult result
             (λ s. kept_of s.0.entries.pile.items.items s.0.entries.pile.synced ≡ kept_of self.entries.pile.items.items self.entries.pile.synced)
-            (λ l. Fails (left_of (kept_of self.entries.pile.items.items self.entries.pile.synced)) [] (left_of (kept_of (wreck_of l).pile.items.items (wreck_of l).pile.synced))) }
+            (λ l. Fails (left_of (kept_of self.entries.pile.items.items self.entries.pile.synced)) []
+            (left_of (kept_of (wreck_of l).pile.items.items (wreck_of l).pile.synced))) }
         ensures made { IfOk result (λ s. s.1.number ≤ s.0.entries.pile.accepted) }
         ensures covered { IfOk result (λ s. covered_by s.0.entries.pile.items.items s.1.number ≡ map seen self.entries.pile.items.items) }
-        ensures tickets { MatchResult result (λ s. self.entries.pile.accepted ≤ s.0.entries.pile.accepted) (λ l. self.entries.pile.accepted ≤ (wreck_of l).pile.accepted) }
-        ensures covers { IfOk result (λ s. KeepsCovers self.entries.pile.accepted (covered_by self.entries.pile.items.items) (covered_by s.0.entries.pile.items.items)) }
+        ensures tickets { MatchResult result (λ s. self.entries.pile.accepted ≤ s.0.entries.pile.accepted)
+            (λ l. self.entries.pile.accepted ≤ (wreck_of l).pile.accepted) }
+        ensures covers { IfOk result (λ s. KeepsCovers self.entries.pile.accepted (covered_by self.entries.pile.items.items)
+            (covered_by s.0.entries.pile.items.items)) }
         ensures cause { IsCausedBy (λ s. s.0.alarm.faults) (λ w. w.alarm.faults) self.alarm.faults result }
         ensures armed { HeedsArmed (λ s. s.0.alarm.due.items) (λ w. w.alarm.due.items) true self.alarm.due.items result }
         ensures fault { FaultsIfArmed self.alarm.due.items result }
@@ -252,16 +271,21 @@ impl<T: Item> Archive<T> for MemArchive<T> {
     fn finish(self, ticket: SyncTicket) -> Result<Self, Lost<MemArchiveWreck<T>>>
         requires made { ticket.number ≤ self.entries.pile.accepted }
         ensures done { MatchResult result
-            (λ s. Finishes (covered_by self.entries.pile.items.items ticket.number) (kept_of self.entries.pile.items.items self.entries.pile.synced) (kept_of s.entries.pile.items.items s.entries.pile.synced))
-            (λ l. Fails (left_of (kept_of self.entries.pile.items.items self.entries.pile.synced)) [] (left_of (kept_of (wreck_of l).pile.items.items (wreck_of l).pile.synced))) }
-        ensures tickets { MatchResult result (λ s. self.entries.pile.accepted ≤ s.entries.pile.accepted) (λ l. self.entries.pile.accepted ≤ (wreck_of l).pile.accepted) }
-        ensures covers { IfOk result (λ s. KeepsCovers self.entries.pile.accepted (covered_by self.entries.pile.items.items) (covered_by s.entries.pile.items.items)) }
+            (λ s. Finishes (covered_by self.entries.pile.items.items ticket.number) (kept_of self.entries.pile.items.items self.entries.pile.synced)
+            (kept_of s.entries.pile.items.items s.entries.pile.synced))
+            (λ l. Fails (left_of (kept_of self.entries.pile.items.items self.entries.pile.synced)) []
+            (left_of (kept_of (wreck_of l).pile.items.items (wreck_of l).pile.synced))) }
+        ensures tickets { MatchResult result (λ s. self.entries.pile.accepted ≤ s.entries.pile.accepted)
+            (λ l. self.entries.pile.accepted ≤ (wreck_of l).pile.accepted) }
+        ensures covers { IfOk result (λ s. KeepsCovers self.entries.pile.accepted (covered_by self.entries.pile.items.items)
+            (covered_by s.entries.pile.items.items)) }
         ensures cause { IsCausedBy (λ s. s.alarm.faults) (λ w. w.alarm.faults) self.alarm.faults result }
         ensures armed { HeedsArmed (λ s. s.alarm.due.items) (λ w. w.alarm.due.items) true self.alarm.due.items result }
         ensures fault { FaultsIfArmed self.alarm.due.items result }
         ensures half { MatchResult result (λ s. s.half ≡ self.half) (λ l. (wreck_of l).half ≡ self.half) }
         ensures still { IfErr result (λ l. OnFault (λ w. w.pile ≡ self.entries.pile) l) }
-        ensures sure { IfErr result (λ l. ((wreck_of l).pile.items.items ≡ self.entries.pile.items.items) × ((wreck_of l).pile.synced ≡ self.entries.pile.synced)) }
+        ensures sure { IfErr result (λ l. ((wreck_of l).pile.items.items ≡ self.entries.pile.items.items)
+            × ((wreck_of l).pile.synced ≡ self.entries.pile.synced)) }
     {
         let mut archive = self;
         if archive.alarm.rings() {
@@ -280,15 +304,19 @@ impl<T: Item> Archive<T> for MemArchive<T> {
     fn prune(self, min: u64) -> Result<Self, Lost<MemArchiveWreck<T>>>
         ensures done { MatchResult result
             (λ s. Prunes min (kept_of self.entries.pile.items.items self.entries.pile.synced) (kept_of s.entries.pile.items.items s.entries.pile.synced))
-            (λ l. Fails (left_of (kept_of self.entries.pile.items.items self.entries.pile.synced)) [] (left_of (kept_of (wreck_of l).pile.items.items (wreck_of l).pile.synced))) }
-        ensures tickets { MatchResult result (λ s. self.entries.pile.accepted ≤ s.entries.pile.accepted) (λ l. self.entries.pile.accepted ≤ (wreck_of l).pile.accepted) }
-        ensures covers { IfOk result (λ s. KeepsCoversFrom min self.entries.pile.accepted (covered_by self.entries.pile.items.items) (covered_by s.entries.pile.items.items)) }
+            (λ l. Fails (left_of (kept_of self.entries.pile.items.items self.entries.pile.synced)) []
+            (left_of (kept_of (wreck_of l).pile.items.items (wreck_of l).pile.synced))) }
+        ensures tickets { MatchResult result (λ s. self.entries.pile.accepted ≤ s.entries.pile.accepted)
+            (λ l. self.entries.pile.accepted ≤ (wreck_of l).pile.accepted) }
+        ensures covers { IfOk result (λ s. KeepsCoversFrom min self.entries.pile.accepted (covered_by self.entries.pile.items.items)
+            (covered_by s.entries.pile.items.items)) }
         ensures cause { IsCausedBy (λ s. s.alarm.faults) (λ w. w.alarm.faults) self.alarm.faults result }
         ensures armed { HeedsArmed (λ s. s.alarm.due.items) (λ w. w.alarm.due.items) true self.alarm.due.items result }
         ensures fault { FaultsIfArmed self.alarm.due.items result }
         ensures half { MatchResult result (λ s. s.half ≡ self.half) (λ l. (wreck_of l).half ≡ self.half) }
         ensures cut { IfOk result (λ s. s.entries.pile.items.items ≡ filter (λ e. nat_le min e.index) self.entries.pile.items.items) }
-        ensures synced { IfOk result (λ s. s.entries.pile.synced ≡ length (filter (λ e. nat_le min e.index) (take self.entries.pile.synced self.entries.pile.items.items))) }
+        ensures synced { IfOk result (λ s. s.entries.pile.synced ≡ length (filter (λ e. nat_le min e.index)
+            (take self.entries.pile.synced self.entries.pile.items.items))) }
         ensures still { IfErr result (λ l. (wreck_of l).pile ≡ self.entries.pile) }
     {
         let mut archive = self;
@@ -306,7 +334,8 @@ impl<T: Item> Archive<T> for MemArchive<T> {
     }
 
     fn wreck(self) -> MemArchiveWreck<T>
-        ensures left { left_of (kept_of result.pile.items.items result.pile.synced) ≡ left_of (kept_of self.entries.pile.items.items self.entries.pile.synced) }
+        ensures left { left_of (kept_of result.pile.items.items result.pile.synced) ≡ left_of
+            (kept_of self.entries.pile.items.items self.entries.pile.synced) }
         ensures count { result.alarm.faults ≡ self.alarm.faults }
         ensures due { result.alarm.due.items ≡ self.alarm.due.items }
         ensures pile { result.pile ≡ self.entries.pile }
@@ -322,11 +351,13 @@ impl<T: Item> Archive<T> for MemArchive<T> {
     fn reopen(wreck: MemArchiveWreck<T>, luck: u64) -> Result<Self, Lost<MemArchiveWreck<T>>>
         ensures done { MatchResult result
             (λ s. IsReopened (left_of (kept_of wreck.pile.items.items wreck.pile.synced)) (kept_of s.entries.pile.items.items s.entries.pile.synced))
-            (λ l. Fails (left_of (kept_of wreck.pile.items.items wreck.pile.synced)) [] (left_of (kept_of (wreck_of l).pile.items.items (wreck_of l).pile.synced))) }
+            (λ l. Fails (left_of (kept_of wreck.pile.items.items wreck.pile.synced)) [] (left_of
+            (kept_of (wreck_of l).pile.items.items (wreck_of l).pile.synced))) }
         ensures cause { IsCausedBy (λ s. s.alarm.faults) (λ w. w.alarm.faults) wreck.alarm.faults result }
         ensures armed { HeedsArmed (λ s. s.alarm.due.items) (λ w. w.alarm.due.items) true wreck.alarm.due.items result }
         ensures fault { FaultsIfArmed wreck.alarm.due.items result }
-        ensures found { IfOk result (λ s. kept_of s.entries.pile.items.items s.entries.pile.synced ≡ reopened_store (lucky_found (half_of wreck.half luck) (left_of (kept_of wreck.pile.items.items wreck.pile.synced)))) }
+        ensures found { IfOk result (λ s. kept_of s.entries.pile.items.items s.entries.pile.synced
+            ≡ reopened_store (lucky_found (half_of wreck.half luck) (left_of (kept_of wreck.pile.items.items wreck.pile.synced)))) }
         ensures tickets { MatchResult result (λ s. wreck.pile.accepted ≤ s.entries.pile.accepted) (λ l. wreck.pile.accepted ≤ (wreck_of l).pile.accepted) }
         ensures still { IfErr result (λ l. OnFault (λ w. w.pile ≡ wreck.pile) l) }
         ensures half { MatchResult result (λ s. s.half ≡ wreck.half) (λ l. (wreck_of l).half ≡ wreck.half) }
@@ -340,9 +371,11 @@ impl<T: Item> Archive<T> for MemArchive<T> {
     fn arm(&mut self, calls: u64) -> Result<(), AllocError>
         ensures armed { OnOk result (self.new.alarm.due.items ≡ with_armed true calls self.old.alarm.due.items) }
         ensures unarmed { OnErr result (self.new.alarm.due.items ≡ self.old.alarm.due.items) }
-        ensures same { kept_of self.new.entries.pile.items.items self.new.entries.pile.synced ≡ kept_of self.old.entries.pile.items.items self.old.entries.pile.synced }
+        ensures same { kept_of self.new.entries.pile.items.items self.new.entries.pile.synced
+            ≡ kept_of self.old.entries.pile.items.items self.old.entries.pile.synced }
         ensures tickets { self.new.entries.pile.accepted ≡ self.old.entries.pile.accepted }
-        ensures covers { KeepsCovers self.old.entries.pile.accepted (covered_by self.old.entries.pile.items.items) (covered_by self.new.entries.pile.items.items) }
+        ensures covers { KeepsCovers self.old.entries.pile.accepted (covered_by self.old.entries.pile.items.items)
+            (covered_by self.new.entries.pile.items.items) }
         ensures count { self.new.alarm.faults ≡ self.old.alarm.faults }
         ensures half { self.new.half ≡ self.old.half }
     {

@@ -317,7 +317,8 @@ impl<T: Item> Pile<T> {
         requires fits { AreFitting T.fits (map seen rest.now) }
         ensures ok { IfOk result (λ p. map seen p.items.items ≡ map seen self.items.items ++ lucky_from half 0 (map seen rest.now)) }
         ensures synced { IfOk result (λ p. p.synced ≡ length p.items.items) }
-        ensures err { IfErr result (λ p. Fails (left_of (kept_of (self.items.items ++ rest.now) (length self.items.items))) [] (left_of (kept_of p.items.items p.synced))) }
+        ensures err { IfErr result (λ p. Fails (left_of (kept_of (self.items.items ++ rest.now) (length self.items.items))) []
+            (left_of (kept_of p.items.items p.synced))) }
         ensures accepted { MatchResult result (λ p. self.accepted ≤ p.accepted) (λ p. self.accepted ≤ p.accepted) }
     {
         let mut pile = self;
@@ -339,7 +340,8 @@ impl<T: Item> Pile<T> {
         ensures ok { IfOk result (λ p. map seen p.items.items ≡ map seen self.items.items ++ (if lucky then seen entry.now ∷ [] else [])) }
         ensures err { IfErr result (λ p. p.items.items ≡ self.items.items) }
         ensures synced { MatchResult result (λ p. p.synced ≡ self.synced) (λ p. p.synced ≡ self.synced) }
-        ensures accepted { MatchResult result (λ p. p.accepted ≡ (if lucky then next_number self.accepted else self.accepted)) (λ p. p.accepted ≡ self.accepted) }
+        ensures accepted { MatchResult result (λ p. p.accepted ≡ (if lucky then next_number self.accepted else self.accepted))
+            (λ p. p.accepted ≡ self.accepted) }
         ensures goes_on { IfOk result (λ p. self.accepted ≤ p.accepted) }
     {
         if !lucky {

@@ -10,17 +10,17 @@ use std::collections::BTreeMap;
 
 /// The first place of each index and of each key.
 #[derive(Drop)]
-pub struct Places<K: Digest> {
+pub struct EntryPlaces<K: Digest> {
     by_index: BTreeMap<u64, usize>,
     by_key: BTreeMap<K, usize>,
 }
 
-impl<K: Digest> Places<K> {
+impl<K: Digest> EntryPlaces<K> {
     pub fn new(alloc: Global) -> Self
         ensures indexes { (h : ℕ) → get nat_cmp result.by_index h ≡ None }
         ensures keys { (k : K) → get K.cmp result.by_key k ≡ None }
     {
-        Places {
+        EntryPlaces {
             by_index: BTreeMap::new(alloc),
             by_key: BTreeMap::new(alloc),
         }

@@ -8,7 +8,7 @@ ghost use Rattle.mar_codec.specs.Places.{first_place, or_place};
 ghost use Rattle.mar_store.specs.Entries.{seen};
 
 use crate::entry::Entry;
-use crate::places::Places;
+use crate::places::EntryPlaces;
 use crate::{Item, RangeSet};
 use std::alloc::{AllocError, Global};
 
@@ -47,12 +47,12 @@ pub fn places_from<T: Item>(
     alloc: Global,
     items: &[Entry<T>],
     min: u64,
-) -> Result<Places<T::Key>, AllocError>
+) -> Result<EntryPlaces<T::Key>, AllocError>
     ensures indexes { IfOk result (λ p. (h : ℕ) → get nat_cmp p.by_index h ≡ first_place (λ e. e.index == h) (filter (λ e. nat_le min e.index) items.now)) }
     ensures keys { IfOk result (λ p. (k : T.Key) → get T.Key.cmp p.by_key k
         ≡ first_place (λ e. bytes_eq (T.name e.item) (T.Key.bytes k)) (filter (λ e. nat_le min e.index) items.now)) }
 {
-    let mut places = Places::new(alloc);
+    let mut places = EntryPlaces::new(alloc);
     let mut count = 0;
     let mut place = 0;
     while place < items.len() {
@@ -87,7 +87,7 @@ fn one_from(index: u64, min: u64) -> usize
 
 // Notes the place of an entry where it stands at or above an index.
 fn note_from<T: Item>(
-    places: &mut Places<T::Key>,
+    places: &mut EntryPlaces<T::Key>,
     entry: &Entry<T>,
     place: usize,
     min: u64,

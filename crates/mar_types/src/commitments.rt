@@ -12,8 +12,8 @@ use crate::coding::{CodingConfig, CodingScheme};
 use crate::fields::{FieldDigest, field, field_bytes, put_field, read_field};
 use bytes::{Buf, BufMut};
 use mar_codec::{
-    Array, Digest, Digestible, EncodeSize, Error, FixedSize, Hasher, Read, Reason, Span, Words,
-    Write, read_array, write_hex,
+    Array, Digest, Digestible, EncodeSize, Error, FixedSize, Hasher, Named, Read, Reason, Span,
+    Words, Write, read_array, write_hex,
 };
 use std::alloc::{AllocError, Global};
 use std::convert::AsSlice;
@@ -255,8 +255,7 @@ where
     }
 }
 
-/// The commitment whose bytes are all zero isn't valid. A random one is made of random parts.
-impl<B: Digestible, C: CodingScheme, H: Hasher> Digest for Commitment<B, C, H>
+impl<B: Digestible, C: CodingScheme, H: Hasher> Named for Commitment<B, C, H>
 where
     B::Digest: FieldDigest,
     C::Commitment: FieldDigest,
@@ -264,6 +263,16 @@ where
 {
     ghost bytes = { λ commitment. commitment.bytes };
 
+    ghost equal = { λ commitment other. refl };
+}
+
+/// The commitment whose bytes are all zero isn't valid. A random one is made of random parts.
+impl<B: Digestible, C: CodingScheme, H: Hasher> Digest for Commitment<B, C, H>
+where
+    B::Digest: FieldDigest,
+    C::Commitment: FieldDigest,
+    H::Digest: FieldDigest,
+{
     ghost drawn = { λ gives_word gives_bytes. DrawsCommitment gives_word (B.Digest.drawn gives_word gives_bytes)
         (C.Commitment.drawn gives_word gives_bytes) (H.Digest.drawn gives_word gives_bytes) };
 
@@ -294,8 +303,6 @@ where
       of = record {};
       sized = same_proof 100 _ _ e commitment.sized other.sized i;
     } };
-
-    ghost equal = { λ commitment other. refl };
 
     ghost ordered = { λ commitment other. refl };
 

@@ -6,7 +6,9 @@ ghost use Rattle.mar_codec.specs.Digest.{IsBytes, IsBytes-prop};
 ghost use Rattle.mar_codec.specs.DigestLemmas.{bytes_unambiguous, same_proof};
 
 use bytes::{Buf, BufMut};
-use mar_codec::{Digest, EncodeSize, Error, FixedSize, Read, Words, Write, read_array, write_hex};
+use mar_codec::{
+    Digest, EncodeSize, Error, FixedSize, Named, Read, Words, Write, read_array, write_hex,
+};
 use mar_types::FieldDigest;
 use std::alloc::{AllocError, Global};
 use std::convert::AsSlice;
@@ -98,9 +100,13 @@ impl Read for Short {
         left f.0 o.0 e };
 }
 
-impl Digest for Short {
+impl Named for Short {
     ghost bytes = { λ digest. digest.bytes };
 
+    ghost equal = { λ digest other. refl };
+}
+
+impl Digest for Short {
     ghost drawn = { λ gives_word gives_bytes old bytes new. gives_bytes old bytes new };
 
     fn empty() -> Self {
@@ -127,8 +133,6 @@ impl Digest for Short {
       bytes = e i;
       sized = same_proof 2 _ _ e digest.sized other.sized i;
     } };
-
-    ghost equal = { λ digest other. refl };
 
     ghost ordered = { λ digest other. refl };
 

@@ -4,4 +4,4 @@ use Rattle.mar_key.specs.Views.{targeted_of}
 use Rattle.mar_key.proofs.recorder.all_targeted.Given as goal
 
 abbrev pub invariant-loop-fetch : goal.invariant-loop-fetch
-invariant-loop-fetch g l = map (ask_of g.D.Digest.bytes) l.asks.items ≡ map (λ f. targeted_of g.D.Digest.bytes f l.targets) (take l.fetch-index l.fetches)
+invariant-loop-fetch g l = map (ask_of g.D.Named.bytes) l.asks.items ≡ map (λ f. targeted_of g.D.Named.bytes f l.targets) (take l.fetch-index l.fetches)

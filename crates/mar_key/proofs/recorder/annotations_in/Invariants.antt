@@ -6,5 +6,5 @@ use Rattle.mar_key.proofs.recorder.annotations_in.Given as goal
 
 abbrev pub invariant-loop-asked : goal.invariant-loop-asked
 invariant-loop-asked g l =
-    annotations_of (map (asked_of g.D.Digest.bytes) l.keys) (key_of g.D.Digest.bytes l.key)
-    ≡ annotations_of (drop l.asked-index (map (asked_of g.D.Digest.bytes) l.keys)) (key_of g.D.Digest.bytes l.key)
+    annotations_of (map (asked_of g.D.Named.bytes) l.keys) (key_of g.D.Named.bytes l.key)
+    ≡ annotations_of (drop l.asked-index (map (asked_of g.D.Named.bytes) l.keys)) (key_of g.D.Named.bytes l.key)

@@ -4,4 +4,4 @@ use Rattle.mar_key.specs.Recorded.{asked_of, judged_of}
 use Rattle.mar_key.proofs.recorder.close_all.Given as goal
 
 abbrev pub invariant-loop-one : goal.invariant-loop-one
-invariant-loop-one g l = map (asked_of g.D.Digest.bytes) l.keys.items ≡ fold after_outcome (map (asked_of g.D.Digest.bytes) l.initial.keys.items) (map (judged_of g.D.Digest.bytes) (take l.one-index l.judged))
+invariant-loop-one g l = map (asked_of g.D.Named.bytes) l.keys.items ≡ fold after_outcome (map (asked_of g.D.Named.bytes) l.initial.keys.items) (map (judged_of g.D.Named.bytes) (take l.one-index l.judged))

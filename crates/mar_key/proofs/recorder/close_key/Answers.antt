@@ -7,5 +7,5 @@ use Rattle.mar_key.proofs.recorder.close_key.Goals as goal
 
 pub returns : goal.returns
 returns g c =
-    let kept = filter_same _ (λ x. not (key_eq (key_of g.D.Digest.bytes c.args.key.now) (key_of g.D.Digest.bytes x.key))) _ (λ x b f k. search rules) _ _ c.retain.ensures.filtered in
+    let kept = filter_same _ (λ x. not (key_eq (key_of g.D.Named.bytes c.args.key.now) (key_of g.D.Named.bytes x.key))) _ (λ x b f k. search rules) _ _ c.retain.ensures.filtered in
     rw (kept, filter-map)

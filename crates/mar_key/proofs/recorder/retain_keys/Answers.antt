@@ -7,5 +7,5 @@ use Rattle.mar_key.proofs.recorder.retain_keys.Goals as goal
 
 pub returns : goal.returns
 returns g c =
-    let kept = filter_same _ (λ x. not (is_idle (asked_of g.D.Digest.bytes x))) _ (λ x b f k. search rules) _ _ c.retain.ensures.filtered in
-    keys_retained (asked_of g.D.Digest.bytes) _ _ _ c.deny_all.new.keys _ _ _ c.deny_all.ensures c.as_mut_slice.ensures.value (c.deny_all.auto.keys ∙ c.as_mut_slice.ensures.len) kept
+    let kept = filter_same _ (λ x. not (is_idle (asked_of g.D.Named.bytes x))) _ (λ x b f k. search rules) _ _ c.retain.ensures.filtered in
+    keys_retained (asked_of g.D.Named.bytes) _ _ _ c.deny_all.new.keys _ _ _ c.deny_all.ensures c.as_mut_slice.ensures.value (c.deny_all.auto.keys ∙ c.as_mut_slice.ensures.len) kept

@@ -10,5 +10,5 @@ loop-place-preserved g c =
       below = omega arith;
       count = count_step (λ e. nat_le c.args.min e.index) c.args.items.now c.loop-place.place c.index-items-place.result _ c.loop-place.count _ c.loop-place-test.true c.index-items-place.is c.loop-place.invariant.count (ap (λ n. c.loop-place.count + n) c.one_from-count.ensures.is);
       indexes = λ h. place_step (λ e. nat_le c.args.min e.index) (λ e. e.index == h) c.args.items.now c.loop-place.place c.index-items-place.result _ _ c.loop-place.count _ _ c.loop-place-test.true c.index-items-place.is (c.loop-place.invariant.indexes h) c.loop-place.invariant.count refl (c.in_ok-note_from.ensures.indexes h);
-      keys = λ k. place_step (λ e. nat_le c.args.min e.index) (λ e. bytes_eq (g.T.Item.name e.item) (g.T.Key.Digest.bytes k)) c.args.items.now c.loop-place.place c.index-items-place.result _ _ c.loop-place.count _ _ c.loop-place-test.true c.index-items-place.is (c.loop-place.invariant.keys k) c.loop-place.invariant.count refl (c.in_ok-note_from.ensures.keys k);
+      keys = λ k. place_step (λ e. nat_le c.args.min e.index) (λ e. bytes_eq (g.T.Item.name e.item) (g.T.Key.Named.bytes k)) c.args.items.now c.loop-place.place c.index-items-place.result _ _ c.loop-place.count _ _ c.loop-place-test.true c.index-items-place.is (c.loop-place.invariant.keys k) c.loop-place.invariant.count refl (c.in_ok-note_from.ensures.keys k);
     }

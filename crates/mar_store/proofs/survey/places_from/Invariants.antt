@@ -14,5 +14,5 @@ invariant-loop-place g l = record {
   below : l.count ≤ l.place;
   count : l.count ≡ length (filter (λ e. nat_le l.min e.index) (take l.place l.items));
   indexes : (h : ℕ) → get nat_cmp l.places.by_index h ≡ first_place (λ e. e.index == h) (filter (λ e. nat_le l.min e.index) (take l.place l.items));
-  keys : (k : _) → get g.T.Key.Ord.cmp l.places.by_key k ≡ first_place (λ e. bytes_eq (g.T.Item.name e.item) (g.T.Key.Digest.bytes k)) (filter (λ e. nat_le l.min e.index) (take l.place l.items));
+  keys : (k : _) → get g.T.Key.Ord.cmp l.places.by_key k ≡ first_place (λ e. bytes_eq (g.T.Item.name e.item) (g.T.Key.Named.bytes k)) (filter (λ e. nat_le l.min e.index) (take l.place l.items));
 }

@@ -7,7 +7,7 @@ pub returns : goal.returns
 returns g c =
     rw (
       ← c.self.view_is,
-      find_at (λ b. bytes_eq b.commitment (g.V.Commitment.Digest.bytes c.args.commitment.now)) (map g.V.Variant.plain c.self.inside.blocks.items) c.place_of.result (c.place_of.ensures ∙ c.self.invariant.1 c.args.commitment.now),
+      find_at (λ b. bytes_eq b.commitment (g.V.Commitment.Named.bytes c.args.commitment.now)) (map g.V.Variant.plain c.self.inside.blocks.items) c.place_of.result (c.place_of.ensures ∙ c.self.invariant.1 c.args.commitment.now),
       ← c.deref.ensures.value,
     )
     c.block_at.ensures

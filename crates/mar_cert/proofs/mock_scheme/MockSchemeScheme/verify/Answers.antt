@@ -11,7 +11,7 @@ pub returns-then-is_ascending-clause-verdict : goal.returns-then-is_ascending-cl
 returns-then-is_ascending-clause-verdict g c =
     let signers = c.args.certificate.now.signers.items in
     let subject = plain_subject c.args.subject.now in
-    let f = certified_of g.D.Digest.bytes (λ k. certificate_bytes (plain_signers k)) (proposal_of c.args.subject.now) c.args.certificate.now in
+    let f = certified_of g.D.Named.bytes (λ k. certificate_bytes (plain_signers k)) (proposal_of c.args.subject.now) c.args.certificate.now in
     let long : length signers ≡ c.len.result = search rules in
     let count : length signers < 2 ^ 64 = omega (arith, long, c.len.type_inv) in
     rw (← c.self.view_is) (
@@ -26,7 +26,7 @@ pub returns-else-is_ascending-clause-verdict : goal.returns-else-is_ascending-cl
 returns-else-is_ascending-clause-verdict g c =
     let signers = c.args.certificate.now.signers.items in
     let subject = plain_subject c.args.subject.now in
-    let f = certified_of g.D.Digest.bytes (λ k. certificate_bytes (plain_signers k)) (proposal_of c.args.subject.now) c.args.certificate.now in
+    let f = certified_of g.D.Named.bytes (λ k. certificate_bytes (plain_signers k)) (proposal_of c.args.subject.now) c.args.certificate.now in
     let long : length signers ≡ c.len.result = search rules in
     let count : length signers < 2 ^ 64 = omega (arith, long, c.len.type_inv) in
     rw (← c.self.view_is) (

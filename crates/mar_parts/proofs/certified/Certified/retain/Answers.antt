@@ -7,7 +7,7 @@ use Rattle.mar_parts.proofs.certified.Certified.retain.Goals as goal
 pub returns-then-le-clause-known : goal.returns-then-le-clause-known
 returns-then-le-clause-known g c =
     let below : c.args.min ≤ c.self.inside.min = search rules in
-    rw (← c.self.view_is) (λ h known. known_still g.C.Digest.bytes c.self.inside.commitments c.self.inside.min c.args.min c.self.invariant below h known)
+    rw (← c.self.view_is) (λ h known. known_still g.C.Named.bytes c.self.inside.commitments c.self.inside.min c.args.min c.self.invariant below h known)
 
 pub invariant_of-self : goal.invariant_of-self
 invariant_of-self g c =
@@ -17,4 +17,4 @@ invariant_of-self g c =
 pub returns-clause-known : goal.returns-clause-known
 returns-clause-known g c =
     let kept = filter_same_pairs _ (λ e. nat_le c.args.min e.0) _ (λ k v b w f' t. search rules) _ _ c.retain.ensures.filtered in
-    rw (← c.self.view_is) (λ h known. known_from g.C.Digest.bytes c.self.inside.commitments c.retain.new.self c.self.inside.min c.args.min c.args.min h known kept)
+    rw (← c.self.view_is) (λ h known. known_from g.C.Named.bytes c.self.inside.commitments c.retain.new.self c.self.inside.min c.args.min c.args.min h known kept)

@@ -11,7 +11,7 @@ use Rattle.mar_parts.proofs.waiters.Waiters.retain_open.Goals as goal
 
 pub returns : goal.returns
 returns g c =
-    rw (← c.self.view_is) (λ other. rw (named g.K.Digest.bytes g.K.Ord.cmp wait_of g.met.K.Digest.ordered other c.retain.new.self.entries, named g.K.Digest.bytes g.K.Ord.cmp wait_of g.met.K.Digest.ordered other c.self.inside.waits.entries)
+    rw (← c.self.view_is) (λ other. rw (named g.K.Named.bytes g.K.Ord.cmp wait_of g.met.K.Digest.ordered other c.retain.new.self.entries, named g.K.Named.bytes g.K.Ord.cmp wait_of g.met.K.Digest.ordered other c.self.inside.waits.entries)
     (kept_under _ wait_of (still_open c.args.closed.now) _ (λ k v b w f' t.
     let tickets : (wait_of w).tickets ≡ open_of c.args.closed.now (wait_of v).tickets = search rules in
     let told : (wait_of w).is_told ≡ (wait_of v).is_told = search rules in
