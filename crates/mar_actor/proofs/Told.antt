@@ -5,7 +5,7 @@ use Rattle.mar_cert.specs.Finalization.{Finalization}
 use Rattle.mar_key.specs.Hears.{Hears}
 use Rattle.mar_key.specs.Processed.{height_of}
 use Rattle.mar_node.specs.Held.{Ending, Seen}
-use Rattle.mar_node.specs.Moves.{handed_report, is_due, late_tips, tip_reports}
+use Rattle.mar_node.specs.Moves.{handed_report, lacks_finalization, late_tips, tip_reports}
 use Rattle.mar_node.specs.Step.{HandedBlock, Report}
 use Rattle.mar_node.proofs.Handing.{Hears-nothing, Hears-then, Ran}
 use Rattle.mar_actor.specs.Told.{TellsInOrder, finalized_tips}
@@ -31,7 +31,7 @@ TellsInOrder-ran start told tips told1 told' (Err e) heard (handed, hands, stopp
 
 -- the tips of a block above the processed height, and of one that isn't
 pub finalized_tips-above : {P E : Type 0} (a : Seen P E) (f : Finalization) (b : Block) → nat_lt (height_of a.held.processed) b.height ≡ true → finalized_tips a f (Some b) ≡ tip_reports a.life.tip f b
-finalized_tips-above a f b above = ap (λ is. if is then tip_reports a.life.tip f b else late_tips (is_due a.held b) a.life.tip f b) above
+finalized_tips-above a f b above = ap (λ is. if is then tip_reports a.life.tip f b else late_tips (lacks_finalization a.held b) a.life.tip f b) above
 
-pub finalized_tips-low : {P E : Type 0} (a : Seen P E) (f : Finalization) (b : Block) → nat_lt (height_of a.held.processed) b.height ≡ false → finalized_tips a f (Some b) ≡ late_tips (is_due a.held b) a.life.tip f b
-finalized_tips-low a f b low = ap (λ is. if is then tip_reports a.life.tip f b else late_tips (is_due a.held b) a.life.tip f b) low
+pub finalized_tips-low : {P E : Type 0} (a : Seen P E) (f : Finalization) (b : Block) → nat_lt (height_of a.held.processed) b.height ≡ false → finalized_tips a f (Some b) ≡ late_tips (lacks_finalization a.held b) a.life.tip f b
+finalized_tips-low a f b low = ap (λ is. if is then tip_reports a.life.tip f b else late_tips (lacks_finalization a.held b) a.life.tip f b) low

@@ -19,26 +19,15 @@ ghost use Rattle.mar_node.specs.Requests.{raise_asks};
 ghost use Rattle.mar_actor.specs.Due.{EndsWhereDue, dropping_due};
 ghost use Rattle.mar_actor.specs.Told.{TellsInOrder};
 
-use crate::actor::Actor;
+use crate::node::Node;
 use crate::reporter::Reporter;
 use mar_block::Variant;
-use mar_cert::{CommitsTo, Provider};
 use mar_key::{Cutoff, Resolver, Retain};
 use mar_parts::{Oldest, closed_epoch};
-use mar_shelf::{Blocks, Certificates, Ended, Fault, Shelf};
-use mar_store::Meta;
+use mar_shelf::{Ended, Fault, Holds};
 use mar_types::{Epocher, Height, Round};
 
-impl<
-    V: Variant,
-    F: CommitsTo<V::Commitment>,
-    P: Provider,
-    E: Epocher,
-    FB: Blocks<V>,
-    FC: Certificates<V, F>,
-    M: Meta,
-    H: Shelf,
-> Actor<V, F, P, E, FB, FC, M, H> {
+impl<V: Variant, S: Holds<V>, P: Drop, E: Epocher> Node<V, S, P, E> {
     /// Marks a block as acknowledged. Where the oldest ones are, they are processed together: one sync of the metadata,
     /// then the next blocks are handed over.
     pub(crate) fn acknowledge<R: Resolver<V::Commitment>, A: Reporter<V>>(
@@ -46,26 +35,27 @@ impl<
         ticket: u64,
         resolver: &mut R,
         application: &mut A,
-    ) -> Result<Self, Ended<V, F, FB, FC, M, H>>
-        ensures promise { IsNested self.held.blocks → (buffer : List Block) → KeepsPromise (E.epochs self.life.epocher) V.inner self (ack_given ticket) buffer (A.told application.old) (A.told application.new) (R.told resolver.old) (R.told resolver.new) result }
+    ) -> Result<Self, Ended<V, S>>
+        ensures promise { IsNested self.held.blocks → (buffer : List Block) → KeepsPromise (E.epochs self.life.epocher) V.inner self (ack_given ticket) buffer
+            (A.told application.old) (A.told application.new) (R.told resolver.old) (R.told resolver.new) result }
         ensures lives { LivesOn self result }
         ensures by_value { EndsWhereDue (dropping_due self.life.out ticket) result }
         ensures tells { TellsInOrder (A.told application.old) [] (A.told application.new) result }
     {
-        let (actor, is_drained) = self.give(ticket).drain(resolver)?;
+        let (node, is_drained) = self.give(ticket).drain(resolver)?;
         if !is_drained {
-            return Ok(actor);
+            return Ok(node);
         }
-        let actor = actor.sync_metadata()?;
-        actor.dispatch(application)
+        let node = node.sync_metadata()?;
+        node.dispatch(application)
     }
 
     fn give(self, ticket: u64) -> Self
         ensures { result ≡ record self { life = record self.life { out = with_mark ticket mark_given self.life.out } } }
     {
-        let mut actor = self;
-        actor.life.acks.give(ticket);
-        actor
+        let mut node = self;
+        node.life.acks.give(ticket);
+        node
     }
 
     /// Processes the acknowledged blocks at the front, and says whether there were any. A dropped one behind them ends
@@ -73,40 +63,42 @@ impl<
     fn drain<R: Resolver<V::Commitment>>(
         self,
         resolver: &mut R,
-    ) -> Result<(Self, bool), Ended<V, F, FB, FC, M, H>>
+    ) -> Result<(Self, bool), Ended<V, S>>
         ensures ok { IfOk result (λ r. Drains (E.epochs self.life.epocher) self r.1 r.0) }
-        ensures asks { OnOk result (Hears (R.told resolver.old) (progress_asks (E.epochs self.life.epocher) self.held.certs.held self.held.cutoff (given_front self.life.out)) (R.told resolver.new)) }
+        ensures asks { OnOk result (Hears (R.told resolver.old) (progress_asks (E.epochs self.life.epocher) self.held.certs.held self.held.cutoff
+            (given_front self.life.out)) (R.told resolver.new)) }
         ensures goes_on { GoesOn (λ r. r.0.held) self.held [] [] result }
         ensures kind { IfErr result (λ e. IsUsual e.fault ⊎ EndsDropped self e) }
     {
-        let mut actor = self;
+        let mut node = self;
         let mut is_drained = false;
-        'entries: for _drained in 0..actor.life.acks.len() {
-            let (next, is_processed) = actor.drain_next(resolver)?;
+        'entries: for _drained in 0..node.life.acks.len() {
+            let (next, is_processed) = node.drain_next(resolver)?;
             if !is_processed {
                 return Ok((next, is_drained));
             }
-            actor = next;
+            node = next;
             is_drained = true;
         }
-        Ok((actor, is_drained))
+        Ok((node, is_drained))
     }
 
     /// Processes the oldest block where it is acknowledged, and says whether it was. Where it is dropped the life ends.
     fn drain_next<R: Resolver<V::Commitment>>(
         self,
         resolver: &mut R,
-    ) -> Result<(Self, bool), Ended<V, F, FB, FC, M, H>>
+    ) -> Result<(Self, bool), Ended<V, S>>
         ensures ok { IfOk result (λ r. DrainsNext (E.epochs self.life.epocher) self r.1 r.0) }
-        ensures asks { OnOk result (Hears (R.told resolver.old) (progress_asks (E.epochs self.life.epocher) self.held.certs.held self.held.cutoff (option_to_list (given_oldest self.life.out))) (R.told resolver.new)) }
+        ensures asks { OnOk result (Hears (R.told resolver.old) (progress_asks (E.epochs self.life.epocher) self.held.certs.held self.held.cutoff
+            (option_to_list (given_oldest self.life.out))) (R.told resolver.new)) }
         ensures goes_on { GoesOn (λ r. r.0.held) self.held [] [] result }
         ensures kind { IfErr result (λ e. IsUsual e.fault ⊎ EndsOldest self e) }
     {
-        let mut actor = self;
-        match actor.life.acks.pop_ready() {
-            Oldest::Given(ack) => Ok((actor.process(ack.height, resolver)?, true)),
-            Oldest::Unresolved => Ok((actor, false)),
-            Oldest::Dropped(ack) => Err(actor.end(Fault::AckDropped(ack.height))),
+        let mut node = self;
+        match node.life.acks.pop_ready() {
+            Oldest::Given(ack) => Ok((node.process(ack.height, resolver)?, true)),
+            Oldest::Unresolved => Ok((node, false)),
+            Oldest::Dropped(ack) => Err(node.end(Fault::AckDropped(ack.height))),
         }
     }
 
@@ -116,25 +108,33 @@ impl<
         self,
         height: Height,
         resolver: &mut R,
-    ) -> Result<Self, Ended<V, F, FB, FC, M, H>>
+    ) -> Result<Self, Ended<V, S>>
         ensures ok { IfOk result (λ a. a ≡ record self {
-          held = record self.held { processed = Some (at_block height); cutoff = greatest_of self.held.cutoff (retired (E.epochs self.life.epocher) self.held.certs.held height); witnessed = later_round self.held.witnessed (round_at self.held.certs.held height); counts = a.held.counts };
+          held = record self.held {
+            processed = Some (at_block height);
+            cutoff = greatest_of self.held.cutoff
+                (retired (E.epochs self.life.epocher) self.held.certs.held height);
+            witnessed = later_round self.held.witnessed
+                (round_at self.held.certs.held height);
+            counts = a.held.counts;
+          };
         }) }
-        ensures asks { OnOk result (Hears (R.told resolver.old) (retain (above_height height) ∷ raise_asks self.held.cutoff (retired (E.epochs self.life.epocher) self.held.certs.held height)) (R.told resolver.new)) }
+        ensures asks { OnOk result (Hears (R.told resolver.old) (retain (above_height height)
+            ∷ raise_asks self.held.cutoff (retired (E.epochs self.life.epocher) self.held.certs.held height)) (R.told resolver.new)) }
         ensures goes_on { GoesOn (λ a. a.held) self.held [] [] result }
         ensures usual { IfErr result (λ e. IsUsual e.fault) }
     {
-        let actor = self.set_processed(height, resolver)?;
-        let (actor, round) = actor.round_at(height)?;
-        let actor = actor.witness_some(round, resolver)?;
-        actor.close_epochs(height, resolver)
+        let node = self.set_processed(height, resolver)?;
+        let (node, round) = node.round_at(height)?;
+        let node = node.witness_some(round, resolver)?;
+        node.close_epochs(height, resolver)
     }
 
     fn set_processed<R: Resolver<V::Commitment>>(
         self,
         height: Height,
         resolver: &mut R,
-    ) -> Result<Self, Ended<V, F, FB, FC, M, H>>
+    ) -> Result<Self, Ended<V, S>>
         ensures ok { IfOk result (λ a. a ≡ record self { held = record self.held { processed = Some (at_block height); counts = a.held.counts } }) }
         ensures asks { OnOk result (Hears (R.told resolver.old) (retain (above_height height) ∷ []) (R.told resolver.new)) }
         ensures goes_on { GoesOn (λ a. a.held) self.held [] [] result }
@@ -144,21 +144,7 @@ impl<
             return Err(self.run_out());
         }
         let stores = self.stores.set_processed(height)?;
-        Ok(Actor { stores, ..self })
-    }
-
-    /// The round that finalized the block at a height, where its certificate is held.
-    pub(crate) fn round_at(
-        self,
-        height: Height,
-    ) -> Result<(Self, Option<Round>), Ended<V, F, FB, FC, M, H>>
-        ensures same { IfOk result (λ r. r.0 ≡ self) }
-        ensures found { IfOk result (λ r. r.1 ≡ round_at self.held.certs.held height) }
-        ensures goes_on { GoesOn (λ r. r.0.held) self.held [] [] result }
-        ensures usual { IfErr result (λ e. IsUsual e.fault) }
-    {
-        let (stores, round) = self.stores.round_at(height)?;
-        Ok((Actor { stores, ..self }, round))
+        Ok(Node { stores, ..self })
     }
 
     /// Takes note of a finalized round, if there is one.
@@ -166,9 +152,10 @@ impl<
         self,
         round: Option<Round>,
         resolver: &mut R,
-    ) -> Result<Self, Ended<V, F, FB, FC, M, H>>
+    ) -> Result<Self, Ended<V, S>>
         ensures ok { IfOk result (λ a. RaisesTo self (option_to_list (option_map at_round round)) (later_round self.held.witnessed round) a) }
-        ensures asks { OnOk result (Hears (R.told resolver.old) (raise_asks self.held.cutoff (option_to_list (option_map at_round round))) (R.told resolver.new)) }
+        ensures asks { OnOk result (Hears (R.told resolver.old) (raise_asks self.held.cutoff (option_to_list (option_map at_round round)))
+            (R.told resolver.new)) }
         ensures goes_on { GoesOn (λ a. a.held) self.held [] [] result }
         ensures usual { IfErr result (λ e. IsUsual e.fault) }
     {
@@ -183,15 +170,15 @@ impl<
         self,
         round: Round,
         resolver: &mut R,
-    ) -> Result<Self, Ended<V, F, FB, FC, M, H>>
+    ) -> Result<Self, Ended<V, S>>
         ensures ok { IfOk result (λ a. RaisesTo self (at_round round ∷ []) (later_round self.held.witnessed (Some round)) a) }
         ensures asks { OnOk result (Hears (R.told resolver.old) (raise_asks self.held.cutoff (at_round round ∷ [])) (R.told resolver.new)) }
         ensures goes_on { GoesOn (λ a. a.held) self.held [] [] result }
         ensures usual { IfErr result (λ e. IsUsual e.fault) }
     {
-        let mut actor = self;
-        actor.stores.progress.witness(round);
-        actor.raise(&Cutoff::Round(round), resolver)
+        let mut node = self;
+        node.stores.witness(round);
+        node.raise(&Cutoff::Round(round), resolver)
     }
 
     /// Raises the cutoff over the epochs that end at or below a height.
@@ -199,9 +186,11 @@ impl<
         self,
         height: Height,
         resolver: &mut R,
-    ) -> Result<Self, Ended<V, F, FB, FC, M, H>>
-        ensures ok { IfOk result (λ a. RaisesTo self (option_to_list (option_map at_epoch (closed_epoch (E.epochs self.life.epocher) height))) self.held.witnessed a) }
-        ensures asks { OnOk result (Hears (R.told resolver.old) (raise_asks self.held.cutoff (option_to_list (option_map at_epoch (closed_epoch (E.epochs self.life.epocher) height)))) (R.told resolver.new)) }
+    ) -> Result<Self, Ended<V, S>>
+        ensures ok { IfOk result (λ a. RaisesTo self (option_to_list (option_map at_epoch (closed_epoch (E.epochs self.life.epocher) height)))
+            self.held.witnessed a) }
+        ensures asks { OnOk result (Hears (R.told resolver.old) (raise_asks self.held.cutoff
+            (option_to_list (option_map at_epoch (closed_epoch (E.epochs self.life.epocher) height)))) (R.told resolver.new)) }
         ensures goes_on { GoesOn (λ a. a.held) self.held [] [] result }
         ensures usual { IfErr result (λ e. IsUsual e.fault) }
     {
@@ -216,7 +205,7 @@ impl<
         self,
         cutoff: &Cutoff,
         resolver: &mut R,
-    ) -> Result<Self, Ended<V, F, FB, FC, M, H>>
+    ) -> Result<Self, Ended<V, S>>
         ensures ok { IfOk result (λ a. RaisesTo self (cutoff_of cutoff.now ∷ []) self.held.witnessed a) }
         ensures asks { OnOk result (Hears (R.told resolver.old) (raise_asks self.held.cutoff (cutoff_of cutoff.now ∷ [])) (R.told resolver.new)) }
         ensures goes_on { GoesOn (λ a. a.held) self.held [] [] result }
@@ -233,7 +222,7 @@ impl<
     fn is_raised_to(&self, cutoff: &Cutoff) -> bool
         ensures { result ≡ cutoff_le (cutoff_of cutoff.now) self.now.held.cutoff }
     {
-        self.stores.progress.cutoff().reaches(*cutoff)
+        self.stores.floor().cutoff().reaches(*cutoff)
     }
 
     /// Sets the cutoff: requests of the rounds that it covers are let go.
@@ -241,7 +230,7 @@ impl<
         self,
         cutoff: &Cutoff,
         resolver: &mut R,
-    ) -> Result<Self, Ended<V, F, FB, FC, M, H>>
+    ) -> Result<Self, Ended<V, S>>
         ensures ok { IfOk result (λ a. a ≡ record self { held = record self.held { cutoff = cutoff_of cutoff.now; counts = a.held.counts } }) }
         ensures asks { OnOk result (Hears (R.told resolver.old) (retain (above_round (cutoff_of cutoff.now)) ∷ []) (R.told resolver.new)) }
         ensures goes_on { GoesOn (λ a. a.held) self.held [] [] result }
@@ -251,16 +240,22 @@ impl<
             return Err(self.run_out());
         }
         let stores = self.stores.set_cutoff(cutoff)?;
-        Ok(Actor { stores, ..self })
+        Ok(Node { stores, ..self })
     }
 
-    pub(crate) fn sync_metadata(self) -> Result<Self, Ended<V, F, FB, FC, M, H>>
-        ensures ok { IfOk result (λ a. a ≡ record self { held = record self.held { pairs = pair_of self.held.processed self.held.cutoff ∷ []; counts = a.held.counts } }) }
+    pub(crate) fn sync_metadata(self) -> Result<Self, Ended<V, S>>
+        ensures ok { IfOk result (λ a. a ≡ record self {
+          held = record self.held {
+            pairs = pair_of self.held.processed self.held.cutoff
+                ∷ [];
+            counts = a.held.counts;
+          };
+        }) }
         ensures counts { IfOk result (λ a. a.held.counts ≡ self.held.counts) }
         ensures lost { IfErr result (Loses self.held [] [] (pair_of self.held.processed self.held.cutoff ∷ [])) }
         ensures usual { IfErr result (λ e. IsUsual e.fault) }
     {
         let stores = self.stores.sync_metadata()?;
-        Ok(Actor { stores, ..self })
+        Ok(Node { stores, ..self })
     }
 }

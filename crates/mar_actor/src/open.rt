@@ -4,33 +4,23 @@ ghost use Rattle.mar_node.specs.Held.{IsEndedBy, IsUsual};
 ghost use Rattle.mar_node.specs.Promise.{IsAlone, IsFound, IsOpeningFault, KeepsOpening};
 ghost use Rattle.mar_actor.specs.Views.{begin_of, sizes_of};
 
-use crate::actor::Actor;
 use crate::life::Life;
+use crate::node::Node;
 use crate::settings::Config;
 use mar_block::Variant;
-use mar_cert::{CommitsTo, Provider};
 use mar_key::Floor;
 use mar_parts::PendingAcks;
-use mar_shelf::{Blocks, Certificates, Ended, Ruins, Shelf, Stores};
-use mar_store::Meta;
+use mar_shelf::{Ended, Fault, Holds, StoresRuin};
 use mar_types::Epocher;
 use std::alloc::Global;
+use std::marker::PhantomData;
 
-impl<
-    V: Variant,
-    F: CommitsTo<V::Commitment>,
-    P: Provider,
-    E: Epocher,
-    FB: Blocks<V>,
-    FC: Certificates<V, F>,
-    M: Meta,
-    H: Shelf,
-> Actor<V, F, P, E, FB, FC, M, H> {
+impl<V: Variant, S: Holds<V>, P: Drop, E: Epocher> Node<V, S, P, E> {
     /// Opens what an earlier life left, or nothing, in the order blocks, certificates, metadata, cache: the genesis is
     /// stored where it is missing and delivery isn't past it, and the cutoff is raised to what the archives show.
     /// `Event::Start` comes next. On a lawful chain the node begins, or its opening is cut.
     ///
-    /// Beside the actor it answers the processed height and the cutoff. Stores in memory keep, of what a crash may have
+    /// Beside the node it answers the processed height and the cutoff. Stores in memory keep, of what a crash may have
     /// left, what `luck` picks; stores over a disk keep what the disk has.
     ///
     /// The fault of an opening is `StoreFault` where a store failed, `GenesisHeight` where the genesis isn't at height
@@ -39,18 +29,22 @@ impl<
     /// the last height is processed or stored, and `Memory`.
     pub fn init(
         alloc: Global,
-        ruins: Ruins<V, F, FB, FC, M, H>,
+        ruins: S::Ruins,
         config: Config<P, E, V::Block>,
         luck: u64,
-    ) -> Result<(Self, Floor), Ended<V, F, FB, FC, M, H>>
-        ensures opens { KeepsOpening (E.epochs config.epocher) V.inner (sizes_of config.limits) ruins (begin_of V.plain config.start) result }
-        ensures same_life { IfOk result (λ r. (r.0.life.provider ≡ config.provider) × (r.0.life.epocher ≡ config.epocher) × (r.0.life.sizes ≡ sizes_of config.limits)) }
-        ensures counts { IfOk result (λ r. r.0.held.counts ≡ ruins.counts) }
-        ensures cause { IfErr result (λ e. IsEndedBy ruins.counts e) }
-        ensures by_value { IsAlone ruins.ended (begin_of V.plain config.start) → IfErr result (λ e. IsUsual e.fault ⊎ IsOpeningFault ruins.ended (begin_of V.plain config.start) e.fault) }
-        ensures finds { IfOk result (λ r. IsFound (E.epochs config.epocher) V.inner (sizes_of config.limits) ruins.ended (begin_of V.plain config.start) r.0) }
+    ) -> Result<(Self, Floor), Ended<V, S>>
+        ensures opens { KeepsOpening (E.epochs config.epocher) V.inner (sizes_of config.limits) (S.Ruins.left ruins) (begin_of V.plain config.start) result }
+        ensures same_life { IfOk result (λ r. (r.0.life.provider ≡ config.provider) × (r.0.life.epocher ≡ config.epocher)
+            × (r.0.life.sizes ≡ sizes_of config.limits)) }
+        ensures counts { IfOk result (λ r. r.0.held.counts ≡ (S.Ruins.left ruins).counts) }
+        ensures cause { IfErr result (λ e. IsEndedBy (S.Ruins.left ruins).counts e) }
+        ensures by_value { IsAlone (S.Ruins.left ruins).ended (begin_of V.plain config.start)
+            → IfErr result (λ e. IsUsual e.fault ⊎ IsOpeningFault (S.Ruins.left ruins).ended (begin_of V.plain config.start) e.fault) }
+        ensures finds { IfOk result (λ r. IsFound (E.epochs config.epocher) V.inner (sizes_of config.limits) (S.Ruins.left ruins).ended
+            (begin_of V.plain config.start) r.0) }
         ensures floor { IfOk result (λ r. r.1 ≡ record { processed = r.0.held.processed; cutoff = r.0.held.cutoff }) }
     {
+        ruins.law();
         let Config {
             provider,
             epocher,
@@ -59,13 +53,20 @@ impl<
         } = config;
         let genesis = start.genesis();
         let Ok(acks) = PendingAcks::new(alloc, limits.max_pending_acks) else {
-            return Err(Ended::unopened(ruins));
+            return Err(Ended {
+                fault: Fault::Memory,
+                ruins,
+            });
         };
-        let stores = Stores::reopen(ruins, luck)?;
-        let stores = stores.begin(&genesis)?;
-        let stores = stores.derive(&epocher)?;
-        let life = Life::new(provider, epocher, limits, acks);
-        let floor = stores.progress.floor().snapshot();
-        Ok((Actor { stores, life }, floor))
+        let stores = S::reopen(ruins, luck)?;
+        let node = Node {
+            stores,
+            life: Life::new(provider, epocher, limits, acks),
+            of: PhantomData,
+        };
+        let node = node.begin(&genesis)?;
+        let node = node.derive()?;
+        let floor = node.stores.floor().snapshot();
+        Ok((node, floor))
     }
 }

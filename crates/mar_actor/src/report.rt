@@ -11,51 +11,46 @@ ghost use Rattle.mar_node.specs.Stored.{at_own_height, block_of, is_certified, i
 ghost use Rattle.mar_node.specs.Event.{message_told};
 ghost use Rattle.mar_node.specs.Promise.{KeepsPromise};
 ghost use Rattle.mar_node.specs.Held.{GoesOn, IsUsual};
-ghost use Rattle.mar_node.specs.Moves.{LivesOn, Stores, StoresLate, StoresValue, at_height, found_at_hand, is_due, late_tips, of_commitment, risen_to, tip_after, tip_reports, tips_above, wants};
+ghost use Rattle.mar_node.specs.Moves.{LivesOn, StoresAbove, StoresLate, StoresValue, at_height, found_at_hand, lacks_finalization, late_tips, of_commitment, risen_to, tip_after, tip_reports, tips_above, wants};
 ghost use Rattle.mar_actor.specs.Due.{EndsWhereDue, storing_due};
 ghost use Rattle.mar_actor.specs.Told.{TellsInOrder, finalized_tips};
 
-use crate::actor::Actor;
+use crate::node::Node;
 use crate::reporter::{Reporter, Update};
 use mar_block::{Buffer, Variant};
-use mar_cert::{CommitsTo, Provider};
+use mar_cert::{AsFinalization, CommitsTo};
 use mar_key::{Request, Resolver};
-use mar_shelf::{Blocks, Certificates, Ended, Fault, Shelf};
-use mar_store::Meta;
+use mar_shelf::{Ended, Fault, Holds};
 use mar_types::{Epocher, Height, Round};
 
-impl<
-    V: Variant,
-    F: CommitsTo<V::Commitment>,
-    P: Provider,
-    E: Epocher,
-    FB: Blocks<V>,
-    FC: Certificates<V, F>,
-    M: Meta,
-    H: Shelf,
-> Actor<V, F, P, E, FB, FC, M, H> {
+impl<V: Variant, S: Holds<V>, P: Drop, E: Epocher> Node<V, S, P, E> {
     /// Stores a finalized block that is at hand, above the processed height, and hands over what may follow. At or below
     /// that height the round is witnessed. Where the block isn't at hand it is requested.
     pub(crate) fn report_finalization<B: Buffer<V>, R: Resolver<V::Commitment>, A: Reporter<V>>(
         self,
-        finalization: &F,
+        finalization: &S::Finalization,
         buffer: &B,
         resolver: &mut R,
         application: &mut A,
-    ) -> Result<Self, Ended<V, F, FB, FC, M, H>>
-        ensures promise { IsNested self.held.blocks → IsNested self.held.certs → KeepsPromise (E.epochs self.life.epocher) V.inner self (message_told None (report_finalization (F.plain finalization.now))) (B.blocks buffer.now) (A.told application.old) (A.told application.new) (R.told resolver.old) (R.told resolver.new) result }
+    ) -> Result<Self, Ended<V, S>>
+        ensures promise { IsNested self.held.blocks → IsNested self.held.certs → KeepsPromise (E.epochs self.life.epocher) V.inner self
+            (message_told None (report_finalization (S.Finalization.plain finalization.now))) (B.blocks buffer.now) (A.told application.old)
+            (A.told application.new) (R.told resolver.old) (R.told resolver.new) result }
         ensures lives { LivesOn self result }
-        ensures by_value { EndsWhereDue (storing_due self.held (found_at_hand V.inner (B.blocks buffer.now) self.held.blocks.held (F.plain finalization.now).payload)) result }
-        ensures tells { TellsInOrder (A.told application.old) (finalized_tips self (F.plain finalization.now) (found_at_hand V.inner (B.blocks buffer.now) self.held.blocks.held (F.plain finalization.now).payload)) (A.told application.new) result }
+        ensures by_value { EndsWhereDue (storing_due self.held (found_at_hand V.inner (B.blocks buffer.now) self.held.blocks.held
+            (S.Finalization.plain finalization.now).payload)) result }
+        ensures tells { TellsInOrder (A.told application.old) (finalized_tips self (S.Finalization.plain finalization.now)
+            (found_at_hand V.inner (B.blocks buffer.now) self.held.blocks.held (S.Finalization.plain finalization.now).payload)) (A.told application.new)
+            result }
     {
-        let (actor, block) = self.block_at_hand(finalization.payload(), buffer)?;
+        let (node, block) = self.block_at_hand(finalization.payload(), buffer)?;
         match block {
-            None => actor.request(finalization, resolver),
+            None => node.request(finalization, resolver),
             Some(block) => {
-                if actor.is_above(V::height(&block)) {
-                    actor.store_and_dispatch(finalization, &block, application)
+                if node.is_above(V::height(&block)) {
+                    node.store_and_dispatch(finalization, &block, application)
                 } else {
-                    actor.note(finalization, &block, resolver, application)
+                    node.note(finalization, &block, resolver, application)
                 }
             }
         }
@@ -65,7 +60,7 @@ impl<
     fn is_above(&self, height: Height) -> bool
         ensures { result ≡ nat_lt (height_of self.now.held.processed) height }
     {
-        self.stores.progress.is_above(height)
+        self.stores.floor().is_above(height)
     }
 
     /// The block of a commitment, from the buffer or from the store.
@@ -73,9 +68,10 @@ impl<
         self,
         commitment: V::Commitment,
         buffer: &B,
-    ) -> Result<(Self, Option<V::Block>), Ended<V, F, FB, FC, M, H>>
+    ) -> Result<(Self, Option<V::Block>), Ended<V, S>>
         ensures same { IfOk result (λ r. r.0 ≡ self) }
-        ensures found { IfOk result (λ r. option_map V.plain r.1 ≡ found_at_hand V.inner (B.blocks buffer.now) self.held.blocks.held (V.Commitment.bytes commitment)) }
+        ensures found { IfOk result (λ r. option_map V.plain r.1 ≡ found_at_hand V.inner (B.blocks buffer.now) self.held.blocks.held
+            (V.Commitment.bytes commitment)) }
         ensures goes_on { GoesOn (λ r. r.0.held) self.held [] [] result }
         ensures usual { IfErr result (λ e. IsUsual e.fault) }
     {
@@ -90,15 +86,16 @@ impl<
     fn stored_block(
         self,
         commitment: V::Commitment,
-    ) -> Result<(Self, Option<V::Block>), Ended<V, F, FB, FC, M, H>>
+    ) -> Result<(Self, Option<V::Block>), Ended<V, S>>
         ensures same { IfOk result (λ r. r.0 ≡ self) }
-        ensures found { IfOk result (λ r. option_map V.plain r.1 ≡ of_commitment (V.Commitment.bytes commitment) (block_of self.held.blocks.held (V.inner (V.Commitment.bytes commitment)))) }
+        ensures found { IfOk result (λ r. option_map V.plain r.1 ≡ of_commitment (V.Commitment.bytes commitment)
+            (block_of self.held.blocks.held (V.inner (V.Commitment.bytes commitment)))) }
         ensures goes_on { GoesOn (λ r. r.0.held) self.held [] [] result }
         ensures usual { IfErr result (λ e. IsUsual e.fault) }
     {
         let (stores, block) = self.stores.block_of(&V::commitment_to_inner(commitment))?;
         Ok((
-            Actor { stores, ..self },
+            Node { stores, ..self },
             of_commitment::<V>(block, commitment),
         ))
     }
@@ -106,16 +103,16 @@ impl<
     /// Requests the block of a finalization by commitment and round, unless the cutoff covers the round.
     fn request<R: Resolver<V::Commitment>>(
         self,
-        finalization: &F,
+        finalization: &S::Finalization,
         resolver: &mut R,
-    ) -> Result<Self, Ended<V, F, FB, FC, M, H>>
-        ensures asks { OnOk result (Hears (R.told resolver.old) (wants self.held.cutoff (F.plain finalization.now)) (R.told resolver.new)) }
+    ) -> Result<Self, Ended<V, S>>
+        ensures asks { OnOk result (Hears (R.told resolver.old) (wants self.held.cutoff (S.Finalization.plain finalization.now)) (R.told resolver.new)) }
         ensures same { IfOk result (λ a. a ≡ self) }
         ensures goes_on { GoesOn (λ a. a.held) self.held [] [] result }
         ensures usual { IfErr result (λ e. IsUsual e.fault) }
     {
         let request = Request::finalized_by_round(finalization.payload(), finalization.round());
-        let floor = self.stores.progress.floor();
+        let floor = self.stores.floor();
         match floor.fetch_if_permitted(resolver, request) {
             Ok(_admission) => Ok(self),
             Err(_) => Err(self.run_out()),
@@ -125,55 +122,72 @@ impl<
     /// Stores a block above the processed height with its finalization, and hands over what may follow.
     fn store_and_dispatch<A: Reporter<V>>(
         self,
-        finalization: &F,
+        finalization: &S::Finalization,
         block: &V::Block,
         application: &mut A,
-    ) -> Result<Self, Ended<V, F, FB, FC, M, H>>
+    ) -> Result<Self, Ended<V, S>>
         ensures promise { (heard : Option (List Call)) → IsNested self.held.blocks → IsNested self.held.certs → (buffer : List Block)
-            → found_at_hand V.inner buffer self.held.blocks.held (F.plain finalization.now).payload ≡ Some (V.plain block.now) → nat_lt (height_of self.held.processed) (V.plain block.now).height ≡ true
-            → KeepsPromise (E.epochs self.life.epocher) V.inner self (message_told None (report_finalization (F.plain finalization.now))) buffer (A.told application.old) (A.told application.new) heard heard result }
+            → found_at_hand V.inner buffer self.held.blocks.held (S.Finalization.plain finalization.now).payload ≡ Some (V.plain block.now)
+            → nat_lt (height_of self.held.processed) (V.plain block.now).height ≡ true
+            → KeepsPromise (E.epochs self.life.epocher) V.inner self (message_told None (report_finalization (S.Finalization.plain finalization.now))) buffer
+            (A.told application.old) (A.told application.new) heard heard result }
         ensures lives { LivesOn self result }
-        ensures by_value { nat_lt (height_of self.held.processed) (V.plain block.now).height ≡ true → EndsWhereDue (storing_due self.held (Some (V.plain block.now))) result }
-        ensures tells { TellsInOrder (A.told application.old) (tip_reports self.life.tip (F.plain finalization.now) (V.plain block.now)) (A.told application.new) result }
+        ensures by_value { nat_lt (height_of self.held.processed) (V.plain block.now).height ≡ true
+            → EndsWhereDue (storing_due self.held (Some (V.plain block.now))) result }
+        ensures tells { TellsInOrder (A.told application.old) (tip_reports self.life.tip (S.Finalization.plain finalization.now) (V.plain block.now))
+            (A.told application.new) result }
     {
         let height = V::height(block);
         if height.get() == u64::MAX {
             return Err(self.end(Fault::HeightLimit(height)));
         }
-        let actor = self.store(finalization, block, application)?;
-        actor.dispatch(application)
+        let node = self.store(finalization, block, application)?;
+        node.dispatch(application)
     }
 
     /// Stores a block with its finalization, makes both durable, and reports the block where it is the newest.
     fn store<A: Reporter<V>>(
         self,
-        finalization: &F,
+        finalization: &S::Finalization,
         block: &V::Block,
         application: &mut A,
-    ) -> Result<Self, Ended<V, F, FB, FC, M, H>>
-        ensures ok { OnOk result (Hears (A.told application.old) (tip_reports self.life.tip (F.plain finalization.now) (V.plain block.now)) (A.told application.new)) }
+    ) -> Result<Self, Ended<V, S>>
+        ensures ok { OnOk result (Hears (A.told application.old) (tip_reports self.life.tip (S.Finalization.plain finalization.now) (V.plain block.now))
+            (A.told application.new)) }
         ensures err { OnErr result (Hears (A.told application.old) [] (A.told application.new)) }
-        ensures stores { IfOk result (λ a. Stores V.inner self (F.plain finalization.now) (V.plain block.now) a) }
-        ensures goes_on { GoesOn (λ a. a.held) self.held (at_own_height (V.plain block.now) ∷ []) (at_height (V.plain block.now).height (F.plain finalization.now) ∷ []) result }
+        ensures stores { IfOk result (λ a. StoresAbove V.inner self (S.Finalization.plain finalization.now) (V.plain block.now) a) }
+        ensures goes_on { GoesOn (λ a. a.held) self.held (at_own_height (V.plain block.now) ∷ [])
+            (at_height (V.plain block.now).height (S.Finalization.plain finalization.now) ∷ []) result }
         ensures usual { IfErr result (λ e. IsUsual e.fault) }
     {
-        let actor = self.put(finalization, block)?;
-        let actor = actor.sync_both()?;
+        let node = self.put(finalization, block)?;
+        let node = node.sync_both()?;
         let height = V::height(block);
-        actor.report_tip(finalization.round(), height, V::digest(block), application)
+        node.report_tip(finalization.round(), height, V::digest(block), application)
     }
 
     /// Puts a block and its finalization.
-    fn put(self, finalization: &F, block: &V::Block) -> Result<Self, Ended<V, F, FB, FC, M, H>>
-        ensures blocks { IfOk result (λ a. Puts (is_held self.held.blocks.held (V.plain block.now)) self.held.blocks (at_own_height (V.plain block.now)) a.held.blocks) }
-        ensures certs { IfOk result (λ a. Puts (is_certified V.inner self.held.certs.held (V.plain block.now).height (V.inner (F.plain finalization.now).payload)) self.held.certs (at_height (V.plain block.now).height (F.plain finalization.now)) a.held.certs) }
-        ensures same { IfOk result (λ a. a ≡ record self { held = record self.held { blocks = a.held.blocks; certs = a.held.certs; counts = a.held.counts } }) }
-        ensures goes_on { GoesOn (λ a. a.held) self.held (at_own_height (V.plain block.now) ∷ []) (at_height (V.plain block.now).height (F.plain finalization.now) ∷ []) result }
+    fn put(self, finalization: &S::Finalization, block: &V::Block) -> Result<Self, Ended<V, S>>
+        ensures blocks { IfOk result (λ a. Puts (is_held self.held.blocks.held (V.plain block.now)) self.held.blocks (at_own_height (V.plain block.now))
+            a.held.blocks) }
+        ensures certs { IfOk result (λ a. Puts (is_certified V.inner self.held.certs.held (V.plain block.now).height
+            (V.inner (S.Finalization.plain finalization.now).payload)) self.held.certs (at_height (V.plain block.now).height
+            (S.Finalization.plain finalization.now)) a.held.certs) }
+        ensures same { IfOk result (λ a. a ≡ record self {
+          held = record self.held {
+            blocks = a.held.blocks;
+            certs = a.held.certs;
+            counts
+                = a.held.counts;
+          };
+        }) }
+        ensures goes_on { GoesOn (λ a. a.held) self.held (at_own_height (V.plain block.now) ∷ [])
+            (at_height (V.plain block.now).height (S.Finalization.plain finalization.now) ∷ []) result }
         ensures usual { IfErr result (λ e. IsUsual e.fault) }
     {
         let stores = self.stores.put_block(block)?;
         let stores = stores.put_certificate(V::height(block), finalization)?;
-        Ok(Actor { stores, ..self })
+        Ok(Node { stores, ..self })
     }
 
     /// Reports a finalized block as the tip where it is above the last one reported.
@@ -183,7 +197,7 @@ impl<
         height: Height,
         digest: V::Digest,
         application: &mut A,
-    ) -> Result<Self, Ended<V, F, FB, FC, M, H>>
+    ) -> Result<Self, Ended<V, S>>
         ensures ok { OnOk result (Hears (A.told application.old) (tips_above self.life.tip round height (V.Digest.bytes digest)) (A.told application.new)) }
         ensures err { OnErr result (Hears (A.told application.old) [] (A.told application.new)) }
         ensures same { IfOk result (λ a. a ≡ record self { life = record self.life { tip = risen_to self.life.tip height } }) }
@@ -203,13 +217,13 @@ impl<
     fn with_tip(self, height: Height) -> Self
         ensures { result ≡ record self { life = record self.life { tip = height } } }
     {
-        let mut actor = self;
-        actor.life.tip = height;
-        actor
+        let mut node = self;
+        node.life.tip = height;
+        node
     }
 
     /// Makes the blocks and then the finalizations durable, and counts one more storing that they cover.
-    fn sync_both(self) -> Result<Self, Ended<V, F, FB, FC, M, H>>
+    fn sync_both(self) -> Result<Self, Ended<V, S>>
         ensures blocks { IfOk result (λ a. Syncs self.held.blocks a.held.blocks) }
         ensures certs { IfOk result (λ a. Syncs self.held.certs a.held.certs) }
         ensures same { IfOk result (λ a. a ≡ record self {
@@ -219,15 +233,19 @@ impl<
         ensures goes_on { GoesOn (λ a. a.held) self.held [] [] result }
         ensures usual { IfErr result (λ e. IsUsual e.fault) }
     {
-        let Actor { stores, mut life } = self;
+        let Node {
+            stores,
+            mut life,
+            of,
+        } = self;
         let stores = stores.sync_blocks()?;
         let stores = stores.sync_certificates()?;
         match life.written.checked_add(1) {
             Some(written) => {
                 life.written = written;
-                Ok(Actor { stores, life })
+                Ok(Node { stores, life, of })
             }
-            None => Err(stores.run_out()),
+            None => Err(Node { stores, life, of }.run_out()),
         }
     }
 
@@ -235,95 +253,104 @@ impl<
     /// stored where it is missing.
     fn note<R: Resolver<V::Commitment>, A: Reporter<V>>(
         self,
-        finalization: &F,
+        finalization: &S::Finalization,
         block: &V::Block,
         resolver: &mut R,
         application: &mut A,
-    ) -> Result<Self, Ended<V, F, FB, FC, M, H>>
+    ) -> Result<Self, Ended<V, S>>
         ensures promise { IsNested self.held.blocks → IsNested self.held.certs → (buffer : List Block)
-            → found_at_hand V.inner buffer self.held.blocks.held (F.plain finalization.now).payload ≡ Some (V.plain block.now) → nat_lt (height_of self.held.processed) (V.plain block.now).height ≡ false
-            → KeepsPromise (E.epochs self.life.epocher) V.inner self (message_told None (report_finalization (F.plain finalization.now))) buffer (A.told application.old) (A.told application.new) (R.told resolver.old) (R.told resolver.new) result }
+            → found_at_hand V.inner buffer self.held.blocks.held (S.Finalization.plain finalization.now).payload ≡ Some (V.plain block.now)
+            → nat_lt (height_of self.held.processed) (V.plain block.now).height ≡ false
+            → KeepsPromise (E.epochs self.life.epocher) V.inner self (message_told None (report_finalization (S.Finalization.plain finalization.now))) buffer
+            (A.told application.old) (A.told application.new) (R.told resolver.old) (R.told resolver.new) result }
         ensures lives { LivesOn self result }
         ensures by_value { EndsWhereDue None result }
-        ensures tells { TellsInOrder (A.told application.old) (late_tips (is_due self.held (V.plain block.now)) self.life.tip (F.plain finalization.now) (V.plain block.now)) (A.told application.new) result }
+        ensures tells { TellsInOrder (A.told application.old) (late_tips (lacks_finalization self.held (V.plain block.now)) self.life.tip
+            (S.Finalization.plain finalization.now) (V.plain block.now)) (A.told application.new) result }
     {
-        let actor = self.witness(finalization.round(), resolver)?;
-        let actor = actor.sync_metadata()?;
-        actor.store_late(finalization, block, application)
+        let node = self.witness(finalization.round(), resolver)?;
+        let node = node.sync_metadata()?;
+        node.store_late(finalization, block, application)
     }
 
     /// Stores the missing finalization of a held block, makes it durable, and reports the block where it is the newest.
     fn store_late<A: Reporter<V>>(
         self,
-        finalization: &F,
+        finalization: &S::Finalization,
         block: &V::Block,
         application: &mut A,
-    ) -> Result<Self, Ended<V, F, FB, FC, M, H>>
-        ensures ok { OnOk result (Hears (A.told application.old) (late_tips (is_due self.held (V.plain block.now)) self.life.tip (F.plain finalization.now) (V.plain block.now)) (A.told application.new)) }
+    ) -> Result<Self, Ended<V, S>>
+        ensures ok { OnOk result (Hears (A.told application.old) (late_tips (lacks_finalization self.held (V.plain block.now)) self.life.tip
+            (S.Finalization.plain finalization.now) (V.plain block.now)) (A.told application.new)) }
         ensures err { OnErr result (Hears (A.told application.old) [] (A.told application.new)) }
-        ensures stores { IfOk result (λ a. StoresLate V.inner self (F.plain finalization.now) (V.plain block.now) a) }
-        ensures goes_on { GoesOn (λ a. a.held) self.held [] (at_height (V.plain block.now).height (F.plain finalization.now) ∷ []) result }
+        ensures stores { IfOk result (λ a. StoresLate V.inner self (S.Finalization.plain finalization.now) (V.plain block.now) a) }
+        ensures goes_on { GoesOn (λ a. a.held) self.held [] (at_height (V.plain block.now).height (S.Finalization.plain finalization.now) ∷ []) result }
         ensures usual { IfErr result (λ e. IsUsual e.fault) }
     {
-        let (actor, is_due) = self.is_due(V::height(block))?;
-        if is_due {
-            actor.store_due(finalization, block, application)
+        let (node, lacks_finalization) = self.lacks_finalization(V::height(block))?;
+        if lacks_finalization {
+            node.store_missing(finalization, block, application)
         } else {
-            Ok(actor)
+            Ok(node)
         }
     }
 
     /// Whether a block is held at a height and no finalization is.
-    fn is_due(self, height: Height) -> Result<(Self, bool), Ended<V, F, FB, FC, M, H>>
+    fn lacks_finalization(self, height: Height) -> Result<(Self, bool), Ended<V, S>>
         ensures same { IfOk result (λ r. r.0 ≡ self) }
         ensures value { IfOk result (λ r. r.1 ≡ (has_height self.held.blocks.held height && not (has_height self.held.certs.held height))) }
         ensures goes_on { GoesOn (λ r. r.0.held) self.held [] [] result }
         ensures usual { IfErr result (λ e. IsUsual e.fault) }
     {
-        let (actor, block) = self.block_at(height)?;
+        let (node, block) = self.block_at(height)?;
         if block.is_none() {
-            return Ok((actor, false));
+            return Ok((node, false));
         }
-        let (actor, round) = actor.round_at(height)?;
-        Ok((actor, round.is_none()))
+        let (stores, has_certificate) = node.stores.has_certificate(height)?;
+        Ok((Node { stores, ..node }, !has_certificate))
     }
 
     /// Stores a finalization, makes it durable, and reports its block where it is the newest.
-    fn store_due<A: Reporter<V>>(
+    fn store_missing<A: Reporter<V>>(
         self,
-        finalization: &F,
+        finalization: &S::Finalization,
         block: &V::Block,
         application: &mut A,
-    ) -> Result<Self, Ended<V, F, FB, FC, M, H>>
-        ensures ok { OnOk result (Hears (A.told application.old) (tip_reports self.life.tip (F.plain finalization.now) (V.plain block.now)) (A.told application.new)) }
+    ) -> Result<Self, Ended<V, S>>
+        ensures ok { OnOk result (Hears (A.told application.old) (tip_reports self.life.tip (S.Finalization.plain finalization.now) (V.plain block.now))
+            (A.told application.new)) }
         ensures err { OnErr result (Hears (A.told application.old) [] (A.told application.new)) }
-        ensures certs { IfOk result (λ a. StoresValue (is_certified V.inner self.held.certs.held (V.plain block.now).height (V.inner (F.plain finalization.now).payload)) self.held.certs (at_height (V.plain block.now).height (F.plain finalization.now)) a.held.certs) }
+        ensures certs { IfOk result (λ a. StoresValue (is_certified V.inner self.held.certs.held (V.plain block.now).height
+            (V.inner (S.Finalization.plain finalization.now).payload)) self.held.certs (at_height (V.plain block.now).height
+            (S.Finalization.plain finalization.now)) a.held.certs) }
         ensures same { IfOk result (λ a. a ≡ record self {
           held = record self.held { certs = a.held.certs; counts = a.held.counts };
           life = record self.life { tip = tip_after self.life.tip (V.plain block.now) };
         }) }
-        ensures goes_on { GoesOn (λ a. a.held) self.held [] (at_height (V.plain block.now).height (F.plain finalization.now) ∷ []) result }
+        ensures goes_on { GoesOn (λ a. a.held) self.held [] (at_height (V.plain block.now).height (S.Finalization.plain finalization.now) ∷ []) result }
         ensures usual { IfErr result (λ e. IsUsual e.fault) }
     {
-        let actor = self.store_certificate(V::height(block), finalization)?;
+        let node = self.store_certificate(V::height(block), finalization)?;
         let height = V::height(block);
-        actor.report_tip(finalization.round(), height, V::digest(block), application)
+        node.report_tip(finalization.round(), height, V::digest(block), application)
     }
 
     /// Stores a finalization alone, and makes it durable.
     fn store_certificate(
         self,
         height: Height,
-        finalization: &F,
-    ) -> Result<Self, Ended<V, F, FB, FC, M, H>>
-        ensures certs { IfOk result (λ a. StoresValue (is_certified V.inner self.held.certs.held height (V.inner (F.plain finalization.now).payload)) self.held.certs (at_height height (F.plain finalization.now)) a.held.certs) }
+        finalization: &S::Finalization,
+    ) -> Result<Self, Ended<V, S>>
+        ensures certs { IfOk result (λ a. StoresValue (is_certified V.inner self.held.certs.held height
+            (V.inner (S.Finalization.plain finalization.now).payload)) self.held.certs (at_height height (S.Finalization.plain finalization.now))
+            a.held.certs) }
         ensures same { IfOk result (λ a. a ≡ record self { held = record self.held { certs = a.held.certs; counts = a.held.counts } }) }
-        ensures goes_on { GoesOn (λ a. a.held) self.held [] (at_height height (F.plain finalization.now) ∷ []) result }
+        ensures goes_on { GoesOn (λ a. a.held) self.held [] (at_height height (S.Finalization.plain finalization.now) ∷ []) result }
         ensures usual { IfErr result (λ e. IsUsual e.fault) }
     {
         let stores = self.stores.put_certificate(height, finalization)?;
         let stores = stores.sync_certificates()?;
-        Ok(Actor { stores, ..self })
+        Ok(Node { stores, ..self })
     }
 }
 

@@ -4,24 +4,13 @@ ghost use Rattle.mar_key.specs.Views.{cutoff_of, processed_of};
 ghost use Rattle.mar_store.specs.Changes.{heights};
 ghost use Rattle.mar_store.specs.Ranges.{ranges};
 
-use crate::actor::Actor;
+use crate::node::Node;
 use mar_block::Variant;
-use mar_cert::{CommitsTo, Provider};
 use mar_parts::Shown;
-use mar_shelf::{Blocks, Certificates, Shelf};
-use mar_store::Meta;
+use mar_shelf::Holds;
 use mar_types::Epocher;
 
-impl<
-    V: Variant,
-    F: CommitsTo<V::Commitment>,
-    P: Provider,
-    E: Epocher,
-    FB: Blocks<V>,
-    FC: Certificates<V, F>,
-    M: Meta,
-    H: Shelf,
-> Actor<V, F, P, E, FB, FC, M, H> {
+impl<V: Variant, S: Holds<V>, P: Drop, E: Epocher> Node<V, S, P, E> {
     /// What the node shows of itself.
     pub fn shown(&self) -> Shown<'_>
         ensures processed { option_map processed_of result.processed ≡ self.now.held.processed }
@@ -33,13 +22,13 @@ impl<
         ensures certs_sure { result.certs_sure.now ≡ ranges (heights self.now.held.certs.sure) }
     {
         Shown {
-            processed: self.stores.progress.processed(),
+            processed: self.stores.floor().processed(),
             acks: &self.life.acks,
-            cutoff: self.stores.progress.cutoff(),
-            blocks_held: self.stores.blocks.held_ranges(),
-            blocks_sure: self.stores.blocks.sure_ranges(),
-            certs_held: self.stores.certs.held_ranges(),
-            certs_sure: self.stores.certs.sure_ranges(),
+            cutoff: self.stores.floor().cutoff(),
+            blocks_held: self.stores.blocks_held(),
+            blocks_sure: self.stores.blocks_sure(),
+            certs_held: self.stores.certificates_held(),
+            certs_sure: self.stores.certificates_sure(),
         }
     }
 }

@@ -18,7 +18,7 @@ use Rattle.mar_node.specs.Event.{Event, effect_of, message_told, no_floor, sync_
 use Rattle.mar_node.specs.Faults.{Fault, is_by_value}
 use Rattle.mar_node.specs.Held.{Ending, GoesOn, Grew, IsUsual, Loses, Seen}
 use Rattle.mar_node.specs.Lives.{Cuts, is_dropped_ack, is_refused_floor}
-use Rattle.mar_node.specs.Moves.{Stores, at_height, found_at_hand, tip_reports, wants}
+use Rattle.mar_node.specs.Moves.{StoresAbove, at_height, found_at_hand, tip_reports, wants}
 use Rattle.mar_node.specs.Node.{AreBlocksOf, AreFinalizationsOf, at_hand}
 use Rattle.mar_node.specs.Promise.{IsLawfulStep, IsSetTo, KeepsPromise, StepsOrCuts, node_of}
 use Rattle.mar_node.specs.Step.{Report}
@@ -89,10 +89,10 @@ module _ {P E : Type 0} (epochs : Epochs) (inner : List ℕ → List ℕ) (parti
       pub promise-unstored : (told told' : Option (List Report)) (heard : Option (List Call)) (x : Ending) → Hears told [] told' → Loses a.held (at_own_height b ∷ []) (at_height b.height f ∷ []) [] x → IsUsual x.fault → KeepsPromise epochs inner a reported buffer told told' heard heard (Err x)
       promise-unstored told told' heard x silent lost usual config chain asked set step = quiet_cut config chain asked reported step refl (λ fault. refl) told told' (at_own_height b ∷ []) (at_height b.height f ∷ []) [] x silent (of_block config chain asked set step) (of_cert config chain asked set step) lost (λ p has. no_pair p has) usual
 
-      pub promise-stored : (m : Seen P E) (told told1 told' : Option (List Report)) (heard : Option (List Call)) (result : Result (Seen P E) Ending) → IsNested a.held.blocks → IsNested a.held.certs → nat_lt (height_of a.held.processed) b.height ≡ true → Stores inner a f b m → Grew a.held (at_own_height b ∷ []) (at_height b.height f ∷ []) m.held → Hears told (tip_reports a.life.tip f b) told1 → Ran m told1 told' result → KeepsPromise epochs inner a reported buffer told told' heard heard result
+      pub promise-stored : (m : Seen P E) (told told1 told' : Option (List Report)) (heard : Option (List Call)) (result : Result (Seen P E) Ending) → IsNested a.held.blocks → IsNested a.held.certs → nat_lt (height_of a.held.processed) b.height ≡ true → StoresAbove inner a f b m → Grew a.held (at_own_height b ∷ []) (at_height b.height f ∷ []) m.held → Hears told (tip_reports a.life.tip f b) told1 → Ran m told1 told' result → KeepsPromise epochs inner a reported buffer told told' heard heard result
       promise-stored m told told1 told' heard result nested certs_nested above stores grew tips ran config chain asked set step =
           let is = hand config chain asked set step (Some b) found in
           dispatched config chain a m reported buffer asked (tip_reports a.life.tip f b) (set.window ∙ sym (ap (λ s. s.life.sizes.window) stores.same)) step (λ fault. refl)
-          (final.Reaches-stored config chain a f buffer asked step.lawful step.one step.good step.reported b m nested certs_nested is above (subst (λ i. Stores i a f b m) (sym set.inner_is) stores))
+          (final.Reaches-stored config chain a f buffer asked step.lawful step.one step.good step.reported b m nested certs_nested is above (subst (λ i. StoresAbove i a f b m) (sym set.inner_is) stores))
           (λ h v at. subst (λ xs. value_at xs h ≡ Some v) stores.blocks.sure at) grew.blocks_grew.sure grew.certs_grew.sure told told1 told' heard heard result tips ran
           (subst (λ cs. Hears heard cs heard) (final.asks-stored config chain a f buffer asked step.lawful step.one step.good step.reported b is above) (Hears-nothing heard))

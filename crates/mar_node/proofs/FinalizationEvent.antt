@@ -23,7 +23,7 @@ use Rattle.mar_node.specs.Event.{Event, Met, Storing, cutoff_after, message_told
 use Rattle.mar_node.specs.Faults.{height_limit, last_height, storing_fault}
 use Rattle.mar_node.specs.Held.{Seen}
 use Rattle.mar_node.specs.Lives.{later_round}
-use Rattle.mar_node.specs.Moves.{RaisesTo, Stores, StoresLate, StoresValue, StoresWhere, at_height, is_due, late_tip, late_tips, tip_after, tip_reports, wants}
+use Rattle.mar_node.specs.Moves.{RaisesTo, StoresAbove, StoresLate, StoresValue, StoresWhere, at_height, lacks_finalization, late_tip, late_tips, tip_after, tip_reports, wants}
 use Rattle.mar_node.specs.Node.{Agrees, AreBlocksOf, AreFinalizationsOf, ConsecutiveFrom, FloorSafe, HasAnchor, IsFinalized, IsGood, Node, SureOrWritten, at_hand, write_count}
 use Rattle.mar_node.specs.Promise.{AreOne, node_of}
 use Rattle.mar_node.specs.Requests.{own_asks, raise_asks, reported_asks}
@@ -195,16 +195,16 @@ noted a cutoffs r m = record a {
 }
 
 -- a raised cutoff, its sync and a late put leave that, with the tip that the put may make
-noted_same : {P E : Type 0} (inner : List ℕ → List ℕ) (a w s m : Seen P E) (cutoffs : List Cutoff) (r : Round) (f : Finalization) (b : Block) → RaisesTo a cutoffs r w → s ≡ record w { held = record w.held { pairs = pair_of w.held.processed w.held.cutoff ∷ []; counts = s.held.counts } } → StoresLate inner s f b m → (m ≡ noted a cutoffs r m) × (m.life.tip ≡ late_tip (is_due a.held b) a.life.tip b)
+noted_same : {P E : Type 0} (inner : List ℕ → List ℕ) (a w s m : Seen P E) (cutoffs : List Cutoff) (r : Round) (f : Finalization) (b : Block) → RaisesTo a cutoffs r w → s ≡ record w { held = record w.held { pairs = pair_of w.held.processed w.held.cutoff ∷ []; counts = s.held.counts } } → StoresLate inner s f b m → (m ≡ noted a cutoffs r m) × (m.life.tip ≡ late_tip (lacks_finalization a.held b) a.life.tip b)
 noted_same {P = P} {E = E} inner a w s m cutoffs r f b raised synced stores = (same ∙ ap (λ t. record (noted a cutoffs r m) { life = record a.life { tip = t } }) (sym tip), tip)
   where
-    same : m ≡ record (noted a cutoffs r m) { life = record a.life { tip = late_tip (is_due a.held b) a.life.tip b } }
+    same : m ≡ record (noted a cutoffs r m) { life = record a.life { tip = late_tip (lacks_finalization a.held b) a.life.tip b } }
     same =
         stores.same
-        ∙ (ap (λ (x : Seen P E). record x { held = record x.held { certs = m.held.certs; counts = m.held.counts }; life = record x.life { tip = late_tip (is_due x.held b) x.life.tip b } }) synced
-        ∙ ap (λ (x : Seen P E). record x { held = record x.held { certs = m.held.certs; pairs = pair_of x.held.processed x.held.cutoff ∷ []; counts = m.held.counts }; life = record x.life { tip = late_tip (is_due x.held b) x.life.tip b } }) raised.same)
+        ∙ (ap (λ (x : Seen P E). record x { held = record x.held { certs = m.held.certs; counts = m.held.counts }; life = record x.life { tip = late_tip (lacks_finalization x.held b) x.life.tip b } }) synced
+        ∙ ap (λ (x : Seen P E). record x { held = record x.held { certs = m.held.certs; pairs = pair_of x.held.processed x.held.cutoff ∷ []; counts = m.held.counts }; life = record x.life { tip = late_tip (lacks_finalization x.held b) x.life.tip b } }) raised.same)
 
-    tip : m.life.tip ≡ late_tip (is_due a.held b) a.life.tip b
+    tip : m.life.tip ≡ late_tip (lacks_finalization a.held b) a.life.tip b
     tip = ap (λ x. x.life.tip) same
 
 -- and the late put is due by what was held before
@@ -410,7 +410,7 @@ module _ {P E : Type 0} (config : Config) (chain : Chain) (a : Seen P E) (f : Fi
     not_last b is last = let low : b.height < length chain.blocks = lawful.in_list f.round b.height (block-final b is).0 in let bound : length chain.blocks < 2 ^ 64 - 1 = lawful.bounded in omega arith
 
     -- what it writes: its own height, which the sync of both archives covers
-    Writes-stored : (b : Block) (m : Seen P E) → at_hand n f.payload ≡ Some b → IsTrue (nat_lt (height_of a.held.processed) b.height) → Stores config.inner a f b m → (w : Writes n e no_floor (node_of m buffer asked)) × (w.repaired ≡ [])
+    Writes-stored : (b : Block) (m : Seen P E) → at_hand n f.payload ≡ Some b → IsTrue (nat_lt (height_of a.held.processed) b.height) → StoresAbove config.inner a f b m → (w : Writes n e no_floor (node_of m buffer asked)) × (w.repaired ≡ [])
     Writes-stored b m is above stores = (
       record {
         repaired = [];
@@ -440,7 +440,7 @@ module _ {P E : Type 0} (config : Config) (chain : Chain) (a : Seen P E) (f : Fi
             from (inr same) = inr (ap (λ c. c || false) (eq-eqb b.height h same))
 
     -- the node that it leaves is good
-    IsGood-stored : (b : Block) (m : Seen P E) → IsNested a.held.blocks → IsNested a.held.certs → at_hand n f.payload ≡ Some b → Stores config.inner a f b m → IsGood config chain (node_of m buffer asked)
+    IsGood-stored : (b : Block) (m : Seen P E) → IsNested a.held.blocks → IsNested a.held.certs → at_hand n f.payload ≡ Some b → StoresAbove config.inner a f b m → IsGood config chain (node_of m buffer asked)
     IsGood-stored b m blocks_nested certs_nested is stores =
         IsGood-grown m (ap (λ s. s.life.out) stores.same) processed own (all_sure _ _ _ _ stores.blocks) (all_sure _ _ _ _ stores.certs) stays
         (all_held (λ x. IsBlockAt chain x.height x.value) _ _ _ _ stores.blocks good.of_chain.held_blocks (block-final b is).1)
@@ -466,7 +466,7 @@ module _ {P E : Type 0} (config : Config) (chain : Chain) (a : Seen P E) (f : Fi
         stays h low has = keeps_heights a.held.blocks.sure m.held.blocks.sure (sure_kept _ _ _ _ blocks_nested stores.blocks) h has
 
     -- a block above the processed height is stored with its finalization
-    pub Reaches-stored : (b : Block) (m : Seen P E) → IsNested a.held.blocks → IsNested a.held.certs → at_hand n f.payload ≡ Some b → IsTrue (nat_lt (height_of a.held.processed) b.height) → Stores config.inner a f b m → Reaches config chain a e buffer asked (tip_reports a.life.tip f b) m
+    pub Reaches-stored : (b : Block) (m : Seen P E) → IsNested a.held.blocks → IsNested a.held.certs → at_hand n f.payload ≡ Some b → IsTrue (nat_lt (height_of a.held.processed) b.height) → StoresAbove config.inner a f b m → Reaches config chain a e buffer asked (tip_reports a.life.tip f b) m
     Reaches-stored b m blocks_nested certs_nested is above stores = record {
       no_effect = refl;
       kept = ap (λ s. s.life.out) stores.same;
@@ -540,14 +540,14 @@ module _ {P E : Type 0} (config : Config) (chain : Chain) (a : Seen P E) (f : Fi
 
     -- the put of a certificate that is due
     abbrev pub PutsLate : Block → Kept (At Finalization) → Type 0
-    PutsLate b certs = StoresWhere (is_due a.held b) (is_certified config.inner a.held.certs.held b.height (config.inner f.payload)) a.held.certs (at_height b.height f) certs
+    PutsLate b certs = StoresWhere (lacks_finalization a.held b) (is_certified config.inner a.held.certs.held b.height (config.inner f.payload)) a.held.certs (at_height b.height f) certs
 
     -- the actor with the raised cutoff
     abbrev pub IsNoted : Seen P E → Type 0
     IsNoted m = m ≡ noted a (at_round f.round ∷ []) (later_round a.held.witnessed (Some f.round)) m
 
     -- the node that it leaves is good, where the tip reaches what was put
-    IsGood-late : IsPartition config.epochs → (b : Block) (m : Seen P E) → at_hand n f.payload ≡ Some b → IsFalse (nat_lt (height_of a.held.processed) b.height) → a.life.tip ≤ m.life.tip → (IsTrue (is_due a.held b) → b.height ≤ m.life.tip) → IsNoted m → PutsLate b m.held.certs → IsGood config chain (node_of m buffer asked)
+    IsGood-late : IsPartition config.epochs → (b : Block) (m : Seen P E) → at_hand n f.payload ≡ Some b → IsFalse (nat_lt (height_of a.held.processed) b.height) → a.life.tip ≤ m.life.tip → (IsTrue (lacks_finalization a.held b) → b.height ≤ m.life.tip) → IsNoted m → PutsLate b m.held.certs → IsGood config chain (node_of m buffer asked)
     IsGood-late partition b m is low rises below_tip same certs =
         IsGood-grown m (ap (λ s. s.life.out) same) (ap (λ s. s.held.processed) same) own
         (subst (λ k. SureOrWritten k []) (sym blocks) good.heights.sure_blocks)
@@ -567,7 +567,7 @@ module _ {P E : Type 0} (config : Config) (chain : Chain) (a : Seen P E) (f : Fi
         own = ap (λ s. s.held.pairs) same ∙ sym (ap (λ s. pair_of s.held.processed s.held.cutoff ∷ []) same)
 
     -- with these tips
-    Reaches-told : IsPartition config.epochs → (b : Block) (tips : List Report) (m : Seen P E) → IsNested a.held.certs → at_hand n f.payload ≡ Some b → IsFalse (nat_lt (height_of a.held.processed) b.height) → AreTips tips → TipsFrom a.life.tip tips m.life.tip → AreTipsOf chain tips → a.life.tip ≤ m.life.tip → (IsTrue (is_due a.held b) → b.height ≤ m.life.tip) → IsNoted m → PutsLate b m.held.certs → Reaches config chain a e buffer asked tips m
+    Reaches-told : IsPartition config.epochs → (b : Block) (tips : List Report) (m : Seen P E) → IsNested a.held.certs → at_hand n f.payload ≡ Some b → IsFalse (nat_lt (height_of a.held.processed) b.height) → AreTips tips → TipsFrom a.life.tip tips m.life.tip → AreTipsOf chain tips → a.life.tip ≤ m.life.tip → (IsTrue (lacks_finalization a.held b) → b.height ≤ m.life.tip) → IsNoted m → PutsLate b m.held.certs → Reaches config chain a e buffer asked tips m
     Reaches-told partition b tips m certs_nested is low only rise of_chain rises below_tip same certs = record {
       no_effect = refl;
       kept = ap (λ s. s.life.out) same;
@@ -618,10 +618,10 @@ module _ {P E : Type 0} (config : Config) (chain : Chain) (a : Seen P E) (f : Fi
 
     -- a block at or below the processed height: its round is witnessed, its certificate put where the block is held without
     -- one, and that told as the tip where it is above the last one
-    pub Reaches-noted : IsPartition config.epochs → (b : Block) (m : Seen P E) → IsNested a.held.certs → at_hand n f.payload ≡ Some b → IsFalse (nat_lt (height_of a.held.processed) b.height) → IsNoted m → PutsLate b m.held.certs → m.life.tip ≡ late_tip (is_due a.held b) a.life.tip b → Reaches config chain a e buffer asked (late_tips (is_due a.held b) a.life.tip f b) m
-    Reaches-noted partition b m certs_nested is low same certs tip = by (is_due a.held b) refl tip
+    pub Reaches-noted : IsPartition config.epochs → (b : Block) (m : Seen P E) → IsNested a.held.certs → at_hand n f.payload ≡ Some b → IsFalse (nat_lt (height_of a.held.processed) b.height) → IsNoted m → PutsLate b m.held.certs → m.life.tip ≡ late_tip (lacks_finalization a.held b) a.life.tip b → Reaches config chain a e buffer asked (late_tips (lacks_finalization a.held b) a.life.tip f b) m
+    Reaches-noted partition b m certs_nested is low same certs tip = by (lacks_finalization a.held b) refl tip
       where
-        by : (c : Bool) → is_due a.held b ≡ c → m.life.tip ≡ late_tip c a.life.tip b → Reaches config chain a e buffer asked (late_tips c a.life.tip f b) m
+        by : (c : Bool) → lacks_finalization a.held b ≡ c → m.life.tip ≡ late_tip c a.life.tip b → Reaches config chain a e buffer asked (late_tips c a.life.tip f b) m
         by true due at =
             Reaches-told partition b (tip_reports a.life.tip f b) m certs_nested is low (tip_reports-tips a.life.tip f b)
             (subst (TipsFrom a.life.tip (tip_reports a.life.tip f b)) (sym at) (tip_reports-rise a.life.tip f b))
@@ -631,8 +631,8 @@ module _ {P E : Type 0} (config : Config) (chain : Chain) (a : Seen P E) (f : Fi
         by false not_due at = Reaches-told partition b [] m certs_nested is low tt at tt (subst (λ k. a.life.tip ≤ k) (sym at) (omega arith)) (λ put. absurd (let both : false ≡ true = sym not_due ∙ put in cc)) same certs
 
     -- from the raise, the sync and the late put
-    pub Reaches-late : IsPartition config.epochs → (b : Block) (w s m : Seen P E) → IsNested a.held.certs → at_hand n f.payload ≡ Some b → IsFalse (nat_lt (height_of a.held.processed) b.height) → RaisesTo a (at_round f.round ∷ []) (later_round a.held.witnessed (Some f.round)) w → s ≡ record w { held = record w.held { pairs = pair_of w.held.processed w.held.cutoff ∷ []; counts = s.held.counts } } → StoresLate config.inner s f b m → Reaches config chain a e buffer asked (late_tips (is_due a.held b) a.life.tip f b) m
+    pub Reaches-late : IsPartition config.epochs → (b : Block) (w s m : Seen P E) → IsNested a.held.certs → at_hand n f.payload ≡ Some b → IsFalse (nat_lt (height_of a.held.processed) b.height) → RaisesTo a (at_round f.round ∷ []) (later_round a.held.witnessed (Some f.round)) w → s ≡ record w { held = record w.held { pairs = pair_of w.held.processed w.held.cutoff ∷ []; counts = s.held.counts } } → StoresLate config.inner s f b m → Reaches config chain a e buffer asked (late_tips (lacks_finalization a.held b) a.life.tip f b) m
     Reaches-late partition b w s m certs_nested is low raised synced stores = Reaches-noted partition b m certs_nested is low as_noted.0 (noted_certs config.inner a w s m (at_round f.round ∷ []) (later_round a.held.witnessed (Some f.round)) f b raised synced stores) as_noted.1
       where
-        as_noted : IsNoted m × (m.life.tip ≡ late_tip (is_due a.held b) a.life.tip b)
+        as_noted : IsNoted m × (m.life.tip ≡ late_tip (lacks_finalization a.held b) a.life.tip b)
         as_noted = noted_same config.inner a w s m (at_round f.round ∷ []) (later_round a.held.witnessed (Some f.round)) f b raised synced stores

@@ -15,7 +15,7 @@ use Rattle.mar_node.specs.Chain.{IsBlockAt}
 use Rattle.mar_node.specs.Event.{Event, acked_to}
 use Rattle.mar_node.specs.Faults.{ack_kind, dropped_ack, ticket_limit}
 use Rattle.mar_node.specs.Held.{Counts, Ending, GoesOn, Grew, IsEndedBy, IsUsual, Loses, Seen}
-use Rattle.mar_node.specs.Moves.{Drains, EndsDropped, EndsLife, HasLastBlock, LivesOn, RaisesTo, SameLife, Stores, StoresLate, at_height, next_in}
+use Rattle.mar_node.specs.Moves.{Drains, EndsDropped, EndsLife, HasLastBlock, LivesOn, RaisesTo, SameLife, StoresAbove, StoresLate, at_height, next_in}
 use Rattle.mar_node.specs.Promise.{IsGoodUntold, KeepsCounting, KeepsPromise, node_of}
 use Rattle.mar_node.specs.Step.{Report}
 use Rattle.mar_node.proofs.Growing.{Grew-refl}
@@ -106,7 +106,7 @@ IsPart-moved a m blocks certs cutoff pairs counts tip covered witnessed is same 
   next = ap (λ s. next_in s) is;
 }
 
-pub IsPart-stored : {P E : Type 0} (inner : List ℕ → List ℕ) (a : Seen P E) (f : Finalization) (b : Block) (m : Seen P E) (blocks : List (At Block)) (certs : List (At Finalization)) → Stores inner a f b m → Grew a.held blocks certs m.held → IsPart a m
+pub IsPart-stored : {P E : Type 0} (inner : List ℕ → List ℕ) (a : Seen P E) (f : Finalization) (b : Block) (m : Seen P E) (blocks : List (At Block)) (certs : List (At Finalization)) → StoresAbove inner a f b m → Grew a.held blocks certs m.held → IsPart a m
 IsPart-stored inner a f b m blocks certs stores grew = IsPart-moved a m _ _ _ _ _ _ _ _ stores.same grew.counts_same
 
 pub IsPart-raised : {P E : Type 0} (a m : Seen P E) (cutoffs : List Cutoff) (witnessed : Round) (blocks : List (At Block)) (certs : List (At Finalization)) → RaisesTo a cutoffs witnessed m → Grew a.held blocks certs m.held → IsPart a m

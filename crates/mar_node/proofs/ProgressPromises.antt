@@ -19,7 +19,7 @@ use Rattle.mar_node.specs.Event.{Event, ack_given, effect_of, message_told, no_f
 use Rattle.mar_node.specs.Faults.{Fault, dropped_ack, dropped_first, is_by_value}
 use Rattle.mar_node.specs.Held.{Ending, GoesOn, Grew, Held, IsUsual, Loses, Seen}
 use Rattle.mar_node.specs.Lives.{Cuts, is_dropped_ack, is_refused_floor, later_round}
-use Rattle.mar_node.specs.Moves.{Drains, EndsDropped, RaisesTo, StoresLate, at_height, found_at_hand, is_due, late_tips, progress_asks}
+use Rattle.mar_node.specs.Moves.{Drains, EndsDropped, RaisesTo, StoresLate, at_height, found_at_hand, lacks_finalization, late_tips, progress_asks}
 use Rattle.mar_node.specs.Node.{AreBlocksOf, AreFinalizationsOf, Rest, at_hand, block_missing, floor_awaited, window_full, write_uncovered}
 use Rattle.mar_node.specs.Promise.{IsGoodUntold, IsLawfulStep, IsSetTo, KeepsPromise, node_of}
 use Rattle.mar_node.specs.Requests.{own_asks, raise_asks}
@@ -113,8 +113,8 @@ module _ {P E : Type 0} (epochs : Epochs) (inner : List ℕ → List ℕ) (parti
           (ap (λ k. k.held.blocks) synced ∙ ap (λ k. k.held.blocks) raised.same) (ap (λ k. k.held.certs) synced ∙ ap (λ k. k.held.certs) raised.same) pairs_are
           (event.of_cert epochs inner partition a buffer f b found config chain asked set step) lost (may config chain asked set step) usual
 
-      due_same : is_due s.held b ≡ is_due a.held b
-      due_same = ap (λ k. is_due k.held b) synced ∙ ap (λ k. is_due k.held b) raised.same
+      due_same : lacks_finalization s.held b ≡ lacks_finalization a.held b
+      due_same = ap (λ k. lacks_finalization k.held b) synced ∙ ap (λ k. lacks_finalization k.held b) raised.same
 
       tip_same : s.life.tip ≡ a.life.tip
       tip_same = ap (λ k. k.life.tip) synced ∙ ap (λ k. k.life.tip) raised.same
@@ -125,15 +125,15 @@ module _ {P E : Type 0} (epochs : Epochs) (inner : List ℕ → List ℕ) (parti
       certs_same : s.held.certs ≡ a.held.certs
       certs_same = ap (λ k. k.held.certs) synced ∙ ap (λ k. k.held.certs) raised.same
 
-      pub promise-late : (told told' : Option (List Report)) (heard heard' : Option (List Call)) (m : Seen P E) → IsNested a.held.blocks → IsNested a.held.certs → StoresLate inner s f b m → Grew s.held [] (at_height b.height f ∷ []) m.held → Hears told (late_tips (is_due s.held b) s.life.tip f b) told' → Hears heard (raise_asks a.held.cutoff (at_round f.round ∷ [])) heard' → KeepsPromise epochs inner a (message_told None (report_finalization f)) buffer told told' heard heard' (Ok m)
+      pub promise-late : (told told' : Option (List Report)) (heard heard' : Option (List Call)) (m : Seen P E) → IsNested a.held.blocks → IsNested a.held.certs → StoresLate inner s f b m → Grew s.held [] (at_height b.height f ∷ []) m.held → Hears told (late_tips (lacks_finalization s.held b) s.life.tip f b) told' → Hears heard (raise_asks a.held.cutoff (at_round f.round ∷ [])) heard' → KeepsPromise epochs inner a (message_told None (report_finalization f)) buffer told told' heard heard' (Ok m)
       promise-late told told' heard heard' m nested certs_nested stores grew tips asks config chain asked set step =
-          undispatched config chain a m (message_told None (report_finalization f)) buffer asked (late_tips (is_due a.held b) a.life.tip f b) (set.window ∙ sym sizes) step (λ fault. refl)
+          undispatched config chain a m (message_told None (report_finalization f)) buffer asked (late_tips (lacks_finalization a.held b) a.life.tip f b) (set.window ∙ sym sizes) step (λ fault. refl)
           (final.Reaches-late config chain a f buffer asked step.lawful step.one step.good step.reported (event.partition_of epochs inner partition a buffer config set.epochs_are) b w s m certs_nested (hand config chain asked set step) low raised synced (subst (λ i. StoresLate i s f b m) (sym set.inner_is) stores))
           (subst (λ k. KeepsValues k.sure k.held) (sym blocks) nested.sure_held)
           (subst (λ k. KeepsValues a.held.blocks.sure k.sure) (sym blocks) (λ h v at. at))
           (subst (λ k. KeepsValues k.sure m.held.certs.sure) certs_same grew.certs_grew.sure)
           told told' heard heard'
-          (subst (λ t. Hears told (late_tips (is_due a.held b) t f b) told') tip_same (subst (λ d. Hears told (late_tips d s.life.tip f b) told') due_same tips))
+          (subst (λ t. Hears told (late_tips (lacks_finalization a.held b) t f b) told') tip_same (subst (λ d. Hears told (late_tips d s.life.tip f b) told') due_same tips))
           (subst (λ cs. Hears heard cs heard') (final.asks-late config chain a f buffer asked step.lawful step.one step.good step.reported b (hand config chain asked set step) low) asks)
           (Rest-same config.window a m buffer asked out processed blocks step.rests)
         where
@@ -150,7 +150,7 @@ module _ {P E : Type 0} (epochs : Epochs) (inner : List ℕ → List ℕ) (parti
           processed = ap (λ k. k.held.processed) stores.same ∙ (ap (λ k. k.held.processed) synced ∙ ap (λ k. k.held.processed) raised.same)
 
       -- however the late put ends
-      pub promise-noted : (told told' : Option (List Report)) (heard heard' : Option (List Call)) (result : Result (Seen P E) Ending) → IsNested a.held.blocks → IsNested a.held.certs → OnOk result (Hears told (late_tips (is_due s.held b) s.life.tip f b) told') → OnErr result (Hears told [] told') → IfOk result (λ m. StoresLate inner s f b m) → GoesOn (λ m. m.held) s.held [] (at_height b.height f ∷ []) result → IfErr result (λ x. IsUsual x.fault) → Hears heard (raise_asks a.held.cutoff (at_round f.round ∷ [])) heard' → KeepsPromise epochs inner a (message_told None (report_finalization f)) buffer told told' heard heard' result
+      pub promise-noted : (told told' : Option (List Report)) (heard heard' : Option (List Call)) (result : Result (Seen P E) Ending) → IsNested a.held.blocks → IsNested a.held.certs → OnOk result (Hears told (late_tips (lacks_finalization s.held b) s.life.tip f b) told') → OnErr result (Hears told [] told') → IfOk result (λ m. StoresLate inner s f b m) → GoesOn (λ m. m.held) s.held [] (at_height b.height f ∷ []) result → IfErr result (λ x. IsUsual x.fault) → Hears heard (raise_asks a.held.cutoff (at_round f.round ∷ [])) heard' → KeepsPromise epochs inner a (message_told None (report_finalization f)) buffer told told' heard heard' result
       promise-noted told told' heard heard' (Ok m) nested certs_nested tips silent stores goes usual asks = promise-late told told' heard heard' m nested certs_nested stores (goes s.held [] (at_height b.height f ∷ []) (Grew-refl s.held [] (at_height b.height f ∷ [])) (λ y has. has) (λ y has. has)) tips asks
       promise-noted told told' heard heard' (Err x) nested certs_nested tips silent stores goes usual asks = promise-unstored_late told told' heard heard' x silent (goes s.held [] (at_height b.height f ∷ []) (Grew-refl s.held [] (at_height b.height f ∷ [])) (λ y has. has) (λ y has. has)) usual
 

@@ -166,7 +166,7 @@ abbrev pub tip_after : ℕ → Block → ℕ
 tip_after tip b = risen_to tip b.height
 
 -- A finalized block is stored above the processed height, with its finalization.
-pub record Stores {P E : Type 0} (inner : List ℕ → List ℕ) (old : Seen P E) (f : Finalization) (b : Block) (new : Seen P E) : Type 0 where
+pub record StoresAbove {P E : Type 0} (inner : List ℕ → List ℕ) (old : Seen P E) (f : Finalization) (b : Block) (new : Seen P E) : Type 0 where
   pub blocks : StoresValue (is_held old.held.blocks.held b) old.held.blocks (at_own_height b) new.held.blocks
   pub certs : StoresValue (is_certified inner old.held.certs.held b.height (inner f.payload)) old.held.certs (at_height b.height f) new.held.certs
   pub same : new ≡ record old {
@@ -180,8 +180,8 @@ StoresWhere true ignored old x new = StoresValue ignored old x new
 StoresWhere false ignored old x new = new ≡ old
 
 -- a block is held, and no certificate at its height
-abbrev pub is_due : Held → Block → Bool
-is_due held b = has_height held.blocks.held b.height && not (has_height held.certs.held b.height)
+abbrev pub lacks_finalization : Held → Block → Bool
+lacks_finalization held b = has_height held.blocks.held b.height && not (has_height held.certs.held b.height)
 
 abbrev pub late_tips : Bool → ℕ → Finalization → Block → List Report
 late_tips true tip f b = tip_reports tip f b
@@ -193,10 +193,10 @@ late_tip false tip b = tip
 
 -- The finalization of a held block is stored where it is due, and reported where that block is the newest.
 pub record StoresLate {P E : Type 0} (inner : List ℕ → List ℕ) (old : Seen P E) (f : Finalization) (b : Block) (new : Seen P E) : Type 0 where
-  pub certs : StoresWhere (is_due old.held b) (is_certified inner old.held.certs.held b.height (inner f.payload)) old.held.certs (at_height b.height f) new.held.certs
+  pub certs : StoresWhere (lacks_finalization old.held b) (is_certified inner old.held.certs.held b.height (inner f.payload)) old.held.certs (at_height b.height f) new.held.certs
   pub same : new ≡ record old {
     held = record old.held { certs = new.held.certs; counts = new.held.counts };
-    life = record old.life { tip = late_tip (is_due old.held b) old.life.tip b };
+    life = record old.life { tip = late_tip (lacks_finalization old.held b) old.life.tip b };
   }
 
 -- PROGRESS

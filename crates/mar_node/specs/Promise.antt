@@ -97,7 +97,7 @@ abbrev pub made_of : List Report → List Call → Made
 made_of reports asks = record { reports = reports; asks = asks; sends = []; answers = [] }
 
 -- A step that finished: what the resolver heard is what was asked, and what is open with it follows from that.
-pub record Finishes {P E : Type 0} (config : Config) (chain : Chain) (old : Seen P E) (e : Event) (buffer : List Block) (asked : List Asked) (reports : List Report) (told told' : Option (List Call)) (new : Seen P E) : Type 0 where
+pub record FinishesStep {P E : Type 0} (config : Config) (chain : Chain) (old : Seen P E) (e : Event) (buffer : List Block) (asked : List Asked) (reports : List Report) (told told' : Option (List Call)) (new : Seen P E) : Type 0 where
   pub asks : List Call
   pub heard : Hears told asks told'
   pub steps : Steps config chain (node_of old buffer asked) (e ∷ []) (made_of reports asks) (node_of new buffer (asked_after asked [] asks))
@@ -105,7 +105,7 @@ pub record Finishes {P E : Type 0} (config : Config) (chain : Chain) (old : Seen
 -- Each step is a step of the node, or a cut.
 abbrev pub StepsOrCuts : {P E : Type 0} → Config → Chain → Seen P E → Event → List Block → List Asked → List Report → Option (List Call) → Option (List Call) → Result (Seen P E) Ending → Type 0
 StepsOrCuts config chain old e buffer asked reports told told' result = MatchResult result
-    (Finishes config chain old e buffer asked reports told told')
+    (FinishesStep config chain old e buffer asked reports told told')
     (λ left. Cuts config chain (node_of old buffer asked) (e ∷ []) reports left.fault left.remains.ended)
 
 -- What a step promises of every chain for which it is lawful: what the application was told and the resolver asked are

@@ -1,13 +1,14 @@
 //! The floors of a node: what is processed, and a floor whose block is awaited.
-ghost use Rattle.std.specs.Prelude.{◌≡◌, ◌∷◌, [], IfOk, None, OnErr, OnOk, Some, if◌then◌else◌, is_some, map, option_map};
+ghost use Rattle.std.specs.Prelude.{◌≡◌, ◌^◌, ◌<◌, ◌≤◌, ◌∷◌, [], IfNone, IfOk, IfSome, None, OnErr, OnOk, Some, false, if◌then◌else◌, is_some, map, nat_lt, option_map};
 ghost use Rattle.std.specs.List.{list_any};
 ghost use Rattle.mar_key.specs.Hears.{Hears};
-ghost use Rattle.mar_key.specs.Processed.{height_of};
+ghost use Rattle.mar_key.specs.Processed.{first_unprocessed, height_in, height_of};
 ghost use Rattle.mar_key.specs.Views.{call_of, cutoff_of, processed_of, targeted_of};
+ghost use Rattle.mar_node.specs.Faults.{is_at_limit};
 ghost use Rattle.mar_node.specs.Floors.{admission, awaits, floor_of, pending_finalization, permits, permitted, round_before, with_witness, without_floor};
 
 use mar_cert::CommitsTo;
-use mar_codec::Digest;
+use mar_codec::Named;
 use mar_key::{Cutoff, Fetch, Floor, Processed, Request, Resolver, Subscription, TargetedResolver};
 use mar_types::{Height, Round};
 use std::alloc::{AllocError, Global};
@@ -34,7 +35,7 @@ struct Pending<C, F> {
 /// is taken, and a floor whose block is awaited. Finalizations are of the kind `F` over commitments `C`. A contract
 /// sees a record of these as plain data.
 #[derive(Drop)]
-pub struct State<C: Digest, F: CommitsTo<C>> {
+pub struct State<C: Named, F: CommitsTo<C>> {
     processed: Option<Processed>,
     cutoff: Cutoff,
     witnessed: Round,
@@ -42,7 +43,7 @@ pub struct State<C: Digest, F: CommitsTo<C>> {
     pending: Option<Pending<C, F>>,
 }
 
-impl<C: Digest, F: CommitsTo<C>> Model for State<C, F> {
+impl<C: Named, F: CommitsTo<C>> Model for State<C, F> {
     ghost use Rattle.std.specs.Prelude.{option_map};
     ghost use Rattle.mar_key.specs.Views.{cutoff_of, processed_of};
     ghost use Rattle.mar_node.specs.Floors.{Floors};
@@ -58,11 +59,17 @@ impl<C: Digest, F: CommitsTo<C>> Model for State<C, F> {
     } };
 }
 
-impl<C: Digest, F: CommitsTo<C>> State<C, F> {
+impl<C: Named, F: CommitsTo<C>> State<C, F> {
     /// The state at an opening: the floor that is set, if any, the restored heights and cutoff, and the newest round of
     /// a finalization that is stored for a processed block or the one after it.
     pub fn new(configured: Option<F>, floor: Floor, witnessed: Round) -> Self
-        ensures { result ≡ record { processed = floor.processed; cutoff = floor.cutoff; witnessed = witnessed; configured = option_map F.plain configured; pending = None } }
+        ensures { result ≡ record {
+          processed = floor.processed;
+          cutoff = floor.cutoff;
+          witnessed = witnessed;
+          configured = option_map F.plain configured;
+          pending = None;
+        } }
     {
         State {
             processed: floor.processed(),
@@ -102,6 +109,47 @@ impl<C: Digest, F: CommitsTo<C>> State<C, F> {
         match self.processed {
             Some(processed) => processed.height(),
             None => Height::zero(),
+        }
+    }
+
+    /// Whether the height is above the processed one, which is zero where nothing is processed.
+    pub fn is_above(&self, height: Height) -> bool
+        ensures { result ≡ nat_lt (height_of self.now.processed) height }
+    {
+        self.processed_height() < height
+    }
+
+    /// Whether the processed height is the last one.
+    pub fn is_at_limit(&self) -> bool
+        ensures value { result ≡ is_at_limit (option_map height_in self.now.processed) }
+        ensures below { result ≡ false → first_unprocessed self.now.processed < 2 ^ 64 }
+    {
+        match self.processed {
+            None => false,
+            Some(processed) => processed.height().get() == u64::MAX,
+        }
+    }
+
+    /// The first height that isn't processed, which has to fit 64 bits.
+    pub fn next_height(&self) -> Height
+        requires { first_unprocessed self.now.processed < 2 ^ 64 }
+        ensures { result ≡ first_unprocessed self.now.processed }
+    {
+        match self.processed {
+            None => Height::zero(),
+            Some(processed) => processed.height().next(),
+        }
+    }
+
+    /// The first height that isn't processed, where there is one.
+    pub fn first_unprocessed(&self) -> Option<Height>
+        ensures found { IfSome result (λ h. h ≡ first_unprocessed self.now.processed) }
+        ensures none { IfNone result (2 ^ 64 ≤ first_unprocessed self.now.processed) }
+    {
+        match self.processed {
+            None => Some(Height::zero()),
+            Some(processed) if processed.height().get() == u64::MAX => None,
+            Some(processed) => Some(processed.height().next()),
         }
     }
 
@@ -174,7 +222,13 @@ impl<C: Digest, F: CommitsTo<C>> State<C, F> {
     /// Awaits the block of a verified floor, of which the buffer tells where it gave its promise. One that was awaited
     /// before is given up.
     pub fn set_pending(&mut self, finalization: F, subscription: Option<Subscription<C>>)
-        ensures { self.new ≡ record self.old { pending = Some (record { finalization = F.plain finalization; told = option_map (λ s. C.bytes s.name) subscription }) } }
+        ensures { self.new ≡ record self.old {
+          pending = Some (record {
+            finalization = F.plain finalization;
+            told = option_map (λ s. C.bytes s.name)
+                subscription;
+          });
+        } }
     {
         self.pending = Some(Pending {
             finalization,
@@ -241,7 +295,8 @@ impl<C: Digest, F: CommitsTo<C>> State<C, F> {
         targets: &[u32],
     ) -> Result<FetchAdmission, AllocError>
         ensures answer { IfOk result (λ a. a ≡ admission (permits self.now request)) }
-        ensures ok { OnOk result (Hears (R.told resolver.old) (if permits self.now request then targeted_of C.bytes request targets.now ∷ [] else []) (R.told resolver.new)) }
+        ensures ok { OnOk result (Hears (R.told resolver.old) (if permits self.now request then targeted_of C.bytes request targets.now ∷ [] else [])
+            (R.told resolver.new)) }
         ensures err { OnErr result (Hears (R.told resolver.old) [] (R.told resolver.new)) }
     {
         if !self.permits(&request) {

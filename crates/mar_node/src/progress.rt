@@ -1,17 +1,16 @@
 //! How far delivery has come.
-ghost use Rattle.std.specs.Prelude.{◌≡◌, ◌^◌, ◌<◌, ◌≤◌, ◌∷◌, [], IfNone, IfSome, MatchResult, Some, false, map, nat_lt, option_map};
+ghost use Rattle.std.specs.Prelude.{◌≡◌, ◌∷◌, [], MatchResult, Some, map};
 ghost use Rattle.mar_node.specs.Lives.{later_round};
-ghost use Rattle.mar_key.specs.Processed.{at_absent, at_block, first_unprocessed, height_in, height_of};
-ghost use Rattle.mar_key.specs.Views.{cutoff_of, processed_of};
+ghost use Rattle.mar_key.specs.Processed.{at_absent, at_block};
+ghost use Rattle.mar_key.specs.Views.{cutoff_of};
 ghost use Rattle.mar_store.specs.Lost.{IsCausedBy, wreck_of};
 ghost use Rattle.mar_node.specs.Metadata.{LeavesPairs, pair_at, pair_of};
 ghost use Rattle.mar_node.specs.Held.{progress_of};
-ghost use Rattle.mar_node.specs.Faults.{is_at_limit};
 
 use crate::floor::State;
 use crate::stream::Stream;
 use mar_cert::CommitsTo;
-use mar_codec::Digest;
+use mar_codec::Named;
 use mar_key::{Cutoff, Floor, Processed};
 use mar_store::{Lost, Meta};
 use mar_types::{Height, Round};
@@ -21,24 +20,31 @@ use std::marker::Model;
 /// The floors of a node, with the stream that keeps the processed height and the round cutoff. Changes are seen at once;
 /// those of the two become durable together with the next sync.
 #[derive(Drop)]
-pub struct Progress<M: Meta, C: Digest, F: CommitsTo<C>> {
+pub struct Progress<M: Meta, C: Named, F: CommitsTo<C>> {
     stream: Stream<M>,
     floor: State<C, F>,
 }
 
-impl<M: Meta, C: Digest, F: CommitsTo<C>> Model for Progress<M, C, F> {
+impl<M: Meta, C: Named, F: CommitsTo<C>> Model for Progress<M, C, F> {
     ghost use Rattle.std.specs.Prelude.{◌≡◌};
     ghost use Rattle.mar_node.specs.Metadata.{pair_of};
     ghost use Rattle.mar_node.specs.Held.{Progress};
 
     ghost Value = { Progress };
 
-    ghost view = { λ p. record { processed = p.floor.processed; cutoff = p.floor.cutoff; witnessed = p.floor.witnessed; pairs = p.stream.left; faults = p.stream.faults } };
+    ghost view = { λ p. record {
+      processed = p.floor.processed;
+      cutoff = p.floor.cutoff;
+      witnessed = p.floor.witnessed;
+      pairs = p.stream.left;
+      faults
+          = p.stream.faults;
+    } };
 
     ghost invariant = { λ p. p.stream.pair ≡ pair_of p.floor.processed p.floor.cutoff };
 }
 
-impl<M: Meta, C: Digest, F: CommitsTo<C>> Progress<M, C, F> {
+impl<M: Meta, C: Named, F: CommitsTo<C>> Progress<M, C, F> {
     /// What a reopened store says.
     pub fn new(meta: M) -> Self
         requires { M.left meta ≡ M.current meta ∷ [] }
@@ -60,59 +66,6 @@ impl<M: Meta, C: Digest, F: CommitsTo<C>> Progress<M, C, F> {
         ensures witnessed { result.now.witnessed ≡ self.now.witnessed }
     {
         &self.floor
-    }
-
-    pub fn processed(&self) -> Option<Processed>
-        ensures { option_map processed_of result ≡ self.now.processed }
-    {
-        self.floor.processed()
-    }
-
-    pub fn cutoff(&self) -> Cutoff
-        ensures { cutoff_of result ≡ self.now.cutoff }
-    {
-        self.floor.cutoff()
-    }
-
-    /// Whether the height is above the processed one, which is zero where nothing is processed.
-    pub fn is_above(&self, height: Height) -> bool
-        ensures { result ≡ nat_lt (height_of self.now.processed) height }
-    {
-        self.floor.processed_height() < height
-    }
-
-    /// Whether the processed height is the last one.
-    pub fn is_at_limit(&self) -> bool
-        ensures value { result ≡ is_at_limit (option_map height_in self.now.processed) }
-        ensures below { result ≡ false → first_unprocessed self.now.processed < 2 ^ 64 }
-    {
-        match self.floor.processed() {
-            None => false,
-            Some(processed) => processed.height().get() == u64::MAX,
-        }
-    }
-
-    /// The first height that isn't processed, which has to fit 64 bits.
-    pub fn next_height(&self) -> Height
-        requires { first_unprocessed self.now.processed < 2 ^ 64 }
-        ensures { result ≡ first_unprocessed self.now.processed }
-    {
-        match self.floor.processed() {
-            None => Height::zero(),
-            Some(processed) => processed.height().next(),
-        }
-    }
-
-    /// The first height that isn't processed, where there is one.
-    pub fn first_unprocessed(&self) -> Option<Height>
-        ensures found { IfSome result (λ h. h ≡ first_unprocessed self.now.processed) }
-        ensures none { IfNone result (2 ^ 64 ≤ first_unprocessed self.now.processed) }
-    {
-        match self.floor.processed() {
-            None => Some(Height::zero()),
-            Some(processed) if processed.height().get() == u64::MAX => None,
-            Some(processed) => Some(processed.height().next()),
-        }
     }
 
     /// The processed height, whose block isn't there.
@@ -174,7 +127,8 @@ impl<M: Meta, C: Digest, F: CommitsTo<C>> Progress<M, C, F> {
     /// Makes both durable together.
     pub fn sync(self) -> Result<Self, Lost<M::Wreck>>
         ensures done { MatchResult result
-            (λ p. (p.processed ≡ self.processed) × (p.cutoff ≡ self.cutoff) × (p.witnessed ≡ self.witnessed) × (p.pairs ≡ pair_of self.processed self.cutoff ∷ []))
+            (λ p. (p.processed ≡ self.processed) × (p.cutoff ≡ self.cutoff) × (p.witnessed ≡ self.witnessed)
+            × (p.pairs ≡ pair_of self.processed self.cutoff ∷ []))
             (λ l. LeavesPairs self.pairs (pair_of self.processed self.cutoff ∷ []) (map pair_at (M.Wreck.left (wreck_of l)))) }
         ensures cause { IsCausedBy (λ p. p.faults) M.Wreck.faults self.faults result }
     {

@@ -37,7 +37,14 @@ impl<M: Meta> Model for Stream<M> {
 
     ghost Value = { Streamed };
 
-    ghost view = { λ s. record { pair = pair_at (M.current s.meta); left = map pair_at (M.left s.meta); synced = s.synced; faults = M.faults s.meta; due = M.due s.meta } };
+    ghost view = { λ s. record {
+      pair = pair_at (M.current s.meta);
+      left = map pair_at (M.left s.meta);
+      synced = s.synced;
+      faults = M.faults s.meta;
+      due
+          = M.due s.meta;
+    } };
 
     ghost invariant = { λ s. IsTrue s.synced → M.left s.meta ≡ M.current s.meta ∷ [] };
 }
@@ -46,7 +53,14 @@ impl<M: Meta> Stream<M> {
     /// The stream over a store in which all is durable, as a reopening leaves it.
     pub fn new(meta: M) -> Self
         requires { M.left meta ≡ M.current meta ∷ [] }
-        ensures { result ≡ record { pair = pair_at (M.current meta); left = map pair_at (M.left meta); synced = true; faults = M.faults meta; due = M.due meta } }
+        ensures { result ≡ record {
+          pair = pair_at (M.current meta);
+          left = map pair_at (M.left meta);
+          synced = true;
+          faults = M.faults meta;
+          due = M.due
+              meta;
+        } }
     {
         Stream { meta, synced: true }
     }

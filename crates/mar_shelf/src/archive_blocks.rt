@@ -7,11 +7,15 @@ use crate::archive::{Archived, Pruning, Wreck, wrapped, wrapped_with_ticket};
 use crate::item::{ArchivedBlocks, BlockItem};
 use crate::{Blocks, BlocksRuin};
 use mar_block::Variant;
+use mar_codec::Digest;
 use mar_store::{Archive, ArchiveRuin, Identifier, Lost, Miss, RangeSet, SyncTicket};
 use mar_types::Height;
 use std::alloc::AllocError;
 
-impl<V: Variant, W: ArchiveRuin<BlockItem<V>>> BlocksRuin for Wreck<BlockItem<V>, W> {
+impl<V: Variant, W: ArchiveRuin<BlockItem<V>>> BlocksRuin for Wreck<BlockItem<V>, W>
+where
+    V::Digest: Digest,
+{
     ghost left = { λ w. W.left w };
 
     ghost faults = { λ w. W.faults w };
@@ -35,7 +39,10 @@ impl<V: Variant, W: ArchiveRuin<BlockItem<V>>> BlocksRuin for Wreck<BlockItem<V>
     }
 }
 
-impl<V: ArchivedBlocks, A: Archive<BlockItem<V>>, P: Pruning> Blocks<V> for Archived<A, P> {
+impl<V: ArchivedBlocks, A: Archive<BlockItem<V>>, P: Pruning> Blocks<V> for Archived<A, P>
+where
+    V::Digest: Digest,
+{
     type Wreck = Wreck<BlockItem<V>, A::Wreck>;
 
     ghost stored = { λ s. A.stored s };

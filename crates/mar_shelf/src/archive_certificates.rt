@@ -7,6 +7,7 @@ use crate::item::{ArchivedFinalization, CertificateItem};
 use crate::{Certificates, CertificatesRuin};
 use mar_block::Variant;
 use mar_cert::CommitsTo;
+use mar_codec::Digest;
 use mar_store::{Archive, ArchiveRuin, Identifier, Lost, Miss, RangeSet, SyncTicket};
 use mar_types::Height;
 use std::alloc::AllocError;
@@ -15,7 +16,10 @@ impl<
     V: Variant,
     F: CommitsTo<V::Commitment>,
     W: ArchiveRuin<CertificateItem<V, F>>,
-> CertificatesRuin for Wreck<CertificateItem<V, F>, W> {
+> CertificatesRuin for Wreck<CertificateItem<V, F>, W>
+where
+    V::Digest: Digest,
+{
     ghost left = { λ w. W.left w };
 
     ghost faults = { λ w. W.faults w };
@@ -44,7 +48,10 @@ impl<
     F: ArchivedFinalization<V::Commitment>,
     A: Archive<CertificateItem<V, F>>,
     P: Pruning,
-> Certificates<V, F> for Archived<A, P> {
+> Certificates<V, F> for Archived<A, P>
+where
+    V::Digest: Digest,
+{
     type Wreck = Wreck<CertificateItem<V, F>, A::Wreck>;
 
     ghost stored = { λ s. A.stored s };

@@ -109,7 +109,8 @@ pub trait Certificates<V: Variant, F: AsFinalization>: Drop {
         Self: Sized,
         requires { V.Digest.bytes digest.now ≡ V.inner (F.plain finalization.now).payload }
         ensures done { MatchResult result
-            (λ s. Puts (is_certified V.inner (stored self).held height (V.Digest.bytes digest.now)) (stored self) (record { height = height; value = F.plain finalization.now }) (stored s))
+            (λ s. Puts (is_certified V.inner (stored self).held height (V.Digest.bytes digest.now)) (stored self)
+            (record { height = height; value = F.plain finalization.now }) (stored s))
             (λ l. Fails (left_of (stored self)) (record { height = height; value = F.plain finalization.now } ∷ []) (Self.Wreck.left (wreck_of l))) }
         ensures tickets { IfOk result (λ s. number self ≤ number s) }
         ensures covers { IfOk result (λ s. KeepsCovers (number self) (covers self) (covers s)) }

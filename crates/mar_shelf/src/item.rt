@@ -5,7 +5,7 @@ ghost use Rattle.mar_shelf.specs.Fitting.{fits_at};
 
 use mar_block::{EmptyBlock, Standard, Variant};
 use mar_cert::{CommitsTo, MockFinalization};
-use mar_codec::{Digest, EncodeSize, Sha256, Sha256Digest};
+use mar_codec::{Digest, EncodeSize, Named, Sha256, Sha256Digest};
 use mar_store::Item;
 use std::alloc::AllocError;
 use std::marker::{Model, PhantomData};
@@ -18,7 +18,7 @@ pub trait ArchivedBlocks: Variant {
 }
 
 /// A finalization that tells whether it fits an archive. Its payload is a commitment of the kind `C`.
-pub trait ArchivedFinalization<C: Digest>: CommitsTo<C> {
+pub trait ArchivedFinalization<C: Named>: CommitsTo<C> {
     /// Whether it takes at most 1,048,576 bytes, the most of an archived value.
     fn fits(&self) -> bool
         ensures { IsTrue result ↔ (length (finalization_bytes (Self.plain self.now)) ≤ 1048576) };
@@ -55,7 +55,10 @@ impl<V: Variant> BlockItem<V> {
     }
 }
 
-impl<V: Variant> Item for BlockItem<V> {
+impl<V: Variant> Item for BlockItem<V>
+where
+    V::Digest: Digest,
+{
     type Key = V::Digest;
 
     ghost name = { λ b. b.digest };
@@ -108,7 +111,10 @@ impl<V: Variant, F: CommitsTo<V::Commitment>> CertificateItem<V, F> {
     }
 }
 
-impl<V: Variant, F: CommitsTo<V::Commitment>> Item for CertificateItem<V, F> {
+impl<V: Variant, F: CommitsTo<V::Commitment>> Item for CertificateItem<V, F>
+where
+    V::Digest: Digest,
+{
     type Key = V::Digest;
 
     ghost name = { λ f. V.inner f.payload };

@@ -1,11 +1,11 @@
 //! What is left where no life runs.
-ghost use Rattle.std.specs.Prelude.{◌≡◌, []};
-ghost use Rattle.mar_node.specs.Held.{IsUsual, LosesOpening};
-
-use crate::fault::{Fault, StoreName};
+use crate::fault::StoreName;
+use crate::holds::StoresRuin;
+use crate::shown::ShownRuins;
 use crate::{Blocks, BlocksRuin, Certificates, CertificatesRuin, Shelf};
 use mar_block::Variant;
 use mar_cert::CommitsTo;
+use mar_node::{synced_cutoff, synced_height};
 use mar_store::{Meta, MetaRuin};
 use std::alloc::AllocError;
 use std::marker::Model;
@@ -57,11 +57,14 @@ impl<
     FC: Certificates<V, F>,
     M: Meta,
     H: Shelf,
-> Ruins<V, F, FB, FC, M, H> {
-    /// Makes the counted call of a store fail that is so many calls away, 1 being the next. The cache counts none yet.
-    pub fn arm(&mut self, store: StoreName, calls: u64) -> Result<(), AllocError>
-        ensures { self.new ≡ self.old }
-    {
+> StoresRuin for Ruins<V, F, FB, FC, M, H> {
+    ghost left = { λ r. r };
+
+    fn law(&self) {
+        let _blocks = &self.blocks;
+    }
+
+    fn arm(&mut self, store: StoreName, calls: u64) -> Result<(), AllocError> {
         match store {
             StoreName::Blocks => self.blocks.arm(calls),
             StoreName::Certs => self.certs.arm(calls),
@@ -69,67 +72,15 @@ impl<
             StoreName::Cache => Ok(()),
         }
     }
-}
 
-/// How a life ended, and what is left.
-#[derive(Drop)]
-pub struct Ended<
-    V: Variant,
-    F: CommitsTo<V::Commitment>,
-    FB: Blocks<V>,
-    FC: Certificates<V, F>,
-    M: Meta,
-    H: Shelf,
-> {
-    /// Why it ended.
-    pub fault: Fault<V::Commitment>,
-    /// What the next opening is given.
-    pub ruins: Ruins<V, F, FB, FC, M, H>,
-}
-
-impl<
-    V: Variant,
-    F: CommitsTo<V::Commitment>,
-    FB: Blocks<V>,
-    FC: Certificates<V, F>,
-    M: Meta,
-    H: Shelf,
-> Model for Ended<V, F, FB, FC, M, H> {
-    ghost use Rattle.mar_node.specs.Held.{Ending};
-    ghost use Rattle.mar_shelf.specs.Views.{fault_of};
-
-    ghost Value = { Ending };
-
-    ghost view = { λ e. record { fault = fault_of V.Commitment.bytes e.fault; remains = e.ruins } };
-}
-
-impl<
-    V: Variant,
-    F: CommitsTo<V::Commitment>,
-    FB: Blocks<V>,
-    FC: Certificates<V, F>,
-    M: Meta,
-    H: Shelf,
-> Ended<V, F, FB, FC, M, H> {
-    /// The end of an opening that wants for memory before it opens the stores.
-    pub fn unopened(ruins: Ruins<V, F, FB, FC, M, H>) -> Self
-        ensures lost { LosesOpening ruins [] [] result }
-        ensures usual { IsUsual result.fault }
-    {
-        let Ruins {
-            blocks,
-            certs,
-            meta,
-            shelf,
-        } = ruins;
-        Ended {
-            fault: Fault::Memory,
-            ruins: Ruins {
-                blocks,
-                certs,
-                meta,
-                shelf,
-            },
+    fn shown(&self) -> ShownRuins<'_> {
+        ShownRuins {
+            processed: synced_height(&self.meta),
+            cutoff: synced_cutoff(&self.meta),
+            blocks_sure: self.blocks.sure_ranges(),
+            blocks_may: self.blocks.may_ranges(),
+            certs_sure: self.certs.sure_ranges(),
+            certs_may: self.certs.may_ranges(),
         }
     }
 }

@@ -1,4 +1,0 @@
-use Rattle.mar_actor.proofs.actor.Actor.drain_next.Goals as goal
-
-pub returns-in_ok-process-in-Given-clause-goes_on : goal.returns-in_ok-process-in-Given-clause-goes_on
-returns-in_ok-process-in-Given-clause-goes_on g c = rw (← c.actor.view_is, ← c.actor-inside.view_is) c.in_ok-process-in-Given.ensures.goes_on

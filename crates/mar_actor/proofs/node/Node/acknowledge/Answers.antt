@@ -1,0 +1,49 @@
+use Rattle.std.proofs.Common.{[], None, inl}
+use Rattle.std.proofs.lemmas.Result.{err_from_is_err_and}
+use Rattle.mar_node.proofs.Growing.{Grew-refl}
+use Rattle.mar_node.proofs.Handing.{Hears-nothing}
+use Rattle.mar_node.proofs.Lasting.{EndsLife-drained, EndsLife-then, EndsLife-usual, IsPart-drained, IsPart-synced, IsPart-then, LivesOn-ran, LivesOn-then}
+use Rattle.mar_node.proofs.ProgressPromises.{promise-ack_unsynced, promise-acked, promise-not_drained, promise-undrained}
+use Rattle.mar_actor.proofs.Due.{EndsWhereDue-ran, dropped-due, dropped_first-none, usual-due}
+use Rattle.mar_actor.proofs.Told.{TellsInOrder-ran}
+use Rattle.mar_actor.proofs.node.Node.acknowledge.Goals as goal
+
+pub returns-in_err-node : goal.returns-in_err-node
+returns-in_err-node g c =
+    let p = err_from_is_err_and c.from_residual.result c.from_residual.ensures.1 in
+    let kind = rw c.give.ensures at c.in_err-node.ensures.kind in
+    let goes = rw c.give.ensures at c.in_err-node.ensures.goes_on in
+    rw (p.1, p.2) (record {
+      promise = λ nested buffer.
+          promise-undrained (g.E.Epocher.epochs c.args.self.life.epocher) g.V.Variant.inner (g.met.E.Epocher.partition c.args.self.life.epocher) c.args.self buffer _ _ None None _ (goes _ [] [] (Grew-refl _ [] []) (λ x has. has) (λ x has. has)) kind;
+      lives = EndsLife-drained c.args.self _ _ (goes _ [] [] (Grew-refl _ [] []) (λ x has. has) (λ x has. has)) kind;
+      by_value = dropped-due _ _ kind;
+      tells = ([], inl (Hears-nothing _));
+    })
+
+pub returns-then-not-is_drained : goal.returns-then-not-is_drained
+returns-then-not-is_drained g c =
+    let drains = rw c.give.ensures at c.in_ok-node.ensures.ok in
+    let asks = rw c.give.ensures at c.in_ok-node.ensures.asks in
+    let goes = rw c.give.ensures at c.in_ok-node.ensures.goes_on in
+    record { promise = λ nested buffer. promise-not_drained (g.E.Epocher.epochs c.args.self.life.epocher) g.V.Variant.inner (g.met.E.Epocher.partition c.args.self.life.epocher) c.args.self buffer _ _ _ _ _ _ c.if-not-is_drained.true drains nested asks; lives = (IsPart-drained (g.E.Epocher.epochs c.args.self.life.epocher) c.args.self c.args.ticket _ _ [] [] drains (goes _ [] [] (Grew-refl _ [] []) (λ x has. has) (λ x has. has))).same; by_value = dropped_first-none _ drains.not_dropped; tells = ([], Hears-nothing _) }
+
+pub returns-in_err-node-2 : goal.returns-in_err-node-2
+returns-in_err-node-2 g c =
+    let p = err_from_is_err_and c.from_residual-in_err-node-2.result c.from_residual-in_err-node-2.ensures.1 in
+    let drains = rw c.give.ensures at c.in_ok-node.ensures.ok in
+    let goes = rw c.give.ensures at c.in_ok-node.ensures.goes_on in
+    rw (p.1, p.2) (record {
+      promise = λ nested buffer.
+          promise-ack_unsynced (g.E.Epocher.epochs c.args.self.life.epocher) g.V.Variant.inner (g.met.E.Epocher.partition c.args.self.life.epocher) c.args.self buffer _ _ _ drains _ None None _ (goes _ [] [] (Grew-refl _ [] []) (λ x has. has) (λ x has. has)) c.in_err-node-2.ensures.lost c.in_err-node-2.ensures.usual;
+      lives = EndsLife-then c.args.self _ _ (IsPart-drained (g.E.Epocher.epochs c.args.self.life.epocher) c.args.self c.args.ticket _ _ [] [] drains (goes _ [] [] (Grew-refl _ [] []) (λ x has. has) (λ x has. has))) (EndsLife-usual _ [] [] _ _ c.in_err-node-2.ensures.lost c.in_err-node-2.ensures.usual);
+      by_value = usual-due _ _ c.in_err-node-2.ensures.usual;
+      tells = ([], inl (Hears-nothing _));
+    })
+
+pub returns : goal.returns
+returns g c =
+    let drains = rw c.give.ensures at c.in_ok-node.ensures.ok in
+    let asks = rw c.give.ensures at c.in_ok-node.ensures.asks in
+    let goes = rw c.give.ensures at c.in_ok-node.ensures.goes_on in
+    record { promise = λ nested buffer. promise-acked (g.E.Epocher.epochs c.args.self.life.epocher) g.V.Variant.inner (g.met.E.Epocher.partition c.args.self.life.epocher) c.args.self buffer _ _ _ drains _ _ _ _ _ _ nested c.in_ok-node-2.ensures.ok asks c.dispatch.ensures.ran; lives = LivesOn-then c.args.self _ _ (IsPart-then c.args.self _ _ (IsPart-drained (g.E.Epocher.epochs c.args.self.life.epocher) c.args.self c.args.ticket _ _ [] [] drains (goes _ [] [] (Grew-refl _ [] []) (λ x has. has) (λ x has. has))) (IsPart-synced _ _ _ c.in_ok-node-2.ensures.ok c.in_ok-node-2.ensures.counts)) (LivesOn-ran _ _ _ _ c.dispatch.ensures.ran); by_value = EndsWhereDue-ran _ (dropped_first-none _ drains.not_dropped) _ _ _ _ c.dispatch.ensures.ran; tells = TellsInOrder-ran _ _ [] _ _ _ (Hears-nothing _) c.dispatch.ensures.ran }

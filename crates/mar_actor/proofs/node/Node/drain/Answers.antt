@@ -1,0 +1,31 @@
+use Rattle.std.proofs.Common.{[], arith, length, ◌≡◌}
+use Rattle.mar_node.proofs.Draining.{Drains-all, Drains-still, DrainsSoFar-first, DrainsSoFar-more}
+use Rattle.mar_node.proofs.Growing.{Grew-then, Within-none}
+use Rattle.mar_actor.proofs.node.Node.drain.Goals as goal
+
+pub entries-init : goal.entries-init
+entries-init g c = DrainsSoFar-first _ _ _
+
+pub entries-preserved : goal.entries-preserved
+entries-preserved g c =
+    DrainsSoFar-more g.E.Epocher.epochs _ _ _ _ _ _ c.entries.invariant _ _ _ c.if-not-is_processed.false c.in_ok-next.ensures.ok c.in_ok-next.ensures.asks
+    (c.in_ok-next.ensures.goes_on _ [] [] c.entries.invariant.grew (λ x has. has) (λ x has. has))
+
+pub returns-then-not-is_processed-clause-ok : goal.returns-then-not-is_processed-clause-ok
+returns-then-not-is_processed-clause-ok g c = (Drains-still g.E.Epocher.epochs _ _ _ _ _ _ c.entries.invariant _ _ _ c.if-not-is_processed.true c.in_ok-next.ensures.ok c.in_ok-next.ensures.asks).0
+
+pub returns-then-not-is_processed-clause-asks : goal.returns-then-not-is_processed-clause-asks
+returns-then-not-is_processed-clause-asks g c = (Drains-still g.E.Epocher.epochs _ _ _ _ _ _ c.entries.invariant _ _ _ c.if-not-is_processed.true c.in_ok-next.ensures.ok c.in_ok-next.ensures.asks).1
+
+pub returns-then-not-is_processed-clause-goes_on : goal.returns-then-not-is_processed-clause-goes_on
+returns-then-not-is_processed-clause-goes_on g c = λ start bs cs grew in_bs in_cs. c.in_ok-next.ensures.goes_on start bs cs (Grew-then start _ _ bs [] cs [] c.entries.invariant.grew grew (Within-none bs) (Within-none cs)) (Within-none bs) (Within-none cs)
+
+pub returns-clause-ok : goal.returns-clause-ok
+returns-clause-ok g c =
+    let all : c.len-drained-end.result ≡ length c.args.self.life.out = rw (← c.node.view_is, ← c.node-inside.view_is) c.len-drained-end.ensures in
+    (Drains-all g.E.Epocher.epochs _ _ _ _ _ _ c.entries.invariant (omega (arith, c.entries-test.false, all))).0
+
+pub returns-clause-asks : goal.returns-clause-asks
+returns-clause-asks g c =
+    let all : c.len-drained-end.result ≡ length c.args.self.life.out = rw (← c.node.view_is, ← c.node-inside.view_is) c.len-drained-end.ensures in
+    (Drains-all g.E.Epocher.epochs _ _ _ _ _ _ c.entries.invariant (omega (arith, c.entries-test.false, all))).1

@@ -1,0 +1,7 @@
+use Rattle.mar_node.proofs.Storing.{StoresAbove-ok}
+use Rattle.mar_actor.proofs.node.Node.store.Goals as goal
+
+pub returns-clause-stores : goal.returns-clause-stores
+returns-clause-stores g c =
+    let same = rw c.height-height.ensures at c.report_tip.ensures.same in
+    StoresAbove-ok _ _ _ _ _ _ _ c.in_ok-node.ensures.blocks c.in_ok-node.ensures.certs c.in_ok-node.ensures.same c.in_ok-node-2.ensures.blocks c.in_ok-node-2.ensures.certs c.in_ok-node-2.ensures.same same

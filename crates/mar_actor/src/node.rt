@@ -1,0 +1,137 @@
+//! The node, which each of its steps consumes.
+ghost use Rattle.std.specs.Prelude.{◌≡◌, [], Err, IfErr, IfOk, false};
+ghost use Rattle.std.specs.List.{list_any};
+ghost use Rattle.mar_store.specs.Changes.{IsNested};
+ghost use Rattle.mar_node.specs.Acks.{is_unmarked};
+ghost use Rattle.mar_node.specs.Held.{GoesOn, IsEndedBy, IsNoStores, IsUsual, Loses, remains_of};
+ghost use Rattle.mar_node.specs.Promise.{KeepsCounting, KeepsPromise};
+ghost use Rattle.mar_shelf.specs.Views.{fault_of};
+ghost use Rattle.mar_actor.specs.Due.{EndsWhereDue, due_fault};
+ghost use Rattle.mar_actor.specs.Told.{TellsInOrder, tips_of};
+ghost use Rattle.mar_actor.specs.Views.{event_of};
+
+use crate::event::Event;
+use crate::life::Life;
+use crate::reporter::Reporter;
+use mar_block::{Buffer, Variant};
+use mar_inbox::Message;
+use mar_key::Resolver;
+use mar_shelf::{Ended, Fault, Holds, StoreName, Stores};
+use mar_types::Epocher;
+use std::alloc::AllocError;
+use std::marker::{Model, PhantomData};
+
+/// A node while a life runs: its stores, and what it remembers beside them.
+#[derive(Drop)]
+pub struct Node<V: Variant, S: Holds<V>, P: Drop, E: Epocher> {
+    pub(crate) stores: S,
+    pub(crate) life: Life<P, E>,
+    pub(crate) of: PhantomData<V>,
+}
+
+/// A node over four stores: of finalized blocks, of their finalizations, of metadata, and the cache.
+pub type Actor<V, F, P, E, FB, FC, M, H> = Node<V, Stores<V, F, FB, FC, M, H>, P, E>;
+
+impl<V: Variant, S: Holds<V>, P: Drop, E: Epocher> Model for Node<V, S, P, E> {
+    ghost use Rattle.mar_node.specs.Held.{Seen};
+
+    ghost Value = { Seen P E };
+
+    ghost view = { λ n. record { held = S.held n.stores; life = n.life } };
+}
+
+impl<V: Variant, S: Holds<V>, P: Drop, E: Epocher> Node<V, S, P, E> {
+    /// Takes one event, the first of a life being `Event::Start`. An end of the life says why and hands back what is left.
+    /// On a lawful chain the step is a step of the node, or a cut.
+    ///
+    /// The fault of a step is `StoreFault` only where that store has failed, `HeightLimit` where a finalized block stands
+    /// at the last height and `AckDropped` where the application dropped the oldest acknowledgement, each exactly where
+    /// it is due unless a store or memory fails first, `TicketLimit` where no ticket is left, and `Memory`.
+    pub fn step<B: Buffer<V>, R: Resolver<V::Commitment>, A: Reporter<V>>(
+        self,
+        event: Event<S::Finalization>,
+        buffer: &B,
+        resolver: &mut R,
+        application: &mut A,
+    ) -> Result<Self, Ended<V, S>>
+        ensures promise { KeepsPromise (E.epochs self.life.epocher) V.inner self (event_of S.Finalization.plain event) (B.blocks buffer.now)
+            (A.told application.old) (A.told application.new) (R.told resolver.old) (R.told resolver.new) result }
+        ensures counts { IfOk result (λ n. n.held.counts ≡ self.held.counts) }
+        ensures cause { IfErr result (λ e. IsEndedBy self.held.counts e) }
+        ensures by_value { EndsWhereDue (due_fault V.inner self (B.blocks buffer.now) (event_of S.Finalization.plain event)) result }
+        ensures tells { TellsInOrder (A.told application.old) (tips_of V.inner self (B.blocks buffer.now) (event_of S.Finalization.plain event))
+            (A.told application.new) result }
+        ensures lasting { KeepsCounting (E.epochs self.life.epocher) V.inner self (event_of S.Finalization.plain event) (B.blocks buffer.now) result }
+        ensures same_life { IfOk result (λ n. (n.life.provider ≡ self.life.provider) × (n.life.epocher ≡ self.life.epocher)
+            × (n.life.sizes ≡ self.life.sizes)) }
+    {
+        self.law();
+        match event {
+            Event::Start => self.start(application),
+            Event::Message(Message::Finalization(finalization)) => {
+                self.report_finalization(&finalization, buffer, resolver, application)
+            }
+            Event::Sync(_) => Ok(self),
+            Event::Ack(ticket) => self.acknowledge(ticket, resolver, application),
+        }
+    }
+
+    /// What the stores promise of what they hold; nothing is done.
+    pub(crate) fn law(&self)
+        ensures blocks { IsNested self.now.held.blocks }
+        ensures certs { IsNested self.now.held.certs }
+    {
+        self.stores.law();
+    }
+
+    /// Makes the counted call of a store fail that is so many calls away, 1 being the next. The cache counts none yet.
+    pub fn arm(&mut self, store: StoreName, calls: u64) -> Result<(), AllocError>
+        ensures { self.new ≡ self.old }
+    {
+        self.stores.arm(store, calls)
+    }
+
+    /// Ends the life; what a crash now leaves is handed back.
+    pub fn wreck(self) -> S::Ruins
+        ensures left { S.Ruins.left result ≡ remains_of self.held }
+        ensures blocks { IsNested self.held.blocks }
+        ensures certs { IsNested self.held.certs }
+    {
+        self.law();
+        self.stores.wreck()
+    }
+
+    /// Whether the application owes an acknowledgement under that ticket.
+    pub fn owes_ack(&self, ticket: u64) -> bool
+        ensures { result ≡ list_any (is_unmarked ticket) self.now.life.out }
+    {
+        self.life.acks.is_unmarked(ticket)
+    }
+
+    /// Whether a sync of that ticket is open. None is: each sync ends within the step that begins it.
+    pub fn awaits_sync(&self, _ticket: u64) -> bool
+        ensures { result ≡ false }
+    {
+        false
+    }
+
+    /// Ends the life for want of memory.
+    pub(crate) fn run_out(self) -> Ended<V, S>
+        ensures goes_on { GoesOn (λ s. s) self.held [] [] (Err result) }
+        ensures lost { Loses self.held [] [] [] result }
+        ensures usual { IsUsual result.fault }
+    {
+        self.end(Fault::Memory)
+    }
+
+    /// Ends the life without a fault of a store.
+    pub(crate) fn end(self, fault: Fault<V::Commitment>) -> Ended<V, S>
+        ensures value { result ≡ record { fault = fault_of V.Commitment.bytes fault; remains = remains_of self.held } }
+        ensures lost { IsNoStores (fault_of V.Commitment.bytes fault) → Loses self.held [] [] [] result }
+    {
+        Ended {
+            fault,
+            ruins: self.stores.wreck(),
+        }
+    }
+}

@@ -1,0 +1,253 @@
+//! The stores of a life, as far as the rules of a node see them.
+ghost use Rattle.std.specs.Prelude.{◌≡◌, ◌∷◌, [], IfErr, IfOk, IfSome, Some, option_map};
+ghost use Rattle.mar_key.specs.Processed.{at_absent, at_block};
+ghost use Rattle.mar_key.specs.Views.{cutoff_of};
+ghost use Rattle.mar_store.specs.Changes.{IsNested, Puts, Syncs, heights};
+ghost use Rattle.mar_store.specs.Kept.{has_height, value_at};
+ghost use Rattle.mar_store.specs.Named.{last_index};
+ghost use Rattle.mar_store.specs.Ranges.{ranges};
+ghost use Rattle.mar_node.specs.Held.{GoesOn, Held, IsUsual, Loses, LosesOpening, Remains, ReopensAs, blocks_left, certs_left, ended_of, remains_of};
+ghost use Rattle.mar_node.specs.Lives.{later_round};
+ghost use Rattle.mar_node.specs.Metadata.{first_pair, pair_of};
+ghost use Rattle.mar_node.specs.Moves.{at_height};
+ghost use Rattle.mar_node.specs.Stored.{at_own_height, block_of, is_certified, is_held};
+
+use crate::fault::{Fault, StoreName};
+use crate::shown::ShownRuins;
+use mar_block::Variant;
+use mar_cert::CommitsTo;
+use mar_key::Cutoff;
+use mar_node::State;
+use mar_store::RangeSet;
+use mar_types::{Height, Round};
+use std::alloc::AllocError;
+use std::marker::Model;
+
+/// What is left of the stores of a life.
+pub trait StoresRuin {
+    /// What is left of them, and how often each has failed.
+    ghost left: { Self → Remains };
+
+    /// There is nothing of a cache yet. The call does nothing: it is a law.
+    fn law(&self)
+        ensures no_cache { (left self.now).ended
+            ≡ ended_of (blocks_left (left self.now).ended) (certs_left (left self.now).ended) (left self.now).ended.meta };
+
+    /// Makes the counted call of a store fail that is so many calls away, 1 being the next. The cache counts none yet.
+    fn arm(&mut self, store: StoreName, calls: u64) -> Result<(), AllocError>
+        ensures { left self.new ≡ left self.old };
+
+    /// What is shown of the stores; the processed height and the cutoff are what the last successful sync of the
+    /// metadata left, or its last reopening read.
+    fn shown(&self) -> ShownRuins<'_>
+        ensures pair { first_pair (left self.now).ended.meta ≡ Some (record { processed = result.processed; cutoff = cutoff_of result.cutoff }) }
+        ensures blocks_sure { result.blocks_sure.now ≡ ranges (heights (left self.now).ended.blocks_sure) }
+        ensures blocks_may { result.blocks_may.now ≡ ranges (heights (left self.now).ended.blocks_may) }
+        ensures certs_sure { result.certs_sure.now ≡ ranges (heights (left self.now).ended.certs_sure) }
+        ensures certs_may { result.certs_may.now ≡ ranges (heights (left self.now).ended.certs_may) };
+}
+
+/// The stores of a life: blocks, certificates, how far delivery has come, and the cache. A call that reads or changes
+/// one consumes all of them, and gives them back or ends the life with what is left. Such a call makes one call of a
+/// store, `set_cutoff` makes two and `reopen` one of each.
+pub trait Holds<V: Variant> {
+    /// What is left where no life runs.
+    type Ruins: StoresRuin;
+
+    /// A finalization as it is stored.
+    type Finalization: CommitsTo<V::Commitment>;
+
+    /// What they hold and may leave, and how often each has failed.
+    ghost held: { Self → Held };
+
+    /// Opens what a crash left, in the order blocks, certificates, metadata, cache.
+    fn reopen(ruins: Self::Ruins, luck: u64) -> Result<Self, Ended<V, Self>>
+    where
+        Self: Sized,
+        ensures ok { IfOk result (λ s. ReopensAs (Self.Ruins.left ruins) (held s)) }
+        ensures lost { IfErr result (LosesOpening (Self.Ruins.left ruins) [] []) }
+        ensures usual { IfErr result (λ e. IsUsual e.fault) };
+
+    /// What a crash now leaves.
+    fn wreck(self) -> Self::Ruins
+    where
+        Self: Sized,
+        ensures { Self.Ruins.left result ≡ remains_of (held self) };
+
+    /// What is sure is held, and what is held may be left. The call does nothing: it is a law.
+    fn law(&self)
+        ensures blocks { IsNested (held self.now).blocks }
+        ensures certs { IsNested (held self.now).certs };
+
+    /// Makes the counted call of a store fail that is so many calls away, 1 being the next. The cache counts none yet.
+    fn arm(&mut self, store: StoreName, calls: u64) -> Result<(), AllocError>
+        ensures { held self.new ≡ held self.old };
+
+    /// The processed height, the cutoff and the newest witnessed round.
+    fn floor(&self) -> &State<V::Commitment, Self::Finalization>
+        ensures processed { result.now.processed ≡ (held self.now).processed }
+        ensures cutoff { result.now.cutoff ≡ (held self.now).cutoff }
+        ensures witnessed { result.now.witnessed ≡ (held self.now).witnessed };
+
+    /// Takes note of a round: the last one witnessed is the later of it and the one before.
+    fn witness(&mut self, round: Round)
+        ensures { held self.new ≡ record (held self.old) { witnessed = later_round (held self.old).witnessed (Some round) } };
+
+    /// The processed height, whose block isn't there.
+    fn without_block(&mut self, height: Height)
+        requires { (held self.old).processed ≡ Some (at_block height) }
+        ensures { held self.new ≡ record (held self.old) { processed = Some (at_absent height) } };
+
+    /// The greatest height of a held block.
+    fn last_block(&self) -> Option<Height>
+        ensures { result ≡ last_index (held self.now).blocks.held };
+
+    /// The greatest height of a held finalization.
+    fn last_certificate(&self) -> Option<Height>
+        ensures { result ≡ last_index (held self.now).certs.held };
+
+    /// The heights of the held blocks.
+    fn blocks_held(&self) -> &RangeSet
+        ensures { result.now ≡ ranges (heights (held self.now).blocks.held) };
+
+    /// The heights of the blocks that every crash leaves.
+    fn blocks_sure(&self) -> &RangeSet
+        ensures { result.now ≡ ranges (heights (held self.now).blocks.sure) };
+
+    /// The heights of the held finalizations.
+    fn certificates_held(&self) -> &RangeSet
+        ensures { result.now ≡ ranges (heights (held self.now).certs.held) };
+
+    /// The heights of the finalizations that every crash leaves.
+    fn certificates_sure(&self) -> &RangeSet
+        ensures { result.now ≡ ranges (heights (held self.now).certs.sure) };
+
+    /// The block that is held at a height.
+    fn block_at(self, height: Height) -> Result<(Self, Option<V::Block>), Ended<V, Self>>
+    where
+        Self: Sized,
+        ensures found { IfOk result (λ r. option_map V.plain r.1 ≡ value_at (held self).blocks.held height) }
+        ensures own { IfOk result (λ r. IfSome r.1 (λ b. (V.plain b).height ≡ height)) }
+        ensures same { IfOk result (λ r. held r.0 ≡ held self) }
+        ensures goes_on { GoesOn (λ r. held r.0) (held self) [] [] result }
+        ensures usual { IfErr result (λ e. IsUsual e.fault) };
+
+    /// A held block of this digest.
+    fn block_of(self, digest: &V::Digest) -> Result<(Self, Option<V::Block>), Ended<V, Self>>
+    where
+        Self: Sized,
+        ensures found { IfOk result (λ r. option_map V.plain r.1 ≡ block_of (held self).blocks.held (V.Digest.bytes digest.now)) }
+        ensures same { IfOk result (λ r. held r.0 ≡ held self) }
+        ensures goes_on { GoesOn (λ r. held r.0) (held self) [] [] result }
+        ensures usual { IfErr result (λ e. IsUsual e.fault) };
+
+    /// The finalization that is held at a height.
+    fn certificate_at(
+        self,
+        height: Height,
+    ) -> Result<(Self, Option<Self::Finalization>), Ended<V, Self>>
+    where
+        Self: Sized,
+        ensures found { IfOk result (λ r. option_map Self.Finalization.plain r.1 ≡ value_at (held self).certs.held height) }
+        ensures same { IfOk result (λ r. held r.0 ≡ held self) }
+        ensures goes_on { GoesOn (λ r. held r.0) (held self) [] [] result }
+        ensures usual { IfErr result (λ e. IsUsual e.fault) };
+
+    /// Whether a finalization is held at a height.
+    fn has_certificate(self, height: Height) -> Result<(Self, bool), Ended<V, Self>>
+    where
+        Self: Sized,
+        ensures found { IfOk result (λ r. r.1 ≡ has_height (held self).certs.held height) }
+        ensures same { IfOk result (λ r. held r.0 ≡ held self) }
+        ensures goes_on { GoesOn (λ r. held r.0) (held self) [] [] result }
+        ensures usual { IfErr result (λ e. IsUsual e.fault) };
+
+    /// Stores a block, which becomes durable with the next sync of the blocks.
+    fn put_block(self, block: &V::Block) -> Result<Self, Ended<V, Self>>
+    where
+        Self: Sized,
+        ensures ok { IfOk result (λ s. Puts (is_held (held self).blocks.held (V.plain block.now)) (held self).blocks (at_own_height (V.plain block.now))
+            (held s).blocks) }
+        ensures same { IfOk result (λ s. held s ≡ record (held self) { blocks = (held s).blocks; counts = (held s).counts }) }
+        ensures goes_on { GoesOn held (held self) (at_own_height (V.plain block.now) ∷ []) [] result }
+        ensures usual { IfErr result (λ e. IsUsual e.fault) };
+
+    /// Makes the stored blocks durable.
+    fn sync_blocks(self) -> Result<Self, Ended<V, Self>>
+    where
+        Self: Sized,
+        ensures ok { IfOk result (λ s. Syncs (held self).blocks (held s).blocks) }
+        ensures same { IfOk result (λ s. held s ≡ record (held self) { blocks = (held s).blocks; counts = (held s).counts }) }
+        ensures goes_on { GoesOn held (held self) [] [] result }
+        ensures usual { IfErr result (λ e. IsUsual e.fault) };
+
+    /// Stores a finalization at a height, which becomes durable with the next sync of the certificates.
+    fn put_certificate(
+        self,
+        height: Height,
+        finalization: &Self::Finalization,
+    ) -> Result<Self, Ended<V, Self>>
+    where
+        Self: Sized,
+        ensures ok { IfOk result (λ s. Puts (is_certified V.inner (held self).certs.held height (V.inner (Self.Finalization.plain finalization.now).payload))
+            (held self).certs (at_height height (Self.Finalization.plain finalization.now)) (held s).certs) }
+        ensures same { IfOk result (λ s. held s ≡ record (held self) { certs = (held s).certs; counts = (held s).counts }) }
+        ensures goes_on { GoesOn held (held self) [] (at_height height (Self.Finalization.plain finalization.now) ∷ []) result }
+        ensures usual { IfErr result (λ e. IsUsual e.fault) };
+
+    /// Makes the stored finalizations durable.
+    fn sync_certificates(self) -> Result<Self, Ended<V, Self>>
+    where
+        Self: Sized,
+        ensures ok { IfOk result (λ s. Syncs (held self).certs (held s).certs) }
+        ensures same { IfOk result (λ s. held s ≡ record (held self) { certs = (held s).certs; counts = (held s).counts }) }
+        ensures goes_on { GoesOn held (held self) [] [] result }
+        ensures usual { IfErr result (λ e. IsUsual e.fault) };
+
+    /// The block at this height is processed, which becomes durable with the next sync of the metadata.
+    fn set_processed(self, height: Height) -> Result<Self, Ended<V, Self>>
+    where
+        Self: Sized,
+        ensures ok { IfOk result (λ s. held s ≡ record (held self) { processed = Some (at_block height); counts = (held s).counts }) }
+        ensures goes_on { GoesOn held (held self) [] [] result }
+        ensures usual { IfErr result (λ e. IsUsual e.fault) };
+
+    /// Sets the cutoff, which becomes durable with the next sync of the metadata.
+    fn set_cutoff(self, cutoff: &Cutoff) -> Result<Self, Ended<V, Self>>
+    where
+        Self: Sized,
+        ensures ok { IfOk result (λ s. held s ≡ record (held self) { cutoff = cutoff_of cutoff.now; counts = (held s).counts }) }
+        ensures goes_on { GoesOn held (held self) [] [] result }
+        ensures usual { IfErr result (λ e. IsUsual e.fault) };
+
+    /// Makes the processed height and the cutoff durable together.
+    fn sync_metadata(self) -> Result<Self, Ended<V, Self>>
+    where
+        Self: Sized,
+        ensures ok { IfOk result (λ s. held s ≡ record (held self) {
+          pairs = pair_of (held self).processed (held self).cutoff
+              ∷ [];
+          counts = (held s).counts;
+        }) }
+        ensures counts { IfOk result (λ s. (held s).counts ≡ (held self).counts) }
+        ensures lost { IfErr result (Loses (held self) [] [] (pair_of (held self).processed (held self).cutoff ∷ [])) }
+        ensures usual { IfErr result (λ e. IsUsual e.fault) };
+}
+
+/// How a life ended, and what is left.
+#[derive(Drop)]
+pub struct Ended<V: Variant, S: Holds<V>> {
+    /// Why it ended.
+    pub fault: Fault<V::Commitment>,
+    /// What the next opening is given.
+    pub ruins: S::Ruins,
+}
+
+impl<V: Variant, S: Holds<V>> Model for Ended<V, S> {
+    ghost use Rattle.mar_node.specs.Held.{Ending};
+    ghost use Rattle.mar_shelf.specs.Views.{fault_of};
+
+    ghost Value = { Ending };
+
+    ghost view = { λ e. record { fault = fault_of V.Commitment.bytes e.fault; remains = S.Ruins.left e.ruins } };
+}
