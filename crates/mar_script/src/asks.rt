@@ -66,7 +66,8 @@ fn push_request(
     text: &mut String,
     fetch: &Fetch<Sha256Digest>,
 ) -> Result<(), AllocError>
-    ensures { OnOk result (string_bytes text.new ≡ string_bytes text.old ++ (codes "fetch " ++ (hex (key_bytes (key_of (λ d. d.bytes) fetch.now.key)) ++ (codes " " ++ sentence (annotation_words (annotation_of fetch.now.subscriber)))))) }
+    ensures { OnOk result (string_bytes text.new ≡ string_bytes text.old ++ (codes "fetch "
+        ++ (hex (key_bytes (key_of (λ d. d.bytes) fetch.now.key)) ++ (codes " " ++ sentence (annotation_words (annotation_of fetch.now.subscriber)))))) }
 {
     let key = fetch.key.encode(alloc)?;
     text.push_str("fetch ")?;

@@ -167,7 +167,8 @@ fn block_of(alloc: Global, word: &[u8]) -> Result<EmptyBlock<Sha256>, ParseError
 fn finalization_of(alloc: Global, members: u32, word: &[u8]) -> Result<MockFinalization, ParseError>
     ensures is_finalization { IfOk result (λ f. IsFinalization members (plain_finalization f)) }
     ensures found { IfOk result (λ f. word.now ≡ hex (finalization_bytes (plain_finalization f))) }
-    ensures only { (f : PlainFinalization) → IsFinalization members f → word.now ≡ hex (finalization_bytes f) → Yields (λ found. plain_finalization found ≡ f) result }
+    ensures only { (f : PlainFinalization) → IsFinalization members f → word.now ≡ hex (finalization_bytes f)
+        → Yields (λ found. plain_finalization found ≡ f) result }
 {
     let bytes = match bytes_of(alloc, word) {
         Ok(bytes) => bytes,

@@ -75,7 +75,8 @@ impl ScriptReader {
 
     // Takes a piece from the source.
     fn fill<S: Source>(&mut self, source: &mut S) -> Result<usize, Miss>
-        ensures ok { IfOk result (λ n. (read : List ℕ) × (length read ≡ n) × (self.new ≡ self.old ++ read) × Gives (S.left source.old) read (S.left source.new)) }
+        ensures ok { IfOk result (λ n. (read : List ℕ) × (length read ≡ n) × (self.new ≡ self.old ++ read)
+            × Gives (S.left source.old) read (S.left source.new)) }
         ensures end { IfOk result (λ n. n ≡ 0 → IsShownAs (S.left source.new) []) }
         ensures err { OnErr result ((self.new ≡ self.old) × Gives (S.left source.old) [] (S.left source.new)) }
         ensures later { S.faults source.old ≤ S.faults source.new }

@@ -33,9 +33,27 @@ impl Model for Settings {
 
     ghost Value = { Settings };
 
-    ghost view = { λ s. record { members = s.members; epoch_length = s.epoch_length; window = s.window; max_repair = s.max_repair; retention = s.retention; capacity = s.capacity; first_epoch = s.first_epoch; last_epoch = s.last_epoch } };
+    ghost view = { λ s. record {
+      members = s.members;
+      epoch_length = s.epoch_length;
+      window = s.window;
+      max_repair = s.max_repair;
+      retention = s.retention;
+      capacity = s.capacity;
+      first_epoch = s.first_epoch;
+      last_epoch = s.last_epoch;
+    } };
 
-    ghost inverse = { λ s. record { members = s.members; epoch_length = s.epoch_length; window = s.window; max_repair = s.max_repair; retention = s.retention; capacity = s.capacity; first_epoch = s.first_epoch; last_epoch = s.last_epoch } };
+    ghost inverse = { λ s. record {
+      members = s.members;
+      epoch_length = s.epoch_length;
+      window = s.window;
+      max_repair = s.max_repair;
+      retention = s.retention;
+      capacity = s.capacity;
+      first_epoch = s.first_epoch;
+      last_epoch = s.last_epoch;
+    } };
 }
 
 impl Settings {

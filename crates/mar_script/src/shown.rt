@@ -144,7 +144,8 @@ fn push_field(text: &mut String, name: &str, ranges: &RangeSet) -> Result<(), Al
 }
 
 fn push_node_front(alloc: Global, text: &mut String, node: &Shown<'_>) -> Result<(), AllocError>
-    ensures { OnOk result (string_bytes text.new ≡ string_bytes text.old ++ (codes "node p=" ++ (or_dash (option_map processed_text (option_map processed_of node.now.processed))
+    ensures { OnOk result (string_bytes text.new ≡ string_bytes text.old ++ (codes "node p="
+        ++ (or_dash (option_map processed_text (option_map processed_of node.now.processed))
         ++ (codes " o=" ++ comma_list (map outstanding_text node.now.acks.now.entries))))) }
 {
     text.push_str("node p=")?;
@@ -154,7 +155,8 @@ fn push_node_front(alloc: Global, text: &mut String, node: &Shown<'_>) -> Result
 }
 
 fn push_node_ranges(text: &mut String, node: &Shown<'_>) -> Result<(), AllocError>
-    ensures { OnOk result (string_bytes text.new ≡ string_bytes text.old ++ ((32 ∷ (codes "b=" ++ ranges_shown node.now.blocks_held.now)) ++ ((32 ∷ (codes "bs=" ++ ranges_shown node.now.blocks_sure.now))
+    ensures { OnOk result (string_bytes text.new ≡ string_bytes text.old ++ ((32 ∷ (codes "b=" ++ ranges_shown node.now.blocks_held.now))
+        ++ ((32 ∷ (codes "bs=" ++ ranges_shown node.now.blocks_sure.now))
         ++ ((32 ∷ (codes "f=" ++ ranges_shown node.now.certs_held.now)) ++ (32 ∷ (codes "fs=" ++ ranges_shown node.now.certs_sure.now)))))) }
 {
     push_field(text, "b=", node.blocks_held)?;
@@ -165,7 +167,8 @@ fn push_node_ranges(text: &mut String, node: &Shown<'_>) -> Result<(), AllocErro
 
 /// Appends the line that shows a node.
 pub fn push_node(alloc: Global, text: &mut String, node: &Shown<'_>) -> Result<(), AllocError>
-    ensures { OnOk result (string_bytes text.new ≡ string_bytes text.old ++ line_of (shown_words (option_map processed_of node.now.processed) node.now.acks.now.entries (cutoff_of node.now.cutoff)
+    ensures { OnOk result (string_bytes text.new ≡ string_bytes text.old ++ line_of (shown_words (option_map processed_of node.now.processed)
+        node.now.acks.now.entries (cutoff_of node.now.cutoff)
         node.now.blocks_held.now node.now.blocks_sure.now node.now.certs_held.now node.now.certs_sure.now)) }
 {
     push_node_front(alloc, text, node)?;
@@ -178,7 +181,8 @@ pub fn push_node(alloc: Global, text: &mut String, node: &Shown<'_>) -> Result<(
 }
 
 fn push_ended_front(text: &mut String, ended: &ShownRuins<'_>) -> Result<(), AllocError>
-    ensures { OnOk result (string_bytes text.new ≡ string_bytes text.old ++ (codes "node end p=" ++ (or_dash (option_map decimal ended.now.processed) ++ (codes " c=" ++ cutoff_text (cutoff_of ended.now.cutoff))))) }
+    ensures { OnOk result (string_bytes text.new ≡ string_bytes text.old ++ (codes "node end p="
+        ++ (or_dash (option_map decimal ended.now.processed) ++ (codes " c=" ++ cutoff_text (cutoff_of ended.now.cutoff))))) }
 {
     text.push_str("node end p=")?;
     push_height(text, ended.processed)?;
@@ -188,7 +192,8 @@ fn push_ended_front(text: &mut String, ended: &ShownRuins<'_>) -> Result<(), All
 }
 
 fn push_ended_ranges(text: &mut String, ended: &ShownRuins<'_>) -> Result<(), AllocError>
-    ensures { OnOk result (string_bytes text.new ≡ string_bytes text.old ++ ((32 ∷ (codes "bs=" ++ ranges_shown ended.now.blocks_sure.now)) ++ ((32 ∷ (codes "bm=" ++ ranges_shown ended.now.blocks_may.now))
+    ensures { OnOk result (string_bytes text.new ≡ string_bytes text.old ++ ((32 ∷ (codes "bs=" ++ ranges_shown ended.now.blocks_sure.now))
+        ++ ((32 ∷ (codes "bm=" ++ ranges_shown ended.now.blocks_may.now))
         ++ ((32 ∷ (codes "fs=" ++ ranges_shown ended.now.certs_sure.now)) ++ (32 ∷ (codes "fm=" ++ ranges_shown ended.now.certs_may.now)))))) }
 {
     push_field(text, "bs=", ended.blocks_sure)?;

@@ -1,7 +1,7 @@
-//! How to use marshal as a library: an actor over stores of one's own is opened, given events, ended by a crash, and
+//! How to use marshal as a library: a node over stores of one's own is opened, given events, ended by a crash, and
 //! opened again.
 use crate::tell::*;
-use mar_actor::{Actor, Config, Event, Limits, Reporter, Ruins, Start, Update};
+use mar_actor::{Config, Ended, Event, Holds, Limits, Node, Reporter, Ruins, Start, Update};
 use mar_block::{EmptyBlock, MemBuffer, StandardBlocks};
 use mar_cert::{
     Finalization, MockCertificate, MockFinalization, MockProvider, MockScheme, Proposal, Signer,
@@ -10,7 +10,9 @@ use mar_cert::{
 use mar_codec::{Digest, Digested, Sha256, Sha256Digest};
 use mar_inbox::Message;
 use mar_key::Recorder;
-use mar_shelf::{BlockItem, Blocks, CertificateItem, Certificates, NoShelf, Shelf, immutable};
+use mar_shelf::{
+    BlockItem, Blocks, CertificateItem, Certificates, NoShelf, Shelf, Stores, immutable,
+};
 use mar_store::{Item, LuckHalf, MemArchive, MemMeta, Meta};
 use mar_types::{Epoch, FixedEpocher, Height, Round, View, ViewDelta};
 use std::alloc::{AllocError, Global};
@@ -19,25 +21,18 @@ use std::process::Abort;
 
 type Block = Digested<EmptyBlock<Sha256>>;
 
-/// The stores of this example: archives in memory that are never pruned.
+/// An archive in memory that is never pruned.
 type Store<T> = immutable::Archive<MemArchive<T>>;
 
 type BlockStore = Store<BlockItem<StandardBlocks>>;
 
 type CertificateStore = Store<CertificateItem<StandardBlocks, MockFinalization>>;
 
-type Left<FB, FC, M, H> = Ruins<StandardBlocks, MockFinalization, FB, FC, M, H>;
+/// Four stores of one's own.
+type StoresOf<FB, FC, M, H> = Stores<StandardBlocks, MockFinalization, FB, FC, M, H>;
 
-type Node<FB, FC, M, H> = Actor<
-    StandardBlocks,
-    MockFinalization,
-    MockProvider,
-    FixedEpocher,
-    FB,
-    FC,
-    M,
-    H,
->;
+/// A node over some stores.
+type NodeOver<S> = Node<StandardBlocks, S, MockProvider, FixedEpocher>;
 
 /// An application that notes the height and the ticket of each block that it is handed.
 #[derive(Drop)]
@@ -63,7 +58,7 @@ impl Reporter<StandardBlocks> for Application {
     }
 }
 
-/// What the actor speaks to: the blocks that are at hand, the peers, and the application.
+/// What the node speaks to: the blocks that are at hand, the peers, and the application.
 #[derive(Drop)]
 struct Surroundings {
     buffer: MemBuffer<StandardBlocks>,
@@ -86,64 +81,60 @@ fn config(genesis: Block) -> Config<MockProvider, FixedEpocher, Block> {
     }
 }
 
-// Opens an actor over what is left of its stores, and starts it.
-fn opened<
-    FB: Blocks<StandardBlocks>,
-    FC: Certificates<StandardBlocks, MockFinalization>,
-    M: Meta,
-    H: Shelf,
->(
+// What a call gave in a life that is to go on.
+fn going_on<T, S: Holds<StandardBlocks, Finalization = MockFinalization>>(
+    rt: &impl Abort,
+    got: Result<T, Ended<StandardBlocks, S>>,
+) -> T {
+    match got {
+        Ok(value) => value,
+        Err(ended) => panic!(rt; "the life ended: {:?}", ended.fault),
+    }
+}
+
+// Opens a node over what is left of its stores, and starts it.
+fn opened<S: Holds<StandardBlocks, Finalization = MockFinalization>>(
     rt: &impl Abort,
     alloc: Global,
-    left: Left<FB, FC, M, H>,
+    left: S::Ruins,
     around: &mut Surroundings,
-) -> Node<FB, FC, M, H> {
+) -> NodeOver<S> {
     let genesis = block(rt, alloc, Sha256Digest::empty(), 0);
-    let (node, _floor) = given(rt, Actor::init(alloc, left, config(genesis), 0));
+    let (node, _floor) = going_on(rt, NodeOver::<S>::init(alloc, left, config(genesis), 0));
     stepped(rt, node, Event::Start, around)
 }
 
-// Gives an actor one event.
-fn stepped<
-    FB: Blocks<StandardBlocks>,
-    FC: Certificates<StandardBlocks, MockFinalization>,
-    M: Meta,
-    H: Shelf,
->(
+// Gives a node one event.
+fn stepped<S: Holds<StandardBlocks, Finalization = MockFinalization>>(
     rt: &impl Abort,
-    node: Node<FB, FC, M, H>,
+    node: NodeOver<S>,
     event: Event<MockFinalization>,
     around: &mut Surroundings,
-) -> Node<FB, FC, M, H> {
+) -> NodeOver<S> {
     let Surroundings {
         buffer,
         peers,
         application,
     } = around;
-    given(rt, node.step(event, &*buffer, peers, application))
+    going_on(rt, node.step(event, &*buffer, peers, application))
 }
 
 // A life in which the genesis is handed over and acknowledged, and the next block is handed over once it is finalized.
-// A crash ends it before that block is acknowledged. Says whether the next life owes it under the ticket 0.
-fn lived_twice<
-    FB: Blocks<StandardBlocks>,
-    FC: Certificates<StandardBlocks, MockFinalization>,
-    M: Meta,
-    H: Shelf,
->(
+// A crash ends it before that block is acknowledged. Says whether the next life owes it under the ticket 0, beside what
+// that life leaves.
+fn lived_twice<S: Holds<StandardBlocks, Finalization = MockFinalization>>(
     rt: &impl Abort,
     alloc: Global,
-    nothing: Left<FB, FC, M, H>,
+    nothing: S::Ruins,
     finalized: MockFinalization,
     around: &mut Surroundings,
-) -> bool {
-    let node = opened(rt, alloc, nothing, around);
+) -> (bool, S::Ruins) {
+    let node = opened::<S>(rt, alloc, nothing, around);
     let node = stepped(rt, node, Event::Ack(0), around);
     let message = Message::Finalization(finalized);
     let node = stepped(rt, node, Event::Message(message), around);
-    let left = node.wreck();
-    let node = opened(rt, alloc, left, around);
-    node.owes_ack(0)
+    let node = opened::<S>(rt, alloc, node.wreck(), around);
+    (node.owes_ack(0), node.wreck())
 }
 
 // The same over stores that hold nothing yet.
@@ -162,29 +153,20 @@ fn lived_over<
     finalized: MockFinalization,
     around: &mut Surroundings,
 ) -> bool {
-    let nothing: Left<FB, FC, M, H> = Ruins {
+    let nothing = Ruins {
         blocks: blocks.wreck(),
         certs: certificates.wreck(),
         meta: meta.wreck(),
         shelf: shelf.wreck(),
     };
-    lived_twice(rt, alloc, nothing, finalized, around)
+    let (owes, _left) = lived_twice::<StoresOf<FB, FC, M, H>>(
+        rt, alloc, nothing, finalized, around,
+    );
+    owes
 }
 
 fn store<T: Item>(alloc: Global, half: LuckHalf) -> Store<T> {
     immutable::Archive::new(MemArchive::new(alloc, half))
-}
-
-fn block_store(alloc: Global) -> BlockStore {
-    store(alloc, LuckHalf::Low)
-}
-
-fn certificate_store(alloc: Global) -> CertificateStore {
-    store(alloc, LuckHalf::High)
-}
-
-fn metadata(alloc: Global) -> MemMeta {
-    MemMeta::new(alloc)
 }
 
 // The same over the library's stores in memory.
@@ -194,9 +176,9 @@ fn lived_in_memory(
     finalized: MockFinalization,
     around: &mut Surroundings,
 ) -> bool {
-    let blocks = block_store(alloc);
-    let certificates = certificate_store(alloc);
-    let meta = metadata(alloc);
+    let blocks: BlockStore = store(alloc, LuckHalf::Low);
+    let certificates: CertificateStore = store(alloc, LuckHalf::High);
+    let meta = MemMeta::new(alloc);
     lived_over(
         rt,
         alloc,

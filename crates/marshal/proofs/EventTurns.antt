@@ -20,7 +20,6 @@ use Rattle.mar_script.specs.Plays.{IsLasting}
 use Rattle.marshal.specs.Playing.{IsSetNode, SeenNode, TakesEvent}
 use Rattle.mar_script.specs.Shown.{plain_fault}
 use Rattle.marshal.specs.declared.play.Outcome.TheVariants as outcome
-use Rattle.marshal.specs.declared.play.State.{State as StateCode}
 use Rattle.marshal.specs.declared.play.State.TheVariants as state
 
 -- all that was told since there was nothing
@@ -36,20 +35,11 @@ not_fewer c s = omega arith
 pub not_fewer_same : (before now : Counts) → now ≡ before → NotFewer before now
 not_fewer_same before now same = subst (NotFewer before) (sym same) (not_fewer before)
 
-module _ (FB FC M H FBW FCW MW HW : Type 0) (seen : SeenNode) (buffer : Held) (e : Event) (told0 told1 : List Report) (asks0 asks1 : List Call) (silent : told0 ≡ []) (unasked : asks0 ≡ []) where
-  abbrev Code : Type 0
-  Code = StateCode FB FC M H FBW FCW MW HW
-
-  abbrev Stopped : Remains → Code
-  Stopped left = state.Stopped left 0
-
-  abbrev Running : SeenNode → Held → Code
-  Running new kept = state.Running new kept
-
+module _ (seen : SeenNode) (buffer : Held) (e : Event) (told0 told1 : List Report) (asks0 asks1 : List Call) (silent : told0 ≡ []) (unasked : asks0 ≡ []) where
   abbrev Promises : Result SeenNode Ending → Type 0
   Promises = KeepsPromise (fixed_epochs seen.life.epocher.length) (λ commitment. commitment) seen e buffer.blocks (Some told0) (Some told1) (Some asks0) (Some asks1)
 
-  pub takes_ok : (new : SeenNode) → Promises (Ok new) → new.life.epocher ≡ seen.life.epocher → new.life.sizes ≡ seen.life.sizes → NotFewer seen.held.counts new.held.counts → TakesEvent seen buffer e told1 asks1 (Running new buffer) outcome.Done
+  pub takes_ok : {H R : Type 0} (new : SeenNode) → Promises (Ok new) → new.life.epocher ≡ seen.life.epocher → new.life.sizes ≡ seen.life.sizes → NotFewer seen.held.counts new.held.counts → TakesEvent {H = H} {R = R} seen buffer e told1 asks1 (state.Running new buffer) outcome.Done
   takes_ok new promise epocher sizes later = record {
     set = λ config set. subst (λ z. IsSetTo config z (fixed_epochs new.life.epocher.length) (λ commitment. commitment)) (sym sizes) (subst (λ p. IsSetTo config seen.life.sizes (fixed_epochs p.length) (λ commitment. commitment)) (sym epocher) set);
     later = later;
@@ -62,9 +52,9 @@ module _ (FB FC M H FBW FCW MW HW : Type 0) (seen : SeenNode) (buffer : Held) (e
         );
   }
 
-  pub takes_err : (fault : FaultCode Sha256Digest) (left : Remains) → Promises (Err (record { fault = plain_fault fault; remains = left })) → NotFewer seen.held.counts left.counts → IsEndedBy seen.held.counts (record { fault = plain_fault fault; remains = left })
+  pub takes_err : {H R : Type 0} (fault : FaultCode Sha256Digest) (left : Remains) → Promises (Err (record { fault = plain_fault fault; remains = left })) → NotFewer seen.held.counts left.counts → IsEndedBy seen.held.counts (record { fault = plain_fault fault; remains = left })
       → ((config : Config) (chain : Chain) (asked : List Asked) → IsSetNode config seen → IsLawfulStep config chain (node_of seen buffer.blocks asked) e → IsLasting (node_of seen buffer.blocks asked) → plain_fault fault ≡ ticket_limit ack_kind → ⊥)
-      → TakesEvent seen buffer e told1 asks1 (Stopped left) (outcome.Fault fault)
+      → TakesEvent {H = H} {R = R} seen buffer e told1 asks1 (state.Stopped left 0) (outcome.Fault fault)
   takes_err fault left promise later cause limit = record {
     set = λ config set. tt;
     later = later;

@@ -105,31 +105,28 @@ shown_first sunk sunk' reports asks before written silent unasked wrote =
     subst (λ bs. WritesText sunk (λ asked. bs) sunk' written) (sym (append-nil (output_text silent_output (stopped before))))
     (subst (λ cs. WritesText sunk (λ asked. output_text (output_of [] cs outcome.Done) (stopped before)) sunk' written) unasked (subst (λ rs. WritesText sunk (λ asked. output_text (output_of rs asks outcome.Done) (stopped before)) sunk' written) silent wrote))
 
-module _ (FB FC M H FBW FCW MW HW : Type 0) where
-  abbrev Code : Type 0
-  Code = StateCode FB FC M H FBW FCW MW HW
-
+module _ {H R : Type 0} where
   -- a state's text doesn't depend on the open requests
-  text_open : (out : Output) (s : Code) (asked : List Asked) → output_text out (state_of asked s) ≡ output_text out (state_of [] s)
+  text_open : (out : Output) (s : StateCode H R) (asked : List Asked) → output_text out (state_of asked s) ≡ output_text out (state_of [] s)
   unfolding output_text
   text_open out (state.Running seen buffer) asked = refl
   text_open out (state.Stopped left luck) asked = refl
 
-  left_remains : (s : Code) (asked : List Asked) → left_in (state_of asked s) ≡ (remains_in s).ended
+  left_remains : (s : StateCode H R) (asked : List Asked) → left_in (state_of asked s) ≡ (remains_in s).ended
   left_remains (state.Running seen buffer) asked = refl
   left_remains (state.Stopped left luck) asked = refl
 
   -- a line that was written leaves the settings, and no count fell
-  pub turned_set : {U : Type 0} (config : Config) (c d : Code) (l : Line) (sunk sunk' : Option (List ℕ)) (written : Result U StatusCode) → TurnsLine config c l sunk d sunk' written → IsSetAs config c → IsSetAs config d
+  pub turned_set : {U : Type 0} (config : Config) (c d : StateCode H R) (l : Line) (sunk sunk' : Option (List ℕ)) (written : Result U StatusCode) → TurnsLine config c l sunk d sunk' written → IsSetAs config c → IsSetAs config d
   turned_set config c d l sunk sunk' written (inl (memory, same, takes)) set = subst (IsSetAs config) (sym same) set
   turned_set config c d l sunk sunk' written (inr turned) set = turned.plays.set set
 
-  pub turned_later : {U : Type 0} (config : Config) (c d : Code) (l : Line) (sunk sunk' : Option (List ℕ)) (written : Result U StatusCode) (first : Counts) → TurnsLine config c l sunk d sunk' written → NotFewer first (remains_in c).counts → NotFewer first (remains_in d).counts
+  pub turned_later : {U : Type 0} (config : Config) (c d : StateCode H R) (l : Line) (sunk sunk' : Option (List ℕ)) (written : Result U StatusCode) (first : Counts) → TurnsLine config c l sunk d sunk' written → NotFewer first (remains_in c).counts → NotFewer first (remains_in d).counts
   turned_later config c d l sunk sunk' written first (inl (memory, same, takes)) fewer = subst (λ x. NotFewer first (remains_in x).counts) (sym same) fewer
   turned_later config c d l sunk sunk' written first (inr turned) fewer = λ s. not_fewer_then _ _ _ (fewer s) (turned.plays.later s)
 
   -- The lines that were read and done so far, what was written, and the run that it is for each lawful chain.
-  pub record HeadSoFar (source : Option (List ℕ)) (s : Settings) (pending : List ℕ) (now : Option (List ℕ)) (number : ℕ) (before : Ended) (first : Counts) (code : Code) (sunk sunk' : Option (List ℕ)) : Type 0 where
+  pub record HeadSoFar (source : Option (List ℕ)) (s : Settings) (pending : List ℕ) (now : Option (List ℕ)) (number : ℕ) (before : Ended) (first : Counts) (code : StateCode H R) (sunk sunk' : Option (List ℕ)) : Type 0 where
     pub reads : SoFar source s pending now number
     pub bytes : List ℕ
     pub takes : Takes sunk bytes sunk'
@@ -138,7 +135,7 @@ module _ (FB FC M H FBW FCW MW HW : Type 0) where
   module _ (source : Option (List ℕ)) (s : Settings) (valid : IsSettings s) (before : Ended) (first : Counts) (sunk : Option (List ℕ)) where
     -- BETWEEN TWO LINES
 
-    module _ (pending : List ℕ) (now : Option (List ℕ)) (number : ℕ) (c : Code) (sunk' : Option (List ℕ)) (so : HeadSoFar source s pending now number before first c sunk sunk') (hands : (asked : List Asked) → HandsBack (state_of asked c) (remains_in c).ended) where
+    module _ (pending : List ℕ) (now : Option (List ℕ)) (number : ℕ) (c : StateCode H R) (sunk' : Option (List ℕ)) (so : HeadSoFar source s pending now number before first c sunk sunk') (hands : (asked : List Asked) → HandsBack (state_of asked c) (remains_in c).ended) where
       between : (read : List ℕ) (after : Option (List ℕ)) (ending : Status) → StopsBetween ending → Gives now read after → StopsWith number (IsLineBytes s.members) (pending ++ read) after ending → HeadlineWhereTold (IsQuiet first (remains_in c).counts) source after sunk sunk' ending before (remains_in c).ended
       between read after ending here gives stops =
           told source s valid before first sunk (IsQuiet first (remains_in c).counts) pending now number read after ending sunk' so.bytes (remains_in c).ended so.reads gives stops so.takes
@@ -158,14 +155,14 @@ module _ (FB FC M H FBW FCW MW HW : Type 0) where
 
     -- IN A LINE
 
-    module _ (pending : List ℕ) (now : Option (List ℕ)) (number : ℕ) (c : Code) (sunk' : Option (List ℕ)) (so : HeadSoFar source s pending now number before first c sunk sunk') (l : LineCode) (still : List ℕ) (after : Option (List ℕ)) (t : TakesNext s.members number now pending (Ok (Some l)) still after) where
+    module _ (pending : List ℕ) (now : Option (List ℕ)) (number : ℕ) (c : StateCode H R) (sunk' : Option (List ℕ)) (so : HeadSoFar source s pending now number before first c sunk sunk') (l : LineCode) (still : List ℕ) (after : Option (List ℕ)) (t : TakesNext s.members number now pending (Ok (Some l)) still after) where
       -- memory ran out before the line did anything
       pub stops_undone : (sunk2 : Option (List ℕ)) → Takes sunk' [] sunk2 → ((asked : List Asked) → HandsBack (state_of asked c) (remains_in c).ended) → ReplaysWhereTold source after sunk sunk2 status.Memory before first (remains_in c)
       stops_undone sunk2 takes hands =
           told source s valid before first sunk (IsQuiet first (remains_in c).counts) pending now number t.read after out_of_memory sunk2 so.bytes (remains_in c).ended so.reads t.gives (out_here source s valid before first sunk number (pending ++ t.read) after) (subst (λ bs. Takes sunk bs sunk2) (append-nil so.bytes) (takes_more sunk sunk' sunk2 so.bytes [] so.takes takes))
           (λ chain p. stops_between out_of_memory (config_of s) chain before so.reads.lines first (remains_in c).counts (λ asked. state_of asked c) so.bytes (remains_in c).ended tt (so.runs chain p) (left_remains c) hands)
 
-      module _ {U : Type 0} (d : Code) (sunk2 : Option (List ℕ)) (written : Result U StatusCode) (set : IsSetAs (config_of s) c) (fewer : NotFewer first (remains_in c).counts) (turned : Turned (config_of s) c (plain_line l) sunk' d sunk2 written) where
+      module _ {U : Type 0} (d : StateCode H R) (sunk2 : Option (List ℕ)) (written : Result U StatusCode) (set : IsSetAs (config_of s) c) (fewer : NotFewer first (remains_in c).counts) (turned : Turned (config_of s) c (plain_line l) sunk' d sunk2 written) where
         abbrev text_now : List ℕ
         text_now = output_text turned.out (state_of [] d)
 
@@ -210,24 +207,24 @@ module _ (FB FC M H FBW FCW MW HW : Type 0) where
         stops_unwritten status.Usage is end hands = absurd end
 
       -- the same of a line that was done or not
-      pub stops_turn : {U : Type 0} (d : Code) (sunk2 : Option (List ℕ)) (written : Result U StatusCode) (code : StatusCode) → IsSetAs (config_of s) c → NotFewer first (remains_in c).counts → TurnsLine (config_of s) c (plain_line l) sunk' d sunk2 written → written ≡ Err code → IsWritersEnd code → ((asked : List Asked) → HandsBack (state_of asked d) (remains_in d).ended)
+      pub stops_turn : {U : Type 0} (d : StateCode H R) (sunk2 : Option (List ℕ)) (written : Result U StatusCode) (code : StatusCode) → IsSetAs (config_of s) c → NotFewer first (remains_in c).counts → TurnsLine (config_of s) c (plain_line l) sunk' d sunk2 written → written ≡ Err code → IsWritersEnd code → ((asked : List Asked) → HandsBack (state_of asked d) (remains_in d).ended)
           → ReplaysWhereTold source after sunk sunk2 code before first (remains_in d)
       stops_turn d sunk2 written code set fewer (inl (memory, same, takes)) is end hands =
           subst (λ k. ReplaysWhereTold source after sunk sunk2 k before first (remains_in d)) (sym (err_inside code status.Memory (sym is ∙ memory)))
           (subst (λ x. ReplaysWhereTold source after sunk sunk2 status.Memory before first (remains_in x)) (sym same) (stops_undone sunk2 takes (subst (λ x. (asked : List Asked) → HandsBack (state_of asked x) (remains_in x).ended) same hands)))
       stops_turn d sunk2 written code set fewer (inr turned) is end hands = stops_unwritten d sunk2 written set fewer turned code is end hands
 
-      pub turn_goes_further : {U : Type 0} (d : Code) (sunk2 : Option (List ℕ)) (written : Result U StatusCode) (u : U) → IsSetAs (config_of s) c → NotFewer first (remains_in c).counts → TurnsLine (config_of s) c (plain_line l) sunk' d sunk2 written → written ≡ Ok u → HeadSoFar source s still after (number + 1) before first d sunk sunk2
+      pub turn_goes_further : {U : Type 0} (d : StateCode H R) (sunk2 : Option (List ℕ)) (written : Result U StatusCode) (u : U) → IsSetAs (config_of s) c → NotFewer first (remains_in c).counts → TurnsLine (config_of s) c (plain_line l) sunk' d sunk2 written → written ≡ Ok u → HeadSoFar source s still after (number + 1) before first d sunk sunk2
       turn_goes_further d sunk2 written u set fewer (inl (memory, same, takes)) is = absurd (ok_not_err u status.Memory (sym is ∙ memory))
       turn_goes_further d sunk2 written u set fewer (inr turned) is = goes_further d sunk2 written set fewer turned u is
 
     -- so many lines can't have been done
-    pub head_never : {T : Type 0} (pending : List ℕ) (now : Option (List ℕ)) (number : ℕ) (c : Code) (sunk' : Option (List ℕ)) → HeadSoFar source s pending now number before first c sunk sunk' → max_lines + 1 < number → T
+    pub head_never : {T : Type 0} (pending : List ℕ) (now : Option (List ℕ)) (number : ℕ) (c : StateCode H R) (sunk' : Option (List ℕ)) → HeadSoFar source s pending now number before first c sunk sunk' → max_lines + 1 < number → T
     head_never pending now number c sunk' so past = absurd (omega (arith, so.reads.count, so.reads.few))
 
     -- BEFORE THE FIRST LINE
 
-    pub begins_head : (pending : List ℕ) (now : Option (List ℕ)) (taken : List ℕ) (c : Code) (sunk' : Option (List ℕ)) → Gives source taken now → taken ≡ settings_bytes s ++ pending → ((asked : List Asked) → state_of asked c ≡ stopped before) → (remains_in c).counts ≡ first → Takes sunk (text before []) sunk'
+    pub begins_head : (pending : List ℕ) (now : Option (List ℕ)) (taken : List ℕ) (c : StateCode H R) (sunk' : Option (List ℕ)) → Gives source taken now → taken ≡ settings_bytes s ++ pending → ((asked : List Asked) → state_of asked c ≡ stopped before) → (remains_in c).counts ≡ first → Takes sunk (text before []) sunk'
         → HeadSoFar source s pending now 2 before first c sunk sunk'
     unfolding begins
     begins_head pending now taken c sunk' gives is stopped_is counts takes = record {

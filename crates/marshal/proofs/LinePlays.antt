@@ -39,18 +39,15 @@ use Rattle.marshal.proofs.OpeningTurns.{lasting-found, lawful_start, opening_cut
 none_in : (b : Block) → Contains [] b → ⊥
 none_in b has = let lt : has.0 < 0 = has.1 in omega arith
 
-module _ (FB FC M H FBW FCW MW HW : Type 0) where
-  abbrev Code : Type 0
-  Code = StateCode FB FC M H FBW FCW MW HW
-
-  abbrev Stopped : Remains → ℕ → Code
+module _ {H R : Type 0} where
+  abbrev Stopped : Remains → ℕ → StateCode H R
   Stopped left luck = state.Stopped left luck
 
-  abbrev Running : SeenNode → Held → Code
+  abbrev Running : SeenNode → Held → StateCode H R
   Running seen buffer = state.Running seen buffer
 
   -- a line that does nothing, for a reason
-  pub plays_remark : (config : Config) (s : Code) (l : Line) (r : RemarkShown) → ((chain : Chain) (asked : List Asked) → LineDone config chain (state_of asked s) l (output_of [] [] (outcome.Remark r)) (state_of asked s)) → HasLuck (luck_after (luck_in s) l None) s → PlaysLine config s l (output_of [] [] (outcome.Remark r)) s
+  pub plays_remark : (config : Config) (s : StateCode H R) (l : Line) (r : RemarkShown) → ((chain : Chain) (asked : List Asked) → LineDone config chain (state_of asked s) l (output_of [] [] (outcome.Remark r)) (state_of asked s)) → HasLuck (luck_after (luck_in s) l None) s → PlaysLine config s l (output_of [] [] (outcome.Remark r)) s
   plays_remark config s l r done luck = record {
     set = λ is. is;
     later = not_fewer (remains_in s).counts;
@@ -59,7 +56,7 @@ module _ (FB FC M H FBW FCW MW HW : Type 0) where
   }
 
   -- a line that changes nothing that is seen, and writes nothing
-  plays_nothing : (config : Config) (s : Code) (l : Line) → ((chain : Chain) (asked : List Asked) → LineDone config chain (state_of asked s) l silent_output (state_of asked s)) → HasLuck (luck_after (luck_in s) l None) s → PlaysLine config s l (output_of [] [] outcome.Done) s
+  plays_nothing : (config : Config) (s : StateCode H R) (l : Line) → ((chain : Chain) (asked : List Asked) → LineDone config chain (state_of asked s) l silent_output (state_of asked s)) → HasLuck (luck_after (luck_in s) l None) s → PlaysLine config s l (output_of [] [] outcome.Done) s
   plays_nothing config s l done luck = record {
     set = λ is. is;
     later = not_fewer (remains_in s).counts;
@@ -93,7 +90,7 @@ module _ (FB FC M H FBW FCW MW HW : Type 0) where
   }
 
   -- a line that is one event of the life
-  pub plays_event : (seen : SeenNode) (buffer : Held) (l : Line) (e : Event) (rs : List Report) (cs : List Call) (after : Code) (o : Outcome) → IsPlain e → ((f : Finalization) → e ≡ message_told None (report_finalization f) → l ≡ tell_line (report_finalization f))
+  pub plays_event : (seen : SeenNode) (buffer : Held) (l : Line) (e : Event) (rs : List Report) (cs : List Call) (after : StateCode H R) (o : Outcome) → IsPlain e → ((f : Finalization) → e ≡ message_told None (report_finalization f) → l ≡ tell_line (report_finalization f))
       → ((config : Config) (chain : Chain) (asked : List Asked) (out : Output) (s : State) → StepDone config chain (node_of seen buffer.blocks asked) (e ∷ []) [] (λ m. []) out s → LineDone config chain (running (node_of seen buffer.blocks asked)) l out s)
       → TakesEvent seen buffer e rs cs after o → (config : Config) → PlaysLine config (Running seen buffer) l (output_of rs cs o) after
   plays_event seen buffer l e rs cs after o plain same line_done takes config = record {
@@ -103,7 +100,7 @@ module _ (FB FC M H FBW FCW MW HW : Type 0) where
     plays = λ is chain asked lawful. by after o chain asked lawful (takes.done config chain asked is (lawful_step config chain seen buffer.blocks asked l e plain lawful same));
   }
     where
-      by : (after : Code) (o : Outcome) (chain : Chain) (asked : List Asked) → IsLawfulLine config chain (running (node_of seen buffer.blocks asked)) l → AfterEvent config chain seen buffer.blocks asked e rs cs after o
+      by : (after : StateCode H R) (o : Outcome) (chain : Chain) (asked : List Asked) → IsLawfulLine config chain (running (node_of seen buffer.blocks asked)) l → AfterEvent config chain seen buffer.blocks asked e rs cs after o
           → (asked' : List Asked) × Plays config chain (running (node_of seen buffer.blocks asked)) l (output_of rs cs o) (state_of asked' after) seen.held.counts (remains_in after).counts
       by (state.Running new same_buffer) outcome.Done chain asked lawful (steps, kept) = (
         asked_after asked [] cs,
@@ -147,7 +144,7 @@ module _ (FB FC M H FBW FCW MW HW : Type 0) where
   }
 
   -- an opening, and the start of its life
-  pub plays_opening : (config : Config) (before : Remains) (luck : ℕ) (g : Block) (seen : SeenNode) (rs : List Report) (cs : List Call) (after : Code) (o : Outcome) → IsSetNode config seen → seen.held.counts ≡ before.counts
+  pub plays_opening : (config : Config) (before : Remains) (luck : ℕ) (g : Block) (seen : SeenNode) (rs : List Report) (cs : List Call) (after : StateCode H R) (o : Outcome) → IsSetNode config seen → seen.held.counts ≡ before.counts
       → ((chain : Chain) → IsLawfulLine config chain (stopped before.ended) (open_line (from_genesis g)) → Finds config before.ended (from_genesis g) (node_of seen [] []) × IsGoodUntold config chain (node_of seen [] []))
       → TakesEvent seen empty_buffer (life_started None) rs cs after o → PlaysLine config (Stopped before luck) (open_line (from_genesis g)) (output_of rs cs o) after
   plays_opening config before luck g seen rs cs after o set counts begins takes = record {
@@ -157,7 +154,7 @@ module _ (FB FC M H FBW FCW MW HW : Type 0) where
     plays = λ is chain asked lawful. let begun = begins chain lawful in by after o chain asked lawful begun.0 begun.1 (takes.done config chain [] set (lawful_start config chain before.ended g seen begun.0 lawful begun.1));
   }
     where
-      by : (after : Code) (o : Outcome) (chain : Chain) (asked : List Asked) → IsLawfulLine config chain (stopped before.ended) (open_line (from_genesis g)) → Finds config before.ended (from_genesis g) (node_of seen [] []) → IsGoodUntold config chain (node_of seen [] []) → AfterEvent config chain seen [] [] (life_started None) rs cs after o
+      by : (after : StateCode H R) (o : Outcome) (chain : Chain) (asked : List Asked) → IsLawfulLine config chain (stopped before.ended) (open_line (from_genesis g)) → Finds config before.ended (from_genesis g) (node_of seen [] []) → IsGoodUntold config chain (node_of seen [] []) → AfterEvent config chain seen [] [] (life_started None) rs cs after o
           → (asked' : List Asked) × Plays config chain (stopped before.ended) (open_line (from_genesis g)) (output_of rs cs o) (state_of asked' after) before.counts (remains_in after).counts
       by (state.Running new same_buffer) outcome.Done chain asked lawful finds good (steps, kept) = (
         asked_after [] [] cs,

@@ -36,17 +36,17 @@ SeenNode = Seen Provided FixedEpocher
 abbrev pub IsSetNode : Config → SeenNode → Type 0
 IsSetNode config seen = IsSetTo config seen.life.sizes (fixed_epochs seen.life.epocher.length) (λ commitment. commitment)
 
-abbrev pub IsSetAs : {FB FC M H FBW FCW MW HW : Type 0} → Config → StateCode FB FC M H FBW FCW MW HW → Type 0
+abbrev pub IsSetAs : {H R : Type 0} → Config → StateCode H R → Type 0
 IsSetAs config (state.Running seen buffer) = IsSetNode config seen
 IsSetAs config (state.Stopped left luck) = ⊤
 
 -- the luck of the next opening, 0 while a life runs
-abbrev pub luck_in : {FB FC M H FBW FCW MW HW : Type 0} → StateCode FB FC M H FBW FCW MW HW → ℕ
+abbrev pub luck_in : {H R : Type 0} → StateCode H R → ℕ
 luck_in (state.Running seen buffer) = 0
 luck_in (state.Stopped left luck) = luck
 
 -- where no life runs, the next opening has this luck
-abbrev pub HasLuck : {FB FC M H FBW FCW MW HW : Type 0} → ℕ → StateCode FB FC M H FBW FCW MW HW → Type 0
+abbrev pub HasLuck : {H R : Type 0} → ℕ → StateCode H R → Type 0
 HasLuck luck (state.Running seen buffer) = ⊤
 HasLuck luck (state.Stopped left now) = now ≡ luck
 
@@ -57,7 +57,7 @@ luck_after luck (crash_line own) None = own
 luck_after luck line None = luck
 
 -- A line of the program that was done, for each chain for which it is lawful.
-pub record PlaysLine {FB FC M H FBW FCW MW HW : Type 0} (config : Config) (before : StateCode FB FC M H FBW FCW MW HW) (line : Line) (out : Output) (after : StateCode FB FC M H FBW FCW MW HW) : Type 0 where
+pub record PlaysLine {H R : Type 0} (config : Config) (before : StateCode H R) (line : Line) (out : Output) (after : StateCode H R) : Type 0 where
   pub set : IsSetAs config before → IsSetAs config after
   pub later : NotFewer (remains_in before).counts (remains_in after).counts
   pub luck : HasLuck (luck_after (luck_in before) line out.fault) after
@@ -65,7 +65,7 @@ pub record PlaysLine {FB FC M H FBW FCW MW HW : Type 0} (config : Config) (befor
       → (asked' : List Asked) × Plays config chain (state_of asked before) line out (state_of asked' after) (remains_in before).counts (remains_in after).counts
 
 -- it was done, or memory ran out before it did anything
-abbrev pub PlaysOrNot : {FB FC M H FBW FCW MW HW E : Type 0} → Config → StateCode FB FC M H FBW FCW MW HW → Line → List Report → List Call → StateCode FB FC M H FBW FCW MW HW → Result Outcome E → Type 0
+abbrev pub PlaysOrNot : {H R E : Type 0} → Config → StateCode H R → Line → List Report → List Call → StateCode H R → Result Outcome E → Type 0
 PlaysOrNot config before line reports asks after result = MatchResult result (λ o. PlaysLine config before line (output_of reports asks o) after) (λ e. after ≡ before)
 
 -- what was written of a text that doesn't depend on the open requests: all of it, or a front
@@ -74,13 +74,13 @@ WritesText sunk text sunk' (Ok u) = (asked : List Asked) → Takes sunk (text as
 WritesText sunk text sunk' (Err s) = (asked : List Asked) → TakesFront sunk (text asked) sunk'
 
 -- A line that was done and written, as far as writing went.
-pub record Turned {FB FC M H FBW FCW MW HW U : Type 0} (config : Config) (before : StateCode FB FC M H FBW FCW MW HW) (line : Line) (sunk : Option (List ℕ)) (after : StateCode FB FC M H FBW FCW MW HW) (sunk' : Option (List ℕ)) (written : Result U StatusCode) : Type 0 where
+pub record Turned {H R U : Type 0} (config : Config) (before : StateCode H R) (line : Line) (sunk : Option (List ℕ)) (after : StateCode H R) (sunk' : Option (List ℕ)) (written : Result U StatusCode) : Type 0 where
   pub out : Output
   pub plays : PlaysLine config before line out after
   pub wrote : WritesText sunk (λ asked. output_text out (state_of asked after)) sunk' written
   pub memory : out.fault ≡ Some want_of_memory → IsErrOf written status.Memory
 
-abbrev pub TurnsLine : {FB FC M H FBW FCW MW HW U : Type 0} → Config → StateCode FB FC M H FBW FCW MW HW → Line → Option (List ℕ) → StateCode FB FC M H FBW FCW MW HW → Option (List ℕ) → Result U StatusCode → Type 0
+abbrev pub TurnsLine : {H R U : Type 0} → Config → StateCode H R → Line → Option (List ℕ) → StateCode H R → Option (List ℕ) → Result U StatusCode → Type 0
 TurnsLine config before line sunk after sunk' written = (IsErrOf written status.Memory × (after ≡ before) × Takes sunk [] sunk') ⊎ Turned config before line sunk after sunk' written
 
 -- ONE EVENT
@@ -90,7 +90,7 @@ abbrev pub empty_buffer : Held
 empty_buffer = record { blocks = []; is_open = true; sent = [] }
 
 -- A step that finished, with the buffer as it was, or a cut, whose fault is told by a count or by no more tickets.
-abbrev pub AfterEvent : {FB FC M H FBW FCW MW HW : Type 0} → Config → Chain → SeenNode → List Block → List Asked → Event → List Report → List Call → StateCode FB FC M H FBW FCW MW HW → Outcome → Type 0
+abbrev pub AfterEvent : {H R : Type 0} → Config → Chain → SeenNode → List Block → List Asked → Event → List Report → List Call → StateCode H R → Outcome → Type 0
 AfterEvent config chain seen buffer asked e reports asks (state.Running new same) outcome.Done =
     Steps config chain (node_of seen buffer asked) (e ∷ []) (made_of reports asks) (node_of new same.blocks (asked_after asked [] asks)) × ((b : Block) → Contains same.blocks b → Contains buffer b)
 AfterEvent config chain seen buffer asked e reports asks (state.Stopped left luck) (outcome.Fault fault) =
@@ -98,7 +98,7 @@ AfterEvent config chain seen buffer asked e reports asks (state.Stopped left luc
 AfterEvent config chain seen buffer asked e reports asks after outcome = ⊥
 
 -- What one event makes of a life.
-pub record TakesEvent {FB FC M H FBW FCW MW HW : Type 0} (seen : SeenNode) (buffer : Held) (e : Event) (reports : List Report) (asks : List Call) (after : StateCode FB FC M H FBW FCW MW HW) (outcome : Outcome) : Type 0 where
+pub record TakesEvent {H R : Type 0} (seen : SeenNode) (buffer : Held) (e : Event) (reports : List Report) (asks : List Call) (after : StateCode H R) (outcome : Outcome) : Type 0 where
   pub set : (config : Config) → IsSetNode config seen → IsSetAs config after
   pub later : NotFewer seen.held.counts (remains_in after).counts
   pub luck : (before : ℕ) (line : Line) → HasLuck (luck_after before line (fault_in outcome)) after

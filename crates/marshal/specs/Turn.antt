@@ -41,11 +41,11 @@ abbrev pub output_of : List Report → List Call → Outcome → Output
 output_of reports asks outcome = record { made = made_of reports asks; outcomes = []; remark = remark_in outcome; fault = fault_in outcome }
 
 -- the program's state as plain data, where these requests are open
-abbrev pub state_of : {FB FC M H FBW FCW MW HW : Type 0} → List Asked → StateCode FB FC M H FBW FCW MW HW → State
+abbrev pub state_of : {H R : Type 0} → List Asked → StateCode H R → State
 state_of asked (state.Running seen buffer) = running (node_of seen buffer.blocks asked)
 state_of asked (state.Stopped left luck) = stopped left.ended
 
 -- what is left of its stores
-abbrev pub remains_in : {FB FC M H FBW FCW MW HW : Type 0} → StateCode FB FC M H FBW FCW MW HW → Remains
+abbrev pub remains_in : {H R : Type 0} → StateCode H R → Remains
 remains_in (state.Running seen buffer) = remains_of seen.held
 remains_in (state.Stopped left luck) = left

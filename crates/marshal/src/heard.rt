@@ -47,7 +47,8 @@ impl Reporter<StandardBlocks> for Told {
         &mut self,
         update: Update<Sha256Digest, Digested<EmptyBlock<Sha256>>>,
     ) -> Result<(), AllocError>
-        ensures ok { OnOk result (Hears (Some (map plain_report self.old.updates.items)) (plain_report update ∷ []) (Some (map plain_report self.new.updates.items))) }
+        ensures ok { OnOk result (Hears (Some (map plain_report self.old.updates.items)) (plain_report update ∷ [])
+            (Some (map plain_report self.new.updates.items))) }
         ensures err { OnErr result (Hears (Some (map plain_report self.old.updates.items)) [] (Some (map plain_report self.new.updates.items))) }
     {
         self.updates.push(update)?;

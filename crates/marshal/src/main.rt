@@ -15,14 +15,12 @@ mod run;
 mod turn;
 
 use crate::help::{show, text_for};
-use crate::play::Stores;
-use crate::run::run;
-use mar_actor::Ruins;
+use crate::run::{ScriptRuins, run};
 use mar_block::StandardBlocks;
 use mar_cert::MockFinalization;
 use mar_script::{Input as InputSource, Output, Status};
 use mar_shelf::prunable::Archive;
-use mar_shelf::{BlockItem, Blocks, CertificateItem, Certificates, NoShelf, Shelf};
+use mar_shelf::{BlockItem, Blocks, CertificateItem, Certificates, NoShelf, Ruins, Shelf};
 use mar_store::{LuckHalf, MemArchive, MemMeta, Meta};
 use std::alloc::Global;
 use std::io::ErrorKind;
@@ -37,7 +35,7 @@ type BlockStore = Archive<MemArchive<BlockItem<StandardBlocks>>>;
 type CertificateStore = Archive<MemArchive<CertificateItem<StandardBlocks, MockFinalization>>>;
 
 /// What is left of stores in memory.
-type MemoryStores = Stores<BlockStore, CertificateStore, MemMeta, NoShelf>;
+type MemoryRuins = ScriptRuins<BlockStore, CertificateStore, MemMeta, NoShelf>;
 
 /// The words of the command line behind the program's name.
 fn words_of(rt: &(impl Env + AllocGlobal)) -> io::Result<Vec<String>> {
@@ -63,7 +61,7 @@ fn run_words(rt: &(impl AllocGlobal + Input + Print), words: &[String]) -> Statu
 }
 
 /// Stores in memory that hold nothing.
-fn empty_stores(alloc: Global) -> MemoryStores
+fn empty_stores(alloc: Global) -> MemoryRuins
     ensures empty { result.ended ≡ nothing_stored }
     ensures calm { result.counts ≡ no_faults }
 {

@@ -9,48 +9,46 @@ ghost use Rattle.mar_shelf.specs.Views.{store_name_of};
 ghost use Rattle.mar_script.specs.Lines.{plain_block, plain_finalization, plain_line};
 ghost use Rattle.marshal.specs.Playing.{PlaysLine, PlaysOrNot, TakesEvent};
 ghost use Rattle.mar_script.specs.Shown.{plain_fault};
-ghost use Rattle.mar_script.specs.Script.{IsSettings, ack_line, buffer_line, config_of, fail_line, open_line, tell_line};
+ghost use Rattle.mar_script.specs.Script.{IsSettings, ack_line, buffer_line, config_of, fail_line, open_line, sync_line, tell_line};
 ghost use Rattle.marshal.specs.Turn.{fault_in, output_of, plain_report};
 
 use crate::heard::Heard;
-use mar_actor::{Actor, Config, Ended, Event, Fault, Limits, Ruins, Start, StoreName};
+use mar_actor::{Config, Ended, Event, Fault, Limits, Node, Start, StoreName};
 use mar_block::{EmptyBlock, MemBuffer, StandardBlocks};
 use mar_cert::{MockFinalization, MockProvider, MockScheme};
 use mar_codec::{Digested, Sha256, Sha256Digest};
 use mar_inbox::Message;
 use mar_script::{Line, RemarkShown, Settings};
-use mar_shelf::{Blocks, Certificates, Shelf};
-use mar_store::Meta;
+use mar_shelf::{Holds, StoresRuin};
 use mar_types::{Epoch, FixedEpocher, ViewDelta};
 use std::alloc::{AllocError, Global};
+use std::marker::Model;
 use std::num::NonZeroU64;
 
-/// The actor that a script drives.
-pub type Node<FB, FC, M, H> = Actor<
-    StandardBlocks,
-    MockFinalization,
-    MockProvider,
-    FixedEpocher,
-    FB,
-    FC,
-    M,
-    H,
->;
+/// The node that a script drives, over stores of the kind `H`.
+pub type ScriptNode<H> = Node<StandardBlocks, H, MockProvider, FixedEpocher>;
 
-/// What is left of a node's stores.
-pub type Stores<FB, FC, M, H> = Ruins<StandardBlocks, MockFinalization, FB, FC, M, H>;
+/// What is left of the stores of a node.
+#[derive(Drop)]
+pub struct Left<H: Holds<StandardBlocks, Finalization = MockFinalization>> {
+    /// What the next opening is given.
+    pub ruins: H::Ruins,
+}
+
+impl<H: Holds<StandardBlocks, Finalization = MockFinalization>> Model for Left<H> {
+    ghost use Rattle.mar_node.specs.Held.{Remains};
+
+    ghost Value = { Remains };
+
+    ghost view = { λ l. H.Ruins.left l.ruins };
+}
 
 /// A node while a life runs, with the blocks that its buffer has; else what is left of its stores, and the luck of the
 /// next opening.
 #[derive(Drop)]
-pub enum State<
-    FB: Blocks<StandardBlocks>,
-    FC: Certificates<StandardBlocks, MockFinalization>,
-    M: Meta,
-    H: Shelf,
-> {
-    Running(Node<FB, FC, M, H>, MemBuffer<StandardBlocks>),
-    Stopped(Stores<FB, FC, M, H>, u64),
+pub enum State<H: Holds<StandardBlocks, Finalization = MockFinalization>> {
+    Running(ScriptNode<H>, MemBuffer<StandardBlocks>),
+    Stopped(Left<H>, u64),
 }
 
 /// What a line did, beside what the node told and asked.
@@ -77,18 +75,13 @@ impl Outcome {
 }
 
 /// Does one line, or answers that memory ran out before anything was done.
-pub fn play<
-    FB: Blocks<StandardBlocks>,
-    FC: Certificates<StandardBlocks, MockFinalization>,
-    M: Meta,
-    H: Shelf,
->(
+pub fn play<H: Holds<StandardBlocks, Finalization = MockFinalization>>(
     alloc: Global,
     settings: Settings,
-    state: State<FB, FC, M, H>,
+    state: State<H>,
     line: Line,
     heard: &mut Heard,
-) -> (State<FB, FC, M, H>, Result<Outcome, AllocError>)
+) -> (State<H>, Result<Outcome, AllocError>)
     requires settings { IsSettings settings }
     requires silent { heard.old.told.updates.items ≡ [] }
     requires unasked { heard.old.asked.asks ≡ [] }
@@ -96,91 +89,76 @@ pub fn play<
 {
     match state {
         State::Running(actor, buffer) => play_running(alloc, actor, buffer, line, heard),
-        State::Stopped(stores, luck) => play_stopped(alloc, settings, stores, luck, line, heard),
+        State::Stopped(left, luck) => play_stopped(alloc, settings, left, luck, line, heard),
     }
 }
 
 // Does one line where no life runs.
-fn play_stopped<
-    FB: Blocks<StandardBlocks>,
-    FC: Certificates<StandardBlocks, MockFinalization>,
-    M: Meta,
-    H: Shelf,
->(
+fn play_stopped<H: Holds<StandardBlocks, Finalization = MockFinalization>>(
     alloc: Global,
     settings: Settings,
-    stores: Stores<FB, FC, M, H>,
+    left: Left<H>,
     luck: u64,
     line: Line,
     heard: &mut Heard,
-) -> (State<FB, FC, M, H>, Result<Outcome, AllocError>)
+) -> (State<H>, Result<Outcome, AllocError>)
     requires settings { IsSettings settings }
     requires silent { heard.old.told.updates.items ≡ [] }
     requires unasked { heard.old.asked.asks ≡ [] }
-    ensures { PlaysOrNot (config_of settings) (State.Stopped stores luck) (plain_line line) (map plain_report heard.new.told.updates.items) heard.new.asked.asks result.0 result.1 }
+    ensures { PlaysOrNot (config_of settings) (State.Stopped left luck) (plain_line line) (map plain_report heard.new.told.updates.items) heard.new.asked.asks
+        result.0 result.1 }
 {
     match line {
-        Line::OpenGenesis(genesis) => open(alloc, settings, stores, luck, genesis, heard),
-        Line::Fail(store, calls) => arm_left(stores, luck, store, calls),
-        Line::Crash(next) => (State::Stopped(stores, next), Ok(Outcome::Done)),
-        Line::Buffer(_block) => pass(stores, luck),
-        Line::Final(_finalization) => pass(stores, luck),
-        Line::Sync(_ticket) => pass(stores, luck),
-        Line::Ack(_ticket) => pass(stores, luck),
+        Line::OpenGenesis(genesis) => open(alloc, settings, left, luck, genesis, heard),
+        Line::Fail(store, calls) => arm_left(left, luck, store, calls),
+        Line::Crash(next) => (State::Stopped(left, next), Ok(Outcome::Done)),
+        Line::Buffer(_block) => pass(left, luck),
+        Line::Final(_finalization) => pass(left, luck),
+        Line::Sync(_ticket) => pass(left, luck),
+        Line::Ack(_ticket) => pass(left, luck),
     }
 }
 
 // Does nothing, where no life runs.
-fn pass<
-    FB: Blocks<StandardBlocks>,
-    FC: Certificates<StandardBlocks, MockFinalization>,
-    M: Meta,
-    H: Shelf,
->(stores: Stores<FB, FC, M, H>, luck: u64) -> (State<FB, FC, M, H>, Result<Outcome, AllocError>)
-    ensures state { result.0 ≡ State.Stopped stores luck }
+fn pass<H: Holds<StandardBlocks, Finalization = MockFinalization>>(
+    left: Left<H>,
+    luck: u64,
+) -> (State<H>, Result<Outcome, AllocError>)
+    ensures state { result.0 ≡ State.Stopped left luck }
     ensures outcome { result.1 ≡ Ok (Outcome.Remark RemarkShown.Stopped) }
 {
     let remark = Outcome::Remark(RemarkShown::Stopped);
-    (State::Stopped(stores, luck), Ok(remark))
+    (State::Stopped(left, luck), Ok(remark))
 }
 
 // Makes a call of a store that is left fail, so many calls away.
-fn arm_left<
-    FB: Blocks<StandardBlocks>,
-    FC: Certificates<StandardBlocks, MockFinalization>,
-    M: Meta,
-    H: Shelf,
->(
-    stores: Stores<FB, FC, M, H>,
+fn arm_left<H: Holds<StandardBlocks, Finalization = MockFinalization>>(
+    left: Left<H>,
     luck: u64,
     store: StoreName,
     calls: u64,
-) -> (State<FB, FC, M, H>, Result<Outcome, AllocError>)
-    ensures { (config : PlainConfig) → PlaysOrNot config (State.Stopped stores luck) (fail_line (store_name_of store) calls) [] [] result.0 result.1 }
+) -> (State<H>, Result<Outcome, AllocError>)
+    ensures { (config : PlainConfig) → PlaysOrNot config (State.Stopped left luck) (fail_line (store_name_of store) calls) [] [] result.0 result.1 }
 {
-    let mut stores = stores;
-    if let Err(error) = stores.arm(store, calls) {
-        return (State::Stopped(stores, luck), Err(error));
+    let mut left = left;
+    if let Err(error) = left.ruins.arm(store, calls) {
+        return (State::Stopped(left, luck), Err(error));
     }
-    (State::Stopped(stores, luck), Ok(Outcome::Done))
+    (State::Stopped(left, luck), Ok(Outcome::Done))
 }
 
 // Does one line while a life runs.
-fn play_running<
-    FB: Blocks<StandardBlocks>,
-    FC: Certificates<StandardBlocks, MockFinalization>,
-    M: Meta,
-    H: Shelf,
->(
+fn play_running<H: Holds<StandardBlocks, Finalization = MockFinalization>>(
     alloc: Global,
-    actor: Node<FB, FC, M, H>,
+    actor: ScriptNode<H>,
     buffer: MemBuffer<StandardBlocks>,
     line: Line,
     heard: &mut Heard,
-) -> (State<FB, FC, M, H>, Result<Outcome, AllocError>)
+) -> (State<H>, Result<Outcome, AllocError>)
     requires silent { heard.old.told.updates.items ≡ [] }
     requires unasked { heard.old.asked.asks ≡ [] }
-    ensures { (config : PlainConfig) → PlaysOrNot config (State.Running actor buffer) (plain_line line) (map plain_report heard.new.told.updates.items) heard.new.asked.asks result.0 result.1 }
+    ensures { (config : PlainConfig) → PlaysOrNot config (State.Running actor buffer) (plain_line line) (map plain_report heard.new.told.updates.items)
+        heard.new.asked.asks result.0 result.1 }
 {
     match line {
         Line::OpenGenesis(_genesis) => (
@@ -189,10 +167,7 @@ fn play_running<
         ),
         Line::Buffer(block) => put(alloc, actor, buffer, block),
         Line::Final(finalization) => finalize(actor, buffer, finalization, heard),
-        Line::Sync(_ticket) => (
-            State::Running(actor, buffer),
-            Ok(Outcome::Remark(RemarkShown::Ignored)),
-        ),
+        Line::Sync(ticket) => finish_sync(actor, buffer, ticket, heard),
         Line::Ack(ticket) => acknowledge(actor, buffer, ticket, heard),
         Line::Fail(store, calls) => arm(actor, buffer, store, calls),
         Line::Crash(luck) => (crash(actor, buffer, luck), Ok(Outcome::Done)),
@@ -200,29 +175,24 @@ fn play_running<
 }
 
 // Ends the life at once, and its buffer with it; the next opening has this luck.
-fn crash<
-    FB: Blocks<StandardBlocks>,
-    FC: Certificates<StandardBlocks, MockFinalization>,
-    M: Meta,
-    H: Shelf,
->(actor: Node<FB, FC, M, H>, _buffer: MemBuffer<StandardBlocks>, luck: u64) -> State<FB, FC, M, H>
+fn crash<H: Holds<StandardBlocks, Finalization = MockFinalization>>(
+    actor: ScriptNode<H>,
+    _buffer: MemBuffer<StandardBlocks>,
+    luck: u64,
+) -> State<H>
     ensures { result ≡ State.Stopped (remains_of actor.held) luck }
 {
-    State::Stopped(actor.wreck(), luck)
+    let ruins = actor.wreck();
+    State::Stopped(Left { ruins }, luck)
 }
 
 // Makes a call of a store fail, so many calls away.
-fn arm<
-    FB: Blocks<StandardBlocks>,
-    FC: Certificates<StandardBlocks, MockFinalization>,
-    M: Meta,
-    H: Shelf,
->(
-    actor: Node<FB, FC, M, H>,
+fn arm<H: Holds<StandardBlocks, Finalization = MockFinalization>>(
+    actor: ScriptNode<H>,
     buffer: MemBuffer<StandardBlocks>,
     store: StoreName,
     calls: u64,
-) -> (State<FB, FC, M, H>, Result<Outcome, AllocError>)
+) -> (State<H>, Result<Outcome, AllocError>)
     ensures { (config : PlainConfig) → PlaysOrNot config (State.Running actor buffer) (fail_line (store_name_of store) calls) [] [] result.0 result.1 }
 {
     let mut actor = actor;
@@ -233,17 +203,12 @@ fn arm<
 }
 
 // Puts a block into the buffer.
-fn put<
-    FB: Blocks<StandardBlocks>,
-    FC: Certificates<StandardBlocks, MockFinalization>,
-    M: Meta,
-    H: Shelf,
->(
+fn put<H: Holds<StandardBlocks, Finalization = MockFinalization>>(
     alloc: Global,
-    actor: Node<FB, FC, M, H>,
+    actor: ScriptNode<H>,
     buffer: MemBuffer<StandardBlocks>,
     block: EmptyBlock<Sha256>,
-) -> (State<FB, FC, M, H>, Result<Outcome, AllocError>)
+) -> (State<H>, Result<Outcome, AllocError>)
     ensures { (config : PlainConfig) → PlaysOrNot config (State.Running actor buffer) (buffer_line (plain_block block)) [] [] result.0 result.1 }
 {
     let mut buffer = buffer;
@@ -258,20 +223,16 @@ fn put<
 }
 
 // Reports a finalization.
-fn finalize<
-    FB: Blocks<StandardBlocks>,
-    FC: Certificates<StandardBlocks, MockFinalization>,
-    M: Meta,
-    H: Shelf,
->(
-    actor: Node<FB, FC, M, H>,
+fn finalize<H: Holds<StandardBlocks, Finalization = MockFinalization>>(
+    actor: ScriptNode<H>,
     buffer: MemBuffer<StandardBlocks>,
     finalization: MockFinalization,
     heard: &mut Heard,
-) -> (State<FB, FC, M, H>, Result<Outcome, AllocError>)
+) -> (State<H>, Result<Outcome, AllocError>)
     requires silent { heard.old.told.updates.items ≡ [] }
     requires unasked { heard.old.asked.asks ≡ [] }
-    ensures { (config : PlainConfig) → PlaysOrNot config (State.Running actor buffer) (tell_line (report_finalization (plain_finalization finalization))) (map plain_report heard.new.told.updates.items) heard.new.asked.asks result.0 result.1 }
+    ensures { (config : PlainConfig) → PlaysOrNot config (State.Running actor buffer) (tell_line (report_finalization (plain_finalization finalization)))
+        (map plain_report heard.new.told.updates.items) heard.new.asked.asks result.0 result.1 }
 {
     let event = Event::Message(Message::Finalization(finalization));
     let (state, outcome) = step(actor, buffer, event, heard);
@@ -279,20 +240,16 @@ fn finalize<
 }
 
 // Gives the acknowledgement of this ticket, where it is owed.
-fn acknowledge<
-    FB: Blocks<StandardBlocks>,
-    FC: Certificates<StandardBlocks, MockFinalization>,
-    M: Meta,
-    H: Shelf,
->(
-    actor: Node<FB, FC, M, H>,
+fn acknowledge<H: Holds<StandardBlocks, Finalization = MockFinalization>>(
+    actor: ScriptNode<H>,
     buffer: MemBuffer<StandardBlocks>,
     ticket: u64,
     heard: &mut Heard,
-) -> (State<FB, FC, M, H>, Result<Outcome, AllocError>)
+) -> (State<H>, Result<Outcome, AllocError>)
     requires silent { heard.old.told.updates.items ≡ [] }
     requires unasked { heard.old.asked.asks ≡ [] }
-    ensures { (config : PlainConfig) → PlaysOrNot config (State.Running actor buffer) (ack_line ticket) (map plain_report heard.new.told.updates.items) heard.new.asked.asks result.0 result.1 }
+    ensures { (config : PlainConfig) → PlaysOrNot config (State.Running actor buffer) (ack_line ticket) (map plain_report heard.new.told.updates.items)
+        heard.new.asked.asks result.0 result.1 }
 {
     if !actor.owes_ack(ticket) {
         let remark = Outcome::Remark(RemarkShown::Ignored);
@@ -302,98 +259,101 @@ fn acknowledge<
     (state, Ok(outcome))
 }
 
+// Lets the sync of this ticket finish, where the node awaits it.
+fn finish_sync<H: Holds<StandardBlocks, Finalization = MockFinalization>>(
+    actor: ScriptNode<H>,
+    buffer: MemBuffer<StandardBlocks>,
+    ticket: u64,
+    heard: &mut Heard,
+) -> (State<H>, Result<Outcome, AllocError>)
+    requires silent { heard.old.told.updates.items ≡ [] }
+    requires unasked { heard.old.asked.asks ≡ [] }
+    ensures { (config : PlainConfig) → PlaysOrNot config (State.Running actor buffer) (sync_line ticket) (map plain_report heard.new.told.updates.items)
+        heard.new.asked.asks result.0 result.1 }
+{
+    if !actor.awaits_sync(ticket) {
+        let remark = Outcome::Remark(RemarkShown::Ignored);
+        return (State::Running(actor, buffer), Ok(remark));
+    }
+    let (state, outcome) = step(actor, buffer, Event::Sync(ticket), heard);
+    (state, Ok(outcome))
+}
+
 // Takes one event.
-fn step<
-    FB: Blocks<StandardBlocks>,
-    FC: Certificates<StandardBlocks, MockFinalization>,
-    M: Meta,
-    H: Shelf,
->(
-    actor: Node<FB, FC, M, H>,
+fn step<H: Holds<StandardBlocks, Finalization = MockFinalization>>(
+    actor: ScriptNode<H>,
     buffer: MemBuffer<StandardBlocks>,
     event: Event<MockFinalization>,
     heard: &mut Heard,
-) -> (State<FB, FC, M, H>, Outcome)
+) -> (State<H>, Outcome)
     requires silent { heard.old.told.updates.items ≡ [] }
     requires unasked { heard.old.asked.asks ≡ [] }
-    ensures { TakesEvent actor buffer (event_of plain_finalization event) (map plain_report heard.new.told.updates.items) heard.new.asked.asks result.0 result.1 }
+    ensures { TakesEvent actor buffer (event_of plain_finalization event) (map plain_report heard.new.told.updates.items) heard.new.asked.asks result.0
+        result.1 }
 {
     match actor.step(event, &buffer, &mut heard.asked, &mut heard.told) {
         Ok(actor) => (State::Running(actor, buffer), Outcome::Done),
         Err(ended) => {
-            let (fault, stores) = parts_of(ended);
-            (State::Stopped(stores, 0), Outcome::Fault(fault))
+            let (fault, left) = parts_of(ended);
+            (State::Stopped(left, 0), Outcome::Fault(fault))
         }
     }
 }
 
 // Why a life ended, and what is left of its stores.
-fn parts_of<
-    FB: Blocks<StandardBlocks>,
-    FC: Certificates<StandardBlocks, MockFinalization>,
-    M: Meta,
-    H: Shelf,
->(
-    ended: Ended<StandardBlocks, MockFinalization, FB, FC, M, H>,
-) -> (Fault<Sha256Digest>, Stores<FB, FC, M, H>)
+fn parts_of<H: Holds<StandardBlocks, Finalization = MockFinalization>>(
+    ended: Ended<StandardBlocks, H>,
+) -> (Fault<Sha256Digest>, Left<H>)
     ensures { ended ≡ record { fault = plain_fault result.0; remains = result.1 } }
 {
     let Ended { fault, ruins } = ended;
-    (fault, ruins)
+    (fault, Left { ruins })
 }
 
-// Opens a life over these stores.
-fn open<
-    FB: Blocks<StandardBlocks>,
-    FC: Certificates<StandardBlocks, MockFinalization>,
-    M: Meta,
-    H: Shelf,
->(
+// Opens a life over what is left of stores.
+fn open<H: Holds<StandardBlocks, Finalization = MockFinalization>>(
     alloc: Global,
     settings: Settings,
-    stores: Stores<FB, FC, M, H>,
+    left: Left<H>,
     luck: u64,
     genesis: EmptyBlock<Sha256>,
     heard: &mut Heard,
-) -> (State<FB, FC, M, H>, Result<Outcome, AllocError>)
+) -> (State<H>, Result<Outcome, AllocError>)
     requires settings { IsSettings settings }
     requires silent { heard.old.told.updates.items ≡ [] }
     requires unasked { heard.old.asked.asks ≡ [] }
-    ensures { PlaysOrNot (config_of settings) (State.Stopped stores luck) (open_line (from_genesis (plain_block genesis))) (map plain_report heard.new.told.updates.items) heard.new.asked.asks result.0 result.1 }
+    ensures { PlaysOrNot (config_of settings) (State.Stopped left luck) (open_line (from_genesis (plain_block genesis)))
+        (map plain_report heard.new.told.updates.items) heard.new.asked.asks result.0 result.1 }
 {
     match Digested::compute(alloc, genesis) {
         Ok(genesis) => {
-            let (state, outcome) = begin(alloc, settings, stores, luck, genesis, heard);
+            let (state, outcome) = begin(alloc, settings, left, luck, genesis, heard);
             (state, Ok(outcome))
         }
-        Err(error) => (State::Stopped(stores, luck), Err(error)),
+        Err(error) => (State::Stopped(left, luck), Err(error)),
     }
 }
 
-// Opens a life over these stores from this block.
-fn begin<
-    FB: Blocks<StandardBlocks>,
-    FC: Certificates<StandardBlocks, MockFinalization>,
-    M: Meta,
-    H: Shelf,
->(
+// Opens a life over what is left of stores, from this block.
+fn begin<H: Holds<StandardBlocks, Finalization = MockFinalization>>(
     alloc: Global,
     settings: Settings,
-    stores: Stores<FB, FC, M, H>,
+    left: Left<H>,
     luck: u64,
     genesis: Digested<EmptyBlock<Sha256>>,
     heard: &mut Heard,
-) -> (State<FB, FC, M, H>, Outcome)
+) -> (State<H>, Outcome)
     requires settings { IsSettings settings }
     requires silent { heard.old.told.updates.items ≡ [] }
     requires unasked { heard.old.asked.asks ≡ [] }
-    ensures { PlaysLine (config_of settings) (State.Stopped stores luck) (open_line (from_genesis (plain_block genesis))) (output_of (map plain_report heard.new.told.updates.items) heard.new.asked.asks result.1) result.0 }
+    ensures { PlaysLine (config_of settings) (State.Stopped left luck) (open_line (from_genesis (plain_block genesis)))
+        (output_of (map plain_report heard.new.told.updates.items) heard.new.asked.asks result.1) result.0 }
 {
-    match Actor::init(alloc, stores, setup(settings, genesis), luck) {
+    match Node::init(alloc, left.ruins, setup(settings, genesis), luck) {
         Ok((actor, _floor)) => step(actor, MemBuffer::new(alloc), Event::Start, heard),
         Err(ended) => {
-            let (fault, stores) = parts_of(ended);
-            (State::Stopped(stores, 0), Outcome::Fault(fault))
+            let (fault, left) = parts_of(ended);
+            (State::Stopped(left, 0), Outcome::Fault(fault))
         }
     }
 }
@@ -407,7 +367,13 @@ fn setup(
     ensures start { begin_of plain_block result.start ≡ from_genesis (plain_block genesis) }
     ensures epochs { result.epocher.length ≡ settings.epoch_length }
     ensures provider { result.provider ≡ record { members = settings.members; first = settings.first_epoch; last = settings.last_epoch } }
-    ensures sizes { sizes_of result.limits ≡ record { window = settings.window; max_repair = settings.max_repair; retention = settings.retention; capacity = settings.capacity } }
+    ensures sizes { sizes_of result.limits ≡ record {
+      window = settings.window;
+      max_repair = settings.max_repair;
+      retention = settings.retention;
+      capacity
+          = settings.capacity;
+    } }
 {
     let scheme = MockScheme::new(settings.members as u32);
     let first = Epoch::new(settings.first_epoch);

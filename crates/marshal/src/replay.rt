@@ -14,7 +14,7 @@ ghost use Rattle.mar_script.specs.Text.{output_text, stopped, text};
 ghost use Rattle.marshal.specs.Turn.{output_of, plain_report, remains_in, state_of};
 
 use crate::heard::Heard;
-use crate::play::{Outcome, State, Stores, play};
+use crate::play::{Left, Outcome, State, play};
 use crate::turn::push_turn;
 use mar_block::StandardBlocks;
 use mar_cert::MockFinalization;
@@ -22,54 +22,44 @@ use mar_script::{
     Line, MAX_LINES, ScriptReader, Settings, Sink, Source, Status, Why, first_line, next_line,
     write_all,
 };
-use mar_shelf::{Blocks, Certificates, Shelf};
-use mar_store::{Meta, Miss};
+use mar_shelf::Holds;
+use mar_store::Miss;
 use std::alloc::Global;
 
 /// How a run ended, and what is left of the stores that it was given.
 #[derive(Drop)]
-pub struct Finished<
-    FB: Blocks<StandardBlocks>,
-    FC: Certificates<StandardBlocks, MockFinalization>,
-    M: Meta,
-    H: Shelf,
-> {
+pub struct Finished<L> {
     pub status: Status,
-    pub stores: Stores<FB, FC, M, H>,
+    pub stores: L,
 }
 
 /// Reads a script to its end, does its lines one after another, and writes what each makes. All words that ask for it ask
 /// for the same.
-pub fn replay<
-    S: Source,
-    K: Sink,
-    FB: Blocks<StandardBlocks>,
-    FC: Certificates<StandardBlocks, MockFinalization>,
-    M: Meta,
-    H: Shelf,
->(
+pub fn replay<S: Source, K: Sink, H: Holds<StandardBlocks, Finalization = MockFinalization>>(
     alloc: Global,
     _words: &[String],
     source: &mut S,
     sink: &mut K,
-    stores: Stores<FB, FC, M, H>,
-) -> Finished<FB, FC, M, H>
+    stores: H::Ruins,
+) -> Finished<H::Ruins>
     ensures not_usage { result.status ≡ Status.Usage → ⊥ }
     ensures to_end { result.status ≡ Status.Ok → IsShownAs (S.left source.new) [] }
     ensures read_fault { result.status ≡ Status.ReadFault → Rose (S.faults source.old) (S.faults source.new) }
     ensures write_fault { result.status ≡ Status.WriteFault → Rose (K.faults sink.old) (K.faults sink.new) }
     ensures reads { Reads (S.left source.old) (S.left source.new) result.status }
     ensures script { (all : List ℕ) (n : ℕ) (why : Why) → S.left source.old ≡ Some all → result.status ≡ Status.Script n why → IsFirstOutside all n why }
-    ensures calm { (n : ℕ) (why : Why) → result.status ≡ Status.Script n why → (S.faults source.new ≡ S.faults source.old) × (K.faults sink.new ≡ K.faults sink.old) }
+    ensures calm { (n : ℕ) (why : Why) → result.status ≡ Status.Script n why → (S.faults source.new ≡ S.faults source.old)
+        × (K.faults sink.new ≡ K.faults sink.old) }
     ensures outside { (all : List ℕ) (n : ℕ) (why : Why) → S.left source.old ≡ Some all → IsFirstOutside all n why → EndsByLine n why result.status }
-    ensures headline { ReplaysWhereTold (S.left source.old) (S.left source.new) (K.written sink.old) (K.written sink.new) result.status stores.ended stores.counts result.stores }
+    ensures headline { ReplaysWhereTold (S.left source.old) (S.left source.new) (K.written sink.old) (K.written sink.new) result.status
+        (H.Ruins.left stores).ended (H.Ruins.left stores).counts (H.Ruins.left result.stores) }
 {
     let mut reader = ScriptReader::new(alloc);
     let settings = match first_line(alloc, &mut reader, source) {
         Ok(settings) => settings,
         Err(status) => return Finished { status, stores },
     };
-    let state = State::Stopped(stores, 0);
+    let state: State<H> = State::Stopped(Left { ruins: stores }, 0);
     let heard = Heard::new(alloc);
     if let Err(status) = write_turn(alloc, sink, &heard, Outcome::Done, &state) {
         let stores = left_of(state);
@@ -83,47 +73,39 @@ pub fn replay<
 }
 
 // What a crash now leaves.
-fn left_of<
-    FB: Blocks<StandardBlocks>,
-    FC: Certificates<StandardBlocks, MockFinalization>,
-    M: Meta,
-    H: Shelf,
->(state: State<FB, FC, M, H>) -> Stores<FB, FC, M, H>
-    ensures left { result ≡ remains_in state }
-    ensures hands_back { (asked : List Asked) → HandsBack (state_of asked state) result.ended }
+fn left_of<H: Holds<StandardBlocks, Finalization = MockFinalization>>(state: State<H>) -> H::Ruins
+    ensures left { H.Ruins.left result ≡ remains_in state }
+    ensures hands_back { (asked : List Asked) → HandsBack (state_of asked state) (H.Ruins.left result).ended }
 {
     match state {
         State::Running(actor, _buffer) => actor.wreck(),
-        State::Stopped(stores, _luck) => stores,
+        State::Stopped(left, _luck) => left.ruins,
     }
 }
 
 // The lines behind the first.
-fn later_lines<
-    S: Source,
-    K: Sink,
-    FB: Blocks<StandardBlocks>,
-    FC: Certificates<StandardBlocks, MockFinalization>,
-    M: Meta,
-    H: Shelf,
->(
+fn later_lines<S: Source, K: Sink, H: Holds<StandardBlocks, Finalization = MockFinalization>>(
     alloc: Global,
     settings: Settings,
     reader: &mut ScriptReader,
     source: &mut S,
     sink: &mut K,
-    state: State<FB, FC, M, H>,
-) -> (State<FB, FC, M, H>, Status)
+    state: State<H>,
+) -> (State<H>, Status)
     requires settings { IsSettings settings }
     requires set { IsSetAs (config_of settings) state }
     ensures not_usage { result.1 ≡ Status.Usage → ⊥ }
     ensures to_end { result.1 ≡ Status.Ok → IsShownAs (S.left source.new) [] }
     ensures read_fault { result.1 ≡ Status.ReadFault → Rose (S.faults source.old) (S.faults source.new) }
     ensures write_fault { result.1 ≡ Status.WriteFault → Rose (K.faults sink.old) (K.faults sink.new) }
-    ensures calm { (n : ℕ) (why : Why) → result.1 ≡ Status.Script n why → (S.faults source.new ≡ S.faults source.old) × (K.faults sink.new ≡ K.faults sink.old) }
-    ensures reads { (start : Option (List ℕ)) (taken : List ℕ) → Gives start taken (S.left source.old) → taken ≡ settings_bytes settings ++ reader.old → Reads start (S.left source.new) result.1 }
-    ensures headline { (start : Option (List ℕ)) (taken : List ℕ) (sunk : Option (List ℕ)) (before : PlainEnded) → Gives start taken (S.left source.old) → taken ≡ settings_bytes settings ++ reader.old → ((asked : List Asked) → state_of asked state ≡ stopped before)
-        → Takes sunk (text before []) (K.written sink.old) → ((asked : List Asked) → HandsBack (state_of asked result.0) (remains_in result.0).ended) → ReplaysWhereTold start (S.left source.new) sunk (K.written sink.new) result.1 before (remains_in state).counts (remains_in result.0) }
+    ensures calm { (n : ℕ) (why : Why) → result.1 ≡ Status.Script n why → (S.faults source.new ≡ S.faults source.old)
+        × (K.faults sink.new ≡ K.faults sink.old) }
+    ensures reads { (start : Option (List ℕ)) (taken : List ℕ) → Gives start taken (S.left source.old) → taken ≡ settings_bytes settings ++ reader.old
+        → Reads start (S.left source.new) result.1 }
+    ensures headline { (start : Option (List ℕ)) (taken : List ℕ) (sunk : Option (List ℕ)) (before : PlainEnded) → Gives start taken (S.left source.old)
+        → taken ≡ settings_bytes settings ++ reader.old → ((asked : List Asked) → state_of asked state ≡ stopped before)
+        → Takes sunk (text before []) (K.written sink.old) → ((asked : List Asked) → HandsBack (state_of asked result.0) (remains_in result.0).ended)
+        → ReplaysWhereTold start (S.left source.new) sunk (K.written sink.new) result.1 before (remains_in state).counts (remains_in result.0) }
 {
     let mut state = state;
     'lines: for number in 2..MAX_LINES + 2 {
@@ -142,19 +124,13 @@ fn later_lines<
 }
 
 // Does one line, and writes what it makes.
-fn turn<
-    K: Sink,
-    FB: Blocks<StandardBlocks>,
-    FC: Certificates<StandardBlocks, MockFinalization>,
-    M: Meta,
-    H: Shelf,
->(
+fn turn<K: Sink, H: Holds<StandardBlocks, Finalization = MockFinalization>>(
     alloc: Global,
     settings: Settings,
-    state: State<FB, FC, M, H>,
+    state: State<H>,
     line: Line,
     sink: &mut K,
-) -> (State<FB, FC, M, H>, Result<(), Status>)
+) -> (State<H>, Result<(), Status>)
     requires { IsSettings settings }
     ensures end { IfErr result.1 IsWritersEnd }
     ensures calm { OnOk result.1 (K.faults sink.new ≡ K.faults sink.old) }
@@ -175,23 +151,18 @@ fn turn<
 }
 
 // Writes what a line made.
-fn write_turn<
-    K: Sink,
-    FB: Blocks<StandardBlocks>,
-    FC: Certificates<StandardBlocks, MockFinalization>,
-    M: Meta,
-    H: Shelf,
->(
+fn write_turn<K: Sink, H: Holds<StandardBlocks, Finalization = MockFinalization>>(
     alloc: Global,
     sink: &mut K,
     heard: &Heard,
     outcome: Outcome,
-    state: &State<FB, FC, M, H>,
+    state: &State<H>,
 ) -> Result<(), Status>
     ensures end { IfErr result IsWritersEnd }
     ensures calm { OnOk result (K.faults sink.new ≡ K.faults sink.old) }
     ensures write_fault { IsErrOf result Status.WriteFault → Rose (K.faults sink.old) (K.faults sink.new) }
-    ensures wrote { WritesText (K.written sink.old) (λ asked. output_text (output_of (map plain_report heard.now.told.updates.items) heard.now.asked.asks outcome) (state_of asked state.now)) (K.written sink.new) result }
+    ensures wrote { WritesText (K.written sink.old) (λ asked. output_text (output_of (map plain_report heard.now.told.updates.items) heard.now.asked.asks
+        outcome) (state_of asked state.now)) (K.written sink.new) result }
 {
     let mut text = String::new(alloc);
     if push_turn(alloc, &mut text, heard, outcome, state).is_err() {

@@ -6,14 +6,19 @@ ghost use Rattle.mar_script.specs.Run.{IsShownAs};
 ghost use Rattle.mar_script.specs.declared.Why.{Why};
 
 use crate::command::Command;
-use crate::play::Stores;
 use crate::replay::{Finished, replay};
 use mar_block::StandardBlocks;
 use mar_cert::MockFinalization;
 use mar_script::{Sink, Source, Status};
-use mar_shelf::{Blocks, Certificates, Shelf};
+use mar_shelf::{Blocks, Certificates, Ruins, Shelf, Stores};
 use mar_store::Meta;
 use std::alloc::Global;
+
+/// The stores of a node that a script drives.
+type ScriptStores<FB, FC, M, H> = Stores<StandardBlocks, MockFinalization, FB, FC, M, H>;
+
+/// What is left of the stores of a node that a script drives.
+pub type ScriptRuins<FB, FC, M, H> = Ruins<StandardBlocks, MockFinalization, FB, FC, M, H>;
 
 /// Does what the words ask for, reading from the source and writing to the sink. No command needs the runtime yet.
 pub fn run<
@@ -30,22 +35,28 @@ pub fn run<
     words: &[String],
     source: &mut S,
     sink: &mut K,
-    stores: Stores<FB, FC, M, H>,
-) -> Finished<FB, FC, M, H>
+    stores: ScriptRuins<FB, FC, M, H>,
+) -> Finished<ScriptRuins<FB, FC, M, H>>
     ensures usage { (map string_bytes words.now ≡ codes "replay" ∷ [] → ⊥) → result.status ≡ Status.Usage }
     ensures not_usage { map string_bytes words.now ≡ codes "replay" ∷ [] → result.status ≡ Status.Usage → ⊥ }
-    ensures untouched { result.status ≡ Status.Usage → (result.stores ≡ stores) × (S.left source.new ≡ S.left source.old) × (S.faults source.new ≡ S.faults source.old) × (K.written sink.new ≡ K.written sink.old) × (K.faults sink.new ≡ K.faults sink.old) }
+    ensures untouched { result.status ≡ Status.Usage → (result.stores ≡ stores) × (S.left source.new ≡ S.left source.old)
+        × (S.faults source.new ≡ S.faults source.old) × (K.written sink.new ≡ K.written sink.old) × (K.faults sink.new ≡ K.faults sink.old) }
     ensures to_end { result.status ≡ Status.Ok → IsShownAs (S.left source.new) [] }
     ensures read_fault { result.status ≡ Status.ReadFault → Rose (S.faults source.old) (S.faults source.new) }
     ensures write_fault { result.status ≡ Status.WriteFault → Rose (K.faults sink.old) (K.faults sink.new) }
     ensures reads { Reads (S.left source.old) (S.left source.new) result.status }
     ensures script { (all : List ℕ) (n : ℕ) (why : Why) → S.left source.old ≡ Some all → result.status ≡ Status.Script n why → IsFirstOutside all n why }
-    ensures calm { (n : ℕ) (why : Why) → result.status ≡ Status.Script n why → (S.faults source.new ≡ S.faults source.old) × (K.faults sink.new ≡ K.faults sink.old) }
-    ensures outside { map string_bytes words.now ≡ codes "replay" ∷ [] → (all : List ℕ) (n : ℕ) (why : Why) → S.left source.old ≡ Some all → IsFirstOutside all n why → EndsByLine n why result.status }
-    ensures headline { ReplaysWhereTold (S.left source.old) (S.left source.new) (K.written sink.old) (K.written sink.new) result.status stores.ended stores.counts result.stores }
+    ensures calm { (n : ℕ) (why : Why) → result.status ≡ Status.Script n why → (S.faults source.new ≡ S.faults source.old)
+        × (K.faults sink.new ≡ K.faults sink.old) }
+    ensures outside { map string_bytes words.now ≡ codes "replay" ∷ [] → (all : List ℕ) (n : ℕ) (why : Why) → S.left source.old ≡ Some all
+        → IsFirstOutside all n why → EndsByLine n why result.status }
+    ensures headline { ReplaysWhereTold (S.left source.old) (S.left source.new) (K.written sink.old) (K.written sink.new) result.status stores.ended
+        stores.counts result.stores }
 {
     match Command::parse(words) {
-        Some(Command::Replay) => replay(alloc, words, source, sink, stores),
+        Some(Command::Replay) => {
+            replay::<_, _, ScriptStores<FB, FC, M, H>>(alloc, words, source, sink, stores)
+        }
         None => Finished {
             status: Status::Usage,
             stores,

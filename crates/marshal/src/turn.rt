@@ -12,25 +12,20 @@ use mar_block::{EmptyBlock, StandardBlocks, Variant};
 use mar_cert::MockFinalization;
 use mar_codec::{Digested, Sha256, Sha256Digest};
 use mar_script::{push_asks, push_block, push_ended, push_fault, push_node, push_remark, push_tip};
-use mar_shelf::{Blocks, Certificates, Shelf};
-use mar_store::Meta;
+use mar_shelf::{Holds, StoresRuin};
 use std::alloc::{AllocError, Global};
 use std::convert::AsSlice;
 
 /// Appends what a line made: what the application was told, what was asked, a remark or a fault, and what there is now.
-pub fn push_turn<
-    FB: Blocks<StandardBlocks>,
-    FC: Certificates<StandardBlocks, MockFinalization>,
-    M: Meta,
-    H: Shelf,
->(
+pub fn push_turn<H: Holds<StandardBlocks, Finalization = MockFinalization>>(
     alloc: Global,
     text: &mut String,
     heard: &Heard,
     outcome: Outcome,
-    state: &State<FB, FC, M, H>,
+    state: &State<H>,
 ) -> Result<(), AllocError>
-    ensures { OnOk result ((asked : List Asked) → string_bytes text.new ≡ string_bytes text.old ++ output_text (output_of (map plain_report heard.now.told.updates.items) heard.now.asked.asks outcome) (state_of asked state.now)) }
+    ensures { OnOk result ((asked : List Asked) → string_bytes text.new ≡ string_bytes text.old
+        ++ output_text (output_of (map plain_report heard.now.told.updates.items) heard.now.asked.asks outcome) (state_of asked state.now)) }
 {
     push_updates(alloc, text, &heard.told.updates)?;
     push_asks(alloc, text, heard.asked.asks())?;
@@ -73,7 +68,8 @@ fn push_update(
 }
 
 fn push_outcome(alloc: Global, text: &mut String, outcome: Outcome) -> Result<(), AllocError>
-    ensures { OnOk result (string_bytes text.new ≡ string_bytes text.old ++ (some_words (option_map remark_words (remark_in outcome)) ++ some_words (option_map (λ f. codes "fault" ∷ fault_words f) (fault_in outcome)))) }
+    ensures { OnOk result (string_bytes text.new ≡ string_bytes text.old ++ (some_words (option_map remark_words (remark_in outcome))
+        ++ some_words (option_map (λ f. codes "fault" ∷ fault_words f) (fault_in outcome)))) }
 {
     match outcome {
         Outcome::Done => Ok(()),
@@ -82,16 +78,15 @@ fn push_outcome(alloc: Global, text: &mut String, outcome: Outcome) -> Result<()
     }
 }
 
-fn push_state<
-    FB: Blocks<StandardBlocks>,
-    FC: Certificates<StandardBlocks, MockFinalization>,
-    M: Meta,
-    H: Shelf,
->(alloc: Global, text: &mut String, state: &State<FB, FC, M, H>) -> Result<(), AllocError>
+fn push_state<H: Holds<StandardBlocks, Finalization = MockFinalization>>(
+    alloc: Global,
+    text: &mut String,
+    state: &State<H>,
+) -> Result<(), AllocError>
     ensures { OnOk result ((asked : List Asked) → string_bytes text.new ≡ string_bytes text.old ++ line_of (state_words (state_of asked state.now))) }
 {
     match state {
         State::Running(actor, _) => push_node(alloc, text, &actor.shown()),
-        State::Stopped(stores, _) => push_ended(text, &stores.shown()),
+        State::Stopped(left, _) => push_ended(text, &left.ruins.shown()),
     }
 }

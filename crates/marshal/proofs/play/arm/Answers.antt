@@ -3,4 +3,4 @@ use Rattle.marshal.proofs.LinePlays.{plays_fail}
 use Rattle.marshal.proofs.play.arm.Goals as goal
 
 pub returns : goal.returns
-returns g c = rw c.arm.ensures (λ config. plays_fail _ _ _ _ _ _ _ _ config c.args.actor c.args.buffer (store_name_of c.args.store) c.args.calls)
+returns g c = rw c.arm.ensures (λ config. plays_fail config c.args.actor c.args.buffer (store_name_of c.args.store) c.args.calls)

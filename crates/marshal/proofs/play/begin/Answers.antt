@@ -7,15 +7,16 @@ use Rattle.marshal.proofs.play.begin.Goals as goal
 pub returns-in-Ok : goal.returns-in-Ok
 returns-in-Ok g c =
     let set = set_node c.args.settings _ c.setup.result.epocher.length c.setup.ensures.sizes c.setup.ensures.epochs in
-    plays_opening _ _ _ _ _ _ _ _ (config_of c.args.settings) c.args.stores c.args.luck _ c.in-Ok.actor _ _ _ _
+    rw (← c.left.view_is)
+    (plays_opening (config_of c.args.settings) _ c.args.luck _ c.in-Ok.actor _ _ _ _
     (set_node c.args.settings _ c.in-Ok.actor.life.epocher.length (c.in-Ok.ensures.same_life.2 ∙ c.setup.ensures.sizes) (ap (λ e. e.length) c.in-Ok.ensures.same_life.1 ∙ c.setup.ensures.epochs)) c.in-Ok.ensures.counts
-    (λ chain lawful. let begun = (rw c.setup.ensures.start at c.in-Ok.ensures.opens) (config_of c.args.settings) chain set (lawful_opening _ chain _ _ lawful) in (begun.finds, begun.good)) (rw c.new.ensures at c.step.ensures)
+    (λ chain lawful. let begun = (rw c.setup.ensures.start at c.in-Ok.ensures.opens) (config_of c.args.settings) chain set (lawful_opening _ chain _ _ lawful) in (begun.finds, begun.good)) (rw c.new.ensures at c.step.ensures))
 
 pub returns-in-Err : goal.returns-in-Err
 returns-in-Err g c =
     let set = set_node c.args.settings _ c.setup.result.epocher.length c.setup.ensures.sizes c.setup.ensures.epochs in
     let is = c.parts_of-fault.ensures in
-    rw (c.requires.silent, c.requires.unasked)
-    (plays_unopened _ _ _ _ _ _ _ _ (config_of c.args.settings) c.args.stores _ c.args.luck _ _
+    rw (c.requires.silent, c.requires.unasked, ← c.left.view_is)
+    (plays_unopened (config_of c.args.settings) _ _ c.args.luck _ _
     (λ chain asked lawful. (rw (c.setup.ensures.start, is) at c.in-Err.ensures.opens) (config_of c.args.settings) chain set (lawful_opening _ chain _ _ lawful)) (rw is at c.in-Err.ensures.cause) (rw is at c.in-Err.ensures.cause.later)
     (rw (c.setup.ensures.start, is) at c.in-Err.ensures.by_value))

@@ -4,13 +4,10 @@ use Rattle.marshal.proofs.LinePlays.{plays_crash, plays_remark}
 use Rattle.marshal.proofs.play.play_running.Goals as goal
 
 pub returns-in-OpenGenesis : goal.returns-in-OpenGenesis
-returns-in-OpenGenesis g c = rw (c.requires.silent, c.requires.unasked, c.in-OpenGenesis.is) (λ config. plays_remark _ _ _ _ _ _ _ _ config _ _ remark.Running (λ chain asked. (refl, refl)) tt)
-
-pub returns-in-Sync : goal.returns-in-Sync
-returns-in-Sync g c = rw (c.requires.silent, c.requires.unasked, c.in-Sync.is) (λ config. plays_remark _ _ _ _ _ _ _ _ config _ _ remark.Ignored (λ chain asked. (refl, refl)) tt)
+returns-in-OpenGenesis g c = rw (c.requires.silent, c.requires.unasked, c.in-OpenGenesis.is) (λ config. plays_remark config _ _ remark.Running (λ chain asked. (refl, refl)) tt)
 
 pub returns-in-Fail : goal.returns-in-Fail
 returns-in-Fail g c = rw (c.requires.silent, c.requires.unasked, c.in-Fail.is) c.arm.ensures
 
 pub returns-in-Crash : goal.returns-in-Crash
-returns-in-Crash g c = rw (c.requires.silent, c.requires.unasked, c.in-Crash.is, c.crash.ensures) (λ config. plays_crash _ _ _ _ _ _ _ _ config c.args.actor c.args.buffer c.in-Crash.luck)
+returns-in-Crash g c = rw (c.requires.silent, c.requires.unasked, c.in-Crash.is, c.crash.ensures) (λ config. plays_crash config c.args.actor c.args.buffer c.in-Crash.luck)

@@ -20,5 +20,5 @@ invariant-lines g l = record {
   set : IsSetAs (config_of l.settings) l.state;
   later : NotFewer (remains_in l.fn.state).counts (remains_in l.state).counts;
   head : (start : Option (List ℕ)) (taken : List ℕ) (sunk : Option (List ℕ)) (before : Ended) → Gives start taken (g.S.Source.left l.initial.source) → taken ≡ settings_bytes l.settings ++ l.initial.reader → ((asked : List Asked) → state_of asked l.fn.state ≡ stopped before)
-      → Takes sunk (text before []) (g.K.Sink.written l.initial.sink) → HeadSoFar _ _ _ _ _ _ _ _ start l.settings l.reader (g.S.Source.left l.source) l.number before (remains_in l.fn.state).counts l.state sunk (g.K.Sink.written l.sink);
+      → Takes sunk (text before []) (g.K.Sink.written l.initial.sink) → HeadSoFar start l.settings l.reader (g.S.Source.left l.source) l.number before (remains_in l.fn.state).counts l.state sunk (g.K.Sink.written l.sink);
 }

@@ -36,18 +36,20 @@ pub returns-clause-outside : goal.returns-clause-outside
 returns-clause-outside g c = λ all n reason told first. outside_is all _ _ _ n reason c.later_lines-state.ensures.not_usage (returns-clause-reads g c) told first
 
 pub returns-in-Err-clause-headline : goal.returns-in-Err-clause-headline
-returns-in-Err-clause-headline g c = stops_first _ _ _ _ _ c.args.stores c.in-Err.ensures.end (rw c.new-reader.ensures at c.in-Err.ensures.first)
+returns-in-Err-clause-headline g c = stops_first _ _ _ _ _ (g.H.Ruins.StoresRuin.left c.args.stores) c.in-Err.ensures.end (rw c.new-reader.ensures at c.in-Err.ensures.first)
 
 pub returns-in-Err-write_turn-clause-headline : goal.returns-in-Err-write_turn-clause-headline
 returns-in-Err-write_turn-clause-headline g c =
     let first = rw c.new-reader.ensures at c.in-Ok.ensures.first in
     let silent : map plain_report c.new-heard.result.told.updates.items ≡ [] = ap (λ us. map plain_report us) c.new-heard.ensures.told in
-    let wrote = shown_first {U = Unit {0}} _ _ _ _ c.args.stores.ended (Err c.in-Err-write_turn.status) silent c.new-heard.ensures.asked (rw c.in-Err-write_turn.is at c.write_turn.ensures.wrote) in
-    rw c.left_of-stores.ensures.left (stops_unshown _ _ c.in-Ok.ensures.valid c.args.stores.ended c.args.stores.counts _ _ _ first.read _ _ c.args.stores refl refl c.in-Err-write_turn.ensures.end first.gives first.first (wrote []))
+    let stores = g.H.Ruins.StoresRuin.left c.args.stores in
+    let wrote = shown_first {U = Unit {0}} _ _ _ _ stores.ended (Err c.in-Err-write_turn.status) silent c.new-heard.ensures.asked (rw c.in-Err-write_turn.is at c.write_turn.ensures.wrote) in
+    rw c.left_of-stores.ensures.left (stops_unshown _ _ c.in-Ok.ensures.valid stores.ended stores.counts _ _ _ first.read _ _ stores refl refl c.in-Err-write_turn.ensures.end first.gives first.first (wrote []))
 
 pub returns-clause-headline : goal.returns-clause-headline
 returns-clause-headline g c =
     let first = rw c.new-reader.ensures at c.in-Ok.ensures.first in
     let silent : map plain_report c.new-heard.result.told.updates.items ≡ [] = ap (λ us. map plain_report us) c.new-heard.ensures.told in
-    let wrote = shown_first {U = Unit {0}} _ _ _ _ c.args.stores.ended (Ok c.in_default.field-0) silent c.new-heard.ensures.asked (rw c.in_default.is at c.write_turn.ensures.wrote) in
-    rw c.left_of.ensures.left (c.later_lines-state.ensures.headline _ first.read _ c.args.stores.ended first.gives first.first (λ asked. refl) (wrote []) (rw c.left_of.ensures.left at c.left_of.ensures.hands_back))
+    let stores = g.H.Ruins.StoresRuin.left c.args.stores in
+    let wrote = shown_first {U = Unit {0}} _ _ _ _ stores.ended (Ok c.in_default.field-0) silent c.new-heard.ensures.asked (rw c.in_default.is at c.write_turn.ensures.wrote) in
+    rw c.left_of.ensures.left (c.later_lines-state.ensures.headline _ first.read _ stores.ended first.gives first.first (λ asked. refl) (wrote []) (rw c.left_of.ensures.left at c.left_of.ensures.hands_back))

@@ -9,4 +9,4 @@ returns-in-Running g c =
 pub returns-in-Stopped : goal.returns-in-Stopped
 returns-in-Stopped g c =
     let e = c.shown-in-Stopped.ensures in
-    rw c.in-Stopped.is (line_shown c.push_ended.result _ _ _ _ c.push_ended.ensures (λ asked. ended_shown c.in-Stopped.stores.ended _ _ _ _ _ _ e.pair e.blocks_sure e.blocks_may e.certs_sure e.certs_may))
+    rw (c.in-Stopped.is, ← c.left.view_is) (line_shown c.push_ended.result _ _ _ _ c.push_ended.ensures (λ asked. ended_shown (g.H.Ruins.StoresRuin.left c.left.inside.ruins).ended _ _ _ _ _ _ e.pair e.blocks_sure e.blocks_may e.certs_sure e.certs_may))
