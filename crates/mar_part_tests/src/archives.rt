@@ -297,7 +297,7 @@ fn two_syncs_finish_in_reverse(rt: HostRuntime) {
     follow(&rt, rt.alloc(), LuckHalf::High, &IN_REVERSE);
 }
 
-// A half of luck, a bit of luck, and the ranges that it keeps of seventy values.
+// The half of a luck, a bit that is set in the luck, and the ranges that are kept of seventy values.
 type BitRow = (LuckHalf, u32, &'static [(u64, u64)]);
 
 const BITS: [BitRow; 10] = [
@@ -332,7 +332,7 @@ fn luck_keeps_by_its_bits(rt: HostRuntime) {
     follow_bits(&rt, rt.alloc(), &BITS);
 }
 
-// A half of luck, a luck, the bound of a prune, and the ranges that are kept.
+// The half of a luck, the luck, the bound of a prune, and the ranges that are kept.
 type PruneRow = (LuckHalf, u64, u64, &'static [(u64, u64)]);
 
 const FROM_SIX: &[(u64, u64)] = &[(6, 10), (12, 13), (42, 42), (44, 45)];

@@ -4,7 +4,8 @@ ghost use Rattle.mar_store.specs.Armed.{is_due, after_call};
 
 use std::alloc::{AllocError, Global};
 
-/// How many counted calls away each armed one is, and a count of faults that stands still at its end.
+/// How many counted calls away each armed one is, and how often calls have failed. The count stays at its greatest value
+/// once it is there, so that it never falls.
 #[derive(Drop)]
 pub struct Alarm {
     due: Vec<u64>,

@@ -176,7 +176,8 @@ impl<T: Item> Entries<T> {
         }
     }
 
-    /// Opens a pile with what is sure and what a half of luck keeps. It gives back a pile where memory runs out.
+    /// Opens a pile with what is sure and those of the other entries that the bits of `half` keep. It gives back a pile
+    /// where memory runs out.
     pub fn open(pile: Pile<T>, half: u64) -> Result<Self, Pile<T>>
         ensures found { IfOk result (λ s. map seen s.pile.items.items
             ≡ take pile.synced (map seen pile.items.items) ++ lucky_from half 0 (drop pile.synced (map seen pile.items.items))) }

@@ -1,8 +1,9 @@
-//! Which of what a crash can leave luck keeps.
+//! Which of the entries that a crash can leave an archive in memory keeps.
 ghost use Rattle.std.specs.Prelude.{◌≡◌};
 ghost use Rattle.mar_store.specs.Luck.{half_of, is_lucky};
 
-/// The half of luck that an archive in memory follows.
+/// Which 32 bits of a reopening's luck an archive in memory goes by. Two archives that are reopened with one number are
+/// picked apart where they take different ones.
 #[derive(Clone, Copy, Debug, PartialEq, Eq)]
 pub enum LuckHalf {
     /// Bits 0 to 31.
@@ -12,7 +13,7 @@ pub enum LuckHalf {
 }
 
 impl LuckHalf {
-    /// The bits of this half of luck.
+    /// These bits of a luck.
     pub const fn of(self, luck: u64) -> u64
         ensures { result ≡ half_of self luck }
     {
@@ -23,7 +24,7 @@ impl LuckHalf {
     }
 }
 
-/// Whether a half of luck keeps the entry of that number.
+/// Whether these bits keep the entry at that place: its bit, counted modulo 32, is set.
 pub const fn is_lucky(half: u64, place: usize) -> bool
     ensures { result ≡ is_lucky half place }
 {

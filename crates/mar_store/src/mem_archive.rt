@@ -34,7 +34,7 @@ pub struct MemArchiveWreck<T: Item> {
 }
 
 impl<T: Item> MemArchive<T> {
-    /// An archive with no values, which follows a half of luck.
+    /// An archive with no values, which goes by this half of a reopening's luck.
     pub fn new(alloc: Global, half: LuckHalf) -> Self
         ensures stored { ⟦<MemArchive<T> as Archive<T>>⟧.stored result ≡ reopened_store [] }
         ensures faults { ⟦<MemArchive<T> as Archive<T>>⟧.faults result ≡ 0 }

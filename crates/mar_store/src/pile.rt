@@ -294,7 +294,7 @@ impl<T: Item> Pile<T> {
         }
     }
 
-    /// Keeps what is sure, and of the other entries those that a half of luck keeps, and makes all sure. It gives
+    /// Keeps what is sure, and of the other entries those that the bits of `half` keep, and makes all sure. It gives
     /// back a pile in which what was sure is sure, where memory runs out.
     pub fn settle(self, half: u64) -> Result<Self, Self>
         ensures ok { IfOk result (λ p. map seen p.items.items
@@ -309,7 +309,7 @@ impl<T: Item> Pile<T> {
         }
     }
 
-    // Puts those of the other entries again that a half of luck keeps, and makes all sure.
+    // Puts those of the other entries again that the bits of `half` keep, and makes all sure.
     fn settle_rest(self, rest: &[Entry<T>], half: u64) -> Result<Self, Self>
         requires synced { self.synced ≡ length self.items.items }
         requires once { EachHeightOnce (map seen (self.items.items ++ rest.now)) }
