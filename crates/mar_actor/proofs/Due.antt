@@ -4,10 +4,10 @@ use Rattle.mar_cert.specs.Block.{Block}
 use Rattle.mar_key.specs.Processed.{height_of}
 use Rattle.mar_node.specs.Acks.{Mark, Outstanding, after_given, dropped_oldest, mark_dropped, mark_given, mark_waiting}
 use Rattle.mar_node.specs.Faults.{Fault, ack_kind, dropped_ack, dropped_first, height_limit, is_by_value, last_height, ticket_limit}
-use Rattle.mar_node.specs.Held.{Ending, Held, IsUsual, Seen}
+use Rattle.mar_node.specs.Held.{Ending, Held, IsArchiveFault, IsUsual, Seen}
 use Rattle.mar_node.specs.Moves.{EndsDropped}
 use Rattle.mar_node.specs.Step.{Report}
-use Rattle.mar_node.proofs.Cutting.{never, usual_not_by_value}
+use Rattle.mar_node.proofs.Cutting.{never, usual_from_archive, usual_not_by_value}
 use Rattle.mar_node.proofs.Handing.{Ran}
 use Rattle.mar_actor.specs.Due.{EndsWhereDue, storing_due}
 
@@ -29,8 +29,8 @@ pub EndsWhereDue-ran : {P E : Type 0} (due : Option Fault) → due ≡ None → 
 EndsWhereDue-ran due none start told told' (Ok new) ran = none
 EndsWhereDue-ran due none start told told' (Err e) (handed, heard, stops) = by stops.kind
   where
-    by : {T : Type 0} → IsUsual e.fault ⊎ ((e.fault ≡ ticket_limit ack_kind) × T) → IsTrue (is_by_value e.fault) → due ≡ Some e.fault
-    by (inl usual) = usual-due due e.fault usual
+    by : {T : Type 0} → IsArchiveFault e.fault ⊎ ((e.fault ≡ ticket_limit ack_kind) × T) → IsTrue (is_by_value e.fault) → due ≡ Some e.fault
+    by (inl of_archive) = usual-due due e.fault (usual_from_archive e.fault of_archive)
     by (inr (limit, last)) = ticket-due due e.fault limit
 
 -- A FINALIZED BLOCK

@@ -12,7 +12,7 @@ ghost use Rattle.mar_store.specs.Changes.{IsNested};
 ghost use Rattle.mar_cert.specs.Block.{Block};
 ghost use Rattle.mar_node.specs.Event.{ack_given};
 ghost use Rattle.mar_node.specs.Promise.{KeepsPromise};
-ghost use Rattle.mar_node.specs.Held.{GoesOn, IsUsual, Loses};
+ghost use Rattle.mar_node.specs.Held.{ArePassed, GoesOn, IsUsual, LosesSince, nothing_written, written_pair};
 ghost use Rattle.mar_node.specs.Lives.{later_round};
 ghost use Rattle.mar_node.specs.Moves.{Drains, DrainsNext, EndsDropped, EndsOldest, LivesOn, RaisesTo, progress_asks, retired, round_at};
 ghost use Rattle.mar_node.specs.Requests.{raise_asks};
@@ -36,9 +36,9 @@ impl<V: Variant, S: Holds<V>, P: Drop, E: Epocher> Node<V, S, P, E> {
         resolver: &mut R,
         application: &mut A,
     ) -> Result<Self, Ended<V, S>>
-        ensures promise { IsNested self.held.blocks → (buffer : List Block) → KeepsPromise (E.epochs self.life.epocher) V.inner self (ack_given ticket) buffer
+        ensures promise { IsNested self.held.blocks → IsNested self.held.certs → (buffer : List Block) → KeepsPromise (E.epochs self.life.epocher) V.inner self (ack_given ticket) buffer
             (A.told application.old) (A.told application.new) (R.told resolver.old) (R.told resolver.new) result }
-        ensures lives { LivesOn self result }
+        ensures lives { IsNested self.held.blocks → IsNested self.held.certs → LivesOn self result }
         ensures by_value { EndsWhereDue (dropping_due self.life.out ticket) result }
         ensures tells { TellsInOrder (A.told application.old) [] (A.told application.new) result }
     {
@@ -67,7 +67,7 @@ impl<V: Variant, S: Holds<V>, P: Drop, E: Epocher> Node<V, S, P, E> {
         ensures ok { IfOk result (λ r. Drains (E.epochs self.life.epocher) self r.1 r.0) }
         ensures asks { OnOk result (Hears (R.told resolver.old) (progress_asks (E.epochs self.life.epocher) self.held.certs.held self.held.cutoff
             (given_front self.life.out)) (R.told resolver.new)) }
-        ensures goes_on { GoesOn (λ r. r.0.held) self.held [] [] result }
+        ensures goes_on { GoesOn (λ r. r.0.held) self.held nothing_written result }
         ensures kind { IfErr result (λ e. IsUsual e.fault ⊎ EndsDropped self e) }
     {
         let mut node = self;
@@ -91,7 +91,7 @@ impl<V: Variant, S: Holds<V>, P: Drop, E: Epocher> Node<V, S, P, E> {
         ensures ok { IfOk result (λ r. DrainsNext (E.epochs self.life.epocher) self r.1 r.0) }
         ensures asks { OnOk result (Hears (R.told resolver.old) (progress_asks (E.epochs self.life.epocher) self.held.certs.held self.held.cutoff
             (option_to_list (given_oldest self.life.out))) (R.told resolver.new)) }
-        ensures goes_on { GoesOn (λ r. r.0.held) self.held [] [] result }
+        ensures goes_on { GoesOn (λ r. r.0.held) self.held nothing_written result }
         ensures kind { IfErr result (λ e. IsUsual e.fault ⊎ EndsOldest self e) }
     {
         let mut node = self;
@@ -116,12 +116,12 @@ impl<V: Variant, S: Holds<V>, P: Drop, E: Epocher> Node<V, S, P, E> {
                 (retired (E.epochs self.life.epocher) self.held.certs.held height);
             witnessed = later_round self.held.witnessed
                 (round_at self.held.certs.held height);
-            counts = a.held.counts;
+            watches = a.held.watches;
           };
         }) }
         ensures asks { OnOk result (Hears (R.told resolver.old) (retain (above_height height)
             ∷ raise_asks self.held.cutoff (retired (E.epochs self.life.epocher) self.held.certs.held height)) (R.told resolver.new)) }
-        ensures goes_on { GoesOn (λ a. a.held) self.held [] [] result }
+        ensures goes_on { GoesOn (λ a. a.held) self.held nothing_written result }
         ensures usual { IfErr result (λ e. IsUsual e.fault) }
     {
         let node = self.set_processed(height, resolver)?;
@@ -135,9 +135,9 @@ impl<V: Variant, S: Holds<V>, P: Drop, E: Epocher> Node<V, S, P, E> {
         height: Height,
         resolver: &mut R,
     ) -> Result<Self, Ended<V, S>>
-        ensures ok { IfOk result (λ a. a ≡ record self { held = record self.held { processed = Some (at_block height); counts = a.held.counts } }) }
+        ensures ok { IfOk result (λ a. a ≡ record self { held = record self.held { processed = Some (at_block height); watches = a.held.watches } }) }
         ensures asks { OnOk result (Hears (R.told resolver.old) (retain (above_height height) ∷ []) (R.told resolver.new)) }
-        ensures goes_on { GoesOn (λ a. a.held) self.held [] [] result }
+        ensures goes_on { GoesOn (λ a. a.held) self.held nothing_written result }
         ensures usual { IfErr result (λ e. IsUsual e.fault) }
     {
         if resolver.retain(Retain::AboveHeight(height)).is_err() {
@@ -156,7 +156,7 @@ impl<V: Variant, S: Holds<V>, P: Drop, E: Epocher> Node<V, S, P, E> {
         ensures ok { IfOk result (λ a. RaisesTo self (option_to_list (option_map at_round round)) (later_round self.held.witnessed round) a) }
         ensures asks { OnOk result (Hears (R.told resolver.old) (raise_asks self.held.cutoff (option_to_list (option_map at_round round)))
             (R.told resolver.new)) }
-        ensures goes_on { GoesOn (λ a. a.held) self.held [] [] result }
+        ensures goes_on { GoesOn (λ a. a.held) self.held nothing_written result }
         ensures usual { IfErr result (λ e. IsUsual e.fault) }
     {
         match round {
@@ -173,7 +173,7 @@ impl<V: Variant, S: Holds<V>, P: Drop, E: Epocher> Node<V, S, P, E> {
     ) -> Result<Self, Ended<V, S>>
         ensures ok { IfOk result (λ a. RaisesTo self (at_round round ∷ []) (later_round self.held.witnessed (Some round)) a) }
         ensures asks { OnOk result (Hears (R.told resolver.old) (raise_asks self.held.cutoff (at_round round ∷ [])) (R.told resolver.new)) }
-        ensures goes_on { GoesOn (λ a. a.held) self.held [] [] result }
+        ensures goes_on { GoesOn (λ a. a.held) self.held nothing_written result }
         ensures usual { IfErr result (λ e. IsUsual e.fault) }
     {
         let mut node = self;
@@ -191,7 +191,7 @@ impl<V: Variant, S: Holds<V>, P: Drop, E: Epocher> Node<V, S, P, E> {
             self.held.witnessed a) }
         ensures asks { OnOk result (Hears (R.told resolver.old) (raise_asks self.held.cutoff
             (option_to_list (option_map at_epoch (closed_epoch (E.epochs self.life.epocher) height)))) (R.told resolver.new)) }
-        ensures goes_on { GoesOn (λ a. a.held) self.held [] [] result }
+        ensures goes_on { GoesOn (λ a. a.held) self.held nothing_written result }
         ensures usual { IfErr result (λ e. IsUsual e.fault) }
     {
         match closed_epoch(&self.life.epocher, height) {
@@ -208,7 +208,7 @@ impl<V: Variant, S: Holds<V>, P: Drop, E: Epocher> Node<V, S, P, E> {
     ) -> Result<Self, Ended<V, S>>
         ensures ok { IfOk result (λ a. RaisesTo self (cutoff_of cutoff.now ∷ []) self.held.witnessed a) }
         ensures asks { OnOk result (Hears (R.told resolver.old) (raise_asks self.held.cutoff (cutoff_of cutoff.now ∷ [])) (R.told resolver.new)) }
-        ensures goes_on { GoesOn (λ a. a.held) self.held [] [] result }
+        ensures goes_on { GoesOn (λ a. a.held) self.held nothing_written result }
         ensures usual { IfErr result (λ e. IsUsual e.fault) }
     {
         if self.is_raised_to(cutoff) {
@@ -231,9 +231,9 @@ impl<V: Variant, S: Holds<V>, P: Drop, E: Epocher> Node<V, S, P, E> {
         cutoff: &Cutoff,
         resolver: &mut R,
     ) -> Result<Self, Ended<V, S>>
-        ensures ok { IfOk result (λ a. a ≡ record self { held = record self.held { cutoff = cutoff_of cutoff.now; counts = a.held.counts } }) }
+        ensures ok { IfOk result (λ a. a ≡ record self { held = record self.held { cutoff = cutoff_of cutoff.now; watches = a.held.watches } }) }
         ensures asks { OnOk result (Hears (R.told resolver.old) (retain (above_round (cutoff_of cutoff.now)) ∷ []) (R.told resolver.new)) }
-        ensures goes_on { GoesOn (λ a. a.held) self.held [] [] result }
+        ensures goes_on { GoesOn (λ a. a.held) self.held nothing_written result }
         ensures usual { IfErr result (λ e. IsUsual e.fault) }
     {
         if resolver.retain(Retain::AboveRound(*cutoff)).is_err() {
@@ -248,11 +248,11 @@ impl<V: Variant, S: Holds<V>, P: Drop, E: Epocher> Node<V, S, P, E> {
           held = record self.held {
             pairs = pair_of self.held.processed self.held.cutoff
                 ∷ [];
-            counts = a.held.counts;
+            watches = a.held.watches;
           };
         }) }
-        ensures counts { IfOk result (λ a. a.held.counts ≡ self.held.counts) }
-        ensures lost { IfErr result (Loses self.held [] [] (pair_of self.held.processed self.held.cutoff ∷ [])) }
+        ensures passed { IfOk result (λ a. ArePassed self.held.watches a.held.watches) }
+        ensures lost { LosesSince self.held (written_pair (pair_of self.held.processed self.held.cutoff)) result }
         ensures usual { IfErr result (λ e. IsUsual e.fault) }
     {
         let stores = self.stores.sync_metadata()?;

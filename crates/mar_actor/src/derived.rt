@@ -7,7 +7,8 @@ ghost use Rattle.mar_key.specs.Views.{cutoff_of};
 ghost use Rattle.mar_store.specs.Kept.{EachHeightOnce, newest_upto};
 ghost use Rattle.mar_node.specs.Metadata.{pair_of};
 ghost use Rattle.mar_node.specs.Faults.{next_after, successor_fault};
-ghost use Rattle.mar_node.specs.Held.{GoesOn, IsUsual, Loses};
+ghost use Rattle.mar_node.specs.Held.{ArePassed, GoesOn, IsUsual, LosesSince, nothing_written, written_pair};
+ghost use Rattle.mar_node.specs.Moves.{IsRead};
 ghost use Rattle.mar_node.specs.Lives.{closed_epoch_at, later_round, processed_round, round_zero, successor_round};
 ghost use Rattle.mar_node.specs.Opening.{Derives, LosesDeriving, next_fault, pair_in};
 
@@ -30,10 +31,11 @@ impl<V: Variant, S: Holds<V>, P: Drop, E: Epocher> Node<V, S, P, E> {
         requires below { first_unprocessed self.held.processed < 2 ^ 64 }
         ensures ok { IfOk result (λ n. Derives (E.epochs self.life.epocher) self.held n.held) }
         ensures life { IfOk result (λ n. n.life ≡ self.life) }
-        ensures counts { IfOk result (λ n. n.held.counts ≡ self.held.counts) }
-        ensures lost { IfErr result (LosesDeriving (E.epochs self.life.epocher) self.held) }
+        ensures passed { IfOk result (λ n. ArePassed self.held.watches n.held.watches) }
+        ensures lost { LosesDeriving (E.epochs self.life.epocher) self.held result }
         ensures kind { IfErr result (λ e. IsUsual e.fault ⊎ (next_fault self.held ≡ Some e.fault)) }
     {
+        self.law();
         let (node, successor) = self.successor()?;
         let (node, newest) = node.processed_round()?;
         let cutoff = node.derived_cutoff(&newest, &successor);
@@ -57,10 +59,10 @@ impl<V: Variant, S: Holds<V>, P: Drop, E: Epocher> Node<V, S, P, E> {
     /// block than the one that the certificate names the life ends.
     fn successor(self) -> Result<(Self, Option<Round>), Ended<V, S>>
         requires below { first_unprocessed self.held.processed < 2 ^ 64 }
-        ensures same { IfOk result (λ r. r.0 ≡ self) }
+        ensures same { IfOk result (λ r. IsRead self r.0) }
         ensures none { IfOk result (λ r. next_fault self.held ≡ None) }
         ensures round { IfOk result (λ r. r.1 ≡ successor_round self.held.blocks.held self.held.certs.held (next_after (pair_in self.held).processed)) }
-        ensures goes_on { GoesOn (λ r. r.0.held) self.held [] [] result }
+        ensures goes_on { GoesOn (λ r. r.0.held) self.held nothing_written result }
         ensures kind { IfErr result (λ e. IsUsual e.fault ⊎ (next_fault self.held ≡ Some e.fault)) }
     {
         let next = self.stores.floor().next_height();
@@ -79,7 +81,7 @@ impl<V: Variant, S: Holds<V>, P: Drop, E: Epocher> Node<V, S, P, E> {
     fn judge(self, block: &V::Block, certificate: &S::Finalization) -> Result<Self, Ended<V, S>>
         ensures none { IfOk result (λ n. successor_fault (Some (V.plain block.now)) (Some (S.Finalization.plain certificate.now)) ≡ None) }
         ensures same { IfOk result (λ n. n ≡ self) }
-        ensures goes_on { GoesOn (λ n. n.held) self.held [] [] result }
+        ensures goes_on { GoesOn (λ n. n.held) self.held nothing_written result }
         ensures fault { IfErr result (λ e. successor_fault (Some (V.plain block.now)) (Some (S.Finalization.plain certificate.now)) ≡ Some e.fault) }
     {
         let commitment = V::commitment(block);
@@ -94,9 +96,9 @@ impl<V: Variant, S: Holds<V>, P: Drop, E: Epocher> Node<V, S, P, E> {
     /// The round of the newest certificate at or below the processed height.
     fn processed_round(self) -> Result<(Self, Option<Round>), Ended<V, S>>
         requires once { EachHeightOnce self.held.certs.held }
-        ensures same { IfOk result (λ r. r.0 ≡ self) }
+        ensures same { IfOk result (λ r. IsRead self r.0) }
         ensures round { IfOk result (λ r. r.1 ≡ processed_round self.held.certs.held (pair_in self.held).processed) }
-        ensures goes_on { GoesOn (λ r. r.0.held) self.held [] [] result }
+        ensures goes_on { GoesOn (λ r. r.0.held) self.held nothing_written result }
         ensures usual { IfErr result (λ e. IsUsual e.fault) }
     {
         match self.stores.floor().processed() {
@@ -108,9 +110,9 @@ impl<V: Variant, S: Holds<V>, P: Drop, E: Epocher> Node<V, S, P, E> {
     /// The round of the newest certificate at or below a height.
     fn newest_round(self, height: Height) -> Result<(Self, Option<Round>), Ended<V, S>>
         requires once { EachHeightOnce self.held.certs.held }
-        ensures same { IfOk result (λ r. r.0 ≡ self) }
+        ensures same { IfOk result (λ r. IsRead self r.0) }
         ensures round { IfOk result (λ r. r.1 ≡ option_map (λ x. x.value.round) (newest_upto self.held.certs.held height)) }
-        ensures goes_on { GoesOn (λ r. r.0.held) self.held [] [] result }
+        ensures goes_on { GoesOn (λ r. r.0.held) self.held nothing_written result }
         ensures usual { IfErr result (λ e. IsUsual e.fault) }
     {
         match last_upto(self.stores.certificates_held().as_slice(), height) {
@@ -156,13 +158,14 @@ impl<V: Variant, S: Holds<V>, P: Drop, E: Epocher> Node<V, S, P, E> {
             cutoff = cutoff_of cutoff.now;
             pairs = pair_of self.held.processed
                 (cutoff_of cutoff.now) ∷ [];
-            counts = n.held.counts;
+            watches = n.held.watches;
           };
         }) }
-        ensures counts { IfOk result (λ n. n.held.counts ≡ self.held.counts) }
-        ensures lost { IfErr result (Loses self.held [] [] (pair_of self.held.processed (cutoff_of cutoff.now) ∷ [])) }
+        ensures passed { IfOk result (λ n. ArePassed self.held.watches n.held.watches) }
+        ensures lost { LosesSince self.held (written_pair (pair_of self.held.processed (cutoff_of cutoff.now))) result }
         ensures usual { IfErr result (λ e. IsUsual e.fault) }
     {
+        self.law();
         if self.stores.floor().cutoff() == *cutoff {
             return Ok(self);
         }

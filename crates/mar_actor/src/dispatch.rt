@@ -1,10 +1,10 @@
 //! Handing blocks over in height order.
-ghost use Rattle.std.specs.Prelude.{◌≡◌, ◌<◌, ◌≤◌, ◌^◌, ◌⊎◌, ◌∷◌, [], IfErr, IfNone, IfOk, IfSome, List, MatchResult, OnErr, OnOk, length, map};
+ghost use Rattle.std.specs.Prelude.{◌≡◌, ◌<◌, ◌≤◌, ◌-◌, ◌^◌, ◌⊎◌, ◌∷◌, [], IfErr, IfNone, IfOk, IfSome, List, MatchResult, OnErr, OnOk, length, map};
 ghost use Rattle.mar_key.specs.Hears.{Hears};
 ghost use Rattle.mar_key.specs.Processed.{first_unprocessed};
-ghost use Rattle.mar_node.specs.Faults.{ack_kind, ticket_limit};
-ghost use Rattle.mar_node.specs.Held.{GoesOn, IsUsual, Loses, remains_of};
-ghost use Rattle.mar_node.specs.Moves.{Dispatches, IsLast, IsNext, IsStill, StopsHanding, handed_report, next_in, with_handed};
+ghost use Rattle.mar_node.specs.Faults.{ack_kind, last_height, ticket_limit};
+ghost use Rattle.mar_node.specs.Held.{GoesOn, IsArchiveFault, nothing_written};
+ghost use Rattle.mar_node.specs.Moves.{Dispatches, IsNext, IsRead, IsStill, StopsHanding, handed_report, next_in, with_handed};
 ghost use Rattle.mar_node.specs.Step.{HandedBlock, handed_over};
 
 use crate::node::Node;
@@ -39,11 +39,11 @@ impl<V: Variant, S: Holds<V>, P: Drop, E: Epocher> Node<V, S, P, E> {
 
     /// The next block to hand over, where there is room for one and it is held.
     fn next_block(self) -> Result<(Self, Option<V::Block>), Ended<V, S>>
-        ensures same { IfOk result (λ r. r.0 ≡ self) }
+        ensures same { IfOk result (λ r. IsRead self r.0) }
         ensures found { IfOk result (λ r. IfSome r.1 (λ b. IsNext self (V.plain b))) }
         ensures none { IfOk result (λ r. IfNone r.1 (IsStill self)) }
-        ensures goes_on { GoesOn (λ r. r.0.held) self.held [] [] result }
-        ensures usual { IfErr result (λ e. IsUsual e.fault) }
+        ensures goes_on { GoesOn (λ r. r.0.held) self.held nothing_written result }
+        ensures archive { IfErr result (λ e. IsArchiveFault e.fault) }
     {
         if !self.life.acks.has_capacity() {
             return Ok((self, None));
@@ -54,13 +54,17 @@ impl<V: Variant, S: Holds<V>, P: Drop, E: Epocher> Node<V, S, P, E> {
         }
     }
 
-    /// The height of the next block, where there is one.
+    /// The height of the next block, where there is one below the last height.
     fn next_height(&self) -> Option<Height>
-        ensures found { IfSome result (λ h. h ≡ next_in self.now) }
-        ensures none { IfNone result (2 ^ 64 ≤ first_unprocessed self.now.held.processed) }
+        ensures found { IfSome result (λ h. (h ≡ next_in self.now) × (h < last_height)) }
+        ensures none { IfNone result ((last_height ≤ next_in self.now) ⊎ (2 ^ 64 ≤ first_unprocessed self.now.held.processed)) }
     {
         let first = self.stores.floor().first_unprocessed()?;
-        Some(self.life.acks.next_dispatch_height(first))
+        let next = self.life.acks.next_dispatch_height(first);
+        if next.get() == u64::MAX {
+            return None;
+        }
+        Some(next)
     }
 
     /// Hands over a block under a new ticket.
@@ -69,17 +73,17 @@ impl<V: Variant, S: Holds<V>, P: Drop, E: Epocher> Node<V, S, P, E> {
         block: V::Block,
         application: &mut A,
     ) -> Result<Self, Ended<V, S>>
-        requires { length self.life.out < self.life.sizes.window }
+        requires room { length self.life.out < self.life.sizes.window }
+        requires below { (V.plain block).height < last_height }
         ensures ok { OnOk result (Hears (A.told application.old) (handed_over self.life.next_ack (V.plain block) ∷ []) (A.told application.new)) }
         ensures err { OnErr result (Hears (A.told application.old) [] (A.told application.new)) }
         ensures same { IfOk result (λ a. a ≡ with_handed self (record { ticket = self.life.next_ack; block = V.plain block } ∷ [])) }
-        ensures lost { IfErr result (Loses self.held [] [] []) }
-        ensures kind { IfErr result (λ e. IsUsual e.fault ⊎ ((e.fault ≡ ticket_limit ack_kind) × IsLast self (V.plain block))) }
-        ensures limit { IfErr result (λ e. e.fault ≡ ticket_limit ack_kind → e.remains ≡ remains_of self.held) }
+        ensures goes_on { GoesOn (λ a. a.held) self.held nothing_written result }
+        ensures kind { IfErr result (λ e. IsArchiveFault e.fault ⊎ ((e.fault ≡ ticket_limit ack_kind) × (self.life.next_ack ≡ 2 ^ 64 - 1))) }
     {
         let height = V::height(&block);
         let ticket = self.life.next_ack;
-        if ticket == u64::MAX || height.get() == u64::MAX {
+        if ticket == u64::MAX {
             return Err(self.end(Fault::TicketLimit(TicketKind::Ack)));
         }
         if application

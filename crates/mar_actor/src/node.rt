@@ -1,11 +1,14 @@
 //! The node, which each of its steps consumes.
-ghost use Rattle.std.specs.Prelude.{◌≡◌, [], Err, IfErr, IfOk, false};
+ghost use Rattle.std.specs.Prelude.{◌≡◌, ◌≤◌, ◌+◌, Err, IfErr, IfOk, OnErr, OnOk, false, map};
 ghost use Rattle.std.specs.List.{list_any};
 ghost use Rattle.mar_store.specs.Changes.{IsNested};
 ghost use Rattle.mar_node.specs.Acks.{is_unmarked};
-ghost use Rattle.mar_node.specs.Held.{GoesOn, IsEndedBy, IsNoStores, IsUsual, Loses, remains_of};
-ghost use Rattle.mar_node.specs.Promise.{KeepsCounting, KeepsPromise};
-ghost use Rattle.mar_shelf.specs.Views.{fault_of};
+ghost use Rattle.mar_node.specs.Faults.{want_of_memory};
+ghost use Rattle.mar_node.specs.Held.{ArePassed, GoesOn, IsArchiveFault, IsEndedBy, IsNoStores, IsUsual, nothing_written, remains_of, with_armed};
+ghost use Rattle.mar_node.specs.Moves.{RunsOut};
+ghost use Rattle.mar_node.specs.Promise.{IsSmallEvent, KeepsPromise};
+ghost use Rattle.mar_node.specs.Stored.{AreSmall};
+ghost use Rattle.mar_shelf.specs.Views.{fault_of, store_name_of};
 ghost use Rattle.mar_actor.specs.Due.{EndsWhereDue, due_fault};
 ghost use Rattle.mar_actor.specs.Told.{TellsInOrder, tips_of};
 ghost use Rattle.mar_actor.specs.Views.{event_of};
@@ -46,7 +49,8 @@ impl<V: Variant, S: Holds<V>, P: Drop, E: Epocher> Node<V, S, P, E> {
     ///
     /// The fault of a step is `StoreFault` only where that store has failed, `HeightLimit` where a finalized block stands
     /// at the last height and `AckDropped` where the application dropped the oldest acknowledgement, each exactly where
-    /// it is due unless a store or memory fails first, `TicketLimit` where no ticket is left, and `Memory`.
+    /// it is due unless a store or memory fails first, `TicketLimit` where no ticket is left, and `Memory`. What a step
+    /// may store is small: at most 1,048,576 bytes each.
     pub fn step<B: Buffer<V>, R: Resolver<V::Commitment>, A: Reporter<V>>(
         self,
         event: Event<S::Finalization>,
@@ -54,14 +58,17 @@ impl<V: Variant, S: Holds<V>, P: Drop, E: Epocher> Node<V, S, P, E> {
         resolver: &mut R,
         application: &mut A,
     ) -> Result<Self, Ended<V, S>>
+        requires small_event { IsSmallEvent (event_of S.Finalization.plain event) }
+        requires small_buffer { AreSmall (B.blocks buffer.now) }
         ensures promise { KeepsPromise (E.epochs self.life.epocher) V.inner self (event_of S.Finalization.plain event) (B.blocks buffer.now)
             (A.told application.old) (A.told application.new) (R.told resolver.old) (R.told resolver.new) result }
-        ensures counts { IfOk result (λ n. n.held.counts ≡ self.held.counts) }
-        ensures cause { IfErr result (λ e. IsEndedBy self.held.counts e) }
+        ensures watches { IfOk result (λ n. ArePassed self.held.watches n.held.watches) }
+        ensures cause { IfErr result (λ e. IsEndedBy self.held.watches e) }
         ensures by_value { EndsWhereDue (due_fault V.inner self (B.blocks buffer.now) (event_of S.Finalization.plain event)) result }
         ensures tells { TellsInOrder (A.told application.old) (tips_of V.inner self (B.blocks buffer.now) (event_of S.Finalization.plain event))
             (A.told application.new) result }
-        ensures lasting { KeepsCounting (E.epochs self.life.epocher) V.inner self (event_of S.Finalization.plain event) (B.blocks buffer.now) result }
+        ensures tickets { IfOk result (λ n. n.life.next_ack ≤ self.life.next_ack + self.life.sizes.window) }
+        ensures runs_out { IfErr result (RunsOut self) }
         ensures same_life { IfOk result (λ n. (n.life.provider ≡ self.life.provider) × (n.life.epocher ≡ self.life.epocher)
             × (n.life.sizes ≡ self.life.sizes)) }
     {
@@ -80,13 +87,17 @@ impl<V: Variant, S: Holds<V>, P: Drop, E: Epocher> Node<V, S, P, E> {
     pub(crate) fn law(&self)
         ensures blocks { IsNested self.now.held.blocks }
         ensures certs { IsNested self.now.held.certs }
+        ensures small { AreSmall (map (λ x. x.value) self.now.held.blocks.held) }
     {
         self.stores.law();
     }
 
     /// Makes the counted call of a store fail that is so many calls away, 1 being the next. The cache counts none yet.
     pub fn arm(&mut self, store: StoreName, calls: u64) -> Result<(), AllocError>
-        ensures { self.new ≡ self.old }
+        ensures armed { OnOk result (self.new ≡ record self.old {
+          held = record self.old.held { watches = with_armed (store_name_of store) calls self.old.held.watches };
+        }) }
+        ensures unarmed { OnErr result (self.new ≡ self.old) }
     {
         self.stores.arm(store, calls)
     }
@@ -117,8 +128,9 @@ impl<V: Variant, S: Holds<V>, P: Drop, E: Epocher> Node<V, S, P, E> {
 
     /// Ends the life for want of memory.
     pub(crate) fn run_out(self) -> Ended<V, S>
-        ensures goes_on { GoesOn (λ s. s) self.held [] [] (Err result) }
-        ensures lost { Loses self.held [] [] [] result }
+        ensures goes_on { GoesOn (λ s. s) self.held nothing_written (Err result) }
+        ensures memory { result.fault ≡ want_of_memory }
+        ensures archive { IsArchiveFault result.fault }
         ensures usual { IsUsual result.fault }
     {
         self.end(Fault::Memory)
@@ -127,7 +139,7 @@ impl<V: Variant, S: Holds<V>, P: Drop, E: Epocher> Node<V, S, P, E> {
     /// Ends the life without a fault of a store.
     pub(crate) fn end(self, fault: Fault<V::Commitment>) -> Ended<V, S>
         ensures value { result ≡ record { fault = fault_of V.Commitment.bytes fault; remains = remains_of self.held } }
-        ensures lost { IsNoStores (fault_of V.Commitment.bytes fault) → Loses self.held [] [] [] result }
+        ensures goes_on { IsNoStores (fault_of V.Commitment.bytes fault) → GoesOn (λ s. s) self.held nothing_written (Err result) }
     {
         Ended {
             fault,

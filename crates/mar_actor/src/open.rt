@@ -1,7 +1,7 @@
 //! Opening the stores of a node that begins.
 ghost use Rattle.std.specs.Prelude.{◌≡◌, ◌⊎◌, IfErr, IfOk};
-ghost use Rattle.mar_node.specs.Held.{IsEndedBy, IsUsual};
-ghost use Rattle.mar_node.specs.Promise.{IsAlone, IsFound, IsOpeningFault, KeepsOpening};
+ghost use Rattle.mar_node.specs.Held.{ArePassed, IsEndedBy, IsUsual};
+ghost use Rattle.mar_node.specs.Promise.{IsFound, IsOpeningFault, IsSmallBegin, KeepsOpening};
 ghost use Rattle.mar_actor.specs.Views.{begin_of, sizes_of};
 
 use crate::life::Life;
@@ -21,7 +21,7 @@ impl<V: Variant, S: Holds<V>, P: Drop, E: Epocher> Node<V, S, P, E> {
     /// `Event::Start` comes next. On a lawful chain the node begins, or its opening is cut.
     ///
     /// Beside the node it answers the processed height and the cutoff. Stores in memory keep, of what a crash may have
-    /// left, what `luck` picks; stores over a disk keep what the disk has.
+    /// left, what `luck` picks; stores over a disk keep what the disk has. The genesis takes at most 1,048,576 bytes.
     ///
     /// The fault of an opening is `StoreFault` where a store failed, `GenesisHeight` where the genesis isn't at height
     /// zero, `GenesisMismatch` where another block zero is stored, `Unbacked` where neither the processed block nor the
@@ -33,14 +33,15 @@ impl<V: Variant, S: Holds<V>, P: Drop, E: Epocher> Node<V, S, P, E> {
         config: Config<P, E, V::Block>,
         luck: u64,
     ) -> Result<(Self, Floor), Ended<V, S>>
-        ensures opens { KeepsOpening (E.epochs config.epocher) V.inner (sizes_of config.limits) (S.Ruins.left ruins) (begin_of V.plain config.start) result }
+        requires small { IsSmallBegin (begin_of V.plain config.start) }
+        ensures opens { KeepsOpening (E.epochs config.epocher) V.inner (sizes_of config.limits) (S.Ruins.left ruins) luck (begin_of V.plain config.start)
+            result }
         ensures same_life { IfOk result (λ r. (r.0.life.provider ≡ config.provider) × (r.0.life.epocher ≡ config.epocher)
             × (r.0.life.sizes ≡ sizes_of config.limits)) }
-        ensures counts { IfOk result (λ r. r.0.held.counts ≡ (S.Ruins.left ruins).counts) }
-        ensures cause { IfErr result (λ e. IsEndedBy (S.Ruins.left ruins).counts e) }
-        ensures by_value { IsAlone (S.Ruins.left ruins).ended (begin_of V.plain config.start)
-            → IfErr result (λ e. IsUsual e.fault ⊎ IsOpeningFault (S.Ruins.left ruins).ended (begin_of V.plain config.start) e.fault) }
-        ensures finds { IfOk result (λ r. IsFound (E.epochs config.epocher) V.inner (sizes_of config.limits) (S.Ruins.left ruins).ended
+        ensures watches { IfOk result (λ r. ArePassed (S.Ruins.left ruins).watches r.0.held.watches) }
+        ensures cause { IfErr result (λ e. IsEndedBy (S.Ruins.left ruins).watches e) }
+        ensures by_value { IfErr result (λ e. IsUsual e.fault ⊎ IsOpeningFault (S.Ruins.left ruins).ended (begin_of V.plain config.start) e.fault) }
+        ensures finds { IfOk result (λ r. IsFound (E.epochs config.epocher) V.inner (sizes_of config.limits) (S.Ruins.left ruins) luck
             (begin_of V.plain config.start) r.0) }
         ensures floor { IfOk result (λ r. r.1 ≡ record { processed = r.0.held.processed; cutoff = r.0.held.cutoff }) }
     {
@@ -65,6 +66,7 @@ impl<V: Variant, S: Holds<V>, P: Drop, E: Epocher> Node<V, S, P, E> {
             of: PhantomData,
         };
         let node = node.begin(&genesis)?;
+        node.law();
         let node = node.derive()?;
         let floor = node.stores.floor().snapshot();
         Ok((node, floor))

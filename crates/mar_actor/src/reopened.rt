@@ -1,10 +1,11 @@
 //! What reopened stores must hold before a life begins on them.
-ghost use Rattle.std.specs.Prelude.{◌≡◌, ◌<◌, ◌≤◌, ◌^◌, ◌⊎◌, ◌||◌, ◌+◌, ◌∷◌, [], IfErr, IfOk, IfSome, None, Some, false, option_map};
+ghost use Rattle.std.specs.Prelude.{◌≡◌, ◌<◌, ◌≤◌, ◌^◌, ◌⊎◌, ◌||◌, ◌+◌, IfErr, IfOk, IfSome, None, Some, false, option_map};
 ghost use Rattle.mar_key.specs.Processed.{at_absent, at_block, first_unprocessed};
 ghost use Rattle.mar_store.specs.Kept.{has_height};
 ghost use Rattle.mar_node.specs.Stored.{at_own_height, is_held};
 ghost use Rattle.mar_node.specs.Faults.{anchor_fault, from_genesis, genesis_fault, is_at_limit, last_height, limit_fault, stored_mismatch};
-ghost use Rattle.mar_node.specs.Held.{GoesOn, IsUsual};
+ghost use Rattle.mar_node.specs.Held.{GoesOn, IsUsual, nothing_written, written_block};
+ghost use Rattle.mar_store.specs.Sizes.{IsSmall};
 ghost use Rattle.mar_node.specs.Lives.{processed_at};
 ghost use Rattle.mar_node.specs.Moves.{StoresValue};
 ghost use Rattle.mar_node.specs.Opening.{BeginsWith, Enters, IsBeginFault, is_begun, pair_in};
@@ -19,10 +20,11 @@ impl<V: Variant, S: Holds<V>, P: Drop, E: Epocher> Node<V, S, P, E> {
     /// missing, and the processed height is backed.
     pub(crate) fn begin(self, genesis: &V::Block) -> Result<Self, Ended<V, S>>
         requires raw { self.held.processed ≡ option_map at_block (pair_in self.held).processed }
+        requires small { IsSmall (V.plain genesis.now).encoded }
         ensures ok { IfOk result (λ n. BeginsWith (V.plain genesis.now) self.held n.held) }
         ensures life { IfOk result (λ n. n.life ≡ self.life) }
         ensures below { IfOk result (λ n. first_unprocessed n.held.processed < 2 ^ 64) }
-        ensures goes_on { GoesOn (λ n. n.held) self.held (at_own_height (V.plain genesis.now) ∷ []) [] result }
+        ensures goes_on { GoesOn (λ n. n.held) self.held (written_block (at_own_height (V.plain genesis.now))) result }
         ensures kind { IfErr result (λ e. IsUsual e.fault ⊎ IsBeginFault (V.plain genesis.now) self.held e.fault) }
     {
         let node = self.judge_limits()?;
@@ -35,7 +37,7 @@ impl<V: Variant, S: Holds<V>, P: Drop, E: Epocher> Node<V, S, P, E> {
         ensures same { IfOk result (λ n. n ≡ self) }
         ensures none { IfOk result (λ n. limit_fault self.held.blocks.held self.held.certs.held (pair_in self.held) ≡ None) }
         ensures below { IfOk result (λ n. first_unprocessed self.held.processed < 2 ^ 64) }
-        ensures goes_on { GoesOn (λ n. n.held) self.held [] [] result }
+        ensures goes_on { GoesOn (λ n. n.held) self.held nothing_written result }
         ensures fault { IfErr result (λ e. limit_fault self.held.blocks.held self.held.certs.held (pair_in self.held) ≡ Some e.fault) }
     {
         if self.is_at_limit() {
@@ -71,11 +73,12 @@ impl<V: Variant, S: Holds<V>, P: Drop, E: Epocher> Node<V, S, P, E> {
 
     /// Compares block zero with the genesis, and stores it where it is missing.
     fn enter(self, genesis: &V::Block) -> Result<Self, Ended<V, S>>
+        requires small { IsSmall (V.plain genesis.now).encoded }
         ensures none { IfOk result (λ n. genesis_fault self.held.blocks.held (from_genesis (V.plain genesis.now)) ≡ None) }
         ensures enters { IfOk result (λ n. Enters (is_begun (pair_in self.held).processed self.held.blocks.held) (V.plain genesis.now) self.held.blocks
             n.held.blocks) }
-        ensures same { IfOk result (λ n. n ≡ record self { held = record self.held { blocks = n.held.blocks; counts = n.held.counts } }) }
-        ensures goes_on { GoesOn (λ n. n.held) self.held (at_own_height (V.plain genesis.now) ∷ []) [] result }
+        ensures same { IfOk result (λ n. n ≡ record self { held = record self.held { blocks = n.held.blocks; watches = n.held.watches } }) }
+        ensures goes_on { GoesOn (λ n. n.held) self.held (written_block (at_own_height (V.plain genesis.now))) result }
         ensures kind { IfErr result (λ e. IsUsual e.fault ⊎ (genesis_fault self.held.blocks.held (from_genesis (V.plain genesis.now)) ≡ Some e.fault)) }
     {
         let height = V::height(genesis);
@@ -93,7 +96,7 @@ impl<V: Variant, S: Holds<V>, P: Drop, E: Epocher> Node<V, S, P, E> {
     fn compare(self, genesis: &V::Block, stored: &V::Block) -> Result<Self, Ended<V, S>>
         ensures none { IfOk result (λ n. stored_mismatch (V.plain genesis.now) (Some (V.plain stored.now)) ≡ None) }
         ensures same { IfOk result (λ n. n ≡ self) }
-        ensures goes_on { GoesOn (λ n. n.held) self.held [] [] result }
+        ensures goes_on { GoesOn (λ n. n.held) self.held nothing_written result }
         ensures fault { IfErr result (λ e. stored_mismatch (V.plain genesis.now) (Some (V.plain stored.now)) ≡ Some e.fault) }
     {
         let configured = V::commitment(genesis);
@@ -107,11 +110,12 @@ impl<V: Variant, S: Holds<V>, P: Drop, E: Epocher> Node<V, S, P, E> {
 
     /// Stores block zero and makes it durable, unless delivery is past it.
     fn enter_missing(self, genesis: &V::Block) -> Result<Self, Ended<V, S>>
+        requires small { IsSmall (V.plain genesis.now).encoded }
         requires missing { has_height self.held.blocks.held 0 ≡ false }
         ensures enters { IfOk result (λ n. Enters (is_begun (pair_in self.held).processed self.held.blocks.held) (V.plain genesis.now) self.held.blocks
             n.held.blocks) }
-        ensures same { IfOk result (λ n. n ≡ record self { held = record self.held { blocks = n.held.blocks; counts = n.held.counts } }) }
-        ensures goes_on { GoesOn (λ n. n.held) self.held (at_own_height (V.plain genesis.now) ∷ []) [] result }
+        ensures same { IfOk result (λ n. n ≡ record self { held = record self.held { blocks = n.held.blocks; watches = n.held.watches } }) }
+        ensures goes_on { GoesOn (λ n. n.held) self.held (written_block (at_own_height (V.plain genesis.now))) result }
         ensures usual { IfErr result (λ e. IsUsual e.fault) }
     {
         if self.stores.floor().is_above(Height::new(1)) {
@@ -123,10 +127,11 @@ impl<V: Variant, S: Holds<V>, P: Drop, E: Epocher> Node<V, S, P, E> {
 
     /// Stores a block and makes it durable.
     fn store_block(self, block: &V::Block) -> Result<Self, Ended<V, S>>
+        requires small { IsSmall (V.plain block.now).encoded }
         ensures stored { IfOk result (λ n. StoresValue (is_held self.held.blocks.held (V.plain block.now)) self.held.blocks
             (at_own_height (V.plain block.now)) n.held.blocks) }
-        ensures same { IfOk result (λ n. n ≡ record self { held = record self.held { blocks = n.held.blocks; counts = n.held.counts } }) }
-        ensures goes_on { GoesOn (λ n. n.held) self.held (at_own_height (V.plain block.now) ∷ []) [] result }
+        ensures same { IfOk result (λ n. n ≡ record self { held = record self.held { blocks = n.held.blocks; watches = n.held.watches } }) }
+        ensures goes_on { GoesOn (λ n. n.held) self.held (written_block (at_own_height (V.plain block.now))) result }
         ensures usual { IfErr result (λ e. IsUsual e.fault) }
     {
         let stores = self.stores.put_block(block)?;
@@ -143,10 +148,10 @@ impl<V: Variant, S: Holds<V>, P: Drop, E: Epocher> Node<V, S, P, E> {
           held = record self.held {
             processed = option_map (processed_at self.held.blocks.held)
                 (pair_in self.held).processed;
-            counts = n.held.counts;
+            watches = n.held.watches;
           };
         }) }
-        ensures goes_on { GoesOn (λ n. n.held) self.held [] [] result }
+        ensures goes_on { GoesOn (λ n. n.held) self.held nothing_written result }
         ensures kind { IfErr result (λ e. IsUsual e.fault ⊎ (anchor_fault self.held.blocks.held (pair_in self.held).processed ≡ Some e.fault)) }
     {
         match self.stores.floor().processed() {
@@ -163,11 +168,11 @@ impl<V: Variant, S: Holds<V>, P: Drop, E: Epocher> Node<V, S, P, E> {
         ensures same { IfOk result (λ n. n ≡ record self {
           held = record self.held {
             processed = Some (processed_at self.held.blocks.held height);
-            counts
-                = n.held.counts;
+            watches
+                = n.held.watches;
           };
         }) }
-        ensures goes_on { GoesOn (λ n. n.held) self.held [] [] result }
+        ensures goes_on { GoesOn (λ n. n.held) self.held nothing_written result }
         ensures kind { IfErr result (λ e. IsUsual e.fault ⊎ (anchor_fault self.held.blocks.held (Some height) ≡ Some e.fault)) }
     {
         let (node, own) = self.block_at(height)?;
@@ -186,11 +191,11 @@ impl<V: Variant, S: Holds<V>, P: Drop, E: Epocher> Node<V, S, P, E> {
         ensures same { IfOk result (λ n. n ≡ record self {
           held = record self.held {
             processed = Some (processed_at self.held.blocks.held height);
-            counts
-                = n.held.counts;
+            watches
+                = n.held.watches;
           };
         }) }
-        ensures goes_on { GoesOn (λ n. n.held) self.held [] [] result }
+        ensures goes_on { GoesOn (λ n. n.held) self.held nothing_written result }
         ensures kind { IfErr result (λ e. IsUsual e.fault ⊎ (anchor_fault self.held.blocks.held (Some height) ≡ Some e.fault)) }
     {
         let (node, above) = self.block_at(height.next())?;

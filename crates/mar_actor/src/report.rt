@@ -1,5 +1,5 @@
 //! Finalizations that consensus reports.
-ghost use Rattle.std.specs.Prelude.{◌≡◌, ◌+◌, ◌&&◌, ◌∷◌, [], IfErr, IfOk, List, None, OnErr, OnOk, Option, Some, false, nat_lt, not, option_map, true};
+ghost use Rattle.std.specs.Prelude.{◌≡◌, ◌≤◌, ◌+◌, ◌&&◌, ◌∷◌, [], IfErr, IfOk, List, None, OnErr, OnOk, Option, Some, false, map, nat_lt, not, option_map, true};
 ghost use Rattle.mar_cert.specs.Block.{Block};
 ghost use Rattle.mar_node.specs.Messages.{report_finalization};
 ghost use Rattle.mar_key.specs.Hears.{Hears};
@@ -7,11 +7,13 @@ ghost use Rattle.mar_key.specs.Keys.{Call};
 ghost use Rattle.mar_key.specs.Processed.{height_of};
 ghost use Rattle.mar_store.specs.Kept.{has_height};
 ghost use Rattle.mar_store.specs.Changes.{IsNested, Puts, Syncs};
-ghost use Rattle.mar_node.specs.Stored.{at_own_height, block_of, is_certified, is_held};
+ghost use Rattle.mar_store.specs.Sizes.{IsSmall};
+ghost use Rattle.mar_cert.specs.Finalization.{finalization_bytes};
+ghost use Rattle.mar_node.specs.Stored.{AreSmall, at_own_height, block_of, is_certified, is_held};
 ghost use Rattle.mar_node.specs.Event.{message_told};
 ghost use Rattle.mar_node.specs.Promise.{KeepsPromise};
-ghost use Rattle.mar_node.specs.Held.{GoesOn, IsUsual};
-ghost use Rattle.mar_node.specs.Moves.{LivesOn, StoresAbove, StoresLate, StoresValue, at_height, found_at_hand, lacks_finalization, late_tips, of_commitment, risen_to, tip_after, tip_reports, tips_above, wants};
+ghost use Rattle.mar_node.specs.Held.{GoesOn, IsArchiveFault, IsUsual, nothing_written, written_both, written_cert};
+ghost use Rattle.mar_node.specs.Moves.{IsRead, LivesOn, StoresAbove, StoresLate, StoresValue, at_height, found_at_hand, lacks_finalization, late_tips, of_commitment, risen_to, tip_after, tip_reports, tips_above, wants};
 ghost use Rattle.mar_actor.specs.Due.{EndsWhereDue, storing_due};
 ghost use Rattle.mar_actor.specs.Told.{TellsInOrder, finalized_tips};
 
@@ -33,10 +35,13 @@ impl<V: Variant, S: Holds<V>, P: Drop, E: Epocher> Node<V, S, P, E> {
         resolver: &mut R,
         application: &mut A,
     ) -> Result<Self, Ended<V, S>>
+        requires small { IsSmall (finalization_bytes (S.Finalization.plain finalization.now)) }
+        requires small_buffer { AreSmall (B.blocks buffer.now) }
+        requires small_held { AreSmall (map (λ x. x.value) self.held.blocks.held) }
         ensures promise { IsNested self.held.blocks → IsNested self.held.certs → KeepsPromise (E.epochs self.life.epocher) V.inner self
             (message_told None (report_finalization (S.Finalization.plain finalization.now))) (B.blocks buffer.now) (A.told application.old)
             (A.told application.new) (R.told resolver.old) (R.told resolver.new) result }
-        ensures lives { LivesOn self result }
+        ensures lives { IsNested self.held.blocks → IsNested self.held.certs → LivesOn self result }
         ensures by_value { EndsWhereDue (storing_due self.held (found_at_hand V.inner (B.blocks buffer.now) self.held.blocks.held
             (S.Finalization.plain finalization.now).payload)) result }
         ensures tells { TellsInOrder (A.told application.old) (finalized_tips self (S.Finalization.plain finalization.now)
@@ -69,10 +74,10 @@ impl<V: Variant, S: Holds<V>, P: Drop, E: Epocher> Node<V, S, P, E> {
         commitment: V::Commitment,
         buffer: &B,
     ) -> Result<(Self, Option<V::Block>), Ended<V, S>>
-        ensures same { IfOk result (λ r. r.0 ≡ self) }
+        ensures same { IfOk result (λ r. IsRead self r.0) }
         ensures found { IfOk result (λ r. option_map V.plain r.1 ≡ found_at_hand V.inner (B.blocks buffer.now) self.held.blocks.held
             (V.Commitment.bytes commitment)) }
-        ensures goes_on { GoesOn (λ r. r.0.held) self.held [] [] result }
+        ensures goes_on { GoesOn (λ r. r.0.held) self.held nothing_written result }
         ensures usual { IfErr result (λ e. IsUsual e.fault) }
     {
         match buffer.find_by_commitment(&commitment) {
@@ -87,10 +92,10 @@ impl<V: Variant, S: Holds<V>, P: Drop, E: Epocher> Node<V, S, P, E> {
         self,
         commitment: V::Commitment,
     ) -> Result<(Self, Option<V::Block>), Ended<V, S>>
-        ensures same { IfOk result (λ r. r.0 ≡ self) }
+        ensures same { IfOk result (λ r. IsRead self r.0) }
         ensures found { IfOk result (λ r. option_map V.plain r.1 ≡ of_commitment (V.Commitment.bytes commitment)
             (block_of self.held.blocks.held (V.inner (V.Commitment.bytes commitment)))) }
-        ensures goes_on { GoesOn (λ r. r.0.held) self.held [] [] result }
+        ensures goes_on { GoesOn (λ r. r.0.held) self.held nothing_written result }
         ensures usual { IfErr result (λ e. IsUsual e.fault) }
     {
         let (stores, block) = self.stores.block_of(&V::commitment_to_inner(commitment))?;
@@ -108,7 +113,7 @@ impl<V: Variant, S: Holds<V>, P: Drop, E: Epocher> Node<V, S, P, E> {
     ) -> Result<Self, Ended<V, S>>
         ensures asks { OnOk result (Hears (R.told resolver.old) (wants self.held.cutoff (S.Finalization.plain finalization.now)) (R.told resolver.new)) }
         ensures same { IfOk result (λ a. a ≡ self) }
-        ensures goes_on { GoesOn (λ a. a.held) self.held [] [] result }
+        ensures goes_on { GoesOn (λ a. a.held) self.held nothing_written result }
         ensures usual { IfErr result (λ e. IsUsual e.fault) }
     {
         let request = Request::finalized_by_round(finalization.payload(), finalization.round());
@@ -126,12 +131,14 @@ impl<V: Variant, S: Holds<V>, P: Drop, E: Epocher> Node<V, S, P, E> {
         block: &V::Block,
         application: &mut A,
     ) -> Result<Self, Ended<V, S>>
+        requires small { IsSmall (finalization_bytes (S.Finalization.plain finalization.now)) }
+        requires small_block { IsSmall (V.plain block.now).encoded }
         ensures promise { (heard : Option (List Call)) → IsNested self.held.blocks → IsNested self.held.certs → (buffer : List Block)
             → found_at_hand V.inner buffer self.held.blocks.held (S.Finalization.plain finalization.now).payload ≡ Some (V.plain block.now)
             → nat_lt (height_of self.held.processed) (V.plain block.now).height ≡ true
             → KeepsPromise (E.epochs self.life.epocher) V.inner self (message_told None (report_finalization (S.Finalization.plain finalization.now))) buffer
             (A.told application.old) (A.told application.new) heard heard result }
-        ensures lives { LivesOn self result }
+        ensures lives { IsNested self.held.blocks → IsNested self.held.certs → LivesOn self result }
         ensures by_value { nat_lt (height_of self.held.processed) (V.plain block.now).height ≡ true
             → EndsWhereDue (storing_due self.held (Some (V.plain block.now))) result }
         ensures tells { TellsInOrder (A.told application.old) (tip_reports self.life.tip (S.Finalization.plain finalization.now) (V.plain block.now))
@@ -152,12 +159,14 @@ impl<V: Variant, S: Holds<V>, P: Drop, E: Epocher> Node<V, S, P, E> {
         block: &V::Block,
         application: &mut A,
     ) -> Result<Self, Ended<V, S>>
+        requires small { IsSmall (finalization_bytes (S.Finalization.plain finalization.now)) }
+        requires small_block { IsSmall (V.plain block.now).encoded }
         ensures ok { OnOk result (Hears (A.told application.old) (tip_reports self.life.tip (S.Finalization.plain finalization.now) (V.plain block.now))
             (A.told application.new)) }
         ensures err { OnErr result (Hears (A.told application.old) [] (A.told application.new)) }
         ensures stores { IfOk result (λ a. StoresAbove V.inner self (S.Finalization.plain finalization.now) (V.plain block.now) a) }
-        ensures goes_on { GoesOn (λ a. a.held) self.held (at_own_height (V.plain block.now) ∷ [])
-            (at_height (V.plain block.now).height (S.Finalization.plain finalization.now) ∷ []) result }
+        ensures goes_on { GoesOn (λ a. a.held) self.held (written_both (at_own_height (V.plain block.now))
+            (at_height (V.plain block.now).height (S.Finalization.plain finalization.now))) result }
         ensures usual { IfErr result (λ e. IsUsual e.fault) }
     {
         let node = self.put(finalization, block)?;
@@ -168,6 +177,8 @@ impl<V: Variant, S: Holds<V>, P: Drop, E: Epocher> Node<V, S, P, E> {
 
     /// Puts a block and its finalization.
     fn put(self, finalization: &S::Finalization, block: &V::Block) -> Result<Self, Ended<V, S>>
+        requires small { IsSmall (finalization_bytes (S.Finalization.plain finalization.now)) }
+        requires small_block { IsSmall (V.plain block.now).encoded }
         ensures blocks { IfOk result (λ a. Puts (is_held self.held.blocks.held (V.plain block.now)) self.held.blocks (at_own_height (V.plain block.now))
             a.held.blocks) }
         ensures certs { IfOk result (λ a. Puts (is_certified V.inner self.held.certs.held (V.plain block.now).height
@@ -177,12 +188,12 @@ impl<V: Variant, S: Holds<V>, P: Drop, E: Epocher> Node<V, S, P, E> {
           held = record self.held {
             blocks = a.held.blocks;
             certs = a.held.certs;
-            counts
-                = a.held.counts;
+            watches
+                = a.held.watches;
           };
         }) }
-        ensures goes_on { GoesOn (λ a. a.held) self.held (at_own_height (V.plain block.now) ∷ [])
-            (at_height (V.plain block.now).height (S.Finalization.plain finalization.now) ∷ []) result }
+        ensures goes_on { GoesOn (λ a. a.held) self.held (written_both (at_own_height (V.plain block.now))
+            (at_height (V.plain block.now).height (S.Finalization.plain finalization.now))) result }
         ensures usual { IfErr result (λ e. IsUsual e.fault) }
     {
         let stores = self.stores.put_block(block)?;
@@ -201,7 +212,8 @@ impl<V: Variant, S: Holds<V>, P: Drop, E: Epocher> Node<V, S, P, E> {
         ensures ok { OnOk result (Hears (A.told application.old) (tips_above self.life.tip round height (V.Digest.bytes digest)) (A.told application.new)) }
         ensures err { OnErr result (Hears (A.told application.old) [] (A.told application.new)) }
         ensures same { IfOk result (λ a. a ≡ record self { life = record self.life { tip = risen_to self.life.tip height } }) }
-        ensures goes_on { GoesOn (λ a. a.held) self.held [] [] result }
+        ensures goes_on { GoesOn (λ a. a.held) self.held nothing_written result }
+        ensures archive { IfErr result (λ e. IsArchiveFault e.fault) }
         ensures usual { IfErr result (λ e. IsUsual e.fault) }
     {
         if height <= self.life.tip {
@@ -227,10 +239,10 @@ impl<V: Variant, S: Holds<V>, P: Drop, E: Epocher> Node<V, S, P, E> {
         ensures blocks { IfOk result (λ a. Syncs self.held.blocks a.held.blocks) }
         ensures certs { IfOk result (λ a. Syncs self.held.certs a.held.certs) }
         ensures same { IfOk result (λ a. a ≡ record self {
-          held = record self.held { blocks = a.held.blocks; certs = a.held.certs; counts = a.held.counts };
+          held = record self.held { blocks = a.held.blocks; certs = a.held.certs; watches = a.held.watches };
           life = record self.life { covered = self.life.covered + 1 };
         }) }
-        ensures goes_on { GoesOn (λ a. a.held) self.held [] [] result }
+        ensures goes_on { GoesOn (λ a. a.held) self.held nothing_written result }
         ensures usual { IfErr result (λ e. IsUsual e.fault) }
     {
         let Node {
@@ -258,12 +270,13 @@ impl<V: Variant, S: Holds<V>, P: Drop, E: Epocher> Node<V, S, P, E> {
         resolver: &mut R,
         application: &mut A,
     ) -> Result<Self, Ended<V, S>>
+        requires small { IsSmall (finalization_bytes (S.Finalization.plain finalization.now)) }
         ensures promise { IsNested self.held.blocks → IsNested self.held.certs → (buffer : List Block)
             → found_at_hand V.inner buffer self.held.blocks.held (S.Finalization.plain finalization.now).payload ≡ Some (V.plain block.now)
             → nat_lt (height_of self.held.processed) (V.plain block.now).height ≡ false
             → KeepsPromise (E.epochs self.life.epocher) V.inner self (message_told None (report_finalization (S.Finalization.plain finalization.now))) buffer
             (A.told application.old) (A.told application.new) (R.told resolver.old) (R.told resolver.new) result }
-        ensures lives { LivesOn self result }
+        ensures lives { IsNested self.held.blocks → IsNested self.held.certs → LivesOn self result }
         ensures by_value { EndsWhereDue None result }
         ensures tells { TellsInOrder (A.told application.old) (late_tips (lacks_finalization self.held (V.plain block.now)) self.life.tip
             (S.Finalization.plain finalization.now) (V.plain block.now)) (A.told application.new) result }
@@ -280,11 +293,13 @@ impl<V: Variant, S: Holds<V>, P: Drop, E: Epocher> Node<V, S, P, E> {
         block: &V::Block,
         application: &mut A,
     ) -> Result<Self, Ended<V, S>>
+        requires small { IsSmall (finalization_bytes (S.Finalization.plain finalization.now)) }
         ensures ok { OnOk result (Hears (A.told application.old) (late_tips (lacks_finalization self.held (V.plain block.now)) self.life.tip
             (S.Finalization.plain finalization.now) (V.plain block.now)) (A.told application.new)) }
         ensures err { OnErr result (Hears (A.told application.old) [] (A.told application.new)) }
         ensures stores { IfOk result (λ a. StoresLate V.inner self (S.Finalization.plain finalization.now) (V.plain block.now) a) }
-        ensures goes_on { GoesOn (λ a. a.held) self.held [] (at_height (V.plain block.now).height (S.Finalization.plain finalization.now) ∷ []) result }
+        ensures archive { IfErr result (λ e. IsArchiveFault e.fault) }
+        ensures goes_on { GoesOn (λ a. a.held) self.held (written_cert (at_height (V.plain block.now).height (S.Finalization.plain finalization.now))) result }
         ensures usual { IfErr result (λ e. IsUsual e.fault) }
     {
         let (node, lacks_finalization) = self.lacks_finalization(V::height(block))?;
@@ -297,9 +312,10 @@ impl<V: Variant, S: Holds<V>, P: Drop, E: Epocher> Node<V, S, P, E> {
 
     /// Whether a block is held at a height and no finalization is.
     fn lacks_finalization(self, height: Height) -> Result<(Self, bool), Ended<V, S>>
-        ensures same { IfOk result (λ r. r.0 ≡ self) }
+        ensures same { IfOk result (λ r. IsRead self r.0) }
         ensures value { IfOk result (λ r. r.1 ≡ (has_height self.held.blocks.held height && not (has_height self.held.certs.held height))) }
-        ensures goes_on { GoesOn (λ r. r.0.held) self.held [] [] result }
+        ensures goes_on { GoesOn (λ r. r.0.held) self.held nothing_written result }
+        ensures archive { IfErr result (λ e. IsArchiveFault e.fault) }
         ensures usual { IfErr result (λ e. IsUsual e.fault) }
     {
         let (node, block) = self.block_at(height)?;
@@ -317,6 +333,7 @@ impl<V: Variant, S: Holds<V>, P: Drop, E: Epocher> Node<V, S, P, E> {
         block: &V::Block,
         application: &mut A,
     ) -> Result<Self, Ended<V, S>>
+        requires small { IsSmall (finalization_bytes (S.Finalization.plain finalization.now)) }
         ensures ok { OnOk result (Hears (A.told application.old) (tip_reports self.life.tip (S.Finalization.plain finalization.now) (V.plain block.now))
             (A.told application.new)) }
         ensures err { OnErr result (Hears (A.told application.old) [] (A.told application.new)) }
@@ -324,10 +341,11 @@ impl<V: Variant, S: Holds<V>, P: Drop, E: Epocher> Node<V, S, P, E> {
             (V.inner (S.Finalization.plain finalization.now).payload)) self.held.certs (at_height (V.plain block.now).height
             (S.Finalization.plain finalization.now)) a.held.certs) }
         ensures same { IfOk result (λ a. a ≡ record self {
-          held = record self.held { certs = a.held.certs; counts = a.held.counts };
+          held = record self.held { certs = a.held.certs; watches = a.held.watches };
           life = record self.life { tip = tip_after self.life.tip (V.plain block.now) };
         }) }
-        ensures goes_on { GoesOn (λ a. a.held) self.held [] (at_height (V.plain block.now).height (S.Finalization.plain finalization.now) ∷ []) result }
+        ensures archive { IfErr result (λ e. IsArchiveFault e.fault) }
+        ensures goes_on { GoesOn (λ a. a.held) self.held (written_cert (at_height (V.plain block.now).height (S.Finalization.plain finalization.now))) result }
         ensures usual { IfErr result (λ e. IsUsual e.fault) }
     {
         let node = self.store_certificate(V::height(block), finalization)?;
@@ -341,11 +359,13 @@ impl<V: Variant, S: Holds<V>, P: Drop, E: Epocher> Node<V, S, P, E> {
         height: Height,
         finalization: &S::Finalization,
     ) -> Result<Self, Ended<V, S>>
+        requires small { IsSmall (finalization_bytes (S.Finalization.plain finalization.now)) }
         ensures certs { IfOk result (λ a. StoresValue (is_certified V.inner self.held.certs.held height
             (V.inner (S.Finalization.plain finalization.now).payload)) self.held.certs (at_height height (S.Finalization.plain finalization.now))
             a.held.certs) }
-        ensures same { IfOk result (λ a. a ≡ record self { held = record self.held { certs = a.held.certs; counts = a.held.counts } }) }
-        ensures goes_on { GoesOn (λ a. a.held) self.held [] (at_height height (S.Finalization.plain finalization.now) ∷ []) result }
+        ensures same { IfOk result (λ a. a ≡ record self { held = record self.held { certs = a.held.certs; watches = a.held.watches } }) }
+        ensures archive { IfErr result (λ e. IsArchiveFault e.fault) }
+        ensures goes_on { GoesOn (λ a. a.held) self.held (written_cert (at_height height (S.Finalization.plain finalization.now))) result }
         ensures usual { IfErr result (λ e. IsUsual e.fault) }
     {
         let stores = self.stores.put_certificate(height, finalization)?;

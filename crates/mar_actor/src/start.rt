@@ -5,8 +5,8 @@ ghost use Rattle.mar_key.specs.Hears.{Hears};
 ghost use Rattle.mar_key.specs.Keys.{Call};
 ghost use Rattle.mar_store.specs.Changes.{IsNested};
 ghost use Rattle.mar_node.specs.Event.{life_started};
-ghost use Rattle.mar_node.specs.Held.{GoesOn, IsUsual};
-ghost use Rattle.mar_node.specs.Moves.{LivesOn, newest, newest_tips, with_newest};
+ghost use Rattle.mar_node.specs.Held.{GoesOn, IsUsual, nothing_written};
+ghost use Rattle.mar_node.specs.Moves.{IsRead, LivesOn, newest, newest_tips, with_newest};
 ghost use Rattle.mar_node.specs.Promise.{KeepsPromise};
 ghost use Rattle.mar_actor.specs.Due.{EndsWhereDue};
 ghost use Rattle.mar_actor.specs.Told.{TellsInOrder};
@@ -21,10 +21,10 @@ use mar_types::Epocher;
 impl<V: Variant, S: Holds<V>, P: Drop, E: Epocher> Node<V, S, P, E> {
     /// Reports the newest stored finalization as the tip, and hands over what may follow.
     pub(crate) fn start<A: Reporter<V>>(self, application: &mut A) -> Result<Self, Ended<V, S>>
-        ensures promise { IsNested self.held.blocks → (heard : Option (List Call)) (buffer : List Block)
+        ensures promise { IsNested self.held.blocks → IsNested self.held.certs → (heard : Option (List Call)) (buffer : List Block)
             → KeepsPromise (E.epochs self.life.epocher) V.inner self (life_started None) buffer (A.told application.old) (A.told application.new) heard heard
             result }
-        ensures lives { LivesOn self result }
+        ensures lives { IsNested self.held.blocks → IsNested self.held.certs → LivesOn self result }
         ensures by_value { EndsWhereDue None result }
         ensures tells { TellsInOrder (A.told application.old) (newest_tips V.inner self.life.tip (newest self.held.certs.held)) (A.told application.new)
             result }
@@ -37,8 +37,8 @@ impl<V: Variant, S: Holds<V>, P: Drop, E: Epocher> Node<V, S, P, E> {
     fn report_newest<A: Reporter<V>>(self, application: &mut A) -> Result<Self, Ended<V, S>>
         ensures ok { OnOk result (Hears (A.told application.old) (newest_tips V.inner self.life.tip (newest self.held.certs.held)) (A.told application.new)) }
         ensures err { OnErr result (Hears (A.told application.old) [] (A.told application.new)) }
-        ensures same { IfOk result (λ a. a ≡ with_newest self) }
-        ensures goes_on { GoesOn (λ a. a.held) self.held [] [] result }
+        ensures same { IfOk result (λ a. IsRead (with_newest self) a) }
+        ensures goes_on { GoesOn (λ a. a.held) self.held nothing_written result }
         ensures usual { IfErr result (λ e. IsUsual e.fault) }
     {
         let (node, found) = self.newest_certificate()?;

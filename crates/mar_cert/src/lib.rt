@@ -2,6 +2,7 @@
 #![tactic(auto)]
 
 mod finalization;
+mod laws;
 mod mock;
 mod mock_scheme;
 mod mock_tags;
@@ -11,6 +12,7 @@ mod signer;
 mod subject;
 
 pub use finalization::{AsFinalization, CommitsTo, Finalization, Proposal};
+pub use laws::{certified_compared, mocks_compared};
 pub use mock::{MockCertificate, MockFinalization, MockNotarization, mock_finalizations};
 pub use mock_scheme::{MockProvider, MockScheme, mock_verdicts};
 pub use mock_tags::mock_tag;

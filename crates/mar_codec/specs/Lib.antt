@@ -8,5 +8,6 @@ pub mod VarintLemmas
 pub mod DigestLemmas
 pub mod CodecLemmas
 pub mod Texts
+pub mod Equal
 pub mod Places
 pub mod PlacesLemmas

@@ -3,15 +3,22 @@ ghost use Rattle.std.specs.List.{list_any};
 ghost use Rattle.std.specs.Prelude.{IsTrue, List, [], length, not, ◌≡◌, ◌≤◌};
 ghost use Rattle.std.specs.Ordering.{is_eq, is_le};
 ghost use Rattle.std.specs.declared.cmp.Ordering.TheVariants.{Less};
+ghost use Rattle.mar_codec.specs.Equal.{TellsApart};
 ghost use Rattle.mar_types.specs.Round.{Round as PlainRound};
 ghost use Rattle.mar_key.specs.Asked.{Asked as PlainAsked, IsOpenList, Judged as PlainJudged, annotations_of, asked_after, has_none};
 ghost use Rattle.mar_key.specs.Cutoff.{covers, cutoff_le};
-ghost use Rattle.mar_key.specs.KeyOrder.{key_cmp};
+ghost use Rattle.mar_key.specs.KeyOrder.{annotation_cmp, key_cmp};
 ghost use Rattle.mar_key.specs.Keys.{Call, IsKey, Key as PlainKey, key_bytes, key_eq};
-ghost use Rattle.mar_key.specs.Views.{cutoff_of, key_of};
+ghost use Rattle.mar_key.specs.Views.{annotation_of, cutoff_of, finalized_of, key_of};
 
+use crate::annotations::{Annotation, Finalized, Retain};
 use crate::cutoffs::Cutoff;
+use crate::floors::{Floor, Processed};
 use crate::keys::Key;
+use crate::outcomes::Outcome;
+use crate::recorder::Judged;
+use crate::requests::{Fetch, Request};
+use crate::subscription::Subscription;
 use mar_codec::{Digest, Read, Sha256Digest};
 use std::hash::Hash;
 
@@ -36,6 +43,33 @@ pub fn key_laws<D: Digest>()
     ensures same { (k l : Key D) → IsTrue (⟦<Key<D> as PartialEq>⟧.eq k l) → k ≡ l }
     ensures hashed { (k l : Key D) → IsTrue (⟦<Key<D> as PartialEq>⟧.eq k l)
         → ⟦<Key<D> as Hash>⟧.hash_input k ≡ ⟦<Key<D> as Hash>⟧.hash_input l }
+{}
+
+/// Annotations are ordered by kind, first those of a notarization, then untrusted, certified and finalized ones, and then
+/// by their round or height; two are equal exactly where all that they hold is.
+pub fn annotation_laws()
+    ensures ordered { (a b : Annotation) → ⟦<Annotation as Ord>⟧.cmp a b ≡ annotation_cmp (annotation_of a) (annotation_of b) }
+    ensures finalized { (a b : Finalized) → ⟦<Finalized as Ord>⟧.cmp a b ≡ annotation_cmp (finalized_of a) (finalized_of b) }
+    ensures same { TellsApart ⟦<Annotation as PartialEq>⟧.eq }
+    ensures same_finalized { TellsApart ⟦<Finalized as PartialEq>⟧.eq }
+{}
+
+/// Requests, what they ask to drop, their outcomes and judgements, and what is promised of a name: where names are equal
+/// exactly where they are the same, two of these are equal exactly where all that they hold is.
+pub fn request_laws<D: PartialEq>()
+    ensures retains { TellsApart ⟦<Retain as PartialEq>⟧.eq }
+    ensures outcomes { TellsApart ⟦<Outcome as PartialEq>⟧.eq }
+    ensures keys { TellsApart D.eq → TellsApart ⟦<Key<D> as PartialEq>⟧.eq }
+    ensures fetches { TellsApart D.eq → TellsApart ⟦<Fetch<D> as PartialEq>⟧.eq }
+    ensures requests { TellsApart D.eq → TellsApart ⟦<Request<D> as PartialEq>⟧.eq }
+    ensures judged { TellsApart D.eq → TellsApart ⟦<Judged<D> as PartialEq>⟧.eq }
+    ensures subscriptions { TellsApart D.eq → TellsApart ⟦<Subscription<D> as PartialEq>⟧.eq }
+{}
+
+/// Two floors, or two that are told of a processed height, are equal exactly where all that they hold is.
+pub fn floor_laws()
+    ensures processed { TellsApart ⟦<Processed as PartialEq>⟧.eq }
+    ensures floors { TellsApart ⟦<Floor as PartialEq>⟧.eq }
 {}
 
 /// A key of a digest of 32 bytes has a spelling of at most 33 bytes that is read, no two have one, and nothing else is

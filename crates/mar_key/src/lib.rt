@@ -17,7 +17,9 @@ pub use annotations::{Annotation, Finalized, Retain};
 pub use cutoffs::Cutoff;
 pub use floors::{Floor, Processed};
 pub use keys::Key;
-pub use laws::{cutoff_laws, digest_keys, key_laws, open_key_laws};
+pub use laws::{
+    annotation_laws, cutoff_laws, digest_keys, floor_laws, key_laws, open_key_laws, request_laws,
+};
 pub use outcomes::{Delivery, Outcome};
 pub use peers::{Consumer, Producer};
 pub use recorder::{Ask, Asked, Judged, Recorder, same_key};

@@ -17,10 +17,11 @@ use Rattle.mar_node.specs.Judge.{serve_events, judged_of, in_turn}
 use Rattle.mar_node.specs.Answers.{TicketAnswer}
 use Rattle.mar_node.specs.Faults.{Fault, Begin, floor_of}
 use Rattle.mar_node.specs.Step.{Report, new_tip, handed_over, HandedBlock, Made, handed_blocks, AreHandedOf, AdvancesAll}
-use Rattle.mar_node.specs.Lives.{Cuts, CutsOpening}
+use Rattle.mar_node.specs.Lives.{Cuts, CutsOpening, Picks}
+use Rattle.mar_script.specs.Accounts.{Account}
 use Rattle.mar_script.specs.Script.{Line, open_line, tell_line, peer_line, ask_line, serve_line, buffer_line, bufclose_line, put_line, take_line, sync_line, ack_line, drop_line, fail_line, crash_line}
 use Rattle.mar_script.specs.Text.{State, running, stopped, Output, Done, Remark}
-use Rattle.mar_script.specs.Run.{refusal, with_close, with_ticket, told_events, queued_of, is_subscribed, produced_answers, StepDone, EventsDone, OpenDone, TakeDone, TakenDone, closes_nothing, Acts, RunningDone, LineDone, Run}
+use Rattle.mar_script.specs.Run.{refusal, with_close, with_ticket, told_events, queued_of, is_subscribed, produced_answers, StepDone, EventsDone, OpenDone, TakeDone, TakenDone, closes_nothing, Acts, RunningDone, LineDone, Run, next_picks}
 
 handed-append : (xs ys : List Report) → handed_blocks (xs ++ ys) ≡ handed_blocks xs ++ handed_blocks ys
 handed-append [] ys = refl
@@ -44,9 +45,9 @@ module _ (config : Config) (chain : Chain) where
   cuts : (n : Node) (events : List Event) (reports : List Report) (fault : Fault) (left : Ended) → Cuts config chain n events reports fault left → AreChains chain reports
   cuts n events reports fault left c = subst (AreChains chain) (sym c.reports_split) (both chain c.first.reports c.later (advances n c.finished c.first c.mid c.advances) (from _ _ c.cut.hands_chain))
 
-  cuts_opening : (e : Ended) (begin : Begin) (reports : List Report) (fault : Fault) (left : Ended) → CutsOpening config chain e begin reports fault left → AreChains chain reports
-  cuts_opening e begin reports fault left (inl c) = subst (AreChains chain) (sym c.reports_none) tt
-  cuts_opening e begin reports fault left (inr c) = from _ _ c.cut.hands_chain
+  cuts_opening : (e : Ended) (picks : Picks) (begin : Begin) (reports : List Report) (fault : Fault) (left : Ended) → CutsOpening config chain e picks begin reports fault left → AreChains chain reports
+  cuts_opening e picks begin reports fault left (inl c) = subst (AreChains chain) (sym c.reports_none) tt
+  cuts_opening e picks begin reports fault left (inr c) = from _ _ c.cut.hands_chain
 
   step : (n : Node) (events : List Event) (outcomes : List Judged) (produced_answers : Node → List TicketAnswer) (out : Output) (after : State) → StepDone config chain n events outcomes produced_answers out after → AreChains chain out.made.reports
   step n events outcomes produced_answers out (running n') d = subst (λ o. AreChains chain o.made.reports) (sym d.3) (advances n events d.0 d.1.unticketed d.1.advances)
@@ -56,9 +57,9 @@ module _ (config : Config) (chain : Chain) where
   steps n [] outcomes produced_answers out after d = subst (λ o. AreChains chain o.made.reports) (sym d.0) tt
   steps n (e ∷ events) outcomes produced_answers out after d = step n (e ∷ events) outcomes produced_answers out after d
 
-  opens : (e : Ended) (begin : Begin) (out : Output) (after : State) → OpenDone config chain e begin out after → AreChains chain out.made.reports
-  opens e begin out (running n) d = subst (λ o. AreChains chain o.made.reports) (sym d.3) (advances d.1.first (life_started (floor_of begin) ∷ []) d.0 d.1.start.unticketed d.1.start.advances)
-  opens e begin out (stopped left) d = cuts_opening e begin out.made.reports d.0 left d.3
+  opens : (e : Ended) (picks : Picks) (begin : Begin) (out : Output) (after : State) → OpenDone config chain e picks begin out after → AreChains chain out.made.reports
+  opens e picks begin out (running n) d = subst (λ o. AreChains chain o.made.reports) (sym d.3) (advances d.1.first (life_started (floor_of begin) ∷ []) d.0 d.1.start.unticketed d.1.start.advances)
+  opens e picks begin out (stopped left) d = cuts_opening e picks begin out.made.reports d.0 left d.3
 
   taken_by : (b : Bool) (n : Node) (q : Queued) (out : Output) (after : State) → TakenDone b config chain n q out after → AreChains chain out.made.reports
   taken_by true n q out after d = subst (λ o. AreChains chain o.made.reports) (sym d.0) tt
@@ -88,13 +89,13 @@ module _ (config : Config) (chain : Chain) where
   while_running n line (Some said) out after d = subst (λ o. AreChains chain o.made.reports) (sym d.0) tt
   while_running n line None out after d = acts n line out after d
 
-  line_done : (state : State) (line : Line) (out : Output) (after : State) → LineDone config chain state line out after → AreChains chain out.made.reports
-  line_done (running n) line out after d = while_running n line (refusal n line) out after d
-  line_done (stopped e) (open_line begin) out after d = opens e begin out after d
-  line_done (stopped e) (fail_line store k) out after d = subst (λ o. AreChains chain o.made.reports) (sym d.0) tt
-  line_done (stopped e) (crash_line luck) out after d = subst (λ o. AreChains chain o.made.reports) (sym d.0) tt
-  line_done (stopped e) _ out after d = subst (λ o. AreChains chain o.made.reports) (sym d.0) tt
+  line_done : (account : Account) (state : State) (line : Line) (out : Output) (after : State) → LineDone config chain account state line out after → AreChains chain out.made.reports
+  line_done account (running n) line out after d = while_running n line (refusal n line) out after d
+  line_done account (stopped e) (open_line begin) out after d = opens e (next_picks account e) begin out after d
+  line_done account (stopped e) (fail_line store k) out after d = subst (λ o. AreChains chain o.made.reports) (sym d.0) tt
+  line_done account (stopped e) (crash_line luck) out after d = subst (λ o. AreChains chain o.made.reports) (sym d.0) tt
+  line_done account (stopped e) _ out after d = subst (λ o. AreChains chain o.made.reports) (sym d.0) tt
 
-  pub run_hands_chain : (state : State) (run : List Done) (last : State) → Run config chain state run last → RunHandsChain chain run
-  run_hands_chain state [] last r = tt
-  run_hands_chain state (d ∷ run) last r = (line_done state d.line d.output d.after r.0, run_hands_chain d.after run last r.1)
+  pub run_hands_chain : (account : Account) (state : State) (run : List Done) (last : State) → Run config chain account state run last → RunHandsChain chain run
+  run_hands_chain account state [] last r = tt
+  run_hands_chain account state (d ∷ run) last r = (line_done account state d.line d.output d.after r.0, run_hands_chain d.account d.after run last r.2)

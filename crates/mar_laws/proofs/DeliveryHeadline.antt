@@ -11,20 +11,20 @@ use Rattle.mar_cert.specs.Finalization.{finalize}
 use Rattle.mar_key.specs.Cutoff.{at_round, covers, cutoff_zero}
 use Rattle.mar_node.specs.Chain.{Chain, IsBlockAt, IsFinal, commitment_at}
 use Rattle.mar_store.specs.Kept.{At}
-use Rattle.mar_node.specs.Node.{FloorSafe, left_by}
+use Rattle.mar_node.specs.Node.{FloorSafe}
 use Rattle.mar_codec.specs.Digest.{IsByte}
 use Rattle.mar_cert.specs.MockScheme.{IsFinalization, Signer, read_signers, mock_verifies}
 use Rattle.mar_codec.specs.Varint.{varint_within, read_varint_within}
 use Rattle.mar_script.specs.Script.{IsSettings, IsLine, settings_bytes, line_bytes}
 use Rattle.mar_script.specs.Text.{running, text}
-use Rattle.mar_script.specs.Run.{Premises, Appears, read_to_end, Replays, Headline, empty_stores}
+use Rattle.mar_script.specs.Run.{Premises, Appears, read_to_end, Replays, Headline, empty_stores, fresh_stores}
 use Rattle.mar_laws.proofs.SmallDigests.{digest_0_is, digest_1_is}
 use Rattle.mar_laws.proofs.SmallChain.{chain as small_chain, d1, b0, b1, r1, f1, tag_0, tag_1, tag_2, settings, config}
 use Rattle.mar_laws.specs.Laws.{IsRunOf}
 use Rattle.mar_laws.proofs.DeliveryRun.{delivery_run, delivery_text, n4, line, output}
 use Rattle.mar_node.proofs.Soundness.{crash_is_good}
 use Rattle.mar_laws.proofs.DeliverySteps.{good4, delivery_is_run}
-use Rattle.mar_laws.proofs.PremisesMet.{delivery_lives, lines, premises}
+use Rattle.mar_laws.proofs.PremisesMet.{delivery_lives, left, lines, premises}
 
 -- THE SCRIPT'S VALUES
 
@@ -195,7 +195,7 @@ module _ (chain : Chain) (p : Premises config chain lines empty_stores) where
           let height : h ≡ 1 = p.lawful.one_height r1 h 1 (subst (λ s. IsFinal chain s h) same named) reported.1 in
           omega arith
 
-  replays : Replays (Unit {0}) config chain lines (text empty_stores delivery_run) read_to_end empty_stores (left_by n4)
+  replays : Replays config chain lines (text empty_stores delivery_run) read_to_end fresh_stores left
   replays = record {
     run = delivery_run;
     lines_done = refl;
@@ -204,13 +204,15 @@ module _ (chain : Chain) (p : Premises config chain lines empty_stores) where
     output = refl;
     hands_back = (λ h. refl, λ h. refl, refl, λ h held. held, λ h held. held);
     good = crash_is_good config chain n4 (good4 chain at0 reported.0 reported.1 zero_safe safe_at_zero safe_at_one);
+    watches_are = refl;
     some_pair = lit< tt;
     memory = (λ m. cc, (λ m. cc, (λ m. cc, (λ m. cc, (λ m. cc, λ m. absurd cc)))));
+    excused = (tt, (tt, (tt, (tt, (tt, (tt, tt))))));
     complete = λ quiet smooth. (inl refl, (inl refl, (inl refl, (inl refl, (inl refl, (inl refl, tt))))));
   }
 
 -- the script read, the output written, the answer given
-pub headline : Headline (Unit {0}) input [] (text empty_stores delivery_run) read_to_end empty_stores (left_by n4)
+pub headline : Headline input [] (text empty_stores delivery_run) read_to_end fresh_stores left
 headline = record {
   settings = Some settings;
   lines = lines;
@@ -231,6 +233,6 @@ delivery_is script out is_input is_output = record {
   lines_done = refl;
   lives = delivery_lives;
   text_is = is_output ∙ sym delivery_text;
-  after = left_by n4;
-  headline = subst₂ (λ x y. Headline (Unit {0}) x [] y read_to_end empty_stores (left_by n4)) (sym is_input) (delivery_text ∙ sym is_output) headline;
+  after = left;
+  headline = subst₂ (λ x y. Headline x [] y read_to_end fresh_stores left) (sym is_input) (delivery_text ∙ sym is_output) headline;
 }

@@ -14,6 +14,9 @@ use Rattle.mar_node.specs.Step.{new_tip, handed_over, Made, nothing_made}
 use Rattle.mar_node.specs.Lives.{opened_node}
 use Rattle.mar_script.specs.Script.{open_line, tell_line, buffer_line, sync_line, ack_line}
 use Rattle.mar_script.specs.Text.{output_text, text, Output, silent_output, remark_output, remark_ignored, running, Done}
+use Rattle.mar_node.specs.Held.{ArePassed}
+use Rattle.mar_node.proofs.Passing.{ArePassed-refl}
+use Rattle.mar_script.specs.Accounts.{Account, first_account, fresh_watches}
 use Rattle.mar_script.specs.Run.{empty_stores}
 use Rattle.mar_laws.proofs.SmallChain.{d1, b0, b1, r1, f1, config}
 
@@ -47,14 +50,21 @@ n4 = record n3 { processed = Some (at_block 1); cutoff = at_round r1; meta = rec
 abbrev pub making : Made → Output
 making made = record silent_output { made = made }
 
+-- beside each state: no store in memory failed, and no call is armed
+abbrev pub fresh : Account
+fresh = first_account fresh_watches
+
+pub none_failed : ArePassed fresh_watches fresh_watches
+none_failed = ArePassed-refl fresh_watches
+
 abbrev pub delivery_run : List Done
 delivery_run =
-    record { line = open_line (from_genesis b0); output = making (record nothing_made { reports = handed_over 0 b0 ∷ [] }); after = running n0 }
-    ∷ record { line = buffer_line b1; output = silent_output; after = running n1 }
-    ∷ record { line = tell_line (report_finalization f1); output = making (record nothing_made { reports = new_tip r1 1 d1 ∷ handed_over 1 b1 ∷ [] }); after = running n2 }
-    ∷ record { line = sync_line 0; output = remark_output remark_ignored; after = running n2 }
-    ∷ record { line = ack_line 0; output = making (record nothing_made { asks = retain (above_height 0) ∷ [] }); after = running n3 }
-    ∷ record { line = ack_line 1; output = making (record nothing_made { asks = retain (above_height 1) ∷ retain (above_round (at_round r1)) ∷ [] }); after = running n4 }
+    record { line = open_line (from_genesis b0); output = making (record nothing_made { reports = handed_over 0 b0 ∷ [] }); after = running n0; account = fresh }
+    ∷ record { line = buffer_line b1; output = silent_output; after = running n1; account = fresh }
+    ∷ record { line = tell_line (report_finalization f1); output = making (record nothing_made { reports = new_tip r1 1 d1 ∷ handed_over 1 b1 ∷ [] }); after = running n2; account = fresh }
+    ∷ record { line = sync_line 0; output = remark_output remark_ignored; after = running n2; account = fresh }
+    ∷ record { line = ack_line 0; output = making (record nothing_made { asks = retain (above_height 0) ∷ [] }); after = running n3; account = fresh }
+    ∷ record { line = ack_line 1; output = making (record nothing_made { asks = retain (above_height 1) ∷ retain (above_round (at_round r1)) ∷ [] }); after = running n4; account = fresh }
     ∷ []
 
 -- a text line

@@ -14,9 +14,10 @@ use Rattle.mar_node.specs.Step.{nothing_made, handed_over, new_tip, Advances}
 use Rattle.mar_node.specs.Lives.{Finds}
 use Rattle.mar_script.specs.Script.{open_line, tell_line, buffer_line, sync_line, ack_line}
 use Rattle.mar_script.specs.Text.{silent_output, remark_output, remark_ignored, running, stopped}
-use Rattle.mar_script.specs.Run.{LineDone, Run, empty_stores}
+use Rattle.mar_script.specs.Run.{LineDone, Run, empty_stores, next_picks}
 use Rattle.mar_laws.proofs.SmallChain.{b0, b1, d1, f1, r1, config}
-use Rattle.mar_laws.proofs.DeliveryRun.{making, begun, n0, n1, n2, n3, n4, delivery_run}
+use Rattle.mar_laws.proofs.DeliveryRun.{fresh, making, none_failed, begun, n0, n1, n2, n3, n4, delivery_run}
+use Rattle.mar_laws.proofs.SmallEntries.{new_block, new_cert, new_certificates, same_certificates, settled_heights}
 use Rattle.mar_laws.proofs.SmallFacts.{same_kept, grown_kept, not_entered, entered_own}
 
 -- Of any chain that has these two blocks and this finalized round, and whose other rounds the cutoffs
@@ -32,6 +33,8 @@ module _ (chain : Chain) (at0 : IsBlockAt chain 0 b0) (at1 : IsBlockAt chain 1 b
     good0 : IsGood config chain n0
     good0 = record {
       heights = record {
+        nested_blocks = settled_heights _;
+        nested_certs = settled_heights _;
         sure_blocks = λ h held. inl held;
         sure_certs = λ h held. inl held;
         consecutive = (refl, tt);
@@ -62,6 +65,8 @@ module _ (chain : Chain) (at0 : IsBlockAt chain 0 b0) (at1 : IsBlockAt chain 1 b
     good2 : IsGood config chain n2
     good2 = record {
       heights = record {
+        nested_blocks = settled_heights _;
+        nested_certs = settled_heights _;
         sure_blocks = λ h held. inl held;
         sure_certs = λ h held. inl held;
         consecutive = (refl, (refl, tt));
@@ -92,6 +97,8 @@ module _ (chain : Chain) (at0 : IsBlockAt chain 0 b0) (at1 : IsBlockAt chain 1 b
     good3 : IsGood config chain n3
     good3 = record {
       heights = record {
+        nested_blocks = settled_heights _;
+        nested_certs = settled_heights _;
         sure_blocks = λ h held. inl held;
         sure_certs = λ h held. inl held;
         consecutive = (refl, tt);
@@ -122,6 +129,8 @@ module _ (chain : Chain) (at0 : IsBlockAt chain 0 b0) (at1 : IsBlockAt chain 1 b
     pub good4 : IsGood config chain n4
     good4 = record {
       heights = record {
+        nested_blocks = settled_heights _;
+        nested_certs = settled_heights _;
         sure_blocks = λ h held. inl held;
         sure_certs = λ h held. inl held;
         consecutive = tt;
@@ -151,7 +160,7 @@ module _ (chain : Chain) (at0 : IsBlockAt chain 0 b0) (at1 : IsBlockAt chain 1 b
 
     -- LINES
 
-    finds : Finds config empty_stores (from_genesis b0) begun
+    finds : Finds config empty_stores (next_picks fresh empty_stores) (from_genesis b0) begun
     finds = record {
       pair = record { processed = None; cutoff = cutoff_zero };
       pair_may = (0, lit< tt, refl);
@@ -159,6 +168,7 @@ module _ (chain : Chain) (at0 : IsBlockAt chain 0 b0) (at1 : IsBlockAt chain 1 b
       found_may = record { with_sure = λ h v e. e; within_may = λ h v e. absurd cc; once = tt };
       certs = [];
       certs_may = record { with_sure = λ h v e. e; within_may = λ h v e. absurd cc; once = tt };
+      picked = record { blocks_are = refl; certs_are = refl; pair_is = refl };
       cache = [];
       cache_may = record { with_sure = λ x e. e; within_may = λ x e. e; once = tt };
       lowest = 0;
@@ -166,7 +176,7 @@ module _ (chain : Chain) (at0 : IsBlockAt chain 0 b0) (at1 : IsBlockAt chain 1 b
       lowests_were = λ k there. there;
       lowest_was = (0, lit< tt, refl);
       blocks = reopened_store (record { height = 0; value = b0 } ∷ []);
-      settled = record { sure = refl; may = λ x has. has };
+      settled = record { sure = refl; may = λ x has. has; held_may = λ x has. has };
       entered = ((refl, tt), λ h. refl);
       no_fault = refl;
       node = refl;
@@ -180,6 +190,9 @@ module _ (chain : Chain) (at0 : IsBlockAt chain 0 b0) (at1 : IsBlockAt chain 1 b
       cutoff = refl;
       blocks = same_kept 0 begun.blocks;
       certs = same_kept 0 begun.certs;
+      may_blocks = λ x has. inl has;
+      may_certs = λ x has. inl has;
+      certificates = same_certificates begun (life_started None) n0 refl refl;
       writes = record {
         repaired = [];
         by_repair = λ h. not_entered (nat_lt 0 h) (has_height begun.blocks.held h) true;
@@ -204,10 +217,10 @@ module _ (chain : Chain) (at0 : IsBlockAt chain 0 b0) (at1 : IsBlockAt chain 1 b
       beside = record { asks = refl; sends = refl; answers = refl; subscriptions = refl; certified = λ h c. refl; next_sync = refl; untouched = refl };
     }
 
-    opens : LineDone config chain (stopped empty_stores) (open_line (from_genesis b0)) (making (record nothing_made { reports = handed_over 0 b0 ∷ [] })) (running n0)
+    opens : LineDone config chain fresh (stopped empty_stores) (open_line (from_genesis b0)) (making (record nothing_made { reports = handed_over 0 b0 ∷ [] })) (running n0)
     opens = (_, record { first = begun; finds = finds; start = record { unticketed = n0; advances = starts; ticket = refl; rests = block_missing refl; good = good0 } }, refl, refl)
 
-    buffers : LineDone config chain (running n0) (buffer_line b1) silent_output (running n1)
+    buffers : LineDone config chain fresh (running n0) (buffer_line b1) silent_output (running n1)
     buffers = (refl, refl)
 
     finalized : Advances config chain n1 (message_told None (report_finalization f1)) (record nothing_made { reports = new_tip r1 1 d1 ∷ handed_over 1 b1 ∷ [] }) n2
@@ -218,6 +231,9 @@ module _ (chain : Chain) (at0 : IsBlockAt chain 0 b0) (at1 : IsBlockAt chain 1 b
       cutoff = refl;
       blocks = grown_kept 0 (record { height = 0; value = b0 } ∷ []) (record { height = 1; value = b1 } ∷ []);
       certs = grown_kept 0 [] (record { height = 1; value = f1 } ∷ []);
+      may_blocks = new_block;
+      may_certs = new_cert;
+      certificates = new_certificates n2 refl;
       writes = record {
         repaired = [];
         by_repair = λ h. entered_own (nat_lt 0 h) (0 == h) (1 == h) b0 b1;
@@ -242,10 +258,10 @@ module _ (chain : Chain) (at0 : IsBlockAt chain 0 b0) (at1 : IsBlockAt chain 1 b
       beside = record { asks = refl; sends = refl; answers = refl; subscriptions = refl; certified = λ h c. refl; next_sync = refl; untouched = refl };
     }
 
-    finals : LineDone config chain (running n1) (tell_line (report_finalization f1)) (making (record nothing_made { reports = new_tip r1 1 d1 ∷ handed_over 1 b1 ∷ [] })) (running n2)
+    finals : LineDone config chain fresh (running n1) (tell_line (report_finalization f1)) (making (record nothing_made { reports = new_tip r1 1 d1 ∷ handed_over 1 b1 ∷ [] })) (running n2)
     finals = (_, record { unticketed = n2; advances = finalized; ticket = refl; rests = window_full refl; good = good2 }, refl, refl, refl)
 
-    ignores : LineDone config chain (running n2) (sync_line 0) (remark_output remark_ignored) (running n2)
+    ignores : LineDone config chain fresh (running n2) (sync_line 0) (remark_output remark_ignored) (running n2)
     ignores = (refl, refl)
 
     acked0 : Advances config chain n2 (ack_given 0) (record nothing_made { asks = retain (above_height 0) ∷ [] }) n3
@@ -256,6 +272,9 @@ module _ (chain : Chain) (at0 : IsBlockAt chain 0 b0) (at1 : IsBlockAt chain 1 b
       cutoff = refl;
       blocks = same_kept 0 n2.blocks;
       certs = same_kept 0 n2.certs;
+      may_blocks = λ x has. inl has;
+      may_certs = λ x has. inl has;
+      certificates = same_certificates n2 (ack_given 0) n3 refl refl;
       writes = record {
         repaired = [];
         by_repair = λ h. not_entered (nat_lt 0 h) (has_height n2.blocks.held h) true;
@@ -280,7 +299,7 @@ module _ (chain : Chain) (at0 : IsBlockAt chain 0 b0) (at1 : IsBlockAt chain 1 b
       beside = record { asks = refl; sends = refl; answers = refl; subscriptions = refl; certified = λ h c. refl; next_sync = refl; untouched = refl };
     }
 
-    acks0 : LineDone config chain (running n2) (ack_line 0) (making (record nothing_made { asks = retain (above_height 0) ∷ [] })) (running n3)
+    acks0 : LineDone config chain fresh (running n2) (ack_line 0) (making (record nothing_made { asks = retain (above_height 0) ∷ [] })) (running n3)
     acks0 = (_, record { unticketed = n3; advances = acked0; ticket = refl; rests = block_missing refl; good = good3 }, refl, refl, refl)
 
     acked1 : Advances config chain n3 (ack_given 1) (record nothing_made { asks = retain (above_height 1) ∷ retain (above_round (at_round r1)) ∷ [] }) n4
@@ -291,6 +310,9 @@ module _ (chain : Chain) (at0 : IsBlockAt chain 0 b0) (at1 : IsBlockAt chain 1 b
       cutoff = refl;
       blocks = same_kept 0 n3.blocks;
       certs = same_kept 0 n3.certs;
+      may_blocks = λ x has. inl has;
+      may_certs = λ x has. inl has;
+      certificates = same_certificates n3 (ack_given 1) n4 refl refl;
       writes = record {
         repaired = [];
         by_repair = λ h. not_entered (nat_lt 1 h) (has_height n3.blocks.held h) true;
@@ -315,13 +337,13 @@ module _ (chain : Chain) (at0 : IsBlockAt chain 0 b0) (at1 : IsBlockAt chain 1 b
       beside = record { asks = refl; sends = refl; answers = refl; subscriptions = refl; certified = λ h c. refl; next_sync = refl; untouched = refl };
     }
 
-    acks1 : LineDone config chain (running n3) (ack_line 1) (making (record nothing_made { asks = retain (above_height 1) ∷ retain (above_round (at_round r1)) ∷ [] })) (running n4)
+    acks1 : LineDone config chain fresh (running n3) (ack_line 1) (making (record nothing_made { asks = retain (above_height 1) ∷ retain (above_round (at_round r1)) ∷ [] })) (running n4)
     acks1 = (_, record { unticketed = n4; advances = acked1; ticket = refl; rests = block_missing refl; good = good4 }, refl, refl, refl)
 
     -- all of it is a run of lives
-    pub delivery_is_run : Run config chain (stopped empty_stores) delivery_run (running n4)
-    delivery_is_run = (opens, (buffers, (finals, (ignores, (acks0, (acks1, refl))))))
+    pub delivery_is_run : Run config chain fresh (stopped empty_stores) delivery_run (running n4)
+    delivery_is_run = (opens, record { luck = refl; calls = none_failed }, (buffers, record { luck = refl; calls = none_failed }, (finals, record { luck = refl; calls = none_failed }, (ignores, record { luck = refl; calls = none_failed }, (acks0, record { luck = refl; calls = none_failed }, (acks1, record { luck = refl; calls = none_failed }, refl))))))
 
     -- and so is its first line: nothing more is handed over, since block 1 is missing
-    pub opening_is_run : Run config chain (stopped empty_stores) (take 1 delivery_run) (running n0)
-    opening_is_run = (opens, refl)
+    pub opening_is_run : Run config chain fresh (stopped empty_stores) (take 1 delivery_run) (running n0)
+    opening_is_run = (opens, record { luck = refl; calls = none_failed }, refl)

@@ -12,8 +12,9 @@ use Rattle.mar_script.specs.Text.{output_text, running, Done}
 use Rattle.mar_script.specs.Run.{LineDone, Run}
 use Rattle.mar_store.proofs.Lookups.{value_at-append_found}
 use Rattle.mar_laws.proofs.SmallChain.{b0, b1, d1, f1, r1, chain, config}
-use Rattle.mar_laws.proofs.DeliveryRun.{making, n1, n2, line}
+use Rattle.mar_laws.proofs.DeliveryRun.{fresh, making, none_failed, n1, n2, line}
 use Rattle.mar_laws.proofs.SmallCutoffs.{zero_safe, finalizes}
+use Rattle.mar_laws.proofs.SmallEntries.{new_block, new_cert, new_certificates, same_certificates, settled_heights}
 use Rattle.mar_laws.proofs.SmallFacts.{not_entered, entered_own}
 
 abbrev pub m2 : Node
@@ -48,9 +49,18 @@ certs_written h = by (1 == h) refl
     by true e held = inr (0, lit< tt, eq_of 1 h e)
     by false e held = absurd cc
 
+blocks_nested : (h : ℕ) → IsTrue (has_height m2.blocks.sure h) → IsTrue (has_height m2.blocks.held h)
+blocks_nested h = by (0 == h) (1 == h)
+  where
+    by : (a c : Bool) → IsTrue (is_some (if a then Some b0 else None)) → IsTrue (is_some (if a then Some b0 else if c then Some b1 else None))
+    by true c sure = refl
+    by false c sure = absurd cc
+
 good2 : IsGood config chain m2
 good2 = record {
   heights = record {
+    nested_blocks = record { sure_held = blocks_nested; held_may = λ h is. is };
+    nested_certs = record { sure_held = λ h is. absurd cc; held_may = λ h is. is };
     sure_blocks = blocks_written;
     sure_certs = certs_written;
     consecutive = (refl, tt);
@@ -81,6 +91,8 @@ good2 = record {
 good3 : IsGood config chain m3
 good3 = record {
   heights = record {
+    nested_blocks = settled_heights _;
+    nested_certs = settled_heights _;
     sure_blocks = λ h held. inl held;
     sure_certs = λ h held. inl held;
     consecutive = (refl, (refl, tt));
@@ -116,6 +128,9 @@ stored = record {
   cutoff = refl;
   blocks = record { held = λ h v above e. value_at-append_found n1.blocks.held (record { height = 1; value = b1 } ∷ []) h v e; sure = λ h v e still. e };
   certs = record { held = λ h v above e. absurd cc; sure = λ h v e still. e };
+  may_blocks = new_block;
+  may_certs = new_cert;
+  certificates = new_certificates (record m2 { syncs = []; next_sync = 0 }) refl;
   writes = record {
     repaired = [];
     by_repair = λ h. entered_own (nat_lt 0 h) (0 == h) (1 == h) b0 b1;
@@ -140,7 +155,7 @@ stored = record {
   beside = record { asks = refl; sends = refl; answers = refl; subscriptions = refl; certified = λ h c. refl; next_sync = refl; untouched = refl };
 }
 
-storing_of : LineDone config chain (running n1) (tell_line (report_finalization f1)) (making (record nothing_made { reports = new_tip r1 1 d1 ∷ [] })) (running m2)
+storing_of : LineDone config chain fresh (running n1) (tell_line (report_finalization f1)) (making (record nothing_made { reports = new_tip r1 1 d1 ∷ [] })) (running m2)
 storing_of = (_, record { unticketed = record m2 { syncs = []; next_sync = 0 }; advances = stored; ticket = refl; rests = write_uncovered 1 (0, lit< tt, refl) (lit≤ tt); good = good2 }, refl, refl, refl)
 
 synced : Advances config chain m2 (sync_finished 0) (record nothing_made { reports = handed_over 1 b1 ∷ [] }) m3
@@ -151,6 +166,9 @@ synced = record {
   cutoff = refl;
   blocks = record { held = λ h v above e. e; sure = λ h v e still. value_at-append_found n1.blocks.held (record { height = 1; value = b1 } ∷ []) h v e };
   certs = record { held = λ h v above e. e; sure = λ h v e still. absurd cc };
+  may_blocks = λ x has. inl has;
+  may_certs = λ x has. inl has;
+  certificates = same_certificates m2 (sync_finished 0) m3 refl refl;
   writes = record {
     repaired = [];
     by_repair = λ h. not_entered (nat_lt 0 h) (has_height m2.blocks.held h) true;
@@ -175,17 +193,17 @@ synced = record {
   beside = record { asks = refl; sends = refl; answers = refl; subscriptions = refl; certified = λ h c. refl; next_sync = refl; untouched = refl };
 }
 
-syncs : LineDone config chain (running m2) (sync_line 0) (making (record nothing_made { reports = handed_over 1 b1 ∷ [] })) (running m3)
+syncs : LineDone config chain fresh (running m2) (sync_line 0) (making (record nothing_made { reports = handed_over 1 b1 ∷ [] })) (running m3)
 syncs = (_, record { unticketed = m3; advances = synced; ticket = refl; rests = window_full refl; good = good3 }, refl, refl, refl)
 
 abbrev pub two_lines : List Done
 two_lines =
-    record { line = tell_line (report_finalization f1); output = making (record nothing_made { reports = new_tip r1 1 d1 ∷ [] }); after = running m2 }
-    ∷ record { line = sync_line 0; output = making (record nothing_made { reports = handed_over 1 b1 ∷ [] }); after = running m3 }
+    record { line = tell_line (report_finalization f1); output = making (record nothing_made { reports = new_tip r1 1 d1 ∷ [] }); after = running m2; account = fresh }
+    ∷ record { line = sync_line 0; output = making (record nothing_made { reports = handed_over 1 b1 ∷ [] }); after = running m3; account = fresh }
     ∷ []
 
-pub late_sync_is_run : Run config chain (running n1) two_lines (running m3)
-late_sync_is_run = (storing_of, (syncs, refl))
+pub late_sync_is_run : Run config chain fresh (running n1) two_lines (running m3)
+late_sync_is_run = (storing_of, record { luck = refl; calls = none_failed }, (syncs, record { luck = refl; calls = none_failed }, refl))
 
 late_sync_text : output_text (making (record nothing_made { reports = new_tip r1 1 d1 ∷ [] })) (running m2) ++ output_text (making (record nothing_made { reports = handed_over 1 b1 ∷ [] })) (running m3) ≡
     line (codes "tip 0.1 1 ce32c67642e5135e430855a082568f3b774ee1efc23b9f2d1bc13c3f65ce873a")

@@ -2,15 +2,16 @@ pub mod SmallDigests
 pub mod SmallChain
 pub mod DeliveryRun
 pub mod SmallFacts
+pub mod SmallEntries
 pub mod SmallCutoffs
 pub mod DeliverySteps
 pub mod WrongBodies
 pub mod WrongStorings
-pub mod WrongLives
 pub mod WorkedValues
 pub mod TicketClosings
 pub mod PremisesMet
 pub mod CutRun
+pub mod WrongLives
 pub mod SpelledLines
 pub mod CacheRun
 pub mod LateSyncRun

@@ -6,14 +6,16 @@ use Rattle.mar_types.specs.Epochs.{containing}
 use Rattle.mar_types.specs.Fixed.{fixed_partition}
 use Rattle.mar_node.specs.Chain.{IsLawful, IsBlockAt}
 use Rattle.mar_laws.proofs.EmptyStores.{empty_is_good}
-use Rattle.mar_script.specs.Run.{Run, IsLawfulScript, Premises, Appears, EndsWith, HonestBytes, read_to_end, Replays, empty_stores}
+use Rattle.mar_script.specs.Accounts.{fresh_watches}
+use Rattle.mar_script.specs.Run.{Run, IsLawfulScript, Premises, Appears, EndsWith, HonestBytes, read_to_end, Replays, empty_stores, fresh_stores}
 use Rattle.mar_script.specs.Text.{running, stopped, text}
+use Rattle.mar_node.specs.Held.{Remains}
 use Rattle.mar_node.specs.Node.{IsFinalized, left_by}
 use Rattle.mar_node.specs.Faults.{from_genesis, from_floor}
 use Rattle.mar_node.specs.Messages.{report_finalization, set_floor}
 use Rattle.mar_script.specs.Script.{Line, open_line}
 use Rattle.mar_laws.proofs.SmallChain.{chain, config, b0, b1, f1}
-use Rattle.mar_laws.proofs.DeliveryRun.{delivery_run, n4}
+use Rattle.mar_laws.proofs.DeliveryRun.{delivery_run, fresh, n4}
 use Rattle.mar_node.proofs.Soundness.{crash_is_good}
 use Rattle.mar_laws.proofs.DeliverySteps.{good4, delivery_is_run}
 use Rattle.mar_laws.proofs.SmallCutoffs.{zero_safe, safe_at_zero, safe_at_one}
@@ -174,10 +176,14 @@ premises = record { partition = fixed_partition 10 (lit< tt) (lit< tt); lawful =
 
 -- THE HEADLINE'S CLAUSE HOLDS OF THE DELIVERY RUN
 
-pub delivery_lives : Run config chain (stopped empty_stores) delivery_run (running n4)
+-- the stores that are handed back
+abbrev pub left : Remains
+left = record { ended = left_by n4; watches = fresh_watches }
+
+pub delivery_lives : Run config chain fresh (stopped empty_stores) delivery_run (running n4)
 delivery_lives = delivery_is_run chain refl refl (0, lit< tt, refl) zero_safe safe_at_zero safe_at_one
 
-pub delivery_replays : Replays (Unit {0}) config chain lines (text empty_stores delivery_run) read_to_end empty_stores (left_by n4)
+pub delivery_replays : Replays config chain lines (text empty_stores delivery_run) read_to_end fresh_stores left
 delivery_replays = record {
   run = delivery_run;
   lines_done = refl;
@@ -186,7 +192,9 @@ delivery_replays = record {
   output = refl;
   hands_back = (λ h. refl, λ h. refl, refl, λ h held. held, λ h held. held);
   good = crash_is_good config chain n4 (good4 chain refl refl (0, lit< tt, refl) zero_safe safe_at_zero safe_at_one);
+  watches_are = refl;
   some_pair = lit< tt;
   memory = (λ m. cc, (λ m. cc, (λ m. cc, (λ m. cc, (λ m. cc, λ m. absurd cc)))));
+  excused = (tt, (tt, (tt, (tt, (tt, (tt, tt))))));
   complete = λ quiet smooth. (inl refl, (inl refl, (inl refl, (inl refl, (inl refl, (inl refl, tt))))));
 }

@@ -15,7 +15,8 @@ use Rattle.mar_node.specs.Metadata.{Pair, pair_of}
 use Rattle.mar_node.specs.Event.{Event, life_started, ack_given, ack_dropped, sync_finished, block_buffered, buffer_ended, Effect, effect_of, kept_blocks, processed_after}
 use Rattle.mar_node.specs.Faults.{Begin, floor_of, next_after}
 use Rattle.mar_node.specs.Step.{Made, Advances, AdvancesAll, with_sync, Steps}
-use Rattle.mar_node.specs.Lives.{processed_at, Finds, Opens, NotBelow, OpeningPair, CutsOpening}
+use Rattle.mar_node.specs.Lives.{processed_at, Finds, Opens, NotBelow, OpeningPair, CutsOpening, Picks}
+use Rattle.mar_script.specs.Accounts.{Account}
 use Rattle.mar_script.specs.Text.{State, running, stopped, Output, Done, Remark}
 use Rattle.mar_node.specs.Messages.{Message, close_ticket, Queued}
 use Rattle.mar_inbox.specs.Policy.{after_take}
@@ -24,7 +25,7 @@ use Rattle.mar_node.specs.Judge.{serve_events, judged_of, in_turn}
 use Rattle.mar_script.specs.Script.{Line, open_line, tell_line, peer_line, ask_line, serve_line, buffer_line, bufclose_line, put_line, take_line, sync_line, ack_line, drop_line, fail_line, crash_line}
 use Rattle.mar_key.specs.Asked.{Judged}
 use Rattle.mar_node.specs.Answers.{TicketAnswer}
-use Rattle.mar_script.specs.Run.{takes_ticket, with_answer_ticket, told_events, with_ticket, queued_of, with_close, is_subscribed, produced_answers, refusal, StepDone, EventsDone, OneDone, OpenDone, TakeDone, TakenDone, closes_nothing, Acts, RunningDone, LineDone, Run}
+use Rattle.mar_script.specs.Run.{next_picks, takes_ticket, with_answer_ticket, told_events, with_ticket, queued_of, with_close, is_subscribed, produced_answers, refusal, StepDone, EventsDone, OneDone, OpenDone, TakeDone, TakenDone, closes_nothing, Acts, RunningDone, LineDone, Run}
 
 synced_processed : (k : ℕ) (n : Node) → (with_sync k n).processed ≡ n.processed
 synced_processed k n = by (nat_lt k (write_count n) && nat_lt 0 (length n.uncovered))
@@ -95,13 +96,13 @@ module _ (config : Config) (chain : Chain) where
       subst (λ p. first_unprocessed n.processed ≤ first_unprocessed p) (sym (ap (λ m. m.processed) s.ticket ∙ synced_processed (write_count n) s.unticketed)) (rises_all n events made s.unticketed s.advances c)
 
   -- what an opening finds is at least what each pair says
-  found_least : (k : ℕ) (e : Ended) (begin : Begin) (n : Node) → AllByRecursion (λ p. k ≤ next_after p.processed) e.meta → Finds config e begin n → k ≤ first_unprocessed n.processed
-  found_least k e begin n a f =
+  found_least : (k : ℕ) (e : Ended) (picks : Picks) (begin : Begin) (n : Node) → AllByRecursion (λ p. k ≤ next_after p.processed) e.meta → Finds config e picks begin n → k ≤ first_unprocessed n.processed
+  found_least k e picks begin n a f =
       subst (λ p. k ≤ first_unprocessed p) (sym (ap (λ m. m.processed) f.node))
       (subst (λ j. k ≤ j) (sym (opened_first f.blocks.held f.pair.processed)) (AllByRecursion-contains (λ p. k ≤ next_after p.processed) e.meta f.pair a f.pair_may))
 
-  found_out : (e : Ended) (begin : Begin) (n : Node) → Finds config e begin n → ConsecutiveFrom (first_unprocessed n.processed) n.out
-  found_out e begin n f = subst (λ xs. ConsecutiveFrom (first_unprocessed n.processed) xs) (sym (ap (λ m. m.out) f.node)) tt
+  found_out : (e : Ended) (picks : Picks) (begin : Begin) (n : Node) → Finds config e picks begin n → ConsecutiveFrom (first_unprocessed n.processed) n.out
+  found_out e picks begin n f = subst (λ xs. ConsecutiveFrom (first_unprocessed n.processed) xs) (sym (ap (λ m. m.out) f.node)) tt
 
   -- LINES
 
@@ -116,27 +117,27 @@ module _ (config : Config) (chain : Chain) where
   steps_least k n [] outcomes produced_answers out after s low d = subst (λ t. IsInOrder t × AtLeast k t) (sym d.1) (s, low)
   steps_least k n (e ∷ events) outcomes produced_answers out after s low d = step_least k n (e ∷ events) outcomes produced_answers out after s.0 low d
 
-  open_least : (k : ℕ) (e : Ended) (begin : Begin) (out : Output) (after : State) → AllByRecursion (λ p. k ≤ next_after p.processed) e.meta → OpenDone config chain e begin out after → IsInOrder after × AtLeast k after
-  open_least k e begin out (running n) a d =
-      let o : Opens config chain e begin d.0 n = d.1 in
-      let low : k ≤ first_unprocessed o.first.processed = found_least k e begin o.first a o.finds in
-      let rise : first_unprocessed o.first.processed ≤ first_unprocessed n.processed = steps_rise o.first (life_started (floor_of begin) ∷ []) d.0 n o.start (found_out e begin o.first o.finds) in
+  open_least : (k : ℕ) (e : Ended) (picks : Picks) (begin : Begin) (out : Output) (after : State) → AllByRecursion (λ p. k ≤ next_after p.processed) e.meta → OpenDone config chain e picks begin out after → IsInOrder after × AtLeast k after
+  open_least k e picks begin out (running n) a d =
+      let o : Opens config chain e picks begin d.0 n = d.1 in
+      let low : k ≤ first_unprocessed o.first.processed = found_least k e picks begin o.first a o.finds in
+      let rise : first_unprocessed o.first.processed ≤ first_unprocessed n.processed = steps_rise o.first (life_started (floor_of begin) ∷ []) d.0 n o.start (found_out e picks begin o.first o.finds) in
       ((o.start.good.heights.consecutive, o.start.good.heights.own_pair), omega arith)
-  open_least k e begin out (stopped left) a d = (tt, cut d.3)
+  open_least k e picks begin out (stopped left) a d = (tt, cut d.3)
     where
       pair_least : (n : Node) (p : Pair) → k ≤ first_unprocessed n.processed → p ≡ pair_of n.processed n.cutoff → k ≤ next_after p.processed
       pair_least n p low is = subst (λ q. k ≤ next_after q.processed) (sym is) (let same : next_after (option_map height_in n.processed) ≡ first_unprocessed n.processed = next_after-is n.processed in omega arith)
 
-      either : (p : Pair) → Contains e.meta p ⊎ OpeningPair config e begin p → k ≤ next_after p.processed
+      either : (p : Pair) → Contains e.meta p ⊎ OpeningPair config e picks begin p → k ≤ next_after p.processed
       either p (inl there) = AllByRecursion-contains (λ q. k ≤ next_after q.processed) e.meta p a there
-      either p (inr (n, f, is)) = pair_least n p (found_least k e begin n a f) is
+      either p (inr (n, f, is)) = pair_least n p (found_least k e picks begin n a f) is
 
-      cut : CutsOpening config chain e begin out.made.reports d.0 left → AllByRecursion (λ p. k ≤ next_after p.processed) left.meta
+      cut : CutsOpening config chain e picks begin out.made.reports d.0 left → AllByRecursion (λ p. k ≤ next_after p.processed) left.meta
       cut (inl c) = AllByRecursion-weaker _ _ either left.meta c.leaves.pairs
       cut (inr c) =
-          let low : k ≤ first_unprocessed c.first.processed = found_least k e begin c.first a c.finds in
+          let low : k ≤ first_unprocessed c.first.processed = found_least k e picks begin c.first a c.finds in
           let fx : Effect = effect_of config c.first (life_started (floor_of begin)) in
-          let rise : first_unprocessed c.first.processed ≤ first_unprocessed (processed_after c.first (life_started (floor_of begin)) fx) = first_unprocessed-rises c.first (life_started (floor_of begin)) fx (found_out e begin c.first c.finds) in
+          let rise : first_unprocessed c.first.processed ≤ first_unprocessed (processed_after c.first (life_started (floor_of begin)) fx) = first_unprocessed-rises c.first (life_started (floor_of begin)) fx (found_out e picks begin c.first c.finds) in
           let mine : next_after (option_map height_in c.first.processed) ≡ first_unprocessed c.first.processed = next_after-is c.first.processed in
           let later : next_after (option_map height_in (processed_after c.first (life_started (floor_of begin)) fx)) ≡ first_unprocessed (processed_after c.first (life_started (floor_of begin)) fx) = next_after-is (processed_after c.first (life_started (floor_of begin)) fx) in
           AllByRecursion-weaker _ _ (λ p there. one_of (λ q. k ≤ next_after q.processed) e.meta _ _ p a (omega arith) (omega arith) there) left.meta c.cut.leaves.pairs
@@ -174,16 +175,16 @@ module _ (config : Config) (chain : Chain) where
   running_least k n line (Some said) out after s low d = subst (λ t. IsInOrder t × AtLeast k t) (sym d.1) (s, low)
   running_least k n line None out after s low d = acts_least k n line out after s low d
 
-  line_least : (k : ℕ) (state : State) (line : Line) (out : Output) (after : State) → IsInOrder state → AtLeast k state → LineDone config chain state line out after → IsInOrder after × AtLeast k after
-  line_least k (running n) line out after s low d = running_least k n line (refusal n line) out after s low d
-  line_least k (stopped e) (open_line begin) out after s low d = open_least k e begin out after low d
-  line_least k (stopped e) (fail_line store j) out after s low d = subst (λ t. IsInOrder t × AtLeast k t) (sym d.1) (s, low)
-  line_least k (stopped e) (crash_line luck) out after s low d = subst (λ t. IsInOrder t × AtLeast k t) (sym d.1) (s, low)
-  line_least k (stopped e) _ out after s low d = subst (λ t. IsInOrder t × AtLeast k t) (sym d.1) (s, low)
+  line_least : (k : ℕ) (account : Account) (state : State) (line : Line) (out : Output) (after : State) → IsInOrder state → AtLeast k state → LineDone config chain account state line out after → IsInOrder after × AtLeast k after
+  line_least k account (running n) line out after s low d = running_least k n line (refusal n line) out after s low d
+  line_least k account (stopped e) (open_line begin) out after s low d = open_least k e (next_picks account e) begin out after low d
+  line_least k account (stopped e) (fail_line store j) out after s low d = subst (λ t. IsInOrder t × AtLeast k t) (sym d.1) (s, low)
+  line_least k account (stopped e) (crash_line luck) out after s low d = subst (λ t. IsInOrder t × AtLeast k t) (sym d.1) (s, low)
+  line_least k account (stopped e) _ out after s low d = subst (λ t. IsInOrder t × AtLeast k t) (sym d.1) (s, low)
 
   -- from any state on, no later state is below it, whatever crashes or is opened again
-  pub run_outlives : (k : ℕ) (state : State) (run : List Done) (last : State) → IsInOrder state → AtLeast k state → Run config chain state run last → AllByRecursion (λ d. AtLeast k d.after) run
-  run_outlives k state [] last s low r = tt
-  run_outlives k state (d ∷ run) last s low r =
-      let next : IsInOrder d.after × AtLeast k d.after = line_least k state d.line d.output d.after s low r.0 in
-      (next.1, run_outlives k d.after run last next.0 next.1 r.1)
+  pub run_outlives : (k : ℕ) (account : Account) (state : State) (run : List Done) (last : State) → IsInOrder state → AtLeast k state → Run config chain account state run last → AllByRecursion (λ d. AtLeast k d.after) run
+  run_outlives k account state [] last s low r = tt
+  run_outlives k account state (d ∷ run) last s low r =
+      let next : IsInOrder d.after × AtLeast k d.after = line_least k account state d.line d.output d.after s low r.0 in
+      (next.1, run_outlives k d.account d.after run last next.0 next.1 r.2)

@@ -15,7 +15,7 @@ use Rattle.mar_key.specs.Asked.{judged_invalid}
 use Rattle.mar_node.specs.Judge.{Completes, Judges}
 use Rattle.mar_node.specs.Messages.{report_finalization}
 use Rattle.mar_node.specs.Step.{Report, Made, nothing_made, handed_over, new_tip, Advances, Steps, with_sync}
-use Rattle.mar_node.specs.Lives.{CutsEvent, BackedBy, processed_at, Opens, IsGoodEnded}
+use Rattle.mar_node.specs.Lives.{CutsEvent, BackedBy, Picks, processed_at, Opens, IsGoodEnded}
 use Rattle.mar_script.specs.Text.{running}
 use Rattle.mar_script.specs.Run.{empty_stores, HandsBack}
 use Rattle.mar_laws.proofs.SmallFacts.{only}
@@ -147,8 +147,8 @@ none_brought n None = refl
 none_brought n (Some a) = refl
 
 -- a body that begins from block 0 though two blocks are sure and height 1 is processed
-genesis_again : (n : Node) (others : List Report) → Opens config chain ended (from_genesis b0) (record nothing_made { reports = handed_over 0 b0 ∷ others }) n → ⊥
-genesis_again n others o = refuse (ap (λ m. m.processed) o.finds.node ∙ ap (λ p. option_map (processed_at o.finds.blocks.held) p.processed) (sym (only _ _ o.finds.pair_may)))
+genesis_again : (n : Node) (picks : Picks) (others : List Report) → Opens config chain ended picks (from_genesis b0) (record nothing_made { reports = handed_over 0 b0 ∷ others }) n → ⊥
+genesis_again n picks others o = refuse (ap (λ m. m.processed) o.finds.node ∙ ap (λ p. option_map (processed_at o.finds.blocks.held) p.processed) (sym (only _ _ o.finds.pair_may)))
   where
     height_at : (b : Bool) → 2 ≤ first_unprocessed (Some (if b then at_block 1 else at_absent 1))
     height_at true = lit≤ tt

@@ -1,5 +1,5 @@
 -- More bodies that the definitions refuse: they store, cache, ask, sync or leave the wrong thing.
-use Rattle.std.proofs.Common.{◌≡◌, ℕ, ◌<◌, ◌≤◌, max, List, [], ◌∷◌, Option, Some, None, refl, sym, ◌∙◌, ap, subst, IsSome, IsTrue, Contains, lit<, ◌⊎◌, inl, inr, false, true, ◌&&◌, nat_lt, lit≤, arith}
+use Rattle.std.proofs.Common.{◌≡◌, ℕ, ◌+◌, ◌<◌, ◌≤◌, max, length, map, List, [], ◌∷◌, Option, Some, None, refl, sym, ◌∙◌, ap, subst, IsSome, IsTrue, Contains, lit<, ◌⊎◌, inl, inr, false, true, ◌&&◌, nat_lt, lit≤, arith}
 use Rattle.std.specs.List.{AllByRecursion}
 use Rattle.mar_cert.specs.Block.{Block}
 use Rattle.mar_cert.specs.Finalization.{Finalization}
@@ -9,15 +9,15 @@ use Rattle.mar_key.specs.Keys.{finalized_key, finalized_by_height, above_height,
 use Rattle.mar_node.specs.Messages.{report_finalization, set_floor, verified}
 use Rattle.mar_node.specs.Metadata.{Pair}
 use Rattle.mar_node.specs.Node.{Node, Ended, left_by, IsGood}
-use Rattle.mar_node.specs.Event.{Event, Effect, no_floor, message_told, ack_dropped, peer_answered, gave_nothing, block_buffered}
+use Rattle.mar_node.specs.Event.{Event, Effect, no_floor, message_told, ack_dropped, ack_given, peer_answered, gave_nothing, block_buffered}
 use Rattle.mar_node.specs.Cached.{epoch_of, verified_entry}
 use Rattle.mar_node.specs.Cache.{AdvancesCache, entries_with_puts, is_pruned}
-use Rattle.mar_node.specs.Faults.{dropped_ack, floor_invalid}
+use Rattle.mar_node.specs.Faults.{Fault, dropped_ack, floor_invalid, next_after}
 use Rattle.mar_node.specs.Requests.{Repaired, Passes}
 use Rattle.mar_node.specs.Step.{Report, Made, nothing_made, handed_over, Advances}
-use Rattle.mar_node.specs.Lives.{CutsEvent}
+use Rattle.mar_node.specs.Lives.{CutsEvent, reached_after, reached_before}
 use Rattle.mar_laws.proofs.SmallChain.{b0, b1, d1, f1, r1, chain, config}
-use Rattle.mar_laws.proofs.DeliveryRun.{begun, n0, n1, n3, n4}
+use Rattle.mar_laws.proofs.DeliveryRun.{begun, n0, n1, n2, n3, n4}
 use Rattle.mar_laws.proofs.SmallFacts.{none_in}
 use Rattle.mar_laws.proofs.RepairPass.{gapped, gap_at}
 
@@ -80,6 +80,22 @@ syncs_dropped earlier least reports left other c = other (c.unsynced refl)
 -- one that stores something of a floor that it refuses
 leaves_floor : (earlier : List Pair) (least : Option ℕ) (reports : List Report) (left : Ended) (f : Finalization) → (left ≡ left_by n3 → ⊥) → CutsEvent config chain earlier least n3 (message_told None (set_floor f)) reports (floor_invalid f.round) left → ⊥
 leaves_floor earlier least reports left f other c = other (c.refused refl)
+
+-- one that hands block 1 over a second time as the acknowledgement of block 0 is cut, as the height before the event with the
+-- list after it would have it
+hands_again : (before : List Pair) (least : Option ℕ) (fault : Fault) (left : Ended) → CutsEvent config chain before least n2 (ack_given 0) (handed_over 2 b1 ∷ []) fault left → ⊥
+hands_again before least fault left c = by c.reached_is
+  where
+    apart : ◌≡◌ {A = ℕ} 1 2 → ⊥
+    apart e = omega arith
+
+    by : (c.reached ≡ reached_before n2 (ack_given 0)) ⊎ (c.reached ≡ reached_after n2 (ack_given 0) no_floor) × Contains (map (λ p. p.processed) left.meta) c.reached.processed → ⊥
+    by (inl is) = apart (c.in_order.1 ∙ ap (λ r. next_after r.processed + length r.out) is)
+    by (inr (is, durable)) = apart (c.in_order.1 ∙ ap (λ r. next_after r.processed + length r.out) is)
+
+-- one after which a held block may not be left
+forgets_held : (before : List Pair) (least : Option ℕ) (reports : List Report) (fault : Fault) (left : Ended) → left.blocks_may ≡ [] → CutsEvent config chain before least n2 (ack_given 0) reports fault left → ⊥
+forgets_held before least reports fault left none c = on_off (sym (c.may.held_blocks 1 (lit≤ tt) refl) ∙ ap (λ xs. has_height xs 1) none)
 
 -- STORINGS AND HAND-OVERS
 

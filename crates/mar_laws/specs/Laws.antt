@@ -8,10 +8,11 @@ use Rattle.mar_node.specs.Node.{ConsecutiveFrom}
 use Rattle.mar_node.specs.Metadata.{pair_of}
 use Rattle.mar_node.specs.Faults.{next_after}
 use Rattle.mar_node.specs.Step.{Report, handed_blocks}
-use Rattle.mar_node.specs.Node.{Ended}
+use Rattle.mar_node.specs.Held.{Remains}
+use Rattle.mar_script.specs.Accounts.{Account, first_account, fresh_watches}
 use Rattle.mar_script.specs.Script.{Line, Settings, config_of, script_bytes}
 use Rattle.mar_script.specs.Text.{Done, State, running, stopped, text}
-use Rattle.mar_script.specs.Run.{Headline, Premises, Run, empty_stores, read_to_end}
+use Rattle.mar_script.specs.Run.{Headline, Premises, Run, empty_stores, fresh_stores, read_to_end}
 
 -- each block that is handed over stands in the chain at its own height
 abbrev pub AreChains : Chain → List Report → Type 0
@@ -23,7 +24,7 @@ RunHandsChain chain run = AllByRecursion (λ d. AreChains chain d.output.made.re
 
 -- of any settings, chain and run
 abbrev pub HandsOverTheChain : Type 0
-HandsOverTheChain = (config : Config) (chain : Chain) (state : State) (run : List Done) (last : State) → Run config chain state run last → RunHandsChain chain run
+HandsOverTheChain = (config : Config) (chain : Chain) (account : Account) (state : State) (run : List Done) (last : State) → Run config chain account state run last → RunHandsChain chain run
 
 -- A state's outstanding blocks are consecutive from the first unprocessed height, and its metadata are its own.
 abbrev pub IsInOrder : State → Type 0
@@ -37,7 +38,7 @@ AtLeast k (stopped e) = AllByRecursion (λ p. k ≤ next_after p.processed) e.me
 
 -- no later state is below an earlier one, whatever crashes and is opened again
 abbrev pub OutlivesRestarts : Type 0
-OutlivesRestarts = (config : Config) (chain : Chain) (k : ℕ) (state : State) (run : List Done) (last : State) → IsInOrder state → AtLeast k state → Run config chain state run last → AllByRecursion (λ d. AtLeast k d.after) run
+OutlivesRestarts = (config : Config) (chain : Chain) (k : ℕ) (account : Account) (state : State) (run : List Done) (last : State) → IsInOrder state → AtLeast k state → Run config chain account state run last → AllByRecursion (λ d. AtLeast k d.after) run
 
 -- A script and an output: for some lawful chain, and for each one, the output is the text of a run of
 -- lives on the script's lines, and the headline holds of them, from empty stores on.
@@ -50,7 +51,7 @@ pub record IsRunOf (script output : List ℕ) : Type 0 where
   pub run : List Done
   pub last : State
   pub lines_done : map (λ d. d.line) run ≡ lines
-  pub lives : Run (config_of settings) chain (stopped empty_stores) run last
+  pub lives : Run (config_of settings) chain (first_account fresh_watches) (stopped empty_stores) run last
   pub text_is : output ≡ text empty_stores run
-  pub after : Ended
-  pub headline : Headline (Unit {0}) script [] output read_to_end empty_stores after
+  pub after : Remains
+  pub headline : Headline script [] output read_to_end fresh_stores after

@@ -11,7 +11,7 @@ use Rattle.mar_key.specs.Asked.{Asked}
 use Rattle.mar_key.specs.Cutoff.{Cutoff, at_epoch, at_round, greatest_of}
 use Rattle.mar_key.specs.Keys.{above_height, retain}
 use Rattle.mar_key.specs.Processed.{Processed, first_unprocessed, height_in}
-use Rattle.mar_store.specs.Changes.{KeepsValues}
+use Rattle.mar_store.specs.Changes.{IsNested, KeepsValues}
 use Rattle.mar_store.specs.Kept.{At, value_at}
 use Rattle.mar_node.specs.Acks.{Mark, Outstanding, after_given, dropped_oldest, given_front, is_dropped, is_given, mark_dropped, mark_given, mark_waiting, marked_entry, with_mark}
 use Rattle.mar_node.specs.Metadata.{Pair, pair_of}
@@ -20,7 +20,7 @@ use Rattle.mar_node.specs.Chain.{Chain, IsLawful}
 use Rattle.mar_node.specs.Config.{Config}
 use Rattle.mar_node.specs.Event.{ack_given, acked_to, cutoff_after, no_floor, processed_after, retired_cutoffs}
 use Rattle.mar_node.specs.Faults.{dropped_first, next_after}
-use Rattle.mar_node.specs.Held.{Counts, Seen}
+use Rattle.mar_node.specs.Held.{Watches, Seen}
 use Rattle.mar_node.specs.Lives.{NotBelow, later_round}
 use Rattle.mar_node.specs.Moves.{Drains, progress_asks, retired, round_at}
 use Rattle.mar_node.specs.Node.{FloorSafe, IsGood, Node, Rest, block_missing, floor_awaited, window_full, write_uncovered}
@@ -30,7 +30,8 @@ use Rattle.mar_node.specs.Sound.{IsSafePair}
 use Rattle.mar_node.proofs.Cutting.{MayBeLeft, keeps_heights}
 use Rattle.mar_node.proofs.FloorSafety.{FloorSafe-after, next_after-is}
 use Rattle.mar_node.proofs.OutstandingLemmas.{ConsecutiveFrom-after_given, ConsecutiveFrom-with_mark, all_sure-drained, all_sure-kept, first_unprocessed-rises}
-use Rattle.mar_node.proofs.PlainEvents.{KeepsFrom-same, Writes-none}
+use Rattle.mar_node.proofs.Growing.{Grown-same}
+use Rattle.mar_node.proofs.PlainEvents.{Certificates-same, KeepsFrom-same, Writes-none, nothing_put}
 use Rattle.mar_node.proofs.Reaching.{Reaches}
 use Rattle.mar_node.proofs.Soundness.{HasAnchor-acked_to, IsFrom, IsSafePair-kept, own_pair_safe}
 
@@ -122,10 +123,10 @@ module _ (config : Config) (n : Node) where
 -- THE EVENT
 
 -- an actor once its own pair was synced
-abbrev pub with_own_pair : {P E : Type 0} → Counts → Seen P E → Seen P E
-with_own_pair counts b = record b { held = record b.held { pairs = pair_of b.held.processed b.held.cutoff ∷ []; counts = counts } }
+abbrev pub with_own_pair : {P E : Type 0} → Watches → Seen P E → Seen P E
+with_own_pair watches b = record b { held = record b.held { pairs = pair_of b.held.processed b.held.cutoff ∷ []; watches = watches } }
 
-module _ {P E : Type 0} (config : Config) (chain : Chain) (lawful : IsLawful config.epochs chain) (partition : IsPartition config.epochs) (a : Seen P E) (t : ℕ) (buffer : List Block) (asked : List Asked) (good : IsGood config chain (node_of a buffer asked)) where
+module _ {P E : Type 0} (config : Config) (chain : Chain) (lawful : IsLawful config.epochs chain) (partition : IsPartition config.epochs) (a : Seen P E) (t : ℕ) (buffer : List Block) (asked : List Asked) (nested : IsNested a.held.blocks) (certs_nested : IsNested a.held.certs) (good : IsGood config chain (node_of a buffer asked)) where
   abbrev pub n : Node
   n = node_of a buffer asked
 
@@ -144,15 +145,15 @@ module _ {P E : Type 0} (config : Config) (chain : Chain) (lawful : IsLawful con
   abbrev pub cutoff : Cutoff
   cutoff = greatest_of a.held.cutoff (flat_map (λ o. retired config.epochs a.held.certs.held o.height) drained)
 
-  -- the actor once they are drained, with these pairs and counts
-  abbrev pub drained_to : List Pair → Counts → Seen P E
-  drained_to pairs counts = record a {
+  -- the actor once they are drained, with these pairs and counted calls
+  abbrev pub drained_to : List Pair → Watches → Seen P E
+  drained_to pairs watches = record a {
     held = record a.held {
       processed = processed;
       cutoff = cutoff;
       witnessed = fold (λ r o. later_round r (round_at a.held.certs.held o.height)) a.held.witnessed drained;
       pairs = pairs;
-      counts = counts;
+      watches = watches;
     };
     life = record a.life { out = after_given given.life.out };
   }
@@ -189,9 +190,11 @@ module _ {P E : Type 0} (config : Config) (chain : Chain) (lawful : IsLawful con
       omega arith
 
   -- it is good
-  IsGood-drained : (counts : Counts) → IsGood config chain (node_of (drained_to own_pairs counts) buffer asked)
-  IsGood-drained counts = record {
+  IsGood-drained : (watches : Watches) → IsGood config chain (node_of (drained_to own_pairs watches) buffer asked)
+  IsGood-drained watches = record {
     heights = record {
+      nested_blocks = good.heights.nested_blocks;
+      nested_certs = good.heights.nested_certs;
       sure_blocks = good.heights.sure_blocks;
       sure_certs = good.heights.sure_certs;
       consecutive = ConsecutiveFrom-after_given a.held.processed given.life.out (ConsecutiveFrom-with_mark t mark_given (first_unprocessed a.held.processed) a.life.out good.heights.consecutive);
@@ -220,8 +223,8 @@ module _ {P E : Type 0} (config : Config) (chain : Chain) (lawful : IsLawful con
   }
 
   -- and the event reached it, where the oldest that stays wasn't dropped
-  Reaches-drained : (counts : Counts) → dropped_oldest (after_given given.life.out) ≡ None → Reaches config chain a (ack_given t) buffer asked [] (drained_to own_pairs counts)
-  Reaches-drained counts not_dropped = record {
+  Reaches-drained : (watches : Watches) → dropped_oldest (after_given given.life.out) ≡ None → Reaches config chain a (ack_given t) buffer asked [] (drained_to own_pairs watches)
+  Reaches-drained watches not_dropped = record {
     no_effect = refl;
     kept = refl;
     next_ack = refl;
@@ -230,8 +233,17 @@ module _ {P E : Type 0} (config : Config) (chain : Chain) (lawful : IsLawful con
     cutoff = cutoff-is;
     blocks = KeepsFrom-same _ a.held.blocks;
     certs = KeepsFrom-same _ a.held.certs;
-    writes = (Writes-none a (drained_to own_pairs counts) (ack_given t) buffer asked refl refl refl refl refl).0;
-    no_repair = (Writes-none a (drained_to own_pairs counts) (ack_given t) buffer asked refl refl refl refl refl).1;
+    put_blocks = [];
+    put_certs = [];
+    blocks_grown = Grown-same a.held.blocks a.held.blocks nested refl;
+    certs_grown = Grown-same a.held.certs a.held.certs certs_nested refl;
+    of_blocks = tt;
+    of_certs = tt;
+    own_blocks = λ x has. nothing_put x has;
+    own_certs = λ x has. nothing_put x has;
+    certificates = Certificates-same a (drained_to own_pairs watches) (ack_given t) buffer asked refl;
+    writes = (Writes-none a (drained_to own_pairs watches) (ack_given t) buffer asked refl refl refl refl refl).0;
+    no_repair = (Writes-none a (drained_to own_pairs watches) (ack_given t) buffer asked refl refl refl refl refl).1;
     are_tips = tt;
     tips_rise = refl;
     tips_chain = tt;
@@ -245,13 +257,13 @@ module _ {P E : Type 0} (config : Config) (chain : Chain) (lawful : IsLawful con
     subscriptions = refl;
     certified = λ tip. refl;
     no_syncs = λ n'. refl;
-    good = IsGood-drained counts;
+    good = IsGood-drained watches;
   }
 
   module _ (is_drained : Bool) (b : Seen P E) (drains : Drains config.epochs given is_drained b) where
     -- An acknowledgement reaches the actor whose pair was synced after it drained.
-    pub Reaches-ack : (m : Seen P E) → m ≡ with_own_pair m.held.counts b → Reaches config chain a (ack_given t) buffer asked [] m
-    Reaches-ack m after = subst (λ x. Reaches config chain a (ack_given t) buffer asked [] x) (sym (after ∙ ap (with_own_pair m.held.counts) drains.same)) (Reaches-drained m.held.counts drains.not_dropped)
+    pub Reaches-ack : (m : Seen P E) → m ≡ with_own_pair m.held.watches b → Reaches config chain a (ack_given t) buffer asked [] m
+    Reaches-ack m after = subst (λ x. Reaches config chain a (ack_given t) buffer asked [] x) (sym (after ∙ ap (with_own_pair m.held.watches) drains.same)) (Reaches-drained m.held.watches drains.not_dropped)
 
     -- its pair, said of the actor before
     pair-is : pair_of b.held.processed b.held.cutoff ≡ pair_of processed cutoff
@@ -263,7 +275,7 @@ module _ {P E : Type 0} (config : Config) (chain : Chain) (lawful : IsLawful con
 
     -- which is safe
     pub pair_after-safe : IsSafePair chain a.held.blocks.sure (pair_of b.held.processed b.held.cutoff)
-    pair_after-safe = subst (IsSafePair chain a.held.blocks.sure) (sym pair-is) (own_pair_safe chain (node_of (drained_to own_pairs a.held.counts) buffer asked) (IsGood-drained a.held.counts).heights.anchored floor_safe)
+    pair_after-safe = subst (IsSafePair chain a.held.blocks.sure) (sym pair-is) (own_pair_safe chain (node_of (drained_to own_pairs a.held.watches) buffer asked) (IsGood-drained a.held.watches).heights.anchored floor_safe)
 
     -- and not below the one before
     pub NotBelow-drained : NotBelow (option_map height_in a.held.processed) (option_map height_in b.held.processed)
@@ -296,7 +308,7 @@ module _ {P E : Type 0} (config : Config) (chain : Chain) (lawful : IsLawful con
 
     -- An acknowledgement behind one that is waited for reaches the actor with its mark.
     pub Reaches-undrained : Reaches config chain a (ack_given t) buffer asked [] b
-    Reaches-undrained = subst (λ x. Reaches config chain a (ack_given t) buffer asked [] x) (sym (drains.same ∙ ap (λ pairs. drained_to pairs b.held.counts) pairs-are)) (Reaches-drained b.held.counts drains.not_dropped)
+    Reaches-undrained = subst (λ x. Reaches config chain a (ack_given t) buffer asked [] x) (sym (drains.same ∙ ap (λ pairs. drained_to pairs b.held.watches) pairs-are)) (Reaches-drained b.held.watches drains.not_dropped)
 
     -- as many are waited for, from the same height on, over the same blocks
     same_length : length b.life.out ≡ length a.life.out

@@ -1,25 +1,25 @@
 -- What a failed call leaves is a cut of the step: before any block was handed over, and while blocks are.
-use Rattle.std.proofs.Common.{◌≡◌, ◌⊎◌, inl, inr, ⊎_elim, ℕ, zero, suc, ◌+◌, ◌<◌, List, [], ◌∷◌, ◌++◌, length, map, Bool, true, false, Option, Some, None, option_map, IsTrue, Contains, refl, sym, ◌∙◌, ap, subst, arith, le_refl}
+use Rattle.std.proofs.Common.{◌≡◌, ◌⊎◌, inl, inr, ⊎_elim, ℕ, zero, suc, ◌+◌, ◌<◌, ◌≤◌, List, [], ◌∷◌, ◌++◌, length, map, Bool, true, false, Option, Some, None, option_map, IsTrue, Contains, refl, sym, ◌∙◌, ap, subst, arith, le_refl}
 use Rattle.std.proofs.lemmas.List.Elements.{Contains-append_cases, Contains-append_right}
 use Rattle.mar_cert.specs.Block.{Block}
 use Rattle.mar_cert.specs.Finalization.{Finalization}
 use Rattle.mar_key.specs.Asked.{Asked}
 use Rattle.mar_key.specs.Processed.{height_in}
-use Rattle.mar_store.specs.Kept.{At, has_height, value_at}
-use Rattle.mar_store.specs.Changes.{KeepsValues}
-use Rattle.mar_store.proofs.Lookups.{AllByRecursion-append, AllByRecursion-from_contains, AllByRecursion-within, has_height-from_value, value-from_has_height}
+use Rattle.mar_store.specs.Kept.{At, Kept, has_height, value_at}
+use Rattle.mar_store.specs.Changes.{KeepsValues, Left}
+use Rattle.mar_store.proofs.Lookups.{AllByRecursion-append, AllByRecursion-from_contains, AllByRecursion-within, Contains-from_value, has_height-from_contains, has_height-from_value, value-from_has_height}
 use Rattle.mar_node.specs.Metadata.{Pair, first_pair, pair_of}
 use Rattle.mar_node.specs.Chain.{Chain, Finalizes, IsBlockAt}
 use Rattle.mar_node.specs.Config.{Config}
-use Rattle.mar_node.specs.Event.{Event, cutoff_after, effect_of, no_floor, processed_after, undrained_blocks}
-use Rattle.mar_node.specs.Faults.{Fault, corrupt, damaged, dropped_ack, event_fault, floor_epoch_unavailable, floor_invalid, floor_parent_mismatch, genesis_height, genesis_mismatch, height_limit, is_by_value, next_after, store_fault, ticket_limit, unbacked, want_of_memory}
-use Rattle.mar_node.specs.Held.{Ending, Held, IsUsual, Loses, Seen, blocks_left, certs_left, ended_of}
-use Rattle.mar_node.specs.Lives.{Cuts, CutsBy, IsGoodEnded, NotBelow, is_dropped_ack, is_refused_floor}
+use Rattle.mar_node.specs.Event.{Event, brought_block, cutoff_after, effect_of, no_floor, processed_after, told_finalization}
+use Rattle.mar_node.specs.Faults.{Fault, corrupt, damaged, dropped_ack, event_fault, floor_epoch_unavailable, floor_invalid, floor_parent_mismatch, genesis_height, genesis_mismatch, height_limit, is_by_value, meta_store, next_after, store_fault, ticket_limit, unbacked, want_of_memory}
+use Rattle.mar_node.specs.Held.{Ending, IsArchiveFault, IsUsual, LeavesStore, Loses, Seen, Written, blocks_left, certs_left, ended_of}
+use Rattle.mar_node.specs.Lives.{Cuts, CutsBy, IsGoodEnded, NotBelow, Reached, is_dropped_ack, is_refused_floor, reached_after, reached_before}
 use Rattle.mar_node.specs.Node.{AreBlocksOf, AreCachedOf, AreFinalizationsOf, BlocksAgree, Ended, IsGood, Node}
 use Rattle.mar_node.specs.Promise.{node_of}
 use Rattle.mar_node.specs.Sound.{IsSafePair}
 use Rattle.mar_node.specs.Step.{AreHandedOf, AreTipsOf, HandedFrom, Report, TipsFrom, handed_blocks, handed_over, new_tip, nothing_made}
-use Rattle.mar_node.proofs.Reaching.{AreTips}
+use Rattle.mar_node.proofs.Reaching.{AreTips, block_from, cert_from}
 use Rattle.mar_node.proofs.Soundness.{IsFrom, IsGoodEnded-from_sound, IsSound-from_good, IsSound-untold}
 
 -- WHAT IS LEFT
@@ -30,22 +30,34 @@ keeps_heights old new keeps h has = by (value-from_has_height old h has)
     by : (v : _) × (value_at old h ≡ Some v) → IsTrue (has_height new h)
     by (v, is) = has_height-from_value new h v (keeps h v is)
 
--- What a fault leaves of a node, beside which pairs there are.
-pub record LeavesOf (chain : Chain) (held : Held) (left : Ended) : Type 0 where
-  pub blocks : KeepsValues held.blocks.sure left.blocks_sure
-  pub certs : KeepsValues held.certs.sure left.certs_sure
-  pub may_blocks : AreBlocksOf chain left.blocks_may
-  pub may_certs : AreFinalizationsOf chain left.certs_may
+-- What is left of the two archives since an event began, and what the event put: its own block and finalization.
+pub record LeavesArchives (chain : Chain) (n : Node) (e : Event) (left : Ended) : Type 0 where
+  pub put_blocks : List (At Block)
+  pub put_certs : List (At Finalization)
+  pub blocks : LeavesStore n.blocks 0 put_blocks (blocks_left left)
+  pub certs : LeavesStore n.certs 0 put_certs (certs_left left)
+  pub of_blocks : AreBlocksOf chain put_blocks
+  pub of_certs : AreFinalizationsOf chain put_certs
+  pub own_blocks : (x : At Block) → Contains put_blocks x → brought_block n e ≡ Some x.value
+  pub own_certs : (x : At Finalization) → Contains put_certs x → told_finalization n e ≡ Some x.value
   pub no_cache : left ≡ ended_of (blocks_left left) (certs_left left) left.meta
 
-pub LeavesOf-lost : (chain : Chain) (held : Held) (blocks : List (At Block)) (certs : List (At Finalization)) (pairs : List Pair) (e : Ending) → AreBlocksOf chain held.blocks.may → AreFinalizationsOf chain held.certs.may → AreBlocksOf chain blocks → AreFinalizationsOf chain certs → Loses held blocks certs pairs e → LeavesOf chain held e.remains.ended
-LeavesOf-lost chain held blocks certs pairs e may_blocks may_certs more_blocks more_certs lost = record {
-  blocks = lost.blocks_kept.sure;
-  certs = lost.certs_kept.sure;
-  may_blocks = AllByRecursion-within (λ x. IsBlockAt chain x.height x.value) e.remains.ended.blocks_may (held.blocks.may ++ blocks) lost.blocks_kept.may (AllByRecursion-append (λ x. IsBlockAt chain x.height x.value) held.blocks.may blocks may_blocks more_blocks);
-  may_certs = AllByRecursion-within (λ x. Finalizes chain x.height x.value.round x.value.payload) e.remains.ended.certs_may (held.certs.may ++ certs) lost.certs_kept.may (AllByRecursion-append (λ x. Finalizes chain x.height x.value.round x.value.payload) held.certs.may certs may_certs more_certs);
-  no_cache = lost.no_cache;
-}
+-- what was held stands among what may be left, and what is sure too
+held_may_heights : {T : Type 0} (start : Kept (At T)) (put : List (At T)) (left : Left (At T)) → LeavesStore start 0 put left → (h : ℕ) → 0 ≤ h → IsTrue (has_height start.held h) → IsTrue (has_height left.may h)
+held_may_heights start put left leaves h low has = by (value-from_has_height start.held h has)
+  where
+    by : (v : _) × (value_at start.held h ≡ Some v) → IsTrue (has_height left.may h)
+    by (v, is) = has_height-from_contains left.may (record { height = h; value = v }) (leaves.held _ (omega arith) (Contains-from_value start.held h v is))
+
+pub sure_may_heights : {T : Type 0} (start : Kept (At T)) (put : List (At T)) (left : Left (At T)) → LeavesStore start 0 put left → (h : ℕ) → IsTrue (has_height left.sure h) → IsTrue (has_height left.may h)
+sure_may_heights start put left leaves h has = by (value-from_has_height left.sure h has)
+  where
+    by : (v : _) × (value_at left.sure h ≡ Some v) → IsTrue (has_height left.may h)
+    by (v, is) = has_height-from_contains left.may (record { height = h; value = v }) (leaves.sure_may h v is)
+
+-- all that was sure is sure
+pub keeps_sure : {T : Type 0} (start : Kept (At T)) (put : List (At T)) (left : Left (At T)) → LeavesStore start 0 put left → KeepsValues start.sure left.sure
+keeps_sure start put left leaves h v is = leaves.sure h v (omega arith) is
 
 pub some_from_first : (pairs : List Pair) (p : Pair) → first_pair pairs ≡ Some p → 0 < length pairs
 some_from_first [] p is = absurd cc
@@ -84,8 +96,8 @@ module _ {P E : Type 0} (config : Config) (chain : Chain) (a : Seen P E) (e : Ev
   -- from a node that is good once some tip is told
   module _ (tip_before : ℕ) (good : IsGood config chain (record n { tip = tip_before })) (no_effect : effect_of config n e ≡ no_floor) where
     -- all that a cut says, of what is left
-    pub Cuts-left : (reports : List Report) (tip : ℕ) (reached : Option ℕ) (fault : Fault) (left : Ended) → TipsFrom a.life.tip reports tip → AreTipsOf chain reports → (reached ≡ option_map height_in a.held.processed) ⊎ Contains (map (λ p. p.processed) left.meta) reached → HandedFrom left.blocks_sure a.life.next_ack (next_after reached + length (undrained_blocks n e)) (handed_blocks reports) → AreHandedOf chain left.blocks_sure (handed_blocks reports) → LeavesOf chain a.held left → 0 < length left.meta → ((p : Pair) → Contains left.meta p → MayBeLeft left.blocks_sure p) → (IsTrue (is_by_value fault) → event_fault config n e ≡ Some fault) → (IsTrue (is_refused_floor e fault) → ⊥) → (IsTrue (is_dropped_ack fault) → left.meta ≡ a.held.pairs) → Cuts config chain n (e ∷ []) reports fault left
-    Cuts-left reports tip reached fault left tips tips_chain reached_is in_order hands_chain leaves some pairs cause refused unsynced = record {
+    pub Cuts-left : (reports : List Report) (tip : ℕ) (reached : Reached) (fault : Fault) (left : Ended) → TipsFrom a.life.tip reports tip → AreTipsOf chain reports → (reached ≡ reached_before n e) ⊎ (reached ≡ reached_after n e no_floor) × Contains (map (λ p. p.processed) left.meta) reached.processed → HandedFrom left.blocks_sure a.life.next_ack (next_after reached.processed + length reached.out) (handed_blocks reports) → AreHandedOf chain left.blocks_sure (handed_blocks reports) → LeavesArchives chain n e left → 0 < length left.meta → (first_pair left.meta ≡ first_pair a.held.pairs) ⊎ (fault ≡ store_fault meta_store → ⊥) × (first_pair left.meta ≡ Some after) → ((p : Pair) → Contains left.meta p → MayBeLeft left.blocks_sure p) → (IsTrue (is_by_value fault) → event_fault config n e ≡ Some fault) → (IsTrue (is_refused_floor e fault) → ⊥) → (IsTrue (is_dropped_ack fault) → left.meta ≡ a.held.pairs) → Cuts config chain n (e ∷ []) reports fault left
+    Cuts-left reports tip reached fault left tips tips_chain reached_is in_order hands_chain leaves some first pairs cause refused unsynced = record {
       finished = [];
       event = e;
       others = [];
@@ -120,10 +132,16 @@ module _ {P E : Type 0} (config : Config) (chain : Chain) (a : Seen P E) (e : Ev
             from (Some h) = omega arith
         of_node p (inr is) = inr is.1
 
+        may_blocks : AreBlocksOf chain left.blocks_may
+        may_blocks = AllByRecursion-within (λ x. IsBlockAt chain x.height x.value) left.blocks_may (a.held.blocks.may ++ leaves.put_blocks) leaves.blocks.may (AllByRecursion-append (λ x. IsBlockAt chain x.height x.value) a.held.blocks.may leaves.put_blocks good.of_chain.may_blocks leaves.of_blocks)
+
+        may_certs : AreFinalizationsOf chain left.certs_may
+        may_certs = AllByRecursion-within (λ x. Finalizes chain x.height x.value.round x.value.payload) left.certs_may (a.held.certs.may ++ leaves.put_certs) leaves.certs.may (AllByRecursion-append (λ x. Finalizes chain x.height x.value.round x.value.payload) a.held.certs.may leaves.put_certs good.of_chain.may_certs leaves.of_certs)
+
         good_left : IsGoodEnded chain left
-        good_left = IsGoodEnded-from_sound chain n 0 left (IsSound-untold chain n tip_before (IsSound-from_good config chain (record n { tip = tip_before }) good)) leaves.may_blocks leaves.may_certs
+        good_left = IsGoodEnded-from_sound chain n 0 left (IsSound-untold chain n tip_before (IsSound-from_good config chain (record n { tip = tip_before }) good)) may_blocks may_certs
             (subst (λ xs. AreCachedOf chain xs) (sym no_cached) tt) (subst (λ xs. BlocksAgree chain xs) (sym no_cached) tt)
-            (λ h low has. keeps_heights a.held.blocks.sure left.blocks_sure leaves.blocks h has)
+            (λ h low has. keeps_heights a.held.blocks.sure left.blocks_sure (keeps_sure a.held.blocks leaves.put_blocks (blocks_left left) leaves.blocks) h has)
             (AllByRecursion-from_contains (λ p. (Contains a.held.pairs p × IsFrom 0 p.processed) ⊎ IsSafePair chain left.blocks_sure p) left.meta (λ p has. of_node p (pairs p has)))
 
         unfloored : CutsBy config chain a.held.pairs (option_map height_in a.held.processed) n e no_floor reports fault left
@@ -136,27 +154,36 @@ module _ {P E : Type 0} (config : Config) (chain : Chain) (a : Seen P E) (e : Ev
           in_order = in_order;
           hands_chain = hands_chain;
           leaves = record {
-            sure_blocks = λ h b is low. leaves.blocks h b is;
-            sure_certs = λ h f is low. leaves.certs h f is;
+            sure_blocks = λ h b is low. leaves.blocks.sure h b (omega arith) is;
+            sure_certs = λ h f is low. leaves.certs.sure h f (omega arith) is;
             sure_cache = λ x has. absurd (let lt : has.0 < 0 = has.1 in omega arith);
             lowests = λ k has. absurd (let none = subst (λ ks. Contains ks k) no_lowests has in let lt : none.0 < 0 = none.1 in omega arith);
             some_pair = some;
             pairs = AllByRecursion-from_contains (Contains (a.held.pairs ++ own ∷ after ∷ [])) left.meta (λ p has. allowed p (pairs p has));
             good = good_left;
           };
+          may = record {
+            held_blocks = λ h low has. held_may_heights a.held.blocks leaves.put_blocks (blocks_left left) leaves.blocks h (omega arith) has;
+            held_certs = λ h low has. held_may_heights a.held.certs leaves.put_certs (certs_left left) leaves.certs h (omega arith) has;
+            blocks = λ x has. block_from n e a.held.blocks.may leaves.put_blocks leaves.own_blocks x (leaves.blocks.may x has);
+            certs = λ x has. cert_from n e a.held.certs.may leaves.put_certs leaves.own_certs x (leaves.certs.may x has);
+            sure_blocks = sure_may_heights a.held.blocks leaves.put_blocks (blocks_left left) leaves.blocks;
+            sure_certs = sure_may_heights a.held.certs leaves.put_certs (certs_left left) leaves.certs;
+          };
+          first_pair = first;
           no_lower = AllByRecursion-from_contains (λ p. NotBelow (option_map height_in a.held.processed) p.processed) left.meta (λ p has. not_below p (pairs p has));
           cause = cause;
           refused = λ is. absurd (refused is);
           unsynced = unsynced;
         }
 
-    -- A call failed before any block was handed over; `more` are the pairs that a failed sync was to write.
-    pub Cuts-before : (tips : List Report) (tip : ℕ) (blocks : List (At Block)) (certs : List (At Finalization)) (more : List Pair) (left : Ending) → AreTips tips → TipsFrom a.life.tip tips tip → AreTipsOf chain tips → AreBlocksOf chain blocks → AreFinalizationsOf chain certs → Loses a.held blocks certs more left → ((p : Pair) → Contains more p → MayBeLeft left.remains.ended.blocks_sure p) → (IsTrue (is_by_value left.fault) → event_fault config n e ≡ Some left.fault) → (IsTrue (is_refused_floor e left.fault) → ⊥) → (IsTrue (is_dropped_ack left.fault) → left.remains.ended.meta ≡ a.held.pairs) → Cuts config chain n (e ∷ []) tips left.fault left.remains.ended
-    Cuts-before tips tip blocks certs more left only tips_rise tips_chain of_blocks of_certs lost new cause refused unsynced =
-        Cuts-left tips tip (option_map height_in a.held.processed) left.fault left.remains.ended tips_rise tips_chain (inl refl)
-        (subst (λ xs. HandedFrom left.remains.ended.blocks_sure a.life.next_ack (next_after (option_map height_in a.held.processed) + length (undrained_blocks n e)) xs) (sym none) tt)
+    -- A call failed before any block was handed over; `written` has the pairs that a failed sync was to write.
+    pub Cuts-before : (tips : List Report) (tip : ℕ) (written : Written) (left : Ending) → AreTips tips → TipsFrom a.life.tip tips tip → AreTipsOf chain tips → written.blocks_from ≡ 0 → written.certs_from ≡ 0 → AreBlocksOf chain written.blocks → AreFinalizationsOf chain written.certs → ((x : At Block) → Contains written.blocks x → brought_block n e ≡ Some x.value) → ((x : At Finalization) → Contains written.certs x → told_finalization n e ≡ Some x.value) → Loses a.held written left → ((p : Pair) → Contains written.pairs p → MayBeLeft left.remains.ended.blocks_sure p) → (IsTrue (is_by_value left.fault) → event_fault config n e ≡ Some left.fault) → (IsTrue (is_refused_floor e left.fault) → ⊥) → (IsTrue (is_dropped_ack left.fault) → left.remains.ended.meta ≡ a.held.pairs) → Cuts config chain n (e ∷ []) tips left.fault left.remains.ended
+    Cuts-before tips tip written left only tips_rise tips_chain no_prune no_cert_prune of_blocks of_certs own_blocks own_certs lost new cause refused unsynced =
+        Cuts-left tips tip (reached_before n e) left.fault left.remains.ended tips_rise tips_chain (inl refl)
+        (subst (λ xs. HandedFrom left.remains.ended.blocks_sure a.life.next_ack (next_after (option_map height_in a.held.processed) + length (reached_before n e).out) xs) (sym none) tt)
         (subst (λ xs. AreHandedOf chain left.remains.ended.blocks_sure xs) (sym none) tt)
-        leaves (some_from_first left.remains.ended.meta own first) each cause refused unsynced
+        leaves (some_from_first left.remains.ended.meta own first) (inl lost.leaves.pairs.first) each cause refused unsynced
       where
         none : handed_blocks tips ≡ []
         none = no_handed tips only
@@ -166,14 +193,24 @@ module _ {P E : Type 0} (config : Config) (chain : Chain) (a : Seen P E) (e : Ev
             no_handed (new_tip r h d ∷ reports) is = no_handed reports is
             no_handed (handed_over t b ∷ reports) is = absurd is
 
-        leaves : LeavesOf chain a.held left.remains.ended
-        leaves = LeavesOf-lost chain a.held blocks certs more left good.of_chain.may_blocks good.of_chain.may_certs of_blocks of_certs lost
+        leaves : LeavesArchives chain n e left.remains.ended
+        leaves = record {
+          put_blocks = written.blocks;
+          put_certs = written.certs;
+          blocks = subst (λ k. LeavesStore a.held.blocks k written.blocks (blocks_left left.remains.ended)) no_prune lost.leaves.blocks;
+          certs = subst (λ k. LeavesStore a.held.certs k written.certs (certs_left left.remains.ended)) no_cert_prune lost.leaves.certs;
+          of_blocks = of_blocks;
+          of_certs = of_certs;
+          own_blocks = own_blocks;
+          own_certs = own_certs;
+          no_cache = lost.leaves.no_cache;
+        }
 
         first : first_pair left.remains.ended.meta ≡ Some own
-        first = lost.first_pair_kept ∙ ap first_pair good.heights.own_pair
+        first = lost.leaves.pairs.first ∙ ap first_pair good.heights.own_pair
 
         each : (p : Pair) → Contains left.remains.ended.meta p → MayBeLeft left.remains.ended.blocks_sure p
-        each p has = ⊎_elim (λ old. inl (only_one own p (subst (λ ps. Contains ps p) good.heights.own_pair old))) (λ is_new. new p is_new) (Contains-append_cases a.held.pairs more p (lost.pairs_within p has))
+        each p has = ⊎_elim (λ old. inl (only_one own p (subst (λ ps. Contains ps p) good.heights.own_pair old))) (λ is_new. new p is_new) (Contains-append_cases a.held.pairs written.pairs p (lost.leaves.pairs.within p has))
         -- FAULTS
         -- such a fault is no value's, no refused floor's and no dropped acknowledgement's
 
@@ -191,6 +228,21 @@ usual_not_by_value (corrupt h c d) usual = absurd usual
 usual_not_by_value (unbacked h) usual = absurd usual
 usual_not_by_value (height_limit h) usual = absurd usual
 usual_not_by_value (ticket_limit k) usual = absurd usual
+
+pub usual_from_archive : (fault : Fault) → IsArchiveFault fault → IsUsual fault
+usual_from_archive (store_fault s) is = tt
+usual_from_archive want_of_memory is = tt
+usual_from_archive (damaged s at) is = absurd is
+usual_from_archive (dropped_ack h) is = absurd is
+usual_from_archive (floor_epoch_unavailable k) is = absurd is
+usual_from_archive (floor_invalid r) is = absurd is
+usual_from_archive (floor_parent_mismatch h p i) is = absurd is
+usual_from_archive (genesis_height h) is = absurd is
+usual_from_archive (genesis_mismatch c d) is = absurd is
+usual_from_archive (corrupt h c d) is = absurd is
+usual_from_archive (unbacked h) is = absurd is
+usual_from_archive (height_limit h) is = absurd is
+usual_from_archive (ticket_limit k) is = absurd is
 
 pub usual_not_dropped : (fault : Fault) → IsUsual fault → is_dropped_ack fault ≡ false
 usual_not_dropped (store_fault s) usual = refl

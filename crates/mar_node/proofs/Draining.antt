@@ -13,11 +13,10 @@ use Rattle.mar_key.proofs.CutoffOrder.{greatest_of-append}
 use Rattle.mar_store.specs.Kept.{At}
 use Rattle.mar_node.specs.Acks.{Outstanding, after_given, after_oldest, dropped_oldest, given_front, given_oldest, is_given}
 use Rattle.mar_node.specs.Event.{acked_to}
-use Rattle.mar_node.specs.Held.{Counts, Grew, Seen}
+use Rattle.mar_node.specs.Held.{Grew, Held, Seen, Watches, Written}
 use Rattle.mar_node.specs.Lives.{later_round}
 use Rattle.mar_node.specs.Moves.{Drains, DrainsNext, progress_asks, retired, round_at, with_processed}
 use Rattle.mar_node.specs.Requests.{raise_asks}
-use Rattle.mar_node.proofs.Growing.{Grew-refl}
 use Rattle.mar_node.proofs.Handing.{Hears-nothing, Hears-then}
 
 -- THE OLDEST, AND THE GIVEN ONES AT THE FRONT
@@ -115,14 +114,14 @@ cutoffs_of epochs a zs = flat_map (λ o. retired epochs a.held.certs.held o.heig
 abbrev later_in : {P E : Type 0} → Seen P E → Round → Outstanding → Round
 later_in a r o = later_round r (round_at a.held.certs.held o.height)
 
-abbrev remade : {P E : Type 0} → Seen P E → List Outstanding → Counts → Option Processed → Cutoff → Round → Seen P E
-remade a out counts p c w = record a { held = record a.held { processed = p; cutoff = c; witnessed = w; counts = counts }; life = record a.life { out = out } }
+abbrev remade : {P E : Type 0} → Seen P E → List Outstanding → Watches → Option Processed → Cutoff → Round → Seen P E
+remade a out watches p c w = record a { held = record a.held { processed = p; cutoff = c; witnessed = w; watches = watches }; life = record a.life { out = out } }
 
-pub with_processed-then : {P E : Type 0} (epochs : Epochs) (a : Seen P E) (xs ys out out' : List Outstanding) (counts counts' : Counts) → with_processed epochs (with_processed epochs a xs out counts) ys out' counts' ≡ with_processed epochs a (xs ++ ys) out' counts'
-with_processed-then epochs a xs ys out out' counts counts' =
-    ap (λ p. remade a out' counts' p (greatest_of (greatest_of a.held.cutoff (cutoffs_of epochs a xs)) (cutoffs_of epochs a ys)) (fold (later_in a) (fold (later_in a) a.held.witnessed xs) ys)) (sym (acked_to-append a.held.processed xs ys))
-    ∙ (ap (λ c. remade a out' counts' (acked_to a.held.processed (xs ++ ys)) c (fold (later_in a) (fold (later_in a) a.held.witnessed xs) ys)) (sym (greatest_of-append a.held.cutoff (cutoffs_of epochs a xs) (cutoffs_of epochs a ys)) ∙ ap (λ cs. greatest_of a.held.cutoff cs) (sym (flat_map-append (λ o. retired epochs a.held.certs.held o.height) xs ys)))
-    ∙ ap (λ w. remade a out' counts' (acked_to a.held.processed (xs ++ ys)) (greatest_of a.held.cutoff (cutoffs_of epochs a (xs ++ ys))) w) (sym (fold-append (later_in a) a.held.witnessed xs ys)))
+pub with_processed-then : {P E : Type 0} (epochs : Epochs) (a : Seen P E) (xs ys out out' : List Outstanding) (watches watches' : Watches) → with_processed epochs (with_processed epochs a xs out watches) ys out' watches' ≡ with_processed epochs a (xs ++ ys) out' watches'
+with_processed-then epochs a xs ys out out' watches watches' =
+    ap (λ p. remade a out' watches' p (greatest_of (greatest_of a.held.cutoff (cutoffs_of epochs a xs)) (cutoffs_of epochs a ys)) (fold (later_in a) (fold (later_in a) a.held.witnessed xs) ys)) (sym (acked_to-append a.held.processed xs ys))
+    ∙ (ap (λ c. remade a out' watches' (acked_to a.held.processed (xs ++ ys)) c (fold (later_in a) (fold (later_in a) a.held.witnessed xs) ys)) (sym (greatest_of-append a.held.cutoff (cutoffs_of epochs a xs) (cutoffs_of epochs a ys)) ∙ ap (λ cs. greatest_of a.held.cutoff cs) (sym (flat_map-append (λ o. retired epochs a.held.certs.held o.height) xs ys)))
+    ∙ ap (λ w. remade a out' watches' (acked_to a.held.processed (xs ++ ys)) (greatest_of a.held.cutoff (cutoffs_of epochs a (xs ++ ys))) w) (sym (fold-append (later_in a) a.held.witnessed xs ys)))
 
 -- SO FAR
 
@@ -132,13 +131,13 @@ pub record DrainsSoFar {P E : Type 0} (epochs : Epochs) (start now : Seen P E) (
   pub front : given_front start.life.out ≡ done ++ given_front now.life.out
   pub rest : after_given now.life.out ≡ after_given start.life.out
   pub heard : Hears told (progress_asks epochs start.held.certs.held start.held.cutoff done) told'
-  pub same : now ≡ with_processed epochs start done now.life.out now.held.counts
-  pub grew : Grew start.held [] [] now.held
+  pub same : now ≡ with_processed epochs start done now.life.out now.held.watches
+  pub grew : (first : Held) (all : Written) → Grew first all start.held → Grew first all now.held
   pub is_drained : drained ≡ nat_lt 0 (length done)
   pub counted : count ≡ length done
 
 pub DrainsSoFar-first : {P E : Type 0} (epochs : Epochs) (start : Seen P E) (told : Option (List Call)) → DrainsSoFar epochs start start told told false 0
-DrainsSoFar-first epochs start told = record { done = []; front = refl; rest = refl; heard = Hears-nothing told; same = refl; grew = Grew-refl start.held [] []; is_drained = refl; counted = refl }
+DrainsSoFar-first epochs start told = record { done = []; front = refl; rest = refl; heard = Hears-nothing told; same = refl; grew = λ first all grew. grew; is_drained = refl; counted = refl }
 
 module _ {P E : Type 0} (epochs_of : E → Epochs) (start now : Seen P E) (told told' : Option (List Call)) (drained : Bool) (count : ℕ) (so_far : DrainsSoFar (epochs_of start.life.epocher) start now told told' drained count) where
   abbrev pub epochs : Epochs
@@ -154,12 +153,12 @@ module _ {P E : Type 0} (epochs_of : E → Epochs) (start now : Seen P E) (told 
   certs_now = ap (λ a. a.held.certs.held) so_far.same
 
   -- one more was processed, or there was none
-  after_next : (new : Seen P E) (is_processed : Bool) → DrainsNext (epochs_of now.life.epocher) now is_processed new → new ≡ with_processed epochs start (so_far.done ++ one) (after_oldest now.life.out) new.held.counts
+  after_next : (new : Seen P E) (is_processed : Bool) → DrainsNext (epochs_of now.life.epocher) now is_processed new → new ≡ with_processed epochs start (so_far.done ++ one) (after_oldest now.life.out) new.held.watches
   after_next new is_processed next =
       next.same
-      ∙ (ap (λ es. with_processed es now one (after_oldest now.life.out) new.held.counts) epochs_now
-      ∙ (ap (λ a. with_processed epochs a one (after_oldest now.life.out) new.held.counts) so_far.same
-      ∙ with_processed-then epochs start so_far.done one now.life.out (after_oldest now.life.out) now.held.counts new.held.counts))
+      ∙ (ap (λ es. with_processed es now one (after_oldest now.life.out) new.held.watches) epochs_now
+      ∙ (ap (λ a. with_processed epochs a one (after_oldest now.life.out) new.held.watches) so_far.same
+      ∙ with_processed-then epochs start so_far.done one now.life.out (after_oldest now.life.out) now.held.watches new.held.watches))
 
   out_is : (new : Seen P E) (is_processed : Bool) → DrainsNext (epochs_of now.life.epocher) now is_processed new → new.life.out ≡ after_oldest now.life.out
   out_is new is_processed next = ap (λ a. a.life.out) next.same
@@ -171,13 +170,13 @@ module _ {P E : Type 0} (epochs_of : E → Epochs) (start now : Seen P E) (told 
       (subst (λ cs. Hears told' (progress_asks epochs cs now.held.cutoff one) told'') certs_now
       (subst (λ es. Hears told' (progress_asks es now.held.certs.held now.held.cutoff one) told'') epochs_now heard))))
 
-  pub DrainsSoFar-more : (new : Seen P E) (told'' : Option (List Call)) (is_processed : Bool) → is_processed ≡ true → DrainsNext (epochs_of now.life.epocher) now is_processed new → Hears told' (progress_asks (epochs_of now.life.epocher) now.held.certs.held now.held.cutoff one) told'' → Grew start.held [] [] new.held → DrainsSoFar epochs start new told told'' true (count + 1)
+  pub DrainsSoFar-more : (new : Seen P E) (told'' : Option (List Call)) (is_processed : Bool) → is_processed ≡ true → DrainsNext (epochs_of now.life.epocher) now is_processed new → Hears told' (progress_asks (epochs_of now.life.epocher) now.held.certs.held now.held.cutoff one) told'' → ((first : Held) (all : Written) → Grew first all start.held → Grew first all new.held) → DrainsSoFar epochs start new told told'' true (count + 1)
   DrainsSoFar-more new told'' is_processed was next heard grew = record {
     done = so_far.done ++ one;
     front = so_far.front ∙ (ap (λ zs. so_far.done ++ zs) (front_next now.life.out) ∙ (sym (append_assoc so_far.done one (given_front (after_oldest now.life.out))) ∙ ap (λ o. (so_far.done ++ one) ++ given_front o) (sym (out_is new is_processed next))));
     rest = ap after_given (out_is new is_processed next) ∙ (rest_next now.life.out ∙ so_far.rest);
     heard = heard_next told'' heard;
-    same = after_next new is_processed next ∙ ap (λ o. with_processed epochs start (so_far.done ++ one) o new.held.counts) (sym (out_is new is_processed next));
+    same = after_next new is_processed next ∙ ap (λ o. with_processed epochs start (so_far.done ++ one) o new.held.watches) (sym (out_is new is_processed next));
     grew = grew;
     is_drained = sym (more (length (so_far.done ++ one)) longer);
     counted = counted;
@@ -199,7 +198,7 @@ module _ {P E : Type 0} (epochs_of : E → Epochs) (start now : Seen P E) (told 
   pub Drains-still : (new : Seen P E) (told'' : Option (List Call)) (is_processed : Bool) → is_processed ≡ false → DrainsNext (epochs_of now.life.epocher) now is_processed new → Hears told' (progress_asks (epochs_of now.life.epocher) now.held.certs.held now.held.cutoff one) told'' → Drains epochs start drained new × Hears told (progress_asks epochs start.held.certs.held start.held.cutoff (given_front start.life.out)) told''
   Drains-still new told'' is_processed was next heard = (
     record {
-      same = after_next new is_processed next ∙ (ap (λ zs. with_processed epochs start zs (after_oldest now.life.out) new.held.counts) all ∙ ap (λ o. with_processed epochs start (given_front start.life.out) o new.held.counts) (same_oldest now.life.out none ∙ (sym (none_after now.life.out none) ∙ so_far.rest)));
+      same = after_next new is_processed next ∙ (ap (λ zs. with_processed epochs start zs (after_oldest now.life.out) new.held.watches) all ∙ ap (λ o. with_processed epochs start (given_front start.life.out) o new.held.watches) (same_oldest now.life.out none ∙ (sym (none_after now.life.out none) ∙ so_far.rest)));
       drained = so_far.is_drained ∙ ap (λ zs. nat_lt 0 (length zs)) done_is;
       not_dropped = ap dropped_oldest (sym so_far.rest ∙ none_after now.life.out none) ∙ next.not_dropped;
     },
@@ -219,7 +218,7 @@ module _ {P E : Type 0} (epochs_of : E → Epochs) (start now : Seen P E) (told 
   pub Drains-all : length start.life.out ≤ count → Drains epochs start drained now × Hears told (progress_asks epochs start.held.certs.held start.held.cutoff (given_front start.life.out)) told'
   Drains-all full = (
     record {
-      same = so_far.same ∙ (ap (λ zs. with_processed epochs start zs now.life.out now.held.counts) done_is ∙ ap (λ o. with_processed epochs start (given_front start.life.out) o now.held.counts) (none_left ∙ sym none_behind));
+      same = so_far.same ∙ (ap (λ zs. with_processed epochs start zs now.life.out now.held.watches) done_is ∙ ap (λ o. with_processed epochs start (given_front start.life.out) o now.held.watches) (none_left ∙ sym none_behind));
       drained = so_far.is_drained ∙ ap (λ zs. nat_lt 0 (length zs)) done_is;
       not_dropped = ap dropped_oldest none_behind;
     },

@@ -1,6 +1,7 @@
 -- A reported finalization: its block isn't at hand, or is stored above the processed height, or is noted at or below it.
 use Rattle.std.proofs.Common.{◌≡◌, ◌⊎◌, inl, inr, ℕ, zero, suc, ◌+◌, ◌-◌, ◌^◌, ◌<◌, ◌≤◌, List, [], ◌∷◌, ◌++◌, length, map, find, drop, fold, Bool, true, false, ◌&&◌, ◌||◌, not, ◌==◌, nat_lt, if◌then◌else◌, Option, Some, None, is_some, option_map, IfSome, IsTrue, IsFalse, Contains, bytes_eq, slice_get, refl, sym, ◌∙◌, ap, subst, arith, append-nil, le_refl, eqb-true, eq-eqb}
-use Rattle.std.specs.List.{AllByRecursion, list_any}
+use Rattle.std.specs.List.{AllByRecursion, filter_map, list_any}
+use Rattle.std.specs.Option.{option_or}
 use Rattle.std.proofs.lemmas.List.Elements.{Contains-append_left, Contains-append_right}
 use Rattle.mar_types.specs.Epochs.{IsPartition}
 use Rattle.mar_types.specs.Round.{Round, round_lt}
@@ -11,31 +12,33 @@ use Rattle.mar_key.specs.Asked.{Asked}
 use Rattle.mar_key.specs.Cutoff.{Cutoff, at_round, greatest_of}
 use Rattle.mar_key.specs.Processed.{first_unprocessed, height_in, height_of}
 use Rattle.mar_store.specs.Kept.{At, Kept, has_height, value_at}
-use Rattle.mar_store.specs.Changes.{IsNested, KeepsValues}
-use Rattle.mar_store.proofs.Lookups.{AllByRecursion-contains, AllByRecursion-from_contains, AllByRecursion-push, AllByRecursion-weaker, AllByRecursion-within, has_height-from_contains, has_height-push_cases, has_height-push_same, value_at-append_found}
+use Rattle.mar_store.specs.Changes.{IsNested, KeepsValues, left_of}
+use Rattle.mar_store.proofs.Lookups.{AllByRecursion-contains, AllByRecursion-from_contains, AllByRecursion-push, AllByRecursion-weaker, AllByRecursion-within, has_height-from_contains, has_height-push_cases, has_height-push_same, value_at-append, value_at-append_found}
 use Rattle.mar_node.specs.Metadata.{Pair, pair_of}
 use Rattle.mar_node.specs.Stored.{at_own_height, block_of, is_certified, is_held, values_of}
+use Rattle.mar_node.specs.Cached.{cached_finalization}
 use Rattle.mar_node.specs.Answers.{served_answers, unserved_subscriptions}
 use Rattle.mar_node.specs.Cache.{Witnessing, prunes_by, with_witness, witnessing_of}
 use Rattle.mar_node.specs.Chain.{Chain, Finalizes, IsBlockAt, IsFinal, IsLawful, commitment_at}
 use Rattle.mar_node.specs.Config.{Config}
-use Rattle.mar_node.specs.Event.{Event, Met, Storing, cutoff_after, message_told, met_finalization, met_of, met_rounds, no_floor, own_writes, processed_after, storing_of}
+use Rattle.mar_node.specs.Event.{Event, Met, Storing, cutoff_after, message_told, met_finalization, met_of, met_rounds, no_floor, own_writes, processed_after, storing_of, told_finalization}
 use Rattle.mar_node.specs.Faults.{height_limit, last_height, storing_fault}
 use Rattle.mar_node.specs.Held.{Seen}
 use Rattle.mar_node.specs.Lives.{later_round}
-use Rattle.mar_node.specs.Moves.{RaisesTo, StoresAbove, StoresLate, StoresValue, StoresWhere, at_height, lacks_finalization, late_tip, late_tips, tip_after, tip_reports, wants}
-use Rattle.mar_node.specs.Node.{Agrees, AreBlocksOf, AreFinalizationsOf, ConsecutiveFrom, FloorSafe, HasAnchor, IsFinalized, IsGood, Node, SureOrWritten, at_hand, write_count}
+use Rattle.mar_node.specs.Moves.{IsRead, RaisesTo, StoresAbove, StoresLate, StoresValue, StoresWhere, at_height, lacks_finalization, late_tip, late_tips, tip_after, tip_reports, wants}
+use Rattle.mar_node.specs.Node.{Agrees, AreBlocksOf, AreFinalizationsOf, AreNestedHeights, ConsecutiveFrom, FloorSafe, HasAnchor, IsFinalized, IsGood, Node, SureOrWritten, at_hand, write_count}
 use Rattle.mar_node.specs.Promise.{AreOne, node_of}
 use Rattle.mar_node.specs.Requests.{own_asks, raise_asks, reported_asks}
 use Rattle.mar_node.specs.Sound.{IsSafePair}
-use Rattle.mar_node.specs.Step.{AreTipsOf, IsStored, IsStoredLate, KeepsFrom, Report, TipsFrom, Writes, is_repaired}
+use Rattle.mar_node.specs.Step.{AreTipsOf, CertificatesFrom, IsCertFrom, IsStored, IsStoredLate, KeepsFrom, Report, TipsFrom, Writes, is_repaired}
 use Rattle.mar_node.proofs.AtHand.{at_hand-all, at_hand-commitment, block_of_final, bytes_same}
-use Rattle.mar_node.proofs.Cutting.{MayBeLeft, keeps_heights}
+use Rattle.mar_node.proofs.Cutting.{MayBeLeft, keeps_heights, only_one, sure_may_heights}
 use Rattle.mar_node.proofs.FloorSafety.{FloorSafe-still, KeepsHeightsFrom, MeetsFinal}
 use Rattle.mar_node.proofs.FoundBlocks.{Contains-slice_get, values_in_chain}
 use Rattle.mar_node.proofs.PairsAfter.{HasAnchor-kept, IsSafePair-after}
-use Rattle.mar_node.proofs.PlainEvents.{KeepsFrom-same, Writes-none}
-use Rattle.mar_node.proofs.Reaching.{AreTips, Reaches}
+use Rattle.mar_node.proofs.Growing.{Grown, Grown-same}
+use Rattle.mar_node.proofs.PlainEvents.{Certificates-same, KeepsFrom-same, Writes-none, nothing_put}
+use Rattle.mar_node.proofs.Reaching.{AreTips, Reaches, some_first}
 use Rattle.mar_node.proofs.Soundness.{IsFrom, IsSafePair-kept}
 use Rattle.mar_node.proofs.Tips.{above_from, low_from, tip_after-high, tip_reports-chain, tip_reports-rise, tip_reports-tips}
 
@@ -88,8 +91,8 @@ all_held Q true old x new stores all put = subst (AllByRecursion Q) (sym stores.
 all_held Q false old x new stores all put = subst (AllByRecursion Q) (sym stores.held) (AllByRecursion-push Q old.held x all put)
 
 -- and so for all that a crash can leave
-all_may : {T : Type 0} (Q : At T → Type 0) (ignored : Bool) (old : Kept (At T)) (x : At T) (new : Kept (At T)) → StoresValue ignored old x new → AllByRecursion Q old.may → Q x → AllByRecursion Q new.may
-all_may Q ignored old x new stores all put = AllByRecursion-within Q new.may (old.may ++ x ∷ []) stores.may (AllByRecursion-push Q old.may x all put)
+all_may : {T : Type 0} (Q : At T → Type 0) (ignored : Bool) (old : Kept (At T)) (x : At T) (new : Kept (At T)) → StoresValue ignored old x new → AllByRecursion Q old.held → Q x → AllByRecursion Q new.may
+all_may Q ignored old x new stores all put = AllByRecursion-within Q new.may new.held stores.may (all_held Q ignored old x new stores all put)
 
 -- all that is held is sure
 all_sure : {T : Type 0} (ignored : Bool) (old : Kept (At T)) (x : At T) (new : Kept (At T)) → StoresValue ignored old x new → SureOrWritten new []
@@ -170,14 +173,79 @@ held_due Q true ignored old x new stores all put = all_held Q ignored old x new 
 held_due Q false ignored old x new stores all put = subst (λ k. AllByRecursion Q k.held) (sym stores) all
 
 -- and so for all that a crash can leave
-may_due : {T : Type 0} (Q : At T → Type 0) (due ignored : Bool) (old : Kept (At T)) (x : At T) (new : Kept (At T)) → StoresWhere due ignored old x new → AllByRecursion Q old.may → Q x → AllByRecursion Q new.may
-may_due Q true ignored old x new stores all put = all_may Q ignored old x new stores all put
-may_due Q false ignored old x new stores all put = subst (λ k. AllByRecursion Q k.may) (sym stores) all
+may_due : {T : Type 0} (Q : At T → Type 0) (due ignored : Bool) (old : Kept (At T)) (x : At T) (new : Kept (At T)) → StoresWhere due ignored old x new → AllByRecursion Q old.held → AllByRecursion Q old.may → Q x → AllByRecursion Q new.may
+may_due Q true ignored old x new stores held may put = all_may Q ignored old x new stores held put
+may_due Q false ignored old x new stores held may put = subst (λ k. AllByRecursion Q k.may) (sym stores) may
 
 -- what is held stays sure
 sure_due : {T : Type 0} (due ignored : Bool) (old : Kept (At T)) (x : At T) (new : Kept (At T)) → StoresWhere due ignored old x new → SureOrWritten old [] → SureOrWritten new []
 sure_due true ignored old x new stores all = all_sure ignored old x new stores
 sure_due false ignored old x new stores all = subst (λ k. SureOrWritten k []) (sym stores) all
+
+-- WHICH CERTIFICATE ENTERS
+
+inside_some : {T : Type 0} (x y : T) → ◌≡◌ {A = Option T} (Some x) (Some y) → x ≡ y
+inside_some x y is = cc
+
+-- what stands behind one more is what stood, or the one more
+pushed_value : {T : Type 0} (xs : List (At T)) (x : At T) (h : ℕ) (v : T) → value_at (xs ++ x ∷ []) h ≡ Some v → (value_at xs h ≡ Some v) ⊎ (x.value ≡ v)
+pushed_value {T = T} xs x h v is = by (value_at xs h) refl (sym (value_at-append xs (x ∷ []) h) ∙ is)
+  where
+    by_new : (c : Bool) → ◌≡◌ {A = Option T} (if c then Some x.value else None) (Some v) → x.value ≡ v
+    by_new true same = inside_some x.value v same
+    by_new false same = absurd cc
+
+    by : (o : Option T) → value_at xs h ≡ o → option_or o (value_at (x ∷ []) h) ≡ Some v → (value_at xs h ≡ Some v) ⊎ (x.value ≡ v)
+    by (Some w) at same = inl (at ∙ same)
+    by None at same = inr (by_new (x.height == h) same)
+
+-- where nothing stood there is nothing, or the one more
+pushed_new : {T : Type 0} (xs : List (At T)) (x : At T) (h : ℕ) → value_at xs h ≡ None → (value_at (xs ++ x ∷ []) h ≡ None) ⊎ (value_at (xs ++ x ∷ []) h ≡ Some x.value)
+pushed_new {T = T} xs x h none = by (x.height == h) refl
+  where
+    alone : value_at (xs ++ x ∷ []) h ≡ value_at (x ∷ []) h
+    alone = value_at-append xs (x ∷ []) h ∙ ap (λ o. option_or o (value_at (x ∷ []) h)) none
+
+    by : (c : Bool) → (x.height == h) ≡ c → (value_at (xs ++ x ∷ []) h ≡ None) ⊎ (value_at (xs ++ x ∷ []) h ≡ Some x.value)
+    by true same = inr (alone ∙ ap (λ (d : Bool). if d then Some x.value else None) same)
+    by false other = inl (alone ∙ ap (λ (d : Bool). if d then Some x.value else None) other)
+
+Certificates-pushed : (n n' : Node) (e : Event) (ignored : Bool) (x : At Finalization) → told_finalization n e ≡ Some x.value → n'.certs.held ≡ (if ignored then n.certs.held else n.certs.held ++ x ∷ []) → CertificatesFrom n e n'
+Certificates-pushed n n' e true x told held = record {
+  entered = λ h g has. inl (subst (λ xs. value_at xs h ≡ Some g) held has);
+  own = λ s g stores told_g none. inl (subst (λ xs. value_at xs s.height ≡ None) (sym held) none);
+}
+Certificates-pushed n n' e false x told held = record {
+  entered = λ h g has. entered h g (pushed_value n.certs.held x h g (subst (λ xs. value_at xs h ≡ Some g) held has));
+  own = λ s g stores told_g none. own s.height g (inside_some x.value g (sym told ∙ told_g)) (pushed_new n.certs.held x s.height none);
+}
+  where
+    entered : (h : ℕ) (g : Finalization) → (value_at n.certs.held h ≡ Some g) ⊎ (x.value ≡ g) → (value_at n.certs.held h ≡ Some g) ⊎ IsCertFrom n e (record { height = h; value = g })
+    entered h g (inl was) = inl was
+    entered h g (inr new) = inr (some_first (told_finalization n e) (filter_map cached_finalization n.cache.held) g (told ∙ ap Some new))
+
+    own : (h : ℕ) (g : Finalization) → x.value ≡ g → (value_at (n.certs.held ++ x ∷ []) h ≡ None) ⊎ (value_at (n.certs.held ++ x ∷ []) h ≡ Some x.value) → (value_at n'.certs.held h ≡ None) ⊎ (value_at n'.certs.held h ≡ Some g)
+    own h g same (inl none) = inl (subst (λ xs. value_at xs h ≡ None) (sym held) none)
+    own h g same (inr new) = inr (subst (λ xs. value_at xs h ≡ Some g) (sym held) (new ∙ ap Some same))
+
+-- a put of the event's finalization, where it is due
+Certificates-put : (n n' : Node) (e : Event) (due ignored : Bool) (x : At Finalization) → told_finalization n e ≡ Some x.value → StoresWhere due ignored n.certs x n'.certs → CertificatesFrom n e n'
+Certificates-put n n' e true ignored x told stores = Certificates-pushed n n' e ignored x told stores.held
+Certificates-put n n' e false ignored x told same = Certificates-pushed n n' e true x told (ap (λ k. k.held) same)
+
+-- WHAT MAY BE LEFT
+
+-- all that is held is sure, and all that is sure may be left
+nested_stored : {T : Type 0} (start : Kept (At T)) (put : List (At T)) (ignored : Bool) (x : At T) (new : Kept (At T)) → StoresValue ignored start x new → Grown start put new → AreNestedHeights new
+nested_stored start put ignored x new stores grown = record {
+  sure_held = λ h has. subst (λ xs. IsTrue (has_height xs h)) stores.sure has;
+  held_may = λ h has. sure_may_heights start put (left_of new) grown.leaves h (subst (λ xs. IsTrue (has_height xs h)) (sym stores.sure) has);
+}
+
+-- the same where it was due
+nested_due : {T : Type 0} (start : Kept (At T)) (put : List (At T)) (due ignored : Bool) (x : At T) (new : Kept (At T)) → StoresWhere due ignored start x new → Grown start put new → AreNestedHeights start → AreNestedHeights new
+nested_due start put true ignored x new stores grown nested = nested_stored start put ignored x new stores grown
+nested_due start put false ignored x new same grown nested = subst AreNestedHeights (sym same) nested
 
 -- the round that is witnessed last
 last_witnessed : (retention : ℕ) (last r : Round) → later_round last (Some r) ≡ (fold (with_witness retention) (record { last = last; prunes = [] }) (r ∷ [])).last
@@ -187,28 +255,28 @@ last_witnessed retention last r = by (round_lt last r) refl
     by true newer = refl
     by false older = refl
 
--- The actor after its cutoff was raised and synced: what is left open are the certificates, the tip and the counts.
+-- The actor after its cutoff was raised and synced: what is left open are the certificates, the tip and how many calls were counted.
 abbrev pub noted : {P E : Type 0} → Seen P E → List Cutoff → Round → Seen P E → Seen P E
 noted a cutoffs r m = record a {
-  held = record a.held { certs = m.held.certs; cutoff = greatest_of a.held.cutoff cutoffs; witnessed = r; pairs = pair_of a.held.processed (greatest_of a.held.cutoff cutoffs) ∷ []; counts = m.held.counts };
+  held = record a.held { certs = m.held.certs; cutoff = greatest_of a.held.cutoff cutoffs; witnessed = r; pairs = pair_of a.held.processed (greatest_of a.held.cutoff cutoffs) ∷ []; watches = m.held.watches };
   life = record a.life { tip = m.life.tip };
 }
 
 -- a raised cutoff, its sync and a late put leave that, with the tip that the put may make
-noted_same : {P E : Type 0} (inner : List ℕ → List ℕ) (a w s m : Seen P E) (cutoffs : List Cutoff) (r : Round) (f : Finalization) (b : Block) → RaisesTo a cutoffs r w → s ≡ record w { held = record w.held { pairs = pair_of w.held.processed w.held.cutoff ∷ []; counts = s.held.counts } } → StoresLate inner s f b m → (m ≡ noted a cutoffs r m) × (m.life.tip ≡ late_tip (lacks_finalization a.held b) a.life.tip b)
+noted_same : {P E : Type 0} (inner : List ℕ → List ℕ) (a w s m : Seen P E) (cutoffs : List Cutoff) (r : Round) (f : Finalization) (b : Block) → RaisesTo a cutoffs r w → s ≡ record w { held = record w.held { pairs = pair_of w.held.processed w.held.cutoff ∷ []; watches = s.held.watches } } → StoresLate inner s f b m → (m ≡ noted a cutoffs r m) × (m.life.tip ≡ late_tip (lacks_finalization a.held b) a.life.tip b)
 noted_same {P = P} {E = E} inner a w s m cutoffs r f b raised synced stores = (same ∙ ap (λ t. record (noted a cutoffs r m) { life = record a.life { tip = t } }) (sym tip), tip)
   where
     same : m ≡ record (noted a cutoffs r m) { life = record a.life { tip = late_tip (lacks_finalization a.held b) a.life.tip b } }
     same =
         stores.same
-        ∙ (ap (λ (x : Seen P E). record x { held = record x.held { certs = m.held.certs; counts = m.held.counts }; life = record x.life { tip = late_tip (lacks_finalization x.held b) x.life.tip b } }) synced
-        ∙ ap (λ (x : Seen P E). record x { held = record x.held { certs = m.held.certs; pairs = pair_of x.held.processed x.held.cutoff ∷ []; counts = m.held.counts }; life = record x.life { tip = late_tip (lacks_finalization x.held b) x.life.tip b } }) raised.same)
+        ∙ (ap (λ (x : Seen P E). record x { held = record x.held { certs = m.held.certs; watches = m.held.watches }; life = record x.life { tip = late_tip (lacks_finalization x.held b) x.life.tip b } }) synced
+        ∙ ap (λ (x : Seen P E). record x { held = record x.held { certs = m.held.certs; pairs = pair_of x.held.processed x.held.cutoff ∷ []; watches = m.held.watches }; life = record x.life { tip = late_tip (lacks_finalization x.held b) x.life.tip b } }) raised.same)
 
     tip : m.life.tip ≡ late_tip (lacks_finalization a.held b) a.life.tip b
     tip = ap (λ x. x.life.tip) same
 
 -- and the late put is due by what was held before
-noted_certs : {P E : Type 0} (inner : List ℕ → List ℕ) (a w s m : Seen P E) (cutoffs : List Cutoff) (r : Round) (f : Finalization) (b : Block) → RaisesTo a cutoffs r w → s ≡ record w { held = record w.held { pairs = pair_of w.held.processed w.held.cutoff ∷ []; counts = s.held.counts } } → StoresLate inner s f b m → StoresWhere (has_height a.held.blocks.held b.height && not (has_height a.held.certs.held b.height)) (is_certified inner a.held.certs.held b.height (inner f.payload)) a.held.certs (at_height b.height f) m.held.certs
+noted_certs : {P E : Type 0} (inner : List ℕ → List ℕ) (a w s m : Seen P E) (cutoffs : List Cutoff) (r : Round) (f : Finalization) (b : Block) → RaisesTo a cutoffs r w → s ≡ record w { held = record w.held { pairs = pair_of w.held.processed w.held.cutoff ∷ []; watches = s.held.watches } } → StoresLate inner s f b m → StoresWhere (has_height a.held.blocks.held b.height && not (has_height a.held.certs.held b.height)) (is_certified inner a.held.certs.held b.height (inner f.payload)) a.held.certs (at_height b.height f) m.held.certs
 noted_certs inner a w s m cutoffs r f b raised synced stores =
     subst (λ k. StoresWhere (has_height k.held b.height && not (has_height a.held.certs.held b.height)) (is_certified inner a.held.certs.held b.height (inner f.payload)) a.held.certs (at_height b.height f) m.held.certs) (ap (λ x. x.held.blocks) synced ∙ ap (λ x. x.held.blocks) raised.same)
     (subst (λ k. StoresWhere (has_height s.held.blocks.held b.height && not (has_height k.held b.height)) (is_certified inner k.held b.height (inner f.payload)) k (at_height b.height f) m.held.certs) (ap (λ x. x.held.certs) synced ∙ ap (λ x. x.held.certs) raised.same) stores.certs)
@@ -278,8 +346,8 @@ module _ {P E : Type 0} (config : Config) (chain : Chain) (a : Seen P E) (f : Fi
     -- NOT AT HAND
 
     -- a finalization whose block isn't at hand changes nothing
-    pub Reaches-absent : at_hand n f.payload ≡ None → Reaches config chain a e buffer asked [] a
-    Reaches-absent absent = record {
+    pub Reaches-absent : (m : Seen P E) → IsRead a m → IsNested a.held.blocks → IsNested a.held.certs → at_hand n f.payload ≡ None → Reaches config chain a e buffer asked [] m
+    Reaches-absent m same nested certs_nested absent = subst (Reaches config chain a e buffer asked []) (sym same) (record {
       no_effect = refl;
       kept = refl;
       next_ack = refl;
@@ -288,6 +356,15 @@ module _ {P E : Type 0} (config : Config) (chain : Chain) (a : Seen P E) (f : Fi
       cutoff = sym (cutoff_by [] met);
       blocks = KeepsFrom-same _ a.held.blocks;
       certs = KeepsFrom-same _ a.held.certs;
+      put_blocks = [];
+      put_certs = [];
+      blocks_grown = Grown-same a.held.blocks a.held.blocks nested refl;
+      certs_grown = Grown-same a.held.certs a.held.certs certs_nested refl;
+      of_blocks = tt;
+      of_certs = tt;
+      own_blocks = λ x has. nothing_put x has;
+      own_certs = λ x has. nothing_put x has;
+      certificates = Certificates-same a a e buffer asked refl;
       writes = written.0;
       no_repair = written.1;
       are_tips = tt;
@@ -304,7 +381,7 @@ module _ {P E : Type 0} (config : Config) (chain : Chain) (a : Seen P E) (f : Fi
       certified = λ tip. refl;
       no_syncs = λ n'. refl;
       good = good;
-    }
+    })
       where
         met : met_rounds n (met_finalization n e) ≡ []
         met = rounds_by None absent
@@ -366,9 +443,11 @@ module _ {P E : Type 0} (config : Config) (chain : Chain) (a : Seen P E) (f : Fi
     -- MORE IS HELD
 
     -- the node stays good as more is held and sure, with the same blocks outstanding
-    IsGood-grown : (m : Seen P E) → m.life.out ≡ a.life.out → m.held.processed ≡ a.held.processed → m.held.pairs ≡ pair_of m.held.processed m.held.cutoff ∷ [] → SureOrWritten m.held.blocks [] → SureOrWritten m.held.certs [] → KeepsHeightsFrom 0 a.held.blocks.sure m.held.blocks.sure → AreBlocksOf chain m.held.blocks.held → AreBlocksOf chain m.held.blocks.may → AreFinalizationsOf chain m.held.certs.held → AreFinalizationsOf chain m.held.certs.may → FloorSafe (option_map height_in a.held.processed) m.held.cutoff m.held.blocks.sure chain → AllByRecursion (λ x. x.height ≤ m.life.tip) m.held.certs.held → IsGood config chain (node_of m buffer asked)
-    IsGood-grown m out processed own sure_blocks sure_certs stays held_blocks may_blocks held_certs may_certs safe below_tip = record {
+    IsGood-grown : (m : Seen P E) → AreNestedHeights m.held.blocks → AreNestedHeights m.held.certs → m.life.out ≡ a.life.out → m.held.processed ≡ a.held.processed → m.held.pairs ≡ pair_of m.held.processed m.held.cutoff ∷ [] → SureOrWritten m.held.blocks [] → SureOrWritten m.held.certs [] → KeepsHeightsFrom 0 a.held.blocks.sure m.held.blocks.sure → AreBlocksOf chain m.held.blocks.held → AreBlocksOf chain m.held.blocks.may → AreFinalizationsOf chain m.held.certs.held → AreFinalizationsOf chain m.held.certs.may → FloorSafe (option_map height_in a.held.processed) m.held.cutoff m.held.blocks.sure chain → AllByRecursion (λ x. x.height ≤ m.life.tip) m.held.certs.held → IsGood config chain (node_of m buffer asked)
+    IsGood-grown m nested_blocks nested_certs out processed own sure_blocks sure_certs stays held_blocks may_blocks held_certs may_certs safe below_tip = record {
       heights = record {
+        nested_blocks = nested_blocks;
+        nested_certs = nested_certs;
         sure_blocks = sure_blocks;
         sure_certs = sure_certs;
         consecutive = subst (λ p. ConsecutiveFrom (first_unprocessed p) m.life.out) (sym processed) (subst (λ o. ConsecutiveFrom (first_unprocessed a.held.processed) o) (sym out) good.heights.consecutive);
@@ -440,13 +519,13 @@ module _ {P E : Type 0} (config : Config) (chain : Chain) (a : Seen P E) (f : Fi
             from (inr same) = inr (ap (λ c. c || false) (eq-eqb b.height h same))
 
     -- the node that it leaves is good
-    IsGood-stored : (b : Block) (m : Seen P E) → IsNested a.held.blocks → IsNested a.held.certs → at_hand n f.payload ≡ Some b → StoresAbove config.inner a f b m → IsGood config chain (node_of m buffer asked)
-    IsGood-stored b m blocks_nested certs_nested is stores =
-        IsGood-grown m (ap (λ s. s.life.out) stores.same) processed own (all_sure _ _ _ _ stores.blocks) (all_sure _ _ _ _ stores.certs) stays
+    IsGood-stored : (b : Block) (m : Seen P E) → IsNested a.held.blocks → IsNested a.held.certs → Grown a.held.blocks (at_own_height b ∷ []) m.held.blocks → Grown a.held.certs (at_height b.height f ∷ []) m.held.certs → at_hand n f.payload ≡ Some b → StoresAbove config.inner a f b m → IsGood config chain (node_of m buffer asked)
+    IsGood-stored b m blocks_nested certs_nested blocks_grown certs_grown is stores =
+        IsGood-grown m (nested_stored _ _ _ _ _ stores.blocks blocks_grown) (nested_stored _ _ _ _ _ stores.certs certs_grown) (ap (λ s. s.life.out) stores.same) processed own (all_sure _ _ _ _ stores.blocks) (all_sure _ _ _ _ stores.certs) stays
         (all_held (λ x. IsBlockAt chain x.height x.value) _ _ _ _ stores.blocks good.of_chain.held_blocks (block-final b is).1)
-        (all_may (λ x. IsBlockAt chain x.height x.value) _ _ _ _ stores.blocks good.of_chain.may_blocks (block-final b is).1)
+        (all_may (λ x. IsBlockAt chain x.height x.value) _ _ _ _ stores.blocks good.of_chain.held_blocks (block-final b is).1)
         (all_held (λ x. Finalizes chain x.height x.value.round x.value.payload) _ _ _ _ stores.certs good.of_chain.held_certs (finalizes b is))
-        (all_may (λ x. Finalizes chain x.height x.value.round x.value.payload) _ _ _ _ stores.certs good.of_chain.may_certs (finalizes b is))
+        (all_may (λ x. Finalizes chain x.height x.value.round x.value.payload) _ _ _ _ stores.certs good.of_chain.held_certs (finalizes b is))
         (subst (λ c. FloorSafe (option_map height_in a.held.processed) c m.held.blocks.sure chain) (sym cutoff) (FloorSafe-still chain (option_map height_in a.held.processed) a.held.cutoff a.held.blocks.sure m.held.blocks.sure (λ has. stays _ (omega arith) has) good.of_chain.floor_safe))
         (subst (λ t. AllByRecursion (λ x. x.height ≤ t) m.held.certs.held) (sym tip) (all_held (λ x. x.height ≤ tip_after a.life.tip b) _ _ _ _ stores.certs (AllByRecursion-weaker (λ x. x.height ≤ a.life.tip) (λ x. x.height ≤ tip_after a.life.tip b) (λ x low. let high : a.life.tip ≤ tip_after a.life.tip b = (tip_after-high a.life.tip b).0 in omega arith) a.held.certs.held good.of_chain.tip_reported) (tip_after-high a.life.tip b).1))
       where
@@ -466,8 +545,8 @@ module _ {P E : Type 0} (config : Config) (chain : Chain) (a : Seen P E) (f : Fi
         stays h low has = keeps_heights a.held.blocks.sure m.held.blocks.sure (sure_kept _ _ _ _ blocks_nested stores.blocks) h has
 
     -- a block above the processed height is stored with its finalization
-    pub Reaches-stored : (b : Block) (m : Seen P E) → IsNested a.held.blocks → IsNested a.held.certs → at_hand n f.payload ≡ Some b → IsTrue (nat_lt (height_of a.held.processed) b.height) → StoresAbove config.inner a f b m → Reaches config chain a e buffer asked (tip_reports a.life.tip f b) m
-    Reaches-stored b m blocks_nested certs_nested is above stores = record {
+    pub Reaches-stored : (b : Block) (m : Seen P E) → IsNested a.held.blocks → IsNested a.held.certs → Grown a.held.blocks (at_own_height b ∷ []) m.held.blocks → Grown a.held.certs (at_height b.height f ∷ []) m.held.certs → at_hand n f.payload ≡ Some b → IsTrue (nat_lt (height_of a.held.processed) b.height) → StoresAbove config.inner a f b m → Reaches config chain a e buffer asked (tip_reports a.life.tip f b) m
+    Reaches-stored b m blocks_nested certs_nested blocks_grown certs_grown is above stores = record {
       no_effect = refl;
       kept = ap (λ s. s.life.out) stores.same;
       next_ack = ap (λ s. s.life.next_ack) stores.same;
@@ -476,6 +555,15 @@ module _ {P E : Type 0} (config : Config) (chain : Chain) (a : Seen P E) (f : Fi
       cutoff = ap (λ s. s.held.cutoff) stores.same ∙ sym (cutoff_by [] met);
       blocks = KeepsFrom-stored _ _ _ _ _ blocks_nested stores.blocks;
       certs = KeepsFrom-stored _ _ _ _ _ certs_nested stores.certs;
+      put_blocks = at_own_height b ∷ [];
+      put_certs = at_height b.height f ∷ [];
+      blocks_grown = blocks_grown;
+      certs_grown = certs_grown;
+      of_blocks = ((block-final b is).1, tt);
+      of_certs = (finalizes b is, tt);
+      own_blocks = λ x has. is ∙ ap (λ (y : At Block). Some y.value) (only_one (at_own_height b) x has);
+      own_certs = λ x has. ap (λ (y : At Finalization). Some y.value) (only_one (at_height b.height f) x has);
+      certificates = Certificates-put n (node_of m buffer asked) e true (is_certified config.inner a.held.certs.held b.height (config.inner f.payload)) (at_height b.height f) refl stores.certs;
       writes = (Writes-stored b m is above stores).0;
       no_repair = (Writes-stored b m is above stores).1;
       are_tips = tip_reports-tips a.life.tip f b;
@@ -491,7 +579,7 @@ module _ {P E : Type 0} (config : Config) (chain : Chain) (a : Seen P E) (f : Fi
       subscriptions = ap (λ xs. xs ++ []) (leaves_none (at_hand n f.payload));
       certified = λ tip. refl;
       no_syncs = λ n'. refl;
-      good = IsGood-stored b m blocks_nested certs_nested is stores;
+      good = IsGood-stored b m blocks_nested certs_nested blocks_grown certs_grown is stores;
     }
       where
         met : met_rounds n (met_finalization n e) ≡ []
@@ -547,16 +635,16 @@ module _ {P E : Type 0} (config : Config) (chain : Chain) (a : Seen P E) (f : Fi
     IsNoted m = m ≡ noted a (at_round f.round ∷ []) (later_round a.held.witnessed (Some f.round)) m
 
     -- the node that it leaves is good, where the tip reaches what was put
-    IsGood-late : IsPartition config.epochs → (b : Block) (m : Seen P E) → at_hand n f.payload ≡ Some b → IsFalse (nat_lt (height_of a.held.processed) b.height) → a.life.tip ≤ m.life.tip → (IsTrue (lacks_finalization a.held b) → b.height ≤ m.life.tip) → IsNoted m → PutsLate b m.held.certs → IsGood config chain (node_of m buffer asked)
-    IsGood-late partition b m is low rises below_tip same certs =
-        IsGood-grown m (ap (λ s. s.life.out) same) (ap (λ s. s.held.processed) same) own
+    IsGood-late : IsPartition config.epochs → (b : Block) (m : Seen P E) → Grown a.held.certs (at_height b.height f ∷ []) m.held.certs → at_hand n f.payload ≡ Some b → IsFalse (nat_lt (height_of a.held.processed) b.height) → a.life.tip ≤ m.life.tip → (IsTrue (lacks_finalization a.held b) → b.height ≤ m.life.tip) → IsNoted m → PutsLate b m.held.certs → IsGood config chain (node_of m buffer asked)
+    IsGood-late partition b m grown is low rises below_tip same certs =
+        IsGood-grown m (subst AreNestedHeights (sym blocks) good.heights.nested_blocks) (nested_due _ _ _ _ _ _ certs grown good.heights.nested_certs) (ap (λ s. s.life.out) same) (ap (λ s. s.held.processed) same) own
         (subst (λ k. SureOrWritten k []) (sym blocks) good.heights.sure_blocks)
         (sure_due _ _ _ _ _ certs good.heights.sure_certs)
         (λ h bound has. subst (λ k. IsTrue (has_height k.sure h)) (sym blocks) has)
         (subst (λ k. AreBlocksOf chain k.held) (sym blocks) good.of_chain.held_blocks)
         (subst (λ k. AreBlocksOf chain k.may) (sym blocks) good.of_chain.may_blocks)
         (held_due (λ x. Finalizes chain x.height x.value.round x.value.payload) _ _ _ _ _ certs good.of_chain.held_certs (λ due. finalizes b is))
-        (may_due (λ x. Finalizes chain x.height x.value.round x.value.payload) _ _ _ _ _ certs good.of_chain.may_certs (finalizes b is))
+        (may_due (λ x. Finalizes chain x.height x.value.round x.value.payload) _ _ _ _ _ certs good.of_chain.held_certs good.of_chain.may_certs (finalizes b is))
         (subst (λ k. FloorSafe (option_map height_in a.held.processed) m.held.cutoff k.sure chain) (sym blocks) (subst (λ c. FloorSafe (option_map height_in a.held.processed) c a.held.blocks.sure chain) (sym (ap (λ s. s.held.cutoff) same)) (pair_late-safe partition b is low).floor_safe))
         (held_due (λ x. x.height ≤ m.life.tip) _ _ _ _ _ certs (AllByRecursion-weaker (λ x. x.height ≤ a.life.tip) (λ x. x.height ≤ m.life.tip) (λ x at_most. omega arith) a.held.certs.held good.of_chain.tip_reported) below_tip)
       where
@@ -567,8 +655,8 @@ module _ {P E : Type 0} (config : Config) (chain : Chain) (a : Seen P E) (f : Fi
         own = ap (λ s. s.held.pairs) same ∙ sym (ap (λ s. pair_of s.held.processed s.held.cutoff ∷ []) same)
 
     -- with these tips
-    Reaches-told : IsPartition config.epochs → (b : Block) (tips : List Report) (m : Seen P E) → IsNested a.held.certs → at_hand n f.payload ≡ Some b → IsFalse (nat_lt (height_of a.held.processed) b.height) → AreTips tips → TipsFrom a.life.tip tips m.life.tip → AreTipsOf chain tips → a.life.tip ≤ m.life.tip → (IsTrue (lacks_finalization a.held b) → b.height ≤ m.life.tip) → IsNoted m → PutsLate b m.held.certs → Reaches config chain a e buffer asked tips m
-    Reaches-told partition b tips m certs_nested is low only rise of_chain rises below_tip same certs = record {
+    Reaches-told : IsPartition config.epochs → (b : Block) (tips : List Report) (m : Seen P E) → IsNested a.held.blocks → IsNested a.held.certs → Grown a.held.certs (at_height b.height f ∷ []) m.held.certs → at_hand n f.payload ≡ Some b → IsFalse (nat_lt (height_of a.held.processed) b.height) → AreTips tips → TipsFrom a.life.tip tips m.life.tip → AreTipsOf chain tips → a.life.tip ≤ m.life.tip → (IsTrue (lacks_finalization a.held b) → b.height ≤ m.life.tip) → IsNoted m → PutsLate b m.held.certs → Reaches config chain a e buffer asked tips m
+    Reaches-told partition b tips m blocks_nested certs_nested grown is low only rise of_chain rises below_tip same certs = record {
       no_effect = refl;
       kept = ap (λ s. s.life.out) same;
       next_ack = ap (λ s. s.life.next_ack) same;
@@ -577,6 +665,15 @@ module _ {P E : Type 0} (config : Config) (chain : Chain) (a : Seen P E) (f : Fi
       cutoff = ap (λ s. s.held.cutoff) same ∙ sym (cutoff_by (f.round ∷ []) met);
       blocks = subst (KeepsFrom _ a.held.blocks) (sym blocks) (KeepsFrom-same _ a.held.blocks);
       certs = KeepsFrom-due _ _ _ _ _ _ certs_nested certs;
+      put_blocks = [];
+      put_certs = at_height b.height f ∷ [];
+      blocks_grown = Grown-same a.held.blocks m.held.blocks blocks_nested blocks;
+      certs_grown = grown;
+      of_blocks = tt;
+      of_certs = (finalizes b is, tt);
+      own_blocks = λ x has. nothing_put x has;
+      own_certs = λ x has. ap (λ (y : At Finalization). Some y.value) (only_one (at_height b.height f) x has);
+      certificates = Certificates-put n (node_of m buffer asked) e (lacks_finalization a.held b) (is_certified config.inner a.held.certs.held b.height (config.inner f.payload)) (at_height b.height f) refl certs;
       writes = written.0;
       no_repair = written.1;
       are_tips = only;
@@ -592,7 +689,7 @@ module _ {P E : Type 0} (config : Config) (chain : Chain) (a : Seen P E) (f : Fi
       subscriptions = ap (λ xs. xs ++ []) (leaves_none (at_hand n f.payload));
       certified = λ tip. refl;
       no_syncs = λ n'. refl;
-      good = IsGood-late partition b m is low rises below_tip same certs;
+      good = IsGood-late partition b m grown is low rises below_tip same certs;
     }
       where
         met : met_rounds n (met_finalization n e) ≡ f.round ∷ []
@@ -618,21 +715,21 @@ module _ {P E : Type 0} (config : Config) (chain : Chain) (a : Seen P E) (f : Fi
 
     -- a block at or below the processed height: its round is witnessed, its certificate put where the block is held without
     -- one, and that told as the tip where it is above the last one
-    pub Reaches-noted : IsPartition config.epochs → (b : Block) (m : Seen P E) → IsNested a.held.certs → at_hand n f.payload ≡ Some b → IsFalse (nat_lt (height_of a.held.processed) b.height) → IsNoted m → PutsLate b m.held.certs → m.life.tip ≡ late_tip (lacks_finalization a.held b) a.life.tip b → Reaches config chain a e buffer asked (late_tips (lacks_finalization a.held b) a.life.tip f b) m
-    Reaches-noted partition b m certs_nested is low same certs tip = by (lacks_finalization a.held b) refl tip
+    pub Reaches-noted : IsPartition config.epochs → (b : Block) (m : Seen P E) → IsNested a.held.blocks → IsNested a.held.certs → Grown a.held.certs (at_height b.height f ∷ []) m.held.certs → at_hand n f.payload ≡ Some b → IsFalse (nat_lt (height_of a.held.processed) b.height) → IsNoted m → PutsLate b m.held.certs → m.life.tip ≡ late_tip (lacks_finalization a.held b) a.life.tip b → Reaches config chain a e buffer asked (late_tips (lacks_finalization a.held b) a.life.tip f b) m
+    Reaches-noted partition b m blocks_nested certs_nested grown is low same certs tip = by (lacks_finalization a.held b) refl tip
       where
         by : (c : Bool) → lacks_finalization a.held b ≡ c → m.life.tip ≡ late_tip c a.life.tip b → Reaches config chain a e buffer asked (late_tips c a.life.tip f b) m
         by true due at =
-            Reaches-told partition b (tip_reports a.life.tip f b) m certs_nested is low (tip_reports-tips a.life.tip f b)
+            Reaches-told partition b (tip_reports a.life.tip f b) m blocks_nested certs_nested grown is low (tip_reports-tips a.life.tip f b)
             (subst (TipsFrom a.life.tip (tip_reports a.life.tip f b)) (sym at) (tip_reports-rise a.life.tip f b))
             (tip_reports-chain chain a.life.tip f b (block-final b is).0 (block-final b is).1)
             (subst (λ k. a.life.tip ≤ k) (sym at) (tip_after-high a.life.tip b).0)
             (λ put. subst (λ k. b.height ≤ k) (sym at) (tip_after-high a.life.tip b).1) same certs
-        by false not_due at = Reaches-told partition b [] m certs_nested is low tt at tt (subst (λ k. a.life.tip ≤ k) (sym at) (omega arith)) (λ put. absurd (let both : false ≡ true = sym not_due ∙ put in cc)) same certs
+        by false not_due at = Reaches-told partition b [] m blocks_nested certs_nested grown is low tt at tt (subst (λ k. a.life.tip ≤ k) (sym at) (omega arith)) (λ put. absurd (let both : false ≡ true = sym not_due ∙ put in cc)) same certs
 
     -- from the raise, the sync and the late put
-    pub Reaches-late : IsPartition config.epochs → (b : Block) (w s m : Seen P E) → IsNested a.held.certs → at_hand n f.payload ≡ Some b → IsFalse (nat_lt (height_of a.held.processed) b.height) → RaisesTo a (at_round f.round ∷ []) (later_round a.held.witnessed (Some f.round)) w → s ≡ record w { held = record w.held { pairs = pair_of w.held.processed w.held.cutoff ∷ []; counts = s.held.counts } } → StoresLate config.inner s f b m → Reaches config chain a e buffer asked (late_tips (lacks_finalization a.held b) a.life.tip f b) m
-    Reaches-late partition b w s m certs_nested is low raised synced stores = Reaches-noted partition b m certs_nested is low as_noted.0 (noted_certs config.inner a w s m (at_round f.round ∷ []) (later_round a.held.witnessed (Some f.round)) f b raised synced stores) as_noted.1
+    pub Reaches-late : IsPartition config.epochs → (b : Block) (w s m : Seen P E) → IsNested a.held.blocks → IsNested a.held.certs → Grown a.held.certs (at_height b.height f ∷ []) m.held.certs → at_hand n f.payload ≡ Some b → IsFalse (nat_lt (height_of a.held.processed) b.height) → RaisesTo a (at_round f.round ∷ []) (later_round a.held.witnessed (Some f.round)) w → s ≡ record w { held = record w.held { pairs = pair_of w.held.processed w.held.cutoff ∷ []; watches = s.held.watches } } → StoresLate config.inner s f b m → Reaches config chain a e buffer asked (late_tips (lacks_finalization a.held b) a.life.tip f b) m
+    Reaches-late partition b w s m blocks_nested certs_nested grown is low raised synced stores = Reaches-noted partition b m blocks_nested certs_nested grown is low as_noted.0 (noted_certs config.inner a w s m (at_round f.round ∷ []) (later_round a.held.witnessed (Some f.round)) f b raised synced stores) as_noted.1
       where
         as_noted : IsNoted m × (m.life.tip ≡ late_tip (lacks_finalization a.held b) a.life.tip b)
         as_noted = noted_same config.inner a w s m (at_round f.round ∷ []) (later_round a.held.witnessed (Some f.round)) f b raised synced stores

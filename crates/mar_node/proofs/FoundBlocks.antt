@@ -1,5 +1,5 @@
 -- A look-up by digest, and then by commitment, finds the block at hand, where a digest names one block.
-use Rattle.std.proofs.Common.{◌≡◌, ℕ, zero, suc, List, [], ◌∷◌, ◌++◌, Bool, true, false, if◌then◌else◌, Option, Some, None, option_map, IfSome, Contains, bytes_eq, find, slice_get, refl, sym, ◌∙◌, ap, arith, append-nil}
+use Rattle.std.proofs.Common.{◌≡◌, ℕ, zero, suc, List, [], ◌∷◌, ◌++◌, Bool, true, false, if◌then◌else◌, Option, Some, None, option_map, IfSome, Contains, bytes_eq, find, map, slice_get, refl, sym, ◌∙◌, ap, subst, arith, append-nil}
 use Rattle.std.specs.Option.{option_or}
 use Rattle.std.specs.List.{AllByRecursion}
 use Rattle.std.proofs.lemmas.List.Elements.{Contains-append_left}
@@ -8,18 +8,24 @@ use Rattle.mar_cert.specs.Block.{Block}
 use Rattle.mar_key.specs.Asked.{Asked}
 use Rattle.mar_store.specs.Kept.{At, value_at}
 use Rattle.mar_store.proofs.Lookups.{AllByRecursion-value_at}
-use Rattle.mar_node.specs.Stored.{values_of}
+use Rattle.mar_store.specs.Sizes.{IsSmall}
+use Rattle.mar_node.specs.Stored.{AreSmall, block_of, values_of}
 use Rattle.mar_node.specs.Chain.{Chain}
 use Rattle.mar_node.specs.Held.{Seen}
 use Rattle.mar_node.specs.Moves.{found_at_hand, of_commitment}
 use Rattle.mar_node.specs.Node.{AreBlocksOf, at_hand}
 use Rattle.mar_node.specs.Promise.{AreOne, node_of}
-use Rattle.mar_node.proofs.AtHand.{bytes_same}
+use Rattle.mar_node.proofs.AtHand.{AllByRecursion-find, bytes_same}
 
 -- what stands at a height stands at its own height
 pub own_height : {T : Type 0} (plain : T → Block) (o : Option T) (held : List (At Block)) (h : ℕ) → option_map plain o ≡ value_at held h → AllByRecursion (λ x. x.value.height ≡ x.height) held → IfSome o (λ b. (plain b).height ≡ h)
 own_height plain None held h is own = tt
 own_height plain (Some b) held h is own = AllByRecursion-value_at (λ x. x.value.height ≡ x.height) held h (plain b) own (sym is)
+
+-- the held blocks, without their heights, are small
+pub are_small : (held : List (At Block)) → AllByRecursion (λ x. IsSmall x.value.encoded) held → AreSmall (map (λ x. x.value) held)
+are_small [] all = tt
+are_small (x ∷ held) all = (all.0, are_small held all.1)
 
 pub same_bytes : (xs ys : List ℕ) → xs ≡ ys → bytes_eq xs ys ≡ true
 same_bytes xs ys e = (bytes_eq-Decides xs ys).1 e
@@ -44,6 +50,22 @@ find-append {T = T} test (x ∷ xs) ys = by (test x) (find-append test xs ys)
 pub values_in_chain : (chain : Chain) (held : List (At Block)) → AreBlocksOf chain held → AllByRecursion (Contains chain.blocks) (values_of held)
 values_in_chain chain [] blocks = tt
 values_in_chain chain (x ∷ held) blocks = (Contains-slice_get chain.blocks x.height x.value blocks.0, values_in_chain chain held blocks.1)
+
+-- what is found at hand is small
+pub found_small : (inner : List ℕ → List ℕ) (buffer : List Block) (held : List (At Block)) (commitment : List ℕ) (b : Block) → AreSmall buffer → AreSmall (map (λ x. x.value) held) → found_at_hand inner buffer held commitment ≡ Some b → IsSmall b.encoded
+found_small inner buffer held commitment b small_buffer small_held found = by (find (λ x. bytes_eq x.commitment commitment) buffer) refl (block_of held (inner commitment)) refl found
+  where
+    inside : (x : Block) → ◌≡◌ {A = Option Block} (Some x) (Some b) → x ≡ b
+    inside x is = cc
+
+    by : (o : Option Block) → find (λ x. bytes_eq x.commitment commitment) buffer ≡ o → (h : Option Block) → block_of held (inner commitment) ≡ h → option_or o (of_commitment commitment h) ≡ Some b → IsSmall b.encoded
+    by (Some x) first h stored is = subst (λ y. IsSmall y.encoded) (inside x is) (AllByRecursion-find (λ y. IsSmall y.encoded) (λ y. bytes_eq y.commitment commitment) buffer x small_buffer first)
+    by None first None stored is = absurd cc
+    by None first (Some x) stored is = of_stored (bytes_eq x.commitment commitment) is
+      where
+        of_stored : (c : Bool) → (if c then Some x else None) ≡ Some b → IsSmall b.encoded
+        of_stored true same = subst (λ y. IsSmall y.encoded) (inside x same) (AllByRecursion-find (λ y. IsSmall y.encoded) (λ y. bytes_eq y.digest (inner commitment)) (values_of held) x small_held stored)
+        of_stored false same = absurd cc
 
 module _ (inner : List ℕ → List ℕ) (all : List Block) (one : AreOne inner all) (commitment : List ℕ) where
   -- no other block has the digest of one that has another commitment

@@ -1,58 +1,217 @@
--- What calls one after another leave: each keeps what was sure, and adds no more than it was to write.
-use Rattle.std.proofs.Common.{◌≡◌, ⊎_elim, ℕ, Some, List, [], ◌∷◌, ◌++◌, Bool, Contains, refl, sym, ◌∙◌, ap, subst, append-nil, ◌<◌, arith}
+-- What calls one after another leave, since some start: what was sure and held, and no more than was written.
+use Rattle.std.proofs.Common.{◌≡◌, ⊎_elim, ℕ, ◌<◌, ◌≤◌, Option, Some, List, [], ◌∷◌, ◌++◌, Bool, true, false, Contains, refl, sym, subst, arith, append-nil}
 use Rattle.std.proofs.lemmas.List.Elements.{Contains-append_cases, Contains-append_left, Contains-append_right}
+use Rattle.mar_types.specs.Round.{Round}
+use Rattle.mar_key.specs.Cutoff.{Cutoff}
+use Rattle.mar_key.specs.Processed.{Processed}
 use Rattle.mar_cert.specs.Block.{Block}
 use Rattle.mar_cert.specs.Finalization.{Finalization}
 use Rattle.mar_store.specs.Kept.{At, Kept, value_at}
 use Rattle.mar_store.specs.Changes.{Fails, IsNested, Left, Puts, Syncs, Within, left_of}
-use Rattle.mar_node.specs.Metadata.{Pair, first_pair}
-use Rattle.mar_node.specs.Held.{Ending, Grew, Held, IsEndedBy, Loses, blocks_left, certs_left}
+use Rattle.mar_store.specs.Watch.{Watch}
+use Rattle.mar_store.proofs.Lookups.{Contains-from_value}
+use Rattle.mar_node.specs.Metadata.{Pair}
+use Rattle.mar_node.specs.Faults.{StoreName, block_store, cert_store, meta_store}
+use Rattle.mar_node.specs.Held.{ArePassed, Grew, Held, LeavesPairsSince, LeavesStore, Passes, WithinWritten, Written, nothing_written, watch_of, written_block, written_both, written_cert, written_pair}
+use Rattle.mar_node.proofs.Passing.{ArePassed-refl, ArePassed-store, ArePassed-then, with_watch}
 
-pub Fails-then : {T : Type 0} (all more : List (At T)) (first mid last : Left (At T)) → Fails first all mid → Within more all → Fails mid more last → Fails first all last
-Fails-then all more first mid last before within after = record {
-  sure = λ h v is. after.sure h v (before.sure h v is);
-  may = λ x has. ⊎_elim (λ at_mid. before.may x at_mid) (λ is_more. Contains-append_right first.may all x (within x is_more)) (Contains-append_cases mid.may more x (after.may x has));
+-- ONE STORE
+
+pub within_all : {T : Type 0} (old more put start : List T) → Within old (start ++ put) → Within more put → Within (old ++ more) (start ++ put)
+within_all old more put start before within x has = ⊎_elim (λ at_old. before x at_old) (λ is_more. Contains-append_right start put x (within x is_more)) (Contains-append_cases old more x has)
+
+pub LeavesStore-refl : {T : Type 0} (kept : Kept (At T)) (bound : ℕ) (put : List (At T)) → IsNested kept → LeavesStore kept bound put (left_of kept)
+LeavesStore-refl kept bound put nested = record {
+  sure = λ h v low is. is;
+  held = λ x low has. nested.held_may x has;
+  may = λ x has. Contains-append_left kept.may put x has;
+  sure_may = λ h v is. nested.held_may _ (Contains-from_value kept.held h v (nested.sure_held h v is));
 }
 
-pub Fails-same : {T : Type 0} (old : Left (At T)) (more : List (At T)) → Fails old more old
-Fails-same old more = record { sure = λ h v is. is; may = λ x has. Contains-append_left old.may more x has }
-
-pub Fails-put : {T : Type 0} (ignored : Bool) (old : Kept (At T)) (x : At T) (new : Kept (At T)) → Puts ignored old x new → Fails (left_of old) (x ∷ []) (left_of new)
-Fails-put ignored old x new puts = record { sure = λ h v is. subst (λ xs. value_at xs h ≡ Some v) (sym puts.sure) is; may = puts.may }
-
-pub Fails-sync : {T : Type 0} (old new : Kept (At T)) → IsNested old → Syncs old new → Fails (left_of old) [] (left_of new)
-Fails-sync old new nested syncs = record {
-  sure = λ h v is. subst (λ xs. value_at xs h ≡ Some v) (sym syncs.sure) (nested.sure_held h v is);
-  may = λ x has. subst (λ xs. Contains xs x) (sym (append-nil old.may)) (syncs.may x has);
+-- a call failed
+pub LeavesStore-failed : {T : Type 0} (start : Kept (At T)) (bound : ℕ) (put more : List (At T)) (old left : Left (At T)) → LeavesStore start bound put old → Within more put → Fails old more left → LeavesStore start bound put left
+LeavesStore-failed start bound put more old left before within fails = record {
+  sure = λ h v low is. subst (λ xs. value_at xs h ≡ Some v) (sym fails.sure) (before.sure h v low is);
+  held = λ x low has. fails.may_kept x (before.held x low has);
+  may = λ x has. within_all old.may more put start.may before.may within x (fails.may x has);
+  sure_may = λ h v is. fails.may_kept _ (before.sure_may h v (subst (λ xs. value_at xs h ≡ Some v) fails.sure is));
 }
 
-pub Grew-blocks : (old : Held) (more : List (At Block)) (blocks : Kept (At Block)) (k : ℕ) → Fails (left_of old.blocks) more (left_of blocks) → k ≡ old.counts.blocks → Grew old more [] (record old { blocks = blocks; counts = record old.counts { blocks = k } })
-Grew-blocks old more blocks k fails same = record { blocks_grew = fails; certs_grew = Fails-same (left_of old.certs) []; pairs_same = refl; counts_same = ap (λ j. record old.counts { blocks = j }) same }
+-- a value was put
+pub LeavesStore-put : {T : Type 0} (start : Kept (At T)) (bound : ℕ) (put : List (At T)) (ignored : Bool) (old : Kept (At T)) (x : At T) (new : Kept (At T)) → LeavesStore start bound put (left_of old) → Within (x ∷ []) put → Puts ignored old x new → LeavesStore start bound put (left_of new)
+LeavesStore-put start bound put ignored old x new before within puts = LeavesStore-failed start bound put (x ∷ []) (left_of old) (left_of new) before within (record { sure = puts.sure; may_kept = puts.may_kept; may = puts.may })
 
-pub Grew-certs : (old : Held) (more : List (At Finalization)) (certs : Kept (At Finalization)) (k : ℕ) → Fails (left_of old.certs) more (left_of certs) → k ≡ old.counts.certs → Grew old [] more (record old { certs = certs; counts = record old.counts { certs = k } })
-Grew-certs old more certs k fails same = record { blocks_grew = Fails-same (left_of old.blocks) []; certs_grew = fails; pairs_same = refl; counts_same = ap (λ j. record old.counts { certs = j }) same }
+-- a sync finished
+pub LeavesStore-synced : {T : Type 0} (start : Kept (At T)) (bound : ℕ) (put : List (At T)) (old new : Kept (At T)) → LeavesStore start bound put (left_of old) → ((x : At T) → bound ≤ x.height → Contains start.held x → Contains old.held x) → IsNested old → IsNested new → Syncs old new → LeavesStore start bound put (left_of new)
+LeavesStore-synced start bound put old new before stays nested nested_new syncs = record {
+  sure = λ h v low is. subst (λ xs. value_at xs h ≡ Some v) (sym syncs.sure) (nested.sure_held h v (before.sure h v low is));
+  held = λ x low has. held x (stays x low has);
+  may = λ x has. before.may x (nested.held_may x (syncs.may x has));
+  sure_may = λ h v is. held _ (Contains-from_value old.held h v (subst (λ xs. value_at xs h ≡ Some v) syncs.sure is));
+}
+  where
+    held : (x : At _) → Contains old.held x → Contains new.may x
+    held x has = nested_new.held_may x (subst (λ xs. Contains xs x) (sym syncs.held) has)
 
-pub Grew-refl : (old : Held) (blocks : List (At Block)) (certs : List (At Finalization)) → Grew old blocks certs old
-Grew-refl old blocks certs = record { blocks_grew = Fails-same (left_of old.blocks) blocks; certs_grew = Fails-same (left_of old.certs) certs; pairs_same = refl; counts_same = refl }
+-- what was held is held as a value is put
+held_put : {T : Type 0} (ignored : Bool) (old : Kept (At T)) (x : At T) (new : Kept (At T)) → Puts ignored old x new → (y : At T) → Contains old.held y → Contains new.held y
+held_put true old x new puts y has = subst (λ xs. Contains xs y) (sym puts.held) has
+held_put false old x new puts y has = subst (λ xs. Contains xs y) (sym puts.held) (Contains-append_left old.held (x ∷ []) y has)
 
-pub Grew-then : (start old new : Held) (all_blocks blocks : List (At Block)) (all_certs certs : List (At Finalization)) → Grew old blocks certs new → Grew start all_blocks all_certs old → Within blocks all_blocks → Within certs all_certs → Grew start all_blocks all_certs new
-Grew-then start old new all_blocks blocks all_certs certs now before in_blocks in_certs = record {
-  blocks_grew = Fails-then all_blocks blocks (left_of start.blocks) (left_of old.blocks) (left_of new.blocks) before.blocks_grew in_blocks now.blocks_grew;
-  certs_grew = Fails-then all_certs certs (left_of start.certs) (left_of old.certs) (left_of new.certs) before.certs_grew in_certs now.certs_grew;
-  pairs_same = now.pairs_same ∙ before.pairs_same;
-  counts_same = now.counts_same ∙ before.counts_same;
+-- What a store has become since a start: what was held is held.
+pub record Grown {T : Type 0} (start : Kept (At T)) (put : List (At T)) (now : Kept (At T)) : Type 0 where
+  pub leaves : LeavesStore start 0 put (left_of now)
+  pub held : (x : At T) → Contains start.held x → Contains now.held x
+
+pub Grown-same : {T : Type 0} (kept now : Kept (At T)) → IsNested kept → now ≡ kept → Grown kept [] now
+Grown-same kept now nested same = subst (Grown kept []) (sym same) (record { leaves = LeavesStore-refl kept 0 [] nested; held = λ x has. has })
+
+-- what is left of what it has become
+pub LeavesStore-then : {T : Type 0} (start : Kept (At T)) (put : List (At T)) (now : Kept (At T)) (left : Left (At T)) → Grown start put now → LeavesStore now 0 [] left → LeavesStore start 0 put left
+LeavesStore-then start put now left grown leaves = record {
+  sure = λ h v low is. leaves.sure h v low (grown.leaves.sure h v low is);
+  held = λ x low has. leaves.held x low (grown.held x has);
+  may = λ x has. grown.leaves.may x (subst (λ xs. Contains xs x) (append-nil now.may) (leaves.may x has));
+  sure_may = leaves.sure_may;
 }
 
--- a call that failed after others that went well
-pub Loses-then : (start old : Held) (all_blocks blocks : List (At Block)) (all_certs certs : List (At Finalization)) (pairs : List Pair) (e : Ending) → Loses old blocks certs pairs e → Grew start all_blocks all_certs old → Within blocks all_blocks → Within certs all_certs → Loses start all_blocks all_certs pairs e
-Loses-then start old all_blocks blocks all_certs certs pairs e now before in_blocks in_certs = record {
-  blocks_kept = Fails-then all_blocks blocks (left_of start.blocks) (left_of old.blocks) (blocks_left e.remains.ended) before.blocks_grew in_blocks now.blocks_kept;
-  certs_kept = Fails-then all_certs certs (left_of start.certs) (left_of old.certs) (certs_left e.remains.ended) before.certs_grew in_certs now.certs_kept;
-  first_pair_kept = subst (λ ps. first_pair e.remains.ended.meta ≡ first_pair ps) before.pairs_same now.first_pair_kept;
-  pairs_within = subst (λ ps. Within e.remains.ended.meta (ps ++ pairs)) before.pairs_same now.pairs_within;
-  no_cache = now.no_cache;
-  cause = subst (λ c. IsEndedBy c e) before.counts_same now.cause;
+-- ALL STORES
+
+pub LeavesPairsSince-refl : (start written : List Pair) → LeavesPairsSince start written start
+LeavesPairsSince-refl start written = record { first = refl; kept = λ p has. has; within = λ p has. Contains-append_left start written p has }
+
+pub Grew-refl : (old : Held) (written : Written) → IsNested old.blocks → IsNested old.certs → Grew old written old
+Grew-refl old written blocks certs = record {
+  leaves = record {
+    blocks = LeavesStore-refl old.blocks written.blocks_from written.blocks blocks;
+    certs = LeavesStore-refl old.certs written.certs_from written.certs certs;
+    pairs = LeavesPairsSince-refl old.pairs written.pairs;
+    no_cache = refl;
+  };
+  blocks = λ x low has. has;
+  certs = λ x low has. has;
+  passed = ArePassed-refl old.watches;
 }
 
-pub Within-none : {T : Type 0} (xs : List T) → Within [] xs
-Within-none xs x has = absurd (let lt : has.0 < 0 = has.1 in omega arith)
+module _ (start : Held) (all : Written) (old : Held) (grew : Grew start all old) where
+  -- calls were counted
+  pub Grew-passed : (new : Held) → new ≡ record old { watches = new.watches } → ArePassed old.watches new.watches → Grew start all new
+  Grew-passed new same passed = subst (Grew start all) (sym same) (record { leaves = grew.leaves; blocks = grew.blocks; certs = grew.certs; passed = ArePassed-then start.watches old.watches new.watches grew.passed passed })
+
+  -- what is in memory alone changed
+  pub Grew-beside : (new : Held) → new.blocks ≡ old.blocks → new.certs ≡ old.certs → new.pairs ≡ old.pairs → ArePassed old.watches new.watches → Grew start all new
+  Grew-beside new blocks certs pairs passed = record {
+    leaves = record {
+      blocks = subst (λ k. LeavesStore start.blocks all.blocks_from all.blocks (left_of k)) (sym blocks) grew.leaves.blocks;
+      certs = subst (λ k. LeavesStore start.certs all.certs_from all.certs (left_of k)) (sym certs) grew.leaves.certs;
+      pairs = subst (LeavesPairsSince start.pairs all.pairs) (sym pairs) grew.leaves.pairs;
+      no_cache = refl;
+    };
+    blocks = λ x low has. subst (λ k. Contains k.held x) (sym blocks) (grew.blocks x low has);
+    certs = λ x low has. subst (λ k. Contains k.held x) (sym certs) (grew.certs x low has);
+    passed = ArePassed-then start.watches old.watches new.watches grew.passed passed;
+  }
+
+  -- what is in memory alone was noted
+  pub Grew-noted : (processed : Option Processed) (witnessed : Round) → Grew start all (record old { processed = processed; witnessed = witnessed })
+  Grew-noted processed witnessed = record { leaves = grew.leaves; blocks = grew.blocks; certs = grew.certs; passed = grew.passed }
+
+  -- a call of one store was counted, or had nothing to do
+  pub Grew-counted : (s : StoreName) (w : Watch) → Passes (watch_of old.watches s) w → Grew start all (record old { watches = with_watch old.watches s w })
+  Grew-counted s w passes = Grew-passed (record old { watches = with_watch old.watches s w }) refl (ArePassed-store old.watches s w passes)
+
+  -- the metadata's values were set in memory
+  pub Grew-set : (processed : Option Processed) (cutoff : Cutoff) (witnessed : Round) (pairs : List Pair) (w : Watch) → pairs ≡ old.pairs → Passes old.watches.meta w → Grew start all (record old { processed = processed; cutoff = cutoff; witnessed = witnessed; pairs = pairs; watches = record old.watches { meta = w } })
+  Grew-set processed cutoff witnessed pairs w same passes = Grew-beside (record old { processed = processed; cutoff = cutoff; witnessed = witnessed; pairs = pairs; watches = record old.watches { meta = w } }) refl refl same (ArePassed-store old.watches meta_store w passes)
+
+  pub Grew-put_block : (ignored : Bool) (x : At Block) (blocks : Kept (At Block)) (w : Watch) → Within (x ∷ []) all.blocks → Puts ignored old.blocks x blocks → Passes old.watches.blocks w → Grew start all (record old { blocks = blocks; watches = record old.watches { blocks = w } })
+  Grew-put_block ignored x blocks w within puts passes = record {
+    leaves = record {
+      blocks = LeavesStore-put start.blocks all.blocks_from all.blocks ignored old.blocks x blocks grew.leaves.blocks within puts;
+      certs = grew.leaves.certs;
+      pairs = grew.leaves.pairs;
+      no_cache = refl;
+    };
+    blocks = λ y low has. held_put ignored old.blocks x blocks puts y (grew.blocks y low has);
+    certs = grew.certs;
+    passed = ArePassed-then start.watches old.watches (record old.watches { blocks = w }) grew.passed (ArePassed-store old.watches block_store w passes);
+  }
+
+  pub Grew-put_cert : (ignored : Bool) (x : At Finalization) (certs : Kept (At Finalization)) (w : Watch) → Within (x ∷ []) all.certs → Puts ignored old.certs x certs → Passes old.watches.certs w → Grew start all (record old { certs = certs; watches = record old.watches { certs = w } })
+  Grew-put_cert ignored x certs w within puts passes = record {
+    leaves = record {
+      blocks = grew.leaves.blocks;
+      certs = LeavesStore-put start.certs all.certs_from all.certs ignored old.certs x certs grew.leaves.certs within puts;
+      pairs = grew.leaves.pairs;
+      no_cache = refl;
+    };
+    blocks = grew.blocks;
+    certs = λ y low has. held_put ignored old.certs x certs puts y (grew.certs y low has);
+    passed = ArePassed-then start.watches old.watches (record old.watches { certs = w }) grew.passed (ArePassed-store old.watches cert_store w passes);
+  }
+
+  pub Grew-sync_blocks : (blocks : Kept (At Block)) (w : Watch) → IsNested old.blocks → IsNested blocks → Syncs old.blocks blocks → Passes old.watches.blocks w → Grew start all (record old { blocks = blocks; watches = record old.watches { blocks = w } })
+  Grew-sync_blocks blocks w nested nested_new syncs passes = record {
+    leaves = record {
+      blocks = LeavesStore-synced start.blocks all.blocks_from all.blocks old.blocks blocks grew.leaves.blocks grew.blocks nested nested_new syncs;
+      certs = grew.leaves.certs;
+      pairs = grew.leaves.pairs;
+      no_cache = refl;
+    };
+    blocks = λ y low has. subst (λ xs. Contains xs y) (sym syncs.held) (grew.blocks y low has);
+    certs = grew.certs;
+    passed = ArePassed-then start.watches old.watches (record old.watches { blocks = w }) grew.passed (ArePassed-store old.watches block_store w passes);
+  }
+
+  pub Grew-sync_certs : (certs : Kept (At Finalization)) (w : Watch) → IsNested old.certs → IsNested certs → Syncs old.certs certs → Passes old.watches.certs w → Grew start all (record old { certs = certs; watches = record old.watches { certs = w } })
+  Grew-sync_certs certs w nested nested_new syncs passes = record {
+    leaves = record {
+      blocks = grew.leaves.blocks;
+      certs = LeavesStore-synced start.certs all.certs_from all.certs old.certs certs grew.leaves.certs grew.certs nested nested_new syncs;
+      pairs = grew.leaves.pairs;
+      no_cache = refl;
+    };
+    blocks = grew.blocks;
+    certs = λ y low has. subst (λ xs. Contains xs y) (sym syncs.held) (grew.certs y low has);
+    passed = ArePassed-then start.watches old.watches (record old.watches { certs = w }) grew.passed (ArePassed-store old.watches cert_store w passes);
+  }
+
+-- since a start that prunes nothing
+pub Grown-blocks : (start now : Held) (written : Written) → written.blocks_from ≡ 0 → Grew start written now → Grown start.blocks written.blocks now.blocks
+Grown-blocks start now written none grew = record { leaves = subst (λ k. LeavesStore start.blocks k written.blocks (left_of now.blocks)) none grew.leaves.blocks; held = λ x has. grew.blocks x (omega (arith, none)) has }
+
+pub Grown-certs : (start now : Held) (written : Written) → written.certs_from ≡ 0 → Grew start written now → Grown start.certs written.certs now.certs
+Grown-certs start now written none grew = record { leaves = subst (λ k. LeavesStore start.certs k written.certs (left_of now.certs)) none grew.leaves.certs; held = λ x has. grew.certs x (omega (arith, none)) has }
+
+-- all that this wrote is written
+pub WithinWritten-refl : (w : Written) → WithinWritten w w
+WithinWritten-refl w = record { blocks = λ x has. has; certs = λ x has. has; pairs = λ x has. has; blocks_from = omega arith; certs_from = omega arith }
+
+pub WithinWritten-nothing : (w : Written) → WithinWritten nothing_written w
+WithinWritten-nothing w = record { blocks = Within-none w.blocks; certs = Within-none w.certs; pairs = Within-none w.pairs; blocks_from = omega arith; certs_from = omega arith }
+  where
+    Within-none : {T : Type 0} (xs : List T) → Within [] xs
+    Within-none xs x has = absurd (let lt : has.0 < 0 = has.1 in omega arith)
+
+pub WithinWritten-block : (x : At Block) (y : At Finalization) (all : Written) → WithinWritten (written_both x y) all → WithinWritten (written_block x) all
+WithinWritten-block x y all within = let none = WithinWritten-nothing all in record { blocks = within.blocks; certs = none.certs; pairs = none.pairs; blocks_from = none.blocks_from; certs_from = none.certs_from }
+
+pub WithinWritten-cert : (x : At Block) (y : At Finalization) (all : Written) → WithinWritten (written_both x y) all → WithinWritten (written_cert y) all
+WithinWritten-cert x y all within = let none = WithinWritten-nothing all in record { blocks = none.blocks; certs = within.certs; pairs = none.pairs; blocks_from = none.blocks_from; certs_from = none.certs_from }
+
+-- the pair joins what is written
+pub WithinWritten-pair : (p : Pair) (all : Written) → WithinWritten (written_pair p) (record all { pairs = p ∷ all.pairs })
+WithinWritten-pair p all = let none = WithinWritten-nothing all in record { blocks = none.blocks; certs = none.certs; pairs = Contains-append_left (p ∷ []) all.pairs; blocks_from = none.blocks_from; certs_from = none.certs_from }
+
+pub Grew-wider : (start : Held) (all : Written) (p : Pair) (now : Held) → Grew start all now → Grew start (record all { pairs = p ∷ all.pairs }) now
+Grew-wider start all p now grew = record {
+  leaves = record {
+    blocks = grew.leaves.blocks;
+    certs = grew.leaves.certs;
+    pairs = record { first = grew.leaves.pairs.first; kept = grew.leaves.pairs.kept; within = λ q has. ⊎_elim (λ before. Contains-append_left start.pairs (p ∷ all.pairs) q before) (λ new. Contains-append_right start.pairs (p ∷ all.pairs) q (Contains-append_right (p ∷ []) all.pairs q new)) (Contains-append_cases start.pairs all.pairs q (grew.leaves.pairs.within q has)) };
+    no_cache = grew.leaves.no_cache;
+  };
+  blocks = grew.blocks;
+  certs = grew.certs;
+  passed = grew.passed;
+}

@@ -1,16 +1,17 @@
 -- Blocks that are handed over one after another: each the next held one, under the next ticket.
-use Rattle.std.proofs.Common.{◌≡◌, ◌⊎◌, inl, inr, ℕ, suc, ◌+◌, ◌<◌, ◌≤◌, List, [], ◌∷◌, ◌++◌, length, map, Option, Some, None, Result, Err, MatchResult, Contains, IsTrue, refl, sym, ◌∙◌, ap, subst, arith, append_assoc, append-nil, length-append}
+use Rattle.std.proofs.Common.{◌≡◌, ◌⊎◌, inl, inr, ℕ, suc, ◌+◌, ◌-◌, ◌<◌, ◌≤◌, ◌^◌, List, [], ◌∷◌, ◌++◌, length, map, Option, Some, None, Result, Err, Ok, MatchResult, IsTrue, refl, sym, ◌∙◌, ap, subst, arith, append_assoc, append-nil, length-append}
 use Rattle.mar_cert.specs.Block.{Block}
 use Rattle.mar_key.specs.Hears.{Hears}
 use Rattle.mar_key.specs.Processed.{first_unprocessed}
 use Rattle.mar_store.specs.Kept.{At, has_height, value_at}
 use Rattle.mar_store.specs.Changes.{IsNested, KeepsValues}
-use Rattle.mar_store.proofs.Lookups.{AllByRecursion-value_at, Contains-from_value, has_height-from_value, value-from_has_height}
+use Rattle.mar_store.proofs.Lookups.{AllByRecursion-value_at, has_height-from_value, value-from_has_height}
 use Rattle.mar_node.specs.Acks.{Outstanding, height_after}
 use Rattle.mar_node.specs.Chain.{Chain, IsBlockAt}
-use Rattle.mar_node.specs.Faults.{Fault, ack_kind, ticket_limit}
-use Rattle.mar_node.specs.Held.{Ending, IsUsual, Loses, Seen, remains_of}
-use Rattle.mar_node.specs.Moves.{AreNextHeld, Dispatches, HasLastBlock, HasRoom, HeldFrom, IsAtLimit, IsLast, IsNext, StopsHanding, handed_report, next_in, with_handed}
+use Rattle.mar_node.specs.Faults.{ack_kind, ticket_limit}
+use Rattle.mar_node.specs.Held.{Ending, Grew, IsArchiveFault, Loses, Seen, Watches, nothing_written}
+use Rattle.mar_node.specs.Moves.{AreNextHeld, Dispatches, HasRoom, HeldFrom, IsLastTicket, IsNext, IsRead, IsStill, StopsHanding, handed_report, next_in, with_handed, with_watches}
+use Rattle.mar_node.proofs.Growing.{Grew-refl}
 use Rattle.mar_node.specs.Node.{AreBlocksOf, ConsecutiveFrom}
 use Rattle.mar_node.specs.Step.{AreHandedOf, HandedBlock, HandedFrom, Report, handed_blocks, handed_over, outstanding_of}
 
@@ -115,9 +116,11 @@ AreHandedOf-held chain held sure ticket height (x ∷ xs) blocks keeps all line 
 
 -- A LOOP THAT HANDS OVER
 
--- a store's fault and want of memory are no last ticket
-pub usual_not_limit : (fault : Fault) → IsUsual fault → fault ≡ ticket_limit ack_kind → ⊥
-usual_not_limit fault usual is = subst IsUsual is usual
+pub IsRead-from : {P E : Type 0} (a b : Seen P E) (watches : Watches) → b ≡ with_watches a watches → IsRead a b
+IsRead-from a b watches is = is ∙ ap (with_watches a) (sym (ap (λ s. s.held.watches) is))
+
+pub IsRead-then : {P E : Type 0} (a b c : Seen P E) → IsRead a b → IsRead b c → IsRead a c
+IsRead-then a b c first second = second ∙ ap (λ s. with_watches s c.held.watches) first
 
 -- What was handed over so far.
 pub record HandsSoFar {P E : Type 0} (start now : Seen P E) (told told' : Option (List Report)) (count : ℕ) : Type 0 where
@@ -125,15 +128,24 @@ pub record HandsSoFar {P E : Type 0} (start now : Seen P E) (told told' : Option
   pub heard : Hears told (map handed_report handed) told'
   pub next : AreNextHeld start handed
   pub room : HasRoom start handed
-  pub same : now ≡ with_handed start handed
+  pub same : IsRead (with_handed start handed) now
+  pub grew : Grew start.held nothing_written now.held
   pub counted : count ≡ length handed
 
 -- How a dispatch ended.
 abbrev pub Ran : {P E : Type 0} → Seen P E → Option (List Report) → Option (List Report) → Result (Seen P E) Ending → Type 0
 Ran start told told' result = (handed : List HandedBlock) × Hears told (map handed_report handed) told' × MatchResult result (λ a. Dispatches start handed a) (λ e. StopsHanding start handed e)
 
-pub HandsSoFar-first : {P E : Type 0} (start : Seen P E) (told : Option (List Report)) → HandsSoFar start start told told 0
-HandsSoFar-first start told = record { handed = []; heard = Hears-nothing told; next = tt; room = λ more. absurd (omega arith); same = sym (with_handed-none start); counted = refl }
+pub HandsSoFar-first : {P E : Type 0} (start : Seen P E) (told : Option (List Report)) → IsNested start.held.blocks → IsNested start.held.certs → HandsSoFar start start told told 0
+HandsSoFar-first start told blocks certs = record {
+  handed = [];
+  heard = Hears-nothing told;
+  next = tt;
+  room = λ more. absurd (omega arith);
+  same = IsRead-from (with_handed start []) start start.held.watches (sym (with_handed-none start));
+  grew = Grew-refl start.held nothing_written blocks certs;
+  counted = refl;
+}
 
 length_out : (xs : List HandedBlock) → length (map outstanding_of xs) ≡ length xs
 length_out [] = refl
@@ -143,50 +155,67 @@ length_with : {P E : Type 0} (a : Seen P E) (xs : List HandedBlock) → length (
 length_with a xs = length-append a.life.out (map outstanding_of xs) ∙ ap (λ k. length a.life.out + k) (length_out xs)
 
 module _ {P E : Type 0} (start now : Seen P E) (told told' : Option (List Report)) (count : ℕ) (so_far : HandsSoFar start now told told' count) where
-  held_same : now.held ≡ start.held
-  held_same = ap (λ a. a.held) so_far.same
+  -- the store was asked for the next block
+  module _ (next : Seen P E) (read : IsRead now next) (grew : Grew start.held nothing_written next.held) where
+    next_same : IsRead (with_handed start so_far.handed) next
+    next_same = IsRead-then (with_handed start so_far.handed) now next so_far.same read
 
-  next_now : next_in now ≡ next_in start + length so_far.handed
-  next_now = ap (λ a. next_in a) so_far.same ∙ next_in-handed start so_far.handed so_far.next
+    -- one more
+    pub HandsSoFar-more : (b : Block) (new : Seen P E) (told'' : Option (List Report)) → IsNext now b → new ≡ with_handed next (record { ticket = next.life.next_ack; block = b } ∷ []) → Hears told' (handed_over next.life.next_ack b ∷ []) told'' → HandsSoFar start new told told'' (count + 1)
+    HandsSoFar-more b new told'' is_next same heard = record {
+      handed = so_far.handed ++ x ∷ [];
+      heard = subst (λ rs. Hears told rs told'') (sym (handed_report-append so_far.handed (x ∷ []))) (Hears-then told told' told'' (map handed_report so_far.handed) (handed_over next.life.next_ack b ∷ []) so_far.heard heard);
+      next = AreNextHeld-then start so_far.handed (x ∷ []) so_far.next (ap (λ s. s.life.next_ack) next_same, of_now is_next.height, held_of_now is_next.held, tt);
+      room = λ more. fits;
+      same = IsRead-from (with_handed start (so_far.handed ++ x ∷ [])) new next.held.watches
+          (same ∙ (ap (λ s. with_handed s (x ∷ [])) next_same ∙ ap (λ s. with_watches s next.held.watches) (with_handed-then start so_far.handed (x ∷ []))));
+      grew = subst (λ s. Grew start.held nothing_written s.held) (sym same) grew;
+      counted = ap (λ k. k + 1) so_far.counted ∙ sym (length-append so_far.handed (x ∷ []));
+    }
+      where
+        x : HandedBlock
+        x = record { ticket = next.life.next_ack; block = b }
 
-  -- one more
-  pub HandsSoFar-more : (b : Block) (new : Seen P E) (told'' : Option (List Report)) → IsNext now b → new ≡ with_handed now (record { ticket = now.life.next_ack; block = b } ∷ []) → Hears told' (handed_over now.life.next_ack b ∷ []) told'' → HandsSoFar start new told told'' (count + 1)
-  HandsSoFar-more b new told'' is_next same heard = record {
-    handed = so_far.handed ++ x ∷ [];
-    heard = subst (λ rs. Hears told rs told'') (sym (handed_report-append so_far.handed (x ∷ []))) (Hears-then told told' told'' (map handed_report so_far.handed) (handed_over now.life.next_ack b ∷ []) so_far.heard heard);
-    next = AreNextHeld-then start so_far.handed (x ∷ []) so_far.next (subst (λ a. AreNextHeld a (x ∷ [])) so_far.same (refl, is_next.height, is_next.held, tt));
-    room = λ more. fits;
-    same = same ∙ (ap (λ a. with_handed a (x ∷ [])) so_far.same ∙ with_handed-then start so_far.handed (x ∷ []));
-    counted = ap (λ k. k + 1) so_far.counted ∙ sym (length-append so_far.handed (x ∷ []));
-  }
-    where
-      x : HandedBlock
-      x = record { ticket = now.life.next_ack; block = b }
+        next_in_now : next_in now ≡ next_in (with_handed start so_far.handed)
+        next_in_now = ap (λ s. next_in s) so_far.same
 
-      fits : length start.life.out + length (so_far.handed ++ x ∷ []) ≤ start.life.sizes.window
-      fits =
-          let out : length now.life.out ≡ length start.life.out + length so_far.handed = ap (λ a. length a.life.out) so_far.same ∙ length_with start so_far.handed in
-          let window : now.life.sizes.window ≡ start.life.sizes.window = ap (λ a. a.life.sizes.window) so_far.same in
-          let both : length (so_far.handed ++ x ∷ []) ≡ length so_far.handed + 1 = length-append so_far.handed (x ∷ []) in
-          let room : length now.life.out < now.life.sizes.window = is_next.room in
-          omega arith
+        of_now : b.height ≡ next_in now → b.height ≡ next_in (with_handed start so_far.handed)
+        of_now is = is ∙ next_in_now
+
+        held_of_now : value_at now.held.blocks.held (next_in now) ≡ Some b → value_at start.held.blocks.held (next_in (with_handed start so_far.handed)) ≡ Some b
+        held_of_now is = subst (λ k. value_at start.held.blocks.held k ≡ Some b) next_in_now (subst (λ s. value_at s.held.blocks.held (next_in now) ≡ Some b) so_far.same is)
+
+        fits : length start.life.out + length (so_far.handed ++ x ∷ []) ≤ start.life.sizes.window
+        fits =
+            let out : length now.life.out ≡ length start.life.out + length so_far.handed = ap (λ a. length a.life.out) so_far.same ∙ length_with start so_far.handed in
+            let window : now.life.sizes.window ≡ start.life.sizes.window = ap (λ a. a.life.sizes.window) so_far.same in
+            let both : length (so_far.handed ++ x ∷ []) ≡ length so_far.handed + 1 = length-append so_far.handed (x ∷ []) in
+            let room : length now.life.out < now.life.sizes.window = is_next.room in
+            omega arith
+
+    -- no more can be handed over
+    pub Ran-still : IsStill now → Ran start told told' (Ok next)
+    Ran-still still = (so_far.handed, so_far.heard, record { next = so_far.next; room = so_far.room; same = next_same; grew = grew; still = subst IsStill (sym read) still })
+
+    -- the rules ended the life, or memory ran out
+    pub Ran-ended : (told'' : Option (List Report)) (e : Ending) → Hears told' [] told'' → Loses start.held nothing_written e → IsArchiveFault e.fault ⊎ ((e.fault ≡ ticket_limit ack_kind) × (next.life.next_ack ≡ 2 ^ 64 - 1)) → Ran start told told'' (Err e)
+    Ran-ended told'' e heard lost kind = (so_far.handed, subst (λ rs. Hears told rs told'') (append-nil (map handed_report so_far.handed)) (Hears-then told told' told'' (map handed_report so_far.handed) [] so_far.heard heard), record { next = so_far.next; room = so_far.room; lost = lost; kind = by kind })
+      where
+        by : IsArchiveFault e.fault ⊎ ((e.fault ≡ ticket_limit ack_kind) × (next.life.next_ack ≡ 2 ^ 64 - 1)) → IsArchiveFault e.fault ⊎ ((e.fault ≡ ticket_limit ack_kind) × IsLastTicket start (length so_far.handed))
+        by (inl usual) = inl usual
+        by (inr (is, last)) = inr (is, sym (ap (λ s. s.life.next_ack) next_same) ∙ last)
 
   -- a call failed
-  pub Ran-failed : (e : Ending) → Loses now.held [] [] [] e → IsUsual e.fault → Ran start told told' (Err e)
-  Ran-failed e lost usual = (so_far.handed, so_far.heard, record { next = so_far.next; room = so_far.room; lost = subst (λ h. Loses h [] [] [] e) held_same lost; kind = inl usual; runs_out = λ is. absurd (usual_not_limit e.fault usual is) })
+  pub Ran-failed : (e : Ending) → Loses start.held nothing_written e → IsArchiveFault e.fault → Ran start told told' (Err e)
+  Ran-failed e lost usual = (so_far.handed, so_far.heard, record { next = so_far.next; room = so_far.room; lost = lost; kind = inl usual })
 
-  pub Ran-ended : (told'' : Option (List Report)) (b : Block) (e : Ending) → IsNested start.held.blocks → IsNext now b → Hears told' [] told'' → Loses now.held [] [] [] e → (e.fault ≡ ticket_limit ack_kind → e.remains ≡ remains_of now.held) → IsUsual e.fault ⊎ ((e.fault ≡ ticket_limit ack_kind) × IsLast now b) → Ran start told told'' (Err e)
-  Ran-ended told'' b e nested is_next heard lost exact kind = (so_far.handed, subst (λ rs. Hears told rs told'') (append-nil (map handed_report so_far.handed)) (Hears-then told told' told'' (map handed_report so_far.handed) [] so_far.heard heard), record { next = so_far.next; room = so_far.room; lost = subst (λ h. Loses h [] [] [] e) held_same lost; kind = by kind; runs_out = λ is low. runs_out is low kind })
+  -- as many were handed over as the window takes
+  pub Ran-all : start.life.sizes.window ≤ count → Ran start told told' (Ok now)
+  Ran-all most = (so_far.handed, so_far.heard, record { next = so_far.next; room = so_far.room; same = so_far.same; grew = so_far.grew; still = inl full })
     where
-      in_may : e.fault ≡ ticket_limit ack_kind → Contains e.remains.ended.blocks_may (record { height = next_in now; value = b })
-      in_may is = subst (λ xs. Contains xs (record { height = next_in now; value = b })) (sym (ap (λ r. r.ended.blocks_may) (exact is))) ((subst (λ h. IsNested h.blocks) (sym held_same) nested).held_may _ (Contains-from_value now.held.blocks.held (next_in now) b is_next.held))
-
-      runs_out : e.fault ≡ ticket_limit ack_kind → start.life.next_ack ≤ next_in start → IsUsual e.fault ⊎ ((e.fault ≡ ticket_limit ack_kind) × IsLast now b) → HasLastBlock e.remains.ended
-      runs_out is low (inl usual) = absurd (usual_not_limit e.fault usual is)
-      runs_out is low (inr (limit, inl ticket)) = (record { height = next_in now; value = b }, in_may is, (let ack : now.life.next_ack ≡ start.life.next_ack + length so_far.handed = ap (λ a. a.life.next_ack) so_far.same in let then : next_in now ≡ next_in start + length so_far.handed = next_now in omega arith))
-      runs_out is low (inr (limit, inr height)) = (record { height = next_in now; value = b }, in_may is, (let at : b.height ≡ next_in now = is_next.height in omega arith))
-
-      by : IsUsual e.fault ⊎ ((e.fault ≡ ticket_limit ack_kind) × IsLast now b) → IsUsual e.fault ⊎ ((e.fault ≡ ticket_limit ack_kind) × IsAtLimit start so_far.handed)
-      by (inl usual) = inl usual
-      by (inr (is, inl ticket)) = inr (is, inl (let ack : now.life.next_ack ≡ start.life.next_ack + length so_far.handed = ap (λ a. a.life.next_ack) so_far.same in omega arith))
-      by (inr (is, inr height)) = inr (is, inr (let at : b.height ≡ next_in now = is_next.height in let then : next_in now ≡ next_in start + length so_far.handed = next_now in omega arith))
+      full : now.life.sizes.window ≤ length now.life.out
+      full =
+          let out : length now.life.out ≡ length start.life.out + length so_far.handed = ap (λ a. length a.life.out) so_far.same ∙ length_with start so_far.handed in
+          let window : now.life.sizes.window ≡ start.life.sizes.window = ap (λ a. a.life.sizes.window) so_far.same in
+          let counted : count ≡ length so_far.handed = so_far.counted in
+          omega (arith, most)

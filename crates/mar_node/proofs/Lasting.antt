@@ -1,178 +1,165 @@
--- What no step changes, and why one ends a life: from call to call.
-use Rattle.std.proofs.Common.{◌≡◌, ◌⊎◌, inl, inr, ℕ, ◌+◌, ◌-◌, ◌^◌, ◌<◌, ◌≤◌, List, [], ◌∷◌, Bool, true, false, if◌then◌else◌, length, Option, Some, Result, Ok, Err, IfErr, IfOk, refl, sym, ◌∙◌, ap, subst, arith}
+-- What a step keeps, and why one ends a life: from call to call.
+use Rattle.std.proofs.Common.{◌≡◌, ◌⊎◌, inl, inr, ℕ, zero, suc, ◌+◌, ◌-◌, ◌^◌, ◌<◌, ◌≤◌, Bool, List, length, Option, Result, Ok, Err, IfErr, IfOk, MatchResult, sym, ◌∙◌, ap, subst, arith}
 use Rattle.mar_types.specs.Epochs.{Epochs}
 use Rattle.mar_types.specs.Round.{Round}
 use Rattle.mar_cert.specs.Block.{Block}
 use Rattle.mar_cert.specs.Finalization.{Finalization}
 use Rattle.mar_key.specs.Cutoff.{Cutoff}
-use Rattle.mar_key.specs.Keys.{Call}
-use Rattle.mar_key.specs.Processed.{Processed, at_block, first_unprocessed}
 use Rattle.mar_store.specs.Kept.{At, Kept}
-use Rattle.mar_store.proofs.Lookups.{AllByRecursion-contains}
-use Rattle.mar_node.specs.Acks.{Mark, Outstanding, after_given, given_front, height_after, is_given, is_unmarked, mark_given, with_mark}
+use Rattle.mar_node.specs.Acks.{mark_given, with_mark}
 use Rattle.mar_node.specs.Metadata.{Pair}
-use Rattle.mar_node.specs.Chain.{IsBlockAt}
-use Rattle.mar_node.specs.Event.{Event, acked_to}
-use Rattle.mar_node.specs.Faults.{ack_kind, dropped_ack, ticket_limit}
-use Rattle.mar_node.specs.Held.{Counts, Ending, GoesOn, Grew, IsEndedBy, IsUsual, Loses, Seen}
-use Rattle.mar_node.specs.Moves.{Drains, EndsDropped, EndsLife, HasLastBlock, LivesOn, RaisesTo, SameLife, StoresAbove, StoresLate, at_height, next_in}
-use Rattle.mar_node.specs.Promise.{IsGoodUntold, KeepsCounting, KeepsPromise, node_of}
-use Rattle.mar_node.specs.Step.{Report}
-use Rattle.mar_node.proofs.Growing.{Grew-refl}
-use Rattle.mar_node.proofs.Handing.{Ran, usual_not_limit}
-use Rattle.mar_node.proofs.Reaching.{in_list, next_is}
-use Rattle.mar_node.proofs.Soundness.{untold}
+use Rattle.mar_node.specs.Faults.{Fault, ack_kind, dropped_ack, ticket_limit}
+use Rattle.mar_node.specs.Held.{ArePassed, Ending, Grew, IsArchiveFault, IsEndedBy, IsUsual, Loses, Seen, Watches, Written, nothing_written}
+use Rattle.mar_node.specs.Moves.{Drains, EndsDropped, EndsLife, HasRoom, IsLastTicket, IsRead, LivesOn, RaisesTo, RunsOut, StoresAbove, StoresLate}
+use Rattle.mar_node.specs.Step.{HandedBlock, Report}
+use Rattle.mar_node.proofs.Cutting.{usual_from_archive}
+use Rattle.mar_node.proofs.Handing.{Ran}
+use Rattle.mar_node.proofs.Passing.{ArePassed-then, FailsBy-then}
 
 -- ENDS
 
-pub EndsLife-other : {P E : Type 0} (a : Seen P E) (blocks : List (At Block)) (certs : List (At Finalization)) (pairs : List Pair) (x : Ending) → Loses a.held blocks certs pairs x → (x.fault ≡ ticket_limit ack_kind → ⊥) → EndsLife a x
-EndsLife-other a blocks certs pairs x lost other = record { cause = lost.cause; runs_out = λ is low. absurd (other is) }
+-- a store's fault and want of memory are no last ticket
+usual_not_limit : (fault : Fault) → IsUsual fault → fault ≡ ticket_limit ack_kind → ⊥
+usual_not_limit fault usual is = subst IsUsual is usual
 
-pub EndsLife-usual : {P E : Type 0} (a : Seen P E) (blocks : List (At Block)) (certs : List (At Finalization)) (pairs : List Pair) (x : Ending) → Loses a.held blocks certs pairs x → IsUsual x.fault → EndsLife a x
-EndsLife-usual a blocks certs pairs x lost usual = EndsLife-other a blocks certs pairs x lost (usual_not_limit x.fault usual)
+pub EndsLife-other : {P E : Type 0} (a : Seen P E) (x : Ending) → IsEndedBy a.held.watches x → (x.fault ≡ ticket_limit ack_kind → ⊥) → EndsLife a x
+EndsLife-other a x cause other = record { cause = cause; tickets = λ is. absurd (other is) }
 
-pub EndsLife-drained : {P E : Type 0} (a m : Seen P E) (x : Ending) → Loses a.held [] [] [] x → IsUsual x.fault ⊎ EndsDropped m x → EndsLife a x
-EndsLife-drained a m x lost (inl usual) = EndsLife-usual a [] [] [] x lost usual
-EndsLife-drained a m x lost (inr dropped) = EndsLife-other a [] [] [] x lost (λ is. let both : dropped_ack dropped.oldest.height ≡ ticket_limit ack_kind = sym dropped.fault ∙ is in cc)
+pub EndsLife-usual : {P E : Type 0} (a : Seen P E) (x : Ending) → IsEndedBy a.held.watches x → IsUsual x.fault → EndsLife a x
+EndsLife-usual a x cause usual = EndsLife-other a x cause (usual_not_limit x.fault usual)
+
+pub EndsLife-drained : {P E : Type 0} (a m : Seen P E) (x : Ending) → IsEndedBy a.held.watches x → IsUsual x.fault ⊎ EndsDropped m x → EndsLife a x
+EndsLife-drained a m x cause (inl usual) = EndsLife-usual a x cause usual
+EndsLife-drained a m x cause (inr dropped) = EndsLife-other a x cause (λ is. let both : dropped_ack dropped.oldest.height ≡ ticket_limit ack_kind = sym dropped.fault ∙ is in cc)
+
+room_within : {P E : Type 0} (a : Seen P E) (handed : List HandedBlock) → HasRoom a handed → length handed ≤ a.life.sizes.window
+room_within a handed room = by (length handed) room
+  where
+    by : (k : ℕ) → (0 < k → length a.life.out + k ≤ a.life.sizes.window) → k ≤ a.life.sizes.window
+    by zero fits = omega arith
+    by (suc k) fits = let low : length a.life.out + suc k ≤ a.life.sizes.window = fits (omega arith) in omega arith
 
 -- a dispatch
 pub LivesOn-ran : {P E : Type 0} (a : Seen P E) (told told' : Option (List Report)) (result : Result (Seen P E) Ending) → Ran a told told' result → LivesOn a result
-LivesOn-ran a told told' (Ok new) (handed, heard, ran) = record { counts = ap (λ s. s.held.counts) ran.same; provider = ap (λ s. s.life.provider) ran.same; epocher = ap (λ s. s.life.epocher) ran.same; sizes = ap (λ s. s.life.sizes) ran.same }
-LivesOn-ran a told told' (Err x) (handed, heard, stops) = record { cause = stops.lost.cause; runs_out = stops.runs_out }
-
--- a call that changes no setting
-abbrev pub SameSettings : {P E : Type 0} → Seen P E → Seen P E → Type 0
-SameSettings old new = (new.life.provider ≡ old.life.provider) × (new.life.epocher ≡ old.life.epocher) × (new.life.sizes ≡ old.life.sizes)
-
-pub LivesOn-goes : {P E : Type 0} (a : Seen P E) (blocks : List (At Block)) (certs : List (At Finalization)) (result : Result (Seen P E) Ending) → IfOk result (λ new. SameSettings a new) → GoesOn (λ s. s.held) a.held blocks certs result → IfErr result (λ x. IsUsual x.fault) → LivesOn a result
-LivesOn-goes a blocks certs (Ok new) same goes usual = record { counts = (goes a.held blocks certs (Grew-refl a.held blocks certs) (λ x has. has) (λ x has. has)).counts_same; provider = same.0; epocher = same.1; sizes = same.2 }
-LivesOn-goes a blocks certs (Err x) same goes usual = EndsLife-usual a blocks certs [] x (goes a.held blocks certs (Grew-refl a.held blocks certs) (λ x has. has) (λ x has. has)) usual
-
-pub LivesOn-same : {P E : Type 0} (a : Seen P E) (result : Result (Seen P E) Ending) → IfOk result (λ new. new ≡ a) → GoesOn (λ s. s.held) a.held [] [] result → IfErr result (λ x. IsUsual x.fault) → LivesOn a result
-LivesOn-same a (Ok new) same goes usual = LivesOn-goes a [] [] (Ok new) (ap (λ s. s.life.provider) same, ap (λ s. s.life.epocher) same, ap (λ s. s.life.sizes) same) goes usual
-LivesOn-same a (Err x) same goes usual = LivesOn-goes a [] [] (Err x) tt goes usual
-
--- a late finalization
-pub LivesOn-late : {P E : Type 0} (inner : List ℕ → List ℕ) (a : Seen P E) (f : Finalization) (b : Block) (result : Result (Seen P E) Ending) → IfOk result (λ new. StoresLate inner a f b new) → GoesOn (λ s. s.held) a.held [] (at_height b.height f ∷ []) result → IfErr result (λ x. IsUsual x.fault) → LivesOn a result
-LivesOn-late inner a f b (Ok new) stores goes usual = LivesOn-goes a [] (at_height b.height f ∷ []) (Ok new) (ap (λ s. s.life.provider) stores.same, ap (λ s. s.life.epocher) stores.same, ap (λ s. s.life.sizes) stores.same) goes usual
-LivesOn-late inner a f b (Err x) stores goes usual = LivesOn-goes a [] (at_height b.height f ∷ []) (Err x) tt goes usual
+LivesOn-ran a told told' (Ok new) (handed, heard, ran) = record {
+  passed = ran.grew.passed;
+  tickets = let given : new.life.next_ack ≡ a.life.next_ack + length handed = ap (λ s. s.life.next_ack) ran.same in let room : length handed ≤ a.life.sizes.window = room_within a handed ran.room in omega arith;
+  provider = ap (λ s. s.life.provider) ran.same;
+  epocher = ap (λ s. s.life.epocher) ran.same;
+  sizes = ap (λ s. s.life.sizes) ran.same;
+}
+LivesOn-ran a told told' (Err x) (handed, heard, stops) = record { cause = stops.lost.cause; tickets = λ is. by is stops.kind }
+  where
+    by : x.fault ≡ ticket_limit ack_kind → IsArchiveFault x.fault ⊎ ((x.fault ≡ ticket_limit ack_kind) × IsLastTicket a (length handed)) → 2 ^ 64 - 1 ≤ a.life.next_ack + a.life.sizes.window
+    by is (inl of_blocks) = absurd (usual_not_limit x.fault (usual_from_archive x.fault of_blocks) is)
+    by is (inr (limit, last)) = let room : length handed ≤ a.life.sizes.window = room_within a handed stops.room in omega (arith, last)
 
 -- PARTS
 
--- What the first calls of a step keep: the settings, the next ticket, and the height of the next block.
+-- What the first calls of a step keep: the settings and the next ticket; no store failed.
 pub record IsPart {P E : Type 0} (old new : Seen P E) : Type 0 where
-  pub same : SameLife old new
+  pub passed : ArePassed old.held.watches new.held.watches
+  pub provider : new.life.provider ≡ old.life.provider
+  pub epocher : new.life.epocher ≡ old.life.epocher
+  pub sizes : new.life.sizes ≡ old.life.sizes
   pub next_ack : new.life.next_ack ≡ old.life.next_ack
-  pub next : next_in new ≡ next_in old
 
 pub IsPart-then : {P E : Type 0} (a m n : Seen P E) → IsPart a m → IsPart m n → IsPart a n
 IsPart-then a m n first second = record {
-  same = record {
-    counts = second.same.counts ∙ first.same.counts;
-    provider = second.same.provider ∙ first.same.provider;
-    epocher = second.same.epocher ∙ first.same.epocher;
-    sizes = second.same.sizes ∙ first.same.sizes;
-  };
+  passed = ArePassed-then a.held.watches m.held.watches n.held.watches first.passed second.passed;
+  provider = second.provider ∙ first.provider;
+  epocher = second.epocher ∙ first.epocher;
+  sizes = second.sizes ∙ first.sizes;
   next_ack = second.next_ack ∙ first.next_ack;
-  next = second.next ∙ first.next;
 }
 
 pub EndsLife-then : {P E : Type 0} (a m : Seen P E) (x : Ending) → IsPart a m → EndsLife m x → EndsLife a x
 EndsLife-then a m x part ends = record {
-  cause = subst (λ c. IsEndedBy c x) part.same.counts ends.cause;
-  runs_out = λ is low. ends.runs_out is (let ack : m.life.next_ack ≡ a.life.next_ack = part.next_ack in let next : next_in m ≡ next_in a = part.next in omega arith);
+  cause = FailsBy-then a.held.watches m.held.watches x.fault x.remains.watches part.passed ends.cause;
+  tickets = λ is. subst (λ k. 2 ^ 64 - 1 ≤ k + a.life.sizes.window) part.next_ack (subst (λ s. 2 ^ 64 - 1 ≤ m.life.next_ack + s.window) part.sizes (ends.tickets is));
 }
 
 pub LivesOn-then : {P E : Type 0} (a m : Seen P E) (result : Result (Seen P E) Ending) → IsPart a m → LivesOn m result → LivesOn a result
 LivesOn-then a m (Ok new) part same = record {
-  counts = same.counts ∙ part.same.counts;
-  provider = same.provider ∙ part.same.provider;
-  epocher = same.epocher ∙ part.same.epocher;
-  sizes = same.sizes ∙ part.same.sizes;
+  passed = ArePassed-then a.held.watches m.held.watches new.held.watches part.passed same.passed;
+  tickets = subst (λ k. new.life.next_ack ≤ k + a.life.sizes.window) part.next_ack (subst (λ s. new.life.next_ack ≤ m.life.next_ack + s.window) part.sizes same.tickets);
+  provider = same.provider ∙ part.provider;
+  epocher = same.epocher ∙ part.epocher;
+  sizes = same.sizes ∙ part.sizes;
 }
 LivesOn-then a m (Err x) part ends = EndsLife-then a m x part ends
 
+-- a part is a step that gives no ticket
+pub LivesOn-part : {P E : Type 0} (a : Seen P E) (new : Seen P E) → IsPart a new → LivesOn a (Ok new)
+LivesOn-part a new part = record { passed = part.passed; tickets = let same : new.life.next_ack ≡ a.life.next_ack = part.next_ack in omega arith; provider = part.provider; epocher = part.epocher; sizes = part.sizes }
+
+-- calls that went well, or of which the last failed
+pub LivesOn-goes : {P E : Type 0} (a : Seen P E) (written : Written) (result : Result (Seen P E) Ending) → IfOk result (λ new. ArePassed a.held.watches new.held.watches → IsPart a new) → MatchResult result (λ new. Grew a.held written new.held) (Loses a.held written) → IfErr result (λ x. IsUsual x.fault) → LivesOn a result
+LivesOn-goes a written (Ok new) part goes usual = LivesOn-part a new (part goes.passed)
+LivesOn-goes a written (Err x) part goes usual = EndsLife-usual a x goes.cause usual
+
 -- an actor with other stores, cutoff, pairs, tip, writes and witnessed round
-abbrev pub moved : {P E : Type 0} → Seen P E → Kept (At Block) → Kept (At Finalization) → Cutoff → List Pair → Counts → ℕ → ℕ → Round → Seen P E
-moved a blocks certs cutoff pairs counts tip covered witnessed = record a {
-  held = record a.held { blocks = blocks; certs = certs; cutoff = cutoff; witnessed = witnessed; pairs = pairs; counts = counts };
+abbrev pub moved : {P E : Type 0} → Seen P E → Kept (At Block) → Kept (At Finalization) → Cutoff → List Pair → Watches → ℕ → ℕ → Round → Seen P E
+moved a blocks certs cutoff pairs watches tip covered witnessed = record a {
+  held = record a.held { blocks = blocks; certs = certs; cutoff = cutoff; witnessed = witnessed; pairs = pairs; watches = watches };
   life = record a.life { tip = tip; covered = covered };
 }
 
-pub IsPart-moved : {P E : Type 0} (a m : Seen P E) (blocks : Kept (At Block)) (certs : Kept (At Finalization)) (cutoff : Cutoff) (pairs : List Pair) (counts : Counts) (tip covered : ℕ) (witnessed : Round) → m ≡ moved a blocks certs cutoff pairs counts tip covered witnessed → m.held.counts ≡ a.held.counts → IsPart a m
-IsPart-moved a m blocks certs cutoff pairs counts tip covered witnessed is same = record {
-  same = record { counts = same; provider = ap (λ s. s.life.provider) is; epocher = ap (λ s. s.life.epocher) is; sizes = ap (λ s. s.life.sizes) is };
-  next_ack = ap (λ s. s.life.next_ack) is;
-  next = ap (λ s. next_in s) is;
-}
+pub IsPart-moved : {P E : Type 0} (a m : Seen P E) (blocks : Kept (At Block)) (certs : Kept (At Finalization)) (cutoff : Cutoff) (pairs : List Pair) (watches : Watches) (tip covered : ℕ) (witnessed : Round) → m ≡ moved a blocks certs cutoff pairs watches tip covered witnessed → ArePassed a.held.watches m.held.watches → IsPart a m
+IsPart-moved a m blocks certs cutoff pairs watches tip covered witnessed is passed = record { passed = passed; provider = ap (λ s. s.life.provider) is; epocher = ap (λ s. s.life.epocher) is; sizes = ap (λ s. s.life.sizes) is; next_ack = ap (λ s. s.life.next_ack) is }
 
-pub IsPart-stored : {P E : Type 0} (inner : List ℕ → List ℕ) (a : Seen P E) (f : Finalization) (b : Block) (m : Seen P E) (blocks : List (At Block)) (certs : List (At Finalization)) → StoresAbove inner a f b m → Grew a.held blocks certs m.held → IsPart a m
-IsPart-stored inner a f b m blocks certs stores grew = IsPart-moved a m _ _ _ _ _ _ _ _ stores.same grew.counts_same
+pub IsPart-read : {P E : Type 0} (a m : Seen P E) → IsRead a m → ArePassed a.held.watches m.held.watches → IsPart a m
+IsPart-read a m is passed = IsPart-moved a m _ _ _ _ _ _ _ _ is passed
 
-pub IsPart-raised : {P E : Type 0} (a m : Seen P E) (cutoffs : List Cutoff) (witnessed : Round) (blocks : List (At Block)) (certs : List (At Finalization)) → RaisesTo a cutoffs witnessed m → Grew a.held blocks certs m.held → IsPart a m
-IsPart-raised a m cutoffs witnessed blocks certs raised grew = IsPart-moved a m _ _ _ _ _ _ _ _ raised.same grew.counts_same
+-- calls that read, of which the last may have failed
+pub LivesOn-read : {P E : Type 0} (a node : Seen P E) (result : Result (Seen P E) Ending) → IsRead a node → IfOk result (λ new. new ≡ node) → MatchResult result (λ new. Grew a.held nothing_written new.held) (Loses a.held nothing_written) → IfErr result (λ x. IsUsual x.fault) → LivesOn a result
+LivesOn-read a node (Ok new) read same goes usual = LivesOn-part a new (IsPart-read a new (subst (IsRead a) (sym same) read) goes.passed)
+LivesOn-read a node (Err x) read same goes usual = EndsLife-usual a x goes.cause usual
 
-pub IsPart-synced : {P E : Type 0} (a m : Seen P E) (pairs : List Pair) → m ≡ record a { held = record a.held { pairs = pairs; counts = m.held.counts } } → m.held.counts ≡ a.held.counts → IsPart a m
-IsPart-synced a m pairs is same = IsPart-moved a m _ _ _ _ _ _ _ _ is same
+pub IsPart-stored : {P E : Type 0} (inner : List ℕ → List ℕ) (a : Seen P E) (f : Finalization) (b : Block) (m : Seen P E) → StoresAbove inner a f b m → ArePassed a.held.watches m.held.watches → IsPart a m
+IsPart-stored inner a f b m stores passed = IsPart-moved a m _ _ _ _ _ _ _ _ stores.same passed
 
--- DRAINING
+pub IsPart-late : {P E : Type 0} (inner : List ℕ → List ℕ) (a : Seen P E) (f : Finalization) (b : Block) (m : Seen P E) → StoresLate inner a f b m → ArePassed a.held.watches m.held.watches → IsPart a m
+IsPart-late inner a f b m stores passed = IsPart-moved a m _ _ _ _ _ _ _ _ stores.same passed
 
--- a mark changes no height
-height_after-with_mark : (start t : ℕ) (mark : Mark) (out : List Outstanding) → height_after start (with_mark t mark out) ≡ height_after start out
-height_after-with_mark start t mark [] = refl
-height_after-with_mark start t mark (a ∷ out) = by (is_unmarked t a) (height_after-with_mark (a.height + 1) t mark out)
-  where
-    height : Outstanding → ℕ
-    height x = x.height
+pub parts_late : {P E : Type 0} (inner : List ℕ → List ℕ) (a : Seen P E) (f : Finalization) (b : Block) (result : Result (Seen P E) Ending) → IfOk result (λ m. StoresLate inner a f b m) → IfOk result (λ m. ArePassed a.held.watches m.held.watches → IsPart a m)
+parts_late inner a f b (Ok m) stores = λ passed. IsPart-late inner a f b m stores passed
+parts_late inner a f b (Err x) stores = tt
 
-    by : (b : Bool) → height_after (a.height + 1) (with_mark t mark out) ≡ height_after (a.height + 1) out → height_after (height (if b then record a { mark = mark } else a) + 1) (with_mark t mark out) ≡ height_after (a.height + 1) out
-    by true others = others
-    by false others = others
+pub IsPart-raised : {P E : Type 0} (a m : Seen P E) (cutoffs : List Cutoff) (witnessed : Round) → RaisesTo a cutoffs witnessed m → ArePassed a.held.watches m.held.watches → IsPart a m
+IsPart-raised a m cutoffs witnessed raised passed = IsPart-moved a m _ _ _ _ _ _ _ _ raised.same passed
 
--- what is drained is processed, so the height of the next block stays
-height_after-drained : (p : Option Processed) (out : List Outstanding) → height_after (first_unprocessed (acked_to p (given_front out))) (after_given out) ≡ height_after (first_unprocessed p) out
-height_after-drained p [] = refl
-height_after-drained p (a ∷ out) = by (is_given a.mark) (height_after-drained (Some (at_block a.height)) out)
-  where
-    by : (b : Bool) → height_after (first_unprocessed (acked_to (Some (at_block a.height)) (given_front out))) (after_given out) ≡ height_after (a.height + 1) out → height_after (first_unprocessed (acked_to p (if b then a ∷ given_front out else []))) (if b then after_given out else a ∷ out) ≡ height_after (a.height + 1) out
-    by true others = others
-    by false others = refl
+pub IsPart-synced : {P E : Type 0} (a m : Seen P E) (pairs : List Pair) → m ≡ record a { held = record a.held { pairs = pairs; watches = m.held.watches } } → ArePassed a.held.watches m.held.watches → IsPart a m
+IsPart-synced a m pairs is passed = IsPart-moved a m _ _ _ _ _ _ _ _ is passed
 
 abbrev pub given_in : {P E : Type 0} → Seen P E → ℕ → Seen P E
 given_in a t = record a { life = record a.life { out = with_mark t mark_given a.life.out } }
 
-pub IsPart-drained : {P E : Type 0} (epochs : Epochs) (a : Seen P E) (t : ℕ) (is_drained : Bool) (d : Seen P E) (blocks : List (At Block)) (certs : List (At Finalization)) → Drains epochs (given_in a t) is_drained d → Grew a.held blocks certs d.held → IsPart a d
-IsPart-drained epochs a t is_drained d blocks certs drains grew = record {
-  same = record { counts = grew.counts_same; provider = ap (λ s. s.life.provider) drains.same; epocher = ap (λ s. s.life.epocher) drains.same; sizes = ap (λ s. s.life.sizes) drains.same };
-  next_ack = ap (λ s. s.life.next_ack) drains.same;
-  next = ap (λ s. next_in s) drains.same ∙ (height_after-drained a.held.processed (with_mark t mark_given a.life.out) ∙ height_after-with_mark (first_unprocessed a.held.processed) t mark_given a.life.out);
-}
+pub IsPart-drained : {P E : Type 0} (epochs : Epochs) (a : Seen P E) (t : ℕ) (is_drained : Bool) (d : Seen P E) → Drains epochs (given_in a t) is_drained d → ArePassed a.held.watches d.held.watches → IsPart a d
+IsPart-drained epochs a t is_drained d drains passed = record { passed = passed; provider = ap (λ s. s.life.provider) drains.same; epocher = ap (λ s. s.life.epocher) drains.same; sizes = ap (λ s. s.life.sizes) drains.same; next_ack = ap (λ s. s.life.next_ack) drains.same }
 
 -- THE STEP
 
-pub counts_kept : {P E : Type 0} (a : Seen P E) (result : Result (Seen P E) Ending) → LivesOn a result → IfOk result (λ new. new.held.counts ≡ a.held.counts)
-counts_kept a (Ok new) same = same.counts
-counts_kept a (Err x) ends = tt
+-- what a step's contract says of a life that goes on
+abbrev pub SameSettings : {P E : Type 0} → Seen P E → Seen P E → Type 0
+SameSettings old new = (new.life.provider ≡ old.life.provider) × (new.life.epocher ≡ old.life.epocher) × (new.life.sizes ≡ old.life.sizes)
+
+pub passed_in : {P E : Type 0} (a : Seen P E) (result : Result (Seen P E) Ending) → LivesOn a result → IfOk result (λ new. ArePassed a.held.watches new.held.watches)
+passed_in a (Ok new) same = same.passed
+passed_in a (Err x) ends = tt
+
+pub tickets_in : {P E : Type 0} (a : Seen P E) (result : Result (Seen P E) Ending) → LivesOn a result → IfOk result (λ new. new.life.next_ack ≤ a.life.next_ack + a.life.sizes.window)
+tickets_in a (Ok new) same = same.tickets
+tickets_in a (Err x) ends = tt
 
 pub settings_kept : {P E : Type 0} (a : Seen P E) (result : Result (Seen P E) Ending) → LivesOn a result → IfOk result (λ new. SameSettings a new)
 settings_kept a (Ok new) same = (same.provider, same.epocher, same.sizes)
 settings_kept a (Err x) ends = tt
 
-pub ended_by : {P E : Type 0} (a : Seen P E) (result : Result (Seen P E) Ending) → LivesOn a result → IfErr result (λ x. IsEndedBy a.held.counts x)
+pub ended_by : {P E : Type 0} (a : Seen P E) (result : Result (Seen P E) Ending) → LivesOn a result → IfErr result (λ x. IsEndedBy a.held.watches x)
 ended_by a (Ok new) same = tt
 ended_by a (Err x) ends = ends.cause
 
--- on a lawful chain no block stands at the last height
-pub KeepsCounting-kept : {P E : Type 0} (epochs : Epochs) (inner : List ℕ → List ℕ) (a : Seen P E) (e : Event) (buffer : List Block) (told told' : Option (List Report)) (heard heard' : Option (List Call)) (result : Result (Seen P E) Ending) → KeepsPromise epochs inner a e buffer told told' heard heard' result → LivesOn a result → KeepsCounting epochs inner a e buffer result
-KeepsCounting-kept epochs inner a e buffer told told' heard heard' (Ok new) promise lives config chain asked set step low = tt
-KeepsCounting-kept epochs inner a e buffer told told' heard heard' (Err x) promise lives config chain asked set step low = λ is. by (lives.runs_out is (subst (λ k. a.life.next_ack ≤ k) (sym (next_is config chain (record a { life = record a.life { tip = before.0 } }) buffer asked before.1)) low))
-  where
-    before : IsGoodUntold config chain (node_of a buffer asked)
-    before = untold config chain (node_of a buffer asked) e step.good
-
-    by : HasLastBlock x.remains.ended → ⊥
-    by (last, may, high) =
-        let at : IsBlockAt chain last.height last.value = AllByRecursion-contains (λ y. IsBlockAt chain y.height y.value) x.remains.ended.blocks_may last ((promise config chain asked set step).2.cut.leaves.good.may_blocks) may in
-        let below : last.height < length chain.blocks = in_list chain.blocks last.height last.value at in
-        let bound : length chain.blocks < 2 ^ 64 - 1 = step.lawful.bounded in
-        omega arith
+pub runs_out : {P E : Type 0} (a : Seen P E) (result : Result (Seen P E) Ending) → LivesOn a result → IfErr result (λ x. RunsOut a x)
+runs_out a (Ok new) same = tt
+runs_out a (Err x) ends = ends.tickets

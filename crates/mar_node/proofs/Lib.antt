@@ -7,6 +7,7 @@ pub mod AtHand
 pub mod HonestAsks
 pub mod SyncTickets
 pub mod StoreLosses
+pub mod Passing
 pub mod Growing
 pub mod Storing
 pub mod Handing
@@ -28,6 +29,7 @@ pub mod Reopenings
 pub mod OpeningEvent
 pub mod OpeningJudged
 pub mod Newest
+pub mod Keys
 pub mod Pairs
 pub mod GoodOpenings
 pub mod Permitted

@@ -1,5 +1,5 @@
 -- An opening: a node that begins, or a cut before its start.
-use Rattle.std.proofs.Common.{◌≡◌, ◌⊎◌, inl, inr, ⊎_elim, ℕ, zero, suc, ◌+◌, ◌<◌, ◌==◌, ◌||◌, List, [], ◌∷◌, ◌++◌, if◌then◌else◌, nat_lt, Bool, true, false, Option, Some, None, is_some, option_map, find, bytes_eq, IsTrue, Contains, refl, sym, ◌∙◌, ap, ap₂, subst, arith, eqb-true}
+use Rattle.std.proofs.Common.{◌≡◌, ◌⊎◌, inl, inr, ⊎_elim, ℕ, zero, ◌+◌, ◌<◌, ◌==◌, ◌||◌, List, [], ◌∷◌, ◌++◌, if◌then◌else◌, nat_lt, Bool, true, false, Option, Some, None, IfSome, is_some, option_map, IsTrue, Contains, refl, sym, ◌∙◌, ap, ap₂, subst, arith, append-nil, eqb-true}
 use Rattle.std.specs.Option.{option_or}
 use Rattle.std.proofs.lemmas.Bool.{eqb-false}
 use Rattle.std.proofs.lemmas.List.Elements.{Contains-append_cases}
@@ -11,24 +11,22 @@ use Rattle.mar_key.specs.Cutoff.{Cutoff}
 use Rattle.mar_key.specs.Processed.{Processed, at_block, height_in}
 use Rattle.mar_store.specs.Kept.{At, Kept, Reopens, has_height, reopened_store, value_at}
 use Rattle.mar_store.specs.Changes.{KeepsValues}
-use Rattle.mar_store.proofs.Lookups.{AllByRecursion-append, AllByRecursion-contains, AllByRecursion-from_contains, AllByRecursion-within, EachHeightOnce-push, has_height-from_contains, missing-from_has_height, value_at-append, value_at-from_contains, value_at-one_other}
-use Rattle.mar_node.specs.Stored.{at_own_height, is_held, values_of}
+use Rattle.mar_store.proofs.Lookups.{AllByRecursion-append, AllByRecursion-contains, AllByRecursion-from_contains, AllByRecursion-within, EachHeightOnce-push, missing-from_has_height, value_at-append, value_at-from_contains, value_at-one_other}
+use Rattle.mar_node.specs.Stored.{at_own_height, block_of, is_held}
 use Rattle.mar_node.specs.Metadata.{Pair, pair_of}
 use Rattle.mar_node.specs.Chain.{Chain, Finalizes, IsBlockAt}
 use Rattle.mar_node.specs.Config.{Config}
 use Rattle.mar_node.specs.Faults.{Begin, Fault, anchor_fault, from_genesis, genesis_fault, genesis_height, is_by_value, next_after, opening_fault, stored_mismatch, successor_fault, unbacked, with_genesis}
-use Rattle.mar_node.specs.Held.{Ending, Grew, Held, IsEndedBy, IsUsual, Loses, LosesOpening, Remains, Remembered, ReopensAs, Sizes, first_life}
+use Rattle.mar_node.specs.Held.{Ending, Grew, Held, IsEndedBy, IsUsual, Loses, LosesOpening, Remains, Remembered, ReopensAs, Sizes, Written, first_life, nothing_written, picks_of, written_block}
 use Rattle.mar_node.specs.Lives.{BackedBy, CutsReopening, Finds, IsGoodEnded, IsSettled, OpeningPair, SameAt, opened_cutoff, opened_node, opened_witnessed, processed_at}
-use Rattle.mar_node.specs.Moves.{newest, newest_tip}
+use Rattle.mar_node.specs.Moves.{StoresValue, newest, newest_tip}
 use Rattle.mar_node.specs.Node.{AreBlocksOf, AreCachedOf, BlocksAgree, Ended, FloorSafe, IsGood, IsGoodInHeights, Node}
-use Rattle.mar_node.specs.Opening.{BeginsWith, Derives, Enters, IsBeginFault, LosesDeriving, derived_cutoff, derived_pair, is_begun, next_fault, pair_in}
-use Rattle.mar_node.specs.Promise.{Begins, IsAlone, IsLawfulOpening, IsOpeningFault, node_of}
+use Rattle.mar_node.specs.Opening.{BeginsWith, Derives, Enters, IsBeginFault, derived_cutoff, derived_pair, is_begun, next_fault, pair_in}
+use Rattle.mar_node.specs.Promise.{Begins, IsLawfulOpening, IsOpeningFault, node_of}
 use Rattle.mar_node.specs.Sound.{IsSafePair, IsSound}
-use Rattle.mar_node.proofs.AtHand.{bytes_same}
 use Rattle.mar_node.proofs.Cutting.{keeps_heights, never, only_one, usual_not_by_value}
-use Rattle.mar_node.proofs.FoundBlocks.{Contains-slice_get}
-use Rattle.mar_node.proofs.Growing.{Loses-then, Within-none}
 use Rattle.mar_node.proofs.Openings.{IsGoodInHeights-opened, IsSound-opened, processed_at-height}
+use Rattle.mar_node.proofs.Passing.{FailsBy-then}
 use Rattle.mar_node.proofs.Reopenings.{LosesOpening-then}
 use Rattle.mar_node.proofs.Soundness.{IsFrom, IsGood-from_parts, IsSafePair-kept, IsSound-moved}
 use Rattle.mar_node.proofs.Tips.{newest_tip-high}
@@ -60,16 +58,7 @@ at_block-height : (p : Option ℕ) → option_map height_in (option_map at_block
 at_block-height None = refl
 at_block-height (Some h) = refl
 
--- the first block of a digest that no held block has
-none_named : (digest : List ℕ) (xs : List (At Block)) → ((x : At Block) → Contains xs x → x.value.digest ≡ digest → ⊥) → find (λ b. bytes_eq b.digest digest) (values_of xs) ≡ None
-none_named digest [] other = refl
-none_named digest (x ∷ xs) other = by (bytes_eq x.value.digest digest) refl (none_named digest xs (λ y has. other y (suc has.0, omega arith, has.2)))
-  where
-    by : (b : Bool) → bytes_eq x.value.digest digest ≡ b → find (λ c. bytes_eq c.digest digest) (values_of xs) ≡ None → (if b then Some x.value else find (λ c. bytes_eq c.digest digest) (values_of xs)) ≡ None
-    by true is rest = absurd (other x (zero, omega arith, refl) (bytes_same x.value.digest digest is))
-    by false is rest = rest
-
-module _ (old : Remains) (first : Held) (reopens : ReopensAs old first) where
+module _ (old : Remains) (luck : ℕ) (first : Held) (reopens : ReopensAs old luck first) where
   found_pair : pair_in first ≡ reopens.pair
   found_pair = ap (λ p. pair_of p first.cutoff) reopens.processed ∙ (ap (λ c. pair_of (option_map at_block reopens.pair.processed) c) reopens.cutoff ∙ ap (λ p. record { processed = p; cutoff = reopens.pair.cutoff }) (at_block-height reopens.pair.processed))
 
@@ -112,84 +101,100 @@ module _ (old : Remains) (first : Held) (reopens : ReopensAs old first) where
         by true is judged = eqb-true g.height 0 is
         by false is judged = absurd cc
 
-    alone_found : IsAlone old.ended begin → (x : At Block) → Contains first.blocks.held x → x.value.digest ≡ g.digest → x.height ≡ g.height
-    alone_found alone x has same = alone x (blocks_may.within_may x.height x.value (value_at-from_contains first.blocks.held x blocks_may.once has)) same
-
     -- ENTERING BLOCK 0
 
-    module _ (blocks : Kept (At Block)) (zero_is : g.height ≡ 0) (alone : IsAlone old.ended begin) where
-      unheld : has_height first.blocks.held 0 ≡ false → is_held first.blocks.held g ≡ false
-      unheld lacks = ap₂ (λ a o. a || is_some o) (ap (has_height first.blocks.held) zero_is ∙ lacks) (none_named g.digest first.blocks.held apart)
+    -- a block under the genesis's digest is held
+    abbrev named : Bool
+    named = is_some (block_of first.blocks.held g.digest)
+
+    abbrev pushed : List (At Block)
+    pushed = first.blocks.held ++ record { height = 0; value = g } ∷ []
+
+    same_pushed : has_height first.blocks.held 0 ≡ false → (h : ℕ) → value_at pushed h ≡ (if 0 == h then Some g else value_at first.blocks.held h)
+    same_pushed lacks h = by (0 == h) refl
+      where
+        none : value_at first.blocks.held 0 ≡ None
+        none = missing-from_has_height first.blocks.held 0 lacks
+
+        or_none : (o : Option Block) → option_or o None ≡ o
+        or_none None = refl
+        or_none (Some b) = refl
+
+        by : (b : Bool) → (0 == h) ≡ b → value_at pushed h ≡ (if b then Some g else value_at first.blocks.held h)
+        by true is = subst (λ k. value_at pushed k ≡ Some g) (eqb-true 0 h is) (value_at-append first.blocks.held _ 0 ∙ ap (λ o. option_or o (Some g)) none)
+        by false is = value_at-append first.blocks.held _ h ∙ (ap (λ o. option_or (value_at first.blocks.held h) o) (value_at-one_other 0 h g (eqb-false 0 h is)) ∙ or_none (value_at first.blocks.held h))
+
+    module _ (blocks : Kept (At Block)) (zero_is : g.height ≡ 0) where
+      -- block 0 was put, or is held under another height
+      entered_by : has_height first.blocks.held 0 ≡ false → (b : Bool) → named ≡ b → StoresValue (is_held first.blocks.held g) first.blocks (at_own_height g) blocks → SameAt blocks.held (if b then first.blocks.held else record { height = 0; value = g } ∷ first.blocks.held)
+      entered_by lacks true is stores = subst (λ xs. SameAt xs first.blocks.held) (sym (stores.held ∙ ap (λ b. if b then first.blocks.held else first.blocks.held ++ at_own_height g ∷ []) (held_is ∙ is))) (blocks_may.once, λ h. refl)
         where
-          apart : (x : At Block) → Contains first.blocks.held x → x.value.digest ≡ g.digest → ⊥
-          apart x has same = let there : has_height first.blocks.held 0 ≡ true = subst (λ h. IsTrue (has_height first.blocks.held h)) (alone_found alone x has same ∙ zero_is) (has_height-from_contains first.blocks.held x has) in let both : true ≡ false = sym there ∙ lacks in cc
-
-      abbrev pushed : List (At Block)
-      pushed = first.blocks.held ++ record { height = 0; value = g } ∷ []
-
-      same_pushed : has_height first.blocks.held 0 ≡ false → (h : ℕ) → value_at pushed h ≡ (if 0 == h then Some g else value_at first.blocks.held h)
-      same_pushed lacks h = by (0 == h) refl
+          held_is : is_held first.blocks.held g ≡ named
+          held_is = ap (λ b. b || named) (ap (has_height first.blocks.held) zero_is ∙ lacks)
+      entered_by lacks false is stores = subst (λ xs. SameAt xs (record { height = 0; value = g } ∷ first.blocks.held)) (sym held) (EachHeightOnce-push first.blocks.held 0 g blocks_may.once (missing-from_has_height first.blocks.held 0 lacks), same_pushed lacks)
         where
-          none : value_at first.blocks.held 0 ≡ None
-          none = missing-from_has_height first.blocks.held 0 lacks
-
-          or_none : (o : Option Block) → option_or o None ≡ o
-          or_none None = refl
-          or_none (Some b) = refl
-
-          by : (b : Bool) → (0 == h) ≡ b → value_at pushed h ≡ (if b then Some g else value_at first.blocks.held h)
-          by true is = subst (λ k. value_at pushed k ≡ Some g) (eqb-true 0 h is) (value_at-append first.blocks.held _ 0 ∙ ap (λ o. option_or o (Some g)) none)
-          by false is = value_at-append first.blocks.held _ h ∙ (ap (λ o. option_or (value_at first.blocks.held h) o) (value_at-one_other 0 h g (eqb-false 0 h is)) ∙ or_none (value_at first.blocks.held h))
-
-      Enters-as : (b : Bool) → is_begun processed first.blocks.held ≡ b → Enters b g first.blocks blocks → SameAt blocks.held (if b then first.blocks.held else record { height = 0; value = g } ∷ first.blocks.held) × IsSettled blocks
-      Enters-as true begun same = (
-        subst (λ k. SameAt k.held first.blocks.held) (sym same) (blocks_may.once, λ h. refl),
-        subst IsSettled (sym (same ∙ first_blocks)) (record { sure = refl; may = λ x has. has }),
-      )
-      Enters-as false unbegun stores = (
-        subst (λ xs. SameAt xs (record { height = 0; value = g } ∷ first.blocks.held)) (sym held) (EachHeightOnce-push first.blocks.held 0 g blocks_may.once (missing-from_has_height first.blocks.held 0 lacks), same_pushed lacks),
-        record { sure = stores.sure; may = λ x has. subst (λ xs. Contains xs x) (sym held) (may x (stores.may x has)) },
-      )
-        where
-          lacks : has_height first.blocks.held 0 ≡ false
-          lacks = left_off (has_height first.blocks.held 0) (nat_lt 1 (next_after processed)) unbegun
-            where
-              left_off : (a b : Bool) → (a || b) ≡ false → a ≡ false
-              left_off true b is = cc
-              left_off false b is = refl
-
           own : at_own_height g ≡ record { height = 0; value = g }
           own = ap (λ h. record { height = h; value = g }) zero_is
 
+          held_is : is_held first.blocks.held g ≡ named
+          held_is = ap (λ b. b || named) (ap (has_height first.blocks.held) zero_is ∙ lacks)
+
           held : blocks.held ≡ pushed
-          held = stores.held ∙ (ap (λ b. if b then first.blocks.held else first.blocks.held ++ at_own_height g ∷ []) (unheld lacks) ∙ ap (λ x. first.blocks.held ++ x ∷ []) own)
+          held = stores.held ∙ (ap (λ b. if b then first.blocks.held else first.blocks.held ++ at_own_height g ∷ []) (held_is ∙ is) ∙ ap (λ x. first.blocks.held ++ x ∷ []) own)
 
-          may : (x : At Block) → Contains (first.blocks.may ++ at_own_height g ∷ []) x → Contains pushed x
-          may x has = subst (λ y. Contains (first.blocks.held ++ y ∷ []) x) own (subst (λ xs. Contains (xs ++ at_own_height g ∷ []) x) (ap (λ k. k.may) first_blocks) has)
+      left_off : (a b : Bool) → (a || b) ≡ false → (a ≡ false) × (b ≡ false)
+      left_off true b is = cc
+      left_off false b is = (refl, is)
 
-      pub Enters-entered : Enters (is_begun processed first.blocks.held) g first.blocks blocks → SameAt blocks.held entered_list × IsSettled blocks
+      begun_still : (a b c : Bool) → (a || c) ≡ true → ((a || b) || c) ≡ true
+      begun_still true b c is = refl
+      begun_still false true c is = refl
+      begun_still false false c is = is
+
+      Enters-as : (b : Bool) → is_begun processed first.blocks.held ≡ b → Enters b g first.blocks blocks → SameAt blocks.held entered_list
+      Enters-as true begun same = subst (λ xs. SameAt blocks.held xs) (sym (ap (λ b. if b then first.blocks.held else record { height = 0; value = g } ∷ first.blocks.held) (begun_still (has_height first.blocks.held 0) named (nat_lt 1 (next_after processed)) begun)))
+          (subst (λ k. SameAt k.held first.blocks.held) (sym same) (blocks_may.once, λ h. refl))
+      Enters-as false unbegun stores = subst (λ xs. SameAt blocks.held xs) (sym (ap₂ (λ a c. if (a || named) || c then first.blocks.held else record { height = 0; value = g } ∷ first.blocks.held) both.0 both.1 ∙ ap (λ b. if b then first.blocks.held else record { height = 0; value = g } ∷ first.blocks.held) or_off)) (entered_by both.0 named refl stores)
+        where
+          both : (has_height first.blocks.held 0 ≡ false) × (nat_lt 1 (next_after processed) ≡ false)
+          both = left_off (has_height first.blocks.held 0) (nat_lt 1 (next_after processed)) unbegun
+
+          or_off : (named || false) ≡ named
+          or_off = by named
+            where
+              by : (b : Bool) → (b || false) ≡ b
+              by true = refl
+              by false = refl
+
+      Enters-entered : Enters (is_begun processed first.blocks.held) g first.blocks blocks → SameAt blocks.held entered_list
       Enters-entered enters = Enters-as (is_begun processed first.blocks.held) refl enters
+
+      -- all that is held is sure, and a crash leaves just that
+      settled_by : (b : Bool) → Enters b g first.blocks blocks → (same : SameAt blocks.held entered_list) → ((h : ℕ) (v : Block) → value_at blocks.sure h ≡ Some v → Contains blocks.may (record { height = h; value = v })) → IsSettled blocks
+      settled_by true same at sure_may = subst IsSettled (sym (same ∙ first_blocks)) (record { sure = refl; may = λ x has. has; held_may = λ x has. has })
+      settled_by false stores at sure_may = record {
+        sure = stores.sure;
+        may = stores.may;
+        held_may = λ x has. sure_may x.height x.value (subst (λ xs. value_at xs x.height ≡ Some x.value) (sym stores.sure) (value_at-from_contains blocks.held x at.0 has));
+      }
 
     -- FAULTS
 
-    IsOpeningFault-begin : (fault : Fault) → IsAlone old.ended begin → IsBeginFault g first fault → IsOpeningFault old.ended begin fault
-    IsOpeningFault-begin fault alone (inl limit) = found_fault begin fault (first_fault _ _ fault limit)
-    IsOpeningFault-begin fault alone (inr (inl (limit, genesis))) = found_fault begin fault (later_fault _ _ limit ∙ first_fault _ _ fault genesis)
-    IsOpeningFault-begin fault alone (inr (inr is)) =
-        let same = (Enters-entered is.blocks (zero_height is.genesis) alone is.enters).0 in
+    IsOpeningFault-begin : (fault : Fault) → IsBeginFault g first fault → IsOpeningFault old.ended begin fault
+    IsOpeningFault-begin fault (inl limit) = found_fault begin fault (first_fault _ _ fault limit)
+    IsOpeningFault-begin fault (inr (inl (limit, genesis))) = found_fault begin fault (later_fault _ _ limit ∙ first_fault _ _ fault genesis)
+    IsOpeningFault-begin fault (inr (inr is)) =
+        let same = Enters-entered is.blocks (zero_height is.genesis) is.enters in
         found_fault begin fault (later_fault _ _ is.within_limits ∙ (later_fault _ _ is.genesis ∙ first_fault _ _ fault (sym (anchor_same is.blocks.held entered_list same.1 processed) ∙ is.is)))
 
     -- A NODE THAT BEGINS
 
-    module _ (s : Held) (begins : BeginsWith g first s) (alone : IsAlone old.ended begin) where
+    module _ (s : Held) (begins : BeginsWith g first s) where
       zero_is : g.height ≡ 0
       zero_is = zero_height begins.genesis
 
       entered : SameAt s.blocks.held entered_list
-      entered = (Enters-entered s.blocks zero_is alone begins.enters).0
-
-      settled : IsSettled s.blocks
-      settled = (Enters-entered s.blocks zero_is alone begins.enters).1
+      entered = Enters-entered s.blocks zero_is begins.enters
 
       pair_same : pair_in s ≡ pair_in first
       pair_same = ap pair_in begins.same ∙ ap (λ p. record { processed = p; cutoff = first.cutoff }) (processed_at-height s.blocks.held processed)
@@ -206,14 +211,17 @@ module _ (old : Remains) (first : Held) (reopens : ReopensAs old first) where
       pub IsOpeningFault-next : (fault : Fault) → next_fault s ≡ Some fault → IsOpeningFault old.ended begin fault
       IsOpeningFault-next fault is = found_fault begin fault (judged ∙ (sym judged_next ∙ is))
 
-      module _ (config : Config) (none : next_fault s ≡ None) where
+      module _ (config : Config) (grew : Grew first (written_block (at_own_height g)) s) (none : next_fault s ≡ None) where
+        settled : IsSettled s.blocks
+        settled = settled_by s.blocks zero_is (is_begun processed first.blocks.held) begins.enters entered grew.leaves.blocks.sure_may
+
         abbrev opened : Node
         opened = opened_node config s.blocks first.certs.held [] 0 [] (pair_in first)
 
         no_entry : {T X : Type 0} (xs : List X) (x : X) → xs ≡ [] → Contains xs x → T
         no_entry xs x is has = absurd (let empty = subst (λ ys. Contains ys x) is has in let lt : empty.0 < 0 = empty.1 in omega arith)
 
-        Finds-opened : Finds config old.ended begin opened
+        Finds-opened : Finds config old.ended (picks_of old luck) begin opened
         Finds-opened = record {
           pair = pair_in first;
           pair_may = pair_may;
@@ -221,6 +229,7 @@ module _ (old : Remains) (first : Held) (reopens : ReopensAs old first) where
           found_may = blocks_may;
           certs = first.certs.held;
           certs_may = certs_may;
+          picked = record { blocks_are = reopens.picked.blocks_are; certs_are = reopens.picked.certs_are; pair_is = subst (λ p. IfSome (picks_of old luck).pair (λ picked. Some p ≡ picked)) (sym found_pair) reopens.picked.pair_is };
           cache = [];
           cache_may = record { with_sure = λ x has. no_entry old.ended.cache_sure x (ap (λ l. l.cache_sure) reopens.no_cache) has; within_may = λ x has. no_entry [] x refl has; once = tt };
           lowest = 0;
@@ -243,7 +252,7 @@ module _ (old : Remains) (first : Held) (reopens : ReopensAs old first) where
         derived_is : derived_pair config.epochs s ≡ pair_of opened.processed opened.cutoff
         derived_is = ap₂ pair_of processed_is cutoff_is
 
-        OpeningPair-derived : OpeningPair config old.ended begin (derived_pair config.epochs s)
+        OpeningPair-derived : OpeningPair config old.ended (picks_of old luck) begin (derived_pair config.epochs s)
         OpeningPair-derived = (opened, Finds-opened, derived_is)
 
         module _ {P E : Type 0} (provider : P) (epocher : E) (sizes : Sizes) (new : Held) (derives : Derives config.epochs s new) (capacity : config.capacity ≡ sizes.capacity) where
@@ -275,12 +284,12 @@ module _ (old : Remains) (first : Held) (reopens : ReopensAs old first) where
               ∙ same_values s.processed _ (derived_cutoff config.epochs s) _ (derived_pair config.epochs s ∷ []) _ (opened_witnessed s.blocks.held s.certs.held (pair_in s)) _ s.certs _ sizes.capacity _
               processed_is cutoff_is (ap (λ p. p ∷ []) derived_is) witnessed_is (certs_same ∙ first_certs) (sym capacity)
 
-          pub Finds-begun : Finds config old.ended begin (node_of (record { held = new; life = life }) [] [])
-          Finds-begun = subst (Finds config old.ended begin) (sym begins_is) Finds-opened
+          pub Finds-begun : Finds config old.ended (picks_of old luck) begin (node_of (record { held = new; life = life }) [] [])
+          Finds-begun = subst (Finds config old.ended (picks_of old luck) begin) (sym begins_is) Finds-opened
 
         module _ (chain : Chain) (asks : IsLawfulOpening config chain old.ended begin) where
           sound : IsSound chain opened
-          sound = IsSound-opened config chain asks.lawful asks.partition old.ended begin opened Finds-opened asks.good asks_genesis
+          sound = IsSound-opened config chain asks.lawful asks.partition old.ended (picks_of old luck) begin opened Finds-opened asks.good asks_genesis
             where
               inside : (b : Block) → begin ≡ from_genesis b → g ≡ b
               inside b is = cc
@@ -289,7 +298,7 @@ module _ (old : Remains) (first : Held) (reopens : ReopensAs old first) where
               asks_genesis b is = asks.genesis b is
 
           heights : IsGoodInHeights config opened
-          heights = IsGoodInHeights-opened config chain asks.lawful asks.partition old.ended begin opened Finds-opened asks.good
+          heights = IsGoodInHeights-opened config chain asks.lawful asks.partition old.ended (picks_of old luck) begin opened Finds-opened asks.good
 
           pub IsSafePair-derived : IsSafePair chain s.blocks.sure (derived_pair config.epochs s)
           IsSafePair-derived = subst (IsSafePair chain s.blocks.sure) (sym derived_is) (sound.pairs).0
@@ -300,6 +309,8 @@ module _ (old : Remains) (first : Held) (reopens : ReopensAs old first) where
           good : IsGood config chain (record opened { tip = tip })
           good = IsGood-from_parts config chain (record opened { tip = tip }) (IsSound-moved chain opened (record opened { tip = tip }) sound) (record { asks = tt; ready = tt; overflow = tt }) (record {
             heights = record {
+              nested_blocks = heights.nested_blocks;
+              nested_certs = heights.nested_certs;
               sure_blocks = heights.sure_blocks;
               sure_certs = heights.sure_certs;
               consecutive = heights.consecutive;
@@ -314,8 +325,8 @@ module _ (old : Remains) (first : Held) (reopens : ReopensAs old first) where
             tip_reported = newest_tip-high 0 first.certs.held;
           })
 
-          pub Begins-opened : {P E : Type 0} (provider : P) (epocher : E) (sizes : Sizes) (new : Held) → Derives config.epochs s new → config.capacity ≡ sizes.capacity → Begins config chain old.ended begin (node_of (record { held = new; life = first_life provider epocher sizes }) [] [])
-          Begins-opened provider epocher sizes new derives capacity = subst (Begins config chain old.ended begin) (sym (begins_is provider epocher sizes new derives capacity)) (record { finds = Finds-opened; good = (tip, good) })
+          pub Begins-opened : {P E : Type 0} (provider : P) (epocher : E) (sizes : Sizes) (new : Held) → Derives config.epochs s new → config.capacity ≡ sizes.capacity → Begins config chain old.ended (picks_of old luck) begin (node_of (record { held = new; life = first_life provider epocher sizes }) [] [])
+          Begins-opened provider epocher sizes new derives capacity = subst (Begins config chain old.ended (picks_of old luck) begin) (sym (begins_is provider epocher sizes new derives capacity)) (record { finds = Finds-opened; good = (tip, good) })
 
 -- A CUT
 
@@ -326,8 +337,8 @@ safe_left chain sure left p keeps safe = IsSafePair-kept chain 0 sure left p (λ
     from None = tt
     from (Some h) = omega arith
 
-module _ (config : Config) (chain : Chain) (old : Remains) (begin : Begin) (asks : IsLawfulOpening config chain old.ended begin) (blocks : List (At Block)) (more : List Pair) (e : Ending) (lost : LosesOpening old blocks more e) (of_chain : AreBlocksOf chain blocks)
-    (may : (p : Pair) → Contains more p → OpeningPair config old.ended begin p × IsSafePair chain e.remains.ended.blocks_sure p)
+module _ (config : Config) (chain : Chain) (old : Remains) (luck : ℕ) (begin : Begin) (asks : IsLawfulOpening config chain old.ended begin) (written : Written) (e : Ending) (lost : LosesOpening old written e) (own : (x : At Block) → Contains written.blocks x → begin ≡ from_genesis x.value) (of_chain : AreBlocksOf chain written.blocks) (no_certs : written.certs ≡ [])
+    (may : (p : Pair) → Contains written.pairs p → OpeningPair config old.ended (picks_of old luck) begin p × IsSafePair chain e.remains.ended.blocks_sure p)
   where
     abbrev left : Ended
     left = e.remains.ended
@@ -342,36 +353,42 @@ module _ (config : Config) (chain : Chain) (old : Remains) (begin : Begin) (asks
     had_none = ap (λ l. l.cache_sure) lost.had_no_cache
 
     safe_old : (p : Pair) → Contains old.ended.meta p → IsSafePair chain left.blocks_sure p
-    safe_old p has = safe_left chain old.ended.blocks_sure left.blocks_sure p lost.blocks_kept.sure (record {
+    safe_old p has = safe_left chain old.ended.blocks_sure left.blocks_sure p lost.blocks.sure (record {
       backed = AllByRecursion-contains (λ q. BackedBy old.ended.blocks_sure q.processed) old.ended.meta p asks.good.backed has;
       floor_safe = AllByRecursion-contains (λ q. FloorSafe q.processed q.cutoff old.ended.blocks_sure chain) old.ended.meta p asks.good.floor_safe has;
     })
 
     safe : (p : Pair) → Contains left.meta p → IsSafePair chain left.blocks_sure p
-    safe p has = ⊎_elim (λ there. safe_old p there) (λ new. (may p new).1) (Contains-append_cases old.ended.meta more p (lost.pairs_within p has))
+    safe p has = ⊎_elim (λ there. safe_old p there) (λ new. (may p new).1) (Contains-append_cases old.ended.meta written.pairs p (lost.pairs p has))
+
+    certs_within : (x : At Finalization) → Contains left.certs_may x → Contains old.ended.certs_may x
+    certs_within x has = subst (λ xs. Contains xs x) (ap (λ ys. old.ended.certs_may ++ ys) no_certs ∙ append-nil old.ended.certs_may) (lost.certs.may x has)
 
     good_left : IsGoodEnded chain left
     good_left = record {
-      may_blocks = AllByRecursion-within (λ x. IsBlockAt chain x.height x.value) left.blocks_may (old.ended.blocks_may ++ blocks) lost.blocks_kept.may (AllByRecursion-append (λ x. IsBlockAt chain x.height x.value) old.ended.blocks_may blocks asks.good.may_blocks of_chain);
-      may_certs = AllByRecursion-within (λ x. Finalizes chain x.height x.value.round x.value.payload) left.certs_may (old.ended.certs_may ++ []) lost.certs_kept.may (AllByRecursion-append (λ x. Finalizes chain x.height x.value.round x.value.payload) old.ended.certs_may [] asks.good.may_certs tt);
+      may_blocks = AllByRecursion-within (λ x. IsBlockAt chain x.height x.value) left.blocks_may (old.ended.blocks_may ++ written.blocks) lost.blocks.may (AllByRecursion-append (λ x. IsBlockAt chain x.height x.value) old.ended.blocks_may written.blocks asks.good.may_blocks of_chain);
+      may_certs = AllByRecursion-within (λ x. Finalizes chain x.height x.value.round x.value.payload) left.certs_may old.ended.certs_may certs_within asks.good.may_certs;
       may_cached = subst (λ xs. AreCachedOf chain xs) (sym no_cached) tt;
       may_cached_blocks = subst (λ xs. BlocksAgree chain xs) (sym no_cached) tt;
       backed = AllByRecursion-from_contains (λ p. BackedBy left.blocks_sure p.processed) left.meta (λ p has. (safe p has).backed);
       floor_safe = AllByRecursion-from_contains (λ p. FloorSafe p.processed p.cutoff left.blocks_sure chain) left.meta (λ p has. (safe p has).floor_safe);
     }
 
-    pub CutsReopening-lost : IsUsual e.fault ⊎ IsOpeningFault old.ended begin e.fault → CutsReopening config chain old.ended begin [] e.fault left
+    pub CutsReopening-lost : IsUsual e.fault ⊎ IsOpeningFault old.ended begin e.fault → CutsReopening config chain old.ended (picks_of old luck) begin [] e.fault left
     CutsReopening-lost kind = record {
       reports_none = refl;
       leaves = record {
-        sure_blocks = λ h b is low. lost.blocks_kept.sure h b is;
-        sure_certs = λ h f is low. lost.certs_kept.sure h f is;
+        sure_blocks = λ h b is low. lost.blocks.sure h b is;
+        sure_certs = λ h f is low. lost.certs.sure h f is;
         sure_cache = λ x has. absurd (let none = subst (λ xs. Contains xs x) had_none has in let lt : none.0 < 0 = none.1 in omega arith);
         lowests = λ k has. absurd (let none = subst (λ ks. Contains ks k) no_lowests has in let lt : none.0 < 0 = none.1 in omega arith);
         some_pair = lost.some_pair asks.some_pair;
-        pairs = AllByRecursion-from_contains (λ p. Contains old.ended.meta p ⊎ OpeningPair config old.ended begin p) left.meta (λ p has. ⊎_elim (λ there. inl there) (λ new. inr (may p new).0) (Contains-append_cases old.ended.meta more p (lost.pairs_within p has)));
+        pairs = AllByRecursion-from_contains (λ p. Contains old.ended.meta p ⊎ OpeningPair config old.ended (picks_of old luck) begin p) left.meta (λ p has. ⊎_elim (λ there. inl there) (λ new. inr (may p new).0) (Contains-append_cases old.ended.meta written.pairs p (lost.pairs p has)));
         good = good_left;
       };
+      first_pair = lost.first_pair;
+      may_blocks = λ x has. ⊎_elim (λ there. inl there) (λ new. inr (own x new)) (Contains-append_cases old.ended.blocks_may written.blocks x (lost.blocks.may x has));
+      may_certs = certs_within;
       cause = λ is. by is kind;
     }
       where
@@ -386,84 +403,81 @@ no_pair x has = absurd (let lt : has.0 < 0 = has.1 in omega arith)
 genesis_of : (config : Config) (chain : Chain) (old : Ended) (g : Block) → IsLawfulOpening config chain old (from_genesis g) → AreBlocksOf chain (at_own_height g ∷ [])
 genesis_of config chain old g asks = (subst (λ h. IsBlockAt chain h g) (sym (asks.lawful.heights 0 g (asks.genesis g refl))) (asks.genesis g refl), tt)
 
--- on a lawful chain no other block has the genesis's digest
-pub IsAlone-lawful : (config : Config) (chain : Chain) (old : Ended) (g : Block) → IsLawfulOpening config chain old (from_genesis g) → IsAlone old (from_genesis g)
-IsAlone-lawful config chain old g asks x has same =
-    let at : IsBlockAt chain x.height x.value = AllByRecursion-contains (λ y. IsBlockAt chain y.height y.value) old.blocks_may x asks.good.may_blocks has in
-    let first : IsBlockAt chain 0 g = asks.genesis g refl in
-    let is : x.value ≡ g = asks.one.one x.value g (Contains-slice_get chain.blocks x.height x.value at) (Contains-slice_get chain.blocks 0 g first) same in
-    sym (asks.lawful.heights x.height x.value at) ∙ ap (λ b. b.height) is
-
 -- WHAT AN OPENING PROMISES
 
 -- a fault by value of a part of an opening is the opening's
-module _ (old : Remains) (begin : Begin) (first : Held) (reopens : ReopensAs old first) (g : Block) (is : begin ≡ from_genesis g) where
-  pub begin_by_value : (fault : Fault) → IsUsual fault ⊎ IsBeginFault g first fault → IsAlone old.ended begin → IsUsual fault ⊎ IsOpeningFault old.ended begin fault
-  begin_by_value fault (inl usual) alone = inl usual
-  begin_by_value fault (inr judged) alone = inr (subst (λ b. IsOpeningFault old.ended b fault) (sym is) (IsOpeningFault-begin old first reopens g fault (subst (IsAlone old.ended) is alone) judged))
+module _ (old : Remains) (begin : Begin) (luck : ℕ) (first : Held) (reopens : ReopensAs old luck first) (g : Block) (is : begin ≡ from_genesis g) where
+  pub begin_by_value : (fault : Fault) → IsUsual fault ⊎ IsBeginFault g first fault → IsUsual fault ⊎ IsOpeningFault old.ended begin fault
+  begin_by_value fault (inl usual) = inl usual
+  begin_by_value fault (inr judged) = inr (subst (λ b. IsOpeningFault old.ended b fault) (sym is) (IsOpeningFault-begin old luck first reopens g fault judged))
 
   module _ (s : Held) (begins_with : BeginsWith g first s) where
-    pub next_by_value : (fault : Fault) → IsUsual fault ⊎ (next_fault s ≡ Some fault) → IsAlone old.ended begin → IsUsual fault ⊎ IsOpeningFault old.ended begin fault
-    next_by_value fault (inl usual) alone = inl usual
-    next_by_value fault (inr judged) alone = inr (subst (λ b. IsOpeningFault old.ended b fault) (sym is) (IsOpeningFault-next old first reopens g s begins_with (subst (IsAlone old.ended) is alone) fault judged))
-
-    since_first : (more : List Pair) (e : Ending) → Grew first (at_own_height g ∷ []) [] s → Loses s [] [] more e → LosesOpening old (at_own_height g ∷ []) more e
-    since_first more e grew lost = LosesOpening-then old first (at_own_height g ∷ []) more e reopens (Loses-then first s (at_own_height g ∷ []) [] [] [] more e lost grew (Within-none (at_own_height g ∷ [])) (Within-none []))
+    pub next_by_value : (fault : Fault) → IsUsual fault ⊎ (next_fault s ≡ Some fault) → IsUsual fault ⊎ IsOpeningFault old.ended begin fault
+    next_by_value fault (inl usual) = inl usual
+    next_by_value fault (inr judged) = inr (subst (λ b. IsOpeningFault old.ended b fault) (sym is) (IsOpeningFault-next old luck first reopens g s begins_with fault judged))
 
     -- a node that begins is what was found, whatever the chain
-    pub finds : {P E : Type 0} (config : Config) (provider : P) (epocher : E) (sizes : Sizes) (new : Held) (life : Remembered P E) → IsAlone old.ended begin → config.capacity ≡ sizes.capacity → Derives config.epochs s new → life ≡ first_life provider epocher sizes → Finds config old.ended begin (node_of (record { held = new; life = life }) [] [])
-    finds config provider epocher sizes new _ alone capacity derives life_is =
-        subst (λ l. Finds config old.ended begin (node_of (record { held = new; life = l }) [] [])) (sym life_is)
-        (subst (λ b. Finds config old.ended b (node_of (record { held = new; life = first_life provider epocher sizes }) [] [])) (sym is)
-        (Finds-begun old first reopens g s begins_with (subst (IsAlone old.ended) is alone) config derives.successor provider epocher sizes new derives capacity))
+    pub finds : {P E : Type 0} (config : Config) (provider : P) (epocher : E) (sizes : Sizes) (new : Held) (life : Remembered P E) → Grew first (written_block (at_own_height g)) s → config.capacity ≡ sizes.capacity → Derives config.epochs s new → life ≡ first_life provider epocher sizes → Finds config old.ended (picks_of old luck) begin (node_of (record { held = new; life = life }) [] [])
+    finds config provider epocher sizes new _ grew capacity derives life_is =
+        subst (λ l. Finds config old.ended (picks_of old luck) begin (node_of (record { held = new; life = l }) [] [])) (sym life_is)
+        (subst (λ b. Finds config old.ended (picks_of old luck) b (node_of (record { held = new; life = first_life provider epocher sizes }) [] [])) (sym is)
+        (Finds-begun old luck first reopens g s begins_with config grew derives.successor provider epocher sizes new derives capacity))
 
-    pub deriving_cause : (epochs : Epochs) (e : Ending) → Grew first (at_own_height g ∷ []) [] s → LosesDeriving epochs s e → IsEndedBy old.counts e
-    deriving_cause epochs e grew (inl lost) = (since_first [] e grew lost).cause
-    deriving_cause epochs e grew (inr (none, lost)) = (since_first (derived_pair epochs s ∷ []) e grew lost).cause
+-- a cutoff that couldn't be derived leaves what was sure
+pub deriving_keeps : (epochs : Epochs) (s : Held) (e : Ending) → Loses s nothing_written e ⊎ (next_fault s ≡ None) × Loses s (record nothing_written { pairs = derived_pair epochs s ∷ [] }) e → KeepsValues s.blocks.sure e.remains.ended.blocks_sure
+deriving_keeps epochs s e (inl lost) = λ h v is. lost.leaves.blocks.sure h v (omega arith) is
+deriving_keeps epochs s e (inr (none, lost)) = λ h v is. lost.leaves.blocks.sure h v (omega arith) is
 
-module _ (config : Config) (chain : Chain) (old : Remains) (begin : Begin) where
+-- and why its life ended
+pub deriving_cause : (old : Remains) (luck : ℕ) (first : Held) (some more : Written) (none : Type 0) (e : Ending) → ReopensAs old luck first → Loses first some e ⊎ none × Loses first more e → IsEndedBy old.watches e
+deriving_cause old luck first some more none e reopens (inl lost) = FailsBy-then old.watches first.watches e.fault e.remains.watches reopens.passed lost.cause
+deriving_cause old luck first some more none e reopens (inr (holds, lost)) = FailsBy-then old.watches first.watches e.fault e.remains.watches reopens.passed lost.cause
+
+module _ (config : Config) (chain : Chain) (old : Remains) (luck : ℕ) (begin : Begin) where
   -- nothing was written yet
-  pub cut_early : (e : Ending) → IsLawfulOpening config chain old.ended begin → LosesOpening old [] [] e → IsUsual e.fault ⊎ IsOpeningFault old.ended begin e.fault → CutsReopening config chain old.ended begin [] e.fault e.remains.ended
-  cut_early e asks lost kind = CutsReopening-lost config chain old begin asks [] [] e lost tt (λ p has. no_pair p has) kind
+  pub cut_early : (e : Ending) → IsLawfulOpening config chain old.ended begin → LosesOpening old nothing_written e → IsUsual e.fault ⊎ IsOpeningFault old.ended begin e.fault → CutsReopening config chain old.ended (picks_of old luck) begin [] e.fault e.remains.ended
+  cut_early e asks lost kind = CutsReopening-lost config chain old luck begin asks nothing_written e lost (λ x has. no_pair x has) tt refl (λ p has. no_pair p has) kind
 
-  module _ (first : Held) (reopens : ReopensAs old first) (g : Block) (is : begin ≡ from_genesis g) where
+  module _ (first : Held) (reopens : ReopensAs old luck first) (g : Block) (is : begin ≡ from_genesis g) where
+    genesis_own : (x : At Block) → Contains (at_own_height g ∷ []) x → begin ≡ from_genesis x.value
+    genesis_own x has = is ∙ ap (λ (y : At Block). from_genesis y.value) (only_one (at_own_height g) x has)
+
     -- block 0 may have been written
-    pub cut_begun : (e : Ending) → IsLawfulOpening config chain old.ended begin → Loses first (at_own_height g ∷ []) [] [] e → IsUsual e.fault ⊎ IsBeginFault g first e.fault → CutsReopening config chain old.ended begin [] e.fault e.remains.ended
+    pub cut_begun : (e : Ending) → IsLawfulOpening config chain old.ended begin → Loses first (written_block (at_own_height g)) e → IsUsual e.fault ⊎ IsBeginFault g first e.fault → CutsReopening config chain old.ended (picks_of old luck) begin [] e.fault e.remains.ended
     cut_begun e asks lost kind =
-        let own = subst (IsLawfulOpening config chain old.ended) is asks in
-        CutsReopening-lost config chain old begin asks (at_own_height g ∷ []) [] e (LosesOpening-then old first (at_own_height g ∷ []) [] e reopens lost) (genesis_of config chain old.ended g own) (λ p has. no_pair p has)
-        (begin_by_value old begin first reopens g is e.fault kind (subst (IsAlone old.ended) (sym is) (IsAlone-lawful config chain old.ended g own)))
+        CutsReopening-lost config chain old luck begin asks (written_block (at_own_height g)) e (LosesOpening-then old luck first (written_block (at_own_height g)) e refl refl reopens lost) genesis_own (genesis_of config chain old.ended g (subst (IsLawfulOpening config chain old.ended) is asks)) refl (λ p has. no_pair p has)
+        (begin_by_value old begin luck first reopens g is e.fault kind)
 
-    module _ (s : Held) (begins_with : BeginsWith g first s) where
+    module _ (s : Held) (begins_with : BeginsWith g first s) (grew : Grew first (written_block (at_own_height g)) s) where
+      abbrev pub with_derived : Epochs → Written
+      with_derived epochs = record (written_block (at_own_height g)) { pairs = derived_pair epochs s ∷ [] }
+
       -- the cutoff may have been written
-      pub cut_deriving : (epochs : Epochs) → config.epochs ≡ epochs → (e : Ending) → IsLawfulOpening config chain old.ended begin → Grew first (at_own_height g ∷ []) [] s → LosesDeriving epochs s e → IsUsual e.fault ⊎ (next_fault s ≡ Some e.fault) → CutsReopening config chain old.ended begin [] e.fault e.remains.ended
-      cut_deriving epochs same e asks grew loses kind = by (subst (λ es. LosesDeriving es s e) (sym same) loses)
+      pub cut_deriving : (epochs : Epochs) → config.epochs ≡ epochs → (e : Ending) → IsLawfulOpening config chain old.ended begin → Loses first (written_block (at_own_height g)) e ⊎ (next_fault s ≡ None) × Loses first (with_derived epochs) e → KeepsValues s.blocks.sure e.remains.ended.blocks_sure → IsUsual e.fault ⊎ (next_fault s ≡ Some e.fault) → CutsReopening config chain old.ended (picks_of old luck) begin [] e.fault e.remains.ended
+      cut_deriving epochs same e asks loses keeps kind = by (subst (λ es. Loses first (written_block (at_own_height g)) e ⊎ (next_fault s ≡ None) × Loses first (with_derived es) e) (sym same) loses)
         where
           own : IsLawfulOpening config chain old.ended (from_genesis g)
           own = subst (IsLawfulOpening config chain old.ended) is asks
 
-          alone : IsAlone old.ended (from_genesis g)
-          alone = IsAlone-lawful config chain old.ended g own
-
           kind_is : IsUsual e.fault ⊎ IsOpeningFault old.ended begin e.fault
-          kind_is = next_by_value old begin first reopens g is s begins_with e.fault kind (subst (IsAlone old.ended) (sym is) alone)
+          kind_is = next_by_value old begin luck first reopens g is s begins_with e.fault kind
 
-          by : LosesDeriving config.epochs s e → CutsReopening config chain old.ended begin [] e.fault e.remains.ended
-          by (inl lost) = CutsReopening-lost config chain old begin asks (at_own_height g ∷ []) [] e (since_first old begin first reopens g is s begins_with [] e grew lost) (genesis_of config chain old.ended g own) (λ p has. no_pair p has) kind_is
-          by (inr (none, lost)) = CutsReopening-lost config chain old begin asks (at_own_height g ∷ []) (derived_pair config.epochs s ∷ []) e (since_first old begin first reopens g is s begins_with (derived_pair config.epochs s ∷ []) e grew lost) (genesis_of config chain old.ended g own) may kind_is
+          by : Loses first (written_block (at_own_height g)) e ⊎ (next_fault s ≡ None) × Loses first (with_derived config.epochs) e → CutsReopening config chain old.ended (picks_of old luck) begin [] e.fault e.remains.ended
+          by (inl lost) = CutsReopening-lost config chain old luck begin asks (written_block (at_own_height g)) e (LosesOpening-then old luck first (written_block (at_own_height g)) e refl refl reopens lost) genesis_own (genesis_of config chain old.ended g own) refl (λ p has. no_pair p has) kind_is
+          by (inr (none, lost)) = CutsReopening-lost config chain old luck begin asks (with_derived config.epochs) e (LosesOpening-then old luck first (with_derived config.epochs) e refl refl reopens lost) genesis_own (genesis_of config chain old.ended g own) refl may kind_is
             where
-              may : (p : Pair) → Contains (derived_pair config.epochs s ∷ []) p → OpeningPair config old.ended begin p × IsSafePair chain e.remains.ended.blocks_sure p
+              may : (p : Pair) → Contains (derived_pair config.epochs s ∷ []) p → OpeningPair config old.ended (picks_of old luck) begin p × IsSafePair chain e.remains.ended.blocks_sure p
               may p has = (
-                subst (OpeningPair config old.ended begin) derived (subst (λ b. OpeningPair config old.ended b (derived_pair config.epochs s)) (sym is) (OpeningPair-derived old first reopens g s begins_with alone config none)),
-                subst (IsSafePair chain e.remains.ended.blocks_sure) derived (safe_left chain s.blocks.sure e.remains.ended.blocks_sure (derived_pair config.epochs s) lost.blocks_kept.sure (IsSafePair-derived old first reopens g s begins_with alone config none chain own)),
+                subst (OpeningPair config old.ended (picks_of old luck) begin) derived (subst (λ b. OpeningPair config old.ended (picks_of old luck) b (derived_pair config.epochs s)) (sym is) (OpeningPair-derived old luck first reopens g s begins_with config grew none)),
+                subst (IsSafePair chain e.remains.ended.blocks_sure) derived (safe_left chain s.blocks.sure e.remains.ended.blocks_sure (derived_pair config.epochs s) keeps (IsSafePair-derived old luck first reopens g s begins_with config grew none chain own)),
               )
                 where
                   derived : derived_pair config.epochs s ≡ p
                   derived = only_one (derived_pair config.epochs s) p has
 
-      pub begins : {P E : Type 0} (provider : P) (epocher : E) (sizes : Sizes) (new : Held) (life : Remembered P E) → IsLawfulOpening config chain old.ended begin → config.capacity ≡ sizes.capacity → Derives config.epochs s new → life ≡ first_life provider epocher sizes → Begins config chain old.ended begin (node_of (record { held = new; life = life }) [] [])
+      pub begins : {P E : Type 0} (provider : P) (epocher : E) (sizes : Sizes) (new : Held) (life : Remembered P E) → IsLawfulOpening config chain old.ended begin → config.capacity ≡ sizes.capacity → Derives config.epochs s new → life ≡ first_life provider epocher sizes → Begins config chain old.ended (picks_of old luck) begin (node_of (record { held = new; life = life }) [] [])
       begins provider epocher sizes new _ asks capacity derives life_is =
           let own = subst (IsLawfulOpening config chain old.ended) is asks in
-          subst (λ l. Begins config chain old.ended begin (node_of (record { held = new; life = l }) [] [])) (sym life_is)
-          (subst (λ b. Begins config chain old.ended b (node_of (record { held = new; life = first_life provider epocher sizes }) [] [])) (sym is)
-          (Begins-opened old first reopens g s begins_with (IsAlone-lawful config chain old.ended g own) config derives.successor chain own provider epocher sizes new derives capacity))
+          subst (λ l. Begins config chain old.ended (picks_of old luck) begin (node_of (record { held = new; life = l }) [] [])) (sym life_is)
+          (subst (λ b. Begins config chain old.ended (picks_of old luck) b (node_of (record { held = new; life = first_life provider epocher sizes }) [] [])) (sym is)
+          (Begins-opened old luck first reopens g s begins_with config grew derives.successor chain own provider epocher sizes new derives capacity))

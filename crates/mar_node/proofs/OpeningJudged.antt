@@ -1,16 +1,9 @@
 -- What the parts of an opening judge, one after another.
-use Rattle.std.proofs.Common.{◌≡◌, ⊎_elim, ◌<◌, ◌≤◌, ◌==◌, ℕ, List, [], ◌∷◌, Bool, true, false, Option, Some, None, IfSome, Result, Ok, Err, IfErr, is_some, refl, sym, ◌∙◌, ap, subst, arith, eqb-true, eq-eqb}
-use Rattle.std.proofs.lemmas.List.Elements.{Contains-append_cases, Contains-append_left}
-use Rattle.mar_cert.specs.Block.{Block}
-use Rattle.mar_cert.specs.Finalization.{Finalization}
-use Rattle.mar_key.specs.Cutoff.{Cutoff}
+use Rattle.std.proofs.Common.{◌≡◌, ◌≤◌, ◌==◌, ℕ, List, [], ◌∷◌, Bool, true, false, Option, Some, None, IfSome, is_some, refl, sym, ◌∙◌, subst, arith, eqb-true, eq-eqb}
 use Rattle.mar_store.specs.Kept.{At, has_height, value_at}
 use Rattle.mar_store.specs.Named.{last_index}
 use Rattle.mar_store.proofs.Lookups.{AllByRecursion-value_at, has_height-from_value}
-use Rattle.mar_node.specs.Metadata.{Pair, pair_of}
 use Rattle.mar_node.specs.Faults.{is_at_limit, last_height}
-use Rattle.mar_node.specs.Held.{Ending, Grew, Held, Loses}
-use Rattle.mar_node.proofs.Growing.{Loses-then, Within-none}
 use Rattle.mar_node.proofs.Tips.{at_last, below_last}
 
 -- THE LAST HEIGHT
@@ -31,21 +24,3 @@ holds_last {T = T} xs (Some h) is low = by (h == last_height) refl
     by : (b : Bool) → (h == last_height) ≡ b → has_height xs last_height ≡ b
     by true at = let found = at_last xs h (sym is) in subst (λ k. has_height xs k ≡ true) (eqb-true h last_height at) (has_height-from_value xs h found.0 found.1)
     by false apart = missing apart (value_at xs last_height) refl
-
--- THE CUTOFF
-
--- a call that wrote no pair leaves no more than one that writes some
-pub Loses-more : (old : Held) (blocks : List (At Block)) (certs : List (At Finalization)) (more : List Pair) (e : Ending) → Loses old blocks certs [] e → Loses old blocks certs more e
-Loses-more old blocks certs more e lost = record {
-  blocks_kept = lost.blocks_kept;
-  certs_kept = lost.certs_kept;
-  first_pair_kept = lost.first_pair_kept;
-  pairs_within = λ p has. ⊎_elim (λ there. Contains-append_left old.pairs more p there) (λ none. absurd (let lt : none.0 < 0 = none.1 in omega arith)) (Contains-append_cases old.pairs [] p (lost.pairs_within p has));
-  no_cache = lost.no_cache;
-  cause = lost.cause;
-}
-
--- the cutoff was set, and its sync failed
-pub raised_lost : {T : Type 0} (old s : Held) (cutoff : Cutoff) (result : Result T Ending) → Grew old [] [] s → s ≡ record old { cutoff = cutoff; counts = s.counts } → IfErr result (Loses s [] [] (pair_of s.processed s.cutoff ∷ [])) → IfErr result (Loses old [] [] (pair_of old.processed cutoff ∷ []))
-raised_lost old s cutoff (Ok x) grew same lost = tt
-raised_lost old s cutoff (Err e) grew same lost = subst (λ p. Loses old [] [] (p ∷ []) e) (ap (λ (k : Held). pair_of k.processed k.cutoff) same) (Loses-then old s [] [] [] [] (pair_of s.processed s.cutoff ∷ []) e lost grew (Within-none []) (Within-none []))

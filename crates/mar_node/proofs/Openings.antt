@@ -1,5 +1,5 @@
 -- What an opening finds on good stores: blocks and certificates of the chain, a backed height, a safe cutoff.
-use Rattle.std.proofs.Common.{◌≡◌, ◌⊎◌, inl, inr, ⊎_elim, ℕ, zero, suc, ◌+◌, ◌≤◌, ◌==◌, ◌||◌, nat_lt, Bool, false, true, List, [], ◌∷◌, ◌++◌, Option, Some, None, option_map, option_to_list, if◌then◌else◌, IsTrue, Contains, refl, sym, ◌∙◌, ap, subst, arith, eqb-true, le_refl}
+use Rattle.std.proofs.Common.{◌≡◌, ◌⊎◌, inl, inr, ⊎_elim, ℕ, zero, suc, ◌+◌, ◌≤◌, ◌==◌, ◌||◌, nat_lt, Bool, false, true, List, [], ◌∷◌, ◌++◌, Option, Some, None, is_some, option_map, option_to_list, if◌then◌else◌, IsTrue, Contains, refl, sym, ◌∙◌, ap, subst, arith, eqb-true, le_refl}
 use Rattle.std.specs.List.{AllByRecursion, cons_option, filter_map}
 use Rattle.std.proofs.lemmas.List.Elements.{Contains-append_cases}
 use Rattle.mar_types.specs.Round.{Round}
@@ -9,15 +9,16 @@ use Rattle.mar_cert.specs.Finalization.{Finalization}
 use Rattle.mar_key.specs.Cutoff.{Cutoff, at_epoch, at_round, greatest_of}
 use Rattle.mar_key.specs.Processed.{at_absent, at_block, height_in}
 use Rattle.mar_store.specs.Kept.{At, Reopens, has_height, newest_upto, value_at}
-use Rattle.mar_store.proofs.Lookups.{AllByRecursion-append, AllByRecursion-weaker, AllByRecursion-contains, AllByRecursion-from_contains, AllByRecursion-value_at, has_height-from_value, value-from_has_height, value_at-from_contains}
+use Rattle.mar_store.proofs.Lookups.{AllByRecursion-append, AllByRecursion-weaker, AllByRecursion-contains, AllByRecursion-from_contains, AllByRecursion-value_at, has_height-from_value, has_height-within, value-from_has_height, value_at-from_contains}
 use Rattle.mar_store.proofs.NewestUpto.{AllByRecursion-newest_upto, newest_upto-is}
 use Rattle.mar_node.specs.Metadata.{Pair, pair_of}
 use Rattle.mar_node.specs.Cached.{cached_block, cached_finalization}
 use Rattle.mar_node.specs.Chain.{Chain, Finalizes, IsBlockAt, IsFinal, IsLawful}
 use Rattle.mar_node.specs.Config.{Config}
+use Rattle.mar_node.specs.Stored.{block_of}
 use Rattle.mar_node.specs.Faults.{Begin, from_floor, from_genesis, next_after, with_genesis}
 use Rattle.mar_node.specs.Node.{Agrees, AreBlocksOf, AreCachedOf, AreFinalizationsOf, BlocksAgree, Ended, FloorSafe, HasAnchor, IsFinalized, IsGoodInHeights, Node}
-use Rattle.mar_node.specs.Lives.{BackedBy, Finds, IsGoodEnded, closed_epoch_at, opened_cutoff, processed_at, processed_round, successor_round}
+use Rattle.mar_node.specs.Lives.{BackedBy, Finds, IsGoodEnded, Picks, closed_epoch_at, opened_cutoff, processed_at, processed_round, successor_round}
 use Rattle.mar_node.specs.Sound.{IsSafePair, IsSound}
 use Rattle.mar_node.proofs.FloorSafety.{CoversUpto, CoversUpto-at_round, CoversUpto-closed_at, CoversUpto-from_safe, CoversUpto-greatest_of, CoversUpto-more, FloorSafe-at_next, FloorSafe-from_upto, FloorSafe-greatest_of, FloorSafe-still}
 
@@ -60,24 +61,24 @@ AreFinalizationsOf-reopened chain sure may m reopens all =
 -- block 0 is put in front where none was found
 pub value_at-with_genesis : (begin : Begin) (processed : Option ℕ) (found : List (At Block)) (h : ℕ) (b : Block) → value_at found h ≡ Some b → value_at (with_genesis begin processed found) h ≡ Some b
 value_at-with_genesis (from_floor f) processed found h b is = is
-value_at-with_genesis (from_genesis g) processed found h b is = by (has_height found 0 || nat_lt 1 (next_after processed)) refl
+value_at-with_genesis (from_genesis g) processed found h b is = by ((has_height found 0 || is_some (block_of found g.digest)) || nat_lt 1 (next_after processed)) refl
   where
-    other : (has_height found 0 || nat_lt 1 (next_after processed)) ≡ false → (c : Bool) → (0 == h) ≡ c → (if c then Some g else value_at found h) ≡ Some b
-    other lacks true same = absurd (clash (has_height found 0) (nat_lt 1 (next_after processed)) lacks (subst (λ k. IsTrue (has_height found k)) (sym (eqb-true 0 h same)) (has_height-from_value found h b is)))
+    other : ((has_height found 0 || is_some (block_of found g.digest)) || nat_lt 1 (next_after processed)) ≡ false → (c : Bool) → (0 == h) ≡ c → (if c then Some g else value_at found h) ≡ Some b
+    other lacks true same = absurd (clash (has_height found 0) (is_some (block_of found g.digest)) (nat_lt 1 (next_after processed)) lacks (subst (λ k. IsTrue (has_height found k)) (sym (eqb-true 0 h same)) (has_height-from_value found h b is)))
       where
-        clash : (x y : Bool) → (x || y) ≡ false → x ≡ true → ⊥
-        clash true y p q = cc
-        clash false y p q = cc
+        clash : (x y z : Bool) → ((x || y) || z) ≡ false → x ≡ true → ⊥
+        clash true y z p q = cc
+        clash false y z p q = cc
     other lacks false apart = is
 
-    by : (c : Bool) → (has_height found 0 || nat_lt 1 (next_after processed)) ≡ c → value_at (if c then found else record { height = 0; value = g } ∷ found) h ≡ Some b
+    by : (c : Bool) → ((has_height found 0 || is_some (block_of found g.digest)) || nat_lt 1 (next_after processed)) ≡ c → value_at (if c then found else record { height = 0; value = g } ∷ found) h ≡ Some b
     by true e = is
     by false e = other e (0 == h) refl
 
 -- what is found with block 0 was found, or is block 0
 pub value-from_with_genesis : (begin : Begin) (processed : Option ℕ) (found : List (At Block)) (h : ℕ) (b : Block) → value_at (with_genesis begin processed found) h ≡ Some b → (value_at found h ≡ Some b) ⊎ ((begin ≡ from_genesis b) × (h ≡ 0))
 value-from_with_genesis (from_floor f) processed found h b is = inl is
-value-from_with_genesis (from_genesis g) processed found h b is = by (has_height found 0 || nat_lt 1 (next_after processed)) is
+value-from_with_genesis (from_genesis g) processed found h b is = by ((has_height found 0 || is_some (block_of found g.digest)) || nat_lt 1 (next_after processed)) is
   where
     inside : ◌≡◌ {A = Option Block} (Some g) (Some b) → g ≡ b
     inside p = cc
@@ -90,7 +91,7 @@ value-from_with_genesis (from_genesis g) processed found h b is = by (has_height
     by true p = inl p
     by false p = first (0 == h) refl p
 
-module _ (config : Config) (chain : Chain) (e : Ended) (begin : Begin) (n : Node) (finds : Finds config e begin n) where
+module _ (config : Config) (chain : Chain) (e : Ended) (picks : Picks) (begin : Begin) (n : Node) (finds : Finds config e picks begin n) where
   -- what was sure is held
   pub opened_sure : (h : ℕ) (b : Block) → value_at e.blocks_sure h ≡ Some b → value_at finds.blocks.held h ≡ Some b
   opened_sure h b is = (finds.entered).1 h ∙ value_at-with_genesis begin finds.pair.processed finds.found h b (finds.found_may.with_sure h b is)
@@ -196,7 +197,7 @@ HasAnchor-opened blocks (Some h) backed = by (has_height blocks h) refl backed
     by false lacks (inl has) = absurd cc
     by false lacks (inr next) = next
 
-module _ (config : Config) (chain : Chain) (lawful : IsLawful config.epochs chain) (partition : IsPartition config.epochs) (e : Ended) (begin : Begin) (n : Node) (finds : Finds config e begin n) (good : IsGoodEnded chain e) where
+module _ (config : Config) (chain : Chain) (lawful : IsLawful config.epochs chain) (partition : IsPartition config.epochs) (e : Ended) (picks : Picks) (begin : Begin) (n : Node) (finds : Finds config e picks begin n) (good : IsGoodEnded chain e) where
   backed_before : BackedBy e.blocks_sure finds.pair.processed
   backed_before = AllByRecursion-contains (λ p. BackedBy e.blocks_sure p.processed) e.meta finds.pair good.backed finds.pair_may
 
@@ -208,12 +209,12 @@ module _ (config : Config) (chain : Chain) (lawful : IsLawful config.epochs chai
     where
       by : (o : Option ℕ) → BackedBy e.blocks_sure o → BackedBy finds.blocks.held o
       by None b = tt
-      by (Some h) (inl has) = inl (opened_heights config chain e begin n finds h has)
-      by (Some h) (inr next) = inr (opened_heights config chain e begin n finds (h + 1) next)
+      by (Some h) (inl has) = inl (opened_heights config chain e picks begin n finds h has)
+      by (Some h) (inr next) = inr (opened_heights config chain e picks begin n finds (h + 1) next)
 
   pub opened_safe : FloorSafe finds.pair.processed (opened_cutoff config.epochs finds.blocks.held finds.certs finds.pair) finds.blocks.held chain
-  opened_safe = FloorSafe-opened config chain lawful partition finds.blocks.held finds.certs finds.pair (opened_certs config chain e begin n finds good)
-      (FloorSafe-still chain finds.pair.processed finds.pair.cutoff e.blocks_sure finds.blocks.held (λ has. opened_heights config chain e begin n finds _ has) safe_before)
+  opened_safe = FloorSafe-opened config chain lawful partition finds.blocks.held finds.certs finds.pair (opened_certs config chain e picks begin n finds good)
+      (FloorSafe-still chain finds.pair.processed finds.pair.cutoff e.blocks_sure finds.blocks.held (λ has. opened_heights config chain e picks begin n finds _ has) safe_before)
 
   cached_found : AreCachedOf chain (finds.cache ++ finds.cache)
   cached_found = all_found_within cached_finalization (λ f. IsFinalized chain f.round f.payload) (finds.cache ++ finds.cache) e.cache_may (λ x has. finds.cache_may.within_may x (⊎_elim (λ h. h) (λ h. h) (Contains-append_cases finds.cache finds.cache x has))) good.may_cached
@@ -224,10 +225,10 @@ module _ (config : Config) (chain : Chain) (lawful : IsLawful config.epochs chai
   -- before its Start step the node is sound
   pub IsSound-opened : ((g : Block) → begin ≡ from_genesis g → IsBlockAt chain 0 g) → IsSound chain n
   IsSound-opened genesis = subst (IsSound chain) (sym finds.node) (record {
-    held_blocks = opened_blocks config chain e begin n finds good genesis;
-    may_blocks = opened_may config chain e begin n finds good genesis;
-    held_certs = opened_certs config chain e begin n finds good;
-    may_certs = opened_certs config chain e begin n finds good;
+    held_blocks = opened_blocks config chain e picks begin n finds good genesis;
+    may_blocks = opened_may config chain e picks begin n finds good genesis;
+    held_certs = opened_certs config chain e picks begin n finds good;
+    may_certs = opened_certs config chain e picks begin n finds good;
     cached = cached_found;
     cached_blocks = cached_blocks_found;
     awaits = tt;
@@ -237,7 +238,12 @@ module _ (config : Config) (chain : Chain) (lawful : IsLawful config.epochs chai
   -- and good in heights
   pub IsGoodInHeights-opened : IsGoodInHeights config n
   IsGoodInHeights-opened = subst (IsGoodInHeights config) (sym finds.node) (record {
-    sure_blocks = λ h has. inl (opened_has_sure config chain e begin n finds h has);
+    nested_blocks = record {
+      sure_held = λ h has. subst (λ xs. IsTrue (has_height xs h)) finds.settled.sure has;
+      held_may = λ h has. has_height-within finds.blocks.held finds.blocks.may finds.settled.held_may h has;
+    };
+    nested_certs = record { sure_held = λ h has. has; held_may = λ h has. has };
+    sure_blocks = λ h has. inl (opened_has_sure config chain e picks begin n finds h has);
     sure_certs = λ h has. inl has;
     consecutive = tt;
     out_sure = tt;

@@ -1,11 +1,12 @@
 -- The pairs that stored values stand for.
-use Rattle.std.proofs.Common.{List, [], arith, get_or, length, map, refl, suc, ap, zero, ℕ, ◌++◌, ◌<◌, ◌∙◌, ◌∷◌, ◌≡◌}
+use Rattle.std.proofs.Common.{Bool, List, Some, false, true, [], arith, get_or, length, map, refl, suc, ap, zero, ℕ, ◌++◌, ◌<◌, ◌∙◌, ◌∷◌, ◌≡◌}
 use Rattle.std.proofs.Math.ListN.{get_or-map}
 use Rattle.std.proofs.lemmas.List.{length-map, map-append}
 use Rattle.std.specs.List.{Contains}
 use Rattle.mar_store.specs.Changes.{Within}
 use Rattle.mar_store.specs.Values.{LeavesValues, Values, synced_values}
-use Rattle.mar_node.specs.Metadata.{LeavesPairs, first_pair, pair_at}
+use Rattle.mar_store.specs.Luck.{lucky_values}
+use Rattle.mar_node.specs.Metadata.{LeavesPairs, first_pair, lucky_pair, pair_at}
 
 contains_map : {A B : Type 0} (f : A → B) (xs : List A) (x : A) → Contains xs x → Contains (map f xs) (f x)
 contains_map f xs x h = (h.0, rw length-map h.1, get_or-map f xs h.0 x ∙ ap f h.2)
@@ -30,5 +31,14 @@ pub leaves_pairs : (old more left : List Values) → 0 < length old → LeavesVa
 leaves_pairs old more left some h = record {
   some = rw length-map h.some;
   synced = synced_pairs old left some h.some h.synced;
+  kept = within_map pair_at old left h.kept;
   within = rw (← map-append) (within_map pair_at left (old ++ more) h.within);
 }
+
+-- what luck finds of values, as pairs
+pub lucky_pair_of : (keeps : Bool) (left : List Values) → 0 < length left → Some (pair_at (lucky_values keeps left)) ≡ lucky_pair keeps (map pair_at left)
+lucky_pair_of keeps [] some = absurd (omega (arith, some))
+lucky_pair_of true (synced ∷ []) some = refl
+lucky_pair_of false (synced ∷ []) some = refl
+lucky_pair_of true (synced ∷ failed ∷ others) some = refl
+lucky_pair_of false (synced ∷ failed ∷ others) some = refl

@@ -1,5 +1,5 @@
 -- An event that reached some node, and handed over from there, is a step or a cut.
-use Rattle.std.proofs.Common.{◌≡◌, ◌⊎◌, inl, inr, ℕ, ◌+◌, ◌≤◌, List, [], ◌∷◌, ◌++◌, length, map, false, Option, Some, None, option_map, Result, Ok, Err, IsTrue, Contains, sym, ◌∙◌, ap, ap₂, subst, arith, append-nil}
+use Rattle.std.proofs.Common.{◌≡◌, ◌⊎◌, inl, inr, ℕ, ◌+◌, ◌≤◌, List, [], ◌∷◌, ◌++◌, length, map, false, Option, Some, None, option_map, Result, Ok, Err, IsTrue, Contains, refl, sym, ◌∙◌, ap, ap₂, subst, arith, append-nil}
 use Rattle.mar_cert.specs.Block.{Block}
 use Rattle.mar_key.specs.Asked.{Asked, asked_after}
 use Rattle.mar_key.specs.Hears.{Hears}
@@ -12,17 +12,18 @@ use Rattle.mar_node.specs.Metadata.{Pair, first_pair, pair_of}
 use Rattle.mar_node.specs.Chain.{Chain, IsBlockAt}
 use Rattle.mar_node.specs.Config.{Config}
 use Rattle.mar_node.specs.Event.{Event, cutoff_after, no_floor, processed_after, undrained_blocks}
-use Rattle.mar_node.specs.Faults.{Fault, ack_kind, is_by_value, next_after, ticket_limit}
-use Rattle.mar_node.specs.Held.{Ending, IsUsual, Seen}
-use Rattle.mar_node.specs.Lives.{Cuts, NotBelow, is_dropped_ack, is_refused_floor}
-use Rattle.mar_node.specs.Moves.{HeldFrom, IsAtLimit, IsStill, StopsHanding, handed_report, next_in, with_handed}
+use Rattle.mar_node.specs.Faults.{Fault, ack_kind, is_by_value, meta_store, next_after, store_fault, ticket_limit}
+use Rattle.mar_node.specs.Held.{Ending, IsArchiveFault, LeavesStore, Seen, blocks_left, certs_left}
+use Rattle.mar_node.specs.Lives.{Cuts, NotBelow, Reached, is_dropped_ack, is_refused_floor, reached_after}
+use Rattle.mar_node.specs.Moves.{HeldFrom, IsLastTicket, IsStill, StopsHanding, handed_report, next_in, with_handed}
 use Rattle.mar_node.specs.Node.{AreBlocksOf, Ended, Node, Rest}
 use Rattle.mar_node.specs.Promise.{IsGoodUntold, IsLawfulStep, StepsOrCuts, made_of, node_of}
 use Rattle.mar_node.specs.Requests.{own_asks}
 use Rattle.mar_node.specs.Sound.{IsSafePair}
 use Rattle.mar_node.specs.Step.{AreHandedOf, HandedBlock, HandedFrom, Report, Steps, handed_blocks}
-use Rattle.mar_node.proofs.Cutting.{Cuts-left, LeavesOf, LeavesOf-lost, MayBeLeft, contains_first, keeps_heights, never, only_one, some_from_first, usual_not_by_value, usual_not_dropped}
+use Rattle.mar_node.proofs.Cutting.{Cuts-left, LeavesArchives, MayBeLeft, contains_first, keeps_heights, keeps_sure, never, only_one, some_from_first, usual_from_archive, usual_not_by_value, usual_not_dropped}
 use Rattle.mar_node.proofs.FloorSafety.{next_after-is}
+use Rattle.mar_node.proofs.Growing.{LeavesStore-then}
 use Rattle.mar_node.proofs.Handing.{HandedFrom-held, Hears-then, Ran, sure_value, with_handed-none}
 use Rattle.mar_node.proofs.OutstandingLemmas.{first_unprocessed-rises}
 use Rattle.mar_node.proofs.Reaching.{Reaches, Rest-still, Steps-reached, handed_after_tips, held_sure, next_is, tips_before_handed, tips_of_both, IsGood-handed}
@@ -36,7 +37,6 @@ AreHandedOf-values chain held sure ticket height (x ∷ xs) blocks all line = ((
 module _ {P E : Type 0} (config : Config) (chain : Chain) (a m : Seen P E) (e : Event) (buffer : List Block) (asked : List Asked) (tips : List Report)
     (window : config.window ≡ m.life.sizes.window) (step : IsLawfulStep config chain (node_of a buffer asked) e) (unrefused : (fault : Fault) → is_refused_floor e fault ≡ false)
     (reach : Reaches config chain a e buffer asked tips m) (sure_held : KeepsValues m.held.blocks.sure m.held.blocks.held)
-    (blocks_kept : KeepsValues a.held.blocks.sure m.held.blocks.sure) (certs_kept : KeepsValues a.held.certs.sure m.held.certs.sure)
   where
     abbrev pub n : Node
     n = node_of a buffer asked
@@ -60,29 +60,36 @@ module _ {P E : Type 0} (config : Config) (chain : Chain) (a m : Seen P E) (e : 
       abbrev left : Ended
       left = x.remains.ended
 
-      leaves : LeavesOf chain m.held left
-      leaves = LeavesOf-lost chain m.held [] [] [] x reach.good.of_chain.may_blocks reach.good.of_chain.may_certs tt tt stops.lost
+      m_blocks : LeavesStore m.held.blocks 0 [] (blocks_left left)
+      m_blocks = stops.lost.leaves.blocks
 
-      leaves_all : LeavesOf chain a.held left
-      leaves_all = record {
-        blocks = λ h v is. leaves.blocks h v (blocks_kept h v is);
-        certs = λ h v is. leaves.certs h v (certs_kept h v is);
-        may_blocks = leaves.may_blocks;
-        may_certs = leaves.may_certs;
-        no_cache = leaves.no_cache;
+      leaves : LeavesArchives chain n e left
+      leaves = record {
+        put_blocks = reach.put_blocks;
+        put_certs = reach.put_certs;
+        blocks = LeavesStore-then a.held.blocks reach.put_blocks m.held.blocks (blocks_left left) reach.blocks_grown m_blocks;
+        certs = LeavesStore-then a.held.certs reach.put_certs m.held.certs (certs_left left) reach.certs_grown stops.lost.leaves.certs;
+        of_blocks = reach.of_blocks;
+        of_certs = reach.of_certs;
+        own_blocks = reach.own_blocks;
+        own_certs = reach.own_certs;
+        no_cache = stops.lost.leaves.no_cache;
       }
 
+      kept : KeepsValues m.held.blocks.sure left.blocks_sure
+      kept = keeps_sure m.held.blocks [] (blocks_left left) m_blocks
+
       sure_from_held : (h : ℕ) → IsTrue (has_height m.held.blocks.held h) → IsTrue (has_height left.blocks_sure h)
-      sure_from_held h has = keeps_heights m.held.blocks.sure left.blocks_sure leaves.blocks h (held_sure m.held.blocks reach.good.heights.sure_blocks h has)
+      sure_from_held h has = keeps_heights m.held.blocks.sure left.blocks_sure kept h (held_sure m.held.blocks reach.good.heights.sure_blocks h has)
 
       value_from_held : (h : ℕ) (b : Block) → value_at m.held.blocks.held h ≡ Some b → value_at left.blocks_sure h ≡ Some b
-      value_from_held h b is = leaves.blocks h b (sure_value m.held.blocks.held m.held.blocks.sure h b sure_held (held_sure m.held.blocks reach.good.heights.sure_blocks h (has_height-from_value m.held.blocks.held h b is)) is)
+      value_from_held h b is = kept h b (sure_value m.held.blocks.held m.held.blocks.sure h b sure_held (held_sure m.held.blocks reach.good.heights.sure_blocks h (has_height-from_value m.held.blocks.held h b is)) is)
 
       blocks_are : handed_blocks (tips ++ map handed_report handed) ≡ handed
       blocks_are = handed_after_tips tips handed reach.are_tips
 
       first : first_pair left.meta ≡ Some (pair_of m.held.processed m.held.cutoff)
-      first = stops.lost.first_pair_kept ∙ ap first_pair reach.good.heights.own_pair
+      first = stops.lost.leaves.pairs.first ∙ ap first_pair reach.good.heights.own_pair
 
       in_order : HandedFrom left.blocks_sure a.life.next_ack (next_after (option_map height_in m.held.processed) + length (undrained_blocks n e)) handed
       in_order =
@@ -96,28 +103,37 @@ module _ {P E : Type 0} (config : Config) (chain : Chain) (a m : Seen P E) (e : 
       each p has = inr (pair_is ∙ is, subst (IsSafePair chain left.blocks_sure) is safe, subst (λ q. NotBelow (option_map height_in a.held.processed) q.processed) is not_below)
         where
           is : pair_of m.held.processed m.held.cutoff ≡ p
-          is = only_one (pair_of m.held.processed m.held.cutoff) p (subst (λ ps. Contains ps p) (append-nil m.held.pairs ∙ reach.good.heights.own_pair) (stops.lost.pairs_within p has))
+          is = only_one (pair_of m.held.processed m.held.cutoff) p (subst (λ ps. Contains ps p) (append-nil m.held.pairs ∙ reach.good.heights.own_pair) (stops.lost.leaves.pairs.within p has))
 
           from : (o : Option ℕ) → IsFrom 0 o
           from None = tt
           from (Some h) = omega arith
 
           safe : IsSafePair chain left.blocks_sure (pair_of m.held.processed m.held.cutoff)
-          safe = IsSafePair-kept chain 0 m.held.blocks.sure left.blocks_sure (pair_of m.held.processed m.held.cutoff) (λ h low there. keeps_heights m.held.blocks.sure left.blocks_sure leaves.blocks h there) (from (option_map height_in m.held.processed)) (own_pair_safe chain (node_of m buffer asked) reach.good.heights.anchored reach.good.of_chain.floor_safe)
+          safe = IsSafePair-kept chain 0 m.held.blocks.sure left.blocks_sure (pair_of m.held.processed m.held.cutoff) (λ h low there. keeps_heights m.held.blocks.sure left.blocks_sure kept h there) (from (option_map height_in m.held.processed)) (own_pair_safe chain (node_of m buffer asked) reach.good.heights.anchored reach.good.of_chain.floor_safe)
 
-      by_kind : IsUsual x.fault ⊎ ((x.fault ≡ ticket_limit ack_kind) × IsAtLimit m handed) → (is_by_value x.fault ≡ false) × (is_dropped_ack x.fault ≡ false)
-      by_kind (inl usual) = (usual_not_by_value x.fault usual, usual_not_dropped x.fault usual)
-      by_kind (inr limit) = (ap is_by_value limit.0, ap is_dropped_ack limit.0)
+      by_kind : IsArchiveFault x.fault ⊎ ((x.fault ≡ ticket_limit ack_kind) × IsLastTicket m (length handed)) → (is_by_value x.fault ≡ false) × (is_dropped_ack x.fault ≡ false) × (x.fault ≡ store_fault meta_store → ⊥)
+      by_kind (inl of_blocks) = (usual_not_by_value x.fault (usual_from_archive x.fault of_blocks), usual_not_dropped x.fault (usual_from_archive x.fault of_blocks), λ is. absurd (subst IsArchiveFault is of_blocks))
+      by_kind (inr limit) = (ap is_by_value limit.0, ap is_dropped_ack limit.0, λ is. let both : ticket_limit ack_kind ≡ store_fault meta_store = sym limit.0 ∙ is in cc)
+
+      abbrev reached : Reached
+      reached = reached_after n e no_floor
+
+      processed_is : reached.processed ≡ option_map height_in m.held.processed
+      processed_is = ap (option_map height_in) (sym reach.processed)
 
       -- a life that ended while blocks were handed over is cut there
       pub Cuts-handing : Cuts config chain n (e ∷ []) (tips ++ map handed_report handed) x.fault left
       Cuts-handing =
-          Cuts-left config chain a e buffer asked good_before.0 good_before.1 reach.no_effect (tips ++ map handed_report handed) m.life.tip (option_map height_in m.held.processed) x.fault left
+          Cuts-left config chain a e buffer asked good_before.0 good_before.1 reach.no_effect (tips ++ map handed_report handed) m.life.tip reached x.fault left
           (tips_before_handed a.life.tip m.life.tip tips handed reach.are_tips reach.tips_rise) (tips_of_both chain tips handed reach.are_tips reach.tips_chain)
-          (inr (contains_first left.meta (pair_of m.held.processed m.held.cutoff) first))
-          (subst (λ xs. HandedFrom left.blocks_sure a.life.next_ack (next_after (option_map height_in m.held.processed) + length (undrained_blocks n e)) xs) (sym blocks_are) in_order)
+          (inr (refl, subst (Contains (map (λ p. p.processed) left.meta)) (sym processed_is) (contains_first left.meta (pair_of m.held.processed m.held.cutoff) first)))
+          (subst (λ p. HandedFrom left.blocks_sure a.life.next_ack (next_after p + length (undrained_blocks n e)) (handed_blocks (tips ++ map handed_report handed))) (sym processed_is)
+          (subst (λ xs. HandedFrom left.blocks_sure a.life.next_ack (next_after (option_map height_in m.held.processed) + length (undrained_blocks n e)) xs) (sym blocks_are) in_order))
           (subst (AreHandedOf chain left.blocks_sure) (sym blocks_are) (AreHandedOf-values chain m.held.blocks.held left.blocks_sure m.life.next_ack (next_in m) handed reach.good.of_chain.held_blocks value_from_held stops.next))
-          leaves_all (some_from_first left.meta (pair_of m.held.processed m.held.cutoff) first) each
+          leaves (some_from_first left.meta (pair_of m.held.processed m.held.cutoff) first)
+          (inr ((by_kind stops.kind).2, first ∙ ap Some (sym pair_is)))
+          each
           (λ is. absurd (never (is_by_value x.fault) (by_kind stops.kind).0 is))
           (never (is_refused_floor e x.fault) (unrefused x.fault))
           (λ is. absurd (never (is_dropped_ack x.fault) (by_kind stops.kind).1 is))

@@ -8,8 +8,8 @@ use Rattle.mar_key.specs.Keys.{Call, above_height, above_round, retain}
 use Rattle.mar_key.proofs.CutoffOrder.{cutoff_le-total}
 use Rattle.mar_key.specs.Processed.{Processed}
 use Rattle.mar_types.specs.Epochs.{Epochs, closed_epoch}
-use Rattle.mar_node.specs.Held.{Counts, Ending, Seen}
-use Rattle.mar_node.specs.Moves.{RaisesTo, retired, round_at}
+use Rattle.mar_node.specs.Held.{Watches, Ending, Seen}
+use Rattle.mar_node.specs.Moves.{IsRead, RaisesTo, retired, round_at}
 use Rattle.mar_node.specs.Requests.{raise_asks}
 use Rattle.mar_node.proofs.Handing.{Hears-then}
 
@@ -62,8 +62,8 @@ Hears-processed (Ok r) first second third last call c d xs ys before raised is a
 Hears-processed (Err e) first second third last call c d xs ys before raised is after = tt
 
 -- the same, of the actors between
-pub process_asks : {P E : Type 0} (epochs_of : E → Epochs) (old one two three : Seen P E) (result : Result (Seen P E) Ending) (first second third last : Option (List Call)) (processed : Option Processed) (counts : Counts) (height : ℕ) (round : Option Round) (witnessed : Round) → one ≡ record old { held = record old.held { processed = processed; counts = counts } } → two ≡ one → round ≡ round_at one.held.certs.held height → RaisesTo two (option_to_list (option_map at_round round)) witnessed three → Hears first (retain (above_height height) ∷ []) second → Hears second (raise_asks two.held.cutoff (option_to_list (option_map at_round round))) third → OnOk result (Hears third (raise_asks three.held.cutoff (option_to_list (option_map at_epoch (closed_epoch (epochs_of three.life.epocher) height)))) last) → OnOk result (Hears first (retain (above_height height) ∷ raise_asks old.held.cutoff (retired (epochs_of old.life.epocher) old.held.certs.held height)) last)
-process_asks epochs_of old one two three result first second third last processed counts height round witnessed one_is two_is round_is raised before between after =
+pub process_asks : {P E : Type 0} (epochs_of : E → Epochs) (old one two three : Seen P E) (result : Result (Seen P E) Ending) (first second third last : Option (List Call)) (processed : Option Processed) (watches : Watches) (height : ℕ) (round : Option Round) (witnessed : Round) → one ≡ record old { held = record old.held { processed = processed; watches = watches } } → IsRead one two → round ≡ round_at one.held.certs.held height → RaisesTo two (option_to_list (option_map at_round round)) witnessed three → Hears first (retain (above_height height) ∷ []) second → Hears second (raise_asks two.held.cutoff (option_to_list (option_map at_round round))) third → OnOk result (Hears third (raise_asks three.held.cutoff (option_to_list (option_map at_epoch (closed_epoch (epochs_of three.life.epocher) height)))) last) → OnOk result (Hears first (retain (above_height height) ∷ raise_asks old.held.cutoff (retired (epochs_of old.life.epocher) old.held.certs.held height)) last)
+process_asks epochs_of old one two three result first second third last processed watches height round witnessed one_is two_is round_is raised before between after =
     Hears-processed result first second third last (retain (above_height height)) old.held.cutoff three.held.cutoff (option_to_list (option_map at_round (round_at old.held.certs.held height))) (option_to_list (option_map at_epoch (closed_epoch (epochs_of old.life.epocher) height)))
     before
     (subst (λ c. Hears second (raise_asks c (option_to_list (option_map at_round (round_at old.held.certs.held height)))) third) cutoff_is (subst (λ o. Hears second (raise_asks two.held.cutoff (option_to_list (option_map at_round o))) third) round_old between))

@@ -1,8 +1,10 @@
 -- An event in two parts: what it does first, and then the blocks that it hands over.
-use Rattle.std.proofs.Common.{◌≡◌, ◌⊎◌, inl, inr, ℕ, zero, suc, ◌+◌, ◌-◌, ◌<◌, ◌≤◌, ◌^◌, List, [], ◌∷◌, ◌++◌, length, map, true, false, Option, Some, None, IfSome, IsTrue, Contains, slice_get, ◌==◌, refl, sym, ◌∙◌, ap, subst, arith, length-append}
+use Rattle.std.proofs.Common.{◌≡◌, ◌⊎◌, inl, inr, ⊎_elim, ℕ, zero, suc, ◌+◌, ◌-◌, ◌<◌, ◌≤◌, ◌^◌, List, [], ◌∷◌, ◌++◌, length, map, true, false, Option, Some, None, option_to_list, IfSome, IsTrue, Contains, slice_get, ◌==◌, refl, sym, ◌∙◌, ap, subst, arith, length-append}
 use Rattle.std.specs.Bool.{⊤}
-use Rattle.std.specs.List.{AllByRecursion, list_any}
+use Rattle.std.specs.List.{AllByRecursion, filter_map, list_any}
+use Rattle.std.proofs.lemmas.List.Elements.{Contains-append_cases}
 use Rattle.mar_cert.specs.Block.{Block}
+use Rattle.mar_cert.specs.Finalization.{Finalization}
 use Rattle.mar_key.specs.Asked.{Asked, asked_after}
 use Rattle.mar_key.specs.Keys.{Call}
 use Rattle.mar_key.specs.Processed.{first_unprocessed}
@@ -12,15 +14,17 @@ use Rattle.mar_store.proofs.Lookups.{AllByRecursion-append, AllByRecursion-value
 use Rattle.mar_node.specs.Answers.{answers_of, certified_after, is_known, sends_of, subscriptions_after}
 use Rattle.mar_node.specs.Cache.{started_syncs, witnessing_of}
 use Rattle.mar_node.specs.Chain.{Chain, IsBlockAt, IsLawful}
+use Rattle.mar_node.specs.Cached.{cached_block, cached_finalization}
 use Rattle.mar_node.specs.Config.{Config}
-use Rattle.mar_node.specs.Event.{Event, acked_to, blocks_from, certs_from, cutoff_after, drained_blocks, effect_of, is_query, no_floor, storing_of, undrained_blocks}
-use Rattle.mar_node.specs.Faults.{event_fault}
+use Rattle.mar_node.specs.Event.{Event, acked_to, blocks_from, brought_block, certs_from, cutoff_after, drained_blocks, effect_of, is_query, no_floor, storing_of, told_finalization, undrained_blocks}
+use Rattle.mar_node.specs.Faults.{event_fault, last_height}
 use Rattle.mar_node.specs.Held.{Seen}
 use Rattle.mar_node.specs.Moves.{AreNextHeld, HasRoom, IsStill, handed_report, next_in, with_handed}
-use Rattle.mar_node.specs.Node.{HonestAsk, IsGood, Node, Rest, SureOrWritten, block_missing, floor_awaited, window_full, write_count, write_uncovered}
+use Rattle.mar_node.specs.Node.{AreBlocksOf, AreFinalizationsOf, HonestAsk, IsGood, Node, Rest, SureOrWritten, block_missing, floor_awaited, window_full, write_count, write_uncovered}
 use Rattle.mar_node.specs.Promise.{ReportsFinalized, made_of, node_of}
 use Rattle.mar_node.specs.Requests.{own_asks}
-use Rattle.mar_node.specs.Step.{AdvancesBy, AreHandedOf, AreTipsOf, HandedBlock, HandedFrom, HandsOver, IsStored, IsStoredLate, KeepsFrom, Report, Steps, TipsFrom, Writes, handed_blocks, handed_over, new_tip, outstanding_of}
+use Rattle.mar_node.specs.Step.{AdvancesBy, AreHandedOf, AreTipsOf, CertificatesFrom, HandedBlock, HandedFrom, HandsOver, IsBlockFrom, IsCertFrom, IsStored, IsStoredLate, KeepsFrom, Report, Steps, TipsFrom, Writes, handed_blocks, handed_over, new_tip, outstanding_of}
+use Rattle.mar_node.proofs.Growing.{Grown}
 use Rattle.mar_node.proofs.Handing.{AreHandedOf-held, HandedFrom-held, handed_blocks-is, height_after-consecutive}
 use Rattle.mar_node.proofs.HonestAsks.{AreHonest-asked_after, own_asks-honest}
 use Rattle.mar_node.proofs.OutstandingLemmas.{ConsecutiveFrom-append, ConsecutiveFrom-handed}
@@ -82,6 +86,8 @@ next_is config chain m buffer asked good = height_after-consecutive (first_unpro
 pub IsGood-handed : {P E : Type 0} (config : Config) (chain : Chain) (m : Seen P E) (buffer : List Block) (asked : List Asked) (handed : List HandedBlock) → config.window ≡ m.life.sizes.window → IsGood config chain (node_of m buffer asked) → AreNextHeld m handed → HasRoom m handed → IsGood config chain (node_of (with_handed m handed) buffer asked)
 IsGood-handed config chain m buffer asked handed window good next room = record {
   heights = record {
+    nested_blocks = good.heights.nested_blocks;
+    nested_certs = good.heights.nested_certs;
     sure_blocks = good.heights.sure_blocks;
     sure_certs = good.heights.sure_certs;
     consecutive = ConsecutiveFrom-append (first_unprocessed m.held.processed) m.life.out (map outstanding_of handed) good.heights.consecutive (ConsecutiveFrom-handed m.held.blocks.sure m.life.next_ack (first_unprocessed m.held.processed + length m.life.out) handed (subst (λ k. HandedFrom m.held.blocks.sure m.life.next_ack k handed) (next_is config chain m buffer asked good) handed_sure));
@@ -128,14 +134,21 @@ in_list (c ∷ blocks) (suc i) b at = let low : i < length blocks = in_list bloc
 pub Rest-still : {P E : Type 0} (config : Config) (chain : Chain) (m : Seen P E) (buffer : List Block) (asked : List Asked) → IsLawful config.epochs chain → config.window ≡ m.life.sizes.window → IsGood config chain (node_of m buffer asked) → IsStill m → Rest config.window (node_of m buffer asked)
 Rest-still config chain m buffer asked lawful window good (inl full) = window_full (let within : length m.life.out ≤ config.window = good.heights.within_window in omega arith)
 Rest-still config chain m buffer asked lawful window good (inr (inl missing)) = block_missing (subst (λ k. value_at m.held.blocks.held k ≡ None) (next_is config chain m buffer asked good) missing)
-Rest-still config chain m buffer asked lawful window good (inr (inr end)) = block_missing (beyond (value_at m.held.blocks.held next) refl)
+Rest-still config chain m buffer asked lawful window good (inr (inr end)) = block_missing (beyond (value_at m.held.blocks.held next) refl (high end))
   where
     next : ℕ
     next = first_unprocessed m.held.processed + length m.life.out
 
-    beyond : (o : Option Block) → value_at m.held.blocks.held next ≡ o → value_at m.held.blocks.held next ≡ None
-    beyond None is = is
-    beyond (Some b) is = absurd (let at : IsBlockAt chain next b = AllByRecursion-value_at (λ x. IsBlockAt chain x.height x.value) m.held.blocks.held next b good.of_chain.held_blocks is in let low : next < length chain.blocks = in_list chain.blocks next b at in let bound : length chain.blocks < 2 ^ 64 - 1 = lawful.bounded in let high : 2 ^ 64 ≤ first_unprocessed m.held.processed = end in omega arith)
+    same : next_in m ≡ next
+    same = next_is config chain m buffer asked good
+
+    high : (last_height ≤ next_in m) ⊎ (2 ^ 64 ≤ first_unprocessed m.held.processed) → 2 ^ 64 - 1 ≤ next
+    high (inl last) = subst (λ k. 2 ^ 64 - 1 ≤ k) same last
+    high (inr past) = omega arith
+
+    beyond : (o : Option Block) → value_at m.held.blocks.held next ≡ o → 2 ^ 64 - 1 ≤ next → value_at m.held.blocks.held next ≡ None
+    beyond None is end = is
+    beyond (Some b) is end = absurd (let at : IsBlockAt chain next b = AllByRecursion-value_at (λ x. IsBlockAt chain x.height x.value) m.held.blocks.held next b good.of_chain.held_blocks is in let low : next < length chain.blocks = in_list chain.blocks next b at in let bound : length chain.blocks < 2 ^ 64 - 1 = lawful.bounded in omega (arith, end))
 
 -- THE FIRST PART
 
@@ -149,6 +162,15 @@ pub record Reaches {P E : Type 0} (config : Config) (chain : Chain) (a : Seen P 
   pub cutoff : m.held.cutoff ≡ cutoff_after config (node_of a buffer asked) e no_floor
   pub blocks : KeepsFrom (blocks_from (node_of a buffer asked) e no_floor) a.held.blocks m.held.blocks
   pub certs : KeepsFrom (certs_from (node_of a buffer asked) e no_floor) a.held.certs m.held.certs
+  pub put_blocks : List (At Block)
+  pub put_certs : List (At Finalization)
+  pub blocks_grown : Grown a.held.blocks put_blocks m.held.blocks
+  pub certs_grown : Grown a.held.certs put_certs m.held.certs
+  pub of_blocks : AreBlocksOf chain put_blocks
+  pub of_certs : AreFinalizationsOf chain put_certs
+  pub own_blocks : (x : At Block) → Contains put_blocks x → brought_block (node_of a buffer asked) e ≡ Some x.value
+  pub own_certs : (x : At Finalization) → Contains put_certs x → told_finalization (node_of a buffer asked) e ≡ Some x.value
+  pub certificates : CertificatesFrom (node_of a buffer asked) e (node_of m buffer asked)
   pub writes : Writes (node_of a buffer asked) e no_floor (node_of m buffer asked)
   pub no_repair : writes.repaired ≡ []
   pub are_tips : AreTips tips
@@ -168,6 +190,16 @@ pub record Reaches {P E : Type 0} (config : Config) (chain : Chain) (a : Seen P 
 
 -- BOTH PARTS
 
+pub some_first : {T : Type 0} (o : Option T) (others : List T) (x : T) → o ≡ Some x → Contains (option_to_list o ++ others) x
+some_first o others x is = subst (λ p. Contains (option_to_list p ++ others) x) (sym is) (zero, omega arith, refl)
+
+-- what was put is the event's
+pub block_from : (n : Node) (e : Event) (may put : List (At Block)) → ((x : At Block) → Contains put x → brought_block n e ≡ Some x.value) → (x : At Block) → Contains (may ++ put) x → Contains may x ⊎ IsBlockFrom n e x
+block_from n e may put own x has = ⊎_elim (λ before. inl before) (λ new. inr (some_first (brought_block n e) (n.buffer ++ filter_map cached_block n.cache.held) x.value (own x new))) (Contains-append_cases may put x has)
+
+pub cert_from : (n : Node) (e : Event) (may put : List (At Finalization)) → ((x : At Finalization) → Contains put x → told_finalization n e ≡ Some x.value) → (x : At Finalization) → Contains (may ++ put) x → Contains may x ⊎ IsCertFrom n e x
+cert_from n e may put own x has = ⊎_elim (λ before. inl before) (λ new. inr (some_first (told_finalization n e) (filter_map cached_finalization n.cache.held) x.value (own x new))) (Contains-append_cases may put x has)
+
 IfSome-more : {T : Type 0} (P Q : T → Type 0) → ((x : T) → P x → Q x) → (o : Option T) → IfSome o P → IfSome o Q
 IfSome-more P Q more None is = tt
 IfSome-more P Q more (Some x) is = more x is
@@ -186,6 +218,8 @@ Rest-beside window m buffer buffer' asked asked' (write_uncovered h none low) = 
 pub IsGood-beside : {P E : Type 0} (config : Config) (chain : Chain) (m : Seen P E) (buffer buffer' : List Block) (asked asked' : List Asked) → AllByRecursion (λ x. HonestAsk chain x.key x.annotations) asked' → IsGood config chain (node_of m buffer asked) → IsGood config chain (node_of m buffer' asked')
 IsGood-beside config chain m buffer buffer' asked asked' honest good = record {
   heights = record {
+    nested_blocks = good.heights.nested_blocks;
+    nested_certs = good.heights.nested_certs;
     sure_blocks = good.heights.sure_blocks;
     sure_certs = good.heights.sure_certs;
     consecutive = good.heights.consecutive;
@@ -268,6 +302,9 @@ module _ {P E : Type 0} (config : Config) (chain : Chain) (a m : Seen P E) (e : 
       cutoff = reach.cutoff;
       blocks = reach.blocks;
       certs = reach.certs;
+      may_blocks = λ x has. block_from n e a.held.blocks.may reach.put_blocks reach.own_blocks x (reach.blocks_grown.leaves.may x has);
+      may_certs = λ x has. cert_from n e a.held.certs.may reach.put_certs reach.own_certs x (reach.certs_grown.leaves.may x has);
+      certificates = record { entered = reach.certificates.entered; own = reach.certificates.own };
       writes = record {
         repaired = reach.writes.repaired;
         by_repair = reach.writes.by_repair;

@@ -1,32 +1,35 @@
 -- The start of a life: the newest stored finalization is told as the tip, and then blocks are handed over.
-use Rattle.std.proofs.Common.{ℕ, List, [], ◌++◌, None, Option, Result, Err, refl, sym, subst}
+use Rattle.std.proofs.Common.{ℕ, List, [], ◌++◌, None, Option, Result, Err, refl, sym, ◌∙◌, ap, subst}
 use Rattle.mar_types.specs.Epochs.{Epochs, IsPartition}
 use Rattle.mar_cert.specs.Block.{Block}
 use Rattle.mar_key.specs.Asked.{Asked}
 use Rattle.mar_key.specs.Hears.{Hears}
 use Rattle.mar_key.specs.Keys.{Call}
-use Rattle.mar_store.specs.Changes.{IsNested}
+use Rattle.mar_store.specs.Changes.{IsNested, KeepsValues}
 use Rattle.mar_node.specs.Chain.{Chain}
 use Rattle.mar_node.specs.Config.{Config}
 use Rattle.mar_node.specs.Event.{life_started}
-use Rattle.mar_node.specs.Held.{Ending, IsUsual, Loses, Seen}
-use Rattle.mar_node.specs.Moves.{LivesOn, newest, newest_tips, with_newest}
+use Rattle.mar_node.specs.Held.{ArePassed, Ending, IsUsual, Loses, Seen, nothing_written}
+use Rattle.mar_node.specs.Moves.{IsRead, LivesOn, newest, newest_tips, with_newest}
 use Rattle.mar_node.specs.Node.{IsGood}
 use Rattle.mar_node.specs.Promise.{AreOne, IsGoodUntold, KeepsPromise, node_of}
 use Rattle.mar_node.specs.Step.{Report}
-use Rattle.mar_node.proofs.EventPromises.{no_pair, quiet_cut}
+use Rattle.mar_node.proofs.EventPromises.{quiet_cut}
+use Rattle.mar_node.proofs.Growing.{Grown-same}
 use Rattle.mar_node.proofs.Handing.{Hears-nothing, Ran}
 use Rattle.mar_node.proofs.Lasting.{IsPart, LivesOn-ran, LivesOn-then}
-use Rattle.mar_node.proofs.PlainEvents.{KeepsFrom-same, Writes-none}
+use Rattle.mar_node.proofs.PlainEvents.{Certificates-same, KeepsFrom-same, Writes-none, nothing_put}
 use Rattle.mar_node.proofs.Promises.{dispatched}
 use Rattle.mar_node.proofs.Reaching.{Reaches}
 use Rattle.mar_node.proofs.Tips.{newest_tip-high, newest_tips-chain, newest_tips-rise, newest_tips-tips}
 
-module _ {P E : Type 0} (config : Config) (chain : Chain) (a : Seen P E) (buffer : List Block) (asked : List Asked) (untold : IsGoodUntold config chain (node_of a buffer asked)) where
+module _ {P E : Type 0} (config : Config) (chain : Chain) (a : Seen P E) (buffer : List Block) (asked : List Asked) (nested : IsNested a.held.blocks) (certs_nested : IsNested a.held.certs) (untold : IsGoodUntold config chain (node_of a buffer asked)) where
   -- once its newest finalization is told, a node is good
   IsGood-told : IsGood config chain (node_of (with_newest a) buffer asked)
   IsGood-told = record {
     heights = record {
+      nested_blocks = untold.1.heights.nested_blocks;
+      nested_certs = untold.1.heights.nested_certs;
       sure_blocks = untold.1.heights.sure_blocks;
       sure_certs = untold.1.heights.sure_certs;
       consecutive = untold.1.heights.consecutive;
@@ -54,8 +57,8 @@ module _ {P E : Type 0} (config : Config) (chain : Chain) (a : Seen P E) (buffer
     };
   }
 
-  pub Reaches-start : AreOne config.inner (chain.blocks ++ buffer) → Reaches config chain a (life_started None) buffer asked (newest_tips config.inner a.life.tip (newest a.held.certs.held)) (with_newest a)
-  Reaches-start one = record {
+  pub Reaches-start : (m : Seen P E) → IsRead (with_newest a) m → AreOne config.inner (chain.blocks ++ buffer) → Reaches config chain a (life_started None) buffer asked (newest_tips config.inner a.life.tip (newest a.held.certs.held)) m
+  Reaches-start m same one = subst (Reaches config chain a (life_started None) buffer asked (newest_tips config.inner a.life.tip (newest a.held.certs.held))) (sym same) (record {
     no_effect = refl;
     kept = refl;
     next_ack = refl;
@@ -64,6 +67,15 @@ module _ {P E : Type 0} (config : Config) (chain : Chain) (a : Seen P E) (buffer
     cutoff = refl;
     blocks = KeepsFrom-same _ a.held.blocks;
     certs = KeepsFrom-same _ a.held.certs;
+    put_blocks = [];
+    put_certs = [];
+    blocks_grown = Grown-same a.held.blocks a.held.blocks nested refl;
+    certs_grown = Grown-same a.held.certs a.held.certs certs_nested refl;
+    of_blocks = tt;
+    of_certs = tt;
+    own_blocks = λ x has. nothing_put x has;
+    own_certs = λ x has. nothing_put x has;
+    certificates = Certificates-same a (with_newest a) (life_started None) buffer asked refl;
     writes = (Writes-none a (with_newest a) (life_started None) buffer asked refl refl refl refl refl).0;
     no_repair = (Writes-none a (with_newest a) (life_started None) buffer asked refl refl refl refl refl).1;
     are_tips = newest_tips-tips config.inner a.life.tip (newest a.held.certs.held);
@@ -80,22 +92,23 @@ module _ {P E : Type 0} (config : Config) (chain : Chain) (a : Seen P E) (buffer
     certified = λ tip. refl;
     no_syncs = λ n'. refl;
     good = IsGood-told;
-  }
+  })
 
--- the tip alone moves
-IsPart-newest : {P E : Type 0} (a : Seen P E) → IsPart a (with_newest a)
-IsPart-newest a = record { same = record { counts = refl; provider = refl; epocher = refl; sizes = refl }; next_ack = refl; next = refl }
+-- the tip alone moves, and the store of certificates is read
+IsPart-newest : {P E : Type 0} (a m : Seen P E) → IsRead (with_newest a) m → ArePassed a.held.watches m.held.watches → IsPart a m
+IsPart-newest a m same passed = record { passed = passed; provider = ap (λ s. s.life.provider) same; epocher = ap (λ s. s.life.epocher) same; sizes = ap (λ s. s.life.sizes) same; next_ack = ap (λ s. s.life.next_ack) same }
 
-pub LivesOn-start : {P E : Type 0} (a : Seen P E) (told told' : Option (List Report)) (result : Result (Seen P E) Ending) → Ran (with_newest a) told told' result → LivesOn a result
-LivesOn-start a told told' result ran = LivesOn-then a (with_newest a) result (IsPart-newest a) (LivesOn-ran (with_newest a) told told' result ran)
+pub LivesOn-start : {P E : Type 0} (a m : Seen P E) (told told' : Option (List Report)) (result : Result (Seen P E) Ending) → IsRead (with_newest a) m → ArePassed a.held.watches m.held.watches → Ran m told told' result → LivesOn a result
+LivesOn-start a m told told' result same passed ran = LivesOn-then a m result (IsPart-newest a m same passed) (LivesOn-ran m told told' result ran)
 
 module _ {P E : Type 0} (epochs : Epochs) (inner : List ℕ → List ℕ) (partition : IsPartition epochs) (a : Seen P E) (buffer : List Block) where
   -- nothing could be told
-  pub promise-untold : (told told' : Option (List Report)) (heard : Option (List Call)) (x : Ending) → Hears told [] told' → Loses a.held [] [] [] x → IsUsual x.fault → KeepsPromise epochs inner a (life_started None) buffer told told' heard heard (Err x)
+  pub promise-untold : (told told' : Option (List Report)) (heard : Option (List Call)) (x : Ending) → Hears told [] told' → Loses a.held nothing_written x → IsUsual x.fault → KeepsPromise epochs inner a (life_started None) buffer told told' heard heard (Err x)
   promise-untold told told' heard x silent lost usual config chain asked set step =
-      quiet_cut epochs inner partition a buffer config chain asked (life_started None) step refl (λ fault. refl) told told' [] [] [] x silent tt tt lost (λ p has. no_pair epochs inner partition a buffer p has) usual
+      quiet_cut epochs inner partition a buffer config chain asked (life_started None) step refl (λ fault. refl) told told' nothing_written x silent refl refl tt tt (λ y has. nothing_put y has) (λ y has. nothing_put y has) lost (λ p has. nothing_put p has) usual
 
-  pub promise-start : (told told1 told' : Option (List Report)) (heard : Option (List Call)) (result : Result (Seen P E) Ending) → IsNested a.held.blocks → Hears told (newest_tips inner a.life.tip (newest a.held.certs.held)) told1 → Ran (with_newest a) told1 told' result → KeepsPromise epochs inner a (life_started None) buffer told told' heard heard result
-  promise-start told told1 told' heard result nested tips ran config chain asked set step =
-      dispatched config chain a (with_newest a) (life_started None) buffer asked (newest_tips config.inner a.life.tip (newest a.held.certs.held)) set.window step (λ fault. refl) (Reaches-start config chain a buffer asked step.good step.one) nested.sure_held (λ h v is. is) (λ h v is. is) told told1 told' heard heard result
+  pub promise-start : (told told1 told' : Option (List Report)) (heard : Option (List Call)) (m : Seen P E) (result : Result (Seen P E) Ending) → IsNested a.held.blocks → IsNested a.held.certs → IsRead (with_newest a) m → Hears told (newest_tips inner a.life.tip (newest a.held.certs.held)) told1 → Ran m told1 told' result → KeepsPromise epochs inner a (life_started None) buffer told told' heard heard result
+  promise-start told told1 told' heard m result nested certs_nested same tips ran config chain asked set step =
+      dispatched config chain a m (life_started None) buffer asked (newest_tips config.inner a.life.tip (newest a.held.certs.held)) (set.window ∙ sym (ap (λ s. s.life.sizes.window) same)) step (λ fault. refl) (Reaches-start config chain a buffer asked nested certs_nested step.good m same step.one)
+      (subst (λ s. KeepsValues s.held.blocks.sure s.held.blocks.held) (sym same) nested.sure_held) told told1 told' heard heard result
       (subst (λ i. Hears told (newest_tips i a.life.tip (newest a.held.certs.held)) told1) (sym set.inner_is) tips) ran (Hears-nothing heard)

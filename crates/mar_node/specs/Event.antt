@@ -120,6 +120,16 @@ effect_of config n (message_told t (set_floor f)) = if is_admitted config n f th
 effect_of config n (life_started (Some f)) = if is_admitted config n f then admitted_effect f (at_hand n f.payload) else no_floor
 effect_of config n e = brought_effect n.awaited (brought_block n e)
 
+-- the finalization that an event tells, and that of the block which it brings
+abbrev pub told_finalization : Node → Event → Option Finalization
+told_finalization n (message_told t (report_finalization f)) = Some f
+told_finalization n (message_told t (set_floor f)) = Some f
+told_finalization n (life_started floor) = floor
+told_finalization n (peer_answered (gave_finalized f b)) = Some f
+told_finalization n (peer_answered (gave_block b annotations)) = finalization_for n b
+told_finalization n (peer_answered (gave_notarized f b)) = finalization_for n b
+told_finalization n _ = None
+
 -- what an event drains of the outstanding blocks
 abbrev pub drained_blocks : Node → Event → List Outstanding
 drained_blocks n (ack_given t) = given_front (with_mark t mark_given n.out)
@@ -130,6 +140,12 @@ abbrev pub undrained_blocks : Node → Event → List Outstanding
 undrained_blocks n (ack_given t) = after_given (with_mark t mark_given n.out)
 undrained_blocks n (ack_dropped t) = with_mark t mark_dropped n.out
 undrained_blocks n _ = n.out
+
+-- the outstanding blocks before any is drained, with the mark that the event sets
+abbrev pub marked_blocks : Node → Event → List Outstanding
+marked_blocks n (ack_given t) = with_mark t mark_given n.out
+marked_blocks n (ack_dropped t) = with_mark t mark_dropped n.out
+marked_blocks n _ = n.out
 
 -- the floor stands above the processed height
 abbrev pub is_above : Node → Block → Bool

@@ -1,12 +1,13 @@
 -- How a life ends, and the faults that values call for. A finished step has none of these.
 use Rattle.std.specs.Option.{option_or}
-use Rattle.std.specs.Prelude.{Bool, List, None, Option, Some, [], bytes_eq, false, if◌then◌else◌, nat_lt, not, true, ℕ, ◌&&◌, ◌+◌, ◌-◌, ◌==◌, ◌^◌, ◌||◌, ◌∷◌}
+use Rattle.std.specs.Prelude.{Bool, List, None, Option, Some, [], bytes_eq, false, if◌then◌else◌, is_some, nat_lt, not, true, ℕ, ◌&&◌, ◌+◌, ◌-◌, ◌==◌, ◌^◌, ◌||◌, ◌∷◌}
 use Rattle.mar_types.specs.Round.{Round}
 use Rattle.mar_cert.specs.Block.{Block}
 use Rattle.mar_cert.specs.Finalization.{Finalization}
 use Rattle.mar_key.specs.Cutoff.{covers}
 use Rattle.mar_key.specs.Processed.{height_of}
 use Rattle.mar_store.specs.Kept.{At, has_height, value_at}
+use Rattle.mar_node.specs.Stored.{block_of}
 use Rattle.mar_node.specs.Messages.{set_floor}
 use Rattle.mar_node.specs.Config.{Config}
 use Rattle.mar_node.specs.Acks.{Mark, Outstanding, mark_dropped, mark_given, mark_waiting}
@@ -108,11 +109,11 @@ abbrev pub next_after : Option ℕ → ℕ
 next_after None = 0
 next_after (Some h) = h + 1
 
--- block 0 is put where none is stored and the processed height is not above 0
+-- block 0 is put where none is stored at its height or under its digest and the processed height is not above 0
 abbrev pub with_genesis : Begin → Option ℕ → List (At Block) → List (At Block)
 with_genesis (from_floor f) processed blocks = blocks
 with_genesis (from_genesis g) processed blocks =
-    if has_height blocks 0 || nat_lt 1 (next_after processed) then blocks
+    if (has_height blocks 0 || is_some (block_of blocks g.digest)) || nat_lt 1 (next_after processed) then blocks
     else record { height = 0; value = g } ∷ blocks
 
 abbrev pub stored_mismatch : Block → Option Block → Option Fault

@@ -1,35 +1,77 @@
 -- What a life keeps: its stores, and what it remembers beside them; what is left of the stores.
-use Rattle.std.specs.Prelude.{ℕ, ⊤, ◌≡◌, ◌<◌, ◌⊎◌, ◌++◌, ◌∷◌, Contains, List, [], MatchResult, Option, Result, length, min, option_map, ◌-◌, ◌^◌, ◌≤◌}
+use Rattle.std.specs.Prelude.{Contains, IfErr, List, MatchResult, Option, Result, Some, [], false, length, option_map, suc, true, zero, ℕ, ⊤, ◌++◌, ◌<◌, ◌∷◌, ◌≡◌, ◌≤◌, ◌⊎◌}
 use Rattle.mar_codec.specs.Causes.{Rose}
 use Rattle.mar_types.specs.Round.{Round}
 use Rattle.mar_cert.specs.Finalization.{Finalization}
 use Rattle.mar_key.specs.Cutoff.{Cutoff}
 use Rattle.mar_key.specs.Processed.{Processed, at_block}
-use Rattle.mar_store.specs.Kept.{At, Kept}
-use Rattle.mar_store.specs.Changes.{Left, Fails, IsReopened, Within, left_of}
+use Rattle.mar_store.specs.Kept.{At, Kept, value_at}
+use Rattle.mar_store.specs.Changes.{Left, IsReopened, KeepsValues, Within, left_of}
+use Rattle.mar_store.specs.Luck.{keeps_by, lucky_found}
+use Rattle.mar_store.specs.Watch.{Strikes, Watch, armed, counted, is_due}
 use Rattle.mar_store.specs.declared.Lost.{Lost}
 use Rattle.mar_store.specs.declared.Lost.TheVariants.{Fault as Broke, Memory as Forgot}
 use Rattle.mar_store.specs.declared.Miss.{Miss}
 use Rattle.mar_store.specs.declared.Miss.TheVariants.{Fault as Missed, Memory as NoRoom}
 use Rattle.mar_cert.specs.Block.{Block}
 use Rattle.mar_node.specs.Acks.{Outstanding}
-use Rattle.mar_node.specs.Metadata.{Pair, first_pair}
+use Rattle.mar_node.specs.Cached.{Cached}
+use Rattle.mar_node.specs.Metadata.{Pair, first_pair, lucky_pair}
 use Rattle.mar_node.specs.Faults.{Fault, store_fault, want_of_memory, StoreName, block_store, cert_store, meta_store, cache_store}
-use Rattle.mar_node.specs.Lives.{round_zero}
+use Rattle.mar_node.specs.Lives.{IsPicked, Picks, round_zero}
 use Rattle.mar_node.specs.Node.{Ended}
 
--- how often each store has failed
-pub record Counts : Type 0 where
-  pub blocks : ℕ
-  pub certs : ℕ
-  pub meta : ℕ
-  pub cache : ℕ
+-- what each store tells of its failures
+pub record Watches : Type 0 where
+  pub blocks : Watch
+  pub certs : Watch
+  pub meta : Watch
+  pub cache : Watch
 
-abbrev pub count_of : Counts → StoreName → ℕ
-count_of c block_store = c.blocks
-count_of c cert_store = c.certs
-count_of c meta_store = c.meta
-count_of c cache_store = c.cache
+abbrev pub watch_of : Watches → StoreName → Watch
+watch_of w block_store = w.blocks
+watch_of w cert_store = w.certs
+watch_of w meta_store = w.meta
+watch_of w cache_store = w.cache
+
+-- with one more call of a store armed; the cache counts none yet
+abbrev pub with_armed : StoreName → ℕ → Watches → Watches
+with_armed block_store calls w = record w { blocks = armed calls w.blocks }
+with_armed cert_store calls w = record w { certs = armed calls w.certs }
+with_armed meta_store calls w = record w { meta = armed calls w.meta }
+with_armed cache_store calls w = w
+
+-- after so many counted calls
+abbrev pub counted_calls : ℕ → Watch → Watch
+counted_calls zero w = w
+counted_calls (suc k) w = counted_calls k (counted w)
+
+-- none of the next so many calls is armed
+abbrev pub Unarmed : ℕ → Watch → Type 0
+Unarmed zero w = ⊤
+Unarmed (suc k) w = (is_due w.due ≡ false) × Unarmed k (counted w)
+
+-- Some counted calls were made, and none of them failed.
+pub record Passes (old new : Watch) : Type 0 where
+  pub calls : ℕ
+  pub unarmed : Unarmed calls old
+  pub is : new ≡ counted_calls calls old
+
+-- A call that isn't counted failed, which none does where only armed calls fail.
+pub record StrikesUncounted (old new : Watch) : Type 0 where
+  pub rose : Rose old.faults new.faults
+  pub unarmed : old.only_armed ≡ true → ⊥
+  pub same : new ≡ record old { faults = new.faults }
+
+-- Some calls went well, and then one failed.
+pub record Breaks (old new : Watch) : Type 0 where
+  pub mid : Watch
+  pub passes : Passes old mid
+  pub strikes : Strikes mid new ⊎ StrikesUncounted mid new
+
+-- no call of any store failed
+abbrev pub ArePassed : Watches → Watches → Type 0
+ArePassed before now = (s : StoreName) → Passes (watch_of before s) (watch_of now s)
 
 -- How far delivery has come, the last round that was witnessed, and what a crash can leave of the first two.
 pub record Progress : Type 0 where
@@ -37,11 +79,11 @@ pub record Progress : Type 0 where
   pub cutoff : Cutoff
   pub witnessed : Round
   pub pairs : List Pair
-  pub faults : ℕ
+  pub watch : Watch
 
 -- as a store says that was just reopened
-abbrev pub progress_of : Pair → ℕ → Progress
-progress_of p faults = record { processed = option_map at_block p.processed; cutoff = p.cutoff; witnessed = round_zero; pairs = p ∷ []; faults = faults }
+abbrev pub progress_of : Pair → Watch → Progress
+progress_of p watch = record { processed = option_map at_block p.processed; cutoff = p.cutoff; witnessed = round_zero; pairs = p ∷ []; watch = watch }
 
 -- The stores of a life, with the processed height, the cutoff, the last witnessed round, and the pairs that a crash can
 -- leave of the first two.
@@ -52,7 +94,7 @@ pub record Held : Type 0 where
   pub cutoff : Cutoff
   pub witnessed : Round
   pub pairs : List Pair
-  pub counts : Counts
+  pub watches : Watches
 
 -- the sizes that an actor keeps to
 pub record Sizes : Type 0 where
@@ -88,10 +130,10 @@ pub record Seen (P E : Type 0) : Type 0 where
   pub held : Held
   pub life : Remembered P E
 
--- What is left of the stores, and how often each has failed.
+-- What is left of the stores, and what each tells of its failures.
 pub record Remains : Type 0 where
   pub ended : Ended
-  pub counts : Counts
+  pub watches : Watches
 
 -- How a life ended, and what is left.
 pub record Ending : Type 0 where
@@ -113,7 +155,7 @@ ended_of blocks certs pairs = record {
 
 -- what a crash between two store calls leaves
 abbrev pub remains_of : Held → Remains
-remains_of h = record { ended = ended_of (left_of h.blocks) (left_of h.certs) h.pairs; counts = h.counts }
+remains_of h = record { ended = ended_of (left_of h.blocks) (left_of h.certs) h.pairs; watches = h.watches }
 
 abbrev pub blocks_left : Ended → Left (At Block)
 blocks_left e = record { sure = e.blocks_sure; may = e.blocks_may }
@@ -121,67 +163,145 @@ blocks_left e = record { sure = e.blocks_sure; may = e.blocks_may }
 abbrev pub certs_left : Ended → Left (At Finalization)
 certs_left e = record { sure = e.certs_sure; may = e.certs_may }
 
--- no count falls, but for one that stands past its last value
-abbrev pub NotFewer : Counts → Counts → Type 0
-NotFewer before now = (s : StoreName) → min (count_of before s) (2 ^ 64 - 1) ≤ count_of now s
+-- A store's fault comes exactly where a call of that store failed since; of the others none did.
+pub record FailsBy (before : Watches) (fault : Fault) (now : Watches) : Type 0 where
+  pub broke : (s : StoreName) → fault ≡ store_fault s → Breaks (watch_of before s) (watch_of now s)
+  pub passed : (s : StoreName) → (fault ≡ store_fault s → ⊥) → Passes (watch_of before s) (watch_of now s)
 
--- A store's fault comes exactly where that store's count rose since, want of memory aside; no count falls.
-pub record IsEndedBy (before : Counts) (e : Ending) : Type 0 where
-  pub told : (s : StoreName) → count_of before s < count_of e.remains.counts s → (e.fault ≡ store_fault s) ⊎ (e.fault ≡ want_of_memory)
-  pub caused : (s : StoreName) → e.fault ≡ store_fault s → Rose (count_of before s) (count_of e.remains.counts s)
-  pub later : NotFewer before e.remains.counts
+-- why a life ended
+abbrev pub IsEndedBy : Watches → Ending → Type 0
+IsEndedBy before e = FailsBy before e.fault e.remains.watches
 
--- What calls of which the last one failed leave: what was sure, and what may be left with what they were to write.
-pub record Loses (old : Held) (blocks : List (At Block)) (certs : List (At Finalization)) (pairs : List Pair) (e : Ending) : Type 0 where
-  pub blocks_kept : Fails (left_of old.blocks) blocks (blocks_left e.remains.ended)
-  pub certs_kept : Fails (left_of old.certs) certs (certs_left e.remains.ended)
-  pub first_pair_kept : first_pair e.remains.ended.meta ≡ first_pair old.pairs
-  pub pairs_within : Within e.remains.ended.meta (old.pairs ++ pairs)
-  pub no_cache : e.remains.ended ≡ ended_of (blocks_left e.remains.ended) (certs_left e.remains.ended) e.remains.ended.meta
-  pub cause : IsEndedBy old.counts e
+-- SINCE A START
 
--- The stores as an opening finds them: each archive reopened, one pair of the metadata, counts as before.
-pub record ReopensAs (old : Remains) (new : Held) : Type 0 where
+-- What was written since a start: what was put, the pairs that the metadata's sync was given, and the heights below which
+-- was pruned.
+pub record Written : Type 0 where
+  pub blocks : List (At Block)
+  pub certs : List (At Finalization)
+  pub cached : List Cached
+  pub pairs : List Pair
+  pub blocks_from : ℕ
+  pub certs_from : ℕ
+
+abbrev pub nothing_written : Written
+nothing_written = record { blocks = []; certs = []; cached = []; pairs = []; blocks_from = 0; certs_from = 0 }
+
+abbrev pub written_block : At Block → Written
+written_block x = record nothing_written { blocks = x ∷ [] }
+
+abbrev pub written_cert : At Finalization → Written
+written_cert x = record nothing_written { certs = x ∷ [] }
+
+abbrev pub written_both : At Block → At Finalization → Written
+written_both x y = record nothing_written { blocks = x ∷ []; certs = y ∷ [] }
+
+abbrev pub written_pair : Pair → Written
+written_pair p = record nothing_written { pairs = p ∷ [] }
+
+-- all that the first wrote the second wrote too
+pub record WithinWritten (some all : Written) : Type 0 where
+  pub blocks : Within some.blocks all.blocks
+  pub certs : Within some.certs all.certs
+  pub pairs : Within some.pairs all.pairs
+  pub blocks_from : some.blocks_from ≤ all.blocks_from
+  pub certs_from : some.certs_from ≤ all.certs_from
+
+-- What may be left of the metadata: what was synced stands first, and nothing is gone, nor new but what was written.
+pub record LeavesPairsSince (start written left : List Pair) : Type 0 where
+  pub first : first_pair left ≡ first_pair start
+  pub kept : Within start left
+  pub within : Within left (start ++ written)
+
+-- What is left of a store: at or above the bound all that was sure is sure, and all that was held may be left; what may be
+-- left might be before, or was put.
+pub record LeavesStore {T : Type 0} (start : Kept (At T)) (bound : ℕ) (put : List (At T)) (left : Left (At T)) : Type 0 where
+  pub sure : (h : ℕ) (v : T) → bound ≤ h → value_at start.sure h ≡ Some v → value_at left.sure h ≡ Some v
+  pub held : (x : At T) → bound ≤ x.height → Contains start.held x → Contains left.may x
+  pub may : Within left.may (start.may ++ put)
+  pub sure_may : (h : ℕ) (v : T) → value_at left.sure h ≡ Some v → Contains left.may (record { height = h; value = v })
+
+-- What is left of all stores, since a start: with what was written, and no more.
+pub record LeavesMore (start : Held) (written : Written) (now : Ended) : Type 0 where
+  pub blocks : LeavesStore start.blocks written.blocks_from written.blocks (blocks_left now)
+  pub certs : LeavesStore start.certs written.certs_from written.certs (certs_left now)
+  pub pairs : LeavesPairsSince start.pairs written.pairs now.meta
+  pub no_cache : now ≡ ended_of (blocks_left now) (certs_left now) now.meta
+
+-- The calls since a start went well; what was held at or above the bound of a prune is held.
+pub record Grew (start : Held) (written : Written) (now : Held) : Type 0 where
+  pub leaves : LeavesMore start written (remains_of now).ended
+  pub blocks : (x : At Block) → written.blocks_from ≤ x.height → Contains start.blocks.held x → Contains now.blocks.held x
+  pub certs : (x : At Finalization) → written.certs_from ≤ x.height → Contains start.certs.held x → Contains now.certs.held x
+  pub passed : ArePassed start.watches now.watches
+
+-- One of the calls since a start failed, or memory ran out, or the rules ended the life.
+pub record Loses (start : Held) (written : Written) (e : Ending) : Type 0 where
+  pub leaves : LeavesMore start written e.remains.ended
+  pub cause : IsEndedBy start.watches e
+
+-- Whatever was written before since some start, these writes join it; `held_in` says where the stores are in the result.
+abbrev pub GoesOn : {T : Type 0} → (T → Held) → Held → Written → Result T Ending → Type 0
+GoesOn held_in old written result =
+    (start : Held) (all : Written) → Grew start all old → WithinWritten written all → MatchResult result (λ r. Grew start all (held_in r)) (Loses start all)
+
+-- the same of a call of which only a failure is said
+abbrev pub LosesSince : {T : Type 0} → Held → Written → Result T Ending → Type 0
+LosesSince old written result = (start : Held) (all : Written) → Grew start all old → WithinWritten written all → IfErr result (Loses start all)
+
+-- OPENING
+
+-- what a luck picks of what is left, where the stores go by it
+abbrev pub picks_of : Remains → ℕ → Picks
+picks_of old luck = record {
+  blocks = option_map (λ keeps. lucky_found (keeps_by keeps luck) (blocks_left old.ended)) old.watches.blocks.keeps;
+  certs = option_map (λ keeps. lucky_found (keeps_by keeps luck) (certs_left old.ended)) old.watches.certs.keeps;
+  pair = option_map (λ keeps. lucky_pair (keeps_by keeps luck 0) old.ended.meta) old.watches.meta.keeps;
+}
+
+-- The stores as an opening finds them: each archive reopened, one pair of the metadata, one call of each store counted.
+pub record ReopensAs (old : Remains) (luck : ℕ) (new : Held) : Type 0 where
   pub blocks : IsReopened (blocks_left old.ended) new.blocks
   pub certs : IsReopened (certs_left old.ended) new.certs
   pub pair : Pair
   pub pair_may : Contains old.ended.meta pair
+  pub picked : IsPicked (picks_of old luck) new.blocks.held new.certs.held pair
   pub processed : new.processed ≡ option_map at_block pair.processed
   pub cutoff : new.cutoff ≡ pair.cutoff
   pub witnessed : new.witnessed ≡ round_zero
   pub pairs : new.pairs ≡ pair ∷ []
-  pub counts : new.counts ≡ old.counts
+  pub passed : ArePassed old.watches new.watches
   pub no_cache : old.ended ≡ ended_of (blocks_left old.ended) (certs_left old.ended) old.ended.meta
 
--- What an opening that failed leaves: what was sure, what may be left with what it was to write, and of the pairs that
--- there were and that it was to write.
-pub record LosesOpening (old : Remains) (blocks : List (At Block)) (pairs : List Pair) (e : Ending) : Type 0 where
-  pub blocks_kept : Fails (blocks_left old.ended) blocks (blocks_left e.remains.ended)
-  pub certs_kept : Fails (certs_left old.ended) [] (certs_left e.remains.ended)
+-- What is left of a store that was opened, or was to be: what was sure is sure, and nothing may be left but what might
+-- before, and what was put.
+pub record LeavesUnopened {T : Type 0} (old : Left (At T)) (put : List (At T)) (left : Left (At T)) : Type 0 where
+  pub sure : KeepsValues old.sure left.sure
+  pub may : Within left.may (old.may ++ put)
+
+-- What an opening that failed leaves.
+pub record LosesOpening (old : Remains) (written : Written) (e : Ending) : Type 0 where
+  pub blocks : LeavesUnopened (blocks_left old.ended) written.blocks (blocks_left e.remains.ended)
+  pub certs : LeavesUnopened (certs_left old.ended) written.certs (certs_left e.remains.ended)
   pub some_pair : 0 < length old.ended.meta → 0 < length e.remains.ended.meta
-  pub pairs_within : Within e.remains.ended.meta (old.ended.meta ++ pairs)
+  pub first_pair : (p : Pair) → first_pair e.remains.ended.meta ≡ Some p → Contains old.ended.meta p
+  pub pairs : Within e.remains.ended.meta (old.ended.meta ++ written.pairs)
   pub had_no_cache : old.ended ≡ ended_of (blocks_left old.ended) (certs_left old.ended) old.ended.meta
   pub no_cache : e.remains.ended ≡ ended_of (blocks_left e.remains.ended) (certs_left e.remains.ended) e.remains.ended.meta
-  pub cause : IsEndedBy old.counts e
-
--- Nothing that is durable changed but by more that may be left.
-pub record Grew (old : Held) (blocks : List (At Block)) (certs : List (At Finalization)) (new : Held) : Type 0 where
-  pub blocks_grew : Fails (left_of old.blocks) blocks (left_of new.blocks)
-  pub certs_grew : Fails (left_of old.certs) certs (left_of new.certs)
-  pub pairs_same : new.pairs ≡ old.pairs
-  pub counts_same : new.counts ≡ old.counts
-
--- Whatever was written before since some start, these writes join it; `held_in` says where the stores are in the result.
-abbrev pub GoesOn : {T : Type 0} → (T → Held) → Held → List (At Block) → List (At Finalization) → Result T Ending → Type 0
-GoesOn held_in old blocks certs result =
-    (start : Held) (all_blocks : List (At Block)) (all_certs : List (At Finalization)) → Grew start all_blocks all_certs old → Within blocks all_blocks → Within certs all_certs
-    → MatchResult result (λ r. Grew start all_blocks all_certs (held_in r)) (Loses start all_blocks all_certs [])
+  pub cause : IsEndedBy old.watches e
 
 -- a store's fault, or want of memory
 abbrev pub IsUsual : Fault → Type 0
 IsUsual (store_fault s) = ⊤
 IsUsual want_of_memory = ⊤
 IsUsual _ = ⊥
+
+-- a fault of one of the two archives, or want of memory
+abbrev pub IsArchiveFault : Fault → Type 0
+IsArchiveFault (store_fault block_store) = ⊤
+IsArchiveFault (store_fault cert_store) = ⊤
+IsArchiveFault want_of_memory = ⊤
+IsArchiveFault _ = ⊥
 
 -- no store's fault
 abbrev pub IsNoStores : Fault → Type 0

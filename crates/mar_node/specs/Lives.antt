@@ -1,6 +1,6 @@
 -- Lives of a node: an opening, steps, and an end, which is a crash or a cut.
 use Rattle.std.specs.List.{AllByRecursion}
-use Rattle.std.specs.Prelude.{Bool, Contains, IsTrue, List, None, Option, Some, [], false, if◌then◌else◌, length, map, option_map, option_to_list, true, ℕ, ⊤, ◌++◌, ◌+◌, ◌<◌, ◌∷◌, ◌≡◌, ◌≤◌, ◌⊎◌}
+use Rattle.std.specs.Prelude.{Bool, Contains, IfSome, IsTrue, List, None, Option, Some, [], false, if◌then◌else◌, length, map, option_map, option_to_list, true, ℕ, ⊤, ◌++◌, ◌+◌, ◌<◌, ◌∷◌, ◌≡◌, ◌≤◌, ◌⊎◌}
 use Rattle.mar_types.specs.Round.{Round, round_lt}
 use Rattle.mar_cert.specs.Block.{Block}
 use Rattle.mar_cert.specs.Finalization.{Finalization}
@@ -13,12 +13,13 @@ use Rattle.mar_store.specs.Kept.{At, EachHeightOnce, Kept, Reopens, has_height, 
 use Rattle.mar_node.specs.Messages.{set_floor}
 use Rattle.mar_node.specs.Config.{Config}
 use Rattle.mar_node.specs.Node.{AreBlocksOf, AreCachedOf, AreFinalizationsOf, BlocksAgree, Ended, FloorSafe, Node, left_by}
+use Rattle.mar_node.specs.Acks.{Outstanding}
 use Rattle.mar_node.specs.Cached.{CacheReopens, Cached, epoch_of}
-use Rattle.mar_node.specs.Metadata.{Pair, pair_of}
-use Rattle.mar_node.specs.Event.{Effect, Event, blocks_from, certs_from, cutoff_after, effect_of, kept_blocks, life_started, message_told, processed_after}
+use Rattle.mar_node.specs.Metadata.{Pair, first_pair, pair_of}
+use Rattle.mar_node.specs.Event.{Effect, Event, blocks_from, certs_from, cutoff_after, effect_of, kept_blocks, life_started, marked_blocks, message_told, processed_after}
 use Rattle.mar_node.specs.Cache.{is_pruned, witnessing_of}
-use Rattle.mar_node.specs.Faults.{Begin, Fault, dropped_ack, event_fault, floor_epoch_unavailable, floor_invalid, floor_of, is_by_value, next_after, opening_fault, with_genesis}
-use Rattle.mar_node.specs.Step.{AdvancesAll, AreHandedOf, AreTipsOf, HandedFrom, Made, Report, Steps, TipsFrom, handed_blocks}
+use Rattle.mar_node.specs.Faults.{Begin, Fault, dropped_ack, event_fault, floor_epoch_unavailable, floor_invalid, floor_of, from_genesis, is_by_value, meta_store, next_after, opening_fault, store_fault, with_genesis}
+use Rattle.mar_node.specs.Step.{AdvancesAll, AreHandedOf, AreTipsOf, HandedFrom, IsBlockFrom, IsCertFrom, Made, Report, Steps, TipsFrom, handed_blocks}
 
 -- the processed height is backed by a sure block, and the cutoff is safe
 abbrev pub BackedBy : List (At Block) → Option ℕ → Type 0
@@ -116,19 +117,37 @@ opened_node config blocks certs cache lowest lowests pair =
 abbrev pub SameAt : {T : Type 0} → List (At T) → List (At T) → Type 0
 SameAt xs ys = EachHeightOnce xs × ((h : ℕ) → value_at xs h ≡ value_at ys h)
 
--- All that is held is sure, and a crash can leave no more.
+-- All that is held is sure, and a crash leaves just that.
 pub record IsSettled {T : Type 0} (kept : Kept T) : Type 0 where
   pub sure : kept.sure ≡ kept.held
   pub may : Within kept.may kept.held
+  pub held_may : Within kept.held kept.may
+
+-- What the luck of an opening picks of what is left, where the stores go by it.
+pub record Picks : Type 0 where
+  pub blocks : Option (List (At Block))
+  pub certs : Option (List (At Finalization))
+  pub pair : Option (Option Pair)
+
+-- where luck picks, this was found
+pub record IsPicked (picks : Picks) (blocks : List (At Block)) (certs : List (At Finalization)) (pair : Pair) : Type 0 where
+  pub blocks_are : IfSome picks.blocks (λ picked. blocks ≡ picked)
+  pub certs_are : IfSome picks.certs (λ picked. certs ≡ picked)
+  pub pair_is : IfSome picks.pair (λ picked. Some pair ≡ picked)
+
+-- stores that do not go by luck
+abbrev pub no_picks : Picks
+no_picks = record { blocks = None; certs = None; pair = None }
 
 -- What an opening finds: each list reopened, one pair of the metadata, block 0 entered, no fault.
-pub record Finds (config : Config) (e : Ended) (begin : Begin) (n : Node) : Type 0 where
+pub record Finds (config : Config) (e : Ended) (picks : Picks) (begin : Begin) (n : Node) : Type 0 where
   pub pair : Pair
   pub pair_may : Contains e.meta pair
   pub found : List (At Block)
   pub found_may : Reopens e.blocks_sure e.blocks_may found
   pub certs : List (At Finalization)
   pub certs_may : Reopens e.certs_sure e.certs_may certs
+  pub picked : IsPicked picks found certs pair
   pub cache : List Cached
   pub cache_may : CacheReopens e.cache_sure e.cache_may cache
   pub lowest : ℕ
@@ -142,9 +161,9 @@ pub record Finds (config : Config) (e : Ended) (begin : Begin) (n : Node) : Type
   pub node : n ≡ opened_node config blocks certs cache lowest lowests pair
 
 -- An opening that finished: what it found, then the step of a start.
-pub record Opens (config : Config) (chain : Chain) (e : Ended) (begin : Begin) (made : Made) (n : Node) : Type 0 where
+pub record Opens (config : Config) (chain : Chain) (e : Ended) (picks : Picks) (begin : Begin) (made : Made) (n : Node) : Type 0 where
   pub first : Node
-  pub finds : Finds config e begin first
+  pub finds : Finds config e picks begin first
   pub start : Steps config chain first (life_started (floor_of begin) ∷ []) made n
 
 -- CUT
@@ -174,21 +193,46 @@ pub record LeavesSure (chain : Chain) (before : Ended) (blocks_bound certs_bound
   pub pairs : AllByRecursion MayBePair left.meta
   pub good : IsGoodEnded chain left
 
+-- the processed height that an event had reached, with what was outstanding then
+pub record Reached : Type 0 where
+  pub processed : Option ℕ
+  pub out : List Outstanding
+
+-- before it drained any block
+abbrev pub reached_before : Node → Event → Reached
+reached_before n e = record { processed = option_map height_in n.processed; out = marked_blocks n e }
+
+-- and after
+abbrev pub reached_after : Node → Event → Effect → Reached
+reached_after n e fx = record { processed = option_map height_in (processed_after n e fx); out = kept_blocks n e fx }
+
+-- What an event that was cut may leave: all that was held, unless a prune may take it, and nothing more than what might be
+-- left before, blocks that were at hand, and its own finalization or a cached one. What is sure may be left.
+pub record LeavesMay (n : Node) (e : Event) (blocks_bound certs_bound : ℕ) (left : Ended) : Type 0 where
+  pub held_blocks : (h : ℕ) → blocks_bound ≤ h → IsTrue (has_height n.blocks.held h) → IsTrue (has_height left.blocks_may h)
+  pub held_certs : (h : ℕ) → certs_bound ≤ h → IsTrue (has_height n.certs.held h) → IsTrue (has_height left.certs_may h)
+  pub blocks : (x : At Block) → Contains left.blocks_may x → Contains n.blocks.may x ⊎ IsBlockFrom n e x
+  pub certs : (x : At Finalization) → Contains left.certs_may x → Contains n.certs.may x ⊎ IsCertFrom n e x
+  pub sure_blocks : (h : ℕ) → IsTrue (has_height left.blocks_sure h) → IsTrue (has_height left.blocks_may h)
+  pub sure_certs : (h : ℕ) → IsTrue (has_height left.certs_sure h) → IsTrue (has_height left.certs_may h)
+
 -- What an event that was cut leaves. `earlier` are the pairs of the last finished step, or in an
 -- opening those of the ended node before it; `least` is the height of that step.
 pub record CutsBy (config : Config) (chain : Chain) (earlier : List Pair) (least : Option ℕ) (n : Node) (e : Event) (fx : Effect) (reports : List Report) (fault : Fault) (left : Ended) : Type 0 where
   pub tip : ℕ
   pub tips : TipsFrom n.tip reports tip
   pub tips_chain : AreTipsOf chain reports
-  pub reached : Option ℕ
-  pub reached_is : (reached ≡ option_map height_in n.processed) ⊎ Contains (map (λ p. p.processed) left.meta) reached
-  pub in_order : HandedFrom left.blocks_sure n.next_ack (next_after reached + length (kept_blocks n e fx)) (handed_blocks reports)
+  pub reached : Reached
+  pub reached_is : (reached ≡ reached_before n e) ⊎ (reached ≡ reached_after n e fx) × Contains (map (λ p. p.processed) left.meta) reached.processed
+  pub in_order : HandedFrom left.blocks_sure n.next_ack (next_after reached.processed + length reached.out) (handed_blocks reports)
   pub hands_chain : AreHandedOf chain left.blocks_sure (handed_blocks reports)
   pub leaves : LeavesSure chain (left_by n) (blocks_from n e fx) (certs_from n e fx)
       (λ x. (epoch_of x < n.lowest) ⊎ IsTrue (is_pruned config n e fx x))
       (n.lowests ++ map (λ p. p.epoch) (witnessing_of config n e fx).prunes)
       (Contains (earlier ++ pair_of n.processed n.cutoff ∷ pair_of (processed_after n e fx) (cutoff_after config n e fx) ∷ []))
       left
+  pub may : LeavesMay n e (blocks_from n e fx) (certs_from n e fx) left
+  pub first_pair : (first_pair left.meta ≡ first_pair n.meta) ⊎ (fault ≡ store_fault meta_store → ⊥) × (first_pair left.meta ≡ Some (pair_of (processed_after n e fx) (cutoff_after config n e fx)))
   pub no_lower : AllByRecursion (λ p. NotBelow least p.processed) left.meta
   pub cause : IsTrue (is_by_value fault) → event_fault config n e ≡ Some fault
   pub refused : IsTrue (is_refused_floor e fault) → left ≡ left_by n
@@ -211,22 +255,26 @@ pub record Cuts (config : Config) (chain : Chain) (n : Node) (events : List Even
   pub cut : CutsEvent config chain n.meta (option_map height_in n.processed) mid event later fault left
 
 -- the pair that an opening gives to its metadata sync
-abbrev pub OpeningPair : Config → Ended → Begin → Pair → Type 0
-OpeningPair config e begin p = (n : Node) × Finds config e begin n × (p ≡ pair_of n.processed n.cutoff)
+abbrev pub OpeningPair : Config → Ended → Picks → Begin → Pair → Type 0
+OpeningPair config e picks begin p = (n : Node) × Finds config e picks begin n × (p ≡ pair_of n.processed n.cutoff)
 
 -- An opening cut before its Start step: nothing is reported, nothing sure is lost.
-pub record CutsReopening (config : Config) (chain : Chain) (e : Ended) (begin : Begin) (reports : List Report) (fault : Fault) (left : Ended) : Type 0 where
+pub record CutsReopening (config : Config) (chain : Chain) (e : Ended) (picks : Picks) (begin : Begin) (reports : List Report) (fault : Fault) (left : Ended) : Type 0 where
   pub reports_none : reports ≡ []
-  pub leaves : LeavesSure chain e 0 0 (λ x. ⊥) e.lowests (λ p. Contains e.meta p ⊎ OpeningPair config e begin p) left
+  pub leaves : LeavesSure chain e 0 0 (λ x. ⊥) e.lowests (λ p. Contains e.meta p ⊎ OpeningPair config e picks begin p) left
+  -- what it read of the metadata stands first: its own pair is durable only where it goes on
+  pub first_pair : (p : Pair) → first_pair left.meta ≡ Some p → Contains e.meta p
+  pub may_blocks : (x : At Block) → Contains left.blocks_may x → Contains e.blocks_may x ⊎ (begin ≡ from_genesis x.value)
+  pub may_certs : Within left.certs_may e.certs_may
   -- by what some reopening finds
   pub cause : IsTrue (is_by_value fault) → (pair : Pair) × (blocks : List (At Block)) × (certs : List (At Finalization)) × Contains e.meta pair × Reopens e.blocks_sure e.blocks_may blocks × Reopens e.certs_sure e.certs_may certs × (opening_fault blocks certs pair begin ≡ Some fault)
 
 -- An opening cut in its Start step.
-pub record CutsStart (config : Config) (chain : Chain) (e : Ended) (begin : Begin) (reports : List Report) (fault : Fault) (left : Ended) : Type 0 where
+pub record CutsStart (config : Config) (chain : Chain) (e : Ended) (picks : Picks) (begin : Begin) (reports : List Report) (fault : Fault) (left : Ended) : Type 0 where
   pub first : Node
-  pub finds : Finds config e begin first
+  pub finds : Finds config e picks begin first
   pub cut : CutsEvent config chain e.meta None first (life_started (floor_of begin)) reports fault left
 
 -- an opening that was cut, before its start or in it
-abbrev pub CutsOpening : Config → Chain → Ended → Begin → List Report → Fault → Ended → Type 0
-CutsOpening config chain e begin reports fault left = CutsReopening config chain e begin reports fault left ⊎ CutsStart config chain e begin reports fault left
+abbrev pub CutsOpening : Config → Chain → Ended → Picks → Begin → List Report → Fault → Ended → Type 0
+CutsOpening config chain e picks begin reports fault left = CutsReopening config chain e picks begin reports fault left ⊎ CutsStart config chain e picks begin reports fault left

@@ -1,5 +1,5 @@
 -- What the parts of a step change: what is seen of an actor before and after them.
-use Rattle.std.specs.Prelude.{Bool, Contains, List, MatchResult, None, Option, Result, Some, [], bytes_eq, false, find, flat_map, fold, if◌then◌else◌, is_some, length, map, nat_lt, not, option_map, option_to_list, true, ℕ, ⊤, ◌&&◌, ◌++◌, ◌+◌, ◌-◌, ◌<◌, ◌^◌, ◌∷◌, ◌≡◌, ◌≤◌, ◌⊎◌}
+use Rattle.std.specs.Prelude.{Bool, List, MatchResult, None, Option, Result, Some, [], bytes_eq, false, find, flat_map, fold, if◌then◌else◌, is_some, length, map, nat_lt, not, option_map, option_to_list, true, ℕ, ⊤, ◌&&◌, ◌++◌, ◌+◌, ◌-◌, ◌<◌, ◌^◌, ◌∷◌, ◌≡◌, ◌≤◌, ◌⊎◌}
 use Rattle.std.specs.Option.{option_or}
 use Rattle.mar_types.specs.Round.{Round}
 use Rattle.mar_types.specs.Epochs.{Epochs, closed_epoch}
@@ -14,12 +14,11 @@ use Rattle.mar_store.specs.Named.{last_index}
 use Rattle.mar_node.specs.Stored.{at_own_height, block_of, is_certified, is_held}
 use Rattle.mar_node.specs.Acks.{Outstanding, after_given, after_oldest, dropped_oldest, given_front, given_oldest, height_after}
 use Rattle.mar_node.specs.Event.{acked_to}
-use Rattle.mar_node.specs.Faults.{ack_kind, dropped_ack, ticket_limit}
+use Rattle.mar_node.specs.Faults.{ack_kind, dropped_ack, last_height, ticket_limit}
 use Rattle.mar_node.specs.Lives.{later_round}
 use Rattle.mar_node.specs.Requests.{raise_asks}
 use Rattle.mar_node.specs.Step.{HandedBlock, Report, handed_over, new_tip, outstanding_of}
-use Rattle.mar_node.specs.Held.{Counts, Ending, Held, IsEndedBy, IsUsual, Loses, Seen}
-use Rattle.mar_node.specs.Node.{Ended}
+use Rattle.mar_node.specs.Held.{ArePassed, Ending, Grew, Held, IsArchiveFault, IsEndedBy, Loses, Seen, Watches, nothing_written}
 
 -- HANDING OVER
 
@@ -34,6 +33,14 @@ handed_report x = handed_over x.ticket x.block
 abbrev pub HeldFrom : List (At Block) → ℕ → ℕ → List HandedBlock → Type 0
 HeldFrom held ticket height [] = ⊤
 HeldFrom held ticket height (x ∷ xs) = (x.ticket ≡ ticket) × (x.block.height ≡ height) × (value_at held height ≡ Some x.block) × HeldFrom held (ticket + 1) (height + 1) xs
+
+-- an actor whose stores count their calls so
+abbrev pub with_watches : {P E : Type 0} → Seen P E → Watches → Seen P E
+with_watches a watches = record a { held = record a.held { watches = watches } }
+
+-- nothing changed but how many calls were counted
+abbrev pub IsRead : {P E : Type 0} → Seen P E → Seen P E → Type 0
+IsRead old new = new ≡ with_watches old new.held.watches
 
 -- an actor after these were handed over
 abbrev pub with_handed : {P E : Type 0} → Seen P E → List HandedBlock → Seen P E
@@ -52,54 +59,49 @@ pub record IsNext {P E : Type 0} (a : Seen P E) (b : Block) : Type 0 where
   pub room : length a.life.out < a.life.sizes.window
   pub held : value_at a.held.blocks.held (next_in a) ≡ Some b
   pub height : b.height ≡ next_in a
+  pub below : b.height < last_height
 
--- nothing more can be handed over: the window is full, the next block isn't held, or no height is left
+-- nothing more can be handed over: the window is full, the next block isn't held, or no height below the last is left
 abbrev pub IsStill : {P E : Type 0} → Seen P E → Type 0
-IsStill a = (a.life.sizes.window ≤ length a.life.out) ⊎ (value_at a.held.blocks.held (next_in a) ≡ None) ⊎ (2 ^ 64 ≤ first_unprocessed a.held.processed)
+IsStill a = (a.life.sizes.window ≤ length a.life.out) ⊎ (value_at a.held.blocks.held (next_in a) ≡ None) ⊎ (last_height ≤ next_in a) ⊎ (2 ^ 64 ≤ first_unprocessed a.held.processed)
 
--- the last ticket is reached, or the last height
-abbrev pub IsLast : {P E : Type 0} → Seen P E → Block → Type 0
-IsLast a b = (a.life.next_ack ≡ 2 ^ 64 - 1) ⊎ (b.height ≡ 2 ^ 64 - 1)
-
-abbrev pub IsAtLimit : {P E : Type 0} → Seen P E → List HandedBlock → Type 0
-IsAtLimit a handed = (2 ^ 64 - 1 ≤ a.life.next_ack + length handed) ⊎ (2 ^ 64 - 1 ≤ next_in a + length handed)
-
--- a block that may be left stands at the last height, or above it
-abbrev pub HasLastBlock : Ended → Type 0
-HasLastBlock e = (x : At Block) × Contains e.blocks_may x × (2 ^ 64 - 1 ≤ x.height)
-
--- where no more tickets were given than heights lie below the next block, the last ticket comes with a block at the last height
-abbrev pub RunsOutLast : {P E : Type 0} → Seen P E → Ending → Type 0
-RunsOutLast a e = e.fault ≡ ticket_limit ack_kind → a.life.next_ack ≤ next_in a → HasLastBlock e.remains.ended
+-- where so many tickets are given, the last one is reached
+abbrev pub IsLastTicket : {P E : Type 0} → Seen P E → ℕ → Type 0
+IsLastTicket a given = a.life.next_ack + given ≡ 2 ^ 64 - 1
 
 -- The life ended while blocks were handed over.
 pub record StopsHanding {P E : Type 0} (old : Seen P E) (handed : List HandedBlock) (e : Ending) : Type 0 where
   pub next : AreNextHeld old handed
   pub room : HasRoom old handed
-  pub lost : Loses old.held [] [] [] e
-  pub kind : IsUsual e.fault ⊎ ((e.fault ≡ ticket_limit ack_kind) × IsAtLimit old handed)
-  pub runs_out : RunsOutLast old e
+  pub lost : Loses old.held nothing_written e
+  pub kind : IsArchiveFault e.fault ⊎ ((e.fault ≡ ticket_limit ack_kind) × IsLastTicket old (length handed))
 
 -- All was handed over that could be.
 pub record Dispatches {P E : Type 0} (old : Seen P E) (handed : List HandedBlock) (new : Seen P E) : Type 0 where
   pub next : AreNextHeld old handed
   pub room : HasRoom old handed
-  pub same : new ≡ with_handed old handed
+  pub same : IsRead (with_handed old handed) new
+  pub grew : Grew old.held nothing_written new.held
   pub still : IsStill new
 
 -- LIVING ON
 
--- What no step changes.
+-- What a step keeps: no store failed, the settings are what they were, and no more tickets are given than the window has.
 pub record SameLife {P E : Type 0} (old new : Seen P E) : Type 0 where
-  pub counts : new.held.counts ≡ old.held.counts
+  pub passed : ArePassed old.held.watches new.held.watches
+  pub tickets : new.life.next_ack ≤ old.life.next_ack + old.life.sizes.window
   pub provider : new.life.provider ≡ old.life.provider
   pub epocher : new.life.epocher ≡ old.life.epocher
   pub sizes : new.life.sizes ≡ old.life.sizes
 
+-- the tickets run out only where fewer are left than a window has
+abbrev pub RunsOut : {P E : Type 0} → Seen P E → Ending → Type 0
+RunsOut a e = e.fault ≡ ticket_limit ack_kind → 2 ^ 64 - 1 ≤ a.life.next_ack + a.life.sizes.window
+
 -- Why a step ended a life.
 pub record EndsLife {P E : Type 0} (old : Seen P E) (e : Ending) : Type 0 where
-  pub cause : IsEndedBy old.held.counts e
-  pub runs_out : RunsOutLast old e
+  pub cause : IsEndedBy old.held.watches e
+  pub tickets : RunsOut old e
 
 -- the life goes on with what it was set to, or ends for a cause
 abbrev pub LivesOn : {P E : Type 0} → Seen P E → Result (Seen P E) Ending → Type 0
@@ -150,11 +152,11 @@ found_at_hand inner buffer held commitment = option_or (find (λ b. bytes_eq b.c
 abbrev pub wants : Cutoff → Finalization → List Call
 wants cutoff f = if covers cutoff f.round then [] else fetch (block_key f.payload) (finalized_by_round f.round) None ∷ []
 
--- A put that was synced, with all that was held before.
+-- A put that was synced, with all that was held before; a crash leaves just what is held.
 pub record StoresValue {T : Type 0} (ignored : Bool) (old : Kept (At T)) (x : At T) (new : Kept (At T)) : Type 0 where
   pub held : new.held ≡ (if ignored then old.held else old.held ++ x ∷ [])
   pub sure : new.sure ≡ new.held
-  pub may : Within new.may (old.may ++ x ∷ [])
+  pub may : Within new.may new.held
 
 abbrev pub at_height : ℕ → Finalization → At Finalization
 at_height height f = record { height = height; value = f }
@@ -170,7 +172,7 @@ pub record StoresAbove {P E : Type 0} (inner : List ℕ → List ℕ) (old : See
   pub blocks : StoresValue (is_held old.held.blocks.held b) old.held.blocks (at_own_height b) new.held.blocks
   pub certs : StoresValue (is_certified inner old.held.certs.held b.height (inner f.payload)) old.held.certs (at_height b.height f) new.held.certs
   pub same : new ≡ record old {
-    held = record old.held { blocks = new.held.blocks; certs = new.held.certs; counts = new.held.counts };
+    held = record old.held { blocks = new.held.blocks; certs = new.held.certs; watches = new.held.watches };
     life = record old.life { tip = tip_after old.life.tip b; covered = old.life.covered + 1 };
   }
 
@@ -195,7 +197,7 @@ late_tip false tip b = tip
 pub record StoresLate {P E : Type 0} (inner : List ℕ → List ℕ) (old : Seen P E) (f : Finalization) (b : Block) (new : Seen P E) : Type 0 where
   pub certs : StoresWhere (lacks_finalization old.held b) (is_certified inner old.held.certs.held b.height (inner f.payload)) old.held.certs (at_height b.height f) new.held.certs
   pub same : new ≡ record old {
-    held = record old.held { certs = new.held.certs; counts = new.held.counts };
+    held = record old.held { certs = new.held.certs; watches = new.held.watches };
     life = record old.life { tip = late_tip (lacks_finalization old.held b) old.life.tip b };
   }
 
@@ -217,30 +219,30 @@ progress_asks epochs certs cutoff (a ∷ out) = retain (above_height a.height) �
 -- The cutoff rises to the greatest of these, and this round is the last one witnessed.
 pub record RaisesTo {P E : Type 0} (old : Seen P E) (cutoffs : List Cutoff) (witnessed : Round) (new : Seen P E) : Type 0 where
   pub same : new ≡ record old {
-    held = record old.held { cutoff = greatest_of old.held.cutoff cutoffs; witnessed = witnessed; counts = new.held.counts };
+    held = record old.held { cutoff = greatest_of old.held.cutoff cutoffs; witnessed = witnessed; watches = new.held.watches };
   }
 
 -- an actor after these blocks were processed in order, with what is left of the outstanding ones
-abbrev pub with_processed : {P E : Type 0} → Epochs → Seen P E → List Outstanding → List Outstanding → Counts → Seen P E
-with_processed epochs a done out counts = record a {
+abbrev pub with_processed : {P E : Type 0} → Epochs → Seen P E → List Outstanding → List Outstanding → Watches → Seen P E
+with_processed epochs a done out watches = record a {
   held = record a.held {
     processed = acked_to a.held.processed done;
     cutoff = greatest_of a.held.cutoff (flat_map (λ o. retired epochs a.held.certs.held o.height) done);
     witnessed = fold (λ r o. later_round r (round_at a.held.certs.held o.height)) a.held.witnessed done;
-    counts = counts;
+    watches = watches;
   };
   life = record a.life { out = out };
 }
 
 -- The oldest block is processed where it was given.
 pub record DrainsNext {P E : Type 0} (epochs : Epochs) (old : Seen P E) (is_processed : Bool) (new : Seen P E) : Type 0 where
-  pub same : new ≡ with_processed epochs old (option_to_list (given_oldest old.life.out)) (after_oldest old.life.out) new.held.counts
+  pub same : new ≡ with_processed epochs old (option_to_list (given_oldest old.life.out)) (after_oldest old.life.out) new.held.watches
   pub processed : is_processed ≡ is_some (given_oldest old.life.out)
   pub not_dropped : dropped_oldest old.life.out ≡ None
 
 -- The given blocks at the front are processed, in order.
 pub record Drains {P E : Type 0} (epochs : Epochs) (old : Seen P E) (is_drained : Bool) (new : Seen P E) : Type 0 where
-  pub same : new ≡ with_processed epochs old (given_front old.life.out) (after_given old.life.out) new.held.counts
+  pub same : new ≡ with_processed epochs old (given_front old.life.out) (after_given old.life.out) new.held.watches
   pub drained : is_drained ≡ nat_lt 0 (length (given_front old.life.out))
   pub not_dropped : dropped_oldest (after_given old.life.out) ≡ None
 

@@ -192,8 +192,15 @@ abbrev pub HonestMessage : Chain → PeerMessage → Type 0
 HonestMessage chain (deliver ticket key bytes annotations) = HonestAsk chain key annotations
 HonestMessage chain (produce ticket key) = ⊤
 
+-- what is sure is held, and what is held may be left
+pub record AreNestedHeights {T : Type 0} (kept : Kept (At T)) : Type 0 where
+  pub sure_held : (h : ℕ) → IsTrue (has_height kept.sure h) → IsTrue (has_height kept.held h)
+  pub held_may : (h : ℕ) → IsTrue (has_height kept.held h) → IsTrue (has_height kept.may h)
+
 -- What is said of heights alone.
 pub record IsGoodInHeights (config : Config) (n : Node) : Type 0 where
+  pub nested_blocks : AreNestedHeights n.blocks
+  pub nested_certs : AreNestedHeights n.certs
   pub sure_blocks : SureOrWritten n.blocks n.uncovered
   pub sure_certs : SureOrWritten n.certs n.uncovered
   pub consecutive : ConsecutiveFrom (first_unprocessed n.processed) n.out

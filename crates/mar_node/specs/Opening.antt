@@ -1,5 +1,5 @@
 -- What the parts of an opening make of stores that were reopened.
-use Rattle.std.specs.Prelude.{Bool, List, None, Option, Some, [], false, nat_lt, option_map, true, ℕ, ◌∷◌, ◌≡◌, ◌⊎◌, ◌||◌}
+use Rattle.std.specs.Prelude.{Bool, IfErr, List, None, Option, Result, Some, [], false, nat_lt, option_map, true, ℕ, ◌∷◌, ◌≡◌, ◌⊎◌, ◌||◌}
 use Rattle.mar_types.specs.Epochs.{Epochs}
 use Rattle.mar_cert.specs.Block.{Block}
 use Rattle.mar_key.specs.Cutoff.{Cutoff}
@@ -7,7 +7,7 @@ use Rattle.mar_store.specs.Kept.{At, Kept, has_height, value_at}
 use Rattle.mar_node.specs.Stored.{at_own_height, is_held}
 use Rattle.mar_node.specs.Metadata.{Pair, pair_of}
 use Rattle.mar_node.specs.Faults.{Fault, anchor_fault, from_genesis, genesis_fault, limit_fault, next_after, successor_fault}
-use Rattle.mar_node.specs.Held.{Ending, Held, Loses}
+use Rattle.mar_node.specs.Held.{Ending, Grew, Held, Loses, Written}
 use Rattle.mar_node.specs.Lives.{opened_cutoff, opened_witnessed, processed_at}
 use Rattle.mar_node.specs.Moves.{StoresValue}
 
@@ -30,7 +30,7 @@ pub record BeginsWith (g : Block) (old new : Held) : Type 0 where
   pub genesis : genesis_fault old.blocks.held (from_genesis g) ≡ None
   pub enters : Enters (is_begun (pair_in old).processed old.blocks.held) g old.blocks new.blocks
   pub anchored : anchor_fault new.blocks.held (pair_in old).processed ≡ None
-  pub same : new ≡ record old { blocks = new.blocks; processed = option_map (processed_at new.blocks.held) (pair_in old).processed; counts = new.counts }
+  pub same : new ≡ record old { blocks = new.blocks; processed = option_map (processed_at new.blocks.held) (pair_in old).processed; watches = new.watches }
 
 -- the processed height isn't backed
 pub record IsUnbacked (g : Block) (old : Held) (fault : Fault) : Type 0 where
@@ -67,9 +67,10 @@ pub record Derives (epochs : Epochs) (old new : Held) : Type 0 where
     cutoff = derived_cutoff epochs old;
     witnessed = opened_witnessed old.blocks.held old.certs.held (pair_in old);
     pairs = derived_pair epochs old ∷ [];
-    counts = new.counts;
+    watches = new.watches;
   }
 
--- What is left where the cutoff couldn't be derived or made durable.
-abbrev pub LosesDeriving : Epochs → Held → Ending → Type 0
-LosesDeriving epochs old e = Loses old [] [] [] e ⊎ (next_fault old ≡ None) × Loses old [] [] (derived_pair epochs old ∷ []) e
+-- What is left, since some start, where the cutoff couldn't be derived or made durable.
+abbrev pub LosesDeriving : {T : Type 0} → Epochs → Held → Result T Ending → Type 0
+LosesDeriving epochs old result =
+    (start : Held) (all : Written) → Grew start all old → IfErr result (λ e. Loses start all e ⊎ (next_fault old ≡ None) × Loses start (record all { pairs = derived_pair epochs old ∷ all.pairs }) e)

@@ -1,8 +1,9 @@
 -- An actor as a node, what a step asks of it and of its event, and what a step promises.
-use Rattle.std.specs.Prelude.{Contains, IfErr, List, MatchResult, None, Option, Result, Some, [], false, length, ℕ, ⊤, ◌++◌, ◌<◌, ◌∷◌, ◌≡◌, ◌≤◌}
+use Rattle.std.specs.Prelude.{Contains, List, MatchResult, None, Option, Result, Some, [], false, length, ℕ, ⊤, ◌++◌, ◌<◌, ◌∷◌, ◌≡◌}
 use Rattle.mar_types.specs.Epochs.{Epochs, IsPartition}
 use Rattle.mar_cert.specs.Block.{Block}
-use Rattle.mar_cert.specs.Finalization.{Finalization}
+use Rattle.mar_cert.specs.Finalization.{Finalization, finalization_bytes}
+use Rattle.mar_store.specs.Sizes.{IsSmall}
 use Rattle.mar_key.specs.Asked.{Asked, asked_after}
 use Rattle.mar_key.specs.Hears.{Hears}
 use Rattle.mar_key.specs.Keys.{Call}
@@ -12,10 +13,10 @@ use Rattle.mar_node.specs.Metadata.{Pair}
 use Rattle.mar_node.specs.Chain.{Chain, IsBlockAt, IsLawful}
 use Rattle.mar_node.specs.Config.{Config}
 use Rattle.mar_node.specs.Event.{Event, life_started, message_told}
-use Rattle.mar_node.specs.Faults.{Begin, Fault, ack_kind, from_floor, from_genesis, opening_fault, ticket_limit}
-use Rattle.mar_node.specs.Held.{Ending, Remains, Seen, Sizes}
-use Rattle.mar_node.specs.Lives.{Cuts, CutsReopening, Finds, IsGoodEnded}
-use Rattle.mar_node.specs.Node.{Ended, IsFinalized, IsGood, Node, Rest, next_height}
+use Rattle.mar_node.specs.Faults.{Begin, Fault, from_floor, from_genesis, opening_fault}
+use Rattle.mar_node.specs.Held.{Ending, Remains, Seen, Sizes, picks_of}
+use Rattle.mar_node.specs.Lives.{Cuts, CutsReopening, Finds, IsGoodEnded, Picks}
+use Rattle.mar_node.specs.Node.{Ended, IsFinalized, IsGood, Node, Rest}
 use Rattle.mar_node.specs.Step.{Made, Report, Steps}
 
 -- the node that an actor is, with this buffer and these open requests: it has no cache, no queues and no callers that
@@ -97,15 +98,15 @@ abbrev pub made_of : List Report → List Call → Made
 made_of reports asks = record { reports = reports; asks = asks; sends = []; answers = [] }
 
 -- A step that finished: what the resolver heard is what was asked, and what is open with it follows from that.
-pub record FinishesStep {P E : Type 0} (config : Config) (chain : Chain) (old : Seen P E) (e : Event) (buffer : List Block) (asked : List Asked) (reports : List Report) (told told' : Option (List Call)) (new : Seen P E) : Type 0 where
+pub record FinishesStep {P E : Type 0} (config : Config) (chain : Chain) (n : Node) (e : Event) (buffer : List Block) (asked : List Asked) (reports : List Report) (told told' : Option (List Call)) (new : Seen P E) : Type 0 where
   pub asks : List Call
   pub heard : Hears told asks told'
-  pub steps : Steps config chain (node_of old buffer asked) (e ∷ []) (made_of reports asks) (node_of new buffer (asked_after asked [] asks))
+  pub steps : Steps config chain n (e ∷ []) (made_of reports asks) (node_of new buffer (asked_after asked [] asks))
 
 -- Each step is a step of the node, or a cut.
 abbrev pub StepsOrCuts : {P E : Type 0} → Config → Chain → Seen P E → Event → List Block → List Asked → List Report → Option (List Call) → Option (List Call) → Result (Seen P E) Ending → Type 0
 StepsOrCuts config chain old e buffer asked reports told told' result = MatchResult result
-    (FinishesStep config chain old e buffer asked reports told told')
+    (FinishesStep config chain (node_of old buffer asked) e buffer asked reports told told')
     (λ left. Cuts config chain (node_of old buffer asked) (e ∷ []) reports left.fault left.remains.ended)
 
 -- What a step promises of every chain for which it is lawful: what the application was told and the resolver asked are
@@ -115,13 +116,17 @@ KeepsPromise epochs inner old e buffer told told' heard heard' result =
     (config : Config) (chain : Chain) (asked : List Asked) → IsSetTo config old.life.sizes epochs inner → IsLawfulStep config chain (node_of old buffer asked) e
     → (reports : List Report) × Hears told reports told' × StepsOrCuts config chain old e buffer asked reports heard heard' result
 
--- On a lawful chain the tickets never run out: where no more of them were given than heights lie below the next block.
-abbrev pub KeepsCounting : {P E : Type 0} → Epochs → (List ℕ → List ℕ) → Seen P E → Event → List Block → Result (Seen P E) Ending → Type 0
-KeepsCounting epochs inner old e buffer result =
-    (config : Config) (chain : Chain) (asked : List Asked) → IsSetTo config old.life.sizes epochs inner → IsLawfulStep config chain (node_of old buffer asked) e
-    → old.life.next_ack ≤ next_height (node_of old buffer asked) → IfErr result (λ left. left.fault ≡ ticket_limit ack_kind → ⊥)
+-- what an event would store is small
+abbrev pub IsSmallEvent : Event → Type 0
+IsSmallEvent (message_told t (report_finalization f)) = IsSmall (finalization_bytes f)
+IsSmallEvent _ = ⊤
 
 -- OPENING
+
+-- and what an opening would
+abbrev pub IsSmallBegin : Begin → Type 0
+IsSmallBegin (from_genesis b) = IsSmall b.encoded
+IsSmallBegin (from_floor f) = IsSmall (finalization_bytes f)
 
 -- What an opening asks: a partition into epochs, a lawful chain whose blocks each have a digest of their own, that what is
 -- left is good for it and has some pair, and a genesis that is its block 0.
@@ -134,24 +139,19 @@ pub record IsLawfulOpening (config : Config) (chain : Chain) (e : Ended) (begin 
   pub genesis : (b : Block) → begin ≡ from_genesis b → IsBlockAt chain 0 b
 
 -- A node that begins: what the opening found, and good but for its tip, which its start tells.
-pub record Begins (config : Config) (chain : Chain) (e : Ended) (begin : Begin) (n : Node) : Type 0 where
-  pub finds : Finds config e begin n
+pub record Begins (config : Config) (chain : Chain) (e : Ended) (picks : Picks) (begin : Begin) (n : Node) : Type 0 where
+  pub finds : Finds config e picks begin n
   pub good : IsGoodUntold config chain n
 
 -- What an opening promises of every chain for which it is lawful: a node that begins, or a cut before its start.
-abbrev pub KeepsOpening : {P E F : Type 0} → Epochs → (List ℕ → List ℕ) → Sizes → Remains → Begin → Result (Seen P E × F) Ending → Type 0
-KeepsOpening epochs inner sizes old begin result =
+abbrev pub KeepsOpening : {P E F : Type 0} → Epochs → (List ℕ → List ℕ) → Sizes → Remains → ℕ → Begin → Result (Seen P E × F) Ending → Type 0
+KeepsOpening epochs inner sizes old luck begin result =
     (config : Config) (chain : Chain) → IsSetTo config sizes epochs inner → IsLawfulOpening config chain old.ended begin
-    → MatchResult result (λ r. Begins config chain old.ended begin (node_of r.0 [] [])) (λ e. CutsReopening config chain old.ended begin [] e.fault e.remains.ended)
-
--- no block that may be left stands at another height under the genesis's digest
-abbrev pub IsAlone : Ended → Begin → Type 0
-IsAlone e (from_genesis g) = (x : At Block) → Contains e.blocks_may x → x.value.digest ≡ g.digest → x.height ≡ g.height
-IsAlone e (from_floor f) = ⊤
+    → MatchResult result (λ r. Begins config chain old.ended (picks_of old luck) begin (node_of r.0 [] [])) (λ e. CutsReopening config chain old.ended (picks_of old luck) begin [] e.fault e.remains.ended)
 
 -- a node that begins is what some reopening of these stores finds, in which no fault is due, whatever the chain
-abbrev pub IsFound : {P E : Type 0} → Epochs → (List ℕ → List ℕ) → Sizes → Ended → Begin → Seen P E → Type 0
-IsFound epochs inner sizes e begin a = (config : Config) → IsSetTo config sizes epochs inner → IsAlone e begin → Finds config e begin (node_of a [] [])
+abbrev pub IsFound : {P E : Type 0} → Epochs → (List ℕ → List ℕ) → Sizes → Remains → ℕ → Begin → Seen P E → Type 0
+IsFound epochs inner sizes old luck begin a = (config : Config) → IsSetTo config sizes epochs inner → Finds config old.ended (picks_of old luck) begin (node_of a [] [])
 
 -- the fault that an opening must end in, by what some reopening of these stores finds
 abbrev pub IsOpeningFault : Ended → Begin → Fault → Type 0

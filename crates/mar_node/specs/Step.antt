@@ -1,8 +1,9 @@
 -- One step of a node: what it reports, and the node after it.
 use Rattle.std.specs.List.{AllByRecursion, filter_map, list_any}
-use Rattle.std.specs.Prelude.{Bool, Contains, IfSome, IsSome, IsTrue, List, None, Some, [], count_by, drop, filter, if◌then◌else◌, length, map, max, nat_lt, not, ℕ, ⊤, ◌&&◌, ◌++◌, ◌+◌, ◌-◌, ◌<◌, ◌==◌, ◌∷◌, ◌≡◌, ◌≤◌, ◌⊎◌}
+use Rattle.std.specs.Prelude.{Bool, Contains, IfSome, IsSome, IsTrue, List, None, Some, [], count_by, drop, filter, if◌then◌else◌, length, map, max, nat_lt, not, option_to_list, ℕ, ⊤, ◌&&◌, ◌++◌, ◌+◌, ◌-◌, ◌<◌, ◌==◌, ◌∷◌, ◌≡◌, ◌≤◌, ◌⊎◌}
 use Rattle.mar_types.specs.Round.{Round}
 use Rattle.mar_cert.specs.Block.{Block}
+use Rattle.mar_cert.specs.Finalization.{Finalization}
 use Rattle.mar_key.specs.Processed.{first_unprocessed, height_of}
 use Rattle.mar_node.specs.Chain.{Chain, IsBlockAt, IsFinal, digest_at}
 use Rattle.mar_store.specs.Kept.{At, Kept, has_height, value_at}
@@ -10,8 +11,8 @@ use Rattle.mar_key.specs.Keys.{Call}
 use Rattle.mar_node.specs.Config.{Config}
 use Rattle.mar_node.specs.Acks.{Outstanding, mark_waiting}
 use Rattle.mar_node.specs.Node.{IsGood, Node, OpenSync, Rest, write_count}
-use Rattle.mar_node.specs.Cached.{cached_block}
-use Rattle.mar_node.specs.Event.{Effect, Event, Storing, applies_floor, awaited_after, awaits_floor, block_buffered, blocks_from, certs_from, cutoff_after, effect_of, finalization_for, is_above, is_query, kept_blocks, no_floor, own_writes, processed_after, storing_of, sync_finished}
+use Rattle.mar_node.specs.Cached.{cached_block, cached_finalization}
+use Rattle.mar_node.specs.Event.{Effect, Event, Storing, applies_floor, awaited_after, awaits_floor, block_buffered, blocks_from, brought_block, certs_from, cutoff_after, effect_of, finalization_for, is_above, is_query, kept_blocks, no_floor, own_writes, processed_after, storing_of, sync_finished, told_finalization}
 use Rattle.mar_node.specs.Cache.{HasNoCache, entries_with_puts, started_syncs}
 use Rattle.mar_node.specs.Faults.{event_fault}
 use Rattle.mar_node.specs.Answers.{Sent, TicketAnswer, answers_of, certified_after, is_known, sends_of, subscriptions_after}
@@ -124,6 +125,20 @@ pub record RepairsFromHand (config : Config) (n : Node) (e : Event) (fx : Effect
   pub at_hand : (h : ℕ) (b : Block) → IsTrue (list_any (λ k. k == h) repaired) → value_at n'.blocks.held h ≡ Some b → Contains (repairs_from config n e fx n') b
   pub with_finalization : (h : ℕ) (b : Block) → IsTrue (list_any (λ k. k == h) repaired) → value_at n'.blocks.held h ≡ Some b → IsSome (finalization_for n' b) → IsTrue (has_height n'.certs.held h)
 
+-- an event may store this block: it brings it, or it is in the buffer or the cache
+abbrev pub IsBlockFrom : Node → Event → At Block → Type 0
+IsBlockFrom n e x = Contains (option_to_list (brought_block n e) ++ (n.buffer ++ filter_map cached_block n.cache.held)) x.value
+
+-- an event may store this finalization: its own, or a cached one
+abbrev pub IsCertFrom : Node → Event → At Finalization → Type 0
+IsCertFrom n e x = Contains (option_to_list (told_finalization n e) ++ filter_map cached_finalization n.cache.held) x.value
+
+-- What enters the held certificates is the event's finalization or a cached one, and where none stood at the height of
+-- what the event stores it is the event's.
+pub record CertificatesFrom (n : Node) (e : Event) (n' : Node) : Type 0 where
+  pub entered : (h : ℕ) (f : Finalization) → value_at n'.certs.held h ≡ Some f → (value_at n.certs.held h ≡ Some f) ⊎ IsCertFrom n e (record { height = h; value = f })
+  pub own : (s : Storing) (f : Finalization) → storing_of n e ≡ Some s → told_finalization n e ≡ Some f → value_at n.certs.held s.height ≡ None → (value_at n'.certs.held s.height ≡ None) ⊎ (value_at n'.certs.held s.height ≡ Some f)
+
 -- tips ascend above this one; the last is left
 abbrev pub TipsFrom : ℕ → List Report → ℕ → Type 0
 TipsFrom tip [] last = last ≡ tip
@@ -170,6 +185,9 @@ pub record AdvancesBy (config : Config) (chain : Chain) (n : Node) (e : Event) (
   pub cutoff : n'.cutoff ≡ cutoff_after config n e fx
   pub blocks : KeepsFrom (blocks_from n e fx) n.blocks n'.blocks
   pub certs : KeepsFrom (certs_from n e fx) n.certs n'.certs
+  pub may_blocks : (x : At Block) → Contains n'.blocks.may x → Contains n.blocks.may x ⊎ IsBlockFrom n e x
+  pub may_certs : (x : At Finalization) → Contains n'.certs.may x → Contains n.certs.may x ⊎ IsCertFrom n e x
+  pub certificates : CertificatesFrom n e n'
   pub writes : Writes n e fx n'
   pub repairs : RepairsFromHand config n e fx writes.repaired n'
   pub tips : TipsFrom n.tip made.reports n'.tip

@@ -5,6 +5,7 @@ use Rattle.std.specs.Prelude.{◌≡◌}
 use Rattle.mar_cert.specs.Finalization.{Finalization}
 use Rattle.mar_store.specs.Kept.{At, has_height}
 use Rattle.mar_cert.specs.Block.{Block}
+use Rattle.mar_store.specs.Sizes.{IsSmall}
 
 -- a block at its own height
 abbrev pub at_own_height : Block → At Block
@@ -25,7 +26,12 @@ is_held xs b = has_height xs b.height || is_some (block_of xs b.digest)
 abbrev pub is_certified : (List ℕ → List ℕ) → List (At Finalization) → ℕ → List ℕ → Bool
 is_certified inner xs height digest = has_height xs height || list_any (λ x. bytes_eq (inner x.value.payload) digest) xs
 
--- Each held block stands at its own height, and its commitment names its digest.
+-- Each held block stands at its own height, its commitment names its digest, and it is small enough for a store.
 pub record AreOwn (inner : List ℕ → List ℕ) (xs : List (At Block)) : Type 0 where
   pub heights : AllByRecursion (λ x. x.value.height ≡ x.height) xs
   pub digests : AllByRecursion (λ x. inner x.value.commitment ≡ x.value.digest) xs
+  pub small : AllByRecursion (λ x. IsSmall x.value.encoded) xs
+
+-- each block is small enough for a store
+abbrev pub AreSmall : List Block → Type 0
+AreSmall blocks = AllByRecursion (λ b. IsSmall b.encoded) blocks

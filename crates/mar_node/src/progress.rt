@@ -1,10 +1,11 @@
 //! How far delivery has come.
-ghost use Rattle.std.specs.Prelude.{◌≡◌, ◌∷◌, [], MatchResult, Some, map};
+ghost use Rattle.std.specs.Prelude.{◌≡◌, ◌∷◌, [], MatchResult, OnErr, OnOk, Some, map};
 ghost use Rattle.mar_node.specs.Lives.{later_round};
 ghost use Rattle.mar_key.specs.Processed.{at_absent, at_block};
 ghost use Rattle.mar_key.specs.Views.{cutoff_of};
-ghost use Rattle.mar_store.specs.Lost.{IsCausedBy, wreck_of};
-ghost use Rattle.mar_node.specs.Metadata.{LeavesPairs, pair_at, pair_of};
+ghost use Rattle.mar_store.specs.Lost.{wreck_of};
+ghost use Rattle.mar_store.specs.Watch.{armed, IsCalm};
+ghost use Rattle.mar_node.specs.Metadata.{HeedsOrIdles, LeavesPairs, pair_at, pair_of};
 ghost use Rattle.mar_node.specs.Held.{progress_of};
 
 use crate::floor::State;
@@ -37,8 +38,7 @@ impl<M: Meta, C: Named, F: CommitsTo<C>> Model for Progress<M, C, F> {
       cutoff = p.floor.cutoff;
       witnessed = p.floor.witnessed;
       pairs = p.stream.left;
-      faults
-          = p.stream.faults;
+      watch = p.stream.watch;
     } };
 
     ghost invariant = { λ p. p.stream.pair ≡ pair_of p.floor.processed p.floor.cutoff };
@@ -47,8 +47,9 @@ impl<M: Meta, C: Named, F: CommitsTo<C>> Model for Progress<M, C, F> {
 impl<M: Meta, C: Named, F: CommitsTo<C>> Progress<M, C, F> {
     /// What a reopened store says.
     pub fn new(meta: M) -> Self
-        requires { M.left meta ≡ M.current meta ∷ [] }
-        ensures { result ≡ progress_of (pair_at (M.current meta)) (M.faults meta) }
+        requires durable { M.left meta ≡ M.current meta ∷ [] }
+        requires unchanged { M.changed meta ≡ [] }
+        ensures { result ≡ progress_of (pair_at (M.current meta)) (M.watch meta) }
     {
         let stream = Stream::new(meta);
         let processed = stream.processed_height().map(Processed::Block);
@@ -83,9 +84,11 @@ impl<M: Meta, C: Named, F: CommitsTo<C>> Progress<M, C, F> {
         let _before = self.floor.witness(round);
     }
 
-    /// Makes the counted call of the store fail that is so many calls away, 1 being the next.
+    /// Makes the counted call of the store fail that is so many calls away, 1 being the next. Counted are a sync that
+    /// has something to make durable, and a reopening. Where nothing can be armed it does nothing.
     pub fn arm(&mut self, calls: u64) -> Result<(), AllocError>
-        ensures { self.new ≡ self.old }
+        ensures armed { OnOk result (self.new ≡ record self.old { watch = armed calls self.old.watch }) }
+        ensures unarmed { OnErr result (self.new ≡ self.old) }
     {
         self.stream.arm(calls)
     }
@@ -93,7 +96,7 @@ impl<M: Meta, C: Named, F: CommitsTo<C>> Progress<M, C, F> {
     /// What a crash now leaves.
     pub fn wreck(self) -> M::Wreck
         ensures left { map pair_at (M.Wreck.left result) ≡ self.pairs }
-        ensures count { M.Wreck.faults result ≡ self.faults }
+        ensures watch { M.Wreck.watch result ≡ self.watch }
     {
         self.stream.wreck()
     }
@@ -103,7 +106,7 @@ impl<M: Meta, C: Named, F: CommitsTo<C>> Progress<M, C, F> {
         ensures done { MatchResult result
             (λ p. (p.processed ≡ Some (at_block height)) × (p.cutoff ≡ self.cutoff) × (p.witnessed ≡ self.witnessed) × (p.pairs ≡ self.pairs))
             (λ l. LeavesPairs self.pairs [] (map pair_at (M.Wreck.left (wreck_of l)))) }
-        ensures cause { IsCausedBy (λ p. p.faults) M.Wreck.faults self.faults result }
+        ensures watched { IsCalm (λ p. p.watch) M.Wreck.watch self.watch result }
     {
         let stream = self.stream.acknowledge(height)?;
         let mut floor = self.floor;
@@ -116,7 +119,7 @@ impl<M: Meta, C: Named, F: CommitsTo<C>> Progress<M, C, F> {
         ensures done { MatchResult result
             (λ p. (p.processed ≡ self.processed) × (p.cutoff ≡ cutoff_of cutoff.now) × (p.witnessed ≡ self.witnessed) × (p.pairs ≡ self.pairs))
             (λ l. LeavesPairs self.pairs [] (map pair_at (M.Wreck.left (wreck_of l)))) }
-        ensures cause { IsCausedBy (λ p. p.faults) M.Wreck.faults self.faults result }
+        ensures watched { IsCalm (λ p. p.watch) M.Wreck.watch self.watch result }
     {
         let stream = self.stream.set_cutoff(*cutoff)?;
         let mut floor = self.floor;
@@ -124,13 +127,13 @@ impl<M: Meta, C: Named, F: CommitsTo<C>> Progress<M, C, F> {
         Ok(Progress { stream, floor })
     }
 
-    /// Makes both durable together.
+    /// Makes both durable together. Where they are durable already nothing is done or counted.
     pub fn sync(self) -> Result<Self, Lost<M::Wreck>>
         ensures done { MatchResult result
             (λ p. (p.processed ≡ self.processed) × (p.cutoff ≡ self.cutoff) × (p.witnessed ≡ self.witnessed)
             × (p.pairs ≡ pair_of self.processed self.cutoff ∷ []))
             (λ l. LeavesPairs self.pairs (pair_of self.processed self.cutoff ∷ []) (map pair_at (M.Wreck.left (wreck_of l)))) }
-        ensures cause { IsCausedBy (λ p. p.faults) M.Wreck.faults self.faults result }
+        ensures watched { HeedsOrIdles (λ p. p.watch) M.Wreck.watch self.watch result }
     {
         let stream = self.stream.sync()?;
         Ok(Progress { stream, ..self })

@@ -1,10 +1,10 @@
 //! The processed height and the round cutoff, kept in a metadata store.
 ghost use Rattle.std.specs.Prelude.{◌≡◌, ◌^◌, ◌<◌, [], ◌∷◌, IfOk, IsTrue, MatchResult, Ok, OnErr, OnOk, Some, false, map, true};
 ghost use Rattle.mar_key.specs.Views.{cutoff_of};
-ghost use Rattle.mar_store.specs.Armed.{HeedsArmed, with_armed};
-ghost use Rattle.mar_store.specs.Lost.{IsCausedBy, wreck_of};
+ghost use Rattle.mar_store.specs.Watch.{armed, Heeds, IsCalm};
+ghost use Rattle.mar_store.specs.Lost.{wreck_of};
 ghost use Rattle.mar_store.specs.Values.{LeavesValues, synced_values};
-ghost use Rattle.mar_node.specs.Metadata.{LeavesPairs, cutoff_at, height_after_processed, pair_at};
+ghost use Rattle.mar_node.specs.Metadata.{AreKeys, LeavesPairs, cutoff_at, height_after_processed, pair_at};
 
 use mar_key::Cutoff;
 use mar_store::{Lost, Meta, MetaRuin};
@@ -23,8 +23,7 @@ const CUTOFF_VIEW_KEY: u64 = 0xFD;
 
 /// How far delivery has come: the processed height and the round cutoff, with the store that keeps them. Changes are
 /// read at once and become durable together with the next sync. A contract sees a record of what is read now, what a
-/// crash may leave (what is durable stands first), whether all is durable, how often the store has failed, and how many
-/// counted calls away each armed one is.
+/// crash may leave (what is durable stands first), whether all is durable, and what the store tells of its failures.
 #[derive(Drop)]
 pub struct Stream<M: Meta> {
     meta: M,
@@ -33,7 +32,7 @@ pub struct Stream<M: Meta> {
 
 impl<M: Meta> Model for Stream<M> {
     ghost use Rattle.std.specs.Prelude.{◌≡◌, [], ◌∷◌, IsTrue, map};
-    ghost use Rattle.mar_node.specs.Metadata.{Streamed, pair_at};
+    ghost use Rattle.mar_node.specs.Metadata.{AreKeys, Streamed, pair_at};
 
     ghost Value = { Streamed };
 
@@ -41,26 +40,18 @@ impl<M: Meta> Model for Stream<M> {
       pair = pair_at (M.current s.meta);
       left = map pair_at (M.left s.meta);
       synced = s.synced;
-      faults = M.faults s.meta;
-      due
-          = M.due s.meta;
+      watch = M.watch s.meta;
     } };
 
-    ghost invariant = { λ s. IsTrue s.synced → M.left s.meta ≡ M.current s.meta ∷ [] };
+    ghost invariant = { λ s. (IsTrue s.synced → M.left s.meta ≡ M.current s.meta ∷ []) × AreKeys (M.changed s.meta) };
 }
 
 impl<M: Meta> Stream<M> {
     /// The stream over a store in which all is durable, as a reopening leaves it.
     pub fn new(meta: M) -> Self
-        requires { M.left meta ≡ M.current meta ∷ [] }
-        ensures { result ≡ record {
-          pair = pair_at (M.current meta);
-          left = map pair_at (M.left meta);
-          synced = true;
-          faults = M.faults meta;
-          due = M.due
-              meta;
-        } }
+        requires durable { M.left meta ≡ M.current meta ∷ [] }
+        requires unchanged { M.changed meta ≡ [] }
+        ensures { result ≡ record { pair = pair_at (M.current meta); left = map pair_at (M.left meta); synced = true; watch = M.watch meta } }
     {
         Stream { meta, synced: true }
     }
@@ -68,8 +59,7 @@ impl<M: Meta> Stream<M> {
     /// What a crash now leaves.
     pub fn wreck(self) -> M::Wreck
         ensures left { map pair_at (M.Wreck.left result) ≡ self.left }
-        ensures count { M.Wreck.faults result ≡ self.faults }
-        ensures due { M.Wreck.due result ≡ self.due }
+        ensures watch { M.Wreck.watch result ≡ self.watch }
     {
         self.meta.wreck()
     }
@@ -77,12 +67,8 @@ impl<M: Meta> Stream<M> {
     /// Makes the counted call of the store fail that is so many calls away, 1 being the next. Counted are a sync that
     /// has something to make durable, and a reopening. Where nothing can be armed it does nothing.
     pub fn arm(&mut self, calls: u64) -> Result<(), AllocError>
-        ensures armed { OnOk result (self.new.due ≡ with_armed M.armable calls self.old.due) }
-        ensures unarmed { OnErr result (self.new.due ≡ self.old.due) }
-        ensures pair { self.new.pair ≡ self.old.pair }
-        ensures left { self.new.left ≡ self.old.left }
-        ensures synced { self.new.synced ≡ self.old.synced }
-        ensures count { self.new.faults ≡ self.old.faults }
+        ensures armed { OnOk result (self.new ≡ record self.old { watch = armed calls self.old.watch }) }
+        ensures unarmed { OnErr result (self.new ≡ self.old) }
     {
         self.meta.arm(calls)
     }
@@ -128,8 +114,7 @@ impl<M: Meta> Stream<M> {
         ensures done { MatchResult result
             (λ s. (s.pair ≡ record self.pair { processed = Some height }) × (s.left ≡ self.left) × (s.synced ≡ false))
             (λ l. LeavesPairs self.left [] (map pair_at (M.Wreck.left (wreck_of l)))) }
-        ensures cause { IsCausedBy (λ s. s.faults) M.Wreck.faults self.faults result }
-        ensures due { MatchResult result (λ s. s.due ≡ self.due) (λ l. M.Wreck.due (wreck_of l) ≡ self.due) }
+        ensures watched { IsCalm (λ s. s.watch) M.Wreck.watch self.watch result }
     {
         match self.meta.put(LATEST_KEY, height.get()) {
             Ok(meta) => Ok(Stream {
@@ -145,8 +130,7 @@ impl<M: Meta> Stream<M> {
         ensures done { MatchResult result
             (λ s. (s.pair ≡ record self.pair { cutoff = cutoff_of cutoff }) × (s.left ≡ self.left) × (s.synced ≡ false))
             (λ l. LeavesPairs self.left [] (map pair_at (M.Wreck.left (wreck_of l)))) }
-        ensures cause { IsCausedBy (λ s. s.faults) M.Wreck.faults self.faults result }
-        ensures due { MatchResult result (λ s. s.due ≡ self.due) (λ l. M.Wreck.due (wreck_of l) ≡ self.due) }
+        ensures watched { IsCalm (λ s. s.watch) M.Wreck.watch self.watch result }
     {
         match put_cutoff(self.meta, cutoff) {
             Ok(meta) => Ok(Stream {
@@ -162,9 +146,8 @@ impl<M: Meta> Stream<M> {
         ensures done { MatchResult result
             (λ s. (s.pair ≡ self.pair) × (s.left ≡ self.pair ∷ []) × (s.synced ≡ true))
             (λ l. LeavesPairs self.left (self.pair ∷ []) (map pair_at (M.Wreck.left (wreck_of l)))) }
-        ensures cause { IsCausedBy (λ s. s.faults) M.Wreck.faults self.faults result }
         ensures idle { IsTrue self.synced → result ≡ Ok self }
-        ensures armed { self.synced ≡ false → HeedsArmed (λ s. s.due) M.Wreck.due M.only_armed self.due result }
+        ensures watched { self.synced ≡ false → Heeds (λ s. s.watch) M.Wreck.watch self.watch result }
     {
         if self.synced {
             return Ok(self);
@@ -178,11 +161,12 @@ impl<M: Meta> Stream<M> {
 
 // Stores the cutoff's epoch, and its view or that it has none.
 fn put_cutoff<M: Meta>(meta: M, cutoff: Cutoff) -> Result<M, Lost<M::Wreck>>
+    requires keys { AreKeys (M.changed meta) }
     ensures done { MatchResult result
         (λ s. (pair_at (M.current s) ≡ record (pair_at (M.current meta)) { cutoff = cutoff_of cutoff }) × (M.left s ≡ M.left meta))
         (λ l. LeavesValues (M.left meta) [] (M.Wreck.left (wreck_of l))) }
-    ensures cause { IsCausedBy M.faults M.Wreck.faults (M.faults meta) result }
-    ensures due { MatchResult result (λ s. M.due s ≡ M.due meta) (λ l. M.Wreck.due (wreck_of l) ≡ M.due meta) }
+    ensures keys { IfOk result (λ s. AreKeys (M.changed s)) }
+    ensures watched { IsCalm M.watch M.Wreck.watch (M.watch meta) result }
 {
     match cutoff {
         Cutoff::Round(round) => {

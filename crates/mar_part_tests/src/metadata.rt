@@ -1,4 +1,6 @@
 //! Metadata in memory: scripts of calls, and which map luck picks.
+ghost use Rattle.std.specs.Prelude.{◌≡◌, ◌≤◌, [], IfOk, length};
+
 use mar_store::{Lost, MemMeta, Meta, MetaRuin};
 use std::alloc::Global;
 use std::process::Abort;
@@ -18,39 +20,68 @@ enum Call {
     Reopen(u64),
 }
 
+// A store, and how many changes were made to it since the last sync or reopening.
+#[derive(Drop)]
+struct Changing<M: Meta> {
+    store: M,
+    changes: usize,
+    ghost bound: { length (M.changed store) ≤ changes },
+}
+
 // A store, or what is left of it.
 #[derive(Drop)]
 enum Life<M: Meta> {
-    Open(M),
+    Open(Changing<M>),
     Left(M::Wreck),
 }
 
-fn life_of<M: Meta>(answer: Result<M, Lost<M::Wreck>>) -> Option<Life<M>> {
+fn life_of<M: Meta>(answer: Result<M, Lost<M::Wreck>>, changes: usize) -> Option<Life<M>>
+    requires { IfOk answer (λ s. length (M.changed s) ≤ changes) }
+{
     match answer {
-        Ok(store) => Some(Life::Open(store)),
+        Ok(store) => Some(Life::Open(Changing { store, changes })),
         Err(Lost::Fault(wreck)) => Some(Life::Left(wreck)),
         Err(Lost::Memory(_)) => None,
     }
 }
 
-fn of_store<M: Meta>(store: M, call: Call) -> Option<Life<M>> {
-    let mut store = store;
+// The life after a change of that key, to that value or to none. A store has room for 2,048 changed keys.
+fn changed<M: Meta>(life: Changing<M>, key: u64, value: Option<u64>) -> Option<Life<M>> {
+    let Changing { store, changes } = life;
+    if changes >= 2048 {
+        return None;
+    }
+    match value {
+        Some(value) => life_of(store.put(key, value), changes + 1),
+        None => life_of(store.remove(key), changes + 1),
+    }
+}
+
+fn of_store<M: Meta>(life: Changing<M>, call: Call) -> Option<Life<M>> {
+    match call {
+        Call::Put(key, value) => return changed(life, key, Some(value)),
+        Call::Remove(key) => return changed(life, key, None),
+        Call::Sync => return life_of(life.store.sync(), 0),
+        Call::Crash => return Some(Life::Left(life.store.wreck())),
+        _ => {}
+    }
+    let Changing { mut store, changes } = life;
     let is_so = match call {
-        Call::Put(key, value) => return life_of(store.put(key, value)),
-        Call::Remove(key) => return life_of(store.remove(key)),
-        Call::Sync => return life_of(store.sync()),
-        Call::Crash => return Some(Life::Left(store.wreck())),
         Call::Arm(calls) => store.arm(calls).is_ok(),
         Call::Get(key, want) => store.get(key) == want,
         _ => false,
     };
-    if is_so { Some(Life::Open(store)) } else { None }
+    if is_so {
+        Some(Life::Open(Changing { store, changes }))
+    } else {
+        None
+    }
 }
 
 fn of_wreck<M: Meta>(wreck: M::Wreck, call: Call) -> Option<Life<M>> {
     let mut wreck = wreck;
     let is_so = match call {
-        Call::Reopen(luck) => return life_of(M::reopen(wreck, luck)),
+        Call::Reopen(luck) => return life_of(M::reopen(wreck, luck), 0),
         Call::ArmLeft(calls) => wreck.arm(calls).is_ok(),
         Call::LeftSynced(key, want) => wreck.synced(key) == want,
         _ => false,
@@ -59,8 +90,10 @@ fn of_wreck<M: Meta>(wreck: M::Wreck, call: Call) -> Option<Life<M>> {
 }
 
 // The place of the first call that doesn't answer as it is to.
-fn wrong_place<M: Meta>(store: M, calls: &[Call]) -> Option<usize> {
-    let mut life = Life::Open(store);
+fn wrong_place<M: Meta>(store: M, calls: &[Call]) -> Option<usize>
+    requires { M.changed store ≡ [] }
+{
+    let mut life = Life::Open(Changing { store, changes: 0 });
     for (place, call) in calls.iter().enumerate() {
         let next = match life {
             Life::Open(store) => of_store(store, *call),

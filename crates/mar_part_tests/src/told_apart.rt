@@ -117,3 +117,13 @@ fn keys_are_told_apart_and_ordered(rt: HostRuntime) {
     assert!(rt; ascend(Key::Digest(9), Key::Commitment(1)));
     assert!(rt; ascend(Key::Commitment(1), Key::Commitment(2)));
 }
+
+fn parts_have_laws() {
+    acks_compared();
+    waits_compared::<u64, u64>();
+}
+
+#[test]
+fn parts_are_compared_by_all_that_they_hold(_rt: HostRuntime) {
+    parts_have_laws();
+}

@@ -21,9 +21,9 @@ after_update bytes cmp see ordered m n name w updates q =
     ∙ ap (λ o. cond (bytes_eq (bytes name) (bytes q)) (option_map see w) o) (sym (named bytes cmp see ordered q m.entries))
 
 -- one more waits with those that wait
-pub joined_to : (ticket : ℕ) (is_told : Bool) (old new : Wait) (o : Option Wait) → o ≡ Some old → new.tickets ≡ old.tickets ++ ticket ∷ [] → new.is_told ≡ old.is_told → new ≡ joined ticket is_told o
-joined_to ticket is_told old new o is tickets told = rw (is, ← tickets, ← told) refl
+pub joined_to : (ticket : ℕ) (promise : Option (List ℕ)) (old new : Wait) (o : Option Wait) → o ≡ Some old → new.tickets ≡ old.tickets ++ ticket ∷ [] → new.promise ≡ old.promise → new ≡ joined ticket promise o
+joined_to ticket promise old new o is tickets told = rw (is, ← tickets, ← told) refl
 
 -- what a call that drops closed tickets says
-pub still_said : (closed : List ℕ) (old new : Wait) (b : Bool) → new.tickets ≡ open_of closed old.tickets → new.is_told ≡ old.is_told → b ≡ nat_lt 0 (length (open_of closed old.tickets)) → still_open closed old ≡ cond b (Some new) None
+pub still_said : (closed : List ℕ) (old new : Wait) (b : Bool) → new.tickets ≡ open_of closed old.tickets → new.promise ≡ old.promise → b ≡ nat_lt 0 (length (open_of closed old.tickets)) → still_open closed old ≡ cond b (Some new) None
 still_said closed old new b tickets told left = rw (← left, ← tickets, ← told) refl

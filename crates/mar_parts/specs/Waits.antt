@@ -1,13 +1,13 @@
 -- Who waits for which block.
 use Rattle.std.specs.List.{list_any}
 use Rattle.std.specs.Map.{lookup}
-use Rattle.std.specs.Prelude.{Bool, List, None, Option, Some, [], bytes_eq, false, filter, if◌then◌else◌, length, nat_lt, not, ℕ, ◌++◌, ◌==◌, ◌∷◌}
+use Rattle.std.specs.Prelude.{Bool, List, None, Option, Some, [], bytes_eq, false, filter, if◌then◌else◌, is_some, length, nat_lt, not, ℕ, ◌++◌, ◌==◌, ◌∷◌}
 
--- The tickets of those who wait for one block, in the order in which they came, and whether the buffer has promised to
--- tell of the block.
+-- The tickets of those who wait for one block, in the order in which they came, and the name of which the buffer has
+-- promised to tell, where it has.
 pub record Wait : Type 0 where
   pub tickets : List ℕ
-  pub is_told : Bool
+  pub promise : Option (List ℕ)
 
 -- What contracts see of the subscriptions: the waits by digest and those by commitment, each under its name.
 pub record Waits : Type 0 where
@@ -29,12 +29,12 @@ tickets_for waits name = tickets_in (wait_for waits name)
 -- the buffer has promised to tell of the block
 abbrev pub is_promised : Option Wait → Bool
 is_promised None = false
-is_promised (Some w) = w.is_told
+is_promised (Some w) = is_some w.promise
 
 -- one more waits: behind those who do, under the promise that they have, or else as the first, under this one
-abbrev pub joined : ℕ → Bool → Option Wait → Wait
-joined ticket is_told None = record { tickets = ticket ∷ []; is_told = is_told }
-joined ticket is_told (Some w) = record w { tickets = w.tickets ++ ticket ∷ [] }
+abbrev pub joined : ℕ → Option (List ℕ) → Option Wait → Wait
+joined ticket promise None = record { tickets = ticket ∷ []; promise = promise }
+joined ticket promise (Some w) = record w { tickets = w.tickets ++ ticket ∷ [] }
 
 -- the tickets that aren't among the closed ones
 abbrev pub open_of : List ℕ → List ℕ → List ℕ

@@ -5,6 +5,7 @@
 mod acks;
 mod certified;
 mod gate;
+mod laws;
 mod shown;
 mod staged;
 mod subscriptions;
@@ -13,6 +14,7 @@ mod waiters;
 pub use acks::{Mark, Oldest, PendingAck, PendingAcks};
 pub use certified::Certified;
 pub use gate::DispatchGate;
+pub use laws::{acks_compared, waits_compared};
 pub use mar_node::{FetchAdmission, State, Stream, closed_epoch, synced_cutoff, synced_height};
 pub use shown::Shown;
 pub use staged::Staged;

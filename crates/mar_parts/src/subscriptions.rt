@@ -92,16 +92,16 @@ where
                 if self.digests.join(&digest, ticket)? {
                     return Ok(());
                 }
-                let is_told = buffer.subscribe_by_digest(&digest).is_some();
-                self.digests.open(self.alloc, digest, is_told, ticket)
+                let promise = buffer.subscribe_by_digest(&digest);
+                self.digests.open(self.alloc, digest, promise, ticket)
             }
             Key::Commitment(commitment) => {
                 if self.commitments.join(&commitment, ticket)? {
                     return Ok(());
                 }
-                let is_told = buffer.subscribe_by_commitment(&commitment).is_some();
+                let promise = buffer.subscribe_by_commitment(&commitment);
                 self.commitments
-                    .open(self.alloc, commitment, is_told, ticket)
+                    .open(self.alloc, commitment, promise, ticket)
             }
         }
     }

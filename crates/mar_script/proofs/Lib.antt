@@ -10,3 +10,5 @@ pub mod LineKinds
 pub mod LineEnds
 pub mod ReadSteps
 pub mod FirstOutside
+pub mod SmallLines
+pub mod Accounts

@@ -5,7 +5,7 @@ use Rattle.std.proofs.lemmas.List.{append-nil, flat_map_more}
 use Rattle.std.proofs.lemmas.List.Elements.{All-from_recursion, All-push, recursion_from_All}
 use Rattle.std.proofs.lemmas.Option.{IfSome_then}
 use Rattle.std.specs.List.{AllByRecursion}
-use Rattle.std.specs.Prelude.{IfSome, Vec}
+use Rattle.std.specs.Prelude.{IfSome, IsErrOf, Result, Vec}
 use Rattle.std.specs.declared.alloc.Global.{Global}
 use Rattle.mar_script.specs.Endings.{IsWritersEnd}
 use Rattle.mar_script.specs.Lines.{Spells, plain_line}
@@ -126,6 +126,13 @@ one_too_many n k before pending line code still after t many told = record {
 
 pub nothing_next : (n k : ℕ) (before : Option (List ℕ)) (pending still : List ℕ) (after : Option (List ℕ)) → TakesLine before pending (Ok None) still after → TakesNext n k before pending (Ok None) still after
 nothing_next n k before pending still after t = record { read = t.read; gives = t.gives; next = (t.line.0, t.line.2) }
+
+-- a line that the source failed to give ends the run by that fault
+pub fault_missing : {T U : Type 0} (n : ℕ) (e : LineError) (code : StatusCode) → code ≡ missing_status n e → IsErrOf {T = T} (Err e) missing.ReadFault → IsErrOf {T = U} (Err code) status.ReadFault
+fault_missing {T} {U} n e code told is = ap (λ c. Err c) (told ∙ ap (missing_status n) (inside is))
+  where
+    inside : ◌≡◌ {A = Result T LineError} (Err e) (Err missing.ReadFault) → e ≡ missing.ReadFault
+    inside same = cc
 
 -- ALL LINES
 

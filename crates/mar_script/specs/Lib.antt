@@ -1,4 +1,5 @@
 pub mod Script
+pub mod Accounts
 pub mod Text
 pub mod Refused
 pub mod Run

@@ -1,9 +1,6 @@
 -- How far a script is read, and which line is the first outside the grammar.
 use Rattle.std.specs.Prelude.{Err, IfSome, if◌then◌else◌, List, nat_lt, None, Ok, Option, Result, Some, [], ℕ, ⊤, ◌++◌, ◌≡◌, ◌≤◌}
-use Rattle.mar_codec.specs.Causes.{Rose}
-use Rattle.mar_node.specs.Faults.{StoreName}
-use Rattle.mar_node.specs.Held.{Counts, Remains, count_of}
-use Rattle.mar_node.specs.Node.{Ended}
+use Rattle.mar_node.specs.Held.{Remains}
 use Rattle.mar_script.specs.Lines.{plain_line}
 use Rattle.mar_script.specs.Refused.{max_lines}
 use Rattle.mar_script.specs.Run.{HeadlineWhereTold, IsConfigBytes, IsLineBytes, IsShownAs, ReadsLines, Status, StopsAt, out_of_memory, outside_grammar, read_failed, read_to_end, write_failed}
@@ -59,14 +56,10 @@ EndsByLine n reason status.WriteFault = ⊤
 EndsByLine n reason status.Ok = ⊥
 EndsByLine n reason status.Usage = ⊥
 
--- no count of a store rose
-abbrev pub IsQuiet : Counts → Counts → Type 0
-IsQuiet before now = (s : StoreName) → Rose (count_of before s) (count_of now s) → ⊥
-
 -- The headline of a replay: of what its source and sink held before and after, where they tell it, of how it ended, and
 -- of its stores before and after.
-abbrev pub ReplaysWhereTold : Option (List ℕ) → Option (List ℕ) → Option (List ℕ) → Option (List ℕ) → StatusCode → Ended → Counts → Remains → Type 0
-ReplaysWhereTold source left sink sunk code before counts after = IfSome (ending_of code) (λ status. HeadlineWhereTold (IsQuiet counts after.counts) source left sink sunk status before after.ended)
+abbrev pub ReplaysWhereTold : Option (List ℕ) → Option (List ℕ) → Option (List ℕ) → Option (List ℕ) → StatusCode → Remains → Remains → Type 0
+ReplaysWhereTold source left sink sunk code before after = IfSome (ending_of code) (λ status. HeadlineWhereTold source left sink sunk status before after)
 
 -- ONE LINE
 

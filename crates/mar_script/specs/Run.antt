@@ -1,6 +1,7 @@
 -- What each script line does, runs of lines, and the headline.
 use Rattle.std.specs.List.{AllByRecursion, flat_map, list_any}
 use Rattle.std.specs.Prelude.{Any, Bool, Contains, IfSome, IsFalse, IsTrue, List, None, Option, Some, [], bytes_eq, false, filter, if◌then◌else◌, length, map, not, true, ℕ, ⊤, ◌&&◌, ◌++◌, ◌+◌, ◌<◌, ◌==◌, ◌||◌, ◌∷◌, ◌≡◌, ◌⊎◌}
+use Rattle.mar_codec.specs.Causes.{Rose}
 use Rattle.mar_cert.specs.Block.{Block, IsBlock}
 use Rattle.mar_cert.specs.Finalization.{Finalization, finalization_bytes}
 use Rattle.mar_key.specs.Cutoff.{covers, cutoff_zero}
@@ -13,14 +14,15 @@ use Rattle.mar_node.specs.Messages.{Message, Queued, certify, close_ticket, get_
 use Rattle.mar_key.specs.PeerQueue.{PeerMessage, after_peer_close, after_peer_enqueue, after_peer_take, deliver, is_open, peer_room, produce}
 use Rattle.mar_node.specs.Config.{Config}
 use Rattle.mar_node.specs.Acks.{is_unmarked}
-use Rattle.mar_node.specs.Held.{Counts}
+use Rattle.mar_node.specs.Held.{IsUsual, Remains, Watches, picks_of, watch_of}
 use Rattle.mar_node.specs.Node.{Awaited, Ended, IsFinalized, Node, left_by}
 use Rattle.mar_node.specs.Event.{Event, ack_dropped, ack_given, block_buffered, buffer_ended, message_told, sync_finished}
 use Rattle.mar_cert.specs.MockScheme.{IsFinalization}
-use Rattle.mar_node.specs.Faults.{Begin, Fault, from_floor, from_genesis, want_of_memory}
+use Rattle.mar_node.specs.Faults.{Begin, Fault, StoreName, from_floor, from_genesis, want_of_memory}
 use Rattle.mar_node.specs.Answers.{TicketAnswer, is_wanted, no_value, produced_value, to}
 use Rattle.mar_node.specs.Step.{Made, Steps, nothing_made}
-use Rattle.mar_node.specs.Lives.{Cuts, CutsOpening, Finds, IsGoodEnded, Opens}
+use Rattle.mar_node.specs.Lives.{Cuts, CutsOpening, Finds, IsGoodEnded, Opens, Picks}
+use Rattle.mar_script.specs.Accounts.{Account, AccountsFor, first_account, fresh_watches}
 use Rattle.mar_script.specs.Refused.{IsRefused, IsUnended, max_lines}
 use Rattle.mar_script.specs.Script.{IsLine, IsSettings, Line, Settings, ack_line, ask_line, bufclose_line, buffer_line, config_of, crash_line, drop_line, fail_line, line_bytes, open_line, peer_line, put_line, script_bytes, serve_line, settings_bytes, sync_line, take_line, tell_line}
 use Rattle.mar_script.specs.Text.{Done, Output, Remark, State, remark_empty, remark_ignored, remark_ok, remark_output, remark_overflowed, remark_running, remark_stopped, remark_unasked, running, silent_output, stopped, text}
@@ -127,12 +129,12 @@ abbrev pub OneDone : Config → Chain → Node → List Event → Output → Sta
 OneDone config chain n events out after = EventsDone config chain n events [] (λ m. []) out after
 
 -- an opening that finished, or was cut
-abbrev pub OpenDone : Config → Chain → Ended → Begin → Output → State → Type 0
-OpenDone config chain e begin out (running n) =
-    (made : Made) × Opens config chain e begin made n × (n.asked ≡ asked_after [] [] made.asks)
+abbrev pub OpenDone : Config → Chain → Ended → Picks → Begin → Output → State → Type 0
+OpenDone config chain e picks begin out (running n) =
+    (made : Made) × Opens config chain e picks begin made n × (n.asked ≡ asked_after [] [] made.asks)
     × (out ≡ record { made = made; outcomes = []; remark = None; fault = None })
-OpenDone config chain e begin out (stopped left) =
-    (fault : Fault) × (out.remark ≡ None) × (out.fault ≡ Some fault) × CutsOpening config chain e begin out.made.reports fault left × (out.outcomes ≡ [])
+OpenDone config chain e picks begin out (stopped left) =
+    (fault : Fault) × (out.remark ≡ None) × (out.fault ≡ Some fault) × CutsOpening config chain e picks begin out.made.reports fault left × (out.outcomes ≡ [])
 
 -- what the messages that ask for bytes are answered, at the end
 abbrev pub produced_answers : List PeerMessage → Node → List TicketAnswer
@@ -214,18 +216,28 @@ abbrev pub RunningDone : Config → Chain → Node → Line → Option Remark �
 RunningDone config chain n line (Some remark) out after = (out ≡ remark_output remark) × (after ≡ running n)
 RunningDone config chain n line None out after = Acts config chain n line out after
 
--- What one line may write, and the state after it.
-abbrev pub LineDone : Config → Chain → State → Line → Output → State → Type 0
-LineDone config chain (running n) line out after = RunningDone config chain n line (refusal n line) out after
-LineDone config chain (stopped e) (open_line begin) out after = OpenDone config chain e begin out after
-LineDone config chain (stopped e) (fail_line store k) out after = (out ≡ silent_output) × (after ≡ stopped e)
-LineDone config chain (stopped e) (crash_line luck) out after = (out ≡ silent_output) × (after ≡ stopped e)
-LineDone config chain (stopped e) _ out after = (out ≡ remark_output remark_stopped) × (after ≡ stopped e)
+-- what the next opening picks of what is left
+abbrev pub next_picks : Account → Ended → Picks
+next_picks account e = picks_of (record { ended = e; watches = account.watches }) account.luck
+
+-- What one line may write, and the state after it; what the stores told before it picks what an opening finds.
+abbrev pub LineDone : Config → Chain → Account → State → Line → Output → State → Type 0
+LineDone config chain account (running n) line out after = RunningDone config chain n line (refusal n line) out after
+LineDone config chain account (stopped e) (open_line begin) out after = OpenDone config chain e (next_picks account e) begin out after
+LineDone config chain account (stopped e) (fail_line store k) out after = (out ≡ silent_output) × (after ≡ stopped e)
+LineDone config chain account (stopped e) (crash_line luck) out after = (out ≡ silent_output) × (after ≡ stopped e)
+LineDone config chain account (stopped e) _ out after = (out ≡ remark_output remark_stopped) × (after ≡ stopped e)
 
 -- one line after another
-abbrev pub Run : Config → Chain → State → List Done → State → Type 0
-Run config chain state [] last = last ≡ state
-Run config chain state (d ∷ run) last = LineDone config chain state d.line d.output d.after × Run config chain d.after run last
+abbrev pub Run : Config → Chain → Account → State → List Done → State → Type 0
+Run config chain account state [] last = last ≡ state
+Run config chain account state (d ∷ run) last =
+    LineDone config chain account state d.line d.output d.after × AccountsFor account d.line d.output.fault d.account × Run config chain d.account d.after run last
+
+-- what the stores tell behind the last line
+abbrev pub account_after : Account → List Done → Account
+account_after account [] = account
+account_after account (d ∷ run) = account_after d.account run
 
 -- LAWFUL SCRIPTS
 
@@ -333,9 +345,9 @@ empty_stores = record {
   meta = record { processed = None; cutoff = cutoff_zero } ∷ [];
 }
 
--- stores none of which ever failed
-abbrev pub no_faults : Counts
-no_faults = record { blocks = 0; certs = 0; meta = 0; cache = 0 }
+-- and that never failed
+abbrev pub fresh_stores : Remains
+fresh_stores = record { ended = empty_stores; watches = fresh_watches }
 
 -- What the headline asks: a partition into epochs, a lawful chain, a lawful script on it, and stores that are good for the chain, as an
 -- earlier run hands them back; those in which nothing was ever put are.
@@ -358,18 +370,22 @@ IsSmoothMessage config n m = ⊤
 
 -- Said of the state in which a line is done: no armed fault, no `drop` of an outstanding ticket, floors
 -- that are covered or hold.
-abbrev pub IsSmooth : Config → State → Line → Type 0
-IsSmooth config state (fail_line store k) = ⊥
-IsSmooth config (running n) (drop_line t) = IsFalse (list_any (λ a. a.ticket == t) n.out)
-IsSmooth config (running n) (tell_line m) = IsSmoothMessage config n m
-IsSmooth config (running n) take_line = IfSome (after_take n.inbox).0 (λ q. IsSmoothMessage config n q.message)
-IsSmooth config (stopped e) (open_line (from_floor f)) = (n : Node) → Finds config e (from_floor f) n → IsSmoothFloor config n f
-IsSmooth config state line = ⊤
+abbrev pub IsSmooth : Config → Account → State → Line → Type 0
+IsSmooth config account state (fail_line store k) = ⊥
+IsSmooth config account (running n) (drop_line t) = IsFalse (list_any (λ a. a.ticket == t) n.out)
+IsSmooth config account (running n) (tell_line m) = IsSmoothMessage config n m
+IsSmooth config account (running n) take_line = IfSome (after_take n.inbox).0 (λ q. IsSmoothMessage config n q.message)
+IsSmooth config account (stopped e) (open_line (from_floor f)) = (n : Node) → Finds config e (next_picks account e) (from_floor f) n → IsSmoothFloor config n f
+IsSmooth config account state line = ⊤
 
 -- each line is smooth in the state in which it is done
-abbrev pub AreSmooth : Config → State → List Done → Type 0
-AreSmooth config state [] = ⊤
-AreSmooth config state (d ∷ run) = IsSmooth config state d.line × AreSmooth config d.after run
+abbrev pub AreSmooth : Config → Account → State → List Done → Type 0
+AreSmooth config account state [] = ⊤
+AreSmooth config account state (d ∷ run) = IsSmooth config account state d.line × AreSmooth config d.account d.after run
+
+-- no count of a store's failures rose
+abbrev pub IsQuiet : Watches → Watches → Type 0
+IsQuiet before now = (s : StoreName) → Rose (watch_of before s).faults (watch_of now s).faults → ⊥
 
 -- no fault but want of memory
 abbrev pub IsFaultFree : Done → Type 0
@@ -381,18 +397,24 @@ MemoryEnds status [] = ⊤
 MemoryEnds status (d ∷ []) = d.output.fault ≡ Some want_of_memory → status ≡ out_of_memory
 MemoryEnds status (d ∷ e ∷ run) = (d.output.fault ≡ Some want_of_memory → ⊥) × MemoryEnds status (e ∷ run)
 
+-- a store's fault or want of memory, if any
+abbrev pub IsExcused : Done → Type 0
+IsExcused d = IfSome d.output.fault IsUsual
+
 -- The output is the text of a run of lives on the lines, and the stores are those of its last state.
-pub record Replays (quiet : Type 0) (config : Config) (chain : Chain) (lines : List Line) (bytes : List ℕ) (status : Status) (before after : Ended) : Type 0 where
+pub record Replays (config : Config) (chain : Chain) (lines : List Line) (bytes : List ℕ) (status : Status) (before after : Remains) : Type 0 where
   pub run : List Done
   pub lines_done : map (λ d. d.line) run ≡ lines
   pub last : State
-  pub lives : Run config chain (stopped before) run last
-  pub output : IsOutput status bytes (text before run)
-  pub hands_back : HandsBack last after
-  pub good : IsGoodEnded chain after
-  pub some_pair : 0 < length after.meta
+  pub lives : Run config chain (first_account before.watches) (stopped before.ended) run last
+  pub output : IsOutput status bytes (text before.ended run)
+  pub hands_back : HandsBack last after.ended
+  pub watches_are : (account_after (first_account before.watches) run).watches ≡ after.watches
+  pub good : IsGoodEnded chain after.ended
+  pub some_pair : 0 < length after.ended.meta
   pub memory : MemoryEnds status run
-  pub complete : quiet → AreSmooth config (stopped before) run → AllByRecursion IsFaultFree run
+  pub excused : AllByRecursion IsExcused run
+  pub complete : IsQuiet before.watches after.watches → AreSmooth config (first_account before.watches) (stopped before.ended) run → AllByRecursion IsFaultFree run
 
 -- how far a source was read: the settings, the lines that were done, and the rest that was taken behind them
 abbrev pub ReadsLines : Option Settings → List Line → List ℕ → Status → List ℕ → List ℕ → Type 0
@@ -401,22 +423,23 @@ ReadsLines (Some s) lines rest status taken left =
     (taken ≡ script_bytes s lines ++ rest) × IsSettings s × AllByRecursion (IsLine s.members) lines × (length lines < max_lines) × StopsAt (length lines + 2) (IsLineBytes s.members) rest left status
 
 -- what the lines that were done made of the stores, and what they wrote
-abbrev pub RunsLines : Type 0 → Option Settings → List Line → Status → List ℕ → Ended → Ended → Type 0
-RunsLines quiet None lines status bytes before after = (bytes ≡ []) × HandsBack (stopped before) after × ((chain : Chain) → IsGoodEnded chain before → IsGoodEnded chain after)
-RunsLines quiet (Some s) lines status bytes before after = (chain : Chain) → Premises (config_of s) chain lines before → Replays quiet (config_of s) chain lines bytes status before after
+abbrev pub RunsLines : Option Settings → List Line → Status → List ℕ → Remains → Remains → Type 0
+RunsLines None lines status bytes before after =
+    (bytes ≡ []) × HandsBack (stopped before.ended) after.ended × (after.watches ≡ before.watches) × ((chain : Chain) → IsGoodEnded chain before.ended → IsGoodEnded chain after.ended)
+RunsLines (Some s) lines status bytes before after = (chain : Chain) → Premises (config_of s) chain lines before.ended → Replays (config_of s) chain lines bytes status before after
 
 -- of the lines that were done, and of bytes taken, left and written
-abbrev pub ReplaysLines : Type 0 → Option Settings → List Line → List ℕ → Status → List ℕ → List ℕ → List ℕ → Ended → Ended → Type 0
-ReplaysLines quiet settings lines rest status taken left bytes before after =
-    ReadsLines settings lines rest status taken left × RunsLines quiet settings lines status bytes before after
+abbrev pub ReplaysLines : Option Settings → List Line → List ℕ → Status → List ℕ → List ℕ → List ℕ → Remains → Remains → Type 0
+ReplaysLines settings lines rest status taken left bytes before after =
+    ReadsLines settings lines rest status taken left × RunsLines settings lines status bytes before after
 
 -- THE HEADLINE: what `replay` took of its source and left in it, what it wrote, what it answered, and
--- its stores before and after. `quiet` says that no count of the stores rose.
-pub record Headline (quiet : Type 0) (taken left bytes : List ℕ) (status : Status) (before after : Ended) : Type 0 where
+-- its stores before and after, with what each tells of its failures.
+pub record Headline (taken left bytes : List ℕ) (status : Status) (before after : Remains) : Type 0 where
   pub settings : Option Settings
   pub lines : List Line
   pub rest : List ℕ
-  pub told : ReplaysLines quiet settings lines rest status taken left bytes before after
+  pub told : ReplaysLines settings lines rest status taken left bytes before after
 
 -- where a source or sink tells its bytes, they are these
 abbrev pub IsShownAs : Option (List ℕ) → List ℕ → Type 0
@@ -425,7 +448,7 @@ IsShownAs (Some told) bytes = told ≡ bytes
 
 -- The headline as a contract cites it: of what source and sink hold before and after, where they tell it; the run and
 -- the stores are spoken of in any case.
-abbrev pub HeadlineWhereTold : Type 0 → Option (List ℕ) → Option (List ℕ) → Option (List ℕ) → Option (List ℕ) → Status → Ended → Ended → Type 0
-HeadlineWhereTold quiet source left sink sunk status before after =
+abbrev pub HeadlineWhereTold : Option (List ℕ) → Option (List ℕ) → Option (List ℕ) → Option (List ℕ) → Status → Remains → Remains → Type 0
+HeadlineWhereTold source left sink sunk status before after =
     (taken untaken front bytes : List ℕ) × IsShownAs source (taken ++ untaken) × IsShownAs left untaken × IsShownAs sink front × IsShownAs sunk (front ++ bytes)
-    × Headline quiet taken untaken bytes status before after
+    × Headline taken untaken bytes status before after

@@ -1,6 +1,9 @@
 -- What a read takes of a source and a write gives to a sink, where they tell it, and how a script's lines are taken.
 use Rattle.std.specs.Prelude.{Err, List, None, Ok, Option, Result, Some, Vec, [], drop, length, take, ℕ, ◌++◌, ◌+◌, ◌<◌, ◌∷◌, ◌≡◌, ◌≤◌}
 use Rattle.std.specs.declared.alloc.Global.{Global}
+use Rattle.mar_codec.specs.Causes.{Rose}
+use Rattle.mar_store.specs.declared.Miss.{Miss}
+use Rattle.mar_store.specs.declared.Miss.TheVariants.{Fault as Missed, Memory as Forgot}
 use Rattle.mar_script.specs.Refused.{IsUnended, max_line}
 use Rattle.mar_script.specs.Run.{IsFront, IsShownAs}
 use Rattle.mar_script.specs.declared.reader.LineError.{LineError}
@@ -17,6 +20,12 @@ Takes before bytes after = (front : List ℕ) → IsShownAs before front → IsS
 -- some bytes at the front of these were put there
 abbrev pub TakesFront : Option (List ℕ) → List ℕ → Option (List ℕ) → Type 0
 TakesFront before bytes after = (front : List ℕ) × IsFront front bytes × Takes before front after
+
+-- a read or write that failed raised its count of failures, another left it, want of memory too
+abbrev pub RaisedByFault : {T : Type 0} → ℕ → ℕ → Result T Miss → Type 0
+RaisedByFault before now (Ok v) = now ≡ before
+RaisedByFault before now (Err Missed) = Rose before now
+RaisedByFault before now (Err Forgot) = now ≡ before
 
 -- the first line of these bytes ends here
 pub record EndsAt (bytes : List ℕ) (n : ℕ) : Type 0 where

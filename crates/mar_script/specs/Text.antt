@@ -13,6 +13,7 @@ use Rattle.mar_node.specs.Metadata.{Pair}
 use Rattle.mar_node.specs.Faults.{Fault, TicketKind, ack_kind, answer_kind, corrupt, damaged, dropped_ack, floor_epoch_unavailable, floor_invalid, floor_parent_mismatch, genesis_height, genesis_mismatch, height_limit, store_fault, sync_kind, ticket_limit, unbacked, want_of_memory}
 use Rattle.mar_node.specs.Answers.{Sent, TicketAnswer, Value, anchor_value, bytes_value, closed_value, info_value, no_value, processed_value, sync_value, true_value}
 use Rattle.mar_node.specs.Step.{Made, Report, handed_over, new_tip, nothing_made}
+use Rattle.mar_script.specs.Accounts.{Account}
 use Rattle.mar_script.specs.Script.{Line, comma_numbers, hex, peers_text, sentence, store_name}
 use Rattle.mar_store.specs.Ranges.{Range, ranges}
 
@@ -38,11 +39,12 @@ pub data State : Type 0 where
   running : Node → State
   stopped : Ended → State
 
--- one line of a script and what it did
+-- one line of a script, what it did, and what the stores tell then
 pub record Done : Type 0 where
   pub line : Line
   pub output : Output
   pub after : State
+  pub account : Account
 
 -- PARTS
 

@@ -1,10 +1,9 @@
 //! The lines of a script, from a source that is read in pieces.
 ghost use Rattle.std.specs.Prelude.{◌≡◌, ◌≤◌, ◌<◌, ◌+◌, ◌++◌, ◌∷◌, ℕ, List, [], IfOk, IfSome, OnOk, OnErr, IsErrOf, take, drop, length};
 ghost use Rattle.mar_codec.specs.Causes.{Rose};
-ghost use Rattle.mar_store.specs.Lost.{IsMissedBy};
 ghost use Rattle.mar_script.specs.Run.{IsShownAs};
 ghost use Rattle.mar_script.specs.Refused.{IsUnended};
-ghost use Rattle.mar_script.specs.Streams.{EndsAt, Gives, TakesLine};
+ghost use Rattle.mar_script.specs.Streams.{EndsAt, Gives, RaisedByFault, TakesLine};
 
 use crate::source::Source;
 use mar_store::Miss;
@@ -80,7 +79,7 @@ impl ScriptReader {
         ensures end { IfOk result (λ n. n ≡ 0 → IsShownAs (S.left source.new) []) }
         ensures err { OnErr result ((self.new ≡ self.old) × Gives (S.left source.old) [] (S.left source.new)) }
         ensures later { S.faults source.old ≤ S.faults source.new }
-        ensures cause { IsMissedBy (S.faults source.old) (S.faults source.new) result }
+        ensures cause { RaisedByFault (S.faults source.old) (S.faults source.new) result }
     {
         self.bytes.drain(..self.start);
         self.start = 0;
@@ -120,9 +119,7 @@ impl ScriptReader {
         ensures line { TakesLine (S.left source.old) self.old result self.new (S.left source.new) }
         ensures later { S.faults source.old ≤ S.faults source.new }
         ensures fault { IsErrOf result LineError.ReadFault → Rose (S.faults source.old) (S.faults source.new) }
-        ensures calm { OnOk result (S.faults source.new ≡ S.faults source.old) }
-        ensures unended { IsErrOf result LineError.Unended → S.faults source.new ≡ S.faults source.old }
-        ensures too_long { IsErrOf result LineError.TooLong → S.faults source.new ≡ S.faults source.old }
+        ensures calm { (IsErrOf result LineError.ReadFault → ⊥) → S.faults source.new ≡ S.faults source.old }
     {
         let mut searched = 0;
         'pieces: loop {

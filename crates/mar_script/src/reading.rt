@@ -1,5 +1,5 @@
 //! The lines of a script, read and parsed, and how a run ends where there is none.
-ghost use Rattle.std.specs.Prelude.{◌≡◌, ◌+◌, ◌<◌, ◌≤◌, ℕ, [], IfErr, IfNone, IfOk, IsErrOf, OnOk};
+ghost use Rattle.std.specs.Prelude.{◌≡◌, ◌+◌, ◌<◌, ◌≤◌, [], IfErr, IfNone, IfOk, IsErrOf};
 ghost use Rattle.mar_codec.specs.Causes.{Rose};
 ghost use Rattle.mar_script.specs.Endings.{IsReadersEnd};
 ghost use Rattle.mar_script.specs.Reading.{TakesFirst, TakesNext, missing_status, refused_at, refused_status};
@@ -63,8 +63,7 @@ pub fn first_line<S: Source>(
     ensures first { TakesFirst (S.left source.old) reader.old result reader.new (S.left source.new) }
     ensures valid { IfOk result IsSettings }
     ensures end { IfErr result IsReadersEnd }
-    ensures calm { OnOk result (S.faults source.new ≡ S.faults source.old) }
-    ensures calm_script { (n : ℕ) (why : Why) → IsErrOf result (Status.Script n why) → S.faults source.new ≡ S.faults source.old }
+    ensures calm { (IsErrOf result Status.ReadFault → ⊥) → S.faults source.new ≡ S.faults source.old }
     ensures read_fault { IsErrOf result Status.ReadFault → Rose (S.faults source.old) (S.faults source.new) }
 {
     let line = match reader.next_line(alloc, source) {
@@ -95,8 +94,7 @@ pub fn next_line<S: Source>(
     ensures next { TakesNext settings.members number (S.left source.old) reader.old result reader.new (S.left source.new) }
     ensures end { IfErr result IsReadersEnd }
     ensures to_end { IfOk result (λ o. IfNone o (IsShownAs (S.left source.new) [])) }
-    ensures calm { OnOk result (S.faults source.new ≡ S.faults source.old) }
-    ensures calm_script { (n : ℕ) (why : Why) → IsErrOf result (Status.Script n why) → S.faults source.new ≡ S.faults source.old }
+    ensures calm { (IsErrOf result Status.ReadFault → ⊥) → S.faults source.new ≡ S.faults source.old }
     ensures read_fault { IsErrOf result Status.ReadFault → Rose (S.faults source.old) (S.faults source.new) }
 {
     let line = match reader.next_line(alloc, source) {

@@ -1,7 +1,6 @@
 //! Where the output of a script goes.
 ghost use Rattle.std.specs.Prelude.{◌≡◌, ◌≤◌, ◌<◌, ℕ, Option, List, [], Some, None, IfOk, OnOk, OnErr, take, length};
-ghost use Rattle.mar_store.specs.Lost.{IsMissedBy};
-ghost use Rattle.mar_script.specs.Streams.{Takes, TakesFront};
+ghost use Rattle.mar_script.specs.Streams.{RaisedByFault, Takes, TakesFront};
 
 use mar_store::Miss;
 use std::alloc::Global;
@@ -15,14 +14,15 @@ pub trait Sink {
     // How many writes failed. The count stops at its last value.
     ghost faults: { Self → ℕ };
 
-    /// Writes some bytes from the front of these and answers how many, at least one where there are some.
+    /// Writes some bytes from the front of these and answers how many, at least one where there are some. A write that
+    /// fails is the answer, and isn't tried again: want of memory, like a write, leaves the count.
     fn write(&mut self, bytes: &[u8]) -> Result<usize, Miss>
         ensures within { IfOk result (λ n. n ≤ length bytes.now) }
         ensures some { IfOk result (λ n. 0 < length bytes.now → 0 < n) }
         ensures ok { IfOk result (λ n. Takes (written self.old) (take n bytes.now) (written self.new)) }
         ensures err { OnErr result (Takes (written self.old) [] (written self.new)) }
         ensures later { faults self.old ≤ faults self.new }
-        ensures cause { IsMissedBy (faults self.old) (faults self.new) result };
+        ensures cause { RaisedByFault (faults self.old) (faults self.new) result };
 }
 
 /// Writes all of the bytes. A write that fails leaves a front of them written.
@@ -30,7 +30,7 @@ pub fn write_all<K: Sink>(sink: &mut K, bytes: &[u8]) -> Result<(), Miss>
     ensures ok { OnOk result (Takes (K.written sink.old) bytes.now (K.written sink.new)) }
     ensures err { OnErr result (TakesFront (K.written sink.old) bytes.now (K.written sink.new)) }
     ensures later { K.faults sink.old ≤ K.faults sink.new }
-    ensures cause { IsMissedBy (K.faults sink.old) (K.faults sink.new) result }
+    ensures cause { RaisedByFault (K.faults sink.old) (K.faults sink.new) result }
 {
     let mut rest = bytes;
     while !rest.is_empty() {

@@ -1,8 +1,7 @@
 //! Where the bytes of a script come from.
 ghost use Rattle.std.specs.Prelude.{◌≡◌, ◌≤◌, ◌<◌, ℕ, Option, List, [], Some, None, IfOk, OnErr, take, length};
-ghost use Rattle.mar_store.specs.Lost.{IsMissedBy};
 ghost use Rattle.mar_script.specs.Run.{IsShownAs};
-ghost use Rattle.mar_script.specs.Streams.{Gives};
+ghost use Rattle.mar_script.specs.Streams.{Gives, RaisedByFault};
 
 use mar_store::Miss;
 use std::io::Read;
@@ -16,14 +15,14 @@ pub trait Source {
     ghost faults: { Self → ℕ };
 
     /// Reads bytes into the front of the buffer and answers how many. None into a buffer that has room is the end of
-    /// the input.
+    /// the input. A read that fails is the answer, and isn't tried again: want of memory, like a read, leaves the count.
     fn read(&mut self, buf: &mut [u8]) -> Result<usize, Miss>
         ensures within { IfOk result (λ n. n ≤ length buf.new) }
         ensures ok { IfOk result (λ n. Gives (left self.old) (take n buf.new) (left self.new)) }
         ensures err { OnErr result (Gives (left self.old) [] (left self.new)) }
         ensures end { IfOk result (λ n. n ≡ 0 → 0 < length buf.new → IsShownAs (left self.new) []) }
         ensures later { faults self.old ≤ faults self.new }
-        ensures cause { IsMissedBy (faults self.old) (faults self.new) result };
+        ensures cause { RaisedByFault (faults self.old) (faults self.new) result };
 }
 
 /// A reader, of which nothing is told but its faults.

@@ -1,36 +1,17 @@
 -- What the calls of a store over an archive rest on.
-use Rattle.std.proofs.Common.{◌≡◌, ℕ, List, [], ◌∷◌, Bool, true, false, cond, Option, Some, refl, ap, ◌∙◌, sym, is_some, Result, Ok, Err, IfOk, ◌||◌}
+use Rattle.std.proofs.Common.{◌≡◌, ℕ, List, [], ◌∷◌, true, false, cond, Option, Some, refl, ap, ◌∙◌, sym, is_some, Result, Ok, Err, IfOk, ◌||◌}
 use Rattle.std.specs.Prelude.{MatchResult, bytes_eq, option_map}
 use Rattle.std.specs.List.{list_any}
 use Rattle.std.specs.Result.{result_map_both}
 use Rattle.std.proofs.lemmas.List.Elements.{Contains-append_left}
-use Rattle.mar_store.specs.Armed.{HeedsArmed}
 use Rattle.mar_store.specs.Changes.{Fails, Left, Puts, left_of}
 use Rattle.mar_store.specs.Kept.{At, Kept, has_height}
 use Rattle.mar_store.specs.Lost.{wreck_of}
 use Rattle.mar_store.specs.Named.{is_taken, value_named}
 use Rattle.mar_store.specs.declared.Lost.{Lost}
-use Rattle.mar_store.specs.declared.Lost.TheVariants.{Fault, Memory}
 use Rattle.mar_cert.specs.Block.{Block}
 use Rattle.mar_cert.specs.Finalization.{Finalization}
-use Rattle.mar_shelf.specs.Heeded.{HeedsPut, LostAtPut, LostHeeding}
 use Rattle.mar_node.specs.Stored.{at_own_height, is_certified, is_held}
-
-pub lost_heeds : {S W : Type 0} (now : S → List ℕ) (left : W → List ℕ) (only : Bool) (due : List ℕ) (l : Lost W) → HeedsArmed now left only due (Err l) → LostHeeding left only due l
-lost_heeds now left only due (Fault w) heeds = heeds
-lost_heeds now left only due (Memory w) heeds = heeds
-
-pub heeds_lost : {S W : Type 0} (now : S → List ℕ) (left : W → List ℕ) (only : Bool) (due : List ℕ) (l : Lost W) → LostHeeding left only due l → HeedsArmed now left only due (Err l)
-heeds_lost now left only due (Fault w) heeds = heeds
-heeds_lost now left only due (Memory w) heeds = heeds
-
-pub lost_at_put : {S W : Type 0} (now : S → List ℕ) (left : W → List ℕ) (only : Bool) (due : List ℕ) (l : Lost W) → HeedsPut now left only due (Err l) → LostAtPut left only due l
-lost_at_put now left only due (Fault w) heeds = heeds
-lost_at_put now left only due (Memory w) heeds = heeds
-
-pub put_lost : {S W : Type 0} (now : S → List ℕ) (left : W → List ℕ) (only : Bool) (due : List ℕ) (l : Lost W) → LostAtPut left only due l → HeedsPut now left only due (Err l)
-put_lost now left only due (Fault w) heeds = heeds
-put_lost now left only due (Memory w) heeds = heeds
 
 -- what a put of a copy of a block puts
 pub puts_block : {S W : Type 0} (stored : S → Kept (At Block)) (left : W → Left (At Block)) (old : Kept (At Block)) (b item : Block) (h : ℕ) (r : Result S (Lost W)) → item ≡ b → h ≡ b.height
@@ -60,4 +41,4 @@ found_in plain (Err e) found value is has = tt
 
 -- a store that is left as it was
 pub fails_unchanged : {P : Type 0} (old left : Left (At P)) (more : List (At P)) → left ≡ old → Fails old more left
-fails_unchanged old left more is = rw is (record { sure = λ h v found. found; may = λ x there. Contains-append_left old.may more x there })
+fails_unchanged old left more is = rw is (record { sure = refl; may_kept = λ x there. there; may = λ x there. Contains-append_left old.may more x there })

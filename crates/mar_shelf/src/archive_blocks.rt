@@ -4,7 +4,7 @@ ghost use Rattle.std.specs.Result.{result_map_both};
 ghost use Rattle.mar_shelf.specs.Fitting.{own_blocks};
 
 use crate::archive::{Archived, Pruning, Wreck, wrapped, wrapped_with_ticket};
-use crate::item::{ArchivedBlocks, BlockItem};
+use crate::item::BlockItem;
 use crate::{Blocks, BlocksRuin};
 use mar_block::Variant;
 use mar_codec::Digest;
@@ -18,11 +18,7 @@ where
 {
     ghost left = { λ w. W.left w };
 
-    ghost faults = { λ w. W.faults w };
-
-    ghost due = { λ w. W.due w };
-
-    ghost armable = { W.armable };
+    ghost watch = { λ w. W.watch w };
 
     ghost within = { λ w. W.within w };
 
@@ -39,7 +35,7 @@ where
     }
 }
 
-impl<V: ArchivedBlocks, A: Archive<BlockItem<V>>, P: Pruning> Blocks<V> for Archived<A, P>
+impl<V: Variant, A: Archive<BlockItem<V>>, P: Pruning> Blocks<V> for Archived<A, P>
 where
     V::Digest: Digest,
 {
@@ -47,13 +43,7 @@ where
 
     ghost stored = { λ s. A.stored s };
 
-    ghost faults = { λ s. A.faults s };
-
-    ghost due = { λ s. A.due s };
-
-    ghost armable = { A.armable };
-
-    ghost only_armed = { A.only_armed };
+    ghost watch = { λ s. A.watch s };
 
     ghost number = { λ s. A.number s };
 
@@ -80,9 +70,6 @@ where
         _digest: &V::Digest,
         block: &V::Block,
     ) -> Result<Self, Lost<Wreck<BlockItem<V>, A::Wreck>>> {
-        if !V::fits(block) {
-            return Err(Lost::Memory(Wreck::new(self.archive.wreck())));
-        }
         match BlockItem::of(block) {
             Ok(item) => wrapped(self.archive.put(V::height(block).get(), item)),
             Err(_) => Err(Lost::Memory(Wreck::new(self.archive.wreck()))),

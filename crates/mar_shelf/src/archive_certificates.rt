@@ -3,7 +3,7 @@ ghost use Rattle.std.specs.Prelude.{◌≡◌, option_map};
 ghost use Rattle.std.specs.Result.{result_map_both};
 
 use crate::archive::{Archived, Pruning, Wreck, wrapped, wrapped_with_ticket};
-use crate::item::{ArchivedFinalization, CertificateItem};
+use crate::item::CertificateItem;
 use crate::{Certificates, CertificatesRuin};
 use mar_block::Variant;
 use mar_cert::CommitsTo;
@@ -22,11 +22,7 @@ where
 {
     ghost left = { λ w. W.left w };
 
-    ghost faults = { λ w. W.faults w };
-
-    ghost due = { λ w. W.due w };
-
-    ghost armable = { W.armable };
+    ghost watch = { λ w. W.watch w };
 
     ghost within = { λ w. W.within w };
 
@@ -45,7 +41,7 @@ where
 
 impl<
     V: Variant,
-    F: ArchivedFinalization<V::Commitment>,
+    F: CommitsTo<V::Commitment>,
     A: Archive<CertificateItem<V, F>>,
     P: Pruning,
 > Certificates<V, F> for Archived<A, P>
@@ -56,13 +52,7 @@ where
 
     ghost stored = { λ s. A.stored s };
 
-    ghost faults = { λ s. A.faults s };
-
-    ghost due = { λ s. A.due s };
-
-    ghost armable = { A.armable };
-
-    ghost only_armed = { A.only_armed };
+    ghost watch = { λ s. A.watch s };
 
     ghost number = { λ s. A.number s };
 
@@ -88,9 +78,6 @@ where
         _digest: &V::Digest,
         finalization: &F,
     ) -> Result<Self, Lost<Wreck<CertificateItem<V, F>, A::Wreck>>> {
-        if !finalization.fits() {
-            return Err(Lost::Memory(Wreck::new(self.archive.wreck())));
-        }
         match CertificateItem::of(finalization) {
             Ok(item) => wrapped(self.archive.put(height.get(), item)),
             Err(_) => Err(Lost::Memory(Wreck::new(self.archive.wreck()))),

@@ -1,16 +1,17 @@
 //! The store of finalizations.
-ghost use Rattle.std.specs.Prelude.{◌≡◌, ◌≤◌, ℕ, Bool, List, [], ◌∷◌, IfOk, MatchResult, OnErr, OnOk, false, option_map, true};
-ghost use Rattle.mar_store.specs.Armed.{HeedsArmed, ReadsArmed, with_armed};
+ghost use Rattle.std.specs.Prelude.{◌≡◌, ◌≤◌, ℕ, Bool, List, [], ◌∷◌, IfErr, IfOk, IfSome, MatchResult, OnErr, OnOk, false, option_map, true};
+ghost use Rattle.mar_store.specs.Watch.{armed, Heeds, HeedsOrNot, HeedsRead, Watch};
+ghost use Rattle.mar_store.specs.Sizes.{IsSmall};
+ghost use Rattle.mar_store.specs.Luck.{keeps_by, lucky_found};
 ghost use Rattle.mar_store.specs.Kept.{At, Kept, value_at, has_height};
-ghost use Rattle.mar_store.specs.Changes.{Left, Within, Puts, Syncs, Finishes, Prunes, Fails, left_of, IsReopened, IsNested, heights};
+ghost use Rattle.mar_store.specs.Changes.{Left, Within, Puts, Syncs, Finishes, Prunes, Fails, left_of, IsReopened, IsNested, IsStillOr, heights};
 ghost use Rattle.mar_store.specs.Named.{last_index};
 ghost use Rattle.mar_store.specs.Ranges.{ranges};
 ghost use Rattle.mar_store.specs.Spans.{ranges_of};
 ghost use Rattle.mar_store.specs.Tickets.{KeepsCovers, KeepsCoversFrom, last_number};
 ghost use Rattle.mar_shelf.specs.Gaps.{ranges_from};
-ghost use Rattle.mar_store.specs.Lost.{wreck_of, IsCausedBy, IsMissedBy};
-ghost use Rattle.mar_cert.specs.Finalization.{Finalization as PlainFinalization};
-ghost use Rattle.mar_shelf.specs.Heeded.{HeedsPut};
+ghost use Rattle.mar_store.specs.Lost.{wreck_of};
+ghost use Rattle.mar_cert.specs.Finalization.{Finalization as PlainFinalization, finalization_bytes};
 ghost use Rattle.mar_node.specs.Stored.{is_certified};
 
 use crate::gaps::ranges_from;
@@ -25,14 +26,8 @@ pub trait CertificatesRuin: Drop {
     /// What every crash leaves, and all that a crash can leave.
     ghost left: { Self → Left (At PlainFinalization) };
 
-    /// How often the store has failed.
-    ghost faults: { Self → ℕ };
-
-    /// How many counted calls away each armed one is.
-    ghost due: { Self → List ℕ };
-
-    /// Whether a call can be armed.
-    ghost armable: { Bool };
+    /// What it tells of its failures.
+    ghost watch: { Self → Watch };
 
     /// The heights of what every crash leaves.
     fn sure_ranges(&self) -> &RangeSet
@@ -45,10 +40,9 @@ pub trait CertificatesRuin: Drop {
     /// Makes the counted call fail that is so many calls away, 1 being the next. Counted are `put`, `sync`,
     /// `start_sync`, `finish`, `get`, `has`, `prune` and `reopen`. Where nothing can be armed it does nothing.
     fn arm(&mut self, calls: u64) -> Result<(), AllocError>
-        ensures armed { OnOk result (due self.new ≡ with_armed armable calls (due self.old)) }
-        ensures unarmed { OnErr result (due self.new ≡ due self.old) }
-        ensures left { left self.new ≡ left self.old }
-        ensures count { faults self.new ≡ faults self.old };
+        ensures armed { OnOk result (watch self.new ≡ armed calls (watch self.old)) }
+        ensures unarmed { OnErr result (watch self.new ≡ watch self.old) }
+        ensures left { left self.new ≡ left self.old };
 
     ghost within: { (w : Self) → Within (left w).sure (left w).may };
 }
@@ -60,16 +54,8 @@ pub trait Certificates<V: Variant, F: AsFinalization>: Drop {
     /// What it holds, what is sure, and what a crash can leave.
     ghost stored: { Self → Kept (At PlainFinalization) };
 
-    /// How often the store has failed; the count never falls.
-    ghost faults: { Self → ℕ };
-
-    /// How many counted calls away each armed one is.
-    ghost due: { Self → List ℕ };
-
-    /// Whether a call can be armed, and whether only armed calls fail.
-    ghost armable: { Bool };
-
-    ghost only_armed: { Bool };
+    /// What it tells of its failures.
+    ghost watch: { Self → Watch };
 
     /// The greatest number that a ticket of this life has.
     ghost number: { Self → ℕ };
@@ -86,8 +72,7 @@ pub trait Certificates<V: Variant, F: AsFinalization>: Drop {
         ensures same { stored self.new ≡ stored self.old }
         ensures tickets { number self.new ≡ number self.old }
         ensures covers { KeepsCovers (number self.old) (covers self.old) (covers self.new) }
-        ensures cause { IsMissedBy (faults self.old) (faults self.new) result }
-        ensures armed { ReadsArmed only_armed (due self.old) (due self.new) result };
+        ensures watched { HeedsRead (watch self.old) (watch self.new) result };
 
     /// Whether a finalization is held at a height.
     fn has(&mut self, height: Height) -> Result<bool, Miss>
@@ -95,10 +80,10 @@ pub trait Certificates<V: Variant, F: AsFinalization>: Drop {
         ensures same { stored self.new ≡ stored self.old }
         ensures tickets { number self.new ≡ number self.old }
         ensures covers { KeepsCovers (number self.old) (covers self.old) (covers self.new) }
-        ensures cause { IsMissedBy (faults self.old) (faults self.new) result }
-        ensures armed { ReadsArmed only_armed (due self.old) (due self.new) result };
+        ensures watched { HeedsRead (watch self.old) (watch self.new) result };
 
-    /// Puts a finalization at its block's height and digest; ignored where one of either is held.
+    /// Puts a finalization at its block's height and digest; ignored where one of either is held. Where memory runs out before
+    /// the store is asked the call isn't counted.
     fn put(
         self,
         height: Height,
@@ -107,15 +92,17 @@ pub trait Certificates<V: Variant, F: AsFinalization>: Drop {
     ) -> Result<Self, Lost<Self::Wreck>>
     where
         Self: Sized,
-        requires { V.Digest.bytes digest.now ≡ V.inner (F.plain finalization.now).payload }
+        requires named { V.Digest.bytes digest.now ≡ V.inner (F.plain finalization.now).payload }
+        requires size { IsSmall (finalization_bytes (F.plain finalization.now)) }
         ensures done { MatchResult result
             (λ s. Puts (is_certified V.inner (stored self).held height (V.Digest.bytes digest.now)) (stored self)
             (record { height = height; value = F.plain finalization.now }) (stored s))
             (λ l. Fails (left_of (stored self)) (record { height = height; value = F.plain finalization.now } ∷ []) (Self.Wreck.left (wreck_of l))) }
+        ensures still { IfErr result (λ l. IfSome (watch self).keeps
+            (λ _. IsStillOr (left_of (stored self)) (record { height = height; value = F.plain finalization.now }) (Self.Wreck.left (wreck_of l)))) }
         ensures tickets { IfOk result (λ s. number self ≤ number s) }
         ensures covers { IfOk result (λ s. KeepsCovers (number self) (covers self) (covers s)) }
-        ensures cause { IsCausedBy faults Self.Wreck.faults (faults self) result }
-        ensures armed { HeedsPut due Self.Wreck.due only_armed (due self) result };
+        ensures watched { HeedsOrNot watch Self.Wreck.watch (watch self) result };
 
     /// Makes all finalizations that were put durable.
     fn sync(self) -> Result<Self, Lost<Self::Wreck>>
@@ -124,10 +111,10 @@ pub trait Certificates<V: Variant, F: AsFinalization>: Drop {
         ensures done { MatchResult result
             (λ s. Syncs (stored self) (stored s))
             (λ l. Fails (left_of (stored self)) [] (Self.Wreck.left (wreck_of l))) }
+        ensures still { IfErr result (λ l. IfSome (watch self).keeps (λ _. Self.Wreck.left (wreck_of l) ≡ left_of (stored self))) }
         ensures tickets { IfOk result (λ s. number self ≤ number s) }
         ensures covers { IfOk result (λ s. KeepsCovers (number self) (covers self) (covers s)) }
-        ensures cause { IsCausedBy faults Self.Wreck.faults (faults self) result }
-        ensures armed { HeedsArmed due Self.Wreck.due only_armed (due self) result };
+        ensures watched { Heeds watch Self.Wreck.watch (watch self) result };
 
     /// Starts a sync, which `finish` of its ticket finishes.
     fn start_sync(self) -> Result<(Self, SyncTicket), Lost<Self::Wreck>>
@@ -136,12 +123,12 @@ pub trait Certificates<V: Variant, F: AsFinalization>: Drop {
         ensures done { MatchResult result
             (λ s. stored s.0 ≡ stored self)
             (λ l. Fails (left_of (stored self)) [] (Self.Wreck.left (wreck_of l))) }
+        ensures still { IfErr result (λ l. IfSome (watch self).keeps (λ _. Self.Wreck.left (wreck_of l) ≡ left_of (stored self))) }
         ensures made { IfOk result (λ s. s.1.number ≤ number s.0) }
         ensures covered { IfOk result (λ s. covers s.0 s.1.number ≡ (stored self).held) }
         ensures tickets { IfOk result (λ s. number self ≤ number s.0) }
         ensures covers { IfOk result (λ s. KeepsCovers (number self) (covers self) (covers s.0)) }
-        ensures cause { IsCausedBy (λ s. faults s.0) Self.Wreck.faults (faults self) result }
-        ensures armed { HeedsArmed (λ s. due s.0) Self.Wreck.due only_armed (due self) result };
+        ensures watched { Heeds (λ s. watch s.0) Self.Wreck.watch (watch self) result };
 
     /// Makes sure all that was accepted before this ticket was made. A ticket of an earlier life isn't one.
     fn finish(self, ticket: SyncTicket) -> Result<Self, Lost<Self::Wreck>>
@@ -151,10 +138,10 @@ pub trait Certificates<V: Variant, F: AsFinalization>: Drop {
         ensures done { MatchResult result
             (λ s. Finishes (covers self ticket.number) (stored self) (stored s))
             (λ l. Fails (left_of (stored self)) [] (Self.Wreck.left (wreck_of l))) }
+        ensures still { IfErr result (λ l. IfSome (watch self).keeps (λ _. Self.Wreck.left (wreck_of l) ≡ left_of (stored self))) }
         ensures tickets { IfOk result (λ s. number self ≤ number s) }
         ensures covers { IfOk result (λ s. KeepsCovers (number self) (covers self) (covers s)) }
-        ensures cause { IsCausedBy faults Self.Wreck.faults (faults self) result }
-        ensures armed { HeedsArmed due Self.Wreck.due only_armed (due self) result };
+        ensures watched { Heeds watch Self.Wreck.watch (watch self) result };
 
     /// Removes finalizations below a height; some may stay. A store that prunes nothing doesn't count the call.
     fn prune(self, min: Height) -> Result<Self, Lost<Self::Wreck>>
@@ -163,40 +150,41 @@ pub trait Certificates<V: Variant, F: AsFinalization>: Drop {
         ensures done { MatchResult result
             (λ s. Prunes min (stored self) (stored s))
             (λ l. Fails (left_of (stored self)) [] (Self.Wreck.left (wreck_of l))) }
+        ensures still { IfErr result (λ l. IfSome (watch self).keeps (λ _. Self.Wreck.left (wreck_of l) ≡ left_of (stored self))) }
         ensures idle { prunes ≡ false → IfOk result (λ s. stored s ≡ stored self) }
         ensures unchanged { prunes ≡ false → result ≡ Ok self }
         ensures tickets { IfOk result (λ s. number self ≤ number s) }
         ensures covers { IfOk result (λ s. KeepsCoversFrom min (number self) (covers self) (covers s)) }
-        ensures cause { IsCausedBy faults Self.Wreck.faults (faults self) result }
-        ensures armed { prunes ≡ true → HeedsArmed due Self.Wreck.due only_armed (due self) result };
+        ensures watched { prunes ≡ true → Heeds watch Self.Wreck.watch (watch self) result };
 
     /// What a crash now leaves.
     fn wreck(self) -> Self::Wreck
     where
         Self: Sized,
         ensures left { Self.Wreck.left result ≡ left_of (stored self) }
-        ensures count { Self.Wreck.faults result ≡ faults self }
-        ensures due { Self.Wreck.due result ≡ due self };
+        ensures watch { Self.Wreck.watch result ≡ watch self };
 
-    /// Opens what a crash left; luck picks among what may be left.
+    /// Opens what a crash left; luck picks among what may be left. A store that tells how it goes by luck finds what is sure
+    /// and, of the rest, what its luck keeps.
     fn reopen(wreck: Self::Wreck, luck: u64) -> Result<Self, Lost<Self::Wreck>>
     where
         Self: Sized,
         ensures done { MatchResult result
             (λ s. IsReopened (Self.Wreck.left wreck) (stored s))
             (λ l. Fails (Self.Wreck.left wreck) [] (Self.Wreck.left (wreck_of l))) }
-        ensures cause { IsCausedBy faults Self.Wreck.faults (Self.Wreck.faults wreck) result }
-        ensures armed { HeedsArmed due Self.Wreck.due only_armed (Self.Wreck.due wreck) result };
+        ensures still { IfErr result (λ l. IfSome (Self.Wreck.watch wreck).keeps (λ _. Self.Wreck.left (wreck_of l) ≡ Self.Wreck.left wreck)) }
+        ensures lucky { IfOk result (λ s. IfSome (Self.Wreck.watch wreck).keeps
+            (λ keeps. (stored s).held ≡ lucky_found (keeps_by keeps luck) (Self.Wreck.left wreck))) }
+        ensures watched { Heeds watch Self.Wreck.watch (Self.Wreck.watch wreck) result };
 
     /// Makes the counted call fail that is so many calls away, 1 being the next. Counted are `put`, `sync`,
     /// `start_sync`, `finish`, `get`, `has`, `prune` and `reopen`. Where nothing can be armed it does nothing.
     fn arm(&mut self, calls: u64) -> Result<(), AllocError>
-        ensures armed { OnOk result (due self.new ≡ with_armed armable calls (due self.old)) }
-        ensures unarmed { OnErr result (due self.new ≡ due self.old) }
+        ensures armed { OnOk result (watch self.new ≡ armed calls (watch self.old)) }
+        ensures unarmed { OnErr result (watch self.new ≡ watch self.old) }
         ensures same { stored self.new ≡ stored self.old }
         ensures tickets { number self.new ≡ number self.old }
-        ensures covers { KeepsCovers (number self.old) (covers self.old) (covers self.new) }
-        ensures count { faults self.new ≡ faults self.old };
+        ensures covers { KeepsCovers (number self.old) (covers self.old) (covers self.new) };
 
     /// The greatest height that is held.
     fn last_index(&self) -> Option<Height>

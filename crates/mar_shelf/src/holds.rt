@@ -1,16 +1,20 @@
 //! The stores of a life, as far as the rules of a node see them.
-ghost use Rattle.std.specs.Prelude.{◌≡◌, ◌∷◌, [], IfErr, IfOk, IfSome, Some, option_map};
+ghost use Rattle.std.specs.Prelude.{◌≡◌, ◌≤◌, ◌∷◌, [], IfErr, IfOk, IfSome, OnErr, OnOk, Some, map, option_map};
 ghost use Rattle.mar_key.specs.Processed.{at_absent, at_block};
 ghost use Rattle.mar_key.specs.Views.{cutoff_of};
 ghost use Rattle.mar_store.specs.Changes.{IsNested, Puts, Syncs, heights};
 ghost use Rattle.mar_store.specs.Kept.{has_height, value_at};
 ghost use Rattle.mar_store.specs.Named.{last_index};
 ghost use Rattle.mar_store.specs.Ranges.{ranges};
-ghost use Rattle.mar_node.specs.Held.{GoesOn, Held, IsUsual, Loses, LosesOpening, Remains, ReopensAs, blocks_left, certs_left, ended_of, remains_of};
+ghost use Rattle.mar_store.specs.Sizes.{IsSmall};
+ghost use Rattle.mar_node.specs.Held.{ArePassed, GoesOn, Held, IsArchiveFault, IsUsual, LosesOpening, LosesSince, Remains, ReopensAs};
+ghost use Rattle.mar_node.specs.Held.{blocks_left, certs_left, ended_of, nothing_written, remains_of, with_armed, written_block, written_cert, written_pair};
 ghost use Rattle.mar_node.specs.Lives.{later_round};
 ghost use Rattle.mar_node.specs.Metadata.{first_pair, pair_of};
 ghost use Rattle.mar_node.specs.Moves.{at_height};
-ghost use Rattle.mar_node.specs.Stored.{at_own_height, block_of, is_certified, is_held};
+ghost use Rattle.mar_cert.specs.Finalization.{finalization_bytes};
+ghost use Rattle.mar_node.specs.Stored.{AreSmall, at_own_height, block_of, is_certified, is_held};
+ghost use Rattle.mar_shelf.specs.Views.{store_name_of};
 
 use crate::fault::{Fault, StoreName};
 use crate::shown::ShownRuins;
@@ -25,7 +29,7 @@ use std::marker::Model;
 
 /// What is left of the stores of a life.
 pub trait StoresRuin {
-    /// What is left of them, and how often each has failed.
+    /// What is left of them, and what each tells of its failures.
     ghost left: { Self → Remains };
 
     /// There is nothing of a cache yet. The call does nothing: it is a law.
@@ -35,7 +39,9 @@ pub trait StoresRuin {
 
     /// Makes the counted call of a store fail that is so many calls away, 1 being the next. The cache counts none yet.
     fn arm(&mut self, store: StoreName, calls: u64) -> Result<(), AllocError>
-        ensures { left self.new ≡ left self.old };
+        ensures ended { (left self.new).ended ≡ (left self.old).ended }
+        ensures armed { OnOk result ((left self.new).watches ≡ with_armed (store_name_of store) calls (left self.old).watches) }
+        ensures unarmed { OnErr result ((left self.new).watches ≡ (left self.old).watches) };
 
     /// What is shown of the stores; the processed height and the cutoff are what the last successful sync of the
     /// metadata left, or its last reopening read.
@@ -57,15 +63,15 @@ pub trait Holds<V: Variant> {
     /// A finalization as it is stored.
     type Finalization: CommitsTo<V::Commitment>;
 
-    /// What they hold and may leave, and how often each has failed.
+    /// What they hold and may leave, and what each tells of its failures.
     ghost held: { Self → Held };
 
     /// Opens what a crash left, in the order blocks, certificates, metadata, cache.
     fn reopen(ruins: Self::Ruins, luck: u64) -> Result<Self, Ended<V, Self>>
     where
         Self: Sized,
-        ensures ok { IfOk result (λ s. ReopensAs (Self.Ruins.left ruins) (held s)) }
-        ensures lost { IfErr result (LosesOpening (Self.Ruins.left ruins) [] []) }
+        ensures ok { IfOk result (λ s. ReopensAs (Self.Ruins.left ruins) luck (held s)) }
+        ensures lost { IfErr result (LosesOpening (Self.Ruins.left ruins) nothing_written) }
         ensures usual { IfErr result (λ e. IsUsual e.fault) };
 
     /// What a crash now leaves.
@@ -74,14 +80,17 @@ pub trait Holds<V: Variant> {
         Self: Sized,
         ensures { Self.Ruins.left result ≡ remains_of (held self) };
 
-    /// What is sure is held, and what is held may be left. The call does nothing: it is a law.
+    /// What is sure is held, what is held may be left, and each held block is small. The call does nothing: it is a law.
     fn law(&self)
         ensures blocks { IsNested (held self.now).blocks }
-        ensures certs { IsNested (held self.now).certs };
+        ensures certs { IsNested (held self.now).certs }
+        ensures small { AreSmall (map (λ x. x.value) (held self.now).blocks.held) };
 
     /// Makes the counted call of a store fail that is so many calls away, 1 being the next. The cache counts none yet.
     fn arm(&mut self, store: StoreName, calls: u64) -> Result<(), AllocError>
-        ensures { held self.new ≡ held self.old };
+        ensures armed { OnOk result (held self.new
+            ≡ record (held self.old) { watches = with_armed (store_name_of store) calls (held self.old).watches }) }
+        ensures unarmed { OnErr result (held self.new ≡ held self.old) };
 
     /// The processed height, the cutoff and the newest witnessed round.
     fn floor(&self) -> &State<V::Commitment, Self::Finalization>
@@ -128,8 +137,9 @@ pub trait Holds<V: Variant> {
         Self: Sized,
         ensures found { IfOk result (λ r. option_map V.plain r.1 ≡ value_at (held self).blocks.held height) }
         ensures own { IfOk result (λ r. IfSome r.1 (λ b. (V.plain b).height ≡ height)) }
-        ensures same { IfOk result (λ r. held r.0 ≡ held self) }
-        ensures goes_on { GoesOn (λ r. held r.0) (held self) [] [] result }
+        ensures same { IfOk result (λ r. held r.0 ≡ record (held self) { watches = (held r.0).watches }) }
+        ensures goes_on { GoesOn (λ r. held r.0) (held self) nothing_written result }
+        ensures archive { IfErr result (λ e. IsArchiveFault e.fault) }
         ensures usual { IfErr result (λ e. IsUsual e.fault) };
 
     /// A held block of this digest.
@@ -137,8 +147,9 @@ pub trait Holds<V: Variant> {
     where
         Self: Sized,
         ensures found { IfOk result (λ r. option_map V.plain r.1 ≡ block_of (held self).blocks.held (V.Digest.bytes digest.now)) }
-        ensures same { IfOk result (λ r. held r.0 ≡ held self) }
-        ensures goes_on { GoesOn (λ r. held r.0) (held self) [] [] result }
+        ensures same { IfOk result (λ r. held r.0 ≡ record (held self) { watches = (held r.0).watches }) }
+        ensures goes_on { GoesOn (λ r. held r.0) (held self) nothing_written result }
+        ensures archive { IfErr result (λ e. IsArchiveFault e.fault) }
         ensures usual { IfErr result (λ e. IsUsual e.fault) };
 
     /// The finalization that is held at a height.
@@ -149,8 +160,9 @@ pub trait Holds<V: Variant> {
     where
         Self: Sized,
         ensures found { IfOk result (λ r. option_map Self.Finalization.plain r.1 ≡ value_at (held self).certs.held height) }
-        ensures same { IfOk result (λ r. held r.0 ≡ held self) }
-        ensures goes_on { GoesOn (λ r. held r.0) (held self) [] [] result }
+        ensures same { IfOk result (λ r. held r.0 ≡ record (held self) { watches = (held r.0).watches }) }
+        ensures goes_on { GoesOn (λ r. held r.0) (held self) nothing_written result }
+        ensures archive { IfErr result (λ e. IsArchiveFault e.fault) }
         ensures usual { IfErr result (λ e. IsUsual e.fault) };
 
     /// Whether a finalization is held at a height.
@@ -158,18 +170,20 @@ pub trait Holds<V: Variant> {
     where
         Self: Sized,
         ensures found { IfOk result (λ r. r.1 ≡ has_height (held self).certs.held height) }
-        ensures same { IfOk result (λ r. held r.0 ≡ held self) }
-        ensures goes_on { GoesOn (λ r. held r.0) (held self) [] [] result }
+        ensures same { IfOk result (λ r. held r.0 ≡ record (held self) { watches = (held r.0).watches }) }
+        ensures goes_on { GoesOn (λ r. held r.0) (held self) nothing_written result }
+        ensures archive { IfErr result (λ e. IsArchiveFault e.fault) }
         ensures usual { IfErr result (λ e. IsUsual e.fault) };
 
     /// Stores a block, which becomes durable with the next sync of the blocks.
     fn put_block(self, block: &V::Block) -> Result<Self, Ended<V, Self>>
     where
         Self: Sized,
+        requires small { IsSmall (V.plain block.now).encoded }
         ensures ok { IfOk result (λ s. Puts (is_held (held self).blocks.held (V.plain block.now)) (held self).blocks (at_own_height (V.plain block.now))
             (held s).blocks) }
-        ensures same { IfOk result (λ s. held s ≡ record (held self) { blocks = (held s).blocks; counts = (held s).counts }) }
-        ensures goes_on { GoesOn held (held self) (at_own_height (V.plain block.now) ∷ []) [] result }
+        ensures same { IfOk result (λ s. held s ≡ record (held self) { blocks = (held s).blocks; watches = (held s).watches }) }
+        ensures goes_on { GoesOn held (held self) (written_block (at_own_height (V.plain block.now))) result }
         ensures usual { IfErr result (λ e. IsUsual e.fault) };
 
     /// Makes the stored blocks durable.
@@ -177,8 +191,8 @@ pub trait Holds<V: Variant> {
     where
         Self: Sized,
         ensures ok { IfOk result (λ s. Syncs (held self).blocks (held s).blocks) }
-        ensures same { IfOk result (λ s. held s ≡ record (held self) { blocks = (held s).blocks; counts = (held s).counts }) }
-        ensures goes_on { GoesOn held (held self) [] [] result }
+        ensures same { IfOk result (λ s. held s ≡ record (held self) { blocks = (held s).blocks; watches = (held s).watches }) }
+        ensures goes_on { GoesOn held (held self) nothing_written result }
         ensures usual { IfErr result (λ e. IsUsual e.fault) };
 
     /// Stores a finalization at a height, which becomes durable with the next sync of the certificates.
@@ -189,10 +203,12 @@ pub trait Holds<V: Variant> {
     ) -> Result<Self, Ended<V, Self>>
     where
         Self: Sized,
+        requires small { IsSmall (finalization_bytes (Self.Finalization.plain finalization.now)) }
         ensures ok { IfOk result (λ s. Puts (is_certified V.inner (held self).certs.held height (V.inner (Self.Finalization.plain finalization.now).payload))
             (held self).certs (at_height height (Self.Finalization.plain finalization.now)) (held s).certs) }
-        ensures same { IfOk result (λ s. held s ≡ record (held self) { certs = (held s).certs; counts = (held s).counts }) }
-        ensures goes_on { GoesOn held (held self) [] (at_height height (Self.Finalization.plain finalization.now) ∷ []) result }
+        ensures same { IfOk result (λ s. held s ≡ record (held self) { certs = (held s).certs; watches = (held s).watches }) }
+        ensures goes_on { GoesOn held (held self) (written_cert (at_height height (Self.Finalization.plain finalization.now))) result }
+        ensures archive { IfErr result (λ e. IsArchiveFault e.fault) }
         ensures usual { IfErr result (λ e. IsUsual e.fault) };
 
     /// Makes the stored finalizations durable.
@@ -200,24 +216,25 @@ pub trait Holds<V: Variant> {
     where
         Self: Sized,
         ensures ok { IfOk result (λ s. Syncs (held self).certs (held s).certs) }
-        ensures same { IfOk result (λ s. held s ≡ record (held self) { certs = (held s).certs; counts = (held s).counts }) }
-        ensures goes_on { GoesOn held (held self) [] [] result }
+        ensures same { IfOk result (λ s. held s ≡ record (held self) { certs = (held s).certs; watches = (held s).watches }) }
+        ensures goes_on { GoesOn held (held self) nothing_written result }
+        ensures archive { IfErr result (λ e. IsArchiveFault e.fault) }
         ensures usual { IfErr result (λ e. IsUsual e.fault) };
 
     /// The block at this height is processed, which becomes durable with the next sync of the metadata.
     fn set_processed(self, height: Height) -> Result<Self, Ended<V, Self>>
     where
         Self: Sized,
-        ensures ok { IfOk result (λ s. held s ≡ record (held self) { processed = Some (at_block height); counts = (held s).counts }) }
-        ensures goes_on { GoesOn held (held self) [] [] result }
+        ensures ok { IfOk result (λ s. held s ≡ record (held self) { processed = Some (at_block height); watches = (held s).watches }) }
+        ensures goes_on { GoesOn held (held self) nothing_written result }
         ensures usual { IfErr result (λ e. IsUsual e.fault) };
 
     /// Sets the cutoff, which becomes durable with the next sync of the metadata.
     fn set_cutoff(self, cutoff: &Cutoff) -> Result<Self, Ended<V, Self>>
     where
         Self: Sized,
-        ensures ok { IfOk result (λ s. held s ≡ record (held self) { cutoff = cutoff_of cutoff.now; counts = (held s).counts }) }
-        ensures goes_on { GoesOn held (held self) [] [] result }
+        ensures ok { IfOk result (λ s. held s ≡ record (held self) { cutoff = cutoff_of cutoff.now; watches = (held s).watches }) }
+        ensures goes_on { GoesOn held (held self) nothing_written result }
         ensures usual { IfErr result (λ e. IsUsual e.fault) };
 
     /// Makes the processed height and the cutoff durable together.
@@ -227,10 +244,10 @@ pub trait Holds<V: Variant> {
         ensures ok { IfOk result (λ s. held s ≡ record (held self) {
           pairs = pair_of (held self).processed (held self).cutoff
               ∷ [];
-          counts = (held s).counts;
+          watches = (held s).watches;
         }) }
-        ensures counts { IfOk result (λ s. (held s).counts ≡ (held self).counts) }
-        ensures lost { IfErr result (Loses (held self) [] [] (pair_of (held self).processed (held self).cutoff ∷ [])) }
+        ensures passed { IfOk result (λ s. ArePassed (held self).watches (held s).watches) }
+        ensures lost { LosesSince (held self) (written_pair (pair_of (held self).processed (held self).cutoff)) result }
         ensures usual { IfErr result (λ e. IsUsual e.fault) };
 }
 

@@ -1,28 +1,14 @@
 //! What an archive keeps of a block and of a finalization.
-ghost use Rattle.std.specs.Prelude.{◌≡◌, ◌≤◌, ◌↔◌, ℕ, IfOk, IsTrue, length, true};
+ghost use Rattle.std.specs.Prelude.{◌≡◌, IfOk, length, true};
 ghost use Rattle.mar_cert.specs.Finalization.{finalization_bytes};
 ghost use Rattle.mar_shelf.specs.Fitting.{fits_at};
 
-use mar_block::{EmptyBlock, Standard, Variant};
-use mar_cert::{CommitsTo, MockFinalization};
-use mar_codec::{Digest, EncodeSize, Named, Sha256, Sha256Digest};
+use mar_block::Variant;
+use mar_cert::CommitsTo;
+use mar_codec::Digest;
 use mar_store::Item;
 use std::alloc::AllocError;
 use std::marker::{Model, PhantomData};
-
-/// A kind of blocks that tells which of them fit an archive.
-pub trait ArchivedBlocks: Variant {
-    /// Whether the block takes at most 1,048,576 bytes, the most of an archived value.
-    fn fits(block: &Self::Block) -> bool
-        ensures { IsTrue result ↔ (length (Self.plain block.now).encoded ≤ 1048576) };
-}
-
-/// A finalization that tells whether it fits an archive. Its payload is a commitment of the kind `C`.
-pub trait ArchivedFinalization<C: Named>: CommitsTo<C> {
-    /// Whether it takes at most 1,048,576 bytes, the most of an archived value.
-    fn fits(&self) -> bool
-        ensures { IsTrue result ↔ (length (finalization_bytes (Self.plain self.now)) ≤ 1048576) };
-}
 
 /// A block as an archive keeps it: at its own height and under its own digest.
 #[derive(Drop)]
@@ -129,18 +115,5 @@ where
 
     fn try_clone(&self) -> Result<Self, AllocError> {
         CertificateItem::of(&self.finalization)
-    }
-}
-
-impl ArchivedBlocks for Standard<EmptyBlock<Sha256>> {
-    fn fits(block: &Self::Block) -> bool {
-        block.inner().encode_size() <= 1_048_576
-    }
-}
-
-impl ArchivedFinalization<Sha256Digest> for MockFinalization {
-    fn fits(&self) -> bool {
-        let certificate = self.certificate.encode_size();
-        certificate <= 1_048_576 && self.encode_size() <= 1_048_576
     }
 }

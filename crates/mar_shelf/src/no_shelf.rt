@@ -1,19 +1,21 @@
 //! A shelf that holds nothing.
+ghost use Rattle.mar_store.specs.Watch.{unfailing};
+
 use crate::{Shelf, ShelfRuin};
 use mar_store::Lost;
 
-/// A shelf that holds nothing, and what is left of it.
+/// A shelf that holds nothing and never fails, and what is left of it.
 #[derive(Clone, Copy, Debug, PartialEq, Eq)]
 pub struct NoShelf;
 
 impl ShelfRuin for NoShelf {
-    ghost faults = { λ _. 0 };
+    ghost watch = { λ _. unfailing };
 }
 
 impl Shelf for NoShelf {
     type Wreck = NoShelf;
 
-    ghost faults = { λ _. 0 };
+    ghost watch = { λ _. unfailing };
 
     fn wreck(self) -> NoShelf {
         self

@@ -46,7 +46,7 @@ impl<
 
     ghost view = { λ r. record {
       ended = ended_of (FB.Wreck.left r.blocks) (FC.Wreck.left r.certs) (map pair_at (M.Wreck.left r.meta));
-      counts = record { blocks = FB.Wreck.faults r.blocks; certs = FC.Wreck.faults r.certs; meta = M.Wreck.faults r.meta; cache = H.Wreck.faults r.shelf };
+      watches = record { blocks = FB.Wreck.watch r.blocks; certs = FC.Wreck.watch r.certs; meta = M.Wreck.watch r.meta; cache = H.Wreck.watch r.shelf };
     } };
 }
 

@@ -57,7 +57,7 @@ impl<
       cutoff = s.progress.cutoff;
       witnessed = s.progress.witnessed;
       pairs = s.progress.pairs;
-      counts = record { blocks = FB.faults s.blocks; certs = FC.faults s.certs; meta = s.progress.faults; cache = H.faults s.shelf };
+      watches = record { blocks = FB.watch s.blocks; certs = FC.watch s.certs; meta = s.progress.watch; cache = H.watch s.shelf };
     } };
 }
 
@@ -330,8 +330,8 @@ impl<
           fault = lost_fault block_store lost;
           remains = record {
             ended = ended_of (FB.Wreck.left (wreck_of lost)) (FC.Wreck.left certs) (map pair_at (M.Wreck.left meta));
-            counts = record
-                { blocks = FB.Wreck.faults (wreck_of lost); certs = FC.Wreck.faults certs; meta = M.Wreck.faults meta; cache = H.Wreck.faults shelf };
+            watches = record
+                { blocks = FB.Wreck.watch (wreck_of lost); certs = FC.Wreck.watch certs; meta = M.Wreck.watch meta; cache = H.Wreck.watch shelf };
           };
         } }
     {
@@ -352,8 +352,8 @@ impl<
           fault = lost_fault cert_store lost;
           remains = record {
             ended = ended_of (FB.Wreck.left blocks) (FC.Wreck.left (wreck_of lost)) (map pair_at (M.Wreck.left meta));
-            counts = record
-                { blocks = FB.Wreck.faults blocks; certs = FC.Wreck.faults (wreck_of lost); meta = M.Wreck.faults meta; cache = H.Wreck.faults shelf };
+            watches = record
+                { blocks = FB.Wreck.watch blocks; certs = FC.Wreck.watch (wreck_of lost); meta = M.Wreck.watch meta; cache = H.Wreck.watch shelf };
           };
         } }
     {
@@ -374,8 +374,8 @@ impl<
           fault = lost_fault meta_store lost;
           remains = record {
             ended = ended_of (FB.Wreck.left blocks) (FC.Wreck.left certs) (map pair_at (M.Wreck.left (wreck_of lost)));
-            counts = record
-                { blocks = FB.Wreck.faults blocks; certs = FC.Wreck.faults certs; meta = M.Wreck.faults (wreck_of lost); cache = H.Wreck.faults shelf };
+            watches = record
+                { blocks = FB.Wreck.watch blocks; certs = FC.Wreck.watch certs; meta = M.Wreck.watch (wreck_of lost); cache = H.Wreck.watch shelf };
           };
         } }
     {
@@ -396,8 +396,8 @@ impl<
           fault = lost_fault cache_store lost;
           remains = record {
             ended = ended_of (FB.Wreck.left blocks) (FC.Wreck.left certs) (map pair_at (M.Wreck.left meta));
-            counts = record
-                { blocks = FB.Wreck.faults blocks; certs = FC.Wreck.faults certs; meta = M.Wreck.faults meta; cache = H.Wreck.faults (wreck_of lost) };
+            watches = record
+                { blocks = FB.Wreck.watch blocks; certs = FC.Wreck.watch certs; meta = M.Wreck.watch meta; cache = H.Wreck.watch (wreck_of lost) };
           };
         } }
     {

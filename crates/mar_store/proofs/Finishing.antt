@@ -1,19 +1,49 @@
 -- What the finish of a ticket makes sure.
-use Rattle.std.proofs.Common.{◌≡◌, ◌∙◌, ◌≤◌, ◌⊎◌, inl, inr, ℕ, zero, suc, List, [], ◌∷◌, ◌++◌, Bool, true, Option, Some, None, Contains, refl, sym, ap, map, take, drop, length, arith, append-nil}
+use Rattle.std.proofs.Common.{cond, false, IsNone, ◌≡◌, ◌∙◌, ◌≤◌, ◌⊎◌, inl, inr, ℕ, zero, suc, List, [], ◌∷◌, ◌++◌, Bool, true, Option, Some, None, Contains, refl, sym, ap, map, take, drop, length, arith, append-nil}
 use Rattle.std.specs.Prelude.{filter}
 use Rattle.std.specs.Option.{option_or}
 use Rattle.std.specs.List.{AllByRecursion}
 use Rattle.std.proofs.lemmas.List.{map-append, take-append-drop, take-map}
 use Rattle.std.proofs.lemmas.List.Elements.{Contains-append_right, filter-append}
-use Rattle.mar_store.specs.Kept.{EachHeightOnce, value_at}
+use Rattle.mar_store.specs.Kept.{At, EachHeightOnce, value_at}
 use Rattle.mar_store.specs.Changes.{Finishes, KeepsValues}
 use Rattle.mar_store.specs.Entries.{covered_by, is_covered, kept_of, seen}
-use Rattle.mar_store.specs.Nested.{front_once}
+use Rattle.std.specs.Prelude.{◌==◌}
+use Rattle.std.proofs.lemmas.Bool.{eqb-false, ne_eqb}
+use Rattle.mar_store.specs.Nested.{front_once, same_or}
 use Rattle.mar_store.specs.declared.entry.Entry.{Entry}
 use Rattle.mar_store.proofs.Lookups.{Contains-from_value, value_at-append, value_at-from_contains}
-use Rattle.mar_store.proofs.Filtered.{filter_once}
-use Rattle.mar_store.proofs.Settled.{longer_front, not_before}
+use Rattle.mar_store.proofs.Chosen.{filter_once}
 use Rattle.mar_store.proofs.Stores.{filter_kept, filter_pass}
+
+past : {V : Type 0} (b : Bool) (v : V) (o : Option V) → cond b (Some v) o ≡ None → (b ≡ false) × (o ≡ None)
+past true v o is = absurd cc
+past false v o is = (refl, is)
+
+missing : {V : Type 0} (b : Bool) (v : V) (o : Option V) → b ≡ false → o ≡ None → cond b (Some v) o ≡ None
+missing true v o other is = absurd cc
+missing false v o other is = is
+
+none_of : {V : Type 0} (o : Option V) → IsNone o → o ≡ None
+none_of None is = refl
+none_of (Some v) is = cc
+
+index_apart : {T : Type 0} (bs cs : List (At T)) (x : At T) (h : ℕ) → value_at (bs ++ x ∷ cs) h ≡ None → (x.height == h) ≡ false
+index_apart [] cs x h none = (past (x.height == h) x.value (value_at cs h) none).0
+index_apart (b ∷ bs) cs x h none = index_apart bs cs x h (past (b.height == h) b.value (value_at (bs ++ x ∷ cs) h) none).1
+
+not_before : {T : Type 0} (bs cs : List (At T)) (x : At T) → EachHeightOnce (bs ++ x ∷ cs) → value_at bs x.height ≡ None
+not_before [] cs x once = refl
+not_before (b ∷ bs) cs x once =
+    let apart = index_apart bs cs x b.height (none_of (value_at (bs ++ x ∷ cs) b.height) once.0) in
+    missing (b.height == x.height) b.value (value_at bs x.height) (ne_eqb b.height x.height (λ same. eqb-false x.height b.height apart (sym same))) (not_before bs cs x once.1)
+
+-- a front at least as long keeps what a front has
+longer_front : {T : Type 0} (n m : ℕ) (xs : List (At T)) → n ≤ m → KeepsValues (take n xs) (take m xs)
+longer_front zero m xs le h v found = absurd cc
+longer_front (suc n) zero xs le h v found = absurd (omega arith)
+longer_front (suc n) (suc m) [] le h v found = found
+longer_front (suc n) (suc m) (x ∷ xs) le h v found = same_or (x.height == h) (Some x.value) (value_at (take n xs) h) (value_at (take m xs) h) (Some v) (longer_front n m xs (omega arith) h v) found
 
 -- the front is a shorter front, and what is new in it
 two_fronts : {X : Type 0} (n m : ℕ) (xs : List X) → n ≤ m → take m xs ≡ take n xs ++ drop n (take m xs)

@@ -4,12 +4,12 @@ pub mod NewestUpto
 pub mod RangeLemmas
 pub mod RangeMembers
 pub mod NamesOnce
-pub mod Filtered
+pub mod Chosen
 pub mod PileSteps
 pub mod Surveys
 pub mod Covered
-pub mod Fronts
 pub mod Settled
 pub mod Stores
 pub mod Finishing
 pub mod LastEnd
+pub mod ChangedKeys

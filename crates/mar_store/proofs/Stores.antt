@@ -1,21 +1,19 @@
 -- What the calls of a store over entries change.
-use Rattle.std.proofs.Common.{◌≡◌, ◌∙◌, ◌≤◌, ◌<◌, ◌⊎◌, inl, inr, ◌||◌, ℕ, zero, suc, List, [], ◌∷◌, ◌++◌, Bool, true, false, Option, Some, is_some, Contains, cond, refl, sym, ap, map, take, drop, length, min, nat_le, nat_lt, arith, append-nil, le-leb}
+use Rattle.std.proofs.Common.{◌≡◌, ◌∙◌, ◌≤◌, ◌<◌, ◌⊎◌, inl, inr, ◌||◌, ℕ, zero, suc, List, [], ◌∷◌, ◌++◌, Bool, true, false, Option, Some, is_some, Contains, cond, refl, ap, map, take, length, min, nat_le, nat_lt, arith, append-nil, le-leb}
 use Rattle.std.specs.Prelude.{bytes_eq, filter, find, option_map, ◌==◌}
 use Rattle.std.specs.List.{AllByRecursion, list_any}
 use Rattle.std.proofs.lemmas.Bool.{both_ways, or_from, ne_eqb, ltb-true, eqb-true}
-use Rattle.std.proofs.lemmas.List.{map_push, take-append-le, take_all, length-map, take-map, take-append-drop, length-take-le}
+use Rattle.std.proofs.lemmas.List.{map_push, take-append-le, take_all, length-map, take-map}
 use Rattle.std.proofs.lemmas.List.Elements.{Contains-append_left, Contains-append_right, filter-append}
-use Rattle.mar_store.specs.Kept.{At, EachHeightOnce, reopened_store, value_at}
-use Rattle.mar_store.specs.Changes.{Fails, IsReopened, KeepsFrom, KeepsValues, Prunes, Puts, Syncs, Within, left_of}
+use Rattle.mar_store.specs.Kept.{At, EachHeightOnce, Kept, value_at}
+use Rattle.mar_store.specs.Changes.{Fails, IsStillOr, KeepsFrom, KeepsValues, Prunes, Puts, Syncs, Within, left_of}
 use Rattle.mar_store.specs.Named.{is_taken, value_named}
 use Rattle.mar_store.specs.Tickets.{KeepsCovers, KeepsCoversFrom, last_number}
-use Rattle.mar_store.specs.Luck.{lucky_found, lucky_from}
 use Rattle.mar_store.specs.Nested.{front_once}
 use Rattle.mar_store.specs.Entries.{AreCounted, covered_by, is_covered, kept_of, seen}
 use Rattle.mar_store.specs.declared.entry.Entry.{Entry}
-use Rattle.mar_store.proofs.Settled.{after_within}
-use Rattle.mar_store.proofs.Filtered.{filter_once, front_filter}
-use Rattle.mar_store.proofs.Lookups.{value_at-append_found, Contains-from_value, value_at-from_contains}
+use Rattle.mar_store.proofs.Chosen.{filter_once, front_filter}
+use Rattle.mar_store.proofs.Lookups.{Contains-from_value, value_at-from_contains}
 
 -- FINDING
 
@@ -43,7 +41,7 @@ taken_there name h v d items r under is =
 -- PUTS
 
 pub puts_ignored : {T : Type 0} (items : List (Entry T)) (n : ℕ) (y : At T) (ignored : Bool) → ignored ≡ true → Puts ignored (kept_of items n) y (kept_of items n)
-puts_ignored items n y ignored is = record { held = rw is refl; sure = refl; may = λ x there. Contains-append_left (map seen items) (y ∷ []) x there }
+puts_ignored items n y ignored is = record { held = rw is refl; sure = refl; may_kept = λ x there. there; may = λ x there. Contains-append_left (map seen items) (y ∷ []) x there }
 
 pub puts_entry : {T : Type 0} (items new : List (Entry T)) (n m : ℕ) (e : Entry T) (ignored : Bool) → n ≤ length items → ignored ≡ false → new ≡ items ++ e ∷ [] → m ≡ n → Puts ignored (kept_of items n) (seen e) (kept_of new m)
 puts_entry {T} items new n m e ignored within is are same =
@@ -51,13 +49,28 @@ puts_entry {T} items new n m e ignored within is are same =
     record {
       held = rw is more;
       sure = rw (same, more) (take-append-le n (map seen items) (seen e ∷ []) (rw length-map within));
+      may_kept = λ x there. rw more (Contains-append_left (map seen items) (seen e ∷ []) x there);
       may = λ x there. rw more at there;
     }
 
 pub fails_put : {T : Type 0} (items new : List (Entry T)) (n m : ℕ) (e : Entry T) → n ≤ length items → (new ≡ items) ⊎ (new ≡ items ++ e ∷ []) → m ≡ n → Fails (left_of (kept_of items n)) (seen e ∷ []) (left_of (kept_of new m))
 fails_put items new n m e within are same = elim are [
-  | inl stayed ↦ record { sure = λ h v found. rw (stayed, same) found; may = λ x there. Contains-append_left (map seen items) (seen e ∷ []) x (rw stayed at there) }
-  | inr put ↦ let more = puts_entry items new n m e false within refl put same in record { sure = λ h v found. rw (more.sure) found; may = more.may }
+  | inl stayed ↦ record { sure = rw (stayed, same) refl; may_kept = λ x there. rw stayed there; may = λ x there. Contains-append_left (map seen items) (seen e ∷ []) x (rw stayed at there) }
+  | inr put ↦ let more = puts_entry items new n m e false within refl put same in record { sure = more.sure; may_kept = more.may_kept; may = more.may }
+]
+
+-- a put that went well, of which it is told that it failed
+pub fails_done : {T : Type 0} (old new : Kept (At T)) (x : At T) (ignored : Bool) → Puts ignored old x new → Fails (left_of old) (x ∷ []) (left_of new)
+fails_done old new x ignored puts = record { sure = puts.sure; may_kept = puts.may_kept; may = puts.may }
+
+pub still_done : {T : Type 0} (items new : List (Entry T)) (n m : ℕ) (x : At T) (ignored : Bool) → Puts ignored (kept_of items n) x (kept_of new m) → IsStillOr (left_of (kept_of items n)) x (left_of (kept_of new m))
+still_done items new n m x true puts = inl (rw (puts.sure, puts.held) refl)
+still_done items new n m x false puts = inr (rw (puts.sure, puts.held) refl)
+
+pub still_put : {T : Type 0} (items new : List (Entry T)) (n m : ℕ) (e : Entry T) → n ≤ length items → (new ≡ items) ⊎ (new ≡ items ++ e ∷ []) → m ≡ n → IsStillOr (left_of (kept_of items n)) (seen e) (left_of (kept_of new m))
+still_put items new n m e within are same = elim are [
+  | inl stayed ↦ inl (rw (stayed, same) refl)
+  | inr put ↦ still_done items new n m (seen e) false (puts_entry items new n m e false within refl put same)
 ]
 
 -- SYNCS
@@ -131,6 +144,20 @@ from_kept {T} min (e ∷ es) h v le found =
 keeps_from : {T : Type 0} (min : ℕ) (es : List (Entry T)) → EachHeightOnce (map seen es) → KeepsFrom min (map seen es) (map seen (filter (λ e. nat_le min e.index) es))
 keeps_from min es once = record { from = from_kept min es; only = filter_kept (λ e. nat_le min e.index) es once }
 
+more_has : {T : Type 0} (b : Bool) (e : Entry T) (es : List (Entry T)) (x : At T) → Contains (map seen es) x → Contains (map seen (cond b (e ∷ es) es)) x
+more_has true e es x there = Contains-append_right (seen e ∷ []) (map seen es) x there
+more_has false e es x there = there
+
+first_has : {T : Type 0} (b : Bool) (e : Entry T) (es : List (Entry T)) (x : At T) → b ≡ true → seen e ≡ x → Contains (map seen (cond b (e ∷ es) es)) x
+first_has true e es x stays same = (zero, omega arith, same)
+first_has false e es x stays same = absurd cc
+
+-- what stands at or above a bound is kept
+filter_has : {T : Type 0} (min : ℕ) (es : List (Entry T)) (x : At T) → Contains (map seen es) x → min ≤ x.height → Contains (map seen (filter (λ e. nat_le min e.index) es)) x
+filter_has min [] x has le = has
+filter_has min (e ∷ es) x (zero, lt, same) le = first_has (nat_le min e.index) e (filter (λ f. nat_le min f.index) es) x (le-leb min e.index (rw (ap (λ (y : At _). y.height) same) le)) same
+filter_has min (e ∷ es) x (suc i, lt, same) le = more_has (nat_le min e.index) e (filter (λ f. nat_le min f.index) es) x (filter_has min es x (i, omega arith, same) le)
+
 pub prunes : {T : Type 0} (min : ℕ) (items new : List (Entry T)) (n m : ℕ) → EachHeightOnce (map seen items) → new ≡ filter (λ e. nat_le min e.index) items → m ≡ length (filter (λ e. nat_le min e.index) (take n items)) → Prunes min (kept_of items n) (kept_of new m)
 prunes min items new n m once are is =
     let front : take m (map seen new) ≡ map seen (filter (λ e. nat_le min e.index) (take n items)) =
@@ -138,29 +165,10 @@ prunes min items new n m once are is =
     record {
       held = rw are (keeps_from min items once);
       sure = rw (front, take-map seen n items) (keeps_from min (take n items) (rw (← take-map seen n items) (front_once n (map seen items) once)));
+      may_from = λ x there le. rw are (filter_has min items x there le);
       may = λ x there. filter_within (λ e. nat_le min e.index) items x (rw are at there);
     }
 
 pub covers_pruned : {T : Type 0} (min number : ℕ) (items new : List (Entry T)) → EachHeightOnce (map seen items) → new ≡ filter (λ e. nat_le min e.index) items → KeepsCoversFrom min number (covered_by items) (covered_by new)
 covers_pruned min number items new once are t le =
     rw (are, filter_swap (is_covered t) (λ e. nat_le min e.index) items) (keeps_from min (filter (is_covered t) items) (filter_once (is_covered t) items once))
-
--- REOPENING
-
-lucky_all : {X : Type 0} (half : ℕ) (bs xs : List X) (x : X) → Contains (bs ++ lucky_from half 0 xs) x → Contains (bs ++ xs) x
-lucky_all half bs xs x has = after_within half (length xs) bs xs x (rw (take_all (length xs) xs (omega arith)) has)
-
-pub reopened : {T : Type 0} (half : ℕ) (items new : List (Entry T)) (n m : ℕ) → n ≤ length items → EachHeightOnce (map seen new) → kept_of new m ≡ reopened_store (lucky_found half (left_of (kept_of items n))) → IsReopened (left_of (kept_of items n)) (kept_of new m)
-reopened half items new n m within once is =
-    let held : map seen new ≡ lucky_found half (left_of (kept_of items n)) = ap (λ k. k.held) is in
-    let whole : take n (map seen items) ++ drop (length (take n (map seen items))) (map seen items) ≡ map seen items =
-    ap (λ k. take n (map seen items) ++ drop k (map seen items)) (length-take-le n (map seen items) (rw length-map within)) ∙ take-append-drop n (map seen items) in
-    record {
-      found = map seen new;
-      found_may = record {
-        with_sure = λ h v sure. rw held (value_at-append_found (take n (map seen items)) (lucky_from half 0 (drop (length (take n (map seen items))) (map seen items))) h v sure);
-        within_may = λ h v there. rw whole at (lucky_all half (take n (map seen items)) (drop (length (take n (map seen items))) (map seen items)) _ (rw held at (Contains-from_value (map seen new) h v there)));
-        once = once;
-      };
-      is = is ∙ ap reopened_store (sym held);
-    }

@@ -15,25 +15,31 @@ Within xs ys = (x : _) → Contains xs x → Contains ys x
 abbrev pub KeepsValues : {T : Type 0} → List (At T) → List (At T) → Type 0
 KeepsValues xs ys = (h : ℕ) (v : _) → value_at xs h ≡ Some v → value_at ys h ≡ Some v
 
--- A put is held at once, unless it is ignored; it is not yet sure.
+-- A put is held at once, unless it is ignored; it is not yet sure. What might be left may still be left.
 pub record Puts {T : Type 0} (ignored : Bool) (old : Kept (At T)) (x : At T) (new : Kept (At T)) : Type 0 where
   pub held : new.held ≡ (if ignored then old.held else old.held ++ x ∷ [])
   pub sure : new.sure ≡ old.sure
+  pub may_kept : Within old.may new.may
   pub may : Within new.may (old.may ++ x ∷ [])
 
--- A sync that finished makes sure all that is held.
+-- A sync that finished makes sure all that is held, and nothing else may be left.
 pub record Syncs {T : Type 0} (old new : Kept (At T)) : Type 0 where
   pub held : new.held ≡ old.held
   pub sure : new.sure ≡ old.held
-  pub may : Within new.may old.may
+  pub may : Within new.may old.held
 
--- A call that failed leaves what was sure, and nothing new but what it was to write; of the rest some may be gone.
+-- A call that failed leaves what was sure and what might be left, and nothing new but what it was to write.
 pub record Fails {T : Type 0} (old : Left (At T)) (more : List (At T)) (left : Left (At T)) : Type 0 where
-  pub sure : KeepsValues old.sure left.sure
+  pub sure : left.sure ≡ old.sure
+  pub may_kept : Within old.may left.may
   pub may : Within left.may (old.may ++ more)
 
 abbrev pub left_of : {T : Type 0} → Kept T → Left T
 left_of kept = record { sure = kept.sure; may = kept.may }
+
+-- What is left is what was left, or that with one more value behind it.
+abbrev pub IsStillOr : {T : Type 0} → Left (At T) → At T → Left (At T) → Type 0
+IsStillOr old x left = (left ≡ old) ⊎ (left ≡ record { sure = old.sure; may = old.may ++ x ∷ [] })
 
 -- A reopening finds one list with all that was sure, of what may be left.
 pub record IsReopened {T : Type 0} (old : Left (At T)) (new : Kept (At T)) : Type 0 where
@@ -61,6 +67,7 @@ pub record KeepsFrom {T : Type 0} (min : ℕ) (old new : List (At T)) : Type 0 w
 pub record Prunes {T : Type 0} (min : ℕ) (old new : Kept (At T)) : Type 0 where
   pub held : KeepsFrom min old.held new.held
   pub sure : KeepsFrom min old.sure new.sure
+  pub may_from : (x : At T) → Contains old.may x → min ≤ x.height → Contains new.may x
   pub may : Within new.may old.may
 
 -- A sync that finished makes sure what it covers, and nothing more. Where that is sure it changes nothing.

@@ -6,7 +6,7 @@ pub mod Ranges
 pub mod Spans
 pub mod MemMeta
 pub mod RangeLemmas
-pub mod Armed
+pub mod Watch
 pub mod Named
 pub mod Tickets
 pub mod Luck
@@ -14,3 +14,6 @@ pub mod Entries
 pub mod Props
 pub mod Nested
 pub mod Names
+pub mod Sizes
+pub mod Alarms
+pub mod Choices

@@ -1,5 +1,6 @@
 -- What a metadata store holds: values of some keys, and the maps that a crash may leave.
-use Rattle.std.specs.Prelude.{◌≡◌, ℕ, ◌<◌, ◌==◌, if◌then◌else◌, List, [], ◌∷◌, ◌++◌, length, Option, None}
+use Rattle.std.specs.Prelude.{◌≡◌, ℕ, ◌<◌, ◌==◌, if◌then◌else◌, filter, List, [], ◌∷◌, ◌++◌, length, not, Option, None}
+use Rattle.std.specs.List.{list_any}
 use Rattle.mar_store.specs.Changes.{Within}
 
 -- the value of each key that has one
@@ -18,8 +19,17 @@ abbrev pub synced_values : List Values → Values
 synced_values [] = no_values
 synced_values (values ∷ others) = values
 
--- What a call that failed leaves: what was synced stays first, and nothing new but what it was to write.
+-- What a call that failed leaves: what was left, with what was synced first, and nothing new but what it was to write.
 pub record LeavesValues (old more left : List Values) : Type 0 where
   pub some : 0 < length left
   pub synced : synced_values left ≡ synced_values old
+  pub kept : Within old left
   pub within : Within left (old ++ more)
+
+-- the list without that key
+abbrev pub others_of : ℕ → List ℕ → List ℕ
+others_of key keys = filter (λ k. not (k == key)) keys
+
+-- the list with that key, which is added at the end where it isn't in it
+abbrev pub with_key : ℕ → List ℕ → List ℕ
+with_key key keys = if list_any (λ k. k == key) keys then keys else keys ++ key ∷ []

@@ -1,6 +1,6 @@
 //! Calls that are armed to fail, and how often calls failed.
 ghost use Rattle.std.specs.Prelude.{◌≡◌, ◌+◌, ◌-◌, ◌^◌, ◌++◌, [], ◌∷◌, min, if◌then◌else◌, OnOk, OnErr};
-ghost use Rattle.mar_store.specs.Armed.{is_due, after_call};
+ghost use Rattle.mar_store.specs.Watch.{is_due, after_call};
 
 use std::alloc::{AllocError, Global};
 

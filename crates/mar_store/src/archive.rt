@@ -1,12 +1,13 @@
 //! Values by index and by digest that a crash can hurt.
-ghost use Rattle.std.specs.Prelude.{◌≡◌, ◌≤◌, ◌<◌, ◌-◌, ℕ, List, [], ◌∷◌, Bool, true, is_some, IfOk, OnOk, OnErr, IfErr, MatchResult, option_map};
+ghost use Rattle.std.specs.Prelude.{◌≡◌, ◌≤◌, ℕ, List, [], ◌∷◌, Bool, true, is_some, IfErr, IfOk, IfSome, OnOk, OnErr, MatchResult};
 ghost use Rattle.mar_store.specs.Kept.{At, Kept};
-ghost use Rattle.mar_store.specs.Changes.{Left, Within, Puts, Syncs, Prunes, Finishes, Fails, left_of, IsReopened, IsNested, heights};
+ghost use Rattle.mar_store.specs.Changes.{Left, Within, Puts, Syncs, Prunes, Finishes, Fails, left_of, IsReopened, IsNested, IsStillOr, heights};
 ghost use Rattle.mar_store.specs.Named.{value_found, is_taken, last_index, EachNameOnce};
 ghost use Rattle.mar_store.specs.Ranges.{ranges};
 ghost use Rattle.mar_store.specs.Tickets.{last_number, KeepsCovers, KeepsCoversFrom};
-ghost use Rattle.mar_store.specs.Armed.{with_armed, HeedsArmed, ReadsArmed};
-ghost use Rattle.mar_store.specs.Lost.{wreck_of, IsCausedBy, IsMissedBy};
+ghost use Rattle.mar_store.specs.Watch.{armed, Heeds, HeedsRead, Watch};
+ghost use Rattle.mar_store.specs.Luck.{keeps_by, lucky_found};
+ghost use Rattle.mar_store.specs.Lost.{wreck_of};
 ghost use Rattle.std.specs.List.{AllByRecursion};
 
 use crate::{Identifier, Item, Lost, Miss, RangeSet, SyncTicket};
@@ -17,14 +18,8 @@ pub trait ArchiveRuin<T: Item>: Drop {
     // What every crash leaves, and all that a crash can leave.
     ghost left: { Self → Left (At T) };
 
-    // How often the archive has failed.
-    ghost faults: { Self → ℕ };
-
-    // How many counted calls away each armed one is.
-    ghost due: { Self → List ℕ };
-
-    // Whether a call can be armed.
-    ghost armable: { Bool };
+    // What it tells of its failures.
+    ghost watch: { Self → Watch };
 
     /// The indexes of what every crash leaves.
     fn sure_ranges(&self) -> &RangeSet
@@ -37,31 +32,23 @@ pub trait ArchiveRuin<T: Item>: Drop {
     /// Makes the counted call fail that is so many calls away, 1 being the next. Counted are `put`, `sync`,
     /// `start_sync`, `finish`, `get`, `has`, `prune` and `reopen`. Where nothing can be armed it does nothing.
     fn arm(&mut self, calls: u64) -> Result<(), AllocError>
-        ensures armed { OnOk result (due self.new ≡ with_armed armable calls (due self.old)) }
-        ensures unarmed { OnErr result (due self.new ≡ due self.old) }
-        ensures left { left self.new ≡ left self.old }
-        ensures count { faults self.new ≡ faults self.old };
+        ensures armed { OnOk result (watch self.new ≡ armed calls (watch self.old)) }
+        ensures unarmed { OnErr result (watch self.new ≡ watch self.old) }
+        ensures left { left self.new ≡ left self.old };
 
     ghost within: { (w : Self) → Within (left w).sure (left w).may };
 }
 
-/// Values at an index and under their digest. A put is held at once, and sure after the next sync.
+/// Values at an index and under their digest. A put is held at once, and sure after the next sync. Of a store that tells how
+/// it goes by luck a call that fails leaves just what was left, a put also what it was to write (`still`).
 pub trait Archive<T: Item>: Drop {
     type Wreck: ArchiveRuin<T>;
 
     // What it holds, what is sure, and what a crash can leave.
     ghost stored: { Self → Kept (At T) };
 
-    // How often the archive has failed; the count never falls.
-    ghost faults: { Self → ℕ };
-
-    // How many counted calls away each armed one is.
-    ghost due: { Self → List ℕ };
-
-    // Whether a call can be armed, and whether only armed calls fail.
-    ghost armable: { Bool };
-
-    ghost only_armed: { Bool };
+    // What it tells of its failures.
+    ghost watch: { Self → Watch };
 
     // The greatest number that a ticket of this life has.
     ghost number: { Self → ℕ };
@@ -75,8 +62,7 @@ pub trait Archive<T: Item>: Drop {
         ensures same { stored self.new ≡ stored self.old }
         ensures tickets { number self.new ≡ number self.old }
         ensures covers { KeepsCovers (number self.old) (covers self.old) (covers self.new) }
-        ensures cause { IsMissedBy (faults self.old) (faults self.new) result }
-        ensures armed { ReadsArmed only_armed (due self.old) (due self.new) result };
+        ensures watched { HeedsRead (watch self.old) (watch self.new) result };
 
     /// Whether a value is held at an index or of a digest.
     fn has(&mut self, identifier: Identifier<T::Key>) -> Result<bool, Miss>
@@ -84,8 +70,7 @@ pub trait Archive<T: Item>: Drop {
         ensures same { stored self.new ≡ stored self.old }
         ensures tickets { number self.new ≡ number self.old }
         ensures covers { KeepsCovers (number self.old) (covers self.old) (covers self.new) }
-        ensures cause { IsMissedBy (faults self.old) (faults self.new) result }
-        ensures armed { ReadsArmed only_armed (due self.old) (due self.new) result };
+        ensures watched { HeedsRead (watch self.old) (watch self.new) result };
 
     /// Puts a value at an index, under its digest; ignored where one of either is held.
     fn put(self, index: u64, item: T) -> Result<Self, Lost<Self::Wreck>>
@@ -97,10 +82,11 @@ pub trait Archive<T: Item>: Drop {
             (λ s. Puts (is_taken T.name (stored self).held (record { height = index; value = item })) (stored self) (record { height = index; value = item })
             (stored s))
             (λ l. Fails (left_of (stored self)) (record { height = index; value = item } ∷ []) (Self.Wreck.left (wreck_of l))) }
+        ensures still { IfErr result (λ l. IfSome (watch self).keeps
+            (λ _. IsStillOr (left_of (stored self)) (record { height = index; value = item }) (Self.Wreck.left (wreck_of l)))) }
         ensures tickets { IfOk result (λ s. number self ≤ number s) }
         ensures covers { IfOk result (λ s. KeepsCovers (number self) (covers self) (covers s)) }
-        ensures cause { IsCausedBy faults Self.Wreck.faults (faults self) result }
-        ensures armed { HeedsArmed due Self.Wreck.due only_armed (due self) result };
+        ensures watched { Heeds watch Self.Wreck.watch (watch self) result };
 
     /// Makes sure all that was accepted.
     fn sync(self) -> Result<Self, Lost<Self::Wreck>>
@@ -109,10 +95,10 @@ pub trait Archive<T: Item>: Drop {
         ensures done { MatchResult result
             (λ s. Syncs (stored self) (stored s))
             (λ l. Fails (left_of (stored self)) [] (Self.Wreck.left (wreck_of l))) }
+        ensures still { IfErr result (λ l. IfSome (watch self).keeps (λ _. Self.Wreck.left (wreck_of l) ≡ left_of (stored self))) }
         ensures tickets { IfOk result (λ s. number self ≤ number s) }
         ensures covers { IfOk result (λ s. KeepsCovers (number self) (covers self) (covers s)) }
-        ensures cause { IsCausedBy faults Self.Wreck.faults (faults self) result }
-        ensures armed { HeedsArmed due Self.Wreck.due only_armed (due self) result };
+        ensures watched { Heeds watch Self.Wreck.watch (watch self) result };
 
     /// Starts a sync, which `finish` of its ticket finishes.
     fn start_sync(self) -> Result<(Self, SyncTicket), Lost<Self::Wreck>>
@@ -121,12 +107,12 @@ pub trait Archive<T: Item>: Drop {
         ensures done { MatchResult result
             (λ s. stored s.0 ≡ stored self)
             (λ l. Fails (left_of (stored self)) [] (Self.Wreck.left (wreck_of l))) }
+        ensures still { IfErr result (λ l. IfSome (watch self).keeps (λ _. Self.Wreck.left (wreck_of l) ≡ left_of (stored self))) }
         ensures made { IfOk result (λ s. s.1.number ≤ number s.0) }
         ensures covered { IfOk result (λ s. covers s.0 s.1.number ≡ (stored self).held) }
         ensures tickets { IfOk result (λ s. number self ≤ number s.0) }
         ensures covers { IfOk result (λ s. KeepsCovers (number self) (covers self) (covers s.0)) }
-        ensures cause { IsCausedBy (λ s. faults s.0) Self.Wreck.faults (faults self) result }
-        ensures armed { HeedsArmed (λ s. due s.0) Self.Wreck.due only_armed (due self) result };
+        ensures watched { Heeds (λ s. watch s.0) Self.Wreck.watch (watch self) result };
 
     /// Makes sure all that was accepted before this ticket was made. A ticket of an earlier life isn't one.
     fn finish(self, ticket: SyncTicket) -> Result<Self, Lost<Self::Wreck>>
@@ -136,10 +122,10 @@ pub trait Archive<T: Item>: Drop {
         ensures done { MatchResult result
             (λ s. Finishes (covers self ticket.number) (stored self) (stored s))
             (λ l. Fails (left_of (stored self)) [] (Self.Wreck.left (wreck_of l))) }
+        ensures still { IfErr result (λ l. IfSome (watch self).keeps (λ _. Self.Wreck.left (wreck_of l) ≡ left_of (stored self))) }
         ensures tickets { IfOk result (λ s. number self ≤ number s) }
         ensures covers { IfOk result (λ s. KeepsCovers (number self) (covers self) (covers s)) }
-        ensures cause { IsCausedBy faults Self.Wreck.faults (faults self) result }
-        ensures armed { HeedsArmed due Self.Wreck.due only_armed (due self) result };
+        ensures watched { Heeds watch Self.Wreck.watch (watch self) result };
 
     /// Removes values below an index; some may stay.
     fn prune(self, min: u64) -> Result<Self, Lost<Self::Wreck>>
@@ -148,38 +134,39 @@ pub trait Archive<T: Item>: Drop {
         ensures done { MatchResult result
             (λ s. Prunes min (stored self) (stored s))
             (λ l. Fails (left_of (stored self)) [] (Self.Wreck.left (wreck_of l))) }
+        ensures still { IfErr result (λ l. IfSome (watch self).keeps (λ _. Self.Wreck.left (wreck_of l) ≡ left_of (stored self))) }
         ensures tickets { IfOk result (λ s. number self ≤ number s) }
         ensures covers { IfOk result (λ s. KeepsCoversFrom min (number self) (covers self) (covers s)) }
-        ensures cause { IsCausedBy faults Self.Wreck.faults (faults self) result }
-        ensures armed { HeedsArmed due Self.Wreck.due only_armed (due self) result };
+        ensures watched { Heeds watch Self.Wreck.watch (watch self) result };
 
     /// What a crash now leaves.
     fn wreck(self) -> Self::Wreck
     where
         Self: Sized,
         ensures left { Self.Wreck.left result ≡ left_of (stored self) }
-        ensures count { Self.Wreck.faults result ≡ faults self }
-        ensures due { Self.Wreck.due result ≡ due self };
+        ensures watch { Self.Wreck.watch result ≡ watch self };
 
-    /// Opens what a crash left; luck picks among what may be left.
+    /// Opens what a crash left; luck picks among what may be left. A store that tells how it goes by luck finds what is sure
+    /// and, of the rest, what its luck keeps.
     fn reopen(wreck: Self::Wreck, luck: u64) -> Result<Self, Lost<Self::Wreck>>
     where
         Self: Sized,
         ensures done { MatchResult result
             (λ s. IsReopened (Self.Wreck.left wreck) (stored s))
             (λ l. Fails (Self.Wreck.left wreck) [] (Self.Wreck.left (wreck_of l))) }
-        ensures cause { IsCausedBy faults Self.Wreck.faults (Self.Wreck.faults wreck) result }
-        ensures armed { HeedsArmed due Self.Wreck.due only_armed (Self.Wreck.due wreck) result };
+        ensures still { IfErr result (λ l. IfSome (Self.Wreck.watch wreck).keeps (λ _. Self.Wreck.left (wreck_of l) ≡ Self.Wreck.left wreck)) }
+        ensures lucky { IfOk result (λ s. IfSome (Self.Wreck.watch wreck).keeps
+            (λ keeps. (stored s).held ≡ lucky_found (keeps_by keeps luck) (Self.Wreck.left wreck))) }
+        ensures watched { Heeds watch Self.Wreck.watch (Self.Wreck.watch wreck) result };
 
     /// Makes the counted call fail that is so many calls away, 1 being the next. Counted are `put`, `sync`,
     /// `start_sync`, `finish`, `get`, `has`, `prune` and `reopen`. Where nothing can be armed it does nothing.
     fn arm(&mut self, calls: u64) -> Result<(), AllocError>
-        ensures armed { OnOk result (due self.new ≡ with_armed armable calls (due self.old)) }
-        ensures unarmed { OnErr result (due self.new ≡ due self.old) }
+        ensures armed { OnOk result (watch self.new ≡ armed calls (watch self.old)) }
+        ensures unarmed { OnErr result (watch self.new ≡ watch self.old) }
         ensures same { stored self.new ≡ stored self.old }
         ensures tickets { number self.new ≡ number self.old }
-        ensures covers { KeepsCovers (number self.old) (covers self.old) (covers self.new) }
-        ensures count { faults self.new ≡ faults self.old };
+        ensures covers { KeepsCovers (number self.old) (covers self.old) (covers self.new) };
 
     /// The greatest index that is held.
     fn last_index(&self) -> Option<u64>

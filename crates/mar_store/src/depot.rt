@@ -5,8 +5,8 @@ ghost use Rattle.std.specs.List.{AllByRecursion};
 ghost use Rattle.std.specs.List.Sorted.{IsStrictlyIncreasing};
 ghost use Rattle.mar_store.specs.Changes.{Within};
 ghost use Rattle.mar_store.specs.Names.{Names, Opens, Closes, SetsName, IsOpenedOrNot, IsDestroyedOrNot};
-ghost use Rattle.mar_store.specs.Lost.{wreck_of, IsCausedBy, IsMissedBy};
-ghost use Rattle.mar_store.specs.Armed.{with_armed, HeedsArmed, ReadsArmed};
+ghost use Rattle.mar_store.specs.Lost.{wreck_of};
+ghost use Rattle.mar_store.specs.Watch.{armed, Heeds, HeedsRead, Watch};
 
 use crate::{Lost, Miss};
 use std::alloc::{AllocError, Global};
@@ -28,22 +28,15 @@ pub trait DepotRuin<T: Drop>: Drop {
     // What may stand under the names after a crash.
     ghost left: { Self → List (Names T) };
 
-    // How often the depot has failed.
-    ghost faults: { Self → ℕ };
-
-    // How many counted calls away each armed one is.
-    ghost due: { Self → List ℕ };
-
-    // Whether a call can be armed.
-    ghost armable: { Bool };
+    // What it tells of its failures.
+    ghost watch: { Self → Watch };
 
     /// Makes the counted call fail that is so many calls away, 1 being the next. Counted are `open`, `list`, `destroy`
     /// and `reopen`. Where nothing can be armed it does nothing.
     fn arm(&mut self, calls: u64) -> Result<(), AllocError>
-        ensures armed { OnOk result (due self.new ≡ with_armed armable calls (due self.old)) }
-        ensures unarmed { OnErr result (due self.new ≡ due self.old) }
-        ensures left { left self.new ≡ left self.old }
-        ensures count { faults self.new ≡ faults self.old };
+        ensures armed { OnOk result (watch self.new ≡ armed calls (watch self.old)) }
+        ensures unarmed { OnErr result (watch self.new ≡ watch self.old) }
+        ensures left { left self.new ≡ left self.old };
 
     ghost some: { (w : Self) → 0 < length (left w) };
 }
@@ -62,16 +55,8 @@ pub trait Depot<T: Drop>: Drop {
     // Whether what stands under a name holds nothing.
     ghost is_empty: { T → Bool };
 
-    // How often the depot has failed; the count never falls.
-    ghost faults: { Self → ℕ };
-
-    // How many counted calls away each armed one is.
-    ghost due: { Self → List ℕ };
-
-    // Whether a call can be armed, and whether only armed calls fail.
-    ghost armable: { Bool };
-
-    ghost only_armed: { Bool };
+    // What it tells of its failures.
+    ghost watch: { Self → Watch };
 
     /// Hands out what stands under a name, or an empty one, whose name it then adds.
     fn open(self, name: u64) -> Result<(Self, T), Lost<Self::Wreck>>
@@ -80,22 +65,19 @@ pub trait Depot<T: Drop>: Drop {
         ensures done { OnTrue told (MatchResult result
             (λ s. Opens is_empty (names self) name s.1 (names s.0))
             (λ l. AllByRecursion (IsOpenedOrNot is_empty (names self) name) (Self.Wreck.left (wreck_of l)))) }
-        ensures cause { IsCausedBy (λ s. faults s.0) Self.Wreck.faults (faults self) result }
-        ensures armed { HeedsArmed (λ s. due s.0) Self.Wreck.due only_armed (due self) result };
+        ensures watched { Heeds (λ s. watch s.0) Self.Wreck.watch (watch self) result };
 
     /// Takes back what an `open` of that name handed out. Where the name doesn't stand any more, it is dropped.
     fn close(&mut self, name: u64, content: T)
         ensures done { OnTrue told (Closes (names self.old) name content (names self.new)) }
-        ensures count { faults self.new ≡ faults self.old }
-        ensures due { due self.new ≡ due self.old };
+        ensures watch { watch self.new ≡ watch self.old };
 
     /// The names, ascending.
     fn list(&mut self) -> Result<Vec<u64>, Miss>
         ensures found { OnTrue told (IfOk result (λ ns. (n : ℕ) → IsSome (names self.old n) ↔ Contains ns.items n)) }
         ensures ascend { OnTrue told (IfOk result (λ ns. IsStrictlyIncreasing ns.items)) }
         ensures same { names self.new ≡ names self.old }
-        ensures cause { IsMissedBy (faults self.old) (faults self.new) result }
-        ensures armed { ReadsArmed only_armed (due self.old) (due self.new) result };
+        ensures watched { HeedsRead (watch self.old) (watch self.new) result };
 
     /// Removes a name, with what stands under it.
     fn destroy(self, name: u64) -> Result<Self, Lost<Self::Wreck>>
@@ -104,16 +86,14 @@ pub trait Depot<T: Drop>: Drop {
         ensures done { OnTrue told (MatchResult result
             (λ s. SetsName (names self) name None (names s))
             (λ l. AllByRecursion (IsDestroyedOrNot (names self) name) (Self.Wreck.left (wreck_of l)))) }
-        ensures cause { IsCausedBy faults Self.Wreck.faults (faults self) result }
-        ensures armed { HeedsArmed due Self.Wreck.due only_armed (due self) result };
+        ensures watched { Heeds watch Self.Wreck.watch (watch self) result };
 
     /// What a crash now leaves: what stands under the names.
     fn wreck(self) -> Self::Wreck
     where
         Self: Sized,
         ensures left { OnTrue told (Self.Wreck.left result ≡ names self ∷ []) }
-        ensures count { Self.Wreck.faults result ≡ faults self }
-        ensures due { Self.Wreck.due result ≡ due self };
+        ensures watch { Self.Wreck.watch result ≡ watch self };
 
     /// Opens what a crash left; luck picks among what may stand under the names.
     fn reopen(wreck: Self::Wreck, luck: u64) -> Result<Self, Lost<Self::Wreck>>
@@ -121,15 +101,13 @@ pub trait Depot<T: Drop>: Drop {
         Self: Sized,
         ensures done { OnTrue told (MatchResult result
             (λ s. Contains (Self.Wreck.left wreck) (names s))
-            (λ l. Within (Self.Wreck.left (wreck_of l)) (Self.Wreck.left wreck))) }
-        ensures cause { IsCausedBy faults Self.Wreck.faults (Self.Wreck.faults wreck) result }
-        ensures armed { HeedsArmed due Self.Wreck.due only_armed (Self.Wreck.due wreck) result };
+            (λ l. Within (Self.Wreck.left (wreck_of l)) (Self.Wreck.left wreck) × Within (Self.Wreck.left wreck) (Self.Wreck.left (wreck_of l)))) }
+        ensures watched { Heeds watch Self.Wreck.watch (Self.Wreck.watch wreck) result };
 
     /// Makes the counted call fail that is so many calls away, 1 being the next. Counted are `open`, `list`, `destroy`
     /// and `reopen`. Where nothing can be armed it does nothing.
     fn arm(&mut self, calls: u64) -> Result<(), AllocError>
-        ensures armed { OnOk result (due self.new ≡ with_armed armable calls (due self.old)) }
-        ensures unarmed { OnErr result (due self.new ≡ due self.old) }
-        ensures same { names self.new ≡ names self.old }
-        ensures count { faults self.new ≡ faults self.old };
+        ensures armed { OnOk result (watch self.new ≡ armed calls (watch self.old)) }
+        ensures unarmed { OnErr result (watch self.new ≡ watch self.old) }
+        ensures same { names self.new ≡ names self.old };
 }

@@ -3,18 +3,19 @@ ghost use Rattle.std.specs.Prelude.{◌≡◌, ◌==◌, ◌≤◌, ◌||◌, �
 ghost use Rattle.std.specs.Option.{option_copied};
 ghost use Rattle.std.specs.Ordering.{nat_cmp};
 ghost use Rattle.std.specs.BTreeMap.{get};
-ghost use Rattle.mar_store.specs.Changes.{Fails, Finishes, Puts, Syncs, left_of};
-ghost use Rattle.mar_store.specs.Kept.{value_at};
+ghost use Rattle.mar_store.specs.Changes.{Fails, Finishes, IsStillOr, Puts, Syncs, left_of};
+ghost use Rattle.mar_store.specs.Kept.{reopened_store, value_at};
 ghost use Rattle.mar_store.specs.Named.{is_taken, value_found, value_named};
-ghost use Rattle.mar_store.specs.Luck.{lucky_from};
+ghost use Rattle.mar_store.specs.Luck.{is_lucky, lucky_found};
 ghost use Rattle.mar_codec.specs.Places.{at_place, first_place};
 ghost use Rattle.mar_store.specs.Tickets.{KeepsCovers};
 ghost use Rattle.mar_store.specs.Entries.{covered_by, kept_of, next_number, seen};
 
+use crate::choice::Choice;
 use crate::entry::Entry;
 use crate::pile::Pile;
 use crate::places::EntryPlaces;
-use crate::survey::places_from;
+use crate::survey::places_of;
 use crate::{Identifier, Item};
 use std::alloc::Global;
 
@@ -91,7 +92,9 @@ impl<T: Item> Entries<T> {
             (kept_of self.pile.items.items self.pile.synced) (record { height = index; value = item }) (kept_of s.pile.items.items s.pile.synced))
             (λ p. Fails (left_of (kept_of self.pile.items.items self.pile.synced)) (record { height = index; value = item } ∷ [])
             (left_of (kept_of p.items.items p.synced))) }
-        ensures tickets { MatchResult result (λ s. self.pile.accepted ≤ s.pile.accepted) (λ p. self.pile.accepted ≤ p.accepted) }
+        ensures still { IfErr result (λ p. IsStillOr (left_of (kept_of self.pile.items.items self.pile.synced)) (record { height = index; value = item })
+            (left_of (kept_of p.items.items p.synced))) }
+        ensures tickets { IfOk result (λ s. self.pile.accepted ≤ s.pile.accepted) }
         ensures covers { IfOk result (λ s. KeepsCovers self.pile.accepted (covered_by self.pile.items.items) (covered_by s.pile.items.items)) }
     {
         if self.holds(index, &item) {
@@ -103,16 +106,31 @@ impl<T: Item> Entries<T> {
         }
     }
 
+    /// What a put leaves that fails: the pile with the value, or without it.
+    pub fn put_in_part(self, index: u64, item: T) -> Pile<T>
+        requires fits { T.fits index item ≡ true }
+        ensures left { Fails (left_of (kept_of self.pile.items.items self.pile.synced)) (record { height = index; value = item } ∷ [])
+            (left_of (kept_of result.items.items result.synced)) }
+        ensures still { IsStillOr (left_of (kept_of self.pile.items.items self.pile.synced)) (record { height = index; value = item })
+            (left_of (kept_of result.items.items result.synced)) }
+    {
+        match self.put(index, item) {
+            Ok(entries) => entries.pile,
+            Err(pile) => pile,
+        }
+    }
+
     // Puts a value whose index and key are not held.
     fn push(self, index: u64, item: T) -> Result<Self, Pile<T>>
         requires free { is_taken T.name (map seen self.pile.items.items) (record { height = index; value = item }) ≡ false }
         requires fits { T.fits index item ≡ true }
-        ensures ok { IfOk result (λ s. s.pile.items.items ≡ self.pile.items.items ++ record { index = index; number = self.pile.accepted; item = item } ∷ []) }
+        ensures ok { IfOk result (λ s. s.pile.items.items
+            ≡ self.pile.items.items ++ record { index = index; number = self.pile.accepted; item = item } ∷ []) }
         ensures err { IfErr result (λ p. (p.items.items ≡ self.pile.items.items)
             ⊎ (p.items.items ≡ self.pile.items.items ++ record { index = index; number = self.pile.accepted; item = item } ∷ [])) }
         ensures synced { MatchResult result (λ s. s.pile.synced ≡ self.pile.synced) (λ p. p.synced ≡ self.pile.synced) }
         ensures tickets { IfOk result (λ s. s.pile.accepted ≡ next_number self.pile.accepted) }
-        ensures goes_on { MatchResult result (λ s. self.pile.accepted ≤ s.pile.accepted) (λ p. self.pile.accepted ≤ p.accepted) }
+        ensures goes_on { IfOk result (λ s. self.pile.accepted ≤ s.pile.accepted) }
     {
         let Entries { pile, mut places } = self;
         let place = pile.items.len();
@@ -131,9 +149,9 @@ impl<T: Item> Entries<T> {
         ensures done { MatchResult result
             (λ s. Syncs (kept_of self.pile.items.items self.pile.synced) (kept_of s.pile.items.items s.pile.synced))
             (λ p. Fails (left_of (kept_of self.pile.items.items self.pile.synced)) [] (left_of (kept_of p.items.items p.synced))) }
+        ensures still { IfErr result (λ p. left_of (kept_of p.items.items p.synced) ≡ left_of (kept_of self.pile.items.items self.pile.synced)) }
         ensures items { IfOk result (λ s. s.pile.items.items ≡ self.pile.items.items) }
-        ensures tickets { MatchResult result (λ s. s.pile.accepted ≡ self.pile.accepted) (λ p. p.accepted ≡ self.pile.accepted) }
-        ensures still { IfErr result (λ p. (p.items.items ≡ self.pile.items.items) × (p.synced ≡ self.pile.synced)) }
+        ensures tickets { IfOk result (λ s. s.pile.accepted ≡ self.pile.accepted) }
     {
         let Entries { pile, places } = self;
         match pile.sync() {
@@ -148,9 +166,9 @@ impl<T: Item> Entries<T> {
             (λ s. Finishes (covered_by self.pile.items.items number) (kept_of self.pile.items.items self.pile.synced)
             (kept_of s.pile.items.items s.pile.synced))
             (λ p. Fails (left_of (kept_of self.pile.items.items self.pile.synced)) [] (left_of (kept_of p.items.items p.synced))) }
+        ensures still { IfErr result (λ p. left_of (kept_of p.items.items p.synced) ≡ left_of (kept_of self.pile.items.items self.pile.synced)) }
         ensures items { IfOk result (λ s. s.pile.items.items ≡ self.pile.items.items) }
-        ensures tickets { MatchResult result (λ s. s.pile.accepted ≡ self.pile.accepted) (λ p. p.accepted ≡ self.pile.accepted) }
-        ensures still { IfErr result (λ p. (p.items.items ≡ self.pile.items.items) × (p.synced ≡ self.pile.synced)) }
+        ensures tickets { IfOk result (λ s. s.pile.accepted ≡ self.pile.accepted) }
     {
         let Entries { pile, places } = self;
         match pile.finish(number) {
@@ -167,7 +185,7 @@ impl<T: Item> Entries<T> {
         ensures err { IfErr result (λ p. p ≡ self.pile) }
     {
         let Entries { pile, .. } = self;
-        match places_from(*pile.items.allocator(), &pile.items, min) {
+        match places_of(*pile.items.allocator(), &pile.items, Choice::From(min)) {
             Err(_) => Err(pile),
             Ok(places) => match pile.cut(min) {
                 Err(pile) => Err(pile),
@@ -176,20 +194,19 @@ impl<T: Item> Entries<T> {
         }
     }
 
-    /// Opens a pile with what is sure and those of the other entries that the bits of `half` keep. It gives back a pile
-    /// where memory runs out.
+    /// Opens a pile with what is sure and those of the other entries that the bits of `half` keep. It gives back the pile
+    /// as it was where memory runs out.
     pub fn open(pile: Pile<T>, half: u64) -> Result<Self, Pile<T>>
-        ensures found { IfOk result (λ s. map seen s.pile.items.items
-            ≡ take pile.synced (map seen pile.items.items) ++ lucky_from half 0 (drop pile.synced (map seen pile.items.items))) }
-        ensures synced { IfOk result (λ s. s.pile.synced ≡ length s.pile.items.items) }
-        ensures err { IfErr result (λ p. Fails (left_of (kept_of pile.items.items pile.synced)) [] (left_of (kept_of p.items.items p.synced))) }
-        ensures tickets { MatchResult result (λ s. pile.accepted ≤ s.pile.accepted) (λ p. pile.accepted ≤ p.accepted) }
+        ensures found { IfOk result (λ s. kept_of s.pile.items.items s.pile.synced
+            ≡ reopened_store (lucky_found (is_lucky half) (left_of (kept_of pile.items.items pile.synced)))) }
+        ensures err { IfErr result (λ p. p ≡ pile) }
     {
-        match pile.settle(half) {
-            Err(pile) => Err(pile),
-            Ok(pile) => match places_from(*pile.items.allocator(), &pile.items, 0) {
-                Err(_) => Err(pile),
-                Ok(places) => Ok(Entries { pile, places }),
+        let choice = Choice::Lucky(pile.sure_count(), half);
+        match places_of(*pile.items.allocator(), &pile.items, choice) {
+            Err(_) => Err(pile),
+            Ok(places) => match pile.settle(half) {
+                Err(pile) => Err(pile),
+                Ok(pile) => Ok(Entries { pile, places }),
             },
         }
     }

@@ -3,6 +3,7 @@
 
 mod alarm;
 mod archive;
+mod choice;
 mod depot;
 mod entries;
 mod entry;

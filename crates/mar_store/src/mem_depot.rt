@@ -1,11 +1,7 @@
 //! A depot in memory.
-ghost use Rattle.std.specs.Prelude.{◌≡◌, ◌↔◌, ℕ, None, true, [], ◌∷◌, Contains, IfOk, IsSome, IsTrue, MatchOption, MatchResult};
-ghost use Rattle.std.specs.List.{AllByRecursion};
-ghost use Rattle.std.specs.List.Sorted.{IsStrictlyIncreasing};
-ghost use Rattle.mar_store.specs.Changes.{Within};
-ghost use Rattle.mar_store.specs.Names.{names_of, one_left, Opens, SetsName, IsOpenedOrNot, IsDestroyedOrNot};
-ghost use Rattle.mar_store.specs.Lost.{wreck_of, IsCausedBy, IsMissedBy};
-ghost use Rattle.mar_store.specs.Armed.{HeedsArmed, ReadsArmed, FaultsIfArmed, ReadFaultsIfArmed};
+ghost use Rattle.std.specs.Prelude.{◌≡◌, ℕ, None, true, [], ◌∷◌, IsTrue, MatchOption};
+ghost use Rattle.mar_store.specs.Names.{names_of, one_left};
+ghost use Rattle.mar_store.specs.Alarms.{alarm_watch, fresh_watch};
 
 use crate::alarm::Alarm;
 use crate::{Depot, DepotRuin, EmptyStore, Lost, Miss};
@@ -32,8 +28,7 @@ impl<T: EmptyStore> MemDepot<T> {
     /// A depot with no names.
     pub fn new(alloc: Global) -> Self
         ensures names { (k : ℕ) → ⟦<MemDepot<T> as Depot<T>>⟧.names result k ≡ None }
-        ensures faults { ⟦<MemDepot<T> as Depot<T>>⟧.faults result ≡ 0 }
-        ensures due { ⟦<MemDepot<T> as Depot<T>>⟧.due result ≡ [] }
+        ensures watch { ⟦<MemDepot<T> as Depot<T>>⟧.watch result ≡ fresh_watch None }
     {
         MemDepot {
             contents: BTreeMap::new(alloc),
@@ -46,11 +41,7 @@ impl<T: EmptyStore> MemDepot<T> {
 impl<T: EmptyStore> DepotRuin<T> for MemDepotWreck<T> {
     ghost left = { λ w. names_of w.contents ∷ [] };
 
-    ghost faults = { λ w. w.alarm.faults };
-
-    ghost due = { λ w. w.alarm.due.items };
-
-    ghost armable = { true };
+    ghost watch = { λ w. alarm_watch None w.alarm };
 
     fn arm(&mut self, calls: u64) -> Result<(), AllocError> {
         self.alarm.arm(calls)
@@ -68,22 +59,9 @@ impl<T: EmptyStore> Depot<T> for MemDepot<T> {
 
     ghost is_empty = { T.is_empty };
 
-    ghost faults = { λ s. s.alarm.faults };
+    ghost watch = { λ s. alarm_watch None s.alarm };
 
-    ghost due = { λ s. s.alarm.due.items };
-
-    ghost armable = { true };
-
-    ghost only_armed = { true };
-
-    fn open(self, name: u64) -> Result<(Self, T), Lost<MemDepotWreck<T>>>
-        ensures done { MatchResult result
-            (λ s. Opens T.is_empty (names_of self.contents) name s.1 (names_of s.0.contents))
-            (λ l. AllByRecursion (IsOpenedOrNot T.is_empty (names_of self.contents) name) (names_of (wreck_of l).contents ∷ [])) }
-        ensures cause { IsCausedBy (λ s. s.0.alarm.faults) (λ w. w.alarm.faults) self.alarm.faults result }
-        ensures armed { HeedsArmed (λ s. s.0.alarm.due.items) (λ w. w.alarm.due.items) true self.alarm.due.items result }
-        ensures fault { FaultsIfArmed self.alarm.due.items result }
-    {
+    fn open(self, name: u64) -> Result<(Self, T), Lost<MemDepotWreck<T>>> {
         let mut depot = self;
         if depot.alarm.rings() {
             return Err(Lost::Fault(depot.wreck()));
@@ -103,14 +81,7 @@ impl<T: EmptyStore> Depot<T> for MemDepot<T> {
         }
     }
 
-    fn list(&mut self) -> Result<Vec<u64>, Miss>
-        ensures found { IfOk result (λ ns. (n : ℕ) → IsSome (names_of self.old.contents n) ↔ Contains ns.items n) }
-        ensures ascend { IfOk result (λ ns. IsStrictlyIncreasing ns.items) }
-        ensures same { names_of self.new.contents ≡ names_of self.old.contents }
-        ensures cause { IsMissedBy self.old.alarm.faults self.new.alarm.faults result }
-        ensures armed { ReadsArmed true self.old.alarm.due.items self.new.alarm.due.items result }
-        ensures fault { ReadFaultsIfArmed self.old.alarm.due.items result }
-    {
+    fn list(&mut self) -> Result<Vec<u64>, Miss> {
         if self.alarm.rings() {
             return Err(Miss::Fault);
         }
@@ -120,14 +91,7 @@ impl<T: EmptyStore> Depot<T> for MemDepot<T> {
         }
     }
 
-    fn destroy(self, name: u64) -> Result<Self, Lost<MemDepotWreck<T>>>
-        ensures done { MatchResult result
-            (λ s. SetsName (names_of self.contents) name None (names_of s.contents))
-            (λ l. AllByRecursion (IsDestroyedOrNot (names_of self.contents) name) (names_of (wreck_of l).contents ∷ [])) }
-        ensures cause { IsCausedBy (λ s. s.alarm.faults) (λ w. w.alarm.faults) self.alarm.faults result }
-        ensures armed { HeedsArmed (λ s. s.alarm.due.items) (λ w. w.alarm.due.items) true self.alarm.due.items result }
-        ensures fault { FaultsIfArmed self.alarm.due.items result }
-    {
+    fn destroy(self, name: u64) -> Result<Self, Lost<MemDepotWreck<T>>> {
         let mut depot = self;
         if depot.alarm.rings() {
             return Err(Lost::Fault(depot.wreck()));
@@ -138,8 +102,7 @@ impl<T: EmptyStore> Depot<T> for MemDepot<T> {
 
     fn wreck(self) -> MemDepotWreck<T>
         ensures left { names_of result.contents ∷ [] ≡ names_of self.contents ∷ [] }
-        ensures count { result.alarm.faults ≡ self.alarm.faults }
-        ensures due { result.alarm.due.items ≡ self.alarm.due.items }
+        ensures watch { alarm_watch None result.alarm ≡ alarm_watch None self.alarm }
         ensures contents { result.contents ≡ self.contents }
     {
         MemDepotWreck {
@@ -149,14 +112,7 @@ impl<T: EmptyStore> Depot<T> for MemDepot<T> {
         }
     }
 
-    fn reopen(wreck: MemDepotWreck<T>, _luck: u64) -> Result<Self, Lost<MemDepotWreck<T>>>
-        ensures done { MatchResult result
-            (λ s. Contains (names_of wreck.contents ∷ []) (names_of s.contents))
-            (λ l. Within (names_of (wreck_of l).contents ∷ []) (names_of wreck.contents ∷ [])) }
-        ensures cause { IsCausedBy (λ s. s.alarm.faults) (λ w. w.alarm.faults) wreck.alarm.faults result }
-        ensures armed { HeedsArmed (λ s. s.alarm.due.items) (λ w. w.alarm.due.items) true wreck.alarm.due.items result }
-        ensures fault { FaultsIfArmed wreck.alarm.due.items result }
-    {
+    fn reopen(wreck: MemDepotWreck<T>, _luck: u64) -> Result<Self, Lost<MemDepotWreck<T>>> {
         let mut wreck = wreck;
         if wreck.alarm.rings() {
             return Err(Lost::Fault(wreck));

@@ -1,21 +1,23 @@
 //! A metadata store in memory.
-ghost use Rattle.std.specs.Prelude.{◌≡◌, None, Some, true, [], ◌∷◌, Contains, IfOk, IfErr, MatchResult};
-ghost use Rattle.mar_store.specs.Values.{LeavesValues, no_values};
-ghost use Rattle.mar_store.specs.Armed.{HeedsArmed, FaultsIfArmed};
-ghost use Rattle.mar_store.specs.Lost.{wreck_of, IsCausedBy};
-ghost use Rattle.mar_store.specs.Luck.{lucky_values};
+ghost use Rattle.std.specs.Prelude.{◌≡◌, None, OnOk, Some, [], ◌∷◌, IfOk};
+ghost use Rattle.mar_store.specs.Alarms.{alarm_watch, fresh_watch};
+ghost use Rattle.mar_store.specs.Luck.{keeps_by, lucky_values};
+ghost use Rattle.mar_store.specs.Watch.{by_lowest_bit};
 ghost use Rattle.mar_store.specs.MemMeta.{values_of, left_with, some_left};
+ghost use Rattle.mar_store.specs.Values.{no_values, with_key};
 
 use crate::alarm::Alarm;
 use crate::{Lost, Meta, MetaRuin};
 use std::alloc::{AllocError, Global};
 use std::collections::BTreeMap;
 
-/// A map in memory, beside it the one of the last sync.
+/// A map in memory, beside it the one of the last sync, and the keys that were changed since. A reopening finds the map
+/// of a sync that failed where the lowest bit of luck is set.
 #[derive(Drop)]
 pub struct MemMeta {
     values: BTreeMap<u64, u64>,
     synced: BTreeMap<u64, u64>,
+    changed: Vec<u64>,
     alarm: Alarm,
 }
 
@@ -24,6 +26,7 @@ pub struct MemMeta {
 pub struct MemMetaWreck {
     synced: BTreeMap<u64, u64>,
     failed: Option<BTreeMap<u64, u64>>,
+    changed: Vec<u64>,
     alarm: Alarm,
 }
 
@@ -32,37 +35,14 @@ impl MemMeta {
     pub fn new(alloc: Global) -> Self
         ensures current { ⟦<MemMeta as Meta>⟧.current result ≡ no_values }
         ensures left { ⟦<MemMeta as Meta>⟧.left result ≡ no_values ∷ [] }
-        ensures faults { ⟦<MemMeta as Meta>⟧.faults result ≡ 0 }
-        ensures due { ⟦<MemMeta as Meta>⟧.due result ≡ [] }
+        ensures watch { ⟦<MemMeta as Meta>⟧.watch result ≡ fresh_watch (Some by_lowest_bit) }
+        ensures changed { ⟦<MemMeta as Meta>⟧.changed result ≡ [] }
     {
         MemMeta {
             values: BTreeMap::new(alloc),
             synced: BTreeMap::new(alloc),
+            changed: Vec::new(alloc),
             alarm: Alarm::new(alloc),
-        }
-    }
-
-    /// Opens what a crash left, with the values of a sync that failed where the lowest bit of luck is set, else
-    /// with those that the last sync left or the last reopening gave.
-    pub fn reopen(wreck: MemMetaWreck, luck: u64) -> Result<Self, Lost<MemMetaWreck>>
-        ensures found { IfOk result (λ s. ⟦<MemMeta as Meta>⟧.current s ≡ lucky_values luck (⟦<MemMetaWreck as MetaRuin>⟧.left wreck)) }
-        ensures synced { IfOk result (λ s. ⟦<MemMeta as Meta>⟧.left s ≡ ⟦<MemMeta as Meta>⟧.current s ∷ []) }
-        ensures still { IfErr result (λ l. ⟦<MemMetaWreck as MetaRuin>⟧.left (wreck_of l) ≡ ⟦<MemMetaWreck as MetaRuin>⟧.left wreck) }
-        ensures cause { IsCausedBy ⟦<MemMeta as Meta>⟧.faults ⟦<MemMetaWreck as MetaRuin>⟧.faults (⟦<MemMetaWreck as MetaRuin>⟧.faults wreck) result }
-        ensures armed { HeedsArmed ⟦<MemMeta as Meta>⟧.due ⟦<MemMetaWreck as MetaRuin>⟧.due true (⟦<MemMetaWreck as MetaRuin>⟧.due wreck) result }
-        ensures fault { FaultsIfArmed (⟦<MemMetaWreck as MetaRuin>⟧.due wreck) result }
-    {
-        let mut wreck = wreck;
-        if wreck.alarm.rings() {
-            return Err(Lost::Fault(wreck));
-        }
-        match wreck.found(luck) {
-            Ok((values, synced)) => Ok(MemMeta {
-                values,
-                synced,
-                alarm: wreck.alarm,
-            }),
-            Err(_) => Err(Lost::Memory(wreck)),
         }
     }
 
@@ -75,6 +55,7 @@ impl MemMeta {
         MemMetaWreck {
             synced: self.synced,
             failed: Some(self.values),
+            changed: self.changed,
             alarm: self.alarm,
         }
     }
@@ -84,7 +65,7 @@ impl MemMetaWreck {
     // The map of the sync that failed, where there is one and the lowest bit of luck is set, or else that of the
     // last sync, and a copy of it.
     fn found(&self, luck: u64) -> Result<(BTreeMap<u64, u64>, BTreeMap<u64, u64>), AllocError>
-        ensures found { IfOk result (λ m. values_of m.0 ≡ lucky_values luck (left_with self.now.synced self.now.failed)) }
+        ensures found { IfOk result (λ m. values_of m.0 ≡ lucky_values (keeps_by by_lowest_bit luck 0) (left_with self.now.synced self.now.failed)) }
         ensures copy { IfOk result (λ m. values_of m.1 ≡ values_of m.0) }
     {
         let found = match &self.failed {
@@ -95,14 +76,20 @@ impl MemMetaWreck {
     }
 }
 
+// Adds a key to those that were changed, where it isn't among them.
+fn note(changed: &mut Vec<u64>, key: u64) -> Result<(), AllocError>
+    ensures { OnOk result (changed.new.items ≡ with_key key changed.old.items) }
+{
+    if !changed.contains(&key) {
+        changed.push(key)?;
+    }
+    Ok(())
+}
+
 impl MetaRuin for MemMetaWreck {
     ghost left = { λ w. left_with w.synced w.failed };
 
-    ghost faults = { λ w. w.alarm.faults };
-
-    ghost due = { λ w. w.alarm.due.items };
-
-    ghost armable = { true };
+    ghost watch = { λ w. alarm_watch (Some by_lowest_bit) w.alarm };
 
     fn synced(&self, key: u64) -> Option<u64> {
         self.synced.get(&key).copied()
@@ -122,13 +109,9 @@ impl Meta for MemMeta {
 
     ghost left = { λ s. values_of s.synced ∷ [] };
 
-    ghost faults = { λ s. s.alarm.faults };
+    ghost changed = { λ s. s.changed.items };
 
-    ghost due = { λ s. s.alarm.due.items };
-
-    ghost armable = { true };
-
-    ghost only_armed = { true };
+    ghost watch = { λ s. alarm_watch (Some by_lowest_bit) s.alarm };
 
     ghost some = { λ s. some_left s.synced None };
 
@@ -138,6 +121,9 @@ impl Meta for MemMeta {
 
     fn put(self, key: u64, value: u64) -> Result<Self, Lost<MemMetaWreck>> {
         let mut store = self;
+        if note(&mut store.changed, key).is_err() {
+            return Err(Lost::Memory(store.wreck()));
+        }
         match store.values.insert(key, value) {
             Ok(_) => Ok(store),
             Err(_) => Err(Lost::Memory(store.wreck())),
@@ -146,26 +132,23 @@ impl Meta for MemMeta {
 
     fn remove(self, key: u64) -> Result<Self, Lost<MemMetaWreck>> {
         let mut store = self;
+        if note(&mut store.changed, key).is_err() {
+            return Err(Lost::Memory(store.wreck()));
+        }
         let _ = store.values.remove(&key);
         Ok(store)
     }
 
-    fn sync(self) -> Result<Self, Lost<MemMetaWreck>>
-        ensures done { MatchResult result
-            (λ s. values_of s.synced ∷ [] ≡ values_of self.values ∷ [])
-            (λ l. LeavesValues (values_of self.synced ∷ []) (values_of self.values ∷ []) (left_with (wreck_of l).synced (wreck_of l).failed)) }
-        ensures same { IfOk result (λ s. values_of s.values ≡ values_of self.values) }
-        ensures cause { IsCausedBy (λ s. s.alarm.faults) (λ w. w.alarm.faults) self.alarm.faults result }
-        ensures armed { HeedsArmed (λ s. s.alarm.due.items) (λ w. w.alarm.due.items) true self.alarm.due.items result }
-        ensures fault { FaultsIfArmed self.alarm.due.items result }
-        ensures kept { IfErr result (λ l. left_with (wreck_of l).synced (wreck_of l).failed ≡ values_of self.synced ∷ values_of self.values ∷ []) }
-    {
+    fn sync(self) -> Result<Self, Lost<MemMetaWreck>> {
         let mut store = self;
         if store.alarm.rings() {
             return Err(Lost::Fault(store.unsynced()));
         }
         match store.values.clone() {
-            Ok(synced) => Ok(MemMeta { synced, ..store }),
+            Ok(synced) => {
+                store.changed.clear();
+                Ok(MemMeta { synced, ..store })
+            }
             Err(_) => Err(Lost::Memory(store.unsynced())),
         }
     }
@@ -174,22 +157,28 @@ impl Meta for MemMeta {
         MemMetaWreck {
             synced: self.synced,
             failed: None,
+            changed: self.changed,
             alarm: self.alarm,
         }
     }
 
-    fn reopen(wreck: MemMetaWreck, luck: u64) -> Result<Self, Lost<MemMetaWreck>>
-        ensures done { MatchResult result
-            (λ s. Contains (left_with wreck.synced wreck.failed) (values_of s.values))
-            (λ l. LeavesValues (left_with wreck.synced wreck.failed) [] (left_with (wreck_of l).synced (wreck_of l).failed)) }
-        ensures synced { IfOk result (λ s. values_of s.synced ∷ [] ≡ values_of s.values ∷ []) }
-        ensures cause { IsCausedBy (λ s. s.alarm.faults) (λ w. w.alarm.faults) wreck.alarm.faults result }
-        ensures armed { HeedsArmed (λ s. s.alarm.due.items) (λ w. w.alarm.due.items) true wreck.alarm.due.items result }
-        ensures fault { FaultsIfArmed wreck.alarm.due.items result }
-        ensures found { IfOk result (λ s. values_of s.values ≡ lucky_values luck (left_with wreck.synced wreck.failed)) }
-        ensures still { IfErr result (λ l. left_with (wreck_of l).synced (wreck_of l).failed ≡ left_with wreck.synced wreck.failed) }
-    {
-        MemMeta::reopen(wreck, luck)
+    fn reopen(wreck: MemMetaWreck, luck: u64) -> Result<Self, Lost<MemMetaWreck>> {
+        let mut wreck = wreck;
+        if wreck.alarm.rings() {
+            return Err(Lost::Fault(wreck));
+        }
+        match wreck.found(luck) {
+            Ok((values, synced)) => {
+                wreck.changed.clear();
+                Ok(MemMeta {
+                    values,
+                    synced,
+                    changed: wreck.changed,
+                    alarm: wreck.alarm,
+                })
+            }
+            Err(_) => Err(Lost::Memory(wreck)),
+        }
     }
 
     fn arm(&mut self, calls: u64) -> Result<(), AllocError> {

@@ -2,17 +2,18 @@
 ghost use Rattle.std.specs.Prelude.{◌≡◌, ◌++◌, if◌then◌else◌, ◌-◌, ◌≤◌, ℕ, [], ◌∷◌, true, false, filter, length, map, nat_le, nat_lt, ◌||◌, ◌==◌, take, drop, vec_len, IfOk, IfErr, OnOk, OnErr, MatchResult};
 ghost use Rattle.std.specs.List.{AllByRecursion};
 ghost use Rattle.mar_store.specs.Kept.{EachHeightOnce};
-ghost use Rattle.mar_store.specs.Changes.{Fails, heights, left_of};
+ghost use Rattle.mar_store.specs.Changes.{heights};
 ghost use Rattle.mar_store.specs.Named.{EachNameOnce, is_taken, last_index};
 ghost use Rattle.mar_store.specs.Ranges.{ranges, with_height};
 ghost use Rattle.mar_store.specs.Tickets.{last_number};
-ghost use Rattle.mar_store.specs.Luck.{lucky_from};
+ghost use Rattle.mar_store.specs.Choices.{chosen, stays};
+ghost use Rattle.mar_store.specs.declared.choice.Choice.TheVariants as Choice;
 ghost use Rattle.mar_store.specs.Entries.{AreCounted, AreFitting, AreUpto, Ascend, covered_by, is_covered, kept_of, next_number, seen};
 ghost use Rattle.mar_store.specs.Props.{AreCounted-prop, EachHeightOnce-prop, EachNameOnce-prop, AreFitting-prop, AreUpto-prop, Ascend-prop};
 
+use crate::choice::Choice;
 use crate::entry::Entry;
-use crate::luck::is_lucky;
-use crate::survey::{count_from, ranges_from};
+use crate::survey::{count_of, ranges_of};
 use crate::{Item, RangeSet, SyncTicket};
 use std::alloc::{AllocError, Global};
 
@@ -95,7 +96,6 @@ impl<T: Item> Pile<T> {
         ensures err { IfErr result (λ p. p.items.items ≡ self.items.items) }
         ensures synced { MatchResult result (λ p. p.synced ≡ self.synced) (λ p. p.synced ≡ self.synced) }
         ensures accepted { MatchResult result (λ p. p.accepted ≡ next_number self.accepted) (λ p. p.accepted ≡ self.accepted) }
-        ensures goes_on { IfOk result (λ p. self.accepted ≤ p.accepted) }
     {
         let Pile {
             mut items,
@@ -132,7 +132,6 @@ impl<T: Item> Pile<T> {
         requires from { self.synced ≤ until }
         requires within { until ≤ length self.items.items }
         ensures ok { IfOk result (λ p. p.synced ≡ until) }
-        ensures err { IfErr result (λ p. (self.synced ≤ p.synced) × (p.items.items ≡ self.items.items)) }
         ensures still { IfErr result (λ p. p.synced ≡ self.synced) }
         ensures items { MatchResult result (λ p. p.items.items ≡ self.items.items) (λ p. p.items.items ≡ self.items.items) }
         ensures accepted { MatchResult result (λ p. p.accepted ≡ self.accepted) (λ p. p.accepted ≡ self.accepted) }
@@ -165,7 +164,6 @@ impl<T: Item> Pile<T> {
     /// Makes all entries sure.
     pub fn sync(self) -> Result<Self, Self>
         ensures ok { IfOk result (λ p. p.synced ≡ length self.items.items) }
-        ensures err { IfErr result (λ p. (self.synced ≤ p.synced) × (p.items.items ≡ self.items.items)) }
         ensures still { IfErr result (λ p. p.synced ≡ self.synced) }
         ensures items { MatchResult result (λ p. p.items.items ≡ self.items.items) (λ p. p.items.items ≡ self.items.items) }
         ensures accepted { MatchResult result (λ p. p.accepted ≡ self.accepted) (λ p. p.accepted ≡ self.accepted) }
@@ -196,7 +194,6 @@ impl<T: Item> Pile<T> {
         ensures ok { IfOk result (λ p. (self.synced ≤ p.synced) × (p.synced ≤ length self.items.items)
             × AllByRecursion (λ e. is_covered number e ≡ true) (drop self.synced (take p.synced self.items.items))
             × (filter (is_covered number) (drop p.synced self.items.items) ≡ [])) }
-        ensures err { IfErr result (λ p. (self.synced ≤ p.synced) × (p.items.items ≡ self.items.items)) }
         ensures still { IfErr result (λ p. p.synced ≡ self.synced) }
         ensures items { MatchResult result (λ p. p.items.items ≡ self.items.items) (λ p. p.items.items ≡ self.items.items) }
         ensures accepted { MatchResult result (λ p. p.accepted ≡ self.accepted) (λ p. p.accepted ≡ self.accepted) }
@@ -205,19 +202,11 @@ impl<T: Item> Pile<T> {
         self.keep_sure(until)
     }
 
-    // What stands beside the entries at or above an index.
-    fn draft(&self, min: u64) -> Result<Draft, AllocError>
-        ensures held { IfOk result (λ d. d.held ≡ ranges (heights (map seen (filter (λ e. nat_le min e.index) self.now.items.items)))) }
-        ensures sure { IfOk result (λ d. d.sure ≡ ranges (heights (map seen (filter (λ e. nat_le min e.index) (take self.now.synced self.now.items.items))))) }
-        ensures synced { IfOk result (λ d. d.synced ≡ length (filter (λ e. nat_le min e.index) (take self.now.synced self.now.items.items))) }
+    /// How many entries are sure.
+    pub fn sure_count(&self) -> usize
+        ensures { result ≡ self.now.synced }
     {
-        let alloc = *self.items.allocator();
-        let sure = &self.items[..self.synced];
-        Ok(Draft {
-            held: ranges_from(alloc, &self.items, min)?,
-            sure: ranges_from(alloc, sure, min)?,
-            synced: count_from(sure, min),
-        })
+        self.synced
     }
 
     /// Keeps the entries at or above an index. It gives back the pile as it was where memory runs out.
@@ -227,18 +216,60 @@ impl<T: Item> Pile<T> {
         ensures accepted { IfOk result (λ p. p.accepted ≡ self.accepted) }
         ensures err { IfErr result (λ p. p ≡ self) }
     {
-        match self.draft(min) {
+        match self.draft_cut(min) {
             Err(_) => Err(self),
-            Ok(draft) => Ok(self.keep(min, draft)),
+            Ok(draft) => Ok(self.keep(Choice::From(min), draft)),
         }
     }
 
-    // Keeps the entries at or above an index, what stands beside them being drafted.
-    fn keep(self, min: u64, draft: Draft) -> Self
-        requires held { draft.held ≡ ranges (heights (map seen (filter (λ e. nat_le min e.index) self.items.items))) }
-        requires sure { draft.sure ≡ ranges (heights (map seen (filter (λ e. nat_le min e.index) (take self.synced self.items.items)))) }
-        requires synced { draft.synced ≡ length (filter (λ e. nat_le min e.index) (take self.synced self.items.items)) }
-        ensures items { result.items.items ≡ filter (λ e. nat_le min e.index) self.items.items }
+    // What stands beside the entries at or above an index.
+    fn draft_cut(&self, min: u64) -> Result<Draft, AllocError>
+        ensures within { IfOk result (λ d. d.synced ≤ length (chosen (stays (Choice.From min)) 0 self.now.items.items)) }
+        ensures held { IfOk result (λ d. d.held ≡ ranges (heights (map seen (chosen (stays (Choice.From min)) 0 self.now.items.items)))) }
+        ensures sure { IfOk result (λ d. d.sure ≡ ranges (heights (take d.synced (map seen (chosen (stays (Choice.From min)) 0 self.now.items.items))))) }
+        ensures synced { IfOk result (λ d. d.synced ≡ length (filter (λ e. nat_le min e.index) (take self.now.synced self.now.items.items))) }
+    {
+        let alloc = *self.items.allocator();
+        let choice = Choice::From(min);
+        let front = &self.items[..self.synced];
+        let held = ranges_of(alloc, &self.items, choice)?;
+        let sure = ranges_of(alloc, front, choice)?;
+        let synced = count_of(front, choice);
+        Ok(Draft { held, sure, synced })
+    }
+
+    /// Keeps what is sure, and of the other entries those that the bits of `half` keep, and makes all sure. It gives
+    /// back the pile as it was where memory runs out.
+    pub fn settle(self, half: u64) -> Result<Self, Self>
+        ensures items { IfOk result (λ p. p.items.items ≡ chosen (stays (Choice.Lucky self.synced half)) 0 self.items.items) }
+        ensures synced { IfOk result (λ p. p.synced ≡ length p.items.items) }
+        ensures err { IfErr result (λ p. p ≡ self) }
+    {
+        let choice = Choice::Lucky(self.synced, half);
+        match self.draft_settled(choice) {
+            Err(_) => Err(self),
+            Ok(draft) => Ok(self.keep(choice, draft)),
+        }
+    }
+
+    // What stands beside the entries that stay where all of them are sure.
+    fn draft_settled(&self, choice: Choice) -> Result<Draft, AllocError>
+        ensures held { IfOk result (λ d. d.held ≡ ranges (heights (map seen (chosen (stays choice) 0 self.now.items.items)))) }
+        ensures sure { IfOk result (λ d. d.sure ≡ d.held) }
+        ensures synced { IfOk result (λ d. d.synced ≡ length (chosen (stays choice) 0 self.now.items.items)) }
+    {
+        let held = ranges_of(*self.items.allocator(), &self.items, choice)?;
+        let sure = held.try_clone()?;
+        let synced = count_of(&self.items, choice);
+        Ok(Draft { held, sure, synced })
+    }
+
+    // Keeps the entries that stay, what stands beside them being drafted.
+    fn keep(self, choice: Choice, draft: Draft) -> Self
+        requires within { draft.synced ≤ length (chosen (stays choice) 0 self.items.items) }
+        requires held { draft.held ≡ ranges (heights (map seen (chosen (stays choice) 0 self.items.items))) }
+        requires sure { draft.sure ≡ ranges (heights (take draft.synced (map seen (chosen (stays choice) 0 self.items.items)))) }
+        ensures items { result.items.items ≡ chosen (stays choice) 0 self.items.items }
         ensures synced { result.synced ≡ draft.synced }
         ensures accepted { result.accepted ≡ self.accepted }
     {
@@ -248,7 +279,7 @@ impl<T: Item> Pile<T> {
             ..
         } = self;
         let Draft { held, sure, synced } = draft;
-        items.retain(|entry| entry.index >= min);
+        take_out(&mut items, choice);
         Pile {
             items,
             synced,
@@ -257,101 +288,22 @@ impl<T: Item> Pile<T> {
             accepted,
         }
     }
+}
 
-    // Takes off the entries that aren't sure.
-    fn split(self) -> Result<(Self, Vec<Entry<T>>), Self>
-        ensures sure { IfOk result (λ p. p.0.items.items ≡ take self.synced self.items.items) }
-        ensures synced { IfOk result (λ p. p.0.synced ≡ self.synced) }
-        ensures rest { IfOk result (λ p. p.1.items ≡ drop self.synced self.items.items) }
-        ensures err { IfErr result (λ p. (p.items.items ≡ self.items.items) × (p.synced ≡ self.synced)) }
-        ensures accepted { MatchResult result (λ p. p.0.accepted ≡ self.accepted) (λ p. p.accepted ≡ self.accepted) }
-    {
-        let Pile {
-            mut items,
-            synced,
-            held,
-            sure,
-            accepted,
-        } = self;
-        match parts(&mut items, &sure, synced) {
-            Ok((all, rest)) => Ok((
-                Pile {
-                    items,
-                    synced,
-                    held: all,
-                    sure,
-                    accepted,
-                },
-                rest,
-            )),
-            Err(_) => Err(Pile {
-                items,
-                synced,
-                held,
-                sure,
-                accepted,
-            }),
+// Takes out the entries that don't stay; the others keep their order.
+fn take_out<T: Item>(items: &mut Vec<Entry<T>>, choice: Choice)
+    ensures { items.new.items ≡ chosen (stays choice) 0 items.old.items }
+{
+    let mut kept = 0;
+    let mut place = 0;
+    while place < items.len() {
+        if choice.keeps(place, items[place].index) {
+            items.swap(kept, place);
+            kept += 1;
         }
+        place += 1;
     }
-
-    /// Keeps what is sure, and of the other entries those that the bits of `half` keep, and makes all sure. It gives
-    /// back a pile in which what was sure is sure, where memory runs out.
-    pub fn settle(self, half: u64) -> Result<Self, Self>
-        ensures ok { IfOk result (λ p. map seen p.items.items
-            ≡ take self.synced (map seen self.items.items) ++ lucky_from half 0 (drop self.synced (map seen self.items.items))) }
-        ensures synced { IfOk result (λ p. p.synced ≡ length p.items.items) }
-        ensures err { IfErr result (λ p. Fails (left_of (kept_of self.items.items self.synced)) [] (left_of (kept_of p.items.items p.synced))) }
-        ensures accepted { MatchResult result (λ p. self.accepted ≤ p.accepted) (λ p. self.accepted ≤ p.accepted) }
-    {
-        match self.split() {
-            Err(pile) => Err(pile),
-            Ok((pile, rest)) => pile.settle_rest(&rest, half),
-        }
-    }
-
-    // Puts those of the other entries again that the bits of `half` keep, and makes all sure.
-    fn settle_rest(self, rest: &[Entry<T>], half: u64) -> Result<Self, Self>
-        requires synced { self.synced ≡ length self.items.items }
-        requires once { EachHeightOnce (map seen (self.items.items ++ rest.now)) }
-        requires named { EachNameOnce T.name (map seen (self.items.items ++ rest.now)) }
-        requires fits { AreFitting T.fits (map seen rest.now) }
-        ensures ok { IfOk result (λ p. map seen p.items.items ≡ map seen self.items.items ++ lucky_from half 0 (map seen rest.now)) }
-        ensures synced { IfOk result (λ p. p.synced ≡ length p.items.items) }
-        ensures err { IfErr result (λ p. Fails (left_of (kept_of (self.items.items ++ rest.now) (length self.items.items))) []
-            (left_of (kept_of p.items.items p.synced))) }
-        ensures accepted { MatchResult result (λ p. self.accepted ≤ p.accepted) (λ p. self.accepted ≤ p.accepted) }
-    {
-        let mut pile = self;
-        let mut place = 0;
-        while place < rest.len() {
-            match pile.push_lucky(&rest[place], is_lucky(half, place)) {
-                Ok(more) => pile = more,
-                Err(less) => return Err(less),
-            }
-            place += 1;
-        }
-        pile.sync()
-    }
-
-    // Puts a copy of an entry at the end, or leaves it out.
-    fn push_lucky(self, entry: &Entry<T>, lucky: bool) -> Result<Self, Self>
-        requires free { is_taken T.name (map seen self.items.items) (seen entry.now) ≡ false }
-        requires fits { T.fits entry.now.index entry.now.item ≡ true }
-        ensures ok { IfOk result (λ p. map seen p.items.items ≡ map seen self.items.items ++ (if lucky then seen entry.now ∷ [] else [])) }
-        ensures err { IfErr result (λ p. p.items.items ≡ self.items.items) }
-        ensures synced { MatchResult result (λ p. p.synced ≡ self.synced) (λ p. p.synced ≡ self.synced) }
-        ensures accepted { MatchResult result (λ p. p.accepted ≡ (if lucky then next_number self.accepted else self.accepted))
-            (λ p. p.accepted ≡ self.accepted) }
-        ensures goes_on { IfOk result (λ p. self.accepted ≤ p.accepted) }
-    {
-        if !lucky {
-            return Ok(self);
-        }
-        match entry.item.try_clone() {
-            Ok(item) => self.push(entry.index, item),
-            Err(_) => Err(self),
-        }
-    }
+    items.truncate(kept);
 }
 
 // Whether the ticket of a number covers the entry of another.
@@ -379,21 +331,4 @@ fn push_both<T: Item>(
         let _ = items.pop();
     }
     done
-}
-
-// The ranges again, and the entries from a place on, which are taken off.
-fn parts<T: Item>(
-    items: &mut Vec<Entry<T>>,
-    sure: &RangeSet,
-    synced: usize,
-) -> Result<(RangeSet, Vec<Entry<T>>), AllocError>
-    requires { synced ≤ vec_len items.old }
-    ensures ranges { IfOk result (λ p. p.0 ≡ sure.now) }
-    ensures rest { IfOk result (λ p. p.1.items ≡ drop synced items.old.items) }
-    ensures items { OnOk result (items.new.items ≡ take synced items.old.items) }
-    ensures still { OnErr result (items.new.items ≡ items.old.items) }
-{
-    let all = sure.try_clone()?;
-    let rest = items.split_off(synced)?;
-    Ok((all, rest))
 }

@@ -1,13 +1,19 @@
 //! How to use marshal as a library: a node over stores of one's own is opened, given events, ended by a crash, and
 //! opened again.
+ghost use Rattle.std.specs.Prelude.{◌≡◌, IsTrue};
+ghost use Rattle.mar_actor.specs.Views.{event_of};
+ghost use Rattle.mar_node.specs.Promise.{IsSmallEvent};
+ghost use Rattle.mar_node.specs.Stored.{AreSmall};
+ghost use Rattle.mar_store.specs.Sizes.{IsSmall};
+
 use crate::tell::*;
 use mar_actor::{Config, Ended, Event, Holds, Limits, Node, Reporter, Ruins, Start, Update};
-use mar_block::{EmptyBlock, MemBuffer, StandardBlocks};
+use mar_block::{EmptyBlock, MemBuffer, StandardBlocks, Variant};
 use mar_cert::{
-    Finalization, MockCertificate, MockFinalization, MockProvider, MockScheme, Proposal, Signer,
-    Subject, mock_tag,
+    AsFinalization, Finalization, MockCertificate, MockFinalization, MockProvider, MockScheme,
+    Proposal, Signer, Subject, mock_tag,
 };
-use mar_codec::{Digest, Digested, Sha256, Sha256Digest};
+use mar_codec::{Digest, Digested, EncodeSize, Sha256, Sha256Digest};
 use mar_inbox::Message;
 use mar_key::Recorder;
 use mar_shelf::{
@@ -20,6 +26,9 @@ use std::num::NonZeroU64;
 use std::process::Abort;
 
 type Block = Digested<EmptyBlock<Sha256>>;
+
+/// How large a value may be that a store takes.
+const MOST: usize = 1_048_576;
 
 /// An archive in memory that is never pruned.
 type Store<T> = immutable::Archive<MemArchive<T>>;
@@ -67,11 +76,13 @@ struct Surroundings {
 }
 
 // Four members, epochs of ten heights, and at most two blocks that wait for their acknowledgement.
-fn config(genesis: Block) -> Config<MockProvider, FixedEpocher, Block> {
+fn config(start: Start<Block>) -> Config<MockProvider, FixedEpocher, Block>
+    ensures { result.start ≡ start }
+{
     Config {
         provider: MockProvider::new(MockScheme::new(4), Epoch::zero(), Epoch::new(100)),
         epocher: FixedEpocher::new(NonZeroU64::new(10).unwrap()),
-        start: Start::Genesis(genesis),
+        start,
         limits: Limits {
             max_pending_acks: 2,
             mailbox_size: 8,
@@ -98,10 +109,28 @@ fn opened<S: Holds<StandardBlocks, Finalization = MockFinalization>>(
     alloc: Global,
     left: S::Ruins,
     around: &mut Surroundings,
-) -> NodeOver<S> {
-    let genesis = block(rt, alloc, Sha256Digest::empty(), 0);
-    let (node, _floor) = going_on(rt, NodeOver::<S>::init(alloc, left, config(genesis), 0));
+) -> NodeOver<S>
+    requires { AreSmall around.old.buffer.blocks }
+    ensures { around.new.buffer ≡ around.old.buffer }
+{
+    let start = Start::Genesis(block(rt, alloc, Sha256Digest::empty(), 0));
+    let (node, _floor) = going_on(rt, NodeOver::<S>::init(alloc, left, config(start), 0));
     stepped(rt, node, Event::Start, around)
+}
+
+// Whether a store can take what an event brings.
+fn is_small(event: &Event<MockFinalization>) -> bool
+    ensures { IsTrue result → IsSmallEvent (event_of ⟦<MockFinalization as AsFinalization>⟧.plain event.now) }
+{
+    match event {
+        Event::Start => true,
+        Event::Message(Message::Finalization(finalization)) => {
+            let certificate = finalization.certificate.encode_size();
+            certificate <= MOST && finalization.encode_size() <= MOST
+        }
+        Event::Sync(_ticket) => true,
+        Event::Ack(_ticket) => true,
+    }
 }
 
 // Gives a node one event.
@@ -110,7 +139,11 @@ fn stepped<S: Holds<StandardBlocks, Finalization = MockFinalization>>(
     node: NodeOver<S>,
     event: Event<MockFinalization>,
     around: &mut Surroundings,
-) -> NodeOver<S> {
+) -> NodeOver<S>
+    requires { AreSmall around.old.buffer.blocks }
+    ensures { around.new.buffer ≡ around.old.buffer }
+{
+    assert!(rt; is_small(&event));
     let Surroundings {
         buffer,
         peers,
@@ -128,7 +161,9 @@ fn lived_twice<S: Holds<StandardBlocks, Finalization = MockFinalization>>(
     nothing: S::Ruins,
     finalized: MockFinalization,
     around: &mut Surroundings,
-) -> (bool, S::Ruins) {
+) -> (bool, S::Ruins)
+    requires { AreSmall around.old.buffer.blocks }
+{
     let node = opened::<S>(rt, alloc, nothing, around);
     let node = stepped(rt, node, Event::Ack(0), around);
     let message = Message::Finalization(finalized);
@@ -152,7 +187,9 @@ fn lived_over<
     shelf: H,
     finalized: MockFinalization,
     around: &mut Surroundings,
-) -> bool {
+) -> bool
+    requires { AreSmall around.old.buffer.blocks }
+{
     let nothing = Ruins {
         blocks: blocks.wreck(),
         certs: certificates.wreck(),
@@ -175,7 +212,9 @@ fn lived_in_memory(
     alloc: Global,
     finalized: MockFinalization,
     around: &mut Surroundings,
-) -> bool {
+) -> bool
+    requires { AreSmall around.old.buffer.blocks }
+{
     let blocks: BlockStore = store(alloc, LuckHalf::Low);
     let certificates: CertificateStore = store(alloc, LuckHalf::High);
     let meta = MemMeta::new(alloc);
@@ -191,10 +230,14 @@ fn lived_in_memory(
     )
 }
 
-// The block of a height over a parent.
-fn block(rt: &impl Abort, alloc: Global, parent: Sha256Digest, height: u64) -> Block {
+// The block of a height over a parent, which is small enough for a store.
+fn block(rt: &impl Abort, alloc: Global, parent: Sha256Digest, height: u64) -> Block
+    ensures { IsSmall (⟦<StandardBlocks as Variant>⟧.plain result).encoded }
+{
     let block = EmptyBlock::new(parent, Height::new(height), 0);
-    given(rt, Digested::compute(alloc, block))
+    let block = given(rt, Digested::compute(alloc, block));
+    assert!(rt; block.inner().encode_size() <= MOST);
+    block
 }
 
 // A block's finalization in the first view, by members 0, 1 and 2.
@@ -220,9 +263,14 @@ fn finalization(alloc: Global, payload: Sha256Digest) -> Result<MockFinalization
 }
 
 // Where the block of height 1 is at hand, though no one knows yet that it is finalized.
-fn around_at_first(rt: &impl Abort, alloc: Global, next: Block) -> Surroundings {
+fn around_at_first(rt: &impl Abort, alloc: Global, next: Block) -> Surroundings
+    requires { IsSmall (⟦<StandardBlocks as Variant>⟧.plain next).encoded }
+    ensures { AreSmall result.buffer.blocks }
+{
     let mut buffer = MemBuffer::new(alloc);
-    given(rt, buffer.put(next));
+    if buffer.put(next).is_err() {
+        panic!(rt; "memory ran out");
+    }
     Surroundings {
         buffer,
         peers: Recorder::new(alloc),

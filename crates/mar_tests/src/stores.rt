@@ -1,11 +1,13 @@
 //! Calls of the stores over archives through their bounds, at blocks of the program's kind.
+ghost use Rattle.std.specs.Prelude.{◌≤◌, IfOk};
+
 use crate::tell::*;
 use lives::{Life, lived};
 use mar_block::{EmptyBlock, StandardBlocks, Variant};
-use mar_codec::{Digest, Digested, Sha256, Sha256Digest};
-use mar_shelf::mocks::store::Recording;
+use mar_codec::{Digest, Digested, EncodeSize, Sha256, Sha256Digest};
+use mar_mocks::Recording;
 use mar_shelf::{BlockItem, Blocks, NoShelf, Shelf, immutable, prunable};
-use mar_store::{Archive, Item, LuckHalf, MemArchive};
+use mar_store::{Archive, Item, Lost, LuckHalf, MemArchive};
 use mar_types::Height;
 use std::alloc::{AllocError, Global};
 
@@ -52,8 +54,14 @@ enum Call {
     CrashAndReopen,
 }
 
-fn put<S: Blocks<StandardBlocks>>(store: S, block: &Block) -> Option<S> {
-    store.put(&StandardBlocks::digest(block), block).ok()
+// Puts a block that is small enough for a store.
+fn put<S: Blocks<StandardBlocks>>(store: S, block: &Block) -> Result<S, Lost<S::Wreck>>
+    ensures { IfOk result (λ s. S.number store ≤ S.number s) }
+{
+    if block.inner().encode_size() > 1_048_576 {
+        return Err(Lost::Memory(store.wreck()));
+    }
+    store.put(&StandardBlocks::digest(block), block)
 }
 
 fn reopened<S: Blocks<StandardBlocks>>(store: S) -> Option<S> {
@@ -111,7 +119,7 @@ fn answers<S: Blocks<StandardBlocks>>(alloc: Global, store: &mut S, call: Call) 
 fn after<S: Blocks<StandardBlocks>>(alloc: Global, store: S, call: Call) -> Option<S> {
     let mut store = store;
     match call {
-        Call::Put(height, timestamp) => put(store, &block(alloc, height, timestamp).ok()?),
+        Call::Put(height, timestamp) => put(store, &block(alloc, height, timestamp).ok()?).ok(),
         Call::CrashAndReopen => reopened(store),
         _ if answers(alloc, &mut store, call) => Some(store),
         _ => None,

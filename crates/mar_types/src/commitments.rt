@@ -23,8 +23,12 @@ use std::marker::PhantomData;
 /// How many bytes a commitment has for each of its digests.
 pub const COMMITMENT_DIGEST_SIZE: usize = 32;
 
+const _: () = prove!(COMMITMENT_DIGEST_SIZE == 32);
+
 /// How many bytes a commitment has.
 pub const COMMITMENT_SIZE: usize = 100;
+
+const _: () = prove!(COMMITMENT_SIZE == 100);
 
 /// A block's digest, the root of its shards and the digest of its context, each in 32 bytes of which those that it
 /// leaves are zero, and then how the block is split.

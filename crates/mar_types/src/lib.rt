@@ -20,7 +20,7 @@ pub use epochs::Epoch;
 pub use fields::FieldDigest;
 pub use heights::{Height, HeightRange};
 pub use offsets::{Delta, EpochDelta, HeightDelta, ViewDelta};
-pub use orders::ordered_by_number;
+pub use orders::{configs_compared, equal_by_parts, ordered_by_number};
 pub use rounds::{Epochable, Round, Viewable};
 pub use terms::TermLength;
 pub use views::{View, ViewRange};

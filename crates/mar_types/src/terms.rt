@@ -48,6 +48,8 @@ impl TermLength {
     }
 }
 
+const _: () = prove!(TermLength::MAX.0 == 4_294_967_295 && TermLength::ONE.0 == 1);
+
 impl Default for TermLength {
     ghost is_default = { λ t. t ≡ 1 };
 

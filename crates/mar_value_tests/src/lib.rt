@@ -14,6 +14,8 @@ mod cutoffs;
 #[cfg(test)]
 mod keys;
 #[cfg(test)]
+mod laws;
+#[cfg(test)]
 mod peers;
 #[cfg(test)]
 mod recorder;

@@ -1,5 +1,5 @@
 -- What the actor's promise makes of one event, where it tells all that was told and asked.
-use Rattle.std.proofs.Common.{Err, List, Ok, Option, Some, [], ap, arith, refl, subst, sym, ◌++◌, ◌∙◌, ◌∷◌, ◌≡◌}
+use Rattle.std.proofs.Common.{Err, List, Ok, Option, Some, [], ap, refl, subst, sym, ◌+◌, ◌++◌, ◌∙◌, ◌∷◌, ◌≡◌, ◌≤◌}
 use Rattle.std.specs.Prelude.{Result}
 use Rattle.mar_codec.specs.declared.Sha256Digest.{Sha256Digest}
 use Rattle.mar_types.specs.Epochs.{fixed_epochs}
@@ -8,16 +8,13 @@ use Rattle.mar_key.specs.Hears.{Hears}
 use Rattle.mar_key.specs.Keys.{Call}
 use Rattle.mar_node.specs.Event.{Event}
 use Rattle.mar_node.specs.Faults.{ack_kind, ticket_limit}
-use Rattle.mar_node.specs.Held.{Counts, Ending, IsEndedBy, NotFewer, Remains}
+use Rattle.mar_node.specs.Held.{ArePassed, Ending, FailsBy, Remains}
 use Rattle.mar_node.specs.Lives.{Cuts}
-use Rattle.mar_node.specs.Promise.{IsLawfulStep, IsSetTo, KeepsPromise, made_of, node_of}
+use Rattle.mar_node.specs.Promise.{IsSetTo, KeepsPromise, made_of, node_of}
 use Rattle.mar_node.specs.Step.{Report, Steps}
 use Rattle.mar_shelf.specs.declared.fault.Fault.{Fault as FaultCode}
-use Rattle.mar_key.specs.Asked.{Asked, asked_after}
-use Rattle.mar_node.specs.Chain.{Chain}
-use Rattle.mar_node.specs.Config.{Config}
-use Rattle.mar_script.specs.Plays.{IsLasting}
-use Rattle.marshal.specs.Playing.{IsSetNode, SeenNode, TakesEvent}
+use Rattle.mar_key.specs.Asked.{asked_after}
+use Rattle.marshal.specs.Playing.{IsNearLast, SeenNode, TakesEvent}
 use Rattle.mar_script.specs.Shown.{plain_fault}
 use Rattle.marshal.specs.declared.play.Outcome.TheVariants as outcome
 use Rattle.marshal.specs.declared.play.State.TheVariants as state
@@ -29,37 +26,33 @@ told_all old new more none heard = sym (inside heard ∙ ap (λ xs. xs ++ more) 
     inside : ◌≡◌ {A = Option (List _)} (Some new) (Some (old ++ more)) → new ≡ old ++ more
     inside is = cc
 
-pub not_fewer : (c : Counts) → NotFewer c c
-not_fewer c s = omega arith
-
-pub not_fewer_same : (before now : Counts) → now ≡ before → NotFewer before now
-not_fewer_same before now same = subst (NotFewer before) (sym same) (not_fewer before)
-
 module _ (seen : SeenNode) (buffer : Held) (e : Event) (told0 told1 : List Report) (asks0 asks1 : List Call) (silent : told0 ≡ []) (unasked : asks0 ≡ []) where
   abbrev Promises : Result SeenNode Ending → Type 0
   Promises = KeepsPromise (fixed_epochs seen.life.epocher.length) (λ commitment. commitment) seen e buffer.blocks (Some told0) (Some told1) (Some asks0) (Some asks1)
 
-  pub takes_ok : {H R : Type 0} (new : SeenNode) → Promises (Ok new) → new.life.epocher ≡ seen.life.epocher → new.life.sizes ≡ seen.life.sizes → NotFewer seen.held.counts new.held.counts → TakesEvent {H = H} {R = R} seen buffer e told1 asks1 (state.Running new buffer) outcome.Done
-  takes_ok new promise epocher sizes later = record {
+  pub takes_ok : {H R : Type 0} (new : SeenNode) → Promises (Ok new) → new.life.epocher ≡ seen.life.epocher → new.life.sizes ≡ seen.life.sizes → ArePassed seen.held.watches new.held.watches → new.life.next_ack ≤ seen.life.next_ack + seen.life.sizes.window → TakesEvent {H = H} {R = R} seen buffer e told1 asks1 (state.Running new buffer) outcome.Done
+  takes_ok new promise epocher sizes passed tickets = record {
     set = λ config set. subst (λ z. IsSetTo config z (fixed_epochs new.life.epocher.length) (λ commitment. commitment)) (sym sizes) (subst (λ p. IsSetTo config seen.life.sizes (fixed_epochs p.length) (λ commitment. commitment)) (sym epocher) set);
-    later = later;
-    luck = λ before line. tt;
+    small = λ small. small;
+    calls = passed;
+    lucky = λ luck line. tt;
     done = λ config chain asked set lawful.
         let (reports, heard, finishes) = promise config chain asked set lawful in (
           subst (λ rs. Steps config chain (node_of seen buffer.blocks asked) (e ∷ []) (made_of rs asks1) (node_of new buffer.blocks (asked_after asked [] asks1))) (told_all told0 told1 reports silent heard)
               (subst (λ cs. Steps config chain (node_of seen buffer.blocks asked) (e ∷ []) (made_of reports cs) (node_of new buffer.blocks (asked_after asked [] cs))) (told_all asks0 asks1 finishes.asks unasked finishes.heard) finishes.steps),
-          λ b has. has,
+          refl,
+          tickets,
         );
   }
 
-  pub takes_err : {H R : Type 0} (fault : FaultCode Sha256Digest) (left : Remains) → Promises (Err (record { fault = plain_fault fault; remains = left })) → NotFewer seen.held.counts left.counts → IsEndedBy seen.held.counts (record { fault = plain_fault fault; remains = left })
-      → ((config : Config) (chain : Chain) (asked : List Asked) → IsSetNode config seen → IsLawfulStep config chain (node_of seen buffer.blocks asked) e → IsLasting (node_of seen buffer.blocks asked) → plain_fault fault ≡ ticket_limit ack_kind → ⊥)
+  pub takes_err : {H R : Type 0} (fault : FaultCode Sha256Digest) (left : Remains) → Promises (Err (record { fault = plain_fault fault; remains = left })) → FailsBy seen.held.watches (plain_fault fault) left.watches → (plain_fault fault ≡ ticket_limit ack_kind → IsNearLast seen)
       → TakesEvent {H = H} {R = R} seen buffer e told1 asks1 (state.Stopped left 0) (outcome.Fault fault)
-  takes_err fault left promise later cause limit = record {
+  takes_err fault left promise fails limit = record {
     set = λ config set. tt;
-    later = later;
-    luck = λ before line. refl;
+    small = λ small. tt;
+    calls = fails;
+    lucky = λ luck line. refl;
     done = λ config chain asked set lawful.
         let (reports, heard, cuts) = promise config chain asked set lawful in
-        (subst (λ rs. Cuts config chain (node_of seen buffer.blocks asked) (e ∷ []) rs (plain_fault fault) left.ended) (told_all told0 told1 reports silent heard) cuts, cause, limit config chain asked set lawful);
+        (subst (λ rs. Cuts config chain (node_of seen buffer.blocks asked) (e ∷ []) rs (plain_fault fault) left.ended) (told_all told0 told1 reports silent heard) cuts, limit);
   }

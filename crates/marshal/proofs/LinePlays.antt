@@ -1,5 +1,5 @@
 -- What the program's play makes of each line.
-use Rattle.std.proofs.Common.{Contains, List, None, Some, [], ap, arith, refl, subst, sym, ℕ, ◌<◌, ◌∷◌, ◌≡◌, ◌⊎◌}
+use Rattle.std.proofs.Common.{Contains, List, None, Option, [], ap, arith, refl, subst, sym, ℕ, ◌++◌, ◌+◌, ◌<◌, ◌∷◌, ◌≡◌, ◌≤◌, ◌⊎◌}
 use Rattle.std.proofs.lemmas.List.Elements.{Contains-append_left}
 use Rattle.mar_codec.specs.declared.Sha256Digest.{Sha256Digest}
 use Rattle.mar_types.specs.Epochs.{fixed_epochs}
@@ -12,32 +12,86 @@ use Rattle.mar_key.specs.Keys.{Call}
 use Rattle.mar_node.specs.Chain.{Chain}
 use Rattle.mar_node.specs.Config.{Config}
 use Rattle.mar_node.specs.Event.{Event, life_started, message_told}
-use Rattle.mar_node.specs.Faults.{StoreName, from_genesis}
-use Rattle.mar_node.specs.Held.{IsEndedBy, IsUsual, NotFewer, Remains, Sizes, remains_of}
+use Rattle.mar_node.specs.Faults.{Fault, StoreName, from_genesis}
+use Rattle.mar_node.specs.Held.{ArePassed, FailsBy, IsUsual, Remains, Sizes, Watches, picks_of, remains_of, with_armed}
 use Rattle.mar_node.specs.Lives.{CutsReopening, Finds}
-use Rattle.mar_node.specs.Promise.{IsAlone, IsGoodUntold, IsOpeningFault, IsSetTo, node_of}
+use Rattle.mar_node.specs.Stored.{AreSmall}
+use Rattle.mar_store.specs.Sizes.{IsSmall}
+use Rattle.mar_store.proofs.Lookups.{AllByRecursion-push}
+use Rattle.mar_node.specs.Promise.{IsGoodUntold, IsOpeningFault, IsSetTo, node_of}
+use Rattle.mar_node.specs.Node.{Rest, block_missing, floor_awaited, window_full, write_uncovered}
 use Rattle.mar_node.specs.Step.{Report}
+use Rattle.mar_node.proofs.Passing.{ArePassed-refl}
 use Rattle.mar_shelf.specs.declared.fault.Fault.{Fault as FaultCode}
-use Rattle.mar_script.specs.Plays.{IsExcused, IsLawfulLine, Plays}
-use Rattle.marshal.specs.Playing.{AfterEvent, HasLuck, IsSetNode, PlaysLine, SeenNode, TakesEvent, empty_buffer, luck_after, luck_in}
-use Rattle.mar_script.specs.Run.{LineDone, StepDone}
-use Rattle.mar_script.specs.Script.{Line, Settings, config_of, crash_line, fail_line, open_line, tell_line}
-use Rattle.mar_script.specs.Text.{Output, State, running, silent_output, stopped}
+use Rattle.mar_script.specs.Accounts.{Account, Calls, CallsEnd, luck_after}
+use Rattle.mar_script.specs.Plays.{IsBetween, IsLawfulLine, Plays, max_window}
+use Rattle.marshal.specs.Playing.{AfterEvent, HasLuck, IsSetNode, PlaysLine, SeenNode, TakesEvent, account_in, empty_buffer}
+use Rattle.mar_script.specs.Run.{LineDone, OpenDone, StepDone}
+use Rattle.mar_script.specs.Script.{Line, Settings, buffer_line, config_of, crash_line, fail_line, open_line, tell_line}
+use Rattle.mar_script.specs.Text.{Output, State, running, stopped}
 use Rattle.mar_script.specs.Shown.{plain_fault}
-use Rattle.marshal.specs.Turn.{output_of, remains_in, state_of}
+use Rattle.mar_script.proofs.Accounts.{CallsEnd-then}
+use Rattle.marshal.specs.Turn.{fault_in, output_of, remains_in, state_of}
 use Rattle.marshal.specs.declared.play.Outcome.{Outcome}
 use Rattle.marshal.specs.declared.play.Outcome.TheVariants as outcome
 use Rattle.marshal.specs.declared.play.State.{State as StateCode}
 use Rattle.marshal.specs.declared.play.State.TheVariants as state
 use Rattle.mar_script.specs.declared.RemarkShown.{RemarkShown}
-use Rattle.marshal.proofs.EventTurns.{not_fewer}
-use Rattle.marshal.proofs.Lasting.{IsPlain, starts}
-use Rattle.marshal.proofs.LineTurns.{cut_between, cut_excused, lawful_step, step_between, step_cut, step_done}
+use Rattle.marshal.proofs.Lasting.{IsPlain, starts, tickets_after, tickets_last}
+use Rattle.marshal.proofs.LineTurns.{cut_between, cut_usual, lawful_step, step_between, step_cut, step_done}
 use Rattle.marshal.proofs.Replaying.{between_left}
-use Rattle.marshal.proofs.OpeningTurns.{lasting-found, lawful_start, opening_cut, opening_done, opening_excused, start_cut}
+use Rattle.marshal.proofs.OpeningTurns.{lawful_start, opening_cut, opening_done, opening_usual, start_cut, undropped-found}
 
 none_in : (b : Block) → Contains [] b → ⊥
 none_in b has = let lt : has.0 < 0 = has.1 in omega arith
+
+-- a state behind one line more
+later_state : (config : Config) (chain : Chain) (k : ℕ) (s : State) → IsBetween config chain k s → IsBetween config chain (k + 1) s
+later_state config chain k (running n) (good, rests, lasting) = (good, rests, record { undropped = lasting.undropped; tickets = omega (arith, lasting.tickets) })
+later_state config chain k (stopped e) between = between
+
+-- what is asked of a state doesn't look at the buffer
+put_between : (config : Config) (chain : Chain) (k : ℕ) (seen : SeenNode) (before after : List Block) (asked : List Asked) → IsBetween config chain k (running (node_of seen before asked)) → IsBetween config chain (k + 1) (running (node_of seen after asked))
+put_between config chain k seen before after asked (good, rests, lasting) = (
+  record {
+    heights = record {
+      nested_blocks = good.heights.nested_blocks;
+      nested_certs = good.heights.nested_certs;
+      sure_blocks = good.heights.sure_blocks;
+      sure_certs = good.heights.sure_certs;
+      consecutive = good.heights.consecutive;
+      out_sure = good.heights.out_sure;
+      within_window = good.heights.within_window;
+      floor_clears = good.heights.floor_clears;
+      anchored = good.heights.anchored;
+      own_pair = good.heights.own_pair;
+      sync_open = good.heights.sync_open;
+    };
+    of_chain = record {
+      held_blocks = good.of_chain.held_blocks;
+      may_blocks = good.of_chain.may_blocks;
+      held_certs = good.of_chain.held_certs;
+      may_certs = good.of_chain.may_certs;
+      cached = good.of_chain.cached;
+      cached_blocks = good.of_chain.cached_blocks;
+      awaits = good.of_chain.awaits;
+      floor_safe = good.of_chain.floor_safe;
+      honest_asks = good.of_chain.honest_asks;
+      honest_ready = good.of_chain.honest_ready;
+      honest_overflow = good.of_chain.honest_overflow;
+      not_at_hand = good.of_chain.not_at_hand;
+      tip_reported = good.of_chain.tip_reported;
+    };
+  },
+  rest rests,
+  record { undropped = lasting.undropped; tickets = omega (arith, lasting.tickets) },
+)
+  where
+    rest : Rest config.window (node_of seen before asked) → Rest config.window (node_of seen after asked)
+    rest (floor_awaited some) = floor_awaited some
+    rest (window_full full) = window_full full
+    rest (block_missing missing) = block_missing missing
+    rest (write_uncovered h has below) = write_uncovered h has below
 
 module _ {H R : Type 0} where
   abbrev Stopped : Remains → ℕ → StateCode H R
@@ -47,138 +101,186 @@ module _ {H R : Type 0} where
   Running seen buffer = state.Running seen buffer
 
   -- a line that does nothing, for a reason
-  pub plays_remark : (config : Config) (s : StateCode H R) (l : Line) (r : RemarkShown) → ((chain : Chain) (asked : List Asked) → LineDone config chain (state_of asked s) l (output_of [] [] (outcome.Remark r)) (state_of asked s)) → HasLuck (luck_after (luck_in s) l None) s → PlaysLine config s l (output_of [] [] (outcome.Remark r)) s
-  plays_remark config s l r done luck = record {
+  pub plays_remark : (config : Config) (s : StateCode H R) (l : Line) (r : RemarkShown) → ((chain : Chain) (account : Account) (asked : List Asked) → LineDone config chain account (state_of asked s) l (output_of [] [] (outcome.Remark r)) (state_of asked s))
+      → ((watches : Watches) → Calls watches l None watches) → ((luck : ℕ) → luck_after luck l None ≡ luck) → PlaysLine config s l (output_of [] [] (outcome.Remark r)) s
+  plays_remark config s l r done calls luck = record {
     set = λ is. is;
-    later = not_fewer (remains_in s).counts;
-    luck = luck;
-    plays = λ is chain asked lawful. (asked, record { done = done chain asked; between = lawful.between; buffered = λ b has. Contains-append_left _ _ b has; excused = tt });
-  }
-
-  -- a line that changes nothing that is seen, and writes nothing
-  plays_nothing : (config : Config) (s : StateCode H R) (l : Line) → ((chain : Chain) (asked : List Asked) → LineDone config chain (state_of asked s) l silent_output (state_of asked s)) → HasLuck (luck_after (luck_in s) l None) s → PlaysLine config s l (output_of [] [] outcome.Done) s
-  plays_nothing config s l done luck = record {
-    set = λ is. is;
-    later = not_fewer (remains_in s).counts;
-    luck = luck;
-    plays = λ is chain asked lawful. (asked, record { done = done chain asked; between = lawful.between; buffered = λ b has. Contains-append_left _ _ b has; excused = tt });
+    small = λ line small. small;
+    calls = calls (remains_in s).watches;
+    lucky = λ before has. subst (λ k. HasLuck k s) (sym (luck before)) has;
+    plays = λ is before has chain k asked lawful. (asked, record { done = done chain (account_in before s) asked; between = later_state config chain k (state_of asked s) lawful.between; buffered = λ b has. Contains-append_left _ _ b has; excused = tt });
   }
 
   -- a store is made to fail
-  pub plays_fail : (config : Config) (seen : SeenNode) (buffer : Held) (store : StoreName) (calls : ℕ) → PlaysLine config (Running seen buffer) (fail_line store calls) (output_of [] [] outcome.Done) (Running seen buffer)
-  plays_fail config seen buffer store calls = plays_nothing config (Running seen buffer) (fail_line store calls) (λ chain asked. (refl, refl)) tt
+  pub plays_fail : (config : Config) (seen new : SeenNode) (buffer : Held) (store : StoreName) (calls : ℕ) → new ≡ record seen { held = record seen.held { watches = with_armed store calls seen.held.watches } }
+      → PlaysLine config (Running seen buffer) (fail_line store calls) (output_of [] [] outcome.Done) (Running new buffer)
+  plays_fail config seen new buffer store calls is = subst (λ (n : SeenNode). PlaysLine config (Running seen buffer) (fail_line store calls) (output_of [] [] outcome.Done) (Running n buffer)) (sym is) (record {
+    set = λ set. set;
+    small = λ line small. small;
+    calls = refl;
+    lucky = λ before has. tt;
+    plays = λ set before has chain k asked lawful. (asked, record { done = (refl, refl); between = later_state config chain k (running (node_of seen buffer.blocks asked)) lawful.between; buffered = λ b has. Contains-append_left _ _ b has; excused = tt });
+  })
 
-  pub plays_fail_left : (config : Config) (left : Remains) (luck : ℕ) (store : StoreName) (calls : ℕ) → PlaysLine config (Stopped left luck) (fail_line store calls) (output_of [] [] outcome.Done) (Stopped left luck)
-  plays_fail_left config left luck store calls = plays_nothing config (Stopped left luck) (fail_line store calls) (λ chain asked. (refl, refl)) refl
+  pub plays_fail_left : (config : Config) (left new : Remains) (luck : ℕ) (store : StoreName) (calls : ℕ) → new.ended ≡ left.ended → new.watches ≡ with_armed store calls left.watches
+      → PlaysLine config (Stopped left luck) (fail_line store calls) (output_of [] [] outcome.Done) (Stopped new luck)
+  plays_fail_left config left new luck store calls ended armed = record {
+    set = λ set. tt;
+    small = λ line small. tt;
+    calls = armed;
+    lucky = λ before has. has;
+    plays = λ set before has chain k asked lawful. (
+      asked,
+      record {
+        done = (refl, ap stopped ended);
+        between = subst (λ e. IsBetween config chain (k + 1) (stopped e)) (sym ended) lawful.between;
+        buffered = λ b has. absurd (none_in b has);
+        excused = tt;
+      },
+    );
+  }
+
+  -- a block is put into the buffer
+  pub plays_put : (config : Config) (seen : SeenNode) (buffer new : Held) (b : Block) → new.blocks ≡ buffer.blocks ++ b ∷ [] → PlaysLine config (Running seen buffer) (buffer_line b) (output_of [] [] outcome.Done) (Running seen new)
+  plays_put config seen buffer new b is = record {
+    set = λ set. set;
+    small = λ line small. subst AreSmall (sym is) (AllByRecursion-push (λ x. IsSmall x.encoded) buffer.blocks b small line);
+    calls = ArePassed-refl seen.held.watches;
+    lucky = λ before has. tt;
+    plays = λ set before has chain k asked lawful. (
+      asked,
+      record {
+        done = (refl, ap (λ bs. running (node_of seen bs asked)) is);
+        between = put_between config chain k seen buffer.blocks new.blocks asked lawful.between;
+        buffered = λ x has. subst (λ bs. Contains bs x) is has;
+        excused = tt;
+      },
+    );
+  }
 
   -- a crash ends a life
   pub plays_crash : (config : Config) (seen : SeenNode) (buffer : Held) (luck : ℕ) → PlaysLine config (Running seen buffer) (crash_line luck) (output_of [] [] outcome.Done) (Stopped (remains_of seen.held) luck)
   plays_crash config seen buffer luck = record {
     set = λ is. tt;
-    later = not_fewer seen.held.counts;
-    luck = refl;
-    plays = λ is chain asked lawful. (asked, record { done = (refl, refl); between = between_left config chain (running (node_of seen buffer.blocks asked)) lawful.between; buffered = λ b has. absurd (none_in b has); excused = tt });
+    small = λ line small. tt;
+    calls = ArePassed-refl seen.held.watches;
+    lucky = λ before has. refl;
+    plays = λ is before has chain k asked lawful. (asked, record { done = (refl, refl); between = between_left config chain k (running (node_of seen buffer.blocks asked)) lawful.between; buffered = λ b has. absurd (none_in b has); excused = tt });
   }
 
   -- or sets the luck alone, where no life runs
   pub plays_crash_left : (config : Config) (left : Remains) (before luck : ℕ) → PlaysLine config (Stopped left before) (crash_line luck) (output_of [] [] outcome.Done) (Stopped left luck)
   plays_crash_left config left before luck = record {
     set = λ is. tt;
-    later = not_fewer left.counts;
-    luck = refl;
-    plays = λ is chain asked lawful. (asked, record { done = (refl, refl); between = lawful.between; buffered = λ b has. absurd (none_in b has); excused = tt });
+    small = λ line small. tt;
+    calls = ArePassed-refl left.watches;
+    lucky = λ was has. refl;
+    plays = λ is was has chain k asked lawful. (asked, record { done = (refl, refl); between = lawful.between; buffered = λ b has. absurd (none_in b has); excused = tt });
   }
 
   -- a line that is one event of the life
   pub plays_event : (seen : SeenNode) (buffer : Held) (l : Line) (e : Event) (rs : List Report) (cs : List Call) (after : StateCode H R) (o : Outcome) → IsPlain e → ((f : Finalization) → e ≡ message_told None (report_finalization f) → l ≡ tell_line (report_finalization f))
-      → ((config : Config) (chain : Chain) (asked : List Asked) (out : Output) (s : State) → StepDone config chain (node_of seen buffer.blocks asked) (e ∷ []) [] (λ m. []) out s → LineDone config chain (running (node_of seen buffer.blocks asked)) l out s)
+      → ((before now : Watches) (fault : Option Fault) → CallsEnd before fault now → Calls before l fault now)
+      → ((config : Config) (chain : Chain) (account : Account) (asked : List Asked) (out : Output) (s : State) → StepDone config chain (node_of seen buffer.blocks asked) (e ∷ []) [] (λ m. []) out s → LineDone config chain account (running (node_of seen buffer.blocks asked)) l out s)
       → TakesEvent seen buffer e rs cs after o → (config : Config) → PlaysLine config (Running seen buffer) l (output_of rs cs o) after
-  plays_event seen buffer l e rs cs after o plain same line_done takes config = record {
+  plays_event seen buffer l e rs cs after o plain same calls line_done takes config = record {
     set = λ is. takes.set config is;
-    later = takes.later;
-    luck = takes.luck 0 l;
-    plays = λ is chain asked lawful. by after o chain asked lawful (takes.done config chain asked is (lawful_step config chain seen buffer.blocks asked l e plain lawful same));
+    small = λ line small. takes.small small;
+    calls = calls seen.held.watches (remains_in after).watches (fault_in o) takes.calls;
+    lucky = λ before has. takes.lucky before l;
+    plays = λ is before has chain k asked lawful. by after o chain (account_in before (Running seen buffer)) k asked is lawful (takes.done config chain asked is (lawful_step config chain seen buffer.blocks asked k l e plain lawful same));
   }
     where
-      by : (after : StateCode H R) (o : Outcome) (chain : Chain) (asked : List Asked) → IsLawfulLine config chain (running (node_of seen buffer.blocks asked)) l → AfterEvent config chain seen buffer.blocks asked e rs cs after o
-          → (asked' : List Asked) × Plays config chain (running (node_of seen buffer.blocks asked)) l (output_of rs cs o) (state_of asked' after) seen.held.counts (remains_in after).counts
-      by (state.Running new same_buffer) outcome.Done chain asked lawful (steps, kept) = (
+      by : (after : StateCode H R) (o : Outcome) (chain : Chain) (account : Account) (k : ℕ) (asked : List Asked) → IsSetNode config seen → IsLawfulLine config chain k (running (node_of seen buffer.blocks asked)) l → AfterEvent config chain seen buffer.blocks asked e rs cs after o
+          → (asked' : List Asked) × Plays config chain k account (running (node_of seen buffer.blocks asked)) l (output_of rs cs o) (state_of asked' after)
+      by (state.Running new same_buffer) outcome.Done chain account k asked set lawful (steps, kept, tickets) = (
         asked_after asked [] cs,
         record {
-          done = line_done config chain asked _ _ (step_done config chain seen buffer.blocks asked e rs cs new same_buffer.blocks steps);
-          between = step_between config chain seen buffer.blocks asked e plain rs cs new same_buffer.blocks (lawful_step config chain seen buffer.blocks asked l e plain lawful same).good lawful.between.2 steps;
-          buffered = λ b has. Contains-append_left _ _ b (kept b has);
+          done = line_done config chain account asked _ _ (step_done config chain seen buffer.blocks asked e rs cs new same_buffer.blocks steps);
+          between = step_between config chain seen buffer.blocks asked k e plain rs cs new same_buffer.blocks lawful.between.2.undropped steps
+              (tickets_after k seen.life.next_ack new.life.next_ack seen.life.sizes.window lawful.between.2.tickets (subst (λ w. w ≤ max_window) set.window lawful.narrow) tickets);
+          buffered = λ b has. Contains-append_left _ _ b (subst (λ xs. Contains xs b) kept has);
           excused = tt;
         },
       )
-      by (state.Stopped left luck) (outcome.Fault fault) chain asked lawful (cuts, cause, limit) = (
+      by (state.Stopped left luck) (outcome.Fault fault) chain account k asked set lawful (cuts, limit) = (
         asked,
         record {
-          done = line_done config chain asked _ _ (step_cut config chain seen buffer.blocks asked e rs cs fault left.ended cuts);
-          between = cut_between config chain seen buffer.blocks asked e rs (plain_fault fault) left.ended cuts;
+          done = line_done config chain account asked _ _ (step_cut config chain seen buffer.blocks asked e rs cs fault left.ended cuts);
+          between = cut_between config chain seen buffer.blocks asked (k + 1) e rs (plain_fault fault) left.ended cuts;
           buffered = λ b has. absurd (none_in b has);
-          excused = cut_excused config chain seen buffer.blocks asked e plain rs fault (record { fault = plain_fault fault; remains = left }) (lawful_step config chain seen buffer.blocks asked l e plain lawful same) lawful.between.2 cuts refl cause (limit lawful.between.2);
+          excused = cut_usual config chain seen buffer.blocks asked e plain rs fault left.ended (lawful_step config chain seen buffer.blocks asked k l e plain lawful same) lawful.between.2.undropped cuts
+              (λ is. tickets_last k seen.life.next_ack seen.life.sizes.window lawful.between.2.tickets lawful.few (subst (λ w. w ≤ max_window) set.window lawful.narrow) (limit is));
         },
       )
-      by (state.Running new same_buffer) (outcome.Remark r) chain asked lawful done = absurd done
-      by (state.Running new same_buffer) (outcome.Fault fault) chain asked lawful done = absurd done
-      by (state.Stopped left luck) outcome.Done chain asked lawful done = absurd done
-      by (state.Stopped left luck) (outcome.Remark r) chain asked lawful done = absurd done
+      by (state.Running new same_buffer) (outcome.Remark r) chain account k asked set lawful done = absurd done
+      by (state.Running new same_buffer) (outcome.Fault fault) chain account k asked set lawful done = absurd done
+      by (state.Stopped left luck) outcome.Done chain account k asked set lawful done = absurd done
+      by (state.Stopped left luck) (outcome.Remark r) chain account k asked set lawful done = absurd done
 
   -- an opening that was cut before its start
-  pub plays_unopened : (config : Config) (before left : Remains) (luck : ℕ) (g : Block) (fault : FaultCode Sha256Digest) → ((chain : Chain) (asked : List Asked) → IsLawfulLine config chain (stopped before.ended) (open_line (from_genesis g)) → CutsReopening config chain before.ended (from_genesis g) [] (plain_fault fault) left.ended)
-      → IsEndedBy before.counts (record { fault = plain_fault fault; remains = left }) → NotFewer before.counts left.counts → (IsAlone before.ended (from_genesis g) → IsUsual (plain_fault fault) ⊎ IsOpeningFault before.ended (from_genesis g) (plain_fault fault)) → PlaysLine config (Stopped before luck) (open_line (from_genesis g)) (output_of [] [] (outcome.Fault fault)) (Stopped left 0)
-  plays_unopened config before left luck g fault cuts cause later kind = record {
+  pub plays_unopened : (config : Config) (before left : Remains) (luck : ℕ) (g : Block) (fault : FaultCode Sha256Digest)
+      → ((chain : Chain) (k : ℕ) → IsLawfulLine config chain k (stopped before.ended) (open_line (from_genesis g)) → CutsReopening config chain before.ended (picks_of before luck) (from_genesis g) [] (plain_fault fault) left.ended)
+      → FailsBy before.watches (plain_fault fault) left.watches → IsUsual (plain_fault fault) ⊎ IsOpeningFault before.ended (from_genesis g) (plain_fault fault) → PlaysLine config (Stopped before luck) (open_line (from_genesis g)) (output_of [] [] (outcome.Fault fault)) (Stopped left 0)
+  plays_unopened config before left luck g fault cuts fails kind = record {
     set = λ is. tt;
-    later = later;
-    luck = refl;
-    plays = λ is chain asked lawful. (
+    small = λ line small. tt;
+    calls = fails;
+    lucky = λ was has. refl;
+    plays = λ is was has chain k asked lawful. (
       asked,
       record {
-        done = opening_cut config chain before.ended g fault left.ended (cuts chain asked lawful);
-        between = ((cuts chain asked lawful).leaves.good, (cuts chain asked lawful).leaves.some_pair);
+        done = subst (λ j. OpenDone config chain before.ended (picks_of before j) (from_genesis g) (output_of [] [] (outcome.Fault fault)) (stopped left.ended)) has (opening_cut config chain before.ended (picks_of before luck) g fault left.ended (cuts chain k lawful));
+        between = ((cuts chain k lawful).leaves.good, (cuts chain k lawful).leaves.some_pair);
         buffered = λ b has. absurd (none_in b has);
-        excused = opening_excused config chain before.ended g before.counts left.counts fault left.ended lawful (cuts chain asked lawful) (λ s same. cause.caused s same) kind;
+        excused = opening_usual config chain before.ended (picks_of before luck) g fault k lawful kind;
       },
     );
   }
 
   -- an opening, and the start of its life
-  pub plays_opening : (config : Config) (before : Remains) (luck : ℕ) (g : Block) (seen : SeenNode) (rs : List Report) (cs : List Call) (after : StateCode H R) (o : Outcome) → IsSetNode config seen → seen.held.counts ≡ before.counts
-      → ((chain : Chain) → IsLawfulLine config chain (stopped before.ended) (open_line (from_genesis g)) → Finds config before.ended (from_genesis g) (node_of seen [] []) × IsGoodUntold config chain (node_of seen [] []))
+  pub plays_opening : (config : Config) (before : Remains) (luck : ℕ) (g : Block) (seen : SeenNode) (rs : List Report) (cs : List Call) (after : StateCode H R) (o : Outcome) → IsSetNode config seen → ArePassed before.watches seen.held.watches
+      → ((chain : Chain) (k : ℕ) → IsLawfulLine config chain k (stopped before.ended) (open_line (from_genesis g)) → Finds config before.ended (picks_of before luck) (from_genesis g) (node_of seen [] []) × IsGoodUntold config chain (node_of seen [] []))
       → TakesEvent seen empty_buffer (life_started None) rs cs after o → PlaysLine config (Stopped before luck) (open_line (from_genesis g)) (output_of rs cs o) after
-  plays_opening config before luck g seen rs cs after o set counts begins takes = record {
+  plays_opening config before luck g seen rs cs after o set passed begins takes = record {
     set = λ is. takes.set config set;
-    luck = takes.luck luck (open_line (from_genesis g));
-    later = subst (λ c. NotFewer c (remains_in after).counts) counts takes.later;
-    plays = λ is chain asked lawful. let begun = begins chain lawful in by after o chain asked lawful begun.0 begun.1 (takes.done config chain [] set (lawful_start config chain before.ended g seen begun.0 lawful begun.1));
+    small = λ line small. takes.small tt;
+    calls = CallsEnd-then before.watches seen.held.watches (remains_in after).watches (fault_in o) passed takes.calls;
+    lucky = λ was has. takes.lucky was (open_line (from_genesis g));
+    plays = λ is was has chain k asked lawful.
+        let begun = begins chain k lawful in
+        let played = by after o chain k asked lawful begun.0 begun.1 (takes.done config chain [] set (lawful_start config chain before.ended (picks_of before luck) g seen begun.0 k lawful begun.1)) in
+        (played.0, subst (λ j. Plays config chain k (account_in j (Stopped before luck)) (stopped before.ended) (open_line (from_genesis g)) (output_of rs cs o) (state_of played.0 after)) has played.1);
   }
     where
-      by : (after : StateCode H R) (o : Outcome) (chain : Chain) (asked : List Asked) → IsLawfulLine config chain (stopped before.ended) (open_line (from_genesis g)) → Finds config before.ended (from_genesis g) (node_of seen [] []) → IsGoodUntold config chain (node_of seen [] []) → AfterEvent config chain seen [] [] (life_started None) rs cs after o
-          → (asked' : List Asked) × Plays config chain (stopped before.ended) (open_line (from_genesis g)) (output_of rs cs o) (state_of asked' after) before.counts (remains_in after).counts
-      by (state.Running new same_buffer) outcome.Done chain asked lawful finds good (steps, kept) = (
-        asked_after [] [] cs,
-        record {
-          done = opening_done config chain before.ended g seen finds rs cs new same_buffer.blocks steps;
-          between = step_between config chain seen [] [] (life_started None) starts rs cs new same_buffer.blocks good (lasting-found config before.ended (from_genesis g) (node_of seen [] []) finds) steps;
-          buffered = λ b has. absurd (none_in b (kept b has));
-          excused = tt;
-        },
-      )
-      by (state.Stopped left luck) (outcome.Fault fault) chain asked lawful finds good (cuts, cause, limit) =
-          let lasting = lasting-found config before.ended (from_genesis g) (node_of seen [] []) finds in (
-            asked,
+      by : (after : StateCode H R) (o : Outcome) (chain : Chain) (k : ℕ) (asked : List Asked) → IsLawfulLine config chain k (stopped before.ended) (open_line (from_genesis g)) → Finds config before.ended (picks_of before luck) (from_genesis g) (node_of seen [] []) → IsGoodUntold config chain (node_of seen [] []) → AfterEvent config chain seen [] [] (life_started None) rs cs after o
+          → (asked' : List Asked) × Plays config chain k (account_in luck (Stopped before luck)) (stopped before.ended) (open_line (from_genesis g)) (output_of rs cs o) (state_of asked' after)
+      by (state.Running new same_buffer) outcome.Done chain k asked lawful finds good (steps, kept, tickets) =
+          let first = undropped-found config before.ended (picks_of before luck) (from_genesis g) (node_of seen [] []) finds in (
+            asked_after [] [] cs,
             record {
-              done = start_cut config chain before.ended g seen finds rs cs fault left.ended good cuts;
-              between = cut_between config chain seen [] [] (life_started None) rs (plain_fault fault) left.ended cuts;
-              buffered = λ b has. absurd (none_in b has);
-              excused = subst (λ c. IsExcused c left.counts (Some (plain_fault fault))) counts (cut_excused config chain seen [] [] (life_started None) starts rs fault (record { fault = plain_fault fault; remains = left }) (lawful_start config chain before.ended g seen finds lawful good) lasting cuts refl cause (limit lasting));
+              done = opening_done config chain before.ended (picks_of before luck) g seen finds rs cs new same_buffer.blocks steps;
+              between = step_between config chain seen [] [] k (life_started None) starts rs cs new same_buffer.blocks first.0 steps
+                  (tickets_after k seen.life.next_ack new.life.next_ack seen.life.sizes.window (omega (arith, first.1)) (subst (λ w. w ≤ max_window) set.window lawful.narrow) tickets);
+              buffered = λ b has. absurd (none_in b (subst (λ xs. Contains xs b) kept has));
+              excused = tt;
             },
           )
-      by (state.Running new same_buffer) (outcome.Remark r) chain asked lawful finds good done = absurd done
-      by (state.Running new same_buffer) (outcome.Fault fault) chain asked lawful finds good done = absurd done
-      by (state.Stopped left luck) outcome.Done chain asked lawful finds good done = absurd done
-      by (state.Stopped left luck) (outcome.Remark r) chain asked lawful finds good done = absurd done
+      by (state.Stopped left now) (outcome.Fault fault) chain k asked lawful finds good (cuts, limit) =
+          let first = undropped-found config before.ended (picks_of before luck) (from_genesis g) (node_of seen [] []) finds in (
+            asked,
+            record {
+              done = start_cut config chain before.ended (picks_of before luck) g seen finds rs cs fault left.ended good cuts;
+              between = cut_between config chain seen [] [] (k + 1) (life_started None) rs (plain_fault fault) left.ended cuts;
+              buffered = λ b has. absurd (none_in b has);
+              excused = cut_usual config chain seen [] [] (life_started None) starts rs fault left.ended (lawful_start config chain before.ended (picks_of before luck) g seen finds k lawful good) first.0 cuts
+                  (λ is. tickets_last k seen.life.next_ack seen.life.sizes.window (omega (arith, first.1)) lawful.few (subst (λ w. w ≤ max_window) set.window lawful.narrow) (limit is));
+            },
+          )
+      by (state.Running new same_buffer) (outcome.Remark r) chain k asked lawful finds good done = absurd done
+      by (state.Running new same_buffer) (outcome.Fault fault) chain k asked lawful finds good done = absurd done
+      by (state.Stopped left now) outcome.Done chain k asked lawful finds good done = absurd done
+      by (state.Stopped left now) (outcome.Remark r) chain k asked lawful finds good done = absurd done
 
 -- the settings are those that the actor was opened with
 pub set_node : (s : Settings) (sizes : Sizes) (length : ℕ) → sizes ≡ record { window = s.window; max_repair = s.max_repair; retention = s.retention; capacity = s.capacity } → length ≡ s.epoch_length → IsSetTo (config_of s) sizes (fixed_epochs length) (λ commitment. commitment)

@@ -1,7 +1,6 @@
 -- What the program's openings make of a line where no life runs.
-use Rattle.std.proofs.Common.{Contains, List, None, Some, [], arith, inl, inr, option_map, refl, subst, sym, ◌++◌, ◌∷◌, ◌≡◌, ◌⊎◌}
+use Rattle.std.proofs.Common.{Contains, List, None, [], ap, arith, inl, inr, option_map, refl, subst, sym, ℕ, ◌++◌, ◌∷◌, ◌≡◌, ◌⊎◌}
 use Rattle.std.proofs.lemmas.List.Elements.{Contains-append_cases, Contains-append_left, Contains-append_right}
-use Rattle.mar_codec.specs.Causes.{Rose}
 use Rattle.mar_codec.specs.declared.Sha256Digest.{Sha256Digest}
 use Rattle.mar_cert.specs.Block.{Block}
 use Rattle.mar_key.specs.Asked.{asked_after}
@@ -12,34 +11,34 @@ use Rattle.mar_store.proofs.Lookups.{AllByRecursion-weaker}
 use Rattle.mar_node.specs.Chain.{Chain, IsBlockAt}
 use Rattle.mar_node.specs.Config.{Config}
 use Rattle.mar_node.specs.Event.{cutoff_after, life_started, no_floor, processed_after}
-use Rattle.mar_node.specs.Faults.{Begin, StoreName, ack_kind, from_genesis, store_fault, ticket_limit}
-use Rattle.mar_node.specs.Held.{Counts, IsUsual, Seen, count_of}
-use Rattle.mar_node.specs.Lives.{Cuts, CutsEvent, CutsReopening, Finds, NotBelow}
+use Rattle.mar_node.specs.Faults.{Begin, from_genesis}
+use Rattle.mar_node.specs.Held.{IsUsual, Seen}
+use Rattle.mar_node.specs.Lives.{Cuts, CutsEvent, CutsReopening, Finds, NotBelow, Picks}
 use Rattle.mar_node.specs.Node.{Ended, Node}
-use Rattle.mar_node.specs.Promise.{IsAlone, IsGoodUntold, IsLawfulOpening, IsLawfulStep, IsOpeningFault, made_of, node_of}
+use Rattle.mar_node.specs.Promise.{IsGoodUntold, IsLawfulOpening, IsLawfulStep, IsOpeningFault, made_of, node_of}
 use Rattle.mar_node.specs.Step.{Report, Steps}
 use Rattle.mar_shelf.specs.declared.fault.Fault.{Fault as FaultCode}
 use Rattle.mar_node.proofs.Cutting.{only_one}
 use Rattle.mar_node.proofs.GoodOpenings.{IsOpeningFault-none}
-use Rattle.mar_node.proofs.OpeningEvent.{IsAlone-lawful}
-use Rattle.mar_script.specs.Plays.{IsExcused, IsLasting, IsLawfulLine}
+use Rattle.mar_script.specs.Plays.{IsLawfulLine}
 use Rattle.mar_script.specs.Run.{OpenDone}
 use Rattle.mar_script.specs.Script.{open_line}
 use Rattle.mar_script.specs.Text.{running, stopped}
 use Rattle.mar_script.specs.Shown.{plain_fault}
 use Rattle.marshal.specs.Turn.{output_of}
 use Rattle.marshal.specs.declared.play.Outcome.TheVariants as outcome
-use Rattle.marshal.proofs.LineTurns.{excused, only_cut}
+use Rattle.marshal.proofs.Lasting.{Undropped}
+use Rattle.marshal.proofs.LineTurns.{only_cut}
 
 -- BEFORE THE START
 
--- the node that an opening finds has handed nothing over
-pub lasting-found : (config : Config) (e : Ended) (begin : Begin) (n : Node) → Finds config e begin n → IsLasting n
-lasting-found config e begin n finds = subst IsLasting (sym finds.node) (record { undropped = tt; tickets = omega arith })
+-- the node that an opening finds has handed nothing over, and given no ticket
+pub undropped-found : (config : Config) (e : Ended) (picks : Picks) (begin : Begin) (n : Node) → Finds config e picks begin n → Undropped n.out × (n.next_ack ≡ 0)
+undropped-found config e picks begin n finds = (subst (λ m. Undropped m.out) (sym finds.node) tt, ap (λ m. m.next_ack) finds.node)
 
 -- what an opening asks is asked of its line
-pub lawful_opening : (config : Config) (chain : Chain) (e : Ended) (g : Block) → IsLawfulLine config chain (stopped e) (open_line (from_genesis g)) → IsLawfulOpening config chain e (from_genesis g)
-lawful_opening config chain e g lawful = record {
+pub lawful_opening : (config : Config) (chain : Chain) (e : Ended) (g : Block) (k : ℕ) → IsLawfulLine config chain k (stopped e) (open_line (from_genesis g)) → IsLawfulOpening config chain e (from_genesis g)
+lawful_opening config chain e g k lawful = record {
   partition = lawful.partition;
   lawful = lawful.lawful;
   one = record { names = λ b has. lawful.one.names b (Contains-append_left chain.blocks [] b has); one = λ a b has other is. lawful.one.one a b (Contains-append_left chain.blocks [] a has) (Contains-append_left chain.blocks [] b other) is };
@@ -51,40 +50,30 @@ lawful_opening config chain e g lawful = record {
     same : (b : Block) → from_genesis g ≡ from_genesis b → g ≡ b
     same b is = cc
 
-module _ (config : Config) (chain : Chain) (e : Ended) (g : Block) where
+module _ (config : Config) (chain : Chain) (e : Ended) (picks : Picks) (g : Block) where
   -- an opening that was cut before its start
-  pub opening_cut : (fault : FaultCode Sha256Digest) (left : Ended) → CutsReopening config chain e (from_genesis g) [] (plain_fault fault) left → OpenDone config chain e (from_genesis g) (output_of [] [] (outcome.Fault fault)) (stopped left)
+  pub opening_cut : (fault : FaultCode Sha256Digest) (left : Ended) → CutsReopening config chain e picks (from_genesis g) [] (plain_fault fault) left → OpenDone config chain e picks (from_genesis g) (output_of [] [] (outcome.Fault fault)) (stopped left)
   opening_cut fault left cuts = (plain_fault fault, refl, refl, inl cuts, refl)
 
   -- it has no fault that values call for
-  pub opening_excused : (before now : Counts) (fault : FaultCode Sha256Digest) (left : Ended) → IsLawfulLine config chain (stopped e) (open_line (from_genesis g)) → CutsReopening config chain e (from_genesis g) [] (plain_fault fault) left → ((s : StoreName) → plain_fault fault ≡ store_fault s → Rose (count_of before s) (count_of now s))
-      → (IsAlone e (from_genesis g) → IsUsual (plain_fault fault) ⊎ IsOpeningFault e (from_genesis g) (plain_fault fault)) → IsExcused before now (Some (plain_fault fault))
-  opening_excused before now fault left lawful cuts caused kind = excused before now fault (λ by_value. none (cuts.cause by_value)) (not_limit (kind (IsAlone-lawful config chain e g asks))) caused
-    where
-      asks : IsLawfulOpening config chain e (from_genesis g)
-      asks = lawful_opening config chain e g lawful
+  pub opening_usual : (fault : FaultCode Sha256Digest) (k : ℕ) → IsLawfulLine config chain k (stopped e) (open_line (from_genesis g)) → IsUsual (plain_fault fault) ⊎ IsOpeningFault e (from_genesis g) (plain_fault fault) → IsUsual (plain_fault fault)
+  opening_usual fault k lawful (inl usual) = usual
+  opening_usual fault k lawful (inr faulty) = absurd (IsOpeningFault-none config chain e (from_genesis g) (plain_fault fault) (lawful_opening config chain e g k lawful) faulty)
 
-      none : IsOpeningFault e (from_genesis g) (plain_fault fault) → ⊥
-      none = IsOpeningFault-none config chain e (from_genesis g) (plain_fault fault) asks
-
-      not_limit : IsUsual (plain_fault fault) ⊎ IsOpeningFault e (from_genesis g) (plain_fault fault) → plain_fault fault ≡ ticket_limit ack_kind → ⊥
-      not_limit (inl usual) is = subst IsUsual is usual
-      not_limit (inr faulty) is = none faulty
-
-  module _ {P E : Type 0} (a : Seen P E) (finds : Finds config e (from_genesis g) (node_of a [] [])) where
+  module _ {P E : Type 0} (a : Seen P E) (finds : Finds config e picks (from_genesis g) (node_of a [] [])) where
     abbrev first : Node
     first = node_of a [] []
 
     -- what is asked of its start
-    pub lawful_start : IsLawfulLine config chain (stopped e) (open_line (from_genesis g)) → IsGoodUntold config chain first → IsLawfulStep config chain first (life_started None)
-    lawful_start lawful good = record { lawful = lawful.lawful; one = lawful.one; reported = tt; good = good; rests = tt }
+    pub lawful_start : (k : ℕ) → IsLawfulLine config chain k (stopped e) (open_line (from_genesis g)) → IsGoodUntold config chain first → IsLawfulStep config chain first (life_started None)
+    lawful_start k lawful good = record { lawful = lawful.lawful; one = lawful.one; reported = tt; good = good; rests = tt }
 
     -- an opening that finished
-    pub opening_done : (rs : List Report) (asks : List Call) (b : Seen P E) (kept : List Block) → Steps config chain first (life_started None ∷ []) (made_of rs asks) (node_of b kept (asked_after [] [] asks)) → OpenDone config chain e (from_genesis g) (output_of rs asks outcome.Done) (running (node_of b kept (asked_after [] [] asks)))
+    pub opening_done : (rs : List Report) (asks : List Call) (b : Seen P E) (kept : List Block) → Steps config chain first (life_started None ∷ []) (made_of rs asks) (node_of b kept (asked_after [] [] asks)) → OpenDone config chain e picks (from_genesis g) (output_of rs asks outcome.Done) (running (node_of b kept (asked_after [] [] asks)))
     opening_done rs asks b kept steps = (made_of rs asks, record { first = first; finds = finds; start = steps }, refl, refl)
 
     -- an opening that was cut in its start
-    pub start_cut : (rs : List Report) (asks : List Call) (fault : FaultCode Sha256Digest) (left : Ended) → IsGoodUntold config chain first → Cuts config chain first (life_started None ∷ []) rs (plain_fault fault) left → OpenDone config chain e (from_genesis g) (output_of rs asks (outcome.Fault fault)) (stopped left)
+    pub start_cut : (rs : List Report) (asks : List Call) (fault : FaultCode Sha256Digest) (left : Ended) → IsGoodUntold config chain first → Cuts config chain first (life_started None ∷ []) rs (plain_fault fault) left → OpenDone config chain e picks (from_genesis g) (output_of rs asks (outcome.Fault fault)) (stopped left)
     start_cut rs asks fault left good cuts = (plain_fault fault, refl, refl, inr (record { first = first; finds = finds; cut = from_left (only_cut config chain first (life_started None) rs (plain_fault fault) left cuts) }), refl)
       where
         -- the pair of the opened node is the one that its start stands on
@@ -113,6 +102,8 @@ module _ (config : Config) (chain : Chain) (e : Ended) (g : Block) where
             pairs = AllByRecursion-weaker _ _ pair_before left.meta cut.leaves.pairs;
             good = cut.leaves.good;
           };
+          may = cut.may;
+          first_pair = cut.first_pair;
           no_lower = AllByRecursion-weaker _ (λ p. NotBelow None p.processed) (λ p any. omega arith) left.meta cut.no_lower;
           cause = cut.cause;
           refused = cut.refused;

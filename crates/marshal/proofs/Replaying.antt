@@ -1,46 +1,30 @@
 -- The lines that were done so far as a run of lives, and what a replay is where it stops.
-use Rattle.std.proofs.Common.{Contains, List, None, Option, Some, [], ap, append_assoc, arith, inl, inr, length, map, min, refl, subst, sym, ℕ, ◌++◌, ◌-◌, ◌<◌, ◌^◌, ◌∙◌, ◌∷◌, ◌≡◌, ◌≤◌, ◌⊎◌}
+use Rattle.std.proofs.Common.{Contains, List, None, Option, Some, [], ap, append_assoc, arith, inl, inr, length, length-append, map, refl, subst, sym, ℕ, ◌++◌, ◌+◌, ◌<◌, ◌∙◌, ◌∷◌, ◌≡◌, ◌≤◌, ◌⊎◌}
 use Rattle.std.specs.List.{AllByRecursion, flat_map}
 use Rattle.std.specs.Prelude.{Any, ⊤}
 use Rattle.std.proofs.lemmas.Grind.{flat_map-append}
 use Rattle.std.proofs.lemmas.List.{append-nil, map-append}
 use Rattle.std.proofs.lemmas.List.Elements.{Contains-append_cases, Contains-append_left, Contains-append_right}
-use Rattle.mar_codec.specs.Causes.{Rose}
 use Rattle.mar_cert.specs.Block.{Block}
 use Rattle.mar_node.specs.Messages.{report_finalization, set_floor}
 use Rattle.mar_key.specs.Asked.{Asked}
-use Rattle.mar_store.proofs.Lookups.{AllByRecursion-from_contains, AllByRecursion-push, AllByRecursion-weaker}
+use Rattle.mar_store.proofs.Lookups.{AllByRecursion-from_contains, AllByRecursion-push}
 use Rattle.mar_node.specs.Chain.{Chain}
 use Rattle.mar_node.specs.Config.{Config}
-use Rattle.mar_node.specs.Faults.{Fault, from_floor, from_genesis, want_of_memory}
-use Rattle.mar_node.specs.Held.{Counts, NotFewer, count_of}
+use Rattle.mar_node.specs.Faults.{from_floor, from_genesis, want_of_memory}
+use Rattle.mar_node.specs.Held.{Remains, Watches}
 use Rattle.mar_node.specs.Lives.{IsGoodEnded}
 use Rattle.mar_node.specs.Node.{Agrees, Ended, IsFinalized, left_by}
 use Rattle.mar_node.specs.Cached.{cached_block, cached_finalization}
 use Rattle.mar_node.proofs.Openings.{all_found_within}
 use Rattle.mar_node.proofs.Soundness.{IsFrom, IsGoodEnded-from_sound, IsSound-from_good}
-use Rattle.mar_script.specs.Plays.{IsBetween, IsExcused, IsLawfulLine, Plays, buffer_in}
-use Rattle.mar_script.specs.Reading.{IsQuiet}
-use Rattle.mar_script.specs.Run.{Appears, EndsWith, HandsBack, IsFaultFree, IsFront, IsOutput, LineDone, MemoryEnds, Premises, Replays, Run, Status, line_blocks, messages_of, out_of_memory, outside_grammar, read_failed, read_to_end, write_failed}
+use Rattle.mar_script.specs.Accounts.{Account, AccountsFor, first_account}
+use Rattle.mar_script.specs.Plays.{IsBetween, IsLawfulLine, Plays, buffer_in, max_window}
+use Rattle.mar_script.specs.Refused.{max_lines}
+use Rattle.mar_script.specs.Run.{Appears, AreSmooth, EndsWith, HandsBack, IsExcused, IsFaultFree, IsFront, IsOutput, IsQuiet, LineDone, MemoryEnds, Premises, Replays, Run, Status, account_after, line_blocks, messages_of, out_of_memory, outside_grammar, read_failed, read_to_end, write_failed}
 use Rattle.mar_script.specs.Script.{Line, open_line}
+use Rattle.mar_script.proofs.Accounts.{account-push, quiet_run, run_push}
 use Rattle.mar_script.specs.Text.{Done, Output, State, output_text, running, silent_output, stopped, text}
-
--- COUNTS
-
-rose_sooner : (a b c d : ℕ) → min a (2 ^ 64 - 1) ≤ b → min c (2 ^ 64 - 1) ≤ d → Rose b c → Rose a d
-rose_sooner a b c d low high rose = omega (arith, low, high, rose)
-
-min_le : (a : ℕ) → min a (2 ^ 64 - 1) ≤ a
-min_le a = omega arith
-
-pub quiet_before : (first before now : Counts) → NotFewer before now → IsQuiet first now → IsQuiet first before
-quiet_before first before now later quiet s rose = quiet s (rose_sooner (count_of first s) (count_of first s) (count_of before s) (count_of now s) (min_le (count_of first s)) (later s) rose)
-
--- where no count rose since the first there is no fault but want of memory
-pub quiet_fault : (first before now : Counts) (fault : Option Fault) → NotFewer first before → IsQuiet first now → IsExcused before now fault → (fault ≡ None) ⊎ (fault ≡ Some want_of_memory)
-quiet_fault first before now None later quiet excused = inl refl
-quiet_fault first before now (Some f) later quiet (inl memory) = inr (ap (λ x. Some x) memory)
-quiet_fault first before now (Some f) later quiet (inr (s, is, rose)) = absurd (quiet s (rose_sooner (count_of first s) (count_of before s) (count_of now s) (count_of now s) (later s) (min_le (count_of now s)) rose))
 
 -- LAWFUL FRONTS
 
@@ -78,44 +62,42 @@ premises_before config chain lines l before p = record {
 
 -- SO FAR
 
--- Lines that were done: a run of lives up to a state between lines, and its text.
-pub record RunSoFar (config : Config) (chain : Chain) (before : Ended) (lines : List Line) (first counts : Counts) (now : List Asked → State) (bytes : List ℕ) : Type 0 where
+-- Lines that were done: a run of lives up to a state between lines, its text, and what the stores tell behind it.
+pub record RunSoFar (config : Config) (chain : Chain) (before : Remains) (lines : List Line) (account : Account) (now : List Asked → State) (bytes : List ℕ) : Type 0 where
   pub run : List Done
   pub lines_done : map (λ d. d.line) run ≡ lines
   pub asked : List Asked
-  pub lives : Run config chain (stopped before) run (now asked)
-  pub wrote : bytes ≡ text before run
-  pub between : IsBetween config chain (now asked)
+  pub lives : Run config chain (first_account before.watches) (stopped before.ended) run (now asked)
+  pub account_is : account_after (first_account before.watches) run ≡ account
+  pub wrote : bytes ≡ text before.ended run
+  pub between : IsBetween config chain (length lines) (now asked)
   pub buffered : (b : Block) → Contains (buffer_in (now asked)) b → Contains (flat_map line_blocks lines) b
   pub no_memory : AllByRecursion (λ d. d.output.fault ≡ Some want_of_memory → ⊥) run
-  pub quiet : IsQuiet first counts → AllByRecursion (λ d. d.output.fault ≡ None) run
+  pub excused : AllByRecursion IsExcused run
 
-pub first_run : (config : Config) (chain : Chain) (before : Ended) (counts : Counts) (now : List Asked → State) → Premises config chain [] before → ((asked : List Asked) → now asked ≡ stopped before) → RunSoFar config chain before [] counts counts now (text before [])
-first_run config chain before counts now p is = record {
+pub first_run : (config : Config) (chain : Chain) (before : Remains) (now : List Asked → State) → Premises config chain [] before.ended → ((asked : List Asked) → now asked ≡ stopped before.ended) → RunSoFar config chain before [] (first_account before.watches) now (text before.ended [])
+first_run config chain before now p is = record {
   run = [];
   lines_done = refl;
   asked = [];
   lives = is [];
+  account_is = refl;
   wrote = refl;
-  between = subst (λ s. IsBetween config chain s) (sym (is [])) (p.good, p.some_pair);
+  between = subst (λ s. IsBetween config chain 0 s) (sym (is [])) (p.good, p.some_pair);
   buffered = λ b has. absurd (none b (subst (λ s. Contains (buffer_in s) b) (is []) has));
   no_memory = tt;
-  quiet = λ q. tt;
+  excused = tt;
 }
   where
     none : (b : Block) → Contains [] b → ⊥
     none b has = let lt : has.0 < 0 = has.1 in omega arith
-
-run_push : (config : Config) (chain : Chain) (s : State) (run : List Done) (d : Done) (last : State) → Run config chain s run last → LineDone config chain last d.line d.output d.after → Run config chain s (run ++ d ∷ []) d.after
-run_push config chain s [] d last lives done = (subst (λ x. LineDone config chain x d.line d.output d.after) lives done, refl)
-run_push config chain s (e ∷ run) d last lives done = (lives.0, run_push config chain e.after run d last lives.1 done)
 
 text_push : (before : Ended) (run : List Done) (d : Done) → text before (run ++ d ∷ []) ≡ text before run ++ output_text d.output d.after
 text_push before run d =
     ap (λ l. output_text silent_output (stopped before) ++ l) (flat_map-append (λ x. output_text x.output x.after) run (d ∷ []) ∙ ap (λ l. flat_map (λ x. output_text x.output x.after) run ++ l) (append-nil (output_text d.output d.after)))
     ∙ sym (append_assoc (output_text silent_output (stopped before)) (flat_map (λ x. output_text x.output x.after) run) (output_text d.output d.after))
 
-module _ (config : Config) (chain : Chain) (before : Ended) (lines : List Line) (l : Line) (first counts : Counts) (now : List Asked → State) (bytes : List ℕ) (p : Premises config chain (lines ++ l ∷ []) before) (so : RunSoFar config chain before lines first counts now bytes) where
+module _ (config : Config) (chain : Chain) (before : Remains) (lines : List Line) (l : Line) (account : Account) (now : List Asked → State) (bytes : List ℕ) (p : Premises config chain (lines ++ l ∷ []) before.ended) (so : RunSoFar config chain before lines account now bytes) where
   appears : (b : Block) → Contains (chain.blocks ++ buffer_in (now so.asked)) b → Appears chain (lines ++ l ∷ []) b
   appears b has = by (Contains-append_cases chain.blocks (buffer_in (now so.asked)) b has)
     where
@@ -124,48 +106,53 @@ module _ (config : Config) (chain : Chain) (before : Ended) (lines : List Line) 
       by (inr of_buffer) = inr (inl (more_lines line_blocks lines l b (so.buffered b of_buffer)))
 
   -- the next line is lawful in the state that the others left
-  pub lawful_next : IsLawfulLine config chain (now so.asked) l
-  lawful_next = record {
+  pub lawful_next : length lines ≤ max_lines → config.window ≤ max_window → IsLawfulLine config chain (length lines) (now so.asked) l
+  lawful_next few narrow = record {
     partition = p.partition;
     lawful = p.lawful;
     between = so.between;
+    few = few;
+    narrow = narrow;
     one = record { names = λ b has. p.script.inner b (appears b has); one = λ a b has other same. p.script.one_block a b (appears a has) (appears b other) same };
     genesis = λ b is. p.script.genesis b (subst (λ x. Contains (lines ++ x ∷ []) (open_line (from_genesis b))) (sym is) (Contains-append_right lines (open_line (from_genesis b) ∷ []) (open_line (from_genesis b)) (0, omega arith, refl)));
     reported = λ f is. p.script.reported f (last_line messages_of lines l (report_finalization f) (subst (λ x. Contains (messages_of x) (report_finalization f)) (sym is) (0, omega arith, refl)));
   }
 
-  module _ (counts' : Counts) (out : Output) (after : List Asked → State) (asked' : List Asked) (plays : Plays config chain (now so.asked) l out (after asked') counts counts') (not_fewer : NotFewer first counts) (later : NotFewer counts counts') where
+  module _ (out : Output) (after : List Asked → State) (account' : Account) (asked' : List Asked) (plays : Plays config chain (length lines) account (now so.asked) l out (after asked')) (counted : AccountsFor account l out.fault account') where
     abbrev done : Done
-    done = record { line = l; output = out; after = after asked' }
+    done = record { line = l; output = out; after = after asked'; account = account' }
 
-    lives_now : Run config chain (stopped before) (so.run ++ done ∷ []) (after asked')
-    lives_now = run_push config chain (stopped before) so.run done (now so.asked) so.lives plays.done
+    lives_now : Run config chain (first_account before.watches) (stopped before.ended) (so.run ++ done ∷ []) (after asked')
+    lives_now =
+        run_push config chain (first_account before.watches) (stopped before.ended) so.run done (now so.asked) so.lives (subst (λ a. LineDone config chain a (now so.asked) l out (after asked')) (sym so.account_is) plays.done) (subst (λ a. AccountsFor a l out.fault account') (sym so.account_is) counted)
+
+    account_now : account_after (first_account before.watches) (so.run ++ done ∷ []) ≡ account'
+    account_now = account-push (first_account before.watches) so.run done
 
     lines_now : map (λ d. d.line) (so.run ++ done ∷ []) ≡ lines ++ l ∷ []
     lines_now = map-append (λ d. d.line) so.run (done ∷ []) ∙ ap (λ ls. ls ++ l ∷ []) so.lines_done
 
+    excused_now : AllByRecursion IsExcused (so.run ++ done ∷ [])
+    excused_now = AllByRecursion-push IsExcused so.run done so.excused plays.excused
+
     -- one more line was done, and memory did not run out
-    pub more_run : (out.fault ≡ Some want_of_memory → ⊥) → RunSoFar config chain before (lines ++ l ∷ []) first counts' after (bytes ++ output_text out (after asked'))
+    pub more_run : (out.fault ≡ Some want_of_memory → ⊥) → RunSoFar config chain before (lines ++ l ∷ []) account' after (bytes ++ output_text out (after asked'))
     more_run remembered = record {
       run = so.run ++ done ∷ [];
       lines_done = lines_now;
       asked = asked';
       lives = lives_now;
-      wrote = ap (λ bs. bs ++ output_text out (after asked')) so.wrote ∙ sym (text_push before so.run done);
-      between = plays.between;
+      account_is = account_now;
+      wrote = ap (λ bs. bs ++ output_text out (after asked')) so.wrote ∙ sym (text_push before.ended so.run done);
+      between = subst (λ k. IsBetween config chain k (after asked')) (sym (length-append lines (l ∷ []))) plays.between;
       buffered = λ b has. by b (Contains-append_cases (buffer_in (now so.asked)) (line_blocks l) b (plays.buffered b has));
       no_memory = AllByRecursion-push (λ d. d.output.fault ≡ Some want_of_memory → ⊥) so.run done so.no_memory remembered;
-      quiet = λ q.
-          AllByRecursion-push (λ d. d.output.fault ≡ None) so.run done (so.quiet (quiet_before first counts counts' later q)) (no_fault (quiet_fault first counts counts' out.fault not_fewer q plays.excused));
+      excused = excused_now;
     }
       where
         by : (b : Block) → Contains (buffer_in (now so.asked)) b ⊎ Contains (line_blocks l) b → Contains (flat_map line_blocks (lines ++ l ∷ [])) b
         by b (inl old) = more_lines line_blocks lines l b (so.buffered b old)
         by b (inr new) = last_line line_blocks lines l b new
-
-        no_fault : (out.fault ≡ None) ⊎ (out.fault ≡ Some want_of_memory) → out.fault ≡ None
-        no_fault (inl none) = none
-        no_fault (inr memory) = absurd (remembered memory)
 
 -- WHERE IT STOPS
 
@@ -174,9 +161,9 @@ abbrev pub left_in : State → Ended
 left_in (running n) = left_by n
 left_in (stopped e) = e
 
-pub between_left : (config : Config) (chain : Chain) (s : State) → IsBetween config chain s → IsGoodEnded chain (left_in s) × (0 < length (left_in s).meta)
-between_left config chain (stopped e) between = between
-between_left config chain (running n) (good, rests, lasting) = (
+pub between_left : (config : Config) (chain : Chain) (k : ℕ) (s : State) → IsBetween config chain k s → IsGoodEnded chain (left_in s) × (0 < length (left_in s).meta)
+between_left config chain k (stopped e) between = between
+between_left config chain k (running n) (good, rests, lasting) = (
   IsGoodEnded-from_sound chain n 0 (left_by n) (IsSound-from_good config chain n good) good.of_chain.may_blocks good.of_chain.may_certs
       (all_found_within cached_finalization (λ f. IsFinalized chain f.round f.payload) n.cache.may (n.cache.held ++ n.cache.may) (λ x has. Contains-append_right n.cache.held n.cache.may x has) good.of_chain.cached)
       (all_found_within cached_block (Agrees chain) n.cache.may (n.cache.held ++ n.cache.may) (λ x has. Contains-append_right n.cache.held n.cache.may x has) good.of_chain.cached_blocks)
@@ -210,19 +197,26 @@ whole_output read_failed bytes whole between is = is
 whole_output write_failed bytes whole between is = absurd between
 whole_output out_of_memory bytes whole between is = ([], sym is ∙ sym (append-nil bytes))
 
-pub stops_between : (status : Status) (config : Config) (chain : Chain) (before : Ended) (lines : List Line) (first counts : Counts) (now : List Asked → State) (bytes : List ℕ) (after : Ended) → StopsBetween status → RunSoFar config chain before lines first counts now bytes → ((asked : List Asked) → left_in (now asked) ≡ after) → ((asked : List Asked) → HandsBack (now asked) after)
-    → Replays (IsQuiet first counts) config chain lines bytes status before after
-stops_between status config chain before lines first counts now bytes after between so left hands = record {
+-- a run that no store's failure was counted in has no store's fault
+complete_of : (config : Config) (chain : Chain) (before : Remains) (watches : Watches) (run : List Done) (last : State) → Run config chain (first_account before.watches) (stopped before.ended) run last → AllByRecursion IsExcused run → (account_after (first_account before.watches) run).watches ≡ watches
+    → IsQuiet before.watches watches → AreSmooth config (first_account before.watches) (stopped before.ended) run → AllByRecursion IsFaultFree run
+complete_of config chain before watches run last lives excused is quiet smooth = quiet_run config chain (first_account before.watches) (stopped before.ended) run last lives excused (subst (IsQuiet before.watches) (sym is) quiet) smooth
+
+pub stops_between : (status : Status) (config : Config) (chain : Chain) (before : Remains) (lines : List Line) (account : Account) (now : List Asked → State) (bytes : List ℕ) (after : Remains) → StopsBetween status → RunSoFar config chain before lines account now bytes → account.watches ≡ after.watches → ((asked : List Asked) → left_in (now asked) ≡ after.ended) → ((asked : List Asked) → HandsBack (now asked) after.ended)
+    → Replays config chain lines bytes status before after
+stops_between status config chain before lines account now bytes after between so watches left hands = record {
   run = so.run;
   lines_done = so.lines_done;
   last = now so.asked;
   lives = so.lives;
-  output = whole_output status bytes (text before so.run) between so.wrote;
+  output = whole_output status bytes (text before.ended so.run) between so.wrote;
   hands_back = hands so.asked;
-  good = subst (IsGoodEnded chain) (left so.asked) (between_left config chain (now so.asked) so.between).0;
-  some_pair = subst (λ e. 0 < length e.meta) (left so.asked) (between_left config chain (now so.asked) so.between).1;
+  watches_are = ap (λ a. a.watches) so.account_is ∙ watches;
+  good = subst (IsGoodEnded chain) (left so.asked) (between_left config chain (length lines) (now so.asked) so.between).0;
+  some_pair = subst (λ e. 0 < length e.meta) (left so.asked) (between_left config chain (length lines) (now so.asked) so.between).1;
   memory = memory_never status so.run so.no_memory;
-  complete = λ q smooth. AllByRecursion-weaker (λ d. d.output.fault ≡ None) IsFaultFree (λ d none. inl none) so.run (so.quiet q);
+  excused = so.excused;
+  complete = complete_of config chain before after.watches so.run (now so.asked) so.lives so.excused (ap (λ a. a.watches) so.account_is ∙ watches);
 }
 
 -- or in the text of a line
@@ -238,26 +232,30 @@ front_output read_failed bytes whole inside is = absurd inside
 front_output write_failed bytes whole inside is = is
 front_output out_of_memory bytes whole inside is = is
 
-module _ (config : Config) (chain : Chain) (before : Ended) (lines : List Line) (l : Line) (first counts : Counts) (now : List Asked → State) (bytes : List ℕ) (p : Premises config chain (lines ++ l ∷ []) before) (so : RunSoFar config chain before lines first counts now bytes) where
-  module _ (counts' : Counts) (out : Output) (after : List Asked → State) (asked' : List Asked) (plays : Plays config chain (now so.asked) l out (after asked') counts counts') (not_fewer : NotFewer first counts) (later : NotFewer counts counts') where
+module _ (config : Config) (chain : Chain) (before : Remains) (lines : List Line) (l : Line) (account : Account) (now : List Asked → State) (bytes : List ℕ) (p : Premises config chain (lines ++ l ∷ []) before.ended) (so : RunSoFar config chain before lines account now bytes) where
+  module _ (out : Output) (after : List Asked → State) (account' : Account) (asked' : List Asked) (plays : Plays config chain (length lines) account (now so.asked) l out (after asked')) (counted : AccountsFor account l out.fault account') where
     -- a line was done, and a front of its text was written
-    pub stops_in_text : (status : Status) (front : List ℕ) (left : Ended) → StopsInText status → IsFront front (output_text out (after asked')) → (out.fault ≡ Some want_of_memory → status ≡ out_of_memory) → left_in (after asked') ≡ left → HandsBack (after asked') left
-        → Replays (IsQuiet first counts') config chain (lines ++ l ∷ []) (bytes ++ front) status before left
-    stops_in_text status front left inside is memory left_is hands =
-        let d : Done = record { line = l; output = out; after = after asked' } in
+    pub stops_in_text : (status : Status) (front : List ℕ) (left : Remains) → StopsInText status → IsFront front (output_text out (after asked')) → (out.fault ≡ Some want_of_memory → status ≡ out_of_memory) → account'.watches ≡ left.watches → left_in (after asked') ≡ left.ended → HandsBack (after asked') left.ended
+        → Replays config chain (lines ++ l ∷ []) (bytes ++ front) status before left
+    stops_in_text status front left inside is memory watches left_is hands =
+        let d : Done = record { line = l; output = out; after = after asked'; account = account' } in
+        let lives = lives_now config chain before lines l account now bytes p so out after account' asked' plays counted in
+        let excused = excused_now config chain before lines l account now bytes p so out after account' asked' plays counted in
+        let same = ap (λ a. a.watches) (account_now config chain before lines l account now bytes p so out after account' asked' plays counted) ∙ watches in
         record {
           run = so.run ++ d ∷ [];
-          lines_done = lines_now config chain before lines l first counts now bytes p so counts' out after asked' plays not_fewer later;
+          lines_done = lines_now config chain before lines l account now bytes p so out after account' asked' plays counted;
           last = after asked';
-          lives = lives_now config chain before lines l first counts now bytes p so counts' out after asked' plays not_fewer later;
-          output = front_output status (bytes ++ front) (text before (so.run ++ d ∷ [])) inside (
+          lives = lives;
+          output = front_output status (bytes ++ front) (text before.ended (so.run ++ d ∷ [])) inside (
             is.0,
-            text_push before so.run d ∙ ap (λ bs. bs ++ output_text out (after asked')) (sym so.wrote) ∙ ap (λ bs. bytes ++ bs) is.1 ∙ sym (append_assoc bytes front is.0),
+            text_push before.ended so.run d ∙ ap (λ bs. bs ++ output_text out (after asked')) (sym so.wrote) ∙ ap (λ bs. bytes ++ bs) is.1 ∙ sym (append_assoc bytes front is.0),
           );
           hands_back = hands;
-          good = subst (IsGoodEnded chain) left_is (between_left config chain (after asked') plays.between).0;
-          some_pair = subst (λ e. 0 < length e.meta) left_is (between_left config chain (after asked') plays.between).1;
+          watches_are = same;
+          good = subst (IsGoodEnded chain) left_is (between_left config chain (length lines + 1) (after asked') plays.between).0;
+          some_pair = subst (λ e. 0 < length e.meta) left_is (between_left config chain (length lines + 1) (after asked') plays.between).1;
           memory = memory_last status so.run d so.no_memory memory;
-          complete = λ q smooth.
-              AllByRecursion-push IsFaultFree so.run d (AllByRecursion-weaker (λ x. x.output.fault ≡ None) IsFaultFree (λ x none. inl none) so.run (so.quiet (quiet_before first counts counts' later q))) (quiet_fault first counts counts' out.fault not_fewer q plays.excused);
+          excused = excused;
+          complete = complete_of config chain before left.watches (so.run ++ d ∷ []) (after asked') lives excused same;
         }

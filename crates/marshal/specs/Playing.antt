@@ -1,5 +1,5 @@
 -- What one line of a script makes of the program's state.
-use Rattle.std.specs.Prelude.{Contains, Err, IsErrOf, List, MatchResult, None, Ok, Option, Result, Some, [], true, ℕ, ⊤, ◌∷◌, ◌≡◌, ◌⊎◌}
+use Rattle.std.specs.Prelude.{IsErrOf, List, MatchResult, Ok, Err, Option, Result, Some, [], ℕ, ⊤, ◌+◌, ◌-◌, ◌∷◌, ◌≡◌, ◌≤◌, ◌⊎◌, ◌^◌, true}
 use Rattle.mar_types.specs.Epochs.{fixed_epochs}
 use Rattle.mar_types.specs.declared.FixedEpocher.{FixedEpocher}
 use Rattle.mar_cert.specs.Block.{Block}
@@ -10,12 +10,15 @@ use Rattle.mar_key.specs.Keys.{Call}
 use Rattle.mar_node.specs.Chain.{Chain}
 use Rattle.mar_node.specs.Config.{Config}
 use Rattle.mar_node.specs.Event.{Event}
-use Rattle.mar_node.specs.Faults.{Fault, ack_kind, ticket_limit, want_of_memory}
-use Rattle.mar_node.specs.Held.{IsEndedBy, NotFewer, Seen}
+use Rattle.mar_node.specs.Faults.{ack_kind, ticket_limit, want_of_memory}
+use Rattle.mar_node.specs.Held.{Seen}
 use Rattle.mar_node.specs.Lives.{Cuts}
 use Rattle.mar_node.specs.Promise.{IsLawfulStep, IsSetTo, made_of, node_of}
 use Rattle.mar_node.specs.Step.{Report, Steps}
-use Rattle.mar_script.specs.Script.{Line, crash_line}
+use Rattle.mar_node.specs.Stored.{AreSmall}
+use Rattle.mar_script.specs.Accounts.{Account, Calls, CallsEnd, luck_after}
+use Rattle.mar_script.specs.Plays.{IsLawfulLine, IsSmallLine, Plays}
+use Rattle.mar_script.specs.Script.{Line}
 use Rattle.mar_script.specs.Streams.{Takes, TakesFront}
 use Rattle.mar_script.specs.Text.{Output, output_text}
 use Rattle.mar_script.specs.Shown.{plain_fault}
@@ -26,7 +29,6 @@ use Rattle.marshal.specs.declared.play.State.{State as StateCode}
 use Rattle.marshal.specs.declared.play.State.TheVariants as state
 use Rattle.mar_script.specs.declared.Status.{Status as StatusCode}
 use Rattle.mar_script.specs.declared.Status.TheVariants as status
-use Rattle.mar_script.specs.Plays.{IsLawfulLine, IsLasting, Plays}
 
 -- what a script's node is seen as
 abbrev pub SeenNode : Type 0
@@ -40,29 +42,28 @@ abbrev pub IsSetAs : {H R : Type 0} → Config → StateCode H R → Type 0
 IsSetAs config (state.Running seen buffer) = IsSetNode config seen
 IsSetAs config (state.Stopped left luck) = ⊤
 
--- the luck of the next opening, 0 while a life runs
-abbrev pub luck_in : {H R : Type 0} → StateCode H R → ℕ
-luck_in (state.Running seen buffer) = 0
-luck_in (state.Stopped left luck) = luck
+-- each block of the buffer is small enough for a store
+abbrev pub HasSmallBlocks : {H R : Type 0} → StateCode H R → Type 0
+HasSmallBlocks (state.Running seen buffer) = AreSmall buffer.blocks
+HasSmallBlocks (state.Stopped left luck) = ⊤
 
 -- where no life runs, the next opening has this luck
 abbrev pub HasLuck : {H R : Type 0} → ℕ → StateCode H R → Type 0
 HasLuck luck (state.Running seen buffer) = ⊤
 HasLuck luck (state.Stopped left now) = now ≡ luck
 
--- a crash leaves its own luck, a fault leaves 0, another line what there was
-abbrev pub luck_after : ℕ → Line → Option Fault → ℕ
-luck_after luck line (Some fault) = 0
-luck_after luck (crash_line own) None = own
-luck_after luck line None = luck
+-- what the stores tell beside the state
+abbrev pub account_in : {H R : Type 0} → ℕ → StateCode H R → Account
+account_in luck code = record { watches = (remains_in code).watches; luck = luck }
 
--- A line of the program that was done, for each chain for which it is lawful.
+-- A line of the program that was done, for each chain for which it is lawful, behind any number of lines.
 pub record PlaysLine {H R : Type 0} (config : Config) (before : StateCode H R) (line : Line) (out : Output) (after : StateCode H R) : Type 0 where
   pub set : IsSetAs config before → IsSetAs config after
-  pub later : NotFewer (remains_in before).counts (remains_in after).counts
-  pub luck : HasLuck (luck_after (luck_in before) line out.fault) after
-  pub plays : IsSetAs config before → (chain : Chain) (asked : List Asked) → IsLawfulLine config chain (state_of asked before) line
-      → (asked' : List Asked) × Plays config chain (state_of asked before) line out (state_of asked' after) (remains_in before).counts (remains_in after).counts
+  pub small : IsSmallLine line → HasSmallBlocks before → HasSmallBlocks after
+  pub calls : Calls (remains_in before).watches line out.fault (remains_in after).watches
+  pub lucky : (luck : ℕ) → HasLuck luck before → HasLuck (luck_after luck line out.fault) after
+  pub plays : IsSetAs config before → (luck : ℕ) → HasLuck luck before → (chain : Chain) (k : ℕ) (asked : List Asked) → IsLawfulLine config chain k (state_of asked before) line
+      → (asked' : List Asked) × Plays config chain k (account_in luck before) (state_of asked before) line out (state_of asked' after)
 
 -- it was done, or memory ran out before it did anything
 abbrev pub PlaysOrNot : {H R E : Type 0} → Config → StateCode H R → Line → List Report → List Call → StateCode H R → Result Outcome E → Type 0
@@ -89,17 +90,22 @@ TurnsLine config before line sunk after sunk' written = (IsErrOf written status.
 abbrev pub empty_buffer : Held
 empty_buffer = record { blocks = []; is_open = true; sent = [] }
 
--- A step that finished, with the buffer as it was, or a cut, whose fault is told by a count or by no more tickets.
+-- no more tickets are left than a window needs
+abbrev pub IsNearLast : SeenNode → Type 0
+IsNearLast seen = 2 ^ 64 - 1 ≤ seen.life.next_ack + seen.life.sizes.window
+
+-- A step that finished and gave a window of tickets at most, with the buffer as it was; or a cut.
 abbrev pub AfterEvent : {H R : Type 0} → Config → Chain → SeenNode → List Block → List Asked → Event → List Report → List Call → StateCode H R → Outcome → Type 0
 AfterEvent config chain seen buffer asked e reports asks (state.Running new same) outcome.Done =
-    Steps config chain (node_of seen buffer asked) (e ∷ []) (made_of reports asks) (node_of new same.blocks (asked_after asked [] asks)) × ((b : Block) → Contains same.blocks b → Contains buffer b)
+    Steps config chain (node_of seen buffer asked) (e ∷ []) (made_of reports asks) (node_of new same.blocks (asked_after asked [] asks)) × (same.blocks ≡ buffer) × (new.life.next_ack ≤ seen.life.next_ack + seen.life.sizes.window)
 AfterEvent config chain seen buffer asked e reports asks (state.Stopped left luck) (outcome.Fault fault) =
-    Cuts config chain (node_of seen buffer asked) (e ∷ []) reports (plain_fault fault) left.ended × IsEndedBy seen.held.counts (record { fault = plain_fault fault; remains = left }) × (IsLasting (node_of seen buffer asked) → plain_fault fault ≡ ticket_limit ack_kind → ⊥)
+    Cuts config chain (node_of seen buffer asked) (e ∷ []) reports (plain_fault fault) left.ended × (plain_fault fault ≡ ticket_limit ack_kind → IsNearLast seen)
 AfterEvent config chain seen buffer asked e reports asks after outcome = ⊥
 
 -- What one event makes of a life.
 pub record TakesEvent {H R : Type 0} (seen : SeenNode) (buffer : Held) (e : Event) (reports : List Report) (asks : List Call) (after : StateCode H R) (outcome : Outcome) : Type 0 where
   pub set : (config : Config) → IsSetNode config seen → IsSetAs config after
-  pub later : NotFewer seen.held.counts (remains_in after).counts
-  pub luck : (before : ℕ) (line : Line) → HasLuck (luck_after before line (fault_in outcome)) after
+  pub small : AreSmall buffer.blocks → HasSmallBlocks after
+  pub calls : CallsEnd seen.held.watches (fault_in outcome) (remains_in after).watches
+  pub lucky : (luck : ℕ) (line : Line) → HasLuck (luck_after luck line (fault_in outcome)) after
   pub done : (config : Config) (chain : Chain) (asked : List Asked) → IsSetNode config seen → IsLawfulStep config chain (node_of seen buffer.blocks asked) e → AfterEvent config chain seen buffer.blocks asked e reports asks after outcome

@@ -52,6 +52,7 @@ pub fn show<K: Sink>(sink: &mut K, text: &str) -> Status
     ensures written { result ≡ Status.Ok → Takes (K.written sink.old) text.now (K.written sink.new) }
     ensures front { TakesFront (K.written sink.old) text.now (K.written sink.new) }
     ensures fault { result ≡ Status.WriteFault → Rose (K.faults sink.old) (K.faults sink.new) }
+    ensures calm { (result ≡ Status.WriteFault → ⊥) → K.faults sink.new ≡ K.faults sink.old }
 {
     match write_all(sink, text.as_bytes()) {
         Ok(()) => Status::Ok,

@@ -3,7 +3,7 @@
 
 ghost use Rattle.std.specs.IoError.{error_kind};
 ghost use Rattle.std.specs.Prelude.{◌≡◌, ◌↔◌, map, string_bytes};
-ghost use Rattle.mar_script.specs.Run.{empty_stores as nothing_stored, no_faults};
+ghost use Rattle.mar_script.specs.Run.{fresh_stores};
 ghost use Rattle.mar_script.specs.Words.{IsCommand};
 
 mod command;
@@ -60,10 +60,9 @@ fn run_words(rt: &(impl AllocGlobal + Input + Print), words: &[String]) -> Statu
     run(rt, alloc, words, &mut source, &mut sink, stores).status
 }
 
-/// Stores in memory that hold nothing.
+/// Stores in memory that hold nothing, and that never failed.
 fn empty_stores(alloc: Global) -> MemoryRuins
-    ensures empty { result.ended ≡ nothing_stored }
-    ensures calm { result.counts ≡ no_faults }
+    ensures { result ≡ fresh_stores }
 {
     Ruins {
         blocks: Blocks::wreck(BlockStore::new(MemArchive::new(alloc, LuckHalf::Low))),

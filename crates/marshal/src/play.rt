@@ -4,10 +4,15 @@ ghost use Rattle.mar_node.specs.Messages.{report_finalization};
 ghost use Rattle.mar_node.specs.Config.{Config as PlainConfig};
 ghost use Rattle.mar_node.specs.Faults.{from_genesis, want_of_memory};
 ghost use Rattle.mar_node.specs.Held.{remains_of};
+ghost use Rattle.mar_node.specs.Promise.{IsSmallEvent};
+ghost use Rattle.mar_node.specs.Stored.{AreSmall};
+ghost use Rattle.mar_store.specs.Sizes.{IsSmall};
+ghost use Rattle.mar_cert.specs.Finalization.{finalization_bytes};
+ghost use Rattle.mar_script.specs.Plays.{IsSmallLine};
 ghost use Rattle.mar_actor.specs.Views.{begin_of, event_of, sizes_of};
 ghost use Rattle.mar_shelf.specs.Views.{store_name_of};
 ghost use Rattle.mar_script.specs.Lines.{plain_block, plain_finalization, plain_line};
-ghost use Rattle.marshal.specs.Playing.{PlaysLine, PlaysOrNot, TakesEvent};
+ghost use Rattle.marshal.specs.Playing.{HasSmallBlocks, PlaysLine, PlaysOrNot, TakesEvent};
 ghost use Rattle.mar_script.specs.Shown.{plain_fault};
 ghost use Rattle.mar_script.specs.Script.{IsSettings, ack_line, buffer_line, config_of, fail_line, open_line, sync_line, tell_line};
 ghost use Rattle.marshal.specs.Turn.{fault_in, output_of, plain_report};
@@ -83,6 +88,8 @@ pub fn play<H: Holds<StandardBlocks, Finalization = MockFinalization>>(
     heard: &mut Heard,
 ) -> (State<H>, Result<Outcome, AllocError>)
     requires settings { IsSettings settings }
+    requires small_line { IsSmallLine (plain_line line) }
+    requires small { HasSmallBlocks state }
     requires silent { heard.old.told.updates.items ≡ [] }
     requires unasked { heard.old.asked.asks ≡ [] }
     ensures { PlaysOrNot (config_of settings) state (plain_line line) (map plain_report heard.new.told.updates.items) heard.new.asked.asks result.0 result.1 }
@@ -103,6 +110,7 @@ fn play_stopped<H: Holds<StandardBlocks, Finalization = MockFinalization>>(
     heard: &mut Heard,
 ) -> (State<H>, Result<Outcome, AllocError>)
     requires settings { IsSettings settings }
+    requires small_line { IsSmallLine (plain_line line) }
     requires silent { heard.old.told.updates.items ≡ [] }
     requires unasked { heard.old.asked.asks ≡ [] }
     ensures { PlaysOrNot (config_of settings) (State.Stopped left luck) (plain_line line) (map plain_report heard.new.told.updates.items) heard.new.asked.asks
@@ -155,6 +163,8 @@ fn play_running<H: Holds<StandardBlocks, Finalization = MockFinalization>>(
     line: Line,
     heard: &mut Heard,
 ) -> (State<H>, Result<Outcome, AllocError>)
+    requires small_line { IsSmallLine (plain_line line) }
+    requires small { AreSmall buffer.blocks }
     requires silent { heard.old.told.updates.items ≡ [] }
     requires unasked { heard.old.asked.asks ≡ [] }
     ensures { (config : PlainConfig) → PlaysOrNot config (State.Running actor buffer) (plain_line line) (map plain_report heard.new.told.updates.items)
@@ -229,6 +239,8 @@ fn finalize<H: Holds<StandardBlocks, Finalization = MockFinalization>>(
     finalization: MockFinalization,
     heard: &mut Heard,
 ) -> (State<H>, Result<Outcome, AllocError>)
+    requires small_event { IsSmall (finalization_bytes (plain_finalization finalization)) }
+    requires small { AreSmall buffer.blocks }
     requires silent { heard.old.told.updates.items ≡ [] }
     requires unasked { heard.old.asked.asks ≡ [] }
     ensures { (config : PlainConfig) → PlaysOrNot config (State.Running actor buffer) (tell_line (report_finalization (plain_finalization finalization)))
@@ -246,6 +258,7 @@ fn acknowledge<H: Holds<StandardBlocks, Finalization = MockFinalization>>(
     ticket: u64,
     heard: &mut Heard,
 ) -> (State<H>, Result<Outcome, AllocError>)
+    requires small { AreSmall buffer.blocks }
     requires silent { heard.old.told.updates.items ≡ [] }
     requires unasked { heard.old.asked.asks ≡ [] }
     ensures { (config : PlainConfig) → PlaysOrNot config (State.Running actor buffer) (ack_line ticket) (map plain_report heard.new.told.updates.items)
@@ -266,6 +279,7 @@ fn finish_sync<H: Holds<StandardBlocks, Finalization = MockFinalization>>(
     ticket: u64,
     heard: &mut Heard,
 ) -> (State<H>, Result<Outcome, AllocError>)
+    requires small { AreSmall buffer.blocks }
     requires silent { heard.old.told.updates.items ≡ [] }
     requires unasked { heard.old.asked.asks ≡ [] }
     ensures { (config : PlainConfig) → PlaysOrNot config (State.Running actor buffer) (sync_line ticket) (map plain_report heard.new.told.updates.items)
@@ -286,6 +300,8 @@ fn step<H: Holds<StandardBlocks, Finalization = MockFinalization>>(
     event: Event<MockFinalization>,
     heard: &mut Heard,
 ) -> (State<H>, Outcome)
+    requires small_event { IsSmallEvent (event_of plain_finalization event) }
+    requires small { AreSmall buffer.blocks }
     requires silent { heard.old.told.updates.items ≡ [] }
     requires unasked { heard.old.asked.asks ≡ [] }
     ensures { TakesEvent actor buffer (event_of plain_finalization event) (map plain_report heard.new.told.updates.items) heard.new.asked.asks result.0
@@ -320,6 +336,7 @@ fn open<H: Holds<StandardBlocks, Finalization = MockFinalization>>(
     heard: &mut Heard,
 ) -> (State<H>, Result<Outcome, AllocError>)
     requires settings { IsSettings settings }
+    requires small { IsSmall (plain_block genesis).encoded }
     requires silent { heard.old.told.updates.items ≡ [] }
     requires unasked { heard.old.asked.asks ≡ [] }
     ensures { PlaysOrNot (config_of settings) (State.Stopped left luck) (open_line (from_genesis (plain_block genesis)))
@@ -344,6 +361,7 @@ fn begin<H: Holds<StandardBlocks, Finalization = MockFinalization>>(
     heard: &mut Heard,
 ) -> (State<H>, Outcome)
     requires settings { IsSettings settings }
+    requires small { IsSmall (plain_block genesis).encoded }
     requires silent { heard.old.told.updates.items ≡ [] }
     requires unasked { heard.old.asked.asks ≡ [] }
     ensures { PlaysLine (config_of settings) (State.Stopped left luck) (open_line (from_genesis (plain_block genesis)))

@@ -1,16 +1,17 @@
 //! Replays a script over the stores of a node.
-ghost use Rattle.std.specs.Prelude.{◌≡◌, ◌+◌, ◌++◌, ◌<◌, ◌≤◌, ℕ, List, Option, Some, [], IfErr, IfNone, IfOk, IsErrOf, OnErr, OnOk, map};
+ghost use Rattle.std.specs.Prelude.{◌≡◌, ◌+◌, ◌++◌, ◌<◌, ℕ, List, Option, Some, [], IfErr, IsErrOf, OnErr, OnOk, map};
 ghost use Rattle.mar_codec.specs.Causes.{Rose};
 ghost use Rattle.mar_key.specs.Asked.{Asked};
-ghost use Rattle.mar_node.specs.Node.{Ended as PlainEnded};
+ghost use Rattle.mar_node.specs.Held.{Remains};
 ghost use Rattle.mar_script.specs.Endings.{IsWritersEnd};
 ghost use Rattle.mar_script.specs.Lines.{plain_line};
-ghost use Rattle.marshal.specs.Playing.{IsSetAs, TurnsLine, WritesText};
+ghost use Rattle.mar_script.specs.Plays.{IsSmallLine};
+ghost use Rattle.marshal.specs.Playing.{HasSmallBlocks, IsSetAs, TurnsLine, WritesText};
 ghost use Rattle.mar_script.specs.Reading.{EndsByLine, IsFirstOutside, Reads, ReplaysWhereTold};
 ghost use Rattle.mar_script.specs.Run.{HandsBack, IsShownAs};
 ghost use Rattle.mar_script.specs.Script.{IsSettings, config_of, settings_bytes};
 ghost use Rattle.mar_script.specs.Streams.{Gives, Takes, TakesFront};
-ghost use Rattle.mar_script.specs.Text.{output_text, stopped, text};
+ghost use Rattle.mar_script.specs.Text.{output_text, text};
 ghost use Rattle.marshal.specs.Turn.{output_of, plain_report, remains_in, state_of};
 
 use crate::heard::Heard;
@@ -48,11 +49,11 @@ pub fn replay<S: Source, K: Sink, H: Holds<StandardBlocks, Finalization = MockFi
     ensures write_fault { result.status ≡ Status.WriteFault → Rose (K.faults sink.old) (K.faults sink.new) }
     ensures reads { Reads (S.left source.old) (S.left source.new) result.status }
     ensures script { (all : List ℕ) (n : ℕ) (why : Why) → S.left source.old ≡ Some all → result.status ≡ Status.Script n why → IsFirstOutside all n why }
-    ensures calm { (n : ℕ) (why : Why) → result.status ≡ Status.Script n why → (S.faults source.new ≡ S.faults source.old)
-        × (K.faults sink.new ≡ K.faults sink.old) }
+    ensures source_calm { (result.status ≡ Status.ReadFault → ⊥) → S.faults source.new ≡ S.faults source.old }
+    ensures sink_calm { (result.status ≡ Status.WriteFault → ⊥) → K.faults sink.new ≡ K.faults sink.old }
     ensures outside { (all : List ℕ) (n : ℕ) (why : Why) → S.left source.old ≡ Some all → IsFirstOutside all n why → EndsByLine n why result.status }
     ensures headline { ReplaysWhereTold (S.left source.old) (S.left source.new) (K.written sink.old) (K.written sink.new) result.status
-        (H.Ruins.left stores).ended (H.Ruins.left stores).counts (H.Ruins.left result.stores) }
+        (H.Ruins.left stores) (H.Ruins.left result.stores) }
 {
     let mut reader = ScriptReader::new(alloc);
     let settings = match first_line(alloc, &mut reader, source) {
@@ -94,18 +95,19 @@ fn later_lines<S: Source, K: Sink, H: Holds<StandardBlocks, Finalization = MockF
 ) -> (State<H>, Status)
     requires settings { IsSettings settings }
     requires set { IsSetAs (config_of settings) state }
+    requires small { HasSmallBlocks state }
     ensures not_usage { result.1 ≡ Status.Usage → ⊥ }
     ensures to_end { result.1 ≡ Status.Ok → IsShownAs (S.left source.new) [] }
     ensures read_fault { result.1 ≡ Status.ReadFault → Rose (S.faults source.old) (S.faults source.new) }
     ensures write_fault { result.1 ≡ Status.WriteFault → Rose (K.faults sink.old) (K.faults sink.new) }
-    ensures calm { (n : ℕ) (why : Why) → result.1 ≡ Status.Script n why → (S.faults source.new ≡ S.faults source.old)
-        × (K.faults sink.new ≡ K.faults sink.old) }
+    ensures source_calm { (result.1 ≡ Status.ReadFault → ⊥) → S.faults source.new ≡ S.faults source.old }
+    ensures sink_calm { (result.1 ≡ Status.WriteFault → ⊥) → K.faults sink.new ≡ K.faults sink.old }
     ensures reads { (start : Option (List ℕ)) (taken : List ℕ) → Gives start taken (S.left source.old) → taken ≡ settings_bytes settings ++ reader.old
         → Reads start (S.left source.new) result.1 }
-    ensures headline { (start : Option (List ℕ)) (taken : List ℕ) (sunk : Option (List ℕ)) (before : PlainEnded) → Gives start taken (S.left source.old)
-        → taken ≡ settings_bytes settings ++ reader.old → ((asked : List Asked) → state_of asked state ≡ stopped before)
-        → Takes sunk (text before []) (K.written sink.old) → ((asked : List Asked) → HandsBack (state_of asked result.0) (remains_in result.0).ended)
-        → ReplaysWhereTold start (S.left source.new) sunk (K.written sink.new) result.1 before (remains_in state).counts (remains_in result.0) }
+    ensures headline { (start : Option (List ℕ)) (taken : List ℕ) (sunk : Option (List ℕ)) (before : Remains) → Gives start taken (S.left source.old)
+        → taken ≡ settings_bytes settings ++ reader.old → state ≡ State.Stopped before 0 → Takes sunk (text before.ended []) (K.written sink.old)
+        → ((asked : List Asked) → HandsBack (state_of asked result.0) (remains_in result.0).ended)
+        → ReplaysWhereTold start (S.left source.new) sunk (K.written sink.new) result.1 before (remains_in result.0) }
 {
     let mut state = state;
     'lines: for number in 2..MAX_LINES + 2 {
@@ -131,9 +133,11 @@ fn turn<K: Sink, H: Holds<StandardBlocks, Finalization = MockFinalization>>(
     line: Line,
     sink: &mut K,
 ) -> (State<H>, Result<(), Status>)
-    requires { IsSettings settings }
+    requires settings { IsSettings settings }
+    requires small_line { IsSmallLine (plain_line line) }
+    requires small { HasSmallBlocks state }
     ensures end { IfErr result.1 IsWritersEnd }
-    ensures calm { OnOk result.1 (K.faults sink.new ≡ K.faults sink.old) }
+    ensures calm { (IsErrOf result.1 Status.WriteFault → ⊥) → K.faults sink.new ≡ K.faults sink.old }
     ensures write_fault { IsErrOf result.1 Status.WriteFault → Rose (K.faults sink.old) (K.faults sink.new) }
     ensures turned { TurnsLine (config_of settings) state (plain_line line) (K.written sink.old) result.0 (K.written sink.new) result.1 }
 {
@@ -159,7 +163,7 @@ fn write_turn<K: Sink, H: Holds<StandardBlocks, Finalization = MockFinalization>
     state: &State<H>,
 ) -> Result<(), Status>
     ensures end { IfErr result IsWritersEnd }
-    ensures calm { OnOk result (K.faults sink.new ≡ K.faults sink.old) }
+    ensures calm { (IsErrOf result Status.WriteFault → ⊥) → K.faults sink.new ≡ K.faults sink.old }
     ensures write_fault { IsErrOf result Status.WriteFault → Rose (K.faults sink.old) (K.faults sink.new) }
     ensures wrote { WritesText (K.written sink.old) (λ asked. output_text (output_of (map plain_report heard.now.told.updates.items) heard.now.asked.asks
         outcome) (state_of asked state.now)) (K.written sink.new) result }
@@ -174,7 +178,7 @@ fn write_turn<K: Sink, H: Holds<StandardBlocks, Finalization = MockFinalization>
 // Writes a text whole.
 fn write_text<K: Sink>(sink: &mut K, text: &[u8]) -> Result<(), Status>
     ensures end { IfErr result IsWritersEnd }
-    ensures calm { OnOk result (K.faults sink.new ≡ K.faults sink.old) }
+    ensures calm { (IsErrOf result Status.WriteFault → ⊥) → K.faults sink.new ≡ K.faults sink.old }
     ensures write_fault { IsErrOf result Status.WriteFault → Rose (K.faults sink.old) (K.faults sink.new) }
     ensures ok { OnOk result (Takes (K.written sink.old) text.now (K.written sink.new)) }
     ensures err { OnErr result (TakesFront (K.written sink.old) text.now (K.written sink.new)) }

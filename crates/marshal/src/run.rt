@@ -46,12 +46,12 @@ pub fn run<
     ensures write_fault { result.status ≡ Status.WriteFault → Rose (K.faults sink.old) (K.faults sink.new) }
     ensures reads { Reads (S.left source.old) (S.left source.new) result.status }
     ensures script { (all : List ℕ) (n : ℕ) (why : Why) → S.left source.old ≡ Some all → result.status ≡ Status.Script n why → IsFirstOutside all n why }
-    ensures calm { (n : ℕ) (why : Why) → result.status ≡ Status.Script n why → (S.faults source.new ≡ S.faults source.old)
-        × (K.faults sink.new ≡ K.faults sink.old) }
+    ensures source_calm { (result.status ≡ Status.ReadFault → ⊥) → S.faults source.new ≡ S.faults source.old }
+    ensures sink_calm { (result.status ≡ Status.WriteFault → ⊥) → K.faults sink.new ≡ K.faults sink.old }
     ensures outside { map string_bytes words.now ≡ codes "replay" ∷ [] → (all : List ℕ) (n : ℕ) (why : Why) → S.left source.old ≡ Some all
         → IsFirstOutside all n why → EndsByLine n why result.status }
-    ensures headline { ReplaysWhereTold (S.left source.old) (S.left source.new) (K.written sink.old) (K.written sink.new) result.status stores.ended
-        stores.counts result.stores }
+    ensures headline { ReplaysWhereTold (S.left source.old) (S.left source.new) (K.written sink.old) (K.written sink.new) result.status stores
+        result.stores }
 {
     match Command::parse(words) {
         Some(Command::Replay) => {

@@ -1,5 +1,5 @@
 use Rattle.std.proofs.Common.{[], ap, ◌++◌, ◌∙◌, ◌∷◌}
-use Rattle.mar_script.proofs.ReadSteps.{another_word, first_missing, first_refused, nothing_first}
+use Rattle.mar_script.proofs.ReadSteps.{another_word, fault_missing, first_missing, first_refused, nothing_first}
 use Rattle.mar_script.proofs.reading.first_line.Goals as goal
 
 pub returns-in-Ok-None-clause-first : goal.returns-in-Ok-None-clause-first
@@ -15,3 +15,6 @@ returns-clause-first g c =
 
 pub returns-then-not-begins_with-clause-first : goal.returns-then-not-begins_with-clause-first
 returns-then-not-begins_with-clause-first g c = another_word _ _ c.in-Ok-Some.line _ _ (rw c.in-Ok-Some.field-0-is at c.in-Ok-Some.ensures.line) (λ word. cc (c.begins_with.ensures.1 (rw c.deref.ensures.value word), c.if-not-begins_with.true))
+
+pub returns-in-Err-clause-calm : goal.returns-in-Err-clause-calm
+returns-in-Err-clause-calm g c = λ other. c.in-Err.ensures.calm (λ is. other (fault_missing 1 c.in-Err.error _ c.line_status.ensures.told is))

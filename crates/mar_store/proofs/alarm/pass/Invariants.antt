@@ -1,5 +1,5 @@
 use Rattle.std.proofs.Common.{◌≡◌, ◌-◌, ◌≤◌, ◌++◌, ◌||◌, length, take, drop}
-use Rattle.mar_store.specs.Armed.{is_due, after_call}
+use Rattle.mar_store.specs.Watch.{is_due, after_call}
 use Rattle.mar_store.proofs.alarm.pass.Given as goal
 
 abbrev pub invariant-loop-place : goal.invariant-loop-place

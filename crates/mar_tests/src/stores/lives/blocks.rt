@@ -1,8 +1,8 @@
 //! Lives of stores of blocks.
 use super::{AtReopening, InLife, KEPT, Life, Nowhere, PRUNED, Row, are, lives_of};
-use crate::stores::{Block, Kind, Script, block, wrong_in};
+use crate::stores::{Block, Kind, Script, block, put, wrong_in};
 use crate::tell::*;
-use mar_block::{StandardBlocks, Variant};
+use mar_block::StandardBlocks;
 use mar_shelf::Blocks;
 use mar_store::Lost;
 use mar_types::Height;
@@ -12,12 +12,8 @@ use std::process::Abort;
 // Starts a sync, and finishes it after one more put.
 fn sync_around<S: Blocks<StandardBlocks>>(store: S, block: &Block) -> Result<S, Lost<S::Wreck>> {
     let (store, ticket) = store.start_sync()?;
-    let store = store.put(&StandardBlocks::digest(block), block)?;
+    let store = put(store, block)?;
     store.finish(ticket)
-}
-
-fn put<S: Blocks<StandardBlocks>>(store: S, block: &Block) -> Result<S, Lost<S::Wreck>> {
-    store.put(&StandardBlocks::digest(block), block)
 }
 
 // Puts a block and syncs, puts one, starts a sync, puts one before that finishes, and prunes below 1.

@@ -1,9 +1,13 @@
 //! Lives of stores of finalizations.
+ghost use Rattle.std.specs.Prelude.{◌≤◌, IfOk, IsTrue};
+ghost use Rattle.mar_cert.specs.Finalization.{finalization_bytes};
+ghost use Rattle.mar_store.specs.Sizes.{IsSmall};
+
 use super::{AtReopening, InLife, KEPT, Life, Nowhere, PRUNED, Row, are, lives_of};
 use crate::stores::{Immutable, Prunable, immutable_store, prunable_store};
 use mar_block::{StandardBlocks, Variant};
-use mar_cert::{CommitsTo, MockCertificate, MockFinalization, Proposal};
-use mar_codec::{Hasher, Sha256};
+use mar_cert::{AsFinalization, CommitsTo, MockCertificate, MockFinalization, Proposal};
+use mar_codec::{EncodeSize, Hasher, Sha256};
 use mar_shelf::{CertificateItem, Certificates};
 use mar_store::Lost;
 use mar_types::{Height, Round, View};
@@ -24,11 +28,25 @@ fn finalization(alloc: Global, byte: u8) -> MockFinalization {
     }
 }
 
+// Whether it is small enough for a store.
+fn is_small(finalization: &MockFinalization) -> bool
+    ensures { IsTrue result → IsSmall (finalization_bytes (⟦<MockFinalization as AsFinalization>⟧.plain finalization.now)) }
+{
+    let certificate = finalization.certificate.encode_size();
+    certificate <= 1_048_576 && finalization.encode_size() <= 1_048_576
+}
+
+// Puts one that is small enough for a store.
 fn put<S: Certificates<StandardBlocks, MockFinalization>>(
     store: S,
     height: u64,
     finalization: &MockFinalization,
-) -> Result<S, Lost<S::Wreck>> {
+) -> Result<S, Lost<S::Wreck>>
+    ensures { IfOk result (λ s. S.number store ≤ S.number s) }
+{
+    if !is_small(finalization) {
+        return Err(Lost::Memory(store.wreck()));
+    }
     let digest = StandardBlocks::commitment_to_inner(finalization.payload());
     store.put(Height::new(height), &digest, finalization)
 }
@@ -39,9 +57,8 @@ fn sync_around<S: Certificates<StandardBlocks, MockFinalization>>(
     height: u64,
     finalization: &MockFinalization,
 ) -> Result<S, Lost<S::Wreck>> {
-    let digest = StandardBlocks::commitment_to_inner(finalization.payload());
     let (store, ticket) = store.start_sync()?;
-    let store = store.put(Height::new(height), &digest, finalization)?;
+    let store = put(store, height, finalization)?;
     store.finish(ticket)
 }
 

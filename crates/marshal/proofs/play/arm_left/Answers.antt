@@ -3,4 +3,4 @@ use Rattle.marshal.proofs.LinePlays.{plays_fail_left}
 use Rattle.marshal.proofs.play.arm_left.Goals as goal
 
 pub returns : goal.returns
-returns g c = rw (c.arm.ensures, c.left.view_is) (λ config. plays_fail_left config c.args.left c.args.luck (store_name_of c.args.store) c.args.calls)
+returns g c = rw (← c.left.view_is) (λ config. plays_fail_left config _ _ c.args.luck (store_name_of c.args.store) c.args.calls c.arm.ensures.ended c.in_default.ensures.armed)

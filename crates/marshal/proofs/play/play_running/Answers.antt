@@ -1,10 +1,11 @@
 use Rattle.std.proofs.Common.{refl}
 use Rattle.mar_script.specs.declared.RemarkShown.TheVariants as remark
+use Rattle.mar_node.proofs.Passing.{ArePassed-refl}
 use Rattle.marshal.proofs.LinePlays.{plays_crash, plays_remark}
 use Rattle.marshal.proofs.play.play_running.Goals as goal
 
 pub returns-in-OpenGenesis : goal.returns-in-OpenGenesis
-returns-in-OpenGenesis g c = rw (c.requires.silent, c.requires.unasked, c.in-OpenGenesis.is) (λ config. plays_remark config _ _ remark.Running (λ chain asked. (refl, refl)) tt)
+returns-in-OpenGenesis g c = rw (c.requires.silent, c.requires.unasked, c.in-OpenGenesis.is) (λ config. plays_remark config _ _ remark.Running (λ chain account asked. (refl, refl)) ArePassed-refl (λ luck. refl))
 
 pub returns-in-Fail : goal.returns-in-Fail
 returns-in-Fail g c = rw (c.requires.silent, c.requires.unasked, c.in-Fail.is) c.arm.ensures

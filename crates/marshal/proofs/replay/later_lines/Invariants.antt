@@ -1,12 +1,10 @@
 use Rattle.std.proofs.Common.{List, Option, [], ℕ, ◌++◌, ◌≡◌}
-use Rattle.mar_key.specs.Asked.{Asked}
-use Rattle.mar_node.specs.Held.{NotFewer}
-use Rattle.mar_node.specs.Node.{Ended}
-use Rattle.marshal.specs.Playing.{IsSetAs}
+use Rattle.mar_node.specs.Held.{Remains}
+use Rattle.marshal.specs.Playing.{HasSmallBlocks, IsSetAs}
+use Rattle.marshal.specs.declared.play.State.TheVariants as state
 use Rattle.mar_script.specs.Script.{config_of, settings_bytes}
 use Rattle.mar_script.specs.Streams.{Gives, Takes}
-use Rattle.mar_script.specs.Text.{stopped, text}
-use Rattle.marshal.specs.Turn.{remains_in, state_of}
+use Rattle.mar_script.specs.Text.{text}
 use Rattle.marshal.proofs.Headlines.{HeadSoFar}
 use Rattle.mar_script.proofs.ReadSteps.{SoFar}
 use Rattle.marshal.proofs.replay.later_lines.Given as goal
@@ -18,7 +16,7 @@ invariant-lines g l = record {
   sink_calm : g.K.Sink.faults l.sink ≡ g.K.Sink.faults l.initial.sink;
   so_far : (start : Option (List ℕ)) (taken : List ℕ) → Gives start taken (g.S.Source.left l.initial.source) → taken ≡ settings_bytes l.settings ++ l.initial.reader → SoFar start l.settings l.reader (g.S.Source.left l.source) l.number;
   set : IsSetAs (config_of l.settings) l.state;
-  later : NotFewer (remains_in l.fn.state).counts (remains_in l.state).counts;
-  head : (start : Option (List ℕ)) (taken : List ℕ) (sunk : Option (List ℕ)) (before : Ended) → Gives start taken (g.S.Source.left l.initial.source) → taken ≡ settings_bytes l.settings ++ l.initial.reader → ((asked : List Asked) → state_of asked l.fn.state ≡ stopped before)
-      → Takes sunk (text before []) (g.K.Sink.written l.initial.sink) → HeadSoFar start l.settings l.reader (g.S.Source.left l.source) l.number before (remains_in l.fn.state).counts l.state sunk (g.K.Sink.written l.sink);
+  small : HasSmallBlocks l.state;
+  head : (start : Option (List ℕ)) (taken : List ℕ) (sunk : Option (List ℕ)) (before : Remains) → Gives start taken (g.S.Source.left l.initial.source) → taken ≡ settings_bytes l.settings ++ l.initial.reader → l.fn.state ≡ state.Stopped before 0
+      → Takes sunk (text before.ended []) (g.K.Sink.written l.initial.sink) → HeadSoFar start l.settings l.reader (g.S.Source.left l.source) l.number before l.state sunk (g.K.Sink.written l.sink);
 }

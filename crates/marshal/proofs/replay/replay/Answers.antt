@@ -44,7 +44,7 @@ returns-in-Err-write_turn-clause-headline g c =
     let silent : map plain_report c.new-heard.result.told.updates.items ≡ [] = ap (λ us. map plain_report us) c.new-heard.ensures.told in
     let stores = g.H.Ruins.StoresRuin.left c.args.stores in
     let wrote = shown_first {U = Unit {0}} _ _ _ _ stores.ended (Err c.in-Err-write_turn.status) silent c.new-heard.ensures.asked (rw c.in-Err-write_turn.is at c.write_turn.ensures.wrote) in
-    rw c.left_of-stores.ensures.left (stops_unshown _ _ c.in-Ok.ensures.valid stores.ended stores.counts _ _ _ first.read _ _ stores refl refl c.in-Err-write_turn.ensures.end first.gives first.first (wrote []))
+    rw c.left_of-stores.ensures.left (stops_unshown _ _ c.in-Ok.ensures.valid stores _ _ _ first.read _ _ c.in-Err-write_turn.ensures.end first.gives first.first (wrote []))
 
 pub returns-clause-headline : goal.returns-clause-headline
 returns-clause-headline g c =
@@ -52,4 +52,4 @@ returns-clause-headline g c =
     let silent : map plain_report c.new-heard.result.told.updates.items ≡ [] = ap (λ us. map plain_report us) c.new-heard.ensures.told in
     let stores = g.H.Ruins.StoresRuin.left c.args.stores in
     let wrote = shown_first {U = Unit {0}} _ _ _ _ stores.ended (Ok c.in_default.field-0) silent c.new-heard.ensures.asked (rw c.in_default.is at c.write_turn.ensures.wrote) in
-    rw c.left_of.ensures.left (c.later_lines-state.ensures.headline _ first.read _ stores.ended first.gives first.first (λ asked. refl) (wrote []) (rw c.left_of.ensures.left at c.left_of.ensures.hands_back))
+    rw c.left_of.ensures.left (c.later_lines-state.ensures.headline _ first.read _ stores first.gives first.first refl (wrote []) (rw c.left_of.ensures.left at c.left_of.ensures.hands_back))

@@ -1,6 +1,7 @@
-use Rattle.std.proofs.Common.{[], arith, length, ◌≡◌}
+use Rattle.std.proofs.Common.{arith, length, ◌≡◌}
+use Rattle.std.proofs.lemmas.Result.{err_from_is_err_and}
 use Rattle.mar_node.proofs.Draining.{Drains-all, Drains-still, DrainsSoFar-first, DrainsSoFar-more}
-use Rattle.mar_node.proofs.Growing.{Grew-then, Within-none}
+use Rattle.mar_node.proofs.Growing.{WithinWritten-nothing}
 use Rattle.mar_actor.proofs.node.Node.drain.Goals as goal
 
 pub entries-init : goal.entries-init
@@ -9,7 +10,12 @@ entries-init g c = DrainsSoFar-first _ _ _
 pub entries-preserved : goal.entries-preserved
 entries-preserved g c =
     DrainsSoFar-more g.E.Epocher.epochs _ _ _ _ _ _ c.entries.invariant _ _ _ c.if-not-is_processed.false c.in_ok-next.ensures.ok c.in_ok-next.ensures.asks
-    (c.in_ok-next.ensures.goes_on _ [] [] c.entries.invariant.grew (λ x has. has) (λ x has. has))
+    (λ first all grew. c.in_ok-next.ensures.goes_on first all (c.entries.invariant.grew first all grew) (WithinWritten-nothing all))
+
+pub returns-in_err-next-clause-goes_on : goal.returns-in_err-next-clause-goes_on
+returns-in_err-next-clause-goes_on g c =
+    let p = err_from_is_err_and c.from_residual.result c.from_residual.ensures.1 in
+    rw (p.1, p.2) (λ start all grew within. c.in_err-next.ensures.goes_on start all (c.entries.invariant.grew start all grew) within)
 
 pub returns-then-not-is_processed-clause-ok : goal.returns-then-not-is_processed-clause-ok
 returns-then-not-is_processed-clause-ok g c = (Drains-still g.E.Epocher.epochs _ _ _ _ _ _ c.entries.invariant _ _ _ c.if-not-is_processed.true c.in_ok-next.ensures.ok c.in_ok-next.ensures.asks).0
@@ -18,7 +24,7 @@ pub returns-then-not-is_processed-clause-asks : goal.returns-then-not-is_process
 returns-then-not-is_processed-clause-asks g c = (Drains-still g.E.Epocher.epochs _ _ _ _ _ _ c.entries.invariant _ _ _ c.if-not-is_processed.true c.in_ok-next.ensures.ok c.in_ok-next.ensures.asks).1
 
 pub returns-then-not-is_processed-clause-goes_on : goal.returns-then-not-is_processed-clause-goes_on
-returns-then-not-is_processed-clause-goes_on g c = λ start bs cs grew in_bs in_cs. c.in_ok-next.ensures.goes_on start bs cs (Grew-then start _ _ bs [] cs [] c.entries.invariant.grew grew (Within-none bs) (Within-none cs)) (Within-none bs) (Within-none cs)
+returns-then-not-is_processed-clause-goes_on g c = λ start all grew within. c.in_ok-next.ensures.goes_on start all (c.entries.invariant.grew start all grew) within
 
 pub returns-clause-ok : goal.returns-clause-ok
 returns-clause-ok g c =
@@ -29,3 +35,6 @@ pub returns-clause-asks : goal.returns-clause-asks
 returns-clause-asks g c =
     let all : c.len-drained-end.result ≡ length c.args.self.life.out = rw (← c.node.view_is, ← c.node-inside.view_is) c.len-drained-end.ensures in
     (Drains-all g.E.Epocher.epochs _ _ _ _ _ _ c.entries.invariant (omega (arith, c.entries-test.false, all))).1
+
+pub returns-clause-goes_on : goal.returns-clause-goes_on
+returns-clause-goes_on g c = λ start all grew within. c.entries.invariant.grew start all grew

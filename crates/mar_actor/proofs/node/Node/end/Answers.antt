@@ -1,5 +1,5 @@
 use Rattle.mar_node.proofs.StoreLosses.{Loses-nothing}
 use Rattle.mar_actor.proofs.node.Node.end.Goals as goal
 
-pub returns-clause-lost : goal.returns-clause-lost
-returns-clause-lost g c = rw (← c.self.view_is) (λ none. rw c.wreck.ensures (Loses-nothing _ _ none))
+pub returns-clause-goes_on : goal.returns-clause-goes_on
+returns-clause-goes_on g c = rw (← c.self.view_is) (λ none start all grew within. rw c.wreck.ensures (Loses-nothing start all _ grew _ none))

@@ -1,3 +1,4 @@
+use Rattle.mar_node.proofs.Growing.{WithinWritten-nothing}
 use Rattle.mar_node.proofs.Storing.{StoresAbove-ok}
 use Rattle.mar_actor.proofs.node.Node.store.Goals as goal
 
@@ -5,3 +6,6 @@ pub returns-clause-stores : goal.returns-clause-stores
 returns-clause-stores g c =
     let same = rw c.height-height.ensures at c.report_tip.ensures.same in
     StoresAbove-ok _ _ _ _ _ _ _ c.in_ok-node.ensures.blocks c.in_ok-node.ensures.certs c.in_ok-node.ensures.same c.in_ok-node-2.ensures.blocks c.in_ok-node-2.ensures.certs c.in_ok-node-2.ensures.same same
+
+pub returns-clause-goes_on : goal.returns-clause-goes_on
+returns-clause-goes_on g c = λ start all grew within. c.report_tip.ensures.goes_on start all (c.in_ok-node-2.ensures.goes_on start all (c.in_ok-node.ensures.goes_on start all grew within) (WithinWritten-nothing all)) (WithinWritten-nothing all)

@@ -1,4 +1,4 @@
-use Rattle.mar_node.proofs.Growing.{Within-none}
+use Rattle.mar_node.proofs.Growing.{WithinWritten-nothing}
 use Rattle.mar_node.proofs.Storing.{StoresValue-synced}
 use Rattle.mar_actor.proofs.node.Node.store_block.Goals as goal
 
@@ -6,4 +6,4 @@ pub returns-clause-stored : goal.returns-clause-stored
 returns-clause-stored g c = rw (← c.self.view_is) (StoresValue-synced _ _ _ _ _ c.in_ok-stores.ensures.ok c.in_ok-stores-2.ensures.ok)
 
 pub returns-clause-goes_on : goal.returns-clause-goes_on
-returns-clause-goes_on g c = rw (← c.self.view_is) (λ start bs cs grew in_bs in_cs. c.in_ok-stores-2.ensures.goes_on start bs cs (c.in_ok-stores.ensures.goes_on start bs cs grew in_bs in_cs) (Within-none bs) (Within-none cs))
+returns-clause-goes_on g c = rw (← c.self.view_is) (λ start all grew within. c.in_ok-stores-2.ensures.goes_on start all (c.in_ok-stores.ensures.goes_on start all grew within) (WithinWritten-nothing all))

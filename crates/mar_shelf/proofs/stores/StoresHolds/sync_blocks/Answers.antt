@@ -1,9 +1,11 @@
-use Rattle.mar_node.proofs.Growing.{Fails-sync, Grew-blocks, Grew-then, Loses-then}
+use Rattle.mar_node.specs.Faults.{block_store}
+use Rattle.mar_node.proofs.Growing.{Grew-sync_blocks}
+use Rattle.mar_node.proofs.Passing.{Passes-one, by_lost}
 use Rattle.mar_node.proofs.StoreLosses.{Loses-blocks}
 use Rattle.mar_shelf.proofs.stores.StoresHolds.sync_blocks.Goals as goal
 
 pub returns-in-Ok-clause-goes_on : goal.returns-in-Ok-clause-goes_on
-returns-in-Ok-clause-goes_on g c = rw (← c.self.view_is) (λ start bs cs grew in_bs in_cs. Grew-then start _ _ bs _ cs _ (Grew-blocks _ _ _ _ (Fails-sync _ _ (g.met.FB.Blocks.nested c.self.inside.blocks) c.in-Ok.ensures.done) c.in-Ok.ensures.cause) grew in_bs in_cs)
+returns-in-Ok-clause-goes_on g c = rw (← c.self.view_is) (λ start all grew within. Grew-sync_blocks start all _ grew _ _ (g.met.FB.Blocks.nested c.self.inside.blocks) (g.met.FB.Blocks.nested c.in-Ok.blocks) c.in-Ok.ensures.done (Passes-one _ _ c.in-Ok.ensures.watched.0 c.in-Ok.ensures.watched.1))
 
 pub returns-in-Err-clause-goes_on : goal.returns-in-Err-clause-goes_on
-returns-in-Err-clause-goes_on g c = rw (← c.self.view_is) (λ start bs cs grew in_bs in_cs. rw (c.of_blocks.ensures, c.wreck.ensures.left, c.wreck.ensures.count, c.wreck-meta.ensures.left, c.wreck-meta.ensures.count, c.wreck-in-Err.ensures) (Loses-then start _ bs _ cs _ _ _ (Loses-blocks g.FB.Wreck.BlocksRuin.faults g.FB.Wreck.BlocksRuin.left _ _ c.in-Err.lost c.in-Err.ensures.done c.in-Err.ensures.cause) grew in_bs in_cs))
+returns-in-Err-clause-goes_on g c = rw (← c.self.view_is) (λ start all grew within. rw (c.of_blocks.ensures, c.wreck.ensures.left, c.wreck.ensures.watch, c.wreck-meta.ensures.left, c.wreck-meta.ensures.watch, c.wreck-in-Err.ensures.watch) (Loses-blocks start all _ grew _ _ _ _ within.blocks c.in-Err.ensures.done (by_lost g.FB.Blocks.watch g.FB.Wreck.BlocksRuin.watch _ block_store c.in-Err.lost c.in-Err.ensures.watched)))

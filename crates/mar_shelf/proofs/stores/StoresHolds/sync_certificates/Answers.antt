@@ -1,9 +1,11 @@
-use Rattle.mar_node.proofs.Growing.{Fails-sync, Grew-certs, Grew-then, Loses-then}
+use Rattle.mar_node.specs.Faults.{cert_store}
+use Rattle.mar_node.proofs.Growing.{Grew-sync_certs}
+use Rattle.mar_node.proofs.Passing.{Passes-one, by_lost}
 use Rattle.mar_node.proofs.StoreLosses.{Loses-certs}
 use Rattle.mar_shelf.proofs.stores.StoresHolds.sync_certificates.Goals as goal
 
 pub returns-in-Ok-clause-goes_on : goal.returns-in-Ok-clause-goes_on
-returns-in-Ok-clause-goes_on g c = rw (← c.self.view_is) (λ start bs cs grew in_bs in_cs. Grew-then start _ _ bs _ cs _ (Grew-certs _ _ _ _ (Fails-sync _ _ (g.met.FC.Certificates.nested c.self.inside.certs) c.in-Ok.ensures.done) c.in-Ok.ensures.cause) grew in_bs in_cs)
+returns-in-Ok-clause-goes_on g c = rw (← c.self.view_is) (λ start all grew within. Grew-sync_certs start all _ grew _ _ (g.met.FC.Certificates.nested c.self.inside.certs) (g.met.FC.Certificates.nested c.in-Ok.certs) c.in-Ok.ensures.done (Passes-one _ _ c.in-Ok.ensures.watched.0 c.in-Ok.ensures.watched.1))
 
 pub returns-in-Err-clause-goes_on : goal.returns-in-Err-clause-goes_on
-returns-in-Err-clause-goes_on g c = rw (← c.self.view_is) (λ start bs cs grew in_bs in_cs. rw (c.of_certs.ensures, c.wreck.ensures.left, c.wreck.ensures.count, c.wreck-meta.ensures.left, c.wreck-meta.ensures.count, c.wreck-in-Err.ensures) (Loses-then start _ bs _ cs _ _ _ (Loses-certs g.FC.Wreck.CertificatesRuin.faults g.FC.Wreck.CertificatesRuin.left _ _ c.in-Err.lost c.in-Err.ensures.done c.in-Err.ensures.cause) grew in_bs in_cs))
+returns-in-Err-clause-goes_on g c = rw (← c.self.view_is) (λ start all grew within. rw (c.of_certs.ensures, c.wreck.ensures.left, c.wreck.ensures.watch, c.wreck-meta.ensures.left, c.wreck-meta.ensures.watch, c.wreck-in-Err.ensures.watch) (Loses-certs start all _ grew _ _ _ _ within.certs c.in-Err.ensures.done (by_lost g.FC.Certificates.watch g.FC.Wreck.CertificatesRuin.watch _ cert_store c.in-Err.lost c.in-Err.ensures.watched)))

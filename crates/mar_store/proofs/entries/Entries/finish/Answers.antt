@@ -1,4 +1,4 @@
-use Rattle.mar_store.proofs.Settled.{fails_longer}
+use Rattle.mar_store.proofs.Settled.{fails_same}
 use Rattle.mar_store.proofs.Finishing.{finishes}
 use Rattle.mar_store.proofs.entries.Entries.finish.Goals as goal
 
@@ -12,4 +12,4 @@ pub returns-in-Ok-clause-done : goal.returns-in-Ok-clause-done
 returns-in-Ok-clause-done g c = finishes c.args.number c.args.self.pile.items.items _ c.args.self.pile.synced _ c.in-Ok.ensures.items c.args.self.pile.once c.in-Ok.ensures.ok
 
 pub returns-in-Err-clause-done : goal.returns-in-Err-clause-done
-returns-in-Err-clause-done g c = fails_longer _ _ _ _ c.in-Err.ensures.err.1 c.in-Err.ensures.err.0
+returns-in-Err-clause-done g c = fails_same _ _ _ _ c.in-Err.ensures.items c.in-Err.ensures.still

@@ -1,5 +1,5 @@
 use Rattle.std.proofs.Common.{◌∙◌, sym}
-use Rattle.mar_store.proofs.Stores.{puts_ignored, puts_entry, fails_put, covers_push}
+use Rattle.mar_store.proofs.Stores.{puts_ignored, puts_entry, fails_put, still_put, covers_push}
 use Rattle.mar_store.proofs.entries.Entries.put.Goals as goal
 
 pub returns-then-holds-clause-done : goal.returns-then-holds-clause-done
@@ -13,3 +13,6 @@ returns-in-Err-clause-done g c = fails_put _ _ _ _ _ c.args.self.pile.within c.i
 
 pub returns-in-Ok-clause-covers : goal.returns-in-Ok-clause-covers
 returns-in-Ok-clause-covers g c = covers_push _ _ _ c.in-Ok.ensures.ok
+
+pub returns-in-Err-clause-still : goal.returns-in-Err-clause-still
+returns-in-Err-clause-still g c = still_put _ _ _ _ _ c.args.self.pile.within c.in-Err.ensures.err c.in-Err.ensures.synced

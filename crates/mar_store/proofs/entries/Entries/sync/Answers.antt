@@ -1,4 +1,4 @@
-use Rattle.mar_store.proofs.Settled.{fails_longer}
+use Rattle.mar_store.proofs.Settled.{fails_same}
 use Rattle.mar_store.proofs.Stores.{syncs_entries}
 use Rattle.mar_store.proofs.entries.Entries.sync.Goals as goal
 
@@ -12,4 +12,4 @@ pub returns-in-Ok-clause-done : goal.returns-in-Ok-clause-done
 returns-in-Ok-clause-done g c = syncs_entries _ _ _ _ c.in-Ok.ensures.items c.in-Ok.ensures.ok
 
 pub returns-in-Err-clause-done : goal.returns-in-Err-clause-done
-returns-in-Err-clause-done g c = fails_longer _ _ _ _ c.in-Err.ensures.err.1 c.in-Err.ensures.err.0
+returns-in-Err-clause-done g c = fails_same _ _ _ _ c.in-Err.ensures.items c.in-Err.ensures.still

@@ -1,0 +1,6 @@
+//! Stores for tests.
+#![tactic(auto)]
+
+mod recording;
+
+pub use recording::{Op, Recording, RecordingWreck};

@@ -1,2 +1,0 @@
-//! Stores for tests.
-pub mod store;
