@@ -39,7 +39,7 @@ use Rattle.mar_script.proofs.Streams.{takes_more, takes_none}
 err_inside : {U : Type 0} (a b : StatusCode) → ◌≡◌ {A = Result U StatusCode} (Err a) (Err b) → a ≡ b
 err_inside a b is = cc
 
-ok_not_err : {U : Type 0} (u : U) (b : StatusCode) → ◌≡◌ {A = Result U StatusCode} (Ok u) (Err b) → ⊥
+pub ok_not_err : {U : Type 0} (u : U) (b : StatusCode) → ◌≡◌ {A = Result U StatusCode} (Ok u) (Err b) → ⊥
 ok_not_err u b is = cc
 
 -- where there is an answer there is no fault
@@ -106,12 +106,12 @@ shown_first sunk sunk' reports asks before written silent unasked wrote =
 
 module _ {H R : Type 0} where
   -- a state's text doesn't depend on the open requests
-  text_open : (out : Output) (s : StateCode H R) (asked : List Asked) → output_text out (state_of asked s) ≡ output_text out (state_of [] s)
+  pub text_open : (out : Output) (s : StateCode H R) (asked : List Asked) → output_text out (state_of asked s) ≡ output_text out (state_of [] s)
   unfolding output_text
   text_open out (state.Running seen buffer) asked = refl
   text_open out (state.Stopped left luck) asked = refl
 
-  left_remains : (s : StateCode H R) (asked : List Asked) → left_in (state_of asked s) ≡ (remains_in s).ended
+  pub left_remains : (s : StateCode H R) (asked : List Asked) → left_in (state_of asked s) ≡ (remains_in s).ended
   left_remains (state.Running seen buffer) asked = refl
   left_remains (state.Stopped left luck) asked = refl
 

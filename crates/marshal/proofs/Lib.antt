@@ -6,3 +6,5 @@ pub mod EventTurns
 pub mod LinePlays
 pub mod Replaying
 pub mod Headlines
+pub mod MadeScript
+pub mod Generating

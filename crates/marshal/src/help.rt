@@ -14,6 +14,7 @@ marshal reads events from standard input, a line each, and writes what a node ma
 
 commands:
   replay          replays a script over stores in memory
+  gen SEED N      makes a script of N heights from a number, replays it, and writes what it came to
 
   --help          writes this text
   --version       writes the version

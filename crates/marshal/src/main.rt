@@ -4,9 +4,10 @@
 ghost use Rattle.std.specs.IoError.{error_kind};
 ghost use Rattle.std.specs.Prelude.{◌≡◌, ◌↔◌, map, string_bytes};
 ghost use Rattle.mar_script.specs.Run.{fresh_stores};
-ghost use Rattle.mar_script.specs.Words.{IsCommand};
+ghost use Rattle.marshal.specs.Commands.{IsCommand};
 
 mod command;
+mod generate;
 mod heard;
 mod help;
 mod play;

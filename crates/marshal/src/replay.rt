@@ -74,7 +74,9 @@ pub fn replay<S: Source, K: Sink, H: Holds<StandardBlocks, Finalization = MockFi
 }
 
 // What a crash now leaves.
-fn left_of<H: Holds<StandardBlocks, Finalization = MockFinalization>>(state: State<H>) -> H::Ruins
+pub fn left_of<H: Holds<StandardBlocks, Finalization = MockFinalization>>(
+    state: State<H>,
+) -> H::Ruins
     ensures left { H.Ruins.left result ≡ remains_in state }
     ensures hands_back { (asked : List Asked) → HandsBack (state_of asked state) (H.Ruins.left result).ended }
 {
@@ -126,7 +128,7 @@ fn later_lines<S: Source, K: Sink, H: Holds<StandardBlocks, Finalization = MockF
 }
 
 // Does one line, and writes what it makes.
-fn turn<K: Sink, H: Holds<StandardBlocks, Finalization = MockFinalization>>(
+pub fn turn<K: Sink, H: Holds<StandardBlocks, Finalization = MockFinalization>>(
     alloc: Global,
     settings: Settings,
     state: State<H>,
@@ -155,7 +157,7 @@ fn turn<K: Sink, H: Holds<StandardBlocks, Finalization = MockFinalization>>(
 }
 
 // Writes what a line made.
-fn write_turn<K: Sink, H: Holds<StandardBlocks, Finalization = MockFinalization>>(
+pub fn write_turn<K: Sink, H: Holds<StandardBlocks, Finalization = MockFinalization>>(
     alloc: Global,
     sink: &mut K,
     heard: &Heard,
@@ -176,7 +178,7 @@ fn write_turn<K: Sink, H: Holds<StandardBlocks, Finalization = MockFinalization>
 }
 
 // Writes a text whole.
-fn write_text<K: Sink>(sink: &mut K, text: &[u8]) -> Result<(), Status>
+pub fn write_text<K: Sink>(sink: &mut K, text: &[u8]) -> Result<(), Status>
     ensures end { IfErr result IsWritersEnd }
     ensures calm { (IsErrOf result Status.WriteFault → ⊥) → K.faults sink.new ≡ K.faults sink.old }
     ensures write_fault { IsErrOf result Status.WriteFault → Rose (K.faults sink.old) (K.faults sink.new) }

@@ -1,0 +1,5 @@
+pub mod FirstSteps
+pub mod Lawful
+pub mod Numbers
+pub mod Heights
+pub mod Values

@@ -1,0 +1,4 @@
+pub mod Draws
+pub mod Chain
+pub mod Plan
+pub mod Output
