@@ -36,7 +36,8 @@ impl<V: Variant, S: Holds<V>, P: Drop, E: Epocher> Node<V, S, P, E> {
         resolver: &mut R,
         application: &mut A,
     ) -> Result<Self, Ended<V, S>>
-        ensures promise { IsNested self.held.blocks → IsNested self.held.certs → (buffer : List Block) → KeepsPromise (E.epochs self.life.epocher) V.inner self (ack_given ticket) buffer
+        ensures promise { IsNested self.held.blocks → IsNested self.held.certs → (buffer : List Block)
+            → KeepsPromise (E.epochs self.life.epocher) V.inner self (ack_given ticket) buffer
             (A.told application.old) (A.told application.new) (R.told resolver.old) (R.told resolver.new) result }
         ensures lives { IsNested self.held.blocks → IsNested self.held.certs → LivesOn self result }
         ensures by_value { EndsWhereDue (dropping_due self.life.out ticket) result }

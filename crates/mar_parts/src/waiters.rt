@@ -83,7 +83,8 @@ impl<K: Digest> Waiters<K> {
         ticket: u64,
     ) -> Result<(), AllocError>
         ensures ok { OnOk result ((other : K) → wait_for self.new (K.bytes other)
-            ≡ (if bytes_eq (K.bytes name) (K.bytes other) then Some (joined ticket (option_map (name_of K.bytes) subscription) None) else wait_for self.old (K.bytes other))) }
+            ≡ (if bytes_eq (K.bytes name) (K.bytes other) then Some (joined ticket (option_map (name_of K.bytes) subscription) None)
+            else wait_for self.old (K.bytes other))) }
         ensures err { OnErr result (self.new ≡ self.old) }
     {
         let tickets = vec![in alloc; ticket]?;
