@@ -1,6 +1,5 @@
 //! Acknowledgements, and what they let go.
-ghost use Rattle.std.specs.Prelude.{◌≡◌, ◌⊎◌, ◌∷◌, [], IfErr, IfOk, List, OnOk, Some, option_map, option_to_list};
-ghost use Rattle.mar_key.specs.Hears.{Hears};
+ghost use Rattle.std.specs.Prelude.{◌≡◌, ◌⊎◌, ◌∷◌, [], IfErr, IfOk, List, Some, option_map, option_to_list};
 ghost use Rattle.mar_key.specs.Keys.{above_height, above_round, retain};
 ghost use Rattle.mar_types.specs.Epochs.{closed_epoch};
 ghost use Rattle.mar_key.specs.Cutoff.{at_epoch, at_round, cutoff_le, greatest_of};
@@ -10,12 +9,12 @@ ghost use Rattle.mar_node.specs.Acks.{given_front, given_oldest, mark_given, wit
 ghost use Rattle.mar_node.specs.Metadata.{pair_of};
 ghost use Rattle.mar_store.specs.Changes.{IsNested};
 ghost use Rattle.mar_cert.specs.Block.{Block};
-ghost use Rattle.mar_node.specs.Event.{ack_given};
-ghost use Rattle.mar_node.specs.Promise.{KeepsPromise};
+ghost use Rattle.mar_node.specs.Event.{ack_given, closed_at, retired, round_at};
+ghost use Rattle.mar_node.specs.Promise.{KeepsPromise, heard_by};
 ghost use Rattle.mar_node.specs.Held.{ArePassed, GoesOn, IsUsual, LosesSince, nothing_written, written_pair};
 ghost use Rattle.mar_node.specs.Lives.{later_round};
-ghost use Rattle.mar_node.specs.Moves.{Drains, DrainsNext, EndsDropped, EndsOldest, LivesOn, RaisesTo, progress_asks, retired, round_at};
-ghost use Rattle.mar_node.specs.Requests.{raise_asks};
+ghost use Rattle.mar_node.specs.Moves.{Drains, DrainsNext, EndsDropped, EndsOldest, HearsUpTo, LivesOn, RaisesTo};
+ghost use Rattle.mar_node.specs.Requests.{raise_asks, retire_asks};
 ghost use Rattle.mar_actor.specs.Due.{EndsWhereDue, dropping_due};
 ghost use Rattle.mar_actor.specs.Told.{TellsInOrder};
 
@@ -37,8 +36,8 @@ impl<V: Variant, S: Holds<V>, P: Drop, E: Epocher> Node<V, S, P, E> {
         application: &mut A,
     ) -> Result<Self, Ended<V, S>>
         ensures promise { IsNested self.held.blocks → IsNested self.held.certs → (buffer : List Block)
-            → KeepsPromise (E.epochs self.life.epocher) V.inner self (ack_given ticket) buffer
-            (A.told application.old) (A.told application.new) (R.told resolver.old) (R.told resolver.new) result }
+            → KeepsPromise (E.epochs self.life.epocher) V.inner self (ack_given ticket ∷ []) buffer
+            (heard_by (A.told application.old) (R.told resolver.old)) (heard_by (A.told application.new) (R.told resolver.new)) result }
         ensures lives { IsNested self.held.blocks → IsNested self.held.certs → LivesOn self result }
         ensures by_value { EndsWhereDue (dropping_due self.life.out ticket) result }
         ensures tells { TellsInOrder (A.told application.old) [] (A.told application.new) result }
@@ -66,8 +65,8 @@ impl<V: Variant, S: Holds<V>, P: Drop, E: Epocher> Node<V, S, P, E> {
         resolver: &mut R,
     ) -> Result<(Self, bool), Ended<V, S>>
         ensures ok { IfOk result (λ r. Drains (E.epochs self.life.epocher) self r.1 r.0) }
-        ensures asks { OnOk result (Hears (R.told resolver.old) (progress_asks (E.epochs self.life.epocher) self.held.certs.held self.held.cutoff
-            (given_front self.life.out)) (R.told resolver.new)) }
+        ensures asks { HearsUpTo (R.told resolver.old) (retire_asks (E.epochs self.life.epocher) self.held.certs.held self.held.cutoff
+            (given_front self.life.out)) (R.told resolver.new) result }
         ensures goes_on { GoesOn (λ r. r.0.held) self.held nothing_written result }
         ensures kind { IfErr result (λ e. IsUsual e.fault ⊎ EndsDropped self e) }
     {
@@ -90,8 +89,8 @@ impl<V: Variant, S: Holds<V>, P: Drop, E: Epocher> Node<V, S, P, E> {
         resolver: &mut R,
     ) -> Result<(Self, bool), Ended<V, S>>
         ensures ok { IfOk result (λ r. DrainsNext (E.epochs self.life.epocher) self r.1 r.0) }
-        ensures asks { OnOk result (Hears (R.told resolver.old) (progress_asks (E.epochs self.life.epocher) self.held.certs.held self.held.cutoff
-            (option_to_list (given_oldest self.life.out))) (R.told resolver.new)) }
+        ensures asks { HearsUpTo (R.told resolver.old) (retire_asks (E.epochs self.life.epocher) self.held.certs.held self.held.cutoff
+            (option_to_list (given_oldest self.life.out))) (R.told resolver.new) result }
         ensures goes_on { GoesOn (λ r. r.0.held) self.held nothing_written result }
         ensures kind { IfErr result (λ e. IsUsual e.fault ⊎ EndsOldest self e) }
     {
@@ -120,8 +119,8 @@ impl<V: Variant, S: Holds<V>, P: Drop, E: Epocher> Node<V, S, P, E> {
             watches = a.held.watches;
           };
         }) }
-        ensures asks { OnOk result (Hears (R.told resolver.old) (retain (above_height height)
-            ∷ raise_asks self.held.cutoff (retired (E.epochs self.life.epocher) self.held.certs.held height)) (R.told resolver.new)) }
+        ensures asks { HearsUpTo (R.told resolver.old) (retain (above_height height)
+            ∷ raise_asks self.held.cutoff (retired (E.epochs self.life.epocher) self.held.certs.held height)) (R.told resolver.new) result }
         ensures goes_on { GoesOn (λ a. a.held) self.held nothing_written result }
         ensures usual { IfErr result (λ e. IsUsual e.fault) }
     {
@@ -137,7 +136,7 @@ impl<V: Variant, S: Holds<V>, P: Drop, E: Epocher> Node<V, S, P, E> {
         resolver: &mut R,
     ) -> Result<Self, Ended<V, S>>
         ensures ok { IfOk result (λ a. a ≡ record self { held = record self.held { processed = Some (at_block height); watches = a.held.watches } }) }
-        ensures asks { OnOk result (Hears (R.told resolver.old) (retain (above_height height) ∷ []) (R.told resolver.new)) }
+        ensures asks { HearsUpTo (R.told resolver.old) (retain (above_height height) ∷ []) (R.told resolver.new) result }
         ensures goes_on { GoesOn (λ a. a.held) self.held nothing_written result }
         ensures usual { IfErr result (λ e. IsUsual e.fault) }
     {
@@ -155,8 +154,8 @@ impl<V: Variant, S: Holds<V>, P: Drop, E: Epocher> Node<V, S, P, E> {
         resolver: &mut R,
     ) -> Result<Self, Ended<V, S>>
         ensures ok { IfOk result (λ a. RaisesTo self (option_to_list (option_map at_round round)) (later_round self.held.witnessed round) a) }
-        ensures asks { OnOk result (Hears (R.told resolver.old) (raise_asks self.held.cutoff (option_to_list (option_map at_round round)))
-            (R.told resolver.new)) }
+        ensures asks { HearsUpTo (R.told resolver.old) (raise_asks self.held.cutoff (option_to_list (option_map at_round round)))
+            (R.told resolver.new) result }
         ensures goes_on { GoesOn (λ a. a.held) self.held nothing_written result }
         ensures usual { IfErr result (λ e. IsUsual e.fault) }
     {
@@ -173,7 +172,7 @@ impl<V: Variant, S: Holds<V>, P: Drop, E: Epocher> Node<V, S, P, E> {
         resolver: &mut R,
     ) -> Result<Self, Ended<V, S>>
         ensures ok { IfOk result (λ a. RaisesTo self (at_round round ∷ []) (later_round self.held.witnessed (Some round)) a) }
-        ensures asks { OnOk result (Hears (R.told resolver.old) (raise_asks self.held.cutoff (at_round round ∷ [])) (R.told resolver.new)) }
+        ensures asks { HearsUpTo (R.told resolver.old) (raise_asks self.held.cutoff (at_round round ∷ [])) (R.told resolver.new) result }
         ensures goes_on { GoesOn (λ a. a.held) self.held nothing_written result }
         ensures usual { IfErr result (λ e. IsUsual e.fault) }
     {
@@ -188,10 +187,9 @@ impl<V: Variant, S: Holds<V>, P: Drop, E: Epocher> Node<V, S, P, E> {
         height: Height,
         resolver: &mut R,
     ) -> Result<Self, Ended<V, S>>
-        ensures ok { IfOk result (λ a. RaisesTo self (option_to_list (option_map at_epoch (closed_epoch (E.epochs self.life.epocher) height)))
-            self.held.witnessed a) }
-        ensures asks { OnOk result (Hears (R.told resolver.old) (raise_asks self.held.cutoff
-            (option_to_list (option_map at_epoch (closed_epoch (E.epochs self.life.epocher) height)))) (R.told resolver.new)) }
+        ensures ok { IfOk result (λ a. RaisesTo self (closed_at (E.epochs self.life.epocher) height) self.held.witnessed a) }
+        ensures asks { HearsUpTo (R.told resolver.old) (raise_asks self.held.cutoff (closed_at (E.epochs self.life.epocher) height)) (R.told resolver.new)
+            result }
         ensures goes_on { GoesOn (λ a. a.held) self.held nothing_written result }
         ensures usual { IfErr result (λ e. IsUsual e.fault) }
     {
@@ -208,7 +206,7 @@ impl<V: Variant, S: Holds<V>, P: Drop, E: Epocher> Node<V, S, P, E> {
         resolver: &mut R,
     ) -> Result<Self, Ended<V, S>>
         ensures ok { IfOk result (λ a. RaisesTo self (cutoff_of cutoff.now ∷ []) self.held.witnessed a) }
-        ensures asks { OnOk result (Hears (R.told resolver.old) (raise_asks self.held.cutoff (cutoff_of cutoff.now ∷ [])) (R.told resolver.new)) }
+        ensures asks { HearsUpTo (R.told resolver.old) (raise_asks self.held.cutoff (cutoff_of cutoff.now ∷ [])) (R.told resolver.new) result }
         ensures goes_on { GoesOn (λ a. a.held) self.held nothing_written result }
         ensures usual { IfErr result (λ e. IsUsual e.fault) }
     {
@@ -233,7 +231,7 @@ impl<V: Variant, S: Holds<V>, P: Drop, E: Epocher> Node<V, S, P, E> {
         resolver: &mut R,
     ) -> Result<Self, Ended<V, S>>
         ensures ok { IfOk result (λ a. a ≡ record self { held = record self.held { cutoff = cutoff_of cutoff.now; watches = a.held.watches } }) }
-        ensures asks { OnOk result (Hears (R.told resolver.old) (retain (above_round (cutoff_of cutoff.now)) ∷ []) (R.told resolver.new)) }
+        ensures asks { HearsUpTo (R.told resolver.old) (retain (above_round (cutoff_of cutoff.now)) ∷ []) (R.told resolver.new) result }
         ensures goes_on { GoesOn (λ a. a.held) self.held nothing_written result }
         ensures usual { IfErr result (λ e. IsUsual e.fault) }
     {

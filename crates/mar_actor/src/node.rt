@@ -1,12 +1,12 @@
 //! The node, which each of its steps consumes.
-ghost use Rattle.std.specs.Prelude.{◌≡◌, ◌≤◌, ◌+◌, Err, IfErr, IfOk, OnErr, OnOk, false, map};
+ghost use Rattle.std.specs.Prelude.{◌≡◌, ◌≤◌, ◌+◌, ◌∷◌, [], Err, IfErr, IfOk, OnErr, OnOk, false, map};
 ghost use Rattle.std.specs.List.{list_any};
 ghost use Rattle.mar_store.specs.Changes.{IsNested};
 ghost use Rattle.mar_node.specs.Acks.{is_unmarked};
 ghost use Rattle.mar_node.specs.Faults.{want_of_memory};
 ghost use Rattle.mar_node.specs.Held.{ArePassed, GoesOn, IsArchiveFault, IsEndedBy, IsNoStores, IsUsual, nothing_written, remains_of, with_armed};
 ghost use Rattle.mar_node.specs.Moves.{RunsOut};
-ghost use Rattle.mar_node.specs.Promise.{IsSmallEvent, KeepsPromise};
+ghost use Rattle.mar_node.specs.Promise.{IsSmallEvent, KeepsPromise, heard_by};
 ghost use Rattle.mar_node.specs.Stored.{AreSmall};
 ghost use Rattle.mar_shelf.specs.Views.{fault_of, store_name_of};
 ghost use Rattle.mar_actor.specs.Due.{EndsWhereDue, due_fault};
@@ -60,8 +60,8 @@ impl<V: Variant, S: Holds<V>, P: Drop, E: Epocher> Node<V, S, P, E> {
     ) -> Result<Self, Ended<V, S>>
         requires small_event { IsSmallEvent (event_of S.Finalization.plain event) }
         requires small_buffer { AreSmall (B.blocks buffer.now) }
-        ensures promise { KeepsPromise (E.epochs self.life.epocher) V.inner self (event_of S.Finalization.plain event) (B.blocks buffer.now)
-            (A.told application.old) (A.told application.new) (R.told resolver.old) (R.told resolver.new) result }
+        ensures promise { KeepsPromise (E.epochs self.life.epocher) V.inner self (event_of S.Finalization.plain event ∷ []) (B.blocks buffer.now)
+            (heard_by (A.told application.old) (R.told resolver.old)) (heard_by (A.told application.new) (R.told resolver.new)) result }
         ensures watches { IfOk result (λ n. ArePassed self.held.watches n.held.watches) }
         ensures cause { IfErr result (λ e. IsEndedBy self.held.watches e) }
         ensures by_value { EndsWhereDue (due_fault V.inner self (B.blocks buffer.now) (event_of S.Finalization.plain event)) result }

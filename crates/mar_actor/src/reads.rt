@@ -2,7 +2,9 @@
 ghost use Rattle.std.specs.Prelude.{◌≡◌, IfErr, IfOk, IfSome, option_map};
 ghost use Rattle.mar_store.specs.Kept.{value_at};
 ghost use Rattle.mar_node.specs.Held.{GoesOn, IsArchiveFault, IsUsual, nothing_written};
-ghost use Rattle.mar_node.specs.Moves.{IsRead, newest, round_at};
+ghost use Rattle.mar_node.specs.Event.{round_at};
+ghost use Rattle.mar_node.specs.Moves.{IsRead};
+ghost use Rattle.mar_node.specs.Stored.{newest};
 ghost use Rattle.mar_shelf.specs.Views.{entry_of};
 
 use crate::node::Node;

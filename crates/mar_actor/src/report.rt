@@ -11,9 +11,10 @@ ghost use Rattle.mar_store.specs.Sizes.{IsSmall};
 ghost use Rattle.mar_cert.specs.Finalization.{finalization_bytes};
 ghost use Rattle.mar_node.specs.Stored.{AreSmall, at_own_height, block_of, is_certified, is_held};
 ghost use Rattle.mar_node.specs.Event.{message_told};
-ghost use Rattle.mar_node.specs.Promise.{KeepsPromise};
+ghost use Rattle.mar_node.specs.Promise.{KeepsPromise, heard_by};
 ghost use Rattle.mar_node.specs.Held.{GoesOn, IsArchiveFault, IsUsual, nothing_written, written_both, written_cert};
-ghost use Rattle.mar_node.specs.Moves.{IsRead, LivesOn, StoresAbove, StoresLate, StoresValue, at_height, found_at_hand, lacks_finalization, late_tips, of_commitment, risen_to, tip_after, tip_reports, tips_above, wants};
+ghost use Rattle.mar_node.specs.Moves.{HearsUpTo, IsRead, LivesOn, StoresAbove, StoresLate, StoresValue, at_height, found_at_hand, lacks_finalization, late_tips, of_commitment, risen_to, tip_after, tip_reports, tips_above};
+ghost use Rattle.mar_node.specs.Requests.{want_asks};
 ghost use Rattle.mar_actor.specs.Due.{EndsWhereDue, storing_due};
 ghost use Rattle.mar_actor.specs.Told.{TellsInOrder, finalized_tips};
 
@@ -39,8 +40,8 @@ impl<V: Variant, S: Holds<V>, P: Drop, E: Epocher> Node<V, S, P, E> {
         requires small_buffer { AreSmall (B.blocks buffer.now) }
         requires small_held { AreSmall (map (λ x. x.value) self.held.blocks.held) }
         ensures promise { IsNested self.held.blocks → IsNested self.held.certs → KeepsPromise (E.epochs self.life.epocher) V.inner self
-            (message_told None (report_finalization (S.Finalization.plain finalization.now))) (B.blocks buffer.now) (A.told application.old)
-            (A.told application.new) (R.told resolver.old) (R.told resolver.new) result }
+            (message_told None (report_finalization (S.Finalization.plain finalization.now)) ∷ []) (B.blocks buffer.now)
+            (heard_by (A.told application.old) (R.told resolver.old)) (heard_by (A.told application.new) (R.told resolver.new)) result }
         ensures lives { IsNested self.held.blocks → IsNested self.held.certs → LivesOn self result }
         ensures by_value { EndsWhereDue (storing_due self.held (found_at_hand V.inner (B.blocks buffer.now) self.held.blocks.held
             (S.Finalization.plain finalization.now).payload)) result }
@@ -111,7 +112,8 @@ impl<V: Variant, S: Holds<V>, P: Drop, E: Epocher> Node<V, S, P, E> {
         finalization: &S::Finalization,
         resolver: &mut R,
     ) -> Result<Self, Ended<V, S>>
-        ensures asks { OnOk result (Hears (R.told resolver.old) (wants self.held.cutoff (S.Finalization.plain finalization.now)) (R.told resolver.new)) }
+        ensures asks { HearsUpTo (R.told resolver.old) (want_asks self.held.cutoff (S.Finalization.plain finalization.now).round
+            (S.Finalization.plain finalization.now).payload) (R.told resolver.new) result }
         ensures same { IfOk result (λ a. a ≡ self) }
         ensures goes_on { GoesOn (λ a. a.held) self.held nothing_written result }
         ensures usual { IfErr result (λ e. IsUsual e.fault) }
@@ -136,8 +138,8 @@ impl<V: Variant, S: Holds<V>, P: Drop, E: Epocher> Node<V, S, P, E> {
         ensures promise { (heard : Option (List Call)) → IsNested self.held.blocks → IsNested self.held.certs → (buffer : List Block)
             → found_at_hand V.inner buffer self.held.blocks.held (S.Finalization.plain finalization.now).payload ≡ Some (V.plain block.now)
             → nat_lt (height_of self.held.processed) (V.plain block.now).height ≡ true
-            → KeepsPromise (E.epochs self.life.epocher) V.inner self (message_told None (report_finalization (S.Finalization.plain finalization.now))) buffer
-            (A.told application.old) (A.told application.new) heard heard result }
+            → KeepsPromise (E.epochs self.life.epocher) V.inner self (message_told None (report_finalization (S.Finalization.plain finalization.now)) ∷ []) buffer
+            (heard_by (A.told application.old) heard) (heard_by (A.told application.new) heard) result }
         ensures lives { IsNested self.held.blocks → IsNested self.held.certs → LivesOn self result }
         ensures by_value { nat_lt (height_of self.held.processed) (V.plain block.now).height ≡ true
             → EndsWhereDue (storing_due self.held (Some (V.plain block.now))) result }
@@ -274,8 +276,8 @@ impl<V: Variant, S: Holds<V>, P: Drop, E: Epocher> Node<V, S, P, E> {
         ensures promise { IsNested self.held.blocks → IsNested self.held.certs → (buffer : List Block)
             → found_at_hand V.inner buffer self.held.blocks.held (S.Finalization.plain finalization.now).payload ≡ Some (V.plain block.now)
             → nat_lt (height_of self.held.processed) (V.plain block.now).height ≡ false
-            → KeepsPromise (E.epochs self.life.epocher) V.inner self (message_told None (report_finalization (S.Finalization.plain finalization.now))) buffer
-            (A.told application.old) (A.told application.new) (R.told resolver.old) (R.told resolver.new) result }
+            → KeepsPromise (E.epochs self.life.epocher) V.inner self (message_told None (report_finalization (S.Finalization.plain finalization.now)) ∷ []) buffer
+            (heard_by (A.told application.old) (R.told resolver.old)) (heard_by (A.told application.new) (R.told resolver.new)) result }
         ensures lives { IsNested self.held.blocks → IsNested self.held.certs → LivesOn self result }
         ensures by_value { EndsWhereDue None result }
         ensures tells { TellsInOrder (A.told application.old) (late_tips (lacks_finalization self.held (V.plain block.now)) self.life.tip

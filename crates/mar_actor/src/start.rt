@@ -1,13 +1,14 @@
 //! The start of a life.
-ghost use Rattle.std.specs.Prelude.{◌≡◌, [], IfErr, IfOk, List, OnErr, OnOk, None, Option};
+ghost use Rattle.std.specs.Prelude.{◌≡◌, ◌∷◌, [], IfErr, IfOk, List, OnErr, OnOk, None, Option};
 ghost use Rattle.mar_cert.specs.Block.{Block};
 ghost use Rattle.mar_key.specs.Hears.{Hears};
 ghost use Rattle.mar_key.specs.Keys.{Call};
 ghost use Rattle.mar_store.specs.Changes.{IsNested};
 ghost use Rattle.mar_node.specs.Event.{life_started};
 ghost use Rattle.mar_node.specs.Held.{GoesOn, IsUsual, nothing_written};
-ghost use Rattle.mar_node.specs.Moves.{IsRead, LivesOn, newest, newest_tips, with_newest};
-ghost use Rattle.mar_node.specs.Promise.{KeepsPromise};
+ghost use Rattle.mar_node.specs.Moves.{IsRead, LivesOn, newest_tips, with_newest};
+ghost use Rattle.mar_node.specs.Stored.{newest};
+ghost use Rattle.mar_node.specs.Promise.{KeepsPromise, heard_by};
 ghost use Rattle.mar_actor.specs.Due.{EndsWhereDue};
 ghost use Rattle.mar_actor.specs.Told.{TellsInOrder};
 
@@ -22,8 +23,8 @@ impl<V: Variant, S: Holds<V>, P: Drop, E: Epocher> Node<V, S, P, E> {
     /// Reports the newest stored finalization as the tip, and hands over what may follow.
     pub(crate) fn start<A: Reporter<V>>(self, application: &mut A) -> Result<Self, Ended<V, S>>
         ensures promise { IsNested self.held.blocks → IsNested self.held.certs → (heard : Option (List Call)) (buffer : List Block)
-            → KeepsPromise (E.epochs self.life.epocher) V.inner self (life_started None) buffer (A.told application.old) (A.told application.new) heard heard
-            result }
+            → KeepsPromise (E.epochs self.life.epocher) V.inner self (life_started None ∷ []) buffer (heard_by (A.told application.old) heard)
+            (heard_by (A.told application.new) heard) result }
         ensures lives { IsNested self.held.blocks → IsNested self.held.certs → LivesOn self result }
         ensures by_value { EndsWhereDue None result }
         ensures tells { TellsInOrder (A.told application.old) (newest_tips V.inner self.life.tip (newest self.held.certs.held)) (A.told application.new)

@@ -4,7 +4,7 @@ use Rattle.std.proofs.Math.ListN.{get_or-map}
 use Rattle.std.proofs.Math.Seq.{take-append_seam}
 use Rattle.std.proofs.lemmas.List.{drop-map, length-map, map-append, map-set, take_all}
 use Rattle.std.specs.List.{list_any}
-use Rattle.mar_key.specs.Asked.{Asked, IsAskedInPart, Judged, Recorded, annotations_of, asked_after, has_none, is_idle, with_annotation, with_fetch, with_retain, without_denied, without_empty}
+use Rattle.mar_key.specs.Asked.{Asked, annotations_of, asked_after, has_none, is_idle, with_annotation, with_fetch, with_retain, without_denied, without_empty}
 use Rattle.mar_key.specs.Fronts.{filter-map, list_any-map}
 use Rattle.mar_key.specs.Keys.{Annotation, Call, Key, Retain, annotation_eq, key_eq}
 
@@ -97,25 +97,6 @@ module _ (key : Key) (a : Annotation) {A : Type 0} (f : A → Asked) (xs ys : Li
       passed
       ∙ key_past key a (f d) (map f xs) i within_place (ap (λ x. key_eq key x.key) (sym at_place) ∙ other)
       ∙ ap (λ k. take k (map f xs) ++ with_fetch key a (drop k (map f xs))) (sym (add-one i))
-
-abbrev pub recorded : List Call → ℕ → List Asked → Recorded
-recorded asks settled keys = record { asks = asks; settled = settled; keys = keys }
-
--- the asks that were not yet taken in, as a slice of all of them
-asks_left : {A : Type 0} (f : A → Call) (asks view : List A) (n : ℕ) → view ≡ asks → map f (take (length view - n) (drop n view)) ≡ drop n (map f asks)
-asks_left f asks view n same =
-    ap (map f) (take_all (length view - n) (drop n view) (omega (arith, length-drop n view)))
-    ∙ ap (λ v. map f (drop n v)) same
-    ∙ sym (drop-map f n asks)
-
--- judgements first, then the asks that were not yet taken in
-pub keys_settled : {A : Type 0} (f : A → Call) (asks view : List A) (settled n : ℕ) (old new : List Asked) (judged : List Judged) → new ≡ asked_after old judged (map f (take (length view - n) (drop n view))) → view ≡ asks → settled ≡ length asks → recorded (map f asks) settled new ≡ recorded (map f asks) (length (map f asks)) (asked_after old judged (drop n (map f asks)))
-keys_settled f asks view settled n old new judged added same long =
-    ap₂ (recorded (map f asks)) (long ∙ sym (length-map asks f)) (added ∙ ap (asked_after old judged) (asks_left f asks view n same))
-
--- the same, where only the first part of the asks was taken in
-pub keys_in_part : {A : Type 0} (f : A → Call) (asks view : List A) (n : ℕ) (old new : List Asked) (judged : List Judged) → IsAskedInPart old judged (map f (take (length view - n) (drop n view))) new → view ≡ asks → IsAskedInPart old judged (drop n (map f asks)) new
-keys_in_part f asks view n old new judged part same = subst (λ left. IsAskedInPart old judged left new) (asks_left f asks view n same) part
 
 -- A search for a key's annotations, which has come to the place i.
 module _ (key : Key) {A : Type 0} (f : A → Asked) (xs : List A) (i : ℕ) (d : A) where

@@ -95,9 +95,3 @@ IsAsked x = IsFalse (is_idle x) × AreDistinct annotation_eq x.annotations
 pub record IsOpenList (xs : List Asked) : Type 0 where
   pub keys : AreDistinct (λ x y. key_eq x.key y.key) xs
   pub asked : AllByRecursion IsAsked xs
-
--- what contracts see of a recorder: all that was asked, how much of it the open keys have taken in, and the open keys
-pub record Recorded : Type 0 where
-  pub asks : List Call
-  pub settled : ℕ
-  pub keys : List Asked

@@ -1,4 +1,4 @@
--- A recorder's lists as the definitions see them.
+-- What was asked, and what is open, as the definitions see them.
 use Rattle.std.specs.Prelude.{List, map, ℕ}
 use Rattle.mar_key.specs.Asked.{Asked, Judged, Outcome, judged_complete, judged_ignored, judged_invalid}
 use Rattle.mar_key.specs.Keys.{Call, Key, retain}
@@ -8,8 +8,8 @@ use Rattle.mar_key.specs.declared.outcomes.Outcome.TheVariants.{Complete, Ignore
 use Rattle.mar_key.specs.declared.requests.Fetch.{Fetch}
 use Rattle.mar_key.specs.declared.recorder.Ask.{Ask}
 use Rattle.mar_key.specs.declared.recorder.Ask.TheVariants as ask
-use Rattle.mar_key.specs.declared.recorder.Asked.{Asked as AskedCode}
-use Rattle.mar_key.specs.declared.recorder.Judged.{Judged as JudgedCode}
+use Rattle.mar_key.specs.declared.open_requests.Asked.{Asked as AskedCode}
+use Rattle.mar_key.specs.declared.open_requests.Judged.{Judged as JudgedCode}
 
 abbrev pub ask_of : {D : Type 0} → (D → List ℕ) → Ask D → Call
 ask_of bytes (ask.Fetch f) = call_of bytes f

@@ -6,6 +6,7 @@ mod cutoffs;
 mod floors;
 mod keys;
 mod laws;
+mod open_requests;
 mod outcomes;
 mod peers;
 mod recorder;
@@ -20,9 +21,10 @@ pub use keys::Key;
 pub use laws::{
     annotation_laws, cutoff_laws, digest_keys, floor_laws, key_laws, open_key_laws, request_laws,
 };
+pub use open_requests::{Asked, Judged, OpenRequests, same_key};
 pub use outcomes::{Delivery, Outcome};
 pub use peers::{Consumer, Producer};
-pub use recorder::{Ask, Asked, Judged, Recorder, same_key};
+pub use recorder::{Ask, Recorder};
 pub use requests::{Fetch, Request};
 pub use resolvers::{Resolver, TargetedResolver};
 pub use subscription::Subscription;

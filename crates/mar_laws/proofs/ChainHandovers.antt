@@ -42,16 +42,16 @@ module _ (config : Config) (chain : Chain) where
   advances n (e ∷ d ∷ events) made n' (mid, first, others, split, a, rest) =
       subst (λ m. AreChains chain m.reports) (sym split) (both chain first.reports others.reports (from _ _ a.hands_chain) (advances mid (d ∷ events) others n' rest))
 
-  cuts : (n : Node) (events : List Event) (reports : List Report) (fault : Fault) (left : Ended) → Cuts config chain n events reports fault left → AreChains chain reports
-  cuts n events reports fault left c = subst (AreChains chain) (sym c.reports_split) (both chain c.first.reports c.later (advances n c.finished c.first c.mid c.advances) (from _ _ c.cut.hands_chain))
+  cuts : (n : Node) (events : List Event) (made : Made) (fault : Fault) (left : Ended) → Cuts config chain n events made fault left → AreChains chain made.reports
+  cuts n events made fault left c = subst (λ m. AreChains chain m.reports) (sym c.made_is) (both chain c.first.reports c.later.reports (advances n c.finished c.first c.mid c.advances) (from _ _ c.cut.hands_chain))
 
-  cuts_opening : (e : Ended) (picks : Picks) (begin : Begin) (reports : List Report) (fault : Fault) (left : Ended) → CutsOpening config chain e picks begin reports fault left → AreChains chain reports
-  cuts_opening e picks begin reports fault left (inl c) = subst (AreChains chain) (sym c.reports_none) tt
-  cuts_opening e picks begin reports fault left (inr c) = from _ _ c.cut.hands_chain
+  cuts_opening : (e : Ended) (picks : Picks) (begin : Begin) (made : Made) (fault : Fault) (left : Ended) → CutsOpening config chain e picks begin made fault left → AreChains chain made.reports
+  cuts_opening e picks begin made fault left (inl c) = subst (λ m. AreChains chain m.reports) (sym c.silent) tt
+  cuts_opening e picks begin made fault left (inr c) = from _ _ c.cut.hands_chain
 
   step : (n : Node) (events : List Event) (outcomes : List Judged) (produced_answers : Node → List TicketAnswer) (out : Output) (after : State) → StepDone config chain n events outcomes produced_answers out after → AreChains chain out.made.reports
   step n events outcomes produced_answers out (running n') d = subst (λ o. AreChains chain o.made.reports) (sym d.3) (advances n events d.0 d.1.unticketed d.1.advances)
-  step n events outcomes produced_answers out (stopped left) d = cuts n events out.made.reports d.0 left d.3
+  step n events outcomes produced_answers out (stopped left) d = cuts n events out.made d.0 left d.3
 
   steps : (n : Node) (events : List Event) (outcomes : List Judged) (produced_answers : Node → List TicketAnswer) (out : Output) (after : State) → EventsDone config chain n events outcomes produced_answers out after → AreChains chain out.made.reports
   steps n [] outcomes produced_answers out after d = subst (λ o. AreChains chain o.made.reports) (sym d.0) tt
@@ -59,7 +59,7 @@ module _ (config : Config) (chain : Chain) where
 
   opens : (e : Ended) (picks : Picks) (begin : Begin) (out : Output) (after : State) → OpenDone config chain e picks begin out after → AreChains chain out.made.reports
   opens e picks begin out (running n) d = subst (λ o. AreChains chain o.made.reports) (sym d.3) (advances d.1.first (life_started (floor_of begin) ∷ []) d.0 d.1.start.unticketed d.1.start.advances)
-  opens e picks begin out (stopped left) d = cuts_opening e picks begin out.made.reports d.0 left d.3
+  opens e picks begin out (stopped left) d = cuts_opening e picks begin out.made d.0 left d.3
 
   taken_by : (b : Bool) (n : Node) (q : Queued) (out : Output) (after : State) → TakenDone b config chain n q out after → AreChains chain out.made.reports
   taken_by true n q out after d = subst (λ o. AreChains chain o.made.reports) (sym d.0) tt

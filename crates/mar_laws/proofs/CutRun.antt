@@ -34,7 +34,7 @@ cut_at_meta = record {
 good : IsGoodEnded chain cut_at_meta
 good = record { may_blocks = (refl, tt); may_certs = tt; may_cached = tt; may_cached_blocks = tt; backed = (tt, (inl refl, tt)); floor_safe = (zero_safe, (safe_at_zero cut_at_meta.blocks_sure, tt)) }
 
-cut : CutsEvent config chain n0.meta None n0 (ack_given 0) [] (store_fault meta_store) cut_at_meta
+cut : CutsEvent config chain n0.meta None n0 (ack_given 0) (record nothing_made { asks = retain (above_height 0) ∷ [] }) (store_fault meta_store) cut_at_meta
 cut = record {
   tip = 0;
   tips = refl;
@@ -60,6 +60,9 @@ cut = record {
     sure_blocks = λ h sure. sure;
     sure_certs = λ h sure. sure;
   };
+  asks = ([], refl);
+  sends = ([], refl);
+  answers = (0, ([], refl));
   first_pair = inl refl;
   no_lower = (lit≤ tt, (lit≤ tt, tt));
   cause = λ by_value. cc;
@@ -78,8 +81,8 @@ failed_sync_line = (
     others = [];
     split = refl;
     first = nothing_made;
-    later = [];
-    reports_split = refl;
+    later = record nothing_made { asks = retain (above_height 0) ∷ [] };
+    made_is = refl;
     mid = n0;
     advances = (refl, refl);
     cut = cut;

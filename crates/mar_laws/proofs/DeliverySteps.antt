@@ -17,7 +17,7 @@ use Rattle.mar_script.specs.Text.{silent_output, remark_output, remark_ignored, 
 use Rattle.mar_script.specs.Run.{LineDone, Run, empty_stores, next_picks}
 use Rattle.mar_laws.proofs.SmallChain.{b0, b1, d1, f1, r1, config}
 use Rattle.mar_laws.proofs.DeliveryRun.{fresh, making, none_failed, begun, n0, n1, n2, n3, n4, delivery_run}
-use Rattle.mar_laws.proofs.SmallEntries.{new_block, new_cert, new_certificates, same_certificates, settled_heights}
+use Rattle.mar_laws.proofs.SmallEntries.{new_block, new_cert, new_certificates, same_certificates, settled_of, settled_stores}
 use Rattle.mar_laws.proofs.SmallFacts.{same_kept, grown_kept, not_entered, entered_own}
 
 -- Of any chain that has these two blocks and this finalized round, and whose other rounds the cutoffs
@@ -33,31 +33,24 @@ module _ (chain : Chain) (at0 : IsBlockAt chain 0 b0) (at1 : IsBlockAt chain 1 b
     good0 : IsGood config chain n0
     good0 = record {
       heights = record {
-        nested_blocks = settled_heights _;
-        nested_certs = settled_heights _;
-        sure_blocks = λ h held. inl held;
-        sure_certs = λ h held. inl held;
-        consecutive = (refl, tt);
-        out_sure = (refl, tt);
-        within_window = lit≤ tt;
+        stores = settled_stores _ _;
+        delivery = record {
+          consecutive = (refl, tt);
+          out_sure = (refl, tt);
+          within_window = lit≤ tt;
+          anchored = tt;
+        };
         floor_clears = λ some. cc;
-        anchored = tt;
         own_pair = refl;
         sync_open = λ more. absurd (omega arith);
       };
       of_chain = record {
-        held_blocks = (at0, tt);
-        may_blocks = (at0, tt);
-        held_certs = tt;
-        may_certs = tt;
-        cached = tt;
-        cached_blocks = tt;
+        stores = record { held_blocks = (at0, tt); may_blocks = (at0, tt); held_certs = tt; may_certs = tt };
+        cache = record { finalizations = tt; blocks = tt };
+        asks = record { requests = tt; ready = tt; overflow = tt };
         awaits = tt;
-        floor_safe = zero_safe;
-        honest_asks = tt;
-        honest_ready = tt;
-        honest_overflow = tt;
         not_at_hand = tt;
+        floor_safe = zero_safe;
         tip_reported = tt;
       };
     }
@@ -65,31 +58,24 @@ module _ (chain : Chain) (at0 : IsBlockAt chain 0 b0) (at1 : IsBlockAt chain 1 b
     good2 : IsGood config chain n2
     good2 = record {
       heights = record {
-        nested_blocks = settled_heights _;
-        nested_certs = settled_heights _;
-        sure_blocks = λ h held. inl held;
-        sure_certs = λ h held. inl held;
-        consecutive = (refl, (refl, tt));
-        out_sure = (refl, (refl, tt));
-        within_window = lit≤ tt;
+        stores = settled_stores _ _;
+        delivery = record {
+          consecutive = (refl, (refl, tt));
+          out_sure = (refl, (refl, tt));
+          within_window = lit≤ tt;
+          anchored = tt;
+        };
         floor_clears = λ some. cc;
-        anchored = tt;
         own_pair = refl;
         sync_open = λ more. absurd (omega arith);
       };
       of_chain = record {
-        held_blocks = (at0, (at1, tt));
-        may_blocks = (at0, (at1, tt));
-        held_certs = (finalizes, tt);
-        may_certs = (finalizes, tt);
-        cached = tt;
-        cached_blocks = tt;
+        stores = settled_of _ _ _ (at0, (at1, tt)) (finalizes, tt);
+        cache = record { finalizations = tt; blocks = tt };
+        asks = record { requests = tt; ready = tt; overflow = tt };
         awaits = tt;
-        floor_safe = zero_safe;
-        honest_asks = tt;
-        honest_ready = tt;
-        honest_overflow = tt;
         not_at_hand = tt;
+        floor_safe = zero_safe;
         tip_reported = (lit≤ tt, tt);
       };
     }
@@ -97,31 +83,24 @@ module _ (chain : Chain) (at0 : IsBlockAt chain 0 b0) (at1 : IsBlockAt chain 1 b
     good3 : IsGood config chain n3
     good3 = record {
       heights = record {
-        nested_blocks = settled_heights _;
-        nested_certs = settled_heights _;
-        sure_blocks = λ h held. inl held;
-        sure_certs = λ h held. inl held;
-        consecutive = (refl, tt);
-        out_sure = (refl, tt);
-        within_window = lit≤ tt;
+        stores = settled_stores _ _;
+        delivery = record {
+          consecutive = (refl, tt);
+          out_sure = (refl, tt);
+          within_window = lit≤ tt;
+          anchored = refl;
+        };
         floor_clears = λ some. cc;
-        anchored = refl;
         own_pair = refl;
         sync_open = λ more. absurd (omega arith);
       };
       of_chain = record {
-        held_blocks = (at0, (at1, tt));
-        may_blocks = (at0, (at1, tt));
-        held_certs = (finalizes, tt);
-        may_certs = (finalizes, tt);
-        cached = tt;
-        cached_blocks = tt;
+        stores = settled_of _ _ _ (at0, (at1, tt)) (finalizes, tt);
+        cache = record { finalizations = tt; blocks = tt };
+        asks = record { requests = tt; ready = tt; overflow = tt };
         awaits = tt;
-        floor_safe = safe_at_zero n3.blocks.sure;
-        honest_asks = tt;
-        honest_ready = tt;
-        honest_overflow = tt;
         not_at_hand = tt;
+        floor_safe = safe_at_zero n3.blocks.sure;
         tip_reported = (lit≤ tt, tt);
       };
     }
@@ -129,31 +108,19 @@ module _ (chain : Chain) (at0 : IsBlockAt chain 0 b0) (at1 : IsBlockAt chain 1 b
     pub good4 : IsGood config chain n4
     good4 = record {
       heights = record {
-        nested_blocks = settled_heights _;
-        nested_certs = settled_heights _;
-        sure_blocks = λ h held. inl held;
-        sure_certs = λ h held. inl held;
-        consecutive = tt;
-        out_sure = tt;
-        within_window = lit≤ tt;
+        stores = settled_stores _ _;
+        delivery = record { consecutive = tt; out_sure = tt; within_window = lit≤ tt; anchored = refl };
         floor_clears = λ some. cc;
-        anchored = refl;
         own_pair = refl;
         sync_open = λ more. absurd (omega arith);
       };
       of_chain = record {
-        held_blocks = (at0, (at1, tt));
-        may_blocks = (at0, (at1, tt));
-        held_certs = (finalizes, tt);
-        may_certs = (finalizes, tt);
-        cached = tt;
-        cached_blocks = tt;
+        stores = settled_of _ _ _ (at0, (at1, tt)) (finalizes, tt);
+        cache = record { finalizations = tt; blocks = tt };
+        asks = record { requests = tt; ready = tt; overflow = tt };
         awaits = tt;
-        floor_safe = safe_at_one n4.blocks.sure;
-        honest_asks = tt;
-        honest_ready = tt;
-        honest_overflow = tt;
         not_at_hand = tt;
+        floor_safe = safe_at_one n4.blocks.sure;
         tip_reported = (lit≤ tt, tt);
       };
     }

@@ -14,7 +14,7 @@ use Rattle.mar_store.proofs.Lookups.{value_at-append_found}
 use Rattle.mar_laws.proofs.SmallChain.{b0, b1, d1, f1, r1, chain, config}
 use Rattle.mar_laws.proofs.DeliveryRun.{fresh, making, none_failed, n1, n2, line}
 use Rattle.mar_laws.proofs.SmallCutoffs.{zero_safe, finalizes}
-use Rattle.mar_laws.proofs.SmallEntries.{new_block, new_cert, new_certificates, same_certificates, settled_heights}
+use Rattle.mar_laws.proofs.SmallEntries.{new_block, new_cert, new_certificates, same_certificates, settled_of, settled_stores}
 use Rattle.mar_laws.proofs.SmallFacts.{not_entered, entered_own}
 
 abbrev pub m2 : Node
@@ -59,31 +59,34 @@ blocks_nested h = by (0 == h) (1 == h)
 good2 : IsGood config chain m2
 good2 = record {
   heights = record {
-    nested_blocks = record { sure_held = blocks_nested; held_may = λ h is. is };
-    nested_certs = record { sure_held = λ h is. absurd cc; held_may = λ h is. is };
-    sure_blocks = blocks_written;
-    sure_certs = certs_written;
-    consecutive = (refl, tt);
-    out_sure = (refl, tt);
-    within_window = lit≤ tt;
+    stores = record {
+      nested_blocks = record { sure_held = blocks_nested; held_may = λ h is. is };
+      nested_certs = record { sure_held = λ h is. absurd cc; held_may = λ h is. is };
+      sure_blocks = blocks_written;
+      sure_certs = certs_written;
+    };
+    delivery = record {
+      consecutive = (refl, tt);
+      out_sure = (refl, tt);
+      within_window = lit≤ tt;
+      anchored = tt;
+    };
     floor_clears = λ some. cc;
-    anchored = tt;
     own_pair = refl;
     sync_open = λ more. (0, lit< tt, refl);
   };
   of_chain = record {
-    held_blocks = (refl, (refl, tt));
-    may_blocks = (refl, (refl, tt));
-    held_certs = (finalizes, tt);
-    may_certs = (finalizes, tt);
-    cached = tt;
-    cached_blocks = tt;
+    stores = record {
+      held_blocks = (refl, (refl, tt));
+      may_blocks = (refl, (refl, tt));
+      held_certs = (finalizes, tt);
+      may_certs = (finalizes, tt);
+    };
+    cache = record { finalizations = tt; blocks = tt };
+    asks = record { requests = tt; ready = tt; overflow = tt };
     awaits = tt;
-    floor_safe = zero_safe;
-    honest_asks = tt;
-    honest_ready = tt;
-    honest_overflow = tt;
     not_at_hand = tt;
+    floor_safe = zero_safe;
     tip_reported = (lit≤ tt, tt);
   };
 }
@@ -91,31 +94,24 @@ good2 = record {
 good3 : IsGood config chain m3
 good3 = record {
   heights = record {
-    nested_blocks = settled_heights _;
-    nested_certs = settled_heights _;
-    sure_blocks = λ h held. inl held;
-    sure_certs = λ h held. inl held;
-    consecutive = (refl, (refl, tt));
-    out_sure = (refl, (refl, tt));
-    within_window = lit≤ tt;
+    stores = settled_stores _ _;
+    delivery = record {
+      consecutive = (refl, (refl, tt));
+      out_sure = (refl, (refl, tt));
+      within_window = lit≤ tt;
+      anchored = tt;
+    };
     floor_clears = λ some. cc;
-    anchored = tt;
     own_pair = refl;
     sync_open = λ more. absurd (omega arith);
   };
   of_chain = record {
-    held_blocks = (refl, (refl, tt));
-    may_blocks = (refl, (refl, tt));
-    held_certs = (finalizes, tt);
-    may_certs = (finalizes, tt);
-    cached = tt;
-    cached_blocks = tt;
+    stores = settled_of _ _ _ (refl, (refl, tt)) (finalizes, tt);
+    cache = record { finalizations = tt; blocks = tt };
+    asks = record { requests = tt; ready = tt; overflow = tt };
     awaits = tt;
-    floor_safe = zero_safe;
-    honest_asks = tt;
-    honest_ready = tt;
-    honest_overflow = tt;
     not_at_hand = tt;
+    floor_safe = zero_safe;
     tip_reported = (lit≤ tt, tt);
   };
 }

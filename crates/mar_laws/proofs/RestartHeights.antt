@@ -109,7 +109,7 @@ module _ (config : Config) (chain : Chain) where
   step_least : (k : ℕ) (n : Node) (events : List Event) (outcomes : List Judged) (produced_answers : Node → List TicketAnswer) (out : Output) (after : State) → ConsecutiveFrom (first_unprocessed n.processed) n.out → k ≤ first_unprocessed n.processed → StepDone config chain n events outcomes produced_answers out after → IsInOrder after × AtLeast k after
   step_least k n events outcomes produced_answers out (running n') c low d =
       let rise : first_unprocessed n.processed ≤ first_unprocessed n'.processed = steps_rise n events d.0 (record n' { unanswered = n.unanswered }) d.1 c in
-      ((d.1.good.heights.consecutive, d.1.good.heights.own_pair), omega arith)
+      ((d.1.good.heights.delivery.consecutive, d.1.good.heights.own_pair), omega arith)
   step_least k n events outcomes produced_answers out (stopped left) c low d =
       (tt, AllByRecursion-weaker (λ p. NotBelow (option_map height_in n.processed) p.processed) (λ p. k ≤ next_after p.processed) (λ p above. let same : next_after (option_map height_in n.processed) ≡ first_unprocessed n.processed = next_after-is n.processed in omega arith) left.meta d.3.cut.no_lower)
 
@@ -122,7 +122,7 @@ module _ (config : Config) (chain : Chain) where
       let o : Opens config chain e picks begin d.0 n = d.1 in
       let low : k ≤ first_unprocessed o.first.processed = found_least k e picks begin o.first a o.finds in
       let rise : first_unprocessed o.first.processed ≤ first_unprocessed n.processed = steps_rise o.first (life_started (floor_of begin) ∷ []) d.0 n o.start (found_out e picks begin o.first o.finds) in
-      ((o.start.good.heights.consecutive, o.start.good.heights.own_pair), omega arith)
+      ((o.start.good.heights.delivery.consecutive, o.start.good.heights.own_pair), omega arith)
   open_least k e picks begin out (stopped left) a d = (tt, cut d.3)
     where
       pair_least : (n : Node) (p : Pair) → k ≤ first_unprocessed n.processed → p ≡ pair_of n.processed n.cutoff → k ≤ next_after p.processed
@@ -132,7 +132,7 @@ module _ (config : Config) (chain : Chain) where
       either p (inl there) = AllByRecursion-contains (λ q. k ≤ next_after q.processed) e.meta p a there
       either p (inr (n, f, is)) = pair_least n p (found_least k e picks begin n a f) is
 
-      cut : CutsOpening config chain e picks begin out.made.reports d.0 left → AllByRecursion (λ p. k ≤ next_after p.processed) left.meta
+      cut : CutsOpening config chain e picks begin out.made d.0 left → AllByRecursion (λ p. k ≤ next_after p.processed) left.meta
       cut (inl c) = AllByRecursion-weaker _ _ either left.meta c.leaves.pairs
       cut (inr c) =
           let low : k ≤ first_unprocessed c.first.processed = found_least k e picks begin c.first a c.finds in

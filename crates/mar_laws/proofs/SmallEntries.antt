@@ -4,7 +4,8 @@ use Rattle.mar_cert.specs.Block.{Block}
 use Rattle.mar_cert.specs.Finalization.{Finalization}
 use Rattle.mar_store.specs.Kept.{At, reopened_store, value_at}
 use Rattle.mar_node.specs.Messages.{report_finalization}
-use Rattle.mar_node.specs.Node.{AreNestedHeights, Node}
+use Rattle.mar_node.specs.Chain.{Chain}
+use Rattle.mar_node.specs.Node.{AreBlocksOf, AreFinalizationsOf, AreGoodStores, AreNestedHeights, AreStoresOf, Node}
 use Rattle.mar_node.specs.Event.{Event, Storing, message_told, storing_of, told_finalization}
 use Rattle.mar_node.specs.Step.{CertificatesFrom, IsBlockFrom, IsCertFrom}
 use Rattle.mar_laws.proofs.SmallChain.{f1}
@@ -13,6 +14,18 @@ use Rattle.mar_laws.proofs.DeliveryRun.{n1, n2}
 -- all that is held is sure
 pub settled_heights : {T : Type 0} (xs : List (At T)) → AreNestedHeights (reopened_store xs)
 settled_heights xs = record { sure_held = λ h is. is; held_may = λ h is. is }
+
+pub settled_stores : (blocks : List (At Block)) (certs : List (At Finalization)) → AreGoodStores (reopened_store blocks) (reopened_store certs) []
+settled_stores blocks certs = record {
+  nested_blocks = settled_heights blocks;
+  nested_certs = settled_heights certs;
+  sure_blocks = λ h held. inl held;
+  sure_certs = λ h held. inl held;
+}
+
+-- and a crash leaves just that
+pub settled_of : (chain : Chain) (blocks : List (At Block)) (certs : List (At Finalization)) → AreBlocksOf chain blocks → AreFinalizationsOf chain certs → AreStoresOf chain (reopened_store blocks) (reopened_store certs)
+settled_of chain blocks certs of_blocks of_certs = record { held_blocks = of_blocks; may_blocks = of_blocks; held_certs = of_certs; may_certs = of_certs }
 
 -- an event that tells no finalization, and stores none
 pub same_certificates : (n : Node) (e : Event) (n' : Node) → told_finalization n e ≡ None → n'.certs.held ≡ n.certs.held → CertificatesFrom n e n'

@@ -47,7 +47,7 @@ right_after_put : (n : Node) → value_at n.blocks.sure 1 ≡ None → Advances 
 right_after_put n unsure a = not_some (sym unsure ∙ (a.hands_chain.0).1)
 
 -- one that hands it over and then fails to sync it
-sync_failed : (before : List Pair) (least : Option ℕ) (fault : Fault) (left : Ended) → value_at left.blocks_sure 1 ≡ None → CutsEvent config chain before least n1 (message_told None (report_finalization f1)) (new_tip r1 1 d1 ∷ handed_over 1 b1 ∷ []) fault left → ⊥
+sync_failed : (before : List Pair) (least : Option ℕ) (fault : Fault) (left : Ended) → value_at left.blocks_sure 1 ≡ None → CutsEvent config chain before least n1 (message_told None (report_finalization f1)) (record nothing_made { reports = new_tip r1 1 d1 ∷ handed_over 1 b1 ∷ [] }) fault left → ⊥
 sync_failed before least fault left unsure c = not_some (sym unsure ∙ (c.hands_chain.0).1)
 
 -- NEVER HANDED OVER
@@ -180,7 +180,7 @@ waits_at_hand good = not_none (good.of_chain.not_at_hand).1
 
 -- a body that hands over height 1 where 0 is the first unprocessed one
 skips : (n : Node) → n.processed ≡ None → n.out ≡ record { ticket = 1; height = 1; mark = mark_waiting } ∷ [] → IsGood config chain n → ⊥
-skips n unprocessed out good = refuse (subst (λ o. ConsecutiveFrom 0 o) out (subst (λ p. ConsecutiveFrom (first_unprocessed p) n.out) unprocessed good.heights.consecutive)).0
+skips n unprocessed out good = refuse (subst (λ o. ConsecutiveFrom 0 o) out (subst (λ p. ConsecutiveFrom (first_unprocessed p) n.out) unprocessed good.heights.delivery.consecutive)).0
   where
     refuse : ◌≡◌ {A = ℕ} 1 0 → ⊥
     refuse e = omega arith
@@ -203,7 +203,7 @@ invalid_to_all key bytes annotations right answer completes judges = judges.2 ri
 
 -- a body that stores a block of height 7 at height 1
 unverified : (n : Node) (b : Block) → b.height ≡ 7 → n.blocks.held ≡ record { height = 1; value = b } ∷ [] → IsGood config chain n → ⊥
-unverified n b odd held good = refuse (subst (λ xs. AreBlocksOf chain xs) held good.of_chain.held_blocks).0
+unverified n b odd held good = refuse (subst (λ xs. AreBlocksOf chain xs) held good.of_chain.stores.held_blocks).0
   where
     refuse : ◌≡◌ {A = Option Block} (Some b1) (Some b) → ⊥
     refuse e = let p : b1 ≡ b = same e in let q : ◌≡◌ {A = ℕ} 1 7 = ap (λ c. c.height) p ∙ odd in omega arith

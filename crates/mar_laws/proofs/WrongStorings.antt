@@ -74,16 +74,16 @@ keeps_uncovered n none made a = low a.writes.blocking a.writes.at_least (sym non
 -- CUTS
 
 -- a body that syncs the metadata before it ends in a dropped acknowledgement
-syncs_dropped : (earlier : List Pair) (least : Option ℕ) (reports : List Report) (left : Ended) → (left.meta ≡ n3.meta → ⊥) → CutsEvent config chain earlier least n3 (ack_dropped 1) reports (dropped_ack 1) left → ⊥
-syncs_dropped earlier least reports left other c = other (c.unsynced refl)
+syncs_dropped : (earlier : List Pair) (least : Option ℕ) (made : Made) (left : Ended) → (left.meta ≡ n3.meta → ⊥) → CutsEvent config chain earlier least n3 (ack_dropped 1) made (dropped_ack 1) left → ⊥
+syncs_dropped earlier least made left other c = other (c.unsynced refl)
 
 -- one that stores something of a floor that it refuses
-leaves_floor : (earlier : List Pair) (least : Option ℕ) (reports : List Report) (left : Ended) (f : Finalization) → (left ≡ left_by n3 → ⊥) → CutsEvent config chain earlier least n3 (message_told None (set_floor f)) reports (floor_invalid f.round) left → ⊥
-leaves_floor earlier least reports left f other c = other (c.refused refl)
+leaves_floor : (earlier : List Pair) (least : Option ℕ) (made : Made) (left : Ended) (f : Finalization) → (left ≡ left_by n3 → ⊥) → CutsEvent config chain earlier least n3 (message_told None (set_floor f)) made (floor_invalid f.round) left → ⊥
+leaves_floor earlier least made left f other c = other (c.refused refl)
 
 -- one that hands block 1 over a second time as the acknowledgement of block 0 is cut, as the height before the event with the
 -- list after it would have it
-hands_again : (before : List Pair) (least : Option ℕ) (fault : Fault) (left : Ended) → CutsEvent config chain before least n2 (ack_given 0) (handed_over 2 b1 ∷ []) fault left → ⊥
+hands_again : (before : List Pair) (least : Option ℕ) (fault : Fault) (left : Ended) → CutsEvent config chain before least n2 (ack_given 0) (record nothing_made { reports = handed_over 2 b1 ∷ [] }) fault left → ⊥
 hands_again before least fault left c = by c.reached_is
   where
     apart : ◌≡◌ {A = ℕ} 1 2 → ⊥
@@ -94,8 +94,15 @@ hands_again before least fault left c = by c.reached_is
     by (inr (is, durable)) = apart (c.in_order.1 ∙ ap (λ r. next_after r.processed + length r.out) is)
 
 -- one after which a held block may not be left
-forgets_held : (before : List Pair) (least : Option ℕ) (reports : List Report) (fault : Fault) (left : Ended) → left.blocks_may ≡ [] → CutsEvent config chain before least n2 (ack_given 0) reports fault left → ⊥
-forgets_held before least reports fault left none c = on_off (sym (c.may.held_blocks 1 (lit≤ tt) refl) ∙ ap (λ xs. has_height xs 1) none)
+forgets_held : (before : List Pair) (least : Option ℕ) (made : Made) (fault : Fault) (left : Ended) → left.blocks_may ≡ [] → CutsEvent config chain before least n2 (ack_given 0) made fault left → ⊥
+forgets_held before least made fault left none c = on_off (sym (c.may.held_blocks 1 (lit≤ tt) refl) ∙ ap (λ xs. has_height xs 1) none)
+
+-- one that asks for what the event would not, before it is cut
+asks_otherwise : (before : List Pair) (least : Option ℕ) (fault : Fault) (left : Ended) → CutsEvent config chain before least n2 (ack_given 0) (record nothing_made { asks = retain (above_height 1) ∷ [] }) fault left → ⊥
+asks_otherwise before least fault left c = apart _ _ c.asks.1
+  where
+    apart : (xs ys : List Call) → retain (above_height 0) ∷ xs ≡ retain (above_height 1) ∷ ys → ⊥
+    apart xs ys e = let same : ◌≡◌ {A = ℕ} 0 1 = cc in omega arith
 
 -- STORINGS AND HAND-OVERS
 

@@ -18,14 +18,14 @@ use Rattle.mar_node.specs.Metadata.{Pair, pair_of}
 use Rattle.mar_node.specs.Cache.{Witnessing, prunes_by, with_witness, witnessing_of}
 use Rattle.mar_node.specs.Chain.{Chain, IsLawful}
 use Rattle.mar_node.specs.Config.{Config}
-use Rattle.mar_node.specs.Event.{ack_given, acked_to, cutoff_after, no_floor, processed_after, retired_cutoffs}
+use Rattle.mar_node.specs.Event.{ack_given, acked_to, all_retired, cutoff_after, no_floor, processed_after, round_at}
 use Rattle.mar_node.specs.Faults.{dropped_first, next_after}
 use Rattle.mar_node.specs.Held.{Watches, Seen}
 use Rattle.mar_node.specs.Lives.{NotBelow, later_round}
-use Rattle.mar_node.specs.Moves.{Drains, progress_asks, retired, round_at}
+use Rattle.mar_node.specs.Moves.{Drains}
 use Rattle.mar_node.specs.Node.{FloorSafe, IsGood, Node, Rest, block_missing, floor_awaited, window_full, write_uncovered}
 use Rattle.mar_node.specs.Promise.{node_of}
-use Rattle.mar_node.specs.Requests.{own_asks, raise_asks, retire_asks}
+use Rattle.mar_node.specs.Requests.{own_asks, retire_asks}
 use Rattle.mar_node.specs.Sound.{IsSafePair}
 use Rattle.mar_node.proofs.Cutting.{MayBeLeft, keeps_heights}
 use Rattle.mar_node.proofs.FloorSafety.{FloorSafe-after, next_after-is}
@@ -94,32 +94,6 @@ later_rounds-are certs retention w (o ∷ out) = by (round_at certs o.height) (�
     by None others = others w
     by (Some r) others = newer r (round_lt w.last r) others
 
--- CUTOFFS
-
-module _ (config : Config) (n : Node) where
-  -- the cutoffs of a drained height, said of its certificate and of its round
-  retired-is : (o : Outstanding) → retired config.epochs n.certs.held o.height ≡ retired_cutoffs config n o
-  retired-is o = by (value_at n.certs.held o.height)
-    where
-      closed : List Cutoff
-      closed = option_to_list (option_map at_epoch (closed_epoch config.epochs o.height))
-
-      by : (f : Option Finalization) → option_to_list (option_map at_round (option_map (λ x. x.round) f)) ++ closed ≡ option_to_list (option_map (λ x. at_round x.round) f) ++ closed
-      by None = refl
-      by (Some f) = refl
-
-  -- and those of all of them
-  all_retired-are : (out : List Outstanding) → flat_map (λ o. retired config.epochs n.certs.held o.height) out ≡ flat_map (retired_cutoffs config n) out
-  all_retired-are [] = refl
-  all_retired-are (o ∷ out) = ap₂ (λ xs ys. xs ++ ys) (retired-is o) (all_retired-are out)
-
-  -- what is asked as these are processed is what the node asks as it drains them
-  progress_asks-are : (cutoff : Cutoff) (out : List Outstanding) → progress_asks config.epochs n.certs.held cutoff out ≡ retire_asks config n cutoff out
-  progress_asks-are cutoff [] = refl
-  progress_asks-are cutoff (o ∷ out) =
-      ap (λ cs. retain (above_height o.height) ∷ raise_asks cutoff cs ++ progress_asks config.epochs n.certs.held (greatest_of cutoff cs) out) (retired-is o)
-      ∙ ap (λ asks. retain (above_height o.height) ∷ raise_asks cutoff (retired_cutoffs config n o) ++ asks) (progress_asks-are (greatest_of cutoff (retired_cutoffs config n o)) out)
-
 -- THE EVENT
 
 -- an actor once its own pair was synced
@@ -143,7 +117,7 @@ module _ {P E : Type 0} (config : Config) (chain : Chain) (lawful : IsLawful con
   processed = acked_to a.held.processed drained
 
   abbrev pub cutoff : Cutoff
-  cutoff = greatest_of a.held.cutoff (flat_map (λ o. retired config.epochs a.held.certs.held o.height) drained)
+  cutoff = greatest_of a.held.cutoff (all_retired config.epochs a.held.certs.held drained)
 
   -- the actor once they are drained, with these pairs and counted calls
   abbrev pub drained_to : List Pair → Watches → Seen P E
@@ -164,11 +138,11 @@ module _ {P E : Type 0} (config : Config) (chain : Chain) (lawful : IsLawful con
 
   -- the cutoff is the event's
   pub cutoff-is : cutoff ≡ cutoff_after config n (ack_given t) no_floor
-  cutoff-is = ap (greatest_of a.held.cutoff) (all_retired-are config n drained ∙ sym (append-nil (flat_map (retired_cutoffs config n) drained ++ []) ∙ append-nil (flat_map (retired_cutoffs config n) drained)))
+  cutoff-is = ap (greatest_of a.held.cutoff) (sym (append-nil (all_retired config.epochs a.held.certs.held drained ++ []) ∙ append-nil (all_retired config.epochs a.held.certs.held drained)))
 
   -- what is asked is what the event asks
-  pub asks-drained : progress_asks config.epochs a.held.certs.held a.held.cutoff drained ≡ own_asks config n (ack_given t) no_floor
-  asks-drained = progress_asks-are config n a.held.cutoff drained ∙ sym (append-nil (retire_asks config n a.held.cutoff drained ++ []) ∙ append-nil (retire_asks config n a.held.cutoff drained))
+  pub asks-drained : retire_asks config.epochs a.held.certs.held a.held.cutoff drained ≡ own_asks config n (ack_given t) no_floor
+  asks-drained = sym (append-nil (retire_asks config.epochs a.held.certs.held a.held.cutoff drained ++ []) ∙ append-nil (retire_asks config.epochs a.held.certs.held a.held.cutoff drained))
 
   -- and so is the round that is witnessed last
   witnessed-is : fold (λ r o. later_round r (round_at a.held.certs.held o.height)) a.held.witnessed drained ≡ (witnessing_of config n (ack_given t) no_floor).last
@@ -179,45 +153,38 @@ module _ {P E : Type 0} (config : Config) (chain : Chain) (lawful : IsLawful con
 
   -- it covers nothing but what is processed or, next after that, sure
   floor_safe : FloorSafe (option_map height_in processed) cutoff a.held.blocks.sure chain
-  floor_safe = subst (λ c. FloorSafe (option_map height_in processed) c a.held.blocks.sure chain) (sym cutoff-is) (FloorSafe-after config chain lawful partition n (ack_given t) a.held.blocks.sure good.of_chain.held_certs good.heights.consecutive good.of_chain.floor_safe (λ h low has. has) tt tt)
+  floor_safe = subst (λ c. FloorSafe (option_map height_in processed) c a.held.blocks.sure chain) (sym cutoff-is) (FloorSafe-after config chain lawful partition n (ack_given t) a.held.blocks.sure good.of_chain.stores.held_certs good.heights.delivery.consecutive good.of_chain.floor_safe (λ h low has. has) tt tt)
 
   -- the window still holds what stays
   still_within : length (after_given given.life.out) ≤ config.window
   still_within =
       let fewer : length (after_given given.life.out) ≤ length given.life.out = length-after_given given.life.out in
       let same : length given.life.out ≡ length a.life.out = length-map a.life.out (marked_entry t mark_given) in
-      let before : length a.life.out ≤ config.window = good.heights.within_window in
+      let before : length a.life.out ≤ config.window = good.heights.delivery.within_window in
       omega arith
 
   -- it is good
   IsGood-drained : (watches : Watches) → IsGood config chain (node_of (drained_to own_pairs watches) buffer asked)
   IsGood-drained watches = record {
     heights = record {
-      nested_blocks = good.heights.nested_blocks;
-      nested_certs = good.heights.nested_certs;
-      sure_blocks = good.heights.sure_blocks;
-      sure_certs = good.heights.sure_certs;
-      consecutive = ConsecutiveFrom-after_given a.held.processed given.life.out (ConsecutiveFrom-with_mark t mark_given (first_unprocessed a.held.processed) a.life.out good.heights.consecutive);
-      out_sure = all_sure-kept n (ack_given t) no_floor good.heights.out_sure;
-      within_window = still_within;
+      stores = good.heights.stores;
+      delivery = record {
+        consecutive = ConsecutiveFrom-after_given a.held.processed given.life.out (ConsecutiveFrom-with_mark t mark_given (first_unprocessed a.held.processed) a.life.out good.heights.delivery.consecutive);
+        out_sure = all_sure-kept n (ack_given t) no_floor good.heights.delivery.out_sure;
+        within_window = still_within;
+        anchored = HasAnchor-acked_to a.held.processed drained a.held.blocks.sure good.heights.delivery.anchored (all_sure-drained n (ack_given t) good.heights.delivery.out_sure);
+      };
       floor_clears = λ some. absurd cc;
-      anchored = HasAnchor-acked_to a.held.processed drained a.held.blocks.sure good.heights.anchored (all_sure-drained n (ack_given t) good.heights.out_sure);
       own_pair = refl;
       sync_open = λ more. absurd (omega arith);
     };
     of_chain = record {
-      held_blocks = good.of_chain.held_blocks;
-      may_blocks = good.of_chain.may_blocks;
-      held_certs = good.of_chain.held_certs;
-      may_certs = good.of_chain.may_certs;
-      cached = good.of_chain.cached;
-      cached_blocks = good.of_chain.cached_blocks;
+      stores = good.of_chain.stores;
+      cache = good.of_chain.cache;
+      asks = good.of_chain.asks;
       awaits = good.of_chain.awaits;
-      floor_safe = floor_safe;
-      honest_asks = good.of_chain.honest_asks;
-      honest_ready = good.of_chain.honest_ready;
-      honest_overflow = good.of_chain.honest_overflow;
       not_at_hand = good.of_chain.not_at_hand;
+      floor_safe = floor_safe;
       tip_reported = good.of_chain.tip_reported;
     };
   }
@@ -275,12 +242,12 @@ module _ {P E : Type 0} (config : Config) (chain : Chain) (lawful : IsLawful con
 
     -- which is safe
     pub pair_after-safe : IsSafePair chain a.held.blocks.sure (pair_of b.held.processed b.held.cutoff)
-    pair_after-safe = subst (IsSafePair chain a.held.blocks.sure) (sym pair-is) (own_pair_safe chain (node_of (drained_to own_pairs a.held.watches) buffer asked) (IsGood-drained a.held.watches).heights.anchored floor_safe)
+    pair_after-safe = subst (IsSafePair chain a.held.blocks.sure) (sym pair-is) (own_pair_safe chain (node_of (drained_to own_pairs a.held.watches) buffer asked) (IsGood-drained a.held.watches).heights.delivery.anchored floor_safe)
 
     -- and not below the one before
     pub NotBelow-drained : NotBelow (option_map height_in a.held.processed) (option_map height_in b.held.processed)
     NotBelow-drained = subst (λ o. NotBelow (option_map height_in a.held.processed) (option_map height_in o)) (sym (ap (λ x. x.held.processed) drains.same))
-        (let low : first_unprocessed a.held.processed ≤ first_unprocessed processed = first_unprocessed-rises n (ack_given t) no_floor good.heights.consecutive in
+        (let low : first_unprocessed a.held.processed ≤ first_unprocessed processed = first_unprocessed-rises n (ack_given t) no_floor good.heights.delivery.consecutive in
         subst (λ k. k ≤ next_after (option_map height_in processed)) (sym (next_after-is a.held.processed)) (subst (λ k. first_unprocessed a.held.processed ≤ k) (sym (next_after-is processed)) low))
 
     -- so it may be left where the sync of that pair fails
@@ -304,7 +271,7 @@ module _ {P E : Type 0} (config : Config) (chain : Chain) (lawful : IsLawful con
 
     -- so the pair is the one that was synced before
     pairs-are : a.held.pairs ≡ own_pairs
-    pairs-are = good.heights.own_pair ∙ sym (ap (λ out. pair_of (acked_to a.held.processed out) (greatest_of a.held.cutoff (flat_map (λ o. retired config.epochs a.held.certs.held o.height) out)) ∷ []) none_drained)
+    pairs-are = good.heights.own_pair ∙ sym (ap (λ out. pair_of (acked_to a.held.processed out) (greatest_of a.held.cutoff (all_retired config.epochs a.held.certs.held out)) ∷ []) none_drained)
 
     -- An acknowledgement behind one that is waited for reaches the actor with its mark.
     pub Reaches-undrained : Reaches config chain a (ack_given t) buffer asked [] b

@@ -8,7 +8,8 @@ use Rattle.mar_cert.specs.Block.{Block}
 use Rattle.mar_store.proofs.Lookups.{AllByRecursion-append}
 use Rattle.mar_node.specs.Cached.{cached_block}
 use Rattle.mar_node.specs.Chain.{Chain, Finalizes, IsBlockAt, IsLawful}
-use Rattle.mar_node.specs.Node.{Agrees, Node, at_hand, values_of}
+use Rattle.mar_node.specs.Node.{Agrees, Node, at_hand}
+use Rattle.mar_node.specs.Stored.{values_of}
 
 -- what is found passes the test, and what holds of each holds of it
 pub find-passes : {T : Type 0} (test : T → Bool) (xs : List T) (x : T) → find test xs ≡ Some x → test x ≡ true

@@ -4,6 +4,7 @@ use Rattle.std.proofs.lemmas.List.Elements.{Contains-append_cases, Contains-appe
 use Rattle.mar_cert.specs.Block.{Block}
 use Rattle.mar_cert.specs.Finalization.{Finalization}
 use Rattle.mar_key.specs.Asked.{Asked}
+use Rattle.mar_key.specs.Keys.{Call}
 use Rattle.mar_key.specs.Processed.{height_in}
 use Rattle.mar_store.specs.Kept.{At, Kept, has_height, value_at}
 use Rattle.mar_store.specs.Changes.{KeepsValues, Left}
@@ -16,9 +17,11 @@ use Rattle.mar_node.specs.Faults.{Fault, corrupt, damaged, dropped_ack, event_fa
 use Rattle.mar_node.specs.Held.{Ending, IsArchiveFault, IsUsual, LeavesStore, Loses, Seen, Written, blocks_left, certs_left, ended_of}
 use Rattle.mar_node.specs.Lives.{Cuts, CutsBy, IsGoodEnded, NotBelow, Reached, is_dropped_ack, is_refused_floor, reached_after, reached_before}
 use Rattle.mar_node.specs.Node.{AreBlocksOf, AreCachedOf, AreFinalizationsOf, BlocksAgree, Ended, IsGood, Node}
-use Rattle.mar_node.specs.Promise.{node_of}
+use Rattle.mar_node.specs.Answers.{answers_of, sends_of}
+use Rattle.mar_node.specs.Promise.{made_of, node_of}
+use Rattle.mar_node.specs.Requests.{own_asks}
 use Rattle.mar_node.specs.Sound.{IsSafePair}
-use Rattle.mar_node.specs.Step.{AreHandedOf, AreTipsOf, HandedFrom, Report, TipsFrom, handed_blocks, handed_over, new_tip, nothing_made}
+use Rattle.mar_node.specs.Step.{AreHandedOf, AreTipsOf, HandedFrom, IsFront, Report, TipsFrom, handed_blocks, handed_over, new_tip, nothing_made}
 use Rattle.mar_node.proofs.Reaching.{AreTips, block_from, cert_from}
 use Rattle.mar_node.proofs.Soundness.{IsFrom, IsGoodEnded-from_sound, IsSound-from_good, IsSound-untold}
 
@@ -96,18 +99,18 @@ module _ {P E : Type 0} (config : Config) (chain : Chain) (a : Seen P E) (e : Ev
   -- from a node that is good once some tip is told
   module _ (tip_before : ℕ) (good : IsGood config chain (record n { tip = tip_before })) (no_effect : effect_of config n e ≡ no_floor) where
     -- all that a cut says, of what is left
-    pub Cuts-left : (reports : List Report) (tip : ℕ) (reached : Reached) (fault : Fault) (left : Ended) → TipsFrom a.life.tip reports tip → AreTipsOf chain reports → (reached ≡ reached_before n e) ⊎ (reached ≡ reached_after n e no_floor) × Contains (map (λ p. p.processed) left.meta) reached.processed → HandedFrom left.blocks_sure a.life.next_ack (next_after reached.processed + length reached.out) (handed_blocks reports) → AreHandedOf chain left.blocks_sure (handed_blocks reports) → LeavesArchives chain n e left → 0 < length left.meta → (first_pair left.meta ≡ first_pair a.held.pairs) ⊎ (fault ≡ store_fault meta_store → ⊥) × (first_pair left.meta ≡ Some after) → ((p : Pair) → Contains left.meta p → MayBeLeft left.blocks_sure p) → (IsTrue (is_by_value fault) → event_fault config n e ≡ Some fault) → (IsTrue (is_refused_floor e fault) → ⊥) → (IsTrue (is_dropped_ack fault) → left.meta ≡ a.held.pairs) → Cuts config chain n (e ∷ []) reports fault left
-    Cuts-left reports tip reached fault left tips tips_chain reached_is in_order hands_chain leaves some first pairs cause refused unsynced = record {
+    pub Cuts-left : (reports : List Report) (asks : List Call) (tip : ℕ) (reached : Reached) (fault : Fault) (left : Ended) → TipsFrom a.life.tip reports tip → AreTipsOf chain reports → (reached ≡ reached_before n e) ⊎ (reached ≡ reached_after n e no_floor) × Contains (map (λ p. p.processed) left.meta) reached.processed → HandedFrom left.blocks_sure a.life.next_ack (next_after reached.processed + length reached.out) (handed_blocks reports) → AreHandedOf chain left.blocks_sure (handed_blocks reports) → LeavesArchives chain n e left → 0 < length left.meta → (first_pair left.meta ≡ first_pair a.held.pairs) ⊎ (fault ≡ store_fault meta_store → ⊥) × (first_pair left.meta ≡ Some after) → ((p : Pair) → Contains left.meta p → MayBeLeft left.blocks_sure p) → (IsTrue (is_by_value fault) → event_fault config n e ≡ Some fault) → (IsTrue (is_refused_floor e fault) → ⊥) → (IsTrue (is_dropped_ack fault) → left.meta ≡ a.held.pairs) → IsFront asks (own_asks config n e no_floor) → Cuts config chain n (e ∷ []) (made_of reports asks) fault left
+    Cuts-left reports asks tip reached fault left tips tips_chain reached_is in_order hands_chain leaves some first pairs cause refused unsynced front = record {
       finished = [];
       event = e;
       others = [];
       split = refl;
       first = nothing_made;
-      later = reports;
-      reports_split = refl;
+      later = made_of reports asks;
+      made_is = refl;
       mid = n;
       advances = (refl, refl);
-      cut = subst (λ fx. CutsBy config chain a.held.pairs (option_map height_in a.held.processed) n e fx reports fault left) (sym no_effect) unfloored;
+      cut = subst (λ fx. CutsBy config chain a.held.pairs (option_map height_in a.held.processed) n e fx (made_of reports asks) fault left) (sym no_effect) unfloored;
     }
       where
         no_lowests : left.lowests ≡ []
@@ -133,10 +136,10 @@ module _ {P E : Type 0} (config : Config) (chain : Chain) (a : Seen P E) (e : Ev
         of_node p (inr is) = inr is.1
 
         may_blocks : AreBlocksOf chain left.blocks_may
-        may_blocks = AllByRecursion-within (λ x. IsBlockAt chain x.height x.value) left.blocks_may (a.held.blocks.may ++ leaves.put_blocks) leaves.blocks.may (AllByRecursion-append (λ x. IsBlockAt chain x.height x.value) a.held.blocks.may leaves.put_blocks good.of_chain.may_blocks leaves.of_blocks)
+        may_blocks = AllByRecursion-within (λ x. IsBlockAt chain x.height x.value) left.blocks_may (a.held.blocks.may ++ leaves.put_blocks) leaves.blocks.may (AllByRecursion-append (λ x. IsBlockAt chain x.height x.value) a.held.blocks.may leaves.put_blocks good.of_chain.stores.may_blocks leaves.of_blocks)
 
         may_certs : AreFinalizationsOf chain left.certs_may
-        may_certs = AllByRecursion-within (λ x. Finalizes chain x.height x.value.round x.value.payload) left.certs_may (a.held.certs.may ++ leaves.put_certs) leaves.certs.may (AllByRecursion-append (λ x. Finalizes chain x.height x.value.round x.value.payload) a.held.certs.may leaves.put_certs good.of_chain.may_certs leaves.of_certs)
+        may_certs = AllByRecursion-within (λ x. Finalizes chain x.height x.value.round x.value.payload) left.certs_may (a.held.certs.may ++ leaves.put_certs) leaves.certs.may (AllByRecursion-append (λ x. Finalizes chain x.height x.value.round x.value.payload) a.held.certs.may leaves.put_certs good.of_chain.stores.may_certs leaves.of_certs)
 
         good_left : IsGoodEnded chain left
         good_left = IsGoodEnded-from_sound chain n 0 left (IsSound-untold chain n tip_before (IsSound-from_good config chain (record n { tip = tip_before }) good)) may_blocks may_certs
@@ -144,7 +147,7 @@ module _ {P E : Type 0} (config : Config) (chain : Chain) (a : Seen P E) (e : Ev
             (λ h low has. keeps_heights a.held.blocks.sure left.blocks_sure (keeps_sure a.held.blocks leaves.put_blocks (blocks_left left) leaves.blocks) h has)
             (AllByRecursion-from_contains (λ p. (Contains a.held.pairs p × IsFrom 0 p.processed) ⊎ IsSafePair chain left.blocks_sure p) left.meta (λ p has. of_node p (pairs p has)))
 
-        unfloored : CutsBy config chain a.held.pairs (option_map height_in a.held.processed) n e no_floor reports fault left
+        unfloored : CutsBy config chain a.held.pairs (option_map height_in a.held.processed) n e no_floor (made_of reports asks) fault left
         unfloored = record {
           tip = tip;
           tips = tips;
@@ -170,6 +173,9 @@ module _ {P E : Type 0} (config : Config) (chain : Chain) (a : Seen P E) (e : Ev
             sure_blocks = sure_may_heights a.held.blocks leaves.put_blocks (blocks_left left) leaves.blocks;
             sure_certs = sure_may_heights a.held.certs leaves.put_certs (certs_left left) leaves.certs;
           };
+          asks = front;
+          sends = (sends_of n e, refl);
+          answers = (0, (answers_of config n 0 e no_floor, refl));
           first_pair = first;
           no_lower = AllByRecursion-from_contains (λ p. NotBelow (option_map height_in a.held.processed) p.processed) left.meta (λ p has. not_below p (pairs p has));
           cause = cause;
@@ -178,12 +184,12 @@ module _ {P E : Type 0} (config : Config) (chain : Chain) (a : Seen P E) (e : Ev
         }
 
     -- A call failed before any block was handed over; `written` has the pairs that a failed sync was to write.
-    pub Cuts-before : (tips : List Report) (tip : ℕ) (written : Written) (left : Ending) → AreTips tips → TipsFrom a.life.tip tips tip → AreTipsOf chain tips → written.blocks_from ≡ 0 → written.certs_from ≡ 0 → AreBlocksOf chain written.blocks → AreFinalizationsOf chain written.certs → ((x : At Block) → Contains written.blocks x → brought_block n e ≡ Some x.value) → ((x : At Finalization) → Contains written.certs x → told_finalization n e ≡ Some x.value) → Loses a.held written left → ((p : Pair) → Contains written.pairs p → MayBeLeft left.remains.ended.blocks_sure p) → (IsTrue (is_by_value left.fault) → event_fault config n e ≡ Some left.fault) → (IsTrue (is_refused_floor e left.fault) → ⊥) → (IsTrue (is_dropped_ack left.fault) → left.remains.ended.meta ≡ a.held.pairs) → Cuts config chain n (e ∷ []) tips left.fault left.remains.ended
-    Cuts-before tips tip written left only tips_rise tips_chain no_prune no_cert_prune of_blocks of_certs own_blocks own_certs lost new cause refused unsynced =
-        Cuts-left tips tip (reached_before n e) left.fault left.remains.ended tips_rise tips_chain (inl refl)
+    pub Cuts-before : (tips : List Report) (asks : List Call) (tip : ℕ) (written : Written) (left : Ending) → AreTips tips → TipsFrom a.life.tip tips tip → AreTipsOf chain tips → written.blocks_from ≡ 0 → written.certs_from ≡ 0 → AreBlocksOf chain written.blocks → AreFinalizationsOf chain written.certs → ((x : At Block) → Contains written.blocks x → brought_block n e ≡ Some x.value) → ((x : At Finalization) → Contains written.certs x → told_finalization n e ≡ Some x.value) → Loses a.held written left → ((p : Pair) → Contains written.pairs p → MayBeLeft left.remains.ended.blocks_sure p) → (IsTrue (is_by_value left.fault) → event_fault config n e ≡ Some left.fault) → (IsTrue (is_refused_floor e left.fault) → ⊥) → (IsTrue (is_dropped_ack left.fault) → left.remains.ended.meta ≡ a.held.pairs) → IsFront asks (own_asks config n e no_floor) → Cuts config chain n (e ∷ []) (made_of tips asks) left.fault left.remains.ended
+    Cuts-before tips asks tip written left only tips_rise tips_chain no_prune no_cert_prune of_blocks of_certs own_blocks own_certs lost new cause refused unsynced front =
+        Cuts-left tips asks tip (reached_before n e) left.fault left.remains.ended tips_rise tips_chain (inl refl)
         (subst (λ xs. HandedFrom left.remains.ended.blocks_sure a.life.next_ack (next_after (option_map height_in a.held.processed) + length (reached_before n e).out) xs) (sym none) tt)
         (subst (λ xs. AreHandedOf chain left.remains.ended.blocks_sure xs) (sym none) tt)
-        leaves (some_from_first left.remains.ended.meta own first) (inl lost.leaves.pairs.first) each cause refused unsynced
+        leaves (some_from_first left.remains.ended.meta own first) (inl lost.leaves.pairs.first) each cause refused unsynced front
       where
         none : handed_blocks tips ≡ []
         none = no_handed tips only

@@ -1,5 +1,5 @@
 -- Acknowledged blocks that are processed one after another.
-use Rattle.std.proofs.Common.{◌≡◌, ℕ, suc, ◌+◌, ◌≤◌, List, [], ◌∷◌, ◌++◌, length, flat_map, fold, Bool, true, false, if◌then◌else◌, nat_lt, is_some, Option, Some, None, option_to_list, refl, sym, ◌∙◌, ap, subst, arith, append_assoc, append-nil, length-append}
+use Rattle.std.proofs.Common.{◌≡◌, ℕ, suc, ◌+◌, ◌≤◌, List, [], ◌∷◌, ◌++◌, length, flat_map, fold, Bool, true, false, if◌then◌else◌, nat_lt, is_some, Option, Some, None, option_to_list, refl, sym, ◌∙◌, ap, ap₂, subst, arith, append_assoc, append-nil, length-append}
 use Rattle.std.proofs.lemmas.Bool.Decides.{nat_tests}
 use Rattle.std.proofs.lemmas.Grind.{flat_map-append}
 use Rattle.mar_types.specs.Round.{Round}
@@ -12,12 +12,12 @@ use Rattle.mar_key.specs.Processed.{Processed, at_block}
 use Rattle.mar_key.proofs.CutoffOrder.{greatest_of-append}
 use Rattle.mar_store.specs.Kept.{At}
 use Rattle.mar_node.specs.Acks.{Outstanding, after_given, after_oldest, dropped_oldest, given_front, given_oldest, is_given}
-use Rattle.mar_node.specs.Event.{acked_to}
+use Rattle.mar_node.specs.Event.{acked_to, all_retired, retired, round_at}
 use Rattle.mar_node.specs.Held.{Grew, Held, Seen, Watches, Written}
 use Rattle.mar_node.specs.Lives.{later_round}
-use Rattle.mar_node.specs.Moves.{Drains, DrainsNext, progress_asks, retired, round_at, with_processed}
-use Rattle.mar_node.specs.Requests.{raise_asks}
-use Rattle.mar_node.proofs.Handing.{Hears-nothing, Hears-then}
+use Rattle.mar_node.specs.Moves.{Drains, DrainsNext, HearsFront, with_processed}
+use Rattle.mar_node.specs.Requests.{raise_asks, retire_asks}
+use Rattle.mar_node.proofs.Handing.{Hears-nothing, Hears-then, HearsFront-more, HearsFront-then}
 
 -- THE OLDEST, AND THE GIVEN ONES AT THE FRONT
 
@@ -92,13 +92,13 @@ empty_list (x ∷ xs) e = absurd (omega arith)
 
 -- WHAT IS ASKED AND WITNESSED
 
-progress_asks-append : (epochs : Epochs) (certs : List (At Finalization)) (c : Cutoff) (xs ys : List Outstanding) → progress_asks epochs certs c (xs ++ ys) ≡ progress_asks epochs certs c xs ++ progress_asks epochs certs (greatest_of c (flat_map (λ o. retired epochs certs o.height) xs)) ys
-progress_asks-append epochs certs c [] ys = refl
-progress_asks-append epochs certs c (x ∷ xs) ys =
+retire_asks-append : (epochs : Epochs) (certs : List (At Finalization)) (c : Cutoff) (xs ys : List Outstanding) → retire_asks epochs certs c (xs ++ ys) ≡ retire_asks epochs certs c xs ++ retire_asks epochs certs (greatest_of c (flat_map (λ o. retired epochs certs o.height) xs)) ys
+retire_asks-append epochs certs c [] ys = refl
+retire_asks-append epochs certs c (x ∷ xs) ys =
     ap (λ zs. retain (above_height x.height) ∷ zs)
-    (ap (λ zs. raise_asks c (retired epochs certs x.height) ++ zs) (progress_asks-append epochs certs (greatest_of c (retired epochs certs x.height)) xs ys)
-    ∙ sym (append_assoc (raise_asks c (retired epochs certs x.height)) (progress_asks epochs certs (greatest_of c (retired epochs certs x.height)) xs) _)
-    ∙ ap (λ d. (raise_asks c (retired epochs certs x.height) ++ progress_asks epochs certs (greatest_of c (retired epochs certs x.height)) xs) ++ progress_asks epochs certs d ys) (sym (greatest_of-append c (retired epochs certs x.height) (flat_map (λ o. retired epochs certs o.height) xs))))
+    (ap (λ zs. raise_asks c (retired epochs certs x.height) ++ zs) (retire_asks-append epochs certs (greatest_of c (retired epochs certs x.height)) xs ys)
+    ∙ sym (append_assoc (raise_asks c (retired epochs certs x.height)) (retire_asks epochs certs (greatest_of c (retired epochs certs x.height)) xs) _)
+    ∙ ap (λ d. (raise_asks c (retired epochs certs x.height) ++ retire_asks epochs certs (greatest_of c (retired epochs certs x.height)) xs) ++ retire_asks epochs certs d ys) (sym (greatest_of-append c (retired epochs certs x.height) (flat_map (λ o. retired epochs certs o.height) xs))))
 
 acked_to-append : (p : Option Processed) (xs ys : List Outstanding) → acked_to p (xs ++ ys) ≡ acked_to (acked_to p xs) ys
 acked_to-append p [] ys = refl
@@ -109,7 +109,7 @@ fold-append f y [] zs = refl
 fold-append f y (x ∷ xs) zs = fold-append f (f y x) xs zs
 
 abbrev cutoffs_of : {P E : Type 0} → Epochs → Seen P E → List Outstanding → List Cutoff
-cutoffs_of epochs a zs = flat_map (λ o. retired epochs a.held.certs.held o.height) zs
+cutoffs_of epochs a zs = all_retired epochs a.held.certs.held zs
 
 abbrev later_in : {P E : Type 0} → Seen P E → Round → Outstanding → Round
 later_in a r o = later_round r (round_at a.held.certs.held o.height)
@@ -130,7 +130,7 @@ pub record DrainsSoFar {P E : Type 0} (epochs : Epochs) (start now : Seen P E) (
   pub done : List Outstanding
   pub front : given_front start.life.out ≡ done ++ given_front now.life.out
   pub rest : after_given now.life.out ≡ after_given start.life.out
-  pub heard : Hears told (progress_asks epochs start.held.certs.held start.held.cutoff done) told'
+  pub heard : Hears told (retire_asks epochs start.held.certs.held start.held.cutoff done) told'
   pub same : now ≡ with_processed epochs start done now.life.out now.held.watches
   pub grew : (first : Held) (all : Written) → Grew first all start.held → Grew first all now.held
   pub is_drained : drained ≡ nat_lt 0 (length done)
@@ -163,14 +163,35 @@ module _ {P E : Type 0} (epochs_of : E → Epochs) (start now : Seen P E) (told 
   out_is : (new : Seen P E) (is_processed : Bool) → DrainsNext (epochs_of now.life.epocher) now is_processed new → new.life.out ≡ after_oldest now.life.out
   out_is new is_processed next = ap (λ a. a.life.out) next.same
 
-  heard_next : (told'' : Option (List Call)) → Hears told' (progress_asks (epochs_of now.life.epocher) now.held.certs.held now.held.cutoff one) told'' → Hears told (progress_asks epochs start.held.certs.held start.held.cutoff (so_far.done ++ one)) told''
-  heard_next told'' heard = subst (λ zs. Hears told zs told'') (sym (progress_asks-append epochs start.held.certs.held start.held.cutoff so_far.done one))
-      (Hears-then told told' told'' (progress_asks epochs start.held.certs.held start.held.cutoff so_far.done) _ so_far.heard
-      (subst (λ c. Hears told' (progress_asks epochs start.held.certs.held c one) told'') (ap (λ a. a.held.cutoff) so_far.same)
-      (subst (λ cs. Hears told' (progress_asks epochs cs now.held.cutoff one) told'') certs_now
-      (subst (λ es. Hears told' (progress_asks es now.held.certs.held now.held.cutoff one) told'') epochs_now heard))))
+  heard_next : (told'' : Option (List Call)) → Hears told' (retire_asks (epochs_of now.life.epocher) now.held.certs.held now.held.cutoff one) told'' → Hears told (retire_asks epochs start.held.certs.held start.held.cutoff (so_far.done ++ one)) told''
+  heard_next told'' heard = subst (λ zs. Hears told zs told'') (sym (retire_asks-append epochs start.held.certs.held start.held.cutoff so_far.done one))
+      (Hears-then told told' told'' (retire_asks epochs start.held.certs.held start.held.cutoff so_far.done) _ so_far.heard
+      (subst (λ c. Hears told' (retire_asks epochs start.held.certs.held c one) told'') (ap (λ a. a.held.cutoff) so_far.same)
+      (subst (λ cs. Hears told' (retire_asks epochs cs now.held.cutoff one) told'') certs_now
+      (subst (λ es. Hears told' (retire_asks es now.held.certs.held now.held.cutoff one) told'') epochs_now heard))))
 
-  pub DrainsSoFar-more : (new : Seen P E) (told'' : Option (List Call)) (is_processed : Bool) → is_processed ≡ true → DrainsNext (epochs_of now.life.epocher) now is_processed new → Hears told' (progress_asks (epochs_of now.life.epocher) now.held.certs.held now.held.cutoff one) told'' → ((first : Held) (all : Written) → Grew first all start.held → Grew first all new.held) → DrainsSoFar epochs start new told told'' true (count + 1)
+  -- the next one ended the life
+  pub front_heard : (told'' : Option (List Call)) → HearsFront told' (retire_asks (epochs_of now.life.epocher) now.held.certs.held now.held.cutoff one) told'' → HearsFront told (retire_asks epochs start.held.certs.held start.held.cutoff (given_front start.life.out)) told''
+  front_heard told'' front = subst (λ zs. HearsFront told zs told'') (sym whole)
+      (HearsFront-more told (retire_asks epochs start.held.certs.held start.held.cutoff so_far.done ++ retire_asks epochs now.held.certs.held now.held.cutoff one) more told''
+      (HearsFront-then told (retire_asks epochs start.held.certs.held start.held.cutoff so_far.done) told' (retire_asks epochs now.held.certs.held now.held.cutoff one) told'' so_far.heard
+      (subst (λ es. HearsFront told' (retire_asks es now.held.certs.held now.held.cutoff one) told'') epochs_now front)))
+    where
+      after : Cutoff
+      after = greatest_of now.held.cutoff (all_retired epochs now.held.certs.held one)
+
+      more : List Call
+      more = retire_asks epochs now.held.certs.held after (given_front (after_oldest now.life.out))
+
+      whole : retire_asks epochs start.held.certs.held start.held.cutoff (given_front start.life.out) ≡ (retire_asks epochs start.held.certs.held start.held.cutoff so_far.done ++ retire_asks epochs now.held.certs.held now.held.cutoff one) ++ more
+      whole =
+          ap (retire_asks epochs start.held.certs.held start.held.cutoff) (so_far.front ∙ ap (λ zs. so_far.done ++ zs) (front_next now.life.out))
+          ∙ (retire_asks-append epochs start.held.certs.held start.held.cutoff so_far.done (one ++ given_front (after_oldest now.life.out))
+          ∙ (ap₂ (λ c cs. retire_asks epochs start.held.certs.held start.held.cutoff so_far.done ++ retire_asks epochs cs c (one ++ given_front (after_oldest now.life.out))) (sym (ap (λ a. a.held.cutoff) so_far.same)) (sym certs_now)
+          ∙ (ap (λ zs. retire_asks epochs start.held.certs.held start.held.cutoff so_far.done ++ zs) (retire_asks-append epochs now.held.certs.held now.held.cutoff one (given_front (after_oldest now.life.out)))
+          ∙ sym (append_assoc (retire_asks epochs start.held.certs.held start.held.cutoff so_far.done) (retire_asks epochs now.held.certs.held now.held.cutoff one) more))))
+
+  pub DrainsSoFar-more : (new : Seen P E) (told'' : Option (List Call)) (is_processed : Bool) → is_processed ≡ true → DrainsNext (epochs_of now.life.epocher) now is_processed new → Hears told' (retire_asks (epochs_of now.life.epocher) now.held.certs.held now.held.cutoff one) told'' → ((first : Held) (all : Written) → Grew first all start.held → Grew first all new.held) → DrainsSoFar epochs start new told told'' true (count + 1)
   DrainsSoFar-more new told'' is_processed was next heard grew = record {
     done = so_far.done ++ one;
     front = so_far.front ∙ (ap (λ zs. so_far.done ++ zs) (front_next now.life.out) ∙ (sym (append_assoc so_far.done one (given_front (after_oldest now.life.out))) ∙ ap (λ o. (so_far.done ++ one) ++ given_front o) (sym (out_is new is_processed next))));
@@ -195,14 +216,14 @@ module _ {P E : Type 0} (epochs_of : E → Epochs) (start now : Seen P E) (told 
       more k is = grind (arith, nat_tests)
 
   -- no given one is left at the front
-  pub Drains-still : (new : Seen P E) (told'' : Option (List Call)) (is_processed : Bool) → is_processed ≡ false → DrainsNext (epochs_of now.life.epocher) now is_processed new → Hears told' (progress_asks (epochs_of now.life.epocher) now.held.certs.held now.held.cutoff one) told'' → Drains epochs start drained new × Hears told (progress_asks epochs start.held.certs.held start.held.cutoff (given_front start.life.out)) told''
+  pub Drains-still : (new : Seen P E) (told'' : Option (List Call)) (is_processed : Bool) → is_processed ≡ false → DrainsNext (epochs_of now.life.epocher) now is_processed new → Hears told' (retire_asks (epochs_of now.life.epocher) now.held.certs.held now.held.cutoff one) told'' → Drains epochs start drained new × Hears told (retire_asks epochs start.held.certs.held start.held.cutoff (given_front start.life.out)) told''
   Drains-still new told'' is_processed was next heard = (
     record {
       same = after_next new is_processed next ∙ (ap (λ zs. with_processed epochs start zs (after_oldest now.life.out) new.held.watches) all ∙ ap (λ o. with_processed epochs start (given_front start.life.out) o new.held.watches) (same_oldest now.life.out none ∙ (sym (none_after now.life.out none) ∙ so_far.rest)));
       drained = so_far.is_drained ∙ ap (λ zs. nat_lt 0 (length zs)) done_is;
       not_dropped = ap dropped_oldest (sym so_far.rest ∙ none_after now.life.out none) ∙ next.not_dropped;
     },
-    subst (λ zs. Hears told (progress_asks epochs start.held.certs.held start.held.cutoff zs) told'') all (heard_next told'' heard),
+    subst (λ zs. Hears told (retire_asks epochs start.held.certs.held start.held.cutoff zs) told'') all (heard_next told'' heard),
   )
     where
       none : is_some (given_oldest now.life.out) ≡ false
@@ -215,14 +236,14 @@ module _ {P E : Type 0} (epochs_of : E → Epochs) (start now : Seen P E) (told 
       all = ap (λ zs. so_far.done ++ zs) (none_oldest now.life.out none) ∙ (append-nil so_far.done ∙ done_is)
 
   -- as many were processed as there were
-  pub Drains-all : length start.life.out ≤ count → Drains epochs start drained now × Hears told (progress_asks epochs start.held.certs.held start.held.cutoff (given_front start.life.out)) told'
+  pub Drains-all : length start.life.out ≤ count → Drains epochs start drained now × Hears told (retire_asks epochs start.held.certs.held start.held.cutoff (given_front start.life.out)) told'
   Drains-all full = (
     record {
       same = so_far.same ∙ (ap (λ zs. with_processed epochs start zs now.life.out now.held.watches) done_is ∙ ap (λ o. with_processed epochs start (given_front start.life.out) o now.held.watches) (none_left ∙ sym none_behind));
       drained = so_far.is_drained ∙ ap (λ zs. nat_lt 0 (length zs)) done_is;
       not_dropped = ap dropped_oldest none_behind;
     },
-    subst (λ zs. Hears told (progress_asks epochs start.held.certs.held start.held.cutoff zs) told') done_is so_far.heard,
+    subst (λ zs. Hears told (retire_asks epochs start.held.certs.held start.held.cutoff zs) told') done_is so_far.heard,
   )
     where
       parts : length so_far.done + length (given_front now.life.out) ≡ length (given_front start.life.out)

@@ -17,16 +17,17 @@ use Rattle.mar_node.specs.Config.{Config}
 use Rattle.mar_node.specs.Event.{Event, brought_block, effect_of, message_told, no_floor, sync_finished, told_finalization}
 use Rattle.mar_node.specs.Faults.{Fault, is_by_value}
 use Rattle.mar_node.specs.Held.{Ending, Grew, IsUsual, Loses, Seen, Written, nothing_written, written_both}
-use Rattle.mar_node.specs.Lives.{Cuts, is_dropped_ack, is_refused_floor}
-use Rattle.mar_node.specs.Moves.{IsRead, StoresAbove, at_height, found_at_hand, tip_reports, wants}
+use Rattle.mar_node.specs.Lives.{is_dropped_ack, is_refused_floor}
+use Rattle.mar_node.specs.Moves.{HearsFront, HearsUpTo, IsRead, StoresAbove, at_height, found_at_hand, tip_reports}
+use Rattle.mar_node.specs.Requests.{own_asks, want_asks}
 use Rattle.mar_node.specs.Node.{AreBlocksOf, AreFinalizationsOf, Rest, at_hand}
-use Rattle.mar_node.specs.Promise.{IsLawfulStep, IsSetTo, KeepsPromise, node_of}
+use Rattle.mar_node.specs.Promise.{CutsStep, IsLawfulStep, IsSetTo, KeepsPromise, heard_by, made_of, node_of}
 use Rattle.mar_node.specs.Step.{Report}
 use Rattle.mar_node.proofs.Cutting.{Cuts-before, MayBeLeft, never, only_one, usual_not_by_value, usual_not_dropped}
 use Rattle.mar_node.proofs.FinalizationEvent as final
 use Rattle.mar_node.proofs.FoundBlocks.{found-is}
 use Rattle.mar_node.proofs.Growing.{Grown-blocks, Grown-certs}
-use Rattle.mar_node.proofs.Handing.{Hears-nothing, Ran}
+use Rattle.mar_node.proofs.Handing.{Hears-nothing, HearsFront-nothing, Ran}
 use Rattle.mar_node.proofs.PlainEvents.{Reaches-sync, nothing_put}
 use Rattle.mar_node.proofs.Promises.{dispatched, undispatched}
 use Rattle.mar_node.proofs.Soundness.{untold}
@@ -36,17 +37,17 @@ module _ {P E : Type 0} (epochs : Epochs) (inner : List ℕ → List ℕ) (parti
   partition_of config is = subst IsPartition (sym is) partition
 
   -- a call that failed before anything was told
-  pub quiet_cut : (config : Config) (chain : Chain) (asked : List Asked) (e : Event) (step : IsLawfulStep config chain (node_of a buffer asked) e) (no_effect : effect_of config (node_of a buffer asked) e ≡ no_floor) → ((fault : Fault) → is_refused_floor e fault ≡ false) → (told told' : Option (List Report)) (written : Written) (x : Ending) → Hears told [] told' → written.blocks_from ≡ 0 → written.certs_from ≡ 0 → AreBlocksOf chain written.blocks → AreFinalizationsOf chain written.certs → ((y : At Block) → Contains written.blocks y → brought_block (node_of a buffer asked) e ≡ Some y.value) → ((y : At Finalization) → Contains written.certs y → told_finalization (node_of a buffer asked) e ≡ Some y.value) → Loses a.held written x → ((p : Pair) → Contains written.pairs p → MayBeLeft config chain a e buffer asked x.remains.ended.blocks_sure p) → IsUsual x.fault → (reports : List Report) × Hears told reports told' × Cuts config chain (node_of a buffer asked) (e ∷ []) reports x.fault x.remains.ended
-  quiet_cut config chain asked e step no_effect unrefused told told' written x heard no_prune no_cert_prune of_blocks of_certs own_blocks own_certs lost may usual = (
-    [],
-    heard,
-    Cuts-before config chain a e buffer asked (untold config chain (node_of a buffer asked) e step.good).0 (untold config chain (node_of a buffer asked) e step.good).1 no_effect [] a.life.tip written x tt refl tt no_prune no_cert_prune of_blocks of_certs own_blocks own_certs lost may
-        (λ is. absurd (never (is_by_value x.fault) (usual_not_by_value x.fault usual) is)) (never (is_refused_floor e x.fault) (unrefused x.fault)) (λ is. absurd (never (is_dropped_ack x.fault) (usual_not_dropped x.fault usual) is)),
-  )
+  pub quiet_cut : (config : Config) (chain : Chain) (asked : List Asked) (e : Event) (step : IsLawfulStep config chain (node_of a buffer asked) (e ∷ [])) (no_effect : effect_of config (node_of a buffer asked) e ≡ no_floor) → ((fault : Fault) → is_refused_floor e fault ≡ false) → (told told' : Option (List Report)) (heard heard' : Option (List Call)) (written : Written) (x : Ending) → Hears told [] told' → HearsFront heard (own_asks config (node_of a buffer asked) e no_floor) heard' → written.blocks_from ≡ 0 → written.certs_from ≡ 0 → AreBlocksOf chain written.blocks → AreFinalizationsOf chain written.certs → ((y : At Block) → Contains written.blocks y → brought_block (node_of a buffer asked) e ≡ Some y.value) → ((y : At Finalization) → Contains written.certs y → told_finalization (node_of a buffer asked) e ≡ Some y.value) → Loses a.held written x → ((p : Pair) → Contains written.pairs p → MayBeLeft config chain a e buffer asked x.remains.ended.blocks_sure p) → IsUsual x.fault → CutsStep config chain (node_of a buffer asked) (e ∷ []) (heard_by told heard) (heard_by told' heard') x
+  quiet_cut config chain asked e step no_effect unrefused told told' heard heard' written x silent (asks, front, asks_heard) no_prune no_cert_prune of_blocks of_certs own_blocks own_certs lost may usual = record {
+    made = made_of [] asks;
+    heard = record { reports = silent; asks = asks_heard; no_more = refl };
+    cuts = Cuts-before config chain a e buffer asked (untold config chain (node_of a buffer asked) e step.good).0 (untold config chain (node_of a buffer asked) e step.good).1 no_effect [] asks a.life.tip written x tt refl tt no_prune no_cert_prune of_blocks of_certs own_blocks own_certs lost may
+        (λ is. absurd (never (is_by_value x.fault) (usual_not_by_value x.fault usual) is)) (never (is_refused_floor e x.fault) (unrefused x.fault)) (λ is. absurd (never (is_dropped_ack x.fault) (usual_not_dropped x.fault usual) is)) front;
+  }
 
   -- A SYNC
 
-  pub promise-sync : (t : ℕ) (told : Option (List Report)) (heard : Option (List Call)) → IsNested a.held.blocks → IsNested a.held.certs → KeepsPromise epochs inner a (sync_finished t) buffer told told heard heard (Ok a)
+  pub promise-sync : (t : ℕ) (told : Option (List Report)) (heard : Option (List Call)) → IsNested a.held.blocks → IsNested a.held.certs → KeepsPromise epochs inner a (sync_finished t ∷ []) buffer (heard_by told heard) (heard_by told heard) (Ok a)
   promise-sync t told heard nested certs_nested config chain asked set step =
       undispatched config chain a a (sync_finished t) buffer asked [] set.window step (λ fault. refl) (Reaches-sync config chain a buffer asked nested certs_nested step.good t) nested.sure_held told told heard heard (Hears-nothing told) (Hears-nothing heard) step.rests
 
@@ -57,41 +58,43 @@ module _ {P E : Type 0} (epochs : Epochs) (inner : List ℕ → List ℕ) (parti
     reported = message_told None (report_finalization f)
 
     -- what the actor found is what is at hand
-    pub hand : (config : Config) (chain : Chain) (asked : List Asked) → IsSetTo config a.life.sizes epochs inner → IsLawfulStep config chain (node_of a buffer asked) reported → (o : Option Block) → found_at_hand inner buffer a.held.blocks.held f.payload ≡ o → at_hand (node_of a buffer asked) f.payload ≡ o
-    hand config chain asked set step o found = sym (found-is config.inner chain a buffer asked f.payload step.one step.good.of_chain.held_blocks) ∙ (ap (λ i. found_at_hand i buffer a.held.blocks.held f.payload) set.inner_is ∙ found)
+    pub hand : (config : Config) (chain : Chain) (asked : List Asked) → IsSetTo config a.life.sizes epochs inner → IsLawfulStep config chain (node_of a buffer asked) (reported ∷ []) → (o : Option Block) → found_at_hand inner buffer a.held.blocks.held f.payload ≡ o → at_hand (node_of a buffer asked) f.payload ≡ o
+    hand config chain asked set step o found = sym (found-is config.inner chain a buffer asked f.payload step.one step.good.of_chain.stores.held_blocks) ∙ (ap (λ i. found_at_hand i buffer a.held.blocks.held f.payload) set.inner_is ∙ found)
 
-    pub promise-unread : (told : Option (List Report)) (heard heard' : Option (List Call)) (x : Ending) → Loses a.held nothing_written x → IsUsual x.fault → KeepsPromise epochs inner a reported buffer told told heard heard' (Err x)
-    promise-unread told heard heard' x lost usual config chain asked set step = quiet_cut config chain asked reported step refl (λ fault. refl) told told nothing_written x (Hears-nothing told) refl refl tt tt (λ y has. nothing_put y has) (λ y has. nothing_put y has) lost (λ p has. nothing_put p has) usual
+    pub promise-unread : (told : Option (List Report)) (heard : Option (List Call)) (x : Ending) → Loses a.held nothing_written x → IsUsual x.fault → KeepsPromise epochs inner a (reported ∷ []) buffer (heard_by told heard) (heard_by told heard) (Err x)
+    promise-unread told heard x lost usual config chain asked set step = quiet_cut config chain asked reported step refl (λ fault. refl) told told heard heard nothing_written x (Hears-nothing told) (HearsFront-nothing heard _ heard (Hears-nothing heard)) refl refl tt tt (λ y has. nothing_put y has) (λ y has. nothing_put y has) lost (λ p has. nothing_put p has) usual
 
-    pub promise-absent : (told : Option (List Report)) (heard heard' : Option (List Call)) (node : Seen P E) (result : Result (Seen P E) Ending) → IsNested a.held.blocks → IsNested a.held.certs → found_at_hand inner buffer a.held.blocks.held f.payload ≡ None → OnOk result (Hears heard (wants a.held.cutoff f) heard') → IsRead a node → IfOk result (λ new. new ≡ node) → MatchResult result (λ new. Grew a.held nothing_written new.held) (Loses a.held nothing_written) → IfErr result (λ x. IsUsual x.fault) → KeepsPromise epochs inner a reported buffer told told heard heard' result
+    pub promise-absent : (told : Option (List Report)) (heard heard' : Option (List Call)) (node : Seen P E) (result : Result (Seen P E) Ending) → IsNested a.held.blocks → IsNested a.held.certs → found_at_hand inner buffer a.held.blocks.held f.payload ≡ None → HearsUpTo heard (want_asks a.held.cutoff f.round f.payload) heard' result → IsRead a node → IfOk result (λ new. new ≡ node) → MatchResult result (λ new. Grew a.held nothing_written new.held) (Loses a.held nothing_written) → IfErr result (λ x. IsUsual x.fault) → KeepsPromise epochs inner a (reported ∷ []) buffer (heard_by told heard) (heard_by told heard') result
     promise-absent told heard heard' node (Ok new) nested certs_nested found asks read is goes usual config chain asked set step =
         let same : IsRead a new = subst (IsRead a) (sym is) read in
         let none = hand config chain asked set step None found in
-        undispatched config chain a new reported buffer asked [] (set.window ∙ sym (ap (λ s. s.life.sizes.window) same)) step (λ fault. refl) (final.Reaches-absent config chain a f buffer asked step.lawful step.one step.good step.reported new same nested certs_nested none)
+        undispatched config chain a new reported buffer asked [] (set.window ∙ sym (ap (λ s. s.life.sizes.window) same)) step (λ fault. refl) (final.Reaches-absent config chain a f buffer asked step.lawful step.one step.good step.reported.0 new same nested certs_nested none)
         (subst (λ s. KeepsValues s.held.blocks.sure s.held.blocks.held) (sym same) nested.sure_held) told told heard heard' (Hears-nothing told)
-        (subst (λ cs. Hears heard cs heard') (final.asks-absent config chain a f buffer asked step.lawful step.one step.good step.reported none) asks)
+        (subst (λ cs. Hears heard cs heard') (final.asks-absent config chain a f buffer asked step.lawful step.one step.good step.reported.0 none) asks)
         (subst (λ s. Rest config.window (node_of s buffer asked)) (sym same) step.rests)
     promise-absent told heard heard' node (Err x) nested certs_nested found asks read is goes usual config chain asked set step =
-        quiet_cut config chain asked reported step refl (λ fault. refl) told told nothing_written x (Hears-nothing told) refl refl tt tt (λ y has. nothing_put y has) (λ y has. nothing_put y has) goes (λ p has. nothing_put p has) usual
+        quiet_cut config chain asked reported step refl (λ fault. refl) told told heard heard' nothing_written x (Hears-nothing told)
+        (subst (λ cs. HearsFront heard cs heard') (final.asks-absent config chain a f buffer asked step.lawful step.one step.good step.reported.0 (hand config chain asked set step None found)) asks)
+        refl refl tt tt (λ y has. nothing_put y has) (λ y has. nothing_put y has) goes (λ p has. nothing_put p has) usual
 
     module _ (b : Block) (found : found_at_hand inner buffer a.held.blocks.held f.payload ≡ Some b) where
-      pub of_block : (config : Config) (chain : Chain) (asked : List Asked) (set : IsSetTo config a.life.sizes epochs inner) (step : IsLawfulStep config chain (node_of a buffer asked) reported) → AreBlocksOf chain (at_own_height b ∷ [])
-      of_block config chain asked set step = ((final.block-final config chain a f buffer asked step.lawful step.one step.good step.reported b (hand config chain asked set step (Some b) found)).1, tt)
+      pub of_block : (config : Config) (chain : Chain) (asked : List Asked) (set : IsSetTo config a.life.sizes epochs inner) (step : IsLawfulStep config chain (node_of a buffer asked) (reported ∷ [])) → AreBlocksOf chain (at_own_height b ∷ [])
+      of_block config chain asked set step = ((final.block-final config chain a f buffer asked step.lawful step.one step.good step.reported.0 b (hand config chain asked set step (Some b) found)).1, tt)
 
-      pub of_cert : (config : Config) (chain : Chain) (asked : List Asked) (set : IsSetTo config a.life.sizes epochs inner) (step : IsLawfulStep config chain (node_of a buffer asked) reported) → AreFinalizationsOf chain (at_height b.height f ∷ [])
-      of_cert config chain asked set step = (final.finalizes config chain a f buffer asked step.lawful step.one step.good step.reported b (hand config chain asked set step (Some b) found), tt)
+      pub of_cert : (config : Config) (chain : Chain) (asked : List Asked) (set : IsSetTo config a.life.sizes epochs inner) (step : IsLawfulStep config chain (node_of a buffer asked) (reported ∷ [])) → AreFinalizationsOf chain (at_height b.height f ∷ [])
+      of_cert config chain asked set step = (final.finalizes config chain a f buffer asked step.lawful step.one step.good step.reported.0 b (hand config chain asked set step (Some b) found), tt)
 
       -- a block at the last height is none of a lawful chain
-      pub promise-limit : {T : Type 0} (config : Config) (chain : Chain) (asked : List Asked) → IsSetTo config a.life.sizes epochs inner → IsLawfulStep config chain (node_of a buffer asked) reported → b.height ≡ 2 ^ 64 - 1 → T
-      promise-limit config chain asked set step last = absurd (final.not_last config chain a f buffer asked step.lawful step.one step.good step.reported b (hand config chain asked set step (Some b) found) last)
+      pub promise-limit : {T : Type 0} (config : Config) (chain : Chain) (asked : List Asked) → IsSetTo config a.life.sizes epochs inner → IsLawfulStep config chain (node_of a buffer asked) (reported ∷ []) → b.height ≡ 2 ^ 64 - 1 → T
+      promise-limit config chain asked set step last = absurd (final.not_last config chain a f buffer asked step.lawful step.one step.good step.reported.0 b (hand config chain asked set step (Some b) found) last)
 
-      pub promise-unstored : (told told' : Option (List Report)) (heard : Option (List Call)) (x : Ending) → Hears told [] told' → Loses a.held (written_both (at_own_height b) (at_height b.height f)) x → IsUsual x.fault → KeepsPromise epochs inner a reported buffer told told' heard heard (Err x)
-      promise-unstored told told' heard x silent lost usual config chain asked set step = quiet_cut config chain asked reported step refl (λ fault. refl) told told' (written_both (at_own_height b) (at_height b.height f)) x silent refl refl (of_block config chain asked set step) (of_cert config chain asked set step) (λ y has. hand config chain asked set step (Some b) found ∙ ap (λ (z : At Block). Some z.value) (only_one (at_own_height b) y has)) (λ y has. ap (λ (z : At Finalization). Some z.value) (only_one (at_height b.height f) y has)) lost (λ p has. nothing_put p has) usual
+      pub promise-unstored : (told told' : Option (List Report)) (heard : Option (List Call)) (x : Ending) → Hears told [] told' → Loses a.held (written_both (at_own_height b) (at_height b.height f)) x → IsUsual x.fault → KeepsPromise epochs inner a (reported ∷ []) buffer (heard_by told heard) (heard_by told' heard) (Err x)
+      promise-unstored told told' heard x silent lost usual config chain asked set step = quiet_cut config chain asked reported step refl (λ fault. refl) told told' heard heard (written_both (at_own_height b) (at_height b.height f)) x silent (HearsFront-nothing heard _ heard (Hears-nothing heard)) refl refl (of_block config chain asked set step) (of_cert config chain asked set step) (λ y has. hand config chain asked set step (Some b) found ∙ ap (λ (z : At Block). Some z.value) (only_one (at_own_height b) y has)) (λ y has. ap (λ (z : At Finalization). Some z.value) (only_one (at_height b.height f) y has)) lost (λ p has. nothing_put p has) usual
 
-      pub promise-stored : (m : Seen P E) (told told1 told' : Option (List Report)) (heard : Option (List Call)) (result : Result (Seen P E) Ending) → IsNested a.held.blocks → IsNested a.held.certs → nat_lt (height_of a.held.processed) b.height ≡ true → StoresAbove inner a f b m → Grew a.held (written_both (at_own_height b) (at_height b.height f)) m.held → Hears told (tip_reports a.life.tip f b) told1 → Ran m told1 told' result → KeepsPromise epochs inner a reported buffer told told' heard heard result
+      pub promise-stored : (m : Seen P E) (told told1 told' : Option (List Report)) (heard : Option (List Call)) (result : Result (Seen P E) Ending) → IsNested a.held.blocks → IsNested a.held.certs → nat_lt (height_of a.held.processed) b.height ≡ true → StoresAbove inner a f b m → Grew a.held (written_both (at_own_height b) (at_height b.height f)) m.held → Hears told (tip_reports a.life.tip f b) told1 → Ran m told1 told' result → KeepsPromise epochs inner a (reported ∷ []) buffer (heard_by told heard) (heard_by told' heard) result
       promise-stored m told told1 told' heard result nested certs_nested above stores grew tips ran config chain asked set step =
           let is = hand config chain asked set step (Some b) found in
           dispatched config chain a m reported buffer asked (tip_reports a.life.tip f b) (set.window ∙ sym (ap (λ s. s.life.sizes.window) stores.same)) step (λ fault. refl)
-          (final.Reaches-stored config chain a f buffer asked step.lawful step.one step.good step.reported b m nested certs_nested (Grown-blocks a.held m.held _ refl grew) (Grown-certs a.held m.held _ refl grew) is above (subst (λ i. StoresAbove i a f b m) (sym set.inner_is) stores))
+          (final.Reaches-stored config chain a f buffer asked step.lawful step.one step.good step.reported.0 b m nested certs_nested (Grown-blocks a.held m.held _ refl grew) (Grown-certs a.held m.held _ refl grew) is above (subst (λ i. StoresAbove i a f b m) (sym set.inner_is) stores))
           (λ h v at. subst (λ xs. value_at xs h ≡ Some v) stores.blocks.sure at) told told1 told' heard heard result tips ran
-          (subst (λ cs. Hears heard cs heard) (final.asks-stored config chain a f buffer asked step.lawful step.one step.good step.reported b is above) (Hears-nothing heard))
+          (subst (λ cs. Hears heard cs heard) (final.asks-stored config chain a f buffer asked step.lawful step.one step.good step.reported.0 b is above) (Hears-nothing heard))

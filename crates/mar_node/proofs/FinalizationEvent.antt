@@ -25,10 +25,10 @@ use Rattle.mar_node.specs.Event.{Event, Met, Storing, cutoff_after, message_told
 use Rattle.mar_node.specs.Faults.{height_limit, last_height, storing_fault}
 use Rattle.mar_node.specs.Held.{Seen}
 use Rattle.mar_node.specs.Lives.{later_round}
-use Rattle.mar_node.specs.Moves.{IsRead, RaisesTo, StoresAbove, StoresLate, StoresValue, StoresWhere, at_height, lacks_finalization, late_tip, late_tips, tip_after, tip_reports, wants}
+use Rattle.mar_node.specs.Moves.{IsRead, RaisesTo, StoresAbove, StoresLate, StoresValue, StoresWhere, at_height, lacks_finalization, late_tip, late_tips, tip_after, tip_reports}
 use Rattle.mar_node.specs.Node.{Agrees, AreBlocksOf, AreFinalizationsOf, AreNestedHeights, ConsecutiveFrom, FloorSafe, HasAnchor, IsFinalized, IsGood, Node, SureOrWritten, at_hand, write_count}
 use Rattle.mar_node.specs.Promise.{AreOne, node_of}
-use Rattle.mar_node.specs.Requests.{own_asks, raise_asks, reported_asks}
+use Rattle.mar_node.specs.Requests.{own_asks, raise_asks, reported_asks, want_asks}
 use Rattle.mar_node.specs.Sound.{IsSafePair}
 use Rattle.mar_node.specs.Step.{AreTipsOf, CertificatesFrom, IsCertFrom, IsStored, IsStoredLate, KeepsFrom, Report, TipsFrom, Writes, is_repaired}
 use Rattle.mar_node.proofs.AtHand.{at_hand-all, at_hand-commitment, block_of_final, bytes_same}
@@ -302,7 +302,7 @@ module _ {P E : Type 0} (config : Config) (chain : Chain) (a : Seen P E) (f : Fi
     at_hand-known b is =
         at_hand-all (Contains known) n f.payload b
         (AllByRecursion-from_contains (Contains known) buffer (λ x has. Contains-append_right chain.blocks buffer x has)) tt
-        (AllByRecursion-weaker (Contains chain.blocks) (Contains known) (λ x has. Contains-append_left chain.blocks buffer x has) (values_of a.held.blocks.held) (values_in_chain chain a.held.blocks.held good.of_chain.held_blocks)) is
+        (AllByRecursion-weaker (Contains chain.blocks) (Contains known) (λ x has. Contains-append_left chain.blocks buffer x has) (values_of a.held.blocks.held) (values_in_chain chain a.held.blocks.held good.of_chain.stores.held_blocks)) is
 
     -- and so is each block of the chain
     chain_known : (h : ℕ) (c : Block) → IsBlockAt chain h c → Contains known c
@@ -393,8 +393,8 @@ module _ {P E : Type 0} (config : Config) (chain : Chain) (a : Seen P E) (f : Fi
         written = Writes-none a a e buffer asked (ap (λ s. own_writes n s no_floor) stores) refl refl refl refl
 
     -- its block is asked for
-    pub asks-absent : at_hand n f.payload ≡ None → wants a.held.cutoff f ≡ own_asks config n e no_floor
-    asks-absent absent = sym (asks_by None [] absent (rounds_by None absent) ∙ append-nil (wants a.held.cutoff f))
+    pub asks-absent : at_hand n f.payload ≡ None → want_asks a.held.cutoff f.round f.payload ≡ own_asks config n e no_floor
+    asks-absent absent = sym (asks_by None [] absent (rounds_by None absent) ∙ append-nil (want_asks a.held.cutoff f.round f.payload))
 
     -- HELD BY ITS DIGEST
 
@@ -410,7 +410,7 @@ module _ {P E : Type 0} (config : Config) (chain : Chain) (a : Seen P E) (f : Fi
         same x has digest = sym (lawful.heights x.height x.value at) ∙ ap (λ c. c.height) (one_block b x.value is (chain_known x.height x.value at) (bytes_same x.value.digest b.digest digest))
           where
             at : IsBlockAt chain x.height x.value
-            at = AllByRecursion-contains (λ y. IsBlockAt chain y.height y.value) a.held.blocks.held x good.of_chain.held_blocks has
+            at = AllByRecursion-contains (λ y. IsBlockAt chain y.height y.value) a.held.blocks.held x good.of_chain.stores.held_blocks has
 
         by : IsTrue (has_height a.held.blocks.held b.height) ⊎ IsTrue (is_some (block_of a.held.blocks.held b.digest)) → IsTrue (has_height a.held.blocks.held b.height)
         by (inl has) = has
@@ -427,7 +427,7 @@ module _ {P E : Type 0} (config : Config) (chain : Chain) (a : Seen P E) (f : Fi
         same x has digest = of_block (slice_get chain.blocks x.height) refl payload
           where
             payload : commitment_at chain x.height ≡ Some x.value.payload
-            payload = (AllByRecursion-contains (λ y. Finalizes chain y.height y.value.round y.value.payload) a.held.certs.held x good.of_chain.held_certs has).payload_is
+            payload = (AllByRecursion-contains (λ y. Finalizes chain y.height y.value.round y.value.payload) a.held.certs.held x good.of_chain.stores.held_certs has).payload_is
 
             of_block : (o : Option Block) → slice_get chain.blocks x.height ≡ o → option_map (λ c. c.commitment) o ≡ Some x.value.payload → x.height ≡ b.height
             of_block None at named = absurd cc
@@ -446,31 +446,34 @@ module _ {P E : Type 0} (config : Config) (chain : Chain) (a : Seen P E) (f : Fi
     IsGood-grown : (m : Seen P E) → AreNestedHeights m.held.blocks → AreNestedHeights m.held.certs → m.life.out ≡ a.life.out → m.held.processed ≡ a.held.processed → m.held.pairs ≡ pair_of m.held.processed m.held.cutoff ∷ [] → SureOrWritten m.held.blocks [] → SureOrWritten m.held.certs [] → KeepsHeightsFrom 0 a.held.blocks.sure m.held.blocks.sure → AreBlocksOf chain m.held.blocks.held → AreBlocksOf chain m.held.blocks.may → AreFinalizationsOf chain m.held.certs.held → AreFinalizationsOf chain m.held.certs.may → FloorSafe (option_map height_in a.held.processed) m.held.cutoff m.held.blocks.sure chain → AllByRecursion (λ x. x.height ≤ m.life.tip) m.held.certs.held → IsGood config chain (node_of m buffer asked)
     IsGood-grown m nested_blocks nested_certs out processed own sure_blocks sure_certs stays held_blocks may_blocks held_certs may_certs safe below_tip = record {
       heights = record {
-        nested_blocks = nested_blocks;
-        nested_certs = nested_certs;
-        sure_blocks = sure_blocks;
-        sure_certs = sure_certs;
-        consecutive = subst (λ p. ConsecutiveFrom (first_unprocessed p) m.life.out) (sym processed) (subst (λ o. ConsecutiveFrom (first_unprocessed a.held.processed) o) (sym out) good.heights.consecutive);
-        out_sure = subst (λ o. AllByRecursion (λ x. IsTrue (has_height m.held.blocks.sure x.height)) o) (sym out) (AllByRecursion-weaker (λ x. IsTrue (has_height a.held.blocks.sure x.height)) (λ x. IsTrue (has_height m.held.blocks.sure x.height)) (λ x has. stays x.height (omega arith) has) a.life.out good.heights.out_sure);
-        within_window = subst (λ o. length o ≤ config.window) (sym out) good.heights.within_window;
+        stores = record {
+          nested_blocks = nested_blocks;
+          nested_certs = nested_certs;
+          sure_blocks = sure_blocks;
+          sure_certs = sure_certs;
+        };
+        delivery = record {
+          consecutive = subst (λ p. ConsecutiveFrom (first_unprocessed p) m.life.out) (sym processed) (subst (λ o. ConsecutiveFrom (first_unprocessed a.held.processed) o) (sym out) good.heights.delivery.consecutive);
+          out_sure = subst (λ o. AllByRecursion (λ x. IsTrue (has_height m.held.blocks.sure x.height)) o) (sym out) (AllByRecursion-weaker (λ x. IsTrue (has_height a.held.blocks.sure x.height)) (λ x. IsTrue (has_height m.held.blocks.sure x.height)) (λ x has. stays x.height (omega arith) has) a.life.out good.heights.delivery.out_sure);
+          within_window = subst (λ o. length o ≤ config.window) (sym out) good.heights.delivery.within_window;
+          anchored = subst (λ p. HasAnchor p m.held.blocks.sure) (sym processed) (HasAnchor-kept 0 a.held.processed a.held.blocks.sure m.held.blocks.sure (omega arith) stays good.heights.delivery.anchored);
+        };
         floor_clears = λ some. absurd cc;
-        anchored = subst (λ p. HasAnchor p m.held.blocks.sure) (sym processed) (HasAnchor-kept 0 a.held.processed a.held.blocks.sure m.held.blocks.sure (omega arith) stays good.heights.anchored);
         own_pair = own;
         sync_open = λ more. absurd (omega arith);
       };
       of_chain = record {
-        held_blocks = held_blocks;
-        may_blocks = may_blocks;
-        held_certs = held_certs;
-        may_certs = may_certs;
-        cached = tt;
-        cached_blocks = tt;
+        stores = record {
+          held_blocks = held_blocks;
+          may_blocks = may_blocks;
+          held_certs = held_certs;
+          may_certs = may_certs;
+        };
+        cache = record { finalizations = tt; blocks = tt };
+        asks = record { requests = good.of_chain.asks.requests; ready = tt; overflow = tt };
         awaits = tt;
-        floor_safe = subst (λ p. FloorSafe (option_map height_in p) m.held.cutoff m.held.blocks.sure chain) (sym processed) safe;
-        honest_asks = good.of_chain.honest_asks;
-        honest_ready = tt;
-        honest_overflow = tt;
         not_at_hand = tt;
+        floor_safe = subst (λ p. FloorSafe (option_map height_in p) m.held.cutoff m.held.blocks.sure chain) (sym processed) safe;
         tip_reported = below_tip;
       };
     }
@@ -522,10 +525,10 @@ module _ {P E : Type 0} (config : Config) (chain : Chain) (a : Seen P E) (f : Fi
     IsGood-stored : (b : Block) (m : Seen P E) → IsNested a.held.blocks → IsNested a.held.certs → Grown a.held.blocks (at_own_height b ∷ []) m.held.blocks → Grown a.held.certs (at_height b.height f ∷ []) m.held.certs → at_hand n f.payload ≡ Some b → StoresAbove config.inner a f b m → IsGood config chain (node_of m buffer asked)
     IsGood-stored b m blocks_nested certs_nested blocks_grown certs_grown is stores =
         IsGood-grown m (nested_stored _ _ _ _ _ stores.blocks blocks_grown) (nested_stored _ _ _ _ _ stores.certs certs_grown) (ap (λ s. s.life.out) stores.same) processed own (all_sure _ _ _ _ stores.blocks) (all_sure _ _ _ _ stores.certs) stays
-        (all_held (λ x. IsBlockAt chain x.height x.value) _ _ _ _ stores.blocks good.of_chain.held_blocks (block-final b is).1)
-        (all_may (λ x. IsBlockAt chain x.height x.value) _ _ _ _ stores.blocks good.of_chain.held_blocks (block-final b is).1)
-        (all_held (λ x. Finalizes chain x.height x.value.round x.value.payload) _ _ _ _ stores.certs good.of_chain.held_certs (finalizes b is))
-        (all_may (λ x. Finalizes chain x.height x.value.round x.value.payload) _ _ _ _ stores.certs good.of_chain.held_certs (finalizes b is))
+        (all_held (λ x. IsBlockAt chain x.height x.value) _ _ _ _ stores.blocks good.of_chain.stores.held_blocks (block-final b is).1)
+        (all_may (λ x. IsBlockAt chain x.height x.value) _ _ _ _ stores.blocks good.of_chain.stores.held_blocks (block-final b is).1)
+        (all_held (λ x. Finalizes chain x.height x.value.round x.value.payload) _ _ _ _ stores.certs good.of_chain.stores.held_certs (finalizes b is))
+        (all_may (λ x. Finalizes chain x.height x.value.round x.value.payload) _ _ _ _ stores.certs good.of_chain.stores.held_certs (finalizes b is))
         (subst (λ c. FloorSafe (option_map height_in a.held.processed) c m.held.blocks.sure chain) (sym cutoff) (FloorSafe-still chain (option_map height_in a.held.processed) a.held.cutoff a.held.blocks.sure m.held.blocks.sure (λ has. stays _ (omega arith) has) good.of_chain.floor_safe))
         (subst (λ t. AllByRecursion (λ x. x.height ≤ t) m.held.certs.held) (sym tip) (all_held (λ x. x.height ≤ tip_after a.life.tip b) _ _ _ _ stores.certs (AllByRecursion-weaker (λ x. x.height ≤ a.life.tip) (λ x. x.height ≤ tip_after a.life.tip b) (λ x low. let high : a.life.tip ≤ tip_after a.life.tip b = (tip_after-high a.life.tip b).0 in omega arith) a.held.certs.held good.of_chain.tip_reported) (tip_after-high a.life.tip b).1))
       where
@@ -611,7 +614,7 @@ module _ {P E : Type 0} (config : Config) (chain : Chain) (a : Seen P E) (f : Fi
     pub pair_late-safe : IsPartition config.epochs → (b : Block) → at_hand n f.payload ≡ Some b → IsFalse (nat_lt (height_of a.held.processed) b.height) → IsSafePair chain a.held.blocks.sure (pair_of a.held.processed (greatest_of a.held.cutoff (at_round f.round ∷ [])))
     pair_late-safe partition b is low =
         subst (IsSafePair chain a.held.blocks.sure) (sym (pair_late-is b is low))
-        (IsSafePair-after config chain lawful partition n e a.held.blocks.sure good.of_chain.held_certs good.heights.anchored good.heights.consecutive good.heights.out_sure good.of_chain.floor_safe (λ h bound has. has) (subst (MeetsFinal chain) (sym (ap (λ o. option_map (λ c. met_of c f) o) is)) (block-final b is).0) tt tt)
+        (IsSafePair-after config chain lawful partition n e a.held.blocks.sure good.of_chain.stores.held_certs good.heights.delivery.anchored good.heights.delivery.consecutive good.heights.delivery.out_sure good.of_chain.floor_safe (λ h bound has. has) (subst (MeetsFinal chain) (sym (ap (λ o. option_map (λ c. met_of c f) o) is)) (block-final b is).0) tt tt)
 
     -- so a sync of it that failed may leave it
     pub pair_late-left : IsPartition config.epochs → (b : Block) → at_hand n f.payload ≡ Some b → IsFalse (nat_lt (height_of a.held.processed) b.height) → (sure : List (At Block)) → KeepsValues a.held.blocks.sure sure → (p : Pair) → Contains (pair_of a.held.processed (greatest_of a.held.cutoff (at_round f.round ∷ [])) ∷ []) p → MayBeLeft config chain a e buffer asked sure p
@@ -637,14 +640,14 @@ module _ {P E : Type 0} (config : Config) (chain : Chain) (a : Seen P E) (f : Fi
     -- the node that it leaves is good, where the tip reaches what was put
     IsGood-late : IsPartition config.epochs → (b : Block) (m : Seen P E) → Grown a.held.certs (at_height b.height f ∷ []) m.held.certs → at_hand n f.payload ≡ Some b → IsFalse (nat_lt (height_of a.held.processed) b.height) → a.life.tip ≤ m.life.tip → (IsTrue (lacks_finalization a.held b) → b.height ≤ m.life.tip) → IsNoted m → PutsLate b m.held.certs → IsGood config chain (node_of m buffer asked)
     IsGood-late partition b m grown is low rises below_tip same certs =
-        IsGood-grown m (subst AreNestedHeights (sym blocks) good.heights.nested_blocks) (nested_due _ _ _ _ _ _ certs grown good.heights.nested_certs) (ap (λ s. s.life.out) same) (ap (λ s. s.held.processed) same) own
-        (subst (λ k. SureOrWritten k []) (sym blocks) good.heights.sure_blocks)
-        (sure_due _ _ _ _ _ certs good.heights.sure_certs)
+        IsGood-grown m (subst AreNestedHeights (sym blocks) good.heights.stores.nested_blocks) (nested_due _ _ _ _ _ _ certs grown good.heights.stores.nested_certs) (ap (λ s. s.life.out) same) (ap (λ s. s.held.processed) same) own
+        (subst (λ k. SureOrWritten k []) (sym blocks) good.heights.stores.sure_blocks)
+        (sure_due _ _ _ _ _ certs good.heights.stores.sure_certs)
         (λ h bound has. subst (λ k. IsTrue (has_height k.sure h)) (sym blocks) has)
-        (subst (λ k. AreBlocksOf chain k.held) (sym blocks) good.of_chain.held_blocks)
-        (subst (λ k. AreBlocksOf chain k.may) (sym blocks) good.of_chain.may_blocks)
-        (held_due (λ x. Finalizes chain x.height x.value.round x.value.payload) _ _ _ _ _ certs good.of_chain.held_certs (λ due. finalizes b is))
-        (may_due (λ x. Finalizes chain x.height x.value.round x.value.payload) _ _ _ _ _ certs good.of_chain.held_certs good.of_chain.may_certs (finalizes b is))
+        (subst (λ k. AreBlocksOf chain k.held) (sym blocks) good.of_chain.stores.held_blocks)
+        (subst (λ k. AreBlocksOf chain k.may) (sym blocks) good.of_chain.stores.may_blocks)
+        (held_due (λ x. Finalizes chain x.height x.value.round x.value.payload) _ _ _ _ _ certs good.of_chain.stores.held_certs (λ due. finalizes b is))
+        (may_due (λ x. Finalizes chain x.height x.value.round x.value.payload) _ _ _ _ _ certs good.of_chain.stores.held_certs good.of_chain.stores.may_certs (finalizes b is))
         (subst (λ k. FloorSafe (option_map height_in a.held.processed) m.held.cutoff k.sure chain) (sym blocks) (subst (λ c. FloorSafe (option_map height_in a.held.processed) c a.held.blocks.sure chain) (sym (ap (λ s. s.held.cutoff) same)) (pair_late-safe partition b is low).floor_safe))
         (held_due (λ x. x.height ≤ m.life.tip) _ _ _ _ _ certs (AllByRecursion-weaker (λ x. x.height ≤ a.life.tip) (λ x. x.height ≤ m.life.tip) (λ x at_most. omega arith) a.held.certs.held good.of_chain.tip_reported) below_tip)
       where

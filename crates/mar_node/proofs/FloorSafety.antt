@@ -18,7 +18,7 @@ use Rattle.mar_node.specs.Acks.{Outstanding}
 use Rattle.mar_node.proofs.OutstandingLemmas.{ConsecutiveFrom-drained, drains_or_floors, heights-acked_to}
 use Rattle.mar_node.specs.Chain.{Chain, Finalizes, IsFinal, IsLawful}
 use Rattle.mar_node.specs.Config.{Config}
-use Rattle.mar_node.specs.Event.{Effect, Event, Met, message_told, serve_ended, acked_to, applies_floor, awaits_floor, blocks_from, closed_at, cutoff_after, drained_blocks, effect_of, floor_cutoffs, is_above, met_finalization, met_rounds, no_floor, processed_after, retired_cutoffs}
+use Rattle.mar_node.specs.Event.{Effect, Event, Met, message_told, serve_ended, acked_to, all_retired, applies_floor, awaits_floor, blocks_from, closed_at, cutoff_after, drained_blocks, effect_of, floor_cutoffs, is_above, met_finalization, met_rounds, no_floor, processed_after, retired}
 use Rattle.mar_node.specs.Faults.{next_after}
 use Rattle.mar_node.specs.Node.{Awaited, AreFinalizationsOf, ConsecutiveFrom, FloorSafe, Node}
 
@@ -44,7 +44,7 @@ module _ (config : Config) (chain : Chain) (lawful : IsLawful config.epochs chai
   pub CoversUpto-at_epoch : IsPartition config.epochs → (k e : ℕ) → closed_epoch config.epochs k ≡ Some e → CoversUpto chain k (at_epoch e)
   CoversUpto-at_epoch partition k e closed r h final covered = closed_epoch-bounds config.epochs partition h k e r.epoch closed (lawful.own_epoch r h final) (covers-at_epoch e r covered)
 
-  pub CoversUpto-closed_at : IsPartition config.epochs → (h k : ℕ) → h ≤ k → AllByRecursion (CoversUpto chain k) (closed_at config h)
+  pub CoversUpto-closed_at : IsPartition config.epochs → (h k : ℕ) → h ≤ k → AllByRecursion (CoversUpto chain k) (closed_at config.epochs h)
   CoversUpto-closed_at partition h k le = by (closed_epoch config.epochs h) refl
     where
       by : (o : Option ℕ) → closed_epoch config.epochs h ≡ o → AllByRecursion (CoversUpto chain k) (option_to_list (option_map at_epoch o))
@@ -145,14 +145,14 @@ MeetsFinal chain (Some m) = IsFinal chain m.round m.block.height
 
 module _ (config : Config) (chain : Chain) (lawful : IsLawful config.epochs chain) (partition : IsPartition config.epochs) where
   -- the cutoffs of a drained height: its certificate's round, the epoch that is closed there
-  retired_upto : (n : Node) (a : Outstanding) (k : ℕ) → AreFinalizationsOf chain n.certs.held → a.height ≤ k → AllByRecursion (CoversUpto chain k) (retired_cutoffs config n a)
+  retired_upto : (n : Node) (a : Outstanding) (k : ℕ) → AreFinalizationsOf chain n.certs.held → a.height ≤ k → AllByRecursion (CoversUpto chain k) (retired config.epochs n.certs.held a.height)
   retired_upto n a k certs le = AllByRecursion-append (CoversUpto chain k) _ _ (by (value_at n.certs.held a.height) refl) (CoversUpto-closed_at config chain lawful partition a.height k le)
     where
-      by : (o : Option Finalization) → value_at n.certs.held a.height ≡ o → AllByRecursion (CoversUpto chain k) (option_to_list (option_map (λ f. at_round f.round) o))
+      by : (o : Option Finalization) → value_at n.certs.held a.height ≡ o → AllByRecursion (CoversUpto chain k) (option_to_list (option_map at_round (option_map (λ f. f.round) o)))
       by None is = tt
       by (Some f) is = (CoversUpto-more chain a.height k (at_round f.round) le (CoversUpto-at_round config chain lawful a.height f.round (AllByRecursion-value_at (λ x. Finalizes chain x.height x.value.round x.value.payload) n.certs.held a.height f certs is).named), tt)
 
-  pub all_retired_upto : (n : Node) (out : List Outstanding) (k : ℕ) → AreFinalizationsOf chain n.certs.held → AllByRecursion (λ a. a.height ≤ k) out → AllByRecursion (CoversUpto chain k) (flat_map (retired_cutoffs config n) out)
+  pub all_retired_upto : (n : Node) (out : List Outstanding) (k : ℕ) → AreFinalizationsOf chain n.certs.held → AllByRecursion (λ a. a.height ≤ k) out → AllByRecursion (CoversUpto chain k) (all_retired config.epochs n.certs.held out)
   all_retired_upto n [] k certs le = tt
   all_retired_upto n (a ∷ out) k certs le = AllByRecursion-append (CoversUpto chain k) _ _ (retired_upto n a k certs le.0) (all_retired_upto n out k certs le.1)
 
@@ -182,7 +182,7 @@ module _ (config : Config) (chain : Chain) (lawful : IsLawful config.epochs chai
   safe_from_all p sure cs upto = AllByRecursion-weaker _ _ (λ d low. FloorSafe-from_upto config chain lawful p d sure low) cs upto
 
   -- acknowledgements, and a round that is met
-  pub drained_safe : (n : Node) (out : List Outstanding) (met : List Cutoff) (sure : List (At Block)) → AreFinalizationsOf chain n.certs.held → ConsecutiveFrom (first_unprocessed n.processed) out → FloorSafe (option_map height_in n.processed) n.cutoff n.blocks.sure chain → StaysSure n sure → AllByRecursion (CoversUpto chain (height_of n.processed)) met → FloorSafe (option_map height_in (acked_to n.processed out)) (greatest_of n.cutoff (flat_map (retired_cutoffs config n) out ++ met)) sure chain
+  pub drained_safe : (n : Node) (out : List Outstanding) (met : List Cutoff) (sure : List (At Block)) → AreFinalizationsOf chain n.certs.held → ConsecutiveFrom (first_unprocessed n.processed) out → FloorSafe (option_map height_in n.processed) n.cutoff n.blocks.sure chain → StaysSure n sure → AllByRecursion (CoversUpto chain (height_of n.processed)) met → FloorSafe (option_map height_in (acked_to n.processed out)) (greatest_of n.cutoff (all_retired config.epochs n.certs.held out ++ met)) sure chain
   drained_safe n [] met sure certs line safe stays low = FloorSafe-greatest_of chain _ n.cutoff met sure (safe_still n sure safe stays) (safe_from_all n.processed sure met low)
   drained_safe n (a ∷ out) met sure certs line safe stays low =
       FloorSafe-from_upto config chain lawful after _ sure
@@ -204,11 +204,11 @@ module _ (config : Config) (chain : Chain) (lawful : IsLawful config.epochs chai
       first = subst (λ j. j ≤ height_of (acked_to n.processed (a ∷ out))) line.0 heights.0
 
   -- an applied floor: above the processed height its block is the next one, and is sure
-  applied_above : (n : Node) (r : Round) (b : Block) (sure : List (At Block)) → FloorSafe (option_map height_in n.processed) n.cutoff n.blocks.sure chain → IsFinal chain r b.height → height_of n.processed < b.height → IsTrue (has_height sure b.height) → FloorSafe (Some (b.height - 1)) (greatest_of n.cutoff (at_round r ∷ closed_at config b.height)) sure chain
+  applied_above : (n : Node) (r : Round) (b : Block) (sure : List (At Block)) → FloorSafe (option_map height_in n.processed) n.cutoff n.blocks.sure chain → IsFinal chain r b.height → height_of n.processed < b.height → IsTrue (has_height sure b.height) → FloorSafe (Some (b.height - 1)) (greatest_of n.cutoff (at_round r ∷ closed_at config.epochs b.height)) sure chain
   applied_above n r b sure safe final above has =
       FloorSafe-at_next chain (b.height - 1) _ sure
       (CoversUpto-more chain b.height _ _ (omega arith)
-      (CoversUpto-greatest_of chain b.height n.cutoff (at_round r ∷ closed_at config b.height)
+      (CoversUpto-greatest_of chain b.height n.cutoff (at_round r ∷ closed_at config.epochs b.height)
       (CoversUpto-more chain _ b.height n.cutoff (subst (λ j. j ≤ b.height) (sym (next_after-is n.processed)) (next_low n.processed above)) (CoversUpto-from_safe chain _ n.cutoff n.blocks.sure safe))
       (CoversUpto-at_round config chain lawful b.height r final, CoversUpto-closed_at config chain lawful partition b.height b.height (le_refl _))))
       (subst (λ j. IsTrue (has_height sure j)) back has)
@@ -233,21 +233,21 @@ module _ (config : Config) (chain : Chain) (lawful : IsLawful config.epochs chai
       either true = refl
       either false = refl
 
-      by : (c : Bool) → is_above n b ≡ c → (IsTrue c → IsTrue (has_height sure b.height)) → FloorSafe (option_map height_in (if c then Some (if has_height n.blocks.held (b.height - 1) then at_block (b.height - 1) else at_absent (b.height - 1)) else n.processed)) (greatest_of n.cutoff (at_round r ∷ (if c then closed_at config b.height else []))) sure chain
-      by true e sure_there = subst (λ o. FloorSafe o (greatest_of n.cutoff (at_round r ∷ closed_at config b.height)) sure chain) (sym (either (has_height n.blocks.held (b.height - 1)))) (applied_above n r b sure safe final (above (height_of n.processed) b.height e) (sure_there refl))
+      by : (c : Bool) → is_above n b ≡ c → (IsTrue c → IsTrue (has_height sure b.height)) → FloorSafe (option_map height_in (if c then Some (if has_height n.blocks.held (b.height - 1) then at_block (b.height - 1) else at_absent (b.height - 1)) else n.processed)) (greatest_of n.cutoff (at_round r ∷ (if c then closed_at config.epochs b.height else []))) sure chain
+      by true e sure_there = subst (λ o. FloorSafe o (greatest_of n.cutoff (at_round r ∷ closed_at config.epochs b.height)) sure chain) (sym (either (has_height n.blocks.held (b.height - 1)))) (applied_above n r b sure safe final (above (height_of n.processed) b.height e) (sure_there refl))
       by false e sure_there =
           FloorSafe-greatest_of chain _ n.cutoff (at_round r ∷ []) sure (safe_still n sure safe (stays e))
           (safe_from_all n.processed sure (at_round r ∷ []) (CoversUpto-more chain b.height _ (at_round r) (low (height_of n.processed) b.height e) (CoversUpto-at_round config chain lawful b.height r final), tt))
 
   -- ANY EVENT
 
-  append_none : (n : Node) (e : Event) (more : List Cutoff) → drained_blocks n e ≡ [] → more ≡ flat_map (retired_cutoffs config n) (drained_blocks n e) ++ [] ++ more
-  append_none n e more none = ap (λ out. flat_map (retired_cutoffs config n) out ++ [] ++ more) (sym none)
+  append_none : (n : Node) (e : Event) (more : List Cutoff) → drained_blocks n e ≡ [] → more ≡ all_retired config.epochs n.certs.held (drained_blocks n e) ++ [] ++ more
+  append_none n e more none = ap (λ out. all_retired config.epochs n.certs.held out ++ [] ++ more) (sym none)
 
   -- after any event the new cutoff is safe for the new processed height and the blocks that are sure then
   by_effect : (n : Node) (e : Event) (fx : Effect) (sure : List (At Block)) → (fx ≡ no_floor) ⊎ (drained_blocks n e ≡ []) → AreFinalizationsOf chain n.certs.held → ConsecutiveFrom (first_unprocessed n.processed) n.out → FloorSafe (option_map height_in n.processed) n.cutoff n.blocks.sure chain → KeepsHeightsFrom (blocks_from n e fx) n.blocks.sure sure → MeetsFinal chain (met_finalization n e) → HasFloor chain n fx sure → FloorSafe (option_map height_in (processed_after n e fx)) (cutoff_after config n e fx) sure chain
   by_effect n e no_floor sure drains certs line safe stays meets floor =
-      subst (λ cs. FloorSafe (option_map height_in (acked_to n.processed (drained_blocks n e))) (greatest_of n.cutoff cs) sure chain) (sym (append-nil (flat_map (retired_cutoffs config n) (drained_blocks n e) ++ map at_round (met_rounds n (met_finalization n e)))))
+      subst (λ cs. FloorSafe (option_map height_in (acked_to n.processed (drained_blocks n e))) (greatest_of n.cutoff cs) sure chain) (sym (append-nil (all_retired config.epochs n.certs.held (drained_blocks n e) ++ map at_round (met_rounds n (met_finalization n e)))))
       (drained_safe n (drained_blocks n e) (map at_round (met_rounds n (met_finalization n e))) sure certs (ConsecutiveFrom-drained n e line) safe (stays_over n (blocks_from n e no_floor) sure (blocks_from-low n e) stays) (met_upto n (met_finalization n e) meets))
   by_effect n e (awaits_floor a) sure (inl same) certs line safe stays meets floor = absurd cc
   by_effect n e (awaits_floor a) sure (inr none) certs line safe stays meets floor =

@@ -10,7 +10,8 @@ use Rattle.mar_node.specs.Acks.{Outstanding, height_after}
 use Rattle.mar_node.specs.Chain.{Chain, IsBlockAt}
 use Rattle.mar_node.specs.Faults.{ack_kind, ticket_limit}
 use Rattle.mar_node.specs.Held.{Ending, Grew, IsArchiveFault, Loses, Seen, Watches, nothing_written}
-use Rattle.mar_node.specs.Moves.{AreNextHeld, Dispatches, HasRoom, HeldFrom, IsLastTicket, IsNext, IsRead, IsStill, StopsHanding, handed_report, next_in, with_handed, with_watches}
+use Rattle.mar_node.specs.Moves.{AreNextHeld, Dispatches, HasRoom, HearsFront, HearsUpTo, IsLastTicket, IsNext, IsRead, IsStill, StopsHanding, handed_report, next_in, with_handed, with_watches}
+use Rattle.mar_node.specs.Step.{HeldFrom}
 use Rattle.mar_node.proofs.Growing.{Grew-refl}
 use Rattle.mar_node.specs.Node.{AreBlocksOf, ConsecutiveFrom}
 use Rattle.mar_node.specs.Step.{AreHandedOf, HandedBlock, HandedFrom, Report, handed_blocks, handed_over, outstanding_of}
@@ -25,6 +26,23 @@ Hears-then {T = T} (Some told) second third xs ys before after = subst (λ zs. t
 pub Hears-nothing : {T : Type 0} (told : Option (List T)) → Hears told [] told
 Hears-nothing None = tt
 Hears-nothing (Some told) = ap Some (sym (append-nil told))
+
+-- a front of what was to be heard
+pub HearsFront-whole : {T : Type 0} (old : Option (List T)) (xs : List T) (new : Option (List T)) → Hears old xs new → HearsFront old xs new
+HearsFront-whole old xs new heard = (xs, ([], sym (append-nil xs)), heard)
+
+pub HearsFront-nothing : {T : Type 0} (old : Option (List T)) (xs : List T) (new : Option (List T)) → Hears old [] new → HearsFront old xs new
+HearsFront-nothing old xs new heard = ([], (xs, refl), heard)
+
+pub HearsFront-more : {T : Type 0} (old : Option (List T)) (xs ys : List T) (new : Option (List T)) → HearsFront old xs new → HearsFront old (xs ++ ys) new
+HearsFront-more old xs ys new (front, (rest, is), heard) = (front, (rest ++ ys, ap (λ zs. zs ++ ys) is ∙ append_assoc front rest ys), heard)
+
+pub HearsFront-then : {T : Type 0} (old : Option (List T)) (xs : List T) (mid : Option (List T)) (ys : List T) (new : Option (List T)) → Hears old xs mid → HearsFront mid ys new → HearsFront old (xs ++ ys) new
+HearsFront-then old xs mid ys new before (front, (rest, is), heard) = (xs ++ front, (rest, ap (λ zs. xs ++ zs) is ∙ sym (append_assoc xs front rest)), Hears-then old mid new xs front before heard)
+
+pub HearsUpTo-then : {T A : Type 0} (old : Option (List T)) (xs : List T) (mid : Option (List T)) (ys : List T) (new : Option (List T)) (result : Result A Ending) → Hears old xs mid → HearsUpTo mid ys new result → HearsUpTo old (xs ++ ys) new result
+HearsUpTo-then old xs mid ys new (Ok r) before after = Hears-then old mid new xs ys before after
+HearsUpTo-then old xs mid ys new (Err e) before after = HearsFront-then old xs mid ys new before after
 
 -- HEIGHTS
 

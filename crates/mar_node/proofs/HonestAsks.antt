@@ -2,32 +2,30 @@
 use Rattle.std.proofs.Common.{◌≡◌, ◌⊎◌, inl, inr, ⊎_elim, ◌-◌, ℕ, List, [], ◌∷◌, ◌++◌, Bool, true, false, not, ◌||◌, if◌then◌else◌, Option, Some, None, IsTrue, filter, fold, refl, subst}
 use Rattle.std.specs.Bool.{⊤}
 use Rattle.std.specs.List.{AllByRecursion, list_any}
+use Rattle.mar_types.specs.Epochs.{Epochs}
 use Rattle.mar_types.specs.Round.{Round}
 use Rattle.mar_key.specs.Keys.{Annotation, Call, Key, Retain, above_height, above_round, annotation_eq, block_key, certified_at, fetch, finalized_by_height, finalized_by_round, for_notarization, untrusted_at, finalized_key, is_denied, is_finalized, key_eq, notarized_key, retain}
 use Rattle.mar_key.specs.Cutoff.{Cutoff, covers, cutoff_le, greatest_of}
 use Rattle.mar_node.specs.Acks.{Outstanding}
 use Rattle.mar_store.proofs.Lookups.{AllByRecursion-append}
 use Rattle.mar_node.specs.Config.{Config}
-use Rattle.mar_node.specs.Event.{Effect, Event, applies_floor, awaits_floor, drained_blocks, floor_cutoffs, is_above, message_told, met_cutoffs, met_finalization, no_floor, retired_cutoffs}
+use Rattle.mar_node.specs.Event.{Effect, Event, applies_floor, awaits_floor, drained_blocks, floor_cutoffs, is_above, message_told, met_cutoffs, met_finalization, no_floor, retired}
 use Rattle.mar_node.specs.Promise.{ReportsFinalized}
 use Rattle.mar_node.specs.Answers.{at_hand_digest, is_known}
 use Rattle.mar_cert.specs.Block.{Block}
 use Rattle.mar_cert.specs.Finalization.{Finalization}
-use Rattle.mar_store.specs.Kept.{value_at}
+use Rattle.mar_store.specs.Kept.{At, value_at}
 use Rattle.mar_node.specs.Messages.{Fallback, fetch_by_commitment, fetch_by_round, hint_finalized, hint_notarized, report_finalization, subscribe_commitment, subscribe_digest, wait}
 use Rattle.mar_node.specs.Requests.{fallback_asks, height_asks, hint_asks, notarized_asks, notarized_hint_asks, own_asks, permits_height, raise_asks, reported_asks, retire_asks, told_asks, want_asks}
 use Rattle.mar_key.specs.Asked.{Asked, Judged, Outcome, after_ask, after_outcome, asked_after, judged_complete, judged_ignored, judged_invalid, with_annotation, with_fetch, with_retain, without_empty}
 use Rattle.mar_node.specs.Chain.{Chain}
-use Rattle.mar_node.specs.Node.{HonestAsk, IsFinalized, Node, at_hand}
+use Rattle.mar_node.specs.Node.{AreHonest, HonestAsk, IsFinalized, Node, at_hand}
 use Rattle.mar_node.proofs.AtHand.{bytes_same}
 
 -- an ask that would be honest alone
 abbrev pub HonestCall : Chain → Call → Type 0
 HonestCall chain (fetch key annotation targets) = HonestAsk chain key (annotation ∷ [])
 HonestCall chain (retain keep) = ⊤
-
-abbrev pub AreHonest : Chain → List Asked → Type 0
-AreHonest chain = AllByRecursion (λ x. HonestAsk chain x.key x.annotations)
 
 -- with fewer `Finalized` annotations
 pub HonestAsk-fewer : (chain : Chain) (key : Key) (more fewer : List Annotation) → (IsTrue (list_any is_finalized fewer) → IsTrue (list_any is_finalized more)) → HonestAsk chain key more → HonestAsk chain key fewer
@@ -144,13 +142,14 @@ raise_asks-honest chain cutoff (c ∷ others) = by (cutoff_le c cutoff) (raise_a
     by true low high = low
     by false low high = (tt, high)
 
-retire_asks-honest : (config : Config) (chain : Chain) (n : Node) (cutoff : Cutoff) (out : List Outstanding) → AllByRecursion (HonestCall chain) (retire_asks config n cutoff out)
-retire_asks-honest config chain n cutoff [] = tt
-retire_asks-honest config chain n cutoff (a ∷ out) = (tt, AllByRecursion-append (HonestCall chain) (raise_asks cutoff (retired_cutoffs config n a)) _ (raise_asks-honest chain cutoff (retired_cutoffs config n a)) (retire_asks-honest config chain n (greatest_of cutoff (retired_cutoffs config n a)) out))
+retire_asks-honest : (epochs : Epochs) (chain : Chain) (certs : List (At Finalization)) (cutoff : Cutoff) (out : List Outstanding) → AllByRecursion (HonestCall chain) (retire_asks epochs certs cutoff out)
+retire_asks-honest epochs chain certs cutoff [] = tt
+retire_asks-honest epochs chain certs cutoff (a ∷ out) =
+    (tt, AllByRecursion-append (HonestCall chain) (raise_asks cutoff (retired epochs certs a.height)) _ (raise_asks-honest chain cutoff (retired epochs certs a.height)) (retire_asks-honest epochs chain certs (greatest_of cutoff (retired epochs certs a.height)) out))
 
 -- a finalized block's commitment may be asked for
-pub want_asks-honest : (chain : Chain) (n : Node) (r : Round) (c : List ℕ) → IsFinalized chain r c → AllByRecursion (HonestCall chain) (want_asks n r c)
-want_asks-honest chain n r c (h, final) = by (covers n.cutoff r)
+pub want_asks-honest : (chain : Chain) (cutoff : Cutoff) (r : Round) (c : List ℕ) → IsFinalized chain r c → AllByRecursion (HonestCall chain) (want_asks cutoff r c)
+want_asks-honest chain cutoff r c (h, final) = by (covers cutoff r)
   where
     by : (b : Bool) → AllByRecursion (HonestCall chain) (if b then [] else fetch (block_key c) (finalized_by_round r) None ∷ [])
     by true = tt
@@ -176,7 +175,7 @@ height_asks-honest chain n key annotation h targets honest = by (permits_height 
     by false = tt
 
 reported_asks-honest : (chain : Chain) (n : Node) (f : Finalization) (b : Option Block) → IsFinalized chain f.round f.payload → AllByRecursion (HonestCall chain) (reported_asks n f b)
-reported_asks-honest chain n f None final = want_asks-honest chain n f.round f.payload final
+reported_asks-honest chain n f None final = want_asks-honest chain n.cutoff f.round f.payload final
 reported_asks-honest chain n f (Some b) final = tt
 
 hint_asks-honest : (chain : Chain) (n : Node) (h : ℕ) (peers : List ℕ) (f : Option Finalization) → AllByRecursion (HonestCall chain) (hint_asks n h peers f)
@@ -209,10 +208,10 @@ told_asks-honest chain n e final = tt
 -- so what an event asks is honest, where what it reports and awaits is the chain's
 pub own_asks-honest : (config : Config) (chain : Chain) (n : Node) (e : Event) (fx : Effect) → ReportsFinalized chain e → AwaitsFinal chain fx → AllByRecursion (HonestCall chain) (own_asks config n e fx)
 own_asks-honest config chain n e no_floor reports awaits =
-    AllByRecursion-append (HonestCall chain) (retire_asks config n n.cutoff (drained_blocks n e) ++ told_asks n e) _
-    (AllByRecursion-append (HonestCall chain) (retire_asks config n n.cutoff (drained_blocks n e)) (told_asks n e) (retire_asks-honest config chain n n.cutoff (drained_blocks n e)) (told_asks-honest chain n e reports))
+    AllByRecursion-append (HonestCall chain) (retire_asks config.epochs n.certs.held n.cutoff (drained_blocks n e) ++ told_asks n e) _
+    (AllByRecursion-append (HonestCall chain) (retire_asks config.epochs n.certs.held n.cutoff (drained_blocks n e)) (told_asks n e) (retire_asks-honest config.epochs chain n.certs.held n.cutoff (drained_blocks n e)) (told_asks-honest chain n e reports))
     (raise_asks-honest chain n.cutoff (met_cutoffs n (met_finalization n e) no_floor))
-own_asks-honest config chain n e (awaits_floor a) reports awaits = want_asks-honest chain n a.round a.commitment awaits
+own_asks-honest config chain n e (awaits_floor a) reports awaits = want_asks-honest chain n.cutoff a.round a.commitment awaits
 own_asks-honest config chain n e (applies_floor r b) reports awaits = AllByRecursion-append (HonestCall chain) (if is_above n b then retain (above_height (b.height - 1)) ∷ [] else []) _ (by (is_above n b)) (raise_asks-honest chain n.cutoff (floor_cutoffs config n (applies_floor r b)))
   where
     by : (c : Bool) → AllByRecursion (HonestCall chain) (if c then retain (above_height (b.height - 1)) ∷ [] else [])

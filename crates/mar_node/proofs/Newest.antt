@@ -12,7 +12,7 @@ use Rattle.mar_store.proofs.Lookups.{AllByRecursion-contains, AllByRecursion-wea
 use Rattle.mar_store.proofs.NewestUpto.{newest_upto-is}
 use Rattle.mar_store.proofs.RangeLemmas.{IsInRanges}
 use Rattle.mar_store.proofs.RangeMembers.{AscendFrom, bound_of, ranges-ascend, ranges-has, ranges-members}
-use Rattle.mar_node.specs.Moves.{entry_at}
+use Rattle.mar_node.specs.Stored.{entry_at}
 use Rattle.mar_node.specs.Newest.{upto, upto_in}
 
 -- IN RANGES

@@ -19,9 +19,11 @@ use Rattle.mar_node.specs.Config.{Config}
 use Rattle.mar_node.specs.Faults.{Begin, Fault, anchor_fault, from_genesis, genesis_fault, genesis_height, is_by_value, next_after, opening_fault, stored_mismatch, successor_fault, unbacked, with_genesis}
 use Rattle.mar_node.specs.Held.{Ending, Grew, Held, IsEndedBy, IsUsual, Loses, LosesOpening, Remains, Remembered, ReopensAs, Sizes, Written, first_life, nothing_written, picks_of, written_block}
 use Rattle.mar_node.specs.Lives.{BackedBy, CutsReopening, Finds, IsGoodEnded, IsSettled, OpeningPair, SameAt, opened_cutoff, opened_node, opened_witnessed, processed_at}
-use Rattle.mar_node.specs.Moves.{StoresValue, newest, newest_tip}
-use Rattle.mar_node.specs.Node.{AreBlocksOf, AreCachedOf, BlocksAgree, Ended, FloorSafe, IsGood, IsGoodInHeights, Node}
+use Rattle.mar_node.specs.Moves.{StoresValue, newest_tip}
+use Rattle.mar_node.specs.Stored.{newest}
+use Rattle.mar_node.specs.Node.{AreBlocksOf, AreCachedOf, BlocksAgree, Ended, FloorSafe, IsGood, IsGoodInHeights, Node, empty_inbox, empty_peers}
 use Rattle.mar_node.specs.Opening.{BeginsWith, Derives, Enters, IsBeginFault, derived_cutoff, derived_pair, is_begun, next_fault, pair_in}
+use Rattle.mar_node.specs.Step.{nothing_made}
 use Rattle.mar_node.specs.Promise.{Begins, IsLawfulOpening, IsOpeningFault, node_of}
 use Rattle.mar_node.specs.Sound.{IsSafePair, IsSound}
 use Rattle.mar_node.proofs.Cutting.{keeps_heights, never, only_one, usual_not_by_value}
@@ -267,8 +269,8 @@ module _ (old : Remains) (luck : ℕ) (first : Held) (reopens : ReopensAs old lu
             meta = pairs;
             witnessed = witnessed;
             certs = certs;
-            peers = record { ready = []; capacity = k; overflow = []; closed = [] };
-            inbox = record { ready = []; capacity = k; floor = None; prune = None; overflow = []; closed = []; seats = 0; shut = false };
+            peers = empty_peers k;
+            inbox = empty_inbox k;
           }
 
           same_values : (p p' : Option Processed) (c c' : Cutoff) (m m' : List Pair) (w w' : Round) (f f' : Kept (At Finalization)) (k k' : ℕ) → p ≡ p' → c ≡ c' → m ≡ m' → w ≡ w' → f ≡ f' → k ≡ k' → of_values p c m w f k ≡ of_values p' c' m' w' f' k'
@@ -307,17 +309,11 @@ module _ (old : Remains) (luck : ℕ) (first : Held) (reopens : ReopensAs old lu
           tip = newest_tip 0 (newest first.certs.held)
 
           good : IsGood config chain (record opened { tip = tip })
-          good = IsGood-from_parts config chain (record opened { tip = tip }) (IsSound-moved chain opened (record opened { tip = tip }) sound) (record { asks = tt; ready = tt; overflow = tt }) (record {
+          good = IsGood-from_parts config chain (record opened { tip = tip }) (IsSound-moved chain opened (record opened { tip = tip }) sound) (record { requests = tt; ready = tt; overflow = tt }) (record {
             heights = record {
-              nested_blocks = heights.nested_blocks;
-              nested_certs = heights.nested_certs;
-              sure_blocks = heights.sure_blocks;
-              sure_certs = heights.sure_certs;
-              consecutive = heights.consecutive;
-              out_sure = heights.out_sure;
-              within_window = heights.within_window;
+              stores = heights.stores;
+              delivery = heights.delivery;
               floor_clears = heights.floor_clears;
-              anchored = heights.anchored;
               own_pair = heights.own_pair;
               sync_open = heights.sync_open;
             };
@@ -374,9 +370,9 @@ module _ (config : Config) (chain : Chain) (old : Remains) (luck : ℕ) (begin :
       floor_safe = AllByRecursion-from_contains (λ p. FloorSafe p.processed p.cutoff left.blocks_sure chain) left.meta (λ p has. (safe p has).floor_safe);
     }
 
-    pub CutsReopening-lost : IsUsual e.fault ⊎ IsOpeningFault old.ended begin e.fault → CutsReopening config chain old.ended (picks_of old luck) begin [] e.fault left
+    pub CutsReopening-lost : IsUsual e.fault ⊎ IsOpeningFault old.ended begin e.fault → CutsReopening config chain old.ended (picks_of old luck) begin nothing_made e.fault left
     CutsReopening-lost kind = record {
-      reports_none = refl;
+      silent = refl;
       leaves = record {
         sure_blocks = λ h b is low. lost.blocks.sure h b is;
         sure_certs = λ h f is low. lost.certs.sure h f is;
@@ -435,7 +431,7 @@ deriving_cause old luck first some more none e reopens (inr (holds, lost)) = Fai
 
 module _ (config : Config) (chain : Chain) (old : Remains) (luck : ℕ) (begin : Begin) where
   -- nothing was written yet
-  pub cut_early : (e : Ending) → IsLawfulOpening config chain old.ended begin → LosesOpening old nothing_written e → IsUsual e.fault ⊎ IsOpeningFault old.ended begin e.fault → CutsReopening config chain old.ended (picks_of old luck) begin [] e.fault e.remains.ended
+  pub cut_early : (e : Ending) → IsLawfulOpening config chain old.ended begin → LosesOpening old nothing_written e → IsUsual e.fault ⊎ IsOpeningFault old.ended begin e.fault → CutsReopening config chain old.ended (picks_of old luck) begin nothing_made e.fault e.remains.ended
   cut_early e asks lost kind = CutsReopening-lost config chain old luck begin asks nothing_written e lost (λ x has. no_pair x has) tt refl (λ p has. no_pair p has) kind
 
   module _ (first : Held) (reopens : ReopensAs old luck first) (g : Block) (is : begin ≡ from_genesis g) where
@@ -443,7 +439,7 @@ module _ (config : Config) (chain : Chain) (old : Remains) (luck : ℕ) (begin :
     genesis_own x has = is ∙ ap (λ (y : At Block). from_genesis y.value) (only_one (at_own_height g) x has)
 
     -- block 0 may have been written
-    pub cut_begun : (e : Ending) → IsLawfulOpening config chain old.ended begin → Loses first (written_block (at_own_height g)) e → IsUsual e.fault ⊎ IsBeginFault g first e.fault → CutsReopening config chain old.ended (picks_of old luck) begin [] e.fault e.remains.ended
+    pub cut_begun : (e : Ending) → IsLawfulOpening config chain old.ended begin → Loses first (written_block (at_own_height g)) e → IsUsual e.fault ⊎ IsBeginFault g first e.fault → CutsReopening config chain old.ended (picks_of old luck) begin nothing_made e.fault e.remains.ended
     cut_begun e asks lost kind =
         CutsReopening-lost config chain old luck begin asks (written_block (at_own_height g)) e (LosesOpening-then old luck first (written_block (at_own_height g)) e refl refl reopens lost) genesis_own (genesis_of config chain old.ended g (subst (IsLawfulOpening config chain old.ended) is asks)) refl (λ p has. no_pair p has)
         (begin_by_value old begin luck first reopens g is e.fault kind)
@@ -453,7 +449,7 @@ module _ (config : Config) (chain : Chain) (old : Remains) (luck : ℕ) (begin :
       with_derived epochs = record (written_block (at_own_height g)) { pairs = derived_pair epochs s ∷ [] }
 
       -- the cutoff may have been written
-      pub cut_deriving : (epochs : Epochs) → config.epochs ≡ epochs → (e : Ending) → IsLawfulOpening config chain old.ended begin → Loses first (written_block (at_own_height g)) e ⊎ (next_fault s ≡ None) × Loses first (with_derived epochs) e → KeepsValues s.blocks.sure e.remains.ended.blocks_sure → IsUsual e.fault ⊎ (next_fault s ≡ Some e.fault) → CutsReopening config chain old.ended (picks_of old luck) begin [] e.fault e.remains.ended
+      pub cut_deriving : (epochs : Epochs) → config.epochs ≡ epochs → (e : Ending) → IsLawfulOpening config chain old.ended begin → Loses first (written_block (at_own_height g)) e ⊎ (next_fault s ≡ None) × Loses first (with_derived epochs) e → KeepsValues s.blocks.sure e.remains.ended.blocks_sure → IsUsual e.fault ⊎ (next_fault s ≡ Some e.fault) → CutsReopening config chain old.ended (picks_of old luck) begin nothing_made e.fault e.remains.ended
       cut_deriving epochs same e asks loses keeps kind = by (subst (λ es. Loses first (written_block (at_own_height g)) e ⊎ (next_fault s ≡ None) × Loses first (with_derived es) e) (sym same) loses)
         where
           own : IsLawfulOpening config chain old.ended (from_genesis g)
@@ -462,7 +458,7 @@ module _ (config : Config) (chain : Chain) (old : Remains) (luck : ℕ) (begin :
           kind_is : IsUsual e.fault ⊎ IsOpeningFault old.ended begin e.fault
           kind_is = next_by_value old begin luck first reopens g is s begins_with e.fault kind
 
-          by : Loses first (written_block (at_own_height g)) e ⊎ (next_fault s ≡ None) × Loses first (with_derived config.epochs) e → CutsReopening config chain old.ended (picks_of old luck) begin [] e.fault e.remains.ended
+          by : Loses first (written_block (at_own_height g)) e ⊎ (next_fault s ≡ None) × Loses first (with_derived config.epochs) e → CutsReopening config chain old.ended (picks_of old luck) begin nothing_made e.fault e.remains.ended
           by (inl lost) = CutsReopening-lost config chain old luck begin asks (written_block (at_own_height g)) e (LosesOpening-then old luck first (written_block (at_own_height g)) e refl refl reopens lost) genesis_own (genesis_of config chain old.ended g own) refl (λ p has. no_pair p has) kind_is
           by (inr (none, lost)) = CutsReopening-lost config chain old luck begin asks (with_derived config.epochs) e (LosesOpening-then old luck first (with_derived config.epochs) e refl refl reopens lost) genesis_own (genesis_of config chain old.ended g own) refl may kind_is
             where

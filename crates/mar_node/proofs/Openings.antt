@@ -225,12 +225,13 @@ module _ (config : Config) (chain : Chain) (lawful : IsLawful config.epochs chai
   -- before its Start step the node is sound
   pub IsSound-opened : ((g : Block) → begin ≡ from_genesis g → IsBlockAt chain 0 g) → IsSound chain n
   IsSound-opened genesis = subst (IsSound chain) (sym finds.node) (record {
-    held_blocks = opened_blocks config chain e picks begin n finds good genesis;
-    may_blocks = opened_may config chain e picks begin n finds good genesis;
-    held_certs = opened_certs config chain e picks begin n finds good;
-    may_certs = opened_certs config chain e picks begin n finds good;
-    cached = cached_found;
-    cached_blocks = cached_blocks_found;
+    stores = record {
+      held_blocks = opened_blocks config chain e picks begin n finds good genesis;
+      may_blocks = opened_may config chain e picks begin n finds good genesis;
+      held_certs = opened_certs config chain e picks begin n finds good;
+      may_certs = opened_certs config chain e picks begin n finds good;
+    };
+    cache = record { finalizations = cached_found; blocks = cached_blocks_found };
     awaits = tt;
     pairs = (subst (λ xs. IsSafePair chain xs (pair_of (option_map (processed_at finds.blocks.held) finds.pair.processed) (opened_cutoff config.epochs finds.blocks.held finds.certs finds.pair))) (sym finds.settled.sure) record { backed = subst (BackedBy finds.blocks.held) (sym (processed_at-height finds.blocks.held finds.pair.processed)) opened_backed; floor_safe = subst (λ o. FloorSafe o (opened_cutoff config.epochs finds.blocks.held finds.certs finds.pair) finds.blocks.held chain) (sym (processed_at-height finds.blocks.held finds.pair.processed)) opened_safe }, tt);
   })
@@ -238,18 +239,22 @@ module _ (config : Config) (chain : Chain) (lawful : IsLawful config.epochs chai
   -- and good in heights
   pub IsGoodInHeights-opened : IsGoodInHeights config n
   IsGoodInHeights-opened = subst (IsGoodInHeights config) (sym finds.node) (record {
-    nested_blocks = record {
+    stores = record {
+      nested_blocks = record {
       sure_held = λ h has. subst (λ xs. IsTrue (has_height xs h)) finds.settled.sure has;
       held_may = λ h has. has_height-within finds.blocks.held finds.blocks.may finds.settled.held_may h has;
     };
-    nested_certs = record { sure_held = λ h has. has; held_may = λ h has. has };
-    sure_blocks = λ h has. inl (opened_has_sure config chain e picks begin n finds h has);
-    sure_certs = λ h has. inl has;
-    consecutive = tt;
-    out_sure = tt;
-    within_window = omega arith;
+      nested_certs = record { sure_held = λ h has. has; held_may = λ h has. has };
+      sure_blocks = λ h has. inl (opened_has_sure config chain e picks begin n finds h has);
+      sure_certs = λ h has. inl has;
+    };
+    delivery = record {
+      consecutive = tt;
+      out_sure = tt;
+      within_window = omega arith;
+      anchored = subst (HasAnchor (option_map (processed_at finds.blocks.held) finds.pair.processed)) (sym finds.settled.sure) (HasAnchor-opened finds.blocks.held finds.pair.processed opened_backed);
+    };
     floor_clears = λ some. refl;
-    anchored = subst (HasAnchor (option_map (processed_at finds.blocks.held) finds.pair.processed)) (sym finds.settled.sure) (HasAnchor-opened finds.blocks.held finds.pair.processed opened_backed);
     own_pair = refl;
     sync_open = λ more. absurd (omega arith);
   })

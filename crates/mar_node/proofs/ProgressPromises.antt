@@ -18,18 +18,18 @@ use Rattle.mar_node.specs.Config.{Config}
 use Rattle.mar_node.specs.Event.{Event, ack_given, cutoff_after, effect_of, message_told, no_floor, processed_after, told_finalization}
 use Rattle.mar_node.specs.Faults.{Fault, dropped_ack, dropped_first, is_by_value}
 use Rattle.mar_node.specs.Held.{Ending, Grew, Held, IsArchiveFault, IsUsual, LeavesStore, Loses, Seen, blocks_left, certs_left, nothing_written, written_cert, written_pair}
-use Rattle.mar_node.specs.Lives.{Cuts, is_dropped_ack, is_refused_floor, later_round, reached_before}
-use Rattle.mar_node.specs.Moves.{Drains, EndsDropped, RaisesTo, StoresLate, at_height, found_at_hand, lacks_finalization, late_tips, progress_asks}
+use Rattle.mar_node.specs.Lives.{is_dropped_ack, is_refused_floor, later_round, reached_before}
+use Rattle.mar_node.specs.Moves.{Drains, EndsDropped, HearsFront, RaisesTo, StoresLate, at_height, found_at_hand, lacks_finalization, late_tips}
 use Rattle.mar_node.specs.Node.{AreFinalizationsOf, Rest, at_hand, block_missing, floor_awaited, window_full, write_uncovered}
-use Rattle.mar_node.specs.Promise.{IsGoodUntold, IsLawfulStep, IsSetTo, KeepsPromise, node_of}
-use Rattle.mar_node.specs.Requests.{own_asks, raise_asks}
-use Rattle.mar_node.specs.Step.{Report}
+use Rattle.mar_node.specs.Promise.{CutsStep, IsGoodUntold, IsLawfulStep, IsSetTo, KeepsPromise, heard_by, made_of, node_of}
+use Rattle.mar_node.specs.Requests.{own_asks, raise_asks, retire_asks}
+use Rattle.mar_node.specs.Step.{IsFront, Report}
 use Rattle.mar_node.proofs.AckEvent as ack
 use Rattle.mar_node.proofs.Cutting.{Cuts-before, Cuts-left, LeavesArchives, MayBeLeft, keeps_sure, never, only_one, some_from_first, usual_from_archive, usual_not_by_value, usual_not_dropped}
 use Rattle.mar_node.proofs.EventPromises as event
 use Rattle.mar_node.proofs.FinalizationEvent as final
 use Rattle.mar_node.proofs.Growing.{Grown, Grown-certs}
-use Rattle.mar_node.proofs.Handing.{Hears-nothing, Ran}
+use Rattle.mar_node.proofs.Handing.{Hears-nothing, HearsFront-whole, Ran}
 use Rattle.mar_node.proofs.PlainEvents.{nothing_put}
 use Rattle.mar_node.proofs.Promises.{dispatched, undispatched}
 use Rattle.mar_node.proofs.Soundness.{untold}
@@ -61,16 +61,17 @@ dropped_first-some (x ∷ out) o is = by x.mark refl is
 
 module _ {P E : Type 0} (epochs : Epochs) (inner : List ℕ → List ℕ) (partition : IsPartition epochs) (a : Seen P E) (buffer : List Block) where
   -- a call of an archive failed once the metadata held the event's pair, and nothing had been told
-  synced_cut : (config : Config) (chain : Chain) (asked : List Asked) (e : Event) (step : IsLawfulStep config chain (node_of a buffer asked) e) (no_effect : effect_of config (node_of a buffer asked) e ≡ no_floor) → ((fault : Fault) → is_refused_floor e fault ≡ false) → (told told' : Option (List Report)) (now : Held) (own : Pair) (y : At Finalization) (x : Ending) → Hears told [] told' → now.blocks ≡ a.held.blocks → now.certs ≡ a.held.certs → now.pairs ≡ own ∷ [] → own ≡ pair_of (processed_after (node_of a buffer asked) e no_floor) (cutoff_after config (node_of a buffer asked) e no_floor) → AreFinalizationsOf chain (y ∷ []) → told_finalization (node_of a buffer asked) e ≡ Some y.value → Loses now (written_cert y) x → ((sure : List (At Block)) → KeepsValues a.held.blocks.sure sure → (p : Pair) → Contains (own ∷ []) p → MayBeLeft config chain a e buffer asked sure p) → IsArchiveFault x.fault → (reports : List Report) × Hears told reports told' × Cuts config chain (node_of a buffer asked) (e ∷ []) reports x.fault x.remains.ended
-  synced_cut config chain asked e step no_effect unrefused told told' now own y x heard same_blocks same_certs pairs own_is of_cert told_is lost may of_archive = (
-    [],
-    heard,
-    Cuts-left config chain a e buffer asked before.0 before.1 no_effect [] a.life.tip (reached_before (node_of a buffer asked) e) x.fault x.remains.ended refl tt (inl refl) tt tt leaves
+  synced_cut : (config : Config) (chain : Chain) (asked : List Asked) (e : Event) (step : IsLawfulStep config chain (node_of a buffer asked) (e ∷ [])) (no_effect : effect_of config (node_of a buffer asked) e ≡ no_floor) → ((fault : Fault) → is_refused_floor e fault ≡ false) → (told told' : Option (List Report)) (heard heard' : Option (List Call)) (now : Held) (own : Pair) (y : At Finalization) (x : Ending) → Hears told [] told' → Hears heard (own_asks config (node_of a buffer asked) e no_floor) heard' → now.blocks ≡ a.held.blocks → now.certs ≡ a.held.certs → now.pairs ≡ own ∷ [] → own ≡ pair_of (processed_after (node_of a buffer asked) e no_floor) (cutoff_after config (node_of a buffer asked) e no_floor) → AreFinalizationsOf chain (y ∷ []) → told_finalization (node_of a buffer asked) e ≡ Some y.value → Loses now (written_cert y) x → ((sure : List (At Block)) → KeepsValues a.held.blocks.sure sure → (p : Pair) → Contains (own ∷ []) p → MayBeLeft config chain a e buffer asked sure p) → IsArchiveFault x.fault → CutsStep config chain (node_of a buffer asked) (e ∷ []) (heard_by told heard) (heard_by told' heard') x
+  synced_cut config chain asked e step no_effect unrefused told told' heard heard' now own y x silent asks same_blocks same_certs pairs own_is of_cert told_is lost may of_archive = record {
+    made = made_of [] (own_asks config (node_of a buffer asked) e no_floor);
+    heard = record { reports = silent; asks = asks; no_more = refl };
+    cuts = Cuts-left config chain a e buffer asked before.0 before.1 no_effect [] (own_asks config (node_of a buffer asked) e no_floor) a.life.tip (reached_before (node_of a buffer asked) e) x.fault x.remains.ended refl tt (inl refl) tt tt leaves
         (some_from_first x.remains.ended.meta own (lost.leaves.pairs.first ∙ ap first_pair pairs))
         (inr ((λ is. absurd (subst IsArchiveFault is of_archive)), lost.leaves.pairs.first ∙ (ap first_pair pairs ∙ ap Some own_is)))
         (λ p has. may x.remains.ended.blocks_sure (keeps_sure a.held.blocks [] (blocks_left x.remains.ended) blocks_leave) p (subst (λ ps. Contains ps p) (append-nil now.pairs ∙ pairs) (lost.leaves.pairs.within p has)))
-        (λ is. absurd (never (is_by_value x.fault) (usual_not_by_value x.fault usual) is)) (never (is_refused_floor e x.fault) (unrefused x.fault)) (λ is. absurd (never (is_dropped_ack x.fault) (usual_not_dropped x.fault usual) is)),
-  )
+        (λ is. absurd (never (is_by_value x.fault) (usual_not_by_value x.fault usual) is)) (never (is_refused_floor e x.fault) (unrefused x.fault)) (λ is. absurd (never (is_dropped_ack x.fault) (usual_not_dropped x.fault usual) is))
+        ([], sym (append-nil (own_asks config (node_of a buffer asked) e no_floor)));
+  }
     where
       usual : IsUsual x.fault
       usual = usual_from_archive x.fault of_archive
@@ -100,27 +101,36 @@ module _ {P E : Type 0} (epochs : Epochs) (inner : List ℕ → List ℕ) (parti
     abbrev pub noted : Pair
     noted = pair_of a.held.processed (greatest_of a.held.cutoff (at_round f.round ∷ []))
 
-    hand : (config : Config) (chain : Chain) (asked : List Asked) → IsSetTo config a.life.sizes epochs inner → IsLawfulStep config chain (node_of a buffer asked) (message_told None (report_finalization f)) → at_hand (node_of a buffer asked) f.payload ≡ Some b
+    hand : (config : Config) (chain : Chain) (asked : List Asked) → IsSetTo config a.life.sizes epochs inner → IsLawfulStep config chain (node_of a buffer asked) (message_told None (report_finalization f) ∷ []) → at_hand (node_of a buffer asked) f.payload ≡ Some b
     hand config chain asked set step = event.hand epochs inner partition a buffer f config chain asked set step (Some b) found
 
-    may : (config : Config) (chain : Chain) (asked : List Asked) (set : IsSetTo config a.life.sizes epochs inner) (step : IsLawfulStep config chain (node_of a buffer asked) (message_told None (report_finalization f))) (sure : List (At Block)) → KeepsValues a.held.blocks.sure sure → (p : Pair) → Contains (noted ∷ []) p → MayBeLeft config chain a (message_told None (report_finalization f)) buffer asked sure p
-    may config chain asked set step sure keeps p has = final.pair_late-left config chain a f buffer asked step.lawful step.one step.good step.reported (event.partition_of epochs inner partition a buffer config set.epochs_are) b (hand config chain asked set step) low sure keeps p has
+    may : (config : Config) (chain : Chain) (asked : List Asked) (set : IsSetTo config a.life.sizes epochs inner) (step : IsLawfulStep config chain (node_of a buffer asked) (message_told None (report_finalization f) ∷ [])) (sure : List (At Block)) → KeepsValues a.held.blocks.sure sure → (p : Pair) → Contains (noted ∷ []) p → MayBeLeft config chain a (message_told None (report_finalization f)) buffer asked sure p
+    may config chain asked set step sure keeps p has = final.pair_late-left config chain a f buffer asked step.lawful step.one step.good step.reported.0 (event.partition_of epochs inner partition a buffer config set.epochs_are) b (hand config chain asked set step) low sure keeps p has
+
+    -- raising the cutoff ended the life
+    pub promise-unraised : (told : Option (List Report)) (heard heard' : Option (List Call)) (x : Ending) → HearsFront heard (raise_asks a.held.cutoff (at_round f.round ∷ [])) heard' → Loses a.held nothing_written x → IsUsual x.fault → KeepsPromise epochs inner a (message_told None (report_finalization f) ∷ []) buffer (heard_by told heard) (heard_by told heard') (Err x)
+    promise-unraised told heard heard' x front lost usual config chain asked set step =
+        event.quiet_cut epochs inner partition a buffer config chain asked (message_told None (report_finalization f)) step refl (λ fault. refl) told told heard heard' nothing_written x (Hears-nothing told)
+        (subst (λ cs. HearsFront heard cs heard') (final.asks-late config chain a f buffer asked step.lawful step.one step.good step.reported.0 b (hand config chain asked set step) low) front)
+        refl refl tt tt (λ z has. nothing_put z has) (λ z has. nothing_put z has) lost (λ q has. nothing_put q has) usual
 
     -- the raised cutoff's own sync failed
-    pub promise-unsynced : (told : Option (List Report)) (heard heard' : Option (List Call)) (p : Pair) (x : Ending) → p ≡ noted → Loses a.held (written_pair p) x → IsUsual x.fault → KeepsPromise epochs inner a (message_told None (report_finalization f)) buffer told told heard heard' (Err x)
-    promise-unsynced told heard heard' p x is lost usual config chain asked set step =
-        event.quiet_cut epochs inner partition a buffer config chain asked (message_told None (report_finalization f)) step refl (λ fault. refl) told told (written_pair p) x (Hears-nothing told) refl refl tt tt (λ z has. nothing_put z has) (λ z has. nothing_put z has) lost
+    pub promise-unsynced : (told : Option (List Report)) (heard heard' : Option (List Call)) (p : Pair) (x : Ending) → p ≡ noted → HearsFront heard (raise_asks a.held.cutoff (at_round f.round ∷ [])) heard' → Loses a.held (written_pair p) x → IsUsual x.fault → KeepsPromise epochs inner a (message_told None (report_finalization f) ∷ []) buffer (heard_by told heard) (heard_by told heard') (Err x)
+    promise-unsynced told heard heard' p x is front lost usual config chain asked set step =
+        event.quiet_cut epochs inner partition a buffer config chain asked (message_told None (report_finalization f)) step refl (λ fault. refl) told told heard heard' (written_pair p) x (Hears-nothing told)
+        (subst (λ cs. HearsFront heard cs heard') (final.asks-late config chain a f buffer asked step.lawful step.one step.good step.reported.0 b (hand config chain asked set step) low) front) refl refl tt tt (λ z has. nothing_put z has) (λ z has. nothing_put z has) lost
         (λ q has. may config chain asked set step x.remains.ended.blocks_sure (λ h v at. lost.leaves.blocks.sure h v (omega arith) at) q (subst (λ r. Contains (r ∷ []) q) is has)) usual
 
     module _ (w s : Seen P E) (raised : RaisesTo a (at_round f.round ∷ []) (later_round a.held.witnessed (Some f.round)) w) (synced : s ≡ record w { held = record w.held { pairs = pair_of w.held.processed w.held.cutoff ∷ []; watches = s.held.watches } }) where
       pairs_are : s.held.pairs ≡ noted ∷ []
       pairs_are = ap (λ k. k.held.pairs) synced ∙ ap (λ k. pair_of k.held.processed k.held.cutoff ∷ []) raised.same
 
-      pub promise-unstored_late : (told told' : Option (List Report)) (heard heard' : Option (List Call)) (x : Ending) → Hears told [] told' → Loses s.held (written_cert (at_height b.height f)) x → IsArchiveFault x.fault → KeepsPromise epochs inner a (message_told None (report_finalization f)) buffer told told' heard heard' (Err x)
-      promise-unstored_late told told' heard heard' x silent lost of_archive config chain asked set step =
-          synced_cut config chain asked (message_told None (report_finalization f)) step refl (λ fault. refl) told told' s.held noted (at_height b.height f) x silent
+      pub promise-unstored_late : (told told' : Option (List Report)) (heard heard' : Option (List Call)) (x : Ending) → Hears told [] told' → Hears heard (raise_asks a.held.cutoff (at_round f.round ∷ [])) heard' → Loses s.held (written_cert (at_height b.height f)) x → IsArchiveFault x.fault → KeepsPromise epochs inner a (message_told None (report_finalization f) ∷ []) buffer (heard_by told heard) (heard_by told' heard') (Err x)
+      promise-unstored_late told told' heard heard' x silent asks lost of_archive config chain asked set step =
+          synced_cut config chain asked (message_told None (report_finalization f)) step refl (λ fault. refl) told told' heard heard' s.held noted (at_height b.height f) x silent
+          (subst (λ cs. Hears heard cs heard') (final.asks-late config chain a f buffer asked step.lawful step.one step.good step.reported.0 b (hand config chain asked set step) low) asks)
           (ap (λ k. k.held.blocks) synced ∙ ap (λ k. k.held.blocks) raised.same) (ap (λ k. k.held.certs) synced ∙ ap (λ k. k.held.certs) raised.same) pairs_are
-          (final.pair_late-is config chain a f buffer asked step.lawful step.one step.good step.reported b (hand config chain asked set step) low)
+          (final.pair_late-is config chain a f buffer asked step.lawful step.one step.good step.reported.0 b (hand config chain asked set step) low)
           (event.of_cert epochs inner partition a buffer f b found config chain asked set step) refl lost (may config chain asked set step) of_archive
 
       due_same : lacks_finalization s.held b ≡ lacks_finalization a.held b
@@ -135,14 +145,14 @@ module _ {P E : Type 0} (epochs : Epochs) (inner : List ℕ → List ℕ) (parti
       certs_same : s.held.certs ≡ a.held.certs
       certs_same = ap (λ k. k.held.certs) synced ∙ ap (λ k. k.held.certs) raised.same
 
-      pub promise-late : (told told' : Option (List Report)) (heard heard' : Option (List Call)) (m : Seen P E) → IsNested a.held.blocks → IsNested a.held.certs → StoresLate inner s f b m → Grew s.held (written_cert (at_height b.height f)) m.held → Hears told (late_tips (lacks_finalization s.held b) s.life.tip f b) told' → Hears heard (raise_asks a.held.cutoff (at_round f.round ∷ [])) heard' → KeepsPromise epochs inner a (message_told None (report_finalization f)) buffer told told' heard heard' (Ok m)
+      pub promise-late : (told told' : Option (List Report)) (heard heard' : Option (List Call)) (m : Seen P E) → IsNested a.held.blocks → IsNested a.held.certs → StoresLate inner s f b m → Grew s.held (written_cert (at_height b.height f)) m.held → Hears told (late_tips (lacks_finalization s.held b) s.life.tip f b) told' → Hears heard (raise_asks a.held.cutoff (at_round f.round ∷ [])) heard' → KeepsPromise epochs inner a (message_told None (report_finalization f) ∷ []) buffer (heard_by told heard) (heard_by told' heard') (Ok m)
       promise-late told told' heard heard' m nested certs_nested stores grew tips asks config chain asked set step =
           undispatched config chain a m (message_told None (report_finalization f)) buffer asked (late_tips (lacks_finalization a.held b) a.life.tip f b) (set.window ∙ sym sizes) step (λ fault. refl)
-          (final.Reaches-late config chain a f buffer asked step.lawful step.one step.good step.reported (event.partition_of epochs inner partition a buffer config set.epochs_are) b w s m nested certs_nested (subst (λ k. Grown k (at_height b.height f ∷ []) m.held.certs) certs_same (Grown-certs s.held m.held (written_cert (at_height b.height f)) refl grew)) (hand config chain asked set step) low raised synced (subst (λ i. StoresLate i s f b m) (sym set.inner_is) stores))
+          (final.Reaches-late config chain a f buffer asked step.lawful step.one step.good step.reported.0 (event.partition_of epochs inner partition a buffer config set.epochs_are) b w s m nested certs_nested (subst (λ k. Grown k (at_height b.height f ∷ []) m.held.certs) certs_same (Grown-certs s.held m.held (written_cert (at_height b.height f)) refl grew)) (hand config chain asked set step) low raised synced (subst (λ i. StoresLate i s f b m) (sym set.inner_is) stores))
           (subst (λ k. KeepsValues k.sure k.held) (sym blocks) nested.sure_held)
           told told' heard heard'
           (subst (λ t. Hears told (late_tips (lacks_finalization a.held b) t f b) told') tip_same (subst (λ d. Hears told (late_tips d s.life.tip f b) told') due_same tips))
-          (subst (λ cs. Hears heard cs heard') (final.asks-late config chain a f buffer asked step.lawful step.one step.good step.reported b (hand config chain asked set step) low) asks)
+          (subst (λ cs. Hears heard cs heard') (final.asks-late config chain a f buffer asked step.lawful step.one step.good step.reported.0 b (hand config chain asked set step) low) asks)
           (Rest-same config.window a m buffer asked out processed blocks step.rests)
         where
           blocks : m.held.blocks ≡ a.held.blocks
@@ -158,9 +168,9 @@ module _ {P E : Type 0} (epochs : Epochs) (inner : List ℕ → List ℕ) (parti
           processed = ap (λ k. k.held.processed) stores.same ∙ (ap (λ k. k.held.processed) synced ∙ ap (λ k. k.held.processed) raised.same)
 
       -- however the late put ends
-      pub promise-noted : (told told' : Option (List Report)) (heard heard' : Option (List Call)) (result : Result (Seen P E) Ending) → IsNested a.held.blocks → IsNested a.held.certs → OnOk result (Hears told (late_tips (lacks_finalization s.held b) s.life.tip f b) told') → OnErr result (Hears told [] told') → IfOk result (λ m. StoresLate inner s f b m) → MatchResult result (λ m. Grew s.held (written_cert (at_height b.height f)) m.held) (Loses s.held (written_cert (at_height b.height f))) → IfErr result (λ x. IsArchiveFault x.fault) → Hears heard (raise_asks a.held.cutoff (at_round f.round ∷ [])) heard' → KeepsPromise epochs inner a (message_told None (report_finalization f)) buffer told told' heard heard' result
+      pub promise-noted : (told told' : Option (List Report)) (heard heard' : Option (List Call)) (result : Result (Seen P E) Ending) → IsNested a.held.blocks → IsNested a.held.certs → OnOk result (Hears told (late_tips (lacks_finalization s.held b) s.life.tip f b) told') → OnErr result (Hears told [] told') → IfOk result (λ m. StoresLate inner s f b m) → MatchResult result (λ m. Grew s.held (written_cert (at_height b.height f)) m.held) (Loses s.held (written_cert (at_height b.height f))) → IfErr result (λ x. IsArchiveFault x.fault) → Hears heard (raise_asks a.held.cutoff (at_round f.round ∷ [])) heard' → KeepsPromise epochs inner a (message_told None (report_finalization f) ∷ []) buffer (heard_by told heard) (heard_by told' heard') result
       promise-noted told told' heard heard' (Ok m) nested certs_nested tips silent stores grew of_archive asks = promise-late told told' heard heard' m nested certs_nested stores grew tips asks
-      promise-noted told told' heard heard' (Err x) nested certs_nested tips silent stores lost of_archive asks = promise-unstored_late told told' heard heard' x silent lost of_archive
+      promise-noted told told' heard heard' (Err x) nested certs_nested tips silent stores lost of_archive asks = promise-unstored_late told told' heard heard' x silent asks lost of_archive
 
   -- ACKNOWLEDGEMENTS
 
@@ -168,14 +178,24 @@ module _ {P E : Type 0} (epochs : Epochs) (inner : List ℕ → List ℕ) (parti
     abbrev pub given : Seen P E
     given = record a { life = record a.life { out = with_mark t mark_given a.life.out } }
 
-    pub promise-undrained : (told : Option (List Report)) (heard heard' : Option (List Call)) (x : Ending) → Loses a.held nothing_written x → IsUsual x.fault ⊎ EndsDropped given x → KeepsPromise epochs inner a (ack_given t) buffer told told heard heard' (Err x)
-    promise-undrained told heard heard' x lost (inl usual) config chain asked set step = event.quiet_cut epochs inner partition a buffer config chain asked (ack_given t) step refl (λ fault. refl) told told nothing_written x (Hears-nothing told) refl refl tt tt (λ z has. nothing_put z has) (λ z has. nothing_put z has) lost (λ p has. nothing_put p has) usual
-    promise-undrained told heard heard' x lost (inr ends) config chain asked set step = (
-      [],
-      Hears-nothing told,
-      Cuts-before config chain a (ack_given t) buffer asked a.life.tip step.good refl [] a.life.tip nothing_written x tt refl tt refl refl tt tt (λ z has. nothing_put z has) (λ z has. nothing_put z has) lost (λ p has. nothing_put p has)
-          (λ is. dropped_first-some (after_given given.life.out) ends.oldest ends.dropped ∙ ap Some (sym ends.fault)) (never (is_refused_floor (ack_given t) x.fault) refl) (λ is. ends.unsynced),
-    )
+    -- what is asked as the given ones are processed is what the event asks
+    asks_are : (config : Config) (chain : Chain) (asked : List Asked) (set : IsSetTo config a.life.sizes epochs inner) (step : IsLawfulStep config chain (node_of a buffer asked) (ack_given t ∷ [])) → IsNested a.held.blocks → IsNested a.held.certs → retire_asks epochs a.held.certs.held a.held.cutoff (given_front given.life.out) ≡ own_asks config (node_of a buffer asked) (ack_given t) no_floor
+    asks_are config chain asked set step nested certs_nested =
+        subst (λ es. retire_asks es a.held.certs.held a.held.cutoff (given_front given.life.out) ≡ own_asks config (node_of a buffer asked) (ack_given t) no_floor) set.epochs_are
+        (ack.asks-drained config chain step.lawful (event.partition_of epochs inner partition a buffer config set.epochs_are) a t buffer asked nested certs_nested step.good)
+
+    pub promise-undrained : (told : Option (List Report)) (heard heard' : Option (List Call)) (x : Ending) → IsNested a.held.blocks → IsNested a.held.certs → HearsFront heard (retire_asks epochs a.held.certs.held a.held.cutoff (given_front given.life.out)) heard' → Loses a.held nothing_written x → IsUsual x.fault ⊎ EndsDropped given x → KeepsPromise epochs inner a (ack_given t ∷ []) buffer (heard_by told heard) (heard_by told heard') (Err x)
+    promise-undrained told heard heard' x nested certs_nested asks lost (inl usual) config chain asked set step =
+        event.quiet_cut epochs inner partition a buffer config chain asked (ack_given t) step refl (λ fault. refl) told told heard heard' nothing_written x (Hears-nothing told)
+        (subst (λ cs. HearsFront heard cs heard') (asks_are config chain asked set step nested certs_nested) asks)
+        refl refl tt tt (λ z has. nothing_put z has) (λ z has. nothing_put z has) lost (λ p has. nothing_put p has) usual
+    promise-undrained told heard heard' x nested certs_nested (asks, front, asks_heard) lost (inr ends) config chain asked set step = record {
+      made = made_of [] asks;
+      heard = record { reports = Hears-nothing told; asks = asks_heard; no_more = refl };
+      cuts = Cuts-before config chain a (ack_given t) buffer asked a.life.tip step.good refl [] asks a.life.tip nothing_written x tt refl tt refl refl tt tt (λ z has. nothing_put z has) (λ z has. nothing_put z has) lost (λ p has. nothing_put p has)
+          (λ is. dropped_first-some (after_given given.life.out) ends.oldest ends.dropped ∙ ap Some (sym ends.fault)) (never (is_refused_floor (ack_given t) x.fault) refl) (λ is. ends.unsynced)
+          (subst (λ cs. IsFront asks cs) (asks_are config chain asked set step nested certs_nested) front);
+    }
 
     module _ (is_drained : Bool) (d : Seen P E) (drains : Drains epochs given is_drained d) where
       of_config : (config : Config) → config.epochs ≡ epochs → Drains config.epochs given is_drained d
@@ -188,29 +208,30 @@ module _ {P E : Type 0} (epochs : Epochs) (inner : List ℕ → List ℕ) (parti
       window_same = ap (λ k. k.life.sizes.window) drains.same
 
       -- the sync of the processed height failed
-      pub promise-ack_unsynced : (told : Option (List Report)) (heard heard' : Option (List Call)) (x : Ending) → IsNested a.held.blocks → IsNested a.held.certs → Loses a.held (written_pair (pair_of d.held.processed d.held.cutoff)) x → IsUsual x.fault → KeepsPromise epochs inner a (ack_given t) buffer told told heard heard' (Err x)
-      promise-ack_unsynced told heard heard' x nested certs_nested lost usual config chain asked set step =
-          event.quiet_cut epochs inner partition a buffer config chain asked (ack_given t) step refl (λ fault. refl) told told (written_pair (pair_of d.held.processed d.held.cutoff)) x (Hears-nothing told) refl refl tt tt (λ z has. nothing_put z has) (λ z has. nothing_put z has) lost
+      pub promise-ack_unsynced : (told : Option (List Report)) (heard heard' : Option (List Call)) (x : Ending) → IsNested a.held.blocks → IsNested a.held.certs → Hears heard (retire_asks epochs a.held.certs.held a.held.cutoff (given_front given.life.out)) heard' → Loses a.held (written_pair (pair_of d.held.processed d.held.cutoff)) x → IsUsual x.fault → KeepsPromise epochs inner a (ack_given t ∷ []) buffer (heard_by told heard) (heard_by told heard') (Err x)
+      promise-ack_unsynced told heard heard' x nested certs_nested asks lost usual config chain asked set step =
+          event.quiet_cut epochs inner partition a buffer config chain asked (ack_given t) step refl (λ fault. refl) told told heard heard' (written_pair (pair_of d.held.processed d.held.cutoff)) x (Hears-nothing told)
+          (HearsFront-whole heard _ heard' (subst (λ cs. Hears heard cs heard') (asks_are config chain asked set step nested certs_nested) asks)) refl refl tt tt (λ z has. nothing_put z has) (λ z has. nothing_put z has) lost
           (λ p has. ack.MayBeLeft-drained config chain step.lawful (event.partition_of epochs inner partition a buffer config set.epochs_are) a t buffer asked nested certs_nested step.good is_drained d (of_config config set.epochs_are) x.remains.ended.blocks_sure (λ h v at. lost.leaves.blocks.sure h v (omega arith) at) p has) usual
 
-      pub promise-acked : (told told' : Option (List Report)) (heard heard' : Option (List Call)) (m : Seen P E) (result : Result (Seen P E) Ending) → IsNested a.held.blocks → IsNested a.held.certs → m ≡ record d { held = record d.held { pairs = pair_of d.held.processed d.held.cutoff ∷ []; watches = m.held.watches } } → Hears heard (progress_asks epochs a.held.certs.held a.held.cutoff (given_front given.life.out)) heard' → Ran m told told' result → KeepsPromise epochs inner a (ack_given t) buffer told told' heard heard' result
+      pub promise-acked : (told told' : Option (List Report)) (heard heard' : Option (List Call)) (m : Seen P E) (result : Result (Seen P E) Ending) → IsNested a.held.blocks → IsNested a.held.certs → m ≡ record d { held = record d.held { pairs = pair_of d.held.processed d.held.cutoff ∷ []; watches = m.held.watches } } → Hears heard (retire_asks epochs a.held.certs.held a.held.cutoff (given_front given.life.out)) heard' → Ran m told told' result → KeepsPromise epochs inner a (ack_given t ∷ []) buffer (heard_by told heard) (heard_by told' heard') result
       promise-acked told told' heard heard' m result nested certs_nested synced asks ran config chain asked set step =
           dispatched config chain a m (ack_given t) buffer asked [] (set.window ∙ sym (ap (λ k. k.life.sizes.window) synced ∙ window_same)) step (λ fault. refl)
           (ack.Reaches-ack config chain step.lawful (event.partition_of epochs inner partition a buffer config set.epochs_are) a t buffer asked nested certs_nested step.good is_drained d (of_config config set.epochs_are) m synced)
           (subst (λ k. KeepsValues k.sure k.held) (sym blocks) nested.sure_held)
           told told told' heard heard' result (Hears-nothing told) ran
-          (subst (λ cs. Hears heard cs heard') (subst (λ es. progress_asks es a.held.certs.held a.held.cutoff (given_front given.life.out) ≡ own_asks config (node_of a buffer asked) (ack_given t) no_floor) set.epochs_are (ack.asks-drained config chain step.lawful (event.partition_of epochs inner partition a buffer config set.epochs_are) a t buffer asked nested certs_nested step.good)) asks)
+          (subst (λ cs. Hears heard cs heard') (asks_are config chain asked set step nested certs_nested) asks)
         where
           blocks : m.held.blocks ≡ a.held.blocks
           blocks = ap (λ k. k.held.blocks) synced ∙ blocks_drained
 
-    pub promise-not_drained : (told : Option (List Report)) (heard heard' : Option (List Call)) (d : Seen P E) (is_drained : Bool) → is_drained ≡ false → Drains epochs given is_drained d → IsNested a.held.blocks → IsNested a.held.certs → Hears heard (progress_asks epochs a.held.certs.held a.held.cutoff (given_front given.life.out)) heard' → KeepsPromise epochs inner a (ack_given t) buffer told told heard heard' (Ok d)
+    pub promise-not_drained : (told : Option (List Report)) (heard heard' : Option (List Call)) (d : Seen P E) (is_drained : Bool) → is_drained ≡ false → Drains epochs given is_drained d → IsNested a.held.blocks → IsNested a.held.certs → Hears heard (retire_asks epochs a.held.certs.held a.held.cutoff (given_front given.life.out)) heard' → KeepsPromise epochs inner a (ack_given t ∷ []) buffer (heard_by told heard) (heard_by told heard') (Ok d)
     promise-not_drained told heard heard' d is_drained not_drained any nested certs_nested asks config chain asked set step =
         undispatched config chain a d (ack_given t) buffer asked [] (set.window ∙ sym (ap (λ k. k.life.sizes.window) any.same)) step (λ fault. refl)
         (ack.Reaches-undrained config chain step.lawful (event.partition_of epochs inner partition a buffer config set.epochs_are) a t buffer asked nested certs_nested step.good d drains)
         (subst (λ k. KeepsValues k.sure k.held) (sym blocks) nested.sure_held)
         told told heard heard' (Hears-nothing told)
-        (subst (λ cs. Hears heard cs heard') (subst (λ es. progress_asks es a.held.certs.held a.held.cutoff (given_front given.life.out) ≡ own_asks config (node_of a buffer asked) (ack_given t) no_floor) set.epochs_are (ack.asks-drained config chain step.lawful (event.partition_of epochs inner partition a buffer config set.epochs_are) a t buffer asked nested certs_nested step.good)) asks)
+        (subst (λ cs. Hears heard cs heard') (asks_are config chain asked set step nested certs_nested) asks)
         (ack.Rest-undrained config chain step.lawful (event.partition_of epochs inner partition a buffer config set.epochs_are) a t buffer asked nested certs_nested step.good d drains step.rests)
       where
         blocks : d.held.blocks ≡ a.held.blocks

@@ -15,9 +15,10 @@ use Rattle.mar_node.specs.Event.{Event, cutoff_after, no_floor, processed_after,
 use Rattle.mar_node.specs.Faults.{Fault, ack_kind, is_by_value, meta_store, next_after, store_fault, ticket_limit}
 use Rattle.mar_node.specs.Held.{Ending, IsArchiveFault, LeavesStore, Seen, blocks_left, certs_left}
 use Rattle.mar_node.specs.Lives.{Cuts, NotBelow, Reached, is_dropped_ack, is_refused_floor, reached_after}
-use Rattle.mar_node.specs.Moves.{HeldFrom, IsLastTicket, IsStill, StopsHanding, handed_report, next_in, with_handed}
+use Rattle.mar_node.specs.Moves.{IsLastTicket, IsStill, StopsHanding, handed_report, next_in, with_handed}
+use Rattle.mar_node.specs.Step.{HeldFrom}
 use Rattle.mar_node.specs.Node.{AreBlocksOf, Ended, Node, Rest}
-use Rattle.mar_node.specs.Promise.{IsGoodUntold, IsLawfulStep, StepsOrCuts, made_of, node_of}
+use Rattle.mar_node.specs.Promise.{FinishesStep, IsGoodUntold, IsLawfulStep, StepsOrCuts, heard_by, made_of, node_of}
 use Rattle.mar_node.specs.Requests.{own_asks}
 use Rattle.mar_node.specs.Sound.{IsSafePair}
 use Rattle.mar_node.specs.Step.{AreHandedOf, HandedBlock, HandedFrom, Report, Steps, handed_blocks}
@@ -35,7 +36,7 @@ AreHandedOf-values chain held sure ticket height [] blocks all line = tt
 AreHandedOf-values chain held sure ticket height (x ∷ xs) blocks all line = ((subst (λ k. IsBlockAt chain k x.block) (sym line.1) (AllByRecursion-value_at (λ y. IsBlockAt chain y.height y.value) held height x.block blocks line.2), subst (λ k. value_at sure k ≡ Some x.block) (sym line.1) (all height x.block line.2)), AreHandedOf-values chain held sure (ticket + 1) (height + 1) xs blocks all line.3)
 
 module _ {P E : Type 0} (config : Config) (chain : Chain) (a m : Seen P E) (e : Event) (buffer : List Block) (asked : List Asked) (tips : List Report)
-    (window : config.window ≡ m.life.sizes.window) (step : IsLawfulStep config chain (node_of a buffer asked) e) (unrefused : (fault : Fault) → is_refused_floor e fault ≡ false)
+    (window : config.window ≡ m.life.sizes.window) (step : IsLawfulStep config chain (node_of a buffer asked) (e ∷ [])) (unrefused : (fault : Fault) → is_refused_floor e fault ≡ false)
     (reach : Reaches config chain a e buffer asked tips m) (sure_held : KeepsValues m.held.blocks.sure m.held.blocks.held)
   where
     abbrev pub n : Node
@@ -53,7 +54,7 @@ module _ {P E : Type 0} (config : Config) (chain : Chain) (a m : Seen P E) (e : 
     not_below =
         let before : next_after (option_map height_in a.held.processed) ≡ first_unprocessed a.held.processed = next_after-is a.held.processed in
         let after : next_after (option_map height_in m.held.processed) ≡ first_unprocessed m.held.processed = next_after-is m.held.processed in
-        let rises : first_unprocessed a.held.processed ≤ first_unprocessed m.held.processed = subst (λ p. first_unprocessed a.held.processed ≤ first_unprocessed p) (sym reach.processed) (first_unprocessed-rises n e no_floor good_before.1.heights.consecutive) in
+        let rises : first_unprocessed a.held.processed ≤ first_unprocessed m.held.processed = subst (λ p. first_unprocessed a.held.processed ≤ first_unprocessed p) (sym reach.processed) (first_unprocessed-rises n e no_floor good_before.1.heights.delivery.consecutive) in
         omega arith
 
     module _ (handed : List HandedBlock) (x : Ending) (stops : StopsHanding m handed x) where
@@ -80,10 +81,10 @@ module _ {P E : Type 0} (config : Config) (chain : Chain) (a m : Seen P E) (e : 
       kept = keeps_sure m.held.blocks [] (blocks_left left) m_blocks
 
       sure_from_held : (h : ℕ) → IsTrue (has_height m.held.blocks.held h) → IsTrue (has_height left.blocks_sure h)
-      sure_from_held h has = keeps_heights m.held.blocks.sure left.blocks_sure kept h (held_sure m.held.blocks reach.good.heights.sure_blocks h has)
+      sure_from_held h has = keeps_heights m.held.blocks.sure left.blocks_sure kept h (held_sure m.held.blocks reach.good.heights.stores.sure_blocks h has)
 
       value_from_held : (h : ℕ) (b : Block) → value_at m.held.blocks.held h ≡ Some b → value_at left.blocks_sure h ≡ Some b
-      value_from_held h b is = kept h b (sure_value m.held.blocks.held m.held.blocks.sure h b sure_held (held_sure m.held.blocks reach.good.heights.sure_blocks h (has_height-from_value m.held.blocks.held h b is)) is)
+      value_from_held h b is = kept h b (sure_value m.held.blocks.held m.held.blocks.sure h b sure_held (held_sure m.held.blocks reach.good.heights.stores.sure_blocks h (has_height-from_value m.held.blocks.held h b is)) is)
 
       blocks_are : handed_blocks (tips ++ map handed_report handed) ≡ handed
       blocks_are = handed_after_tips tips handed reach.are_tips
@@ -110,7 +111,7 @@ module _ {P E : Type 0} (config : Config) (chain : Chain) (a m : Seen P E) (e : 
           from (Some h) = omega arith
 
           safe : IsSafePair chain left.blocks_sure (pair_of m.held.processed m.held.cutoff)
-          safe = IsSafePair-kept chain 0 m.held.blocks.sure left.blocks_sure (pair_of m.held.processed m.held.cutoff) (λ h low there. keeps_heights m.held.blocks.sure left.blocks_sure kept h there) (from (option_map height_in m.held.processed)) (own_pair_safe chain (node_of m buffer asked) reach.good.heights.anchored reach.good.of_chain.floor_safe)
+          safe = IsSafePair-kept chain 0 m.held.blocks.sure left.blocks_sure (pair_of m.held.processed m.held.cutoff) (λ h low there. keeps_heights m.held.blocks.sure left.blocks_sure kept h there) (from (option_map height_in m.held.processed)) (own_pair_safe chain (node_of m buffer asked) reach.good.heights.delivery.anchored reach.good.of_chain.floor_safe)
 
       by_kind : IsArchiveFault x.fault ⊎ ((x.fault ≡ ticket_limit ack_kind) × IsLastTicket m (length handed)) → (is_by_value x.fault ≡ false) × (is_dropped_ack x.fault ≡ false) × (x.fault ≡ store_fault meta_store → ⊥)
       by_kind (inl of_blocks) = (usual_not_by_value x.fault (usual_from_archive x.fault of_blocks), usual_not_dropped x.fault (usual_from_archive x.fault of_blocks), λ is. absurd (subst IsArchiveFault is of_blocks))
@@ -123,46 +124,43 @@ module _ {P E : Type 0} (config : Config) (chain : Chain) (a m : Seen P E) (e : 
       processed_is = ap (option_map height_in) (sym reach.processed)
 
       -- a life that ended while blocks were handed over is cut there
-      pub Cuts-handing : Cuts config chain n (e ∷ []) (tips ++ map handed_report handed) x.fault left
+      pub Cuts-handing : Cuts config chain n (e ∷ []) (made_of (tips ++ map handed_report handed) (own_asks config n e no_floor)) x.fault left
       Cuts-handing =
-          Cuts-left config chain a e buffer asked good_before.0 good_before.1 reach.no_effect (tips ++ map handed_report handed) m.life.tip reached x.fault left
+          Cuts-left config chain a e buffer asked good_before.0 good_before.1 reach.no_effect (tips ++ map handed_report handed) (own_asks config n e no_floor) m.life.tip reached x.fault left
           (tips_before_handed a.life.tip m.life.tip tips handed reach.are_tips reach.tips_rise) (tips_of_both chain tips handed reach.are_tips reach.tips_chain)
           (inr (refl, subst (Contains (map (λ p. p.processed) left.meta)) (sym processed_is) (contains_first left.meta (pair_of m.held.processed m.held.cutoff) first)))
           (subst (λ p. HandedFrom left.blocks_sure a.life.next_ack (next_after p + length (undrained_blocks n e)) (handed_blocks (tips ++ map handed_report handed))) (sym processed_is)
           (subst (λ xs. HandedFrom left.blocks_sure a.life.next_ack (next_after (option_map height_in m.held.processed) + length (undrained_blocks n e)) xs) (sym blocks_are) in_order))
-          (subst (AreHandedOf chain left.blocks_sure) (sym blocks_are) (AreHandedOf-values chain m.held.blocks.held left.blocks_sure m.life.next_ack (next_in m) handed reach.good.of_chain.held_blocks value_from_held stops.next))
+          (subst (AreHandedOf chain left.blocks_sure) (sym blocks_are) (AreHandedOf-values chain m.held.blocks.held left.blocks_sure m.life.next_ack (next_in m) handed reach.good.of_chain.stores.held_blocks value_from_held stops.next))
           leaves (some_from_first left.meta (pair_of m.held.processed m.held.cutoff) first)
           (inr ((by_kind stops.kind).2, first ∙ ap Some (sym pair_is)))
           each
           (λ is. absurd (never (is_by_value x.fault) (by_kind stops.kind).0 is))
           (never (is_refused_floor e x.fault) (unrefused x.fault))
           (λ is. absurd (never (is_dropped_ack x.fault) (by_kind stops.kind).1 is))
+          ([], sym (append-nil (own_asks config n e no_floor)))
 
     -- what a dispatch from the reached node makes of the step
-    pub dispatched : (told told1 told' : Option (List Report)) (heard heard' : Option (List Call)) (result : Result (Seen P E) Ending) → Hears told tips told1 → Ran m told1 told' result → Hears heard (own_asks config n e no_floor) heard' → (reports : List Report) × Hears told reports told' × StepsOrCuts config chain a e buffer asked reports heard heard' result
-    dispatched told told1 told' heard heard' (Ok d) tips_heard (handed, handed_heard, ran) asks_heard = (
-      tips ++ map handed_report handed,
-      Hears-then told told1 told' tips (map handed_report handed) tips_heard handed_heard,
-      record {
-        asks = own_asks config n e no_floor;
-        heard = asks_heard;
-        steps = subst (λ s. Steps config chain n (e ∷ []) (made_of (tips ++ map handed_report handed) (own_asks config n e no_floor)) (node_of s buffer (asked_after asked [] (own_asks config n e no_floor)))) (sym ran.same)
-            (Steps-reached config chain a m e buffer asked tips handed step.lawful window sure_held step.reported good_before.1.of_chain.honest_asks reach ran.next ran.room
-            (Rest-still config chain (with_handed m handed) buffer asked step.lawful window (IsGood-handed config chain m buffer asked handed window reach.good ran.next ran.room) (subst IsStill ran.same ran.still)));
-      },
-    )
-    dispatched told told1 told' heard heard' (Err x) tips_heard (handed, handed_heard, stops) asks_heard = (tips ++ map handed_report handed, Hears-then told told1 told' tips (map handed_report handed) tips_heard handed_heard, Cuts-handing handed x stops)
+    pub dispatched : (told told1 told' : Option (List Report)) (heard heard' : Option (List Call)) (result : Result (Seen P E) Ending) → Hears told tips told1 → Ran m told1 told' result → Hears heard (own_asks config n e no_floor) heard' → StepsOrCuts config chain n (e ∷ []) (heard_by told heard) (heard_by told' heard') result
+    dispatched told told1 told' heard heard' (Ok d) tips_heard (handed, handed_heard, ran) asks_heard = record {
+      made = made_of (tips ++ map handed_report handed) (own_asks config n e no_floor);
+      heard = record { reports = Hears-then told told1 told' tips (map handed_report handed) tips_heard handed_heard; asks = asks_heard; no_more = refl };
+      steps = subst (λ s. Steps config chain n (e ∷ []) (made_of (tips ++ map handed_report handed) (own_asks config n e no_floor)) (node_of s buffer (asked_after asked [] (own_asks config n e no_floor)))) (sym ran.same)
+          (Steps-reached config chain a m e buffer asked tips handed step.lawful window sure_held step.reported.0 good_before.1.of_chain.asks.requests reach ran.next ran.room
+          (Rest-still config chain (with_handed m handed) buffer asked step.lawful window (IsGood-handed config chain m buffer asked handed window reach.good ran.next ran.room) (subst IsStill ran.same ran.still)));
+    }
+    dispatched told told1 told' heard heard' (Err x) tips_heard (handed, handed_heard, stops) asks_heard = record {
+      made = made_of (tips ++ map handed_report handed) (own_asks config n e no_floor);
+      heard = record { reports = Hears-then told told1 told' tips (map handed_report handed) tips_heard handed_heard; asks = asks_heard; no_more = refl };
+      cuts = Cuts-handing handed x stops;
+    }
 
     -- what a step without a dispatch makes of it, where the reached node rests
-    pub undispatched : (told told' : Option (List Report)) (heard heard' : Option (List Call)) → Hears told tips told' → Hears heard (own_asks config n e no_floor) heard' → Rest config.window (node_of m buffer asked) → (reports : List Report) × Hears told reports told' × StepsOrCuts config chain a e buffer asked reports heard heard' (Ok m)
-    undispatched told told' heard heard' tips_heard asks_heard rests = (
-      tips,
-      tips_heard,
-      record {
-        asks = own_asks config n e no_floor;
-        heard = asks_heard;
-        steps = subst (λ rs. Steps config chain n (e ∷ []) (made_of rs (own_asks config n e no_floor)) (node_of m buffer (asked_after asked [] (own_asks config n e no_floor)))) (append-nil tips)
-            (subst (λ s. Steps config chain n (e ∷ []) (made_of (tips ++ []) (own_asks config n e no_floor)) (node_of s buffer (asked_after asked [] (own_asks config n e no_floor)))) (with_handed-none m)
-            (Steps-reached config chain a m e buffer asked tips [] step.lawful window sure_held step.reported good_before.1.of_chain.honest_asks reach tt (λ more. absurd (omega arith)) (subst (λ s. Rest config.window (node_of s buffer asked)) (sym (with_handed-none m)) rests)));
-      },
-    )
+    pub undispatched : (told told' : Option (List Report)) (heard heard' : Option (List Call)) → Hears told tips told' → Hears heard (own_asks config n e no_floor) heard' → Rest config.window (node_of m buffer asked) → FinishesStep config chain n (e ∷ []) (heard_by told heard) (heard_by told' heard') m
+    undispatched told told' heard heard' tips_heard asks_heard rests = record {
+      made = made_of tips (own_asks config n e no_floor);
+      heard = record { reports = tips_heard; asks = asks_heard; no_more = refl };
+      steps = subst (λ rs. Steps config chain n (e ∷ []) (made_of rs (own_asks config n e no_floor)) (node_of m buffer (asked_after asked [] (own_asks config n e no_floor)))) (append-nil tips)
+          (subst (λ s. Steps config chain n (e ∷ []) (made_of (tips ++ []) (own_asks config n e no_floor)) (node_of s buffer (asked_after asked [] (own_asks config n e no_floor)))) (with_handed-none m)
+          (Steps-reached config chain a m e buffer asked tips [] step.lawful window sure_held step.reported.0 good_before.1.of_chain.asks.requests reach tt (λ more. absurd (omega arith)) (subst (λ s. Rest config.window (node_of s buffer asked)) (sym (with_handed-none m)) rests)));
+    }

@@ -9,9 +9,10 @@ use Rattle.mar_key.proofs.CutoffOrder.{cutoff_le-total}
 use Rattle.mar_key.specs.Processed.{Processed}
 use Rattle.mar_types.specs.Epochs.{Epochs, closed_epoch}
 use Rattle.mar_node.specs.Held.{Watches, Ending, Seen}
-use Rattle.mar_node.specs.Moves.{IsRead, RaisesTo, retired, round_at}
+use Rattle.mar_node.specs.Event.{closed_at, retired, round_at}
+use Rattle.mar_node.specs.Moves.{HearsFront, HearsUpTo, IsRead, RaisesTo}
 use Rattle.mar_node.specs.Requests.{raise_asks}
-use Rattle.mar_node.proofs.Handing.{Hears-then}
+use Rattle.mar_node.proofs.Handing.{Hears-then, HearsFront-more, HearsFront-then, HearsUpTo-then}
 
 -- two cutoffs that reach each other are one
 cutoff_le-both : (c d : Cutoff) → IsTrue (cutoff_le c d) → IsTrue (cutoff_le d c) → c ≡ d
@@ -55,26 +56,43 @@ raise_asks-append c (x ∷ xs) ys = by (cutoff_le x c) refl (raise_asks-append c
     by false above same other = ap (λ zs. retain (above_round x) ∷ zs) (other ∙ ap (λ d. raise_asks x xs ++ raise_asks (greatest_of d xs) ys) (sym (max_high c x above)))
 
 -- what is heard as a height is processed: one retain, the raise to its round, the raise over epochs
-pub Hears-processed : {T F : Type 0} (result : Result T F) (first second third last : Option (List Call)) (call : Call) (c d : Cutoff) (xs ys : List Cutoff) → Hears first (call ∷ []) second → Hears second (raise_asks c xs) third → d ≡ greatest_of c xs → OnOk result (Hears third (raise_asks d ys) last) → OnOk result (Hears first (call ∷ raise_asks c (xs ++ ys)) last)
-Hears-processed (Ok r) first second third last call c d xs ys before raised is after =
-    subst (λ zs. Hears first (call ∷ zs) last) (sym (raise_asks-append c xs ys))
-    (Hears-then first third last (call ∷ raise_asks c xs) (raise_asks (greatest_of c xs) ys) (Hears-then first second third (call ∷ []) (raise_asks c xs) before raised) (subst (λ k. Hears third (raise_asks k ys) last) is after))
-Hears-processed (Err e) first second third last call c d xs ys before raised is after = tt
+pub HearsUpTo-processed : {A : Type 0} (result : Result A Ending) (first second third last : Option (List Call)) (call : Call) (c d : Cutoff) (xs ys : List Cutoff) → Hears first (call ∷ []) second → Hears second (raise_asks c xs) third → d ≡ greatest_of c xs → HearsUpTo third (raise_asks d ys) last result → HearsUpTo first (call ∷ raise_asks c (xs ++ ys)) last result
+HearsUpTo-processed result first second third last call c d xs ys before raised is after =
+    subst (λ zs. HearsUpTo first (call ∷ zs) last result) (sym (raise_asks-append c xs ys))
+    (HearsUpTo-then first (call ∷ raise_asks c xs) third (raise_asks (greatest_of c xs) ys) last result (Hears-then first second third (call ∷ []) (raise_asks c xs) before raised) (subst (λ k. HearsUpTo third (raise_asks k ys) last result) is after))
+
+-- a front of the raise over both is heard where the second is not begun
+pub HearsFront-raised : (c : Cutoff) (xs ys : List Cutoff) (old new : Option (List Call)) → HearsFront old (raise_asks c xs) new → HearsFront old (raise_asks c (xs ++ ys)) new
+HearsFront-raised c xs ys old new front = subst (λ zs. HearsFront old zs new) (sym (raise_asks-append c xs ys)) (HearsFront-more old (raise_asks c xs) (raise_asks (greatest_of c xs) ys) new front)
 
 -- the same, of the actors between
-pub process_asks : {P E : Type 0} (epochs_of : E → Epochs) (old one two three : Seen P E) (result : Result (Seen P E) Ending) (first second third last : Option (List Call)) (processed : Option Processed) (watches : Watches) (height : ℕ) (round : Option Round) (witnessed : Round) → one ≡ record old { held = record old.held { processed = processed; watches = watches } } → IsRead one two → round ≡ round_at one.held.certs.held height → RaisesTo two (option_to_list (option_map at_round round)) witnessed three → Hears first (retain (above_height height) ∷ []) second → Hears second (raise_asks two.held.cutoff (option_to_list (option_map at_round round))) third → OnOk result (Hears third (raise_asks three.held.cutoff (option_to_list (option_map at_epoch (closed_epoch (epochs_of three.life.epocher) height)))) last) → OnOk result (Hears first (retain (above_height height) ∷ raise_asks old.held.cutoff (retired (epochs_of old.life.epocher) old.held.certs.held height)) last)
-process_asks epochs_of old one two three result first second third last processed watches height round witnessed one_is two_is round_is raised before between after =
-    Hears-processed result first second third last (retain (above_height height)) old.held.cutoff three.held.cutoff (option_to_list (option_map at_round (round_at old.held.certs.held height))) (option_to_list (option_map at_epoch (closed_epoch (epochs_of old.life.epocher) height)))
-    before
-    (subst (λ c. Hears second (raise_asks c (option_to_list (option_map at_round (round_at old.held.certs.held height)))) third) cutoff_is (subst (λ o. Hears second (raise_asks two.held.cutoff (option_to_list (option_map at_round o))) third) round_old between))
-    (ap (λ a. a.held.cutoff) raised.same ∙ (ap (λ c. greatest_of c (option_to_list (option_map at_round round))) cutoff_is ∙ ap (λ o. greatest_of old.held.cutoff (option_to_list (option_map at_round o))) round_old))
-    (subst (λ e. OnOk result (Hears third (raise_asks three.held.cutoff (option_to_list (option_map at_epoch (closed_epoch (epochs_of e) height)))) last)) (ap (λ a. a.life.epocher) raised.same ∙ epocher_is) after)
-  where
-    cutoff_is : two.held.cutoff ≡ old.held.cutoff
-    cutoff_is = ap (λ a. a.held.cutoff) two_is ∙ ap (λ a. a.held.cutoff) one_is
+module _ {P E : Type 0} (epochs_of : E → Epochs) (old one two : Seen P E) (processed : Option Processed) (watches : Watches) (height : ℕ) (round : Option Round) (one_is : one ≡ record old { held = record old.held { processed = processed; watches = watches } }) (two_is : IsRead one two) (round_is : round ≡ round_at one.held.certs.held height) where
+  cutoff_is : two.held.cutoff ≡ old.held.cutoff
+  cutoff_is = ap (λ a. a.held.cutoff) two_is ∙ ap (λ a. a.held.cutoff) one_is
 
-    epocher_is : two.life.epocher ≡ old.life.epocher
-    epocher_is = ap (λ a. a.life.epocher) two_is ∙ ap (λ a. a.life.epocher) one_is
+  epocher_is : two.life.epocher ≡ old.life.epocher
+  epocher_is = ap (λ a. a.life.epocher) two_is ∙ ap (λ a. a.life.epocher) one_is
 
-    round_old : round ≡ round_at old.held.certs.held height
-    round_old = round_is ∙ ap (λ a. round_at a.held.certs.held height) one_is
+  round_old : round ≡ round_at old.held.certs.held height
+  round_old = round_is ∙ ap (λ a. round_at a.held.certs.held height) one_is
+
+  raised_old : raise_asks two.held.cutoff (option_to_list (option_map at_round round)) ≡ raise_asks old.held.cutoff (option_to_list (option_map at_round (round_at old.held.certs.held height)))
+  raised_old = ap₂ (λ c o. raise_asks c (option_to_list (option_map at_round o))) cutoff_is round_old
+
+  abbrev pub retired_old : List Cutoff
+  retired_old = retired (epochs_of old.life.epocher) old.held.certs.held height
+
+  -- the raise to its round ended the life
+  pub unraised_asks : (first second last : Option (List Call)) → Hears first (retain (above_height height) ∷ []) second → HearsFront second (raise_asks two.held.cutoff (option_to_list (option_map at_round round))) last → HearsFront first (retain (above_height height) ∷ raise_asks old.held.cutoff retired_old) last
+  unraised_asks first second last before front =
+      HearsFront-then first (retain (above_height height) ∷ []) second (raise_asks old.held.cutoff retired_old) last before
+      (HearsFront-raised old.held.cutoff (option_to_list (option_map at_round (round_at old.held.certs.held height))) (closed_at (epochs_of old.life.epocher) height) second last (subst (λ zs. HearsFront second zs last) raised_old front))
+
+  -- or it went on, and over the epochs
+  pub process_asks : (three : Seen P E) (result : Result (Seen P E) Ending) (first second third last : Option (List Call)) (witnessed : Round) → RaisesTo two (option_to_list (option_map at_round round)) witnessed three → Hears first (retain (above_height height) ∷ []) second → Hears second (raise_asks two.held.cutoff (option_to_list (option_map at_round round))) third → HearsUpTo third (raise_asks three.held.cutoff (closed_at (epochs_of three.life.epocher) height)) last result → HearsUpTo first (retain (above_height height) ∷ raise_asks old.held.cutoff retired_old) last result
+  process_asks three result first second third last witnessed raised before between after =
+      HearsUpTo-processed result first second third last (retain (above_height height)) old.held.cutoff three.held.cutoff (option_to_list (option_map at_round (round_at old.held.certs.held height))) (closed_at (epochs_of old.life.epocher) height)
+      before
+      (subst (λ zs. Hears second zs third) raised_old between)
+      (ap (λ a. a.held.cutoff) raised.same ∙ ap₂ (λ c o. greatest_of c (option_to_list (option_map at_round o))) cutoff_is round_old)
+      (subst (λ e. HearsUpTo third (raise_asks three.held.cutoff (closed_at (epochs_of e) height)) last result) (ap (λ a. a.life.epocher) raised.same ∙ epocher_is) after)

@@ -20,7 +20,7 @@ use Rattle.mar_node.specs.Event.{Event, acked_to, blocks_from, brought_block, ce
 use Rattle.mar_node.specs.Faults.{event_fault, last_height}
 use Rattle.mar_node.specs.Held.{Seen}
 use Rattle.mar_node.specs.Moves.{AreNextHeld, HasRoom, IsStill, handed_report, next_in, with_handed}
-use Rattle.mar_node.specs.Node.{AreBlocksOf, AreFinalizationsOf, HonestAsk, IsGood, Node, Rest, SureOrWritten, block_missing, floor_awaited, window_full, write_count, write_uncovered}
+use Rattle.mar_node.specs.Node.{AreBlocksOf, AreFinalizationsOf, AreHonest, IsGood, Node, Rest, SureOrWritten, block_missing, empty_inbox, empty_peers, floor_awaited, window_full, write_count, write_uncovered}
 use Rattle.mar_node.specs.Promise.{ReportsFinalized, made_of, node_of}
 use Rattle.mar_node.specs.Requests.{own_asks}
 use Rattle.mar_node.specs.Step.{AdvancesBy, AreHandedOf, AreTipsOf, CertificatesFrom, HandedBlock, HandedFrom, HandsOver, IsBlockFrom, IsCertFrom, IsStored, IsStoredLate, KeepsFrom, Report, Steps, TipsFrom, Writes, handed_blocks, handed_over, new_tip, outstanding_of}
@@ -80,43 +80,36 @@ room_for out window zero within room = omega arith
 room_for out window (suc k) within room = room (omega arith)
 
 pub next_is : {P E : Type 0} (config : Config) (chain : Chain) (m : Seen P E) (buffer : List Block) (asked : List Asked) → IsGood config chain (node_of m buffer asked) → next_in m ≡ first_unprocessed m.held.processed + length m.life.out
-next_is config chain m buffer asked good = height_after-consecutive (first_unprocessed m.held.processed) m.life.out good.heights.consecutive
+next_is config chain m buffer asked good = height_after-consecutive (first_unprocessed m.held.processed) m.life.out good.heights.delivery.consecutive
 
 -- the first part's node stays good as blocks are handed over
 pub IsGood-handed : {P E : Type 0} (config : Config) (chain : Chain) (m : Seen P E) (buffer : List Block) (asked : List Asked) (handed : List HandedBlock) → config.window ≡ m.life.sizes.window → IsGood config chain (node_of m buffer asked) → AreNextHeld m handed → HasRoom m handed → IsGood config chain (node_of (with_handed m handed) buffer asked)
 IsGood-handed config chain m buffer asked handed window good next room = record {
   heights = record {
-    nested_blocks = good.heights.nested_blocks;
-    nested_certs = good.heights.nested_certs;
-    sure_blocks = good.heights.sure_blocks;
-    sure_certs = good.heights.sure_certs;
-    consecutive = ConsecutiveFrom-append (first_unprocessed m.held.processed) m.life.out (map outstanding_of handed) good.heights.consecutive (ConsecutiveFrom-handed m.held.blocks.sure m.life.next_ack (first_unprocessed m.held.processed + length m.life.out) handed (subst (λ k. HandedFrom m.held.blocks.sure m.life.next_ack k handed) (next_is config chain m buffer asked good) handed_sure));
-    out_sure = AllByRecursion-append (λ o. IsTrue (has_height m.held.blocks.sure o.height)) m.life.out (map outstanding_of handed) good.heights.out_sure (all_out_sure m.held.blocks.sure m.life.next_ack (next_in m) handed handed_sure);
-    within_window = subst (λ w. length (m.life.out ++ map outstanding_of handed) ≤ w) (sym window) (subst (λ k. k ≤ m.life.sizes.window) (sym counted) (room_for (length m.life.out) m.life.sizes.window (length handed) (subst (λ w. length m.life.out ≤ w) window good.heights.within_window) room));
+    stores = good.heights.stores;
+    delivery = record {
+      consecutive = ConsecutiveFrom-append (first_unprocessed m.held.processed) m.life.out (map outstanding_of handed) good.heights.delivery.consecutive (ConsecutiveFrom-handed m.held.blocks.sure m.life.next_ack (first_unprocessed m.held.processed + length m.life.out) handed (subst (λ k. HandedFrom m.held.blocks.sure m.life.next_ack k handed) (next_is config chain m buffer asked good) handed_sure));
+      out_sure = AllByRecursion-append (λ o. IsTrue (has_height m.held.blocks.sure o.height)) m.life.out (map outstanding_of handed) good.heights.delivery.out_sure (all_out_sure m.held.blocks.sure m.life.next_ack (next_in m) handed handed_sure);
+      within_window = subst (λ w. length (m.life.out ++ map outstanding_of handed) ≤ w) (sym window) (subst (λ k. k ≤ m.life.sizes.window) (sym counted) (room_for (length m.life.out) m.life.sizes.window (length handed) (subst (λ w. length m.life.out ≤ w) window good.heights.delivery.within_window) room));
+      anchored = good.heights.delivery.anchored;
+    };
     floor_clears = λ some. absurd cc;
-    anchored = good.heights.anchored;
     own_pair = good.heights.own_pair;
     sync_open = λ more. absurd (omega arith);
   };
   of_chain = record {
-    held_blocks = good.of_chain.held_blocks;
-    may_blocks = good.of_chain.may_blocks;
-    held_certs = good.of_chain.held_certs;
-    may_certs = good.of_chain.may_certs;
-    cached = good.of_chain.cached;
-    cached_blocks = good.of_chain.cached_blocks;
+    stores = good.of_chain.stores;
+    cache = good.of_chain.cache;
+    asks = good.of_chain.asks;
     awaits = good.of_chain.awaits;
-    floor_safe = good.of_chain.floor_safe;
-    honest_asks = good.of_chain.honest_asks;
-    honest_ready = good.of_chain.honest_ready;
-    honest_overflow = good.of_chain.honest_overflow;
     not_at_hand = good.of_chain.not_at_hand;
+    floor_safe = good.of_chain.floor_safe;
     tip_reported = good.of_chain.tip_reported;
   };
 }
   where
     handed_sure : HandedFrom m.held.blocks.sure m.life.next_ack (next_in m) handed
-    handed_sure = HandedFrom-held m.held.blocks.held m.held.blocks.sure m.life.next_ack (next_in m) handed (held_sure m.held.blocks good.heights.sure_blocks) next
+    handed_sure = HandedFrom-held m.held.blocks.held m.held.blocks.sure m.life.next_ack (next_in m) handed (held_sure m.held.blocks good.heights.stores.sure_blocks) next
 
     length_mapped : (xs : List HandedBlock) → length (map outstanding_of xs) ≡ length xs
     length_mapped [] = refl
@@ -132,7 +125,7 @@ in_list (c ∷ blocks) (suc i) b at = let low : i < length blocks = in_list bloc
 
 -- a good node that can hand over no more rests
 pub Rest-still : {P E : Type 0} (config : Config) (chain : Chain) (m : Seen P E) (buffer : List Block) (asked : List Asked) → IsLawful config.epochs chain → config.window ≡ m.life.sizes.window → IsGood config chain (node_of m buffer asked) → IsStill m → Rest config.window (node_of m buffer asked)
-Rest-still config chain m buffer asked lawful window good (inl full) = window_full (let within : length m.life.out ≤ config.window = good.heights.within_window in omega arith)
+Rest-still config chain m buffer asked lawful window good (inl full) = window_full (let within : length m.life.out ≤ config.window = good.heights.delivery.within_window in omega arith)
 Rest-still config chain m buffer asked lawful window good (inr (inl missing)) = block_missing (subst (λ k. value_at m.held.blocks.held k ≡ None) (next_is config chain m buffer asked good) missing)
 Rest-still config chain m buffer asked lawful window good (inr (inr end)) = block_missing (beyond (value_at m.held.blocks.held next) refl (high end))
   where
@@ -148,7 +141,7 @@ Rest-still config chain m buffer asked lawful window good (inr (inr end)) = bloc
 
     beyond : (o : Option Block) → value_at m.held.blocks.held next ≡ o → 2 ^ 64 - 1 ≤ next → value_at m.held.blocks.held next ≡ None
     beyond None is end = is
-    beyond (Some b) is end = absurd (let at : IsBlockAt chain next b = AllByRecursion-value_at (λ x. IsBlockAt chain x.height x.value) m.held.blocks.held next b good.of_chain.held_blocks is in let low : next < length chain.blocks = in_list chain.blocks next b at in let bound : length chain.blocks < 2 ^ 64 - 1 = lawful.bounded in omega (arith, end))
+    beyond (Some b) is end = absurd (let at : IsBlockAt chain next b = AllByRecursion-value_at (λ x. IsBlockAt chain x.height x.value) m.held.blocks.held next b good.of_chain.stores.held_blocks is in let low : next < length chain.blocks = in_list chain.blocks next b at in let bound : length chain.blocks < 2 ^ 64 - 1 = lawful.bounded in omega (arith, end))
 
 -- THE FIRST PART
 
@@ -215,41 +208,29 @@ Rest-beside window m buffer buffer' asked asked' (window_full full) = window_ful
 Rest-beside window m buffer buffer' asked asked' (block_missing missing) = block_missing missing
 Rest-beside window m buffer buffer' asked asked' (write_uncovered h none low) = absurd (let lt : none.0 < 0 = none.1 in omega arith)
 
-pub IsGood-beside : {P E : Type 0} (config : Config) (chain : Chain) (m : Seen P E) (buffer buffer' : List Block) (asked asked' : List Asked) → AllByRecursion (λ x. HonestAsk chain x.key x.annotations) asked' → IsGood config chain (node_of m buffer asked) → IsGood config chain (node_of m buffer' asked')
+pub IsGood-beside : {P E : Type 0} (config : Config) (chain : Chain) (m : Seen P E) (buffer buffer' : List Block) (asked asked' : List Asked) → AreHonest chain asked' → IsGood config chain (node_of m buffer asked) → IsGood config chain (node_of m buffer' asked')
 IsGood-beside config chain m buffer buffer' asked asked' honest good = record {
   heights = record {
-    nested_blocks = good.heights.nested_blocks;
-    nested_certs = good.heights.nested_certs;
-    sure_blocks = good.heights.sure_blocks;
-    sure_certs = good.heights.sure_certs;
-    consecutive = good.heights.consecutive;
-    out_sure = good.heights.out_sure;
-    within_window = good.heights.within_window;
+    stores = good.heights.stores;
+    delivery = good.heights.delivery;
     floor_clears = good.heights.floor_clears;
-    anchored = good.heights.anchored;
     own_pair = good.heights.own_pair;
     sync_open = good.heights.sync_open;
   };
   of_chain = record {
-    held_blocks = good.of_chain.held_blocks;
-    may_blocks = good.of_chain.may_blocks;
-    held_certs = good.of_chain.held_certs;
-    may_certs = good.of_chain.may_certs;
-    cached = good.of_chain.cached;
-    cached_blocks = good.of_chain.cached_blocks;
+    stores = good.of_chain.stores;
+    cache = good.of_chain.cache;
+    asks = record { requests = honest; ready = good.of_chain.asks.ready; overflow = good.of_chain.asks.overflow };
     awaits = tt;
-    floor_safe = good.of_chain.floor_safe;
-    honest_asks = honest;
-    honest_ready = good.of_chain.honest_ready;
-    honest_overflow = good.of_chain.honest_overflow;
     not_at_hand = tt;
+    floor_safe = good.of_chain.floor_safe;
     tip_reported = good.of_chain.tip_reported;
   };
 }
 
 module _ {P E : Type 0} (config : Config) (chain : Chain) (a m : Seen P E) (e : Event) (buffer : List Block) (asked : List Asked) (tips : List Report) (handed : List HandedBlock)
     (lawful : IsLawful config.epochs chain) (window : config.window ≡ m.life.sizes.window) (sure_is_held : KeepsValues m.held.blocks.sure m.held.blocks.held) (reported : ReportsFinalized chain e)
-    (honest : AllByRecursion (λ x. HonestAsk chain x.key x.annotations) asked) (reach : Reaches config chain a e buffer asked tips m) (next : AreNextHeld m handed) (room : HasRoom m handed)
+    (honest : AreHonest chain asked) (reach : Reaches config chain a e buffer asked tips m) (next : AreNextHeld m handed) (room : HasRoom m handed)
     (rests : Rest config.window (node_of (with_handed m handed) buffer asked))
   where
     abbrev pub n : Node
@@ -268,7 +249,7 @@ module _ {P E : Type 0} (config : Config) (chain : Chain) (a m : Seen P E) (e : 
     blocks_are = handed_after_tips tips handed reach.are_tips
 
     sure_from_held : (h : ℕ) → IsTrue (has_height m.held.blocks.held h) → IsTrue (has_height m.held.blocks.sure h)
-    sure_from_held = held_sure m.held.blocks reach.good.heights.sure_blocks
+    sure_from_held = held_sure m.held.blocks reach.good.heights.stores.sure_blocks
 
     in_order : HandedFrom m.held.blocks.sure a.life.next_ack (first_unprocessed m.held.processed + length (undrained_blocks n e)) handed
     in_order =
@@ -286,13 +267,13 @@ module _ {P E : Type 0} (config : Config) (chain : Chain) (a m : Seen P E) (e : 
     }
 
     hands_chain : AreHandedOf chain m.held.blocks.sure (handed_blocks reports)
-    hands_chain = subst (AreHandedOf chain m.held.blocks.sure) (sym blocks_are) (AreHandedOf-held chain m.held.blocks.held m.held.blocks.sure m.life.next_ack (next_in m) handed reach.good.of_chain.held_blocks sure_is_held sure_from_held next)
+    hands_chain = subst (AreHandedOf chain m.held.blocks.sure) (sym blocks_are) (AreHandedOf-held chain m.held.blocks.held m.held.blocks.sure m.life.next_ack (next_in m) handed reach.good.of_chain.stores.held_blocks sure_is_held sure_from_held next)
 
     none_repaired : (h : ℕ) → IsTrue (list_any (λ k. k == h) reach.writes.repaired) → ⊥
     none_repaired h any = let none : false ≡ true = subst (λ xs. IsTrue (list_any (λ k. k == h) xs)) reach.no_repair any in cc
 
     untouched : n' ≡ record n' { buffer = n.buffer; buffer_closed = n.buffer_closed; unanswered = n.unanswered; peers = n.peers; inbox = n.inbox; next_answer = n.next_answer }
-    untouched = ap (λ (k : ℕ). record n' { peers = record { ready = []; capacity = k; overflow = []; closed = [] }; inbox = record { ready = []; capacity = k; floor = None; prune = None; overflow = []; closed = []; seats = 0; shut = false } }) (ap (λ s. s.capacity) reach.sizes)
+    untouched = ap (λ (k : ℕ). record n' { peers = empty_peers k; inbox = empty_inbox k }) (ap (λ s. s.capacity) reach.sizes)
 
     advances_unfloored : AdvancesBy config chain n e no_floor (made_of reports asks) n'
     advances_unfloored = record {

@@ -13,10 +13,10 @@ use Rattle.mar_node.specs.Cached.{cached_block, cached_finalization}
 use Rattle.mar_node.specs.Chain.{Chain}
 use Rattle.mar_node.specs.Config.{Config}
 use Rattle.mar_node.specs.Event.{Event, ack_dropped, ack_given, acked_to, block_buffered, buffer_ended, life_started, message_told, peer_answered, serve_ended, sync_finished}
-use Rattle.mar_node.specs.Node.{Agrees, AreBlocksOf, AreCachedOf, AreFinalizationsOf, BlocksAgree, Ended, FloorSafe, HasAnchor, IsFinalized, IsGood, Node, left_by}
+use Rattle.mar_node.specs.Node.{Agrees, AreBlocksOf, AreCachedOf, AreFinalizationsOf, BlocksAgree, Ended, FloorSafe, HasAnchor, IsFinalized, IsGood, IsHonest, Node, left_by}
 use Rattle.mar_node.specs.Lives.{BackedBy, IsGoodEnded}
 use Rattle.mar_node.specs.Promise.{IsGoodFor, IsGoodUntold}
-use Rattle.mar_node.specs.Sound.{IsHonest, IsSafePair, IsSound, IsSteady}
+use Rattle.mar_node.specs.Sound.{IsSafePair, IsSound, IsSteady}
 use Rattle.mar_node.proofs.FloorSafety.{FloorSafe-still, KeepsHeightsFrom}
 
 -- PAIRS
@@ -60,18 +60,14 @@ HasAnchor-acked_to p (a ∷ out) sure anchored there = HasAnchor-acked_to (Some 
 -- a tip tells nothing of what a crash leaves
 pub IsSound-untold : (chain : Chain) (n : Node) (tip : ℕ) → IsSound chain (record n { tip = tip }) → IsSound chain n
 IsSound-untold chain n tip sound = record {
-  held_blocks = sound.held_blocks;
-  may_blocks = sound.may_blocks;
-  held_certs = sound.held_certs;
-  may_certs = sound.may_certs;
-  cached = sound.cached;
-  cached_blocks = sound.cached_blocks;
+  stores = sound.stores;
+  cache = sound.cache;
   awaits = sound.awaits;
   pairs = sound.pairs;
 }
 
 -- whatever the event, the node before it is good once some tip is told
-pub untold : (config : Config) (chain : Chain) (n : Node) (e : Event) → IsGoodFor config chain n e → IsGoodUntold config chain n
+pub untold : (config : Config) (chain : Chain) (n : Node) (e : Event) → IsGoodFor config chain n (e ∷ []) → IsGoodUntold config chain n
 untold config chain n (life_started f) good = good
 untold config chain n (message_told t m) good = (n.tip, good)
 untold config chain n (ack_given t) good = (n.tip, good)
@@ -82,36 +78,26 @@ untold config chain n serve_ended good = (n.tip, good)
 untold config chain n (block_buffered b) good = (n.tip, good)
 untold config chain n buffer_ended good = (n.tip, good)
 
-pub IsGood-from_parts : (config : Config) (chain : Chain) (n : Node) → IsSound chain n → IsHonest chain n → IsSteady config n → IsGood config chain n
+pub IsGood-from_parts : (config : Config) (chain : Chain) (n : Node) → IsSound chain n → IsHonest chain n.asked n.peers → IsSteady config n → IsGood config chain n
 IsGood-from_parts config chain n sound honest steady = record {
   heights = steady.heights;
   of_chain = record {
-    held_blocks = sound.held_blocks;
-    may_blocks = sound.may_blocks;
-    held_certs = sound.held_certs;
-    may_certs = sound.may_certs;
-    cached = sound.cached;
-    cached_blocks = sound.cached_blocks;
+    stores = sound.stores;
+    cache = sound.cache;
+    asks = honest;
     awaits = sound.awaits;
-    floor_safe = (subst (λ m. AllByRecursion (IsSafePair chain n.blocks.sure) m) steady.heights.own_pair sound.pairs).0.floor_safe;
-    honest_asks = honest.asks;
-    honest_ready = honest.ready;
-    honest_overflow = honest.overflow;
     not_at_hand = steady.not_at_hand;
+    floor_safe = (subst (λ m. AllByRecursion (IsSafePair chain n.blocks.sure) m) steady.heights.own_pair sound.pairs).0.floor_safe;
     tip_reported = steady.tip_reported;
   };
 }
 
 pub IsSound-from_good : (config : Config) (chain : Chain) (n : Node) → IsGood config chain n → IsSound chain n
 IsSound-from_good config chain n good = record {
-  held_blocks = good.of_chain.held_blocks;
-  may_blocks = good.of_chain.may_blocks;
-  held_certs = good.of_chain.held_certs;
-  may_certs = good.of_chain.may_certs;
-  cached = good.of_chain.cached;
-  cached_blocks = good.of_chain.cached_blocks;
+  stores = good.of_chain.stores;
+  cache = good.of_chain.cache;
   awaits = good.of_chain.awaits;
-  pairs = subst (λ m. AllByRecursion (IsSafePair chain n.blocks.sure) m) (sym good.heights.own_pair) (own_pair_safe chain n good.heights.anchored good.of_chain.floor_safe, tt);
+  pairs = subst (λ m. AllByRecursion (IsSafePair chain n.blocks.sure) m) (sym good.heights.own_pair) (own_pair_safe chain n good.heights.delivery.anchored good.of_chain.floor_safe, tt);
 }
 
 -- WHAT IS LEFT
@@ -120,10 +106,10 @@ right_part : {T U : Type 0} (f : T → Option U) (P : U → Type 0) (xs ys : Lis
 right_part f P xs ys all = AllByRecursion-append_right P (filter_map f xs) (filter_map f ys) (subst (AllByRecursion P) (filter_map-append f xs ys) all)
 
 pub may_cached_of : (chain : Chain) (n : Node) → IsSound chain n → AreCachedOf chain n.cache.may
-may_cached_of chain n sound = right_part cached_finalization (λ f. IsFinalized chain f.round f.payload) n.cache.held n.cache.may sound.cached
+may_cached_of chain n sound = right_part cached_finalization (λ f. IsFinalized chain f.round f.payload) n.cache.held n.cache.may sound.cache.finalizations
 
 pub may_cached_blocks_of : (chain : Chain) (n : Node) → IsSound chain n → BlocksAgree chain n.cache.may
-may_cached_blocks_of chain n sound = right_part cached_block (Agrees chain) n.cache.held n.cache.may sound.cached_blocks
+may_cached_blocks_of chain n sound = right_part cached_block (Agrees chain) n.cache.held n.cache.may sound.cache.blocks
 
 -- what any fault leaves of a sound node is good: may lists of the chain, sure blocks kept from a bound
 -- on, each pair one of the node's that is not below it, or a safe one
@@ -147,8 +133,8 @@ IsGoodEnded-from_sound chain n bound left sound blocks certs cached cached_block
 -- a crash between two store calls
 pub IsGoodEnded-left_by : (chain : Chain) (n : Node) → IsSound chain n → IsGoodEnded chain (left_by n)
 IsGoodEnded-left_by chain n sound = record {
-  may_blocks = sound.may_blocks;
-  may_certs = sound.may_certs;
+  may_blocks = sound.stores.may_blocks;
+  may_certs = sound.stores.may_certs;
   may_cached = may_cached_of chain n sound;
   may_cached_blocks = may_cached_blocks_of chain n sound;
   backed = AllByRecursion-weaker (IsSafePair chain n.blocks.sure) _ (λ p safe. safe.backed) n.meta sound.pairs;
@@ -164,12 +150,8 @@ crash_is_good config chain n good = IsGoodEnded-left_by chain n (IsSound-from_go
 -- what is not in the stores may change, but for the awaited floor
 pub IsSound-moved : (chain : Chain) (n new : Node) → IsSound chain n → IsSound chain (record new { blocks = n.blocks; certs = n.certs; cache = n.cache; awaited = n.awaited; meta = n.meta })
 IsSound-moved chain n new sound = record {
-  held_blocks = sound.held_blocks;
-  may_blocks = sound.may_blocks;
-  held_certs = sound.held_certs;
-  may_certs = sound.may_certs;
-  cached = sound.cached;
-  cached_blocks = sound.cached_blocks;
+  stores = sound.stores;
+  cache = sound.cache;
   awaits = sound.awaits;
   pairs = sound.pairs;
 }

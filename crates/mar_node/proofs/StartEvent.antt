@@ -1,5 +1,5 @@
 -- The start of a life: the newest stored finalization is told as the tip, and then blocks are handed over.
-use Rattle.std.proofs.Common.{ℕ, List, [], ◌++◌, None, Option, Result, Err, refl, sym, ◌∙◌, ap, subst}
+use Rattle.std.proofs.Common.{ℕ, List, [], ◌∷◌, ◌++◌, None, Option, Result, Err, refl, sym, ◌∙◌, ap, subst}
 use Rattle.mar_types.specs.Epochs.{Epochs, IsPartition}
 use Rattle.mar_cert.specs.Block.{Block}
 use Rattle.mar_key.specs.Asked.{Asked}
@@ -10,13 +10,14 @@ use Rattle.mar_node.specs.Chain.{Chain}
 use Rattle.mar_node.specs.Config.{Config}
 use Rattle.mar_node.specs.Event.{life_started}
 use Rattle.mar_node.specs.Held.{ArePassed, Ending, IsUsual, Loses, Seen, nothing_written}
-use Rattle.mar_node.specs.Moves.{IsRead, LivesOn, newest, newest_tips, with_newest}
+use Rattle.mar_node.specs.Moves.{IsRead, LivesOn, newest_tips, with_newest}
+use Rattle.mar_node.specs.Stored.{newest}
 use Rattle.mar_node.specs.Node.{IsGood}
-use Rattle.mar_node.specs.Promise.{AreOne, IsGoodUntold, KeepsPromise, node_of}
+use Rattle.mar_node.specs.Promise.{AreOne, IsGoodUntold, KeepsPromise, heard_by, node_of}
 use Rattle.mar_node.specs.Step.{Report}
 use Rattle.mar_node.proofs.EventPromises.{quiet_cut}
 use Rattle.mar_node.proofs.Growing.{Grown-same}
-use Rattle.mar_node.proofs.Handing.{Hears-nothing, Ran}
+use Rattle.mar_node.proofs.Handing.{Hears-nothing, HearsFront-nothing, Ran}
 use Rattle.mar_node.proofs.Lasting.{IsPart, LivesOn-ran, LivesOn-then}
 use Rattle.mar_node.proofs.PlainEvents.{Certificates-same, KeepsFrom-same, Writes-none, nothing_put}
 use Rattle.mar_node.proofs.Promises.{dispatched}
@@ -28,31 +29,19 @@ module _ {P E : Type 0} (config : Config) (chain : Chain) (a : Seen P E) (buffer
   IsGood-told : IsGood config chain (node_of (with_newest a) buffer asked)
   IsGood-told = record {
     heights = record {
-      nested_blocks = untold.1.heights.nested_blocks;
-      nested_certs = untold.1.heights.nested_certs;
-      sure_blocks = untold.1.heights.sure_blocks;
-      sure_certs = untold.1.heights.sure_certs;
-      consecutive = untold.1.heights.consecutive;
-      out_sure = untold.1.heights.out_sure;
-      within_window = untold.1.heights.within_window;
+      stores = untold.1.heights.stores;
+      delivery = untold.1.heights.delivery;
       floor_clears = untold.1.heights.floor_clears;
-      anchored = untold.1.heights.anchored;
       own_pair = untold.1.heights.own_pair;
       sync_open = untold.1.heights.sync_open;
     };
     of_chain = record {
-      held_blocks = untold.1.of_chain.held_blocks;
-      may_blocks = untold.1.of_chain.may_blocks;
-      held_certs = untold.1.of_chain.held_certs;
-      may_certs = untold.1.of_chain.may_certs;
-      cached = untold.1.of_chain.cached;
-      cached_blocks = untold.1.of_chain.cached_blocks;
+      stores = untold.1.of_chain.stores;
+      cache = untold.1.of_chain.cache;
+      asks = untold.1.of_chain.asks;
       awaits = untold.1.of_chain.awaits;
-      floor_safe = untold.1.of_chain.floor_safe;
-      honest_asks = untold.1.of_chain.honest_asks;
-      honest_ready = untold.1.of_chain.honest_ready;
-      honest_overflow = untold.1.of_chain.honest_overflow;
       not_at_hand = untold.1.of_chain.not_at_hand;
+      floor_safe = untold.1.of_chain.floor_safe;
       tip_reported = newest_tip-high a.life.tip a.held.certs.held;
     };
   }
@@ -80,7 +69,7 @@ module _ {P E : Type 0} (config : Config) (chain : Chain) (a : Seen P E) (buffer
     no_repair = (Writes-none a (with_newest a) (life_started None) buffer asked refl refl refl refl refl).1;
     are_tips = newest_tips-tips config.inner a.life.tip (newest a.held.certs.held);
     tips_rise = newest_tips-rise config.inner a.life.tip (newest a.held.certs.held);
-    tips_chain = newest_tips-chain config.inner chain buffer one a.life.tip a.held.certs.held untold.1.of_chain.held_certs;
+    tips_chain = newest_tips-chain config.inner chain buffer one a.life.tip a.held.certs.held untold.1.of_chain.stores.held_certs;
     witnessed = refl;
     stored = tt;
     stored_late = tt;
@@ -103,11 +92,11 @@ LivesOn-start a m told told' result same passed ran = LivesOn-then a m result (I
 
 module _ {P E : Type 0} (epochs : Epochs) (inner : List ℕ → List ℕ) (partition : IsPartition epochs) (a : Seen P E) (buffer : List Block) where
   -- nothing could be told
-  pub promise-untold : (told told' : Option (List Report)) (heard : Option (List Call)) (x : Ending) → Hears told [] told' → Loses a.held nothing_written x → IsUsual x.fault → KeepsPromise epochs inner a (life_started None) buffer told told' heard heard (Err x)
+  pub promise-untold : (told told' : Option (List Report)) (heard : Option (List Call)) (x : Ending) → Hears told [] told' → Loses a.held nothing_written x → IsUsual x.fault → KeepsPromise epochs inner a (life_started None ∷ []) buffer (heard_by told heard) (heard_by told' heard) (Err x)
   promise-untold told told' heard x silent lost usual config chain asked set step =
-      quiet_cut epochs inner partition a buffer config chain asked (life_started None) step refl (λ fault. refl) told told' nothing_written x silent refl refl tt tt (λ y has. nothing_put y has) (λ y has. nothing_put y has) lost (λ p has. nothing_put p has) usual
+      quiet_cut epochs inner partition a buffer config chain asked (life_started None) step refl (λ fault. refl) told told' heard heard nothing_written x silent (HearsFront-nothing heard _ heard (Hears-nothing heard)) refl refl tt tt (λ y has. nothing_put y has) (λ y has. nothing_put y has) lost (λ p has. nothing_put p has) usual
 
-  pub promise-start : (told told1 told' : Option (List Report)) (heard : Option (List Call)) (m : Seen P E) (result : Result (Seen P E) Ending) → IsNested a.held.blocks → IsNested a.held.certs → IsRead (with_newest a) m → Hears told (newest_tips inner a.life.tip (newest a.held.certs.held)) told1 → Ran m told1 told' result → KeepsPromise epochs inner a (life_started None) buffer told told' heard heard result
+  pub promise-start : (told told1 told' : Option (List Report)) (heard : Option (List Call)) (m : Seen P E) (result : Result (Seen P E) Ending) → IsNested a.held.blocks → IsNested a.held.certs → IsRead (with_newest a) m → Hears told (newest_tips inner a.life.tip (newest a.held.certs.held)) told1 → Ran m told1 told' result → KeepsPromise epochs inner a (life_started None ∷ []) buffer (heard_by told heard) (heard_by told' heard) result
   promise-start told told1 told' heard m result nested certs_nested same tips ran config chain asked set step =
       dispatched config chain a m (life_started None) buffer asked (newest_tips config.inner a.life.tip (newest a.held.certs.held)) (set.window ∙ sym (ap (λ s. s.life.sizes.window) same)) step (λ fault. refl) (Reaches-start config chain a buffer asked nested certs_nested step.good m same step.one)
       (subst (λ s. KeepsValues s.held.blocks.sure s.held.blocks.held) (sym same) nested.sure_held) told told1 told' heard heard result

@@ -10,7 +10,8 @@ use Rattle.mar_store.specs.Kept.{At, value_at}
 use Rattle.mar_store.specs.Named.{greatest_of, last_index}
 use Rattle.mar_store.proofs.Lookups.{AllByRecursion-value_at, AllByRecursion-weaker}
 use Rattle.mar_node.specs.Chain.{Chain, Finalizes, IsBlockAt, IsFinal, digest_at}
-use Rattle.mar_node.specs.Moves.{entry_at, newest, newest_tip, newest_tips, risen_to, tip_after, tip_reports, tips_above}
+use Rattle.mar_node.specs.Moves.{newest_tip, newest_tips, risen_to, tip_after, tip_reports, tips_above}
+use Rattle.mar_node.specs.Stored.{entry_at, newest}
 use Rattle.mar_node.specs.Node.{AreFinalizationsOf}
 use Rattle.mar_node.specs.Promise.{AreOne}
 use Rattle.mar_node.specs.Step.{AreTipsOf, TipsFrom, new_tip}

@@ -6,11 +6,12 @@ use Rattle.mar_types.specs.Round.{Round, round_eq}
 use Rattle.mar_cert.specs.Block.{Block, certified_bytes}
 use Rattle.mar_cert.specs.Finalization.{Finalization, Notarization, finalization_bytes}
 use Rattle.mar_key.specs.Processed.{Processed, anchor_of}
-use Rattle.mar_store.specs.Kept.{At, higher_of, value_at}
+use Rattle.mar_store.specs.Kept.{At, value_at}
+use Rattle.mar_node.specs.Stored.{newest, values_of}
 use Rattle.mar_key.specs.Keys.{Annotation, Key, block_key, certified_at, finalized_key, notarized_key}
 use Rattle.mar_node.specs.Messages.{Identifier, Message, Peers, certify, close_ticket, forward, get_anchor, get_block, get_finalization, get_info, get_processed, get_verified, latest, of_digest, of_height, prepared, proposed, report_certification, some_peers, subscribe_commitment, subscribe_digest, verified}
 use Rattle.mar_node.specs.Config.{Config}
-use Rattle.mar_node.specs.Node.{CacheSync, CertifiedCommitment, Node, Subscription, Wanted, at_hand, commitment_wanted, digest_wanted, values_of}
+use Rattle.mar_node.specs.Node.{CacheSync, CertifiedCommitment, Node, Subscription, Wanted, all_at_hand, at_hand, commitment_wanted, digest_wanted}
 use Rattle.mar_node.specs.Cached.{Cached, cached_block, notarization_entry}
 use Rattle.mar_node.specs.Event.{Effect, Event, applies_floor, brought_block, buffer_ended, gave_block, message_told, no_floor, peer_answered, sync_finished}
 use Rattle.mar_node.specs.Cache.{first_of, first_verified}
@@ -46,18 +47,9 @@ or_none (Some v) = v
 
 -- QUERIES
 
--- all blocks in the buffer, in the cache and among the held ones
-abbrev pub all_at_hand : Node → List Block
-all_at_hand n = n.buffer ++ filter_map cached_block n.cache.held ++ values_of n.blocks.held
-
 -- the block of this digest in the buffer, in the cache or among the held blocks
 abbrev pub at_hand_digest : Node → List ℕ → Option Block
 at_hand_digest n d = find (λ b. bytes_eq b.digest d) (all_at_hand n)
-
--- the entry of the greatest height
-abbrev pub newest_of : {T : Type 0} → List (At T) → Option (At T)
-newest_of [] = None
-newest_of (x ∷ xs) = higher_of x (newest_of xs)
 
 abbrev pub certificate_info : Config → At Finalization → Value
 certificate_info config x = info_value x.height (config.inner x.value.payload)
@@ -69,13 +61,13 @@ block_info b = info_value b.height b.digest
 abbrev pub info : Config → Node → Identifier → Option Value
 info config n (of_height h) = option_or (option_map (λ f. info_value h (config.inner f.payload)) (value_at n.certs.held h)) (option_map block_info (value_at n.blocks.held h))
 info config n (of_digest d) = option_map block_info (find (λ b. bytes_eq b.digest d) (values_of n.blocks.held))
-info config n latest = option_map (certificate_info config) (newest_of n.certs.held)
+info config n latest = option_map (certificate_info config) (newest n.certs.held)
 
 -- by height: finalized; by digest or latest: buffer, cache, archive
 abbrev pub block_for : Node → Identifier → Option Block
 block_for n (of_height h) = value_at n.blocks.held h
 block_for n (of_digest d) = at_hand_digest n d
-block_for n latest = option_and_then (λ x. at_hand n x.value.payload) (newest_of n.certs.held)
+block_for n latest = option_and_then (λ x. at_hand n x.value.payload) (newest n.certs.held)
 
 -- the processed height with the block that backs it
 abbrev pub anchor : Node → Option Processed → Option Value

@@ -6,7 +6,7 @@ use Rattle.mar_cert.specs.Block.{Block}
 use Rattle.mar_cert.specs.Finalization.{Finalization, Notarization}
 use Rattle.mar_key.specs.Cutoff.{Cutoff, at_epoch, at_round, covers, greatest_of}
 use Rattle.mar_key.specs.Processed.{Processed, at_absent, at_block, height_of}
-use Rattle.mar_types.specs.Epochs.{closed_epoch}
+use Rattle.mar_types.specs.Epochs.{Epochs, closed_epoch}
 use Rattle.mar_store.specs.Kept.{At, has_height, newest_upto, value_at}
 use Rattle.mar_key.specs.Keys.{Annotation, is_finalized}
 use Rattle.mar_node.specs.Messages.{Message, certify, get_anchor, get_block, get_finalization, get_info, get_processed, get_verified, proposed, prune_below, report_finalization, report_notarization, set_floor, verified}
@@ -171,13 +171,21 @@ processed_after n e (applies_floor r b) =
     then Some (if has_height n.blocks.held (b.height - 1) then at_block (b.height - 1) else at_absent (b.height - 1))
     else n.processed
 
--- the epoch that is closed at this height
-abbrev pub closed_at : Config → ℕ → List Cutoff
-closed_at config h = option_to_list (option_map at_epoch (closed_epoch config.epochs h))
+-- the round of the held certificate at a height
+abbrev pub round_at : List (At Finalization) → ℕ → Option Round
+round_at certs height = option_map (λ f. f.round) (value_at certs height)
 
--- an acknowledged height: the round of its held certificate, and the epoch closed there
-abbrev pub retired_cutoffs : Config → Node → Outstanding → List Cutoff
-retired_cutoffs config n a = option_to_list (option_map (λ f. at_round f.round) (value_at n.certs.held a.height)) ++ closed_at config a.height
+-- the epoch that is closed at this height
+abbrev pub closed_at : Epochs → ℕ → List Cutoff
+closed_at epochs height = option_to_list (option_map at_epoch (closed_epoch epochs height))
+
+-- the cutoffs of a processed height: the round of its held certificate, and the epoch that is closed there
+abbrev pub retired : Epochs → List (At Finalization) → ℕ → List Cutoff
+retired epochs certs height = option_to_list (option_map at_round (round_at certs height)) ++ closed_at epochs height
+
+-- those of all that are drained
+abbrev pub all_retired : Epochs → List (At Finalization) → List Outstanding → List Cutoff
+all_retired epochs certs out = flat_map (λ a. retired epochs certs a.height) out
 
 -- the round that is met, where its block is not above the processed height
 abbrev pub met_rounds : Node → Option Met → List Round
@@ -192,11 +200,11 @@ met_cutoffs n _ _ = []
 abbrev pub floor_cutoffs : Config → Node → Effect → List Cutoff
 floor_cutoffs config n no_floor = []
 floor_cutoffs config n (awaits_floor a) = []
-floor_cutoffs config n (applies_floor r b) = at_round r ∷ (if is_above n b then closed_at config b.height else [])
+floor_cutoffs config n (applies_floor r b) = at_round r ∷ (if is_above n b then closed_at config.epochs b.height else [])
 
 -- the cutoff after the event
 abbrev pub cutoff_after : Config → Node → Event → Effect → Cutoff
-cutoff_after config n e fx = greatest_of n.cutoff (flat_map (retired_cutoffs config n) (drained_blocks n e) ++ met_cutoffs n (met_finalization n e) fx ++ floor_cutoffs config n fx)
+cutoff_after config n e fx = greatest_of n.cutoff (all_retired config.epochs n.certs.held (drained_blocks n e) ++ met_cutoffs n (met_finalization n e) fx ++ floor_cutoffs config n fx)
 
 -- the floor that is awaited after the event, under the new cutoff
 abbrev pub still_awaited : Option Awaited → Cutoff → Option Awaited

@@ -12,14 +12,16 @@ use Rattle.mar_store.specs.Changes.{Within}
 use Rattle.mar_store.specs.Kept.{At, EachHeightOnce, Kept, Reopens, has_height, newest_upto, reopened_store, value_at}
 use Rattle.mar_node.specs.Messages.{set_floor}
 use Rattle.mar_node.specs.Config.{Config}
-use Rattle.mar_node.specs.Node.{AreBlocksOf, AreCachedOf, AreFinalizationsOf, BlocksAgree, Ended, FloorSafe, Node, left_by}
+use Rattle.mar_node.specs.Node.{AreBlocksOf, AreCachedOf, AreFinalizationsOf, BlocksAgree, Ended, FloorSafe, Node, empty_inbox, empty_peers, left_by}
 use Rattle.mar_node.specs.Acks.{Outstanding}
 use Rattle.mar_node.specs.Cached.{CacheReopens, Cached, epoch_of}
 use Rattle.mar_node.specs.Metadata.{Pair, first_pair, pair_of}
 use Rattle.mar_node.specs.Event.{Effect, Event, blocks_from, certs_from, cutoff_after, effect_of, kept_blocks, life_started, marked_blocks, message_told, processed_after}
 use Rattle.mar_node.specs.Cache.{is_pruned, witnessing_of}
 use Rattle.mar_node.specs.Faults.{Begin, Fault, dropped_ack, event_fault, floor_epoch_unavailable, floor_invalid, floor_of, from_genesis, is_by_value, meta_store, next_after, opening_fault, store_fault, with_genesis}
-use Rattle.mar_node.specs.Step.{AdvancesAll, AreHandedOf, AreTipsOf, HandedFrom, IsBlockFrom, IsCertFrom, Made, Report, Steps, TipsFrom, handed_blocks}
+use Rattle.mar_node.specs.Answers.{answers_of, sends_of}
+use Rattle.mar_node.specs.Requests.{own_asks}
+use Rattle.mar_node.specs.Step.{AdvancesAll, AreHandedOf, AreTipsOf, HandedFrom, IsBlockFrom, IsCertFrom, IsFront, Made, Steps, TipsFrom, handed_blocks, joined_made, nothing_made}
 
 -- the processed height is backed by a sure block, and the cutoff is safe
 abbrev pub BackedBy : List (At Block) → Option ℕ → Type 0
@@ -101,8 +103,8 @@ opened_node config blocks certs cache lowest lowests pair =
       lowests = lowests;
       cache_syncs = [];
       asked = [];
-      peers = record { ready = []; capacity = config.capacity; overflow = []; closed = [] };
-      inbox = record { ready = []; capacity = config.capacity; floor = None; prune = None; overflow = []; closed = []; seats = 0; shut = false };
+      peers = empty_peers config.capacity;
+      inbox = empty_inbox config.capacity;
       subscriptions = [];
       certified = [];
       witnessed = opened_witnessed blocks.held certs pair;
@@ -218,38 +220,42 @@ pub record LeavesMay (n : Node) (e : Event) (blocks_bound certs_bound : ℕ) (le
 
 -- What an event that was cut leaves. `earlier` are the pairs of the last finished step, or in an
 -- opening those of the ended node before it; `least` is the height of that step.
-pub record CutsBy (config : Config) (chain : Chain) (earlier : List Pair) (least : Option ℕ) (n : Node) (e : Event) (fx : Effect) (reports : List Report) (fault : Fault) (left : Ended) : Type 0 where
+pub record CutsBy (config : Config) (chain : Chain) (earlier : List Pair) (least : Option ℕ) (n : Node) (e : Event) (fx : Effect) (made : Made) (fault : Fault) (left : Ended) : Type 0 where
   pub tip : ℕ
-  pub tips : TipsFrom n.tip reports tip
-  pub tips_chain : AreTipsOf chain reports
+  pub tips : TipsFrom n.tip made.reports tip
+  pub tips_chain : AreTipsOf chain made.reports
   pub reached : Reached
   pub reached_is : (reached ≡ reached_before n e) ⊎ (reached ≡ reached_after n e fx) × Contains (map (λ p. p.processed) left.meta) reached.processed
-  pub in_order : HandedFrom left.blocks_sure n.next_ack (next_after reached.processed + length reached.out) (handed_blocks reports)
-  pub hands_chain : AreHandedOf chain left.blocks_sure (handed_blocks reports)
+  pub in_order : HandedFrom left.blocks_sure n.next_ack (next_after reached.processed + length reached.out) (handed_blocks made.reports)
+  pub hands_chain : AreHandedOf chain left.blocks_sure (handed_blocks made.reports)
   pub leaves : LeavesSure chain (left_by n) (blocks_from n e fx) (certs_from n e fx)
       (λ x. (epoch_of x < n.lowest) ⊎ IsTrue (is_pruned config n e fx x))
       (n.lowests ++ map (λ p. p.epoch) (witnessing_of config n e fx).prunes)
       (Contains (earlier ++ pair_of n.processed n.cutoff ∷ pair_of (processed_after n e fx) (cutoff_after config n e fx) ∷ []))
       left
   pub may : LeavesMay n e (blocks_from n e fx) (certs_from n e fx) left
+  -- it asked, sent and answered no more than it would have, in that order
+  pub asks : IsFront made.asks (own_asks config n e fx)
+  pub sends : IsFront made.sends (sends_of n e)
+  pub answers : (lowest : ℕ) × IsFront made.answers (answers_of config n lowest e fx)
   pub first_pair : (first_pair left.meta ≡ first_pair n.meta) ⊎ (fault ≡ store_fault meta_store → ⊥) × (first_pair left.meta ≡ Some (pair_of (processed_after n e fx) (cutoff_after config n e fx)))
   pub no_lower : AllByRecursion (λ p. NotBelow least p.processed) left.meta
   pub cause : IsTrue (is_by_value fault) → event_fault config n e ≡ Some fault
   pub refused : IsTrue (is_refused_floor e fault) → left ≡ left_by n
   pub unsynced : IsTrue (is_dropped_ack fault) → left.meta ≡ n.meta
 
-abbrev pub CutsEvent : Config → Chain → List Pair → Option ℕ → Node → Event → List Report → Fault → Ended → Type 0
-CutsEvent config chain earlier least n e reports fault left = CutsBy config chain earlier least n e (effect_of config n e) reports fault left
+abbrev pub CutsEvent : Config → Chain → List Pair → Option ℕ → Node → Event → Made → Fault → Ended → Type 0
+CutsEvent config chain earlier least n e made fault left = CutsBy config chain earlier least n e (effect_of config n e) made fault left
 
 -- A step that was cut: in one of its events, those before it finished.
-pub record Cuts (config : Config) (chain : Chain) (n : Node) (events : List Event) (reports : List Report) (fault : Fault) (left : Ended) : Type 0 where
+pub record Cuts (config : Config) (chain : Chain) (n : Node) (events : List Event) (made : Made) (fault : Fault) (left : Ended) : Type 0 where
   pub finished : List Event
   pub event : Event
   pub others : List Event
   pub split : events ≡ finished ++ event ∷ others
   pub first : Made
-  pub later : List Report
-  pub reports_split : reports ≡ first.reports ++ later
+  pub later : Made
+  pub made_is : made ≡ joined_made first later
   pub mid : Node
   pub advances : AdvancesAll config chain n finished first mid
   pub cut : CutsEvent config chain n.meta (option_map height_in n.processed) mid event later fault left
@@ -259,8 +265,8 @@ abbrev pub OpeningPair : Config → Ended → Picks → Begin → Pair → Type 
 OpeningPair config e picks begin p = (n : Node) × Finds config e picks begin n × (p ≡ pair_of n.processed n.cutoff)
 
 -- An opening cut before its Start step: nothing is reported, nothing sure is lost.
-pub record CutsReopening (config : Config) (chain : Chain) (e : Ended) (picks : Picks) (begin : Begin) (reports : List Report) (fault : Fault) (left : Ended) : Type 0 where
-  pub reports_none : reports ≡ []
+pub record CutsReopening (config : Config) (chain : Chain) (e : Ended) (picks : Picks) (begin : Begin) (made : Made) (fault : Fault) (left : Ended) : Type 0 where
+  pub silent : made ≡ nothing_made
   pub leaves : LeavesSure chain e 0 0 (λ x. ⊥) e.lowests (λ p. Contains e.meta p ⊎ OpeningPair config e picks begin p) left
   -- what it read of the metadata stands first: its own pair is durable only where it goes on
   pub first_pair : (p : Pair) → first_pair left.meta ≡ Some p → Contains e.meta p
@@ -270,11 +276,11 @@ pub record CutsReopening (config : Config) (chain : Chain) (e : Ended) (picks : 
   pub cause : IsTrue (is_by_value fault) → (pair : Pair) × (blocks : List (At Block)) × (certs : List (At Finalization)) × Contains e.meta pair × Reopens e.blocks_sure e.blocks_may blocks × Reopens e.certs_sure e.certs_may certs × (opening_fault blocks certs pair begin ≡ Some fault)
 
 -- An opening cut in its Start step.
-pub record CutsStart (config : Config) (chain : Chain) (e : Ended) (picks : Picks) (begin : Begin) (reports : List Report) (fault : Fault) (left : Ended) : Type 0 where
+pub record CutsStart (config : Config) (chain : Chain) (e : Ended) (picks : Picks) (begin : Begin) (made : Made) (fault : Fault) (left : Ended) : Type 0 where
   pub first : Node
   pub finds : Finds config e picks begin first
-  pub cut : CutsEvent config chain e.meta None first (life_started (floor_of begin)) reports fault left
+  pub cut : CutsEvent config chain e.meta None first (life_started (floor_of begin)) made fault left
 
 -- an opening that was cut, before its start or in it
-abbrev pub CutsOpening : Config → Chain → Ended → Picks → Begin → List Report → Fault → Ended → Type 0
-CutsOpening config chain e picks begin reports fault left = CutsReopening config chain e picks begin reports fault left ⊎ CutsStart config chain e picks begin reports fault left
+abbrev pub CutsOpening : Config → Chain → Ended → Picks → Begin → Made → Fault → Ended → Type 0
+CutsOpening config chain e picks begin made fault left = CutsReopening config chain e picks begin made fault left ⊎ CutsStart config chain e picks begin made fault left

@@ -2,22 +2,20 @@
 use Rattle.std.specs.Prelude.{Bool, List, MatchResult, None, Option, Result, Some, [], bytes_eq, false, find, flat_map, fold, if◌then◌else◌, is_some, length, map, nat_lt, not, option_map, option_to_list, true, ℕ, ⊤, ◌&&◌, ◌++◌, ◌+◌, ◌-◌, ◌<◌, ◌^◌, ◌∷◌, ◌≡◌, ◌≤◌, ◌⊎◌}
 use Rattle.std.specs.Option.{option_or}
 use Rattle.mar_types.specs.Round.{Round}
-use Rattle.mar_types.specs.Epochs.{Epochs, closed_epoch}
+use Rattle.mar_types.specs.Epochs.{Epochs}
 use Rattle.mar_cert.specs.Block.{Block}
 use Rattle.mar_cert.specs.Finalization.{Finalization}
-use Rattle.mar_key.specs.Cutoff.{Cutoff, at_epoch, at_round, covers, greatest_of}
-use Rattle.mar_key.specs.Keys.{Call, above_height, block_key, fetch, finalized_by_round, retain}
+use Rattle.mar_key.specs.Cutoff.{Cutoff, greatest_of}
+use Rattle.mar_key.specs.Hears.{Hears}
 use Rattle.mar_key.specs.Processed.{first_unprocessed}
 use Rattle.mar_store.specs.Kept.{At, Kept, has_height, value_at}
 use Rattle.mar_store.specs.Changes.{Within}
-use Rattle.mar_store.specs.Named.{last_index}
-use Rattle.mar_node.specs.Stored.{at_own_height, block_of, is_certified, is_held}
+use Rattle.mar_node.specs.Stored.{at_own_height, block_of, is_certified, is_held, newest}
 use Rattle.mar_node.specs.Acks.{Outstanding, after_given, after_oldest, dropped_oldest, given_front, given_oldest, height_after}
-use Rattle.mar_node.specs.Event.{acked_to}
+use Rattle.mar_node.specs.Event.{acked_to, all_retired, round_at}
 use Rattle.mar_node.specs.Faults.{ack_kind, dropped_ack, last_height, ticket_limit}
 use Rattle.mar_node.specs.Lives.{later_round}
-use Rattle.mar_node.specs.Requests.{raise_asks}
-use Rattle.mar_node.specs.Step.{HandedBlock, Report, handed_over, new_tip, outstanding_of}
+use Rattle.mar_node.specs.Step.{HandedBlock, HeldFrom, IsFront, Report, handed_over, new_tip, outstanding_of}
 use Rattle.mar_node.specs.Held.{ArePassed, Ending, Grew, Held, IsArchiveFault, IsEndedBy, Loses, Seen, Watches, nothing_written}
 
 -- HANDING OVER
@@ -28,11 +26,6 @@ next_in a = height_after (first_unprocessed a.held.processed) a.life.out
 
 abbrev pub handed_report : HandedBlock → Report
 handed_report x = handed_over x.ticket x.block
-
--- from this ticket and height on, each the held block at its height
-abbrev pub HeldFrom : List (At Block) → ℕ → ℕ → List HandedBlock → Type 0
-HeldFrom held ticket height [] = ⊤
-HeldFrom held ticket height (x ∷ xs) = (x.ticket ≡ ticket) × (x.block.height ≡ height) × (value_at held height ≡ Some x.block) × HeldFrom held (ticket + 1) (height + 1) xs
 
 -- an actor whose stores count their calls so
 abbrev pub with_watches : {P E : Type 0} → Seen P E → Watches → Seen P E
@@ -84,6 +77,16 @@ pub record Dispatches {P E : Type 0} (old : Seen P E) (handed : List HandedBlock
   pub grew : Grew old.held nothing_written new.held
   pub still : IsStill new
 
+-- ASKING
+
+-- a front of these was heard
+abbrev pub HearsFront : {T : Type 0} → Option (List T) → List T → Option (List T) → Type 0
+HearsFront old whole new = (front : List _) × IsFront front whole × Hears old front new
+
+-- all of them, or a front where the life ended
+abbrev pub HearsUpTo : {T A : Type 0} → Option (List T) → List T → Option (List T) → Result A Ending → Type 0
+HearsUpTo old whole new result = MatchResult result (λ _. Hears old whole new) (λ _. HearsFront old whole new)
+
 -- LIVING ON
 
 -- What a step keeps: no store failed, the settings are what they were, and no more tickets are given than the window has.
@@ -116,15 +119,6 @@ tips_above tip round height digest = if nat_lt tip height then new_tip round hei
 abbrev pub risen_to : ℕ → ℕ → ℕ
 risen_to tip height = if nat_lt tip height then height else tip
 
--- the entry at that height
-abbrev pub entry_at : {T : Type 0} → List (At T) → Option ℕ → Option (At T)
-entry_at xs None = None
-entry_at xs (Some h) = option_map (λ v. record { height = h; value = v }) (value_at xs h)
-
--- the entry of the greatest height
-abbrev pub newest : {T : Type 0} → List (At T) → Option (At T)
-newest xs = entry_at xs (last_index xs)
-
 -- the newest stored finalization is the tip; `inner` says which digest its payload names
 abbrev pub newest_tips : (List ℕ → List ℕ) → ℕ → Option (At Finalization) → List Report
 newest_tips inner tip None = []
@@ -147,10 +141,6 @@ of_commitment commitment (Some b) = if bytes_eq b.commitment commitment then Som
 
 abbrev pub found_at_hand : (List ℕ → List ℕ) → List Block → List (At Block) → List ℕ → Option Block
 found_at_hand inner buffer held commitment = option_or (find (λ b. bytes_eq b.commitment commitment) buffer) (of_commitment commitment (block_of held (inner commitment)))
-
--- what a finalization without its block asks for
-abbrev pub wants : Cutoff → Finalization → List Call
-wants cutoff f = if covers cutoff f.round then [] else fetch (block_key f.payload) (finalized_by_round f.round) None ∷ []
 
 -- A put that was synced, with all that was held before; a crash leaves just what is held.
 pub record StoresValue {T : Type 0} (ignored : Bool) (old : Kept (At T)) (x : At T) (new : Kept (At T)) : Type 0 where
@@ -203,19 +193,6 @@ pub record StoresLate {P E : Type 0} (inner : List ℕ → List ℕ) (old : Seen
 
 -- PROGRESS
 
--- the round of the held certificate at a height
-abbrev pub round_at : List (At Finalization) → ℕ → Option Round
-round_at certs height = option_map (λ f. f.round) (value_at certs height)
-
--- the cutoffs of a processed height: the round of its held certificate, and the epoch that is closed there
-abbrev pub retired : Epochs → List (At Finalization) → ℕ → List Cutoff
-retired epochs certs height = option_to_list (option_map at_round (round_at certs height)) ++ option_to_list (option_map at_epoch (closed_epoch epochs height))
-
--- what is asked as these are processed
-abbrev pub progress_asks : Epochs → List (At Finalization) → Cutoff → List Outstanding → List Call
-progress_asks epochs certs cutoff [] = []
-progress_asks epochs certs cutoff (a ∷ out) = retain (above_height a.height) ∷ raise_asks cutoff (retired epochs certs a.height) ++ progress_asks epochs certs (greatest_of cutoff (retired epochs certs a.height)) out
-
 -- The cutoff rises to the greatest of these, and this round is the last one witnessed.
 pub record RaisesTo {P E : Type 0} (old : Seen P E) (cutoffs : List Cutoff) (witnessed : Round) (new : Seen P E) : Type 0 where
   pub same : new ≡ record old {
@@ -227,7 +204,7 @@ abbrev pub with_processed : {P E : Type 0} → Epochs → Seen P E → List Outs
 with_processed epochs a done out watches = record a {
   held = record a.held {
     processed = acked_to a.held.processed done;
-    cutoff = greatest_of a.held.cutoff (flat_map (λ o. retired epochs a.held.certs.held o.height) done);
+    cutoff = greatest_of a.held.cutoff (all_retired epochs a.held.certs.held done);
     witnessed = fold (λ r o. later_round r (round_at a.held.certs.held o.height)) a.held.witnessed done;
     watches = watches;
   };

@@ -1,6 +1,6 @@
 -- A node as plain data, what it rests for, and when it is good for a chain.
 use Rattle.std.specs.List.{AllByRecursion, filter_map, list_any}
-use Rattle.std.specs.Prelude.{Bool, Contains, IsFalse, IsSome, IsTrue, List, None, Option, Some, [], bytes_eq, find, length, map, option_map, ℕ, ⊤, ◌++◌, ◌+◌, ◌<◌, ◌∷◌, ◌≡◌, ◌≤◌, ◌⊎◌}
+use Rattle.std.specs.Prelude.{Bool, Contains, IsFalse, IsSome, IsTrue, List, None, Option, Some, [], bytes_eq, false, find, length, map, option_map, ℕ, ⊤, ◌++◌, ◌+◌, ◌<◌, ◌∷◌, ◌≡◌, ◌≤◌, ◌⊎◌}
 use Rattle.mar_types.specs.Round.{Round}
 use Rattle.mar_cert.specs.Block.{Block}
 use Rattle.mar_cert.specs.Finalization.{Finalization}
@@ -16,6 +16,7 @@ use Rattle.mar_node.specs.Config.{Config}
 use Rattle.mar_node.specs.Acks.{Outstanding}
 use Rattle.mar_node.specs.Cached.{Cached, cached_block, cached_finalization}
 use Rattle.mar_node.specs.Metadata.{Pair, pair_of}
+use Rattle.mar_node.specs.Stored.{values_of}
 
 -- a floor whose block is not at hand
 pub record Awaited : Type 0 where
@@ -80,6 +81,13 @@ pub record Node : Type 0 where
   pub next_sync : ℕ
   pub next_ack : ℕ
 
+-- queues of this capacity with nothing in them
+abbrev pub empty_peers : ℕ → PeerQueue
+empty_peers capacity = record { ready = []; capacity = capacity; overflow = []; closed = [] }
+
+abbrev pub empty_inbox : ℕ → Inbox
+empty_inbox capacity = record { ready = []; capacity = capacity; floor = None; prune = None; overflow = []; closed = []; seats = 0; shut = false }
+
 -- What is left where no life runs. The first of `meta` is what the last metadata sync that succeeded
 -- left, or the last reopening read; the others are those of syncs that failed since.
 pub record Ended : Type 0 where
@@ -105,13 +113,13 @@ left_by n = record {
   meta = n.meta;
 }
 
--- without their heights
-abbrev pub values_of : {T : Type 0} → List (At T) → List T
-values_of xs = map (λ x. x.value) xs
+-- all blocks in the buffer, in the cache and among the held ones
+abbrev pub all_at_hand : Node → List Block
+all_at_hand n = n.buffer ++ filter_map cached_block n.cache.held ++ values_of n.blocks.held
 
--- the block of this commitment in the buffer, in the cache or among the held blocks
+-- the first of them of this commitment
 abbrev pub at_hand : Node → List ℕ → Option Block
-at_hand n commitment = find (λ b. bytes_eq b.commitment commitment) (n.buffer ++ filter_map cached_block n.cache.held ++ values_of n.blocks.held)
+at_hand n commitment = find (λ b. bytes_eq b.commitment commitment) (all_at_hand n)
 
 -- how many writes there were in this life
 abbrev pub write_count : Node → ℕ
@@ -197,34 +205,59 @@ pub record AreNestedHeights {T : Type 0} (kept : Kept (At T)) : Type 0 where
   pub sure_held : (h : ℕ) → IsTrue (has_height kept.sure h) → IsTrue (has_height kept.held h)
   pub held_may : (h : ℕ) → IsTrue (has_height kept.held h) → IsTrue (has_height kept.may h)
 
+-- The two archives in heights: what is sure is held, what is held may be left, and what isn't sure was written and waits for
+-- its sync.
+pub record AreGoodStores (blocks : Kept (At Block)) (certs : Kept (At Finalization)) (uncovered : List ℕ) : Type 0 where
+  pub nested_blocks : AreNestedHeights blocks
+  pub nested_certs : AreNestedHeights certs
+  pub sure_blocks : SureOrWritten blocks uncovered
+  pub sure_certs : SureOrWritten certs uncovered
+
+-- What was handed over: the heights next above the processed one, within the window, each sure, as is what backs that one.
+pub record IsGoodDelivery (window : ℕ) (sure : List (At Block)) (processed : Option Processed) (out : List Outstanding) : Type 0 where
+  pub consecutive : ConsecutiveFrom (first_unprocessed processed) out
+  pub out_sure : AllByRecursion (λ a. IsTrue (has_height sure a.height)) out
+  pub within_window : length out ≤ window
+  pub anchored : HasAnchor processed sure
+
 -- What is said of heights alone.
 pub record IsGoodInHeights (config : Config) (n : Node) : Type 0 where
-  pub nested_blocks : AreNestedHeights n.blocks
-  pub nested_certs : AreNestedHeights n.certs
-  pub sure_blocks : SureOrWritten n.blocks n.uncovered
-  pub sure_certs : SureOrWritten n.certs n.uncovered
-  pub consecutive : ConsecutiveFrom (first_unprocessed n.processed) n.out
-  pub out_sure : AllByRecursion (λ a. IsTrue (has_height n.blocks.sure a.height)) n.out
-  pub within_window : length n.out ≤ config.window
+  pub stores : AreGoodStores n.blocks n.certs n.uncovered
+  pub delivery : IsGoodDelivery config.window n.blocks.sure n.processed n.out
   pub floor_clears : IsSome n.awaited → n.out ≡ []
-  pub anchored : HasAnchor n.processed n.blocks.sure
   pub own_pair : n.meta ≡ pair_of n.processed n.cutoff ∷ []
   pub sync_open : 0 < length n.uncovered → Contains (map (λ s. s.position) n.syncs) (write_count n)
 
+-- What is held, and what a crash may leave, is the chain's.
+pub record AreStoresOf (chain : Chain) (blocks : Kept (At Block)) (certs : Kept (At Finalization)) : Type 0 where
+  pub held_blocks : AreBlocksOf chain blocks.held
+  pub may_blocks : AreBlocksOf chain blocks.may
+  pub held_certs : AreFinalizationsOf chain certs.held
+  pub may_certs : AreFinalizationsOf chain certs.may
+
+-- What is cached, and what a crash may leave of it, agrees with the chain.
+pub record IsCacheOf (chain : Chain) (cache : Kept Cached) : Type 0 where
+  pub finalizations : AreCachedOf chain (cache.held ++ cache.may)
+  pub blocks : BlocksAgree chain (cache.held ++ cache.may)
+
+-- each open request carries honest annotations
+abbrev pub AreHonest : Chain → List Asked → Type 0
+AreHonest chain = AllByRecursion (λ x. HonestAsk chain x.key x.annotations)
+
+-- No `Finalized` annotation stands on a commitment that is no chain block's: open with the resolver, or queued.
+pub record IsHonest (chain : Chain) (asked : List Asked) (peers : PeerQueue) : Type 0 where
+  pub requests : AreHonest chain asked
+  pub ready : AllByRecursion (HonestMessage chain) peers.ready
+  pub overflow : AllByRecursion (HonestMessage chain) peers.overflow
+
 -- What is said of the chain, and what only a lawful script is promised.
 pub record IsGoodForChain (chain : Chain) (n : Node) : Type 0 where
-  pub held_blocks : AreBlocksOf chain n.blocks.held
-  pub may_blocks : AreBlocksOf chain n.blocks.may
-  pub held_certs : AreFinalizationsOf chain n.certs.held
-  pub may_certs : AreFinalizationsOf chain n.certs.may
-  pub cached : AreCachedOf chain (n.cache.held ++ n.cache.may)
-  pub cached_blocks : BlocksAgree chain (n.cache.held ++ n.cache.may)
+  pub stores : AreStoresOf chain n.blocks n.certs
+  pub cache : IsCacheOf chain n.cache
+  pub asks : IsHonest chain n.asked n.peers
   pub awaits : AwaitsFinalized n.awaited chain
-  pub floor_safe : FloorSafe (option_map height_in n.processed) n.cutoff n.blocks.sure chain
-  pub honest_asks : AllByRecursion (λ x. HonestAsk chain x.key x.annotations) n.asked
-  pub honest_ready : AllByRecursion (HonestMessage chain) n.peers.ready
-  pub honest_overflow : AllByRecursion (HonestMessage chain) n.peers.overflow
   pub not_at_hand : NotAwaited n.awaited n
+  pub floor_safe : FloorSafe (option_map height_in n.processed) n.cutoff n.blocks.sure chain
   pub tip_reported : AllByRecursion (λ x. x.height ≤ n.tip) n.certs.held
 
 -- A node between two steps, for a chain.

@@ -1,5 +1,6 @@
 -- An actor as a node, what a step asks of it and of its event, and what a step promises.
-use Rattle.std.specs.Prelude.{Contains, List, MatchResult, None, Option, Result, Some, [], false, length, ℕ, ⊤, ◌++◌, ◌<◌, ◌∷◌, ◌≡◌}
+use Rattle.std.specs.List.{AllByRecursion}
+use Rattle.std.specs.Prelude.{Bool, Contains, List, MatchResult, None, Option, Result, Some, [], false, length, ℕ, ⊤, ◌++◌, ◌<◌, ◌∷◌, ◌≡◌}
 use Rattle.mar_types.specs.Epochs.{Epochs, IsPartition}
 use Rattle.mar_cert.specs.Block.{Block}
 use Rattle.mar_cert.specs.Finalization.{Finalization, finalization_bytes}
@@ -7,8 +8,10 @@ use Rattle.mar_store.specs.Sizes.{IsSmall}
 use Rattle.mar_key.specs.Asked.{Asked, asked_after}
 use Rattle.mar_key.specs.Hears.{Hears}
 use Rattle.mar_key.specs.Keys.{Call}
-use Rattle.mar_store.specs.Kept.{At, Reopens, reopened_store}
-use Rattle.mar_node.specs.Messages.{report_finalization}
+use Rattle.mar_key.specs.PeerQueue.{PeerQueue}
+use Rattle.mar_store.specs.Kept.{At, Kept, Reopens, reopened_store}
+use Rattle.mar_node.specs.Cached.{Cached}
+use Rattle.mar_node.specs.Messages.{Inbox, report_finalization}
 use Rattle.mar_node.specs.Metadata.{Pair}
 use Rattle.mar_node.specs.Chain.{Chain, IsBlockAt, IsLawful}
 use Rattle.mar_node.specs.Config.{Config}
@@ -16,41 +19,83 @@ use Rattle.mar_node.specs.Event.{Event, life_started, message_told}
 use Rattle.mar_node.specs.Faults.{Begin, Fault, from_floor, from_genesis, opening_fault}
 use Rattle.mar_node.specs.Held.{Ending, Remains, Seen, Sizes, picks_of}
 use Rattle.mar_node.specs.Lives.{Cuts, CutsReopening, Finds, IsGoodEnded, Picks}
-use Rattle.mar_node.specs.Node.{Ended, IsFinalized, IsGood, Node, Rest}
-use Rattle.mar_node.specs.Step.{Made, Report, Steps}
+use Rattle.mar_node.specs.Node.{Awaited, CacheSync, CertifiedCommitment, Ended, IsFinalized, IsGood, Node, OpenSync, Rest, Subscription, empty_inbox, empty_peers}
+use Rattle.mar_node.specs.Step.{Made, Report, Steps, nothing_made}
 
--- the node that an actor is, with this buffer and these open requests: it has no cache, no queues and no callers that
--- wait, it awaits no floor, and finished syncs cover all its writes
-abbrev pub node_of : {P E : Type 0} → Seen P E → List Block → List Asked → Node
-node_of a buffer asked = record {
+-- What stands around the stores and the window of a life: an awaited floor, open syncs, the cache, the queues, and callers
+-- that wait.
+pub record Around : Type 0 where
+  pub awaited : Option Awaited
+  pub uncovered : List ℕ
+  pub syncs : List OpenSync
+  pub next_sync : ℕ
+  pub cache : Kept Cached
+  pub lowest : ℕ
+  pub lowests : List ℕ
+  pub cache_syncs : List CacheSync
+  pub peers : PeerQueue
+  pub inbox : Inbox
+  pub subscriptions : List Subscription
+  pub certified : List CertifiedCommitment
+  pub buffer_closed : Bool
+  pub unanswered : List ℕ
+  pub next_answer : ℕ
+
+-- Nothing stands there yet: finished syncs cover all writes, and the queues have this capacity.
+abbrev pub nothing_around : ℕ → Around
+nothing_around capacity = record {
+  awaited = None;
+  uncovered = [];
+  syncs = [];
+  next_sync = 0;
+  cache = reopened_store [];
+  lowest = 0;
+  lowests = [];
+  cache_syncs = [];
+  peers = empty_peers capacity;
+  inbox = empty_inbox capacity;
+  subscriptions = [];
+  certified = [];
+  buffer_closed = false;
+  unanswered = [];
+  next_answer = 0;
+}
+
+-- the node that an actor is, with what stands around it, this buffer and these open requests
+abbrev pub node_around : {P E : Type 0} → Around → Seen P E → List Block → List Asked → Node
+node_around around a buffer asked = record {
   blocks = a.held.blocks;
   certs = a.held.certs;
   processed = a.held.processed;
   cutoff = a.held.cutoff;
   meta = a.held.pairs;
   out = a.life.out;
-  awaited = None;
+  awaited = around.awaited;
   covered = a.life.covered;
-  uncovered = [];
-  syncs = [];
+  uncovered = around.uncovered;
+  syncs = around.syncs;
   tip = a.life.tip;
   buffer = buffer;
-  cache = reopened_store [];
-  lowest = 0;
-  lowests = [];
-  cache_syncs = [];
+  cache = around.cache;
+  lowest = around.lowest;
+  lowests = around.lowests;
+  cache_syncs = around.cache_syncs;
   asked = asked;
-  peers = record { ready = []; capacity = a.life.sizes.capacity; overflow = []; closed = [] };
-  inbox = record { ready = []; capacity = a.life.sizes.capacity; floor = None; prune = None; overflow = []; closed = []; seats = 0; shut = false };
-  subscriptions = [];
-  certified = [];
+  peers = around.peers;
+  inbox = around.inbox;
+  subscriptions = around.subscriptions;
+  certified = around.certified;
   witnessed = a.held.witnessed;
-  buffer_closed = false;
-  unanswered = [];
-  next_answer = 0;
-  next_sync = 0;
+  buffer_closed = around.buffer_closed;
+  unanswered = around.unanswered;
+  next_answer = around.next_answer;
+  next_sync = around.next_sync;
   next_ack = a.life.next_ack;
 }
+
+-- as an actor is today
+abbrev pub node_of : {P E : Type 0} → Seen P E → List Block → List Asked → Node
+node_of a buffer asked = node_around (nothing_around a.life.sizes.capacity) a buffer asked
 
 -- the settings are the actor's
 pub record IsSetTo (config : Config) (sizes : Sizes) (epochs : Epochs) (inner : List ℕ → List ℕ) : Type 0 where
@@ -71,50 +116,66 @@ abbrev pub ReportsFinalized : Chain → Event → Type 0
 ReportsFinalized chain (message_told t (report_finalization f)) = IsFinalized chain f.round f.payload
 ReportsFinalized chain _ = ⊤
 
--- it rests, unless its life begins with this event
-abbrev pub RestsBefore : ℕ → Node → Event → Type 0
-RestsBefore window n (life_started f) = ⊤
+-- it rests, unless its life begins with these events
+abbrev pub RestsBefore : ℕ → Node → List Event → Type 0
+RestsBefore window n (life_started f ∷ events) = ⊤
 RestsBefore window n _ = Rest window n
 
 -- good once this tip is told
 abbrev pub IsGoodUntold : Config → Chain → Node → Type 0
 IsGoodUntold config chain n = (tip : ℕ) × IsGood config chain (record n { tip = tip })
 
--- good, but for its tip where its life begins with this event, which tells it
-abbrev pub IsGoodFor : Config → Chain → Node → Event → Type 0
-IsGoodFor config chain n (life_started f) = IsGoodUntold config chain n
+-- good, but for its tip where its life begins with these events, which tell it
+abbrev pub IsGoodFor : Config → Chain → Node → List Event → Type 0
+IsGoodFor config chain n (life_started f ∷ events) = IsGoodUntold config chain n
 IsGoodFor config chain n _ = IsGood config chain n
 
--- What a step asks: a lawful chain, that digests name one block each, a finalization of the chain, a good node that rests.
-pub record IsLawfulStep (config : Config) (chain : Chain) (n : Node) (e : Event) : Type 0 where
+-- What a step asks: a lawful chain, that digests name one block each, finalizations of the chain, a good node that rests.
+pub record IsLawfulStep (config : Config) (chain : Chain) (n : Node) (events : List Event) : Type 0 where
   pub lawful : IsLawful config.epochs chain
   pub one : AreOne config.inner (chain.blocks ++ n.buffer)
-  pub reported : ReportsFinalized chain e
-  pub good : IsGoodFor config chain n e
-  pub rests : RestsBefore config.window n e
+  pub reported : AllByRecursion (ReportsFinalized chain) events
+  pub good : IsGoodFor config chain n events
+  pub rests : RestsBefore config.window n events
 
--- what an event made that answers nobody and sends nothing
+-- what was made, where nobody was answered and nothing sent
 abbrev pub made_of : List Report → List Call → Made
 made_of reports asks = record { reports = reports; asks = asks; sends = []; answers = [] }
 
--- A step that finished: what the resolver heard is what was asked, and what is open with it follows from that.
-pub record FinishesStep {P E : Type 0} (config : Config) (chain : Chain) (n : Node) (e : Event) (buffer : List Block) (asked : List Asked) (reports : List Report) (told told' : Option (List Call)) (new : Seen P E) : Type 0 where
-  pub asks : List Call
-  pub heard : Hears told asks told'
-  pub steps : Steps config chain n (e ∷ []) (made_of reports asks) (node_of new buffer (asked_after asked [] asks))
+-- what those around a life have heard so far, where they tell that: the application, and the resolver
+pub record Heard : Type 0 where
+  pub reports : Option (List Report)
+  pub asks : Option (List Call)
 
--- Each step is a step of the node, or a cut.
-abbrev pub StepsOrCuts : {P E : Type 0} → Config → Chain → Seen P E → Event → List Block → List Asked → List Report → Option (List Call) → Option (List Call) → Result (Seen P E) Ending → Type 0
-StepsOrCuts config chain old e buffer asked reports told told' result = MatchResult result
-    (FinishesStep config chain (node_of old buffer asked) e buffer asked reports told told')
-    (λ left. Cuts config chain (node_of old buffer asked) (e ∷ []) reports left.fault left.remains.ended)
+abbrev pub heard_by : Option (List Report) → Option (List Call) → Heard
+heard_by reports asks = record { reports = reports; asks = asks }
 
--- What a step promises of every chain for which it is lawful: what the application was told and the resolver asked are
--- what a step of the node, or a cut, makes.
-abbrev pub KeepsPromise : {P E : Type 0} → Epochs → (List ℕ → List ℕ) → Seen P E → Event → List Block → Option (List Report) → Option (List Report) → Option (List Call) → Option (List Call) → Result (Seen P E) Ending → Type 0
-KeepsPromise epochs inner old e buffer told told' heard heard' result =
-    (config : Config) (chain : Chain) (asked : List Asked) → IsSetTo config old.life.sizes epochs inner → IsLawfulStep config chain (node_of old buffer asked) e
-    → (reports : List Report) × Hears told reports told' × StepsOrCuts config chain old e buffer asked reports heard heard' result
+-- What they heard between the two is what was made; so far nobody is answered, and nothing sent.
+pub record HearsMade (before : Heard) (made : Made) (after : Heard) : Type 0 where
+  pub reports : Hears before.reports made.reports after.reports
+  pub asks : Hears before.asks made.asks after.asks
+  pub no_more : made ≡ made_of made.reports made.asks
+
+-- A step that finished: what was heard is what it made, and what is open with the resolver follows from that.
+pub record FinishesStep {P E : Type 0} (config : Config) (chain : Chain) (n : Node) (events : List Event) (before after : Heard) (new : Seen P E) : Type 0 where
+  pub made : Made
+  pub heard : HearsMade before made after
+  pub steps : Steps config chain n events made (node_of new n.buffer (asked_after n.asked [] made.asks))
+
+-- A step that was cut: what was heard is what it made until then.
+pub record CutsStep (config : Config) (chain : Chain) (n : Node) (events : List Event) (before after : Heard) (e : Ending) : Type 0 where
+  pub made : Made
+  pub heard : HearsMade before made after
+  pub cuts : Cuts config chain n events made e.fault e.remains.ended
+
+abbrev pub StepsOrCuts : {P E : Type 0} → Config → Chain → Node → List Event → Heard → Heard → Result (Seen P E) Ending → Type 0
+StepsOrCuts config chain n events before after result = MatchResult result (FinishesStep config chain n events before after) (CutsStep config chain n events before after)
+
+-- What a step promises of every chain for which it is lawful: it is a step of the node, or a cut.
+abbrev pub KeepsPromise : {P E : Type 0} → Epochs → (List ℕ → List ℕ) → Seen P E → List Event → List Block → Heard → Heard → Result (Seen P E) Ending → Type 0
+KeepsPromise epochs inner old events buffer before after result =
+    (config : Config) (chain : Chain) (asked : List Asked) → IsSetTo config old.life.sizes epochs inner → IsLawfulStep config chain (node_of old buffer asked) events
+    → StepsOrCuts config chain (node_of old buffer asked) events before after result
 
 -- what an event would store is small
 abbrev pub IsSmallEvent : Event → Type 0
@@ -147,7 +208,7 @@ pub record Begins (config : Config) (chain : Chain) (e : Ended) (picks : Picks) 
 abbrev pub KeepsOpening : {P E F : Type 0} → Epochs → (List ℕ → List ℕ) → Sizes → Remains → ℕ → Begin → Result (Seen P E × F) Ending → Type 0
 KeepsOpening epochs inner sizes old luck begin result =
     (config : Config) (chain : Chain) → IsSetTo config sizes epochs inner → IsLawfulOpening config chain old.ended begin
-    → MatchResult result (λ r. Begins config chain old.ended (picks_of old luck) begin (node_of r.0 [] [])) (λ e. CutsReopening config chain old.ended (picks_of old luck) begin [] e.fault e.remains.ended)
+    → MatchResult result (λ r. Begins config chain old.ended (picks_of old luck) begin (node_of r.0 [] [])) (λ e. CutsReopening config chain old.ended (picks_of old luck) begin nothing_made e.fault e.remains.ended)
 
 -- a node that begins is what some reopening of these stores finds, in which no fault is due, whatever the chain
 abbrev pub IsFound : {P E : Type 0} → Epochs → (List ℕ → List ℕ) → Sizes → Remains → ℕ → Begin → Seen P E → Type 0

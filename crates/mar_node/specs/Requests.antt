@@ -1,18 +1,19 @@
 -- What a node asks of its resolver.
 use Rattle.std.specs.List.{AllByRecursion}
 use Rattle.std.specs.Prelude.{AllPairs, Bool, Contains, IsFalse, IsSome, IsTrue, List, None, Option, Some, [], count_by, false, if◌then◌else◌, length, nat_lt, true, ℕ, ◌++◌, ◌+◌, ◌-◌, ◌<◌, ◌||◌, ◌∷◌, ◌≡◌, ◌≢◌, ◌≤◌, ◌⊎◌}
+use Rattle.mar_types.specs.Epochs.{Epochs}
 use Rattle.mar_types.specs.Round.{Round}
 use Rattle.mar_cert.specs.Block.{Block}
 use Rattle.mar_cert.specs.Finalization.{Finalization}
 use Rattle.mar_key.specs.Cutoff.{Cutoff, covers, cutoff_le, greatest_of}
 use Rattle.mar_key.specs.Processed.{Processed, height_in, height_of}
-use Rattle.mar_store.specs.Kept.{has_height, value_at}
+use Rattle.mar_store.specs.Kept.{At, has_height, value_at}
 use Rattle.mar_key.specs.Keys.{Annotation, Call, Key, above_height, above_round, block_key, certified_at, fetch, finalized_by_height, finalized_by_round, finalized_key, for_notarization, notarized_key, retain, untrusted_at}
 use Rattle.mar_node.specs.Messages.{Fallback, fetch_by_commitment, fetch_by_round, hint_finalized, hint_notarized, report_finalization, subscribe_commitment, subscribe_digest, wait}
 use Rattle.mar_node.specs.Config.{Config}
 use Rattle.mar_node.specs.Acks.{Outstanding}
 use Rattle.mar_node.specs.Node.{Awaited, Node, at_hand}
-use Rattle.mar_node.specs.Event.{Effect, Event, applies_floor, awaits_floor, drained_blocks, floor_cutoffs, is_above, life_started, message_told, met_cutoffs, met_finalization, no_floor, own_writes, retired_cutoffs, serve_ended, storing_of}
+use Rattle.mar_node.specs.Event.{Effect, Event, applies_floor, awaits_floor, drained_blocks, floor_cutoffs, is_above, life_started, message_told, met_cutoffs, met_finalization, no_floor, own_writes, retired, serve_ended, storing_of}
 use Rattle.mar_node.specs.Answers.{at_hand_digest, is_known}
 
 -- a retain for each cutoff that rises above those before it
@@ -21,16 +22,17 @@ raise_asks cutoff [] = []
 raise_asks cutoff (c ∷ others) = if cutoff_le c cutoff then raise_asks cutoff others else retain (above_round c) ∷ raise_asks c others
 
 -- each acknowledged height retires the requests at or below it, then its cutoffs
-abbrev pub retire_asks : Config → Node → Cutoff → List Outstanding → List Call
-retire_asks config n cutoff [] = []
-retire_asks config n cutoff (a ∷ out) = retain (above_height a.height) ∷ raise_asks cutoff (retired_cutoffs config n a) ++ retire_asks config n (greatest_of cutoff (retired_cutoffs config n a)) out
+abbrev pub retire_asks : Epochs → List (At Finalization) → Cutoff → List Outstanding → List Call
+retire_asks epochs certs cutoff [] = []
+retire_asks epochs certs cutoff (a ∷ out) =
+    retain (above_height a.height) ∷ raise_asks cutoff (retired epochs certs a.height) ++ retire_asks epochs certs (greatest_of cutoff (retired epochs certs a.height)) out
 
 -- a finalized block that is not at hand is asked for by commitment and round, unless the cutoff covers that
-abbrev pub want_asks : Node → Round → List ℕ → List Call
-want_asks n r commitment = if covers n.cutoff r then [] else fetch (block_key commitment) (finalized_by_round r) None ∷ []
+abbrev pub want_asks : Cutoff → Round → List ℕ → List Call
+want_asks cutoff r commitment = if covers cutoff r then [] else fetch (block_key commitment) (finalized_by_round r) None ∷ []
 
 abbrev pub reported_asks : Node → Finalization → Option Block → List Call
-reported_asks n f None = want_asks n f.round f.payload
+reported_asks n f None = want_asks n.cutoff f.round f.payload
 reported_asks n f (Some b) = []
 
 -- where floors permit: a height above the processed one, a round that the cutoff does not cover
@@ -70,8 +72,8 @@ told_asks n _ = []
 
 -- what an event asks, but for repair
 abbrev pub own_asks : Config → Node → Event → Effect → List Call
-own_asks config n e no_floor = retire_asks config n n.cutoff (drained_blocks n e) ++ told_asks n e ++ raise_asks n.cutoff (met_cutoffs n (met_finalization n e) no_floor)
-own_asks config n e (awaits_floor a) = want_asks n a.round a.commitment
+own_asks config n e no_floor = retire_asks config.epochs n.certs.held n.cutoff (drained_blocks n e) ++ told_asks n e ++ raise_asks n.cutoff (met_cutoffs n (met_finalization n e) no_floor)
+own_asks config n e (awaits_floor a) = want_asks n.cutoff a.round a.commitment
 own_asks config n e (applies_floor r b) = (if is_above n b then retain (above_height (b.height - 1)) ∷ [] else []) ++ raise_asks n.cutoff (floor_cutoffs config n (applies_floor r b))
 
 -- REPAIR

@@ -37,6 +37,10 @@ nothing_made = record { reports = []; asks = []; sends = []; answers = [] }
 abbrev pub joined_made : Made → Made → Made
 joined_made a b = record { reports = a.reports ++ b.reports; asks = a.asks ++ b.asks; sends = a.sends ++ b.sends; answers = a.answers ++ b.answers }
 
+-- the second list begins with the first
+abbrev pub IsFront : {T : Type 0} → List T → List T → Type 0
+IsFront front whole = (rest : _) × (whole ≡ front ++ rest)
+
 -- a block that was handed over
 pub record HandedBlock : Type 0 where
   pub ticket : ℕ
@@ -51,11 +55,18 @@ handed_blocks (handed_over t b ∷ reports) = record { ticket = t; block = b } �
 abbrev pub outstanding_of : HandedBlock → Outstanding
 outstanding_of x = record { ticket = x.ticket; height = x.block.height; mark = mark_waiting }
 
--- from this ticket and height on, each height sure
+-- from this ticket and height on, where this is said of each height and block
+abbrev pub HandedWhere : (ℕ → Block → Type 0) → ℕ → ℕ → List HandedBlock → Type 0
+HandedWhere Is ticket height [] = ⊤
+HandedWhere Is ticket height (x ∷ xs) = (x.ticket ≡ ticket) × (x.block.height ≡ height) × Is height x.block × HandedWhere Is (ticket + 1) (height + 1) xs
+
+-- each height is sure
 abbrev pub HandedFrom : List (At Block) → ℕ → ℕ → List HandedBlock → Type 0
-HandedFrom sure ticket height [] = ⊤
-HandedFrom sure ticket height (x ∷ xs) =
-    (x.ticket ≡ ticket) × (x.block.height ≡ height) × IsTrue (has_height sure height) × HandedFrom sure (ticket + 1) (height + 1) xs
+HandedFrom sure = HandedWhere (λ h b. IsTrue (has_height sure h))
+
+-- each block is the held one at its height
+abbrev pub HeldFrom : List (At Block) → ℕ → ℕ → List HandedBlock → Type 0
+HeldFrom held = HandedWhere (λ h b. value_at held h ≡ Some b)
 
 -- each is the chain's block at its height, and that block is sure
 abbrev pub AreHandedOf : Chain → List (At Block) → List HandedBlock → Type 0

@@ -20,7 +20,7 @@ use Rattle.mar_node.specs.Event.{Event, ack_dropped, ack_given, block_buffered, 
 use Rattle.mar_cert.specs.MockScheme.{IsFinalization}
 use Rattle.mar_node.specs.Faults.{Begin, Fault, StoreName, from_floor, from_genesis, want_of_memory}
 use Rattle.mar_node.specs.Answers.{TicketAnswer, is_wanted, no_value, produced_value, to}
-use Rattle.mar_node.specs.Step.{Made, Steps, nothing_made}
+use Rattle.mar_node.specs.Step.{IsFront, Made, Steps, nothing_made}
 use Rattle.mar_node.specs.Lives.{Cuts, CutsOpening, Finds, IsGoodEnded, Opens, Picks}
 use Rattle.mar_script.specs.Accounts.{Account, AccountsFor, first_account, fresh_watches}
 use Rattle.mar_script.specs.Refused.{IsRefused, IsUnended, max_lines}
@@ -105,10 +105,6 @@ is_awaited (Some a) b = bytes_eq b.commitment a.commitment
 abbrev pub is_subscribed : Node → Block → Bool
 is_subscribed n b = is_awaited n.awaited b || list_any (λ s. s.through_buffer && is_wanted b s.wanted) n.subscriptions
 
--- the second list begins with the first
-abbrev pub IsFront : {T : Type 0} → List T → List T → Type 0
-IsFront front whole = (rest : _) × (whole ≡ front ++ rest)
-
 -- A step that finished, or was cut. `outcomes` are its judgements, `at_end` what it answers at its end; a
 -- cut step has made a front of its judgements.
 abbrev pub StepDone : Config → Chain → Node → List Event → List Judged → (Node → List TicketAnswer) → Output → State → Type 0
@@ -117,7 +113,7 @@ StepDone config chain n events outcomes at_end out (running n') =
     × (out ≡ record { made = record made { answers = made.answers ++ at_end n' }; outcomes = outcomes; remark = None; fault = None })
     × (n'.unanswered ≡ still_unanswered out.made.answers outcomes n.unanswered)
 StepDone config chain n events outcomes at_end out (stopped left) =
-    (fault : Fault) × (out.remark ≡ None) × (out.fault ≡ Some fault) × Cuts config chain n events out.made.reports fault left × IsFront out.outcomes outcomes
+    (fault : Fault) × (out.remark ≡ None) × (out.fault ≡ Some fault) × Cuts config chain n events out.made fault left × IsFront out.outcomes outcomes
 
 -- a line without an event writes nothing
 abbrev pub EventsDone : Config → Chain → Node → List Event → List Judged → (Node → List TicketAnswer) → Output → State → Type 0
@@ -134,7 +130,7 @@ OpenDone config chain e picks begin out (running n) =
     (made : Made) × Opens config chain e picks begin made n × (n.asked ≡ asked_after [] [] made.asks)
     × (out ≡ record { made = made; outcomes = []; remark = None; fault = None })
 OpenDone config chain e picks begin out (stopped left) =
-    (fault : Fault) × (out.remark ≡ None) × (out.fault ≡ Some fault) × CutsOpening config chain e picks begin out.made.reports fault left × (out.outcomes ≡ [])
+    (fault : Fault) × (out.remark ≡ None) × (out.fault ≡ Some fault) × CutsOpening config chain e picks begin out.made fault left × (out.outcomes ≡ [])
 
 -- what the messages that ask for bytes are answered, at the end
 abbrev pub produced_answers : List PeerMessage → Node → List TicketAnswer

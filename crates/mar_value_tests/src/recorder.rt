@@ -2,14 +2,37 @@
 use crate::tell::*;
 use mar_codec::{Digest, Sha256Digest};
 use mar_key::{
-    Ask, Cutoff, Fetch, Judged, Key, Outcome, Recorder, Request, Resolver, Retain, TargetedResolver,
+    Ask, Cutoff, Fetch, Judged, Key, OpenRequests, Outcome, Recorder, Request, Resolver, Retain,
+    TargetedResolver,
 };
 use mar_types::{Epoch, Height, Round, View};
 use std::alloc::{AllocError, Global};
 use std::process::Abort;
 use std::slice;
 
-type Recording = Recorder<Sha256Digest>;
+// A recorder, what is open of what it was asked, and how many of the asks that has taken in.
+struct Recording {
+    recorder: Recorder<Sha256Digest>,
+    open: OpenRequests<Sha256Digest>,
+    settled: usize,
+}
+
+fn recording(alloc: Global) -> Recording {
+    Recording {
+        recorder: Recorder::new(alloc),
+        open: OpenRequests::new(alloc),
+        settled: 0,
+    }
+}
+
+// Takes in the judgements, and then what was asked since.
+fn settle(recording: &mut Recording, judged: &[Judged<Sha256Digest>]) -> Result<(), AllocError> {
+    let asks = recording.recorder.asks();
+    let since = asks.get(recording.settled..).unwrap_or(&[]);
+    recording.open.settle(judged, since)?;
+    recording.settled = asks.len();
+    Ok(())
+}
 
 // A request: a block of the digest of a byte throughout, or what is finalized or notarized.
 #[derive(Clone, Copy)]
@@ -130,24 +153,25 @@ fn asks_are(asks: &[Ask<Sha256Digest>], wanted: &[Wanted]) -> bool {
     are_so
 }
 
-fn keys_are(recorder: &Recording, keys: &[(Asking, usize)]) -> bool {
-    let mut are_so = recorder.keys().len() == keys.len();
-    for (asked, (asking, count)) in recorder.keys().iter().zip(keys) {
+fn keys_are(open: &OpenRequests<Sha256Digest>, keys: &[(Asking, usize)]) -> bool {
+    let mut are_so = open.keys().len() == keys.len();
+    for (asked, (asking, count)) in open.keys().iter().zip(keys) {
         are_so = are_so & (asked.key == key_of(*asking)) & (asked.annotations.len() == *count);
     }
     are_so
 }
 
 // How many annotations are open, over all keys.
-fn open_count(recorder: &Recording) -> usize {
+fn open_count(open: &OpenRequests<Sha256Digest>) -> usize {
     let mut count: usize = 0;
-    for asked in recorder.keys() {
+    for asked in open.keys() {
         count = count.saturating_add(asked.annotations.len());
     }
     count
 }
 
-fn asks(alloc: Global, recorder: &mut Recording, call: Call) -> Result<(), AllocError> {
+fn asks(alloc: Global, recording: &mut Recording, call: Call) -> Result<(), AllocError> {
+    let recorder = &mut recording.recorder;
     match call {
         Call::Fetch(asking) => recorder.fetch(fetch_of(asking)),
         Call::Targeted(asking, peers) => recorder.fetch_targeted(fetch_of(asking), peers),
@@ -158,17 +182,17 @@ fn asks(alloc: Global, recorder: &mut Recording, call: Call) -> Result<(), Alloc
             recorder.fetch_all_targeted(both(height).get(..count).unwrap_or(&[]), peers)
         }
         Call::Retain(keep) => recorder.retain(retain_of(keep)),
-        Call::Settle(outcomes) => recorder.settle(judged_of(alloc, outcomes)?.as_slice()),
+        Call::Settle(outcomes) => settle(recording, judged_of(alloc, outcomes)?.as_slice()),
         Call::Asks(_) | Call::Keys(_) | Call::AnnotationsOf(..) => Ok(()),
     }
 }
 
-fn tells(recorder: &Recording, call: Call) -> bool {
+fn tells(recording: &Recording, call: Call) -> bool {
     match call {
-        Call::Asks(wanted) => asks_are(recorder.asks(), wanted),
-        Call::Keys(keys) => keys_are(recorder, keys),
+        Call::Asks(wanted) => asks_are(recording.recorder.asks(), wanted),
+        Call::Keys(keys) => keys_are(&recording.open, keys),
         Call::AnnotationsOf(asking, count) => {
-            recorder.annotations_of(&key_of(asking)).len() == count
+            recording.open.annotations_of(&key_of(asking)).len() == count
         }
         Call::Fetch(_)
         | Call::Targeted(..)
@@ -180,39 +204,39 @@ fn tells(recorder: &Recording, call: Call) -> bool {
 }
 
 // Makes the calls in turn.
-fn go_on(rt: &impl Abort, alloc: Global, recorder: &mut Recording, calls: &[Call]) {
+fn go_on(rt: &impl Abort, alloc: Global, recording: &mut Recording, calls: &[Call]) {
     for (place, call) in calls.iter().enumerate() {
-        given(rt, asks(alloc, recorder, *call));
-        assert!(rt; tells(recorder, *call), "call {place}");
+        given(rt, asks(alloc, recording, *call));
+        assert!(rt; tells(recording, *call), "call {place}");
     }
 }
 
 // Makes both lists of calls on a fresh recorder.
 fn follow(rt: &impl Abort, alloc: Global, first: &[Call], then: &[Call]) {
-    let mut recorder: Recording = Recorder::new(alloc);
-    go_on(rt, alloc, &mut recorder, first);
-    go_on(rt, alloc, &mut recorder, then);
+    let mut recording = recording(alloc);
+    go_on(rt, alloc, &mut recording, first);
+    go_on(rt, alloc, &mut recording, then);
 }
 
 // Asks for these one by one, and then retains.
 fn ask_and_retain(
-    recorder: &mut Recording,
+    recording: &mut Recording,
     askings: &[Asking],
     keep: Keep,
 ) -> Result<(), AllocError> {
     for asking in askings {
-        recorder.fetch(fetch_of(*asking))?;
+        recording.recorder.fetch(fetch_of(*asking))?;
     }
-    recorder.retain(retain_of(keep))?;
-    recorder.settle(&[])
+    recording.recorder.retain(retain_of(keep))?;
+    settle(recording, &[])
 }
 
 // That so many annotations are left of what each row asks, after it retained.
 fn leave(rt: &impl Abort, alloc: Global, rows: &[(&[Asking], Keep, usize)]) {
     for (askings, keep, left) in rows {
-        let mut recorder: Recording = Recorder::new(alloc);
-        given(rt, ask_and_retain(&mut recorder, askings, *keep));
-        same(rt, open_count(&recorder), *left);
+        let mut recording = recording(alloc);
+        given(rt, ask_and_retain(&mut recording, askings, *keep));
+        same(rt, open_count(&recording.open), *left);
     }
 }
 
@@ -377,7 +401,8 @@ const ASKED_IN_EACH_WAY: [Call; 6] = [
 fn a_recorder_behind_its_bounds(rt: HostRuntime) {
     let alloc = rt.alloc();
     let fetch = fetch_of(Asking::Notarized(1, 1));
-    let mut recorder: Recording = Recorder::new(alloc);
-    given(&rt, ask_all(&mut recorder, fetch, slice::from_ref(&fetch)));
-    go_on(&rt, alloc, &mut recorder, &ASKED_IN_EACH_WAY);
+    let mut recording = recording(alloc);
+    let recorder = &mut recording.recorder;
+    given(&rt, ask_all(recorder, fetch, slice::from_ref(&fetch)));
+    go_on(&rt, alloc, &mut recording, &ASKED_IN_EACH_WAY);
 }

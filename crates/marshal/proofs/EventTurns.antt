@@ -1,5 +1,5 @@
 -- What the actor's promise makes of one event, where it tells all that was told and asked.
-use Rattle.std.proofs.Common.{Err, List, Ok, Option, Some, [], ap, refl, subst, sym, ◌+◌, ◌++◌, ◌∙◌, ◌∷◌, ◌≡◌, ◌≤◌}
+use Rattle.std.proofs.Common.{Err, List, Ok, Option, Some, [], ap, ap₂, refl, subst, sym, ◌+◌, ◌++◌, ◌∙◌, ◌∷◌, ◌≡◌, ◌≤◌}
 use Rattle.std.specs.Prelude.{Result}
 use Rattle.mar_codec.specs.declared.Sha256Digest.{Sha256Digest}
 use Rattle.mar_types.specs.Epochs.{fixed_epochs}
@@ -10,8 +10,8 @@ use Rattle.mar_node.specs.Event.{Event}
 use Rattle.mar_node.specs.Faults.{ack_kind, ticket_limit}
 use Rattle.mar_node.specs.Held.{ArePassed, Ending, FailsBy, Remains}
 use Rattle.mar_node.specs.Lives.{Cuts}
-use Rattle.mar_node.specs.Promise.{IsSetTo, KeepsPromise, made_of, node_of}
-use Rattle.mar_node.specs.Step.{Report, Steps}
+use Rattle.mar_node.specs.Promise.{HearsMade, IsSetTo, KeepsPromise, heard_by, made_of, node_of}
+use Rattle.mar_node.specs.Step.{Made, Report, Steps}
 use Rattle.mar_shelf.specs.declared.fault.Fault.{Fault as FaultCode}
 use Rattle.mar_key.specs.Asked.{asked_after}
 use Rattle.marshal.specs.Playing.{IsNearLast, SeenNode, TakesEvent}
@@ -28,7 +28,11 @@ told_all old new more none heard = sym (inside heard ∙ ap (λ xs. xs ++ more) 
 
 module _ (seen : SeenNode) (buffer : Held) (e : Event) (told0 told1 : List Report) (asks0 asks1 : List Call) (silent : told0 ≡ []) (unasked : asks0 ≡ []) where
   abbrev Promises : Result SeenNode Ending → Type 0
-  Promises = KeepsPromise (fixed_epochs seen.life.epocher.length) (λ commitment. commitment) seen e buffer.blocks (Some told0) (Some told1) (Some asks0) (Some asks1)
+  Promises = KeepsPromise (fixed_epochs seen.life.epocher.length) (λ commitment. commitment) seen (e ∷ []) buffer.blocks (heard_by (Some told0) (Some asks0)) (heard_by (Some told1) (Some asks1))
+
+  -- what was made is what was heard since
+  made_is : (made : Made) → HearsMade (heard_by (Some told0) (Some asks0)) made (heard_by (Some told1) (Some asks1)) → made ≡ made_of told1 asks1
+  made_is made heard = heard.no_more ∙ ap₂ made_of (told_all told0 told1 made.reports silent heard.reports) (told_all asks0 asks1 made.asks unasked heard.asks)
 
   pub takes_ok : {H R : Type 0} (new : SeenNode) → Promises (Ok new) → new.life.epocher ≡ seen.life.epocher → new.life.sizes ≡ seen.life.sizes → ArePassed seen.held.watches new.held.watches → new.life.next_ack ≤ seen.life.next_ack + seen.life.sizes.window → TakesEvent {H = H} {R = R} seen buffer e told1 asks1 (state.Running new buffer) outcome.Done
   takes_ok new promise epocher sizes passed tickets = record {
@@ -37,12 +41,8 @@ module _ (seen : SeenNode) (buffer : Held) (e : Event) (told0 told1 : List Repor
     calls = passed;
     lucky = λ luck line. tt;
     done = λ config chain asked set lawful.
-        let (reports, heard, finishes) = promise config chain asked set lawful in (
-          subst (λ rs. Steps config chain (node_of seen buffer.blocks asked) (e ∷ []) (made_of rs asks1) (node_of new buffer.blocks (asked_after asked [] asks1))) (told_all told0 told1 reports silent heard)
-              (subst (λ cs. Steps config chain (node_of seen buffer.blocks asked) (e ∷ []) (made_of reports cs) (node_of new buffer.blocks (asked_after asked [] cs))) (told_all asks0 asks1 finishes.asks unasked finishes.heard) finishes.steps),
-          refl,
-          tickets,
-        );
+        let finishes = promise config chain asked set lawful in
+        (subst (λ m. Steps config chain (node_of seen buffer.blocks asked) (e ∷ []) m (node_of new buffer.blocks (asked_after asked [] m.asks))) (made_is finishes.made finishes.heard) finishes.steps, refl, tickets);
   }
 
   pub takes_err : {H R : Type 0} (fault : FaultCode Sha256Digest) (left : Remains) → Promises (Err (record { fault = plain_fault fault; remains = left })) → FailsBy seen.held.watches (plain_fault fault) left.watches → (plain_fault fault ≡ ticket_limit ack_kind → IsNearLast seen)
@@ -53,6 +53,6 @@ module _ (seen : SeenNode) (buffer : Held) (e : Event) (told0 told1 : List Repor
     calls = fails;
     lucky = λ luck line. refl;
     done = λ config chain asked set lawful.
-        let (reports, heard, cuts) = promise config chain asked set lawful in
-        (subst (λ rs. Cuts config chain (node_of seen buffer.blocks asked) (e ∷ []) rs (plain_fault fault) left.ended) (told_all told0 told1 reports silent heard) cuts, limit);
+        let cut = promise config chain asked set lawful in
+        (subst (λ m. Cuts config chain (node_of seen buffer.blocks asked) (e ∷ []) m (plain_fault fault) left.ended) (made_is cut.made cut.heard) cut.cuts, limit);
   }

@@ -18,7 +18,8 @@ use Rattle.mar_script.specs.Lines.{plain_line}
 use Rattle.mar_script.specs.Accounts.{AccountsFor, first_account, luck_after}
 use Rattle.mar_script.specs.Plays.{Plays}
 use Rattle.mar_script.specs.Refused.{max_lines}
-use Rattle.mar_script.specs.Run.{HandsBack, IsFront, IsLineBytes, MemoryEnds, Premises, Replays, Status, StopsAt, out_of_memory, read_to_end}
+use Rattle.mar_node.specs.Step.{IsFront}
+use Rattle.mar_script.specs.Run.{HandsBack, IsLineBytes, MemoryEnds, Premises, Replays, Status, StopsAt, out_of_memory, read_to_end}
 use Rattle.mar_script.specs.Script.{Line, config_of}
 use Rattle.mar_script.specs.Text.{Done, output_text, stopped, text}
 use Rattle.mar_script.specs.declared.Line.{Line as LineCode}

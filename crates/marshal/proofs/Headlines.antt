@@ -13,7 +13,7 @@ use Rattle.mar_node.specs.Faults.{want_of_memory}
 use Rattle.mar_node.specs.Held.{Remains, remains_of}
 use Rattle.mar_node.specs.Promise.{node_of}
 use Rattle.mar_node.specs.Node.{Ended}
-use Rattle.mar_node.specs.Step.{Report}
+use Rattle.mar_node.specs.Step.{IsFront, Report}
 use Rattle.mar_script.specs.Endings.{IsReadersEnd, IsWritersEnd}
 use Rattle.mar_script.specs.Lines.{plain_line}
 use Rattle.mar_script.specs.Accounts.{AccountsFor, luck_after}
@@ -21,7 +21,7 @@ use Rattle.mar_script.specs.Plays.{IsSmallLine, Plays}
 use Rattle.marshal.specs.Playing.{HasLuck, HasSmallBlocks, IsSetAs, SeenNode, Turned, TurnsLine, WritesText, account_in}
 use Rattle.mar_script.specs.Reading.{ReplaysWhereTold, StopsWith, TakesFirst, TakesNext, ending_of}
 use Rattle.mar_script.specs.Refused.{max_lines}
-use Rattle.mar_script.specs.Run.{HandsBack, HeadlineWhereTold, IsConfigBytes, IsFront, IsLineBytes, Premises, Replays, Status, out_of_memory, outside_grammar, read_failed, read_to_end, write_failed}
+use Rattle.mar_script.specs.Run.{HandsBack, HeadlineWhereTold, IsConfigBytes, IsLineBytes, Premises, Replays, Status, out_of_memory, outside_grammar, read_failed, read_to_end, write_failed}
 use Rattle.mar_script.specs.Script.{IsSettings, Line, Settings, config_of, settings_bytes}
 use Rattle.mar_script.specs.Streams.{Gives, Takes, TakesFront}
 use Rattle.mar_script.specs.Text.{Output, output_text, running, silent_output, stopped, text}

@@ -18,10 +18,10 @@ use Rattle.mar_node.specs.Lives.{CutsReopening, Finds}
 use Rattle.mar_node.specs.Stored.{AreSmall}
 use Rattle.mar_store.specs.Sizes.{IsSmall}
 use Rattle.mar_store.proofs.Lookups.{AllByRecursion-push}
-use Rattle.mar_node.specs.Promise.{IsGoodUntold, IsOpeningFault, IsSetTo, node_of}
-use Rattle.mar_node.specs.Node.{Rest, block_missing, floor_awaited, window_full, write_uncovered}
-use Rattle.mar_node.specs.Step.{Report}
+use Rattle.mar_node.specs.Promise.{IsGoodUntold, IsOpeningFault, IsSetTo, made_of, node_of}
+use Rattle.mar_node.specs.Step.{Report, nothing_made}
 use Rattle.mar_node.proofs.Passing.{ArePassed-refl}
+use Rattle.mar_node.proofs.Reaching.{IsGood-beside, Rest-beside}
 use Rattle.mar_shelf.specs.declared.fault.Fault.{Fault as FaultCode}
 use Rattle.mar_script.specs.Accounts.{Account, Calls, CallsEnd, luck_after}
 use Rattle.mar_script.specs.Plays.{IsBetween, IsLawfulLine, Plays, max_window}
@@ -53,45 +53,10 @@ later_state config chain k (stopped e) between = between
 -- what is asked of a state doesn't look at the buffer
 put_between : (config : Config) (chain : Chain) (k : ℕ) (seen : SeenNode) (before after : List Block) (asked : List Asked) → IsBetween config chain k (running (node_of seen before asked)) → IsBetween config chain (k + 1) (running (node_of seen after asked))
 put_between config chain k seen before after asked (good, rests, lasting) = (
-  record {
-    heights = record {
-      nested_blocks = good.heights.nested_blocks;
-      nested_certs = good.heights.nested_certs;
-      sure_blocks = good.heights.sure_blocks;
-      sure_certs = good.heights.sure_certs;
-      consecutive = good.heights.consecutive;
-      out_sure = good.heights.out_sure;
-      within_window = good.heights.within_window;
-      floor_clears = good.heights.floor_clears;
-      anchored = good.heights.anchored;
-      own_pair = good.heights.own_pair;
-      sync_open = good.heights.sync_open;
-    };
-    of_chain = record {
-      held_blocks = good.of_chain.held_blocks;
-      may_blocks = good.of_chain.may_blocks;
-      held_certs = good.of_chain.held_certs;
-      may_certs = good.of_chain.may_certs;
-      cached = good.of_chain.cached;
-      cached_blocks = good.of_chain.cached_blocks;
-      awaits = good.of_chain.awaits;
-      floor_safe = good.of_chain.floor_safe;
-      honest_asks = good.of_chain.honest_asks;
-      honest_ready = good.of_chain.honest_ready;
-      honest_overflow = good.of_chain.honest_overflow;
-      not_at_hand = good.of_chain.not_at_hand;
-      tip_reported = good.of_chain.tip_reported;
-    };
-  },
-  rest rests,
+  IsGood-beside config chain seen before after asked asked good.of_chain.asks.requests good,
+  Rest-beside config.window seen before after asked asked rests,
   record { undropped = lasting.undropped; tickets = omega (arith, lasting.tickets) },
 )
-  where
-    rest : Rest config.window (node_of seen before asked) → Rest config.window (node_of seen after asked)
-    rest (floor_awaited some) = floor_awaited some
-    rest (window_full full) = window_full full
-    rest (block_missing missing) = block_missing missing
-    rest (write_uncovered h has below) = write_uncovered h has below
 
 module _ {H R : Type 0} where
   abbrev Stopped : Remains → ℕ → StateCode H R
@@ -207,9 +172,9 @@ module _ {H R : Type 0} where
         asked,
         record {
           done = line_done config chain account asked _ _ (step_cut config chain seen buffer.blocks asked e rs cs fault left.ended cuts);
-          between = cut_between config chain seen buffer.blocks asked (k + 1) e rs (plain_fault fault) left.ended cuts;
+          between = cut_between config chain seen buffer.blocks asked (k + 1) e (made_of rs cs) (plain_fault fault) left.ended cuts;
           buffered = λ b has. absurd (none_in b has);
-          excused = cut_usual config chain seen buffer.blocks asked e plain rs fault left.ended (lawful_step config chain seen buffer.blocks asked k l e plain lawful same) lawful.between.2.undropped cuts
+          excused = cut_usual config chain seen buffer.blocks asked e plain (made_of rs cs) fault left.ended (lawful_step config chain seen buffer.blocks asked k l e plain lawful same) lawful.between.2.undropped cuts
               (λ is. tickets_last k seen.life.next_ack seen.life.sizes.window lawful.between.2.tickets lawful.few (subst (λ w. w ≤ max_window) set.window lawful.narrow) (limit is));
         },
       )
@@ -220,7 +185,7 @@ module _ {H R : Type 0} where
 
   -- an opening that was cut before its start
   pub plays_unopened : (config : Config) (before left : Remains) (luck : ℕ) (g : Block) (fault : FaultCode Sha256Digest)
-      → ((chain : Chain) (k : ℕ) → IsLawfulLine config chain k (stopped before.ended) (open_line (from_genesis g)) → CutsReopening config chain before.ended (picks_of before luck) (from_genesis g) [] (plain_fault fault) left.ended)
+      → ((chain : Chain) (k : ℕ) → IsLawfulLine config chain k (stopped before.ended) (open_line (from_genesis g)) → CutsReopening config chain before.ended (picks_of before luck) (from_genesis g) nothing_made (plain_fault fault) left.ended)
       → FailsBy before.watches (plain_fault fault) left.watches → IsUsual (plain_fault fault) ⊎ IsOpeningFault before.ended (from_genesis g) (plain_fault fault) → PlaysLine config (Stopped before luck) (open_line (from_genesis g)) (output_of [] [] (outcome.Fault fault)) (Stopped left 0)
   plays_unopened config before left luck g fault cuts fails kind = record {
     set = λ is. tt;
@@ -271,9 +236,9 @@ module _ {H R : Type 0} where
             asked,
             record {
               done = start_cut config chain before.ended (picks_of before luck) g seen finds rs cs fault left.ended good cuts;
-              between = cut_between config chain seen [] [] (k + 1) (life_started None) rs (plain_fault fault) left.ended cuts;
+              between = cut_between config chain seen [] [] (k + 1) (life_started None) (made_of rs cs) (plain_fault fault) left.ended cuts;
               buffered = λ b has. absurd (none_in b has);
-              excused = cut_usual config chain seen [] [] (life_started None) starts rs fault left.ended (lawful_start config chain before.ended (picks_of before luck) g seen finds k lawful good) first.0 cuts
+              excused = cut_usual config chain seen [] [] (life_started None) starts (made_of rs cs) fault left.ended (lawful_start config chain before.ended (picks_of before luck) g seen finds k lawful good) first.0 cuts
                   (λ is. tickets_last k seen.life.next_ack seen.life.sizes.window (omega (arith, first.1)) lawful.few (subst (λ w. w ≤ max_window) set.window lawful.narrow) (limit is));
             },
           )

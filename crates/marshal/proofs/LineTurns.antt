@@ -17,7 +17,7 @@ use Rattle.mar_node.specs.Held.{IsUsual, Seen}
 use Rattle.mar_node.specs.Lives.{Cuts, CutsEvent}
 use Rattle.mar_node.specs.Node.{Ended, Node}
 use Rattle.mar_node.specs.Promise.{IsGoodFor, IsLawfulStep, ReportsFinalized, RestsBefore, made_of, node_of}
-use Rattle.mar_node.specs.Step.{AdvancesAll, Made, Report, Steps}
+use Rattle.mar_node.specs.Step.{AdvancesAll, Made, Report, Steps, joined_made}
 use Rattle.mar_shelf.specs.declared.fault.Fault.{Fault as FaultCode}
 use Rattle.mar_shelf.specs.declared.fault.Fault.TheVariants as fault
 use Rattle.mar_shelf.specs.declared.fault.TicketKind.{TicketKind}
@@ -35,8 +35,8 @@ use Rattle.marshal.proofs.Lasting.{IsPlain, Undropped, acks, no_event_fault, rep
 -- CUTS
 
 -- the only event of a step that was cut is the one that was cut
-pub only_cut : (config : Config) (chain : Chain) (n : Node) (e : Event) (rs : List Report) (fault : Fault) (left : Ended) → Cuts config chain n (e ∷ []) rs fault left → CutsEvent config chain n.meta (option_map height_in n.processed) n e rs fault left
-only_cut config chain n e rs fault left cuts = by cuts.finished cuts.first cuts.mid cuts.event cuts.later cuts.split cuts.advances cuts.reports_split cuts.cut
+pub only_cut : (config : Config) (chain : Chain) (n : Node) (e : Event) (made : Made) (fault : Fault) (left : Ended) → Cuts config chain n (e ∷ []) made fault left → CutsEvent config chain n.meta (option_map height_in n.processed) n e made fault left
+only_cut config chain n e made fault left cuts = by cuts.finished cuts.first cuts.mid cuts.event cuts.later cuts.split cuts.advances cuts.made_is cuts.cut
   where
     head : (d : Event) (others : List Event) → e ∷ [] ≡ d ∷ others → d ≡ e
     head d others is = cc
@@ -48,13 +48,13 @@ only_cut config chain n e rs fault left cuts = by cuts.finished cuts.first cuts.
     none_behind [] others d is = absurd cc
     none_behind (x ∷ xs) others d is = absurd cc
 
-    by : (finished : List Event) (first : Made) (mid : Node) (d : Event) (later : List Report) → e ∷ [] ≡ finished ++ d ∷ cuts.others → AdvancesAll config chain n finished first mid → rs ≡ first.reports ++ later → CutsEvent config chain n.meta (option_map height_in n.processed) mid d later fault left
-        → CutsEvent config chain n.meta (option_map height_in n.processed) n e rs fault left
-    by [] first mid d later split advances reports_split cut =
-        subst (λ xs. CutsEvent config chain n.meta (option_map height_in n.processed) n e xs fault left) (sym (reports_split ∙ ap (λ m. m.reports ++ later) advances.0))
+    by : (finished : List Event) (first : Made) (mid : Node) (d : Event) (later : Made) → e ∷ [] ≡ finished ++ d ∷ cuts.others → AdvancesAll config chain n finished first mid → made ≡ joined_made first later → CutsEvent config chain n.meta (option_map height_in n.processed) mid d later fault left
+        → CutsEvent config chain n.meta (option_map height_in n.processed) n e made fault left
+    by [] first mid d later split advances made_is cut =
+        subst (λ m. CutsEvent config chain n.meta (option_map height_in n.processed) n e m fault left) (sym (made_is ∙ ap (λ m. joined_made m later) advances.0))
         (subst (λ m. CutsEvent config chain n.meta (option_map height_in n.processed) m e later fault left) advances.1
         (subst (λ x. CutsEvent config chain n.meta (option_map height_in n.processed) mid x later fault left) (head d cuts.others split) cut))
-    by (x ∷ xs) first mid d later split advances reports_split cut = absurd (none_behind xs cuts.others d (tail x (xs ++ d ∷ cuts.others) split))
+    by (x ∷ xs) first mid d later split advances made_is cut = absurd (none_behind xs cuts.others d (tail x (xs ++ d ∷ cuts.others) split))
 
 -- a fault that no value calls for, and no want of tickets, is want of memory or a store's
 pub usual : (fault : FaultCode Sha256Digest) → (IsTrue (is_by_value (plain_fault fault)) → ⊥) → (plain_fault fault ≡ ticket_limit ack_kind → ⊥) → IsUsual (plain_fault fault)
@@ -85,34 +85,34 @@ module _ {P E : Type 0} (config : Config) (chain : Chain) (a : Seen P E) (buffer
   step_between k e plain rs asks b kept undropped steps tickets = (steps.good, steps.rests, record { undropped = undropped-step config chain a buffer asked e plain (made_of rs asks) (node_of b kept (asked_after asked [] asks)) steps undropped; tickets = tickets })
 
   -- a step that was cut
-  pub step_cut : (e : Event) (rs : List Report) (asks : List Call) (fault : FaultCode Sha256Digest) (left : Ended) → Cuts config chain node (e ∷ []) rs (plain_fault fault) left → StepDone config chain node (e ∷ []) [] (λ m. []) (output_of rs asks (outcome.Fault fault)) (stopped left)
+  pub step_cut : (e : Event) (rs : List Report) (asks : List Call) (fault : FaultCode Sha256Digest) (left : Ended) → Cuts config chain node (e ∷ []) (made_of rs asks) (plain_fault fault) left → StepDone config chain node (e ∷ []) [] (λ m. []) (output_of rs asks (outcome.Fault fault)) (stopped left)
   step_cut e rs asks fault left cuts = (plain_fault fault, refl, refl, cuts, ([], refl))
 
-  pub cut_between : (k : ℕ) (e : Event) (rs : List Report) (fault : Fault) (left : Ended) → Cuts config chain node (e ∷ []) rs fault left → IsBetween config chain k (stopped left)
-  cut_between k e rs fault left cuts = (cuts.cut.leaves.good, cuts.cut.leaves.some_pair)
+  pub cut_between : (k : ℕ) (e : Event) (made : Made) (fault : Fault) (left : Ended) → Cuts config chain node (e ∷ []) made fault left → IsBetween config chain k (stopped left)
+  cut_between k e made fault left cuts = (cuts.cut.leaves.good, cuts.cut.leaves.some_pair)
 
-  pub cut_usual : (e : Event) → IsPlain e → (rs : List Report) (fault : FaultCode Sha256Digest) (left : Ended) → IsLawfulStep config chain node e → Undropped a.life.out → Cuts config chain node (e ∷ []) rs (plain_fault fault) left → (plain_fault fault ≡ ticket_limit ack_kind → ⊥) → IsUsual (plain_fault fault)
-  cut_usual e plain rs fault left lawful undropped cuts limit =
-      usual fault (λ by_value. never (event_fault config node e) (plain_fault fault) (no_event_fault config chain a buffer asked e plain lawful undropped) ((only_cut config chain node e rs (plain_fault fault) left cuts).cause by_value)) limit
+  pub cut_usual : (e : Event) → IsPlain e → (made : Made) (fault : FaultCode Sha256Digest) (left : Ended) → IsLawfulStep config chain node (e ∷ []) → Undropped a.life.out → Cuts config chain node (e ∷ []) made (plain_fault fault) left → (plain_fault fault ≡ ticket_limit ack_kind → ⊥) → IsUsual (plain_fault fault)
+  cut_usual e plain made fault left lawful undropped cuts limit =
+      usual fault (λ by_value. never (event_fault config node e) (plain_fault fault) (no_event_fault config chain a buffer asked e plain lawful undropped) ((only_cut config chain node e made (plain_fault fault) left cuts).cause by_value)) limit
     where
       never : (o : Option Fault) (f : Fault) → o ≡ None → o ≡ Some f → ⊥
       never o f p q = absurd cc
 
 -- what is asked of a step is what was asked of its line
-pub lawful_step : {P E : Type 0} (config : Config) (chain : Chain) (a : Seen P E) (buffer : List Block) (asked : List Asked) (k : ℕ) (line : Line) (e : Event) → IsPlain e → IsLawfulLine config chain k (running (node_of a buffer asked)) line → ((f : Finalization) → e ≡ message_told None (report_finalization f) → line ≡ tell_line (report_finalization f)) → IsLawfulStep config chain (node_of a buffer asked) e
-lawful_step config chain a buffer asked k line e plain lawful same = record { lawful = lawful.lawful; one = lawful.one; reported = told plain same; good = good plain; rests = rests plain }
+pub lawful_step : {P E : Type 0} (config : Config) (chain : Chain) (a : Seen P E) (buffer : List Block) (asked : List Asked) (k : ℕ) (line : Line) (e : Event) → IsPlain e → IsLawfulLine config chain k (running (node_of a buffer asked)) line → ((f : Finalization) → e ≡ message_told None (report_finalization f) → line ≡ tell_line (report_finalization f)) → IsLawfulStep config chain (node_of a buffer asked) (e ∷ [])
+lawful_step config chain a buffer asked k line e plain lawful same = record { lawful = lawful.lawful; one = lawful.one; reported = (told plain same, tt); good = good plain; rests = rests plain }
   where
     told : {d : Event} → IsPlain d → ((f : Finalization) → d ≡ message_told None (report_finalization f) → line ≡ tell_line (report_finalization f)) → ReportsFinalized chain d
     told starts is = tt
     told (reports f) is = lawful.reported f (is f refl)
     told (acks t) is = tt
 
-    good : {d : Event} → IsPlain d → IsGoodFor config chain (node_of a buffer asked) d
+    good : {d : Event} → IsPlain d → IsGoodFor config chain (node_of a buffer asked) (d ∷ [])
     good starts = (a.life.tip, lawful.between.0)
     good (reports f) = lawful.between.0
     good (acks t) = lawful.between.0
 
-    rests : {d : Event} → IsPlain d → RestsBefore config.window (node_of a buffer asked) d
+    rests : {d : Event} → IsPlain d → RestsBefore config.window (node_of a buffer asked) (d ∷ [])
     rests starts = tt
     rests (reports f) = lawful.between.1
     rests (acks t) = lawful.between.1

@@ -16,7 +16,7 @@ use Rattle.mar_node.specs.Held.{IsUsual, Seen}
 use Rattle.mar_node.specs.Lives.{Cuts, CutsEvent, CutsReopening, Finds, NotBelow, Picks}
 use Rattle.mar_node.specs.Node.{Ended, Node}
 use Rattle.mar_node.specs.Promise.{IsGoodUntold, IsLawfulOpening, IsLawfulStep, IsOpeningFault, made_of, node_of}
-use Rattle.mar_node.specs.Step.{Report, Steps}
+use Rattle.mar_node.specs.Step.{Report, Steps, nothing_made}
 use Rattle.mar_shelf.specs.declared.fault.Fault.{Fault as FaultCode}
 use Rattle.mar_node.proofs.Cutting.{only_one}
 use Rattle.mar_node.proofs.GoodOpenings.{IsOpeningFault-none}
@@ -52,7 +52,7 @@ lawful_opening config chain e g k lawful = record {
 
 module _ (config : Config) (chain : Chain) (e : Ended) (picks : Picks) (g : Block) where
   -- an opening that was cut before its start
-  pub opening_cut : (fault : FaultCode Sha256Digest) (left : Ended) → CutsReopening config chain e picks (from_genesis g) [] (plain_fault fault) left → OpenDone config chain e picks (from_genesis g) (output_of [] [] (outcome.Fault fault)) (stopped left)
+  pub opening_cut : (fault : FaultCode Sha256Digest) (left : Ended) → CutsReopening config chain e picks (from_genesis g) nothing_made (plain_fault fault) left → OpenDone config chain e picks (from_genesis g) (output_of [] [] (outcome.Fault fault)) (stopped left)
   opening_cut fault left cuts = (plain_fault fault, refl, refl, inl cuts, refl)
 
   -- it has no fault that values call for
@@ -65,16 +65,16 @@ module _ (config : Config) (chain : Chain) (e : Ended) (picks : Picks) (g : Bloc
     first = node_of a [] []
 
     -- what is asked of its start
-    pub lawful_start : (k : ℕ) → IsLawfulLine config chain k (stopped e) (open_line (from_genesis g)) → IsGoodUntold config chain first → IsLawfulStep config chain first (life_started None)
-    lawful_start k lawful good = record { lawful = lawful.lawful; one = lawful.one; reported = tt; good = good; rests = tt }
+    pub lawful_start : (k : ℕ) → IsLawfulLine config chain k (stopped e) (open_line (from_genesis g)) → IsGoodUntold config chain first → IsLawfulStep config chain first (life_started None ∷ [])
+    lawful_start k lawful good = record { lawful = lawful.lawful; one = lawful.one; reported = (tt, tt); good = good; rests = tt }
 
     -- an opening that finished
     pub opening_done : (rs : List Report) (asks : List Call) (b : Seen P E) (kept : List Block) → Steps config chain first (life_started None ∷ []) (made_of rs asks) (node_of b kept (asked_after [] [] asks)) → OpenDone config chain e picks (from_genesis g) (output_of rs asks outcome.Done) (running (node_of b kept (asked_after [] [] asks)))
     opening_done rs asks b kept steps = (made_of rs asks, record { first = first; finds = finds; start = steps }, refl, refl)
 
     -- an opening that was cut in its start
-    pub start_cut : (rs : List Report) (asks : List Call) (fault : FaultCode Sha256Digest) (left : Ended) → IsGoodUntold config chain first → Cuts config chain first (life_started None ∷ []) rs (plain_fault fault) left → OpenDone config chain e picks (from_genesis g) (output_of rs asks (outcome.Fault fault)) (stopped left)
-    start_cut rs asks fault left good cuts = (plain_fault fault, refl, refl, inr (record { first = first; finds = finds; cut = from_left (only_cut config chain first (life_started None) rs (plain_fault fault) left cuts) }), refl)
+    pub start_cut : (rs : List Report) (asks : List Call) (fault : FaultCode Sha256Digest) (left : Ended) → IsGoodUntold config chain first → Cuts config chain first (life_started None ∷ []) (made_of rs asks) (plain_fault fault) left → OpenDone config chain e picks (from_genesis g) (output_of rs asks (outcome.Fault fault)) (stopped left)
+    start_cut rs asks fault left good cuts = (plain_fault fault, refl, refl, inr (record { first = first; finds = finds; cut = from_left (only_cut config chain first (life_started None) (made_of rs asks) (plain_fault fault) left cuts) }), refl)
       where
         -- the pair of the opened node is the one that its start stands on
         pair_before : (p : Pair) → Contains (first.meta ++ pair_of first.processed first.cutoff ∷ pair_of (processed_after first (life_started None) no_floor) (cutoff_after config first (life_started None) no_floor) ∷ []) p → Contains (e.meta ++ pair_of first.processed first.cutoff ∷ pair_of (processed_after first (life_started None) no_floor) (cutoff_after config first (life_started None) no_floor) ∷ []) p
@@ -84,7 +84,7 @@ module _ (config : Config) (chain : Chain) (e : Ended) (picks : Picks) (g : Bloc
             by (inl own) = Contains-append_right e.meta _ p (0, omega arith, only_one (pair_of first.processed first.cutoff) p (subst (λ ps. Contains ps p) good.1.heights.own_pair own))
             by (inr later) = Contains-append_right e.meta _ p later
 
-        from_left : CutsEvent config chain first.meta (option_map height_in first.processed) first (life_started None) rs (plain_fault fault) left → CutsEvent config chain e.meta None first (life_started None) rs (plain_fault fault) left
+        from_left : CutsEvent config chain first.meta (option_map height_in first.processed) first (life_started None) (made_of rs asks) (plain_fault fault) left → CutsEvent config chain e.meta None first (life_started None) (made_of rs asks) (plain_fault fault) left
         from_left cut = record {
           tip = cut.tip;
           tips = cut.tips;
@@ -103,6 +103,9 @@ module _ (config : Config) (chain : Chain) (e : Ended) (picks : Picks) (g : Bloc
             good = cut.leaves.good;
           };
           may = cut.may;
+          asks = cut.asks;
+          sends = cut.sends;
+          answers = cut.answers;
           first_pair = cut.first_pair;
           no_lower = AllByRecursion-weaker _ (λ p. NotBelow None p.processed) (λ p any. omega arith) left.meta cut.no_lower;
           cause = cut.cause;

@@ -21,7 +21,8 @@ use Rattle.mar_node.proofs.Soundness.{IsFrom, IsGoodEnded-from_sound, IsSound-fr
 use Rattle.mar_script.specs.Accounts.{Account, AccountsFor, first_account}
 use Rattle.mar_script.specs.Plays.{IsBetween, IsLawfulLine, Plays, buffer_in, max_window}
 use Rattle.mar_script.specs.Refused.{max_lines}
-use Rattle.mar_script.specs.Run.{Appears, AreSmooth, EndsWith, HandsBack, IsExcused, IsFaultFree, IsFront, IsOutput, IsQuiet, LineDone, MemoryEnds, Premises, Replays, Run, Status, account_after, line_blocks, messages_of, out_of_memory, outside_grammar, read_failed, read_to_end, write_failed}
+use Rattle.mar_node.specs.Step.{IsFront}
+use Rattle.mar_script.specs.Run.{Appears, AreSmooth, EndsWith, HandsBack, IsExcused, IsFaultFree, IsOutput, IsQuiet, LineDone, MemoryEnds, Premises, Replays, Run, Status, account_after, line_blocks, messages_of, out_of_memory, outside_grammar, read_failed, read_to_end, write_failed}
 use Rattle.mar_script.specs.Script.{Line, open_line}
 use Rattle.mar_script.proofs.Accounts.{account-push, quiet_run, run_push}
 use Rattle.mar_script.specs.Text.{Done, Output, State, output_text, running, silent_output, stopped, text}
@@ -164,9 +165,9 @@ left_in (stopped e) = e
 pub between_left : (config : Config) (chain : Chain) (k : ℕ) (s : State) → IsBetween config chain k s → IsGoodEnded chain (left_in s) × (0 < length (left_in s).meta)
 between_left config chain k (stopped e) between = between
 between_left config chain k (running n) (good, rests, lasting) = (
-  IsGoodEnded-from_sound chain n 0 (left_by n) (IsSound-from_good config chain n good) good.of_chain.may_blocks good.of_chain.may_certs
-      (all_found_within cached_finalization (λ f. IsFinalized chain f.round f.payload) n.cache.may (n.cache.held ++ n.cache.may) (λ x has. Contains-append_right n.cache.held n.cache.may x has) good.of_chain.cached)
-      (all_found_within cached_block (Agrees chain) n.cache.may (n.cache.held ++ n.cache.may) (λ x has. Contains-append_right n.cache.held n.cache.may x has) good.of_chain.cached_blocks)
+  IsGoodEnded-from_sound chain n 0 (left_by n) (IsSound-from_good config chain n good) good.of_chain.stores.may_blocks good.of_chain.stores.may_certs
+      (all_found_within cached_finalization (λ f. IsFinalized chain f.round f.payload) n.cache.may (n.cache.held ++ n.cache.may) (λ x has. Contains-append_right n.cache.held n.cache.may x has) good.of_chain.cache.finalizations)
+      (all_found_within cached_block (Agrees chain) n.cache.may (n.cache.held ++ n.cache.may) (λ x has. Contains-append_right n.cache.held n.cache.may x has) good.of_chain.cache.blocks)
       (λ h low has. has) (AllByRecursion-from_contains _ n.meta (λ p has. inl (has, from p.processed))),
   subst (λ ps. 0 < length ps) (sym good.heights.own_pair) (omega arith),
 )

@@ -99,7 +99,7 @@ abbrev pub AfterEvent : {H R : Type 0} → Config → Chain → SeenNode → Lis
 AfterEvent config chain seen buffer asked e reports asks (state.Running new same) outcome.Done =
     Steps config chain (node_of seen buffer asked) (e ∷ []) (made_of reports asks) (node_of new same.blocks (asked_after asked [] asks)) × (same.blocks ≡ buffer) × (new.life.next_ack ≤ seen.life.next_ack + seen.life.sizes.window)
 AfterEvent config chain seen buffer asked e reports asks (state.Stopped left luck) (outcome.Fault fault) =
-    Cuts config chain (node_of seen buffer asked) (e ∷ []) reports (plain_fault fault) left.ended × (plain_fault fault ≡ ticket_limit ack_kind → IsNearLast seen)
+    Cuts config chain (node_of seen buffer asked) (e ∷ []) (made_of reports asks) (plain_fault fault) left.ended × (plain_fault fault ≡ ticket_limit ack_kind → IsNearLast seen)
 AfterEvent config chain seen buffer asked e reports asks after outcome = ⊥
 
 -- What one event makes of a life.
@@ -108,4 +108,4 @@ pub record TakesEvent {H R : Type 0} (seen : SeenNode) (buffer : Held) (e : Even
   pub small : AreSmall buffer.blocks → HasSmallBlocks after
   pub calls : CallsEnd seen.held.watches (fault_in outcome) (remains_in after).watches
   pub lucky : (luck : ℕ) (line : Line) → HasLuck (luck_after luck line (fault_in outcome)) after
-  pub done : (config : Config) (chain : Chain) (asked : List Asked) → IsSetNode config seen → IsLawfulStep config chain (node_of seen buffer.blocks asked) e → AfterEvent config chain seen buffer.blocks asked e reports asks after outcome
+  pub done : (config : Config) (chain : Chain) (asked : List Asked) → IsSetNode config seen → IsLawfulStep config chain (node_of seen buffer.blocks asked) (e ∷ []) → AfterEvent config chain seen buffer.blocks asked e reports asks after outcome

@@ -16,7 +16,7 @@ returns-in_err-node g c =
     let kind = rw c.give.ensures at c.in_err-node.ensures.kind in
     let goes = rw c.give.ensures at c.in_err-node.ensures.goes_on in
     rw (p.1, p.2) (record {
-      promise = λ nested certs_nested buffer. promise-undrained (g.E.Epocher.epochs c.args.self.life.epocher) g.V.Variant.inner (g.met.E.Epocher.partition c.args.self.life.epocher) c.args.self buffer _ _ None None _ (goes c.args.self.held nothing_written (Grew-refl _ _ nested certs_nested) (WithinWritten-refl _)) kind;
+      promise = λ nested certs_nested buffer. promise-undrained (g.E.Epocher.epochs c.args.self.life.epocher) g.V.Variant.inner (g.met.E.Epocher.partition c.args.self.life.epocher) c.args.self buffer _ _ _ _ _ nested certs_nested (rw c.give.ensures at c.in_err-node.ensures.asks) (goes c.args.self.held nothing_written (Grew-refl _ _ nested certs_nested) (WithinWritten-refl _)) kind;
       lives = λ nested certs_nested. EndsLife-drained c.args.self _ _ (goes c.args.self.held nothing_written (Grew-refl _ _ nested certs_nested) (WithinWritten-refl _)).cause kind;
       by_value = dropped-due _ _ kind;
       tells = ([], inl (Hears-nothing _));
@@ -41,7 +41,7 @@ returns-in_err-node-2 g c =
     let goes = rw c.give.ensures at c.in_ok-node.ensures.goes_on in
     let written = (written_pair (pair_of c.in_ok-node.node.held.processed c.in_ok-node.node.held.cutoff)) in
     rw (p.1, p.2) (record {
-      promise = λ nested certs_nested buffer. promise-ack_unsynced (g.E.Epocher.epochs c.args.self.life.epocher) g.V.Variant.inner (g.met.E.Epocher.partition c.args.self.life.epocher) c.args.self buffer _ _ _ drains _ None None _ nested certs_nested (c.in_err-node-2.ensures.lost c.args.self.held written (goes c.args.self.held written (Grew-refl _ _ nested certs_nested) (WithinWritten-nothing _)) (WithinWritten-refl _)) c.in_err-node-2.ensures.usual;
+      promise = λ nested certs_nested buffer. promise-ack_unsynced (g.E.Epocher.epochs c.args.self.life.epocher) g.V.Variant.inner (g.met.E.Epocher.partition c.args.self.life.epocher) c.args.self buffer _ _ _ drains _ _ _ _ nested certs_nested (rw c.give.ensures at c.in_ok-node.ensures.asks) (c.in_err-node-2.ensures.lost c.args.self.held written (goes c.args.self.held written (Grew-refl _ _ nested certs_nested) (WithinWritten-nothing _)) (WithinWritten-refl _)) c.in_err-node-2.ensures.usual;
       lives = λ nested certs_nested. EndsLife-usual c.args.self _ (c.in_err-node-2.ensures.lost c.args.self.held written (goes c.args.self.held written (Grew-refl _ _ nested certs_nested) (WithinWritten-nothing _)) (WithinWritten-refl _)).cause c.in_err-node-2.ensures.usual;
       by_value = usual-due _ _ c.in_err-node-2.ensures.usual;
       tells = ([], inl (Hears-nothing _));

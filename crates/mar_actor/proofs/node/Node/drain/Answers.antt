@@ -1,6 +1,6 @@
 use Rattle.std.proofs.Common.{arith, length, ◌≡◌}
 use Rattle.std.proofs.lemmas.Result.{err_from_is_err_and}
-use Rattle.mar_node.proofs.Draining.{Drains-all, Drains-still, DrainsSoFar-first, DrainsSoFar-more}
+use Rattle.mar_node.proofs.Draining.{Drains-all, Drains-still, DrainsSoFar-first, DrainsSoFar-more, front_heard}
 use Rattle.mar_node.proofs.Growing.{WithinWritten-nothing}
 use Rattle.mar_actor.proofs.node.Node.drain.Goals as goal
 
@@ -11,6 +11,11 @@ pub entries-preserved : goal.entries-preserved
 entries-preserved g c =
     DrainsSoFar-more g.E.Epocher.epochs _ _ _ _ _ _ c.entries.invariant _ _ _ c.if-not-is_processed.false c.in_ok-next.ensures.ok c.in_ok-next.ensures.asks
     (λ first all grew. c.in_ok-next.ensures.goes_on first all (c.entries.invariant.grew first all grew) (WithinWritten-nothing all))
+
+pub returns-in_err-next-clause-asks : goal.returns-in_err-next-clause-asks
+returns-in_err-next-clause-asks g c =
+    let p = err_from_is_err_and c.from_residual.result c.from_residual.ensures.1 in
+    rw (p.1, p.2) (front_heard g.E.Epocher.epochs _ _ _ _ _ _ c.entries.invariant _ c.in_err-next.ensures.asks)
 
 pub returns-in_err-next-clause-goes_on : goal.returns-in_err-next-clause-goes_on
 returns-in_err-next-clause-goes_on g c =

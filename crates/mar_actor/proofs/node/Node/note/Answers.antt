@@ -5,11 +5,10 @@ use Rattle.mar_store.specs.Changes.{IsNested}
 use Rattle.mar_node.specs.Held.{nothing_written, written_cert, written_pair}
 use Rattle.mar_node.specs.Metadata.{pair_of}
 use Rattle.mar_node.specs.Moves.{at_height, lacks_finalization, late_tips}
-use Rattle.mar_node.proofs.EventPromises.{promise-unread}
 use Rattle.mar_node.proofs.Growing.{Grew-refl, WithinWritten-nothing, WithinWritten-refl}
-use Rattle.mar_node.proofs.Handing.{Hears-nothing}
+use Rattle.mar_node.proofs.Handing.{Hears-nothing, HearsFront-whole}
 use Rattle.mar_node.proofs.Lasting.{EndsLife-usual, IsPart-raised, IsPart-synced, IsPart-then, LivesOn-goes, LivesOn-then, parts_late}
-use Rattle.mar_node.proofs.ProgressPromises.{promise-noted, promise-unsynced}
+use Rattle.mar_node.proofs.ProgressPromises.{promise-noted, promise-unraised, promise-unsynced}
 use Rattle.mar_actor.proofs.Due.{EndsWhereDue-usual, usual-due}
 use Rattle.mar_actor.proofs.Told.{TellsInOrder-ended, TellsInOrder-tips}
 use Rattle.mar_actor.proofs.node.Node.note.Goals as goal
@@ -19,7 +18,7 @@ returns-in_err-node g c =
     let p = err_from_is_err_and c.from_residual.result c.from_residual.ensures.1 in
     rw (p.1, p.2) (record {
       promise = λ nested certs_nested buffer found low.
-          promise-unread (g.E.Epocher.epochs c.args.self.life.epocher) g.V.Variant.inner (g.met.E.Epocher.partition c.args.self.life.epocher) c.args.self buffer _ _ None None _ (c.in_err-node.ensures.goes_on c.args.self.held nothing_written (Grew-refl _ _ nested certs_nested) (WithinWritten-refl _)) c.in_err-node.ensures.usual;
+          promise-unraised (g.E.Epocher.epochs c.args.self.life.epocher) g.V.Variant.inner (g.met.E.Epocher.partition c.args.self.life.epocher) c.args.self buffer _ _ found low _ _ _ _ (rw c.round.ensures at c.in_err-node.ensures.asks) (c.in_err-node.ensures.goes_on c.args.self.held nothing_written (Grew-refl _ _ nested certs_nested) (WithinWritten-refl _)) c.in_err-node.ensures.usual;
       lives = λ nested certs_nested. EndsLife-usual c.args.self _ (c.in_err-node.ensures.goes_on c.args.self.held nothing_written (Grew-refl _ _ nested certs_nested) (WithinWritten-refl _)).cause c.in_err-node.ensures.usual;
       by_value = usual-due None _ c.in_err-node.ensures.usual;
       tells = TellsInOrder-ended _ _ _ (Hears-nothing _);
@@ -32,7 +31,7 @@ returns-in_err-node-2 g c =
     let written = (written_pair (pair_of c.in_ok-node.node.held.processed c.in_ok-node.node.held.cutoff)) in
     rw (p.1, p.2) (record {
       promise = λ nested certs_nested buffer found low.
-          promise-unsynced (g.E.Epocher.epochs c.args.self.life.epocher) g.V.Variant.inner (g.met.E.Epocher.partition c.args.self.life.epocher) c.args.self buffer _ _ found low _ None None (pair_of c.in_ok-node.node.held.processed c.in_ok-node.node.held.cutoff) _ (ap (λ a. pair_of a.held.processed a.held.cutoff) raised.same) (c.in_err-node-2.ensures.lost c.args.self.held written (c.in_ok-node.ensures.goes_on c.args.self.held written (Grew-refl _ _ nested certs_nested) (WithinWritten-nothing _)) (WithinWritten-refl _)) c.in_err-node-2.ensures.usual;
+          promise-unsynced (g.E.Epocher.epochs c.args.self.life.epocher) g.V.Variant.inner (g.met.E.Epocher.partition c.args.self.life.epocher) c.args.self buffer _ _ found low _ _ _ (pair_of c.in_ok-node.node.held.processed c.in_ok-node.node.held.cutoff) _ (ap (λ a. pair_of a.held.processed a.held.cutoff) raised.same) (HearsFront-whole _ _ _ (rw c.round.ensures at c.in_ok-node.ensures.asks)) (c.in_err-node-2.ensures.lost c.args.self.held written (c.in_ok-node.ensures.goes_on c.args.self.held written (Grew-refl _ _ nested certs_nested) (WithinWritten-nothing _)) (WithinWritten-refl _)) c.in_err-node-2.ensures.usual;
       lives = λ nested certs_nested. EndsLife-usual c.args.self _ (c.in_err-node-2.ensures.lost c.args.self.held written (c.in_ok-node.ensures.goes_on c.args.self.held written (Grew-refl _ _ nested certs_nested) (WithinWritten-nothing _)) (WithinWritten-refl _)).cause c.in_err-node-2.ensures.usual;
       by_value = usual-due None _ c.in_err-node-2.ensures.usual;
       tells = TellsInOrder-ended _ _ _ (Hears-nothing _);

@@ -17,7 +17,7 @@ returns-in_err-node g c =
     let p = err_from_is_err_and c.from_residual.result c.from_residual.ensures.1 in
     rw (p.1, p.2) (record {
       promise = λ nested certs_nested.
-          promise-unread (g.E.Epocher.epochs c.args.self.life.epocher) g.V.Variant.inner (g.met.E.Epocher.partition c.args.self.life.epocher) c.args.self _ _ _ None None _ (c.in_err-node.ensures.goes_on c.args.self.held nothing_written (Grew-refl _ _ nested certs_nested) (WithinWritten-refl _)) c.in_err-node.ensures.usual;
+          promise-unread (g.E.Epocher.epochs c.args.self.life.epocher) g.V.Variant.inner (g.met.E.Epocher.partition c.args.self.life.epocher) c.args.self _ _ _ _ _ (c.in_err-node.ensures.goes_on c.args.self.held nothing_written (Grew-refl _ _ nested certs_nested) (WithinWritten-refl _)) c.in_err-node.ensures.usual;
       lives = λ nested certs_nested. EndsLife-usual c.args.self _ (c.in_err-node.ensures.goes_on c.args.self.held nothing_written (Grew-refl _ _ nested certs_nested) (WithinWritten-refl _)).cause c.in_err-node.ensures.usual;
       by_value = usual-due _ _ c.in_err-node.ensures.usual;
       tells = TellsInOrder-ended _ _ _ (Hears-nothing _);

@@ -2,7 +2,7 @@ use Rattle.std.proofs.Common.{drop, map, ◌≡◌}
 use Rattle.mar_key.specs.Asked.{annotations_of}
 use Rattle.mar_key.specs.Recorded.{asked_of}
 use Rattle.mar_key.specs.Views.{key_of}
-use Rattle.mar_key.proofs.recorder.annotations_in.Given as goal
+use Rattle.mar_key.proofs.open_requests.annotations_in.Given as goal
 
 abbrev pub invariant-loop-asked : goal.invariant-loop-asked
 invariant-loop-asked g l =

@@ -3,7 +3,7 @@ use Rattle.std.proofs.lemmas.Fn.{filter_same}
 use Rattle.mar_key.specs.Fronts.{filter-map}
 use Rattle.mar_key.specs.Keys.{is_denied}
 use Rattle.mar_key.specs.Views.{annotation_of, retain_of}
-use Rattle.mar_key.proofs.recorder.deny.Goals as goal
+use Rattle.mar_key.proofs.open_requests.deny.Goals as goal
 
 pub returns : goal.returns
 returns g c =

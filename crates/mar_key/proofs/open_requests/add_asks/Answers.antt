@@ -3,7 +3,7 @@ use Rattle.std.proofs.lemmas.List.{take-map}
 use Rattle.std.proofs.lemmas.Result.{err_from_is_err_and}
 use Rattle.mar_key.specs.Asked.{after_ask}
 use Rattle.mar_key.specs.Recorded.{ask_of, asked_of}
-use Rattle.mar_key.proofs.recorder.add_asks.Goals as goal
+use Rattle.mar_key.proofs.open_requests.add_asks.Goals as goal
 
 pub returns-in_err-add_ask-clause-err : goal.returns-in_err-add_ask-clause-err
 returns-in_err-add_ask-clause-err g c =

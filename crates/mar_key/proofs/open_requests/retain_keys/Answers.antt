@@ -3,7 +3,7 @@ use Rattle.std.proofs.lemmas.Fn.{filter_same}
 use Rattle.mar_key.specs.Asked.{is_idle}
 use Rattle.mar_key.specs.Recorded.{asked_of}
 use Rattle.mar_key.proofs.OpenKeys.{keys_retained}
-use Rattle.mar_key.proofs.recorder.retain_keys.Goals as goal
+use Rattle.mar_key.proofs.open_requests.retain_keys.Goals as goal
 
 pub returns : goal.returns
 returns g c =

@@ -2,7 +2,7 @@ use Rattle.std.proofs.Common.{ap, map, ◌∙◌}
 use Rattle.std.proofs.lemmas.Result.{err_from_is_err_and}
 use Rattle.mar_key.specs.Recorded.{asked_of}
 use Rattle.mar_key.proofs.OpenKeys.{slice_written}
-use Rattle.mar_key.proofs.recorder.add_fetch.Goals as goal
+use Rattle.mar_key.proofs.open_requests.add_fetch.Goals as goal
 
 pub returns-in_err-annotations-clause-err : goal.returns-in_err-annotations-clause-err
 returns-in_err-annotations-clause-err g c =

@@ -1,5 +1,5 @@
 use Rattle.mar_key.specs.Fronts.{entries_written, entry_written}
-use Rattle.mar_key.proofs.recorder.deny_all.Goals as goal
+use Rattle.mar_key.proofs.open_requests.deny_all.Goals as goal
 
 pub loop-asked-preserved : goal.loop-asked-preserved
 loop-asked-preserved g c = entry_written _ _ _ _ _ _ c.loop-asked.invariant _ c.loop-asked-test.true c.deny.ensures

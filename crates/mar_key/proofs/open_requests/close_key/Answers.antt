@@ -3,7 +3,7 @@ use Rattle.std.proofs.lemmas.Fn.{filter_same}
 use Rattle.mar_key.specs.Fronts.{filter-map}
 use Rattle.mar_key.specs.Keys.{key_eq}
 use Rattle.mar_key.specs.Views.{key_of}
-use Rattle.mar_key.proofs.recorder.close_key.Goals as goal
+use Rattle.mar_key.proofs.open_requests.close_key.Goals as goal
 
 pub returns : goal.returns
 returns g c =

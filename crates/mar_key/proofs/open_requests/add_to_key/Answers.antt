@@ -3,7 +3,7 @@ use Rattle.std.proofs.lemmas.Result.{err_from_is_err_and}
 use Rattle.mar_key.specs.Recorded.{asked_of}
 use Rattle.mar_key.specs.Views.{annotation_of, key_of}
 use Rattle.mar_key.proofs.OpenKeys.{asked_for, entry_same, key_found, key_other, set_same}
-use Rattle.mar_key.proofs.recorder.add_to_key.Goals as goal
+use Rattle.mar_key.proofs.open_requests.add_to_key.Goals as goal
 
 pub returns-then-found-clause-ok : goal.returns-then-found-clause-ok
 returns-then-found-clause-ok g c =

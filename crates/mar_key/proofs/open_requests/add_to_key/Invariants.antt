@@ -2,7 +2,7 @@ use Rattle.std.proofs.Common.{drop, map, take, ◌++◌, ◌≡◌}
 use Rattle.mar_key.specs.Asked.{with_fetch}
 use Rattle.mar_key.specs.Recorded.{asked_of, call_key}
 use Rattle.mar_key.specs.Views.{annotation_of}
-use Rattle.mar_key.proofs.recorder.add_to_key.Given as goal
+use Rattle.mar_key.proofs.open_requests.add_to_key.Given as goal
 
 abbrev pub invariant-loop-asked : goal.invariant-loop-asked
 invariant-loop-asked g l = record {
