@@ -1,5 +1,5 @@
 -- What enters the stores in the instances, and what may be left of it.
-use Rattle.std.proofs.Common.{Bool, Contains, List, None, Option, Some, ap, arith, false, if◌then◌else◌, inl, inr, lit<, subst, suc, sym, true, zero, ℕ, ◌∙◌, ◌≡◌, ◌⊎◌}
+use Rattle.std.proofs.Common.{Bool, Contains, List, [], None, Option, Some, ap, arith, false, if◌then◌else◌, inl, inr, lit<, subst, suc, sym, true, zero, ℕ, ◌∙◌, ◌≡◌, ◌⊎◌}
 use Rattle.mar_cert.specs.Block.{Block}
 use Rattle.mar_cert.specs.Finalization.{Finalization}
 use Rattle.mar_store.specs.Kept.{At, reopened_store, value_at}

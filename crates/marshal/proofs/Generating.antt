@@ -21,7 +21,7 @@ use Rattle.mar_script.specs.Refused.{max_lines}
 use Rattle.mar_node.specs.Step.{IsFront}
 use Rattle.mar_script.specs.Run.{HandsBack, IsLineBytes, MemoryEnds, Premises, Replays, Status, StopsAt, out_of_memory, read_to_end}
 use Rattle.mar_script.specs.Script.{Line, config_of}
-use Rattle.mar_script.specs.Text.{Done, output_text, stopped, text}
+use Rattle.mar_script.specs.Text.{State, Done, output_text, stopped, text}
 use Rattle.mar_script.specs.declared.Line.{Line as LineCode}
 use Rattle.mar_script.specs.declared.Status.{Status as StatusCode}
 use Rattle.mar_script.specs.declared.Status.TheVariants as status
@@ -31,13 +31,14 @@ use Rattle.mar_gen.specs.declared.Owed.{Owed}
 use Rattle.mar_gen.specs.declared.Planned.{Planned}
 use Rattle.marshal.specs.Gen.{AreMade, Comes, ComesBehind, Generates, IsMadeLine, IsOneText, MadeLine, RunsMade, RunsShort, RunsTo, RunsWhole, WritesLine, delivered_in, gen_settings, lines_of, texts_of}
 use Rattle.marshal.specs.Playing.{HasLuck, IsSetAs, Turned, TurnsLine, WritesText, account_in}
-use Rattle.marshal.specs.Turn.{remains_in, state_of}
+use Rattle.marshal.specs.Turn.{open_in, remains_in, state_of, state_with}
 use Rattle.marshal.specs.declared.generate.Coming.TheVariants as coming
 use Rattle.marshal.specs.declared.generate.Tally.{Tally}
 use Rattle.marshal.specs.declared.play.State.{State as StateCode}
 use Rattle.marshal.specs.declared.play.State.TheVariants as state
 use Rattle.marshal.proofs.Headlines.{left_remains, ok_not_err, text_open}
 use Rattle.marshal.proofs.MadeScript.{premises_made, reads_made, settings_fit}
+use Rattle.marshal.proofs.OpenStates.{done_counted, done_lucky, done_open, done_plays, opened_now}
 use Rattle.marshal.proofs.Replaying.{RunSoFar, StopsBetween, first_run, front_output, lawful_next, more_run, premises_before, stops_between, stops_in_text}
 
 -- ONE LINE MORE
@@ -86,7 +87,7 @@ module _ {H R : Type 0} where
     pub delivered_is : delivered ≡ min (delivered_before (text before.ended []) made) (2 ^ 64 - 1)
     pub luck : ℕ
     pub lucky : HasLuck luck code
-    pub runs : (chain : Chain) → Premises (config_of gen_settings) chain (lines_of made) before.ended → RunSoFar (config_of gen_settings) chain before (lines_of made) (account_in luck code) (λ asked. state_of asked code) (texts_of (text before.ended []) made)
+    pub runs : (chain : Chain) → Premises (config_of gen_settings) chain (lines_of made) before.ended → RunSoFar (config_of gen_settings) chain before (lines_of made) (account_in luck code) (state_of code) (texts_of (text before.ended []) made)
 
   pub gen_first : (seed n : ℕ) (before : Remains) (code : StateCode H R) (last : List ℕ) → code ≡ state.Stopped before 0 → last ≡ text before.ended [] → GenSoFar seed n 0 2 0 before code last
   unfolding delivered_before
@@ -103,25 +104,25 @@ module _ {H R : Type 0} where
         luck = 0;
         lucky = refl;
         runs = λ chain p.
-            subst (RunSoFar (config_of gen_settings) chain before [] (first_account before.watches) (λ asked. stopped before.ended)) (sym (append-nil (text before.ended []))) (first_run (config_of gen_settings) chain before (λ asked. stopped before.ended) p (λ asked. refl));
+            subst (RunSoFar (config_of gen_settings) chain before [] (first_account before.watches) (stopped before.ended)) (sym (append-nil (text before.ended []))) (first_run (config_of gen_settings) chain before (stopped before.ended) p refl);
       }
 
   module _ (seed n : ℕ) (fits : IsNumber seed) (few : n ≤ 10_000) (place number delivered : ℕ) (before : Remains) (c : StateCode H R) (last : List ℕ) (so : GenSoFar seed n place number delivered before c last) where
     -- WHERE IT ENDS
 
     -- what was made is replayed, as far as memory lasts
-    runs_made : (status : Status) → StopsBetween status → StopsAt (length (lines_of so.made) + 2) (IsLineBytes 4) [] [] status → number ≤ max_lines + 1 → ((asked : List Asked) → HandsBack (state_of asked c) (remains_in c).ended) → RunsMade seed n (lines_of so.made) status (texts_of (text before.ended []) so.made) before (remains_in c)
+    runs_made : (status : Status) → StopsBetween status → StopsAt (length (lines_of so.made) + 2) (IsLineBytes 4) [] [] status → number ≤ max_lines + 1 → ((asked : List Asked) → HandsBack (state_with asked c) (remains_in c).ended) → RunsMade seed n (lines_of so.made) status (texts_of (text before.ended []) so.made) before (remains_in c)
     runs_made status between stops number_fits hands = record {
       reads = reads_made seed n (lines_of so.made) status fits few so.ours (omega (arith, so.count, number_fits)) stops;
       premises = λ apart good some. premises_made seed n (lines_of so.made) so.ours before.ended few apart good some;
-      runs = λ chain p. stops_between status (config_of gen_settings) chain before (lines_of so.made) (account_in so.luck c) (λ asked. state_of asked c) (texts_of (text before.ended []) so.made) (remains_in c) between (so.runs chain p) refl (left_remains c) hands;
+      runs = λ chain p. stops_between status (config_of gen_settings) chain before (lines_of so.made) (account_in so.luck c) (state_of c) (texts_of (text before.ended []) so.made) (remains_in c) between (so.runs chain p) refl (left_remains c (open_in c)) (hands (open_in c));
     }
 
-    pub gen_short : number ≤ max_lines + 1 → ((asked : List Asked) → HandsBack (state_of asked c) (remains_in c).ended) → RunsShort seed n before (remains_in c)
+    pub gen_short : number ≤ max_lines + 1 → ((asked : List Asked) → HandsBack (state_with asked c) (remains_in c).ended) → RunsShort seed n before (remains_in c)
     gen_short number_fits hands = record { lines = lines_of so.made; bytes = texts_of (text before.ended []) so.made; runs = runs_made out_of_memory tt tt number_fits hands }
 
     -- the steps are done and nothing is owed
-    pub gen_whole : (more : ℕ) (processed : Vec ℕ Global) → more ≡ blocks_in last → ComesBehind seed n place last (coming.End processed) → number ≤ max_lines → ((asked : List Asked) → HandsBack (state_of asked c) (remains_in c).ended)
+    pub gen_whole : (more : ℕ) (processed : Vec ℕ Global) → more ≡ blocks_in last → ComesBehind seed n place last (coming.End processed) → number ≤ max_lines → ((asked : List Asked) → HandsBack (state_with asked c) (remains_in c).ended)
         → RunsWhole seed n before (remains_in c) (min (delivered + more) (2 ^ 64 - 1)) processed.items
     gen_whole more processed counted (nothing, done, shown) number_fits hands = record {
       made = so.made;
@@ -150,58 +151,63 @@ module _ {H R : Type 0} where
 
       module _ {U : Type 0} (written : Result U StatusCode) (set : IsSetAs (config_of gen_settings) c) (turned : Turned (config_of gen_settings) c (plain_line l) (Some []) d (Some now) written) (number_fits : number ≤ max_lines) where
         abbrev text_now : List ℕ
-        text_now = output_text turned.out (state_of [] d)
+        text_now = output_text turned.out (state_with [] d)
 
         abbrev luck_now : ℕ
         luck_now = luck_after so.luck (plain_line l) turned.out.fault
 
+        -- the state behind the line
+        abbrev state_now : State
+        state_now = state_with (opened_now (config_of gen_settings) c d (plain_line l) (Some []) (Some now) written turned) d
+
         -- what the stores tell behind the line
         counted_now : AccountsFor (account_in so.luck c) (plain_line l) turned.out.fault (account_in luck_now d)
-        counted_now = record { luck = refl; calls = turned.plays.calls }
+        counted_now = done_counted (config_of gen_settings) c d (plain_line l) (Some []) (Some now) written turned so.luck
 
         -- the run before it, and what the line makes of its state
-        before_line : (chain : Chain) → Premises (config_of gen_settings) chain (lines_of so.made ++ plain_line l ∷ []) before.ended → RunSoFar (config_of gen_settings) chain before (lines_of so.made) (account_in so.luck c) (λ asked. state_of asked c) (texts_of (text before.ended []) so.made)
+        before_line : (chain : Chain) → Premises (config_of gen_settings) chain (lines_of so.made ++ plain_line l ∷ []) before.ended → RunSoFar (config_of gen_settings) chain before (lines_of so.made) (account_in so.luck c) (state_of c) (texts_of (text before.ended []) so.made)
         before_line chain p = so.runs chain (premises_before (config_of gen_settings) chain (lines_of so.made) (plain_line l) before.ended p)
 
         played : (chain : Chain) (p : Premises (config_of gen_settings) chain (lines_of so.made ++ plain_line l ∷ []) before.ended)
-            → (asked' : List Asked) × Plays (config_of gen_settings) chain (length (lines_of so.made)) (account_in so.luck c) (state_of (before_line chain p).asked c) (plain_line l) turned.out (state_of asked' d)
+            → Plays (config_of gen_settings) chain (length (lines_of so.made)) (account_in so.luck c) (state_of c) (plain_line l) turned.out state_now
         played chain p =
-            turned.plays.plays set so.luck so.lucky chain (length (lines_of so.made)) (before_line chain p).asked
-            (lawful_next (config_of gen_settings) chain before (lines_of so.made) (plain_line l) (account_in so.luck c) (λ asked. state_of asked c) (texts_of (text before.ended []) so.made) p (before_line chain p) (omega (arith, so.count, number_fits)) settings_fit.window.1)
+            done_plays (config_of gen_settings) c d (plain_line l) (Some []) (Some now) written turned set so.luck so.lucky chain (length (lines_of so.made))
+            (lawful_next (config_of gen_settings) chain before (lines_of so.made) (plain_line l) (account_in so.luck c) (state_of c) (texts_of (text before.ended []) so.made) p (before_line chain p) (omega (arith, so.count, number_fits)) settings_fit.window.1)
 
-        run_now : (chain : Chain) → Premises (config_of gen_settings) chain (lines_of so.made ++ plain_line l ∷ []) before.ended → (turned.out.fault ≡ Some want_of_memory → ⊥)
-            → RunSoFar (config_of gen_settings) chain before (lines_of so.made ++ plain_line l ∷ []) (account_in luck_now d) (λ asked. state_of asked d) (texts_of (text before.ended []) so.made ++ text_now)
-        run_now chain p remembered =
-            subst (λ bs. RunSoFar (config_of gen_settings) chain before (lines_of so.made ++ plain_line l ∷ []) (account_in luck_now d) (λ asked. state_of asked d) (texts_of (text before.ended []) so.made ++ bs)) (text_open turned.out d (played chain p).0)
-            (more_run (config_of gen_settings) chain before (lines_of so.made) (plain_line l) (account_in so.luck c) (λ asked. state_of asked c) (texts_of (text before.ended []) so.made) p (before_line chain p) turned.out (λ asked. state_of asked d) (account_in luck_now d) (played chain p).0 (played chain p).1 counted_now
-            remembered)
+        run_now : (chain : Chain) → Premises (config_of gen_settings) chain (lines_of so.made ++ plain_line l ∷ []) before.ended → (turned.out.fault ≡ Some want_of_memory → ⊥) → state_now ≡ state_of d
+            → RunSoFar (config_of gen_settings) chain before (lines_of so.made ++ plain_line l ∷ []) (account_in luck_now d) (state_of d) (texts_of (text before.ended []) so.made ++ text_now)
+        run_now chain p remembered all =
+            subst (λ x. RunSoFar (config_of gen_settings) chain before (lines_of so.made ++ plain_line l ∷ []) (account_in luck_now d) x (texts_of (text before.ended []) so.made ++ text_now)) all
+            (subst (λ bs. RunSoFar (config_of gen_settings) chain before (lines_of so.made ++ plain_line l ∷ []) (account_in luck_now d) state_now (texts_of (text before.ended []) so.made ++ bs)) (text_open turned.out d (opened_now (config_of gen_settings) c d (plain_line l) (Some []) (Some now) written turned))
+            (more_run (config_of gen_settings) chain before (lines_of so.made) (plain_line l) (account_in so.luck c) (state_of c) (texts_of (text before.ended []) so.made) p (before_line chain p) turned.out state_now (account_in luck_now d) (played chain p) counted_now
+            remembered))
 
         -- the line was done and written
         further : (u : U) → written ≡ Ok u → (more : ℕ) → more ≡ blocks_in last → GenSoFar seed n after (number + 1) (min (delivered + more) (2 ^ 64 - 1)) before d now
         further u is more counted =
             let m : MadeLine = record { line = plain_line l; text = now } in
-            let now_is : text_now ≡ now = sym (subst (λ w. WritesText (Some []) (λ asked. output_text turned.out (state_of asked d)) (Some now) w) is turned.wrote [] [] refl) in
+            let now_is : text_now ≡ now = sym (subst (λ w. WritesText (Some []) (λ asked. output_text turned.out (state_with asked d)) (Some now) w) is turned.wrote [] [] refl) in
             record {
               made = more_made;
               are_made = made_more seed (plan seed n) (text before.ended []) so.made (drop place (plan seed n)) last comes.0 m (drop after (plan seed n)) so.are_made comes.1 comes.2;
               ours = subst (AllByRecursion (IsMadeLine seed n)) (sym (lines_more so.made m)) ours_now;
-              each_text = AllByRecursion-push IsOneText so.made m so.each_text (turned.out, state_of [] d, sym now_is);
+              each_text = AllByRecursion-push IsOneText so.made m so.each_text (turned.out, state_with [] d, sym now_is);
               count = subst (λ ls. length ls + 2 ≡ number + 1) (sym (lines_more so.made m)) count_now;
               delivered_is =
                   let all : delivered_before (text before.ended []) more_made ≡ delivered_before (text before.ended []) so.made + blocks_in last = delivered_more seed (plan seed n) (text before.ended []) so.made (drop place (plan seed n)) last m so.are_made in
                   omega (arith, all, counted, so.delivered_is);
               luck = luck_now;
-              lucky = turned.plays.lucky so.luck so.lucky;
+              lucky = done_lucky (config_of gen_settings) c d (plain_line l) (Some []) (Some now) written turned so.luck so.lucky;
               runs = λ chain p.
-                  subst (λ ls. RunSoFar (config_of gen_settings) chain before ls (account_in luck_now d) (λ asked. state_of asked d) (texts_of (text before.ended []) more_made)) (sym (lines_more so.made m))
-                  (subst (RunSoFar (config_of gen_settings) chain before (lines_of so.made ++ plain_line l ∷ []) (account_in luck_now d) (λ asked. state_of asked d)) (ap (λ ts. texts_of (text before.ended []) so.made ++ ts) now_is ∙ sym (texts_more (text before.ended []) so.made m))
-                  (run_now chain (subst (λ ls. Premises (config_of gen_settings) chain ls before.ended) (lines_more so.made m) p) (λ memory. ok_not_err u status.Memory (sym is ∙ turned.memory memory))));
+                  subst (λ ls. RunSoFar (config_of gen_settings) chain before ls (account_in luck_now d) (state_of d) (texts_of (text before.ended []) more_made)) (sym (lines_more so.made m))
+                  (subst (RunSoFar (config_of gen_settings) chain before (lines_of so.made ++ plain_line l ∷ []) (account_in luck_now d) (state_of d)) (ap (λ ts. texts_of (text before.ended []) so.made ++ ts) now_is ∙ sym (texts_more (text before.ended []) so.made m))
+                  (run_now chain (subst (λ ls. Premises (config_of gen_settings) chain ls before.ended) (lines_more so.made m) p) (λ memory. ok_not_err u status.Memory (sym is ∙ turned.memory memory)) (done_open (config_of gen_settings) c d (plain_line l) (Some []) (Some now) written turned u is)));
             }
 
         -- it was done, and not all of its text was written
-        unwritten : (code : StatusCode) → written ≡ Err code → ((asked : List Asked) → HandsBack (state_of asked d) (remains_in d).ended) → RunsShort seed n before (remains_in d)
+        unwritten : (code : StatusCode) → written ≡ Err code → ((asked : List Asked) → HandsBack (state_with asked d) (remains_in d).ended) → RunsShort seed n before (remains_in d)
         unwritten code is hands =
-            let wrote = subst (λ w. WritesText (Some []) (λ asked. output_text turned.out (state_of asked d)) (Some now) w) is turned.wrote [] in
+            let wrote = subst (λ w. WritesText (Some []) (λ asked. output_text turned.out (state_with asked d)) (Some now) w) is turned.wrote [] in
             record {
               lines = lines_of so.made ++ plain_line l ∷ [];
               bytes = texts_of (text before.ended []) so.made ++ wrote.0;
@@ -209,8 +215,8 @@ module _ {H R : Type 0} where
                 reads = reads_made seed n (lines_of so.made ++ plain_line l ∷ []) out_of_memory fits few ours_now (omega (arith, count_now, number_fits)) tt;
                 premises = λ apart good some. premises_made seed n (lines_of so.made ++ plain_line l ∷ []) ours_now before.ended few apart good some;
                 runs = λ chain p.
-                    stops_in_text (config_of gen_settings) chain before (lines_of so.made) (plain_line l) (account_in so.luck c) (λ asked. state_of asked c) (texts_of (text before.ended []) so.made) p (before_line chain p) turned.out (λ asked. state_of asked d) (account_in luck_now d) (played chain p).0 (played chain p).1
-                    counted_now out_of_memory wrote.0 (remains_in d) tt (subst (λ whole. IsFront wrote.0 whole) (sym (text_open turned.out d (played chain p).0)) wrote.1) (λ memory. refl) refl (left_remains d (played chain p).0) (hands (played chain p).0);
+                    stops_in_text (config_of gen_settings) chain before (lines_of so.made) (plain_line l) (account_in so.luck c) (state_of c) (texts_of (text before.ended []) so.made) p (before_line chain p) turned.out state_now (account_in luck_now d) (played chain p)
+                    counted_now out_of_memory wrote.0 (remains_in d) tt (subst (λ whole. IsFront wrote.0 whole) (sym (text_open turned.out d (opened_now (config_of gen_settings) c d (plain_line l) (Some []) (Some now) written turned))) wrote.1) (λ memory. refl) refl (left_remains d (opened_now (config_of gen_settings) c d (plain_line l) (Some []) (Some now) written turned)) (hands (opened_now (config_of gen_settings) c d (plain_line l) (Some []) (Some now) written turned));
               };
             }
 
@@ -218,10 +224,10 @@ module _ {H R : Type 0} where
       gen_further written u more set (inl (memory, same, takes)) number_fits is counted = absurd (ok_not_err u status.Memory (sym is ∙ memory))
       gen_further written u more set (inr turned) number_fits is counted = further written set turned number_fits u is more counted
 
-      pub gen_unwritten : {U : Type 0} (written : Result U StatusCode) (code : StatusCode) → IsSetAs (config_of gen_settings) c → TurnsLine (config_of gen_settings) c (plain_line l) (Some []) d (Some now) written → number ≤ max_lines → written ≡ Err code → ((asked : List Asked) → HandsBack (state_of asked d) (remains_in d).ended)
+      pub gen_unwritten : {U : Type 0} (written : Result U StatusCode) (code : StatusCode) → IsSetAs (config_of gen_settings) c → TurnsLine (config_of gen_settings) c (plain_line l) (Some []) d (Some now) written → number ≤ max_lines → written ≡ Err code → ((asked : List Asked) → HandsBack (state_with asked d) (remains_in d).ended)
           → RunsShort seed n before (remains_in d)
       gen_unwritten written code set (inl (memory, same, takes)) number_fits is hands =
-          subst (λ x. RunsShort seed n before (remains_in x)) (sym same) (gen_short (omega (arith, number_fits)) (subst (λ x. (asked : List Asked) → HandsBack (state_of asked x) (remains_in x).ended) same hands))
+          subst (λ x. RunsShort seed n before (remains_in x)) (sym same) (gen_short (omega (arith, number_fits)) (subst (λ x. (asked : List Asked) → HandsBack (state_with asked x) (remains_in x).ended) same hands))
       gen_unwritten written code set (inr turned) number_fits is hands = unwritten written set turned number_fits code is hands
 
 -- no line was done, and at most a front of the first text was written

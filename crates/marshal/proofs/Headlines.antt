@@ -24,8 +24,8 @@ use Rattle.mar_script.specs.Refused.{max_lines}
 use Rattle.mar_script.specs.Run.{HandsBack, HeadlineWhereTold, IsConfigBytes, IsLineBytes, Premises, Replays, Status, out_of_memory, outside_grammar, read_failed, read_to_end, write_failed}
 use Rattle.mar_script.specs.Script.{IsSettings, Line, Settings, config_of, settings_bytes}
 use Rattle.mar_script.specs.Streams.{Gives, Takes, TakesFront}
-use Rattle.mar_script.specs.Text.{Output, output_text, running, silent_output, stopped, text}
-use Rattle.marshal.specs.Turn.{output_of, remains_in, state_of}
+use Rattle.mar_script.specs.Text.{Output, State, output_text, running, silent_output, stopped, text}
+use Rattle.marshal.specs.Turn.{open_in, output_of, remains_in, state_of, state_with}
 use Rattle.mar_script.specs.declared.Line.{Line as LineCode}
 use Rattle.marshal.specs.declared.play.Outcome.TheVariants as outcome
 use Rattle.marshal.specs.declared.play.State.{State as StateCode}
@@ -33,6 +33,7 @@ use Rattle.marshal.specs.declared.play.State.TheVariants as state
 use Rattle.mar_script.specs.declared.Status.{Status as StatusCode}
 use Rattle.mar_script.specs.declared.Status.TheVariants as status
 use Rattle.mar_script.proofs.ReadSteps.{SoFar, begins, ends, goes_on, shown}
+use Rattle.marshal.proofs.OpenStates.{done_counted, done_lucky, done_open, done_plays, done_set, done_small, opened_now}
 use Rattle.marshal.proofs.Replaying.{RunSoFar, StopsBetween, StopsInText, first_run, front_output, lawful_next, left_in, more_run, premises_before, stops_between, stops_in_text}
 use Rattle.mar_script.proofs.Streams.{takes_more, takes_none}
 
@@ -106,23 +107,23 @@ shown_first sunk sunk' reports asks before written silent unasked wrote =
 
 module _ {H R : Type 0} where
   -- a state's text doesn't depend on the open requests
-  pub text_open : (out : Output) (s : StateCode H R) (asked : List Asked) → output_text out (state_of asked s) ≡ output_text out (state_of [] s)
+  pub text_open : (out : Output) (s : StateCode H R) (asked : List Asked) → output_text out (state_with asked s) ≡ output_text out (state_with [] s)
   unfolding output_text
-  text_open out (state.Running seen buffer) asked = refl
+  text_open out (state.Running seen buffer opened) asked = refl
   text_open out (state.Stopped left luck) asked = refl
 
-  pub left_remains : (s : StateCode H R) (asked : List Asked) → left_in (state_of asked s) ≡ (remains_in s).ended
-  left_remains (state.Running seen buffer) asked = refl
+  pub left_remains : (s : StateCode H R) (asked : List Asked) → left_in (state_with asked s) ≡ (remains_in s).ended
+  left_remains (state.Running seen buffer opened) asked = refl
   left_remains (state.Stopped left luck) asked = refl
 
   -- a line that was written leaves the settings, and small blocks
   pub turned_set : {U : Type 0} (config : Config) (c d : StateCode H R) (l : Line) (sunk sunk' : Option (List ℕ)) (written : Result U StatusCode) → TurnsLine config c l sunk d sunk' written → IsSetAs config c → IsSetAs config d
   turned_set config c d l sunk sunk' written (inl (memory, same, takes)) set = subst (IsSetAs config) (sym same) set
-  turned_set config c d l sunk sunk' written (inr turned) set = turned.plays.set set
+  turned_set config c d l sunk sunk' written (inr turned) set = done_set config c d l sunk sunk' written turned set
 
   pub turned_small : {U : Type 0} (config : Config) (c d : StateCode H R) (l : Line) (sunk sunk' : Option (List ℕ)) (written : Result U StatusCode) → TurnsLine config c l sunk d sunk' written → IsSmallLine l → HasSmallBlocks c → HasSmallBlocks d
   turned_small config c d l sunk sunk' written (inl (memory, same, takes)) line small = subst HasSmallBlocks (sym same) small
-  turned_small config c d l sunk sunk' written (inr turned) line small = turned.plays.small line small
+  turned_small config c d l sunk sunk' written (inr turned) line small = done_small config c d l sunk sunk' written turned line small
 
   -- The lines that were read and done so far, what was written, and the run that it is for each lawful chain.
   pub record HeadSoFar (source : Option (List ℕ)) (s : Settings) (pending : List ℕ) (now : Option (List ℕ)) (number : ℕ) (before : Remains) (code : StateCode H R) (sunk sunk' : Option (List ℕ)) : Type 0 where
@@ -131,16 +132,16 @@ module _ {H R : Type 0} where
     pub takes : Takes sunk bytes sunk'
     pub luck : ℕ
     pub lucky : HasLuck luck code
-    pub runs : (chain : Chain) → Premises (config_of s) chain reads.lines before.ended → RunSoFar (config_of s) chain before reads.lines (account_in luck code) (λ asked. state_of asked code) bytes
+    pub runs : (chain : Chain) → Premises (config_of s) chain reads.lines before.ended → RunSoFar (config_of s) chain before reads.lines (account_in luck code) (state_of code) bytes
 
   module _ (source : Option (List ℕ)) (s : Settings) (valid : IsSettings s) (before : Remains) (sunk : Option (List ℕ)) where
     -- BETWEEN TWO LINES
 
-    module _ (pending : List ℕ) (now : Option (List ℕ)) (number : ℕ) (c : StateCode H R) (sunk' : Option (List ℕ)) (so : HeadSoFar source s pending now number before c sunk sunk') (hands : (asked : List Asked) → HandsBack (state_of asked c) (remains_in c).ended) where
+    module _ (pending : List ℕ) (now : Option (List ℕ)) (number : ℕ) (c : StateCode H R) (sunk' : Option (List ℕ)) (so : HeadSoFar source s pending now number before c sunk sunk') (hands : (asked : List Asked) → HandsBack (state_with asked c) (remains_in c).ended) where
       between : (read : List ℕ) (after : Option (List ℕ)) (ending : Status) → StopsBetween ending → Gives now read after → StopsWith number (IsLineBytes s.members) (pending ++ read) after ending → HeadlineWhereTold source after sunk sunk' ending before (remains_in c)
       between read after ending here gives stops =
           told source s valid before sunk pending now number read after ending sunk' so.bytes (remains_in c) so.reads gives stops so.takes
-          (λ chain p. stops_between ending (config_of s) chain before so.reads.lines (account_in so.luck c) (λ asked. state_of asked c) so.bytes (remains_in c) here (so.runs chain p) refl (left_remains c) hands)
+          (λ chain p. stops_between ending (config_of s) chain before so.reads.lines (account_in so.luck c) (state_of c) so.bytes (remains_in c) here (so.runs chain p) refl (left_remains c (open_in c)) (hands (open_in c)))
 
       -- there is no next line, or it can't be had
       pub stops_reading : (code : StatusCode) (still : List ℕ) (after : Option (List ℕ)) → IsReadersEnd code → TakesNext s.members number now pending (Err code) still after → ReplaysWhereTold source after sunk sunk' code before (remains_in c)
@@ -158,30 +159,34 @@ module _ {H R : Type 0} where
 
     module _ (pending : List ℕ) (now : Option (List ℕ)) (number : ℕ) (c : StateCode H R) (sunk' : Option (List ℕ)) (so : HeadSoFar source s pending now number before c sunk sunk') (l : LineCode) (still : List ℕ) (after : Option (List ℕ)) (t : TakesNext s.members number now pending (Ok (Some l)) still after) where
       -- memory ran out before the line did anything
-      pub stops_undone : (sunk2 : Option (List ℕ)) → Takes sunk' [] sunk2 → ((asked : List Asked) → HandsBack (state_of asked c) (remains_in c).ended) → ReplaysWhereTold source after sunk sunk2 status.Memory before (remains_in c)
+      pub stops_undone : (sunk2 : Option (List ℕ)) → Takes sunk' [] sunk2 → ((asked : List Asked) → HandsBack (state_with asked c) (remains_in c).ended) → ReplaysWhereTold source after sunk sunk2 status.Memory before (remains_in c)
       stops_undone sunk2 takes hands =
           told source s valid before sunk pending now number t.read after out_of_memory sunk2 so.bytes (remains_in c) so.reads t.gives (out_here source s valid before sunk number (pending ++ t.read) after) (subst (λ bs. Takes sunk bs sunk2) (append-nil so.bytes) (takes_more sunk sunk' sunk2 so.bytes [] so.takes takes))
-          (λ chain p. stops_between out_of_memory (config_of s) chain before so.reads.lines (account_in so.luck c) (λ asked. state_of asked c) so.bytes (remains_in c) tt (so.runs chain p) refl (left_remains c) hands)
+          (λ chain p. stops_between out_of_memory (config_of s) chain before so.reads.lines (account_in so.luck c) (state_of c) so.bytes (remains_in c) tt (so.runs chain p) refl (left_remains c (open_in c)) (hands (open_in c)))
 
       module _ {U : Type 0} (d : StateCode H R) (sunk2 : Option (List ℕ)) (written : Result U StatusCode) (set : IsSetAs (config_of s) c) (turned : Turned (config_of s) c (plain_line l) sunk' d sunk2 written) where
         abbrev text_now : List ℕ
-        text_now = output_text turned.out (state_of [] d)
+        text_now = output_text turned.out (state_with [] d)
 
         abbrev luck_now : ℕ
         luck_now = luck_after so.luck (plain_line l) turned.out.fault
 
+        -- the state behind the line
+        abbrev state_now : State
+        state_now = state_with (opened_now (config_of s) c d (plain_line l) sunk' sunk2 written turned) d
+
         -- what the stores tell behind the line
         counted : AccountsFor (account_in so.luck c) (plain_line l) turned.out.fault (account_in luck_now d)
-        counted = record { luck = refl; calls = turned.plays.calls }
+        counted = done_counted (config_of s) c d (plain_line l) sunk' sunk2 written turned so.luck
 
         -- the run before it, and what the line makes of its state
-        before_line : (chain : Chain) → Premises (config_of s) chain (so.reads.lines ++ plain_line l ∷ []) before.ended → RunSoFar (config_of s) chain before so.reads.lines (account_in so.luck c) (λ asked. state_of asked c) so.bytes
+        before_line : (chain : Chain) → Premises (config_of s) chain (so.reads.lines ++ plain_line l ∷ []) before.ended → RunSoFar (config_of s) chain before so.reads.lines (account_in so.luck c) (state_of c) so.bytes
         before_line chain p = so.runs chain (premises_before (config_of s) chain so.reads.lines (plain_line l) before.ended p)
 
-        played : (chain : Chain) (p : Premises (config_of s) chain (so.reads.lines ++ plain_line l ∷ []) before.ended) → (asked' : List Asked) × Plays (config_of s) chain (length so.reads.lines) (account_in so.luck c) (state_of (before_line chain p).asked c) (plain_line l) turned.out (state_of asked' d)
+        played : (chain : Chain) (p : Premises (config_of s) chain (so.reads.lines ++ plain_line l ∷ []) before.ended) → Plays (config_of s) chain (length so.reads.lines) (account_in so.luck c) (state_of c) (plain_line l) turned.out state_now
         played chain p =
-            turned.plays.plays set so.luck so.lucky chain (length so.reads.lines) (before_line chain p).asked
-            (lawful_next (config_of s) chain before so.reads.lines (plain_line l) (account_in so.luck c) (λ asked. state_of asked c) so.bytes p (before_line chain p) (omega (arith, so.reads.few)) valid.window.1)
+            done_plays (config_of s) c d (plain_line l) sunk' sunk2 written turned set so.luck so.lucky chain (length so.reads.lines)
+            (lawful_next (config_of s) chain before so.reads.lines (plain_line l) (account_in so.luck c) (state_of c) so.bytes p (before_line chain p) (omega (arith, so.reads.few)) valid.window.1)
 
         -- the line was done and written
         pub goes_further : (u : U) → written ≡ Ok u → HeadSoFar source s still after (number + 1) before d sunk sunk2
@@ -189,29 +194,30 @@ module _ {H R : Type 0} where
         goes_further u is = record {
           reads = goes_on source s pending now number l still after so.reads t;
           bytes = so.bytes ++ text_now;
-          takes = takes_more sunk sunk' sunk2 so.bytes text_now so.takes (subst (λ w. WritesText sunk' (λ asked. output_text turned.out (state_of asked d)) sunk2 w) is turned.wrote []);
+          takes = takes_more sunk sunk' sunk2 so.bytes text_now so.takes (subst (λ w. WritesText sunk' (λ asked. output_text turned.out (state_with asked d)) sunk2 w) is turned.wrote []);
           luck = luck_now;
-          lucky = turned.plays.lucky so.luck so.lucky;
+          lucky = done_lucky (config_of s) c d (plain_line l) sunk' sunk2 written turned so.luck so.lucky;
           runs = λ chain p.
-              subst (λ bs. RunSoFar (config_of s) chain before (so.reads.lines ++ plain_line l ∷ []) (account_in luck_now d) (λ asked. state_of asked d) (so.bytes ++ bs)) (text_open turned.out d (played chain p).0)
-              (more_run (config_of s) chain before so.reads.lines (plain_line l) (account_in so.luck c) (λ asked. state_of asked c) so.bytes p (before_line chain p) turned.out (λ asked. state_of asked d) (account_in luck_now d) (played chain p).0 (played chain p).1 counted
-              (λ memory. ok_not_err u status.Memory (sym is ∙ turned.memory memory)));
+              subst (λ x. RunSoFar (config_of s) chain before (so.reads.lines ++ plain_line l ∷ []) (account_in luck_now d) x (so.bytes ++ text_now)) (done_open (config_of s) c d (plain_line l) sunk' sunk2 written turned u is)
+              (subst (λ bs. RunSoFar (config_of s) chain before (so.reads.lines ++ plain_line l ∷ []) (account_in luck_now d) state_now (so.bytes ++ bs)) (text_open turned.out d (opened_now (config_of s) c d (plain_line l) sunk' sunk2 written turned))
+              (more_run (config_of s) chain before so.reads.lines (plain_line l) (account_in so.luck c) (state_of c) so.bytes p (before_line chain p) turned.out state_now (account_in luck_now d) (played chain p) counted
+              (λ memory. ok_not_err u status.Memory (sym is ∙ turned.memory memory))));
         }
 
-        in_text : (ending : Status) → StopsInText ending → (turned.out.fault ≡ Some want_of_memory → ending ≡ out_of_memory) → TakesFront sunk' text_now sunk2 → StopsWith (number + 1) (IsLineBytes s.members) (still ++ []) after ending → ((asked : List Asked) → HandsBack (state_of asked d) (remains_in d).ended)
+        in_text : (ending : Status) → StopsInText ending → (turned.out.fault ≡ Some want_of_memory → ending ≡ out_of_memory) → TakesFront sunk' text_now sunk2 → StopsWith (number + 1) (IsLineBytes s.members) (still ++ []) after ending → ((asked : List Asked) → HandsBack (state_with asked d) (remains_in d).ended)
             → HeadlineWhereTold source after sunk sunk2 ending before (remains_in d)
         unfolding goes_on
         in_text ending inside memory (front, is, takes) stops hands =
             told source s valid before sunk still after (number + 1) [] after ending sunk2 (so.bytes ++ front) (remains_in d) (goes_on source s pending now number l still after so.reads t) (λ rest h. h) stops (takes_more sunk sunk' sunk2 so.bytes front so.takes takes)
             (λ chain p.
-            stops_in_text (config_of s) chain before so.reads.lines (plain_line l) (account_in so.luck c) (λ asked. state_of asked c) so.bytes p (before_line chain p) turned.out (λ asked. state_of asked d) (account_in luck_now d) (played chain p).0 (played chain p).1 counted
-            ending front (remains_in d) inside (subst (λ whole. IsFront front whole) (sym (text_open turned.out d (played chain p).0)) is) memory refl (left_remains d (played chain p).0) (hands (played chain p).0))
+            stops_in_text (config_of s) chain before so.reads.lines (plain_line l) (account_in so.luck c) (state_of c) so.bytes p (before_line chain p) turned.out state_now (account_in luck_now d) (played chain p) counted
+            ending front (remains_in d) inside (subst (λ whole. IsFront front whole) (sym (text_open turned.out d (opened_now (config_of s) c d (plain_line l) sunk' sunk2 written turned))) is) memory refl (left_remains d (opened_now (config_of s) c d (plain_line l) sunk' sunk2 written turned)) (hands (opened_now (config_of s) c d (plain_line l) sunk' sunk2 written turned)))
 
         -- the line was done, and writing or memory failed
-        pub stops_unwritten : (code : StatusCode) → written ≡ Err code → IsWritersEnd code → ((asked : List Asked) → HandsBack (state_of asked d) (remains_in d).ended) → ReplaysWhereTold source after sunk sunk2 code before (remains_in d)
-        stops_unwritten status.Memory is end hands = in_text out_of_memory tt (λ memory. refl) (subst (λ w. WritesText sunk' (λ asked. output_text turned.out (state_of asked d)) sunk2 w) is turned.wrote []) (out_here source s valid before sunk (number + 1) (still ++ []) after) hands
+        pub stops_unwritten : (code : StatusCode) → written ≡ Err code → IsWritersEnd code → ((asked : List Asked) → HandsBack (state_with asked d) (remains_in d).ended) → ReplaysWhereTold source after sunk sunk2 code before (remains_in d)
+        stops_unwritten status.Memory is end hands = in_text out_of_memory tt (λ memory. refl) (subst (λ w. WritesText sunk' (λ asked. output_text turned.out (state_with asked d)) sunk2 w) is turned.wrote []) (out_here source s valid before sunk (number + 1) (still ++ []) after) hands
         stops_unwritten status.WriteFault is end hands =
-            in_text write_failed tt (λ memory. absurd (apart (err_inside status.WriteFault status.Memory (sym is ∙ turned.memory memory)))) (subst (λ w. WritesText sunk' (λ asked. output_text turned.out (state_of asked d)) sunk2 w) is turned.wrote [])
+            in_text write_failed tt (λ memory. absurd (apart (err_inside status.WriteFault status.Memory (sym is ∙ turned.memory memory)))) (subst (λ w. WritesText sunk' (λ asked. output_text turned.out (state_with asked d)) sunk2 w) is turned.wrote [])
             (record { left = (shown after).0; still = (shown after).1; stops = omega (arith, so.reads.count) }) hands
           where
             apart : status.WriteFault ≡ status.Memory → ⊥
@@ -222,11 +228,11 @@ module _ {H R : Type 0} where
         stops_unwritten status.Usage is end hands = absurd end
 
       -- the same of a line that was done or not
-      pub stops_turn : {U : Type 0} (d : StateCode H R) (sunk2 : Option (List ℕ)) (written : Result U StatusCode) (code : StatusCode) → IsSetAs (config_of s) c → TurnsLine (config_of s) c (plain_line l) sunk' d sunk2 written → written ≡ Err code → IsWritersEnd code → ((asked : List Asked) → HandsBack (state_of asked d) (remains_in d).ended)
+      pub stops_turn : {U : Type 0} (d : StateCode H R) (sunk2 : Option (List ℕ)) (written : Result U StatusCode) (code : StatusCode) → IsSetAs (config_of s) c → TurnsLine (config_of s) c (plain_line l) sunk' d sunk2 written → written ≡ Err code → IsWritersEnd code → ((asked : List Asked) → HandsBack (state_with asked d) (remains_in d).ended)
           → ReplaysWhereTold source after sunk sunk2 code before (remains_in d)
       stops_turn d sunk2 written code set (inl (memory, same, takes)) is end hands =
           subst (λ k. ReplaysWhereTold source after sunk sunk2 k before (remains_in d)) (sym (err_inside code status.Memory (sym is ∙ memory)))
-          (subst (λ x. ReplaysWhereTold source after sunk sunk2 status.Memory before (remains_in x)) (sym same) (stops_undone sunk2 takes (subst (λ x. (asked : List Asked) → HandsBack (state_of asked x) (remains_in x).ended) same hands)))
+          (subst (λ x. ReplaysWhereTold source after sunk sunk2 status.Memory before (remains_in x)) (sym same) (stops_undone sunk2 takes (subst (λ x. (asked : List Asked) → HandsBack (state_with asked x) (remains_in x).ended) same hands)))
       stops_turn d sunk2 written code set (inr turned) is end hands = stops_unwritten d sunk2 written set turned code is end hands
 
       pub turn_goes_further : {U : Type 0} (d : StateCode H R) (sunk2 : Option (List ℕ)) (written : Result U StatusCode) (u : U) → IsSetAs (config_of s) c → TurnsLine (config_of s) c (plain_line l) sunk' d sunk2 written → written ≡ Ok u → HeadSoFar source s still after (number + 1) before d sunk sunk2
@@ -250,7 +256,7 @@ module _ {H R : Type 0} where
           takes = takes;
           luck = 0;
           lucky = refl;
-          runs = λ chain p. first_run (config_of s) chain before (λ asked. stopped before.ended) p (λ asked. refl);
+          runs = λ chain p. first_run (config_of s) chain before (stopped before.ended) p refl;
         }
 
 -- nothing was read but what couldn't be done

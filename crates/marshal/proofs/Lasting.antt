@@ -94,13 +94,13 @@ module _ {P E : Type 0} (config : Config) (chain : Chain) (a : Seen P E) (buffer
   undropped-step e (acks t) made n' steps undropped = subst (λ m. Undropped m.out) (sym steps.ticket) (undropped-with_sync (write_count node) steps.unticketed
       (undropped-kept node (ack_given t) made steps.unticketed steps.advances.hands (undropped-after (with_mark t mark_given a.life.out) (undropped-marked t a.life.out undropped))))
 
-  pub no_event_fault : (e : Event) → IsPlain e → IsLawfulStep config chain node e → Undropped node.out → event_fault config node e ≡ None
+  pub no_event_fault : (e : Event) → IsPlain e → IsLawfulStep config chain node (e ∷ []) → Undropped node.out → event_fault config node e ≡ None
   no_event_fault e starts lawful undropped = refl
   no_event_fault e (reports f) lawful undropped = by (at_hand node f.payload) refl
     where
       by : (o : Option Block) → at_hand node f.payload ≡ o → storing_fault node (option_map (λ m. record { height = m.block.height; with_certificate = true }) (option_map (λ b. met_of b f) o)) no_floor ≡ None
       by None is = refl
-      by (Some b) is = not_at_limit (nat_lt (height_of a.held.processed) b.height) b.height (not_last config chain a f buffer asked lawful.lawful lawful.one lawful.good lawful.reported b is)
+      by (Some b) is = not_at_limit (nat_lt (height_of a.held.processed) b.height) b.height (not_last config chain a f buffer asked lawful.lawful lawful.one lawful.good lawful.reported.0 b is)
   no_event_fault e (acks t) lawful undropped = none_first (after_given (with_mark t mark_given a.life.out)) (undropped-after (with_mark t mark_given a.life.out) (undropped-marked t a.life.out undropped))
     where
       none_first : (out : List Outstanding) → Undropped out → dropped_first out ≡ None

@@ -25,13 +25,13 @@ use Rattle.mar_node.proofs.Reaching.{IsGood-beside, Rest-beside}
 use Rattle.mar_shelf.specs.declared.fault.Fault.{Fault as FaultCode}
 use Rattle.mar_script.specs.Accounts.{Account, Calls, CallsEnd, luck_after}
 use Rattle.mar_script.specs.Plays.{IsBetween, IsLawfulLine, Plays, max_window}
-use Rattle.marshal.specs.Playing.{AfterEvent, HasLuck, IsSetNode, PlaysLine, SeenNode, TakesEvent, account_in, empty_buffer}
+use Rattle.marshal.specs.Playing.{AfterEvent, HasLuck, IsOpenAs, IsSetNode, PlaysLine, SeenNode, TakesEvent, account_in, empty_buffer}
 use Rattle.mar_script.specs.Run.{LineDone, OpenDone, StepDone}
 use Rattle.mar_script.specs.Script.{Line, Settings, buffer_line, config_of, crash_line, fail_line, open_line, tell_line}
 use Rattle.mar_script.specs.Text.{Output, State, running, stopped}
 use Rattle.mar_script.specs.Shown.{plain_fault}
 use Rattle.mar_script.proofs.Accounts.{CallsEnd-then}
-use Rattle.marshal.specs.Turn.{fault_in, output_of, remains_in, state_of}
+use Rattle.marshal.specs.Turn.{fault_in, open_in, output_of, remains_in, state_of, state_with}
 use Rattle.marshal.specs.declared.play.Outcome.{Outcome}
 use Rattle.marshal.specs.declared.play.Outcome.TheVariants as outcome
 use Rattle.marshal.specs.declared.play.State.{State as StateCode}
@@ -62,29 +62,36 @@ module _ {H R : Type 0} where
   abbrev Stopped : Remains → ℕ → StateCode H R
   Stopped left luck = state.Stopped left luck
 
-  abbrev Running : SeenNode → Held → StateCode H R
-  Running seen buffer = state.Running seen buffer
+  abbrev Running : SeenNode → Held → List Asked → StateCode H R
+  Running seen buffer opened = state.Running seen buffer opened
+
+  -- nothing changed
+  keeps_open : (s : StateCode H R) → IsOpenAs (open_in s) s
+  keeps_open (state.Running seen buffer opened) = refl
+  keeps_open (state.Stopped left luck) = tt
 
   -- a line that does nothing, for a reason
-  pub plays_remark : (config : Config) (s : StateCode H R) (l : Line) (r : RemarkShown) → ((chain : Chain) (account : Account) (asked : List Asked) → LineDone config chain account (state_of asked s) l (output_of [] [] (outcome.Remark r)) (state_of asked s))
+  pub plays_remark : (config : Config) (s : StateCode H R) (l : Line) (r : RemarkShown) → ((chain : Chain) (account : Account) → LineDone config chain account (state_of s) l (output_of [] [] (outcome.Remark r)) (state_of s))
       → ((watches : Watches) → Calls watches l None watches) → ((luck : ℕ) → luck_after luck l None ≡ luck) → PlaysLine config s l (output_of [] [] (outcome.Remark r)) s
   plays_remark config s l r done calls luck = record {
     set = λ is. is;
     small = λ line small. small;
     calls = calls (remains_in s).watches;
     lucky = λ before has. subst (λ k. HasLuck k s) (sym (luck before)) has;
-    plays = λ is before has chain k asked lawful. (asked, record { done = done chain (account_in before s) asked; between = later_state config chain k (state_of asked s) lawful.between; buffered = λ b has. Contains-append_left _ _ b has; excused = tt });
+    opened = keeps_open s;
+    plays = λ is before has chain k lawful. record { done = done chain (account_in before s); between = later_state config chain k (state_of s) lawful.between; buffered = λ b has. Contains-append_left _ _ b has; excused = tt };
   }
 
   -- a store is made to fail
-  pub plays_fail : (config : Config) (seen new : SeenNode) (buffer : Held) (store : StoreName) (calls : ℕ) → new ≡ record seen { held = record seen.held { watches = with_armed store calls seen.held.watches } }
-      → PlaysLine config (Running seen buffer) (fail_line store calls) (output_of [] [] outcome.Done) (Running new buffer)
-  plays_fail config seen new buffer store calls is = subst (λ (n : SeenNode). PlaysLine config (Running seen buffer) (fail_line store calls) (output_of [] [] outcome.Done) (Running n buffer)) (sym is) (record {
+  pub plays_fail : (config : Config) (seen new : SeenNode) (buffer : Held) (opened : List Asked) (store : StoreName) (calls : ℕ) → new ≡ record seen { held = record seen.held { watches = with_armed store calls seen.held.watches } }
+      → PlaysLine config (Running seen buffer opened) (fail_line store calls) (output_of [] [] outcome.Done) (Running new buffer opened)
+  plays_fail config seen new buffer opened store calls is = subst (λ (n : SeenNode). PlaysLine config (Running seen buffer opened) (fail_line store calls) (output_of [] [] outcome.Done) (Running n buffer opened)) (sym is) (record {
     set = λ set. set;
     small = λ line small. small;
     calls = refl;
     lucky = λ before has. tt;
-    plays = λ set before has chain k asked lawful. (asked, record { done = (refl, refl); between = later_state config chain k (running (node_of seen buffer.blocks asked)) lawful.between; buffered = λ b has. Contains-append_left _ _ b has; excused = tt });
+    opened = refl;
+    plays = λ set before has chain k lawful. record { done = (refl, refl); between = later_state config chain k (running (node_of seen buffer.blocks opened)) lawful.between; buffered = λ b has. Contains-append_left _ _ b has; excused = tt };
   })
 
   pub plays_fail_left : (config : Config) (left new : Remains) (luck : ℕ) (store : StoreName) (calls : ℕ) → new.ended ≡ left.ended → new.watches ≡ with_armed store calls left.watches
@@ -94,43 +101,40 @@ module _ {H R : Type 0} where
     small = λ line small. tt;
     calls = armed;
     lucky = λ before has. has;
-    plays = λ set before has chain k asked lawful. (
-      asked,
-      record {
-        done = (refl, ap stopped ended);
-        between = subst (λ e. IsBetween config chain (k + 1) (stopped e)) (sym ended) lawful.between;
-        buffered = λ b has. absurd (none_in b has);
-        excused = tt;
-      },
-    );
+    opened = tt;
+    plays = λ set before has chain k lawful. record {
+      done = (refl, ap stopped ended);
+      between = subst (λ e. IsBetween config chain (k + 1) (stopped e)) (sym ended) lawful.between;
+      buffered = λ b has. absurd (none_in b has);
+      excused = tt;
+    };
   }
 
   -- a block is put into the buffer
-  pub plays_put : (config : Config) (seen : SeenNode) (buffer new : Held) (b : Block) → new.blocks ≡ buffer.blocks ++ b ∷ [] → PlaysLine config (Running seen buffer) (buffer_line b) (output_of [] [] outcome.Done) (Running seen new)
-  plays_put config seen buffer new b is = record {
+  pub plays_put : (config : Config) (seen : SeenNode) (buffer new : Held) (opened : List Asked) (b : Block) → new.blocks ≡ buffer.blocks ++ b ∷ [] → PlaysLine config (Running seen buffer opened) (buffer_line b) (output_of [] [] outcome.Done) (Running seen new opened)
+  plays_put config seen buffer new opened b is = record {
     set = λ set. set;
     small = λ line small. subst AreSmall (sym is) (AllByRecursion-push (λ x. IsSmall x.encoded) buffer.blocks b small line);
     calls = ArePassed-refl seen.held.watches;
     lucky = λ before has. tt;
-    plays = λ set before has chain k asked lawful. (
-      asked,
-      record {
-        done = (refl, ap (λ bs. running (node_of seen bs asked)) is);
-        between = put_between config chain k seen buffer.blocks new.blocks asked lawful.between;
-        buffered = λ x has. subst (λ bs. Contains bs x) is has;
-        excused = tt;
-      },
-    );
+    opened = refl;
+    plays = λ set before has chain k lawful. record {
+      done = (refl, ap (λ bs. running (node_of seen bs opened)) is);
+      between = put_between config chain k seen buffer.blocks new.blocks opened lawful.between;
+      buffered = λ x has. subst (λ bs. Contains bs x) is has;
+      excused = tt;
+    };
   }
 
   -- a crash ends a life
-  pub plays_crash : (config : Config) (seen : SeenNode) (buffer : Held) (luck : ℕ) → PlaysLine config (Running seen buffer) (crash_line luck) (output_of [] [] outcome.Done) (Stopped (remains_of seen.held) luck)
-  plays_crash config seen buffer luck = record {
+  pub plays_crash : (config : Config) (seen : SeenNode) (buffer : Held) (opened : List Asked) (luck : ℕ) → PlaysLine config (Running seen buffer opened) (crash_line luck) (output_of [] [] outcome.Done) (Stopped (remains_of seen.held) luck)
+  plays_crash config seen buffer opened luck = record {
     set = λ is. tt;
     small = λ line small. tt;
     calls = ArePassed-refl seen.held.watches;
     lucky = λ before has. refl;
-    plays = λ is before has chain k asked lawful. (asked, record { done = (refl, refl); between = between_left config chain k (running (node_of seen buffer.blocks asked)) lawful.between; buffered = λ b has. absurd (none_in b has); excused = tt });
+    opened = tt;
+    plays = λ is before has chain k lawful. record { done = (refl, refl); between = between_left config chain k (running (node_of seen buffer.blocks opened)) lawful.between; buffered = λ b has. absurd (none_in b has); excused = tt };
   }
 
   -- or sets the luck alone, where no life runs
@@ -140,48 +144,44 @@ module _ {H R : Type 0} where
     small = λ line small. tt;
     calls = ArePassed-refl left.watches;
     lucky = λ was has. refl;
-    plays = λ is was has chain k asked lawful. (asked, record { done = (refl, refl); between = lawful.between; buffered = λ b has. absurd (none_in b has); excused = tt });
+    opened = tt;
+    plays = λ is was has chain k lawful. record { done = (refl, refl); between = lawful.between; buffered = λ b has. absurd (none_in b has); excused = tt };
   }
 
   -- a line that is one event of the life
-  pub plays_event : (seen : SeenNode) (buffer : Held) (l : Line) (e : Event) (rs : List Report) (cs : List Call) (after : StateCode H R) (o : Outcome) → IsPlain e → ((f : Finalization) → e ≡ message_told None (report_finalization f) → l ≡ tell_line (report_finalization f))
+  pub plays_event : (seen : SeenNode) (buffer : Held) (opened : List Asked) (l : Line) (e : Event) (rs : List Report) (cs : List Call) (after : StateCode H R) (o : Outcome) → IsPlain e → ((f : Finalization) → e ≡ message_told None (report_finalization f) → l ≡ tell_line (report_finalization f))
       → ((before now : Watches) (fault : Option Fault) → CallsEnd before fault now → Calls before l fault now)
       → ((config : Config) (chain : Chain) (account : Account) (asked : List Asked) (out : Output) (s : State) → StepDone config chain (node_of seen buffer.blocks asked) (e ∷ []) [] (λ m. []) out s → LineDone config chain account (running (node_of seen buffer.blocks asked)) l out s)
-      → TakesEvent seen buffer e rs cs after o → (config : Config) → PlaysLine config (Running seen buffer) l (output_of rs cs o) after
-  plays_event seen buffer l e rs cs after o plain same calls line_done takes config = record {
+      → TakesEvent seen buffer opened e rs cs after o → (config : Config) → PlaysLine config (Running seen buffer opened) l (output_of rs cs o) after
+  plays_event seen buffer opened l e rs cs after o plain same calls line_done takes config = record {
     set = λ is. takes.set config is;
     small = λ line small. takes.small small;
     calls = calls seen.held.watches (remains_in after).watches (fault_in o) takes.calls;
     lucky = λ before has. takes.lucky before l;
-    plays = λ is before has chain k asked lawful. by after o chain (account_in before (Running seen buffer)) k asked is lawful (takes.done config chain asked is (lawful_step config chain seen buffer.blocks asked k l e plain lawful same));
+    opened = takes.opened;
+    plays = λ is before has chain k lawful. by after o chain (account_in before (Running seen buffer opened)) k is lawful (takes.done config chain opened is (lawful_step config chain seen buffer.blocks opened k l e plain lawful same));
   }
     where
-      by : (after : StateCode H R) (o : Outcome) (chain : Chain) (account : Account) (k : ℕ) (asked : List Asked) → IsSetNode config seen → IsLawfulLine config chain k (running (node_of seen buffer.blocks asked)) l → AfterEvent config chain seen buffer.blocks asked e rs cs after o
-          → (asked' : List Asked) × Plays config chain k account (running (node_of seen buffer.blocks asked)) l (output_of rs cs o) (state_of asked' after)
-      by (state.Running new same_buffer) outcome.Done chain account k asked set lawful (steps, kept, tickets) = (
-        asked_after asked [] cs,
-        record {
-          done = line_done config chain account asked _ _ (step_done config chain seen buffer.blocks asked e rs cs new same_buffer.blocks steps);
-          between = step_between config chain seen buffer.blocks asked k e plain rs cs new same_buffer.blocks lawful.between.2.undropped steps
-              (tickets_after k seen.life.next_ack new.life.next_ack seen.life.sizes.window lawful.between.2.tickets (subst (λ w. w ≤ max_window) set.window lawful.narrow) tickets);
-          buffered = λ b has. Contains-append_left _ _ b (subst (λ xs. Contains xs b) kept has);
-          excused = tt;
-        },
-      )
-      by (state.Stopped left luck) (outcome.Fault fault) chain account k asked set lawful (cuts, limit) = (
-        asked,
-        record {
-          done = line_done config chain account asked _ _ (step_cut config chain seen buffer.blocks asked e rs cs fault left.ended cuts);
-          between = cut_between config chain seen buffer.blocks asked (k + 1) e (made_of rs cs) (plain_fault fault) left.ended cuts;
-          buffered = λ b has. absurd (none_in b has);
-          excused = cut_usual config chain seen buffer.blocks asked e plain (made_of rs cs) fault left.ended (lawful_step config chain seen buffer.blocks asked k l e plain lawful same) lawful.between.2.undropped cuts
-              (λ is. tickets_last k seen.life.next_ack seen.life.sizes.window lawful.between.2.tickets lawful.few (subst (λ w. w ≤ max_window) set.window lawful.narrow) (limit is));
-        },
-      )
-      by (state.Running new same_buffer) (outcome.Remark r) chain account k asked set lawful done = absurd done
-      by (state.Running new same_buffer) (outcome.Fault fault) chain account k asked set lawful done = absurd done
-      by (state.Stopped left luck) outcome.Done chain account k asked set lawful done = absurd done
-      by (state.Stopped left luck) (outcome.Remark r) chain account k asked set lawful done = absurd done
+      by : (after : StateCode H R) (o : Outcome) (chain : Chain) (account : Account) (k : ℕ) → IsSetNode config seen → IsLawfulLine config chain k (running (node_of seen buffer.blocks opened)) l → AfterEvent config chain seen buffer.blocks opened e rs cs after o
+          → Plays config chain k account (running (node_of seen buffer.blocks opened)) l (output_of rs cs o) (state_with (asked_after opened [] cs) after)
+      by (state.Running new same_buffer old) outcome.Done chain account k set lawful (steps, kept, tickets) = record {
+        done = line_done config chain account opened _ _ (step_done config chain seen buffer.blocks opened e rs cs new same_buffer.blocks steps);
+        between = step_between config chain seen buffer.blocks opened k e plain rs cs new same_buffer.blocks lawful.between.2.undropped steps
+            (tickets_after k seen.life.next_ack new.life.next_ack seen.life.sizes.window lawful.between.2.tickets (subst (λ w. w ≤ max_window) set.window lawful.narrow) tickets);
+        buffered = λ b has. Contains-append_left _ _ b (subst (λ xs. Contains xs b) kept has);
+        excused = tt;
+      }
+      by (state.Stopped left luck) (outcome.Fault fault) chain account k set lawful (cuts, limit) = record {
+        done = line_done config chain account opened _ _ (step_cut config chain seen buffer.blocks opened e rs cs fault left.ended cuts);
+        between = cut_between config chain seen buffer.blocks opened (k + 1) e (made_of rs cs) (plain_fault fault) left.ended cuts;
+        buffered = λ b has. absurd (none_in b has);
+        excused = cut_usual config chain seen buffer.blocks opened e plain (made_of rs cs) fault left.ended (lawful_step config chain seen buffer.blocks opened k l e plain lawful same) lawful.between.2.undropped cuts
+            (λ is. tickets_last k seen.life.next_ack seen.life.sizes.window lawful.between.2.tickets lawful.few (subst (λ w. w ≤ max_window) set.window lawful.narrow) (limit is));
+      }
+      by (state.Running new same_buffer old) (outcome.Remark r) chain account k set lawful done = absurd done
+      by (state.Running new same_buffer old) (outcome.Fault fault) chain account k set lawful done = absurd done
+      by (state.Stopped left luck) outcome.Done chain account k set lawful done = absurd done
+      by (state.Stopped left luck) (outcome.Remark r) chain account k set lawful done = absurd done
 
   -- an opening that was cut before its start
   pub plays_unopened : (config : Config) (before left : Remains) (luck : ℕ) (g : Block) (fault : FaultCode Sha256Digest)
@@ -192,60 +192,55 @@ module _ {H R : Type 0} where
     small = λ line small. tt;
     calls = fails;
     lucky = λ was has. refl;
-    plays = λ is was has chain k asked lawful. (
-      asked,
-      record {
-        done = subst (λ j. OpenDone config chain before.ended (picks_of before j) (from_genesis g) (output_of [] [] (outcome.Fault fault)) (stopped left.ended)) has (opening_cut config chain before.ended (picks_of before luck) g fault left.ended (cuts chain k lawful));
-        between = ((cuts chain k lawful).leaves.good, (cuts chain k lawful).leaves.some_pair);
-        buffered = λ b has. absurd (none_in b has);
-        excused = opening_usual config chain before.ended (picks_of before luck) g fault k lawful kind;
-      },
-    );
+    opened = tt;
+    plays = λ is was has chain k lawful. record {
+      done = subst (λ j. OpenDone config chain before.ended (picks_of before j) (from_genesis g) (output_of [] [] (outcome.Fault fault)) (stopped left.ended)) has (opening_cut config chain before.ended (picks_of before luck) g fault left.ended (cuts chain k lawful));
+      between = ((cuts chain k lawful).leaves.good, (cuts chain k lawful).leaves.some_pair);
+      buffered = λ b has. absurd (none_in b has);
+      excused = opening_usual config chain before.ended (picks_of before luck) g fault k lawful kind;
+    };
   }
 
   -- an opening, and the start of its life
   pub plays_opening : (config : Config) (before : Remains) (luck : ℕ) (g : Block) (seen : SeenNode) (rs : List Report) (cs : List Call) (after : StateCode H R) (o : Outcome) → IsSetNode config seen → ArePassed before.watches seen.held.watches
       → ((chain : Chain) (k : ℕ) → IsLawfulLine config chain k (stopped before.ended) (open_line (from_genesis g)) → Finds config before.ended (picks_of before luck) (from_genesis g) (node_of seen [] []) × IsGoodUntold config chain (node_of seen [] []))
-      → TakesEvent seen empty_buffer (life_started None) rs cs after o → PlaysLine config (Stopped before luck) (open_line (from_genesis g)) (output_of rs cs o) after
+      → TakesEvent seen empty_buffer [] (life_started None) rs cs after o → PlaysLine config (Stopped before luck) (open_line (from_genesis g)) (output_of rs cs o) after
   plays_opening config before luck g seen rs cs after o set passed begins takes = record {
     set = λ is. takes.set config set;
     small = λ line small. takes.small tt;
     calls = CallsEnd-then before.watches seen.held.watches (remains_in after).watches (fault_in o) passed takes.calls;
     lucky = λ was has. takes.lucky was (open_line (from_genesis g));
-    plays = λ is was has chain k asked lawful.
+    opened = takes.opened;
+    plays = λ is was has chain k lawful.
         let begun = begins chain k lawful in
-        let played = by after o chain k asked lawful begun.0 begun.1 (takes.done config chain [] set (lawful_start config chain before.ended (picks_of before luck) g seen begun.0 k lawful begun.1)) in
-        (played.0, subst (λ j. Plays config chain k (account_in j (Stopped before luck)) (stopped before.ended) (open_line (from_genesis g)) (output_of rs cs o) (state_of played.0 after)) has played.1);
+        subst (λ j. Plays config chain k (account_in j (Stopped before luck)) (stopped before.ended) (open_line (from_genesis g)) (output_of rs cs o) (state_with (asked_after [] [] cs) after)) has
+            (by after o chain k lawful begun.0 begun.1 (takes.done config chain [] set (lawful_start config chain before.ended (picks_of before luck) g seen begun.0 k lawful begun.1)));
   }
     where
-      by : (after : StateCode H R) (o : Outcome) (chain : Chain) (k : ℕ) (asked : List Asked) → IsLawfulLine config chain k (stopped before.ended) (open_line (from_genesis g)) → Finds config before.ended (picks_of before luck) (from_genesis g) (node_of seen [] []) → IsGoodUntold config chain (node_of seen [] []) → AfterEvent config chain seen [] [] (life_started None) rs cs after o
-          → (asked' : List Asked) × Plays config chain k (account_in luck (Stopped before luck)) (stopped before.ended) (open_line (from_genesis g)) (output_of rs cs o) (state_of asked' after)
-      by (state.Running new same_buffer) outcome.Done chain k asked lawful finds good (steps, kept, tickets) =
-          let first = undropped-found config before.ended (picks_of before luck) (from_genesis g) (node_of seen [] []) finds in (
-            asked_after [] [] cs,
-            record {
-              done = opening_done config chain before.ended (picks_of before luck) g seen finds rs cs new same_buffer.blocks steps;
-              between = step_between config chain seen [] [] k (life_started None) starts rs cs new same_buffer.blocks first.0 steps
-                  (tickets_after k seen.life.next_ack new.life.next_ack seen.life.sizes.window (omega (arith, first.1)) (subst (λ w. w ≤ max_window) set.window lawful.narrow) tickets);
-              buffered = λ b has. absurd (none_in b (subst (λ xs. Contains xs b) kept has));
-              excused = tt;
-            },
-          )
-      by (state.Stopped left now) (outcome.Fault fault) chain k asked lawful finds good (cuts, limit) =
-          let first = undropped-found config before.ended (picks_of before luck) (from_genesis g) (node_of seen [] []) finds in (
-            asked,
-            record {
-              done = start_cut config chain before.ended (picks_of before luck) g seen finds rs cs fault left.ended good cuts;
-              between = cut_between config chain seen [] [] (k + 1) (life_started None) (made_of rs cs) (plain_fault fault) left.ended cuts;
-              buffered = λ b has. absurd (none_in b has);
-              excused = cut_usual config chain seen [] [] (life_started None) starts (made_of rs cs) fault left.ended (lawful_start config chain before.ended (picks_of before luck) g seen finds k lawful good) first.0 cuts
-                  (λ is. tickets_last k seen.life.next_ack seen.life.sizes.window (omega (arith, first.1)) lawful.few (subst (λ w. w ≤ max_window) set.window lawful.narrow) (limit is));
-            },
-          )
-      by (state.Running new same_buffer) (outcome.Remark r) chain k asked lawful finds good done = absurd done
-      by (state.Running new same_buffer) (outcome.Fault fault) chain k asked lawful finds good done = absurd done
-      by (state.Stopped left now) outcome.Done chain k asked lawful finds good done = absurd done
-      by (state.Stopped left now) (outcome.Remark r) chain k asked lawful finds good done = absurd done
+      by : (after : StateCode H R) (o : Outcome) (chain : Chain) (k : ℕ) → IsLawfulLine config chain k (stopped before.ended) (open_line (from_genesis g)) → Finds config before.ended (picks_of before luck) (from_genesis g) (node_of seen [] []) → IsGoodUntold config chain (node_of seen [] []) → AfterEvent config chain seen [] [] (life_started None) rs cs after o
+          → Plays config chain k (account_in luck (Stopped before luck)) (stopped before.ended) (open_line (from_genesis g)) (output_of rs cs o) (state_with (asked_after [] [] cs) after)
+      by (state.Running new same_buffer old) outcome.Done chain k lawful finds good (steps, kept, tickets) =
+          let first = undropped-found config before.ended (picks_of before luck) (from_genesis g) (node_of seen [] []) finds in
+          record {
+            done = opening_done config chain before.ended (picks_of before luck) g seen finds rs cs new same_buffer.blocks steps;
+            between = step_between config chain seen [] [] k (life_started None) starts rs cs new same_buffer.blocks first.0 steps
+                (tickets_after k seen.life.next_ack new.life.next_ack seen.life.sizes.window (omega (arith, first.1)) (subst (λ w. w ≤ max_window) set.window lawful.narrow) tickets);
+            buffered = λ b has. absurd (none_in b (subst (λ xs. Contains xs b) kept has));
+            excused = tt;
+          }
+      by (state.Stopped left now) (outcome.Fault fault) chain k lawful finds good (cuts, limit) =
+          let first = undropped-found config before.ended (picks_of before luck) (from_genesis g) (node_of seen [] []) finds in
+          record {
+            done = start_cut config chain before.ended (picks_of before luck) g seen finds rs cs fault left.ended good cuts;
+            between = cut_between config chain seen [] [] (k + 1) (life_started None) (made_of rs cs) (plain_fault fault) left.ended cuts;
+            buffered = λ b has. absurd (none_in b has);
+            excused = cut_usual config chain seen [] [] (life_started None) starts (made_of rs cs) fault left.ended (lawful_start config chain before.ended (picks_of before luck) g seen finds k lawful good) first.0 cuts
+                (λ is. tickets_last k seen.life.next_ack seen.life.sizes.window (omega (arith, first.1)) lawful.few (subst (λ w. w ≤ max_window) set.window lawful.narrow) (limit is));
+          }
+      by (state.Running new same_buffer old) (outcome.Remark r) chain k lawful finds good done = absurd done
+      by (state.Running new same_buffer old) (outcome.Fault fault) chain k lawful finds good done = absurd done
+      by (state.Stopped left now) outcome.Done chain k lawful finds good done = absurd done
+      by (state.Stopped left now) (outcome.Remark r) chain k lawful finds good done = absurd done
 
 -- the settings are those that the actor was opened with
 pub set_node : (s : Settings) (sizes : Sizes) (length : ℕ) → sizes ≡ record { window = s.window; max_repair = s.max_repair; retention = s.retention; capacity = s.capacity } → length ≡ s.epoch_length → IsSetTo (config_of s) sizes (fixed_epochs length) (λ commitment. commitment)

@@ -7,7 +7,6 @@ use Rattle.std.proofs.lemmas.List.{append-nil, map-append}
 use Rattle.std.proofs.lemmas.List.Elements.{Contains-append_cases, Contains-append_left, Contains-append_right}
 use Rattle.mar_cert.specs.Block.{Block}
 use Rattle.mar_node.specs.Messages.{report_finalization, set_floor}
-use Rattle.mar_key.specs.Asked.{Asked}
 use Rattle.mar_store.proofs.Lookups.{AllByRecursion-from_contains, AllByRecursion-push}
 use Rattle.mar_node.specs.Chain.{Chain}
 use Rattle.mar_node.specs.Config.{Config}
@@ -64,28 +63,26 @@ premises_before config chain lines l before p = record {
 -- SO FAR
 
 -- Lines that were done: a run of lives up to a state between lines, its text, and what the stores tell behind it.
-pub record RunSoFar (config : Config) (chain : Chain) (before : Remains) (lines : List Line) (account : Account) (now : List Asked → State) (bytes : List ℕ) : Type 0 where
+pub record RunSoFar (config : Config) (chain : Chain) (before : Remains) (lines : List Line) (account : Account) (now : State) (bytes : List ℕ) : Type 0 where
   pub run : List Done
   pub lines_done : map (λ d. d.line) run ≡ lines
-  pub asked : List Asked
-  pub lives : Run config chain (first_account before.watches) (stopped before.ended) run (now asked)
+  pub lives : Run config chain (first_account before.watches) (stopped before.ended) run now
   pub account_is : account_after (first_account before.watches) run ≡ account
   pub wrote : bytes ≡ text before.ended run
-  pub between : IsBetween config chain (length lines) (now asked)
-  pub buffered : (b : Block) → Contains (buffer_in (now asked)) b → Contains (flat_map line_blocks lines) b
+  pub between : IsBetween config chain (length lines) now
+  pub buffered : (b : Block) → Contains (buffer_in now) b → Contains (flat_map line_blocks lines) b
   pub no_memory : AllByRecursion (λ d. d.output.fault ≡ Some want_of_memory → ⊥) run
   pub excused : AllByRecursion IsExcused run
 
-pub first_run : (config : Config) (chain : Chain) (before : Remains) (now : List Asked → State) → Premises config chain [] before.ended → ((asked : List Asked) → now asked ≡ stopped before.ended) → RunSoFar config chain before [] (first_account before.watches) now (text before.ended [])
+pub first_run : (config : Config) (chain : Chain) (before : Remains) (now : State) → Premises config chain [] before.ended → now ≡ stopped before.ended → RunSoFar config chain before [] (first_account before.watches) now (text before.ended [])
 first_run config chain before now p is = record {
   run = [];
   lines_done = refl;
-  asked = [];
-  lives = is [];
+  lives = is;
   account_is = refl;
   wrote = refl;
-  between = subst (λ s. IsBetween config chain 0 s) (sym (is [])) (p.good, p.some_pair);
-  buffered = λ b has. absurd (none b (subst (λ s. Contains (buffer_in s) b) (is []) has));
+  between = subst (λ s. IsBetween config chain 0 s) (sym is) (p.good, p.some_pair);
+  buffered = λ b has. absurd (none b (subst (λ s. Contains (buffer_in s) b) is has));
   no_memory = tt;
   excused = tt;
 }
@@ -98,16 +95,16 @@ text_push before run d =
     ap (λ l. output_text silent_output (stopped before) ++ l) (flat_map-append (λ x. output_text x.output x.after) run (d ∷ []) ∙ ap (λ l. flat_map (λ x. output_text x.output x.after) run ++ l) (append-nil (output_text d.output d.after)))
     ∙ sym (append_assoc (output_text silent_output (stopped before)) (flat_map (λ x. output_text x.output x.after) run) (output_text d.output d.after))
 
-module _ (config : Config) (chain : Chain) (before : Remains) (lines : List Line) (l : Line) (account : Account) (now : List Asked → State) (bytes : List ℕ) (p : Premises config chain (lines ++ l ∷ []) before.ended) (so : RunSoFar config chain before lines account now bytes) where
-  appears : (b : Block) → Contains (chain.blocks ++ buffer_in (now so.asked)) b → Appears chain (lines ++ l ∷ []) b
-  appears b has = by (Contains-append_cases chain.blocks (buffer_in (now so.asked)) b has)
+module _ (config : Config) (chain : Chain) (before : Remains) (lines : List Line) (l : Line) (account : Account) (now : State) (bytes : List ℕ) (p : Premises config chain (lines ++ l ∷ []) before.ended) (so : RunSoFar config chain before lines account now bytes) where
+  appears : (b : Block) → Contains (chain.blocks ++ buffer_in now) b → Appears chain (lines ++ l ∷ []) b
+  appears b has = by (Contains-append_cases chain.blocks (buffer_in now) b has)
     where
-      by : Contains chain.blocks b ⊎ Contains (buffer_in (now so.asked)) b → Appears chain (lines ++ l ∷ []) b
+      by : Contains chain.blocks b ⊎ Contains (buffer_in now) b → Appears chain (lines ++ l ∷ []) b
       by (inl of_chain) = inl of_chain
       by (inr of_buffer) = inr (inl (more_lines line_blocks lines l b (so.buffered b of_buffer)))
 
   -- the next line is lawful in the state that the others left
-  pub lawful_next : length lines ≤ max_lines → config.window ≤ max_window → IsLawfulLine config chain (length lines) (now so.asked) l
+  pub lawful_next : length lines ≤ max_lines → config.window ≤ max_window → IsLawfulLine config chain (length lines) now l
   lawful_next few narrow = record {
     partition = p.partition;
     lawful = p.lawful;
@@ -119,13 +116,13 @@ module _ (config : Config) (chain : Chain) (before : Remains) (lines : List Line
     reported = λ f is. p.script.reported f (last_line messages_of lines l (report_finalization f) (subst (λ x. Contains (messages_of x) (report_finalization f)) (sym is) (0, omega arith, refl)));
   }
 
-  module _ (out : Output) (after : List Asked → State) (account' : Account) (asked' : List Asked) (plays : Plays config chain (length lines) account (now so.asked) l out (after asked')) (counted : AccountsFor account l out.fault account') where
+  module _ (out : Output) (after : State) (account' : Account) (plays : Plays config chain (length lines) account now l out after) (counted : AccountsFor account l out.fault account') where
     abbrev done : Done
-    done = record { line = l; output = out; after = after asked'; account = account' }
+    done = record { line = l; output = out; after = after; account = account' }
 
-    lives_now : Run config chain (first_account before.watches) (stopped before.ended) (so.run ++ done ∷ []) (after asked')
+    lives_now : Run config chain (first_account before.watches) (stopped before.ended) (so.run ++ done ∷ []) after
     lives_now =
-        run_push config chain (first_account before.watches) (stopped before.ended) so.run done (now so.asked) so.lives (subst (λ a. LineDone config chain a (now so.asked) l out (after asked')) (sym so.account_is) plays.done) (subst (λ a. AccountsFor a l out.fault account') (sym so.account_is) counted)
+        run_push config chain (first_account before.watches) (stopped before.ended) so.run done now so.lives (subst (λ a. LineDone config chain a now l out after) (sym so.account_is) plays.done) (subst (λ a. AccountsFor a l out.fault account') (sym so.account_is) counted)
 
     account_now : account_after (first_account before.watches) (so.run ++ done ∷ []) ≡ account'
     account_now = account-push (first_account before.watches) so.run done
@@ -137,21 +134,20 @@ module _ (config : Config) (chain : Chain) (before : Remains) (lines : List Line
     excused_now = AllByRecursion-push IsExcused so.run done so.excused plays.excused
 
     -- one more line was done, and memory did not run out
-    pub more_run : (out.fault ≡ Some want_of_memory → ⊥) → RunSoFar config chain before (lines ++ l ∷ []) account' after (bytes ++ output_text out (after asked'))
+    pub more_run : (out.fault ≡ Some want_of_memory → ⊥) → RunSoFar config chain before (lines ++ l ∷ []) account' after (bytes ++ output_text out after)
     more_run remembered = record {
       run = so.run ++ done ∷ [];
       lines_done = lines_now;
-      asked = asked';
       lives = lives_now;
       account_is = account_now;
-      wrote = ap (λ bs. bs ++ output_text out (after asked')) so.wrote ∙ sym (text_push before.ended so.run done);
-      between = subst (λ k. IsBetween config chain k (after asked')) (sym (length-append lines (l ∷ []))) plays.between;
-      buffered = λ b has. by b (Contains-append_cases (buffer_in (now so.asked)) (line_blocks l) b (plays.buffered b has));
+      wrote = ap (λ bs. bs ++ output_text out after) so.wrote ∙ sym (text_push before.ended so.run done);
+      between = subst (λ k. IsBetween config chain k after) (sym (length-append lines (l ∷ []))) plays.between;
+      buffered = λ b has. by b (Contains-append_cases (buffer_in now) (line_blocks l) b (plays.buffered b has));
       no_memory = AllByRecursion-push (λ d. d.output.fault ≡ Some want_of_memory → ⊥) so.run done so.no_memory remembered;
       excused = excused_now;
     }
       where
-        by : (b : Block) → Contains (buffer_in (now so.asked)) b ⊎ Contains (line_blocks l) b → Contains (flat_map line_blocks (lines ++ l ∷ [])) b
+        by : (b : Block) → Contains (buffer_in now) b ⊎ Contains (line_blocks l) b → Contains (flat_map line_blocks (lines ++ l ∷ [])) b
         by b (inl old) = more_lines line_blocks lines l b (so.buffered b old)
         by b (inr new) = last_line line_blocks lines l b new
 
@@ -203,21 +199,21 @@ complete_of : (config : Config) (chain : Chain) (before : Remains) (watches : Wa
     → IsQuiet before.watches watches → AreSmooth config (first_account before.watches) (stopped before.ended) run → AllByRecursion IsFaultFree run
 complete_of config chain before watches run last lives excused is quiet smooth = quiet_run config chain (first_account before.watches) (stopped before.ended) run last lives excused (subst (IsQuiet before.watches) (sym is) quiet) smooth
 
-pub stops_between : (status : Status) (config : Config) (chain : Chain) (before : Remains) (lines : List Line) (account : Account) (now : List Asked → State) (bytes : List ℕ) (after : Remains) → StopsBetween status → RunSoFar config chain before lines account now bytes → account.watches ≡ after.watches → ((asked : List Asked) → left_in (now asked) ≡ after.ended) → ((asked : List Asked) → HandsBack (now asked) after.ended)
+pub stops_between : (status : Status) (config : Config) (chain : Chain) (before : Remains) (lines : List Line) (account : Account) (now : State) (bytes : List ℕ) (after : Remains) → StopsBetween status → RunSoFar config chain before lines account now bytes → account.watches ≡ after.watches → left_in now ≡ after.ended → HandsBack now after.ended
     → Replays config chain lines bytes status before after
 stops_between status config chain before lines account now bytes after between so watches left hands = record {
   run = so.run;
   lines_done = so.lines_done;
-  last = now so.asked;
+  last = now;
   lives = so.lives;
   output = whole_output status bytes (text before.ended so.run) between so.wrote;
-  hands_back = hands so.asked;
+  hands_back = hands;
   watches_are = ap (λ a. a.watches) so.account_is ∙ watches;
-  good = subst (IsGoodEnded chain) (left so.asked) (between_left config chain (length lines) (now so.asked) so.between).0;
-  some_pair = subst (λ e. 0 < length e.meta) (left so.asked) (between_left config chain (length lines) (now so.asked) so.between).1;
+  good = subst (IsGoodEnded chain) left (between_left config chain (length lines) now so.between).0;
+  some_pair = subst (λ e. 0 < length e.meta) left (between_left config chain (length lines) now so.between).1;
   memory = memory_never status so.run so.no_memory;
   excused = so.excused;
-  complete = complete_of config chain before after.watches so.run (now so.asked) so.lives so.excused (ap (λ a. a.watches) so.account_is ∙ watches);
+  complete = complete_of config chain before after.watches so.run now so.lives so.excused (ap (λ a. a.watches) so.account_is ∙ watches);
 }
 
 -- or in the text of a line
@@ -233,30 +229,30 @@ front_output read_failed bytes whole inside is = absurd inside
 front_output write_failed bytes whole inside is = is
 front_output out_of_memory bytes whole inside is = is
 
-module _ (config : Config) (chain : Chain) (before : Remains) (lines : List Line) (l : Line) (account : Account) (now : List Asked → State) (bytes : List ℕ) (p : Premises config chain (lines ++ l ∷ []) before.ended) (so : RunSoFar config chain before lines account now bytes) where
-  module _ (out : Output) (after : List Asked → State) (account' : Account) (asked' : List Asked) (plays : Plays config chain (length lines) account (now so.asked) l out (after asked')) (counted : AccountsFor account l out.fault account') where
+module _ (config : Config) (chain : Chain) (before : Remains) (lines : List Line) (l : Line) (account : Account) (now : State) (bytes : List ℕ) (p : Premises config chain (lines ++ l ∷ []) before.ended) (so : RunSoFar config chain before lines account now bytes) where
+  module _ (out : Output) (after : State) (account' : Account) (plays : Plays config chain (length lines) account now l out after) (counted : AccountsFor account l out.fault account') where
     -- a line was done, and a front of its text was written
-    pub stops_in_text : (status : Status) (front : List ℕ) (left : Remains) → StopsInText status → IsFront front (output_text out (after asked')) → (out.fault ≡ Some want_of_memory → status ≡ out_of_memory) → account'.watches ≡ left.watches → left_in (after asked') ≡ left.ended → HandsBack (after asked') left.ended
+    pub stops_in_text : (status : Status) (front : List ℕ) (left : Remains) → StopsInText status → IsFront front (output_text out after) → (out.fault ≡ Some want_of_memory → status ≡ out_of_memory) → account'.watches ≡ left.watches → left_in after ≡ left.ended → HandsBack after left.ended
         → Replays config chain (lines ++ l ∷ []) (bytes ++ front) status before left
     stops_in_text status front left inside is memory watches left_is hands =
-        let d : Done = record { line = l; output = out; after = after asked'; account = account' } in
-        let lives = lives_now config chain before lines l account now bytes p so out after account' asked' plays counted in
-        let excused = excused_now config chain before lines l account now bytes p so out after account' asked' plays counted in
-        let same = ap (λ a. a.watches) (account_now config chain before lines l account now bytes p so out after account' asked' plays counted) ∙ watches in
+        let d : Done = record { line = l; output = out; after = after; account = account' } in
+        let lives = lives_now config chain before lines l account now bytes p so out after account' plays counted in
+        let excused = excused_now config chain before lines l account now bytes p so out after account' plays counted in
+        let same = ap (λ a. a.watches) (account_now config chain before lines l account now bytes p so out after account' plays counted) ∙ watches in
         record {
           run = so.run ++ d ∷ [];
-          lines_done = lines_now config chain before lines l account now bytes p so out after account' asked' plays counted;
-          last = after asked';
+          lines_done = lines_now config chain before lines l account now bytes p so out after account' plays counted;
+          last = after;
           lives = lives;
           output = front_output status (bytes ++ front) (text before.ended (so.run ++ d ∷ [])) inside (
             is.0,
-            text_push before.ended so.run d ∙ ap (λ bs. bs ++ output_text out (after asked')) (sym so.wrote) ∙ ap (λ bs. bytes ++ bs) is.1 ∙ sym (append_assoc bytes front is.0),
+            text_push before.ended so.run d ∙ ap (λ bs. bs ++ output_text out after) (sym so.wrote) ∙ ap (λ bs. bytes ++ bs) is.1 ∙ sym (append_assoc bytes front is.0),
           );
           hands_back = hands;
           watches_are = same;
-          good = subst (IsGoodEnded chain) left_is (between_left config chain (length lines + 1) (after asked') plays.between).0;
-          some_pair = subst (λ e. 0 < length e.meta) left_is (between_left config chain (length lines + 1) (after asked') plays.between).1;
+          good = subst (IsGoodEnded chain) left_is (between_left config chain (length lines + 1) after plays.between).0;
+          some_pair = subst (λ e. 0 < length e.meta) left_is (between_left config chain (length lines + 1) after plays.between).1;
           memory = memory_last status so.run d so.no_memory memory;
           excused = excused;
-          complete = complete_of config chain before left.watches (so.run ++ d ∷ []) (after asked') lives excused same;
+          complete = complete_of config chain before left.watches (so.run ++ d ∷ []) after lives excused same;
         }

@@ -22,7 +22,7 @@ use Rattle.mar_script.specs.Script.{Line}
 use Rattle.mar_script.specs.Streams.{Takes, TakesFront}
 use Rattle.mar_script.specs.Text.{Output, output_text}
 use Rattle.mar_script.specs.Shown.{plain_fault}
-use Rattle.marshal.specs.Turn.{fault_in, output_of, remains_in, state_of}
+use Rattle.marshal.specs.Turn.{fault_in, open_in, output_of, remains_in, state_of, state_with, with_open}
 use Rattle.marshal.specs.declared.play.Outcome.{Outcome}
 use Rattle.marshal.specs.declared.play.Outcome.TheVariants as outcome
 use Rattle.marshal.specs.declared.play.State.{State as StateCode}
@@ -39,31 +39,38 @@ abbrev pub IsSetNode : Config → SeenNode → Type 0
 IsSetNode config seen = IsSetTo config seen.life.sizes (fixed_epochs seen.life.epocher.length) (λ commitment. commitment)
 
 abbrev pub IsSetAs : {H R : Type 0} → Config → StateCode H R → Type 0
-IsSetAs config (state.Running seen buffer) = IsSetNode config seen
+IsSetAs config (state.Running seen buffer opened) = IsSetNode config seen
 IsSetAs config (state.Stopped left luck) = ⊤
 
 -- each block of the buffer is small enough for a store
 abbrev pub HasSmallBlocks : {H R : Type 0} → StateCode H R → Type 0
-HasSmallBlocks (state.Running seen buffer) = AreSmall buffer.blocks
+HasSmallBlocks (state.Running seen buffer opened) = AreSmall buffer.blocks
 HasSmallBlocks (state.Stopped left luck) = ⊤
 
 -- where no life runs, the next opening has this luck
 abbrev pub HasLuck : {H R : Type 0} → ℕ → StateCode H R → Type 0
-HasLuck luck (state.Running seen buffer) = ⊤
+HasLuck luck (state.Running seen buffer opened) = ⊤
 HasLuck luck (state.Stopped left now) = now ≡ luck
 
 -- what the stores tell beside the state
 abbrev pub account_in : {H R : Type 0} → ℕ → StateCode H R → Account
 account_in luck code = record { watches = (remains_in code).watches; luck = luck }
 
--- A line of the program that was done, for each chain for which it is lawful, behind any number of lines.
+-- where a life runs, these requests are open
+abbrev pub IsOpenAs : {H R : Type 0} → List Asked → StateCode H R → Type 0
+IsOpenAs opened (state.Running seen buffer now) = now ≡ opened
+IsOpenAs opened (state.Stopped left luck) = ⊤
+
+-- A line of the program that was done, for each chain for which it is lawful, behind any number of lines; what it asked is
+-- yet to be taken in among what is open.
 pub record PlaysLine {H R : Type 0} (config : Config) (before : StateCode H R) (line : Line) (out : Output) (after : StateCode H R) : Type 0 where
   pub set : IsSetAs config before → IsSetAs config after
   pub small : IsSmallLine line → HasSmallBlocks before → HasSmallBlocks after
   pub calls : Calls (remains_in before).watches line out.fault (remains_in after).watches
   pub lucky : (luck : ℕ) → HasLuck luck before → HasLuck (luck_after luck line out.fault) after
-  pub plays : IsSetAs config before → (luck : ℕ) → HasLuck luck before → (chain : Chain) (k : ℕ) (asked : List Asked) → IsLawfulLine config chain k (state_of asked before) line
-      → (asked' : List Asked) × Plays config chain k (account_in luck before) (state_of asked before) line out (state_of asked' after)
+  pub opened : IsOpenAs (open_in before) after
+  pub plays : IsSetAs config before → (luck : ℕ) → HasLuck luck before → (chain : Chain) (k : ℕ) → IsLawfulLine config chain k (state_of before) line
+      → Plays config chain k (account_in luck before) (state_of before) line out (state_with (asked_after (open_in before) [] out.made.asks) after)
 
 -- it was done, or memory ran out before it did anything
 abbrev pub PlaysOrNot : {H R E : Type 0} → Config → StateCode H R → Line → List Report → List Call → StateCode H R → Result Outcome E → Type 0
@@ -74,11 +81,19 @@ abbrev pub WritesText : {U : Type 0} → Option (List ℕ) → (List Asked → L
 WritesText sunk text sunk' (Ok u) = (asked : List Asked) → Takes sunk (text asked) sunk'
 WritesText sunk text sunk' (Err s) = (asked : List Asked) → TakesFront sunk (text asked) sunk'
 
+-- What a line asked was taken in among what is open, unless memory ran out.
+pub record TakesIn {H R U : Type 0} (asks : List Call) (before after : StateCode H R) (written : Result U StatusCode) : Type 0 where
+  pub opened : List Asked
+  pub same : after ≡ with_open opened before
+  pub all : (u : U) → written ≡ Ok u → opened ≡ asked_after (open_in before) [] asks
+
 -- A line that was done and written, as far as writing went.
 pub record Turned {H R U : Type 0} (config : Config) (before : StateCode H R) (line : Line) (sunk : Option (List ℕ)) (after : StateCode H R) (sunk' : Option (List ℕ)) (written : Result U StatusCode) : Type 0 where
   pub out : Output
-  pub plays : PlaysLine config before line out after
-  pub wrote : WritesText sunk (λ asked. output_text out (state_of asked after)) sunk' written
+  pub done : StateCode H R
+  pub plays : PlaysLine config before line out done
+  pub takes_in : TakesIn out.made.asks done after written
+  pub wrote : WritesText sunk (λ asked. output_text out (state_with asked after)) sunk' written
   pub memory : out.fault ≡ Some want_of_memory → IsErrOf written status.Memory
 
 abbrev pub TurnsLine : {H R U : Type 0} → Config → StateCode H R → Line → Option (List ℕ) → StateCode H R → Option (List ℕ) → Result U StatusCode → Type 0
@@ -96,16 +111,17 @@ IsNearLast seen = 2 ^ 64 - 1 ≤ seen.life.next_ack + seen.life.sizes.window
 
 -- A step that finished and gave a window of tickets at most, with the buffer as it was; or a cut.
 abbrev pub AfterEvent : {H R : Type 0} → Config → Chain → SeenNode → List Block → List Asked → Event → List Report → List Call → StateCode H R → Outcome → Type 0
-AfterEvent config chain seen buffer asked e reports asks (state.Running new same) outcome.Done =
+AfterEvent config chain seen buffer asked e reports asks (state.Running new same opened) outcome.Done =
     Steps config chain (node_of seen buffer asked) (e ∷ []) (made_of reports asks) (node_of new same.blocks (asked_after asked [] asks)) × (same.blocks ≡ buffer) × (new.life.next_ack ≤ seen.life.next_ack + seen.life.sizes.window)
 AfterEvent config chain seen buffer asked e reports asks (state.Stopped left luck) (outcome.Fault fault) =
     Cuts config chain (node_of seen buffer asked) (e ∷ []) (made_of reports asks) (plain_fault fault) left.ended × (plain_fault fault ≡ ticket_limit ack_kind → IsNearLast seen)
 AfterEvent config chain seen buffer asked e reports asks after outcome = ⊥
 
 -- What one event makes of a life.
-pub record TakesEvent {H R : Type 0} (seen : SeenNode) (buffer : Held) (e : Event) (reports : List Report) (asks : List Call) (after : StateCode H R) (outcome : Outcome) : Type 0 where
+pub record TakesEvent {H R : Type 0} (seen : SeenNode) (buffer : Held) (opened_before : List Asked) (e : Event) (reports : List Report) (asks : List Call) (after : StateCode H R) (outcome : Outcome) : Type 0 where
   pub set : (config : Config) → IsSetNode config seen → IsSetAs config after
   pub small : AreSmall buffer.blocks → HasSmallBlocks after
   pub calls : CallsEnd seen.held.watches (fault_in outcome) (remains_in after).watches
   pub lucky : (luck : ℕ) (line : Line) → HasLuck (luck_after luck line (fault_in outcome)) after
+  pub opened : IsOpenAs opened_before after
   pub done : (config : Config) (chain : Chain) (asked : List Asked) → IsSetNode config seen → IsLawfulStep config chain (node_of seen buffer.blocks asked) (e ∷ []) → AfterEvent config chain seen buffer.blocks asked e reports asks after outcome

@@ -40,12 +40,26 @@ fault_in (outcome.Fault fault) = Some (plain_fault fault)
 abbrev pub output_of : List Report → List Call → Outcome → Output
 output_of reports asks outcome = record { made = made_of reports asks; outcomes = []; remark = remark_in outcome; fault = fault_in outcome }
 
--- the program's state as plain data, where these requests are open
-abbrev pub state_of : {H R : Type 0} → List Asked → StateCode H R → State
-state_of asked (state.Running seen buffer) = running (node_of seen buffer.blocks asked)
-state_of asked (state.Stopped left luck) = stopped left.ended
+-- the program's state as plain data, were these requests open
+abbrev pub state_with : {H R : Type 0} → List Asked → StateCode H R → State
+state_with asked (state.Running seen buffer opened) = running (node_of seen buffer.blocks asked)
+state_with asked (state.Stopped left luck) = stopped left.ended
+
+-- the requests that are open in it: none where no life runs
+abbrev pub open_in : {H R : Type 0} → StateCode H R → List Asked
+open_in (state.Running seen buffer opened) = opened
+open_in (state.Stopped left luck) = []
+
+-- the program's state as plain data
+abbrev pub state_of : {H R : Type 0} → StateCode H R → State
+state_of code = state_with (open_in code) code
+
+-- with these requests open, where a life runs
+abbrev pub with_open : {H R : Type 0} → List Asked → StateCode H R → StateCode H R
+with_open opened (state.Running seen buffer old) = state.Running seen buffer opened
+with_open opened (state.Stopped left luck) = state.Stopped left luck
 
 -- what is left of its stores
 abbrev pub remains_in : {H R : Type 0} → StateCode H R → Remains
-remains_in (state.Running seen buffer) = remains_of seen.held
+remains_in (state.Running seen buffer opened) = remains_of seen.held
 remains_in (state.Stopped left luck) = left

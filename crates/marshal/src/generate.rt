@@ -12,7 +12,7 @@ ghost use Rattle.mar_script.specs.Script.{config_of};
 ghost use Rattle.mar_script.specs.Text.{text};
 ghost use Rattle.marshal.specs.Gen.{ComesBehind, Generates, RunsTo, WritesLine, gen_settings, owed_line as line_owed, planned_line as line_planned};
 ghost use Rattle.marshal.specs.Playing.{HasSmallBlocks, IsSetAs};
-ghost use Rattle.marshal.specs.Turn.{remains_in, state_of};
+ghost use Rattle.marshal.specs.Turn.{remains_in, state_with};
 
 use crate::heard::Heard;
 use crate::play::{Left, Outcome, State};
@@ -236,7 +236,7 @@ fn made_lines<H: Holds<StandardBlocks, Finalization = MockFinalization>>(
     requires set { IsSetAs (config_of gen_settings) state }
     requires small { HasSmallBlocks state }
     ensures { (before : Remains) → state ≡ State.Stopped before 0 → latest.text.items ≡ text before.ended []
-        → ((asked : List Asked) → HandsBack (state_of asked result.0) (remains_in result.0).ended)
+        → ((asked : List Asked) → HandsBack (state_with asked result.0) (remains_in result.0).ended)
         → RunsTo made.now.seed made.now.last before (remains_in result.0) result.1 }
 {
     let mut state = state;

@@ -26,7 +26,7 @@ impl Heard {
     /// Of a line that has told and asked nothing yet.
     pub fn new(alloc: Global) -> Self
         ensures told { result.told.updates.items ≡ [] }
-        ensures asked { result.asked.asks ≡ [] }
+        ensures asked { result.asked ≡ [] }
     {
         Heard {
             told: Told {

@@ -1,5 +1,7 @@
 //! What one line of a script makes of a node.
-ghost use Rattle.std.specs.Prelude.{◌≡◌, ◌↔◌, [], IsTrue, Ok, Some, map};
+ghost use Rattle.std.specs.Prelude.{◌≡◌, ◌↔◌, [], IsTrue, List, Ok, OnErr, OnOk, Some, map};
+ghost use Rattle.mar_key.specs.Asked.{Asked, asked_after};
+ghost use Rattle.mar_key.specs.Recorded.{ask_of};
 ghost use Rattle.mar_node.specs.Messages.{report_finalization};
 ghost use Rattle.mar_node.specs.Config.{Config as PlainConfig};
 ghost use Rattle.mar_node.specs.Faults.{from_genesis, want_of_memory};
@@ -15,7 +17,7 @@ ghost use Rattle.mar_script.specs.Lines.{plain_block, plain_finalization, plain_
 ghost use Rattle.marshal.specs.Playing.{HasSmallBlocks, PlaysLine, PlaysOrNot, TakesEvent};
 ghost use Rattle.mar_script.specs.Shown.{plain_fault};
 ghost use Rattle.mar_script.specs.Script.{IsSettings, ack_line, buffer_line, config_of, fail_line, open_line, sync_line, tell_line};
-ghost use Rattle.marshal.specs.Turn.{fault_in, output_of, plain_report};
+ghost use Rattle.marshal.specs.Turn.{fault_in, open_in, output_of, plain_report, with_open};
 
 use crate::heard::Heard;
 use mar_actor::{Config, Ended, Event, Fault, Limits, Node, Start, StoreName};
@@ -23,6 +25,7 @@ use mar_block::{EmptyBlock, MemBuffer, StandardBlocks};
 use mar_cert::{MockFinalization, MockProvider, MockScheme};
 use mar_codec::{Digested, Sha256, Sha256Digest};
 use mar_inbox::Message;
+use mar_key::{Ask, OpenRequests};
 use mar_script::{Line, RemarkShown, Settings};
 use mar_shelf::{Holds, StoresRuin};
 use mar_types::{Epoch, FixedEpocher, ViewDelta};
@@ -48,12 +51,25 @@ impl<H: Holds<StandardBlocks, Finalization = MockFinalization>> Model for Left<H
     ghost view = { λ l. H.Ruins.left l.ruins };
 }
 
-/// A node while a life runs, with the blocks that its buffer has; else what is left of its stores, and the luck of the
-/// next opening.
+/// A node while a life runs, with the blocks that its buffer has and what is open with its resolver; else what is left of
+/// its stores, and the luck of the next opening.
 #[derive(Drop)]
 pub enum State<H: Holds<StandardBlocks, Finalization = MockFinalization>> {
-    Running(ScriptNode<H>, MemBuffer<StandardBlocks>),
+    Running(ScriptNode<H>, MemBuffer<StandardBlocks>, OpenRequests<Sha256Digest>),
     Stopped(Left<H>, u64),
+}
+
+impl<H: Holds<StandardBlocks, Finalization = MockFinalization>> State<H> {
+    /// Takes in what a line asked among what is open. Where memory runs out, a first part of it is taken in.
+    pub fn take_in(&mut self, asks: &[Ask<Sha256Digest>]) -> Result<(), AllocError>
+        ensures ok { OnOk result (self.new ≡ with_open (asked_after (open_in self.old) [] (map (ask_of (λ digest. digest.bytes)) asks.now)) self.old) }
+        ensures err { OnErr result ((opened : List Asked) × (self.new ≡ with_open opened self.old)) }
+    {
+        match self {
+            State::Running(_, _, requests) => requests.settle(&[], asks),
+            State::Stopped(_, _) => Ok(()),
+        }
+    }
 }
 
 /// What a line did, beside what the node told and asked.
@@ -91,11 +107,13 @@ pub fn play<H: Holds<StandardBlocks, Finalization = MockFinalization>>(
     requires small_line { IsSmallLine (plain_line line) }
     requires small { HasSmallBlocks state }
     requires silent { heard.old.told.updates.items ≡ [] }
-    requires unasked { heard.old.asked.asks ≡ [] }
-    ensures { PlaysOrNot (config_of settings) state (plain_line line) (map plain_report heard.new.told.updates.items) heard.new.asked.asks result.0 result.1 }
+    requires unasked { heard.old.asked ≡ [] }
+    ensures { PlaysOrNot (config_of settings) state (plain_line line) (map plain_report heard.new.told.updates.items) heard.new.asked result.0 result.1 }
 {
     match state {
-        State::Running(actor, buffer) => play_running(alloc, actor, buffer, line, heard),
+        State::Running(actor, buffer, requests) => play_running(
+            alloc, actor, buffer, requests, line, heard,
+        ),
         State::Stopped(left, luck) => play_stopped(alloc, settings, left, luck, line, heard),
     }
 }
@@ -112,8 +130,8 @@ fn play_stopped<H: Holds<StandardBlocks, Finalization = MockFinalization>>(
     requires settings { IsSettings settings }
     requires small_line { IsSmallLine (plain_line line) }
     requires silent { heard.old.told.updates.items ≡ [] }
-    requires unasked { heard.old.asked.asks ≡ [] }
-    ensures { PlaysOrNot (config_of settings) (State.Stopped left luck) (plain_line line) (map plain_report heard.new.told.updates.items) heard.new.asked.asks
+    requires unasked { heard.old.asked ≡ [] }
+    ensures { PlaysOrNot (config_of settings) (State.Stopped left luck) (plain_line line) (map plain_report heard.new.told.updates.items) heard.new.asked
         result.0 result.1 }
 {
     match line {
@@ -160,27 +178,28 @@ fn play_running<H: Holds<StandardBlocks, Finalization = MockFinalization>>(
     alloc: Global,
     actor: ScriptNode<H>,
     buffer: MemBuffer<StandardBlocks>,
+    requests: OpenRequests<Sha256Digest>,
     line: Line,
     heard: &mut Heard,
 ) -> (State<H>, Result<Outcome, AllocError>)
     requires small_line { IsSmallLine (plain_line line) }
     requires small { AreSmall buffer.blocks }
     requires silent { heard.old.told.updates.items ≡ [] }
-    requires unasked { heard.old.asked.asks ≡ [] }
-    ensures { (config : PlainConfig) → PlaysOrNot config (State.Running actor buffer) (plain_line line) (map plain_report heard.new.told.updates.items)
-        heard.new.asked.asks result.0 result.1 }
+    requires unasked { heard.old.asked ≡ [] }
+    ensures { (config : PlainConfig) → PlaysOrNot config (State.Running actor buffer requests) (plain_line line) (map plain_report heard.new.told.updates.items)
+        heard.new.asked result.0 result.1 }
 {
     match line {
         Line::OpenGenesis(_genesis) => (
-            State::Running(actor, buffer),
+            State::Running(actor, buffer, requests),
             Ok(Outcome::Remark(RemarkShown::Running)),
         ),
-        Line::Buffer(block) => put(alloc, actor, buffer, block),
-        Line::Final(finalization) => finalize(actor, buffer, finalization, heard),
-        Line::Sync(ticket) => finish_sync(actor, buffer, ticket, heard),
-        Line::Ack(ticket) => acknowledge(actor, buffer, ticket, heard),
-        Line::Fail(store, calls) => arm(actor, buffer, store, calls),
-        Line::Crash(luck) => (crash(actor, buffer, luck), Ok(Outcome::Done)),
+        Line::Buffer(block) => put(alloc, actor, buffer, requests, block),
+        Line::Final(finalization) => finalize(actor, buffer, requests, finalization, heard),
+        Line::Sync(ticket) => finish_sync(actor, buffer, requests, ticket, heard),
+        Line::Ack(ticket) => acknowledge(actor, buffer, requests, ticket, heard),
+        Line::Fail(store, calls) => arm(actor, buffer, requests, store, calls),
+        Line::Crash(luck) => (crash(actor, buffer, requests, luck), Ok(Outcome::Done)),
     }
 }
 
@@ -188,6 +207,7 @@ fn play_running<H: Holds<StandardBlocks, Finalization = MockFinalization>>(
 fn crash<H: Holds<StandardBlocks, Finalization = MockFinalization>>(
     actor: ScriptNode<H>,
     _buffer: MemBuffer<StandardBlocks>,
+    _requests: OpenRequests<Sha256Digest>,
     luck: u64,
 ) -> State<H>
     ensures { result ≡ State.Stopped (remains_of actor.held) luck }
@@ -200,16 +220,17 @@ fn crash<H: Holds<StandardBlocks, Finalization = MockFinalization>>(
 fn arm<H: Holds<StandardBlocks, Finalization = MockFinalization>>(
     actor: ScriptNode<H>,
     buffer: MemBuffer<StandardBlocks>,
+    requests: OpenRequests<Sha256Digest>,
     store: StoreName,
     calls: u64,
 ) -> (State<H>, Result<Outcome, AllocError>)
-    ensures { (config : PlainConfig) → PlaysOrNot config (State.Running actor buffer) (fail_line (store_name_of store) calls) [] [] result.0 result.1 }
+    ensures { (config : PlainConfig) → PlaysOrNot config (State.Running actor buffer requests) (fail_line (store_name_of store) calls) [] [] result.0 result.1 }
 {
     let mut actor = actor;
     if let Err(error) = actor.arm(store, calls) {
-        return (State::Running(actor, buffer), Err(error));
+        return (State::Running(actor, buffer, requests), Err(error));
     }
-    (State::Running(actor, buffer), Ok(Outcome::Done))
+    (State::Running(actor, buffer, requests), Ok(Outcome::Done))
 }
 
 // Puts a block into the buffer.
@@ -217,18 +238,19 @@ fn put<H: Holds<StandardBlocks, Finalization = MockFinalization>>(
     alloc: Global,
     actor: ScriptNode<H>,
     buffer: MemBuffer<StandardBlocks>,
+    requests: OpenRequests<Sha256Digest>,
     block: EmptyBlock<Sha256>,
 ) -> (State<H>, Result<Outcome, AllocError>)
-    ensures { (config : PlainConfig) → PlaysOrNot config (State.Running actor buffer) (buffer_line (plain_block block)) [] [] result.0 result.1 }
+    ensures { (config : PlainConfig) → PlaysOrNot config (State.Running actor buffer requests) (buffer_line (plain_block block)) [] [] result.0 result.1 }
 {
     let mut buffer = buffer;
     let block = match Digested::compute(alloc, block) {
         Ok(block) => block,
-        Err(error) => return (State::Running(actor, buffer), Err(error)),
+        Err(error) => return (State::Running(actor, buffer, requests), Err(error)),
     };
     match buffer.put(block) {
-        Ok(()) => (State::Running(actor, buffer), Ok(Outcome::Done)),
-        Err(error) => (State::Running(actor, buffer), Err(error)),
+        Ok(()) => (State::Running(actor, buffer, requests), Ok(Outcome::Done)),
+        Err(error) => (State::Running(actor, buffer, requests), Err(error)),
     }
 }
 
@@ -236,18 +258,19 @@ fn put<H: Holds<StandardBlocks, Finalization = MockFinalization>>(
 fn finalize<H: Holds<StandardBlocks, Finalization = MockFinalization>>(
     actor: ScriptNode<H>,
     buffer: MemBuffer<StandardBlocks>,
+    requests: OpenRequests<Sha256Digest>,
     finalization: MockFinalization,
     heard: &mut Heard,
 ) -> (State<H>, Result<Outcome, AllocError>)
     requires small_event { IsSmall (finalization_bytes (plain_finalization finalization)) }
     requires small { AreSmall buffer.blocks }
     requires silent { heard.old.told.updates.items ≡ [] }
-    requires unasked { heard.old.asked.asks ≡ [] }
-    ensures { (config : PlainConfig) → PlaysOrNot config (State.Running actor buffer) (tell_line (report_finalization (plain_finalization finalization)))
-        (map plain_report heard.new.told.updates.items) heard.new.asked.asks result.0 result.1 }
+    requires unasked { heard.old.asked ≡ [] }
+    ensures { (config : PlainConfig) → PlaysOrNot config (State.Running actor buffer requests) (tell_line (report_finalization (plain_finalization finalization)))
+        (map plain_report heard.new.told.updates.items) heard.new.asked result.0 result.1 }
 {
     let event = Event::Message(Message::Finalization(finalization));
-    let (state, outcome) = step(actor, buffer, event, heard);
+    let (state, outcome) = step(actor, buffer, requests, event, heard);
     (state, Ok(outcome))
 }
 
@@ -255,20 +278,21 @@ fn finalize<H: Holds<StandardBlocks, Finalization = MockFinalization>>(
 fn acknowledge<H: Holds<StandardBlocks, Finalization = MockFinalization>>(
     actor: ScriptNode<H>,
     buffer: MemBuffer<StandardBlocks>,
+    requests: OpenRequests<Sha256Digest>,
     ticket: u64,
     heard: &mut Heard,
 ) -> (State<H>, Result<Outcome, AllocError>)
     requires small { AreSmall buffer.blocks }
     requires silent { heard.old.told.updates.items ≡ [] }
-    requires unasked { heard.old.asked.asks ≡ [] }
-    ensures { (config : PlainConfig) → PlaysOrNot config (State.Running actor buffer) (ack_line ticket) (map plain_report heard.new.told.updates.items)
-        heard.new.asked.asks result.0 result.1 }
+    requires unasked { heard.old.asked ≡ [] }
+    ensures { (config : PlainConfig) → PlaysOrNot config (State.Running actor buffer requests) (ack_line ticket) (map plain_report heard.new.told.updates.items)
+        heard.new.asked result.0 result.1 }
 {
     if !actor.owes_ack(ticket) {
         let remark = Outcome::Remark(RemarkShown::Ignored);
-        return (State::Running(actor, buffer), Ok(remark));
+        return (State::Running(actor, buffer, requests), Ok(remark));
     }
-    let (state, outcome) = step(actor, buffer, Event::Ack(ticket), heard);
+    let (state, outcome) = step(actor, buffer, requests, Event::Ack(ticket), heard);
     (state, Ok(outcome))
 }
 
@@ -276,20 +300,21 @@ fn acknowledge<H: Holds<StandardBlocks, Finalization = MockFinalization>>(
 fn finish_sync<H: Holds<StandardBlocks, Finalization = MockFinalization>>(
     actor: ScriptNode<H>,
     buffer: MemBuffer<StandardBlocks>,
+    requests: OpenRequests<Sha256Digest>,
     ticket: u64,
     heard: &mut Heard,
 ) -> (State<H>, Result<Outcome, AllocError>)
     requires small { AreSmall buffer.blocks }
     requires silent { heard.old.told.updates.items ≡ [] }
-    requires unasked { heard.old.asked.asks ≡ [] }
-    ensures { (config : PlainConfig) → PlaysOrNot config (State.Running actor buffer) (sync_line ticket) (map plain_report heard.new.told.updates.items)
-        heard.new.asked.asks result.0 result.1 }
+    requires unasked { heard.old.asked ≡ [] }
+    ensures { (config : PlainConfig) → PlaysOrNot config (State.Running actor buffer requests) (sync_line ticket) (map plain_report heard.new.told.updates.items)
+        heard.new.asked result.0 result.1 }
 {
     if !actor.awaits_sync(ticket) {
         let remark = Outcome::Remark(RemarkShown::Ignored);
-        return (State::Running(actor, buffer), Ok(remark));
+        return (State::Running(actor, buffer, requests), Ok(remark));
     }
-    let (state, outcome) = step(actor, buffer, Event::Sync(ticket), heard);
+    let (state, outcome) = step(actor, buffer, requests, Event::Sync(ticket), heard);
     (state, Ok(outcome))
 }
 
@@ -297,18 +322,19 @@ fn finish_sync<H: Holds<StandardBlocks, Finalization = MockFinalization>>(
 fn step<H: Holds<StandardBlocks, Finalization = MockFinalization>>(
     actor: ScriptNode<H>,
     buffer: MemBuffer<StandardBlocks>,
+    requests: OpenRequests<Sha256Digest>,
     event: Event<MockFinalization>,
     heard: &mut Heard,
 ) -> (State<H>, Outcome)
     requires small_event { IsSmallEvent (event_of plain_finalization event) }
     requires small { AreSmall buffer.blocks }
     requires silent { heard.old.told.updates.items ≡ [] }
-    requires unasked { heard.old.asked.asks ≡ [] }
-    ensures { TakesEvent actor buffer (event_of plain_finalization event) (map plain_report heard.new.told.updates.items) heard.new.asked.asks result.0
-        result.1 }
+    requires unasked { heard.old.asked ≡ [] }
+    ensures { TakesEvent actor buffer requests (event_of plain_finalization event) (map plain_report heard.new.told.updates.items) heard.new.asked
+        result.0 result.1 }
 {
     match actor.step(event, &buffer, &mut heard.asked, &mut heard.told) {
-        Ok(actor) => (State::Running(actor, buffer), Outcome::Done),
+        Ok(actor) => (State::Running(actor, buffer, requests), Outcome::Done),
         Err(ended) => {
             let (fault, left) = parts_of(ended);
             (State::Stopped(left, 0), Outcome::Fault(fault))
@@ -338,9 +364,9 @@ fn open<H: Holds<StandardBlocks, Finalization = MockFinalization>>(
     requires settings { IsSettings settings }
     requires small { IsSmall (plain_block genesis).encoded }
     requires silent { heard.old.told.updates.items ≡ [] }
-    requires unasked { heard.old.asked.asks ≡ [] }
+    requires unasked { heard.old.asked ≡ [] }
     ensures { PlaysOrNot (config_of settings) (State.Stopped left luck) (open_line (from_genesis (plain_block genesis)))
-        (map plain_report heard.new.told.updates.items) heard.new.asked.asks result.0 result.1 }
+        (map plain_report heard.new.told.updates.items) heard.new.asked result.0 result.1 }
 {
     match Digested::compute(alloc, genesis) {
         Ok(genesis) => {
@@ -363,12 +389,15 @@ fn begin<H: Holds<StandardBlocks, Finalization = MockFinalization>>(
     requires settings { IsSettings settings }
     requires small { IsSmall (plain_block genesis).encoded }
     requires silent { heard.old.told.updates.items ≡ [] }
-    requires unasked { heard.old.asked.asks ≡ [] }
+    requires unasked { heard.old.asked ≡ [] }
     ensures { PlaysLine (config_of settings) (State.Stopped left luck) (open_line (from_genesis (plain_block genesis)))
-        (output_of (map plain_report heard.new.told.updates.items) heard.new.asked.asks result.1) result.0 }
+        (output_of (map plain_report heard.new.told.updates.items) heard.new.asked result.1) result.0 }
 {
     match Node::init(alloc, left.ruins, setup(settings, genesis), luck) {
-        Ok((actor, _floor)) => step(actor, MemBuffer::new(alloc), Event::Start, heard),
+        Ok((actor, _floor)) => {
+            let (buffer, requests) = (MemBuffer::new(alloc), OpenRequests::new(alloc));
+            step(actor, buffer, requests, Event::Start, heard)
+        }
         Err(ended) => {
             let (fault, left) = parts_of(ended);
             (State::Stopped(left, 0), Outcome::Fault(fault))

@@ -12,7 +12,7 @@ ghost use Rattle.mar_script.specs.Run.{HandsBack, IsShownAs};
 ghost use Rattle.mar_script.specs.Script.{IsSettings, config_of, settings_bytes};
 ghost use Rattle.mar_script.specs.Streams.{Gives, Takes, TakesFront};
 ghost use Rattle.mar_script.specs.Text.{output_text, text};
-ghost use Rattle.marshal.specs.Turn.{output_of, plain_report, remains_in, state_of};
+ghost use Rattle.marshal.specs.Turn.{output_of, plain_report, remains_in, state_with};
 
 use crate::heard::Heard;
 use crate::play::{Left, Outcome, State, play};
@@ -78,10 +78,10 @@ pub fn left_of<H: Holds<StandardBlocks, Finalization = MockFinalization>>(
     state: State<H>,
 ) -> H::Ruins
     ensures left { H.Ruins.left result ≡ remains_in state }
-    ensures hands_back { (asked : List Asked) → HandsBack (state_of asked state) (H.Ruins.left result).ended }
+    ensures hands_back { (asked : List Asked) → HandsBack (state_with asked state) (H.Ruins.left result).ended }
 {
     match state {
-        State::Running(actor, _buffer) => actor.wreck(),
+        State::Running(actor, _buffer, _requests) => actor.wreck(),
         State::Stopped(left, _luck) => left.ruins,
     }
 }
@@ -108,7 +108,7 @@ fn later_lines<S: Source, K: Sink, H: Holds<StandardBlocks, Finalization = MockF
         → Reads start (S.left source.new) result.1 }
     ensures headline { (start : Option (List ℕ)) (taken : List ℕ) (sunk : Option (List ℕ)) (before : Remains) → Gives start taken (S.left source.old)
         → taken ≡ settings_bytes settings ++ reader.old → state ≡ State.Stopped before 0 → Takes sunk (text before.ended []) (K.written sink.old)
-        → ((asked : List Asked) → HandsBack (state_of asked result.0) (remains_in result.0).ended)
+        → ((asked : List Asked) → HandsBack (state_with asked result.0) (remains_in result.0).ended)
         → ReplaysWhereTold start (S.left source.new) sunk (K.written sink.new) result.1 before (remains_in result.0) }
 {
     let mut state = state;
@@ -152,6 +152,10 @@ pub fn turn<K: Sink, H: Holds<StandardBlocks, Finalization = MockFinalization>>(
     if outcome.ran_out() {
         return (state, Err(Status::Memory));
     }
+    let mut state = state;
+    if state.take_in(heard.asked.asks()).is_err() {
+        return (state, Err(Status::Memory));
+    }
     let written = write_turn(alloc, sink, &heard, outcome, &state);
     (state, written)
 }
@@ -167,8 +171,8 @@ pub fn write_turn<K: Sink, H: Holds<StandardBlocks, Finalization = MockFinalizat
     ensures end { IfErr result IsWritersEnd }
     ensures calm { (IsErrOf result Status.WriteFault → ⊥) → K.faults sink.new ≡ K.faults sink.old }
     ensures write_fault { IsErrOf result Status.WriteFault → Rose (K.faults sink.old) (K.faults sink.new) }
-    ensures wrote { WritesText (K.written sink.old) (λ asked. output_text (output_of (map plain_report heard.now.told.updates.items) heard.now.asked.asks
-        outcome) (state_of asked state.now)) (K.written sink.new) result }
+    ensures wrote { WritesText (K.written sink.old) (λ asked. output_text (output_of (map plain_report heard.now.told.updates.items) heard.now.asked
+        outcome) (state_with asked state.now)) (K.written sink.new) result }
 {
     let mut text = String::new(alloc);
     if push_turn(alloc, &mut text, heard, outcome, state).is_err() {

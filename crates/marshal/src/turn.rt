@@ -3,7 +3,7 @@ ghost use Rattle.std.specs.Prelude.{◌≡◌, ◌++◌, ◌∷◌, List, OnOk, 
 ghost use Rattle.std.specs.List.{flat_map};
 ghost use Rattle.mar_key.specs.Asked.{Asked};
 ghost use Rattle.mar_script.specs.Text.{fault_words, line_of, output_text, remark_words, some_words, state_words};
-ghost use Rattle.marshal.specs.Turn.{fault_in, output_of, plain_report, remark_in, report_text, state_of};
+ghost use Rattle.marshal.specs.Turn.{fault_in, output_of, plain_report, remark_in, report_text, state_with};
 
 use crate::heard::Heard;
 use crate::play::{Outcome, State};
@@ -25,7 +25,7 @@ pub fn push_turn<H: Holds<StandardBlocks, Finalization = MockFinalization>>(
     state: &State<H>,
 ) -> Result<(), AllocError>
     ensures { OnOk result ((asked : List Asked) → string_bytes text.new ≡ string_bytes text.old
-        ++ output_text (output_of (map plain_report heard.now.told.updates.items) heard.now.asked.asks outcome) (state_of asked state.now)) }
+        ++ output_text (output_of (map plain_report heard.now.told.updates.items) heard.now.asked outcome) (state_with asked state.now)) }
 {
     push_updates(alloc, text, &heard.told.updates)?;
     push_asks(alloc, text, heard.asked.asks())?;
@@ -83,10 +83,10 @@ fn push_state<H: Holds<StandardBlocks, Finalization = MockFinalization>>(
     text: &mut String,
     state: &State<H>,
 ) -> Result<(), AllocError>
-    ensures { OnOk result ((asked : List Asked) → string_bytes text.new ≡ string_bytes text.old ++ line_of (state_words (state_of asked state.now))) }
+    ensures { OnOk result ((asked : List Asked) → string_bytes text.new ≡ string_bytes text.old ++ line_of (state_words (state_with asked state.now))) }
 {
     match state {
-        State::Running(actor, _) => push_node(alloc, text, &actor.shown()),
+        State::Running(actor, _, _) => push_node(alloc, text, &actor.shown()),
         State::Stopped(left, _) => push_ended(text, &left.ruins.shown()),
     }
 }

@@ -8,7 +8,7 @@ use Rattle.marshal.proofs.play.acknowledge.Goals as goal
 
 pub returns-then-not-owes_ack : goal.returns-then-not-owes_ack
 returns-then-not-owes_ack g c =
-    rw (c.requires.silent, c.requires.unasked) (λ config. plays_remark config _ _ remark.Ignored (λ chain account asked. ack_ignored config chain account c.args.actor c.args.buffer.blocks asked c.args.ticket _ _ (sym c.owes_ack.ensures ∙ c.if-not-owes_ack.true) (refl, refl)) ArePassed-refl (λ luck. refl))
+    rw (c.requires.silent, c.requires.unasked) (λ config. plays_remark config _ _ remark.Ignored (λ chain account. ack_ignored config chain account c.args.actor c.args.buffer.blocks c.args.requests c.args.ticket _ _ (sym c.owes_ack.ensures ∙ c.if-not-owes_ack.true) (refl, refl)) ArePassed-refl (λ luck. refl))
 
 pub returns : goal.returns
-returns g c = plays_event c.args.actor c.args.buffer _ _ _ _ _ _ (acks c.args.ticket) (λ f same. absurd cc) (λ before now fault calls. calls) (λ config chain account asked out s done. ack_done config chain account c.args.actor c.args.buffer.blocks asked c.args.ticket out s (sym c.owes_ack.ensures ∙ c.if-not-owes_ack.false) done) c.step-state.ensures
+returns g c = plays_event c.args.actor c.args.buffer c.args.requests _ _ _ _ _ _ (acks c.args.ticket) (λ f same. absurd cc) (λ before now fault calls. calls) (λ config chain account asked out s done. ack_done config chain account c.args.actor c.args.buffer.blocks asked c.args.ticket out s (sym c.owes_ack.ensures ∙ c.if-not-owes_ack.false) done) c.step-state.ensures

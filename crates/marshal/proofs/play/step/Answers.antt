@@ -5,10 +5,10 @@ use Rattle.marshal.proofs.play.step.Goals as goal
 
 pub returns-in-Ok : goal.returns-in-Ok
 returns-in-Ok g c =
-    takes_ok c.args.actor c.args.buffer _ _ _ _ _ (ap (λ us. map plain_report us) c.requires.silent) c.requires.unasked c.in-Ok.actor c.in-Ok.ensures.promise c.in-Ok.ensures.same_life.1 c.in-Ok.ensures.same_life.2
+    takes_ok c.args.actor c.args.buffer _ _ _ _ _ (ap (λ us. map plain_report us) c.requires.silent) c.requires.unasked c.in-Ok.actor c.args.requests c.in-Ok.ensures.promise c.in-Ok.ensures.same_life.1 c.in-Ok.ensures.same_life.2
     c.in-Ok.ensures.watches c.in-Ok.ensures.tickets
 
 pub returns-in-Err : goal.returns-in-Err
 returns-in-Err g c =
     let is = c.parts_of-fault.ensures in
-    takes_err c.args.actor c.args.buffer _ _ _ _ _ (ap (λ us. map plain_report us) c.requires.silent) c.requires.unasked _ _ (rw is at c.in-Err.ensures.promise) (rw is at c.in-Err.ensures.cause) (rw is at c.in-Err.ensures.runs_out)
+    takes_err c.args.actor c.args.buffer _ _ _ _ _ (ap (λ us. map plain_report us) c.requires.silent) c.requires.unasked c.args.requests _ _ (rw is at c.in-Err.ensures.promise) (rw is at c.in-Err.ensures.cause) (rw is at c.in-Err.ensures.runs_out)

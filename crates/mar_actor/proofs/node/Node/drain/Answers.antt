@@ -15,7 +15,7 @@ entries-preserved g c =
 pub returns-in_err-next-clause-asks : goal.returns-in_err-next-clause-asks
 returns-in_err-next-clause-asks g c =
     let p = err_from_is_err_and c.from_residual.result c.from_residual.ensures.1 in
-    rw (p.1, p.2) (front_heard g.E.Epocher.epochs _ _ _ _ _ _ c.entries.invariant _ c.in_err-next.ensures.asks)
+    rw p.1 (front_heard g.E.Epocher.epochs _ _ _ _ _ _ c.entries.invariant _ c.in_err-next.ensures.asks)
 
 pub returns-in_err-next-clause-goes_on : goal.returns-in_err-next-clause-goes_on
 returns-in_err-next-clause-goes_on g c =
