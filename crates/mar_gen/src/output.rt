@@ -6,6 +6,7 @@ ghost use Rattle.mar_codec.specs.Varint.{IsNumber};
 ghost use Rattle.mar_gen.specs.Output.{HasFirst, HasNone, IsOwed, behind as behind_front, blocks_in, first_behind as first_behind_front, node_words as words_of_node, or_dash, pieces as pieces_at, processed_in, seen, summary as summary_of, summary_back, summary_front, words_of};
 
 use itoa::Buffer;
+use memchr::memchr;
 use std::alloc::{AllocError, Global};
 use std::str;
 
@@ -22,7 +23,15 @@ pub enum Owed {
 fn pieces(alloc: Global, text: &[u8], at: u8) -> Result<Vec<&[u8]>, AllocError>
     ensures { IfOk result (λ found. seen found.items ≡ pieces_at at text.now) }
 {
-    text.split(|byte| *byte == at).collect(alloc)
+    let mut found = Vec::new(alloc);
+    let mut rest = text;
+    while let Some(place) = memchr(at, rest) {
+        let (piece, behind) = rest.split_at(place);
+        found.push(piece)?;
+        rest = behind.split_at(1).1;
+    }
+    found.push(rest)?;
+    Ok(found)
 }
 
 // What stands behind a front, where the text has it.

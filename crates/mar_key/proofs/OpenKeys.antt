@@ -1,12 +1,12 @@
 -- The open keys, as the recorder edits them.
-use Rattle.std.proofs.Common.{Bool, List, [], add-one, ap, ap₂, append-nil, arith, cond, drop, false, filter, get_or, length, length-drop, map, not, refl, set, subst, suc, sym, take, true, zero, ℕ, ◌+◌, ◌-◌, ◌++◌, ◌<◌, ◌∙◌, ◌∷◌, ◌≡◌}
+use Rattle.std.proofs.Common.{Bool, List, [], add-one, ap, append-nil, arith, cond, drop, false, filter, get_or, length, map, not, refl, set, suc, sym, take, true, zero, ℕ, ◌+◌, ◌++◌, ◌<◌, ◌∙◌, ◌∷◌, ◌≡◌}
 use Rattle.std.proofs.Math.ListN.{get_or-map}
 use Rattle.std.proofs.Math.Seq.{take-append_seam}
-use Rattle.std.proofs.lemmas.List.{drop-map, length-map, map-append, map-set, take_all}
+use Rattle.std.proofs.lemmas.List.{length-map, map-append, map-set}
 use Rattle.std.specs.List.{list_any}
-use Rattle.mar_key.specs.Asked.{Asked, annotations_of, asked_after, has_none, is_idle, with_annotation, with_fetch, with_retain, without_denied, without_empty}
+use Rattle.mar_key.specs.Asked.{Asked, annotations_of, has_none, is_idle, with_annotation, with_fetch, with_retain, without_denied, without_empty}
 use Rattle.mar_key.specs.Fronts.{filter-map, list_any-map}
-use Rattle.mar_key.specs.Keys.{Annotation, Call, Key, Retain, annotation_eq, key_eq}
+use Rattle.mar_key.specs.Keys.{Annotation, Key, Retain, annotation_eq, key_eq}
 
 -- an annotation that is there, and one that is not
 module _ {A : Type 0} (f : A → Annotation) (a : Annotation) (items view : List A) (found : Bool) (is : found ≡ list_any (λ x. annotation_eq a (f x)) view) (same : view ≡ items) where

@@ -1,15 +1,14 @@
 -- An acknowledgement: what is given at the front is processed, and the node stays good.
-use Rattle.std.proofs.Common.{◌≡◌, inr, ℕ, zero, suc, ◌+◌, ◌<◌, ◌≤◌, List, [], ◌∷◌, ◌++◌, length, flat_map, fold, Bool, true, false, if◌then◌else◌, nat_lt, Option, Some, None, Contains, option_map, option_to_list, refl, sym, ◌∙◌, ap, ap₂, subst, arith, append-nil}
+use Rattle.std.proofs.Common.{◌≡◌, inr, ℕ, zero, suc, ◌+◌, ◌<◌, ◌≤◌, List, [], ◌∷◌, ◌++◌, length, fold, Bool, true, false, if◌then◌else◌, nat_lt, Option, Some, None, Contains, option_map, refl, sym, ◌∙◌, ap, ap₂, subst, arith, append-nil}
 use Rattle.std.specs.List.{cons_option, filter_map}
 use Rattle.std.proofs.lemmas.Bool.Decides.{nat_tests}
 use Rattle.std.proofs.lemmas.List.{length-map}
-use Rattle.mar_types.specs.Epochs.{IsPartition, closed_epoch}
+use Rattle.mar_types.specs.Epochs.{IsPartition}
 use Rattle.mar_types.specs.Round.{Round, round_lt}
 use Rattle.mar_cert.specs.Block.{Block}
 use Rattle.mar_cert.specs.Finalization.{Finalization}
 use Rattle.mar_key.specs.Asked.{Asked}
-use Rattle.mar_key.specs.Cutoff.{Cutoff, at_epoch, at_round, greatest_of}
-use Rattle.mar_key.specs.Keys.{above_height, retain}
+use Rattle.mar_key.specs.Cutoff.{Cutoff, greatest_of}
 use Rattle.mar_key.specs.Processed.{Processed, first_unprocessed, height_in}
 use Rattle.mar_store.specs.Changes.{IsNested, KeepsValues}
 use Rattle.mar_store.specs.Kept.{At, value_at}

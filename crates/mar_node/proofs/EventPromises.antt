@@ -1,5 +1,5 @@
 -- What each event's calls make of the step's promise.
-use Rattle.std.proofs.Common.{◌≡◌, ℕ, ◌-◌, ◌^◌, List, [], ◌∷◌, true, false, nat_lt, Option, Some, None, Result, Ok, Err, IfErr, IfOk, MatchResult, OnOk, Contains, refl, sym, ◌∙◌, ap, subst}
+use Rattle.std.proofs.Common.{◌≡◌, ℕ, ◌-◌, ◌^◌, List, [], ◌∷◌, true, false, nat_lt, Option, Some, None, Result, Ok, Err, IfErr, IfOk, MatchResult, Contains, refl, sym, ◌∙◌, ap, subst}
 use Rattle.mar_types.specs.Epochs.{Epochs, IsPartition}
 use Rattle.mar_cert.specs.Block.{Block}
 use Rattle.mar_cert.specs.Finalization.{Finalization}

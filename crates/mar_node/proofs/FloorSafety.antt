@@ -1,5 +1,5 @@
 -- The cutoff stays safe on a lawful chain: after acknowledgements, a witnessed round, a closed epoch, an applied floor.
-use Rattle.std.proofs.Common.{◌≡◌, ◌⊎◌, inl, inr, ℕ, ◌+◌, ◌-◌, ◌<◌, ◌≤◌, List, [], ◌∷◌, ◌++◌, Bool, true, false, if◌then◌else◌, nat_lt, Option, Some, None, option_map, option_to_list, IsTrue, IsFalse, map, flat_map, refl, sym, ◌∙◌, ap, subst, arith, eq-or-lt_of_le, le_refl, append-nil, nat_le, leb-true}
+use Rattle.std.proofs.Common.{◌≡◌, ◌⊎◌, inl, inr, ℕ, ◌+◌, ◌-◌, ◌<◌, ◌≤◌, List, [], ◌∷◌, ◌++◌, Bool, true, false, if◌then◌else◌, nat_lt, Option, Some, None, option_map, option_to_list, IsTrue, IsFalse, map, refl, sym, ◌∙◌, ap, subst, arith, eq-or-lt_of_le, le_refl, append-nil, nat_le, leb-true}
 use Rattle.std.specs.Bool.{⊤}
 use Rattle.std.specs.List.{AllByRecursion}
 use Rattle.std.proofs.lemmas.Bool.Decides.{nat_tests}

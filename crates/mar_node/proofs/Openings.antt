@@ -241,9 +241,9 @@ module _ (config : Config) (chain : Chain) (lawful : IsLawful config.epochs chai
   IsGoodInHeights-opened = subst (IsGoodInHeights config) (sym finds.node) (record {
     stores = record {
       nested_blocks = record {
-      sure_held = λ h has. subst (λ xs. IsTrue (has_height xs h)) finds.settled.sure has;
-      held_may = λ h has. has_height-within finds.blocks.held finds.blocks.may finds.settled.held_may h has;
-    };
+        sure_held = λ h has. subst (λ xs. IsTrue (has_height xs h)) finds.settled.sure has;
+        held_may = λ h has. has_height-within finds.blocks.held finds.blocks.may finds.settled.held_may h has;
+      };
       nested_certs = record { sure_held = λ h has. has; held_may = λ h has. has };
       sure_blocks = λ h has. inl (opened_has_sure config chain e picks begin n finds h has);
       sure_certs = λ h has. inl has;

@@ -1,5 +1,5 @@
 -- What is asked as a cutoff rises twice is what is asked as it rises over both.
-use Rattle.std.proofs.Common.{◌≡◌, ℕ, List, [], ◌∷◌, ◌++◌, Bool, true, false, if◌then◌else◌, ◌==◌, ◌&&◌, ◌||◌, nat_le, nat_lt, Option, option_map, option_to_list, Result, Ok, Err, OnOk, IsTrue, refl, sym, ◌∙◌, ap, ap₂, subst, arith}
+use Rattle.std.proofs.Common.{◌≡◌, ℕ, List, [], ◌∷◌, ◌++◌, Bool, true, false, if◌then◌else◌, ◌==◌, ◌&&◌, ◌||◌, nat_le, nat_lt, Option, option_map, option_to_list, Result, IsTrue, refl, sym, ◌∙◌, ap, ap₂, subst, arith}
 use Rattle.std.proofs.lemmas.Bool.Decides.{nat_tests}
 use Rattle.mar_types.specs.Round.{Round}
 use Rattle.mar_key.specs.Cutoff.{Cutoff, at_epoch, at_round, cutoff_le, cutoff_max, greatest_of}
@@ -7,7 +7,7 @@ use Rattle.mar_key.specs.Hears.{Hears}
 use Rattle.mar_key.specs.Keys.{Call, above_height, above_round, retain}
 use Rattle.mar_key.proofs.CutoffOrder.{cutoff_le-total}
 use Rattle.mar_key.specs.Processed.{Processed}
-use Rattle.mar_types.specs.Epochs.{Epochs, closed_epoch}
+use Rattle.mar_types.specs.Epochs.{Epochs}
 use Rattle.mar_node.specs.Held.{Watches, Ending, Seen}
 use Rattle.mar_node.specs.Event.{closed_at, retired, round_at}
 use Rattle.mar_node.specs.Moves.{HearsFront, HearsUpTo, IsRead, RaisesTo}

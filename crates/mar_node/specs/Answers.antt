@@ -12,7 +12,7 @@ use Rattle.mar_key.specs.Keys.{Annotation, Key, block_key, certified_at, finaliz
 use Rattle.mar_node.specs.Messages.{Identifier, Message, Peers, certify, close_ticket, forward, get_anchor, get_block, get_finalization, get_info, get_processed, get_verified, latest, of_digest, of_height, prepared, proposed, report_certification, some_peers, subscribe_commitment, subscribe_digest, verified}
 use Rattle.mar_node.specs.Config.{Config}
 use Rattle.mar_node.specs.Node.{CacheSync, CertifiedCommitment, Node, Subscription, Wanted, all_at_hand, at_hand, commitment_wanted, digest_wanted}
-use Rattle.mar_node.specs.Cached.{Cached, cached_block, notarization_entry}
+use Rattle.mar_node.specs.Cached.{Cached, notarization_entry}
 use Rattle.mar_node.specs.Event.{Effect, Event, applies_floor, brought_block, buffer_ended, gave_block, message_told, no_floor, peer_answered, sync_finished}
 use Rattle.mar_node.specs.Cache.{first_of, first_verified}
 

@@ -1,5 +1,5 @@
 -- What the parts of a step change: what is seen of an actor before and after them.
-use Rattle.std.specs.Prelude.{Bool, List, MatchResult, None, Option, Result, Some, [], bytes_eq, false, find, flat_map, fold, if◌then◌else◌, is_some, length, map, nat_lt, not, option_map, option_to_list, true, ℕ, ⊤, ◌&&◌, ◌++◌, ◌+◌, ◌-◌, ◌<◌, ◌^◌, ◌∷◌, ◌≡◌, ◌≤◌, ◌⊎◌}
+use Rattle.std.specs.Prelude.{Bool, List, MatchResult, None, Option, Result, Some, [], bytes_eq, false, find, fold, if◌then◌else◌, is_some, length, map, nat_lt, not, option_to_list, true, ℕ, ◌&&◌, ◌++◌, ◌+◌, ◌-◌, ◌<◌, ◌^◌, ◌∷◌, ◌≡◌, ◌≤◌, ◌⊎◌}
 use Rattle.std.specs.Option.{option_or}
 use Rattle.mar_types.specs.Round.{Round}
 use Rattle.mar_types.specs.Epochs.{Epochs}

@@ -4,6 +4,7 @@ pub mod Numbers
 pub mod Sentences
 pub mod Spelled
 pub mod Pushed
+pub mod SpanTexts
 pub mod ReadBytes
 pub mod FirstWords
 pub mod LineKinds
@@ -12,3 +13,4 @@ pub mod ReadSteps
 pub mod FirstOutside
 pub mod SmallLines
 pub mod Accounts
+pub mod Digits

@@ -1,6 +1,7 @@
 pub mod Script
 pub mod Accounts
 pub mod Text
+pub mod SpanTexts
 pub mod Refused
 pub mod Run
 pub mod Streams

@@ -7,7 +7,7 @@ ghost use Rattle.mar_key.specs.Views.{annotation_of, call_of, cutoff_of, finaliz
 ghost use Rattle.mar_script.specs.Script.{comma_numbers, hex, sentence};
 ghost use Rattle.mar_script.specs.Text.{annotation_words, ask_words, line_of};
 
-use crate::text::{push_hex, push_round};
+use crate::text::{push_hex, push_number, push_round};
 use mar_codec::{Encode, Sha256Digest};
 use mar_key::{Annotation, Ask, Cutoff, Fetch, Finalized, Retain};
 use std::alloc::{AllocError, Global};
@@ -16,7 +16,10 @@ fn push_finalized(text: &mut String, finalized: Finalized) -> Result<(), AllocEr
     ensures { OnOk result (string_bytes text.new ≡ string_bytes text.old ++ sentence (annotation_words (finalized_of finalized))) }
 {
     match finalized {
-        Finalized::ByHeight { height } => write!(text, "fin h{height}"),
+        Finalized::ByHeight { height } => {
+            text.push_str("fin h")?;
+            push_number(text, height.get())
+        }
         Finalized::ByRound { round } => {
             text.push_str("fin r")?;
             push_round(text, round)
@@ -32,8 +35,14 @@ fn push_annotation(text: &mut String, annotation: Annotation) -> Result<(), Allo
             text.push_str("not r")?;
             push_round(text, round)
         }
-        Annotation::Untrusted { height } => write!(text, "unt h{height}"),
-        Annotation::Certified { height } => write!(text, "cer h{height}"),
+        Annotation::Untrusted { height } => {
+            text.push_str("unt h")?;
+            push_number(text, height.get())
+        }
+        Annotation::Certified { height } => {
+            text.push_str("cer h")?;
+            push_number(text, height.get())
+        }
         Annotation::Finalized(finalized) => push_finalized(text, finalized),
     }
 }
@@ -113,7 +122,11 @@ fn push_above_round(text: &mut String, cutoff: Cutoff) -> Result<(), AllocError>
             push_round(text, round)?;
             text.push_str("\n")
         }
-        Cutoff::Epoch(epoch) => writeln!(text, "retain epoch {epoch}"),
+        Cutoff::Epoch(epoch) => {
+            text.push_str("retain epoch ")?;
+            push_number(text, epoch.get())?;
+            text.push_str("\n")
+        }
     }
 }
 
@@ -121,7 +134,11 @@ fn push_retain(text: &mut String, keep: Retain) -> Result<(), AllocError>
     ensures { OnOk result (string_bytes text.new ≡ string_bytes text.old ++ line_of (ask_words (retain (retain_of keep)))) }
 {
     match keep {
-        Retain::AboveHeight(height) => writeln!(text, "retain height {height}"),
+        Retain::AboveHeight(height) => {
+            text.push_str("retain height ")?;
+            push_number(text, height.get())?;
+            text.push_str("\n")
+        }
         Retain::AboveRound(cutoff) => push_above_round(text, cutoff),
     }
 }

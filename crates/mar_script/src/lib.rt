@@ -3,6 +3,7 @@
 
 mod asks;
 mod line;
+mod range_text;
 mod reader;
 mod reading;
 mod settings;
@@ -12,15 +13,18 @@ mod source;
 mod status;
 mod text;
 mod words;
+mod writing;
 
 pub use asks::push_asks;
 pub use line::{Line, parse_line};
+pub use range_text::RangeText;
 pub use reader::{LineError, ScriptReader};
 pub use reading::{MAX_LINES, first_line, next_line};
 pub use settings::{Settings, parse_settings};
-pub use shown::{push_ack_list, push_ended, push_node, push_processed};
+pub use shown::{RangeTexts, push_ack_list, push_ended, push_node, push_processed};
 pub use sink::{Output, Sink, Written, write_all};
 pub use source::{Bytes, Input, Source};
 pub use status::{Status, Why};
 pub use text::{RemarkShown, push_block, push_cutoff, push_fault, push_hex, push_remark, push_tip};
 pub use words::ParseError;
+pub use writing::write_text;

@@ -103,10 +103,10 @@ fn parse_kind(alloc: Global, members: u32, kind: Kind, rest: &[u8]) -> Result<Li
         Kind::Open => open(alloc, rest),
         Kind::Buffer => block_of(alloc, rest).map(Line::Buffer),
         Kind::Final => finalization_of(alloc, members, rest).map(Line::Final),
-        Kind::Sync => number(alloc, rest).map(Line::Sync),
-        Kind::Ack => number(alloc, rest).map(Line::Ack),
-        Kind::Fail => fail(alloc, rest),
-        Kind::Crash => number(alloc, rest).map(Line::Crash),
+        Kind::Sync => number(rest).map(Line::Sync),
+        Kind::Ack => number(rest).map(Line::Ack),
+        Kind::Fail => fail(rest),
+        Kind::Crash => number(rest).map(Line::Crash),
     }
 }
 
@@ -124,7 +124,7 @@ fn open(alloc: Global, words: &[u8]) -> Result<Line, ParseError>
 }
 
 // The line `fail` with these words.
-fn fail(alloc: Global, words: &[u8]) -> Result<Line, ParseError>
+fn fail(words: &[u8]) -> Result<Line, ParseError>
     ensures { (n : ℕ) → Parses (Behind n Kind.Fail words.now) result }
 {
     let Some((word, rest)) = split_word(words) else {
@@ -133,7 +133,7 @@ fn fail(alloc: Global, words: &[u8]) -> Result<Line, ParseError>
     let Some(store) = store_named(word) else {
         return Err(ParseError::Grammar);
     };
-    match number(alloc, rest) {
+    match number(rest) {
         Ok(calls) => {
             if calls == 0 {
                 return Err(ParseError::Grammar);

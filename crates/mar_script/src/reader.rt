@@ -1,5 +1,5 @@
 //! The lines of a script, from a source that is read in pieces.
-ghost use Rattle.std.specs.Prelude.{◌≡◌, ◌≤◌, ◌<◌, ◌+◌, ◌++◌, ◌∷◌, ℕ, List, [], IfOk, IfSome, OnOk, OnErr, IsErrOf, take, drop, length};
+ghost use Rattle.std.specs.Prelude.{◌≡◌, ◌≤◌, ◌<◌, ◌+◌, ◌++◌, ◌∷◌, ℕ, List, [], false, IfOk, IfSome, OnOk, OnErr, IsErrOf, take, drop, length};
 ghost use Rattle.mar_codec.specs.Causes.{Rose};
 ghost use Rattle.mar_script.specs.Run.{IsShownAs};
 ghost use Rattle.mar_script.specs.Refused.{IsUnended};
@@ -7,6 +7,7 @@ ghost use Rattle.mar_script.specs.Streams.{EndsAt, Gives, RaisedByFault, TakesLi
 
 use crate::source::Source;
 use mar_store::Miss;
+use memchr::memchr;
 use std::alloc::{AllocError, Global};
 use std::marker::Model;
 
@@ -35,6 +36,8 @@ pub struct ScriptReader {
     // Those before `start` were given.
     bytes: Vec<u8>,
     start: usize,
+    // What is read into.
+    piece: Vec<u8>,
 }
 
 impl Model for ScriptReader {
@@ -55,6 +58,7 @@ impl ScriptReader {
         ScriptReader {
             bytes: Vec::new(alloc),
             start: 0,
+            piece: Vec::new(alloc),
         }
     }
 
@@ -72,6 +76,13 @@ impl ScriptReader {
         self.bytes.len() - self.start
     }
 
+    /// Whether the next line is at hand, so that none is read for it.
+    pub fn has_line(&self) -> bool
+        ensures { result ≡ false → IsUnended self.now }
+    {
+        find_end(self.behind(0)).is_some()
+    }
+
     // Takes a piece from the source.
     fn fill<S: Source>(&mut self, source: &mut S) -> Result<usize, Miss>
         ensures ok { IfOk result (λ n. (read : List ℕ) × (length read ≡ n) × (self.new ≡ self.old ++ read)
@@ -83,15 +94,14 @@ impl ScriptReader {
     {
         self.bytes.drain(..self.start);
         self.start = 0;
-        if self.bytes.reserve(PIECE).is_err() {
+        if self.bytes.reserve(PIECE).is_err() || self.piece.resize(PIECE, 0).is_err() {
             return Err(Miss::Memory);
         }
-        let mut piece = [0u8; PIECE];
-        let n = match source.read(&mut piece) {
+        let n = match source.read(self.piece.as_mut_slice()) {
             Ok(n) => n,
             Err(miss) => return Err(miss),
         };
-        if self.bytes.extend_from_slice(&piece[..n]).is_err() {
+        if self.bytes.extend_from_slice(&self.piece[..n]).is_err() {
             return Err(Miss::Memory);
         }
         Ok(n)
@@ -154,5 +164,5 @@ fn find_end(bytes: &[u8]) -> Option<usize>
     ensures found { IfSome result (EndsAt bytes.now) }
     ensures none { result ≡ None → IsUnended bytes.now }
 {
-    bytes.iter().position(|byte| *byte == b'\n')
+    memchr(b'\n', bytes)
 }

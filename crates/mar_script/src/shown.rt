@@ -3,24 +3,52 @@ ghost use Rattle.std.specs.Prelude.{◌≡◌, ◌++◌, ◌∷◌, ◌<◌, [],
 ghost use Rattle.std.specs.List.{flat_map};
 ghost use Rattle.mar_key.specs.Views.{cutoff_of, processed_of};
 ghost use Rattle.mar_parts.specs.Views.{outstanding_of};
-ghost use Rattle.mar_store.specs.Spans.{range_of, ranges_of};
-ghost use Rattle.mar_script.specs.Text.{comma_list, cutoff_text, line_of, or_dash, outstanding_text, processed_text, range_text};
+ghost use Rattle.mar_script.specs.Text.{comma_list, cutoff_text, line_of, or_dash, outstanding_text, processed_text};
 ghost use Rattle.mar_script.specs.Shown.{ended_shown_words, ranges_shown, shown_words};
 
-use crate::text::push_cutoff;
+use crate::range_text::RangeText;
+use crate::text::{push_cutoff, push_number};
 use mar_key::{Cutoff, Processed};
 use mar_parts::{Mark, PendingAck, PendingAcks, Shown};
 use mar_shelf::ShownRuins;
-use mar_store::{HeightSpan, RangeSet};
+use mar_store::RangeSet;
 use mar_types::Height;
 use std::alloc::{AllocError, Global};
+
+/// The text of the ranges of a node's stores, or of what is left of them, kept from line to line. It has no say in what
+/// is written.
+#[derive(Drop)]
+pub struct RangeTexts {
+    blocks: RangeText,
+    blocks_sure: RangeText,
+    certs: RangeText,
+    certs_sure: RangeText,
+}
+
+impl RangeTexts {
+    /// Of no ranges.
+    pub fn new(alloc: Global) -> Self {
+        RangeTexts {
+            blocks: RangeText::new(alloc),
+            blocks_sure: RangeText::new(alloc),
+            certs: RangeText::new(alloc),
+            certs_sure: RangeText::new(alloc),
+        }
+    }
+}
 
 fn push_some_processed(text: &mut String, processed: Processed) -> Result<(), AllocError>
     ensures { OnOk result (string_bytes text.new ≡ string_bytes text.old ++ processed_text (processed_of processed)) }
 {
     match processed {
-        Processed::Block(height) => write!(text, "b{height}"),
-        Processed::Absent(height) => write!(text, "a{height}"),
+        Processed::Block(height) => {
+            text.push_str("b")?;
+            push_number(text, height.get())
+        }
+        Processed::Absent(height) => {
+            text.push_str("a")?;
+            push_number(text, height.get())
+        }
     }
 }
 
@@ -39,56 +67,21 @@ fn push_height(text: &mut String, height: Option<Height>) -> Result<(), AllocErr
 {
     match height {
         None => text.push_str("-"),
-        Some(height) => write!(text, "{height}"),
+        Some(height) => push_number(text, height.get()),
     }
-}
-
-fn push_span(text: &mut String, span: HeightSpan) -> Result<(), AllocError>
-    ensures { OnOk result (string_bytes text.new ≡ string_bytes text.old ++ range_text (range_of span)) }
-{
-    let from = span.from;
-    let to = span.to;
-    write!(text, "{from}-{to}")
-}
-
-// Spans, each with a comma before it.
-fn push_more_spans(text: &mut String, spans: &[HeightSpan]) -> Result<(), AllocError>
-    ensures { OnOk result (string_bytes text.new ≡ string_bytes text.old ++ flat_map (λ s. 44 ∷ range_text (range_of s)) spans.now) }
-{
-    for span in spans {
-        text.push_str(",")?;
-        push_span(text, *span)?;
-    }
-    Ok(())
-}
-
-fn push_spans(text: &mut String, spans: &[HeightSpan]) -> Result<(), AllocError>
-    ensures { OnOk result (string_bytes text.new ≡ string_bytes text.old ++ ranges_shown (ranges_of spans.now)) }
-{
-    if spans.is_empty() {
-        return text.push_str("-");
-    }
-    push_span(text, spans[0])?;
-    push_more_spans(text, spans.split_at(1).1)?;
-    Ok(())
-}
-
-fn push_ranges(text: &mut String, ranges: &RangeSet) -> Result<(), AllocError>
-    ensures { OnOk result (string_bytes text.new ≡ string_bytes text.old ++ ranges_shown ranges.now) }
-{
-    push_spans(text, ranges.as_slice())
 }
 
 fn push_ack(text: &mut String, ack: PendingAck) -> Result<(), AllocError>
     ensures { OnOk result (string_bytes text.new ≡ string_bytes text.old ++ outstanding_text (outstanding_of ack)) }
 {
-    let ticket = ack.ticket;
-    let height = ack.height;
-    match ack.mark {
-        Mark::Waiting => write!(text, "{ticket}:{height}"),
-        Mark::Given => write!(text, "{ticket}:{height}+"),
-        Mark::Dropped => write!(text, "{ticket}:{height}x"),
-    }
+    push_number(text, ack.ticket)?;
+    text.push_str(":")?;
+    push_number(text, ack.height.get())?;
+    text.push_str(match ack.mark {
+        Mark::Waiting => "",
+        Mark::Given => "+",
+        Mark::Dropped => "x",
+    })
 }
 
 // Acknowledgements, each with a comma before it.
@@ -135,12 +128,18 @@ fn push_acks(alloc: Global, text: &mut String, acks: &PendingAcks) -> Result<(),
 }
 
 // A word of a name and ranges, with a space before it.
-fn push_field(text: &mut String, name: &str, ranges: &RangeSet) -> Result<(), AllocError>
+fn push_field(
+    text: &mut String,
+    kept: &mut RangeText,
+    name: &str,
+    ranges: &RangeSet,
+) -> Result<(), AllocError>
     ensures { OnOk result (string_bytes text.new ≡ string_bytes text.old ++ (32 ∷ (name.now ++ ranges_shown ranges.now))) }
 {
     text.push_str(" ")?;
     text.push_str(name)?;
-    push_ranges(text, ranges)
+    kept.set(ranges.as_slice())?;
+    kept.push_to(text)
 }
 
 fn push_node_front(alloc: Global, text: &mut String, node: &Shown<'_>) -> Result<(), AllocError>
@@ -154,19 +153,28 @@ fn push_node_front(alloc: Global, text: &mut String, node: &Shown<'_>) -> Result
     push_acks(alloc, text, node.acks)
 }
 
-fn push_node_ranges(text: &mut String, node: &Shown<'_>) -> Result<(), AllocError>
+fn push_node_ranges(
+    text: &mut String,
+    kept: &mut RangeTexts,
+    node: &Shown<'_>,
+) -> Result<(), AllocError>
     ensures { OnOk result (string_bytes text.new ≡ string_bytes text.old ++ ((32 ∷ (codes "b=" ++ ranges_shown node.now.blocks_held.now))
         ++ ((32 ∷ (codes "bs=" ++ ranges_shown node.now.blocks_sure.now))
         ++ ((32 ∷ (codes "f=" ++ ranges_shown node.now.certs_held.now)) ++ (32 ∷ (codes "fs=" ++ ranges_shown node.now.certs_sure.now)))))) }
 {
-    push_field(text, "b=", node.blocks_held)?;
-    push_field(text, "bs=", node.blocks_sure)?;
-    push_field(text, "f=", node.certs_held)?;
-    push_field(text, "fs=", node.certs_sure)
+    push_field(text, &mut kept.blocks, "b=", node.blocks_held)?;
+    push_field(text, &mut kept.blocks_sure, "bs=", node.blocks_sure)?;
+    push_field(text, &mut kept.certs, "f=", node.certs_held)?;
+    push_field(text, &mut kept.certs_sure, "fs=", node.certs_sure)
 }
 
 /// Appends the line that shows a node.
-pub fn push_node(alloc: Global, text: &mut String, node: &Shown<'_>) -> Result<(), AllocError>
+pub fn push_node(
+    alloc: Global,
+    text: &mut String,
+    kept: &mut RangeTexts,
+    node: &Shown<'_>,
+) -> Result<(), AllocError>
     ensures { OnOk result (string_bytes text.new ≡ string_bytes text.old ++ line_of (shown_words (option_map processed_of node.now.processed)
         node.now.acks.now.entries (cutoff_of node.now.cutoff)
         node.now.blocks_held.now node.now.blocks_sure.now node.now.certs_held.now node.now.certs_sure.now)) }
@@ -175,7 +183,7 @@ pub fn push_node(alloc: Global, text: &mut String, node: &Shown<'_>) -> Result<(
     text.push_str(" c=")?;
     push_cutoff(text, node.cutoff)?;
     text.push_str(" w=-")?;
-    push_node_ranges(text, node)?;
+    push_node_ranges(text, kept, node)?;
     text.push_str(" u=- s=- y=-\n")?;
     Ok(())
 }
@@ -191,24 +199,32 @@ fn push_ended_front(text: &mut String, ended: &ShownRuins<'_>) -> Result<(), All
     Ok(())
 }
 
-fn push_ended_ranges(text: &mut String, ended: &ShownRuins<'_>) -> Result<(), AllocError>
+fn push_ended_ranges(
+    text: &mut String,
+    kept: &mut RangeTexts,
+    ended: &ShownRuins<'_>,
+) -> Result<(), AllocError>
     ensures { OnOk result (string_bytes text.new ≡ string_bytes text.old ++ ((32 ∷ (codes "bs=" ++ ranges_shown ended.now.blocks_sure.now))
         ++ ((32 ∷ (codes "bm=" ++ ranges_shown ended.now.blocks_may.now))
         ++ ((32 ∷ (codes "fs=" ++ ranges_shown ended.now.certs_sure.now)) ++ (32 ∷ (codes "fm=" ++ ranges_shown ended.now.certs_may.now)))))) }
 {
-    push_field(text, "bs=", ended.blocks_sure)?;
-    push_field(text, "bm=", ended.blocks_may)?;
-    push_field(text, "fs=", ended.certs_sure)?;
-    push_field(text, "fm=", ended.certs_may)
+    push_field(text, &mut kept.blocks_sure, "bs=", ended.blocks_sure)?;
+    push_field(text, &mut kept.blocks, "bm=", ended.blocks_may)?;
+    push_field(text, &mut kept.certs_sure, "fs=", ended.certs_sure)?;
+    push_field(text, &mut kept.certs, "fm=", ended.certs_may)
 }
 
 /// Appends the line that shows what is left where no life runs.
-pub fn push_ended(text: &mut String, ended: &ShownRuins<'_>) -> Result<(), AllocError>
+pub fn push_ended(
+    text: &mut String,
+    kept: &mut RangeTexts,
+    ended: &ShownRuins<'_>,
+) -> Result<(), AllocError>
     ensures { OnOk result (string_bytes text.new ≡ string_bytes text.old ++ line_of (ended_shown_words ended.now.processed (cutoff_of ended.now.cutoff)
         ended.now.blocks_sure.now ended.now.blocks_may.now ended.now.certs_sure.now ended.now.certs_may.now)) }
 {
     push_ended_front(text, ended)?;
-    push_ended_ranges(text, ended)?;
+    push_ended_ranges(text, kept, ended)?;
     text.push_str("\n")?;
     Ok(())
 }

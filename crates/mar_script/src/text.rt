@@ -8,6 +8,7 @@ ghost use Rattle.mar_script.specs.Text.{cutoff_text, fault_words, kind_name, lin
 ghost use Rattle.mar_shelf.specs.Views.{kind_of, store_name_of};
 ghost use Rattle.mar_script.specs.Shown.{plain_fault, remark_of};
 
+use itoa::Buffer;
 use mar_codec::Sha256Digest;
 use mar_key::Cutoff;
 use mar_shelf::{Fault, StoreName, TicketKind};
@@ -26,6 +27,14 @@ pub enum RemarkShown {
     Running,
 }
 
+/// Appends a number.
+pub fn push_number(text: &mut String, number: u64) -> Result<(), AllocError>
+    ensures { OnOk result (string_bytes text.new ≡ string_bytes text.old ++ decimal number) }
+{
+    let mut buffer = Buffer::new();
+    text.push_str(buffer.format(number))
+}
+
 /// Appends bytes in lower-case hexadecimal, or `-` for none.
 pub fn push_hex(alloc: Global, text: &mut String, bytes: &[u8]) -> Result<(), AllocError>
     ensures { OnOk result (string_bytes text.new ≡ string_bytes text.old ++ hex bytes.now) }
@@ -41,9 +50,9 @@ pub fn push_hex(alloc: Global, text: &mut String, bytes: &[u8]) -> Result<(), Al
 pub fn push_round(text: &mut String, round: Round) -> Result<(), AllocError>
     ensures { OnOk result (string_bytes text.new ≡ string_bytes text.old ++ round_text round) }
 {
-    let epoch = round.epoch();
-    let view = round.view();
-    write!(text, "{epoch}.{view}")
+    push_number(text, round.epoch().get())?;
+    text.push_str(".")?;
+    push_number(text, round.view().get())
 }
 
 /// Appends a cutoff: its round, or its epoch with a star.
@@ -52,7 +61,10 @@ pub fn push_cutoff(text: &mut String, cutoff: Cutoff) -> Result<(), AllocError>
 {
     match cutoff {
         Cutoff::Round(round) => push_round(text, round),
-        Cutoff::Epoch(epoch) => write!(text, "{epoch}.*"),
+        Cutoff::Epoch(epoch) => {
+            push_number(text, epoch.get())?;
+            text.push_str(".*")
+        }
     }
 }
 
@@ -68,7 +80,9 @@ pub fn push_tip(
 {
     text.push_str("tip ")?;
     push_round(text, round)?;
-    write!(text, " {height} ")?;
+    text.push_str(" ")?;
+    push_number(text, height.get())?;
+    text.push_str(" ")?;
     push_hex(alloc, text, digest)?;
     text.push_str("\n")
 }
@@ -83,7 +97,11 @@ pub fn push_block(
 ) -> Result<(), AllocError>
     ensures { OnOk result (string_bytes text.new ≡ string_bytes text.old ++ line_of (codes "block" ∷ decimal ticket ∷ decimal height ∷ hex digest.now ∷ [])) }
 {
-    write!(text, "block {ticket} {height} ")?;
+    text.push_str("block ")?;
+    push_number(text, ticket)?;
+    text.push_str(" ")?;
+    push_number(text, height.get())?;
+    text.push_str(" ")?;
     push_hex(alloc, text, digest)?;
     text.push_str("\n")
 }

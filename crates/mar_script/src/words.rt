@@ -1,14 +1,14 @@
 //! The words of script lines.
-ghost use Rattle.std.specs.Prelude.{◌≡◌, ◌↔◌, ◌<◌, ◌^◌, ◌++◌, ◌∷◌, ℕ, List, IfOk, IfSome, IsSomeAnd, IsTrue, length, decimal, map};
+ghost use Rattle.std.specs.Prelude.{◌≡◌, ◌↔◌, ◌/◌, ◌%◌, ◌<◌, ◌^◌, ◌++◌, ◌∷◌, ℕ, List, Some, IfOk, IfSome, IsSomeAnd, IsTrue, length, decimal, map, slice_index};
 ghost use Rattle.std.specs.List.{AllByRecursion};
-ghost use Rattle.hex.specs.Hex.{IsBytes};
+ghost use Rattle.hex.specs.Hex.{IsBytes, lower_digits};
 ghost use Rattle.mar_codec.specs.Varint.{IsNumber};
 ghost use Rattle.mar_script.specs.Lines.{IsWord, named};
 ghost use Rattle.mar_script.specs.Refused.{HasFirstWord};
 ghost use Rattle.mar_script.specs.Script.{hex};
 ghost use Rattle.mar_script.specs.Words.{Yields, words_in, words_of};
 
-use hex::FromHexError;
+use itoa::Buffer;
 use std::alloc::{AllocError, Global};
 use std::str;
 
@@ -87,7 +87,7 @@ pub fn split_words<'a>(alloc: Global, line: &'a [u8]) -> Result<Vec<&'a [u8]>, A
 }
 
 /// The number that a word spells.
-pub fn number(alloc: Global, word: &[u8]) -> Result<u64, ParseError>
+pub fn number(word: &[u8]) -> Result<u64, ParseError>
     ensures fits { IfOk result IsNumber }
     ensures found { IfOk result (λ n. word.now ≡ decimal n) }
     ensures only { (n : ℕ) → n < 2 ^ 64 → word.now ≡ decimal n → Yields (λ m. m ≡ n) result }
@@ -98,8 +98,8 @@ pub fn number(alloc: Global, word: &[u8]) -> Result<u64, ParseError>
     let Ok(n) = text.parse::<u64>() else {
         return Err(ParseError::Grammar);
     };
-    let again = n.to_string(alloc)?;
-    if again.as_bytes() == word {
+    let mut again = Buffer::new();
+    if again.format(n).as_bytes() == word {
         Ok(n)
     } else {
         Err(ParseError::Grammar)
@@ -113,7 +113,7 @@ pub fn numbers(alloc: Global, words: &[&[u8]]) -> Result<Vec<u64>, ParseError>
 {
     let mut numbers = Vec::new(alloc);
     for word in words {
-        let n = match number(alloc, word) {
+        let n = match number(word) {
             Ok(n) => n,
             Err(error) => return Err(error),
         };
@@ -130,32 +130,48 @@ pub fn bytes_of(alloc: Global, word: &[u8]) -> Result<Vec<u8>, ParseError>
     ensures some { IfOk result (λ bytes. 0 < length bytes.items) }
     ensures only { (bytes : List ℕ) → IsBytes bytes → 0 < length bytes → word.now ≡ hex bytes → Yields (λ found. found.items ≡ bytes) result }
 {
-    let bytes = match hex::decode(alloc, word) {
-        Ok(bytes) => bytes,
-        Err(error) => return Err(refusal(error)),
-    };
-    let items = bytes.as_slice();
-    if items.is_empty() {
+    if word.is_empty() {
         return Err(ParseError::Grammar);
     }
-    let again = match hex::encode(alloc, items) {
-        Ok(again) => again,
-        Err(_) => return Err(ParseError::Memory),
-    };
-    if again.as_bytes() == word {
+    let mut bytes = Vec::new(alloc);
+    if bytes.reserve(word.len() / 2).is_err() {
+        return Err(ParseError::Memory);
+    }
+    let mut rest = word;
+    while rest.len() >= 2 {
+        let Some(byte) = byte_of(rest[0], rest[1]) else {
+            return Err(ParseError::Grammar);
+        };
+        if bytes.push(byte).is_err() {
+            return Err(ParseError::Memory);
+        }
+        rest = rest.split_at(2).1;
+    }
+    if rest.is_empty() {
         Ok(bytes)
     } else {
         Err(ParseError::Grammar)
     }
 }
 
-// Why bytes that aren't decoded are refused.
-fn refusal(error: FromHexError) -> ParseError
-    ensures grammar { result ≡ ParseError.Grammar → error ≡ FromHexError.OutOfMemory → ⊥ }
-    ensures memory { result ≡ ParseError.Memory → error ≡ FromHexError.OutOfMemory }
+// The byte that two digits spell.
+fn byte_of(high: u8, low: u8) -> Option<u8>
+    ensures found { IfSome result (λ b. (b < 256) × (high ≡ slice_index lower_digits (b / 16)) × (low ≡ slice_index lower_digits (b % 16))) }
+    ensures only { (b : ℕ) → b < 256 → high ≡ slice_index lower_digits (b / 16) → low ≡ slice_index lower_digits (b % 16) → result ≡ Some b }
 {
-    match error {
-        FromHexError::OutOfMemory => ParseError::Memory,
-        _ => ParseError::Grammar,
+    let high = digit_of(high)?;
+    let low = digit_of(low)?;
+    Some(high * 16 + low)
+}
+
+// The number that a digit spells in lower case.
+fn digit_of(byte: u8) -> Option<u8>
+    ensures found { IfSome result (λ d. (d < 16) × (byte ≡ slice_index lower_digits d)) }
+    ensures only { (d : ℕ) → d < 16 → byte ≡ slice_index lower_digits d → result ≡ Some d }
+{
+    match byte {
+        b'0'..=b'9' => Some(byte - b'0'),
+        b'a'..=b'f' => Some(byte - b'a' + 10),
+        _ => None,
     }
 }

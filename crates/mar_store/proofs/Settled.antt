@@ -83,3 +83,8 @@ fails_still old left are = record { sure = ap (λ l. l.sure) are; may_kept = λ 
 
 pub fails_same : {T : Type 0} (items new : List (Entry T)) (n m : ℕ) → new ≡ items → m ≡ n → Fails (left_of (kept_of items n)) [] (left_of (kept_of new m))
 fails_same items new n m are same = fails_still (left_of (kept_of items n)) (left_of (kept_of new m)) (rw (are, same) refl)
+
+-- where all entries are sure, each stays
+pub sure_stay : {T : Type 0} (half n k : ℕ) (es : List (Entry T)) → k + length es ≤ n → chosen (stays (Lucky n half)) k es ≡ es
+sure_stay half n k [] low = refl
+sure_stay half n k (e ∷ es) low = rw (or_left (nat_lt k n) (is_lucky half (k - n)) (lt-ltb k n (omega (arith, low)))) (ap (λ l. e ∷ l) (sure_stay half n (suc k) es (omega (arith, low))))

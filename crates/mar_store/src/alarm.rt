@@ -13,6 +13,7 @@ pub struct Alarm {
 }
 
 impl Alarm {
+    /// Nothing is armed, and nothing has failed.
     pub fn new(alloc: Global) -> Self
         ensures due { result.due.items ≡ [] }
         ensures faults { result.faults ≡ 0 }
@@ -31,6 +32,14 @@ impl Alarm {
     {
         self.due.push(calls)?;
         Ok(())
+    }
+
+    /// Counts a fault that no armed call is the cause of: that of a store which this one stands on.
+    pub fn fail(&mut self)
+        ensures due { self.new.due.items ≡ self.old.due.items }
+        ensures faults { self.new.faults ≡ min (self.old.faults + 1) (2 ^ 64 - 1) }
+    {
+        self.faults = self.faults.saturating_add(1);
     }
 
     /// Counts one call. Says whether it was armed, and then counts a fault.

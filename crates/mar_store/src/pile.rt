@@ -245,6 +245,9 @@ impl<T: Item> Pile<T> {
         ensures synced { IfOk result (λ p. p.synced ≡ length p.items.items) }
         ensures err { IfErr result (λ p. p ≡ self) }
     {
+        if self.synced == self.items.as_slice().len() {
+            return Ok(self);
+        }
         let choice = Choice::Lucky(self.synced, half);
         match self.draft_settled(choice) {
             Err(_) => Err(self),

@@ -47,11 +47,12 @@ impl<K: Digest> EntryPlaces<K> {
         ensures keys { OnOk result ((k : K) → get K.cmp self.new.by_key k
             ≡ or_place (get K.cmp self.old.by_key k) (if bytes_eq (K.bytes key) (K.bytes k) then Some place else None)) }
     {
-        if self.by_index.get(&index).is_none() {
-            self.by_index.insert(index, place)?;
+        // Hardly any has one, so that it is cheaper to put its place back than to look first.
+        if let Some(first) = self.by_index.insert(index, place)? {
+            self.by_index.insert(index, first)?;
         }
-        if self.by_key.get(&key).is_none() {
-            self.by_key.insert(key, place)?;
+        if let Some(first) = self.by_key.insert(key, place)? {
+            self.by_key.insert(key, first)?;
         }
         Ok(())
     }

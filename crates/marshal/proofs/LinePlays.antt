@@ -214,7 +214,7 @@ module _ {H R : Type 0} where
     plays = λ is was has chain k lawful.
         let begun = begins chain k lawful in
         subst (λ j. Plays config chain k (account_in j (Stopped before luck)) (stopped before.ended) (open_line (from_genesis g)) (output_of rs cs o) (state_with (asked_after [] [] cs) after)) has
-            (by after o chain k lawful begun.0 begun.1 (takes.done config chain [] set (lawful_start config chain before.ended (picks_of before luck) g seen begun.0 k lawful begun.1)));
+        (by after o chain k lawful begun.0 begun.1 (takes.done config chain [] set (lawful_start config chain before.ended (picks_of before luck) g seen begun.0 k lawful begun.1)));
   }
     where
       by : (after : StateCode H R) (o : Outcome) (chain : Chain) (k : ℕ) → IsLawfulLine config chain k (stopped before.ended) (open_line (from_genesis g)) → Finds config before.ended (picks_of before luck) (from_genesis g) (node_of seen [] []) → IsGoodUntold config chain (node_of seen [] []) → AfterEvent config chain seen [] [] (life_started None) rs cs after o

@@ -1,12 +1,10 @@
 -- A state with other requests open is the same but for these.
-use Rattle.std.proofs.Common.{Err, List, Ok, OnErr, Option, Result, Some, [], ap, refl, subst, sym, true, ℕ, ◌∙◌, ◌≡◌}
+use Rattle.std.proofs.Common.{Err, List, Ok, OnErr, Option, Result, [], ap, refl, subst, sym, true, ℕ, ◌∙◌, ◌≡◌}
 use Rattle.std.specs.Result.{is_err}
 use Rattle.mar_key.specs.Asked.{Asked, asked_after}
 use Rattle.mar_key.specs.Keys.{Call}
 use Rattle.mar_node.specs.Chain.{Chain}
 use Rattle.mar_node.specs.Config.{Config}
-use Rattle.mar_node.specs.Faults.{Fault}
-use Rattle.mar_node.specs.Held.{Remains}
 use Rattle.mar_script.specs.Accounts.{AccountsFor, luck_after}
 use Rattle.mar_script.specs.Plays.{IsLawfulLine, IsSmallLine, Plays}
 use Rattle.mar_script.specs.Script.{Line}

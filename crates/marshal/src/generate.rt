@@ -16,12 +16,13 @@ ghost use Rattle.marshal.specs.Turn.{remains_in, state_with};
 
 use crate::heard::Heard;
 use crate::play::{Left, Outcome, State};
-use crate::replay::{Finished, left_of, turn, write_text, write_turn};
+use crate::replay::{Finished, left_of, turn, write_turn};
+use crate::turn::Page;
 use mar_block::StandardBlocks;
 use mar_cert::MockFinalization;
 use mar_codec::Digestible;
 use mar_gen::{Made, Owed, Planned, finalization, read_text, summary};
-use mar_script::{Line, MAX_LINES, Settings, Sink, Status};
+use mar_script::{Line, MAX_LINES, Settings, Sink, Status, write_text};
 use mar_shelf::Holds;
 use mar_store::Miss;
 use std::alloc::{AllocError, Global};
@@ -53,6 +54,8 @@ impl Sink for Latest {
 
     ghost written = { λ s. Some s.text.items };
 
+    ghost held_back = { λ _. 0 };
+
     ghost faults = { λ _. 0 };
 
     fn write(&mut self, bytes: &[u8]) -> Result<usize, Miss> {
@@ -60,6 +63,10 @@ impl Sink for Latest {
             Ok(()) => Ok(bytes.len()),
             Err(_) => Err(Miss::Memory),
         }
+    }
+
+    fn flush(&mut self) -> Result<(), Miss> {
+        Ok(())
     }
 }
 
@@ -199,7 +206,7 @@ fn sum_up<K: Sink>(alloc: Global, made: &Made, tally: &Tally, sink: &mut K) -> S
         Ok(line) => line,
         Err(_) => return Status::Memory,
     };
-    match write_text(sink, &line) {
+    match write_text(sink, &line, false) {
         Ok(()) => Status::Ok,
         Err(status) => status,
     }
@@ -217,11 +224,21 @@ fn run_made<H: Holds<StandardBlocks, Finalization = MockFinalization>>(
         text: Vec::new(alloc),
     };
     let heard = Heard::new(alloc);
+    let mut page = Page::new(alloc);
     let state: State<H> = State::Stopped(Left { ruins: stores }, 0);
-    if let Err(_status) = write_turn(alloc, &mut latest, &heard, Outcome::Done, &state) {
+    let wrote = write_turn(
+        alloc,
+        &mut latest,
+        &mut page,
+        &heard,
+        Outcome::Done,
+        &state,
+        true,
+    );
+    if let Err(_status) = wrote {
         return (left_of(state), None);
     }
-    let (state, tally) = made_lines(alloc, made, state, latest);
+    let (state, tally) = made_lines(alloc, made, state, latest, page);
     (left_of(state), tally)
 }
 
@@ -232,6 +249,7 @@ fn made_lines<H: Holds<StandardBlocks, Finalization = MockFinalization>>(
     made: &Made,
     state: State<H>,
     latest: Latest,
+    page: Page,
 ) -> (State<H>, Option<Tally>)
     requires set { IsSetAs (config_of gen_settings) state }
     requires small { HasSmallBlocks state }
@@ -241,6 +259,7 @@ fn made_lines<H: Holds<StandardBlocks, Finalization = MockFinalization>>(
 {
     let mut state = state;
     let mut latest = latest;
+    let mut page = page;
     let mut place: usize = 0;
     let mut delivered: u64 = 0;
     'lines: for _number in 2..MAX_LINES + 1 {
@@ -261,7 +280,7 @@ fn made_lines<H: Holds<StandardBlocks, Finalization = MockFinalization>>(
         };
         place = after;
         latest.text.clear();
-        let (next, written) = turn(alloc, settings(), state, line, &mut latest);
+        let (next, written) = turn(alloc, settings(), state, line, &mut latest, &mut page, true);
         state = next;
         if let Err(_status) = written {
             return (state, None);

@@ -5,8 +5,7 @@ ghost use Rattle.mar_script.specs.Endings.{IsWritersEnd};
 ghost use Rattle.mar_script.specs.Streams.{Takes, TakesFront};
 
 use crate::command::are_only;
-use mar_script::{Sink, Status, write_all};
-use mar_store::Miss;
+use mar_script::{Sink, Status, write_text};
 
 const HELP: &str = "usage: marshal COMMAND
 
@@ -55,9 +54,8 @@ pub fn show<K: Sink>(sink: &mut K, text: &str) -> Status
     ensures fault { result ≡ Status.WriteFault → Rose (K.faults sink.old) (K.faults sink.new) }
     ensures calm { (result ≡ Status.WriteFault → ⊥) → K.faults sink.new ≡ K.faults sink.old }
 {
-    match write_all(sink, text.as_bytes()) {
+    match write_text(sink, text.as_bytes(), false) {
         Ok(()) => Status::Ok,
-        Err(Miss::Fault) => Status::WriteFault,
-        Err(Miss::Memory) => Status::Memory,
+        Err(status) => status,
     }
 }

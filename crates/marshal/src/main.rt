@@ -19,7 +19,7 @@ use crate::help::{show, text_for};
 use crate::run::{ScriptRuins, run};
 use mar_block::StandardBlocks;
 use mar_cert::MockFinalization;
-use mar_script::{Input as InputSource, Output, Status};
+use mar_script::{Input as InputSource, Output, Sink, Status};
 use mar_shelf::prunable::Archive;
 use mar_shelf::{BlockItem, Blocks, CertificateItem, Certificates, NoShelf, Ruins, Shelf};
 use mar_store::{LuckHalf, MemArchive, MemMeta, Meta};
@@ -51,14 +51,28 @@ fn words_of(rt: &(impl Env + AllocGlobal)) -> io::Result<Vec<String>> {
 fn run_words(rt: &(impl AllocGlobal + Input + Print), words: &[String]) -> Status
     ensures usage { result ≡ Status.Usage ↔ (IsCommand (map string_bytes words.now) → ⊥) }
 {
-    let mut sink = Output::new(io::writer(rt));
+    let alloc = rt.alloc();
+    let mut sink = Output::new(alloc, io::writer(rt));
     if let Some(text) = text_for(words) {
         return show(&mut sink, text);
     }
     let mut source = InputSource::new(rt.reader());
-    let alloc = rt.alloc();
     let stores = empty_stores(alloc);
-    run(rt, alloc, words, &mut source, &mut sink, stores).status
+    let status = run(rt, alloc, words, &mut source, &mut sink, stores).status;
+    handed_on(&mut sink, status)
+}
+
+/// How a run ends once all that was written is handed on. What a run ended in before that goes first, but a line that is
+/// refused stands behind what is written of the lines before it.
+fn handed_on<K: Sink>(sink: &mut K, status: Status) -> Status
+    ensures usage { result ≡ Status.Usage ↔ status ≡ Status.Usage }
+    ensures handed { result ≡ Status.Ok → K.held_back sink.new ≡ 0 }
+{
+    match (sink.flush(), status) {
+        (Ok(()), _) => status,
+        (Err(_), Status::Usage | Status::Memory | Status::ReadFault) => status,
+        (Err(_), _) => Status::WriteFault,
+    }
 }
 
 /// Stores in memory that hold nothing, and that never failed.

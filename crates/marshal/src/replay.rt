@@ -1,5 +1,5 @@
 //! Replays a script over the stores of a node.
-ghost use Rattle.std.specs.Prelude.{◌≡◌, ◌+◌, ◌++◌, ◌<◌, ℕ, List, Option, Some, [], IfErr, IsErrOf, OnErr, OnOk, map};
+ghost use Rattle.std.specs.Prelude.{◌≡◌, ◌+◌, ◌++◌, ◌<◌, ℕ, List, Option, Some, [], false, IfErr, IsErrOf, OnOk, map};
 ghost use Rattle.mar_codec.specs.Causes.{Rose};
 ghost use Rattle.mar_key.specs.Asked.{Asked};
 ghost use Rattle.mar_node.specs.Held.{Remains};
@@ -10,21 +10,20 @@ ghost use Rattle.marshal.specs.Playing.{HasSmallBlocks, IsSetAs, TurnsLine, Writ
 ghost use Rattle.mar_script.specs.Reading.{EndsByLine, IsFirstOutside, Reads, ReplaysWhereTold};
 ghost use Rattle.mar_script.specs.Run.{HandsBack, IsShownAs};
 ghost use Rattle.mar_script.specs.Script.{IsSettings, config_of, settings_bytes};
-ghost use Rattle.mar_script.specs.Streams.{Gives, Takes, TakesFront};
+ghost use Rattle.mar_script.specs.Streams.{Gives, Takes};
 ghost use Rattle.mar_script.specs.Text.{output_text, text};
 ghost use Rattle.marshal.specs.Turn.{output_of, plain_report, remains_in, state_with};
 
 use crate::heard::Heard;
 use crate::play::{Left, Outcome, State, play};
-use crate::turn::push_turn;
+use crate::turn::{Page, push_turn};
 use mar_block::StandardBlocks;
 use mar_cert::MockFinalization;
 use mar_script::{
     Line, MAX_LINES, ScriptReader, Settings, Sink, Source, Status, Why, first_line, next_line,
-    write_all,
+    write_text,
 };
 use mar_shelf::Holds;
-use mar_store::Miss;
 use std::alloc::Global;
 
 /// How a run ended, and what is left of the stores that it was given.
@@ -62,11 +61,13 @@ pub fn replay<S: Source, K: Sink, H: Holds<StandardBlocks, Finalization = MockFi
     };
     let state: State<H> = State::Stopped(Left { ruins: stores }, 0);
     let heard = Heard::new(alloc);
-    if let Err(status) = write_turn(alloc, sink, &heard, Outcome::Done, &state) {
+    let mut page = Page::new(alloc);
+    let more = reader.has_line();
+    if let Err(status) = write_turn(alloc, sink, &mut page, &heard, Outcome::Done, &state, more) {
         let stores = left_of(state);
         return Finished { status, stores };
     }
-    let (state, status) = later_lines(alloc, settings, &mut reader, source, sink, state);
+    let (state, status) = later_lines(alloc, settings, &mut reader, source, sink, page, state);
     Finished {
         status,
         stores: left_of(state),
@@ -93,6 +94,7 @@ fn later_lines<S: Source, K: Sink, H: Holds<StandardBlocks, Finalization = MockF
     reader: &mut ScriptReader,
     source: &mut S,
     sink: &mut K,
+    page: Page,
     state: State<H>,
 ) -> (State<H>, Status)
     requires settings { IsSettings settings }
@@ -112,13 +114,15 @@ fn later_lines<S: Source, K: Sink, H: Holds<StandardBlocks, Finalization = MockF
         → ReplaysWhereTold start (S.left source.new) sunk (K.written sink.new) result.1 before (remains_in result.0) }
 {
     let mut state = state;
+    let mut page = page;
     'lines: for number in 2..MAX_LINES + 2 {
         let line = match next_line(alloc, settings, reader, source, number) {
             Ok(Some(line)) => line,
             Ok(None) => return (state, Status::Ok),
             Err(status) => return (state, status),
         };
-        let (next, written) = turn(alloc, settings, state, line, sink);
+        let more = reader.has_line();
+        let (next, written) = turn(alloc, settings, state, line, sink, &mut page, more);
         state = next;
         if let Err(status) = written {
             return (state, status);
@@ -127,13 +131,15 @@ fn later_lines<S: Source, K: Sink, H: Holds<StandardBlocks, Finalization = MockF
     (state, Status::Script(MAX_LINES + 1, Why::TooMany))
 }
 
-// Does one line, and writes what it makes.
+// Does one line, and writes what it makes. Where no more lines are at hand, all that was written is handed on.
 pub fn turn<K: Sink, H: Holds<StandardBlocks, Finalization = MockFinalization>>(
     alloc: Global,
     settings: Settings,
     state: State<H>,
     line: Line,
     sink: &mut K,
+    page: &mut Page,
+    more: bool,
 ) -> (State<H>, Result<(), Status>)
     requires settings { IsSettings settings }
     requires small_line { IsSmallLine (plain_line line) }
@@ -142,6 +148,7 @@ pub fn turn<K: Sink, H: Holds<StandardBlocks, Finalization = MockFinalization>>(
     ensures calm { (IsErrOf result.1 Status.WriteFault → ⊥) → K.faults sink.new ≡ K.faults sink.old }
     ensures write_fault { IsErrOf result.1 Status.WriteFault → Rose (K.faults sink.old) (K.faults sink.new) }
     ensures turned { TurnsLine (config_of settings) state (plain_line line) (K.written sink.old) result.0 (K.written sink.new) result.1 }
+    ensures handed { more ≡ false → OnOk result.1 (K.held_back sink.new ≡ 0) }
 {
     let mut heard = Heard::new(alloc);
     let (state, outcome) = play(alloc, settings, state, line, &mut heard);
@@ -156,7 +163,7 @@ pub fn turn<K: Sink, H: Holds<StandardBlocks, Finalization = MockFinalization>>(
     if state.take_in(heard.asked.asks()).is_err() {
         return (state, Err(Status::Memory));
     }
-    let written = write_turn(alloc, sink, &heard, outcome, &state);
+    let written = write_turn(alloc, sink, page, &heard, outcome, &state, more);
     (state, written)
 }
 
@@ -164,34 +171,31 @@ pub fn turn<K: Sink, H: Holds<StandardBlocks, Finalization = MockFinalization>>(
 pub fn write_turn<K: Sink, H: Holds<StandardBlocks, Finalization = MockFinalization>>(
     alloc: Global,
     sink: &mut K,
+    page: &mut Page,
     heard: &Heard,
     outcome: Outcome,
     state: &State<H>,
+    more: bool,
 ) -> Result<(), Status>
     ensures end { IfErr result IsWritersEnd }
     ensures calm { (IsErrOf result Status.WriteFault → ⊥) → K.faults sink.new ≡ K.faults sink.old }
     ensures write_fault { IsErrOf result Status.WriteFault → Rose (K.faults sink.old) (K.faults sink.new) }
     ensures wrote { WritesText (K.written sink.old) (λ asked. output_text (output_of (map plain_report heard.now.told.updates.items) heard.now.asked
         outcome) (state_with asked state.now)) (K.written sink.new) result }
+    ensures handed { more ≡ false → OnOk result (K.held_back sink.new ≡ 0) }
 {
-    let mut text = String::new(alloc);
-    if push_turn(alloc, &mut text, heard, outcome, state).is_err() {
+    page.text.clear();
+    if push_turn(
+        alloc,
+        &mut page.text,
+        &mut page.ranges,
+        heard,
+        outcome,
+        state,
+    )
+    .is_err()
+    {
         return Err(Status::Memory);
     }
-    write_text(sink, text.as_bytes())
-}
-
-// Writes a text whole.
-pub fn write_text<K: Sink>(sink: &mut K, text: &[u8]) -> Result<(), Status>
-    ensures end { IfErr result IsWritersEnd }
-    ensures calm { (IsErrOf result Status.WriteFault → ⊥) → K.faults sink.new ≡ K.faults sink.old }
-    ensures write_fault { IsErrOf result Status.WriteFault → Rose (K.faults sink.old) (K.faults sink.new) }
-    ensures ok { OnOk result (Takes (K.written sink.old) text.now (K.written sink.new)) }
-    ensures err { OnErr result (TakesFront (K.written sink.old) text.now (K.written sink.new)) }
-{
-    match write_all(sink, text) {
-        Ok(()) => Ok(()),
-        Err(Miss::Fault) => Err(Status::WriteFault),
-        Err(Miss::Memory) => Err(Status::Memory),
-    }
+    write_text(sink, page.text.as_bytes(), more)
 }

@@ -11,15 +11,35 @@ use mar_actor::Update;
 use mar_block::{EmptyBlock, StandardBlocks, Variant};
 use mar_cert::MockFinalization;
 use mar_codec::{Digested, Sha256, Sha256Digest};
-use mar_script::{push_asks, push_block, push_ended, push_fault, push_node, push_remark, push_tip};
+use mar_script::{
+    RangeTexts, push_asks, push_block, push_ended, push_fault, push_node, push_remark, push_tip,
+};
 use mar_shelf::{Holds, StoresRuin};
 use std::alloc::{AllocError, Global};
 use std::convert::AsSlice;
+
+/// What the texts of lines are written on, one after another.
+#[derive(Drop)]
+pub struct Page {
+    pub text: String,
+    pub ranges: RangeTexts,
+}
+
+impl Page {
+    /// One on which nothing is written.
+    pub fn new(alloc: Global) -> Self {
+        Page {
+            text: String::new(alloc),
+            ranges: RangeTexts::new(alloc),
+        }
+    }
+}
 
 /// Appends what a line made: what the application was told, what was asked, a remark or a fault, and what there is now.
 pub fn push_turn<H: Holds<StandardBlocks, Finalization = MockFinalization>>(
     alloc: Global,
     text: &mut String,
+    ranges: &mut RangeTexts,
     heard: &Heard,
     outcome: Outcome,
     state: &State<H>,
@@ -30,7 +50,7 @@ pub fn push_turn<H: Holds<StandardBlocks, Finalization = MockFinalization>>(
     push_updates(alloc, text, &heard.told.updates)?;
     push_asks(alloc, text, heard.asked.asks())?;
     push_outcome(alloc, text, outcome)?;
-    push_state(alloc, text, state)
+    push_state(alloc, text, ranges, state)
 }
 
 fn push_updates(
@@ -81,12 +101,13 @@ fn push_outcome(alloc: Global, text: &mut String, outcome: Outcome) -> Result<()
 fn push_state<H: Holds<StandardBlocks, Finalization = MockFinalization>>(
     alloc: Global,
     text: &mut String,
+    ranges: &mut RangeTexts,
     state: &State<H>,
 ) -> Result<(), AllocError>
     ensures { OnOk result ((asked : List Asked) → string_bytes text.new ≡ string_bytes text.old ++ line_of (state_words (state_with asked state.now))) }
 {
     match state {
-        State::Running(actor, _, _) => push_node(alloc, text, &actor.shown()),
-        State::Stopped(left, _) => push_ended(text, &left.ruins.shown()),
+        State::Running(actor, _, _) => push_node(alloc, text, ranges, &actor.shown()),
+        State::Stopped(left, _) => push_ended(text, ranges, &left.ruins.shown()),
     }
 }

@@ -1,4 +1,4 @@
-use Rattle.std.proofs.Common.{[], None, inl}
+use Rattle.std.proofs.Common.{[], inl}
 use Rattle.std.proofs.lemmas.Result.{err_from_is_err_and}
 use Rattle.mar_node.specs.Held.{nothing_written, written_pair}
 use Rattle.mar_node.specs.Metadata.{pair_of}

@@ -1,4 +1,4 @@
-use Rattle.std.proofs.Common.{None, subst, sym, ◌∙◌}
+use Rattle.std.proofs.Common.{subst, sym, ◌∙◌}
 use Rattle.std.proofs.lemmas.Result.{err_from_is_err_and}
 use Rattle.mar_node.specs.Held.{nothing_written}
 use Rattle.mar_node.proofs.EventPromises.{promise-absent, promise-unread}
