@@ -1,0 +1,13 @@
+mod Frames
+mod Crash
+mod Moments
+mod Calls
+mod Appending
+mod MetaSteps
+mod Bytes
+mod Bodies
+mod Opening
+mod Heads
+mod WritingAll
+mod Replays
+mod ArchiveSteps

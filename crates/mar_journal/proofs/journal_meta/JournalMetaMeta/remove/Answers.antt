@@ -1,0 +1,9 @@
+use Rattle.std.proofs.Common.{None}
+use Rattle.mar_store.specs.MemMeta.{values_of}
+use Rattle.mar_journal.proofs.MetaSteps.{store_set}
+use Rattle.mar_journal.proofs.journal_meta.JournalMetaMeta.remove.Goals as goal
+
+pub invariant_of-result : goal.invariant_of-result
+invariant_of-result g c =
+    store_set g.D.Disk.seen g.D.Disk.may_leave c.self.inside.disk c.self.inside.end (values_of c.self.inside.values) (values_of c.self.inside.synced) (values_of c.unset.new.values) c.self.inside.changed.items c.args.key None c.self.invariant (rw (← c.self.view_is) at c.requires.room)
+    c.in-Ok.ensures.values c.unset.new.changed.items c.in-Ok.ensures.changed

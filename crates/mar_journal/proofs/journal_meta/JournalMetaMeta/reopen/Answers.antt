@@ -1,0 +1,43 @@
+use Rattle.std.proofs.Common.{Contains, [], ap, subst, sym, ◌∙◌, ◌∷◌}
+use Rattle.mar_store.specs.MemMeta.{values_of}
+use Rattle.mar_journal.specs.MetaStore.{failed_entries, failed_in, left_by_meta}
+use Rattle.mar_journal.proofs.MetaSteps.{leaves_still, opening_finds, opening_left, store_opened}
+use Rattle.mar_journal.proofs.journal_meta.JournalMetaMeta.reopen.Goals as goal
+
+pub returns-then-is_err-clause-done : goal.returns-then-is_err-clause-done
+returns-then-is_err-clause-done g c = rw (c.of-then-is_err.ensures, ← c.wreck.view_is) (leaves_still c.wreck.inside.synced.entries (failed_entries c.wreck.inside.failed))
+
+pub invariant_of-result : goal.invariant_of-result
+invariant_of-result g c =
+    let done = c.in-Ok.ensures.done in
+    store_opened g.D.Disk.seen g.D.Disk.may_leave c.open_maps.new.disk c.in-Ok.end (values_of c.in-Ok.values) (values_of c.in-Ok.copy) done.0 done.1 done.3 done.4 c.new.result.items c.new.ensures.items
+
+pub of-requires-in-Err-Fault : goal.of-requires-in-Err-Fault
+of-requires-in-Err-Fault g c =
+    opening_left g.D.Disk.seen g.D.Disk.may_leave g.D.Disk.moment g.D.Disk.left_since g.met.D.Disk.counts_now c.crash.new.self c.open_maps.new.disk (left_by_meta (values_of c.wreck.inside.synced) (failed_in (failed_entries c.wreck.inside.failed))) (g.met.D.Disk.is_image c.crash.new.self)
+    (λ x now. c.wreck.invariant x (c.crash.ensures.crash x now))
+    c.open_maps.ensures.any_moment
+
+pub of-requires-in-Err-Memory : goal.of-requires-in-Err-Memory
+of-requires-in-Err-Memory g c =
+    opening_left g.D.Disk.seen g.D.Disk.may_leave g.D.Disk.moment g.D.Disk.left_since g.met.D.Disk.counts_now c.crash.new.self c.open_maps.new.disk (left_by_meta (values_of c.wreck.inside.synced) (failed_in (failed_entries c.wreck.inside.failed))) (g.met.D.Disk.is_image c.crash.new.self)
+    (λ x now. c.wreck.invariant x (c.crash.ensures.crash x now))
+    c.open_maps.ensures.any_moment
+
+pub returns-in-Ok-clause-done : goal.returns-in-Ok-clause-done
+returns-in-Ok-clause-done g c =
+    let done = c.in-Ok.ensures.done in
+    rw (← c.wreck.view_is)
+    (subst (Contains (left_by_meta (values_of c.wreck.inside.synced) (failed_in (failed_entries c.wreck.inside.failed)))) (sym done.3) (opening_finds g.D.Disk.seen g.D.Disk.may_leave c.crash.new.self (left_by_meta (values_of c.wreck.inside.synced) (failed_in (failed_entries c.wreck.inside.failed))) done.0 (g.met.D.Disk.is_image c.crash.new.self) (λ x now. c.wreck.invariant x (c.crash.ensures.crash x now)) done.2))
+
+pub returns-in-Ok-clause-synced : goal.returns-in-Ok-clause-synced
+returns-in-Ok-clause-synced g c = let done = c.in-Ok.ensures.done in ap (λ v. v ∷ []) (done.4 ∙ sym done.3)
+
+pub returns-in-Err-Fault-clause-done : goal.returns-in-Err-Fault-clause-done
+returns-in-Err-Fault-clause-done g c = rw (c.of-in-Err-Fault.ensures, ← c.wreck.view_is) (leaves_still c.wreck.inside.synced.entries (failed_entries c.wreck.inside.failed))
+
+pub returns-in-Err-Damaged-clause-done : goal.returns-in-Err-Damaged-clause-done
+returns-in-Err-Damaged-clause-done g c = rw (c.of-in-Err-Damaged.ensures, ← c.wreck.view_is) (leaves_still c.wreck.inside.synced.entries (failed_entries c.wreck.inside.failed))
+
+pub returns-in-Err-Memory-clause-done : goal.returns-in-Err-Memory-clause-done
+returns-in-Err-Memory-clause-done g c = rw (c.of-in-Err-Memory.ensures, ← c.wreck.view_is) (leaves_still c.wreck.inside.synced.entries (failed_entries c.wreck.inside.failed))

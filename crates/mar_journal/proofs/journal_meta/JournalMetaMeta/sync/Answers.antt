@@ -1,0 +1,51 @@
+use Rattle.std.proofs.Common.{[], ap, arith, map, ◌∙◌, ◌∷◌}
+use Rattle.std.proofs.lemmas.List.{nil_from_length}
+use Rattle.mar_store.specs.MemMeta.{values_of}
+use Rattle.mar_journal.specs.MetaRecords.{record_for}
+use Rattle.mar_journal.proofs.Bodies.{none_from}
+use Rattle.mar_journal.proofs.MetaSteps.{leaves_failed, store_same, store_synced, sync_left}
+use Rattle.mar_journal.proofs.journal_meta.JournalMetaMeta.sync.Goals as goal
+
+pub returns-then-rings-clause-done : goal.returns-then-rings-clause-done
+returns-then-rings-clause-done g c = rw (c.of.ensures, ← c.self.view_is) (leaves_failed (values_of c.self.inside.synced) (values_of c.self.inside.values))
+
+pub returns-then-is_empty-clause-done : goal.returns-then-is_empty-clause-done
+returns-then-is_empty-clause-done g c =
+    let none = nil_from_length c.self.inside.changed.items (omega (arith, c.self.inside.changed.ok.0, none_from _ c.if-is_empty.ensures)) in
+    rw (← c.self.view_is) (ap (λ v. v ∷ []) (store_same g.D.Disk.seen g.D.Disk.may_leave c.self.inside.disk c.self.inside.end (values_of c.self.inside.values) (values_of c.self.inside.synced) c.self.inside.changed.items c.self.invariant none))
+
+pub returns-in-Err-clause-done : goal.returns-in-Err-clause-done
+returns-in-Err-clause-done g c = rw (c.of-in-Err.ensures, ← c.self.view_is) (leaves_failed (values_of c.self.inside.synced) (values_of c.self.inside.values))
+
+pub append-requires-clause-batch : goal.append-requires-clause-batch
+append-requires-clause-batch g c = rw c.deref-2.ensures.value c.in-Ok.ensures.good
+
+pub invariant_of-result-in-Ok-append : goal.invariant_of-result-in-Ok-append
+invariant_of-result-in-Ok-append g c =
+    store_synced g.D.Disk.seen g.D.Disk.may_leave c.self.inside.disk c.append.new.disk c.self.inside.end c.in-Ok-append.end (values_of c.self.inside.values) (values_of c.self.inside.synced) (values_of c.in-Ok.batch.1) c.self.inside.changed.items c.deref-2.result.now c.self.invariant
+    (c.deref-2.ensures.value ∙ c.in-Ok.ensures.are ∙ ap (map (record_for (values_of c.self.inside.values))) c.deref.ensures.value)
+    c.in-Ok.ensures.same
+    (c.in-Ok-append.ensures.done c.self.invariant.records c.self.invariant.settled)
+    c.clear.new.self.items
+    c.clear.ensures.items
+
+pub returns-in-Ok-append-clause-done : goal.returns-in-Ok-append-clause-done
+returns-in-Ok-append-clause-done g c = rw (← c.self.view_is) (ap (λ v. v ∷ []) c.in-Ok.ensures.same)
+
+pub of-requires-in-Err-Fault : goal.of-requires-in-Err-Fault
+of-requires-in-Err-Fault g c =
+    sync_left g.D.Disk.seen g.D.Disk.may_leave g.D.Disk.moment g.D.Disk.left_since g.met.D.Disk.counts_now c.self.inside.disk c.append.new.disk c.self.inside.end (values_of c.self.inside.values) (values_of c.self.inside.synced) c.self.inside.changed.items c.deref-2.result.now c.self.invariant
+    (c.deref-2.ensures.value ∙ c.in-Ok.ensures.are ∙ ap (map (record_for (values_of c.self.inside.values))) c.deref.ensures.value)
+    (c.append.ensures.any_moment c.self.invariant.records c.self.invariant.settled)
+
+pub returns-in-Err-Fault-clause-done : goal.returns-in-Err-Fault-clause-done
+returns-in-Err-Fault-clause-done g c = rw (c.of-in-Err-Fault.ensures, ← c.self.view_is) (leaves_failed (values_of c.self.inside.synced) (values_of c.self.inside.values))
+
+pub of-requires-in-Err-Memory : goal.of-requires-in-Err-Memory
+of-requires-in-Err-Memory g c =
+    sync_left g.D.Disk.seen g.D.Disk.may_leave g.D.Disk.moment g.D.Disk.left_since g.met.D.Disk.counts_now c.self.inside.disk c.append.new.disk c.self.inside.end (values_of c.self.inside.values) (values_of c.self.inside.synced) c.self.inside.changed.items c.deref-2.result.now c.self.invariant
+    (c.deref-2.ensures.value ∙ c.in-Ok.ensures.are ∙ ap (map (record_for (values_of c.self.inside.values))) c.deref.ensures.value)
+    (c.append.ensures.any_moment c.self.invariant.records c.self.invariant.settled)
+
+pub returns-clause-done : goal.returns-clause-done
+returns-clause-done g c = rw (c.of-in-Err-Memory.ensures, ← c.self.view_is) (leaves_failed (values_of c.self.inside.synced) (values_of c.self.inside.values))

@@ -1,0 +1,66 @@
+-- An archive that is a journal: how what waits leads from the values on the disk to those that are held.
+use Rattle.std.specs.Prelude.{Bool, List, [], map, min, suc, take, true, ℕ, ◌++◌, ◌+◌, ◌-◌, ◌^◌, ◌∷◌, ◌≡◌}
+use Rattle.std.proofs.Common.{arith}
+use Rattle.std.specs.List.{AllByRecursion}
+use Rattle.mar_store.specs.Entries.{seen}
+use Rattle.mar_store.specs.Changes.{IsNested, Within}
+use Rattle.mar_store.specs.Kept.{At, EachHeightOnce, Kept, Reopens}
+use Rattle.mar_store.specs.Nested.{front_within, kept_nested}
+use Rattle.mar_store.specs.declared.Lost.{Lost}
+use Rattle.mar_store.specs.declared.Lost.TheVariants.{Fault, Memory}
+use Rattle.mar_store.specs.declared.Entry.{Entry}
+use Rattle.mar_journal.specs.ArchiveRecords.{IsArchived, archive_bytes, kept_by, kept_from}
+use Rattle.mar_journal.specs.Format.{Stands}
+use Rattle.mar_journal.specs.Journal.{IsSettled}
+use Rattle.mar_journal.specs.Records.{IsWritable}
+use Rattle.mar_journal.specs.declared.archive_record.ArchiveRecord.{ArchiveRecord}
+
+-- what a crash can leave: what was pruned since the last sync, and what is held
+abbrev pub left_may : {T : Type 0} → List (Entry T) → List (Entry T) → List (At T)
+left_may gone items = map seen gone ++ map seen items
+
+-- entries of which so many are sure
+abbrev pub archive_kept : {T : Type 0} → List (Entry T) → List (Entry T) → ℕ → Kept (At T)
+archive_kept gone items synced = record { held = map seen items; sure = take synced (map seen items); may = left_may gone items }
+
+-- The values on the disk, and those after each waiting record, are ones that a reopening may find. After all of them they
+-- are those that are held.
+abbrev pub Pending : {T : Type 0} → (T → List ℕ) → List (At T) → List (At T) → List (At T) → List (At T) → List (ArchiveRecord T) → Type 0
+Pending name sure may held kept [] = kept ≡ held
+Pending name sure may held kept (r ∷ rs) = Reopens sure may kept × Pending name sure may held (kept_by name kept r) rs
+
+-- The journal's records and those that wait lead to what is held.
+pub record IsBacked {T D : Type 0} (name spelled : T → List ℕ) (fits : ℕ → T → Bool) (seen : D → List ℕ) (may_leave : D → List ℕ → Type 0) (disk : D) (end : ℕ)
+    (sure may held : List (At T)) (waiting : List (ArchiveRecord T)) : Type 0 where
+  pub records : List (ArchiveRecord T)
+  pub settled : IsSettled (archive_bytes name spelled) (IsArchived fits spelled) seen may_leave records end disk
+  pub pending : Pending name sure may held (kept_from name [] records) waiting
+  pub good : AllByRecursion (IsWritable (archive_bytes name spelled) (IsArchived fits spelled)) waiting
+  pub fit : AllByRecursion (λ x. fits x.height x.value ≡ true) may
+
+-- Each image stands for values that a reopening may find.
+pub record IsArchiveLeft {T D : Type 0} (name spelled : T → List ℕ) (fits : ℕ → T → Bool) (may_leave : D → List ℕ → Type 0) (disk : D) (sure may : List (At T)) : Type 0 where
+  pub each : (c : List ℕ) → may_leave disk c
+      → (records : List (ArchiveRecord T)) × Stands (archive_bytes name spelled) (IsArchived fits spelled) records c × Reopens sure may (kept_from name [] records)
+  pub fit : AllByRecursion (λ x. fits x.height x.value ≡ true) may
+
+pub within_right : {X : Type 0} (xs ys : List X) → Within ys (xs ++ ys)
+within_right [] ys x has = has
+within_right (y ∷ xs) ys x has = let more = within_right xs ys x has in (suc more.0, omega (arith, more.1), more.2)
+
+-- what is sure and what is held may be left
+pub archive_within : {T : Type 0} (gone items : List (Entry T)) (n : ℕ) → Within (take n (map seen items)) (left_may gone items)
+archive_within gone items n = λ x has. within_right (map seen gone) (map seen items) x (front_within n (map seen items) x has)
+
+pub archive_nested : {T : Type 0} (gone items : List (Entry T)) (n : ℕ) → EachHeightOnce (map seen items) → IsNested (archive_kept gone items n)
+archive_nested gone items n once = let inner = kept_nested items n once in record {
+  once = once;
+  sure_once = inner.sure_once;
+  sure_held = inner.sure_held;
+  held_may = within_right (map seen gone) (map seen items);
+}
+
+-- a writing that failed: a fault is counted, want of memory isn't
+abbrev pub CountsLost : {W : Type 0} → (W → ℕ) → ℕ → Lost W → Type 0
+CountsLost faults before (Fault w) = faults w ≡ min (before + 1) (2 ^ 64 - 1)
+CountsLost faults before (Memory w) = faults w ≡ before

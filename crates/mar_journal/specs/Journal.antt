@@ -1,0 +1,23 @@
+-- A journal on a disk.
+use Rattle.std.specs.Prelude.{List, ℕ, ◌≡◌, ◌⊎◌, ⊤}
+use Rattle.mar_codec.specs.Causes.{Rose}
+use Rattle.mar_journal.specs.Disk.{Only}
+use Rattle.mar_journal.specs.Format.{IsDamaged, IsJournal, IsNew}
+use Rattle.mar_journal.specs.declared.journal.Unopened.{Unopened}
+use Rattle.mar_journal.specs.declared.journal.Unopened.TheVariants.{Damaged, Fault, Memory}
+
+-- The disk has a journal of these records with its closed gate at this place, and all of it is durable.
+pub record IsSettled {R D : Type 0} (spelled : R → List ℕ) (Valid : R → Type 0) (seen : D → List ℕ) (may_leave : D → List ℕ → Type 0)
+    (records : List R) (end : ℕ) (disk : D) : Type 0 where
+  pub journal : IsJournal spelled Valid records end (seen disk)
+  pub only : Only (seen disk) (may_leave disk)
+
+-- Why a journal isn't opened: the disk failed, or its bytes show damage at that place.
+abbrev pub HasReason : {R : Type 0} → (R → List ℕ) → (R → Type 0) → ℕ → ℕ → List ℕ → Unopened → Type 0
+HasReason spelled Valid before now file Fault = Rose before now
+HasReason spelled Valid before now file Memory = ⊤
+HasReason spelled Valid before now file (Damaged at) = (now ≡ before) × IsDamaged spelled Valid at file
+
+-- what an opening may leave: what was there, and of a new file a new one
+abbrev pub IsOldOrNew : List ℕ → (List ℕ → Type 0) → List ℕ → Type 0
+IsOldOrNew seen old c = old c ⊎ (IsNew seen × IsNew c)

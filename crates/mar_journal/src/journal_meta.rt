@@ -1,0 +1,355 @@
+//! A metadata store that is a journal.
+ghost use Rattle.std.specs.Prelude.{◌≡◌, ◌∷◌, [], IfErr, IfOk, List};
+ghost use Rattle.mar_store.specs.MemMeta.{values_of};
+ghost use Rattle.mar_journal.specs.Format.{Stands};
+ghost use Rattle.mar_journal.specs.Journal.{HasReason};
+ghost use Rattle.mar_journal.specs.MetaRecords.{IsMeta, meta_bytes, values_by};
+ghost use Rattle.mar_journal.specs.MetaStore.{IsMetaLeft, failed_entries, failed_in, left_by_meta, left_of_meta, one_of_meta, some_of_meta, values_in};
+ghost use Rattle.mar_journal.specs.Watches.{journal_watch};
+
+use crate::meta_map::{batch_of, open_maps, set, unset};
+use crate::{Disk, MetaRecord, Unopened, append};
+use mar_store::{Alarm, Lost, Meta, MetaRuin, Miss};
+use std::alloc::{AllocError, Global};
+use std::collections::BTreeMap;
+use std::marker::Model;
+
+/// A map in memory, beside it the one of the last sync, and the keys that were changed since. A sync writes one batch.
+#[derive(Drop)]
+pub struct JournalMeta<D: Disk> {
+    alloc: Global,
+    values: BTreeMap<u64, u64>,
+    synced: BTreeMap<u64, u64>,
+    changed: Vec<u64>,
+    disk: D,
+    end: usize,
+    alarm: Alarm,
+}
+
+impl<D: Disk> Model for JournalMeta<D> {
+    ghost use Rattle.mar_store.specs.MemMeta.{values_of};
+    ghost use Rattle.mar_journal.specs.MetaStore.{IsMetaStore, MetaView};
+
+    ghost Value = { MetaView };
+
+    ghost view = { λ s. record {
+      current = s.values.entries;
+      synced = s.synced.entries;
+      changed = s.changed.items;
+      faults = s.alarm.faults;
+      due = s.alarm.due.items;
+    } };
+
+    ghost invariant = { λ s. IsMetaStore D.seen D.may_leave s.disk s.end (values_of s.values) (values_of s.synced) s.changed.items };
+}
+
+/// What is left of a `JournalMeta`: a disk, the map of the last sync that succeeded, and that of one that failed since.
+#[derive(Drop)]
+pub struct JournalMetaWreck<D: Disk> {
+    alloc: Global,
+    synced: BTreeMap<u64, u64>,
+    failed: Option<BTreeMap<u64, u64>>,
+    disk: D,
+    damage: Option<usize>,
+    alarm: Alarm,
+}
+
+impl<D: Disk> Model for JournalMetaWreck<D> {
+    ghost use Rattle.mar_store.specs.MemMeta.{values_of};
+    ghost use Rattle.mar_journal.specs.MetaStore.{IsMetaLeft, MetaLeft, failed_entries, failed_in, left_by_meta};
+
+    ghost Value = { MetaLeft };
+
+    ghost view = { λ w. record {
+      synced = w.synced.entries;
+      failed = failed_entries w.failed;
+      damage = w.damage;
+      faults = w.alarm.faults;
+      due = w.alarm.due.items;
+    } };
+
+    ghost invariant = { λ w. IsMetaLeft D.may_leave w.disk (left_by_meta (values_of w.synced) (failed_in (failed_entries w.failed))) };
+}
+
+impl<D: Disk> JournalMeta<D> {
+    /// Opens the journal that a disk has. It gives the disk back with the reason where it can't.
+    pub fn open(alloc: Global, disk: D) -> Result<Self, (Unopened, D)>
+        ensures found { IfOk result (λ s. (records : List MetaRecord) × Stands meta_bytes IsMeta records (D.seen disk)
+            × (values_in s.current ≡ values_by records) × (values_in s.synced ≡ values_by records) × (s.changed ≡ []) × (s.faults ≡ 0) × (s.due ≡ [])) }
+        ensures reason { IfErr result (λ e. HasReason meta_bytes IsMeta (D.faults disk) (D.faults e.1) (D.seen disk) e.0) }
+    {
+        let mut disk = disk;
+        match open_maps(alloc, &mut disk) {
+            Ok((values, synced, end)) => Ok(JournalMeta {
+                alloc,
+                values,
+                synced,
+                changed: Vec::new(alloc),
+                disk,
+                end,
+                alarm: Alarm::new(alloc),
+            }),
+            Err(reason) => Err((reason, disk)),
+        }
+    }
+}
+
+impl<D: Disk> JournalMeta<D> {
+    /// Its disk. What was changed since the last sync isn't on it.
+    pub fn into_disk(self) -> D {
+        let JournalMeta { disk, .. } = self;
+        disk
+    }
+}
+
+impl<D: Disk> JournalMetaWreck<D> {
+    // What is left of these maps on a disk.
+    fn of(
+        alloc: Global,
+        synced: BTreeMap<u64, u64>,
+        failed: Option<BTreeMap<u64, u64>>,
+        disk: D,
+        damage: Option<usize>,
+        alarm: Alarm,
+    ) -> Self
+        requires { IsMetaLeft D.may_leave disk (left_by_meta (values_of synced) (failed_in (failed_entries failed))) }
+        ensures { result ≡ record { synced = synced.entries; failed = failed_entries failed; damage = damage; faults = alarm.faults; due = alarm.due.items } }
+    {
+        JournalMetaWreck {
+            alloc,
+            synced,
+            failed,
+            disk,
+            damage,
+            alarm,
+        }
+    }
+
+    /// Where the file was seen to be damaged, where the reopening that failed last saw that.
+    pub fn damage(&self) -> Option<usize>
+        ensures { result ≡ self.now.damage }
+    {
+        self.damage
+    }
+}
+
+impl<D: Disk> MetaRuin for JournalMetaWreck<D> {
+    ghost left = { λ w. left_of_meta w };
+
+    ghost watch = { λ w. journal_watch w.faults w.due };
+
+    fn synced(&self, key: u64) -> Option<u64> {
+        self.synced.get(&key).copied()
+    }
+
+    fn arm(&mut self, calls: u64) -> Result<(), AllocError> {
+        self.alarm.arm(calls)
+    }
+
+    ghost some = { some_of_meta };
+}
+
+impl<D: Disk> Meta for JournalMeta<D> {
+    type Wreck = JournalMetaWreck<D>;
+
+    ghost current = { λ s. values_in s.current };
+
+    ghost left = { λ s. values_in s.synced ∷ [] };
+
+    ghost changed = { λ s. s.changed };
+
+    ghost watch = { λ s. journal_watch s.faults s.due };
+
+    ghost some = { one_of_meta };
+
+    fn get(&self, key: u64) -> Option<u64> {
+        self.values.get(&key).copied()
+    }
+
+    fn put(self, key: u64, value: u64) -> Result<Self, Lost<JournalMetaWreck<D>>> {
+        let JournalMeta {
+            alloc,
+            mut values,
+            synced,
+            mut changed,
+            disk,
+            end,
+            alarm,
+        } = self;
+        match set(&mut values, &mut changed, key, value) {
+            Ok(()) => Ok(JournalMeta {
+                alloc,
+                values,
+                synced,
+                changed,
+                disk,
+                end,
+                alarm,
+            }),
+            Err(_) => Err(Lost::Memory(JournalMetaWreck::of(
+                alloc, synced, None, disk, None, alarm,
+            ))),
+        }
+    }
+
+    fn remove(self, key: u64) -> Result<Self, Lost<JournalMetaWreck<D>>> {
+        let JournalMeta {
+            alloc,
+            mut values,
+            synced,
+            mut changed,
+            disk,
+            end,
+            alarm,
+        } = self;
+        match unset(&mut values, &mut changed, key) {
+            Ok(()) => Ok(JournalMeta {
+                alloc,
+                values,
+                synced,
+                changed,
+                disk,
+                end,
+                alarm,
+            }),
+            Err(_) => Err(Lost::Memory(JournalMetaWreck::of(
+                alloc, synced, None, disk, None, alarm,
+            ))),
+        }
+    }
+
+    fn sync(self) -> Result<Self, Lost<JournalMetaWreck<D>>> {
+        let JournalMeta {
+            alloc,
+            values,
+            synced,
+            mut changed,
+            mut disk,
+            end,
+            mut alarm,
+        } = self;
+        if alarm.rings() {
+            return Err(Lost::Fault(JournalMetaWreck::of(
+                alloc,
+                synced,
+                Some(values),
+                disk,
+                None,
+                alarm,
+            )));
+        }
+        if changed.is_empty() {
+            return Ok(JournalMeta {
+                alloc,
+                values,
+                synced,
+                changed,
+                disk,
+                end,
+                alarm,
+            });
+        }
+        let (records, copy) = match batch_of(alloc, &values, &changed) {
+            Ok(batch) => batch,
+            Err(_) => {
+                return Err(Lost::Memory(JournalMetaWreck::of(
+                    alloc,
+                    synced,
+                    Some(values),
+                    disk,
+                    None,
+                    alarm,
+                )));
+            }
+        };
+        match append(alloc, &mut disk, end, &records) {
+            Ok(end) => {
+                changed.clear();
+                Ok(JournalMeta {
+                    alloc,
+                    values,
+                    synced: copy,
+                    changed,
+                    disk,
+                    end,
+                    alarm,
+                })
+            }
+            Err(Miss::Fault) => {
+                alarm.fail();
+                Err(Lost::Fault(JournalMetaWreck::of(
+                    alloc,
+                    synced,
+                    Some(values),
+                    disk,
+                    None,
+                    alarm,
+                )))
+            }
+            Err(Miss::Memory) => Err(Lost::Memory(JournalMetaWreck::of(
+                alloc,
+                synced,
+                Some(values),
+                disk,
+                None,
+                alarm,
+            ))),
+        }
+    }
+
+    fn wreck(self) -> JournalMetaWreck<D> {
+        let JournalMeta {
+            alloc,
+            synced,
+            disk,
+            alarm,
+            ..
+        } = self;
+        JournalMetaWreck::of(alloc, synced, None, disk, None, alarm)
+    }
+
+    fn reopen(wreck: JournalMetaWreck<D>, luck: u64) -> Result<Self, Lost<JournalMetaWreck<D>>> {
+        let JournalMetaWreck {
+            alloc,
+            synced,
+            failed,
+            mut disk,
+            mut alarm,
+            ..
+        } = wreck;
+        if alarm.rings() {
+            return Err(Lost::Fault(JournalMetaWreck::of(alloc, synced, failed, disk, None, alarm)));
+        }
+        if disk.crash(luck).is_err() {
+            return Err(Lost::Memory(JournalMetaWreck::of(
+                alloc, synced, failed, disk, None, alarm,
+            )));
+        }
+        match open_maps(alloc, &mut disk) {
+            Ok((values, copy, end)) => Ok(JournalMeta {
+                alloc,
+                values,
+                synced: copy,
+                changed: Vec::new(alloc),
+                disk,
+                end,
+                alarm,
+            }),
+            Err(Unopened::Fault) => {
+                alarm.fail();
+                Err(Lost::Fault(JournalMetaWreck::of(alloc, synced, failed, disk, None, alarm)))
+            }
+            Err(Unopened::Damaged(at)) => {
+                alarm.fail();
+                Err(Lost::Fault(JournalMetaWreck::of(alloc, synced, failed, disk, Some(at), alarm)))
+            }
+            Err(Unopened::Memory) => Err(Lost::Memory(JournalMetaWreck::of(
+                alloc, synced, failed, disk, None, alarm,
+            ))),
+        }
+    }
+
+    fn arm(&mut self, calls: u64) -> Result<(), AllocError> {
+        self.alarm.arm(calls)
+    }
+}

@@ -1,0 +1,12 @@
+//! What files stand for: laws that callers rest on, each the contract of a function.
+ghost use Rattle.std.specs.Prelude.{◌≡◌, ℕ, List};
+ghost use Rattle.mar_journal.specs.Format.{IsDamaged, Stands};
+
+use crate::Record;
+
+/// A file stands for one list of records at most, and for none where it is damaged; it is damaged at one place at most.
+pub fn files_have_one_meaning<R: Record>()
+    ensures one { (records other : List R) (file : List ℕ) → Stands R.spelled R.valid records file → Stands R.spelled R.valid other file → records ≡ other }
+    ensures whole { (records : List R) (at : ℕ) (file : List ℕ) → Stands R.spelled R.valid records file → IsDamaged R.spelled R.valid at file → ⊥ }
+    ensures place { (at other : ℕ) (file : List ℕ) → IsDamaged R.spelled R.valid at file → IsDamaged R.spelled R.valid other file → at ≡ other }
+{}
