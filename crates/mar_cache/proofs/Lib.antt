@@ -1,0 +1,10 @@
+pub mod Filtering
+pub mod Places
+pub mod VolumeChanges
+pub mod Draws
+pub mod Leaving
+pub mod BoundsKept
+pub mod Shelving
+pub mod Thinning
+pub mod Views
+pub mod Plainly

@@ -1,0 +1,207 @@
+-- What calls of a shelf leave where they fail after others went well.
+use Rattle.std.proofs.Common.{◌≡◌, ◌≢◌, ◌⊎◌, inl, inr, ◌==◌, ◌||◌, ◌≤◌, ◌<◌, ◌+◌, get_or, length, ℕ, zero, suc, List, [], ◌∷◌, ◌++◌, Bool, true, false, not, IsTrue, Contains, cond, refl, ap, sym, ◌∙◌, subst, filter, map, Result, Ok, Err, IfErr, MatchResult, arith}
+use Rattle.std.specs.List.{AllByRecursion, list_any}
+use Rattle.std.proofs.lemmas.Bool.{cases_eq, eq-eqb}
+use Rattle.std.proofs.lemmas.List.Elements.{Contains-append_cases, Contains-append_left, Contains-append_right}
+use Rattle.mar_store.specs.Changes.{Within}
+use Rattle.mar_store.specs.Lost.{wreck_of}
+use Rattle.mar_store.specs.declared.Lost.{Lost}
+use Rattle.mar_store.proofs.Lookups.{AllByRecursion-weaker}
+use Rattle.mar_node.specs.Cached.{Cached, same_place}
+use Rattle.mar_cache.specs.Volumes.{Book, held_after, is_kept, puts_of}
+use Rattle.mar_cache.specs.Tomes.{ChangesTome, IsNestedTome, MightBe, is_opened, KeepsOtherTomes, LeavesOtherTomes, LeavesTome, LosesTome, OpensTome, Tome, Tomes, left_of_tome, none_gone, opened, shut, unknown}
+use Rattle.mar_cache.specs.Shelved.{at_epoch, DoesAt, OpensOrStays, GrowsTome, GrowsTomes, LeavesTomes}
+use Rattle.mar_cache.specs.declared.change.Change.{Change}
+use Rattle.mar_cache.specs.declared.change.Change.TheVariants.{Finish, PruneBelow, PruneCertified, Put, Sync}
+use Rattle.mar_cache.proofs.Filtering.{contains_here, contains_more, contains_none}
+
+pub filter_contains : {A : Type 0} (test : A → Bool) (xs : List A) (x : A) → Contains xs x → test x ≡ true → Contains (filter test xs) x
+filter_contains test [] x has passes = has
+filter_contains {A} test (y ∷ ys) x has passes = by (test y) refl has (λ has'. filter_contains test ys x has' passes)
+  where
+    by : (b : Bool) → test y ≡ b → Contains (y ∷ ys) x → (Contains ys x → Contains (filter test ys) x) → Contains (cond b (y ∷ filter test ys) (filter test ys)) x
+    by true is (zero, lt, e) rest = (zero, omega arith, e)
+    by true is (suc k, lt, e) rest = contains_more y (filter test ys) x (rest (k, omega arith, e))
+    by false is (zero, lt, e) rest = absurd (let no_pass : false ≡ true = sym is ∙ ap test e ∙ passes in cc)
+    by false is (suc k, lt, e) rest = rest (k, omega arith, e)
+
+-- what is held and isn't pruned is held after a change
+held_kept : {E : Type 0} (plain : E → Cached) (change : Change E) (held : List Cached) (x : Cached) → Contains held x → IsTrue (is_kept change x) → Contains (held_after plain change held) x
+held_kept plain (Put leaf) held x has kept = by (list_any (same_place (plain leaf)) held)
+  where
+    by : (b : Bool) → Contains (cond b held (held ++ plain leaf ∷ [])) x
+    by true = has
+    by false = Contains-append_left held (plain leaf ∷ []) x has
+held_kept plain (Sync s) held x has kept = has
+held_kept plain (Finish s n) held x has kept = has
+held_kept plain (PruneBelow r) held x has kept = filter_contains _ held x has kept
+held_kept plain (PruneCertified h) held x has kept = filter_contains _ held x has kept
+
+-- WHAT MAY BE LEFT OF THE BOUNDS
+
+pub bounds_stay : {X : Type 0} (xs ys : List X) → Within xs (xs ++ ys)
+bounds_stay xs ys x has = Contains-append_left xs ys x has
+
+pub raised_within : {X : Type 0} (b : Bool) (old : List X) (r : X) (left : List X) → left ≡ cond b old (r ∷ []) → Within left (old ++ r ∷ [])
+raised_within true old r left is x has = Contains-append_left old (r ∷ []) x (subst (λ ys. Contains ys x) is has)
+raised_within false old r left is x has = Contains-append_right old (r ∷ []) x (subst (λ ys. Contains ys x) is has)
+
+-- A CRASH, AND A CALL THAT FAILED
+
+pub leaves_itself : (put : List Cached) (gone : Cached → Bool) (t : Tome) → IsNestedTome t → LeavesTome put gone t (left_of_tome t)
+leaves_itself put gone (opened b) nested = record { sure = λ x has stays. has; held = λ x has stays. nested.held_may x has; may = λ known x has. inl has }
+leaves_itself put gone (shut l) nested = record { sure = λ x has stays. has; held = λ x has stays. contains_none x has; may = λ known x has. inl has }
+leaves_itself put gone unknown nested = record { sure = λ x has stays. has; held = λ x has stays. contains_none x has; may = λ known x has. inl has }
+
+module _ (put : ℕ → List Cached) (gone : ℕ → Cached → Bool) (old : Tomes) (nested : (k : ℕ) → IsNestedTome (old k)) where
+  pub fallen_leaves : (ways : List Tomes) → AllByRecursion (λ left. (k : ℕ) → left k ≡ left_of_tome (old k)) ways → AllByRecursion (LeavesTomes put gone old) ways
+  fallen_leaves ways all = AllByRecursion-weaker _ _ (λ left same k. subst (LeavesTome (put k) (gone k) (old k)) (sym (same k)) (leaves_itself (put k) (gone k) (old k) (nested k))) ways all
+
+  pub loses_leaves : (e : ℕ) (more : List Cached) (lets : Cached → Bool) (ways : List Tomes) → Within more (put e) → ((x : Cached) → gone e x ≡ false → lets x ≡ false) → AllByRecursion (LosesTome e (old e) more lets old) ways → AllByRecursion (LeavesTomes put gone old) ways
+  loses_leaves e more lets ways wider fewer all = AllByRecursion-weaker _ _ (λ left lost k. by left lost k (cases_eq k e)) ways all
+    where
+      by : (left : Tomes) → LosesTome e (old e) more lets old left → (k : ℕ) → (k ≡ e) ⊎ (k ≡ e → ⊥) → LeavesTome (put k) (gone k) (old k) (left k)
+      by left lost k (inl same) = subst (λ j. LeavesTome (put j) (gone j) (old j) (left j)) (sym same) (record {
+        sure = λ x has stays. lost.here.sure x has (fewer x stays);
+        held = λ x has stays. lost.here.held x has (fewer x stays);
+        may = λ known x has. elim (lost.here.may known x has) [ inl before ↦ inl before | inr new ↦ inr (wider x new) ];
+      })
+      by left lost k (inr other) = subst (LeavesTome (put k) (gone k) (old k)) (sym (lost.others k other)) (leaves_itself (put k) (gone k) (old k) (nested k))
+
+-- CALLS THAT WENT WELL
+
+pub grows_itself : (put : List Cached) (gone : Cached → Bool) (t : Tome) → GrowsTome put gone t t
+grows_itself put gone t = record { sure = λ x has stays. has; held = λ x has stays. has; may = λ known x has. inl has; known = λ known. known }
+
+pub opens_grows : (put : List Cached) (gone : Cached → Bool) (t u : Tome) → OpensTome t u → GrowsTome put gone t u
+opens_grows put gone (opened b) u is = subst (GrowsTome put gone (opened b)) (sym is) (grows_itself put gone (opened b))
+opens_grows put gone (shut l) u (b, found, is) = subst (GrowsTome put gone (shut l)) (sym is) (subst (λ kept. GrowsTome put gone (shut l) (opened (record b { kept = kept }))) (sym found.is) (record {
+  sure = λ x has stays. found.reopens.with_sure x has;
+  held = λ x has stays. contains_none x has;
+  may = λ known x has. inl (found.reopens.within_may x has);
+  known = λ known. refl;
+}))
+opens_grows put gone unknown u (b, is) = record { sure = λ x has stays. contains_none x has; held = λ x has stays. contains_none x has; may = λ known x has. absurd cc; known = λ known. absurd cc }
+
+pub changes_grows : {E : Type 0} (plain : E → Cached) (change : Change E) (put : List Cached) (gone : Cached → Bool) (t u : Tome) → Within (puts_of plain change) put → ((x : Cached) → gone x ≡ false → IsTrue (is_kept change x)) → ChangesTome plain change t u → GrowsTome put gone t u
+changes_grows plain change put gone (opened b) u wider fewer (c, does, is) = subst (GrowsTome put gone (opened b)) (sym is) (record {
+  sure = λ x has stays. does.sure x has (fewer x stays);
+  held = λ x has stays. subst (λ ys. Contains ys x) (sym does.held) (held_kept plain change b.kept.held x has (fewer x stays));
+  may = λ known x has. elim (Contains-append_cases b.kept.may (puts_of plain change) x (does.may x has)) [ inl before ↦ inl before | inr new ↦ inr (wider x new) ];
+  known = λ known. refl;
+})
+changes_grows plain change put gone (shut l) u wider fewer is = subst (GrowsTome put gone (shut l)) (sym is) (grows_itself put gone (shut l))
+changes_grows plain change put gone unknown u wider fewer is = subst (GrowsTome put gone unknown) (sym is) (grows_itself put gone unknown)
+
+grows_leaves : (put : List Cached) (gone : Cached → Bool) (t u x : Tome) → GrowsTome put gone t u → LeavesTome put gone u x → LeavesTome put gone t x
+grows_leaves put gone t u x grows leaves = record {
+  sure = λ y has stays. leaves.sure y (grows.sure y has stays) stays;
+  held = λ y has stays. leaves.held y (grows.held y has stays) stays;
+  may = λ known y has. elim (leaves.may (grows.known known) y has) [ inl before ↦ grows.may known y before | inr new ↦ inr new ];
+}
+
+-- a call that failed after others went well
+pub grown_leaves : (put : ℕ → List Cached) (gone : ℕ → Cached → Bool) (old mid : Tomes) (ways : List Tomes) → GrowsTomes put gone old mid → AllByRecursion (LeavesTomes put gone mid) ways → AllByRecursion (LeavesTomes put gone old) ways
+grown_leaves put gone old mid ways grows all = AllByRecursion-weaker _ _ (λ left leaves k. grows_leaves (put k) (gone k) (old k) (mid k) (left k) (grows k) (leaves k)) ways all
+
+pub grows_at : (put : ℕ → List Cached) (gone : ℕ → Cached → Bool) (e : ℕ) (old mid : Tomes) → GrowsTome (put e) (gone e) (old e) (mid e) → KeepsOtherTomes e old mid → GrowsTomes put gone old mid
+grows_at put gone e old mid here others k = by (cases_eq k e)
+  where
+    by : (k ≡ e) ⊎ (k ≡ e → ⊥) → GrowsTome (put k) (gone k) (old k) (mid k)
+    by (inl same) = subst (λ j. GrowsTome (put j) (gone j) (old j) (mid j)) (sym same) here
+    by (inr other) = subst (GrowsTome (put k) (gone k) (old k)) (sym (others k other)) (grows_itself (put k) (gone k) (old k))
+
+pub grows_then : (put : List Cached) (gone : Cached → Bool) (t u v : Tome) → GrowsTome put gone t u → GrowsTome put gone u v → GrowsTome put gone t v
+grows_then put gone t u v first second = record {
+  sure = λ x has stays. second.sure x (first.sure x has stays) stays;
+  held = λ x has stays. second.held x (first.held x has stays) stays;
+  may = λ known x has. elim (second.may (first.known known) x has) [ inl before ↦ first.may known x before | inr new ↦ inr new ];
+  known = λ known. second.known (first.known known);
+}
+
+-- an epoch was opened and changed
+pub does_grow : {E : Type 0} (plain : E → Cached) (change : Change E) (put : ℕ → List Cached) (gone : ℕ → Cached → Bool) (e : ℕ) (old new : Tomes) → Within (puts_of plain change) (put e) → ((x : Cached) → gone e x ≡ false → IsTrue (is_kept change x)) → DoesAt plain e (change ∷ []) old new → GrowsTomes put gone old new
+does_grow plain change put gone e old new wider fewer does =
+    grows_at put gone e old new (subst (GrowsTome (put e) (gone e) (old e)) (sym does.done.2) (grows_then (put e) (gone e) (old e) does.mid does.done.0 (opens_grows (put e) (gone e) (old e) does.mid does.opens) (changes_grows plain change (put e) (gone e) does.mid does.done.0 wider fewer does.done.1))) does.others
+
+-- what a call leaves that failed at its end, after others went well
+pub end_leaves : {S W : Type 0} (P : S → Type 0) (ways : W → List Tomes) (put : ℕ → List Cached) (gone : ℕ → Cached → Bool) (e : ℕ) (more : List Cached) (lets : Cached → Bool) (old mid : Tomes) (r : Result S (Lost W))
+    → ((k : ℕ) → IsNestedTome (mid k)) → Within more (put e) → ((x : Cached) → gone e x ≡ false → lets x ≡ false) → GrowsTomes put gone old mid
+    → MatchResult r P (λ l. AllByRecursion (LosesTome e (mid e) more lets mid) (ways (wreck_of l))) → IfErr r (λ l. AllByRecursion (LeavesTomes put gone old) (ways (wreck_of l)))
+end_leaves P ways put gone e more lets old mid (Ok s) nested wider fewer grows done = tt
+end_leaves P ways put gone e more lets old mid (Err l) nested wider fewer grows done = grown_leaves put gone old mid (ways (wreck_of l)) grows (loses_leaves put gone mid nested e more lets (ways (wreck_of l)) wider fewer done)
+
+pub end_bounds : {S W X : Type 0} (left : W → List X) (b : Bool) (old : List X) (new : X) (mid : List X) (r : Result S (Lost W)) → mid ≡ cond b old (new ∷ []) → IfErr r (λ l. left (wreck_of l) ≡ mid) → IfErr r (λ l. Within (left (wreck_of l)) (old ++ new ∷ []))
+end_bounds left b old new mid (Ok s) is same = tt
+end_bounds left b old new mid (Err l) is same = raised_within b old new (left (wreck_of l)) (same ∙ is)
+
+-- what is put in one epoch
+pub at_own : (e : ℕ) (xs : List Cached) → Within xs (at_epoch e xs e)
+at_own e xs x has = subst (λ b. Contains (cond b xs []) x) (sym (eq-eqb e e refl)) has
+
+-- OPENINGS ONE AFTER ANOTHER
+
+pub stays_grow : (put : List Cached) (gone : Cached → Bool) (t u : Tome) → OpensOrStays t u → GrowsTome put gone t u
+stays_grow put gone t u (inl same) = subst (GrowsTome put gone t) (sym same) (grows_itself put gone t)
+stays_grow put gone t u (inr opens) = opens_grows put gone t u opens
+
+is_open_then : (t u : Tome) → OpensTome t u → (b : Book) × (u ≡ opened b)
+is_open_then (opened b) u is = (b, is)
+is_open_then (shut l) u (b, found, is) = (b, is)
+is_open_then unknown u (b, is) = (b, is)
+
+pub stays_then : (t u v : Tome) → OpensOrStays t u → OpensOrStays u v → OpensOrStays t v
+stays_then t u v first (inl same) = subst (OpensOrStays t) (sym same) first
+stays_then t u v (inl same) (inr opens) = inr (subst (λ w. OpensTome w v) same opens)
+stays_then t u v (inr before) (inr opens) =
+    let open_now = is_open_then t u before in
+    let same : v ≡ u = subst (λ w. OpensTome w v) open_now.1 opens ∙ sym open_now.1 in
+    inr (subst (OpensTome t) (sym same) before)
+
+pub step_stays : (e : ℕ) (old mid new : Tomes) → ((k : ℕ) → OpensOrStays (old k) (mid k)) → OpensOrStays (mid e) (new e) → KeepsOtherTomes e mid new → (k : ℕ) → OpensOrStays (old k) (new k)
+step_stays e old mid new before here others k = by (cases_eq k e)
+  where
+    by : (k ≡ e) ⊎ (k ≡ e → ⊥) → OpensOrStays (old k) (new k)
+    by (inl same) = subst (λ j. OpensOrStays (old j) (new j)) (sym same) (stays_then (old e) (mid e) (new e) (before e) here)
+    by (inr other) = subst (OpensOrStays (old k)) (sym (others k other)) (before k)
+
+opened_one : (t u : Tome) → OpensOrStays t u → is_opened t ≡ true → is_opened u ≡ true
+opened_one t u (inl same) is = ap is_opened same ∙ is
+opened_one (opened b) u (inr opens) is = ap is_opened opens
+opened_one (shut l) u (inr opens) is = absurd cc
+opened_one unknown u (inr opens) is = absurd cc
+
+pub opened_stays : (e : ℕ) (mid new : Tomes) → OpensOrStays (mid e) (new e) → KeepsOtherTomes e mid new → (k : ℕ) → is_opened (mid k) ≡ true → is_opened (new k) ≡ true
+opened_stays e mid new here others k is = by (cases_eq k e)
+  where
+    by : (k ≡ e) ⊎ (k ≡ e → ⊥) → is_opened (new k) ≡ true
+    by (inl same) = subst (λ j. is_opened (new j) ≡ true) (sym same) (opened_one (mid e) (new e) here (subst (λ j. is_opened (mid j) ≡ true) same is))
+    by (inr other) = ap is_opened (others k other) ∙ is
+
+-- the epochs of a list so far are open, and so is the next
+pub opened_more : (tomes : Tomes) (es : List ℕ) (place low high : ℕ) → ((j : ℕ) → j < place → low ≤ get_or es j 0 → get_or es j 0 ≤ high → is_opened (tomes (get_or es j 0)) ≡ true) → (low ≤ get_or es place 0 → get_or es place 0 ≤ high → is_opened (tomes (get_or es place 0)) ≡ true)
+    → (j : ℕ) → j < place + 1 → low ≤ get_or es j 0 → get_or es j 0 ≤ high → is_opened (tomes (get_or es j 0)) ≡ true
+opened_more tomes es place low high before here j less from to = by (cases_eq j place)
+  where
+    by : (j ≡ place) ⊎ (j ≡ place → ⊥) → is_opened (tomes (get_or es j 0)) ≡ true
+    by (inl same) = subst (λ i. is_opened (tomes (get_or es i 0)) ≡ true) (sym same) (here (subst (λ i. low ≤ get_or es i 0) same from) (subst (λ i. get_or es i 0 ≤ high) same to))
+    by (inr other) = before j (omega (arith, less, other)) from to
+
+pub index_default : (xs : List ℕ) (j a b : ℕ) → j < length xs → get_or xs j a ≡ get_or xs j b
+index_default [] j a b less = absurd (omega (arith, less))
+index_default (x ∷ xs) zero a b less = refl
+index_default (x ∷ xs) (suc j) a b less = index_default xs j a b (omega (arith, less))
+
+pub opened_all : (tomes : Tomes) (es : List ℕ) (place low high : ℕ) → length es ≤ place → ((j : ℕ) → j < place → low ≤ get_or es j 0 → get_or es j 0 ≤ high → is_opened (tomes (get_or es j 0)) ≡ true) → (k : ℕ) → low ≤ k → k ≤ high → Contains es k → is_opened (tomes k) ≡ true
+opened_all tomes es place low high over all k from to (j, less, is) =
+    let at : get_or es j 0 ≡ k = index_default es j 0 k less ∙ is in
+    subst (λ e. is_opened (tomes e) ≡ true) at (all j (omega (arith, over, less)) (subst (λ e. low ≤ e) (sym at) from) (subst (λ e. e ≤ high) (sym at) to))
+
+-- what is left of a reopened shelf might have been left before
+pub reopened_ways : (before ways : List Tomes) (tomes : Tomes) → MightBe before tomes → ((k : ℕ) → is_opened (tomes k) ≡ false) → AllByRecursion (λ left. (k : ℕ) → left k ≡ left_of_tome (tomes k)) ways → AllByRecursion (MightBe before) ways
+reopened_ways before ways tomes (way, has, same) closed all = AllByRecursion-weaker _ _ (λ left is. (way, has, λ k. is k ∙ shut_same (tomes k) (closed k) ∙ same k)) ways all
+  where
+    shut_same : (t : Tome) → is_opened t ≡ false → left_of_tome t ≡ t
+    shut_same (opened b) is = absurd cc
+    shut_same (shut l) is = refl
+    shut_same unknown is = refl

@@ -1,0 +1,29 @@
+use Rattle.std.proofs.Common.{[], refl}
+use Rattle.std.proofs.lemmas.Result.{err_from_is_err_and}
+use Rattle.mar_cache.specs.Shelved.{at_epoch, nothing_gone}
+use Rattle.mar_cache.specs.declared.change.Change.TheVariants.{Finish}
+use Rattle.mar_cache.proofs.Filtering.{contains_none}
+use Rattle.mar_cache.proofs.Shelving.{changes_grows, end_leaves, fallen_leaves, grows_at, loses_leaves}
+use Rattle.mar_cache.proofs.manager.Manager.finish.Goals as goal
+
+pub returns-in_err-manager-clause-ways : goal.returns-in_err-manager-clause-ways
+returns-in_err-manager-clause-ways g c =
+    let p = err_from_is_err_and c.from_residual.result c.from_residual.ensures.1 in
+    rw (p.1, p.2) (fallen_leaves (at_epoch c.args.ticket.epoch []) nothing_gone (g.S.Stacks.tomes c.args.self.stacks) (g.met.S.Stacks.nested c.args.self.stacks) _ c.in_err-manager.ensures.ways)
+
+pub returns-in_err-manager-2-clause-ways : goal.returns-in_err-manager-2-clause-ways
+returns-in_err-manager-2-clause-ways g c =
+    let e = c.args.ticket.epoch in
+    let m = c.in_ok-manager.manager in
+    let p = err_from_is_err_and c.from_residual-in_err-manager-2.result c.from_residual-in_err-manager-2.ensures.1 in
+    rw (p.1, p.2, ← c.in_ok-manager.ensures.stacks) (loses_leaves (at_epoch e []) nothing_gone (g.S.Stacks.tomes m.stacks) (g.met.S.Stacks.nested m.stacks) e [] _ _ (λ x has. contains_none x has) (λ x stays. refl) c.in_err-manager-2.ensures.done)
+
+pub returns-in-Some-clause-ways : goal.returns-in-Some-clause-ways
+returns-in-Some-clause-ways g c =
+    let e = c.args.ticket.epoch in
+    let m = c.in_ok-manager.manager in
+    let n = c.in_ok-manager-2.manager in
+    let put = at_epoch e [] in
+    rw (← c.in_ok-manager.ensures.stacks) (end_leaves _ (λ w. g.S.Wreck.StacksRuin.left w.stacks) put nothing_gone e [] _ (g.S.Stacks.tomes m.stacks) (g.S.Stacks.tomes n.stacks) c.change-in-Some.result (g.met.S.Stacks.nested n.stacks) (λ x has. contains_none x has) (λ x stays. refl)
+    (grows_at put nothing_gone e (g.S.Stacks.tomes m.stacks) (g.S.Stacks.tomes n.stacks) (changes_grows g.S.Leaf.Leaf.plain (Finish c.args.ticket.first.section c.args.ticket.first.number) (put e) (nothing_gone e) _ _ (λ x has. contains_none x has) (λ x stays. refl) c.in_ok-manager-2.ensures.done.0) c.in_ok-manager-2.ensures.done.1)
+    c.change-in-Some.ensures.done)

@@ -1,0 +1,8 @@
+use Rattle.std.proofs.Common.{[], refl}
+use Rattle.mar_cache.specs.Tomes.{none_gone}
+use Rattle.mar_cache.specs.Shelved.{nothing_gone}
+use Rattle.mar_cache.proofs.Shelving.{end_leaves, grows_itself}
+use Rattle.mar_cache.proofs.manager.Manager.open_within.Goals as goal
+
+pub returns-clause-ways : goal.returns-clause-ways
+returns-clause-ways g c = end_leaves _ (λ w. g.S.Wreck.StacksRuin.left w.stacks) (λ k. []) nothing_gone c.args.epoch [] none_gone (g.S.Stacks.tomes c.args.self.stacks) (g.S.Stacks.tomes c.args.self.stacks) c.open.result (g.met.S.Stacks.nested c.args.self.stacks) (λ x has. has) (λ x stays. refl) (λ k. grows_itself [] (nothing_gone k) (g.S.Stacks.tomes c.args.self.stacks k)) c.open.ensures.done

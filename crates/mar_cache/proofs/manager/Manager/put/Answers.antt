@@ -1,0 +1,45 @@
+use Rattle.std.proofs.Common.{[], ◌∷◌, ◌∙◌, ap, map, refl}
+use Rattle.std.proofs.lemmas.Result.{IfErr-weaker, err_from_is_err_and}
+use Rattle.mar_cache.specs.Bounds.{bounds_of}
+use Rattle.mar_cache.specs.Shelved.{at_epoch, nothing_gone, raised}
+use Rattle.mar_cache.proofs.Filtering.{contains_none}
+use Rattle.mar_cache.proofs.Shelving.{at_own, end_bounds, end_leaves, fallen_leaves, grows_at, loses_leaves, opens_grows, raised_within}
+use Rattle.mar_cache.proofs.manager.Manager.put.Goals as goal
+
+pub returns-in_err-manager-clause-ways : goal.returns-in_err-manager-clause-ways
+returns-in_err-manager-clause-ways g c =
+    let e = c.get-epoch.result in
+    let p = err_from_is_err_and c.from_residual.result c.from_residual.ensures.1 in
+    rw (p.1, p.2, ← (c.get-epoch.ensures.value ∙ c.epoch.ensures)) (fallen_leaves (at_epoch e (g.S.Leaf.Leaf.plain c.args.leaf ∷ [])) nothing_gone (g.S.Stacks.tomes c.args.self.stacks) (g.met.S.Stacks.nested c.args.self.stacks) _ c.in_err-manager.ensures.ways)
+
+pub returns-in_err-manager-clause-bounds : goal.returns-in_err-manager-clause-bounds
+returns-in_err-manager-clause-bounds g c =
+    let p = err_from_is_err_and c.from_residual.result c.from_residual.ensures.1 in
+    rw (p.1, p.2, ← (c.get-epoch.ensures.value ∙ c.epoch.ensures)) c.in_err-manager.ensures.bounds.within
+
+pub returns-in_err-manager-2-clause-ways : goal.returns-in_err-manager-2-clause-ways
+returns-in_err-manager-2-clause-ways g c =
+    let e = c.get-epoch.result in
+    let m = c.in_ok-manager.manager in
+    let p = err_from_is_err_and c.from_residual-in_err-manager-2.result c.from_residual-in_err-manager-2.ensures.1 in
+    rw (p.1, p.2, ← c.in_ok-manager.ensures.stacks, ← (c.get-epoch.ensures.value ∙ c.epoch.ensures)) (loses_leaves (at_epoch e (g.S.Leaf.Leaf.plain c.args.leaf ∷ [])) nothing_gone (g.S.Stacks.tomes m.stacks) (g.met.S.Stacks.nested m.stacks) e [] _ _ (λ x has. contains_none x has) (λ x stays. refl) c.in_err-manager-2.ensures.done)
+
+pub returns-in_err-manager-2-clause-bounds : goal.returns-in_err-manager-2-clause-bounds
+returns-in_err-manager-2-clause-bounds g c =
+    let e = c.get-epoch.result in
+    let p = err_from_is_err_and c.from_residual-in_err-manager-2.result c.from_residual-in_err-manager-2.ensures.1 in
+    rw (p.1, p.2, c.in_err-manager-2.ensures.bounds, ← (c.get-epoch.ensures.value ∙ c.epoch.ensures)) (raised_within _ (map bounds_of (g.M.Meta.left c.args.self.meta)) (raised e (bounds_of (g.M.Meta.current c.args.self.meta))) _ c.in_ok-manager.ensures.raises.1)
+
+pub returns-clause-ways : goal.returns-clause-ways
+returns-clause-ways g c =
+    let e = c.get-epoch.result in
+    let m = c.in_ok-manager.manager in
+    let n = c.in_ok-manager-2.manager in
+    rw (← c.in_ok-manager.ensures.stacks, ← (c.get-epoch.ensures.value ∙ c.epoch.ensures)) (end_leaves _ (λ w. g.S.Wreck.StacksRuin.left w.stacks) (at_epoch e (g.S.Leaf.Leaf.plain c.args.leaf ∷ [])) nothing_gone e (g.S.Leaf.Leaf.plain c.args.leaf ∷ []) _ (g.S.Stacks.tomes m.stacks) (g.S.Stacks.tomes n.stacks) c.change.result (g.met.S.Stacks.nested n.stacks) (at_own e (g.S.Leaf.Leaf.plain c.args.leaf ∷ [])) (λ x stays. refl)
+    (grows_at (at_epoch e (g.S.Leaf.Leaf.plain c.args.leaf ∷ [])) nothing_gone e (g.S.Stacks.tomes m.stacks) (g.S.Stacks.tomes n.stacks) (opens_grows ((at_epoch e (g.S.Leaf.Leaf.plain c.args.leaf ∷ [])) e) (nothing_gone e) _ _ c.in_ok-manager-2.ensures.done.0) c.in_ok-manager-2.ensures.done.1)
+    c.change.ensures.done)
+
+pub returns-clause-bounds : goal.returns-clause-bounds
+returns-clause-bounds g c =
+    let e = c.get-epoch.result in
+    rw (← (c.get-epoch.ensures.value ∙ c.epoch.ensures)) (end_bounds (λ w. map bounds_of (g.M.Wreck.MetaRuin.left w.meta)) _ (map bounds_of (g.M.Meta.left c.args.self.meta)) (raised e (bounds_of (g.M.Meta.current c.args.self.meta))) (map bounds_of (g.M.Meta.left c.in_ok-manager.manager.meta)) c.change.result c.in_ok-manager.ensures.raises.1 (IfErr-weaker c.change.result _ _ (λ l is. ap (map bounds_of) (is ∙ ap g.M.Meta.left c.in_ok-manager-2.ensures.meta)) c.change.ensures.bounds))

@@ -1,0 +1,22 @@
+use Rattle.std.proofs.Common.{[], ◌∷◌, ap, map, refl}
+use Rattle.std.proofs.lemmas.Result.{err_from_is_err_and}
+use Rattle.mar_node.specs.Cached.{epoch_of}
+use Rattle.mar_cache.specs.Bounds.{bounds_of}
+use Rattle.mar_cache.specs.Shelved.{at_epoch, nothing_gone}
+use Rattle.mar_cache.proofs.Shelving.{bounds_stay, fallen_leaves}
+use Rattle.mar_cache.proofs.manager.Manager.put_and_start.Goals as goal
+
+pub returns-in_err-manager-clause-ways : goal.returns-in_err-manager-clause-ways
+returns-in_err-manager-clause-ways g c =
+    let p = err_from_is_err_and c.from_residual.result c.from_residual.ensures.1 in
+    rw (p.1, p.2) (fallen_leaves (at_epoch (epoch_of (g.S.Leaf.Leaf.plain c.args.leaf)) (g.S.Leaf.Leaf.plain c.args.leaf ∷ [])) nothing_gone (g.S.Stacks.tomes c.args.self.stacks) (g.met.S.Stacks.nested c.args.self.stacks) _ c.in_err-manager.ensures.ways)
+
+pub returns-in_err-manager-clause-bounds : goal.returns-in_err-manager-clause-bounds
+returns-in_err-manager-clause-bounds g c =
+    let p = err_from_is_err_and c.from_residual.result c.from_residual.ensures.1 in
+    rw (p.1, p.2, c.in_err-manager.ensures.bounds) (bounds_stay (map bounds_of (g.M.Meta.left c.args.self.meta)) _)
+
+pub returns-in_err-manager-2-clause-bounds : goal.returns-in_err-manager-2-clause-bounds
+returns-in_err-manager-2-clause-bounds g c =
+    let p = err_from_is_err_and c.from_residual-in_err-manager-2.result c.from_residual-in_err-manager-2.ensures.1 in
+    rw (p.1, p.2, ← c.in_ok-manager.ensures.meta) c.in_err-manager-2.ensures.bounds

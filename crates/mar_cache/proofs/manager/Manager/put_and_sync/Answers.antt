@@ -1,0 +1,40 @@
+use Rattle.std.proofs.Common.{[], ◌∷◌, ◌∙◌, ap, map, refl}
+use Rattle.std.proofs.lemmas.Result.{IfErr-weaker, err_from_is_err_and}
+use Rattle.mar_node.specs.Cached.{epoch_of}
+use Rattle.mar_cache.specs.Bounds.{bounds_of}
+use Rattle.mar_cache.specs.Shelved.{at_epoch, nothing_gone, raised}
+use Rattle.mar_cache.specs.declared.change.Change.TheVariants.{Put}
+use Rattle.mar_cache.proofs.Filtering.{contains_none}
+use Rattle.mar_cache.proofs.Shelving.{at_own, bounds_stay, does_grow, end_bounds, end_leaves, fallen_leaves}
+use Rattle.mar_cache.proofs.manager.Manager.put_and_sync.Goals as goal
+
+pub returns-in_err-manager-clause-ways : goal.returns-in_err-manager-clause-ways
+returns-in_err-manager-clause-ways g c =
+    let p = err_from_is_err_and c.from_residual.result c.from_residual.ensures.1 in
+    rw (p.1, p.2) (fallen_leaves (at_epoch (epoch_of (g.S.Leaf.Leaf.plain c.args.leaf)) (g.S.Leaf.Leaf.plain c.args.leaf ∷ [])) nothing_gone (g.S.Stacks.tomes c.args.self.stacks) (g.met.S.Stacks.nested c.args.self.stacks) _ c.in_err-manager.ensures.ways)
+
+pub returns-in_err-manager-clause-bounds : goal.returns-in_err-manager-clause-bounds
+returns-in_err-manager-clause-bounds g c =
+    let p = err_from_is_err_and c.from_residual.result c.from_residual.ensures.1 in
+    rw (p.1, p.2, c.in_err-manager.ensures.bounds) (bounds_stay (map bounds_of (g.M.Meta.left c.args.self.meta)) _)
+
+pub returns-clause-ways : goal.returns-clause-ways
+returns-clause-ways g c =
+    let e = c.get-epoch.result in
+    let m = c.in_ok-manager.manager in
+    let n = c.in_ok-manager-2.manager in
+    rw (← c.in_ok-manager.ensures.stacks, ← (c.get-epoch.ensures.value ∙ c.epoch.ensures)) (end_leaves _ (λ w. g.S.Wreck.StacksRuin.left w.stacks) (at_epoch e (g.S.Leaf.Leaf.plain c.args.leaf ∷ [])) nothing_gone e [] _ (g.S.Stacks.tomes m.stacks) (g.S.Stacks.tomes n.stacks) c.change.result (g.met.S.Stacks.nested n.stacks) (λ x has. contains_none x has) (λ x stays. refl)
+    (does_grow g.S.Leaf.Leaf.plain (Put c.args.leaf) (at_epoch e (g.S.Leaf.Leaf.plain c.args.leaf ∷ [])) nothing_gone e (g.S.Stacks.tomes m.stacks) (g.S.Stacks.tomes n.stacks) (at_own e (g.S.Leaf.Leaf.plain c.args.leaf ∷ [])) (λ x stays. refl) (rw (← (c.get-epoch.ensures.value ∙ c.epoch.ensures)) at c.in_ok-manager-2.ensures.done))
+    c.change.ensures.done)
+
+pub returns-clause-bounds : goal.returns-clause-bounds
+returns-clause-bounds g c =
+    let e = epoch_of (g.S.Leaf.Leaf.plain c.args.leaf) in
+    let m = c.in_ok-manager.manager in
+    let n = c.in_ok-manager-2.manager in
+    rw (← c.in_ok-manager.ensures.meta) (end_bounds (λ w. map bounds_of (g.M.Wreck.MetaRuin.left w.meta)) _ (map bounds_of (g.M.Meta.left m.meta)) (raised e (bounds_of (g.M.Meta.current m.meta))) (map bounds_of (g.M.Meta.left n.meta)) c.change.result c.in_ok-manager-2.ensures.raises.1 (IfErr-weaker c.change.result _ _ (λ l is. ap (map bounds_of) is) c.change.ensures.bounds))
+
+pub returns-in_err-manager-2-clause-bounds : goal.returns-in_err-manager-2-clause-bounds
+returns-in_err-manager-2-clause-bounds g c =
+    let p = err_from_is_err_and c.from_residual-in_err-manager-2.result c.from_residual-in_err-manager-2.ensures.1 in
+    rw (p.1, p.2, ← c.in_ok-manager.ensures.meta) c.in_err-manager-2.ensures.bounds

@@ -1,0 +1,10 @@
+pub mod Sections
+pub mod Volumes
+pub mod Filings
+pub mod Props
+pub mod Laws
+pub mod Tomes
+pub mod Bounds
+pub mod Shelved
+pub mod Entries
+pub mod Calls

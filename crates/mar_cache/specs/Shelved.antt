@@ -1,0 +1,131 @@
+-- A shelf as plain data, and what its calls make of it.
+use Rattle.std.specs.Prelude.{Bool, Contains, IsTrue, List, None, Option, Some, [], false, filter, if◌then◌else◌, max, nat_le, nat_lt, true, ℕ, ⊤, ◌&&◌, ◌<◌, ◌==◌, ◌||◌, ◌∷◌, ◌≡◌, ◌≤◌, ◌⊎◌}
+use Rattle.std.specs.List.{AllByRecursion}
+use Rattle.mar_types.specs.Round.{Round}
+use Rattle.mar_store.specs.Changes.{Within}
+use Rattle.mar_store.specs.Tickets.{last_number}
+use Rattle.mar_store.specs.Watch.{Watch}
+use Rattle.mar_store.specs.declared.Alarm.{Alarm}
+use Rattle.mar_node.specs.Cached.{Cached}
+use Rattle.mar_node.specs.Cache.{is_below}
+use Rattle.mar_cache.specs.Bounds.{Bounds, LeavesBounds}
+use Rattle.mar_cache.specs.Tomes.{ChangesTome, KeepsOtherTomes, LeavesTome, OpensTome, Tome, Tomes, held_in, is_known, is_opened, may_in, opened, sure_in}
+use Rattle.mar_cache.specs.declared.change.Change.{Change}
+use Rattle.mar_cache.specs.declared.change.Change.TheVariants.{Finish}
+use Rattle.mar_cache.specs.declared.section.Section.{Section}
+use Rattle.mar_cache.specs.declared.started.Started.{Started}
+use Rattle.mar_cache.specs.declared.started.Started.TheVariants.{Ready, Ticket}
+use Rattle.mar_cache.specs.declared.started.CacheTicket.{CacheTicket}
+use Rattle.mar_cache.specs.declared.started.SectionSync.{SectionSync}
+use Rattle.mar_cache.specs.Sections.{is_in}
+
+-- What a shelf has of each epoch, its lowest and highest epoch, what a crash can leave of those two, and what it tells of
+-- its failures.
+pub record Shelved : Type 0 where
+  pub tomes : Tomes
+  pub bounds : Bounds
+  pub bounds_left : List Bounds
+  pub watch : Watch
+
+-- What is left of a shelf: the ways in which epochs may be left, what may be left of the bounds, and what it tells of its
+-- failures.
+pub record Fallen : Type 0 where
+  pub ways : List Tomes
+  pub bounds_left : List Bounds
+  pub watch : Watch
+
+-- what an alarm tells; other calls than armed ones fail unless the stores below are calm
+abbrev pub shelf_watch : Alarm → Bool → Watch
+shelf_watch alarm calm = record { faults = alarm.faults; due = alarm.due.items; armable = true; only_armed = calm; keeps = None }
+
+-- what is put in one epoch
+abbrev pub at_epoch : ℕ → List Cached → ℕ → List Cached
+at_epoch e put k = if k == e then put else []
+
+-- What is left of each epoch, since some start.
+abbrev pub LeavesTomes : (ℕ → List Cached) → (ℕ → Cached → Bool) → Tomes → Tomes → Type 0
+LeavesTomes put gone old left = (k : ℕ) → LeavesTome (put k) (gone k) (old k) (left k)
+
+abbrev pub nothing_gone : ℕ → Cached → Bool
+nothing_gone k x = false
+
+-- A call that failed: what is left of each epoch, and of the bounds.
+pub record LosesShelf (put : ℕ → List Cached) (gone : ℕ → Cached → Bool) (more : List Bounds) (old : Shelved) (left : Fallen) : Type 0 where
+  pub tomes : AllByRecursion (LeavesTomes put gone old.tomes) left.ways
+  pub bounds : LeavesBounds old.bounds_left more left.bounds_left
+
+-- What there is of an epoch after calls that went well: what was sure is sure, what was held is held, and nothing else may
+-- be left but what might be and what was put.
+pub record GrowsTome (put : List Cached) (gone : Cached → Bool) (old new : Tome) : Type 0 where
+  pub sure : (x : Cached) → Contains (sure_in old) x → gone x ≡ false → Contains (sure_in new) x
+  pub held : (x : Cached) → Contains (held_in old) x → gone x ≡ false → Contains (held_in new) x
+  pub may : IsTrue (is_known old) → (x : Cached) → Contains (may_in new) x → Contains (may_in old) x ⊎ Contains put x
+  pub known : IsTrue (is_known old) → IsTrue (is_known new)
+
+-- the bounds with an epoch: the highest rises to it
+abbrev pub raised : ℕ → Bounds → Bounds
+raised e b = record b { highest = max b.highest e }
+
+-- Where an epoch is above the highest, that rises to it, and is durable.
+pub record RaisesBounds (e : ℕ) (old new : Shelved) : Type 0 where
+  pub bounds : new.bounds ≡ raised e old.bounds
+  pub left : new.bounds_left ≡ (if nat_le e old.bounds.highest then old.bounds_left else raised e old.bounds ∷ [])
+
+abbrev pub GrowsTomes : (ℕ → List Cached) → (ℕ → Cached → Bool) → Tomes → Tomes → Type 0
+GrowsTomes put gone old new = (k : ℕ) → GrowsTome (put k) (gone k) (old k) (new k)
+
+-- changes of an epoch, one after another
+abbrev pub AllChanges : {E : Type 0} → (E → Cached) → List (Change E) → Tome → Tome → Type 0
+AllChanges plain [] old new = new ≡ old
+AllChanges plain (change ∷ changes) old new = (mid : Tome) × ChangesTome plain change old mid × AllChanges plain changes mid new
+
+-- An epoch is opened where it isn't open, and changed.
+pub record DoesAt {E : Type 0} (plain : E → Cached) (e : ℕ) (changes : List (Change E)) (old new : Tomes) : Type 0 where
+  pub mid : Tome
+  pub opens : OpensTome (old e) mid
+  pub done : AllChanges plain changes mid (new e)
+  pub others : KeepsOtherTomes e old new
+
+-- What a start of a sync answers: a ticket that covers all that the archive holds, where the epoch is open.
+abbrev pub IsStarted : Tome → ℕ → Section → Started → Type 0
+IsStarted (opened b) e s (Ticket t) = (t.epoch ≡ e) × (t.first.section ≡ s) × (t.first.number ≤ b.number) × (b.covers s t.first.number ≡ filter (is_in s) b.kept.held) × (t.second ≡ None)
+IsStarted (opened b) e s Ready = ⊥
+IsStarted _ e s (Ticket t) = ⊥
+IsStarted _ e s Ready = ⊤
+
+-- the changes that finish what a ticket names
+abbrev pub finishes_second : {E : Type 0} → Option SectionSync → List (Change E)
+finishes_second None = []
+finishes_second (Some part) = Finish part.section part.number ∷ []
+
+abbrev pub finishes : {E : Type 0} → CacheTicket → List (Change E)
+finishes t = Finish t.first.section t.first.number ∷ finishes_second t.second
+
+-- An epoch is opened, or it stays as it is.
+abbrev pub OpensOrStays : Tome → Tome → Type 0
+OpensOrStays old new = (new ≡ old) ⊎ OpensTome old new
+
+-- What tickets cover stays, unless a prune covers it.
+abbrev pub KeepsTickets : (Cached → Bool) → Tome → Tome → Type 0
+KeepsTickets test (opened b) (opened c) = (b.number ≤ c.number) × ((s : Section) (t : ℕ) → t ≤ b.number → t < last_number → (x : Cached) → Contains (b.covers s t) x → test x ≡ false → Contains (c.covers s t) x)
+KeepsTickets test (opened b) _ = ⊥
+KeepsTickets test _ new = ⊤
+
+-- An epoch in which what passes the test may be gone, and nothing else.
+pub record ThinsTome (test : Cached → Bool) (old new : Tome) : Type 0 where
+  pub grows : GrowsTome [] test old new
+  pub within : Within (held_in new) (held_in old)
+  pub opened : is_opened new ≡ is_opened old
+  pub tickets : KeepsTickets test old new
+
+-- nothing is held that passes the test
+abbrev pub IsClear : (Cached → Bool) → Tome → Type 0
+IsClear test t = (x : Cached) → Contains (held_in t) x → test x ≡ false
+
+-- what a prune by view below a round takes: older epochs, and what is below the view in its own
+abbrev pub is_pruned_by : Round → ℕ → Cached → Bool
+is_pruned_by r k x = nat_lt k r.epoch || (k == r.epoch && is_below r x)
+
+-- the bounds after a prune by view: the lowest epoch is at least the round's, and the highest too
+abbrev pub pruned_bounds : Round → Bounds → Bounds
+pruned_bounds r b = if nat_le r.epoch b.lowest then b else record { lowest = r.epoch; highest = max b.highest r.epoch }

@@ -1,0 +1,175 @@
+-- What a shelf has of each epoch, and what its calls make of that.
+use Rattle.std.specs.Ordering.{nat_cmp}
+use Rattle.std.specs.BTreeMap.{BTreeMap, get}
+use Rattle.std.specs.Prelude.{Bool, Contains, IsTrue, List, None, Option, Some, [], false, filter, if◌then◌else◌, nat_le, true, ℕ, ⊤, ◌<◌, ◌==◌, ◌≡◌, ◌≢◌, ◌≤◌, ◌⊎◌}
+use Rattle.mar_store.specs.Kept.{Kept}
+use Rattle.mar_store.specs.Changes.{Left, left_of}
+use Rattle.mar_store.specs.Names.{Names}
+use Rattle.mar_node.specs.Cached.{Cached}
+use Rattle.mar_cache.specs.Sections.{first_found, is_in}
+use Rattle.mar_cache.specs.Volumes.{Book, ChangesVolume, FindsVolume, IsNestedVolume, nothing_left}
+use Rattle.mar_cache.specs.declared.section.Section.{Section}
+use Rattle.mar_cache.specs.declared.change.Change.{Change}
+use Rattle.mar_cache.specs.declared.slot.Slot.{Slot}
+use Rattle.mar_cache.specs.declared.slot.Slot.TheVariants.{Away, Leftover, Standing}
+
+-- An epoch is open, or something is left of it. Of one that a depot has it isn't known what, where that doesn't tell.
+pub data Tome : Type 0 where
+  opened : Book → Tome
+  shut : Left Cached → Tome
+  unknown : Tome
+
+-- what a shelf has of each epoch
+abbrev pub Tomes : Type 0
+Tomes = ℕ → Tome
+
+-- what a crash leaves of it
+abbrev pub left_of_tome : Tome → Tome
+left_of_tome (opened b) = shut (left_of b.kept)
+left_of_tome (shut l) = shut l
+left_of_tome unknown = unknown
+
+abbrev pub is_opened : Tome → Bool
+is_opened (opened b) = true
+is_opened _ = false
+
+-- what is sure is held, and what is held may be left
+abbrev pub IsNestedTome : Tome → Type 0
+IsNestedTome (opened b) = IsNestedVolume b.kept
+IsNestedTome _ = ⊤
+
+-- what is held, what is sure and what may be left of an epoch
+abbrev pub held_in : Tome → List Cached
+held_in (opened b) = b.kept.held
+held_in _ = []
+
+abbrev pub sure_in : Tome → List Cached
+sure_in (opened b) = b.kept.sure
+sure_in (shut l) = l.sure
+sure_in unknown = []
+
+abbrev pub may_in : Tome → List Cached
+may_in (opened b) = b.kept.may
+may_in (shut l) = l.may
+may_in unknown = []
+
+abbrev pub is_known : Tome → Bool
+is_known unknown = false
+is_known _ = true
+
+-- each epoch but one is as it was
+abbrev pub KeepsOtherTomes : ℕ → Tomes → Tomes → Type 0
+KeepsOtherTomes e old new = (k : ℕ) → k ≢ e → new k ≡ old k
+
+-- each epoch but one is as a crash leaves it
+abbrev pub LeavesOtherTomes : ℕ → Tomes → Tomes → Type 0
+LeavesOtherTomes e old left = (k : ℕ) → k ≢ e → left k ≡ left_of_tome (old k)
+
+-- An epoch is opened on what may be left of it; one that is open stays as it is.
+abbrev pub OpensTome : Tome → Tome → Type 0
+OpensTome (opened b) new = new ≡ opened b
+OpensTome (shut l) new = (b : Book) × FindsVolume l b.kept × (new ≡ opened b)
+OpensTome unknown new = (b : Book) × (new ≡ opened b)
+
+-- What may be left of an epoch, since some start: what was sure is sure, what was held may be left, and nothing else but
+-- what might be and what was put.
+pub record LeavesTome (put : List Cached) (gone : Cached → Bool) (old left : Tome) : Type 0 where
+  pub sure : (x : Cached) → Contains (sure_in old) x → gone x ≡ false → Contains (sure_in left) x
+  pub held : (x : Cached) → Contains (held_in old) x → gone x ≡ false → Contains (may_in left) x
+  pub may : IsTrue (is_known old) → (x : Cached) → Contains (may_in left) x → Contains (may_in old) x ⊎ Contains put x
+
+-- what passes no test
+abbrev pub none_gone : Cached → Bool
+none_gone x = false
+
+-- What is left where a call failed that opens an epoch or changes it, of which there was this before.
+pub record LosesTome (e : ℕ) (was : Tome) (put : List Cached) (gone : Cached → Bool) (old left : Tomes) : Type 0 where
+  pub here : LeavesTome put gone was (left e)
+  pub others : LeavesOtherTomes e old left
+
+-- A change of an epoch that is open; of another nothing changes.
+abbrev pub ChangesTome : {E : Type 0} → (E → Cached) → Change E → Tome → Tome → Type 0
+ChangesTome plain change (opened b) new = (c : Book) × ChangesVolume plain change b c × (new ≡ opened c)
+ChangesTome plain change old new = new ≡ old
+
+abbrev pub all_gone : Cached → Bool
+all_gone x = true
+
+-- nothing is open or left of it, as far as is known
+abbrev pub IsBare : Tome → Type 0
+IsBare (opened b) = ⊥
+IsBare (shut l) = l ≡ nothing_left
+IsBare unknown = ⊤
+
+-- something is open or left of it
+abbrev pub HasSome : Tome → Type 0
+HasSome (opened b) = ⊤
+HasSome (shut l) = l ≢ nothing_left
+HasSome unknown = ⊥
+
+-- the number of a sync that starts now, where the epoch is open: its ticket covers all that an archive holds
+abbrev pub IsTicket : Tome → Option ℕ → Type 0
+IsTicket (opened b) (Some n) = (n ≤ b.number) × ((s : Section) → b.covers s n ≡ filter (is_in s) b.kept.held)
+IsTicket (opened b) None = ⊥
+IsTicket _ (Some n) = ⊥
+IsTicket _ None = ⊤
+
+-- what is found in the newest epoch that has what passes
+abbrev pub IsNewest : (Cached → Bool) → Tomes → Option Cached → Type 0
+IsNewest passes tomes None = (k : ℕ) → first_found passes (held_in (tomes k)) ≡ None
+IsNewest passes tomes (Some x) = (e : ℕ) × (first_found passes (held_in (tomes e)) ≡ Some x) × ((k : ℕ) → e < k → first_found passes (held_in (tomes k)) ≡ None)
+
+abbrev pub SameTomes : Tomes → Tomes → Type 0
+SameTomes old new = (k : ℕ) → new k ≡ old k
+
+-- it is what may be left, in one of the ways in which that may be
+abbrev pub MightBe : List Tomes → Tomes → Type 0
+MightBe lefts tomes = (left : Tomes) × Contains lefts left × SameTomes left tomes
+
+-- an epoch, where it has what is looked for and is newer than another, else that
+abbrev pub newer_of : ℕ → Bool → Option ℕ → Option ℕ
+newer_of e false other = other
+newer_of e true None = Some e
+newer_of e true (Some other) = if nat_le e other then Some other else Some e
+
+-- IN THE CODE
+
+-- what a slot has of an epoch; it is open where the opening that goes on opened it
+abbrev pub tome_of_slot : {A W : Type 0} → (A → Book) → (W → Left Cached) → ℕ → Slot A W → Tome
+tome_of_slot book left opening (Standing v o) = if o == opening then opened (book v) else shut (left_of (book v).kept)
+tome_of_slot book left opening (Leftover w) = shut (left w)
+tome_of_slot book left opening Away = unknown
+
+-- what a depot has under a name
+abbrev pub tome_under : {W : Type 0} → Bool → (W → Left Cached) → Option W → Tome
+tome_under false left o = unknown
+tome_under true left None = shut nothing_left
+tome_under true left (Some w) = shut (left w)
+
+abbrev pub tome_at : {A W : Type 0} → (A → Book) → (W → Left Cached) → ℕ → Bool → Option (Slot A W) → Option W → Tome
+tome_at book left opening told (Some slot) name = tome_of_slot book left opening slot
+tome_at book left opening told None name = tome_under told left name
+
+abbrev pub tomes_of : {A W : Type 0} → (A → Book) → (W → Left Cached) → ℕ → Bool → BTreeMap ℕ (Slot A W) → Names W → Tomes
+tomes_of book left opening told slots names k = tome_at book left opening told (get nat_cmp slots k) (names k)
+
+-- no slot is of a later opening
+abbrev pub is_upto : {A W : Type 0} → ℕ → Option (Slot A W) → Bool
+is_upto opening (Some (Standing v o)) = nat_le o opening
+is_upto opening _ = true
+
+-- as each volume's are nested
+pub nested_tomes : {A W : Type 0} (book : A → Book) (left : W → Left Cached) (opening : ℕ) (told : Bool) (slots : BTreeMap ℕ (Slot A W)) (names : Names W) → ((v : A) → IsNestedVolume (book v).kept) → (k : ℕ) → IsNestedTome (tomes_of book left opening told slots names k)
+nested_tomes {A} {W} book left opening told slots names nested k = at_slot (get nat_cmp slots k) told (names k)
+  where
+    by : (v : A) (b : Bool) → IsNestedTome (if b then opened (book v) else shut (left_of (book v).kept))
+    by v true = nested v
+    by v false = tt
+
+    at_slot : (slot : Option (Slot A W)) (told : Bool) (name : Option W) → IsNestedTome (tome_at book left opening told slot name)
+    at_slot (Some (Standing v o)) told' name = by v (o == opening)
+    at_slot (Some (Leftover w)) told' name = tt
+    at_slot (Some Away) told' name = tt
+    at_slot None true None = tt
+    at_slot None true (Some w) = tt
+    at_slot None false name = tt

@@ -1,0 +1,152 @@
+//! Entries in the order of their puts.
+ghost use Rattle.std.specs.Prelude.{◌≡◌, ◌==◌, ◌||◌, ◌+◌, ◌<◌, filter, if◌then◌else◌, map, nat_lt, not, option_map};
+ghost use Rattle.std.specs.Option.{option_copied};
+ghost use Rattle.std.specs.List.{list_any};
+ghost use Rattle.mar_store.specs.Tickets.{last_number};
+ghost use Rattle.mar_node.specs.Cached.{same_place};
+ghost use Rattle.mar_node.specs.Cache.{is_below, is_certified_below};
+ghost use Rattle.mar_cache.specs.Sections.{earlier_of, first_found};
+ghost use Rattle.mar_cache.specs.Filings.{count_next, drawn, drawn_in_all, entries, filing_of, filings_of, with_draw, with_mark};
+
+use crate::leaf::{Leaf, stands_before};
+use crate::section::Section;
+use mar_store::is_lucky;
+use mar_types::{Height, Round};
+
+/// An entry, with the number of its put, and whether every crash leaves it.
+#[derive(Drop)]
+pub struct Filed<E> {
+    pub number: u64,
+    pub is_sure: bool,
+    pub leaf: E,
+}
+
+/// Whether an entry of this one's place is there.
+pub fn holds<E: Leaf>(items: &[Filed<E>], leaf: &E) -> bool
+    ensures { result ≡ list_any (same_place (E.plain leaf.now)) (entries (filings_of E.plain items.now)) }
+{
+    items.iter().any(|filed| leaf.shares_place(&filed.leaf))
+}
+
+/// The entry that is looked for.
+pub fn find<'a, E: Leaf>(items: &'a [Filed<E>], wanted: &E::Wanted) -> Option<&'a E>
+    ensures { option_map E.plain (option_copied result) ≡ first_found (E.wants wanted.now) (entries (filings_of E.plain items.now)) }
+{
+    let mut found = None;
+    let mut place = items.len();
+    while place > 0 {
+        place -= 1;
+        found = first_of(wanted, &items[place].leaf, found);
+    }
+    found
+}
+
+// Of an entry and the one found behind it, the one that is found.
+fn first_of<'a, E: Leaf>(wanted: &E::Wanted, leaf: &'a E, later: Option<&'a E>) -> Option<&'a E>
+    ensures { option_map E.plain (option_copied result) ≡ (if E.wants wanted.now (E.plain leaf.now)
+        then earlier_of (E.plain leaf.now) (option_map E.plain (option_copied later.entry)) else option_map E.plain (option_copied later.entry)) }
+{
+    if !leaf.is_wanted(wanted) {
+        return later;
+    }
+    match later {
+        Some(other) if stands_before(other, leaf) => Some(other),
+        _ => Some(leaf),
+    }
+}
+
+/// Makes sure what the ticket of a number covers in an archive.
+pub fn mark<E: Leaf>(items: &mut Vec<Filed<E>>, section: Section, number: u64)
+    ensures { filings_of E.plain items.new.items ≡ map (with_mark section number) (filings_of E.plain items.old.items) }
+{
+    mark_each(items.as_mut_slice(), section, number);
+}
+
+// The same of a slice.
+fn mark_each<E: Leaf>(items: &mut [Filed<E>], section: Section, number: u64)
+    ensures { filings_of E.plain items.new ≡ map (with_mark section number) (filings_of E.plain items.old) }
+{
+    for filed in items.iter_mut() {
+        mark_one(filed, section, number);
+    }
+}
+
+// Makes an entry sure where the ticket covers it.
+fn mark_one<E: Leaf>(filed: &mut Filed<E>, section: Section, number: u64)
+    ensures { filing_of E.plain filed.new ≡ with_mark section number (filing_of E.plain filed.old) }
+{
+    let is_there = filed.leaf.section().rank() == section.rank();
+    filed.is_sure = filed.is_sure || (is_there && covers(number, filed.number));
+}
+
+// Whether the ticket of a number covers the put of another.
+const fn covers(ticket: u64, number: u64) -> bool
+    ensures { result ≡ (nat_lt number ticket || ticket == last_number) }
+{
+    number < ticket || ticket == u64::MAX
+}
+
+/// Takes out the entries by view that are below a round.
+pub fn take_below<E: Leaf>(items: &mut Vec<Filed<E>>, round: Round)
+    ensures { filings_of E.plain items.new.items ≡ filter (λ f. not (is_below round f.entry)) (filings_of E.plain items.old.items) }
+{
+    items.retain(|filed| !filed.leaf.is_below(round));
+}
+
+/// Takes out the certified blocks that are below a height.
+pub fn take_certified<E: Leaf>(items: &mut Vec<Filed<E>>, height: Height)
+    ensures { filings_of E.plain items.new.items ≡ filter (λ f. not (is_certified_below height f.entry)) (filings_of E.plain items.old.items) }
+{
+    items.retain(|filed| !filed.leaf.is_certified_below(height));
+}
+
+/// Takes out the entries that aren't sure, but for those that the bits of `half` keep, and makes those sure.
+pub fn settle<E: Leaf>(items: &mut Vec<Filed<E>>, half: u64)
+    ensures { filings_of E.plain items.new.items ≡ filter (λ f. f.is_sure) (drawn_in_all half (filings_of E.plain items.old.items)) }
+{
+    draw_in_all(items, half);
+    items.retain(|filed| filed.is_sure);
+}
+
+// Makes sure what the bits of `half` keep, in each archive.
+fn draw_in_all<E: Leaf>(items: &mut Vec<Filed<E>>, half: u64)
+    ensures { filings_of E.plain items.new.items ≡ drawn_in_all half (filings_of E.plain items.old.items) }
+{
+    draw_in_each(items.as_mut_slice(), half);
+}
+
+// The same of a slice.
+fn draw_in_each<E: Leaf>(items: &mut [Filed<E>], half: u64)
+    ensures { filings_of E.plain items.new ≡ drawn_in_all half (filings_of E.plain items.old) }
+{
+    draw(items, Section::Verified, half);
+    draw(items, Section::Notarized, half);
+    draw(items, Section::Certified, half);
+    draw(items, Section::Notarizations, half);
+    draw(items, Section::Finalizations, half);
+}
+
+// Makes sure what the bits of `half` keep, in one archive. Its entries that aren't sure are numbered from 0 to 31, and then
+// again from 0 on.
+fn draw<E: Leaf>(items: &mut [Filed<E>], section: Section, half: u64)
+    ensures { filings_of E.plain items.new ≡ drawn section half 0 (filings_of E.plain items.old) }
+{
+    let mut bit = 0;
+    for filed in items.iter_mut() {
+        bit = draw_one(filed, section, half, bit);
+    }
+}
+
+// Makes an entry of that archive sure where its bit is set; answers the bit of the next.
+fn draw_one<E: Leaf>(filed: &mut Filed<E>, section: Section, half: u64, bit: usize) -> usize
+    requires { bit < 32 }
+    ensures drawn { filing_of E.plain filed.new ≡ with_draw section half bit (filing_of E.plain filed.old) }
+    ensures next { result ≡ count_next section bit (filing_of E.plain filed.old) }
+    ensures small { result < 32 }
+{
+    if filed.is_sure || filed.leaf.section().rank() != section.rank() {
+        return bit;
+    }
+    filed.is_sure = is_lucky(half, bit);
+    (bit + 1) % 32
+}

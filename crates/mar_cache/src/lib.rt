@@ -1,0 +1,31 @@
+//! The cache of what consensus and peers report before it is final.
+#![tactic(auto)]
+
+mod bounds;
+mod change;
+mod depot_stacks;
+mod entry;
+mod filed;
+mod leaf;
+mod losses;
+mod manager;
+mod mem_volume;
+mod section;
+mod shelf;
+mod slot;
+mod slots;
+mod stacks;
+mod started;
+mod volume;
+
+pub use change::Change;
+pub use depot_stacks::{DepotStacks, DepotStacksWreck};
+pub use entry::{CacheEntry, Entry, KeptEntry, Sought};
+pub use leaf::Leaf;
+pub use manager::{Manager, ManagerWreck};
+pub use mem_volume::{MemVolume, MemVolumeWreck};
+pub use section::Section;
+pub use shelf::{Shelf, ShelfRuin};
+pub use stacks::{Stacks, StacksRuin};
+pub use started::{CacheTicket, SectionSync, Started};
+pub use volume::{Volume, VolumeDepot, VolumeRuin};

@@ -1,0 +1,393 @@
+//! The cache of what consensus and peers report before it is final.
+ghost use Rattle.std.specs.Prelude.{◌≡◌, ◌<◌, ◌≤◌, ◌++◌, ◌∷◌, ◌&&◌, ℕ, [], Contains, IfErr, IfOk, List, OnOk, option_map, true, false, map};
+ghost use Rattle.std.specs.List.{AllByRecursion};
+ghost use Rattle.mar_store.specs.Changes.{Within};
+ghost use Rattle.mar_store.specs.Lost.{wreck_of};
+ghost use Rattle.mar_store.specs.Watch.{Heeds, HeedsRead, Watch, armed};
+ghost use Rattle.mar_node.specs.Cached.{certified_entry, epoch_of, finalization_entry, notarization_entry, notarized_entry, verified_entry};
+ghost use Rattle.mar_node.specs.Cache.{is_certified_below};
+ghost use Rattle.mar_cache.specs.Bounds.{Bounds, bounds_of};
+ghost use Rattle.mar_cache.specs.Calls.{IsPut, IsPutAndSynced, PutBounds, PutLeaves, Raises};
+ghost use Rattle.mar_cache.specs.Entries.{cached_of, is_sought};
+ghost use Rattle.mar_cache.specs.Sections.{first_found, section_of};
+ghost use Rattle.mar_cache.specs.Shelved.{AllChanges, IsClear, IsStarted, LeavesTomes, OpensOrStays, ThinsTome, at_epoch, finishes};
+ghost use Rattle.mar_cache.specs.Shelved.{is_pruned_by, nothing_gone, pruned_bounds, shelf_watch};
+ghost use Rattle.mar_cache.specs.Tomes.{ChangesTome, HasSome, IsBare, IsNewest, KeepsOtherTomes, LeavesTome, MightBe, Tomes};
+ghost use Rattle.mar_cache.specs.Tomes.{held_in, is_opened, left_of_tome};
+
+use crate::change::Change;
+use crate::entry::{Entry, KeptEntry, Sought};
+use crate::manager::{Manager, ManagerWreck};
+use crate::section::Section;
+use crate::stacks::{Stacks, StacksRuin};
+use crate::started::{CacheTicket, Started};
+use mar_block::Variant;
+use mar_cert::{AsFinalization, CommitsTo};
+use mar_store::{Lost, Meta, MetaRuin, Miss};
+use mar_types::{Epoch, Height, Round};
+use std::alloc::AllocError;
+
+/// What is left of a shelf.
+pub trait ShelfRuin: Drop {
+    // The ways in which its epochs may be left.
+    ghost ways: { Self → List Tomes };
+
+    // What may be left of its lowest and highest epoch.
+    ghost bounds: { Self → List Bounds };
+
+    /// What it tells of its failures.
+    ghost watch: { Self → Watch };
+}
+
+/// A cache by epochs.
+pub trait Shelf<V: Variant, N: AsFinalization, F: CommitsTo<V::Commitment>>: Drop {
+    type Wreck: ShelfRuin;
+
+    // What there is of each epoch.
+    ghost tomes: { Self → Tomes };
+
+    // The lowest and the highest epoch, and what a crash may leave of the two.
+    ghost bounds: { Self → Bounds };
+
+    ghost left: { Self → List Bounds };
+
+    /// What it tells of its failures.
+    ghost watch: { Self → Watch };
+
+    /// Keeps a block that was verified in a round, and starts a sync. Nothing is done where the epoch is below the lowest.
+    fn put_verified(
+        self,
+        round: Round,
+        block: V::Block,
+    ) -> Result<(Self, Started), Lost<Self::Wreck>>
+    where
+        Self: Sized,
+        ensures ready { epoch_of (verified_entry round (V.plain block)) < (bounds self).lowest
+            → IfOk result (λ r. (r.1 ≡ Started.Ready) × (tomes r.0 ≡ tomes self) × (bounds r.0 ≡ bounds self)
+            × (left r.0 ≡ left self)) }
+        ensures done { (bounds self).lowest ≤ epoch_of (verified_entry round (V.plain block))
+            → IfOk result (λ r. IsPut (verified_entry round (V.plain block)) (tomes self) (tomes r.0)
+            × IsStarted (tomes r.0 (epoch_of (verified_entry round (V.plain block)))) (epoch_of (verified_entry round (V.plain block))) (section_of (verified_entry round (V.plain block))) r.1) }
+        ensures raises { (bounds self).lowest ≤ epoch_of (verified_entry round (V.plain block))
+            → IfOk result (λ r. Raises (epoch_of (verified_entry round (V.plain block))) (bounds self) (left self) (bounds r.0) (left r.0)) }
+        ensures ways { IfErr result (λ l. PutLeaves (verified_entry round (V.plain block)) (tomes self) (Self.Wreck.ways (wreck_of l))) }
+        ensures bounds { IfErr result (λ l. PutBounds (verified_entry round (V.plain block)) (bounds self) (left self) (Self.Wreck.bounds (wreck_of l))) }
+        ensures watched { Heeds (λ r. watch r.0) Self.Wreck.watch (watch self) result };
+
+    /// Keeps a block that was notarized in a round, and starts a sync. Nothing is done where the epoch is below the lowest.
+    fn put_notarized(
+        self,
+        round: Round,
+        block: V::Block,
+    ) -> Result<(Self, Started), Lost<Self::Wreck>>
+    where
+        Self: Sized,
+        ensures ready { epoch_of (notarized_entry round (V.plain block)) < (bounds self).lowest
+            → IfOk result (λ r. (r.1 ≡ Started.Ready) × (tomes r.0 ≡ tomes self) × (bounds r.0 ≡ bounds self)
+            × (left r.0 ≡ left self)) }
+        ensures done { (bounds self).lowest ≤ epoch_of (notarized_entry round (V.plain block))
+            → IfOk result (λ r. IsPut (notarized_entry round (V.plain block)) (tomes self) (tomes r.0)
+            × IsStarted (tomes r.0 (epoch_of (notarized_entry round (V.plain block)))) (epoch_of (notarized_entry round (V.plain block))) (section_of (notarized_entry round (V.plain block))) r.1) }
+        ensures raises { (bounds self).lowest ≤ epoch_of (notarized_entry round (V.plain block))
+            → IfOk result (λ r. Raises (epoch_of (notarized_entry round (V.plain block))) (bounds self) (left self) (bounds r.0) (left r.0)) }
+        ensures ways { IfErr result (λ l. PutLeaves (notarized_entry round (V.plain block)) (tomes self) (Self.Wreck.ways (wreck_of l))) }
+        ensures bounds { IfErr result (λ l. PutBounds (notarized_entry round (V.plain block)) (bounds self) (left self) (Self.Wreck.bounds (wreck_of l))) }
+        ensures watched { Heeds (λ r. watch r.0) Self.Wreck.watch (watch self) result };
+
+    /// Keeps a notarization, and starts a sync. Nothing is done where the epoch is below the lowest.
+    fn put_notarization(self, notarization: N) -> Result<(Self, Started), Lost<Self::Wreck>>
+    where
+        Self: Sized,
+        ensures ready { epoch_of (notarization_entry (N.plain notarization)) < (bounds self).lowest
+            → IfOk result (λ r. (r.1 ≡ Started.Ready) × (tomes r.0 ≡ tomes self) × (bounds r.0 ≡ bounds self)
+            × (left r.0 ≡ left self)) }
+        ensures done { (bounds self).lowest ≤ epoch_of (notarization_entry (N.plain notarization))
+            → IfOk result (λ r. IsPut (notarization_entry (N.plain notarization)) (tomes self) (tomes r.0)
+            × IsStarted (tomes r.0 (epoch_of (notarization_entry (N.plain notarization)))) (epoch_of (notarization_entry (N.plain notarization))) (section_of (notarization_entry (N.plain notarization))) r.1) }
+        ensures raises { (bounds self).lowest ≤ epoch_of (notarization_entry (N.plain notarization))
+            → IfOk result (λ r. Raises (epoch_of (notarization_entry (N.plain notarization))) (bounds self) (left self) (bounds r.0) (left r.0)) }
+        ensures ways { IfErr result (λ l. PutLeaves (notarization_entry (N.plain notarization)) (tomes self) (Self.Wreck.ways (wreck_of l))) }
+        ensures bounds { IfErr result (λ l. PutBounds (notarization_entry (N.plain notarization)) (bounds self) (left self) (Self.Wreck.bounds (wreck_of l))) }
+        ensures watched { Heeds (λ r. watch r.0) Self.Wreck.watch (watch self) result };
+
+    /// Keeps a certified block of an epoch, and makes it sure. Nothing is done where the epoch is below the lowest.
+    fn put_certified(self, epoch: Epoch, block: V::Block) -> Result<Self, Lost<Self::Wreck>>
+    where
+        Self: Sized,
+        ensures ready { epoch_of (certified_entry epoch (V.plain block)) < (bounds self).lowest
+            → IfOk result (λ s. (tomes s ≡ tomes self) × (bounds s ≡ bounds self)
+            × (left s ≡ left self)) }
+        ensures done { (bounds self).lowest ≤ epoch_of (certified_entry epoch (V.plain block))
+            → IfOk result (λ s. IsPutAndSynced (certified_entry epoch (V.plain block)) (tomes self) (tomes s)) }
+        ensures raises { (bounds self).lowest ≤ epoch_of (certified_entry epoch (V.plain block))
+            → IfOk result (λ s. Raises (epoch_of (certified_entry epoch (V.plain block))) (bounds self) (left self) (bounds s) (left s)) }
+        ensures ways { IfErr result (λ l. PutLeaves (certified_entry epoch (V.plain block)) (tomes self) (Self.Wreck.ways (wreck_of l))) }
+        ensures bounds { IfErr result (λ l. PutBounds (certified_entry epoch (V.plain block)) (bounds self) (left self) (Self.Wreck.bounds (wreck_of l))) }
+        ensures watched { Heeds (λ s. watch s) Self.Wreck.watch (watch self) result };
+
+    /// Keeps a finalization, and makes it sure. Nothing is done where the epoch is below the lowest.
+    fn put_finalization(self, finalization: F) -> Result<Self, Lost<Self::Wreck>>
+    where
+        Self: Sized,
+        ensures ready { epoch_of (finalization_entry (F.plain finalization)) < (bounds self).lowest
+            → IfOk result (λ s. (tomes s ≡ tomes self) × (bounds s ≡ bounds self)
+            × (left s ≡ left self)) }
+        ensures done { (bounds self).lowest ≤ epoch_of (finalization_entry (F.plain finalization))
+            → IfOk result (λ s. IsPutAndSynced (finalization_entry (F.plain finalization)) (tomes self) (tomes s)) }
+        ensures raises { (bounds self).lowest ≤ epoch_of (finalization_entry (F.plain finalization))
+            → IfOk result (λ s. Raises (epoch_of (finalization_entry (F.plain finalization))) (bounds self) (left self) (bounds s) (left s)) }
+        ensures ways { IfErr result (λ l. PutLeaves (finalization_entry (F.plain finalization)) (tomes self) (Self.Wreck.ways (wreck_of l))) }
+        ensures bounds { IfErr result (λ l. PutBounds (finalization_entry (F.plain finalization)) (bounds self) (left self) (Self.Wreck.bounds (wreck_of l))) }
+        ensures watched { Heeds (λ s. watch s) Self.Wreck.watch (watch self) result };
+
+    /// Starts a sync of the verified blocks of an epoch, where that is open.
+    fn start_sync_verified(self, epoch: Epoch) -> Result<(Self, Started), Lost<Self::Wreck>>
+    where
+        Self: Sized,
+        ensures same { IfOk result (λ r. (tomes r.0 ≡ tomes self) × (bounds r.0 ≡ bounds self) × (left r.0 ≡ left self)) }
+        ensures started { IfOk result (λ r. IsStarted (tomes self epoch) epoch Section.Verified r.1) }
+        ensures ways { IfErr result (λ l. AllByRecursion (LeavesTomes (at_epoch epoch []) nothing_gone (tomes self)) (Self.Wreck.ways (wreck_of l))) }
+        ensures bounds { IfErr result (λ l. Self.Wreck.bounds (wreck_of l) ≡ left self) }
+        ensures watched { Heeds (λ r. watch r.0) Self.Wreck.watch (watch self) result };
+
+    /// Starts a sync of the notarizations of an epoch, where that is open.
+    fn start_sync_notarizations(self, epoch: Epoch) -> Result<(Self, Started), Lost<Self::Wreck>>
+    where
+        Self: Sized,
+        ensures same { IfOk result (λ r. (tomes r.0 ≡ tomes self) × (bounds r.0 ≡ bounds self) × (left r.0 ≡ left self)) }
+        ensures started { IfOk result (λ r. IsStarted (tomes self epoch) epoch Section.Notarizations r.1) }
+        ensures ways { IfErr result (λ l. AllByRecursion (LeavesTomes (at_epoch epoch []) nothing_gone (tomes self)) (Self.Wreck.ways (wreck_of l))) }
+        ensures bounds { IfErr result (λ l. Self.Wreck.bounds (wreck_of l) ≡ left self) }
+        ensures watched { Heeds (λ r. watch r.0) Self.Wreck.watch (watch self) result };
+
+    /// What is looked for in an epoch, where that is open: the verified block of a round, the one of a digest there, the
+    /// notarization of a round.
+    fn get(
+        &mut self,
+        epoch: Epoch,
+        sought: Sought<V::Digest, V::Commitment>,
+    ) -> Result<Option<Entry<V::Block, N, F>>, Miss>
+        ensures found { IfOk result (λ o. option_map (cached_of V.plain N.plain F.plain) o ≡ first_found (is_sought V.Digest.bytes V.Commitment.bytes V.inner sought) (held_in (tomes self.old epoch))) }
+        ensures same { (tomes self.new ≡ tomes self.old) × (bounds self.new ≡ bounds self.old) × (left self.new ≡ left self.old) }
+        ensures watched { HeedsRead (watch self.old) (watch self.new) result };
+
+    /// What is looked for, in the newest epoch that has it: a finalization of a block, a block by its digest or commitment.
+    fn search(
+        &mut self,
+        sought: Sought<V::Digest, V::Commitment>,
+    ) -> Result<Option<Entry<V::Block, N, F>>, Miss>
+        ensures found { IfOk result (λ o. IsNewest (is_sought V.Digest.bytes V.Commitment.bytes V.inner sought) (tomes self.old) (option_map (cached_of V.plain N.plain F.plain) o)) }
+        ensures same { (tomes self.new ≡ tomes self.old) × (bounds self.new ≡ bounds self.old) × (left self.new ≡ left self.old) }
+        ensures watched { HeedsRead (watch self.old) (watch self.new) result };
+
+    /// Makes sure what a ticket covers. A ticket of an earlier life is none.
+    fn finish(self, ticket: CacheTicket) -> Result<Self, Lost<Self::Wreck>>
+    where
+        Self: Sized,
+        ensures done { IfOk result (λ s. AllChanges (λ y. y) (finishes ticket) (tomes self ticket.epoch) (tomes s ticket.epoch)
+            × KeepsOtherTomes ticket.epoch (tomes self) (tomes s)) }
+        ensures meta { IfOk result (λ s. (bounds s ≡ bounds self) × (left s ≡ left self)) }
+        ensures ways { IfErr result (λ l. AllByRecursion (LeavesTomes (at_epoch ticket.epoch []) nothing_gone (tomes self)) (Self.Wreck.ways (wreck_of l))) }
+        ensures bounds { IfErr result (λ l. Self.Wreck.bounds (wreck_of l) ≡ left self) }
+        ensures watched { Heeds watch Self.Wreck.watch (watch self) result };
+
+    /// Opens the epochs from the lowest to the highest of which something is left.
+    fn load_persisted_epochs(self) -> Result<Self, Lost<Self::Wreck>>
+    where
+        Self: Sized,
+        ensures done { IfOk result (λ s. (k : ℕ) → OpensOrStays (tomes self k) (tomes s k)) }
+        ensures opened { (k : ℕ) → (bounds self).lowest ≤ k → k ≤ (bounds self).highest → HasSome (tomes self k)
+            → IfOk result (λ s. is_opened (tomes s k) ≡ true) }
+        ensures meta { IfOk result (λ s. (bounds s ≡ bounds self) × (left s ≡ left self)) }
+        ensures ways { IfErr result (λ l. AllByRecursion (LeavesTomes (λ k. []) nothing_gone (tomes self)) (Self.Wreck.ways (wreck_of l))) }
+        ensures bounds { IfErr result (λ l. Self.Wreck.bounds (wreck_of l) ≡ left self) }
+        ensures watched { Heeds watch Self.Wreck.watch (watch self) result };
+
+    /// The certified blocks below a height go.
+    fn prune_by_height(self, height: Height) -> Result<Self, Lost<Self::Wreck>>
+    where
+        Self: Sized,
+        ensures done { IfOk result (λ s. (k : ℕ) → ThinsTome (is_certified_below height) (tomes self k) (tomes s k)) }
+        ensures clear { IfOk result (λ s. (k : ℕ) → IsClear (is_certified_below height) (tomes s k)) }
+        ensures meta { IfOk result (λ s. (bounds s ≡ bounds self) × (left s ≡ left self)) }
+        ensures ways { IfErr result (λ l. AllByRecursion (LeavesTomes (λ k. []) (λ k. is_certified_below height) (tomes self)) (Self.Wreck.ways (wreck_of l))) }
+        ensures bounds { IfErr result (λ l. Self.Wreck.bounds (wreck_of l) ≡ left self) }
+        ensures watched { Heeds watch Self.Wreck.watch (watch self) result };
+
+    /// Older epochs are destroyed; the round's own becomes the lowest, and what stands there below the round goes.
+    fn prune_by_view(self, round: Round) -> Result<Self, Lost<Self::Wreck>>
+    where
+        Self: Sized,
+        ensures own { IfOk result (λ s. ChangesTome (λ y. y) (Change.PruneBelow round) (tomes self round.epoch) (tomes s round.epoch)) }
+        ensures newer { IfOk result (λ s. (k : ℕ) → round.epoch < k → tomes s k ≡ tomes self k) }
+        ensures older { IfOk result (λ s. (k : ℕ) → k < round.epoch → IsBare (tomes s k)) }
+        ensures raises { IfOk result (λ s. bounds s ≡ pruned_bounds round (bounds self)) }
+        ensures ways { IfErr result (λ l. AllByRecursion (λ ways. (k : ℕ) → round.epoch ≤ k
+            → LeavesTome [] (is_pruned_by round k) (tomes self k) (ways k)) (Self.Wreck.ways (wreck_of l))) }
+        ensures bounds { IfErr result (λ l. Within (Self.Wreck.bounds (wreck_of l)) (left self ++ pruned_bounds round (bounds self) ∷ [])) }
+        ensures watched { Heeds watch Self.Wreck.watch (watch self) result };
+
+    /// What a crash now leaves.
+    fn wreck(self) -> Self::Wreck
+    where
+        Self: Sized,
+        ensures ways { AllByRecursion (λ ways. (k : ℕ) → ways k ≡ left_of_tome (tomes self k)) (Self.Wreck.ways result) }
+        ensures bounds { Self.Wreck.bounds result ≡ left self }
+        ensures watch { Self.Wreck.watch result ≡ watch self };
+
+    /// Takes up what a crash left; no epoch is open.
+    fn reopen(wreck: Self::Wreck, luck: u64) -> Result<Self, Lost<Self::Wreck>>
+    where
+        Self: Sized,
+        ensures tomes { IfOk result (λ s. MightBe (Self.Wreck.ways wreck) (tomes s)) }
+        ensures shut { IfOk result (λ s. (k : ℕ) → is_opened (tomes s k) ≡ false) }
+        ensures bounds { IfOk result (λ s. Contains (Self.Wreck.bounds wreck) (bounds s) × (left s ≡ bounds s ∷ [])) }
+        ensures ways { IfErr result (λ l. AllByRecursion (MightBe (Self.Wreck.ways wreck)) (Self.Wreck.ways (wreck_of l))) }
+        ensures left { IfErr result (λ l. Within (Self.Wreck.bounds (wreck_of l)) (Self.Wreck.bounds wreck)) }
+        ensures watched { Heeds watch Self.Wreck.watch (Self.Wreck.watch wreck) result };
+
+    /// Makes a later call fail.
+    fn arm(&mut self, calls: u64) -> Result<(), AllocError>
+        ensures armed { OnOk result (watch self.new ≡ armed calls (watch self.old)) }
+        ensures same { (tomes self.new ≡ tomes self.old) × (bounds self.new ≡ bounds self.old) × (left self.new ≡ left self.old) };
+}
+
+impl<S: Stacks, M: Meta> ShelfRuin for ManagerWreck<S, M> {
+    ghost ways = { λ w. S.Wreck.left w.stacks };
+
+    ghost bounds = { λ w. map bounds_of (M.Wreck.left w.meta) };
+
+    ghost watch = { λ w. shelf_watch w.alarm (S.Wreck.calm w.stacks && (M.Wreck.watch w.meta).only_armed) };
+}
+
+impl<V: Variant, N: AsFinalization, F: CommitsTo<V::Commitment>, S: Stacks, M: Meta> Shelf<V, N, F>
+    for Manager<S, M>
+where
+    S::Leaf: KeptEntry<V, N, F>,
+{
+    type Wreck = ManagerWreck<S, M>;
+
+    ghost tomes = { λ m. S.tomes m.stacks };
+
+    ghost bounds = { λ m. bounds_of (M.current m.meta) };
+
+    ghost left = { λ m. map bounds_of (M.left m.meta) };
+
+    ghost watch = { λ m. shelf_watch m.alarm (S.calm m.stacks && (M.watch m.meta).only_armed) };
+
+    fn put_verified(
+        self,
+        round: Round,
+        block: V::Block,
+    ) -> Result<(Self, Started), Lost<ManagerWreck<S, M>>> {
+        self.put_and_start(S::Leaf::of(Entry::Verified(round, block)))
+    }
+
+    fn put_notarized(
+        self,
+        round: Round,
+        block: V::Block,
+    ) -> Result<(Self, Started), Lost<ManagerWreck<S, M>>> {
+        self.put_and_start(S::Leaf::of(Entry::Notarized(round, block)))
+    }
+
+    fn put_notarization(
+        self,
+        notarization: N,
+    ) -> Result<(Self, Started), Lost<ManagerWreck<S, M>>> {
+        self.put_and_start(S::Leaf::of(Entry::Notarization(notarization)))
+    }
+
+    fn put_certified(
+        self,
+        epoch: Epoch,
+        block: V::Block,
+    ) -> Result<Self, Lost<ManagerWreck<S, M>>> {
+        self.put_and_sync(S::Leaf::of(Entry::Certified(epoch, block)))
+    }
+
+    fn put_finalization(self, finalization: F) -> Result<Self, Lost<ManagerWreck<S, M>>> {
+        self.put_and_sync(S::Leaf::of(Entry::Finalization(finalization)))
+    }
+
+    fn start_sync_verified(
+        self,
+        epoch: Epoch,
+    ) -> Result<(Self, Started), Lost<ManagerWreck<S, M>>> {
+        self.start(epoch.get(), Section::Verified)
+    }
+
+    fn start_sync_notarizations(
+        self,
+        epoch: Epoch,
+    ) -> Result<(Self, Started), Lost<ManagerWreck<S, M>>> {
+        self.start(epoch.get(), Section::Notarizations)
+    }
+
+    fn get(
+        &mut self,
+        epoch: Epoch,
+        sought: Sought<V::Digest, V::Commitment>,
+    ) -> Result<Option<Entry<V::Block, N, F>>, Miss>
+        ensures found { IfOk result (λ o. option_map (cached_of V.plain N.plain F.plain) o
+            ≡ first_found (is_sought V.Digest.bytes V.Commitment.bytes V.inner sought) (held_in (S.tomes self.old.stacks epoch))) }
+        ensures same { (S.tomes self.new.stacks ≡ S.tomes self.old.stacks) × (bounds_of (M.current self.new.meta) ≡ bounds_of (M.current self.old.meta))
+            × (map bounds_of (M.left self.new.meta) ≡ map bounds_of (M.left self.old.meta)) }
+        ensures watched { HeedsRead (shelf_watch self.old.alarm (S.calm self.old.stacks && (M.watch self.old.meta).only_armed))
+            (shelf_watch self.new.alarm (S.calm self.new.stacks && (M.watch self.new.meta).only_armed)) result }
+    {
+        let wanted = S::Leaf::sought(sought);
+        match self.find_in(epoch.get(), &wanted) {
+            Ok(Some(leaf)) => Ok(Some(leaf.into_entry())),
+            Ok(None) => Ok(None),
+            Err(miss) => Err(miss),
+        }
+    }
+
+    fn search(
+        &mut self,
+        sought: Sought<V::Digest, V::Commitment>,
+    ) -> Result<Option<Entry<V::Block, N, F>>, Miss>
+        ensures found { IfOk result (λ o. IsNewest (is_sought V.Digest.bytes V.Commitment.bytes V.inner sought) (S.tomes self.old.stacks)
+            (option_map (cached_of V.plain N.plain F.plain) o)) }
+        ensures same { (S.tomes self.new.stacks ≡ S.tomes self.old.stacks) × (bounds_of (M.current self.new.meta) ≡ bounds_of (M.current self.old.meta))
+            × (map bounds_of (M.left self.new.meta) ≡ map bounds_of (M.left self.old.meta)) }
+        ensures watched { HeedsRead (shelf_watch self.old.alarm (S.calm self.old.stacks && (M.watch self.old.meta).only_armed))
+            (shelf_watch self.new.alarm (S.calm self.new.stacks && (M.watch self.new.meta).only_armed)) result }
+    {
+        let wanted = S::Leaf::sought(sought);
+        match self.find(&wanted) {
+            Ok(Some(leaf)) => Ok(Some(leaf.into_entry())),
+            Ok(None) => Ok(None),
+            Err(miss) => Err(miss),
+        }
+    }
+
+    fn finish(self, ticket: CacheTicket) -> Result<Self, Lost<ManagerWreck<S, M>>> {
+        Manager::finish(self, ticket)
+    }
+
+    fn load_persisted_epochs(self) -> Result<Self, Lost<ManagerWreck<S, M>>> {
+        Manager::load_persisted_epochs(self)
+    }
+
+    fn prune_by_height(self, height: Height) -> Result<Self, Lost<ManagerWreck<S, M>>> {
+        Manager::prune_by_height(self, height)
+    }
+
+    fn prune_by_view(self, round: Round) -> Result<Self, Lost<ManagerWreck<S, M>>> {
+        Manager::prune_by_view(self, round)
+    }
+
+    fn wreck(self) -> ManagerWreck<S, M> {
+        Manager::wreck(self)
+    }
+
+    fn reopen(wreck: ManagerWreck<S, M>, luck: u64) -> Result<Self, Lost<ManagerWreck<S, M>>> {
+        Manager::reopen(wreck, luck)
+    }
+
+    fn arm(&mut self, calls: u64) -> Result<(), AllocError> {
+        Manager::arm(self, calls)
+    }
+}
