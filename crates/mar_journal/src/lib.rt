@@ -1,6 +1,7 @@
 //! Stores that outlive the process, as journals on a disk.
 #![tactic(auto)]
 
+mod archive_opening;
 mod archive_record;
 mod disk;
 mod disk_call;

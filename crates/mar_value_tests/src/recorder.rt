@@ -11,13 +11,14 @@ use std::process::Abort;
 use std::slice;
 
 // A recorder, what is open of what it was asked, and how many of the asks that has taken in.
+#[derive(Drop)]
 struct Recording {
     recorder: Recorder<Sha256Digest>,
     open: OpenRequests<Sha256Digest>,
     settled: usize,
 }
 
-fn recording(alloc: Global) -> Recording {
+fn fresh(alloc: Global) -> Recording {
     Recording {
         recorder: Recorder::new(alloc),
         open: OpenRequests::new(alloc),
@@ -213,7 +214,7 @@ fn go_on(rt: &impl Abort, alloc: Global, recording: &mut Recording, calls: &[Cal
 
 // Makes both lists of calls on a fresh recorder.
 fn follow(rt: &impl Abort, alloc: Global, first: &[Call], then: &[Call]) {
-    let mut recording = recording(alloc);
+    let mut recording = fresh(alloc);
     go_on(rt, alloc, &mut recording, first);
     go_on(rt, alloc, &mut recording, then);
 }
@@ -234,7 +235,7 @@ fn ask_and_retain(
 // That so many annotations are left of what each row asks, after it retained.
 fn leave(rt: &impl Abort, alloc: Global, rows: &[(&[Asking], Keep, usize)]) {
     for (askings, keep, left) in rows {
-        let mut recording = recording(alloc);
+        let mut recording = fresh(alloc);
         given(rt, ask_and_retain(&mut recording, askings, *keep));
         same(rt, open_count(&recording.open), *left);
     }
@@ -401,7 +402,7 @@ const ASKED_IN_EACH_WAY: [Call; 6] = [
 fn a_recorder_behind_its_bounds(rt: HostRuntime) {
     let alloc = rt.alloc();
     let fetch = fetch_of(Asking::Notarized(1, 1));
-    let mut recording = recording(alloc);
+    let mut recording = fresh(alloc);
     let recorder = &mut recording.recorder;
     given(&rt, ask_all(recorder, fetch, slice::from_ref(&fetch)));
     go_on(&rt, alloc, &mut recording, &ASKED_IN_EACH_WAY);
