@@ -138,7 +138,8 @@ impl<V: Variant, S: Holds<V>, P: Drop, E: Epocher> Node<V, S, P, E> {
         ensures promise { (heard : Option (List Call)) → IsNested self.held.blocks → IsNested self.held.certs → (buffer : List Block)
             → found_at_hand V.inner buffer self.held.blocks.held (S.Finalization.plain finalization.now).payload ≡ Some (V.plain block.now)
             → nat_lt (height_of self.held.processed) (V.plain block.now).height ≡ true
-            → KeepsPromise (E.epochs self.life.epocher) V.inner self (message_told None (report_finalization (S.Finalization.plain finalization.now)) ∷ []) buffer
+            → KeepsPromise (E.epochs self.life.epocher) V.inner self
+            (message_told None (report_finalization (S.Finalization.plain finalization.now)) ∷ []) buffer
             (heard_by (A.told application.old) heard) (heard_by (A.told application.new) heard) result }
         ensures lives { IsNested self.held.blocks → IsNested self.held.certs → LivesOn self result }
         ensures by_value { nat_lt (height_of self.held.processed) (V.plain block.now).height ≡ true
@@ -276,7 +277,8 @@ impl<V: Variant, S: Holds<V>, P: Drop, E: Epocher> Node<V, S, P, E> {
         ensures promise { IsNested self.held.blocks → IsNested self.held.certs → (buffer : List Block)
             → found_at_hand V.inner buffer self.held.blocks.held (S.Finalization.plain finalization.now).payload ≡ Some (V.plain block.now)
             → nat_lt (height_of self.held.processed) (V.plain block.now).height ≡ false
-            → KeepsPromise (E.epochs self.life.epocher) V.inner self (message_told None (report_finalization (S.Finalization.plain finalization.now)) ∷ []) buffer
+            → KeepsPromise (E.epochs self.life.epocher) V.inner self
+            (message_told None (report_finalization (S.Finalization.plain finalization.now)) ∷ []) buffer
             (heard_by (A.told application.old) (R.told resolver.old)) (heard_by (A.told application.new) (R.told resolver.new)) result }
         ensures lives { IsNested self.held.blocks → IsNested self.held.certs → LivesOn self result }
         ensures by_value { EndsWhereDue None result }

@@ -104,7 +104,8 @@ impl<S: Stacks, M: Meta> Manager<S, M> {
     fn raise(self, epoch: u64) -> Result<Self, Lost<ManagerWreck<S, M>>>
         ensures stacks { IfOk result (λ m. m.stacks ≡ self.stacks) }
         ensures raises { IfOk result (λ m. (bounds_of (M.current m.meta) ≡ raised epoch (bounds_of (M.current self.meta)))
-            × (map bounds_of (M.left m.meta) ≡ (if nat_le epoch (bounds_of (M.current self.meta)).highest then map bounds_of (M.left self.meta)
+            × (map bounds_of (M.left m.meta) ≡ (if nat_le epoch (bounds_of (M.current self.meta)).highest
+            then map bounds_of (M.left self.meta)
             else raised epoch (bounds_of (M.current self.meta)) ∷ []))) }
         ensures ways { IfErr result (λ l. AllByRecursion (λ left. (k : ℕ) → left k ≡ left_of_tome (S.tomes self.stacks k))
             (S.Wreck.left (wreck_of l).stacks)) }
@@ -205,9 +206,11 @@ impl<S: Stacks, M: Meta> Manager<S, M> {
     fn put(self, leaf: S::Leaf) -> Result<Self, Lost<ManagerWreck<S, M>>>
         ensures done { IfOk result (λ m. DoesAt S.Leaf.plain (epoch_of (S.Leaf.plain leaf)) (Change.Put leaf ∷ []) (S.tomes self.stacks) (S.tomes m.stacks)) }
         ensures raises { IfOk result (λ m. (bounds_of (M.current m.meta) ≡ raised (epoch_of (S.Leaf.plain leaf)) (bounds_of (M.current self.meta)))
-            × (map bounds_of (M.left m.meta) ≡ (if nat_le (epoch_of (S.Leaf.plain leaf)) (bounds_of (M.current self.meta)).highest then map bounds_of (M.left self.meta)
+            × (map bounds_of (M.left m.meta) ≡ (if nat_le (epoch_of (S.Leaf.plain leaf)) (bounds_of (M.current self.meta)).highest
+            then map bounds_of (M.left self.meta)
             else raised (epoch_of (S.Leaf.plain leaf)) (bounds_of (M.current self.meta)) ∷ []))) }
-        ensures ways { IfErr result (λ l. AllByRecursion (LeavesTomes (at_epoch (epoch_of (S.Leaf.plain leaf)) (S.Leaf.plain leaf ∷ [])) nothing_gone (S.tomes self.stacks))
+        ensures ways { IfErr result (λ l. AllByRecursion
+            (LeavesTomes (at_epoch (epoch_of (S.Leaf.plain leaf)) (S.Leaf.plain leaf ∷ [])) nothing_gone (S.tomes self.stacks))
             (S.Wreck.left (wreck_of l).stacks)) }
         ensures bounds { IfErr result (λ l. Within (map bounds_of (M.Wreck.left (wreck_of l).meta))
             (map bounds_of (M.left self.meta) ++ raised (epoch_of (S.Leaf.plain leaf)) (bounds_of (M.current self.meta)) ∷ [])) }
@@ -244,9 +247,11 @@ impl<S: Stacks, M: Meta> Manager<S, M> {
             × IsStarted (S.tomes r.0.stacks (epoch_of (S.Leaf.plain leaf))) (epoch_of (S.Leaf.plain leaf)) (section_of (S.Leaf.plain leaf)) r.1) }
         ensures raises { (bounds_of (M.current self.meta)).lowest ≤ (epoch_of (S.Leaf.plain leaf))
             → IfOk result (λ r. (bounds_of (M.current r.0.meta) ≡ raised (epoch_of (S.Leaf.plain leaf)) (bounds_of (M.current self.meta)))
-            × (map bounds_of (M.left r.0.meta) ≡ (if nat_le (epoch_of (S.Leaf.plain leaf)) (bounds_of (M.current self.meta)).highest then map bounds_of (M.left self.meta)
+            × (map bounds_of (M.left r.0.meta) ≡ (if nat_le (epoch_of (S.Leaf.plain leaf)) (bounds_of (M.current self.meta)).highest
+            then map bounds_of (M.left self.meta)
             else raised (epoch_of (S.Leaf.plain leaf)) (bounds_of (M.current self.meta)) ∷ []))) }
-        ensures ways { IfErr result (λ l. AllByRecursion (LeavesTomes (at_epoch (epoch_of (S.Leaf.plain leaf)) (S.Leaf.plain leaf ∷ [])) nothing_gone (S.tomes self.stacks))
+        ensures ways { IfErr result (λ l. AllByRecursion
+            (LeavesTomes (at_epoch (epoch_of (S.Leaf.plain leaf)) (S.Leaf.plain leaf ∷ [])) nothing_gone (S.tomes self.stacks))
             (S.Wreck.left (wreck_of l).stacks)) }
         ensures bounds { IfErr result (λ l. Within (map bounds_of (M.Wreck.left (wreck_of l).meta))
             (map bounds_of (M.left self.meta) ++ raised (epoch_of (S.Leaf.plain leaf)) (bounds_of (M.current self.meta)) ∷ [])) }
@@ -273,9 +278,11 @@ impl<S: Stacks, M: Meta> Manager<S, M> {
             (S.tomes self.stacks) (S.tomes m.stacks)) }
         ensures raises { (bounds_of (M.current self.meta)).lowest ≤ (epoch_of (S.Leaf.plain leaf))
             → IfOk result (λ m. (bounds_of (M.current m.meta) ≡ raised (epoch_of (S.Leaf.plain leaf)) (bounds_of (M.current self.meta)))
-            × (map bounds_of (M.left m.meta) ≡ (if nat_le (epoch_of (S.Leaf.plain leaf)) (bounds_of (M.current self.meta)).highest then map bounds_of (M.left self.meta)
+            × (map bounds_of (M.left m.meta) ≡ (if nat_le (epoch_of (S.Leaf.plain leaf)) (bounds_of (M.current self.meta)).highest
+            then map bounds_of (M.left self.meta)
             else raised (epoch_of (S.Leaf.plain leaf)) (bounds_of (M.current self.meta)) ∷ []))) }
-        ensures ways { IfErr result (λ l. AllByRecursion (LeavesTomes (at_epoch (epoch_of (S.Leaf.plain leaf)) (S.Leaf.plain leaf ∷ [])) nothing_gone (S.tomes self.stacks))
+        ensures ways { IfErr result (λ l. AllByRecursion
+            (LeavesTomes (at_epoch (epoch_of (S.Leaf.plain leaf)) (S.Leaf.plain leaf ∷ [])) nothing_gone (S.tomes self.stacks))
             (S.Wreck.left (wreck_of l).stacks)) }
         ensures bounds { IfErr result (λ l. Within (map bounds_of (M.Wreck.left (wreck_of l).meta))
             (map bounds_of (M.left self.meta) ++ raised (epoch_of (S.Leaf.plain leaf)) (bounds_of (M.current self.meta)) ∷ [])) }

@@ -67,7 +67,8 @@ pub trait Shelf<V: Variant, N: AsFinalization, F: CommitsTo<V::Commitment>>: Dro
             × (left r.0 ≡ left self)) }
         ensures done { (bounds self).lowest ≤ epoch_of (verified_entry round (V.plain block))
             → IfOk result (λ r. IsPut (verified_entry round (V.plain block)) (tomes self) (tomes r.0)
-            × IsStarted (tomes r.0 (epoch_of (verified_entry round (V.plain block)))) (epoch_of (verified_entry round (V.plain block))) (section_of (verified_entry round (V.plain block))) r.1) }
+            × IsStarted (tomes r.0 (epoch_of (verified_entry round (V.plain block)))) (epoch_of (verified_entry round (V.plain block)))
+            (section_of (verified_entry round (V.plain block))) r.1) }
         ensures raises { (bounds self).lowest ≤ epoch_of (verified_entry round (V.plain block))
             → IfOk result (λ r. Raises (epoch_of (verified_entry round (V.plain block))) (bounds self) (left self) (bounds r.0) (left r.0)) }
         ensures ways { IfErr result (λ l. PutLeaves (verified_entry round (V.plain block)) (tomes self) (Self.Wreck.ways (wreck_of l))) }
@@ -87,7 +88,8 @@ pub trait Shelf<V: Variant, N: AsFinalization, F: CommitsTo<V::Commitment>>: Dro
             × (left r.0 ≡ left self)) }
         ensures done { (bounds self).lowest ≤ epoch_of (notarized_entry round (V.plain block))
             → IfOk result (λ r. IsPut (notarized_entry round (V.plain block)) (tomes self) (tomes r.0)
-            × IsStarted (tomes r.0 (epoch_of (notarized_entry round (V.plain block)))) (epoch_of (notarized_entry round (V.plain block))) (section_of (notarized_entry round (V.plain block))) r.1) }
+            × IsStarted (tomes r.0 (epoch_of (notarized_entry round (V.plain block)))) (epoch_of (notarized_entry round (V.plain block)))
+            (section_of (notarized_entry round (V.plain block))) r.1) }
         ensures raises { (bounds self).lowest ≤ epoch_of (notarized_entry round (V.plain block))
             → IfOk result (λ r. Raises (epoch_of (notarized_entry round (V.plain block))) (bounds self) (left self) (bounds r.0) (left r.0)) }
         ensures ways { IfErr result (λ l. PutLeaves (notarized_entry round (V.plain block)) (tomes self) (Self.Wreck.ways (wreck_of l))) }
@@ -103,7 +105,8 @@ pub trait Shelf<V: Variant, N: AsFinalization, F: CommitsTo<V::Commitment>>: Dro
             × (left r.0 ≡ left self)) }
         ensures done { (bounds self).lowest ≤ epoch_of (notarization_entry (N.plain notarization))
             → IfOk result (λ r. IsPut (notarization_entry (N.plain notarization)) (tomes self) (tomes r.0)
-            × IsStarted (tomes r.0 (epoch_of (notarization_entry (N.plain notarization)))) (epoch_of (notarization_entry (N.plain notarization))) (section_of (notarization_entry (N.plain notarization))) r.1) }
+            × IsStarted (tomes r.0 (epoch_of (notarization_entry (N.plain notarization)))) (epoch_of (notarization_entry (N.plain notarization)))
+            (section_of (notarization_entry (N.plain notarization))) r.1) }
         ensures raises { (bounds self).lowest ≤ epoch_of (notarization_entry (N.plain notarization))
             → IfOk result (λ r. Raises (epoch_of (notarization_entry (N.plain notarization))) (bounds self) (left self) (bounds r.0) (left r.0)) }
         ensures ways { IfErr result (λ l. PutLeaves (notarization_entry (N.plain notarization)) (tomes self) (Self.Wreck.ways (wreck_of l))) }
@@ -167,7 +170,8 @@ pub trait Shelf<V: Variant, N: AsFinalization, F: CommitsTo<V::Commitment>>: Dro
         epoch: Epoch,
         sought: Sought<V::Digest, V::Commitment>,
     ) -> Result<Option<Entry<V::Block, N, F>>, Miss>
-        ensures found { IfOk result (λ o. option_map (cached_of V.plain N.plain F.plain) o ≡ first_found (is_sought V.Digest.bytes V.Commitment.bytes V.inner sought) (held_in (tomes self.old epoch))) }
+        ensures found { IfOk result (λ o. option_map (cached_of V.plain N.plain F.plain) o
+            ≡ first_found (is_sought V.Digest.bytes V.Commitment.bytes V.inner sought) (held_in (tomes self.old epoch))) }
         ensures same { (tomes self.new ≡ tomes self.old) × (bounds self.new ≡ bounds self.old) × (left self.new ≡ left self.old) }
         ensures watched { HeedsRead (watch self.old) (watch self.new) result };
 
@@ -176,7 +180,8 @@ pub trait Shelf<V: Variant, N: AsFinalization, F: CommitsTo<V::Commitment>>: Dro
         &mut self,
         sought: Sought<V::Digest, V::Commitment>,
     ) -> Result<Option<Entry<V::Block, N, F>>, Miss>
-        ensures found { IfOk result (λ o. IsNewest (is_sought V.Digest.bytes V.Commitment.bytes V.inner sought) (tomes self.old) (option_map (cached_of V.plain N.plain F.plain) o)) }
+        ensures found { IfOk result (λ o. IsNewest (is_sought V.Digest.bytes V.Commitment.bytes V.inner sought) (tomes self.old)
+            (option_map (cached_of V.plain N.plain F.plain) o)) }
         ensures same { (tomes self.new ≡ tomes self.old) × (bounds self.new ≡ bounds self.old) × (left self.new ≡ left self.old) }
         ensures watched { HeedsRead (watch self.old) (watch self.new) result };
 

@@ -95,7 +95,7 @@ impl<D: Disk> JournalMeta<D> {
 }
 
 impl<D: Disk> JournalMeta<D> {
-    /// Its disk. What was changed since the last sync isn't on it.
+    /// Its disk. What was changed since the last sync isn't on it. It has no clause yet: contracts see the maps alone.
     pub fn into_disk(self) -> D {
         let JournalMeta { disk, .. } = self;
         disk

@@ -192,7 +192,11 @@ fn crash_of(
 
 impl MemDisk {
     /// A disk with no bytes.
-    pub fn new(alloc: Global) -> Self {
+    pub fn new(alloc: Global) -> Self
+        ensures reads { result.bytes.items ≡ [] }
+        ensures nothing { result.calls.items ≡ [] }
+        ensures faults { result.faults ≡ 0 }
+    {
         MemDisk {
             alloc,
             first: Vec::new(alloc),

@@ -60,7 +60,8 @@ impl JournalItem for Short {
 
     ghost sized = { λ v. v.digest.is_digest.0 };
 
-    ghost one = { λ index v w fits other same i. record { digest = record { bytes = same i; is_digest = same_proof 32 _ _ same v.digest.is_digest w.digest.is_digest i } } };
+    ghost one = { λ index v w fits other same i.
+        record { digest = record { bytes = same i; is_digest = same_proof 32 _ _ same v.digest.is_digest w.digest.is_digest i } } };
 
     ghost keyed = { λ v. v.digest.is_digest.0 };
 }

@@ -266,7 +266,8 @@ fn finalize<H: Holds<StandardBlocks, Finalization = MockFinalization>>(
     requires small { AreSmall buffer.blocks }
     requires silent { heard.old.told.updates.items ≡ [] }
     requires unasked { heard.old.asked ≡ [] }
-    ensures { (config : PlainConfig) → PlaysOrNot config (State.Running actor buffer requests) (tell_line (report_finalization (plain_finalization finalization)))
+    ensures { (config : PlainConfig) → PlaysOrNot config (State.Running actor buffer requests)
+        (tell_line (report_finalization (plain_finalization finalization)))
         (map plain_report heard.new.told.updates.items) heard.new.asked result.0 result.1 }
 {
     let event = Event::Message(Message::Finalization(finalization));
@@ -307,7 +308,8 @@ fn finish_sync<H: Holds<StandardBlocks, Finalization = MockFinalization>>(
     requires small { AreSmall buffer.blocks }
     requires silent { heard.old.told.updates.items ≡ [] }
     requires unasked { heard.old.asked ≡ [] }
-    ensures { (config : PlainConfig) → PlaysOrNot config (State.Running actor buffer requests) (sync_line ticket) (map plain_report heard.new.told.updates.items)
+    ensures { (config : PlainConfig) → PlaysOrNot config (State.Running actor buffer requests) (sync_line ticket)
+        (map plain_report heard.new.told.updates.items)
         heard.new.asked result.0 result.1 }
 {
     if !actor.awaits_sync(ticket) {
