@@ -1,6 +1,6 @@
 -- The calls of an archive that is a journal, by its entries.
-use Rattle.std.proofs.Common.{Bool, Contains, List, Ok, Some, [], ap, append_assoc, arith, cond, filter, fold, min, nat_le, bytes_eq, not, inl, inr, length, length-append, map, false, refl, subst, suc, sym, take, true, zero, ℕ, ◌&&◌, ◌++◌, ◌+◌, ◌-◌, IfOk, Result, Ok, Err, ◌<◌, ◌==◌, ◌^◌, ◌∙◌, ◌∷◌, ◌≡◌, ◌≤◌}
-use Rattle.std.proofs.Math.Logic.{∥∥₁_elim, ∥∥₁_map}
+use Rattle.std.proofs.Common.{Bool, Contains, List, Ok, Some, [], ap, append_assoc, arith, cond, drop, filter, fold, min, nat_le, bytes_eq, not, inl, inr, length, length-append, map, false, refl, subst, suc, sym, take, true, zero, ℕ, ◌&&◌, ◌++◌, ◌+◌, ◌-◌, IfOk, Result, Ok, Err, ◌<◌, ◌==◌, ◌^◌, ◌∙◌, ◌∷◌, ◌≡◌, ◌≤◌}
+use Rattle.std.proofs.Math.Logic.{∥∥₁_elim, ∥∥₁_map, ∥∥₁_map₂}
 use Rattle.std.specs.Coded.{Coded, Coded-set, coded_bool, coded_option, le_prop}
 use Rattle.std.proofs.lemmas.Bool.{and_from, eq-eqb, eqb-true, false≢true, true≢false}
 use Rattle.std.proofs.lemmas.Slice.Eq.{bytes_eq-Decides}
@@ -8,27 +8,29 @@ use Rattle.std.specs.List.{AllByRecursion, AllByRecursion-prop}
 use Rattle.std.proofs.lemmas.List.{map-append}
 use Rattle.std.proofs.lemmas.List.Sums.{fold-append}
 use Rattle.mar_store.specs.Changes.{Fails, Finishes, IsReopened, IsStillOr, KeepsValues, Left, Prunes, Puts, Within, heights, left_of}
-use Rattle.mar_store.specs.Entries.{kept_of, seen}
+use Rattle.mar_store.specs.Entries.{covered_by, is_covered, kept_of, seen}
 use Rattle.mar_store.specs.Kept.{At, EachHeightOnce, Reopens, reopened_store, value_at}
 use Rattle.mar_store.specs.RangeLemmas.{ranges_push}
 use Rattle.mar_store.specs.Ranges.{Range, ranges, with_height}
 use Rattle.mar_store.specs.declared.Entry.{Entry}
-use Rattle.mar_store.proofs.Lookups.{AllByRecursion-push, AllByRecursion-within}
-use Rattle.mar_store.proofs.Stores.{filter_within, prunes}
+use Rattle.mar_store.specs.Tickets.{KeepsCovers, last_number}
+use Rattle.mar_store.proofs.Lookups.{AllByRecursion-push, AllByRecursion-within, Contains-from_value, value_at-from_contains}
+use Rattle.mar_store.proofs.Stores.{covers_pruned, filter_within, prunes}
 use Rattle.mar_codec.specs.Varint.{varint}
 use Rattle.mar_codec.specs.VarintLemmas.{length-varint}
 use Rattle.mar_journal.specs.ArchiveRecords.{IsArchived, archive_bytes, kept_by, kept_from}
-use Rattle.mar_journal.specs.ArchiveStore.{IsArchiveLeft, IsBacked, Pending, archive_kept, left_may, within_right}
-use Rattle.mar_journal.specs.Disk.{LeavesOnly, Narrows}
+use Rattle.mar_journal.specs.ArchiveStore.{IsArchiveFile, IsArchiveLeft, IsBacked, StaysFound, archive_kept, left_may, within_right}
+use Rattle.mar_journal.specs.Disk.{Elapses, LeavesOnly, Narrows}
 use Rattle.mar_store.specs.Watch.{Strikes, after_call, is_due}
 use Rattle.mar_journal.specs.Watches.{journal_watch}
-use Rattle.mar_journal.specs.Format.{IsBatch, IsJournal, Stands, StandsUpto, joined}
-use Rattle.mar_journal.specs.Journal.{IsOldOrNew, IsSettled}
+use Rattle.mar_journal.specs.Format.{IsBatch, IsDamaged, IsJournal, Stands, StandsUpto, joined}
+use Rattle.mar_journal.specs.Journal.{Adds, IsOldOrNew, IsSettled}
 use Rattle.mar_journal.specs.Records.{IsWritable}
 use Rattle.mar_journal.specs.declared.archive_record.ArchiveRecord.{ArchiveRecord}
 use Rattle.mar_journal.specs.declared.archive_record.ArchiveRecord.TheVariants.{Prune, Put}
 use Rattle.mar_journal.proofs.Crash.{end_within}
-use Rattle.mar_journal.proofs.Replays.{backed_left, backed_more, backed_written, narrowed_left, opening_finds, opening_left, pending_end, reopens_held, reopens_weaker, writing_left}
+use Rattle.mar_journal.proofs.Moments.{and_then, goes_on, stayed, weaker}
+use Rattle.mar_journal.proofs.Replays.{CoversLess, backed_front, backed_left, backed_more, narrowed_left, old_or_new, opening_finds, opening_left, pending_long, pending_none, pending_same, pending_sure, reopens_held, reopens_weaker, undamaged, writing_left, writing_moments}
 
 IsArchived-prop : {T : Type 0} (fits : ℕ → T → Bool) (spelled : T → List ℕ) (r : ArchiveRecord T) → IsProp (IsArchived fits spelled r)
 IsArchived-prop fits spelled (Put index value) = λ a b i. (le_prop a.0 b.0 i, Coded-set coded_bool (fits index value) true a.1 b.1 i, le_prop a.2 b.2 i)
@@ -43,7 +45,7 @@ within_both [] xs ys within x has = within x has
 within_both (y ∷ front) xs ys within x (zero, lt, e) = (zero, omega arith, e)
 within_both (y ∷ front) xs ys within x (suc k, lt, e) = let more = within_both front xs ys within x (k, omega (arith, lt), e) in (suc more.0, omega (arith, more.1), more.2)
 
-module _ {T D : Type 0} (name spelled : T → List ℕ) (fits : ℕ → T → Bool) (seen_bytes : D → List ℕ) (may_leave : D → List ℕ → Type 0) (disk : D) (end : ℕ) (gone items : List (Entry T)) (n : ℕ) (waiting : List (ArchiveRecord T)) where
+module _ {T D : Type 0} (name spelled : T → List ℕ) (fits : ℕ → T → Bool) (seen_bytes : D → List ℕ) (may_leave : D → List ℕ → Type 0) (disk : D) (end : ℕ) (gone items : List (Entry T)) (n accepted : ℕ) (waiting : List (ArchiveRecord T)) (marks : List ℕ) where
   abbrev sure : List (At T)
   sure = take n (map seen items)
 
@@ -51,7 +53,7 @@ module _ {T D : Type 0} (name spelled : T → List ℕ) (fits : ℕ → T → Bo
   may = left_may gone items
 
   abbrev Backed : Type 0
-  Backed = IsBacked name spelled fits seen_bytes may_leave disk end sure may (map seen items) waiting
+  Backed = IsBacked name spelled fits seen_bytes may_leave disk end sure may items accepted waiting marks
 
   found_now : EachHeightOnce (map seen items) → Reopens sure may (map seen items)
   found_now once = reopens_held n (map seen items) may once (within_right (map seen gone) (map seen items))
@@ -63,20 +65,49 @@ module _ {T D : Type 0} (name spelled : T → List ℕ) (fits : ℕ → T → Bo
   are_good backed = ∥∥₁_elim backed (AllByRecursion-prop _ (IsWritable-prop name spelled fits) waiting) (λ b. b.good)
 
   pub nothing_lost : EachHeightOnce (map seen items) → ∥ Backed ∥₁ → ∥ IsArchiveLeft name spelled fits may_leave disk sure may ∥₁
-  nothing_lost once backed = ∥∥₁_map backed (λ b. backed_left name spelled fits seen_bytes may_leave disk end sure may (map seen items) waiting b (found_now once))
+  nothing_lost once backed = ∥∥₁_map backed (λ b. backed_left name spelled fits seen_bytes may_leave disk end sure may items accepted waiting marks b (found_now once))
 
-  pub all_written : ∥ Backed ∥₁ → (later : D) (new : ℕ) → ((before : List (ArchiveRecord T)) → IsSettled (archive_bytes name spelled) (IsArchived fits spelled) seen_bytes may_leave before end disk
-      → IsSettled (archive_bytes name spelled) (IsArchived fits spelled) seen_bytes may_leave (before ++ waiting) new later) → (none : List (ArchiveRecord T)) → none ≡ []
-      → ∥ IsBacked name spelled fits seen_bytes may_leave later new sure may (map seen items) none ∥₁
-  all_written backed later new written none is =
-      ∥∥₁_map backed (λ b. backed_written name spelled fits seen_bytes may_leave disk later end new sure may (map seen items) sure may waiting b (written b.records b.settled) b.fit none is)
+  -- what a crash at any moment leaves where no call was made
+  pub idle_moments : (moment : D → ℕ) (left_since : D → ℕ → List ℕ → Type 0) (only_now : (d : D) (c : List ℕ) → left_since d (moment d) c → may_leave d c) → EachHeightOnce (map seen items) → ∥ Backed ∥₁
+      → StaysFound name spelled fits moment left_since disk disk sure may
+  idle_moments moment left_since only_now once backed = ∥∥₁_map (nothing_lost once backed) (λ l. stayed moment left_since may_leave only_now disk _ l.each)
 
-  module _ (moment : D → ℕ) (left_since : D → ℕ → List ℕ → Type 0) (counts_now : (d : D) (t : ℕ) (c : List ℕ) → t ≤ moment d → may_leave d c → left_since d t c) where
-    pub part_written : EachHeightOnce (map seen items) → ∥ Backed ∥₁ → (later : D)
-        → ((before : List (ArchiveRecord T)) → IsSettled (archive_bytes name spelled) (IsArchived fits spelled) seen_bytes may_leave before end disk → LeavesOnly moment left_since disk later (StandsUpto (archive_bytes name spelled) (IsArchived fits spelled) before waiting))
-        → ∥ IsArchiveLeft name spelled fits may_leave later sure may ∥₁
-    part_written once backed later any =
-        ∥∥₁_map backed (λ b. writing_left name spelled fits seen_bytes may_leave moment left_since counts_now disk later end sure may (map seen items) waiting b (found_now once) (any b.records b.settled))
+  -- each waiting record has a mark
+  pub marked : ∥ Backed ∥₁ → length marks ≤ length waiting
+  marked backed = ∥∥₁_elim backed le_prop (λ b. omega (arith, pending_long name sure may items accepted (kept_from name [] b.records) waiting marks b.pending))
+
+  pub marked_all : ∥ Backed ∥₁ → length waiting ≤ length marks
+  marked_all backed = ∥∥₁_elim backed le_prop (λ b. omega (arith, pending_long name sure may items accepted (kept_from name [] b.records) waiting marks b.pending))
+
+  -- of the first waiting records
+  module _ (k : ℕ) where
+    abbrev Written : D → ℕ → Type 0
+    Written later new = (before : List (ArchiveRecord T)) → IsSettled (archive_bytes name spelled) (IsArchived fits spelled) seen_bytes may_leave before end disk
+        → IsSettled (archive_bytes name spelled) (IsArchived fits spelled) seen_bytes may_leave (before ++ take k waiting) new later
+
+    abbrev Unwritten : (D → ℕ) → (D → ℕ → List ℕ → Type 0) → D → Type 0
+    Unwritten moment left_since later = (before : List (ArchiveRecord T)) → IsSettled (archive_bytes name spelled) (IsArchived fits spelled) seen_bytes may_leave before end disk
+        → LeavesOnly moment left_since disk later (StandsUpto (archive_bytes name spelled) (IsArchived fits spelled) before (take k waiting))
+
+    pub front_written : ∥ Backed ∥₁ → (later : D) (new : ℕ) → Written later new → (after : List (ArchiveRecord T)) (ends : List ℕ) → after ≡ drop k waiting → ends ≡ drop k marks
+        → ∥ IsBacked name spelled fits seen_bytes may_leave later new sure may items accepted after ends ∥₁
+    front_written backed later new written after ends are marks_are =
+        subst (λ l. ∥ IsBacked name spelled fits seen_bytes may_leave later new sure may items accepted l ends ∥₁) (sym are)
+        (subst (λ l. ∥ IsBacked name spelled fits seen_bytes may_leave later new sure may items accepted (drop k waiting) l ∥₁) (sym marks_are)
+        (∥∥₁_map backed (λ b. backed_front name spelled fits seen_bytes may_leave disk later end new sure may items accepted waiting marks k b (written b.records b.settled))))
+
+    -- they are behind what the file had
+    pub wrote : ∥ Backed ∥₁ → (later : D) (new : ℕ) → Written later new → ∥ Adds (archive_bytes name spelled) (IsArchived fits spelled) seen_bytes may_leave (take k waiting) disk later ∥₁
+    wrote backed later new written = ∥∥₁_map backed (λ b. record { records = b.records; end = end; settled = b.settled; later_end = new; added = written b.records b.settled })
+
+    pub write_moments : (moment : D → ℕ) (left_since : D → ℕ → List ℕ → Type 0) → EachHeightOnce (map seen items) → ∥ Backed ∥₁ → (later : D) → Unwritten moment left_since later → StaysFound name spelled fits moment left_since disk later sure may
+    write_moments moment left_since once backed later any =
+        ∥∥₁_map backed (λ b. writing_moments name spelled fits seen_bytes may_leave moment left_since disk later end sure may items accepted waiting marks k b (found_now once) (any b.records b.settled))
+
+    pub part_written : (moment : D → ℕ) (left_since : D → ℕ → List ℕ → Type 0) (counts_now : (d : D) (t : ℕ) (c : List ℕ) → t ≤ moment d → may_leave d c → left_since d t c) → EachHeightOnce (map seen items) → ∥ Backed ∥₁ → (later : D)
+        → Unwritten moment left_since later → ∥ IsArchiveLeft name spelled fits may_leave later sure may ∥₁
+    part_written moment left_since counts_now once backed later any =
+        ∥∥₁_map backed (λ b. writing_left name spelled fits seen_bytes may_leave moment left_since counts_now disk later end sure may items accepted waiting marks k b (found_now once) (any b.records b.settled))
 
 -- a list with one value more or without it, by its length
 pub same_by_length : {T : Type 0} (b : Bool) (old new : List T) (x : T) → new ≡ cond b old (old ++ x ∷ []) → length new ≡ length old → new ≡ old
@@ -159,6 +190,13 @@ pub put_is_writable : {T : Type 0} (name spelled : T → List ℕ) (fits : ℕ �
     → IsWritable (archive_bytes name spelled) (IsArchived fits spelled) (Put index item)
 put_is_writable name spelled fits index item index_fits fit keyed small = record { valid = (index_fits, fit, omega (arith, small)); small = length-put name spelled index item keyed small }
 
+covers_less : {T : Type 0} (number : ℕ) (old new : List (Entry T)) → KeepsCovers number (covered_by old) (covered_by new) → CoversLess number old new
+covers_less number old new covers t upto below h v is = subst (λ l. value_at l h ≡ Some v) (covers t upto below) is
+
+-- what a ticket covers is held
+covered_held : {T : Type 0} (items : List (Entry T)) (t : ℕ) → EachHeightOnce (map seen items) → KeepsValues (covered_by items t) (map seen items)
+covered_held items t once h v is = value_at-from_contains (map seen items) (record { height = h; value = v }) once (filter_within (is_covered t) items _ (Contains-from_value (covered_by items t) h v is))
+
 module _ {T D : Type 0} (name spelled : T → List ℕ) (fits : ℕ → T → Bool) (may_leave : D → List ℕ → Type 0) (disk : D) (gone items new : List (Entry T)) (n m : ℕ) where
   pub keeps_left : take m (map seen new) ≡ take n (map seen items) → map seen new ≡ map seen items → ∥ IsArchiveLeft name spelled fits may_leave disk (take n (map seen items)) (left_may gone items) ∥₁
       → ∥ IsArchiveLeft name spelled fits may_leave disk (take m (map seen new)) (left_may gone new) ∥₁
@@ -176,36 +214,62 @@ module _ {T D : Type 0} (name spelled : T → List ℕ) (fits : ℕ → T → Bo
     fit = fit_more fits gone items new x are fit is.fit;
   })
 
-  module _ (seen_bytes : D → List ℕ) (end : ℕ) (waiting : List (ArchiveRecord T)) where
-    pub keeps_backed : take m (map seen new) ≡ take n (map seen items) → map seen new ≡ map seen items → ∥ IsBacked name spelled fits seen_bytes may_leave disk end (take n (map seen items)) (left_may gone items) (map seen items) waiting ∥₁
-        → ∥ IsBacked name spelled fits seen_bytes may_leave disk end (take m (map seen new)) (left_may gone new) (map seen new) waiting ∥₁
-    keeps_backed sure_is are backed = subst (λ l. ∥ IsBacked name spelled fits seen_bytes may_leave disk end l (left_may gone new) (map seen new) waiting ∥₁) (sym sure_is)
-        (subst (λ l. ∥ IsBacked name spelled fits seen_bytes may_leave disk end (take n (map seen items)) (map seen gone ++ l) l waiting ∥₁) (sym are) backed)
+  module _ (seen_bytes : D → List ℕ) (end accepted later : ℕ) (waiting : List (ArchiveRecord T)) (marks : List ℕ) where
+    abbrev Was : Type 0
+    Was = IsBacked name spelled fits seen_bytes may_leave disk end (take n (map seen items)) (left_may gone items) items accepted waiting marks
 
-    pub put_backed : (index : ℕ) (item : T) (after : List (ArchiveRecord T)) → EachHeightOnce (map seen items) → take m (map seen new) ≡ take n (map seen items) → map seen new ≡ map seen items ++ record { height = index; value = item } ∷ []
-        → map seen new ≡ kept_by name (map seen items) (Put index item) → IsWritable (archive_bytes name spelled) (IsArchived fits spelled) (Put index item) → after ≡ waiting ++ Put index item ∷ []
-        → ∥ IsBacked name spelled fits seen_bytes may_leave disk end (take n (map seen items)) (left_may gone items) (map seen items) waiting ∥₁
-        → ∥ IsBacked name spelled fits seen_bytes may_leave disk end (take m (map seen new)) (left_may gone new) (map seen new) after ∥₁
-    put_backed index item after once sure_is are later good is backed = ∥∥₁_map backed (λ b. backed_more name spelled fits seen_bytes may_leave disk end (take n (map seen items)) (left_may gone items) (map seen items) (take m (map seen new)) (left_may gone new) (map seen new) waiting after
-        (Put index item) b (same_values _ _ sure_is) (wider gone items new _ are)
-        (reopens_weaker (take n (map seen items)) (left_may gone items) (take m (map seen new)) (left_may gone new) (map seen items) (same_values _ _ sure_is) (wider gone items new _ are) (reopens_held n (map seen items) (left_may gone items) once (within_right (map seen gone) (map seen items))))
-        later good (fit_more fits gone items new _ are good.valid.1 b.fit) is)
+    pub keeps_backed : take m (map seen new) ≡ take n (map seen items) → map seen new ≡ map seen items → accepted ≤ later → KeepsCovers accepted (covered_by items) (covered_by new) → ∥ Was ∥₁
+        → ∥ IsBacked name spelled fits seen_bytes may_leave disk end (take m (map seen new)) (left_may gone new) new later waiting marks ∥₁
+    keeps_backed sure_is are up covers backed = ∥∥₁_map backed (λ b. record {
+      records = b.records;
+      settled = b.settled;
+      pending = pending_same name (take n (map seen items)) (left_may gone items) (take m (map seen new)) (left_may gone new) items new accepted later (kept_from name [] b.records) waiting marks (same_values _ _ sure_is)
+          (within_both (map seen gone) (map seen items) (map seen new) (λ x has. subst (λ l. Contains l x) (sym are) has)) up (covers_less accepted items new covers) are b.pending;
+      good = b.good;
+      fit = subst (λ l. AllByRecursion (λ y. fits y.height y.value ≡ true) (map seen gone ++ l)) (sym are) b.fit;
+    })
+
+    pub put_backed : (index : ℕ) (item : T) (after : List (ArchiveRecord T)) (ends : List ℕ) (number mark : ℕ) → EachHeightOnce (map seen items) → take m (map seen new) ≡ take n (map seen items) → map seen new ≡ map seen items ++ record { height = index; value = item } ∷ []
+        → map seen new ≡ kept_by name (map seen items) (Put index item) → IsWritable (archive_bytes name spelled) (IsArchived fits spelled) (Put index item) → after ≡ waiting ++ Put index item ∷ [] → ends ≡ marks ++ mark ∷ []
+        → accepted ≤ later → KeepsCovers accepted (covered_by items) (covered_by new) → number ≤ accepted → mark ≤ number + 1 → mark ≤ last_number → ∥ Was ∥₁
+        → ∥ IsBacked name spelled fits seen_bytes may_leave disk end (take m (map seen new)) (left_may gone new) new later after ends ∥₁
+    put_backed index item after ends number mark once sure_is are is_later good is marks_are up covers within mark_is mark_last backed = ∥∥₁_map backed (λ b. backed_more name spelled fits seen_bytes may_leave disk end (take n (map seen items)) (left_may gone items) (take m (map seen new)) (left_may gone new) items new accepted later waiting after marks ends
+        (Put index item) mark b (same_values _ _ sure_is) (wider gone items new _ are) up (covers_less accepted items new covers)
+        (record {
+          found = reopens_weaker (take n (map seen items)) (left_may gone items) (take m (map seen new)) (left_may gone new) (map seen items) (same_values _ _ sure_is) (wider gone items new _ are) (reopens_held n (map seen items) (left_may gone items) once (within_right (map seen gone) (map seen items)));
+          covered = λ t below h v has. covered_held items t once h v (covers_less accepted items new covers t (omega (arith, below, mark_is, within)) (omega (arith, below, mark_last)) h v has);
+          upto = omega (arith, mark_is, within, up);
+          last = mark_last;
+        })
+        is_later good (fit_more fits gone items new _ are good.valid.1 b.fit) is marks_are)
 
     -- where nothing waits, other values are sure
-    pub sure_backed : (other : List (Entry T)) → waiting ≡ [] → map seen new ≡ map seen items → AllByRecursion (λ y. fits y.height y.value ≡ true) (left_may other new)
-        → ∥ IsBacked name spelled fits seen_bytes may_leave disk end (take n (map seen items)) (left_may gone items) (map seen items) waiting ∥₁
-        → ∥ IsBacked name spelled fits seen_bytes may_leave disk end (take m (map seen new)) (left_may other new) (map seen new) waiting ∥₁
+    pub sure_backed : (other : List (Entry T)) → waiting ≡ [] → map seen new ≡ map seen items → AllByRecursion (λ y. fits y.height y.value ≡ true) (left_may other new) → ∥ Was ∥₁
+        → ∥ IsBacked name spelled fits seen_bytes may_leave disk end (take m (map seen new)) (left_may other new) new later waiting marks ∥₁
     sure_backed other none are fit backed = ∥∥₁_map backed (λ b. record {
       records = b.records;
       settled = b.settled;
-      pending = subst (Pending name (take m (map seen new)) (left_may other new) (map seen new) (kept_from name [] b.records)) (sym none)
-          (pending_end name (take n (map seen items)) (left_may gone items) (map seen items) (kept_from name [] b.records) [] (subst (Pending name (take n (map seen items)) (left_may gone items) (map seen items) (kept_from name [] b.records)) none b.pending) ∙ sym are);
+      pending = pending_none name (take n (map seen items)) (left_may gone items) (take m (map seen new)) (left_may other new) items new accepted later (kept_from name [] b.records) waiting marks none are b.pending;
       good = b.good;
       fit = fit;
     })
 
-    pub fit_of_backed : ∥ IsBacked name spelled fits seen_bytes may_leave disk end (take n (map seen items)) (left_may gone items) (map seen items) waiting ∥₁ → AllByRecursion (λ y. fits y.height y.value ≡ true) (left_may gone items)
+    pub fit_of_backed : ∥ Was ∥₁ → AllByRecursion (λ y. fits y.height y.value ≡ true) (left_may gone items)
     fit_of_backed backed = ∥∥₁_elim backed (AllByRecursion-prop _ (λ y. Coded-set coded_bool _ _) (left_may gone items)) (λ b. b.fit)
+
+    -- where only records above a ticket's number wait, what it covers is sure
+    pub covered_backed : (t : ℕ) → new ≡ items → later ≡ accepted → AllByRecursion (λ k. t < k) marks → Finishes (covered_by items t) (kept_of items n) (kept_of new m) → ∥ Was ∥₁
+        → ∥ IsBacked name spelled fits seen_bytes may_leave disk end (take m (map seen new)) (left_may gone new) new later waiting marks ∥₁
+    covered_backed t are same above finishes backed =
+        subst (λ l. ∥ IsBacked name spelled fits seen_bytes may_leave disk end (take m (map seen new)) (left_may gone l) l later waiting marks ∥₁) (sym are)
+        (subst (λ k. ∥ IsBacked name spelled fits seen_bytes may_leave disk end (take m (map seen new)) (left_may gone items) items k waiting marks ∥₁) (sym same)
+        (∥∥₁_map backed (λ b. record {
+          records = b.records;
+          settled = b.settled;
+          pending = pending_sure name (take n (map seen items)) (left_may gone items) (take m (map seen new)) items accepted t (kept_from name [] b.records) waiting marks finishes.only above b.pending;
+          good = b.good;
+          fit = b.fit;
+        })))
 
 pub finishes_with_gone : {T : Type 0} (gone items new : List (Entry T)) (n m : ℕ) (more : List (At T)) → Finishes more (kept_of items n) (kept_of new m) → Finishes more (archive_kept gone items n) (archive_kept gone new m)
 finishes_with_gone gone items new n m more f = record {
@@ -280,15 +344,26 @@ module _ {T : Type 0} (min : ℕ) (gone aside items new : List (Entry T)) (n m :
   pub prune_ranges : (more : List (At T)) (set : List Range) → map seen aside ≡ map seen gone ++ more → set ≡ ranges (heights ((map seen gone ++ more) ++ map seen (filter (λ e. nat_le min e.index) items))) → set ≡ ranges (heights (left_may aside new))
   prune_ranges more set is set_is = set_is ∙ ap (λ l. ranges (heights l)) (ap (λ l. l ++ map seen (filter (λ e. nat_le min e.index) items)) (sym is) ∙ ap (λ l. map seen aside ++ map seen l) (sym new_is))
 
-  pub prune_backed : {D : Type 0} (name spelled : T → List ℕ) (fits : ℕ → T → Bool) (seen_bytes : D → List ℕ) (may_leave : D → List ℕ → Type 0) (disk : D) (end : ℕ) (waiting after : List (ArchiveRecord T)) → min < 2 ^ 64 → after ≡ waiting ++ Prune min ∷ []
-      → ∥ IsBacked name spelled fits seen_bytes may_leave disk end (take n (map seen items)) (left_may gone items) (map seen items) waiting ∥₁
-      → ∥ IsBacked name spelled fits seen_bytes may_leave disk end (take m (map seen new)) (left_may aside new) (map seen new) after ∥₁
-  prune_backed name spelled fits seen_bytes may_leave disk end waiting after min_fits is backed = ∥∥₁_map backed (λ b. backed_more name spelled fits seen_bytes may_leave disk end (take n (map seen items)) (left_may gone items) (map seen items) (take m (map seen new)) (left_may aside new) (map seen new) waiting after (Prune min) b inner.sure.only wider_prune
-      (reopens_weaker (take n (map seen items)) (left_may gone items) (take m (map seen new)) (left_may aside new) (map seen items) inner.sure.only wider_prune (reopens_held n (map seen items) (left_may gone items) once (within_right (map seen gone) (map seen items))))
+  pub prune_backed : {D : Type 0} (name spelled : T → List ℕ) (fits : ℕ → T → Bool) (seen_bytes : D → List ℕ) (may_leave : D → List ℕ → Type 0) (disk : D) (end accepted later : ℕ) (waiting after : List (ArchiveRecord T)) (marks ends : List ℕ) (mark : ℕ) → min < 2 ^ 64
+      → after ≡ waiting ++ Prune min ∷ [] → ends ≡ marks ++ mark ∷ [] → later ≡ accepted → mark ≤ accepted → mark ≤ last_number
+      → ∥ IsBacked name spelled fits seen_bytes may_leave disk end (take n (map seen items)) (left_may gone items) items accepted waiting marks ∥₁
+      → ∥ IsBacked name spelled fits seen_bytes may_leave disk end (take m (map seen new)) (left_may aside new) new later after ends ∥₁
+  prune_backed name spelled fits seen_bytes may_leave disk end accepted later waiting after marks ends mark min_fits is marks_are same upto mark_last backed = ∥∥₁_map backed (λ b. backed_more name spelled fits seen_bytes may_leave disk end (take n (map seen items)) (left_may gone items) (take m (map seen new)) (left_may aside new) items new accepted later waiting after marks ends (Prune min) mark b inner.sure.only wider_prune
+      (omega (arith, same)) covers
+      (record {
+        found = reopens_weaker (take n (map seen items)) (left_may gone items) (take m (map seen new)) (left_may aside new) (map seen items) inner.sure.only wider_prune (reopens_held n (map seen items) (left_may gone items) once (within_right (map seen gone) (map seen items)));
+        covered = λ t below h v has. covered_held items t once h v (covers t (omega (arith, below, upto)) (omega (arith, below, mark_last)) h v has);
+        upto = omega (arith, upto, same);
+        last = mark_last;
+      })
       (ap (map seen) new_is ∙ filter_seen min items)
       (record { valid = min_fits; small = omega (arith, length-varint min) })
       (AllByRecursion-within (λ y. fits y.height y.value ≡ true) (left_may aside new) (left_may gone items) narrower_prune b.fit)
-      is)
+      is
+      marks_are)
+    where
+      covers : CoversLess accepted items new
+      covers t within below = (covers_pruned min accepted items new once new_is t within).only
 
 -- what was left is left, whatever was to be written
 pub fails_left : {T : Type 0} (gone items aside new : List (Entry T)) (n m : ℕ) (more : List (At T)) → aside ≡ gone → new ≡ items → m ≡ n → Fails (left_of (archive_kept gone items n)) more (left_of (archive_kept aside new m))
@@ -391,6 +466,27 @@ module _ {T D : Type 0} (name spelled : T → List ℕ) (fits : ℕ → T → Bo
   pub unopened_left : may_leave disk (seen_bytes disk) → LeavesOnly moment left_since disk later (IsOldOrNew (seen_bytes disk) (may_leave disk)) → ∥ IsArchiveLeft name spelled fits may_leave later (take n (map seen items)) (left_may gone items) ∥₁
   unopened_left image any = ∥∥₁_map crash_left (λ l. opening_left name spelled fits seen_bytes may_leave moment left_since counts_now 32 keyed one disk later (take n (map seen items)) (left_may gone items) image l any)
 
+  module _ (only_now : (d : D) (c : List ℕ) → left_since d (moment d) c → may_leave d c) where
+    -- what a crash at any moment leaves where no call was made
+    pub still_moments : StaysFound name spelled fits moment left_since first first (take n (map seen items)) (left_may gone items)
+    still_moments = ∥∥₁_map left (λ l. stayed moment left_since may_leave only_now first _ l.each)
+
+    module _ (time : Elapses (moment first) (moment disk) (left_since first) (left_since disk) (may_leave disk)) where
+      played : IsArchiveLeft name spelled fits may_leave first (take n (map seen items)) (left_may gone items) → LeavesOnly moment left_since first disk (IsArchiveFile name spelled fits (take n (map seen items)) (left_may gone items))
+      played l = goes_on moment left_since first first disk _ (may_leave disk) (stayed moment left_since may_leave only_now first _ l.each) time (λ c now. l.each c (narrows c now))
+
+      -- of a crash that was played
+      pub crash_moments : StaysFound name spelled fits moment left_since first disk (take n (map seen items)) (left_may gone items)
+      crash_moments = ∥∥₁_map left played
+
+      -- of an opening behind it
+      pub reopen_moments : may_leave disk (seen_bytes disk) → LeavesOnly moment left_since disk later (IsOldOrNew (seen_bytes disk) (may_leave disk)) → StaysFound name spelled fits moment left_since first later (take n (map seen items)) (left_may gone items)
+      reopen_moments image any = ∥∥₁_map left (λ l. and_then moment left_since first disk later _ _ (played l) any
+          (old_or_new name spelled fits seen_bytes may_leave moment left_since counts_now 32 keyed one disk (take n (map seen items)) (left_may gone items) image (narrowed_left name spelled fits seen_bytes may_leave first disk (take n (map seen items)) (left_may gone items) narrows l)))
+
+  pub not_damaged : (at : ℕ) → may_leave disk (seen_bytes disk) → IsDamaged (archive_bytes name spelled) (IsArchived fits spelled) at (seen_bytes disk) → ⊥
+  not_damaged at image damaged = ∥∥₁_elim crash_left nothing-prop (λ l. undamaged name spelled fits seen_bytes may_leave moment left_since counts_now 32 keyed one disk (take n (map seen items)) (left_may gone items) at image l damaged)
+
   fit_of_left : AllByRecursion (λ y. fits y.height y.value ≡ true) (left_may gone items)
   fit_of_left = ∥∥₁_elim left (AllByRecursion-prop _ (λ y. Coded-set coded_bool _ _) (left_may gone items)) (λ l. l.fit)
 
@@ -404,15 +500,23 @@ module _ {T D : Type 0} (name spelled : T → List ℕ) (fits : ℕ → T → Bo
       is = ap (λ l. record { held = map seen new; sure = l; may = map seen new }) all_sure;
     }
 
-    pub reopened_backed : (end : ℕ) → IsSettled (archive_bytes name spelled) (IsArchived fits spelled) seen_bytes may_leave records end later → AllByRecursion (λ y. fits y.height y.value ≡ true) (map seen new)
-        → ∥ IsBacked name spelled fits seen_bytes may_leave later end (take m (map seen new)) (map seen new) (map seen new) [] ∥₁
-    reopened_backed end settled fit = ∣ record { records = records; settled = settled; pending = sym held; good = tt; fit = fit } ∣₁
+    pub reopened_backed : (end accepted : ℕ) → IsSettled (archive_bytes name spelled) (IsArchived fits spelled) seen_bytes may_leave records end later → AllByRecursion (λ y. fits y.height y.value ≡ true) (map seen new)
+        → ∥ IsBacked name spelled fits seen_bytes may_leave later end (take m (map seen new)) (map seen new) new accepted [] [] ∥₁
+    reopened_backed end accepted settled fit = ∣ record { records = records; settled = settled; pending = sym held; good = tt; fit = fit } ∣₁
 
 -- a store just opened
-pub opened_backed : {T D : Type 0} (name spelled : T → List ℕ) (fits : ℕ → T → Bool) (seen_bytes : D → List ℕ) (may_leave : D → List ℕ → Type 0) (later : D) (records : List (ArchiveRecord T)) (new : List (Entry T)) (m end : ℕ) → map seen new ≡ kept_from name [] records
+pub opened_backed : {T D : Type 0} (name spelled : T → List ℕ) (fits : ℕ → T → Bool) (seen_bytes : D → List ℕ) (may_leave : D → List ℕ → Type 0) (later : D) (records : List (ArchiveRecord T)) (new : List (Entry T)) (m end accepted : ℕ) → map seen new ≡ kept_from name [] records
     → IsSettled (archive_bytes name spelled) (IsArchived fits spelled) seen_bytes may_leave records end later → AllByRecursion (λ y. fits y.height y.value ≡ true) (map seen new)
-    → ∥ IsBacked name spelled fits seen_bytes may_leave later end (take m (map seen new)) (map seen new) (map seen new) [] ∥₁
-opened_backed name spelled fits seen_bytes may_leave later records new m end held settled fit = ∣ record { records = records; settled = settled; pending = sym held; good = tt; fit = fit } ∣₁
+    → ∥ IsBacked name spelled fits seen_bytes may_leave later end (take m (map seen new)) (map seen new) new accepted [] [] ∥₁
+opened_backed name spelled fits seen_bytes may_leave later records new m end accepted held settled fit = ∣ record { records = records; settled = settled; pending = sym held; good = tt; fit = fit } ∣₁
 
 pub opened_kept : {T : Type 0} (new : List (Entry T)) (m : ℕ) (kept : List (At T)) → map seen new ≡ kept → take m (map seen new) ≡ map seen new → archive_kept [] new m ≡ reopened_store kept
 opened_kept new m kept held all_sure = ap (λ l. record { held = map seen new; sure = l; may = map seen new }) all_sure ∙ ap reopened_store held
+
+-- one call and those behind it
+pub stays_and_then : {T D : Type 0} (name spelled : T → List ℕ) (fits : ℕ → T → Bool) (moment : D → ℕ) (left_since : D → ℕ → List ℕ → Type 0) (old mid new : D) (sure may less more still all : List (At T))
+    → StaysFound name spelled fits moment left_since old mid sure may → StaysFound name spelled fits moment left_since mid new less more → KeepsValues still sure → KeepsValues still less → Within may all → Within more all
+    → StaysFound name spelled fits moment left_since old new still all
+stays_and_then name spelled fits moment left_since old mid new sure may less more still all first second fewer fewer_too wider wider_too = ∥∥₁_map₂ first second (λ f s. and_then moment left_since old mid new _ _
+    (weaker moment left_since old mid (IsArchiveFile name spelled fits still all) _ f (λ c is. (is.0, is.1, reopens_weaker sure may still all _ fewer wider is.2))) s
+    (λ c is. (is.0, is.1, reopens_weaker less more still all _ fewer_too wider_too is.2)))

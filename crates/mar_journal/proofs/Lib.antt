@@ -11,3 +11,4 @@ mod Heads
 mod WritingAll
 mod Replays
 mod ArchiveSteps
+mod Fronts

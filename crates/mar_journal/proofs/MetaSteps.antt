@@ -5,16 +5,18 @@ use Rattle.std.proofs.lemmas.List.{append-nil, length-map, take_more}
 use Rattle.std.specs.List.{AllByRecursion, list_any}
 use Rattle.mar_codec.specs.Varint.{varint}
 use Rattle.mar_codec.specs.VarintLemmas.{length-varint}
+use Rattle.mar_store.specs.Changes.{Within}
 use Rattle.mar_store.specs.Values.{LeavesValues, SetsValue, Values, no_values, others_of, with_key}
-use Rattle.mar_journal.specs.Disk.{LeavesOnly}
-use Rattle.mar_journal.specs.Format.{IsBatch, IsJournal, Stands, body}
-use Rattle.mar_journal.specs.Journal.{IsOldOrNew, IsSettled}
+use Rattle.mar_journal.specs.Disk.{Elapses, LeavesOnly, Narrows}
+use Rattle.mar_journal.specs.Format.{IsBatch, IsDamaged, IsJournal, Stands, body}
+use Rattle.mar_journal.specs.Journal.{Adds, IsOldOrNew, IsSettled}
 use Rattle.mar_journal.specs.MetaLemmas.{meta_one, meta_some}
 use Rattle.mar_journal.specs.MetaRecords.{IsMeta, changed_by, meta_bytes, record_by, record_for, values_by, values_from}
-use Rattle.mar_journal.specs.MetaStore.{IsMetaLeft, IsMetaStore, failed_in, left_by_meta, values_in}
+use Rattle.mar_journal.specs.MetaStore.{IsMetaFile, IsMetaLeft, IsMetaStore, failed_in, left_by_meta, values_in}
 use Rattle.mar_journal.specs.declared.meta_record.MetaRecord.{MetaRecord}
 use Rattle.mar_journal.specs.declared.meta_record.MetaRecord.TheVariants.{Remove, Set}
-use Rattle.mar_journal.proofs.Frames.{stands_one}
+use Rattle.mar_journal.proofs.Frames.{stands_one, stands_whole}
+use Rattle.mar_journal.proofs.Moments.{and_then, goes_on, stayed, weaker}
 
 -- maps with the same value of each key are one
 pub same_values : (v w : Values) → ((k : ℕ) → v k ≡ w k) → v ≡ w
@@ -189,29 +191,90 @@ module _ {D : Type 0} (seen : D → List ℕ) (may_leave : D → List ℕ → Ty
     few = subst (λ l. length l ≤ 2048) (sym is) (omega arith);
   }
 
+  -- what stands before a batch and behind it
+  either_file : (end : ℕ) (disk : D) (current synced : Values) (changed : List ℕ) (batch : List MetaRecord) → (s : IsMetaStore seen may_leave disk end current synced changed) → batch ≡ map (record_for current) changed
+      → (c : List ℕ) → Stands meta_bytes IsMeta s.records c ⊎ Stands meta_bytes IsMeta (s.records ++ batch) c → IsMetaFile (synced ∷ current ∷ []) c
+  either_file end disk current synced changed batch s are c (inl old) = (s.records, old, first_left synced (Some current) (values_by s.records) s.values_are)
+  either_file end disk current synced changed batch s are c (inr new) = (s.records ++ batch, new, second_left synced current (values_by (s.records ++ batch)) (ap (λ l. values_by (s.records ++ l)) are ∙ batch_leaves s.records current synced changed s.values_are s.kept))
+
+  -- what an opening leaves of a file
+  old_or_new : (disk : D) (left : List Values) → may_leave disk (seen disk) → IsMetaLeft may_leave disk left → (c : List ℕ) → IsOldOrNew (seen disk) (may_leave disk) c → IsMetaFile left c
+  old_or_new disk left image is c (inl old) = is c old
+  old_or_new disk left image is c (inr new) =
+      let here = is (seen disk) image in
+      let none : here.0 ≡ [] = stands_one meta_bytes IsMeta meta_one meta_some here.0 [] (seen disk) here.1 (inl (new.0, refl)) in
+      ([], inl (new.1, refl), subst (λ l. Contains left (values_by l)) none here.2)
+
   module _ (moment : D → ℕ) (left_since : D → ℕ → List ℕ → Type 0) (counts_now : (d : D) (t : ℕ) (c : List ℕ) → t ≤ moment d → may_leave d c → left_since d t c) where
     -- what a sync leaves that failed
     pub sync_left : (disk later : D) (end : ℕ) (current synced : Values) (changed : List ℕ) (batch : List MetaRecord) → (s : IsMetaStore seen may_leave disk end current synced changed)
         → batch ≡ map (record_for current) changed → LeavesOnly moment left_since disk later (λ c. Stands meta_bytes IsMeta s.records c ⊎ Stands meta_bytes IsMeta (s.records ++ batch) c)
         → IsMetaLeft may_leave later (left_by_meta synced (Some current))
-    sync_left disk later end current synced changed batch s are any = λ c left. elim (any.each c (counts_now later (moment disk) c any.later left)) [
-      | inl old ↦ (s.records, old, first_left synced (Some current) (values_by s.records) s.values_are)
-      | inr new ↦ (s.records ++ batch, new, second_left synced current (values_by (s.records ++ batch)) (ap (λ l. values_by (s.records ++ l)) are ∙ batch_leaves s.records current synced changed s.values_are s.kept))
-    ]
+    sync_left disk later end current synced changed batch s are any = λ c left. either_file end disk current synced changed batch s are c (any.each c (counts_now later (moment disk) c any.later left))
 
     -- what an opening leaves that failed
     pub opening_left : (disk later : D) (left : List Values) → may_leave disk (seen disk) → IsMetaLeft may_leave disk left → LeavesOnly moment left_since disk later (IsOldOrNew (seen disk) (may_leave disk))
         → IsMetaLeft may_leave later left
-    opening_left disk later left image is any = λ c now. elim (any.each c (counts_now later (moment disk) c any.later now)) [
-      | inl old ↦ is c old
-      | inr new ↦
-          let here = is (seen disk) image in
-          let none : here.0 ≡ [] = stands_one meta_bytes IsMeta meta_one meta_some here.0 [] (seen disk) here.1 (inl (new.0, refl)) in
-          ([], inl (new.1, refl), subst (λ l. Contains left (values_by l)) none here.2)
-    ]
+    opening_left disk later left image is any = λ c now. old_or_new disk left image is c (any.each c (counts_now later (moment disk) c any.later now))
+
+  -- what a sync writes
+  pub adds_batch : (disk later : D) (end new : ℕ) (current synced : Values) (changed : List ℕ) (batch : List MetaRecord) → (s : IsMetaStore seen may_leave disk end current synced changed) → batch ≡ map (record_for current) changed
+      → IsSettled meta_bytes IsMeta seen may_leave (s.records ++ batch) new later → Adds meta_bytes IsMeta seen may_leave (map (record_for current) changed) disk later
+  adds_batch disk later end new current synced changed batch s are settled = record {
+    records = s.records;
+    end = end;
+    settled = s.settled;
+    later_end = new;
+    added = subst (λ l. IsSettled meta_bytes IsMeta seen may_leave (s.records ++ l) new later) are settled;
+  }
+
+  pub adds_none : (disk : D) (end : ℕ) (current synced : Values) (changed : List ℕ) → IsMetaStore seen may_leave disk end current synced changed → changed ≡ [] → Adds meta_bytes IsMeta seen may_leave (map (record_for current) changed) disk disk
+  adds_none disk end current synced changed s none = record {
+    records = s.records;
+    end = end;
+    settled = s.settled;
+    later_end = end;
+    added = subst (λ l. IsSettled meta_bytes IsMeta seen may_leave l end disk) (sym (append-nil s.records) ∙ ap (λ l. s.records ++ map (record_for current) l) (sym none)) s.settled;
+  }
+
+  module _ (moment : D → ℕ) (left_since : D → ℕ → List ℕ → Type 0) where
+    -- what a crash at any moment of a sync leaves
+    pub sync_moments : (disk later : D) (end : ℕ) (current synced : Values) (changed : List ℕ) (batch : List MetaRecord) → (s : IsMetaStore seen may_leave disk end current synced changed)
+        → batch ≡ map (record_for current) changed → LeavesOnly moment left_since disk later (λ c. Stands meta_bytes IsMeta s.records c ⊎ Stands meta_bytes IsMeta (s.records ++ batch) c)
+        → LeavesOnly moment left_since disk later (IsMetaFile (synced ∷ current ∷ []))
+    sync_moments disk later end current synced changed batch s are any =
+        weaker moment left_since disk later (IsMetaFile (synced ∷ current ∷ [])) _ any (either_file end disk current synced changed batch s are)
+
+    module _ (only_now : (d : D) (c : List ℕ) → left_since d (moment d) c → may_leave d c) where
+      pub idle_moments : (disk : D) (end : ℕ) (current synced : Values) (changed : List ℕ) → IsMetaStore seen may_leave disk end current synced changed → LeavesOnly moment left_since disk disk (IsMetaFile (synced ∷ current ∷ []))
+      idle_moments disk end current synced changed s = stayed moment left_since may_leave only_now disk (IsMetaFile (synced ∷ current ∷ [])) (store_left disk end current synced changed (Some current) s)
+
+      pub wreck_moments : (disk : D) (left : List Values) → IsMetaLeft may_leave disk left → LeavesOnly moment left_since disk disk (IsMetaFile left)
+      wreck_moments disk left is = stayed moment left_since may_leave only_now disk (IsMetaFile left) is
+
+      -- of a crash that was played
+      pub crash_moments : (wreck disk : D) (left : List Values) → IsMetaLeft may_leave wreck left → Narrows (may_leave wreck) (may_leave disk) → Elapses (moment wreck) (moment disk) (left_since wreck) (left_since disk) (may_leave disk)
+          → LeavesOnly moment left_since wreck disk (IsMetaFile left)
+      crash_moments wreck disk left is narrows time = goes_on moment left_since wreck wreck disk (IsMetaFile left) (may_leave disk) (wreck_moments wreck left is) time (λ c now. is c (narrows c now))
+
+      -- of an opening behind it
+      pub reopen_moments : (wreck disk later : D) (left : List Values) → IsMetaLeft may_leave wreck left → Narrows (may_leave wreck) (may_leave disk) → Elapses (moment wreck) (moment disk) (left_since wreck) (left_since disk) (may_leave disk)
+          → may_leave disk (seen disk) → LeavesOnly moment left_since disk later (IsOldOrNew (seen disk) (may_leave disk)) → LeavesOnly moment left_since wreck later (IsMetaFile left)
+      reopen_moments wreck disk later left is narrows time image any =
+          and_then moment left_since wreck disk later (IsMetaFile left) (IsOldOrNew (seen disk) (may_leave disk)) (crash_moments wreck disk left is narrows time) any (old_or_new disk left image (λ c now. is c (narrows c now)))
+
+  -- a file that stands for a map isn't damaged
+  pub undamaged : (disk : D) (left : List Values) (at : ℕ) → may_leave disk (seen disk) → IsMetaLeft may_leave disk left → IsDamaged meta_bytes IsMeta at (seen disk) → ⊥
+  undamaged disk left at image is damaged = let here = is (seen disk) image in stands_whole meta_bytes IsMeta meta_one meta_some here.0 at (seen disk) here.1 damaged
 
   -- what an opening finds is one of what may be left
   pub opening_finds : (disk : D) (left : List Values) (records : List MetaRecord) → may_leave disk (seen disk) → IsMetaLeft may_leave disk left → Stands meta_bytes IsMeta records (seen disk) → Contains left (values_by records)
   opening_finds disk left records image is stands =
       let here = is (seen disk) image in
       subst (λ l. Contains left (values_by l)) (stands_one meta_bytes IsMeta meta_one meta_some here.0 records (seen disk) here.1 stands) here.2
+
+-- one call and those behind it
+pub leaves_and_then : {D : Type 0} (moment : D → ℕ) (left_since : D → ℕ → List ℕ → Type 0) (old mid new : D) (left later all : List Values) → LeavesOnly moment left_since old mid (IsMetaFile left) → LeavesOnly moment left_since mid new (IsMetaFile later)
+    → Within left all → Within later all → LeavesOnly moment left_since old new (IsMetaFile all)
+leaves_and_then moment left_since old mid new left later all first second wider wider_too = and_then moment left_since old mid new _ _
+    (weaker moment left_since old mid (IsMetaFile all) _ first (λ c is. (is.0, is.1, wider _ is.2))) second (λ c is. (is.0, is.1, wider_too _ is.2))

@@ -23,3 +23,15 @@ module _ {D : Type 0} (moment : D → ℕ) (left_since : D → ℕ → List ℕ 
     each = λ c left. ⊎_elim (first.each c) (weaker c) (second.before (moment old) c first.later left);
     before = λ t c le left. ⊎_elim (first.before t c le) (λ q. inr (weaker c q)) (second.before t c (omega (arith, le, first.later)) left);
   }
+
+  -- the same, of bytes that have more
+  pub weaker : (old new : D) (P Q : List ℕ → Type 0) → LeavesOnly moment left_since old new Q → ((c : List ℕ) → Q c → P c) → LeavesOnly moment left_since old new P
+  weaker old new P Q any leads = record {
+    later = any.later;
+    each = λ c left. leads c (any.each c left);
+    before = λ t c le left. ⊎_elim (λ earlier. inl earlier) (λ q. inr (leads c q)) (any.before t c le left);
+  }
+
+  -- where no call was made
+  pub stayed : (may_leave : D → List ℕ → Type 0) (only_now : (d : D) (c : List ℕ) → left_since d (moment d) c → may_leave d c) (old : D) (P : List ℕ → Type 0) → ((c : List ℕ) → may_leave old c → P c) → LeavesOnly moment left_since old old P
+  stayed may_leave only_now old P here = started old P (λ c left. here c (only_now old c left))

@@ -1,15 +1,17 @@
 -- An archive that is a journal: how what waits leads from the values on the disk to those that are held.
-use Rattle.std.specs.Prelude.{Bool, List, [], map, min, suc, take, true, ℕ, ◌++◌, ◌+◌, ◌-◌, ◌^◌, ◌∷◌, ◌≡◌}
+use Rattle.std.specs.Prelude.{Bool, List, [], drop, get_or, length, map, min, suc, take, true, ℕ, ◌++◌, ◌+◌, ◌-◌, ◌<◌, ◌^◌, ◌∷◌, ◌≡◌, ◌≤◌, ◌⊎◌}
 use Rattle.std.proofs.Common.{arith}
 use Rattle.std.specs.List.{AllByRecursion}
-use Rattle.mar_store.specs.Entries.{seen}
-use Rattle.mar_store.specs.Changes.{IsNested, Within}
+use Rattle.mar_store.specs.Entries.{covered_by, seen}
+use Rattle.mar_store.specs.Tickets.{last_number}
+use Rattle.mar_store.specs.Changes.{IsNested, KeepsValues, Within}
 use Rattle.mar_store.specs.Kept.{At, EachHeightOnce, Kept, Reopens}
 use Rattle.mar_store.specs.Nested.{front_within, kept_nested}
 use Rattle.mar_store.specs.declared.Lost.{Lost}
 use Rattle.mar_store.specs.declared.Lost.TheVariants.{Fault, Memory}
 use Rattle.mar_store.specs.declared.Entry.{Entry}
 use Rattle.mar_journal.specs.ArchiveRecords.{IsArchived, archive_bytes, kept_by, kept_from}
+use Rattle.mar_journal.specs.Disk.{LeavesOnly}
 use Rattle.mar_journal.specs.Format.{Stands}
 use Rattle.mar_journal.specs.Journal.{IsSettled}
 use Rattle.mar_journal.specs.Records.{IsWritable}
@@ -23,26 +25,48 @@ left_may gone items = map seen gone ++ map seen items
 abbrev pub archive_kept : {T : Type 0} → List (Entry T) → List (Entry T) → ℕ → Kept (At T)
 archive_kept gone items synced = record { held = map seen items; sure = take synced (map seen items); may = left_may gone items }
 
--- The values on the disk, and those after each waiting record, are ones that a reopening may find. After all of them they
--- are those that are held.
-abbrev pub Pending : {T : Type 0} → (T → List ℕ) → List (At T) → List (At T) → List (At T) → List (At T) → List (ArchiveRecord T) → Type 0
-Pending name sure may held kept [] = kept ≡ held
-Pending name sure may held kept (r ∷ rs) = Reopens sure may kept × Pending name sure may held (kept_by name kept r) rs
+-- Before a waiting record the file's values are ones that a reopening may find, and all that a ticket below its mark covers
+-- is among them.
+pub record Waits {T : Type 0} (sure may : List (At T)) (items : List (Entry T)) (accepted mark : ℕ) (kept : List (At T)) : Type 0 where
+  pub found : Reopens sure may kept
+  pub covered : (t : ℕ) → t < mark → KeepsValues (covered_by items t) kept
+  pub upto : mark ≤ accepted + 1
+  pub last : mark ≤ last_number
+
+-- So it is before each waiting record, and after all of them the file's values are those that are held.
+abbrev pub Pending : {T : Type 0} → (T → List ℕ) → List (At T) → List (At T) → List (Entry T) → ℕ → List (At T) → List (ArchiveRecord T) → List ℕ → Type 0
+Pending name sure may items accepted kept [] [] = kept ≡ map seen items
+Pending name sure may items accepted kept [] (n ∷ ns) = ⊥
+Pending name sure may items accepted kept (r ∷ rs) [] = ⊥
+Pending name sure may items accepted kept (r ∷ rs) (n ∷ ns) = Waits sure may items accepted n kept × Pending name sure may items accepted (kept_by name kept r) rs ns
 
 -- The journal's records and those that wait lead to what is held.
-pub record IsBacked {T D : Type 0} (name spelled : T → List ℕ) (fits : ℕ → T → Bool) (seen : D → List ℕ) (may_leave : D → List ℕ → Type 0) (disk : D) (end : ℕ)
-    (sure may held : List (At T)) (waiting : List (ArchiveRecord T)) : Type 0 where
+pub record IsBacked {T D : Type 0} (name spelled : T → List ℕ) (fits : ℕ → T → Bool) (seen_bytes : D → List ℕ) (may_leave : D → List ℕ → Type 0) (disk : D) (end : ℕ)
+    (sure may : List (At T)) (items : List (Entry T)) (accepted : ℕ) (waiting : List (ArchiveRecord T)) (marks : List ℕ) : Type 0 where
   pub records : List (ArchiveRecord T)
-  pub settled : IsSettled (archive_bytes name spelled) (IsArchived fits spelled) seen may_leave records end disk
-  pub pending : Pending name sure may held (kept_from name [] records) waiting
+  pub settled : IsSettled (archive_bytes name spelled) (IsArchived fits spelled) seen_bytes may_leave records end disk
+  pub pending : Pending name sure may items accepted (kept_from name [] records) waiting marks
   pub good : AllByRecursion (IsWritable (archive_bytes name spelled) (IsArchived fits spelled)) waiting
   pub fit : AllByRecursion (λ x. fits x.height x.value ≡ true) may
 
+-- How many of the waiting records a ticket has written: all up to the last whose mark isn't above its number.
+pub record IsFront (t : ℕ) (marks : List ℕ) (count : ℕ) : Type 0 where
+  pub within : count ≤ length marks
+  pub later : AllByRecursion (λ n. t < n) (drop count marks)
+  pub last : (count ≡ 0) ⊎ (get_or marks (count - 1) 0 ≤ t)
+
+-- the file stands for values that a reopening may find
+abbrev pub IsArchiveFile : {T : Type 0} → (T → List ℕ) → (T → List ℕ) → (ℕ → T → Bool) → List (At T) → List (At T) → List ℕ → Type 0
+IsArchiveFile name spelled fits sure may file = (records : List (ArchiveRecord _)) × Stands (archive_bytes name spelled) (IsArchived fits spelled) records file × Reopens sure may (kept_from name [] records)
+
 -- Each image stands for values that a reopening may find.
 pub record IsArchiveLeft {T D : Type 0} (name spelled : T → List ℕ) (fits : ℕ → T → Bool) (may_leave : D → List ℕ → Type 0) (disk : D) (sure may : List (At T)) : Type 0 where
-  pub each : (c : List ℕ) → may_leave disk c
-      → (records : List (ArchiveRecord T)) × Stands (archive_bytes name spelled) (IsArchived fits spelled) records c × Reopens sure may (kept_from name [] records)
+  pub each : (c : List ℕ) → may_leave disk c → IsArchiveFile name spelled fits sure may c
   pub fit : AllByRecursion (λ x. fits x.height x.value ≡ true) may
+
+-- At each moment since old a crash leaves a file of values that a reopening may find.
+abbrev pub StaysFound : {T D : Type 0} → (T → List ℕ) → (T → List ℕ) → (ℕ → T → Bool) → (D → ℕ) → (D → ℕ → List ℕ → Type 0) → D → D → List (At T) → List (At T) → Type 0
+StaysFound name spelled fits moment left_since old new sure may = ∥ LeavesOnly moment left_since old new (IsArchiveFile name spelled fits sure may) ∥₁
 
 pub within_right : {X : Type 0} (xs ys : List X) → Within ys (xs ++ ys)
 within_right [] ys x has = has

@@ -1,5 +1,5 @@
 -- A journal on a disk.
-use Rattle.std.specs.Prelude.{List, ℕ, ◌≡◌, ◌⊎◌, ⊤}
+use Rattle.std.specs.Prelude.{List, ℕ, ◌++◌, ◌≡◌, ◌⊎◌, ⊤}
 use Rattle.mar_codec.specs.Causes.{Rose}
 use Rattle.mar_journal.specs.Disk.{Only}
 use Rattle.mar_journal.specs.Format.{IsDamaged, IsJournal, IsNew}
@@ -11,6 +11,14 @@ pub record IsSettled {R D : Type 0} (spelled : R → List ℕ) (Valid : R → Ty
     (records : List R) (end : ℕ) (disk : D) : Type 0 where
   pub journal : IsJournal spelled Valid records end (seen disk)
   pub only : Only (seen disk) (may_leave disk)
+
+-- The journal of the second disk has the records of the first one's, and behind them these.
+pub record Adds {R D : Type 0} (spelled : R → List ℕ) (Valid : R → Type 0) (seen : D → List ℕ) (may_leave : D → List ℕ → Type 0) (more : List R) (old new : D) : Type 0 where
+  pub records : List R
+  pub end : ℕ
+  pub settled : IsSettled spelled Valid seen may_leave records end old
+  pub later_end : ℕ
+  pub added : IsSettled spelled Valid seen may_leave (records ++ more) later_end new
 
 -- Why a journal isn't opened: the disk failed, or its bytes show damage at that place.
 abbrev pub HasReason : {R : Type 0} → (R → List ℕ) → (R → Type 0) → ℕ → ℕ → List ℕ → Unopened → Type 0

@@ -79,6 +79,7 @@ pub fn write_all<R: Record, D: Disk>(
         → IfOk result (λ e. IsSettled R.spelled R.valid D.seen D.may_leave (before ++ records.now) e disk.new) }
     ensures any_moment { (before : List R) → IsSettled R.spelled R.valid D.seen D.may_leave before end disk.old
         → LeavesOnly D.moment D.left_since disk.old disk.new (StandsUpto R.spelled R.valid before records.now) }
+    ensures idle { records.now ≡ [] → disk.new ≡ disk.old }
     ensures cause { Answers (D.faults disk.old) (D.faults disk.new) result }
 {
     let mut end = end;

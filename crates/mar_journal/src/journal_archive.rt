@@ -1,55 +1,56 @@
 //! An archive that is a journal.
-ghost use Rattle.std.specs.Prelude.{◌≡◌, ◌<◌, ◌≤◌, ◌^◌, [], ◌++◌, ◌∷◌, List, not, fold, filter, is_some, length, map, nat_le, take, true, false, IfErr, IfOk, MatchResult, OnErr, OnOk};
+ghost use Rattle.std.specs.Prelude.{◌≡◌, ◌<◌, ◌≤◌, ◌^◌, [], ◌++◌, ◌∷◌, List, ℕ, None, not, filter, map, nat_le, take, true, IfErr, IfOk, MatchResult, drop, length};
+ghost use Rattle.std.specs.List.{AllByRecursion};
 ghost use Rattle.mar_store.specs.Changes.{Fails, Finishes, IsReopened, Prunes, Puts, Syncs, heights, left_of};
 ghost use Rattle.mar_store.specs.Entries.{covered_by, seen};
-ghost use Rattle.mar_store.specs.Kept.{Reopens, reopened_store};
+ghost use Rattle.mar_store.specs.Kept.{reopened_store};
 ghost use Rattle.mar_store.specs.Lost.{wreck_of};
-ghost use Rattle.mar_store.specs.Named.{is_taken, value_found};
-ghost use Rattle.mar_store.specs.Nested.{covers_last};
+ghost use Rattle.mar_store.specs.Named.{is_taken};
 ghost use Rattle.mar_store.specs.Ranges.{ranges, with_height};
-ghost use Rattle.mar_store.specs.Tickets.{KeepsCovers, KeepsCoversFrom};
-ghost use Rattle.mar_store.specs.Watch.{Heeds, HeedsRead};
+ghost use Rattle.mar_store.specs.Tickets.{KeepsCovers};
 ghost use Rattle.mar_journal.specs.ArchiveRecords.{IsArchived, archive_bytes, kept_from};
-ghost use Rattle.mar_journal.specs.ArchiveStore.{CountsLost, IsArchiveLeft, IsBacked, archive_kept, archive_nested, archive_within, left_may};
+ghost use Rattle.mar_journal.specs.ArchiveStore.{CountsLost, IsArchiveLeft, IsBacked, StaysFound, archive_kept, archive_within, left_may};
+ghost use Rattle.mar_journal.specs.Disk.{LeavesOnly};
 ghost use Rattle.mar_journal.specs.Format.{Stands};
-ghost use Rattle.mar_journal.specs.Journal.{HasReason};
+ghost use Rattle.mar_journal.specs.Journal.{Adds, HasReason, IsOldOrNew};
 ghost use Rattle.mar_journal.specs.declared.archive_record.ArchiveRecord.{ArchiveRecord};
-ghost use Rattle.mar_journal.specs.Watches.{journal_watch};
+ghost use Rattle.mar_journal.specs.Watches.{HasFaultCause, journal_watch};
 
+use crate::archive_drafts::{add_waiting, drop_front, set_aside};
 use crate::archive_opening::open_entries;
 use crate::{ArchiveRecord, Disk, JournalItem, Unopened, write_all};
-use mar_store::{
-    Alarm, Archive, ArchiveRuin, Entries, Entry, Identifier, Lost, Miss, Pile, RangeSet, SyncTicket,
-};
+use mar_store::{Alarm, ArchiveRuin, Entries, Entry, Lost, Miss, Pile, RangeSet};
 use std::alloc::{AllocError, Global};
 
-/// Values in memory and in a journal, and the records that wait until a sync writes them. What was pruned since the last
-/// sync is kept aside, since a crash may bring it back.
+/// Values in memory and in a journal, and the records that wait until a sync writes them: beside each its mark, the number
+/// of the first ticket that has it written. What was pruned since the last sync is kept aside, since a crash may bring it
+/// back.
 #[derive(Drop)]
 pub struct JournalArchive<T: JournalItem, D: Disk> {
-    alloc: Global,
-    entries: Entries<T>,
-    gone: Vec<Entry<T>>,
-    may: RangeSet,
-    waiting: Vec<ArchiveRecord<T>>,
+    pub(crate) alloc: Global,
+    pub(crate) entries: Entries<T>,
+    pub(crate) gone: Vec<Entry<T>>,
+    pub(crate) may: RangeSet,
+    pub(crate) waiting: Vec<ArchiveRecord<T>>,
+    pub(crate) marks: Vec<u64>,
     disk: D,
     end: usize,
-    alarm: Alarm,
+    pub(crate) alarm: Alarm,
     ghost may_is: { may ≡ ranges (heights (left_may gone.items entries.pile.items.items)) },
     ghost backed: { ∥ IsBacked T.name T.spelled T.fits D.seen D.may_leave disk end (take entries.pile.synced (map seen entries.pile.items.items))
-        (left_may gone.items entries.pile.items.items) (map seen entries.pile.items.items) waiting.items ∥₁ },
+        (left_may gone.items entries.pile.items.items) entries.pile.items.items entries.pile.accepted waiting.items marks.items ∥₁ },
 }
 
 /// What is left of a `JournalArchive`: a disk, and what it may have.
 #[derive(Drop)]
 pub struct JournalArchiveWreck<T: JournalItem, D: Disk> {
     alloc: Global,
-    pile: Pile<T>,
+    pub(crate) pile: Pile<T>,
     gone: Vec<Entry<T>>,
-    may: RangeSet,
+    pub(crate) may: RangeSet,
     disk: D,
-    damage: Option<usize>,
-    alarm: Alarm,
+    pub(crate) damage: Option<usize>,
+    pub(crate) alarm: Alarm,
     ghost may_is: { may ≡ ranges (heights (left_may gone.items pile.items.items)) },
     ghost is_left: { ∥ IsArchiveLeft T.name T.spelled T.fits D.may_leave disk (take pile.synced (map seen pile.items.items))
         (left_may gone.items pile.items.items) ∥₁ },
@@ -64,6 +65,9 @@ impl<T: JournalItem, D: Disk> JournalArchive<T, D> {
             × (s.alarm.faults ≡ 0) × (s.alarm.due.items ≡ [])) }
         ensures reason { IfErr result (λ e. HasReason (archive_bytes T.name T.spelled) (IsArchived T.fits T.spelled)
             (D.faults disk) (D.faults e.1) (D.seen disk) e.0) }
+        ensures any_moment { MatchResult result
+            (λ s. LeavesOnly D.moment D.left_since disk s.disk (IsOldOrNew (D.seen disk) (D.may_leave disk)))
+            (λ e. LeavesOnly D.moment D.left_since disk e.1 (IsOldOrNew (D.seen disk) (D.may_leave disk))) }
     {
         let mut disk = disk;
         match open_entries(alloc, &mut disk) {
@@ -73,6 +77,7 @@ impl<T: JournalItem, D: Disk> JournalArchive<T, D> {
                 gone: Vec::new(alloc),
                 may: held,
                 waiting: Vec::new(alloc),
+                marks: Vec::new(alloc),
                 disk,
                 end,
                 alarm: Alarm::new(alloc),
@@ -89,11 +94,21 @@ impl<T: JournalItem, D: Disk> JournalArchive<T, D> {
         disk
     }
 
+    /// A law: at rest a crash leaves a file in which a reopening finds all that is sure, and nothing but what may be left.
+    pub fn at_rest(&self)
+        ensures { StaysFound T.name T.spelled T.fits D.moment D.left_since self.now.disk self.now.disk
+            (take self.now.entries.pile.synced (map seen self.now.entries.pile.items.items))
+            (left_may self.now.gone.items self.now.entries.pile.items.items) }
+    {
+        let _ = &self.disk;
+    }
+
     // What is left where nothing was written.
-    fn left(self) -> JournalArchiveWreck<T, D>
+    pub(crate) fn left(self) -> JournalArchiveWreck<T, D>
         ensures pile { result.pile ≡ self.entries.pile }
         ensures gone { result.gone ≡ self.gone }
         ensures alarm { result.alarm ≡ self.alarm }
+        ensures disk { result.disk ≡ self.disk }
     {
         let JournalArchive {
             alloc,
@@ -116,7 +131,7 @@ impl<T: JournalItem, D: Disk> JournalArchive<T, D> {
     }
 
     // Puts a value, whose record waits.
-    fn place(
+    pub(crate) fn place(
         self,
         index: u64,
         item: T,
@@ -139,6 +154,7 @@ impl<T: JournalItem, D: Disk> JournalArchive<T, D> {
         ensures covers { IfOk result (λ s. KeepsCovers self.entries.pile.accepted (covered_by self.entries.pile.items.items)
             (covered_by s.entries.pile.items.items)) }
         ensures alarm { MatchResult result (λ s. s.alarm ≡ self.alarm) (λ w. w.alarm ≡ self.alarm) }
+        ensures disk { MatchResult result (λ s. s.disk ≡ self.disk) (λ w. w.disk ≡ self.disk) }
     {
         let JournalArchive {
             alloc,
@@ -146,11 +162,13 @@ impl<T: JournalItem, D: Disk> JournalArchive<T, D> {
             gone,
             may,
             mut waiting,
+            mut marks,
             disk,
             end,
             alarm,
         } = self;
         let count = entries.pile.items.len();
+        let number = entries.pile.ticket().number();
         match entries.put(index, item) {
             Err(pile) if pile.items.len() == count => Err(JournalArchiveWreck {
                 alloc,
@@ -176,17 +194,24 @@ impl<T: JournalItem, D: Disk> JournalArchive<T, D> {
                 gone,
                 may,
                 waiting,
+                marks,
                 disk,
                 end,
                 alarm,
             }),
-            Ok(entries) => match waiting.push(change) {
+            Ok(entries) => match add_waiting(
+                &mut waiting,
+                &mut marks,
+                change,
+                number.saturating_add(1),
+            ) {
                 Ok(()) => Ok(JournalArchive {
                     alloc,
                     entries,
                     gone,
                     may: grown,
                     waiting,
+                    marks,
                     disk,
                     end,
                     alarm,
@@ -205,7 +230,7 @@ impl<T: JournalItem, D: Disk> JournalArchive<T, D> {
     }
 
     // Makes all sure that is held, when it is written. It is given the ranges of what is held.
-    fn make_sure(self, held: RangeSet) -> Result<Self, JournalArchiveWreck<T, D>>
+    pub(crate) fn make_sure(self, held: RangeSet) -> Result<Self, JournalArchiveWreck<T, D>>
         requires waiting { self.waiting.items ≡ [] }
         requires held { held ≡ ranges (heights (map seen self.entries.pile.items.items)) }
         ensures done { MatchResult result
@@ -215,7 +240,9 @@ impl<T: JournalItem, D: Disk> JournalArchive<T, D> {
             (left_of (archive_kept w.gone.items w.pile.items.items w.pile.synced))) }
         ensures items { IfOk result (λ s. s.entries.pile.items.items ≡ self.entries.pile.items.items) }
         ensures tickets { IfOk result (λ s. s.entries.pile.accepted ≡ self.entries.pile.accepted) }
+        ensures waiting { IfOk result (λ s. s.waiting ≡ self.waiting) }
         ensures alarm { MatchResult result (λ s. s.alarm ≡ self.alarm) (λ w. w.alarm ≡ self.alarm) }
+        ensures disk { MatchResult result (λ s. s.disk ≡ self.disk) (λ w. w.disk ≡ self.disk) }
     {
         let JournalArchive {
             alloc,
@@ -223,6 +250,7 @@ impl<T: JournalItem, D: Disk> JournalArchive<T, D> {
             mut gone,
             may,
             waiting,
+            marks,
             disk,
             end,
             alarm,
@@ -236,6 +264,7 @@ impl<T: JournalItem, D: Disk> JournalArchive<T, D> {
                     gone,
                     may: held,
                     waiting,
+                    marks,
                     disk,
                     end,
                     alarm,
@@ -254,8 +283,8 @@ impl<T: JournalItem, D: Disk> JournalArchive<T, D> {
     }
 
     // Makes sure what the ticket of a number covers, when it is written.
-    fn make_covered_sure(self, number: u64) -> Result<Self, JournalArchiveWreck<T, D>>
-        requires waiting { self.waiting.items ≡ [] }
+    pub(crate) fn make_covered_sure(self, number: u64) -> Result<Self, JournalArchiveWreck<T, D>>
+        requires later { AllByRecursion (λ n. number < n) self.marks.items }
         ensures done { MatchResult result
             (λ s. Finishes (covered_by self.entries.pile.items.items number)
             (archive_kept self.gone.items self.entries.pile.items.items self.entries.pile.synced)
@@ -264,7 +293,10 @@ impl<T: JournalItem, D: Disk> JournalArchive<T, D> {
             (left_of (archive_kept w.gone.items w.pile.items.items w.pile.synced))) }
         ensures items { IfOk result (λ s. s.entries.pile.items.items ≡ self.entries.pile.items.items) }
         ensures tickets { IfOk result (λ s. s.entries.pile.accepted ≡ self.entries.pile.accepted) }
+        ensures waiting { IfOk result (λ s. s.waiting ≡ self.waiting) }
+        ensures marks { IfOk result (λ s. s.marks ≡ self.marks) }
         ensures alarm { MatchResult result (λ s. s.alarm ≡ self.alarm) (λ w. w.alarm ≡ self.alarm) }
+        ensures disk { MatchResult result (λ s. s.disk ≡ self.disk) (λ w. w.disk ≡ self.disk) }
     {
         let JournalArchive {
             alloc,
@@ -272,6 +304,7 @@ impl<T: JournalItem, D: Disk> JournalArchive<T, D> {
             gone,
             may,
             waiting,
+            marks,
             disk,
             end,
             alarm,
@@ -283,6 +316,7 @@ impl<T: JournalItem, D: Disk> JournalArchive<T, D> {
                 gone,
                 may,
                 waiting,
+                marks,
                 disk,
                 end,
                 alarm,
@@ -300,7 +334,7 @@ impl<T: JournalItem, D: Disk> JournalArchive<T, D> {
     }
 
     // Takes out what is below an index, and sets it aside. It is given copies of that, and the ranges of what may be left.
-    fn cut(
+    pub(crate) fn cut(
         self,
         min: u64,
         more: Vec<Entry<T>>,
@@ -318,6 +352,7 @@ impl<T: JournalItem, D: Disk> JournalArchive<T, D> {
         ensures cut { IfOk result (λ s. s.entries.pile.items.items ≡ filter (λ e. nat_le min e.index) self.entries.pile.items.items) }
         ensures tickets { IfOk result (λ s. s.entries.pile.accepted ≡ self.entries.pile.accepted) }
         ensures alarm { MatchResult result (λ s. s.alarm ≡ self.alarm) (λ w. w.alarm ≡ self.alarm) }
+        ensures disk { MatchResult result (λ s. s.disk ≡ self.disk) (λ w. w.disk ≡ self.disk) }
     {
         let JournalArchive {
             alloc,
@@ -325,12 +360,15 @@ impl<T: JournalItem, D: Disk> JournalArchive<T, D> {
             mut gone,
             may,
             mut waiting,
+            mut marks,
             disk,
             end,
             alarm,
         } = self;
         let count = gone.len();
-        match set_aside(&mut waiting, &mut gone, more, min) {
+        // Tickets count puts alone, so a prune goes with the put before it.
+        let number = entries.pile.ticket().number();
+        match set_aside(&mut waiting, &mut marks, &mut gone, more, min, number) {
             Err(_) => Err(JournalArchiveWreck {
                 alloc,
                 pile: entries.into_pile(),
@@ -347,6 +385,7 @@ impl<T: JournalItem, D: Disk> JournalArchive<T, D> {
                     gone,
                     may: ranges_after,
                     waiting,
+                    marks,
                     disk,
                     end,
                     alarm,
@@ -367,16 +406,27 @@ impl<T: JournalItem, D: Disk> JournalArchive<T, D> {
         }
     }
 
-    // Writes all that waits.
-    fn flush(self) -> Result<Self, Lost<JournalArchiveWreck<T, D>>>
+    // Writes so many of the records that wait, from the first on.
+    pub(crate) fn flush(self, count: usize) -> Result<Self, Lost<JournalArchiveWreck<T, D>>>
+        requires count { count ≤ length self.waiting.items }
         ensures entries { IfOk result (λ s. s.entries ≡ self.entries) }
         ensures gone { IfOk result (λ s. s.gone ≡ self.gone) }
-        ensures waiting { IfOk result (λ s. s.waiting.items ≡ []) }
+        ensures waiting { IfOk result (λ s. s.waiting.items ≡ drop count self.waiting.items) }
+        ensures marks { IfOk result (λ s. s.marks.items ≡ drop count self.marks.items) }
         ensures alarm { IfOk result (λ s. s.alarm ≡ self.alarm) }
         ensures left { IfErr result (λ l. (wreck_of l).pile ≡ self.entries.pile) }
         ensures left_gone { IfErr result (λ l. (wreck_of l).gone ≡ self.gone) }
         ensures due { IfErr result (λ l. (wreck_of l).alarm.due.items ≡ self.alarm.due.items) }
         ensures counts { IfErr result (CountsLost (λ w. w.alarm.faults) self.alarm.faults) }
+        ensures cause { (due : List ℕ) → IfErr result (HasFaultCause (λ w. D.faults w.disk) due (D.faults self.disk)) }
+        ensures any_moment { MatchResult result
+            (λ s. StaysFound T.name T.spelled T.fits D.moment D.left_since self.disk s.disk
+            (take self.entries.pile.synced (map seen self.entries.pile.items.items)) (left_may self.gone.items self.entries.pile.items.items))
+            (λ l. StaysFound T.name T.spelled T.fits D.moment D.left_since self.disk (wreck_of l).disk
+            (take self.entries.pile.synced (map seen self.entries.pile.items.items)) (left_may self.gone.items self.entries.pile.items.items)) }
+        ensures written { IfOk result (λ s. ∥ Adds (archive_bytes T.name T.spelled) (IsArchived T.fits T.spelled) D.seen D.may_leave
+            (take count self.waiting.items) self.disk s.disk ∥₁) }
+        ensures idle { count ≡ 0 → MatchResult result (λ s. s.disk ≡ self.disk) (λ l. (wreck_of l).disk ≡ self.disk) }
     {
         let JournalArchive {
             alloc,
@@ -384,19 +434,22 @@ impl<T: JournalItem, D: Disk> JournalArchive<T, D> {
             gone,
             may,
             mut waiting,
+            mut marks,
             mut disk,
             end,
             mut alarm,
         } = self;
-        match write_all(alloc, &mut disk, end, &waiting) {
+        match write_all(alloc, &mut disk, end, &waiting[..count]) {
             Ok(end) => {
-                waiting.clear();
+                drop_front(&mut waiting, count);
+                drop_front(&mut marks, count);
                 Ok(JournalArchive {
                     alloc,
                     entries,
                     gone,
                     may,
                     waiting,
+                    marks,
                     disk,
                     end,
                     alarm,
@@ -438,7 +491,7 @@ impl<T: JournalItem, D: Disk> JournalArchiveWreck<T, D> {
 
 impl<T: JournalItem, D: Disk> JournalArchiveWreck<T, D> {
     // Opens what a crash left, by its luck where that can be played.
-    fn find(self, luck: u64) -> Result<JournalArchive<T, D>, Lost<Self>>
+    pub(crate) fn find(self, luck: u64) -> Result<JournalArchive<T, D>, Lost<Self>>
         ensures done { MatchResult result
             (λ s. IsReopened (left_of (archive_kept self.gone.items self.pile.items.items self.pile.synced))
             (archive_kept s.gone.items s.entries.pile.items.items s.entries.pile.synced))
@@ -447,6 +500,17 @@ impl<T: JournalItem, D: Disk> JournalArchiveWreck<T, D> {
         ensures due { MatchResult result (λ s. s.alarm.due.items ≡ self.alarm.due.items) (λ l. (wreck_of l).alarm.due.items ≡ self.alarm.due.items) }
         ensures calm { IfOk result (λ s. s.alarm.faults ≡ self.alarm.faults) }
         ensures counts { IfErr result (CountsLost (λ w. w.alarm.faults) self.alarm.faults) }
+        ensures cause { (due : List ℕ) → IfErr result (HasFaultCause (λ w. D.faults w.disk) due (D.faults self.disk)) }
+        ensures found { IfOk result (λ s. (file : List ℕ) × (records : List (ArchiveRecord T)) × D.may_leave self.disk file
+            × Stands (archive_bytes T.name T.spelled) (IsArchived T.fits T.spelled) records file
+            × Stands (archive_bytes T.name T.spelled) (IsArchived T.fits T.spelled) records (D.seen s.disk)
+            × (archive_kept s.gone.items s.entries.pile.items.items s.entries.pile.synced ≡ reopened_store (kept_from T.name [] records))) }
+        ensures undamaged { IfErr result (λ l. (wreck_of l).damage ≡ None) }
+        ensures any_moment { MatchResult result
+            (λ s. StaysFound T.name T.spelled T.fits D.moment D.left_since self.disk s.disk
+            (take self.pile.synced (map seen self.pile.items.items)) (left_may self.gone.items self.pile.items.items))
+            (λ l. StaysFound T.name T.spelled T.fits D.moment D.left_since self.disk (wreck_of l).disk
+            (take self.pile.synced (map seen self.pile.items.items)) (left_may self.gone.items self.pile.items.items)) }
     {
         let JournalArchiveWreck {
             alloc,
@@ -475,6 +539,7 @@ impl<T: JournalItem, D: Disk> JournalArchiveWreck<T, D> {
                 gone: Vec::new(alloc),
                 may: held,
                 waiting: Vec::new(alloc),
+                marks: Vec::new(alloc),
                 disk,
                 end,
                 alarm,
@@ -533,256 +598,5 @@ impl<T: JournalItem, D: Disk> ArchiveRuin<T> for JournalArchiveWreck<T, D> {
 
     fn arm(&mut self, calls: u64) -> Result<(), AllocError> {
         self.alarm.arm(calls)
-    }
-}
-
-// The record of a put, and the ranges with its index.
-fn prepare_put<T: JournalItem>(
-    may: &RangeSet,
-    index: u64,
-    item: &T,
-) -> Result<(ArchiveRecord<T>, RangeSet), AllocError>
-    ensures change { IfOk result (λ p. p.0 ≡ ArchiveRecord.Put index item.now) }
-    ensures grown { IfOk result (λ p. p.1 ≡ with_height index may.now) }
-{
-    let copy = item.try_clone()?;
-    let mut grown = may.try_clone()?;
-    grown.insert(index)?;
-    Ok((ArchiveRecord::Put(index, copy), grown))
-}
-
-// Appends copies of the entries below an index.
-fn push_below<T: JournalItem>(
-    alloc: Global,
-    items: &[Entry<T>],
-    min: u64,
-) -> Result<Vec<Entry<T>>, AllocError>
-    ensures { IfOk result (λ v. map seen v.items ≡ map seen (filter (λ e. not (nat_le min e.index)) items.now)) }
-{
-    let mut below = Vec::new(alloc);
-    for entry in items {
-        if entry.index < min {
-            below.push(Entry {
-                index: entry.index,
-                number: entry.number,
-                item: entry.item.try_clone()?,
-            })?;
-        }
-    }
-    Ok(below)
-}
-
-// Adds the indexes of the entries at or above an index.
-fn add_from<T: JournalItem>(
-    set: &mut RangeSet,
-    items: &[Entry<T>],
-    min: u64,
-) -> Result<(), AllocError>
-    ensures { OnOk result (set.new ≡ fold (λ rs h. with_height h rs) set.old (heights (map seen (filter (λ e. nat_le min e.index) items.now)))) }
-{
-    for entry in items {
-        if entry.index >= min {
-            set.insert(entry.index)?;
-        }
-    }
-    Ok(())
-}
-
-// What a prune sets aside, and the ranges of what may be left after it.
-fn prepare_prune<T: JournalItem>(
-    alloc: Global,
-    gone: &[Entry<T>],
-    items: &[Entry<T>],
-    min: u64,
-) -> Result<(Vec<Entry<T>>, RangeSet), AllocError>
-    ensures more { IfOk result (λ p. map seen p.0.items ≡ map seen (filter (λ e. not (nat_le min e.index)) items.now)) }
-    ensures may { IfOk result (λ p. p.1 ≡ ranges (heights ((map seen gone.now ++ map seen p.0.items)
-        ++ map seen (filter (λ e. nat_le min e.index) items.now)))) }
-{
-    let more = push_below(alloc, items, min)?;
-    let mut may = RangeSet::new(alloc);
-    add_from(&mut may, gone, 0)?;
-    add_from(&mut may, &more, 0)?;
-    add_from(&mut may, items, min)?;
-    Ok((more, may))
-}
-
-// Notes a prune, and sets aside what it takes out.
-fn set_aside<T: JournalItem>(
-    waiting: &mut Vec<ArchiveRecord<T>>,
-    gone: &mut Vec<Entry<T>>,
-    more: Vec<Entry<T>>,
-    min: u64,
-) -> Result<(), AllocError>
-    ensures waiting { OnOk result (waiting.new.items ≡ waiting.old.items ++ ArchiveRecord.Prune min ∷ []) }
-    ensures gone { OnOk result (gone.new.items ≡ gone.old.items ++ more.items) }
-    ensures still { OnErr result (gone.new.items ≡ gone.old.items) }
-{
-    let mut more = more;
-    waiting.push(ArchiveRecord::Prune(min))?;
-    gone.append(&mut more)?;
-    Ok(())
-}
-
-impl<T: JournalItem, D: Disk> Archive<T> for JournalArchive<T, D> {
-    type Wreck = JournalArchiveWreck<T, D>;
-
-    ghost stored = { λ s. archive_kept s.gone.items s.entries.pile.items.items s.entries.pile.synced };
-
-    ghost watch = { λ s. journal_watch s.alarm.faults s.alarm.due.items };
-
-    ghost number = { λ s. s.entries.pile.accepted };
-
-    ghost covers = { λ s. covered_by s.entries.pile.items.items };
-
-    ghost nested = { λ s. archive_nested s.gone.items s.entries.pile.items.items s.entries.pile.synced s.entries.pile.once };
-
-    ghost named = { λ s. s.entries.pile.named };
-
-    ghost fitting = { λ s. s.entries.pile.fits };
-
-    ghost last = { λ s. covers_last s.entries.pile.items.items };
-
-    fn get(&mut self, identifier: Identifier<T::Key>) -> Result<Option<T>, Miss>
-        ensures found { IfOk result (λ o. o ≡ value_found T.name T.Key.bytes (map seen self.old.entries.pile.items.items) identifier) }
-        ensures same { archive_kept self.new.gone.items self.new.entries.pile.items.items self.new.entries.pile.synced
-            ≡ archive_kept self.old.gone.items self.old.entries.pile.items.items self.old.entries.pile.synced }
-        ensures tickets { self.new.entries.pile.accepted ≡ self.old.entries.pile.accepted }
-        ensures covers { KeepsCovers self.old.entries.pile.accepted (covered_by self.old.entries.pile.items.items)
-            (covered_by self.new.entries.pile.items.items) }
-        ensures watched { HeedsRead (journal_watch self.old.alarm.faults self.old.alarm.due.items)
-            (journal_watch self.new.alarm.faults self.new.alarm.due.items) result }
-    {
-        if self.alarm.rings() {
-            return Err(Miss::Fault);
-        }
-        match self.entries.find(&identifier) {
-            None => Ok(None),
-            Some(entry) => match entry.item.try_clone() {
-                Ok(item) => Ok(Some(item)),
-                Err(_) => Err(Miss::Memory),
-            },
-        }
-    }
-
-    fn has(&mut self, identifier: Identifier<T::Key>) -> Result<bool, Miss>
-        ensures found { IfOk result (λ b. b ≡ is_some (value_found T.name T.Key.bytes (map seen self.old.entries.pile.items.items) identifier)) }
-        ensures same { archive_kept self.new.gone.items self.new.entries.pile.items.items self.new.entries.pile.synced
-            ≡ archive_kept self.old.gone.items self.old.entries.pile.items.items self.old.entries.pile.synced }
-        ensures tickets { self.new.entries.pile.accepted ≡ self.old.entries.pile.accepted }
-        ensures covers { KeepsCovers self.old.entries.pile.accepted (covered_by self.old.entries.pile.items.items)
-            (covered_by self.new.entries.pile.items.items) }
-        ensures watched { HeedsRead (journal_watch self.old.alarm.faults self.old.alarm.due.items)
-            (journal_watch self.new.alarm.faults self.new.alarm.due.items) result }
-    {
-        if self.alarm.rings() {
-            return Err(Miss::Fault);
-        }
-        Ok(self.entries.find(&identifier).is_some())
-    }
-
-    fn put(self, index: u64, item: T) -> Result<Self, Lost<JournalArchiveWreck<T, D>>> {
-        let mut archive = self;
-        if archive.alarm.rings() {
-            return Err(Lost::Fault(archive.left()));
-        }
-        match prepare_put(&archive.may, index, &item) {
-            Err(_) => Err(Lost::Memory(archive.left())),
-            Ok((record, grown)) => match archive.place(index, item, record, grown) {
-                Ok(archive) => Ok(archive),
-                Err(wreck) => Err(Lost::Memory(wreck)),
-            },
-        }
-    }
-
-    fn sync(self) -> Result<Self, Lost<JournalArchiveWreck<T, D>>> {
-        let mut archive = self;
-        if archive.alarm.rings() {
-            return Err(Lost::Fault(archive.left()));
-        }
-        let held = match archive.entries.pile.held().try_clone() {
-            Ok(held) => held,
-            Err(_) => return Err(Lost::Memory(archive.left())),
-        };
-        match archive.flush() {
-            Err(lost) => Err(lost),
-            Ok(archive) => match archive.make_sure(held) {
-                Ok(archive) => Ok(archive),
-                Err(wreck) => Err(Lost::Memory(wreck)),
-            },
-        }
-    }
-
-    fn start_sync(self) -> Result<(Self, SyncTicket), Lost<JournalArchiveWreck<T, D>>> {
-        let mut archive = self;
-        if archive.alarm.rings() {
-            return Err(Lost::Fault(archive.left()));
-        }
-        let ticket = archive.entries.pile.ticket();
-        Ok((archive, ticket))
-    }
-
-    fn finish(self, ticket: SyncTicket) -> Result<Self, Lost<JournalArchiveWreck<T, D>>> {
-        let mut archive = self;
-        if archive.alarm.rings() {
-            return Err(Lost::Fault(archive.left()));
-        }
-        match archive.flush() {
-            Err(lost) => Err(lost),
-            Ok(archive) => match archive.make_covered_sure(ticket.number()) {
-                Ok(archive) => Ok(archive),
-                Err(wreck) => Err(Lost::Memory(wreck)),
-            },
-        }
-    }
-
-    fn prune(self, min: u64) -> Result<Self, Lost<JournalArchiveWreck<T, D>>> {
-        let mut archive = self;
-        if archive.alarm.rings() {
-            return Err(Lost::Fault(archive.left()));
-        }
-        match prepare_prune(
-            archive.alloc,
-            &archive.gone,
-            &archive.entries.pile.items,
-            min,
-        ) {
-            Err(_) => Err(Lost::Memory(archive.left())),
-            Ok((more, may)) => match archive.cut(min, more, may) {
-                Ok(archive) => Ok(archive),
-                Err(wreck) => Err(Lost::Memory(wreck)),
-            },
-        }
-    }
-
-    fn wreck(self) -> JournalArchiveWreck<T, D> {
-        self.left()
-    }
-
-    fn reopen(
-        wreck: JournalArchiveWreck<T, D>,
-        luck: u64,
-    ) -> Result<Self, Lost<JournalArchiveWreck<T, D>>> {
-        let mut wreck = wreck;
-        if wreck.alarm.rings() {
-            return Err(Lost::Fault(wreck));
-        }
-        wreck.find(luck)
-    }
-
-    fn arm(&mut self, calls: u64) -> Result<(), AllocError> {
-        self.alarm.arm(calls)
-    }
-
-    fn last_index(&self) -> Option<u64> {
-        self.entries.pile.last_index()
-    }
-
-    fn held_ranges(&self) -> &RangeSet {
-        self.entries.pile.held()
-    }
-
-    fn sure_ranges(&self) -> &RangeSet {
-        self.entries.pile.sure()
     }
 }

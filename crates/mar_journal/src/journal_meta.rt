@@ -1,11 +1,16 @@
 //! A metadata store that is a journal.
-ghost use Rattle.std.specs.Prelude.{◌≡◌, ◌∷◌, [], IfErr, IfOk, List};
+ghost use Rattle.std.specs.Prelude.{◌≡◌, ◌<◌, ◌++◌, ◌∷◌, [], Contains, IfErr, IfOk, IfSome, List, MatchResult, ℕ, None, OnErr, OnOk, Some, length, map};
+ghost use Rattle.mar_store.specs.Lost.{wreck_of};
+ghost use Rattle.mar_store.specs.Luck.{keeps_by, lucky_values};
 ghost use Rattle.mar_store.specs.MemMeta.{values_of};
+ghost use Rattle.mar_store.specs.Values.{LeavesValues, SetsValue, others_of, with_key};
+ghost use Rattle.mar_store.specs.Watch.{Heeds, IsCalm, armed};
+ghost use Rattle.mar_journal.specs.Disk.{LeavesOnly};
 ghost use Rattle.mar_journal.specs.Format.{Stands};
-ghost use Rattle.mar_journal.specs.Journal.{HasReason};
-ghost use Rattle.mar_journal.specs.MetaRecords.{IsMeta, meta_bytes, values_by};
-ghost use Rattle.mar_journal.specs.MetaStore.{IsMetaLeft, failed_entries, failed_in, left_by_meta, left_of_meta, one_of_meta, some_of_meta, values_in};
-ghost use Rattle.mar_journal.specs.Watches.{journal_watch};
+ghost use Rattle.mar_journal.specs.Journal.{Adds, HasReason, IsOldOrNew};
+ghost use Rattle.mar_journal.specs.MetaRecords.{IsMeta, meta_bytes, record_for, values_by};
+ghost use Rattle.mar_journal.specs.MetaStore.{IsMetaFile, IsMetaLeft, failed_entries, failed_in, left_by_meta, left_of_meta, left_watch, meta_watch, one_of_meta, some_of_meta, values_in};
+ghost use Rattle.mar_journal.specs.Watches.{HasFaultCause};
 
 use crate::meta_map::{batch_of, open_maps, set, unset};
 use crate::{Disk, MetaRecord, Unopened, append};
@@ -30,12 +35,13 @@ impl<D: Disk> Model for JournalMeta<D> {
     ghost use Rattle.mar_store.specs.MemMeta.{values_of};
     ghost use Rattle.mar_journal.specs.MetaStore.{IsMetaStore, MetaView};
 
-    ghost Value = { MetaView };
+    ghost Value = { MetaView D };
 
     ghost view = { λ s. record {
       current = s.values.entries;
       synced = s.synced.entries;
       changed = s.changed.items;
+      disk = s.disk;
       faults = s.alarm.faults;
       due = s.alarm.due.items;
     } };
@@ -58,11 +64,12 @@ impl<D: Disk> Model for JournalMetaWreck<D> {
     ghost use Rattle.mar_store.specs.MemMeta.{values_of};
     ghost use Rattle.mar_journal.specs.MetaStore.{IsMetaLeft, MetaLeft, failed_entries, failed_in, left_by_meta};
 
-    ghost Value = { MetaLeft };
+    ghost Value = { MetaLeft D };
 
     ghost view = { λ w. record {
       synced = w.synced.entries;
       failed = failed_entries w.failed;
+      disk = w.disk;
       damage = w.damage;
       faults = w.alarm.faults;
       due = w.alarm.due.items;
@@ -77,6 +84,9 @@ impl<D: Disk> JournalMeta<D> {
         ensures found { IfOk result (λ s. (records : List MetaRecord) × Stands meta_bytes IsMeta records (D.seen disk)
             × (values_in s.current ≡ values_by records) × (values_in s.synced ≡ values_by records) × (s.changed ≡ []) × (s.faults ≡ 0) × (s.due ≡ [])) }
         ensures reason { IfErr result (λ e. HasReason meta_bytes IsMeta (D.faults disk) (D.faults e.1) (D.seen disk) e.0) }
+        ensures any_moment { MatchResult result
+            (λ s. LeavesOnly D.moment D.left_since disk s.disk (IsOldOrNew (D.seen disk) (D.may_leave disk)))
+            (λ e. LeavesOnly D.moment D.left_since disk e.1 (IsOldOrNew (D.seen disk) (D.may_leave disk))) }
     {
         let mut disk = disk;
         match open_maps(alloc, &mut disk) {
@@ -95,10 +105,21 @@ impl<D: Disk> JournalMeta<D> {
 }
 
 impl<D: Disk> JournalMeta<D> {
-    /// Its disk. What was changed since the last sync isn't on it. It has no clause yet: contracts see the maps alone.
-    pub fn into_disk(self) -> D {
+    /// Its disk. What was changed since the last sync isn't on it.
+    pub fn into_disk(self) -> D
+        ensures { result ≡ self.disk }
+    {
         let JournalMeta { disk, .. } = self;
         disk
+    }
+}
+
+impl<D: Disk> JournalMeta<D> {
+    /// A law: at rest a crash leaves a file of the map that was synced last.
+    pub fn at_rest(&self)
+        ensures { LeavesOnly D.moment D.left_since self.now.disk self.now.disk (IsMetaFile (values_in self.now.synced ∷ [])) }
+    {
+        let _ = &self.disk;
     }
 }
 
@@ -113,7 +134,14 @@ impl<D: Disk> JournalMetaWreck<D> {
         alarm: Alarm,
     ) -> Self
         requires { IsMetaLeft D.may_leave disk (left_by_meta (values_of synced) (failed_in (failed_entries failed))) }
-        ensures { result ≡ record { synced = synced.entries; failed = failed_entries failed; damage = damage; faults = alarm.faults; due = alarm.due.items } }
+        ensures { result ≡ record {
+          synced = synced.entries;
+          failed = failed_entries failed;
+          disk = disk;
+          damage = damage;
+          faults = alarm.faults;
+          due = alarm.due.items;
+        } }
     {
         JournalMetaWreck {
             alloc,
@@ -136,7 +164,7 @@ impl<D: Disk> JournalMetaWreck<D> {
 impl<D: Disk> MetaRuin for JournalMetaWreck<D> {
     ghost left = { λ w. left_of_meta w };
 
-    ghost watch = { λ w. journal_watch w.faults w.due };
+    ghost watch = { λ w. left_watch w };
 
     fn synced(&self, key: u64) -> Option<u64> {
         self.synced.get(&key).copied()
@@ -158,7 +186,7 @@ impl<D: Disk> Meta for JournalMeta<D> {
 
     ghost changed = { λ s. s.changed };
 
-    ghost watch = { λ s. journal_watch s.faults s.due };
+    ghost watch = { λ s. meta_watch s };
 
     ghost some = { one_of_meta };
 
@@ -166,7 +194,16 @@ impl<D: Disk> Meta for JournalMeta<D> {
         self.values.get(&key).copied()
     }
 
-    fn put(self, key: u64, value: u64) -> Result<Self, Lost<JournalMetaWreck<D>>> {
+    fn put(self, key: u64, value: u64) -> Result<Self, Lost<JournalMetaWreck<D>>>
+        requires room { length (others_of key self.changed) < 2048 }
+        ensures done { MatchResult result
+            (λ s. SetsValue (values_in self.current) key (Some value) (values_in s.current))
+            (λ l. LeavesValues (values_in self.synced ∷ []) [] (left_of_meta (wreck_of l))) }
+        ensures durable { IfOk result (λ s. values_in s.synced ∷ [] ≡ values_in self.synced ∷ []) }
+        ensures changes { IfOk result (λ s. s.changed ≡ with_key key self.changed) }
+        ensures watched { IsCalm meta_watch left_watch (meta_watch self) result }
+        ensures disk { MatchResult result (λ s. s.disk ≡ self.disk) (λ l. (wreck_of l).disk ≡ self.disk) }
+    {
         let JournalMeta {
             alloc,
             mut values,
@@ -192,7 +229,16 @@ impl<D: Disk> Meta for JournalMeta<D> {
         }
     }
 
-    fn remove(self, key: u64) -> Result<Self, Lost<JournalMetaWreck<D>>> {
+    fn remove(self, key: u64) -> Result<Self, Lost<JournalMetaWreck<D>>>
+        requires room { length (others_of key self.changed) < 2048 }
+        ensures done { MatchResult result
+            (λ s. SetsValue (values_in self.current) key None (values_in s.current))
+            (λ l. LeavesValues (values_in self.synced ∷ []) [] (left_of_meta (wreck_of l))) }
+        ensures durable { IfOk result (λ s. values_in s.synced ∷ [] ≡ values_in self.synced ∷ []) }
+        ensures changes { IfOk result (λ s. s.changed ≡ with_key key self.changed) }
+        ensures watched { IsCalm meta_watch left_watch (meta_watch self) result }
+        ensures disk { MatchResult result (λ s. s.disk ≡ self.disk) (λ l. (wreck_of l).disk ≡ self.disk) }
+    {
         let JournalMeta {
             alloc,
             mut values,
@@ -218,7 +264,23 @@ impl<D: Disk> Meta for JournalMeta<D> {
         }
     }
 
-    fn sync(self) -> Result<Self, Lost<JournalMetaWreck<D>>> {
+    fn sync(self) -> Result<Self, Lost<JournalMetaWreck<D>>>
+        ensures done { MatchResult result
+            (λ s. values_in s.synced ∷ [] ≡ values_in self.current ∷ [])
+            (λ l. LeavesValues (values_in self.synced ∷ []) (values_in self.current ∷ []) (left_of_meta (wreck_of l))) }
+        ensures failed { IfErr result (λ l. IfSome (meta_watch self).keeps
+            (λ _. left_of_meta (wreck_of l) ≡ (values_in self.synced ∷ []) ++ values_in self.current ∷ [])) }
+        ensures same { IfOk result (λ s. values_in s.current ≡ values_in self.current) }
+        ensures changes { IfOk result (λ s. s.changed ≡ []) }
+        ensures watched { Heeds meta_watch left_watch (meta_watch self) result }
+        ensures any_moment { MatchResult result
+            (λ s. LeavesOnly D.moment D.left_since self.disk s.disk (IsMetaFile (values_in self.synced ∷ values_in self.current ∷ [])))
+            (λ l. LeavesOnly D.moment D.left_since self.disk (wreck_of l).disk (IsMetaFile (values_in self.synced ∷ values_in self.current ∷ []))) }
+        ensures written { IfOk result (λ s. Adds meta_bytes IsMeta D.seen D.may_leave (map (record_for (values_in self.current)) self.changed)
+            self.disk s.disk) }
+        ensures cause { IfErr result (HasFaultCause (λ w. D.faults w.disk) self.due (D.faults self.disk)) }
+        ensures idle { self.changed ≡ [] → MatchResult result (λ s. s.disk ≡ self.disk) (λ l. (wreck_of l).disk ≡ self.disk) }
+    {
         let JournalMeta {
             alloc,
             values,
@@ -297,7 +359,11 @@ impl<D: Disk> Meta for JournalMeta<D> {
         }
     }
 
-    fn wreck(self) -> JournalMetaWreck<D> {
+    fn wreck(self) -> JournalMetaWreck<D>
+        ensures left { left_of_meta result ≡ values_in self.synced ∷ [] }
+        ensures watch { left_watch result ≡ meta_watch self }
+        ensures disk { result.disk ≡ self.disk }
+    {
         let JournalMeta {
             alloc,
             synced,
@@ -308,7 +374,23 @@ impl<D: Disk> Meta for JournalMeta<D> {
         JournalMetaWreck::of(alloc, synced, None, disk, None, alarm)
     }
 
-    fn reopen(wreck: JournalMetaWreck<D>, luck: u64) -> Result<Self, Lost<JournalMetaWreck<D>>> {
+    fn reopen(wreck: JournalMetaWreck<D>, luck: u64) -> Result<Self, Lost<JournalMetaWreck<D>>>
+        ensures done { MatchResult result
+            (λ s. Contains (left_of_meta wreck) (values_in s.current))
+            (λ l. LeavesValues (left_of_meta wreck) [] (left_of_meta (wreck_of l))) }
+        ensures synced { IfOk result (λ s. values_in s.synced ∷ [] ≡ values_in s.current ∷ []) }
+        ensures changes { IfOk result (λ s. s.changed ≡ []) }
+        ensures lucky { IfOk result (λ s. IfSome (left_watch wreck).keeps
+            (λ keeps. values_in s.current ≡ lucky_values (keeps_by keeps luck 0) (left_of_meta wreck))) }
+        ensures watched { Heeds meta_watch left_watch (left_watch wreck) result }
+        ensures found { IfOk result (λ s. (file : List ℕ) × (records : List MetaRecord) × D.may_leave wreck.disk file
+            × Stands meta_bytes IsMeta records file × Stands meta_bytes IsMeta records (D.seen s.disk) × (values_in s.current ≡ values_by records)) }
+        ensures cause { IfErr result (HasFaultCause (λ w. D.faults w.disk) wreck.due (D.faults wreck.disk)) }
+        ensures undamaged { IfErr result (λ l. (wreck_of l).damage ≡ None) }
+        ensures any_moment { MatchResult result
+            (λ s. LeavesOnly D.moment D.left_since wreck.disk s.disk (IsMetaFile (left_of_meta wreck)))
+            (λ l. LeavesOnly D.moment D.left_since wreck.disk (wreck_of l).disk (IsMetaFile (left_of_meta wreck))) }
+    {
         let JournalMetaWreck {
             alloc,
             synced,
@@ -349,7 +431,14 @@ impl<D: Disk> Meta for JournalMeta<D> {
         }
     }
 
-    fn arm(&mut self, calls: u64) -> Result<(), AllocError> {
+    fn arm(&mut self, calls: u64) -> Result<(), AllocError>
+        ensures armed { OnOk result (meta_watch self.new ≡ armed calls (meta_watch self.old)) }
+        ensures unarmed { OnErr result (meta_watch self.new ≡ meta_watch self.old) }
+        ensures current { values_in self.new.current ≡ values_in self.old.current }
+        ensures left { values_in self.new.synced ∷ [] ≡ values_in self.old.synced ∷ [] }
+        ensures changes { self.new.changed ≡ self.old.changed }
+        ensures disk { self.new.disk ≡ self.old.disk }
+    {
         self.alarm.arm(calls)
     }
 }

@@ -1,6 +1,8 @@
 //! Stores that outlive the process, as journals on a disk.
 #![tactic(auto)]
 
+mod archive_calls;
+mod archive_drafts;
 mod archive_opening;
 mod archive_record;
 mod disk;
@@ -25,7 +27,7 @@ pub use journal::{Opened, Unopened, append, open, write_all};
 pub use journal_archive::{JournalArchive, JournalArchiveWreck};
 pub use journal_item::JournalItem;
 pub use journal_meta::{JournalMeta, JournalMetaWreck};
-pub use laws::files_have_one_meaning;
+pub use laws::{archive_moments_add_up, files_have_one_meaning, metadata_moments_add_up};
 pub use mem_disk::MemDisk;
 pub use meta_record::MetaRecord;
 pub use record::Record;

@@ -153,3 +153,21 @@ fn what_waits_is_lost(rt: HostRuntime) {
     let found = lost_and_kept(rt.alloc());
     assert!(rt; found == Some((true, false)), "{found:?}");
 }
+
+// What a crash leaves where a ticket is finished and one of two values was put behind it.
+fn finished(alloc: Global) -> Option<(bool, bool)> {
+    let archive = opened(alloc, MemDisk::new(alloc))?;
+    let archive = archive.put(1, item_of(1)).ok()?;
+    let (archive, ticket) = archive.start_sync().ok()?;
+    let archive = archive.put(2, item_of(2)).ok()?;
+    let archive = archive.finish(ticket).ok()?;
+    let archive = OnDisk::reopen(archive.wreck(), u64::MAX).ok()?;
+    let mut archive = archive;
+    Some((has(&mut archive, 1), has(&mut archive, 2)))
+}
+
+#[test]
+fn a_ticket_writes_what_came_before_it(rt: HostRuntime) {
+    let found = finished(rt.alloc());
+    assert!(rt; found == Some((true, false)), "{found:?}");
+}

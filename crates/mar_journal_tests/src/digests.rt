@@ -1,4 +1,4 @@
-//! Values that are their own digests.
+//! Values that are their own digests. What makes one has no clause, so that no test has anything to carry of it.
 ghost use Rattle.std.specs.Prelude.{true};
 ghost use Rattle.mar_codec.specs.DigestLemmas.{same_proof};
 
@@ -17,6 +17,15 @@ pub struct Short {
 pub fn item_of(byte: u8) -> Short {
     Short {
         digest: Sha256::fill(byte),
+    }
+}
+
+// That whose digest begins with a number.
+pub fn numbered(number: u64) -> Short {
+    let mut bytes = [0; 32];
+    bytes[..8].copy_from_slice(&number.to_be_bytes());
+    Short {
+        digest: Sha256Digest::from(bytes),
     }
 }
 

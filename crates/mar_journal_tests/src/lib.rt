@@ -1,8 +1,10 @@
-//! Tests of journals: bytes, damage, crashes and failing calls.
+//! Tests of journals: bytes, damage, crashes, failing calls, and how often the disk is called.
 #![tactic(auto)]
 
 #[cfg(test)]
 mod archives;
+#[cfg(test)]
+mod calls;
 #[cfg(test)]
 mod digests;
 #[cfg(test)]

@@ -1,4 +1,4 @@
-use Rattle.std.proofs.Common.{arith, length, refl, subst, take, ◌++◌, ◌+◌, ◌-◌, ◌∙◌, ◌≡◌, ◌≤◌}
+use Rattle.std.proofs.Common.{ap, arith, length, refl, subst, take, ◌++◌, ◌+◌, ◌-◌, ◌∙◌, ◌≡◌, ◌≤◌}
 use Rattle.mar_journal.specs.Format.{StandsUpto}
 use Rattle.mar_journal.specs.Journal.{IsSettled}
 use Rattle.mar_journal.proofs.Moments.{and_then}
@@ -11,6 +11,7 @@ batches-init g c = record {
   room = c.requires.room;
   settled = λ before s. settled_none g.R.Record.spelled g.R.Record.valid g.D.Disk.seen g.D.Disk.may_leave before c.args.end c.args.disk.now s;
   any_moment = λ before s. upto_first g.R.Record.spelled g.R.Record.valid g.D.Disk.seen g.D.Disk.may_leave g.D.Disk.moment g.D.Disk.left_since g.met.D.Disk.only_now before c.args.records.now c.args.end c.args.disk.now s;
+  idle = λ none. refl;
   calm = refl;
 }
 
@@ -41,5 +42,9 @@ batches-preserved g c =
       any_moment = λ before s. and_then g.D.Disk.moment g.D.Disk.left_since c.args.disk.now c.batches.disk c.append.new.disk (StandsUpto g.R.Record.spelled g.R.Record.valid before c.args.records.now) _ (i.any_moment before s)
           (c.append.ensures.any_moment (before ++ take c.batches.done c.args.records.now) (i.settled before s))
           (upto_either g.R.Record.spelled g.R.Record.valid before c.args.records.now c.batches.done (c.batches.done + c.min-size.result - c.batches.done) within);
+      idle = λ none. absurd (omega (arith, c.batches-test.true, ap length none));
       calm = c.in_ok-end.ensures.cause.calm ∙ i.calm;
     }
+
+pub returns-clause-idle : goal.returns-clause-idle
+returns-clause-idle g c = c.batches.invariant.idle

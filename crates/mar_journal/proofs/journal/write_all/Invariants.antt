@@ -1,4 +1,4 @@
-use Rattle.std.proofs.Common.{List, length, take, ◌++◌, ◌-◌, ◌<◌, ◌≡◌, ◌≤◌}
+use Rattle.std.proofs.Common.{List, [], length, take, ◌++◌, ◌-◌, ◌<◌, ◌≡◌, ◌≤◌}
 use Rattle.mar_journal.specs.Disk.{LeavesOnly}
 use Rattle.mar_journal.specs.Format.{StandsUpto}
 use Rattle.mar_journal.specs.Journal.{IsSettled}
@@ -12,6 +12,7 @@ invariant-batches g l = record {
       → IsSettled g.R.Record.spelled g.R.Record.valid g.D.Disk.seen g.D.Disk.may_leave (before ++ take l.done l.records) l.end l.disk;
   any_moment : (before : List g.row.R.Denot) → IsSettled g.R.Record.spelled g.R.Record.valid g.D.Disk.seen g.D.Disk.may_leave before l.initial.end l.fn.disk
       → LeavesOnly g.D.Disk.moment g.D.Disk.left_since l.fn.disk l.disk (StandsUpto g.R.Record.spelled g.R.Record.valid before l.records);
+  idle : l.records ≡ [] → l.disk ≡ l.fn.disk;
   calm : g.D.Disk.faults l.disk ≡ g.D.Disk.faults l.fn.disk;
 }
 

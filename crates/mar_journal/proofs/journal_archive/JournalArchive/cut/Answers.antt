@@ -8,7 +8,7 @@ use Rattle.mar_journal.proofs.journal_archive.JournalArchive.cut.Goals as goal
 pub invariant_of-result : goal.invariant_of-result
 invariant_of-result g c = rw (c.into_pile.ensures, c.in-Err.ensures.still) (record {
   may_is = c.args.self.may_is;
-  is_left = nothing_lost g.T.Item.name g.T.JournalItem.spelled g.T.Item.fits g.D.Disk.seen g.D.Disk.may_leave c.args.self.disk c.args.self.end c.args.self.gone.items c.args.self.entries.pile.items.items c.args.self.entries.pile.synced c.args.self.waiting.items c.args.self.entries.pile.once c.args.self.backed;
+  is_left = nothing_lost g.T.Item.name g.T.JournalItem.spelled g.T.Item.fits g.D.Disk.seen g.D.Disk.may_leave c.args.self.disk c.args.self.end c.args.self.gone.items c.args.self.entries.pile.items.items c.args.self.entries.pile.synced c.args.self.entries.pile.accepted c.args.self.waiting.items c.args.self.marks.items c.args.self.entries.pile.once c.args.self.backed;
 })
 
 pub returns-in-Err-clause-done : goal.returns-in-Err-clause-done
@@ -20,7 +20,7 @@ invariant_of-result-in-Ok-prune g c =
     let aside = more_is ∙ ap (λ l. map seen c.args.self.gone.items ++ l) c.requires.more in
     record {
       may_is = prune_ranges c.args.min c.args.self.gone.items c.set_aside.new.gone.items c.args.self.entries.pile.items.items c.in-Ok-prune.entries.pile.items.items c.args.self.entries.pile.synced c.in-Ok-prune.entries.pile.synced c.args.self.entries.pile.once c.in-Ok-prune.ensures.items c.in-Ok-prune.ensures.synced aside (map seen c.args.more.items) c.args.ranges_after more_is c.requires.may;
-      backed = prune_backed c.args.min c.args.self.gone.items c.set_aside.new.gone.items c.args.self.entries.pile.items.items c.in-Ok-prune.entries.pile.items.items c.args.self.entries.pile.synced c.in-Ok-prune.entries.pile.synced c.args.self.entries.pile.once c.in-Ok-prune.ensures.items c.in-Ok-prune.ensures.synced aside g.T.Item.name g.T.JournalItem.spelled g.T.Item.fits g.D.Disk.seen g.D.Disk.may_leave c.args.self.disk c.args.self.end c.args.self.waiting.items c.set_aside.new.waiting.items c.requires.min c.in-Ok.ensures.waiting c.args.self.backed;
+      backed = prune_backed c.args.min c.args.self.gone.items c.set_aside.new.gone.items c.args.self.entries.pile.items.items c.in-Ok-prune.entries.pile.items.items c.args.self.entries.pile.synced c.in-Ok-prune.entries.pile.synced c.args.self.entries.pile.once c.in-Ok-prune.ensures.items c.in-Ok-prune.ensures.synced aside g.T.Item.name g.T.JournalItem.spelled g.T.Item.fits g.D.Disk.seen g.D.Disk.may_leave c.args.self.disk c.args.self.end c.args.self.entries.pile.accepted c.in-Ok-prune.entries.pile.accepted c.args.self.waiting.items c.set_aside.new.waiting.items c.args.self.marks.items c.set_aside.new.marks.items c.number-number.result c.requires.min c.in-Ok.ensures.waiting c.in-Ok.ensures.marks c.in-Ok-prune.ensures.tickets (omega (arith, c.number-number.ensures, c.ticket.ensures.made)) (omega arith) c.args.self.backed;
     }
 
 pub returns-in-Ok-prune-clause-done : goal.returns-in-Ok-prune-clause-done
@@ -34,7 +34,7 @@ invariant_of-result-in-Err-prune g c =
     let gone : c.truncate.new.self.items ≡ c.args.self.gone.items = c.truncate.ensures.items ∙ ap (take c.len-count.result) c.in-Ok.ensures.gone ∙ take_at c.args.self.gone.items c.args.more.items c.len-count.result (omega (arith, c.len-count.ensures, c.args.self.gone.ok.0)) in
     rw (c.in-Err-prune.ensures.err, gone) (record {
       may_is = c.args.self.may_is;
-      is_left = nothing_lost g.T.Item.name g.T.JournalItem.spelled g.T.Item.fits g.D.Disk.seen g.D.Disk.may_leave c.args.self.disk c.args.self.end c.args.self.gone.items c.args.self.entries.pile.items.items c.args.self.entries.pile.synced c.args.self.waiting.items c.args.self.entries.pile.once c.args.self.backed;
+      is_left = nothing_lost g.T.Item.name g.T.JournalItem.spelled g.T.Item.fits g.D.Disk.seen g.D.Disk.may_leave c.args.self.disk c.args.self.end c.args.self.gone.items c.args.self.entries.pile.items.items c.args.self.entries.pile.synced c.args.self.entries.pile.accepted c.args.self.waiting.items c.args.self.marks.items c.args.self.entries.pile.once c.args.self.backed;
     })
 
 pub returns-in-Err-prune-clause-done : goal.returns-in-Err-prune-clause-done

@@ -1,26 +1,22 @@
-use Rattle.std.proofs.Common.{[], ap, map, subst, sym, true, ◌++◌, ◌≡◌}
-use Rattle.std.specs.List.{AllByRecursion}
+use Rattle.std.proofs.Common.{ap, map}
 use Rattle.mar_store.specs.Entries.{seen}
 use Rattle.mar_store.proofs.Settled.{fails_still}
-use Rattle.mar_journal.proofs.ArchiveSteps.{finishes_with_gone, fit_of_backed, keeps_left, keeps_ranges, nothing_lost, still_with_gone, sure_backed}
+use Rattle.mar_journal.proofs.ArchiveSteps.{covered_backed, finishes_with_gone, keeps_left, keeps_ranges, nothing_lost, still_with_gone}
 use Rattle.mar_journal.proofs.journal_archive.JournalArchive.make_covered_sure.Goals as goal
 
 pub invariant_of-result : goal.invariant_of-result
-invariant_of-result g c =
-    let are : map seen c.in-Ok.entries.pile.items.items ≡ map seen c.args.self.entries.pile.items.items = ap (map seen) c.in-Ok.ensures.items in
-    record {
-      may_is = keeps_ranges c.args.self.gone.items c.args.self.entries.pile.items.items c.in-Ok.entries.pile.items.items c.args.self.may are c.args.self.may_is;
-      backed = sure_backed g.T.Item.name g.T.JournalItem.spelled g.T.Item.fits g.D.Disk.may_leave c.args.self.disk c.args.self.gone.items c.args.self.entries.pile.items.items c.in-Ok.entries.pile.items.items c.args.self.entries.pile.synced c.in-Ok.entries.pile.synced g.D.Disk.seen c.args.self.end c.args.self.waiting.items c.args.self.gone.items c.requires.waiting are
-          (subst (λ l. AllByRecursion (λ y. g.T.Item.fits y.height y.value ≡ true) (map seen c.args.self.gone.items ++ l)) (sym are) (fit_of_backed g.T.Item.name g.T.JournalItem.spelled g.T.Item.fits g.D.Disk.may_leave c.args.self.disk c.args.self.gone.items c.args.self.entries.pile.items.items [] c.args.self.entries.pile.synced 0 g.D.Disk.seen c.args.self.end c.args.self.waiting.items c.args.self.backed))
-          c.args.self.backed;
-    }
+invariant_of-result g c = record {
+  may_is = keeps_ranges c.args.self.gone.items c.args.self.entries.pile.items.items c.in-Ok.entries.pile.items.items c.args.self.may (ap (map seen) c.in-Ok.ensures.items) c.args.self.may_is;
+  backed = covered_backed g.T.Item.name g.T.JournalItem.spelled g.T.Item.fits g.D.Disk.may_leave c.args.self.disk c.args.self.gone.items c.args.self.entries.pile.items.items c.in-Ok.entries.pile.items.items c.args.self.entries.pile.synced c.in-Ok.entries.pile.synced g.D.Disk.seen c.args.self.end c.args.self.entries.pile.accepted c.in-Ok.entries.pile.accepted c.args.self.waiting.items c.args.self.marks.items
+      c.args.number c.in-Ok.ensures.items c.in-Ok.ensures.tickets c.requires.later c.in-Ok.ensures.done c.args.self.backed;
+}
 
 pub invariant_of-result-in-Err : goal.invariant_of-result-in-Err
 invariant_of-result-in-Err g c =
     let same = c.in-Err.ensures.still in
     record {
       may_is = keeps_ranges c.args.self.gone.items c.args.self.entries.pile.items.items c.in-Err.pile.items.items c.args.self.may (ap (λ l. l.may) same) c.args.self.may_is;
-      is_left = keeps_left g.T.Item.name g.T.JournalItem.spelled g.T.Item.fits g.D.Disk.may_leave c.args.self.disk c.args.self.gone.items c.args.self.entries.pile.items.items c.in-Err.pile.items.items c.args.self.entries.pile.synced c.in-Err.pile.synced (ap (λ l. l.sure) same) (ap (λ l. l.may) same) (nothing_lost g.T.Item.name g.T.JournalItem.spelled g.T.Item.fits g.D.Disk.seen g.D.Disk.may_leave c.args.self.disk c.args.self.end c.args.self.gone.items c.args.self.entries.pile.items.items c.args.self.entries.pile.synced c.args.self.waiting.items c.args.self.entries.pile.once c.args.self.backed);
+      is_left = keeps_left g.T.Item.name g.T.JournalItem.spelled g.T.Item.fits g.D.Disk.may_leave c.args.self.disk c.args.self.gone.items c.args.self.entries.pile.items.items c.in-Err.pile.items.items c.args.self.entries.pile.synced c.in-Err.pile.synced (ap (λ l. l.sure) same) (ap (λ l. l.may) same) (nothing_lost g.T.Item.name g.T.JournalItem.spelled g.T.Item.fits g.D.Disk.seen g.D.Disk.may_leave c.args.self.disk c.args.self.end c.args.self.gone.items c.args.self.entries.pile.items.items c.args.self.entries.pile.synced c.args.self.entries.pile.accepted c.args.self.waiting.items c.args.self.marks.items c.args.self.entries.pile.once c.args.self.backed);
     }
 
 pub returns-in-Ok-clause-done : goal.returns-in-Ok-clause-done

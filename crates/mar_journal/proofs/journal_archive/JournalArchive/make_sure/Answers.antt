@@ -11,7 +11,7 @@ invariant_of-result g c =
     let are : map seen c.in-Ok.entries.pile.items.items ≡ map seen c.args.self.entries.pile.items.items = ap (map seen) c.in-Ok.ensures.items in
     rw c.clear.ensures.items (record {
       may_is = c.requires.held ∙ ap (λ l. ranges (heights l)) (sym are);
-      backed = sure_backed g.T.Item.name g.T.JournalItem.spelled g.T.Item.fits g.D.Disk.may_leave c.args.self.disk c.args.self.gone.items c.args.self.entries.pile.items.items c.in-Ok.entries.pile.items.items c.args.self.entries.pile.synced c.in-Ok.entries.pile.synced g.D.Disk.seen c.args.self.end c.args.self.waiting.items [] c.requires.waiting are c.in-Ok.entries.pile.fits c.args.self.backed;
+      backed = sure_backed g.T.Item.name g.T.JournalItem.spelled g.T.Item.fits g.D.Disk.may_leave c.args.self.disk c.args.self.gone.items c.args.self.entries.pile.items.items c.in-Ok.entries.pile.items.items c.args.self.entries.pile.synced c.in-Ok.entries.pile.synced g.D.Disk.seen c.args.self.end c.args.self.entries.pile.accepted c.in-Ok.entries.pile.accepted c.args.self.waiting.items c.args.self.marks.items [] c.requires.waiting are c.in-Ok.entries.pile.fits c.args.self.backed;
     })
 
 pub invariant_of-result-in-Err : goal.invariant_of-result-in-Err
@@ -19,7 +19,7 @@ invariant_of-result-in-Err g c =
     let same = c.in-Err.ensures.still in
     record {
       may_is = keeps_ranges c.args.self.gone.items c.args.self.entries.pile.items.items c.in-Err.pile.items.items c.args.self.may (ap (λ l. l.may) same) c.args.self.may_is;
-      is_left = keeps_left g.T.Item.name g.T.JournalItem.spelled g.T.Item.fits g.D.Disk.may_leave c.args.self.disk c.args.self.gone.items c.args.self.entries.pile.items.items c.in-Err.pile.items.items c.args.self.entries.pile.synced c.in-Err.pile.synced (ap (λ l. l.sure) same) (ap (λ l. l.may) same) (nothing_lost g.T.Item.name g.T.JournalItem.spelled g.T.Item.fits g.D.Disk.seen g.D.Disk.may_leave c.args.self.disk c.args.self.end c.args.self.gone.items c.args.self.entries.pile.items.items c.args.self.entries.pile.synced c.args.self.waiting.items c.args.self.entries.pile.once c.args.self.backed);
+      is_left = keeps_left g.T.Item.name g.T.JournalItem.spelled g.T.Item.fits g.D.Disk.may_leave c.args.self.disk c.args.self.gone.items c.args.self.entries.pile.items.items c.in-Err.pile.items.items c.args.self.entries.pile.synced c.in-Err.pile.synced (ap (λ l. l.sure) same) (ap (λ l. l.may) same) (nothing_lost g.T.Item.name g.T.JournalItem.spelled g.T.Item.fits g.D.Disk.seen g.D.Disk.may_leave c.args.self.disk c.args.self.end c.args.self.gone.items c.args.self.entries.pile.items.items c.args.self.entries.pile.synced c.args.self.entries.pile.accepted c.args.self.waiting.items c.args.self.marks.items c.args.self.entries.pile.once c.args.self.backed);
     }
 
 pub returns-in-Err-clause-done : goal.returns-in-Err-clause-done

@@ -9,7 +9,7 @@ invariant_of-result g c =
     let same = same_by_still _ _ (record { height = c.args.index; value = c.args.item }) c.in-Err.ensures.still (simp length-map (omega (arith, c.len.ensures, c.len-count.ensures, c.if-len-count.true, c.in-Err.pile.items.ok.0, c.args.self.entries.pile.items.ok.0))) in
     record {
       may_is = keeps_ranges c.args.self.gone.items c.args.self.entries.pile.items.items c.in-Err.pile.items.items c.args.self.may (ap (λ l. l.may) same) c.args.self.may_is;
-      is_left = keeps_left g.T.Item.name g.T.JournalItem.spelled g.T.Item.fits g.D.Disk.may_leave c.args.self.disk c.args.self.gone.items c.args.self.entries.pile.items.items c.in-Err.pile.items.items c.args.self.entries.pile.synced c.in-Err.pile.synced (ap (λ l. l.sure) same) (ap (λ l. l.may) same) (nothing_lost g.T.Item.name g.T.JournalItem.spelled g.T.Item.fits g.D.Disk.seen g.D.Disk.may_leave c.args.self.disk c.args.self.end c.args.self.gone.items c.args.self.entries.pile.items.items c.args.self.entries.pile.synced c.args.self.waiting.items c.args.self.entries.pile.once c.args.self.backed);
+      is_left = keeps_left g.T.Item.name g.T.JournalItem.spelled g.T.Item.fits g.D.Disk.may_leave c.args.self.disk c.args.self.gone.items c.args.self.entries.pile.items.items c.in-Err.pile.items.items c.args.self.entries.pile.synced c.in-Err.pile.synced (ap (λ l. l.sure) same) (ap (λ l. l.may) same) (nothing_lost g.T.Item.name g.T.JournalItem.spelled g.T.Item.fits g.D.Disk.seen g.D.Disk.may_leave c.args.self.disk c.args.self.end c.args.self.gone.items c.args.self.entries.pile.items.items c.args.self.entries.pile.synced c.args.self.entries.pile.accepted c.args.self.waiting.items c.args.self.marks.items c.args.self.entries.pile.once c.args.self.backed);
     }
 
 pub returns-in-Err-clause-done : goal.returns-in-Err-clause-done
@@ -20,7 +20,7 @@ invariant_of-result-in-Err-2 g c =
     let more = more_by_still _ _ (record { height = c.args.index; value = c.args.item }) c.in-Err.ensures.still (λ e. c.if-len-count.false (let long = simp length-map at e in omega (arith, c.len.ensures, c.len-count.ensures, long, c.in-Err.pile.items.ok.0, c.args.self.entries.pile.items.ok.0))) in
     record {
       may_is = grown_ranges c.args.self.gone.items c.args.self.entries.pile.items.items c.in-Err.pile.items.items (record { height = c.args.index; value = c.args.item }) c.args.self.may c.args.grown c.args.self.may_is c.requires.grown (ap (λ l. l.may) more);
-      is_left = more_left g.T.Item.name g.T.JournalItem.spelled g.T.Item.fits g.D.Disk.may_leave c.args.self.disk c.args.self.gone.items c.args.self.entries.pile.items.items c.in-Err.pile.items.items c.args.self.entries.pile.synced c.in-Err.pile.synced (record { height = c.args.index; value = c.args.item }) (ap (λ l. l.sure) more) (ap (λ l. l.may) more) c.requires.fits (nothing_lost g.T.Item.name g.T.JournalItem.spelled g.T.Item.fits g.D.Disk.seen g.D.Disk.may_leave c.args.self.disk c.args.self.end c.args.self.gone.items c.args.self.entries.pile.items.items c.args.self.entries.pile.synced c.args.self.waiting.items c.args.self.entries.pile.once c.args.self.backed);
+      is_left = more_left g.T.Item.name g.T.JournalItem.spelled g.T.Item.fits g.D.Disk.may_leave c.args.self.disk c.args.self.gone.items c.args.self.entries.pile.items.items c.in-Err.pile.items.items c.args.self.entries.pile.synced c.in-Err.pile.synced (record { height = c.args.index; value = c.args.item }) (ap (λ l. l.sure) more) (ap (λ l. l.may) more) c.requires.fits (nothing_lost g.T.Item.name g.T.JournalItem.spelled g.T.Item.fits g.D.Disk.seen g.D.Disk.may_leave c.args.self.disk c.args.self.end c.args.self.gone.items c.args.self.entries.pile.items.items c.args.self.entries.pile.synced c.args.self.entries.pile.accepted c.args.self.waiting.items c.args.self.marks.items c.args.self.entries.pile.once c.args.self.backed);
     }
 
 pub returns-in-Err-2-clause-done : goal.returns-in-Err-2-clause-done
@@ -31,32 +31,33 @@ invariant_of-result-in-Ok g c =
     let are = same_by_length _ _ _ (record { height = c.args.index; value = c.args.item }) c.in-Ok.ensures.done.held (simp length-map (omega (arith, c.len-count.ensures, c.if-len-count-2.true, c.in-Ok.entries.pile.items.ok.0, c.args.self.entries.pile.items.ok.0))) in
     record {
       may_is = keeps_ranges c.args.self.gone.items c.args.self.entries.pile.items.items c.in-Ok.entries.pile.items.items c.args.self.may are c.args.self.may_is;
-      backed = keeps_backed g.T.Item.name g.T.JournalItem.spelled g.T.Item.fits g.D.Disk.may_leave c.args.self.disk c.args.self.gone.items c.args.self.entries.pile.items.items c.in-Ok.entries.pile.items.items c.args.self.entries.pile.synced c.in-Ok.entries.pile.synced g.D.Disk.seen c.args.self.end c.args.self.waiting.items c.in-Ok.ensures.done.sure are c.args.self.backed;
+      backed = keeps_backed g.T.Item.name g.T.JournalItem.spelled g.T.Item.fits g.D.Disk.may_leave c.args.self.disk c.args.self.gone.items c.args.self.entries.pile.items.items c.in-Ok.entries.pile.items.items c.args.self.entries.pile.synced c.in-Ok.entries.pile.synced g.D.Disk.seen c.args.self.end c.args.self.entries.pile.accepted c.in-Ok.entries.pile.accepted c.args.self.waiting.items c.args.self.marks.items c.in-Ok.ensures.done.sure are c.in-Ok.ensures.tickets c.in-Ok.ensures.covers c.args.self.backed;
     }
 
 pub returns-in-Ok-clause-done : goal.returns-in-Ok-clause-done
 returns-in-Ok-clause-done g c = puts_with_gone c.args.self.gone.items c.args.self.entries.pile.items.items c.in-Ok.entries.pile.items.items c.args.self.entries.pile.synced c.in-Ok.entries.pile.synced (record { height = c.args.index; value = c.args.item }) _ c.in-Ok.ensures.done
 
-pub invariant_of-result-in-Ok-push : goal.invariant_of-result-in-Ok-push
-invariant_of-result-in-Ok-push g c =
+pub invariant_of-result-in-Ok-add_waiting : goal.invariant_of-result-in-Ok-add_waiting
+invariant_of-result-in-Ok-add_waiting g c =
     let are = more_by_length _ _ _ (record { height = c.args.index; value = c.args.item }) c.in-Ok.ensures.done.held (λ e. c.if-len-count-2.false (let long = simp length-map at e in omega (arith, c.len-count.ensures, long, c.in-Ok.entries.pile.items.ok.0, c.args.self.entries.pile.items.ok.0))) in
     let good = put_is_writable g.T.Item.name g.T.JournalItem.spelled g.T.Item.fits c.args.index c.args.item c.requires.index c.requires.fits (g.met.T.JournalItem.keyed c.args.item) (omega (arith, g.met.T.JournalItem.sized c.args.item, c.requires.size)) in
     record {
       may_is = grown_ranges c.args.self.gone.items c.args.self.entries.pile.items.items c.in-Ok.entries.pile.items.items (record { height = c.args.index; value = c.args.item }) c.args.self.may c.args.grown c.args.self.may_is c.requires.grown are;
-      backed = put_backed g.T.Item.name g.T.JournalItem.spelled g.T.Item.fits g.D.Disk.may_leave c.args.self.disk c.args.self.gone.items c.args.self.entries.pile.items.items c.in-Ok.entries.pile.items.items c.args.self.entries.pile.synced c.in-Ok.entries.pile.synced g.D.Disk.seen c.args.self.end c.args.self.waiting.items c.args.index c.args.item c.push.new.self.items c.args.self.entries.pile.once c.in-Ok.ensures.done.sure are c.in-Ok.ensures.done.held good
-          (c.in-Ok-push.ensures.items ∙ ap (λ r. c.args.self.waiting.items ++ r ∷ []) c.requires.change)
+      backed = put_backed g.T.Item.name g.T.JournalItem.spelled g.T.Item.fits g.D.Disk.may_leave c.args.self.disk c.args.self.gone.items c.args.self.entries.pile.items.items c.in-Ok.entries.pile.items.items c.args.self.entries.pile.synced c.in-Ok.entries.pile.synced g.D.Disk.seen c.args.self.end c.args.self.entries.pile.accepted c.in-Ok.entries.pile.accepted c.args.self.waiting.items c.args.self.marks.items c.args.index c.args.item c.add_waiting.new.waiting.items c.add_waiting.new.marks.items c.number-number.result c.saturating_add.result c.args.self.entries.pile.once c.in-Ok.ensures.done.sure are c.in-Ok.ensures.done.held good
+          (c.in-Ok-add_waiting.ensures.waiting ∙ ap (λ r. c.args.self.waiting.items ++ r ∷ []) c.requires.change)
+          c.in-Ok-add_waiting.ensures.marks c.in-Ok.ensures.tickets c.in-Ok.ensures.covers (omega (arith, c.number-number.ensures, c.ticket.ensures.made)) (omega (arith, c.saturating_add.ensures)) (omega (arith, c.saturating_add.ensures))
           c.args.self.backed;
     }
 
-pub returns-in-Ok-push-clause-done : goal.returns-in-Ok-push-clause-done
-returns-in-Ok-push-clause-done g c = puts_with_gone c.args.self.gone.items c.args.self.entries.pile.items.items c.in-Ok.entries.pile.items.items c.args.self.entries.pile.synced c.in-Ok.entries.pile.synced (record { height = c.args.index; value = c.args.item }) _ c.in-Ok.ensures.done
+pub returns-in-Ok-add_waiting-clause-done : goal.returns-in-Ok-add_waiting-clause-done
+returns-in-Ok-add_waiting-clause-done g c = puts_with_gone c.args.self.gone.items c.args.self.entries.pile.items.items c.in-Ok.entries.pile.items.items c.args.self.entries.pile.synced c.in-Ok.entries.pile.synced (record { height = c.args.index; value = c.args.item }) _ c.in-Ok.ensures.done
 
-pub invariant_of-result-in-Err-push : goal.invariant_of-result-in-Err-push
-invariant_of-result-in-Err-push g c =
+pub invariant_of-result-in-Err-add_waiting : goal.invariant_of-result-in-Err-add_waiting
+invariant_of-result-in-Err-add_waiting g c =
     let are = more_by_length _ _ _ (record { height = c.args.index; value = c.args.item }) c.in-Ok.ensures.done.held (λ e. c.if-len-count-2.false (let long = simp length-map at e in omega (arith, c.len-count.ensures, long, c.in-Ok.entries.pile.items.ok.0, c.args.self.entries.pile.items.ok.0))) in
     rw c.into_pile.ensures (record {
       may_is = grown_ranges c.args.self.gone.items c.args.self.entries.pile.items.items c.in-Ok.entries.pile.items.items (record { height = c.args.index; value = c.args.item }) c.args.self.may c.args.grown c.args.self.may_is c.requires.grown are;
-      is_left = more_left g.T.Item.name g.T.JournalItem.spelled g.T.Item.fits g.D.Disk.may_leave c.args.self.disk c.args.self.gone.items c.args.self.entries.pile.items.items c.in-Ok.entries.pile.items.items c.args.self.entries.pile.synced c.in-Ok.entries.pile.synced (record { height = c.args.index; value = c.args.item }) c.in-Ok.ensures.done.sure are c.requires.fits (nothing_lost g.T.Item.name g.T.JournalItem.spelled g.T.Item.fits g.D.Disk.seen g.D.Disk.may_leave c.args.self.disk c.args.self.end c.args.self.gone.items c.args.self.entries.pile.items.items c.args.self.entries.pile.synced c.args.self.waiting.items c.args.self.entries.pile.once c.args.self.backed);
+      is_left = more_left g.T.Item.name g.T.JournalItem.spelled g.T.Item.fits g.D.Disk.may_leave c.args.self.disk c.args.self.gone.items c.args.self.entries.pile.items.items c.in-Ok.entries.pile.items.items c.args.self.entries.pile.synced c.in-Ok.entries.pile.synced (record { height = c.args.index; value = c.args.item }) c.in-Ok.ensures.done.sure are c.requires.fits (nothing_lost g.T.Item.name g.T.JournalItem.spelled g.T.Item.fits g.D.Disk.seen g.D.Disk.may_leave c.args.self.disk c.args.self.end c.args.self.gone.items c.args.self.entries.pile.items.items c.args.self.entries.pile.synced c.args.self.entries.pile.accepted c.args.self.waiting.items c.args.self.marks.items c.args.self.entries.pile.once c.args.self.backed);
     })
 
 pub returns-clause-done : goal.returns-clause-done

@@ -1,7 +1,7 @@
-use Rattle.std.proofs.Common.{Contains, [], ap, subst, sym, ◌∙◌, ◌∷◌}
+use Rattle.std.proofs.Common.{Contains, [], ap, inr, subst, sym, ◌∙◌, ◌∷◌}
 use Rattle.mar_store.specs.MemMeta.{values_of}
 use Rattle.mar_journal.specs.MetaStore.{failed_entries, failed_in, left_by_meta}
-use Rattle.mar_journal.proofs.MetaSteps.{leaves_still, opening_finds, opening_left, store_opened}
+use Rattle.mar_journal.proofs.MetaSteps.{crash_moments, leaves_still, opening_finds, opening_left, reopen_moments, store_opened, undamaged, wreck_moments}
 use Rattle.mar_journal.proofs.journal_meta.JournalMetaMeta.reopen.Goals as goal
 
 pub returns-then-is_err-clause-done : goal.returns-then-is_err-clause-done
@@ -41,3 +41,31 @@ returns-in-Err-Damaged-clause-done g c = rw (c.of-in-Err-Damaged.ensures, ← c.
 
 pub returns-in-Err-Memory-clause-done : goal.returns-in-Err-Memory-clause-done
 returns-in-Err-Memory-clause-done g c = rw (c.of-in-Err-Memory.ensures, ← c.wreck.view_is) (leaves_still c.wreck.inside.synced.entries (failed_entries c.wreck.inside.failed))
+
+pub returns-then-rings-clause-any_moment : goal.returns-then-rings-clause-any_moment
+returns-then-rings-clause-any_moment g c = rw (c.of.ensures, ← c.wreck.view_is) (wreck_moments g.D.Disk.seen g.D.Disk.may_leave g.D.Disk.moment g.D.Disk.left_since g.met.D.Disk.only_now c.wreck.inside.disk (left_by_meta (values_of c.wreck.inside.synced) (failed_in (failed_entries c.wreck.inside.failed))) c.wreck.invariant)
+
+pub returns-then-is_err-clause-any_moment : goal.returns-then-is_err-clause-any_moment
+returns-then-is_err-clause-any_moment g c = rw (c.of-then-is_err.ensures, ← c.wreck.view_is) (crash_moments g.D.Disk.seen g.D.Disk.may_leave g.D.Disk.moment g.D.Disk.left_since g.met.D.Disk.only_now c.wreck.inside.disk c.crash.new.self (left_by_meta (values_of c.wreck.inside.synced) (failed_in (failed_entries c.wreck.inside.failed))) c.wreck.invariant c.crash.ensures.crash c.crash.ensures.time)
+
+pub returns-in-Ok-clause-found : goal.returns-in-Ok-clause-found
+returns-in-Ok-clause-found g c = let done = c.in-Ok.ensures.done in
+    rw (← c.wreck.view_is) (g.D.Disk.seen c.crash.new.self, done.0, c.crash.ensures.crash _ (g.met.D.Disk.is_image c.crash.new.self), done.2, inr (c.in-Ok.end, (done.1).journal), done.3)
+
+pub returns-in-Ok-clause-any_moment : goal.returns-in-Ok-clause-any_moment
+returns-in-Ok-clause-any_moment g c = rw (← c.wreck.view_is) (reopen_moments g.D.Disk.seen g.D.Disk.may_leave g.D.Disk.moment g.D.Disk.left_since g.met.D.Disk.only_now c.wreck.inside.disk c.crash.new.self c.open_maps.new.disk (left_by_meta (values_of c.wreck.inside.synced) (failed_in (failed_entries c.wreck.inside.failed))) c.wreck.invariant c.crash.ensures.crash c.crash.ensures.time (g.met.D.Disk.is_image c.crash.new.self) c.open_maps.ensures.any_moment)
+
+pub returns-in-Err-Fault-clause-any_moment : goal.returns-in-Err-Fault-clause-any_moment
+returns-in-Err-Fault-clause-any_moment g c = rw (c.of-in-Err-Fault.ensures, ← c.wreck.view_is) (reopen_moments g.D.Disk.seen g.D.Disk.may_leave g.D.Disk.moment g.D.Disk.left_since g.met.D.Disk.only_now c.wreck.inside.disk c.crash.new.self c.open_maps.new.disk (left_by_meta (values_of c.wreck.inside.synced) (failed_in (failed_entries c.wreck.inside.failed))) c.wreck.invariant c.crash.ensures.crash c.crash.ensures.time (g.met.D.Disk.is_image c.crash.new.self) c.open_maps.ensures.any_moment)
+
+pub returns-in-Err-Damaged-clause-any_moment : goal.returns-in-Err-Damaged-clause-any_moment
+returns-in-Err-Damaged-clause-any_moment g c = rw (c.of-in-Err-Damaged.ensures, ← c.wreck.view_is) (reopen_moments g.D.Disk.seen g.D.Disk.may_leave g.D.Disk.moment g.D.Disk.left_since g.met.D.Disk.only_now c.wreck.inside.disk c.crash.new.self c.open_maps.new.disk (left_by_meta (values_of c.wreck.inside.synced) (failed_in (failed_entries c.wreck.inside.failed))) c.wreck.invariant c.crash.ensures.crash c.crash.ensures.time (g.met.D.Disk.is_image c.crash.new.self) c.open_maps.ensures.any_moment)
+
+pub returns-in-Err-Memory-clause-any_moment : goal.returns-in-Err-Memory-clause-any_moment
+returns-in-Err-Memory-clause-any_moment g c = rw (c.of-in-Err-Memory.ensures, ← c.wreck.view_is) (reopen_moments g.D.Disk.seen g.D.Disk.may_leave g.D.Disk.moment g.D.Disk.left_since g.met.D.Disk.only_now c.wreck.inside.disk c.crash.new.self c.open_maps.new.disk (left_by_meta (values_of c.wreck.inside.synced) (failed_in (failed_entries c.wreck.inside.failed))) c.wreck.invariant c.crash.ensures.crash c.crash.ensures.time (g.met.D.Disk.is_image c.crash.new.self) c.open_maps.ensures.any_moment)
+
+pub returns-in-Err-Damaged-clause-undamaged : goal.returns-in-Err-Damaged-clause-undamaged
+returns-in-Err-Damaged-clause-undamaged g c = absurd (undamaged g.D.Disk.seen g.D.Disk.may_leave c.crash.new.self (left_by_meta (values_of c.wreck.inside.synced) (failed_in (failed_entries c.wreck.inside.failed))) _ (g.met.D.Disk.is_image c.crash.new.self) (λ x now. c.wreck.invariant x (c.crash.ensures.crash x now)) (rw c.in-Err-Damaged.field-0-is at c.in-Err-Damaged.ensures.reason).1)
+
+pub returns-in-Err-Damaged-clause-cause : goal.returns-in-Err-Damaged-clause-cause
+returns-in-Err-Damaged-clause-cause g c = absurd (undamaged g.D.Disk.seen g.D.Disk.may_leave c.crash.new.self (left_by_meta (values_of c.wreck.inside.synced) (failed_in (failed_entries c.wreck.inside.failed))) _ (g.met.D.Disk.is_image c.crash.new.self) (λ x now. c.wreck.invariant x (c.crash.ensures.crash x now)) (rw c.in-Err-Damaged.field-0-is at c.in-Err-Damaged.ensures.reason).1)

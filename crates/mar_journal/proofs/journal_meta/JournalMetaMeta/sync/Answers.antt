@@ -3,7 +3,7 @@ use Rattle.std.proofs.lemmas.List.{nil_from_length}
 use Rattle.mar_store.specs.MemMeta.{values_of}
 use Rattle.mar_journal.specs.MetaRecords.{record_for}
 use Rattle.mar_journal.proofs.Bodies.{none_from}
-use Rattle.mar_journal.proofs.MetaSteps.{leaves_failed, store_same, store_synced, sync_left}
+use Rattle.mar_journal.proofs.MetaSteps.{adds_batch, adds_none, idle_moments, leaves_failed, store_same, store_synced, sync_left, sync_moments}
 use Rattle.mar_journal.proofs.journal_meta.JournalMetaMeta.sync.Goals as goal
 
 pub returns-then-rings-clause-done : goal.returns-then-rings-clause-done
@@ -49,3 +49,29 @@ of-requires-in-Err-Memory g c =
 
 pub returns-clause-done : goal.returns-clause-done
 returns-clause-done g c = rw (c.of-in-Err-Memory.ensures, ← c.self.view_is) (leaves_failed (values_of c.self.inside.synced) (values_of c.self.inside.values))
+
+pub returns-then-rings-clause-any_moment : goal.returns-then-rings-clause-any_moment
+returns-then-rings-clause-any_moment g c = rw (c.of.ensures, ← c.self.view_is) (idle_moments g.D.Disk.seen g.D.Disk.may_leave g.D.Disk.moment g.D.Disk.left_since g.met.D.Disk.only_now c.self.inside.disk c.self.inside.end (values_of c.self.inside.values) (values_of c.self.inside.synced) c.self.inside.changed.items c.self.invariant)
+
+pub returns-then-is_empty-clause-any_moment : goal.returns-then-is_empty-clause-any_moment
+returns-then-is_empty-clause-any_moment g c = rw (← c.self.view_is) (idle_moments g.D.Disk.seen g.D.Disk.may_leave g.D.Disk.moment g.D.Disk.left_since g.met.D.Disk.only_now c.self.inside.disk c.self.inside.end (values_of c.self.inside.values) (values_of c.self.inside.synced) c.self.inside.changed.items c.self.invariant)
+
+pub returns-in-Err-clause-any_moment : goal.returns-in-Err-clause-any_moment
+returns-in-Err-clause-any_moment g c = rw (c.of-in-Err.ensures, ← c.self.view_is) (idle_moments g.D.Disk.seen g.D.Disk.may_leave g.D.Disk.moment g.D.Disk.left_since g.met.D.Disk.only_now c.self.inside.disk c.self.inside.end (values_of c.self.inside.values) (values_of c.self.inside.synced) c.self.inside.changed.items c.self.invariant)
+
+pub returns-in-Ok-append-clause-any_moment : goal.returns-in-Ok-append-clause-any_moment
+returns-in-Ok-append-clause-any_moment g c = rw (← c.self.view_is) (sync_moments g.D.Disk.seen g.D.Disk.may_leave g.D.Disk.moment g.D.Disk.left_since c.self.inside.disk c.append.new.disk c.self.inside.end (values_of c.self.inside.values) (values_of c.self.inside.synced) c.self.inside.changed.items c.deref-2.result.now c.self.invariant (c.deref-2.ensures.value ∙ c.in-Ok.ensures.are ∙ ap (map (record_for (values_of c.self.inside.values))) c.deref.ensures.value) (c.append.ensures.any_moment c.self.invariant.records c.self.invariant.settled))
+
+pub returns-in-Err-Fault-clause-any_moment : goal.returns-in-Err-Fault-clause-any_moment
+returns-in-Err-Fault-clause-any_moment g c = rw (c.of-in-Err-Fault.ensures, ← c.self.view_is) (sync_moments g.D.Disk.seen g.D.Disk.may_leave g.D.Disk.moment g.D.Disk.left_since c.self.inside.disk c.append.new.disk c.self.inside.end (values_of c.self.inside.values) (values_of c.self.inside.synced) c.self.inside.changed.items c.deref-2.result.now c.self.invariant (c.deref-2.ensures.value ∙ c.in-Ok.ensures.are ∙ ap (map (record_for (values_of c.self.inside.values))) c.deref.ensures.value) (c.append.ensures.any_moment c.self.invariant.records c.self.invariant.settled))
+
+pub returns-clause-any_moment : goal.returns-clause-any_moment
+returns-clause-any_moment g c = rw (c.of-in-Err-Memory.ensures, ← c.self.view_is) (sync_moments g.D.Disk.seen g.D.Disk.may_leave g.D.Disk.moment g.D.Disk.left_since c.self.inside.disk c.append.new.disk c.self.inside.end (values_of c.self.inside.values) (values_of c.self.inside.synced) c.self.inside.changed.items c.deref-2.result.now c.self.invariant (c.deref-2.ensures.value ∙ c.in-Ok.ensures.are ∙ ap (map (record_for (values_of c.self.inside.values))) c.deref.ensures.value) (c.append.ensures.any_moment c.self.invariant.records c.self.invariant.settled))
+
+pub returns-then-is_empty-clause-written : goal.returns-then-is_empty-clause-written
+returns-then-is_empty-clause-written g c =
+    let none = nil_from_length c.self.inside.changed.items (omega (arith, c.self.inside.changed.ok.0, none_from _ c.if-is_empty.ensures)) in
+    rw (← c.self.view_is) (adds_none g.D.Disk.seen g.D.Disk.may_leave c.self.inside.disk c.self.inside.end (values_of c.self.inside.values) (values_of c.self.inside.synced) c.self.inside.changed.items c.self.invariant none)
+
+pub returns-in-Ok-append-clause-written : goal.returns-in-Ok-append-clause-written
+returns-in-Ok-append-clause-written g c = rw (← c.self.view_is) (adds_batch g.D.Disk.seen g.D.Disk.may_leave c.self.inside.disk c.append.new.disk c.self.inside.end c.in-Ok-append.end (values_of c.self.inside.values) (values_of c.self.inside.synced) c.self.inside.changed.items c.deref-2.result.now c.self.invariant (c.deref-2.ensures.value ∙ c.in-Ok.ensures.are ∙ ap (map (record_for (values_of c.self.inside.values))) c.deref.ensures.value) (c.in-Ok-append.ensures.done c.self.invariant.records c.self.invariant.settled))

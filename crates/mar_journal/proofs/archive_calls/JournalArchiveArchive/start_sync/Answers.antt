@@ -1,6 +1,6 @@
-use Rattle.std.proofs.Common.{[], ap}
+use Rattle.std.proofs.Common.{[], ap, inl, sym, ◌∙◌}
 use Rattle.mar_journal.proofs.ArchiveSteps.{fails_left, struck}
-use Rattle.mar_journal.proofs.journal_archive.JournalArchiveArchive.finish.Goals as goal
+use Rattle.mar_journal.proofs.archive_calls.JournalArchiveArchive.start_sync.Goals as goal
 
 pub returns-then-rings-clause-done : goal.returns-then-rings-clause-done
 returns-then-rings-clause-done g c = fails_left c.args.self.gone.items c.args.self.entries.pile.items.items _ _ c.args.self.entries.pile.synced _ [] (ap (λ v. v.items) c.left.ensures.gone) (ap (λ p. p.items.items) c.left.ensures.pile) (ap (λ p. p.synced) c.left.ensures.pile)
@@ -8,5 +8,5 @@ returns-then-rings-clause-done g c = fails_left c.args.self.gone.items c.args.se
 pub returns-then-rings-clause-watched : goal.returns-then-rings-clause-watched
 returns-then-rings-clause-watched g c = rw c.left.ensures.alarm (struck c.args.self.alarm.faults _ c.args.self.alarm.due.items _ c.rings.result c.if-rings.true c.rings.ensures.rings c.rings.ensures.due c.rings.ensures.faults)
 
-pub returns-in-Err-clause-done : goal.returns-in-Err-clause-done
-returns-in-Err-clause-done g c = fails_left c.args.self.gone.items c.args.self.entries.pile.items.items _ _ c.args.self.entries.pile.synced _ [] (ap (λ v. v.items) c.in-Err.ensures.left_gone) (ap (λ p. p.items.items) c.in-Err.ensures.left) (ap (λ p. p.synced) c.in-Err.ensures.left)
+pub returns-then-rings-clause-cause : goal.returns-then-rings-clause-cause
+returns-then-rings-clause-cause g c = inl (sym c.rings.ensures.rings ∙ c.if-rings.true)

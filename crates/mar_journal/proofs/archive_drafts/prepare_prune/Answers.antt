@@ -4,7 +4,7 @@ use Rattle.mar_store.specs.Entries.{seen}
 use Rattle.mar_store.specs.Ranges.{with_height}
 use Rattle.mar_store.proofs.Stores.{all_pass}
 use Rattle.mar_journal.proofs.ArchiveSteps.{ranges_of_three}
-use Rattle.mar_journal.proofs.journal_archive.prepare_prune.Goals as goal
+use Rattle.mar_journal.proofs.archive_drafts.prepare_prune.Goals as goal
 
 pub returns-clause-may : goal.returns-clause-may
 returns-clause-may g c =

@@ -1,6 +1,7 @@
-use Rattle.std.proofs.Common.{[], ap}
+use Rattle.std.proofs.Common.{[], ap, inl, sym, ◌∙◌}
+use Rattle.mar_store.proofs.Stores.{covers_pruned}
 use Rattle.mar_journal.proofs.ArchiveSteps.{fails_left, struck}
-use Rattle.mar_journal.proofs.journal_archive.JournalArchiveArchive.sync.Goals as goal
+use Rattle.mar_journal.proofs.archive_calls.JournalArchiveArchive.prune.Goals as goal
 
 pub returns-then-rings-clause-done : goal.returns-then-rings-clause-done
 returns-then-rings-clause-done g c = fails_left c.args.self.gone.items c.args.self.entries.pile.items.items _ _ c.args.self.entries.pile.synced _ [] (ap (λ v. v.items) c.left.ensures.gone) (ap (λ p. p.items.items) c.left.ensures.pile) (ap (λ p. p.synced) c.left.ensures.pile)
@@ -11,5 +12,8 @@ returns-then-rings-clause-watched g c = rw c.left.ensures.alarm (struck c.args.s
 pub returns-in-Err-clause-done : goal.returns-in-Err-clause-done
 returns-in-Err-clause-done g c = fails_left c.args.self.gone.items c.args.self.entries.pile.items.items _ _ c.args.self.entries.pile.synced _ [] (ap (λ v. v.items) c.left-in-Err.ensures.gone) (ap (λ p. p.items.items) c.left-in-Err.ensures.pile) (ap (λ p. p.synced) c.left-in-Err.ensures.pile)
 
-pub returns-in-Err-flush-clause-done : goal.returns-in-Err-flush-clause-done
-returns-in-Err-flush-clause-done g c = fails_left c.args.self.gone.items c.args.self.entries.pile.items.items _ _ c.args.self.entries.pile.synced _ [] (ap (λ v. v.items) c.in-Err-flush.ensures.left_gone) (ap (λ p. p.items.items) c.in-Err-flush.ensures.left) (ap (λ p. p.synced) c.in-Err-flush.ensures.left)
+pub returns-in-Ok-cut-clause-covers : goal.returns-in-Ok-cut-clause-covers
+returns-in-Ok-cut-clause-covers g c = covers_pruned c.args.min c.args.self.entries.pile.accepted c.args.self.entries.pile.items.items _ c.args.self.entries.pile.once c.in-Ok-cut.ensures.cut
+
+pub returns-then-rings-clause-cause : goal.returns-then-rings-clause-cause
+returns-then-rings-clause-cause g c = inl (sym c.rings.ensures.rings ∙ c.if-rings.true)

@@ -1,9 +1,0 @@
-use Rattle.std.proofs.Common.{[], ap}
-use Rattle.mar_journal.proofs.ArchiveSteps.{fails_left, struck}
-use Rattle.mar_journal.proofs.journal_archive.JournalArchiveArchive.start_sync.Goals as goal
-
-pub returns-then-rings-clause-done : goal.returns-then-rings-clause-done
-returns-then-rings-clause-done g c = fails_left c.args.self.gone.items c.args.self.entries.pile.items.items _ _ c.args.self.entries.pile.synced _ [] (ap (λ v. v.items) c.left.ensures.gone) (ap (λ p. p.items.items) c.left.ensures.pile) (ap (λ p. p.synced) c.left.ensures.pile)
-
-pub returns-then-rings-clause-watched : goal.returns-then-rings-clause-watched
-returns-then-rings-clause-watched g c = rw c.left.ensures.alarm (struck c.args.self.alarm.faults _ c.args.self.alarm.due.items _ c.rings.result c.if-rings.true c.rings.ensures.rings c.rings.ensures.due c.rings.ensures.faults)
