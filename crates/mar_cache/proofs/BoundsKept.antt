@@ -1,5 +1,5 @@
 -- What the metadata of a cache may be left with.
-use Rattle.std.proofs.Common.{◌≡◌, ◌∙◌, ℕ, zero, suc, List, [], ◌∷◌, ◌++◌, Option, Some, Result, Ok, Err, IfOk, MatchResult, Contains, inl, inr, refl, ap, ap₂, subst, sym, unwrap_or, map, length, arith}
+use Rattle.std.proofs.Common.{◌≡◌, ◌∙◌, ℕ, zero, suc, List, [], ◌∷◌, ◌++◌, Some, Result, Ok, Err, IfOk, MatchResult, Contains, inl, inr, refl, ap, ap₂, subst, sym, unwrap_or, map, arith}
 use Rattle.std.proofs.lemmas.List.{map-append}
 use Rattle.std.proofs.lemmas.List.Elements.{Contains-append_cases, Contains-append_left, Contains-append_right}
 use Rattle.mar_store.specs.Lost.{wreck_of}

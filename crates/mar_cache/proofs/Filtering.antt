@@ -1,6 +1,6 @@
 -- Filtered lists, as entries of a list that pass.
-use Rattle.std.proofs.Common.{◌≡◌, ◌⊎◌, inl, inr, ◌||◌, ◌&&◌, ℕ, zero, suc, List, [], ◌∷◌, ◌++◌, Bool, true, false, not, Contains, cond, refl, ap, sym, ◌∙◌, subst, filter, map, length, arith}
-use Rattle.std.specs.List.{AllByRecursion, list_any}
+use Rattle.std.proofs.Common.{◌≡◌, ◌⊎◌, inl, inr, ◌||◌, zero, suc, List, [], ◌∷◌, Bool, true, false, Contains, cond, refl, ap, sym, ◌∙◌, filter, map, arith}
+use Rattle.std.specs.List.{list_any}
 use Rattle.mar_store.specs.Changes.{Within}
 
 pub contains_here : {A : Type 0} (x : A) (xs : List A) → Contains (x ∷ xs) x

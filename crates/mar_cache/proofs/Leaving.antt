@@ -1,5 +1,5 @@
 -- What is left of epochs where a call fails, and what a reopening takes up.
-use Rattle.std.proofs.Common.{◌≡◌, ◌≢◌, ◌⊎◌, inl, inr, ◌==◌, ◌≤◌, ◌<◌, ◌+◌, ℕ, zero, suc, List, [], ◌∷◌, ◌++◌, Bool, true, false, not, IsTrue, Option, Some, None, is_some, Contains, cond, refl, ap, sym, ◌∙◌, subst, map, length, option_map, nat_le, Result, Ok, Err, MatchResult, MatchOption, IsSome, ◌↔◌, arith}
+use Rattle.std.proofs.Common.{◌≡◌, ◌≢◌, ◌⊎◌, inl, inr, ◌==◌, ◌<◌, ◌+◌, ℕ, zero, suc, List, [], ◌∷◌, ◌++◌, Bool, true, false, not, IsTrue, Option, Some, None, is_some, Contains, cond, refl, ap, sym, ◌∙◌, subst, map, length, option_map, nat_le, Result, Ok, Err, MatchResult, MatchOption, IsSome, ◌↔◌, arith}
 use Rattle.std.specs.Prelude.{IsSomeAnd, if◌then◌else◌}
 use Rattle.std.specs.Bool.{OnTrue}
 use Rattle.std.specs.Ordering.{nat_cmp}
@@ -22,7 +22,7 @@ use Rattle.mar_store.specs.Names.{IsDestroyedOrNot, IsOpenedOrNot, Names, Opens}
 use Rattle.mar_store.proofs.Lookups.{AllByRecursion-contains, AllByRecursion-from_contains, AllByRecursion-push, AllByRecursion-weaker}
 use Rattle.mar_node.specs.Cached.{Cached}
 use Rattle.mar_cache.specs.Volumes.{Book, KeepsVolume, LosesVolume, is_kept, nothing_left, puts_of}
-use Rattle.mar_cache.specs.Tomes.{HasSome, KeepsOtherTomes, LeavesTome, LosesTome, MightBe, OpensTome, Tome, Tomes, all_gone, held_in, is_known, is_opened, is_upto, left_of_tome, may_in, newer_of, none_gone, opened, shut, tome_at, tome_of_slot, tome_under, tomes_of, unknown}
+use Rattle.mar_cache.specs.Tomes.{DestroysOrNot, HasSome, IsBare, IsLeftOrBare, KeepsOtherTomes, LeavesTome, LosesTome, MightBe, OpensTome, Tome, Tomes, held_in, is_opened, is_upto, left_of_tome, newer_of, none_gone, opened, shut, tome_at, tome_of_slot, tome_under, tomes_of, unknown}
 use Rattle.mar_cache.specs.declared.change.Change.{Change}
 use Rattle.mar_cache.specs.declared.slot.Slot.{Slot}
 use Rattle.mar_cache.specs.declared.slot.Slot.TheVariants.{Away, Leftover, Standing}
@@ -155,17 +155,9 @@ module _ {A W : Type 0} (book : A → Book) (left : W → Left Cached) (opening 
 
   -- A REMOVAL THAT FAILED
 
-  leaves_gone : (t u : Tome) → ((x : Cached) → IsTrue (is_known t) → Contains (may_in u) x → Contains (may_in t) x) → LeavesTome [] all_gone t u
-  leaves_gone t u may = record { sure = λ x has stays. absurd cc; held = λ x has stays. absurd cc; may = λ known x has. inl (may x known has) }
-
-  same_may : (t : Tome) (x : Cached) → Contains (may_in (left_of_tome t)) x → Contains (may_in t) x
-  same_may (opened b) x has = has
-  same_may (shut l) x has = has
-  same_may unknown x has = has
-
-  pub loses_removed : (slots : BTreeMap ℕ (Slot A W)) (e : ℕ) (names : Names W) (told : Bool) (ways : List (Names W)) → OnTrue told (AllByRecursion (IsDestroyedOrNot names e) ways) → AllByRecursion (LosesTome e (tomes_of book left opening told slots names e) [] all_gone (tomes_of book left opening told slots names)) (left_ways told slots ways)
+  pub loses_removed : (slots : BTreeMap ℕ (Slot A W)) (e : ℕ) (names : Names W) (told : Bool) (ways : List (Names W)) → OnTrue told (AllByRecursion (IsDestroyedOrNot names e) ways) → AllByRecursion (DestroysOrNot e (tomes_of book left opening told slots names)) (left_ways told slots ways)
   loses_removed slots e names true ways all = all_mapped _ (IsDestroyedOrNot names e) _ ways (λ ns way. record {
-    here = leaves_gone _ _ (λ x known has. at_name (get nat_cmp slots e) ns way x has);
+    here = at_name (get nat_cmp slots e) ns way;
     others = λ k other. ap (λ n. left_of_tome (tome_at book left opening true (get nat_cmp slots k) n)) (elsewhere ns way k other);
   }) all
     where
@@ -173,12 +165,12 @@ module _ {A W : Type 0} (book : A → Book) (left : W → Left Cached) (opening 
       elsewhere ns (inl keeps) k other = keeps k
       elsewhere ns (inr sets) k other = sets k ∙ ap (λ b. cond b None (names k)) (ne_eqb k e other)
 
-      at_name : (slot : Option (Slot A W)) (ns : Names W) → IsDestroyedOrNot names e ns → (x : Cached) → Contains (may_in (left_of_tome (tome_at book left opening true slot (ns e)))) x → Contains (may_in (tome_at book left opening true slot (names e))) x
-      at_name (Some s) ns way x has = same_may (tome_of_slot book left opening s) x has
-      at_name None ns (inl keeps) x has = same_may (tome_under true left (names e)) x (subst (λ o. Contains (may_in (left_of_tome (tome_under true left o))) x) (keeps e) has)
-      at_name None ns (inr sets) x has = contains_none x (subst (λ o. Contains (may_in (left_of_tome (tome_under true left o))) x) (sets e ∙ ap (λ b. cond b None (names e)) (eq-eqb e e refl)) has)
+      at_name : (slot : Option (Slot A W)) (ns : Names W) → IsDestroyedOrNot names e ns → IsLeftOrBare (tome_at book left opening true slot (names e)) (left_of_tome (tome_at book left opening true slot (ns e)))
+      at_name (Some s) ns way = inl refl
+      at_name None ns (inl keeps) = inl (ap (λ o. left_of_tome (tome_under true left o)) (keeps e))
+      at_name None ns (inr sets) = inr (subst (λ o. IsBare (left_of_tome (tome_under true left o))) (sym (sets e ∙ ap (λ b. cond b None (names e)) (eq-eqb e e refl))) refl)
   loses_removed slots e names false ways all = all_map _ _ ways (λ ns. record {
-    here = leaves_gone _ _ (λ x known has. same_may (tome_at book left opening false (get nat_cmp slots e) (names e)) x (subst (λ t. Contains (may_in (left_of_tome t)) x) (untold_same (get nat_cmp slots e) (ns e) (names e)) has));
+    here = inl (ap left_of_tome (untold_same (get nat_cmp slots e) (ns e) (names e)));
     others = λ k other. ap left_of_tome (untold_same (get nat_cmp slots k) (ns k) (names k));
   })
 
@@ -280,6 +272,10 @@ module _ {A W : Type 0} (book : A → Book) (left : W → Left Cached) (told : B
 
   pub standing_open : (v : A) (o : ℕ) (slot : Option (Slot A W)) (name : Option W) → slot ≡ Some (Standing v o) → o ≡ opening → tome_at book left opening told slot name ≡ opened (book v)
   standing_open v o slot name is same = ap (λ s. tome_at book left opening told s name) is ∙ ap (λ b. cond b (opened (book v)) (shut (left_of (book v).kept))) (eq-eqb o opening same)
+
+  -- it is open, so no clause speaks of one that isn't
+  pub standing_not_shut : (v : A) (o : ℕ) (slot : Option (Slot A W)) (name : Option W) → slot ≡ Some (Standing v o) → o ≡ opening → is_opened (tome_at book left opening told slot name) ≡ false → ⊥
+  standing_not_shut v o slot name is same closed = let clash : true ≡ false = sym (ap is_opened (standing_open v o slot name is same)) ∙ closed in cc
 
   pub standing_shut : (v : A) (o : ℕ) (slot : Option (Slot A W)) (name : Option W) → slot ≡ Some (Standing v o) → is_opened (tome_at book left opening told slot name) ≡ false → tome_at book left opening told slot name ≡ shut (left_of (book v).kept)
   standing_shut v o slot name is closed = ap (λ s. tome_at book left opening told s name) is ∙ by (o == opening) (ap is_opened (ap (λ s. tome_at book left opening told s name) (sym is)) ∙ closed)

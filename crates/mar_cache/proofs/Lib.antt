@@ -8,3 +8,4 @@ pub mod Shelving
 pub mod Thinning
 pub mod Views
 pub mod Plainly
+pub mod Within

@@ -1,5 +1,5 @@
 -- Changes of plain entries instead of what keeps them.
-use Rattle.std.proofs.Common.{◌≡◌, List, [], ◌∷◌, None, Some, map, Option}
+use Rattle.std.proofs.Common.{List, [], ◌∷◌, None, Some, map, Option}
 use Rattle.mar_node.specs.Cached.{Cached, epoch_of}
 use Rattle.mar_cache.specs.Calls.{IsPut, IsPutAndSynced}
 use Rattle.mar_cache.specs.Sections.{section_of}

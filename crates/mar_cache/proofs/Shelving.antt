@@ -1,5 +1,5 @@
 -- What calls of a shelf leave where they fail after others went well.
-use Rattle.std.proofs.Common.{◌≡◌, ◌≢◌, ◌⊎◌, inl, inr, ◌==◌, ◌||◌, ◌≤◌, ◌<◌, ◌+◌, get_or, length, ℕ, zero, suc, List, [], ◌∷◌, ◌++◌, Bool, true, false, not, IsTrue, Contains, cond, refl, ap, sym, ◌∙◌, subst, filter, map, Result, Ok, Err, IfErr, MatchResult, arith}
+use Rattle.std.proofs.Common.{◌≡◌, ◌⊎◌, inl, inr, ◌≤◌, ◌<◌, ◌+◌, get_or, length, ℕ, zero, suc, List, [], ◌∷◌, ◌++◌, Bool, true, false, IsTrue, Contains, cond, refl, ap, sym, ◌∙◌, subst, filter, Result, Ok, Err, IfErr, IfOk, MatchResult, arith}
 use Rattle.std.specs.List.{AllByRecursion, list_any}
 use Rattle.std.proofs.lemmas.Bool.{cases_eq, eq-eqb}
 use Rattle.std.proofs.lemmas.List.Elements.{Contains-append_cases, Contains-append_left, Contains-append_right}
@@ -9,11 +9,11 @@ use Rattle.mar_store.specs.declared.Lost.{Lost}
 use Rattle.mar_store.proofs.Lookups.{AllByRecursion-weaker}
 use Rattle.mar_node.specs.Cached.{Cached, same_place}
 use Rattle.mar_cache.specs.Volumes.{Book, held_after, is_kept, puts_of}
-use Rattle.mar_cache.specs.Tomes.{ChangesTome, IsNestedTome, MightBe, is_opened, KeepsOtherTomes, LeavesOtherTomes, LeavesTome, LosesTome, OpensTome, Tome, Tomes, left_of_tome, none_gone, opened, shut, unknown}
+use Rattle.mar_cache.specs.Tomes.{ChangesTome, IsNestedTome, MightBe, is_opened, KeepsOtherTomes, LeavesTome, LosesTome, OpensTome, Tome, Tomes, left_of_tome, opened, shut, unknown}
 use Rattle.mar_cache.specs.Shelved.{at_epoch, DoesAt, OpensOrStays, GrowsTome, GrowsTomes, LeavesTomes}
 use Rattle.mar_cache.specs.declared.change.Change.{Change}
 use Rattle.mar_cache.specs.declared.change.Change.TheVariants.{Finish, PruneBelow, PruneCertified, Put, Sync}
-use Rattle.mar_cache.proofs.Filtering.{contains_here, contains_more, contains_none}
+use Rattle.mar_cache.proofs.Filtering.{contains_more, contains_none}
 
 pub filter_contains : {A : Type 0} (test : A → Bool) (xs : List A) (x : A) → Contains xs x → test x ≡ true → Contains (filter test xs) x
 filter_contains test [] x has passes = has
@@ -124,6 +124,16 @@ pub does_grow : {E : Type 0} (plain : E → Cached) (change : Change E) (put : �
 does_grow plain change put gone e old new wider fewer does =
     grows_at put gone e old new (subst (GrowsTome (put e) (gone e) (old e)) (sym does.done.2) (grows_then (put e) (gone e) (old e) does.mid does.done.0 (opens_grows (put e) (gone e) (old e) does.mid does.opens) (changes_grows plain change (put e) (gone e) does.mid does.done.0 wider fewer does.done.1))) does.others
 
+-- an epoch was opened and changed, and then changed again
+pub does_then : {E S W : Type 0} (plain : E → Cached) (tomes : S → Tomes) (Q : Lost W → Type 0) (e : ℕ) (first second : Change E) (old mid : Tomes) (r : Result S (Lost W)) → DoesAt plain e (first ∷ []) old mid → MatchResult r (λ s. ChangesTome plain second (mid e) (tomes s e) × KeepsOtherTomes e mid (tomes s)) Q → IfOk r (λ s. DoesAt plain e (first ∷ second ∷ []) old (tomes s))
+does_then plain tomes Q e first second old mid (Ok s) does then = record {
+  mid = does.mid;
+  opens = does.opens;
+  done = (does.done.0, does.done.1, (tomes s e, subst (λ t. ChangesTome plain second t (tomes s e)) does.done.2 then.0, refl));
+  others = λ k other. then.1 k other ∙ does.others k other;
+}
+does_then plain tomes Q e first second old mid (Err l) does then = tt
+
 -- what a call leaves that failed at its end, after others went well
 pub end_leaves : {S W : Type 0} (P : S → Type 0) (ways : W → List Tomes) (put : ℕ → List Cached) (gone : ℕ → Cached → Bool) (e : ℕ) (more : List Cached) (lets : Cached → Bool) (old mid : Tomes) (r : Result S (Lost W))
     → ((k : ℕ) → IsNestedTome (mid k)) → Within more (put e) → ((x : Cached) → gone e x ≡ false → lets x ≡ false) → GrowsTomes put gone old mid
@@ -178,24 +188,32 @@ opened_stays e mid new here others k is = by (cases_eq k e)
     by (inl same) = subst (λ j. is_opened (new j) ≡ true) (sym same) (opened_one (mid e) (new e) here (subst (λ j. is_opened (mid j) ≡ true) same is))
     by (inr other) = ap is_opened (others k other) ∙ is
 
--- the epochs of a list so far are open, and so is the next
-pub opened_more : (tomes : Tomes) (es : List ℕ) (place low high : ℕ) → ((j : ℕ) → j < place → low ≤ get_or es j 0 → get_or es j 0 ≤ high → is_opened (tomes (get_or es j 0)) ≡ true) → (low ≤ get_or es place 0 → get_or es place 0 ≤ high → is_opened (tomes (get_or es place 0)) ≡ true)
-    → (j : ℕ) → j < place + 1 → low ≤ get_or es j 0 → get_or es j 0 ≤ high → is_opened (tomes (get_or es j 0)) ≡ true
-opened_more tomes es place low high before here j less from to = by (cases_eq j place)
+-- the epochs of a list so far that pass are open, and so is the next
+pub opened_more : (tomes : Tomes) (es : List ℕ) (place : ℕ) (test : ℕ → Bool) → ((j : ℕ) → j < place → test (get_or es j 0) ≡ true → is_opened (tomes (get_or es j 0)) ≡ true) → (test (get_or es place 0) ≡ true → is_opened (tomes (get_or es place 0)) ≡ true)
+    → (j : ℕ) → j < place + 1 → test (get_or es j 0) ≡ true → is_opened (tomes (get_or es j 0)) ≡ true
+opened_more tomes es place test before here j less passes = by (cases_eq j place)
   where
     by : (j ≡ place) ⊎ (j ≡ place → ⊥) → is_opened (tomes (get_or es j 0)) ≡ true
-    by (inl same) = subst (λ i. is_opened (tomes (get_or es i 0)) ≡ true) (sym same) (here (subst (λ i. low ≤ get_or es i 0) same from) (subst (λ i. get_or es i 0 ≤ high) same to))
-    by (inr other) = before j (omega (arith, less, other)) from to
+    by (inl same) = subst (λ i. is_opened (tomes (get_or es i 0)) ≡ true) (sym same) (here (subst (λ i. test (get_or es i 0) ≡ true) same passes))
+    by (inr other) = before j (omega (arith, less, other)) passes
+
+-- an epoch that doesn't pass stays as it was, where the one at hand changes only if it passes
+pub outside_stays : (test : ℕ → Bool) (e : ℕ) (old mid new : Tomes) → ((k : ℕ) → test k ≡ false → mid k ≡ old k) → (test e ≡ false → (k : ℕ) → new k ≡ mid k) → KeepsOtherTomes e mid new → (k : ℕ) → test k ≡ false → new k ≡ old k
+outside_stays test e old mid new before here others k fails = by (cases_eq k e)
+  where
+    by : (k ≡ e) ⊎ (k ≡ e → ⊥) → new k ≡ old k
+    by (inl same) = here (subst (λ j. test j ≡ false) same fails) k ∙ before k fails
+    by (inr other) = others k other ∙ before k fails
 
 pub index_default : (xs : List ℕ) (j a b : ℕ) → j < length xs → get_or xs j a ≡ get_or xs j b
 index_default [] j a b less = absurd (omega (arith, less))
 index_default (x ∷ xs) zero a b less = refl
 index_default (x ∷ xs) (suc j) a b less = index_default xs j a b (omega (arith, less))
 
-pub opened_all : (tomes : Tomes) (es : List ℕ) (place low high : ℕ) → length es ≤ place → ((j : ℕ) → j < place → low ≤ get_or es j 0 → get_or es j 0 ≤ high → is_opened (tomes (get_or es j 0)) ≡ true) → (k : ℕ) → low ≤ k → k ≤ high → Contains es k → is_opened (tomes k) ≡ true
-opened_all tomes es place low high over all k from to (j, less, is) =
+pub opened_all : (tomes : Tomes) (es : List ℕ) (place : ℕ) (test : ℕ → Bool) → length es ≤ place → ((j : ℕ) → j < place → test (get_or es j 0) ≡ true → is_opened (tomes (get_or es j 0)) ≡ true) → (k : ℕ) → test k ≡ true → Contains es k → is_opened (tomes k) ≡ true
+opened_all tomes es place test over all k passes (j, less, is) =
     let at : get_or es j 0 ≡ k = index_default es j 0 k less ∙ is in
-    subst (λ e. is_opened (tomes e) ≡ true) at (all j (omega (arith, over, less)) (subst (λ e. low ≤ e) (sym at) from) (subst (λ e. e ≤ high) (sym at) to))
+    subst (λ e. is_opened (tomes e) ≡ true) at (all j (omega (arith, over, less)) (subst (λ e. test e ≡ true) (sym at) passes))
 
 -- what is left of a reopened shelf might have been left before
 pub reopened_ways : (before ways : List Tomes) (tomes : Tomes) → MightBe before tomes → ((k : ℕ) → is_opened (tomes k) ≡ false) → AllByRecursion (λ left. (k : ℕ) → left k ≡ left_of_tome (tomes k)) ways → AllByRecursion (MightBe before) ways

@@ -1,17 +1,13 @@
 -- Prunes of one epoch after another.
-use Rattle.std.proofs.Common.{◌≡◌, ◌⊎◌, inl, inr, ◌≤◌, ◌<◌, ◌+◌, ℕ, zero, suc, List, [], ◌∷◌, Bool, true, false, not, IsTrue, Contains, cond, get_or, length, refl, ap, sym, ◌∙◌, subst, filter, map, Result, Ok, Err, IfOk, arith}
+use Rattle.std.proofs.Common.{◌≡◌, ◌⊎◌, inl, inr, ◌≤◌, ◌<◌, ◌+◌, ℕ, zero, suc, List, [], ◌∷◌, Bool, true, false, not, IsTrue, Contains, cond, get_or, length, refl, ap, sym, ◌∙◌, subst, filter, Result, Ok, Err, IfOk, arith}
 use Rattle.std.proofs.lemmas.Bool.{cases_eq}
-use Rattle.mar_store.specs.Changes.{Within}
-use Rattle.mar_store.specs.Tickets.{last_number}
 use Rattle.mar_node.specs.Cached.{Cached}
 use Rattle.mar_node.specs.Cache.{is_certified_below}
-use Rattle.mar_cache.specs.Sections.{is_in}
 use Rattle.mar_cache.specs.Volumes.{held_after, is_kept, puts_of}
 use Rattle.mar_cache.specs.Tomes.{ChangesTome, HasSome, KeepsOtherTomes, Tome, Tomes, held_in, is_opened, opened, shut, unknown}
-use Rattle.mar_cache.specs.Shelved.{GrowsTome, IsClear, KeepsTickets, ThinsTome}
-use Rattle.mar_cache.specs.declared.section.Section.{Section}
+use Rattle.mar_cache.specs.Shelved.{IsClear, KeepsTickets, ThinsTome}
 use Rattle.mar_cache.specs.declared.change.Change.{Change}
-use Rattle.mar_cache.specs.declared.change.Change.TheVariants.{PruneBelow, PruneCertified}
+use Rattle.mar_cache.specs.declared.change.Change.TheVariants.{PruneCertified}
 use Rattle.mar_cache.proofs.Filtering.{contains_more, contains_none}
 use Rattle.mar_cache.proofs.Shelving.{changes_grows, filter_contains, grows_itself, grows_then, index_default}
 

@@ -1,21 +1,20 @@
 -- A prune by view: older epochs are destroyed, one after another.
-use Rattle.std.proofs.Common.{◌≡◌, ◌⊎◌, inl, inr, ◌≤◌, ◌<◌, ◌+◌, ◌==◌, ◌||◌, ◌&&◌, ℕ, zero, suc, List, [], ◌∷◌, ◌++◌, Bool, true, false, not, cond, Contains, get_or, length, nat_le, nat_lt, max, refl, ap, sym, ◌∙◌, subst, Result, Ok, Err, IfOk, IfErr, MatchResult, arith}
+use Rattle.std.proofs.Common.{◌≡◌, ◌⊎◌, inl, inr, ◌≤◌, ◌<◌, ◌+◌, ◌==◌, ◌||◌, ◌&&◌, ℕ, List, [], ◌∷◌, ◌++◌, Bool, true, false, not, cond, Contains, get_or, length, nat_le, nat_lt, max, refl, ap, sym, ◌∙◌, subst, Result, Ok, Err, IfOk, IfErr, MatchResult, arith}
 use Rattle.std.specs.List.{AllByRecursion}
-use Rattle.std.proofs.lemmas.Bool.{cases_eq, eq-eqb, leb-true}
+use Rattle.std.proofs.lemmas.Bool.{cases_eq, eq-eqb, leb-true, ltb-false}
 use Rattle.std.proofs.lemmas.List.Elements.{Contains-append_right}
 use Rattle.mar_types.specs.Round.{Round}
-use Rattle.mar_store.specs.Changes.{Left, Within}
+use Rattle.mar_store.specs.Changes.{Within}
 use Rattle.mar_store.specs.Lost.{wreck_of}
 use Rattle.mar_store.specs.declared.Lost.{Lost}
 use Rattle.mar_cache.specs.declared.change.Change.TheVariants.{PruneBelow}
 use Rattle.mar_store.proofs.Lookups.{AllByRecursion-weaker}
 use Rattle.mar_node.specs.Cached.{Cached}
 use Rattle.mar_node.specs.Cache.{is_below}
-use Rattle.mar_cache.specs.Volumes.{nothing_left}
-use Rattle.mar_cache.specs.Tomes.{ChangesTome, HasSome, IsBare, IsNestedTome, KeepsOtherTomes, LeavesTome, LosesTome, Tome, Tomes, all_gone, left_of_tome, opened, shut, unknown}
-use Rattle.mar_cache.specs.Shelved.{is_pruned_by, pruned_bounds}
-use Rattle.mar_cache.specs.Bounds.{Bounds}
-use Rattle.mar_cache.proofs.Filtering.{or_false_right}
+use Rattle.mar_cache.specs.Tomes.{ChangesTome, DestroysOrNot, HasSome, IsBare, IsLeftOrBare, IsNestedTome, KeepsOtherTomes, LeavesTome, LosesTome, Tome, Tomes, left_of_tome, opened, shut, unknown}
+use Rattle.mar_cache.specs.Shelved.{DropsOlder, LeavesTomes, is_pruned_by, pruned_bounds}
+use Rattle.mar_cache.specs.Bounds.{Bounds, LeavesBounds}
+use Rattle.mar_cache.proofs.Filtering.{contains_none, or_false_right}
 use Rattle.mar_cache.proofs.Shelving.{index_default, leaves_itself}
 
 -- nothing is left of an epoch, or something
@@ -29,16 +28,53 @@ bare_or_some (shut l) = by l.sure refl l.may refl
     by (x ∷ xs) some may is = inr (λ nothing. absurd (let e : x ∷ xs ≡ [] = sym some ∙ ap (λ k. k.sure) nothing in cc))
     by [] none (x ∷ xs) some = inr (λ nothing. absurd (let e : x ∷ xs ≡ [] = sym some ∙ ap (λ k. k.may) nothing in cc))
 
-abbrev pub SameOrBare : Tome → Tome → Type 0
-SameOrBare old new = (new ≡ old) ⊎ IsBare new
+-- EPOCHS THAT ARE DESTROYED ONE AFTER ANOTHER
 
-pub bare_then : (t u v : Tome) → SameOrBare t u → SameOrBare u v → SameOrBare t v
-bare_then t u v first (inr bare) = inr bare
-bare_then t u v first (inl same) = subst (SameOrBare t) (sym same) first
+pub drops_same : (below : ℕ) (t u : Tomes) → ((k : ℕ) → u k ≡ t k) → DropsOlder below t u
+drops_same below t u same k = inl (same k)
 
-pub still_bare : (u v : Tome) → SameOrBare u v → IsBare u → IsBare v
-still_bare u v (inl same) bare = subst IsBare (sym same) bare
-still_bare u v (inr now) bare = now
+pub drops_then : (below : ℕ) (t u v : Tomes) → DropsOlder below t u → DropsOlder below u v → DropsOlder below t v
+drops_then below t u v first second k = by (second k)
+  where
+    by : (v k ≡ u k) ⊎ ((k < below) × IsBare (v k)) → (v k ≡ t k) ⊎ ((k < below) × IsBare (v k))
+    by (inr gone) = inr gone
+    by (inl same) = elim (first k) [ inl before ↦ inl (same ∙ before) | inr gone ↦ inr (gone.0, subst IsBare (sym same) gone.1) ]
+
+pub drop_one : (e below : ℕ) (old new : Tomes) → e < below → IsBare (new e) → KeepsOtherTomes e old new → DropsOlder below old new
+drop_one e below old new less bare others k = by (cases_eq k e)
+  where
+    by : (k ≡ e) ⊎ (k ≡ e → ⊥) → (new k ≡ old k) ⊎ ((k < below) × IsBare (new k))
+    by (inl same) = inr (subst (λ j. (j < below) × IsBare (new j)) (sym same) (less, bare))
+    by (inr other) = inl (others k other)
+
+pub above_same : (below : ℕ) (old new : Tomes) → DropsOlder below old new → (k : ℕ) → below ≤ k → new k ≡ old k
+above_same below old new drops k over = elim (drops k) [ inl same ↦ same | inr gone ↦ absurd (omega (arith, over, gone.0)) ]
+
+pub still_bare : (below : ℕ) (u v : Tomes) → DropsOlder below u v → (k : ℕ) → IsBare (u k) → IsBare (v k)
+still_bare below u v drops k bare = elim (drops k) [ inl same ↦ subst IsBare (sym same) bare | inr gone ↦ gone.1 ]
+
+-- the same of what is left
+
+bare_left : (t : Tome) → IsBare t → IsBare (left_of_tome t)
+bare_left (opened b) bare = absurd bare
+bare_left (shut l) bare = bare
+bare_left unknown bare = tt
+
+drops_left : (below : ℕ) (t u : Tomes) → DropsOlder below t u → DropsOlder below (λ k. left_of_tome (t k)) (λ k. left_of_tome (u k))
+drops_left below t u drops k = elim (drops k) [ inl same ↦ inl (ap left_of_tome same) | inr gone ↦ inr (gone.0, bare_left (u k) gone.1) ]
+
+pub fallen_drops : (below : ℕ) (old : Tomes) (ways : List Tomes) → AllByRecursion (λ left. (k : ℕ) → left k ≡ left_of_tome (old k)) ways → AllByRecursion (DropsOlder below (λ k. left_of_tome (old k))) ways
+fallen_drops below old ways all = AllByRecursion-weaker _ _ (λ left same k. inl (same k)) ways all
+
+pub loses_one : (e below : ℕ) (old : Tomes) (ways : List Tomes) → e < below → AllByRecursion (DestroysOrNot e old) ways → AllByRecursion (DropsOlder below (λ k. left_of_tome (old k))) ways
+loses_one e below old ways less all = AllByRecursion-weaker _ _ (λ left way k. by left way k (cases_eq k e)) ways all
+  where
+    by : (left : Tomes) → DestroysOrNot e old left → (k : ℕ) → (k ≡ e) ⊎ (k ≡ e → ⊥) → (left k ≡ left_of_tome (old k)) ⊎ ((k < below) × IsBare (left k))
+    by left way k (inl same) = subst (λ j. (left j ≡ left_of_tome (old j)) ⊎ ((j < below) × IsBare (left j))) (sym same) (elim way.here [ inl kept ↦ inl kept | inr bare ↦ inr (less, bare) ])
+    by left way k (inr other) = inl (way.others k other)
+
+pub drops_more : (below : ℕ) (old mid : Tomes) (ways : List Tomes) → DropsOlder below old mid → AllByRecursion (DropsOlder below (λ k. left_of_tome (mid k))) ways → AllByRecursion (DropsOlder below (λ k. left_of_tome (old k))) ways
+drops_more below old mid ways drops all = AllByRecursion-weaker _ _ (λ left more. drops_then below (λ k. left_of_tome (old k)) (λ k. left_of_tome (mid k)) left (drops_left below old mid drops) more) ways all
 
 pub bare_more : (tomes : Tomes) (es : List ℕ) (place below : ℕ) → ((j : ℕ) → j < place → get_or es j 0 < below → IsBare (tomes (get_or es j 0))) → (get_or es place 0 < below → IsBare (tomes (get_or es place 0))) → (j : ℕ) → j < place + 1 → get_or es j 0 < below → IsBare (tomes (get_or es j 0))
 bare_more tomes es place below before here j less under = by (cases_eq j place)
@@ -53,26 +89,52 @@ bare_all tomes es place below over all k (j, less, is) under =
     subst (λ e. IsBare (tomes e)) at (all j (omega (arith, over, less)) (subst (λ e. e < below) (sym at) under))
 
 -- all epochs below are bare
-pub older_bare : (old mid new : Tomes) (below : ℕ) → ((k : ℕ) → mid k ≡ old k) → ((k : ℕ) → SameOrBare (mid k) (new k)) → ((k : ℕ) → HasSome (old k) → k < below → IsBare (new k)) → (k : ℕ) → k < below → IsBare (new k)
-older_bare old mid new below same stays bare k under = by (bare_or_some (old k))
+pub older_bare : (old mid new : Tomes) (below : ℕ) → ((k : ℕ) → mid k ≡ old k) → DropsOlder below mid new → ((k : ℕ) → HasSome (old k) → k < below → IsBare (new k)) → (k : ℕ) → k < below → IsBare (new k)
+older_bare old mid new below same drops bare k under = by (bare_or_some (old k))
   where
     by : IsBare (old k) ⊎ HasSome (old k) → IsBare (new k)
     by (inr some) = bare k some under
-    by (inl none) = still_bare (mid k) (new k) (stays k) (subst IsBare (sym (same k)) none)
+    by (inl none) = still_bare below mid new drops k (subst IsBare (sym (same k)) none)
 
--- what is left of the epochs from one on where a removal below it failed
-pub loses_below : (e below : ℕ) (was : Tome) (old : Tomes) (ways : List Tomes) → e < below → AllByRecursion (LosesTome e was [] all_gone old) ways → AllByRecursion (λ left. (k : ℕ) → below ≤ k → left k ≡ left_of_tome (old k)) ways
-loses_below e below was old ways under all = AllByRecursion-weaker _ _ (λ left lost k over. lost.others k (λ same. omega (arith, under, over, same))) ways all
+-- what was destroyed, of epochs that were listed
+pub drops_listed : {S : Type 0} (tomes : S → Tomes) (m n d f : S) (e below : ℕ) → e ≡ below → ((k : ℕ) → tomes n k ≡ tomes m k) → DropsOlder e (tomes n) (tomes d) → f ≡ d → DropsOlder below (tomes m) (tomes f)
+drops_listed tomes m n d f e below is same drops stays = subst (λ s. DropsOlder below (tomes m) (tomes s)) (sym stays) (drops_then below (tomes m) (tomes n) (tomes d) (drops_same below (tomes m) (tomes n) same) (subst (λ b. DropsOlder b (tomes n) (tomes d)) is drops))
 
-pub from_mid : (below : ℕ) (old mid : Tomes) (ways : List Tomes) → ((k : ℕ) → below ≤ k → mid k ≡ old k) → AllByRecursion (λ left. (k : ℕ) → below ≤ k → left k ≡ left_of_tome (mid k)) ways → AllByRecursion (λ left. (k : ℕ) → below ≤ k → left k ≡ left_of_tome (old k)) ways
-from_mid below old mid ways same all = AllByRecursion-weaker _ _ (λ left is k over. is k over ∙ ap left_of_tome (same k over)) ways all
+-- WHAT A PRUNE BY VIEW LEAVES
 
 module _ (r : Round) (old : Tomes) (nested : (k : ℕ) → IsNestedTome (old k)) where
-  pub view_leaves : (ways : List Tomes) → AllByRecursion (λ left. (k : ℕ) → r.epoch ≤ k → left k ≡ left_of_tome (old k)) ways → AllByRecursion (λ left. (k : ℕ) → r.epoch ≤ k → LeavesTome [] (is_pruned_by r k) (old k) (left k)) ways
-  view_leaves ways all = AllByRecursion-weaker _ _ (λ left same k over. subst (LeavesTome [] (is_pruned_by r k) (old k)) (sym (same k over)) (leaves_itself [] (is_pruned_by r k) (old k) (nested k))) ways all
+  older_gone : (k : ℕ) → k < r.epoch → (x : Cached) → is_pruned_by r k x ≡ true
+  older_gone k less x = ap (λ b. b || (k == r.epoch && is_below r x)) (lt-leb' k r.epoch less)
+    where
+      lt-leb' : (a b : ℕ) → a < b → nat_lt a b ≡ true
+      lt-leb' a b less' = by (nat_lt a b) refl
+        where
+          by : (c : Bool) → nat_lt a b ≡ c → c ≡ true
+          by true is = refl
+          by false is = absurd (omega (arith, less', ltb-false a b is))
 
-  pub view_fallen : (ways : List Tomes) → AllByRecursion (λ left. (k : ℕ) → left k ≡ left_of_tome (old k)) ways → AllByRecursion (λ left. (k : ℕ) → r.epoch ≤ k → LeavesTome [] (is_pruned_by r k) (old k) (left k)) ways
-  view_fallen ways all = view_leaves ways (AllByRecursion-weaker _ _ (λ left same k over. same k) ways all)
+  bare_leaves : (k : ℕ) (t : Tome) → k < r.epoch → IsBare t → LeavesTome [] (is_pruned_by r k) (old k) t
+  bare_leaves k (opened b) less bare = absurd bare
+  bare_leaves k (shut l) less bare = record {
+    sure = λ x has stays. absurd (let clash : false ≡ true = sym stays ∙ older_gone k less x in cc);
+    held = λ x has stays. absurd (let clash : false ≡ true = sym stays ∙ older_gone k less x in cc);
+    may = λ known x has. absurd (contains_none x (subst (λ m. Contains m.may x) bare has));
+  }
+  bare_leaves k unknown less bare = record {
+    sure = λ x has stays. absurd (let clash : false ≡ true = sym stays ∙ older_gone k less x in cc);
+    held = λ x has stays. absurd (let clash : false ≡ true = sym stays ∙ older_gone k less x in cc);
+    may = λ known x has. absurd (contains_none x has);
+  }
+
+  left_or_gone : (left : Tomes) (k : ℕ) → (left k ≡ left_of_tome (old k)) ⊎ ((k < r.epoch) × IsBare (left k)) → LeavesTome [] (is_pruned_by r k) (old k) (left k)
+  left_or_gone left k (inl same) = subst (LeavesTome [] (is_pruned_by r k) (old k)) (sym same) (leaves_itself [] (is_pruned_by r k) (old k) (nested k))
+  left_or_gone left k (inr gone) = bare_leaves k (left k) gone.0 gone.1
+
+  pub view_leaves : (ways : List Tomes) → AllByRecursion (DropsOlder r.epoch (λ k. left_of_tome (old k))) ways → AllByRecursion (LeavesTomes (λ k. []) (is_pruned_by r) old) ways
+  view_leaves ways all = AllByRecursion-weaker _ _ (λ left drops k. left_or_gone left k (drops k)) ways all
+
+  pub view_drops : (ways : List Tomes) → AllByRecursion (DropsOlder r.epoch (λ k. left_of_tome (old k))) ways → AllByRecursion (λ left. (k : ℕ) → k < r.epoch → IsLeftOrBare (old k) (left k)) ways
+  view_drops ways all = AllByRecursion-weaker _ _ (λ left drops k less. elim (drops k) [ inl same ↦ inl same | inr gone ↦ inr gone.1 ]) ways all
 
   own_kept : (x : Cached) → is_pruned_by r r.epoch x ≡ false → not (not (is_below r x)) ≡ false
   own_kept x stays = by (is_below r x) (subst (λ b. (b && is_below r x) ≡ false) (eq-eqb r.epoch r.epoch refl) (or_false_right (nat_lt r.epoch r.epoch) (r.epoch == r.epoch && is_below r x) stays))
@@ -81,23 +143,24 @@ module _ (r : Round) (old : Tomes) (nested : (k : ℕ) → IsNestedTome (old k))
       by true is = absurd cc
       by false is = refl
 
-  pub view_loses : (mid : Tomes) (ways : List Tomes) → ((k : ℕ) → r.epoch ≤ k → mid k ≡ old k) → AllByRecursion (LosesTome r.epoch (mid r.epoch) [] (λ x. not (not (is_below r x))) mid) ways → AllByRecursion (λ left. (k : ℕ) → r.epoch ≤ k → LeavesTome [] (is_pruned_by r k) (old k) (left k)) ways
-  view_loses mid ways same all = AllByRecursion-weaker _ _ (λ left lost k over. by left lost k over (cases_eq k r.epoch)) ways all
-    where
-      by : (left : Tomes) → LosesTome r.epoch (mid r.epoch) [] (λ x. not (not (is_below r x))) mid left → (k : ℕ) → r.epoch ≤ k → (k ≡ r.epoch) ⊎ (k ≡ r.epoch → ⊥) → LeavesTome [] (is_pruned_by r k) (old k) (left k)
-      by left lost k over (inl is) = subst (λ j. LeavesTome [] (is_pruned_by r j) (old j) (left j)) (sym is) (subst (λ t. LeavesTome [] (is_pruned_by r r.epoch) t (left r.epoch)) (same r.epoch (omega arith)) (record {
-        sure = λ x has stays. lost.here.sure x has (own_kept x stays);
-        held = λ x has stays. lost.here.held x has (own_kept x stays);
-        may = lost.here.may;
-      }))
-      by left lost k over (inr other) = subst (LeavesTome [] (is_pruned_by r k) (old k)) (sym (lost.others k other ∙ ap left_of_tome (same k over))) (leaves_itself [] (is_pruned_by r k) (old k) (nested k))
+  -- where the prune of the round's own epoch failed, after older ones were destroyed
+  module _ (mid : Tomes) (drops : DropsOlder r.epoch old mid) where
+    elsewhere : (left : Tomes) → LosesTome r.epoch (mid r.epoch) [] (λ x. not (not (is_below r x))) mid left → (k : ℕ) → (k ≡ r.epoch → ⊥) → (left k ≡ left_of_tome (old k)) ⊎ ((k < r.epoch) × IsBare (left k))
+    elsewhere left lost k other = elim (drops k) [ inl same ↦ inl (lost.others k other ∙ ap left_of_tome same) | inr gone ↦ inr (gone.0, subst IsBare (sym (lost.others k other)) (bare_left (mid k) gone.1)) ]
 
-pub removed_stays : (e : ℕ) (old new : Tomes) → IsBare (new e) → KeepsOtherTomes e old new → (k : ℕ) → SameOrBare (old k) (new k)
-removed_stays e old new bare others k = by (cases_eq k e)
-  where
-    by : (k ≡ e) ⊎ (k ≡ e → ⊥) → SameOrBare (old k) (new k)
-    by (inl same) = inr (subst (λ j. IsBare (new j)) (sym same) bare)
-    by (inr other) = inl (others k other)
+    pub own_leaves : (ways : List Tomes) → AllByRecursion (LosesTome r.epoch (mid r.epoch) [] (λ x. not (not (is_below r x))) mid) ways → AllByRecursion (LeavesTomes (λ k. []) (is_pruned_by r) old) ways
+    own_leaves ways all = AllByRecursion-weaker _ _ (λ left lost k. by left lost k (cases_eq k r.epoch)) ways all
+      where
+        by : (left : Tomes) → LosesTome r.epoch (mid r.epoch) [] (λ x. not (not (is_below r x))) mid left → (k : ℕ) → (k ≡ r.epoch) ⊎ (k ≡ r.epoch → ⊥) → LeavesTome [] (is_pruned_by r k) (old k) (left k)
+        by left lost k (inl is) = subst (λ j. LeavesTome [] (is_pruned_by r j) (old j) (left j)) (sym is) (subst (λ t. LeavesTome [] (is_pruned_by r r.epoch) t (left r.epoch)) (above_same r.epoch old mid drops r.epoch (omega arith)) (record {
+          sure = λ x has stays. lost.here.sure x has (own_kept x stays);
+          held = λ x has stays. lost.here.held x has (own_kept x stays);
+          may = lost.here.may;
+        }))
+        by left lost k (inr other) = left_or_gone left k (elsewhere left lost k other)
+
+    pub own_drops : (ways : List Tomes) → AllByRecursion (LosesTome r.epoch (mid r.epoch) [] (λ x. not (not (is_below r x))) mid) ways → AllByRecursion (λ left. (k : ℕ) → k < r.epoch → IsLeftOrBare (old k) (left k)) ways
+    own_drops ways all = AllByRecursion-weaker _ _ (λ left lost k less. elim (elsewhere left lost k (λ is. omega (arith, less, is))) [ inl same ↦ inl same | inr gone ↦ inr gone.1 ]) ways all
 
 gt-leb : (a b : ℕ) → b < a → nat_le a b ≡ false
 gt-leb a b less = by (nat_le a b) refl
@@ -110,24 +173,32 @@ gt-leb a b less = by (nat_le a b) refl
 pub pruned_is : (r : Round) (b : Bounds) (e l h m : ℕ) → e ≡ r.epoch → l ≡ b.lowest → h ≡ b.highest → m ≡ max h e → l < e → record { lowest = e; highest = m } ≡ pruned_bounds r b
 pruned_is r b e l h m e_is l_is h_is m_is above = rw (m_is, e_is, h_is) (sym (ap (λ c. cond c b (record { lowest = r.epoch; highest = max b.highest r.epoch })) (gt-leb r.epoch b.lowest (omega (arith, above, e_is, l_is)))))
 
-pub one_within : {X : Type 0} (old : List X) (x y : X) (left : List X) → left ≡ x ∷ [] → x ≡ y → Within left (old ++ y ∷ [])
-one_within old x y left is same z has = Contains-append_right old (y ∷ []) z (subst (λ ys. Contains ys z) (is ∙ ap (λ w. w ∷ []) same) has)
+pub raises_pruned : {S W : Type 0} (current : S → Bounds) (left : S → List Bounds) (P : Lost W → Type 0) (b c : Bounds) (r : Result S (Lost W)) → b ≡ c → MatchResult r (λ s. (current s ≡ b) × (left s ≡ b ∷ [])) P → IfOk r (λ s. current s ≡ c)
+raises_pruned current left P b c (Ok s) is done = done.0 ∙ is
+raises_pruned current left P b c (Err l) is done = tt
+
+pub leaves_pruned : {S W : Type 0} (P : S → Type 0) (left : W → List Bounds) (olds : List Bounds) (b c : Bounds) (r : Result S (Lost W)) → b ≡ c → MatchResult r P (λ l. LeavesBounds olds (b ∷ []) (left (wreck_of l))) → IfErr r (λ l. Within (left (wreck_of l)) (olds ++ c ∷ []))
+leaves_pruned P left olds b c (Ok s) is done = tt
+leaves_pruned P left olds b c (Err l) is done = subst (λ d. Within (left (wreck_of l)) (olds ++ d ∷ [])) is done.within
+
+pub pruned_left : {X : Type 0} (olds : List X) (b c : X) (left : List X) → left ≡ b ∷ [] → b ≡ c → Within left (olds ++ c ∷ [])
+pruned_left olds b c left is same z has = Contains-append_right olds (c ∷ []) z (subst (λ ys. Contains ys z) (is ∙ ap (λ w. w ∷ []) same) has)
 
 -- the prune of the round's own epoch, after older ones were destroyed
-module _ {E S W : Type 0} (plain : E → Cached) (r : Round) (old mid : Tomes) (nested : (k : ℕ) → IsNestedTome (old k)) (same : (k : ℕ) → r.epoch ≤ k → mid k ≡ old k) (tomes : S → Tomes) (ways : W → List Tomes) (res : Result S (Lost W))
+module _ {E S W : Type 0} (plain : E → Cached) (r : Round) (old mid : Tomes) (nested : (k : ℕ) → IsNestedTome (old k)) (drops : DropsOlder r.epoch old mid) (tomes : S → Tomes) (ways : W → List Tomes) (res : Result S (Lost W))
     (done : MatchResult res (λ s. ChangesTome plain (PruneBelow r) (mid r.epoch) (tomes s r.epoch) × KeepsOtherTomes r.epoch mid (tomes s)) (λ l. AllByRecursion (LosesTome r.epoch (mid r.epoch) [] (λ x. not (not (is_below r x))) mid) (ways (wreck_of l)))) where
   pub view_own : IfOk res (λ s. ChangesTome plain (PruneBelow r) (old r.epoch) (tomes s r.epoch))
   view_own = by res done
     where
       by : (q : Result S (Lost W)) → MatchResult q (λ s. ChangesTome plain (PruneBelow r) (mid r.epoch) (tomes s r.epoch) × KeepsOtherTomes r.epoch mid (tomes s)) (λ l. AllByRecursion (LosesTome r.epoch (mid r.epoch) [] (λ x. not (not (is_below r x))) mid) (ways (wreck_of l))) → IfOk q (λ s. ChangesTome plain (PruneBelow r) (old r.epoch) (tomes s r.epoch))
-      by (Ok s) d = subst (λ t. ChangesTome plain (PruneBelow r) t (tomes s r.epoch)) (same r.epoch (omega arith)) d.0
+      by (Ok s) d = subst (λ t. ChangesTome plain (PruneBelow r) t (tomes s r.epoch)) (above_same r.epoch old mid drops r.epoch (omega arith)) d.0
       by (Err l) d = tt
 
   pub view_newer : IfOk res (λ s. (k : ℕ) → r.epoch < k → tomes s k ≡ old k)
   view_newer = by res done
     where
       by : (q : Result S (Lost W)) → MatchResult q (λ s. ChangesTome plain (PruneBelow r) (mid r.epoch) (tomes s r.epoch) × KeepsOtherTomes r.epoch mid (tomes s)) (λ l. AllByRecursion (LosesTome r.epoch (mid r.epoch) [] (λ x. not (not (is_below r x))) mid) (ways (wreck_of l))) → IfOk q (λ s. (k : ℕ) → r.epoch < k → tomes s k ≡ old k)
-      by (Ok s) d = λ k above. d.1 k (λ is. omega (arith, above, is)) ∙ same k (omega (arith, above))
+      by (Ok s) d = λ k above. d.1 k (λ is. omega (arith, above, is)) ∙ above_same r.epoch old mid drops k (omega (arith, above))
       by (Err l) d = tt
 
   pub view_older : ((k : ℕ) → k < r.epoch → IsBare (mid k)) → IfOk res (λ s. (k : ℕ) → k < r.epoch → IsBare (tomes s k))
@@ -137,9 +208,16 @@ module _ {E S W : Type 0} (plain : E → Cached) (r : Round) (old mid : Tomes) (
       by (Ok s) d = λ k under. subst IsBare (sym (d.1 k (λ is. omega (arith, under, is)))) (bare k under)
       by (Err l) d = tt
 
-  pub view_ways : IfErr res (λ l. AllByRecursion (λ left. (k : ℕ) → r.epoch ≤ k → LeavesTome [] (is_pruned_by r k) (old k) (left k)) (ways (wreck_of l)))
+  pub view_ways : IfErr res (λ l. AllByRecursion (LeavesTomes (λ k. []) (is_pruned_by r) old) (ways (wreck_of l)))
   view_ways = by res done
     where
-      by : (q : Result S (Lost W)) → MatchResult q (λ s. ChangesTome plain (PruneBelow r) (mid r.epoch) (tomes s r.epoch) × KeepsOtherTomes r.epoch mid (tomes s)) (λ l. AllByRecursion (LosesTome r.epoch (mid r.epoch) [] (λ x. not (not (is_below r x))) mid) (ways (wreck_of l))) → IfErr q (λ l. AllByRecursion (λ left. (k : ℕ) → r.epoch ≤ k → LeavesTome [] (is_pruned_by r k) (old k) (left k)) (ways (wreck_of l)))
+      by : (q : Result S (Lost W)) → MatchResult q (λ s. ChangesTome plain (PruneBelow r) (mid r.epoch) (tomes s r.epoch) × KeepsOtherTomes r.epoch mid (tomes s)) (λ l. AllByRecursion (LosesTome r.epoch (mid r.epoch) [] (λ x. not (not (is_below r x))) mid) (ways (wreck_of l))) → IfErr q (λ l. AllByRecursion (LeavesTomes (λ k. []) (is_pruned_by r) old) (ways (wreck_of l)))
       by (Ok s) d = tt
-      by (Err l) d = view_loses r old nested mid (ways (wreck_of l)) same d
+      by (Err l) d = own_leaves r old nested mid drops (ways (wreck_of l)) d
+
+  pub view_dropped : IfErr res (λ l. AllByRecursion (λ left. (k : ℕ) → k < r.epoch → IsLeftOrBare (old k) (left k)) (ways (wreck_of l)))
+  view_dropped = by res done
+    where
+      by : (q : Result S (Lost W)) → MatchResult q (λ s. ChangesTome plain (PruneBelow r) (mid r.epoch) (tomes s r.epoch) × KeepsOtherTomes r.epoch mid (tomes s)) (λ l. AllByRecursion (LosesTome r.epoch (mid r.epoch) [] (λ x. not (not (is_below r x))) mid) (ways (wreck_of l))) → IfErr q (λ l. AllByRecursion (λ left. (k : ℕ) → k < r.epoch → IsLeftOrBare (old k) (left k)) (ways (wreck_of l)))
+      by (Ok s) d = tt
+      by (Err l) d = own_drops r old nested mid drops (ways (wreck_of l)) d

@@ -1,26 +1,24 @@
 -- What puts, syncs, prunes and a reopening make of filed entries.
-use Rattle.std.proofs.Common.{◌≡◌, ◌⊎◌, inl, inr, ◌||◌, ◌&&◌, ◌==◌, ◌≤◌, ◌<◌, ℕ, zero, suc, List, [], ◌∷◌, ◌++◌, Bool, true, false, not, IsTrue, Contains, cond, refl, ap, ap₂, sym, ◌∙◌, subst, filter, map, length, nat_lt, min, ◌+◌, ◌≢◌, arith, append-nil}
-use Rattle.std.specs.List.{AllByRecursion, list_any}
+use Rattle.std.proofs.Common.{◌≡◌, ◌⊎◌, inl, inr, ◌||◌, ◌&&◌, ◌==◌, ◌≤◌, ◌<◌, ℕ, zero, suc, List, [], ◌∷◌, ◌++◌, Bool, true, false, Contains, cond, refl, ap, sym, ◌∙◌, subst, filter, map, nat_lt, min, ◌+◌, ◌≢◌, arith, append-nil}
+use Rattle.std.specs.List.{list_any}
 use Rattle.std.proofs.lemmas.Bool.{cases_eq, eq-eqb, eqb-true, le-ltb, lt-ltb, ltb-true, ne_eqb}
 use Rattle.std.proofs.lemmas.List.{map_push}
 use Rattle.std.proofs.lemmas.List.Elements.{Contains-append_left, filter-append}
 use Rattle.mar_key.specs.Fronts.{filter-map}
-use Rattle.mar_store.specs.Kept.{Kept, reopened_store}
-use Rattle.mar_store.specs.Changes.{Left, Within, left_of}
+use Rattle.mar_store.specs.Changes.{Within, left_of}
 use Rattle.mar_store.specs.Luck.{is_lucky}
 use Rattle.mar_store.specs.Tickets.{last_number}
 use Rattle.mar_store.proofs.Lookups.{AllByRecursion-push, AllByRecursion-weaker}
-use Rattle.mar_node.specs.Cached.{Cached, CacheReopens, EachPlaceOnce, same_place, with_entry}
-use Rattle.mar_node.specs.Cache.{is_below, is_certified_below}
+use Rattle.mar_node.specs.Cached.{Cached, EachPlaceOnce, same_place}
 use Rattle.mar_cache.specs.Sections.{is_in}
 use Rattle.mar_cache.specs.Filings.{AreNumbered, Filing, book_of, covered_in, drawn, drawn_in_all, entries, is_covered, is_drawn, is_numbered, kept_in, sure_entries, with_draw, with_mark, count_next}
 use Rattle.mar_cache.specs.Volumes.{ChangesVolume, FindsVolume, KeepsCovered, LosesVolume, held_after, is_kept, newly_sure}
 use Rattle.mar_cache.specs.declared.section.Section.{Section}
 use Rattle.mar_cache.specs.declared.section.Section.TheVariants.{Certified, Finalizations, Notarizations, Notarized, Verified}
 use Rattle.mar_cache.specs.declared.change.Change.{Change}
-use Rattle.mar_cache.specs.declared.change.Change.TheVariants.{Finish, PruneBelow, PruneCertified, Put, Sync}
+use Rattle.mar_cache.specs.declared.change.Change.TheVariants.{Put}
 use Rattle.mar_cache.specs.Laws.{filter_within}
-use Rattle.mar_cache.proofs.Filtering.{contains_more, contains_none, filter_agree, filter_all, filter_both, filter_either, filter_more, filter_passes, filter_twice, or_left, or_right}
+use Rattle.mar_cache.proofs.Filtering.{contains_more, contains_none, filter_agree, filter_all, filter_both, filter_either, filter_more, filter_twice, or_left, or_right}
 use Rattle.mar_cache.proofs.Places.{filter_places, push_place}
 
 -- A PUT

@@ -1,18 +1,13 @@
 -- What the calls of a shelf make of it.
-use Rattle.std.specs.Prelude.{Contains, IfErr, IfOk, List, Result, [], if◌then◌else◌, nat_le, ℕ, ◌++◌, ◌<◌, ◌∷◌, ◌≡◌, ◌≤◌}
+use Rattle.std.specs.Prelude.{List, [], if◌then◌else◌, nat_le, ℕ, ◌++◌, ◌∷◌, ◌≡◌}
 use Rattle.std.specs.List.{AllByRecursion}
 use Rattle.mar_store.specs.Changes.{Within}
-use Rattle.mar_store.specs.Lost.{wreck_of}
-use Rattle.mar_store.specs.declared.Lost.{Lost}
 use Rattle.mar_node.specs.Cached.{Cached, epoch_of}
 use Rattle.mar_cache.specs.Bounds.{Bounds}
 use Rattle.mar_cache.specs.Sections.{section_of}
-use Rattle.mar_cache.specs.Shelved.{DoesAt, IsStarted, LeavesTomes, at_epoch, nothing_gone, raised}
+use Rattle.mar_cache.specs.Shelved.{DoesAt, LeavesTomes, at_epoch, nothing_gone, raised}
 use Rattle.mar_cache.specs.Tomes.{Tomes}
-use Rattle.mar_cache.specs.declared.change.Change.{Change}
 use Rattle.mar_cache.specs.declared.change.Change.TheVariants.{Put, Sync}
-use Rattle.mar_cache.specs.declared.started.Started.{Started}
-use Rattle.mar_cache.specs.declared.started.Started.TheVariants.{Ready}
 
 -- an entry is put in its epoch, which is opened where it isn't open; then its archive is synced
 abbrev pub IsPut : Cached → Tomes → Tomes → Type 0

@@ -1,5 +1,5 @@
 -- What filed entries keep holds together: no archive holds two of one place, and what is sure is held.
-use Rattle.std.specs.Prelude.{Bool, Contains, IsFalse, IsTrue, List, [], filter, length, map, suc, zero, ℕ, ◌==◌, ◌∷◌, ◌≡◌}
+use Rattle.std.specs.Prelude.{Bool, Contains, IsTrue, List, [], filter, length, map, suc, zero, ◌==◌, ◌∷◌, ◌≡◌}
 use Rattle.std.proofs.Common.{arith, cond, eqb-true, refl, true, false}
 use Rattle.mar_store.specs.Changes.{Within, left_of}
 use Rattle.mar_node.specs.Cached.{Cached, EachPlaceOnce}

@@ -8,8 +8,8 @@ use Rattle.mar_store.specs.Watch.{Watch}
 use Rattle.mar_store.specs.declared.Alarm.{Alarm}
 use Rattle.mar_node.specs.Cached.{Cached}
 use Rattle.mar_node.specs.Cache.{is_below}
-use Rattle.mar_cache.specs.Bounds.{Bounds, LeavesBounds}
-use Rattle.mar_cache.specs.Tomes.{ChangesTome, KeepsOtherTomes, LeavesTome, OpensTome, Tome, Tomes, held_in, is_known, is_opened, may_in, opened, sure_in}
+use Rattle.mar_cache.specs.Bounds.{Bounds, LeavesBounds, includes}
+use Rattle.mar_cache.specs.Tomes.{ChangesTome, HasSome, IsBare, KeepsOtherTomes, LeavesTome, OpensTome, Tome, Tomes, held_in, is_known, is_opened, may_in, opened, sure_in}
 use Rattle.mar_cache.specs.declared.change.Change.{Change}
 use Rattle.mar_cache.specs.declared.change.Change.TheVariants.{Finish}
 use Rattle.mar_cache.specs.declared.section.Section.{Section}
@@ -37,6 +37,14 @@ pub record Fallen : Type 0 where
 -- what an alarm tells; other calls than armed ones fail unless the stores below are calm
 abbrev pub shelf_watch : Alarm → Bool → Watch
 shelf_watch alarm calm = record { faults = alarm.faults; due = alarm.due.items; armable = true; only_armed = calm; keeps = None }
+
+-- each epoch of which something is open or left lies from the lowest to the highest
+abbrev pub LieWithin : Tomes → Bounds → Type 0
+LieWithin tomes b = (k : ℕ) → HasSome (tomes k) → includes b k ≡ true
+
+-- the same in each way in which epochs may be left, with each of the bounds that may be left
+abbrev pub AllLieWithin : List Tomes → List Bounds → Type 0
+AllLieWithin ways bounds = (tomes : Tomes) → Contains ways tomes → (b : Bounds) → Contains bounds b → LieWithin tomes b
 
 -- what is put in one epoch
 abbrev pub at_epoch : ℕ → List Cached → ℕ → List Cached
@@ -121,6 +129,10 @@ pub record ThinsTome (test : Cached → Bool) (old new : Tome) : Type 0 where
 -- nothing is held that passes the test
 abbrev pub IsClear : (Cached → Bool) → Tome → Type 0
 IsClear test t = (x : Cached) → Contains (held_in t) x → test x ≡ false
+
+-- some epochs below another are destroyed, all else stays
+abbrev pub DropsOlder : ℕ → Tomes → Tomes → Type 0
+DropsOlder below old new = (k : ℕ) → (new k ≡ old k) ⊎ ((k < below) × IsBare (new k))
 
 -- what a prune by view below a round takes: older epochs, and what is below the view in its own
 abbrev pub is_pruned_by : Round → ℕ → Cached → Bool

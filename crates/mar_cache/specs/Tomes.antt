@@ -2,7 +2,6 @@
 use Rattle.std.specs.Ordering.{nat_cmp}
 use Rattle.std.specs.BTreeMap.{BTreeMap, get}
 use Rattle.std.specs.Prelude.{Bool, Contains, IsTrue, List, None, Option, Some, [], false, filter, if◌then◌else◌, nat_le, true, ℕ, ⊤, ◌<◌, ◌==◌, ◌≡◌, ◌≢◌, ◌≤◌, ◌⊎◌}
-use Rattle.mar_store.specs.Kept.{Kept}
 use Rattle.mar_store.specs.Changes.{Left, left_of}
 use Rattle.mar_store.specs.Names.{Names}
 use Rattle.mar_node.specs.Cached.{Cached}
@@ -92,14 +91,20 @@ abbrev pub ChangesTome : {E : Type 0} → (E → Cached) → Change E → Tome �
 ChangesTome plain change (opened b) new = (c : Book) × ChangesVolume plain change b c × (new ≡ opened c)
 ChangesTome plain change old new = new ≡ old
 
-abbrev pub all_gone : Cached → Bool
-all_gone x = true
-
 -- nothing is open or left of it, as far as is known
 abbrev pub IsBare : Tome → Type 0
 IsBare (opened b) = ⊥
 IsBare (shut l) = l ≡ nothing_left
 IsBare unknown = ⊤
+
+-- An epoch that was to be destroyed is left as it was, or nothing is left of it.
+abbrev pub IsLeftOrBare : Tome → Tome → Type 0
+IsLeftOrBare old left = (left ≡ left_of_tome old) ⊎ IsBare left
+
+-- What is left where an epoch could not be destroyed.
+pub record DestroysOrNot (e : ℕ) (old left : Tomes) : Type 0 where
+  pub here : IsLeftOrBare (old e) (left e)
+  pub others : LeavesOtherTomes e old left
 
 -- something is open or left of it
 abbrev pub HasSome : Tome → Type 0

@@ -2,7 +2,7 @@
 ghost use Rattle.std.specs.Prelude.{◌≡◌, ◌∷◌, [], IfOk, MatchResult, map};
 ghost use Rattle.mar_store.specs.Lost.{wreck_of};
 ghost use Rattle.mar_store.specs.Watch.{IsCalm};
-ghost use Rattle.mar_cache.specs.Bounds.{LeavesBounds, bounds_of};
+ghost use Rattle.mar_cache.specs.Bounds.{LeavesBounds, bounds_of, includes};
 
 use mar_store::{Lost, Meta, MetaRuin};
 
@@ -24,6 +24,13 @@ pub fn highest<M: Meta>(meta: &M) -> u64
     ensures { result ≡ (bounds_of (M.current meta.now)).highest }
 {
     meta.get(HIGHEST_KEY).unwrap_or(0)
+}
+
+/// Whether an epoch lies from the lowest to the highest.
+pub fn includes<M: Meta>(meta: &M, epoch: u64) -> bool
+    ensures { result ≡ includes (bounds_of (M.current meta.now)) epoch }
+{
+    lowest(meta) <= epoch && epoch <= highest(meta)
 }
 
 /// Makes both durable. The store has no other changes, and none of its calls is armed.

@@ -326,6 +326,7 @@ impl<A: Volume, D: VolumeDepot<A::Wreck>> Stacks for DepotStacks<A, D> {
             × KeepsOtherTomes epoch (⟦<DepotStacks<A, D> as Stacks>⟧.tomes self) (⟦<DepotStacks<A, D> as Stacks>⟧.tomes s))
             (λ l. AllByRecursion (LosesTome epoch (⟦<DepotStacks<A, D> as Stacks>⟧.tomes self epoch) (puts_of A.Leaf.plain change)
             (λ x. not (is_kept change x)) (⟦<DepotStacks<A, D> as Stacks>⟧.tomes self)) (⟦<DepotStacksWreck<A, D> as StacksRuin>⟧.left (wreck_of l))) }
+        ensures shut { is_opened (⟦<DepotStacks<A, D> as Stacks>⟧.tomes self epoch) ≡ false → IfErr result (λ l. ⊥) }
         ensures calm { MatchResult result
             (λ s. ⟦<DepotStacks<A, D> as Stacks>⟧.calm s ≡ ⟦<DepotStacks<A, D> as Stacks>⟧.calm self)
             (λ l. ⟦<DepotStacksWreck<A, D> as StacksRuin>⟧.calm (wreck_of l) ≡ ⟦<DepotStacks<A, D> as Stacks>⟧.calm self) }

@@ -8,12 +8,12 @@ ghost use Rattle.std.specs.Option.{option_copied};
 ghost use Rattle.mar_node.specs.Cached.{epoch_of};
 ghost use Rattle.mar_node.specs.Cache.{is_certified_below};
 ghost use Rattle.mar_cache.specs.Sections.{first_found, section_of};
-ghost use Rattle.mar_cache.specs.Bounds.{LeavesBounds, bounds_of};
-ghost use Rattle.mar_cache.specs.Tomes.{ChangesTome, KeepsOtherTomes, HasSome, IsBare, IsNewest, LeavesTome, LosesTome, MightBe, OpensTome, SameTomes, held_in, is_opened, left_of_tome, none_gone};
+ghost use Rattle.mar_cache.specs.Bounds.{Bounds, LeavesBounds, bounds_of, includes};
+ghost use Rattle.mar_cache.specs.Tomes.{ChangesTome, KeepsOtherTomes, HasSome, IsBare, IsLeftOrBare, IsNewest, LosesTome, MightBe, OpensTome, SameTomes, held_in, is_opened, left_of_tome, none_gone};
 ghost use Rattle.mar_cache.specs.Volumes.{is_fault, is_kept, puts_of};
-ghost use Rattle.mar_cache.specs.Shelved.{AllChanges, DoesAt, IsStarted, LeavesTomes, IsClear, OpensOrStays, ThinsTome, at_epoch, finishes, is_pruned_by, nothing_gone, pruned_bounds, raised, shelf_watch};
+ghost use Rattle.mar_cache.specs.Shelved.{AllChanges, AllLieWithin, DoesAt, DropsOlder, IsStarted, LeavesTomes, LieWithin, IsClear, OpensOrStays, ThinsTome, at_epoch, finishes, is_pruned_by, nothing_gone, pruned_bounds, raised, shelf_watch};
 
-use crate::bounds::{highest, lowest, write_bounds};
+use crate::bounds::{highest, includes, lowest, write_bounds};
 use crate::change::Change;
 use crate::leaf::Leaf;
 use crate::losses::{lost_by, parts_of};
@@ -32,6 +32,8 @@ pub struct Manager<S: Stacks, M: Meta> {
     alarm: Alarm,
     pub ghost unchanged: { M.changed meta ≡ [] },
     pub ghost quiet: { (M.watch meta).due ≡ [] },
+    pub ghost durable: { map bounds_of (M.left meta) ≡ bounds_of (M.current meta) ∷ [] },
+    pub ghost within: { LieWithin (S.tomes stacks) (bounds_of (M.current meta)) },
 }
 
 /// What is left of the epoch cache.
@@ -41,13 +43,17 @@ pub struct ManagerWreck<S: Stacks, M: Meta> {
     meta: M::Wreck,
     alarm: Alarm,
     pub ghost quiet: { (M.Wreck.watch meta).due ≡ [] },
+    pub ghost within: { AllLieWithin (S.Wreck.left stacks) (map bounds_of (M.Wreck.left meta)) },
 }
 
 impl<S: Stacks, M: Meta> Manager<S, M> {
-    /// The cache over volumes and a store whose changes are durable, and of which no call is armed.
+    /// The cache over volumes and a store whose changes are durable, and of which no call is armed. What there is of
+    /// epochs lies from the lowest to the highest that the store keeps.
     pub fn new(alloc: Global, stacks: S, meta: M) -> Self
         requires unchanged { M.changed meta ≡ [] }
         requires quiet { (M.watch meta).due ≡ [] }
+        requires durable { map bounds_of (M.left meta) ≡ bounds_of (M.current meta) ∷ [] }
+        requires within { LieWithin (S.tomes stacks) (bounds_of (M.current meta)) }
         ensures stacks { result.stacks ≡ stacks }
         ensures meta { result.meta ≡ meta }
     {
@@ -100,31 +106,27 @@ impl<S: Stacks, M: Meta> Manager<S, M> {
         Ok(manager)
     }
 
-    // Makes an epoch above the highest the highest.
-    fn raise(self, epoch: u64) -> Result<Self, Lost<ManagerWreck<S, M>>>
+    // Makes the lowest and the highest epoch durable.
+    fn keep_bounds(self, lowest: u64, highest: u64) -> Result<Self, Lost<ManagerWreck<S, M>>>
+        requires within { LieWithin (S.tomes self.stacks) (record { lowest = lowest; highest = highest }) }
         ensures stacks { IfOk result (λ m. m.stacks ≡ self.stacks) }
-        ensures raises { IfOk result (λ m. (bounds_of (M.current m.meta) ≡ raised epoch (bounds_of (M.current self.meta)))
-            × (map bounds_of (M.left m.meta) ≡ (if nat_le epoch (bounds_of (M.current self.meta)).highest
-            then map bounds_of (M.left self.meta)
-            else raised epoch (bounds_of (M.current self.meta)) ∷ []))) }
+        ensures done { MatchResult result
+            (λ m. (bounds_of (M.current m.meta) ≡ record { lowest = lowest; highest = highest })
+            × (map bounds_of (M.left m.meta) ≡ record { lowest = lowest; highest = highest } ∷ []))
+            (λ l. LeavesBounds (map bounds_of (M.left self.meta)) (record { lowest = lowest; highest = highest } ∷ [])
+            (map bounds_of (M.Wreck.left (wreck_of l).meta))) }
         ensures ways { IfErr result (λ l. AllByRecursion (λ left. (k : ℕ) → left k ≡ left_of_tome (S.tomes self.stacks k))
             (S.Wreck.left (wreck_of l).stacks)) }
-        ensures bounds { IfErr result (λ l. LeavesBounds (map bounds_of (M.left self.meta)) (raised epoch (bounds_of (M.current self.meta)) ∷ [])
-            (map bounds_of (M.Wreck.left (wreck_of l).meta))) }
         ensures watched { IsCalm (λ m. shelf_watch m.alarm (S.calm m.stacks && (M.watch m.meta).only_armed))
             (λ w. shelf_watch w.alarm (S.Wreck.calm w.stacks && (M.Wreck.watch w.meta).only_armed))
             (shelf_watch self.alarm (S.calm self.stacks && (M.watch self.meta).only_armed)) result }
     {
-        let (low, high) = (lowest(&self.meta), highest(&self.meta));
-        if epoch <= high {
-            return Ok(self);
-        }
         let Manager {
             stacks,
             meta,
             mut alarm,
         } = self;
-        match write_bounds(meta, low, epoch) {
+        match write_bounds(meta, lowest, highest) {
             Ok(meta) => Ok(Manager {
                 stacks,
                 meta,
@@ -145,8 +147,31 @@ impl<S: Stacks, M: Meta> Manager<S, M> {
         }
     }
 
-    // Opens an epoch, where it isn't open.
+    // Makes an epoch above the highest the highest.
+    fn raise(self, epoch: u64) -> Result<Self, Lost<ManagerWreck<S, M>>>
+        ensures stacks { IfOk result (λ m. m.stacks ≡ self.stacks) }
+        ensures raises { IfOk result (λ m. (bounds_of (M.current m.meta) ≡ raised epoch (bounds_of (M.current self.meta)))
+            × (map bounds_of (M.left m.meta) ≡ (if nat_le epoch (bounds_of (M.current self.meta)).highest
+            then map bounds_of (M.left self.meta)
+            else raised epoch (bounds_of (M.current self.meta)) ∷ []))) }
+        ensures ways { IfErr result (λ l. AllByRecursion (λ left. (k : ℕ) → left k ≡ left_of_tome (S.tomes self.stacks k))
+            (S.Wreck.left (wreck_of l).stacks)) }
+        ensures bounds { IfErr result (λ l. LeavesBounds (map bounds_of (M.left self.meta)) (raised epoch (bounds_of (M.current self.meta)) ∷ [])
+            (map bounds_of (M.Wreck.left (wreck_of l).meta))) }
+        ensures watched { IsCalm (λ m. shelf_watch m.alarm (S.calm m.stacks && (M.watch m.meta).only_armed))
+            (λ w. shelf_watch w.alarm (S.Wreck.calm w.stacks && (M.Wreck.watch w.meta).only_armed))
+            (shelf_watch self.alarm (S.calm self.stacks && (M.watch self.meta).only_armed)) result }
+    {
+        let (low, high) = (lowest(&self.meta), highest(&self.meta));
+        if epoch <= high {
+            return Ok(self);
+        }
+        self.keep_bounds(low, epoch)
+    }
+
+    // Opens an epoch that lies from the lowest to the highest, where it isn't open.
     fn open(self, epoch: u64) -> Result<Self, Lost<ManagerWreck<S, M>>>
+        requires inside { includes (bounds_of (M.current self.meta)) epoch ≡ true }
         ensures done { MatchResult result
             (λ m. OpensTome (S.tomes self.stacks epoch) (S.tomes m.stacks epoch) × KeepsOtherTomes epoch (S.tomes self.stacks) (S.tomes m.stacks))
             (λ l. AllByRecursion (LosesTome epoch (S.tomes self.stacks epoch) [] none_gone (S.tomes self.stacks)) (S.Wreck.left (wreck_of l).stacks)) }
@@ -202,8 +227,9 @@ impl<S: Stacks, M: Meta> Manager<S, M> {
         }
     }
 
-    // Puts an entry, into its epoch, which is opened where it isn't open.
+    // Puts an entry, into its epoch, which isn't below the lowest and is opened where it isn't open.
     fn put(self, leaf: S::Leaf) -> Result<Self, Lost<ManagerWreck<S, M>>>
+        requires above { (bounds_of (M.current self.meta)).lowest ≤ epoch_of (S.Leaf.plain leaf) }
         ensures done { IfOk result (λ m. DoesAt S.Leaf.plain (epoch_of (S.Leaf.plain leaf)) (Change.Put leaf ∷ []) (S.tomes self.stacks) (S.tomes m.stacks)) }
         ensures raises { IfOk result (λ m. (bounds_of (M.current m.meta) ≡ raised (epoch_of (S.Leaf.plain leaf)) (bounds_of (M.current self.meta)))
             × (map bounds_of (M.left m.meta) ≡ (if nat_le (epoch_of (S.Leaf.plain leaf)) (bounds_of (M.current self.meta)).highest
@@ -408,11 +434,12 @@ impl<S: Stacks, M: Meta> Manager<S, M> {
         }
     }
 
-    // Opens an epoch that lies within these bounds.
-    fn open_within(self, epoch: u64, low: u64, high: u64) -> Result<Self, Lost<ManagerWreck<S, M>>>
+    // Opens an epoch that lies from the lowest to the highest.
+    fn open_within(self, epoch: u64) -> Result<Self, Lost<ManagerWreck<S, M>>>
         ensures done { IfOk result (λ m. OpensOrStays (S.tomes self.stacks epoch) (S.tomes m.stacks epoch)
             × KeepsOtherTomes epoch (S.tomes self.stacks) (S.tomes m.stacks)) }
-        ensures opened { low ≤ epoch → epoch ≤ high → IfOk result (λ m. is_opened (S.tomes m.stacks epoch) ≡ true) }
+        ensures opened { includes (bounds_of (M.current self.meta)) epoch ≡ true → IfOk result (λ m. is_opened (S.tomes m.stacks epoch) ≡ true) }
+        ensures stays { includes (bounds_of (M.current self.meta)) epoch ≡ false → IfOk result (λ m. m.stacks ≡ self.stacks) }
         ensures meta { IfOk result (λ m. m.meta ≡ self.meta) }
         ensures ways { IfErr result (λ l. AllByRecursion (LeavesTomes (λ k. []) nothing_gone (S.tomes self.stacks)) (S.Wreck.left (wreck_of l).stacks)) }
         ensures bounds { IfErr result (λ l. M.Wreck.left (wreck_of l).meta ≡ M.left self.meta) }
@@ -420,17 +447,17 @@ impl<S: Stacks, M: Meta> Manager<S, M> {
             (λ w. shelf_watch w.alarm (S.Wreck.calm w.stacks && (M.Wreck.watch w.meta).only_armed))
             (shelf_watch self.alarm (S.calm self.stacks && (M.watch self.meta).only_armed)) result }
     {
-        if epoch < low || epoch > high {
+        if !includes(&self.meta, epoch) {
             return Ok(self);
         }
         self.open(epoch)
     }
 
-    /// Opens each epoch of which something is left, from the lowest to the highest.
+    /// Opens each epoch of which something is left, which all lie from the lowest to the highest.
     pub fn load_persisted_epochs(self) -> Result<Self, Lost<ManagerWreck<S, M>>>
         ensures done { IfOk result (λ m. (k : ℕ) → OpensOrStays (S.tomes self.stacks k) (S.tomes m.stacks k)) }
-        ensures opened { (k : ℕ) → (bounds_of (M.current self.meta)).lowest ≤ k → k ≤ (bounds_of (M.current self.meta)).highest
-            → HasSome (S.tomes self.stacks k) → IfOk result (λ m. is_opened (S.tomes m.stacks k) ≡ true) }
+        ensures opened { (k : ℕ) → HasSome (S.tomes self.stacks k) → IfOk result (λ m. is_opened (S.tomes m.stacks k) ≡ true) }
+        ensures stays { (k : ℕ) → includes (bounds_of (M.current self.meta)) k ≡ false → IfOk result (λ m. S.tomes m.stacks k ≡ S.tomes self.stacks k) }
         ensures meta { IfOk result (λ m. m.meta ≡ self.meta) }
         ensures ways { IfErr result (λ l. AllByRecursion (LeavesTomes (λ k. []) nothing_gone (S.tomes self.stacks)) (S.Wreck.left (wreck_of l).stacks)) }
         ensures bounds { IfErr result (λ l. M.Wreck.left (wreck_of l).meta ≡ M.left self.meta) }
@@ -446,8 +473,9 @@ impl<S: Stacks, M: Meta> Manager<S, M> {
     // Opens each of these epochs that lies within the bounds.
     fn open_all(self, epochs: &[u64]) -> Result<Self, Lost<ManagerWreck<S, M>>>
         ensures done { IfOk result (λ m. (k : ℕ) → OpensOrStays (S.tomes self.stacks k) (S.tomes m.stacks k)) }
-        ensures opened { (k : ℕ) → (bounds_of (M.current self.meta)).lowest ≤ k → k ≤ (bounds_of (M.current self.meta)).highest
-            → Contains epochs.now k → IfOk result (λ m. is_opened (S.tomes m.stacks k) ≡ true) }
+        ensures opened { (k : ℕ) → includes (bounds_of (M.current self.meta)) k ≡ true → Contains epochs.now k
+            → IfOk result (λ m. is_opened (S.tomes m.stacks k) ≡ true) }
+        ensures stays { (k : ℕ) → includes (bounds_of (M.current self.meta)) k ≡ false → IfOk result (λ m. S.tomes m.stacks k ≡ S.tomes self.stacks k) }
         ensures meta { IfOk result (λ m. m.meta ≡ self.meta) }
         ensures ways { IfErr result (λ l. AllByRecursion (LeavesTomes (λ k. []) nothing_gone (S.tomes self.stacks)) (S.Wreck.left (wreck_of l).stacks)) }
         ensures bounds { IfErr result (λ l. M.Wreck.left (wreck_of l).meta ≡ M.left self.meta) }
@@ -455,11 +483,10 @@ impl<S: Stacks, M: Meta> Manager<S, M> {
             (λ w. shelf_watch w.alarm (S.Wreck.calm w.stacks && (M.Wreck.watch w.meta).only_armed))
             (shelf_watch self.alarm (S.calm self.stacks && (M.watch self.meta).only_armed)) result }
     {
-        let (low, high) = (lowest(&self.meta), highest(&self.meta));
         let mut manager = self;
         let mut place = 0;
         while place < epochs.len() {
-            manager = manager.open_within(epochs[place], low, high)?;
+            manager = manager.open_within(epochs[place])?;
             place += 1;
         }
         Ok(manager)
@@ -510,8 +537,10 @@ impl<S: Stacks, M: Meta> Manager<S, M> {
         ensures newer { IfOk result (λ m. (k : ℕ) → round.epoch < k → S.tomes m.stacks k ≡ S.tomes self.stacks k) }
         ensures older { IfOk result (λ m. (k : ℕ) → k < round.epoch → IsBare (S.tomes m.stacks k)) }
         ensures raises { IfOk result (λ m. bounds_of (M.current m.meta) ≡ pruned_bounds round (bounds_of (M.current self.meta))) }
-        ensures ways { IfErr result (λ l. AllByRecursion (λ left. (k : ℕ) → round.epoch ≤ k
-            → LeavesTome [] (is_pruned_by round k) (S.tomes self.stacks k) (left k)) (S.Wreck.left (wreck_of l).stacks)) }
+        ensures ways { IfErr result (λ l. AllByRecursion (LeavesTomes (λ k. []) (is_pruned_by round) (S.tomes self.stacks))
+            (S.Wreck.left (wreck_of l).stacks)) }
+        ensures dropped { IfErr result (λ l. AllByRecursion (λ left. (k : ℕ) → k < round.epoch → IsLeftOrBare (S.tomes self.stacks k) (left k))
+            (S.Wreck.left (wreck_of l).stacks)) }
         ensures bounds { IfErr result (λ l. Within (map bounds_of (M.Wreck.left (wreck_of l).meta))
             (map bounds_of (M.left self.meta) ++ pruned_bounds round (bounds_of (M.current self.meta)) ∷ [])) }
         ensures watched { Heeds (λ m. shelf_watch m.alarm (S.calm m.stacks && (M.watch m.meta).only_armed))
@@ -528,12 +557,10 @@ impl<S: Stacks, M: Meta> Manager<S, M> {
 
     // Destroys an epoch that is below another.
     fn destroy_below(self, epoch: u64, below: u64) -> Result<Self, Lost<ManagerWreck<S, M>>>
-        ensures above { IfOk result (λ m. (k : ℕ) → below ≤ k → S.tomes m.stacks k ≡ S.tomes self.stacks k) }
-        ensures stays { IfOk result (λ m. (k : ℕ) → (S.tomes m.stacks k ≡ S.tomes self.stacks k) ⊎ IsBare (S.tomes m.stacks k)) }
+        ensures done { MatchResult result (λ m. DropsOlder below (S.tomes self.stacks) (S.tomes m.stacks))
+            (λ l. AllByRecursion (DropsOlder below (λ k. left_of_tome (S.tomes self.stacks k))) (S.Wreck.left (wreck_of l).stacks)) }
         ensures bare { epoch < below → IfOk result (λ m. IsBare (S.tomes m.stacks epoch)) }
         ensures meta { IfOk result (λ m. m.meta ≡ self.meta) }
-        ensures ways { IfErr result (λ l. AllByRecursion (λ left. (k : ℕ) → below ≤ k → left k ≡ left_of_tome (S.tomes self.stacks k))
-            (S.Wreck.left (wreck_of l).stacks)) }
         ensures bounds { IfErr result (λ l. M.Wreck.left (wreck_of l).meta ≡ M.left self.meta) }
         ensures watched { IsCalm (λ m. shelf_watch m.alarm (S.calm m.stacks && (M.watch m.meta).only_armed))
             (λ w. shelf_watch w.alarm (S.Wreck.calm w.stacks && (M.Wreck.watch w.meta).only_armed))
@@ -559,12 +586,10 @@ impl<S: Stacks, M: Meta> Manager<S, M> {
 
     // Destroys each of these epochs that is below another.
     fn destroy_all(self, epochs: &[u64], below: u64) -> Result<Self, Lost<ManagerWreck<S, M>>>
-        ensures above { IfOk result (λ m. (k : ℕ) → below ≤ k → S.tomes m.stacks k ≡ S.tomes self.stacks k) }
-        ensures stays { IfOk result (λ m. (k : ℕ) → (S.tomes m.stacks k ≡ S.tomes self.stacks k) ⊎ IsBare (S.tomes m.stacks k)) }
+        ensures done { MatchResult result (λ m. DropsOlder below (S.tomes self.stacks) (S.tomes m.stacks))
+            (λ l. AllByRecursion (DropsOlder below (λ k. left_of_tome (S.tomes self.stacks k))) (S.Wreck.left (wreck_of l).stacks)) }
         ensures bare { (k : ℕ) → Contains epochs.now k → k < below → IfOk result (λ m. IsBare (S.tomes m.stacks k)) }
         ensures meta { IfOk result (λ m. m.meta ≡ self.meta) }
-        ensures ways { IfErr result (λ l. AllByRecursion (λ left. (k : ℕ) → below ≤ k → left k ≡ left_of_tome (S.tomes self.stacks k))
-            (S.Wreck.left (wreck_of l).stacks)) }
         ensures bounds { IfErr result (λ l. M.Wreck.left (wreck_of l).meta ≡ M.left self.meta) }
         ensures watched { IsCalm (λ m. shelf_watch m.alarm (S.calm m.stacks && (M.watch m.meta).only_armed))
             (λ w. shelf_watch w.alarm (S.Wreck.calm w.stacks && (M.Wreck.watch w.meta).only_armed))
@@ -580,10 +605,11 @@ impl<S: Stacks, M: Meta> Manager<S, M> {
     }
 
     // Makes a round's epoch the lowest where it is above that, and the highest where it is above that.
+    // Nothing is left of older epochs.
     fn raise_lowest(self, round: Round) -> Result<Self, Lost<ManagerWreck<S, M>>>
+        requires older { (k : ℕ) → k < round.epoch → IsBare (S.tomes self.stacks k) }
         ensures stacks { IfOk result (λ m. m.stacks ≡ self.stacks) }
-        ensures raises { IfOk result (λ m. (bounds_of (M.current m.meta) ≡ pruned_bounds round (bounds_of (M.current self.meta)))
-            × Within (map bounds_of (M.left m.meta)) (map bounds_of (M.left self.meta) ++ pruned_bounds round (bounds_of (M.current self.meta)) ∷ [])) }
+        ensures raises { IfOk result (λ m. bounds_of (M.current m.meta) ≡ pruned_bounds round (bounds_of (M.current self.meta))) }
         ensures ways { IfErr result (λ l. AllByRecursion (λ left. (k : ℕ) → left k ≡ left_of_tome (S.tomes self.stacks k))
             (S.Wreck.left (wreck_of l).stacks)) }
         ensures bounds { IfErr result (λ l. Within (map bounds_of (M.Wreck.left (wreck_of l).meta))
@@ -597,30 +623,7 @@ impl<S: Stacks, M: Meta> Manager<S, M> {
         if epoch <= low {
             return Ok(self);
         }
-        let Manager {
-            stacks,
-            meta,
-            mut alarm,
-        } = self;
-        match write_bounds(meta, epoch, high.max(epoch)) {
-            Ok(meta) => Ok(Manager {
-                stacks,
-                meta,
-                alarm,
-            }),
-            Err(lost) => {
-                let (failed, meta) = parts_of(lost);
-                if failed {
-                    alarm.fail();
-                }
-                let wreck = ManagerWreck {
-                    stacks: stacks.wreck(),
-                    meta,
-                    alarm,
-                };
-                Err(lost_by(failed, wreck))
-            }
-        }
+        self.keep_bounds(epoch, high.max(epoch))
     }
 
     /// What a crash now leaves.
@@ -692,6 +695,7 @@ fn lost_stacks<S: Stacks, M: Meta>(
     alarm: Alarm,
 ) -> Lost<ManagerWreck<S, M>>
     requires quiet { (M.watch meta).due ≡ [] }
+    requires within { AllLieWithin (S.Wreck.left (wreck_of lost)) (map bounds_of (M.left meta)) }
     ensures ways { (wreck_of result).stacks ≡ wreck_of lost }
     ensures bounds { M.Wreck.left (wreck_of result).meta ≡ M.left meta }
     ensures fault { is_fault result ≡ is_fault lost }
@@ -734,6 +738,7 @@ fn with_reopened<S: Stacks, M: Meta>(
     luck: u64,
 ) -> Result<Manager<S, M>, Lost<ManagerWreck<S, M>>>
     requires quiet { (M.Wreck.watch meta).due ≡ [] }
+    requires within { (b : Bounds) → Contains (map bounds_of (M.Wreck.left meta)) b → LieWithin (S.tomes stacks) b }
     ensures stacks { IfOk result (λ m. m.stacks ≡ stacks) }
     ensures bounds { IfOk result (λ m. Contains (M.Wreck.left meta) (M.current m.meta) × (M.left m.meta ≡ M.current m.meta ∷ [])) }
     ensures ways { IfErr result (λ l. AllByRecursion (λ left. (k : ℕ) → left k ≡ left_of_tome (S.tomes stacks k)) (S.Wreck.left (wreck_of l).stacks)) }

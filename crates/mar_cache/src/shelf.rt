@@ -6,13 +6,13 @@ ghost use Rattle.mar_store.specs.Lost.{wreck_of};
 ghost use Rattle.mar_store.specs.Watch.{Heeds, HeedsRead, Watch, armed};
 ghost use Rattle.mar_node.specs.Cached.{certified_entry, epoch_of, finalization_entry, notarization_entry, notarized_entry, verified_entry};
 ghost use Rattle.mar_node.specs.Cache.{is_certified_below};
-ghost use Rattle.mar_cache.specs.Bounds.{Bounds, bounds_of};
+ghost use Rattle.mar_cache.specs.Bounds.{Bounds, bounds_of, includes};
 ghost use Rattle.mar_cache.specs.Calls.{IsPut, IsPutAndSynced, PutBounds, PutLeaves, Raises};
 ghost use Rattle.mar_cache.specs.Entries.{cached_of, is_sought};
 ghost use Rattle.mar_cache.specs.Sections.{first_found, section_of};
-ghost use Rattle.mar_cache.specs.Shelved.{AllChanges, IsClear, IsStarted, LeavesTomes, OpensOrStays, ThinsTome, at_epoch, finishes};
+ghost use Rattle.mar_cache.specs.Shelved.{AllChanges, AllLieWithin, IsClear, IsStarted, LeavesTomes, LieWithin, OpensOrStays, ThinsTome, at_epoch, finishes};
 ghost use Rattle.mar_cache.specs.Shelved.{is_pruned_by, nothing_gone, pruned_bounds, shelf_watch};
-ghost use Rattle.mar_cache.specs.Tomes.{ChangesTome, HasSome, IsBare, IsNewest, KeepsOtherTomes, LeavesTome, MightBe, Tomes};
+ghost use Rattle.mar_cache.specs.Tomes.{ChangesTome, HasSome, IsBare, IsLeftOrBare, IsNewest, KeepsOtherTomes, MightBe, Tomes};
 ghost use Rattle.mar_cache.specs.Tomes.{held_in, is_opened, left_of_tome};
 
 use crate::change::Change;
@@ -37,9 +37,11 @@ pub trait ShelfRuin: Drop {
 
     /// What it tells of its failures.
     ghost watch: { Self → Watch };
+
+    ghost within: { (w : Self) → AllLieWithin (ways w) (bounds w) };
 }
 
-/// A cache by epochs.
+/// A cache by epochs. What there is of an epoch, open or left by a crash, lies from the lowest epoch to the highest.
 pub trait Shelf<V: Variant, N: AsFinalization, F: CommitsTo<V::Commitment>>: Drop {
     type Wreck: ShelfRuin;
 
@@ -196,13 +198,13 @@ pub trait Shelf<V: Variant, N: AsFinalization, F: CommitsTo<V::Commitment>>: Dro
         ensures bounds { IfErr result (λ l. Self.Wreck.bounds (wreck_of l) ≡ left self) }
         ensures watched { Heeds watch Self.Wreck.watch (watch self) result };
 
-    /// Opens the epochs from the lowest to the highest of which something is left.
+    /// Opens each epoch of which something is left, which all lie from the lowest to the highest; others stay as they are.
     fn load_persisted_epochs(self) -> Result<Self, Lost<Self::Wreck>>
     where
         Self: Sized,
         ensures done { IfOk result (λ s. (k : ℕ) → OpensOrStays (tomes self k) (tomes s k)) }
-        ensures opened { (k : ℕ) → (bounds self).lowest ≤ k → k ≤ (bounds self).highest → HasSome (tomes self k)
-            → IfOk result (λ s. is_opened (tomes s k) ≡ true) }
+        ensures opened { (k : ℕ) → HasSome (tomes self k) → IfOk result (λ s. is_opened (tomes s k) ≡ true) }
+        ensures stays { (k : ℕ) → includes (bounds self) k ≡ false → IfOk result (λ s. tomes s k ≡ tomes self k) }
         ensures meta { IfOk result (λ s. (bounds s ≡ bounds self) × (left s ≡ left self)) }
         ensures ways { IfErr result (λ l. AllByRecursion (LeavesTomes (λ k. []) nothing_gone (tomes self)) (Self.Wreck.ways (wreck_of l))) }
         ensures bounds { IfErr result (λ l. Self.Wreck.bounds (wreck_of l) ≡ left self) }
@@ -219,7 +221,8 @@ pub trait Shelf<V: Variant, N: AsFinalization, F: CommitsTo<V::Commitment>>: Dro
         ensures bounds { IfErr result (λ l. Self.Wreck.bounds (wreck_of l) ≡ left self) }
         ensures watched { Heeds watch Self.Wreck.watch (watch self) result };
 
-    /// Older epochs are destroyed; the round's own becomes the lowest, and what stands there below the round goes.
+    /// Older epochs are destroyed; the round's own becomes the lowest, and what stands there below the round goes. Where it
+    /// fails, each older epoch is left as it was or nothing is left of it.
     fn prune_by_view(self, round: Round) -> Result<Self, Lost<Self::Wreck>>
     where
         Self: Sized,
@@ -227,8 +230,9 @@ pub trait Shelf<V: Variant, N: AsFinalization, F: CommitsTo<V::Commitment>>: Dro
         ensures newer { IfOk result (λ s. (k : ℕ) → round.epoch < k → tomes s k ≡ tomes self k) }
         ensures older { IfOk result (λ s. (k : ℕ) → k < round.epoch → IsBare (tomes s k)) }
         ensures raises { IfOk result (λ s. bounds s ≡ pruned_bounds round (bounds self)) }
-        ensures ways { IfErr result (λ l. AllByRecursion (λ ways. (k : ℕ) → round.epoch ≤ k
-            → LeavesTome [] (is_pruned_by round k) (tomes self k) (ways k)) (Self.Wreck.ways (wreck_of l))) }
+        ensures ways { IfErr result (λ l. AllByRecursion (LeavesTomes (λ k. []) (is_pruned_by round) (tomes self)) (Self.Wreck.ways (wreck_of l))) }
+        ensures dropped { IfErr result (λ l. AllByRecursion (λ ways. (k : ℕ) → k < round.epoch → IsLeftOrBare (tomes self k) (ways k))
+            (Self.Wreck.ways (wreck_of l))) }
         ensures bounds { IfErr result (λ l. Within (Self.Wreck.bounds (wreck_of l)) (left self ++ pruned_bounds round (bounds self) ∷ [])) }
         ensures watched { Heeds watch Self.Wreck.watch (watch self) result };
 
@@ -255,6 +259,10 @@ pub trait Shelf<V: Variant, N: AsFinalization, F: CommitsTo<V::Commitment>>: Dro
     fn arm(&mut self, calls: u64) -> Result<(), AllocError>
         ensures armed { OnOk result (watch self.new ≡ armed calls (watch self.old)) }
         ensures same { (tomes self.new ≡ tomes self.old) × (bounds self.new ≡ bounds self.old) × (left self.new ≡ left self.old) };
+
+    ghost within: { (s : Self) → LieWithin (tomes s) (bounds s) };
+
+    ghost durable: { (s : Self) → left s ≡ bounds s ∷ [] };
 }
 
 impl<S: Stacks, M: Meta> ShelfRuin for ManagerWreck<S, M> {
@@ -263,6 +271,8 @@ impl<S: Stacks, M: Meta> ShelfRuin for ManagerWreck<S, M> {
     ghost bounds = { λ w. map bounds_of (M.Wreck.left w.meta) };
 
     ghost watch = { λ w. shelf_watch w.alarm (S.Wreck.calm w.stacks && (M.Wreck.watch w.meta).only_armed) };
+
+    ghost within = { λ w. w.within };
 }
 
 impl<V: Variant, N: AsFinalization, F: CommitsTo<V::Commitment>, S: Stacks, M: Meta> Shelf<V, N, F>
@@ -279,6 +289,10 @@ where
     ghost left = { λ m. map bounds_of (M.left m.meta) };
 
     ghost watch = { λ m. shelf_watch m.alarm (S.calm m.stacks && (M.watch m.meta).only_armed) };
+
+    ghost within = { λ m. m.within };
+
+    ghost durable = { λ m. m.durable };
 
     fn put_verified(
         self,

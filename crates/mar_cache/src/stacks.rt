@@ -5,7 +5,7 @@ ghost use Rattle.std.specs.List.{AllByRecursion};
 ghost use Rattle.mar_store.specs.Lost.{wreck_of};
 ghost use Rattle.mar_cache.specs.Sections.{first_found};
 ghost use Rattle.mar_cache.specs.Volumes.{IsOfMemory, is_kept, puts_of};
-ghost use Rattle.mar_cache.specs.Tomes.{ChangesTome, HasSome, IsBare, IsNestedTome, IsNewest, IsTicket, KeepsOtherTomes, LosesTome, MightBe, OpensTome, SameTomes, Tomes, all_gone, held_in, is_opened, left_of_tome, none_gone};
+ghost use Rattle.mar_cache.specs.Tomes.{ChangesTome, DestroysOrNot, HasSome, IsBare, IsNestedTome, IsNewest, IsTicket, KeepsOtherTomes, LosesTome, MightBe, OpensTome, SameTomes, Tomes, held_in, is_opened, left_of_tome, none_gone};
 
 use crate::change::Change;
 use crate::leaf::Leaf;
@@ -60,7 +60,7 @@ pub trait Stacks: Drop {
         ensures calm { MatchResult result (λ s. calm s ≡ calm self) (λ l. Self.Wreck.calm (wreck_of l) ≡ calm self) }
         ensures memory { calm self ≡ true → IfErr result IsOfMemory };
 
-    /// Changes an epoch, where it is open.
+    /// Changes an epoch, where it is open; where it isn't, nothing changes and nothing fails.
     fn change(self, epoch: u64, change: Change<Self::Leaf>) -> Result<Self, Lost<Self::Wreck>>
     where
         Self: Sized,
@@ -68,6 +68,7 @@ pub trait Stacks: Drop {
             (λ s. ChangesTome Self.Leaf.plain change (tomes self epoch) (tomes s epoch) × KeepsOtherTomes epoch (tomes self) (tomes s))
             (λ l. AllByRecursion (LosesTome epoch (tomes self epoch) (puts_of Self.Leaf.plain change) (λ x. not (is_kept change x)) (tomes self))
             (Self.Wreck.left (wreck_of l))) }
+        ensures shut { is_opened (tomes self epoch) ≡ false → IfErr result (λ l. ⊥) }
         ensures calm { MatchResult result (λ s. calm s ≡ calm self) (λ l. Self.Wreck.calm (wreck_of l) ≡ calm self) }
         ensures memory { calm self ≡ true → IfErr result IsOfMemory };
 
@@ -77,7 +78,7 @@ pub trait Stacks: Drop {
         Self: Sized,
         ensures done { MatchResult result
             (λ s. IsBare (tomes s epoch) × KeepsOtherTomes epoch (tomes self) (tomes s))
-            (λ l. AllByRecursion (LosesTome epoch (tomes self epoch) [] all_gone (tomes self)) (Self.Wreck.left (wreck_of l))) }
+            (λ l. AllByRecursion (DestroysOrNot epoch (tomes self)) (Self.Wreck.left (wreck_of l))) }
         ensures calm { MatchResult result (λ s. calm s ≡ calm self) (λ l. Self.Wreck.calm (wreck_of l) ≡ calm self) }
         ensures memory { calm self ≡ true → IfErr result IsOfMemory };
 

@@ -1,6 +1,5 @@
-use Rattle.std.proofs.Common.{[], ap}
+use Rattle.std.proofs.Common.{[]}
 use Rattle.std.proofs.lemmas.Result.{err_from_is_err_and}
-use Rattle.mar_cache.specs.Bounds.{Bounds}
 use Rattle.mar_cache.proofs.BoundsKept.{bounds_put, bounds_synced, leaves_bounds, none_wider}
 use Rattle.mar_cache.proofs.bounds.write_bounds.Goals as goal
 

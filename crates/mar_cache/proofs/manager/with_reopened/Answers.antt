@@ -1,5 +1,20 @@
-use Rattle.std.proofs.Common.{append-nil, Contains, subst}
+use Rattle.std.proofs.Common.{append-nil, ap, Contains, map, subst}
+use Rattle.mar_cache.specs.Bounds.{bounds_of}
+use Rattle.mar_cache.proofs.BoundsKept.{contains_map, within_map}
+use Rattle.mar_cache.proofs.Within.{left_within}
 use Rattle.mar_cache.proofs.manager.with_reopened.Goals as goal
 
 pub returns-after-failed-clause-left : goal.returns-after-failed-clause-left
 returns-after-failed-clause-left g c = rw (c.lost_by.ensures.wreck, c.parts_of-failed.ensures.wreck) (λ x has. subst (λ ys. Contains ys x) (append-nil _) (c.in-Err.ensures.done.within x has))
+
+pub returns-after-failed-clause-ways : goal.returns-after-failed-clause-ways
+returns-after-failed-clause-ways g c = rw c.lost_by.ensures.wreck c.wreck.ensures.left
+
+pub invariant_of-result-clause-durable : goal.invariant_of-result-clause-durable
+invariant_of-result-clause-durable g c = ap (map bounds_of) c.in-Ok.ensures.synced
+
+pub invariant_of-result-clause-within : goal.invariant_of-result-clause-within
+invariant_of-result-clause-within g c = c.requires.within _ (contains_map bounds_of _ _ c.in-Ok.ensures.done)
+
+pub invariant_of-wreck-clause-within : goal.invariant_of-wreck-clause-within
+invariant_of-wreck-clause-within g c = rw c.parts_of-failed.ensures.wreck (left_within (g.S.Stacks.tomes c.args.stacks) _ (map bounds_of (g.M.Wreck.MetaRuin.left c.args.meta)) _ c.requires.within c.wreck.ensures.left (within_map bounds_of _ _ (λ x has. subst (λ ys. Contains ys x) (append-nil _) (c.in-Err.ensures.done.within x has))))

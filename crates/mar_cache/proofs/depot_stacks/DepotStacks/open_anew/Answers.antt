@@ -1,7 +1,7 @@
 use Rattle.std.proofs.Common.{ap, refl, []}
 use Rattle.std.specs.Map.{lookup}
 use Rattle.std.specs.Ordering.{nat_cmp}
-use Rattle.std.specs.BTreeMap.{get, is_at}
+use Rattle.std.specs.BTreeMap.{is_at}
 use Rattle.mar_cache.specs.Tomes.{OpensTome, none_gone, tome_at, tome_under, tomes_of}
 use Rattle.mar_cache.proofs.Leaving.{left_ways, loses_unslotted, not_at, same_view}
 use Rattle.mar_cache.proofs.depot_stacks.DepotStacks.open_anew.Goals as goal

@@ -1,4 +1,4 @@
-use Rattle.std.proofs.Common.{[], refl}
+use Rattle.std.proofs.Common.{[]}
 use Rattle.std.proofs.lemmas.Result.{err_from_is_err_and}
 use Rattle.mar_cache.specs.Shelved.{nothing_gone}
 use Rattle.mar_cache.proofs.Shelving.{fallen_leaves}

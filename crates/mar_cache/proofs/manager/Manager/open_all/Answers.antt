@@ -1,7 +1,8 @@
-use Rattle.std.proofs.Common.{[], refl, arith, ◌∙◌}
+use Rattle.std.proofs.Common.{[], ap, arith, ◌∙◌}
 use Rattle.std.proofs.lemmas.Result.{err_from_is_err_and}
+use Rattle.mar_cache.specs.Bounds.{bounds_of, includes}
 use Rattle.mar_cache.specs.Shelved.{nothing_gone}
-use Rattle.mar_cache.proofs.Shelving.{grown_leaves, opened_all, opened_more, opened_stays, stays_grow, step_stays}
+use Rattle.mar_cache.proofs.Shelving.{grown_leaves, opened_all, opened_more, opened_stays, outside_stays, stays_grow, step_stays}
 use Rattle.mar_cache.proofs.manager.Manager.open_all.Goals as goal
 
 pub returns-in_err-manager-clause-ways : goal.returns-in_err-manager-clause-ways
@@ -11,16 +12,18 @@ returns-in_err-manager-clause-ways g c =
 
 pub loop-place-preserved : goal.loop-place-preserved
 loop-place-preserved g c =
-    let now = c.loop-place.manager.stacks in
-    let next = c.in_ok-manager.manager.stacks in
-    let done = c.in_ok-manager.ensures.done in
+    let now = c.loop-place.manager in
+    let next = c.in_ok-manager.manager in
+    let step = c.in_ok-manager.ensures in
+    let b = bounds_of (g.M.Meta.current c.args.self.meta) in
     record {
       within = omega arith;
-      stays = step_stays _ (g.S.Stacks.tomes c.args.self.stacks) (g.S.Stacks.tomes now) (g.S.Stacks.tomes next) c.loop-place.invariant.stays done.0 done.1;
-      opened = opened_more (g.S.Stacks.tomes next) c.args.epochs.now c.loop-place.place _ _ (λ j less from to. opened_stays _ (g.S.Stacks.tomes now) (g.S.Stacks.tomes next) done.0 done.1 _ (c.loop-place.invariant.opened j less from to)) c.in_ok-manager.ensures.opened;
-      meta = c.in_ok-manager.ensures.meta ∙ c.loop-place.invariant.meta;
-      watch = c.in_ok-manager.ensures.watched ∙ c.loop-place.invariant.watch;
+      stays = step_stays _ (g.S.Stacks.tomes c.args.self.stacks) (g.S.Stacks.tomes now.stacks) (g.S.Stacks.tomes next.stacks) c.loop-place.invariant.stays step.done.0 step.done.1;
+      opened = opened_more (g.S.Stacks.tomes next.stacks) c.args.epochs.now c.loop-place.place (includes b) (λ j less passes. opened_stays _ (g.S.Stacks.tomes now.stacks) (g.S.Stacks.tomes next.stacks) step.done.0 step.done.1 _ (c.loop-place.invariant.opened j less passes)) (rw c.loop-place.invariant.meta at step.opened);
+      outside = outside_stays (includes b) _ (g.S.Stacks.tomes c.args.self.stacks) (g.S.Stacks.tomes now.stacks) (g.S.Stacks.tomes next.stacks) c.loop-place.invariant.outside (λ fails k. ap (λ s. g.S.Stacks.tomes s k) ((rw c.loop-place.invariant.meta at step.stays) fails)) step.done.1;
+      meta = step.meta ∙ c.loop-place.invariant.meta;
+      watch = step.watched ∙ c.loop-place.invariant.watch;
     }
 
 pub returns-clause-opened : goal.returns-clause-opened
-returns-clause-opened g c = λ k from to has. opened_all (g.S.Stacks.tomes c.loop-place.manager.stacks) c.args.epochs.now c.loop-place.place _ _ c.loop-place-test.false c.loop-place.invariant.opened k (omega (arith, from, c.lowest-low.ensures)) (omega (arith, to, c.highest-high.ensures)) has
+returns-clause-opened g c = λ k passes has. opened_all (g.S.Stacks.tomes c.loop-place.manager.stacks) c.args.epochs.now c.loop-place.place (includes (bounds_of (g.M.Meta.current c.args.self.meta))) c.loop-place-test.false c.loop-place.invariant.opened k passes has

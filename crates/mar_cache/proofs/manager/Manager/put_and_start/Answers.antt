@@ -1,4 +1,4 @@
-use Rattle.std.proofs.Common.{[], ◌∷◌, ap, map, refl}
+use Rattle.std.proofs.Common.{[], ◌∷◌, map}
 use Rattle.std.proofs.lemmas.Result.{err_from_is_err_and}
 use Rattle.mar_node.specs.Cached.{epoch_of}
 use Rattle.mar_cache.specs.Bounds.{bounds_of}

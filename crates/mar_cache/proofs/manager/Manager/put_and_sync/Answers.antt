@@ -5,7 +5,7 @@ use Rattle.mar_cache.specs.Bounds.{bounds_of}
 use Rattle.mar_cache.specs.Shelved.{at_epoch, nothing_gone, raised}
 use Rattle.mar_cache.specs.declared.change.Change.TheVariants.{Put}
 use Rattle.mar_cache.proofs.Filtering.{contains_none}
-use Rattle.mar_cache.proofs.Shelving.{at_own, bounds_stay, does_grow, end_bounds, end_leaves, fallen_leaves}
+use Rattle.mar_cache.proofs.Shelving.{at_own, bounds_stay, does_grow, does_then, end_bounds, end_leaves, fallen_leaves}
 use Rattle.mar_cache.proofs.manager.Manager.put_and_sync.Goals as goal
 
 pub returns-in_err-manager-clause-ways : goal.returns-in_err-manager-clause-ways
@@ -38,3 +38,9 @@ pub returns-in_err-manager-2-clause-bounds : goal.returns-in_err-manager-2-claus
 returns-in_err-manager-2-clause-bounds g c =
     let p = err_from_is_err_and c.from_residual-in_err-manager-2.result c.from_residual-in_err-manager-2.ensures.1 in
     rw (p.1, p.2, ← c.in_ok-manager.ensures.meta) c.in_err-manager-2.ensures.bounds
+
+pub returns-clause-done : goal.returns-clause-done
+returns-clause-done g c = λ above.
+    let m = c.in_ok-manager.manager in
+    let n = c.in_ok-manager-2.manager in
+    rw (← c.in_ok-manager.ensures.stacks) (does_then g.S.Leaf.Leaf.plain (λ s. g.S.Stacks.tomes s.stacks) _ (epoch_of (g.S.Leaf.Leaf.plain c.args.leaf)) (Put c.args.leaf) _ (g.S.Stacks.tomes m.stacks) (g.S.Stacks.tomes n.stacks) c.change.result c.in_ok-manager-2.ensures.done (rw (c.get-epoch.ensures.value ∙ c.epoch.ensures, c.section-section.ensures) at c.change.ensures.done))

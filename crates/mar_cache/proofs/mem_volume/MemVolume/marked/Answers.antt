@@ -1,7 +1,6 @@
 use Rattle.std.proofs.Common.{sym, subst}
-use Rattle.mar_cache.specs.Filings.{AreNumbered, filings_of}
+use Rattle.mar_cache.specs.Filings.{AreNumbered}
 use Rattle.mar_cache.proofs.VolumeChanges.{mark_once, marked_numbered}
-use Rattle.mar_cache.specs.declared.change.Change.TheVariants.{Sync}
 use Rattle.mar_cache.proofs.mem_volume.MemVolume.marked.Goals as goal
 
 pub invariant_of-result : goal.invariant_of-result

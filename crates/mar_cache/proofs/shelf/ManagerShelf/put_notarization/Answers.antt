@@ -1,12 +1,12 @@
-use Rattle.std.proofs.Common.{◌≤◌, ◌∷◌, ◌++◌, [], IfErr, IfOk, map, subst}
+use Rattle.std.proofs.Common.{◌≤◌, IfErr, IfOk, map, subst}
 use Rattle.std.proofs.lemmas.Result.{IfOk-weaker}
 use Rattle.mar_store.specs.Lost.{wreck_of}
 use Rattle.mar_node.specs.Cached.{epoch_of}
 use Rattle.mar_cache.specs.Bounds.{bounds_of}
-use Rattle.mar_cache.specs.Calls.{IsPut, IsPutAndSynced, PutBounds}
+use Rattle.mar_cache.specs.Calls.{IsPut, PutBounds}
 use Rattle.mar_cache.specs.Sections.{section_of}
 use Rattle.mar_cache.specs.Shelved.{IsStarted}
-use Rattle.mar_cache.proofs.Plainly.{put_plain, sync_plain}
+use Rattle.mar_cache.proofs.Plainly.{put_plain}
 use Rattle.mar_cache.proofs.shelf.ManagerShelf.put_notarization.Goals as goal
 
 pub returns-clause-done : goal.returns-clause-done

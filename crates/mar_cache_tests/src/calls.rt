@@ -1,0 +1,305 @@
+//! The calls of a cache, and what each is to answer. A function here has no clause, so a script that calls it has nothing to
+//! carry; each calls one function of the library. They are of any cache, which
+//! `Maker` makes: that a cache in memory is let go costs much to prove, since its type is made of many.
+use crate::light::{Light, Name, Plate, Vote};
+use mar_cache::{CacheTicket, Entry, Shelf, Sought, Started};
+use mar_store::{Lost, Miss};
+use mar_types::{Epoch, Height, Round, View};
+use std::alloc::Global;
+
+type Held = Entry<Plate, Vote, Vote>;
+
+/// A cache, what is left of it, or one that answered something else than it was to.
+#[derive(Drop)]
+pub enum Life<C: Shelf<Light, Vote, Vote>> {
+    Open(C),
+    Left(C::Wreck),
+    Wrong,
+}
+
+/// What a look-up that goes by a digest is to find: an archive's letter, the epoch, and the view or the height.
+pub type Place = (char, u64, u64);
+
+/// What makes caches that hold nothing.
+pub trait Maker {
+    type Cache: Shelf<Light, Vote, Vote>;
+
+    fn empty(alloc: Global) -> Self::Cache;
+}
+
+pub fn round(epoch: u64, view: u64) -> Round {
+    Round::new(Epoch::new(epoch), View::new(view))
+}
+
+fn name_at(height: u8) -> Name {
+    Plate::at(height).name
+}
+
+// A certificate over the block at a height.
+fn vote(at: Round, height: u8) -> Vote {
+    Vote {
+        round: at,
+        payload: name_at(height),
+    }
+}
+
+fn changed<C: Shelf<Light, Vote, Vote>>(answer: Result<C, Lost<C::Wreck>>) -> Life<C> {
+    match answer {
+        Ok(cache) => Life::Open(cache),
+        Err(Lost::Fault(wreck)) => Life::Left(wreck),
+        Err(Lost::Memory(_)) => Life::Wrong,
+    }
+}
+
+// The same of a call that may start a sync, whose ticket is kept.
+fn started<C: Shelf<Light, Vote, Vote>>(
+    answer: Result<(C, Started), Lost<C::Wreck>>,
+    starts: bool,
+    last: &mut Option<CacheTicket>,
+) -> Life<C> {
+    match answer {
+        Ok((cache, Started::Ticket(ticket))) if starts => {
+            *last = Some(ticket);
+            Life::Open(cache)
+        }
+        Ok((cache, Started::Ready)) if !starts => Life::Open(cache),
+        Err(Lost::Fault(wreck)) => Life::Left(wreck),
+        _ => Life::Wrong,
+    }
+}
+
+pub fn put_verified<C: Shelf<Light, Vote, Vote>>(
+    cache: C,
+    at: Round,
+    height: u8,
+    starts: bool,
+    last: &mut Option<CacheTicket>,
+) -> Life<C> {
+    let block = Plate::at(height);
+    let answer = cache.put_verified(at, block);
+    started(answer, starts, last)
+}
+
+pub fn put_notarized<C: Shelf<Light, Vote, Vote>>(
+    cache: C,
+    at: Round,
+    height: u8,
+    starts: bool,
+    last: &mut Option<CacheTicket>,
+) -> Life<C> {
+    let block = Plate::at(height);
+    let answer = cache.put_notarized(at, block);
+    started(answer, starts, last)
+}
+
+pub fn put_notarization<C: Shelf<Light, Vote, Vote>>(
+    cache: C,
+    at: Round,
+    height: u8,
+    starts: bool,
+    last: &mut Option<CacheTicket>,
+) -> Life<C> {
+    let over = vote(at, height);
+    let answer = cache.put_notarization(over);
+    started(answer, starts, last)
+}
+
+pub fn put_certified<C: Shelf<Light, Vote, Vote>>(cache: C, epoch: u64, height: u8) -> Life<C> {
+    let block = Plate::at(height);
+    let epoch = Epoch::new(epoch);
+    changed(cache.put_certified(epoch, block))
+}
+
+pub fn put_finalization<C: Shelf<Light, Vote, Vote>>(cache: C, at: Round, height: u8) -> Life<C> {
+    let over = vote(at, height);
+    changed(cache.put_finalization(over))
+}
+
+pub fn start_sync_verified<C: Shelf<Light, Vote, Vote>>(
+    cache: C,
+    epoch: u64,
+    starts: bool,
+    last: &mut Option<CacheTicket>,
+) -> Life<C> {
+    let epoch = Epoch::new(epoch);
+    let answer = cache.start_sync_verified(epoch);
+    started(answer, starts, last)
+}
+
+pub fn start_sync_notarizations<C: Shelf<Light, Vote, Vote>>(
+    cache: C,
+    epoch: u64,
+    starts: bool,
+    last: &mut Option<CacheTicket>,
+) -> Life<C> {
+    let epoch = Epoch::new(epoch);
+    let answer = cache.start_sync_notarizations(epoch);
+    started(answer, starts, last)
+}
+
+pub fn finish<C: Shelf<Light, Vote, Vote>>(cache: C, last: Option<CacheTicket>) -> Life<C> {
+    match last {
+        Some(ticket) => changed(cache.finish(ticket)),
+        None => Life::Wrong,
+    }
+}
+
+pub fn prune_by_view<C: Shelf<Light, Vote, Vote>>(cache: C, at: Round) -> Life<C> {
+    changed(cache.prune_by_view(at))
+}
+
+pub fn prune_by_height<C: Shelf<Light, Vote, Vote>>(cache: C, height: u64) -> Life<C> {
+    let height = Height::new(height);
+    changed(cache.prune_by_height(height))
+}
+
+pub fn load_persisted_epochs<C: Shelf<Light, Vote, Vote>>(cache: C) -> Life<C> {
+    changed(cache.load_persisted_epochs())
+}
+
+pub fn crash<C: Shelf<Light, Vote, Vote>>(cache: C) -> Life<C> {
+    Life::Left(cache.wreck())
+}
+
+pub fn reopen<C: Shelf<Light, Vote, Vote>>(wreck: C::Wreck, luck: u64) -> Life<C> {
+    changed(C::reopen(wreck, luck))
+}
+
+pub fn arm<C: Shelf<Light, Vote, Vote>>(cache: C, calls: u64) -> Life<C> {
+    let mut cache = cache;
+    match cache.arm(calls) {
+        Ok(()) => Life::Open(cache),
+        Err(_) => Life::Wrong,
+    }
+}
+
+// A cache that found what it was to; where the look-up failed, what a crash leaves.
+fn looked<C: Shelf<Light, Vote, Vote>>(cache: C, found: Result<bool, Miss>) -> Life<C> {
+    match found {
+        Ok(true) => Life::Open(cache),
+        Err(Miss::Fault) => crash(cache),
+        _ => Life::Wrong,
+    }
+}
+
+fn get<C: Shelf<Light, Vote, Vote>>(
+    cache: &mut C,
+    epoch: u64,
+    sought: Sought<Name, Name>,
+) -> Result<Option<Held>, Miss> {
+    cache.get(Epoch::new(epoch), sought)
+}
+
+fn search<C: Shelf<Light, Vote, Vote>>(
+    cache: &mut C,
+    sought: Sought<Name, Name>,
+) -> Result<Option<Held>, Miss> {
+    cache.search(sought)
+}
+
+// Where an entry stands.
+fn place_of(entry: &Held) -> Place {
+    match entry {
+        Entry::Verified(at, _) => ('v', at.epoch().get(), at.view().get()),
+        Entry::Notarized(at, _) => ('n', at.epoch().get(), at.view().get()),
+        Entry::Certified(epoch, block) => ('c', epoch.get(), block.height.get()),
+        Entry::Notarization(over) => ('o', over.round.epoch().get(), over.round.view().get()),
+        Entry::Finalization(over) => ('f', over.round.epoch().get(), over.round.view().get()),
+    }
+}
+
+// Whether what was found stands there.
+fn stands(found: Result<Option<Held>, Miss>, want: Option<Place>) -> Result<bool, Miss> {
+    match (found, want) {
+        (Err(miss), _) => Err(miss),
+        (Ok(Some(entry)), Some(place)) => Ok(place_of(&entry) == place),
+        (Ok(None), None) => Ok(true),
+        _ => Ok(false),
+    }
+}
+
+// Whether what was found is the verified block of that height.
+fn is_block(found: Result<Option<Held>, Miss>, want: Option<u8>) -> Result<bool, Miss> {
+    match (found, want) {
+        (Err(miss), _) => Err(miss),
+        (Ok(Some(Entry::Verified(_, block))), Some(height)) => Ok(block.name == name_at(height)),
+        (Ok(None), None) => Ok(true),
+        _ => Ok(false),
+    }
+}
+
+/// The verified block of a round: its height.
+pub fn get_verified<C: Shelf<Light, Vote, Vote>>(
+    cache: C,
+    epoch: u64,
+    view: u64,
+    want: Option<u8>,
+) -> Life<C> {
+    let mut cache = cache;
+    let found = get(&mut cache, epoch, Sought::VerifiedAt(round(epoch, view)));
+    looked(cache, is_block(found, want))
+}
+
+pub fn has_verified<C: Shelf<Light, Vote, Vote>>(
+    cache: C,
+    epoch: u64,
+    view: u64,
+    height: u8,
+    is_there: bool,
+) -> Life<C> {
+    let mut cache = cache;
+    let sought = Sought::VerifiedBlock(round(epoch, view), name_at(height));
+    let found = get(&mut cache, epoch, sought);
+    let want = if is_there { Some(height) } else { None };
+    looked(cache, is_block(found, want))
+}
+
+pub fn get_notarization<C: Shelf<Light, Vote, Vote>>(
+    cache: C,
+    epoch: u64,
+    view: u64,
+    is_there: bool,
+) -> Life<C> {
+    let mut cache = cache;
+    let sought = Sought::NotarizationAt(round(epoch, view));
+    let found = get(&mut cache, epoch, sought);
+    let want = if is_there {
+        Some(('o', epoch, view))
+    } else {
+        None
+    };
+    looked(cache, stands(found, want))
+}
+
+/// The finalization of the block of a height.
+pub fn get_finalization_for<C: Shelf<Light, Vote, Vote>>(
+    cache: C,
+    height: u8,
+    want: Option<Place>,
+) -> Life<C> {
+    let mut cache = cache;
+    let found = search(&mut cache, Sought::FinalizationFor(name_at(height)));
+    looked(cache, stands(found, want))
+}
+
+/// The block of a height, by its digest.
+pub fn find_by_digest<C: Shelf<Light, Vote, Vote>>(
+    cache: C,
+    height: u8,
+    want: Option<Place>,
+) -> Life<C> {
+    let mut cache = cache;
+    let found = search(&mut cache, Sought::BlockOf(name_at(height)));
+    looked(cache, stands(found, want))
+}
+
+/// The same by its commitment.
+pub fn find_by_commitment<C: Shelf<Light, Vote, Vote>>(
+    cache: C,
+    height: u8,
+    want: Option<Place>,
+) -> Life<C> {
+    let mut cache = cache;
+    let found = search(&mut cache, Sought::CommittedTo(name_at(height)));
+    looked(cache, stands(found, want))
+}
