@@ -1,6 +1,13 @@
-//! What callers tell the actor. The queue that their messages will wait in is so far a definition (specs/Policy.antt).
+//! What callers tell the actor and ask of it, and what they are answered. The queue in which messages will wait is so
+//! far a definition (specs/Policy.antt).
 #![tactic(auto)]
 
+mod answers;
+mod identifier;
 mod message;
+mod value;
 
+pub use answers::{Answer, AnswerTable, Answered, Standing};
+pub use identifier::Identifier;
 pub use message::Message;
+pub use value::Value;
