@@ -16,6 +16,9 @@ use Rattle.mar_actor.specs.Due.{EndsWhereDue, storing_due}
 pub usual-due : (due : Option Fault) (fault : Fault) → IsUsual fault → IsTrue (is_by_value fault) → due ≡ Some fault
 usual-due due fault usual is = absurd (never (is_by_value fault) (usual_not_by_value fault usual) is)
 
+pub plain-due : (due : Option Fault) (fault : Fault) → is_by_value fault ≡ false → IsTrue (is_by_value fault) → due ≡ Some fault
+plain-due due fault plain is = absurd (never (is_by_value fault) plain is)
+
 ticket-due : (due : Option Fault) (fault : Fault) → fault ≡ ticket_limit ack_kind → IsTrue (is_by_value fault) → due ≡ Some fault
 ticket-due due fault limit is = absurd (never (is_by_value fault) (ap is_by_value limit) is)
 

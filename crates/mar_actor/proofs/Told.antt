@@ -24,6 +24,13 @@ pub TellsInOrder-tips : {T : Type 0} (told : Option (List Report)) (tips : List 
 TellsInOrder-tips told tips told' (Ok new) heard silent = ([], subst (λ rs. Hears told rs told') (sym (append-nil tips)) heard)
 TellsInOrder-tips told tips told' (Err e) heard silent = ([], inl silent)
 
+-- and then the life goes on, or ends
+pub TellsInOrder-told : (told : Option (List Report)) (tips : List Report) (told' : Option (List Report)) → Hears told tips told' → (handed : List HandedBlock) × Hears told (tips ++ map handed_report handed) told'
+TellsInOrder-told told tips told' heard = ([], subst (λ rs. Hears told rs told') (sym (append-nil tips)) heard)
+
+pub TellsInOrder-cut : (told : Option (List Report)) (tips : List Report) (told' : Option (List Report)) → Hears told tips told' → (handed : List HandedBlock) × (Hears told [] told' ⊎ Hears told (tips ++ map handed_report handed) told')
+TellsInOrder-cut told tips told' heard = ([], inr (subst (λ rs. Hears told rs told') (sym (append-nil tips)) heard))
+
 -- blocks are handed over behind them
 pub TellsInOrder-ran : {P E : Type 0} (start : Seen P E) (told : Option (List Report)) (tips : List Report) (told1 told' : Option (List Report)) (result : Result (Seen P E) Ending) → Hears told tips told1 → Ran start told1 told' result → TellsInOrder told tips told' result
 TellsInOrder-ran start told tips told1 told' (Ok new) heard (handed, hands, dispatched) = (handed, Hears-then told told1 told' tips (map handed_report handed) heard hands)

@@ -3,7 +3,6 @@ use Rattle.std.specs.Prelude.{ℕ, List, None}
 use Rattle.mar_cert.specs.Block.{Block}
 use Rattle.mar_cert.specs.Finalization.{Finalization}
 use Rattle.mar_node.specs.Messages.{report_finalization}
-use Rattle.mar_inbox.specs.declared.Message.TheVariants as message
 use Rattle.mar_node.specs.Event.{Event, life_started, message_told, sync_finished, ack_given}
 use Rattle.mar_node.specs.Faults.{Begin, from_genesis}
 use Rattle.mar_node.specs.Step.{Report, new_tip, handed_over}
@@ -19,7 +18,7 @@ use Rattle.mar_actor.specs.declared.settings.Start.TheVariants as start
 -- an event, by what a finalization is as plain data
 abbrev pub event_of : {F : Type 0} → (F → Finalization) → EventCode F → Event
 event_of plain event.Start = life_started None
-event_of plain (event.Message (message.Finalization f)) = message_told None (report_finalization (plain f))
+event_of plain (event.Finalization f) = message_told None (report_finalization (plain f))
 event_of plain (event.Sync t) = sync_finished t
 event_of plain (event.Ack t) = ack_given t
 

@@ -1,10 +1,10 @@
 //! Handing blocks over in height order.
-ghost use Rattle.std.specs.Prelude.{◌≡◌, ◌<◌, ◌≤◌, ◌-◌, ◌^◌, ◌⊎◌, ◌∷◌, [], IfErr, IfNone, IfOk, IfSome, List, MatchResult, OnErr, OnOk, length, map};
+ghost use Rattle.std.specs.Prelude.{◌≡◌, ◌<◌, ◌≤◌, ◌-◌, ◌^◌, ◌⊎◌, ◌∷◌, [], ℕ, Contains, IfErr, IfNone, IfOk, IfSome, List, MatchResult, OnErr, OnOk, false, length, map, true};
 ghost use Rattle.mar_key.specs.Hears.{Hears};
 ghost use Rattle.mar_key.specs.Processed.{first_unprocessed};
 ghost use Rattle.mar_node.specs.Faults.{ack_kind, last_height, ticket_limit};
 ghost use Rattle.mar_node.specs.Held.{GoesOn, IsArchiveFault, nothing_written};
-ghost use Rattle.mar_node.specs.Moves.{Dispatches, IsNext, IsRead, IsStill, StopsHanding, handed_report, next_in, with_handed};
+ghost use Rattle.mar_node.specs.Moves.{Dispatches, IsBarred, IsFree, IsNext, IsRead, IsStill, StopsHanding, handed_report, next_in, with_handed};
 ghost use Rattle.mar_node.specs.Step.{HandedBlock, handed_over};
 
 use crate::node::Node;
@@ -14,7 +14,7 @@ use mar_shelf::{Ended, Fault, Holds, TicketKind};
 use mar_types::{Epocher, Height};
 
 impl<V: Variant, S: Holds<V>, P: Drop, E: Epocher> Node<V, S, P, E> {
-    /// Hands over the next blocks until the window is full or the next block isn't held.
+    /// Hands over the next blocks until the window is full, a write bars the next block or it isn't held.
     pub(crate) fn dispatch<A: Reporter<V>>(self, application: &mut A) -> Result<Self, Ended<V, S>>
         ensures ran { (handed : List HandedBlock) × Hears (A.told application.old) (map handed_report handed) (A.told application.new)
             × MatchResult result (λ a. Dispatches self handed a) (λ e. StopsHanding self handed e) }
@@ -37,7 +37,7 @@ impl<V: Variant, S: Holds<V>, P: Drop, E: Epocher> Node<V, S, P, E> {
         Ok(node)
     }
 
-    /// The next block to hand over, where there is room for one and it is held.
+    /// The next block to hand over, where there is room for one, no write bars it and it is held.
     fn next_block(self) -> Result<(Self, Option<V::Block>), Ended<V, S>>
         ensures same { IfOk result (λ r. IsRead self r.0) }
         ensures found { IfOk result (λ r. IfSome r.1 (λ b. IsNext self (V.plain b))) }
@@ -48,23 +48,35 @@ impl<V: Variant, S: Holds<V>, P: Drop, E: Epocher> Node<V, S, P, E> {
         if !self.life.acks.has_capacity() {
             return Ok((self, None));
         }
-        match self.next_height() {
-            Some(height) => self.block_at(height),
-            None => Ok((self, None)),
-        }
+        let Some(height) = self.next_height() else {
+            return Ok((self, None));
+        };
+        let (stores, block) = self.stores.take_block(height)?;
+        Ok((Node { stores, ..self }, block))
     }
 
-    /// The height of the next block, where there is one below the last height.
+    /// The height of the next block, where it is below the last height and no write bars it.
     fn next_height(&self) -> Option<Height>
-        ensures found { IfSome result (λ h. (h ≡ next_in self.now) × (h < last_height)) }
-        ensures none { IfNone result ((last_height ≤ next_in self.now) ⊎ (2 ^ 64 ≤ first_unprocessed self.now.held.processed)) }
+        ensures found { IfSome result (λ h. (h ≡ next_in self.now) × (h < last_height) × IsFree self.now h) }
+        ensures none { IfNone result (IsBarred self.now ⊎ (last_height ≤ next_in self.now) ⊎ (2 ^ 64 ≤ first_unprocessed self.now.held.processed)) }
     {
         let first = self.stores.floor().first_unprocessed()?;
         let next = self.life.acks.next_dispatch_height(first);
-        if next.get() == u64::MAX {
+        if next.get() == u64::MAX || self.is_barred(next) {
             return None;
         }
         Some(next)
+    }
+
+    /// Whether a write at or below this height isn't covered by a finished sync.
+    fn is_barred(&self, height: Height) -> bool
+        ensures barred { result ≡ true → (k : ℕ) × Contains self.now.held.writes.uncovered k × (k ≤ height) }
+        ensures free { result ≡ false → IsFree self.now height }
+    {
+        match self.stores.writes().barrier() {
+            None => false,
+            Some(barrier) => barrier <= height,
+        }
     }
 
     /// Hands over a block under a new ticket.

@@ -1,15 +1,15 @@
 //! What an actor steps on.
 use crate::reporter::Exact;
-use mar_inbox::Message;
 
 /// What an actor steps on, with finalizations of the kind `F`.
 #[derive(Debug, Drop)]
 pub enum Event<F> {
     /// The life begins: the first step after an opening, which tells the newest tip and hands over what is stored.
     Start,
-    /// A caller tells something.
-    Message(Message<F>),
-    /// The sync of this ticket finished. Each sync ends within the step that begins it, so that nothing is left to do.
+    /// Consensus finalized a block.
+    Finalization(F),
+    /// The sync of this ticket is to finish: what it covers becomes durable, and blocks may be handed over. A ticket that
+    /// isn't open is ignored.
     Sync(u64),
     /// The application acknowledged the block of this ticket. A ticket that isn't owed is ignored.
     Ack(u64),

@@ -16,6 +16,7 @@ mod reporter;
 mod settings;
 mod shown;
 mod start;
+mod sync;
 
 pub use event::Event;
 pub use mar_parts::Shown;

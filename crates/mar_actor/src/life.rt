@@ -19,8 +19,6 @@ pub(crate) struct Life<P, E> {
     pub(crate) next_ack: u64,
     /// The height of the last reported tip.
     pub(crate) tip: Height,
-    /// How many storings above the processed height this life has made; syncs cover all of them.
-    pub(crate) written: u64,
 }
 
 impl<P, E> Model for Life<P, E> {
@@ -34,7 +32,6 @@ impl<P, E> Model for Life<P, E> {
       epocher = l.epocher;
       sizes = record (sizes_of l.limits) { window = l.acks.max };
       out = l.acks.entries;
-      covered = l.written;
       tip = l.tip;
       next_ack = l.next_ack;
     } };
@@ -53,7 +50,6 @@ impl<P, E> Life<P, E> {
             acks,
             next_ack: 0,
             tip: Height::zero(),
-            written: 0,
         }
     }
 }

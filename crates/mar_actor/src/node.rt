@@ -1,13 +1,15 @@
 //! The node, which each of its steps consumes.
-ghost use Rattle.std.specs.Prelude.{◌≡◌, ◌≤◌, ◌+◌, ◌∷◌, [], Err, IfErr, IfOk, OnErr, OnOk, false, map};
+ghost use Rattle.std.specs.Prelude.{◌≡◌, ◌≤◌, ◌+◌, ◌&&◌, ◌∷◌, [], ℕ, Err, IfErr, IfOk, Ok, OnErr, OnOk, false, map, nat_lt, not};
 ghost use Rattle.std.specs.List.{list_any};
 ghost use Rattle.mar_store.specs.Changes.{IsNested};
 ghost use Rattle.mar_node.specs.Acks.{is_unmarked};
+ghost use Rattle.mar_node.specs.Event.{sync_finished};
 ghost use Rattle.mar_node.specs.Faults.{want_of_memory};
-ghost use Rattle.mar_node.specs.Held.{ArePassed, GoesOn, IsArchiveFault, IsEndedBy, IsNoStores, IsUsual, nothing_written, remains_of, with_armed};
+ghost use Rattle.mar_node.specs.Held.{ArePassed, AreWritten, GoesOn, IsArchiveFault, IsEndedBy, IsNoStores, IsUsual, nothing_written, remains_of, with_armed};
 ghost use Rattle.mar_node.specs.Moves.{RunsOut};
 ghost use Rattle.mar_node.specs.Promise.{IsSmallEvent, KeepsPromise, heard_by};
 ghost use Rattle.mar_node.specs.Stored.{AreSmall};
+ghost use Rattle.mar_node.specs.Writing.{is_open_sync};
 ghost use Rattle.mar_shelf.specs.Views.{fault_of, store_name_of};
 ghost use Rattle.mar_actor.specs.Due.{EndsWhereDue, due_fault};
 ghost use Rattle.mar_actor.specs.Told.{TellsInOrder, tips_of};
@@ -17,7 +19,6 @@ use crate::event::Event;
 use crate::life::Life;
 use crate::reporter::Reporter;
 use mar_block::{Buffer, Variant};
-use mar_inbox::Message;
 use mar_key::Resolver;
 use mar_shelf::{Ended, Fault, Holds, StoreName, Stores};
 use mar_types::Epocher;
@@ -49,7 +50,7 @@ impl<V: Variant, S: Holds<V>, P: Drop, E: Epocher> Node<V, S, P, E> {
     ///
     /// The fault of a step is `StoreFault` only where that store has failed, `HeightLimit` where a finalized block stands
     /// at the last height and `AckDropped` where the application dropped the oldest acknowledgement, each exactly where
-    /// it is due unless a store or memory fails first, `TicketLimit` where no ticket is left, and `Memory`. What a step
+    /// it is due unless a store or memory fails first, `TicketLimit` where no ticket of that kind is left, and `Memory`. What a step
     /// may store is small: at most 1,048,576 bytes each.
     pub fn step<B: Buffer<V>, R: Resolver<V::Commitment>, A: Reporter<V>>(
         self,
@@ -64,10 +65,12 @@ impl<V: Variant, S: Holds<V>, P: Drop, E: Epocher> Node<V, S, P, E> {
             (heard_by (A.told application.old) (R.told resolver.old)) (heard_by (A.told application.new) (R.told resolver.new)) result }
         ensures watches { IfOk result (λ n. ArePassed self.held.watches n.held.watches) }
         ensures cause { IfErr result (λ e. IsEndedBy self.held.watches e) }
+        ensures idle { (t : ℕ) → event_of S.Finalization.plain event ≡ sync_finished t → is_open_sync self.held.writes.syncs t ≡ false → result ≡ Ok self }
         ensures by_value { EndsWhereDue (due_fault V.inner self (B.blocks buffer.now) (event_of S.Finalization.plain event)) result }
         ensures tells { TellsInOrder (A.told application.old) (tips_of V.inner self (B.blocks buffer.now) (event_of S.Finalization.plain event))
             (A.told application.new) result }
         ensures tickets { IfOk result (λ n. n.life.next_ack ≤ self.life.next_ack + self.life.sizes.window) }
+        ensures sync_tickets { IfOk result (λ n. n.held.writes.next_sync ≤ self.held.writes.next_sync + 1) }
         ensures runs_out { IfErr result (RunsOut self) }
         ensures same_life { IfOk result (λ n. (n.life.provider ≡ self.life.provider) × (n.life.epocher ≡ self.life.epocher)
             × (n.life.sizes ≡ self.life.sizes)) }
@@ -75,10 +78,10 @@ impl<V: Variant, S: Holds<V>, P: Drop, E: Epocher> Node<V, S, P, E> {
         self.law();
         match event {
             Event::Start => self.start(application),
-            Event::Message(Message::Finalization(finalization)) => {
+            Event::Finalization(finalization) => {
                 self.report_finalization(&finalization, buffer, resolver, application)
             }
-            Event::Sync(_) => Ok(self),
+            Event::Sync(ticket) => self.finish_sync(ticket, application),
             Event::Ack(ticket) => self.acknowledge(ticket, resolver, application),
         }
     }
@@ -88,6 +91,7 @@ impl<V: Variant, S: Holds<V>, P: Drop, E: Epocher> Node<V, S, P, E> {
         ensures blocks { IsNested self.now.held.blocks }
         ensures certs { IsNested self.now.held.certs }
         ensures small { AreSmall (map (λ x. x.value) self.now.held.blocks.held) }
+        ensures written { AreWritten self.now.held }
     {
         self.stores.law();
     }
@@ -119,11 +123,18 @@ impl<V: Variant, S: Holds<V>, P: Drop, E: Epocher> Node<V, S, P, E> {
         self.life.acks.is_unmarked(ticket)
     }
 
-    /// Whether a sync of that ticket is open. None is: each sync ends within the step that begins it.
-    pub fn awaits_sync(&self, _ticket: u64) -> bool
-        ensures { result ≡ false }
+    /// Whether the sync of that ticket is open: it was started in this life and hasn't finished.
+    pub fn awaits_sync(&self, ticket: u64) -> bool
+        ensures { result ≡ is_open_sync self.now.held.writes.syncs ticket }
     {
-        false
+        self.stores.writes().is_open(ticket)
+    }
+
+    /// Whether the sync of that ticket was started in this life and has finished.
+    pub fn finished(&self, ticket: u64) -> bool
+        ensures { result ≡ (nat_lt ticket self.now.held.writes.next_sync && not (is_open_sync self.now.held.writes.syncs ticket)) }
+    {
+        self.stores.writes().is_finished(ticket)
     }
 
     /// Ends the life for want of memory.

@@ -59,7 +59,8 @@ impl<V: Variant, S: Holds<V>, P: Drop, E: Epocher> Node<V, S, P, E> {
                 ruins,
             });
         };
-        let stores = S::reopen(ruins, luck)?;
+        let max_staged = limits.max_pending_acks.saturating_mul(2);
+        let stores = S::reopen(alloc, ruins, luck, max_staged)?;
         let node = Node {
             stores,
             life: Life::new(provider, epocher, limits, acks),

@@ -134,8 +134,7 @@ impl<V: Variant, S: Holds<V>, P: Drop, E: Epocher> Node<V, S, P, E> {
         ensures goes_on { GoesOn (λ n. n.held) self.held (written_block (at_own_height (V.plain block.now))) result }
         ensures usual { IfErr result (λ e. IsUsual e.fault) }
     {
-        let stores = self.stores.put_block(block)?;
-        let stores = stores.sync_blocks()?;
+        let stores = self.stores.store_block(block)?;
         Ok(Node { stores, ..self })
     }
 

@@ -6,15 +6,16 @@ ghost use Rattle.mar_key.specs.Hears.{Hears};
 ghost use Rattle.mar_key.specs.Keys.{Call};
 ghost use Rattle.mar_key.specs.Processed.{height_of};
 ghost use Rattle.mar_store.specs.Kept.{has_height};
-ghost use Rattle.mar_store.specs.Changes.{IsNested, Puts, Syncs};
+ghost use Rattle.mar_store.specs.Changes.{IsNested, Puts};
 ghost use Rattle.mar_store.specs.Sizes.{IsSmall};
 ghost use Rattle.mar_cert.specs.Finalization.{finalization_bytes};
 ghost use Rattle.mar_node.specs.Stored.{AreSmall, at_own_height, block_of, is_certified, is_held};
 ghost use Rattle.mar_node.specs.Event.{message_told};
 ghost use Rattle.mar_node.specs.Promise.{KeepsPromise, heard_by};
 ghost use Rattle.mar_node.specs.Held.{GoesOn, IsArchiveFault, IsUsual, nothing_written, written_both, written_cert};
-ghost use Rattle.mar_node.specs.Moves.{HearsUpTo, IsRead, LivesOn, StoresAbove, StoresLate, StoresValue, at_height, found_at_hand, lacks_finalization, late_tips, of_commitment, risen_to, tip_after, tip_reports, tips_above};
+ghost use Rattle.mar_node.specs.Moves.{HearsUpTo, IsRead, LivesOn, PutsAbove, StoresLate, StoresValue, at_height, found_at_hand, lacks_finalization, late_tips, of_commitment, risen_to, tip_after, tip_reports, tips_above};
 ghost use Rattle.mar_node.specs.Requests.{want_asks};
+ghost use Rattle.mar_node.specs.Writing.{IsOrdered, with_write};
 ghost use Rattle.mar_actor.specs.Due.{EndsWhereDue, storing_due};
 ghost use Rattle.mar_actor.specs.Told.{TellsInOrder, finalized_tips};
 
@@ -27,7 +28,7 @@ use mar_shelf::{Ended, Fault, Holds};
 use mar_types::{Epocher, Height, Round};
 
 impl<V: Variant, S: Holds<V>, P: Drop, E: Epocher> Node<V, S, P, E> {
-    /// Stores a finalized block that is at hand, above the processed height, and hands over what may follow. At or below
+    /// Stores a finalized block that is at hand, above the processed height, and starts a sync that covers it. At or below
     /// that height the round is witnessed. Where the block isn't at hand it is requested.
     pub(crate) fn report_finalization<B: Buffer<V>, R: Resolver<V::Commitment>, A: Reporter<V>>(
         self,
@@ -39,6 +40,7 @@ impl<V: Variant, S: Holds<V>, P: Drop, E: Epocher> Node<V, S, P, E> {
         requires small { IsSmall (finalization_bytes (S.Finalization.plain finalization.now)) }
         requires small_buffer { AreSmall (B.blocks buffer.now) }
         requires small_held { AreSmall (map (λ x. x.value) self.held.blocks.held) }
+        requires ordered { IsOrdered self.held.writes }
         ensures promise { IsNested self.held.blocks → IsNested self.held.certs → KeepsPromise (E.epochs self.life.epocher) V.inner self
             (message_told None (report_finalization (S.Finalization.plain finalization.now)) ∷ []) (B.blocks buffer.now)
             (heard_by (A.told application.old) (R.told resolver.old)) (heard_by (A.told application.new) (R.told resolver.new)) result }
@@ -54,7 +56,7 @@ impl<V: Variant, S: Holds<V>, P: Drop, E: Epocher> Node<V, S, P, E> {
             None => node.request(finalization, resolver),
             Some(block) => {
                 if node.is_above(V::height(&block)) {
-                    node.store_and_dispatch(finalization, &block, application)
+                    node.store_above(finalization, block, application)
                 } else {
                     node.note(finalization, &block, resolver, application)
                 }
@@ -126,81 +128,89 @@ impl<V: Variant, S: Holds<V>, P: Drop, E: Epocher> Node<V, S, P, E> {
         }
     }
 
-    /// Stores a block above the processed height with its finalization, and hands over what may follow.
-    fn store_and_dispatch<A: Reporter<V>>(
+    /// Stores a block above the processed height with its finalization, and starts a sync that covers both. The block is
+    /// handed over once that sync has finished.
+    fn store_above<A: Reporter<V>>(
         self,
         finalization: &S::Finalization,
-        block: &V::Block,
+        block: V::Block,
         application: &mut A,
     ) -> Result<Self, Ended<V, S>>
         requires small { IsSmall (finalization_bytes (S.Finalization.plain finalization.now)) }
-        requires small_block { IsSmall (V.plain block.now).encoded }
+        requires small_block { IsSmall (V.plain block).encoded }
+        requires ordered { IsOrdered self.held.writes }
         ensures promise { (heard : Option (List Call)) → IsNested self.held.blocks → IsNested self.held.certs → (buffer : List Block)
-            → found_at_hand V.inner buffer self.held.blocks.held (S.Finalization.plain finalization.now).payload ≡ Some (V.plain block.now)
-            → nat_lt (height_of self.held.processed) (V.plain block.now).height ≡ true
+            → found_at_hand V.inner buffer self.held.blocks.held (S.Finalization.plain finalization.now).payload ≡ Some (V.plain block)
+            → nat_lt (height_of self.held.processed) (V.plain block).height ≡ true
             → KeepsPromise (E.epochs self.life.epocher) V.inner self
             (message_told None (report_finalization (S.Finalization.plain finalization.now)) ∷ []) buffer
             (heard_by (A.told application.old) heard) (heard_by (A.told application.new) heard) result }
         ensures lives { IsNested self.held.blocks → IsNested self.held.certs → LivesOn self result }
-        ensures by_value { nat_lt (height_of self.held.processed) (V.plain block.now).height ≡ true
-            → EndsWhereDue (storing_due self.held (Some (V.plain block.now))) result }
-        ensures tells { TellsInOrder (A.told application.old) (tip_reports self.life.tip (S.Finalization.plain finalization.now) (V.plain block.now))
+        ensures by_value { nat_lt (height_of self.held.processed) (V.plain block).height ≡ true
+            → EndsWhereDue (storing_due self.held (Some (V.plain block))) result }
+        ensures tells { TellsInOrder (A.told application.old) (tip_reports self.life.tip (S.Finalization.plain finalization.now) (V.plain block))
             (A.told application.new) result }
     {
-        let height = V::height(block);
+        let height = V::height(&block);
         if height.get() == u64::MAX {
             return Err(self.end(Fault::HeightLimit(height)));
         }
-        let node = self.store(finalization, block, application)?;
-        node.dispatch(application)
+        let node = self.put_above(finalization, block, application)?;
+        let node = node.start_sync()?;
+        node.law();
+        Ok(node)
     }
 
-    /// Stores a block with its finalization, makes both durable, and reports the block where it is the newest.
-    fn store<A: Reporter<V>>(
+    /// Puts a block with its finalization above the processed height, and reports the block where it is the newest.
+    fn put_above<A: Reporter<V>>(
         self,
         finalization: &S::Finalization,
-        block: &V::Block,
+        block: V::Block,
         application: &mut A,
     ) -> Result<Self, Ended<V, S>>
         requires small { IsSmall (finalization_bytes (S.Finalization.plain finalization.now)) }
-        requires small_block { IsSmall (V.plain block.now).encoded }
-        ensures ok { OnOk result (Hears (A.told application.old) (tip_reports self.life.tip (S.Finalization.plain finalization.now) (V.plain block.now))
+        requires small_block { IsSmall (V.plain block).encoded }
+        requires ordered { IsOrdered self.held.writes }
+        ensures ok { OnOk result (Hears (A.told application.old) (tip_reports self.life.tip (S.Finalization.plain finalization.now) (V.plain block))
             (A.told application.new)) }
         ensures err { OnErr result (Hears (A.told application.old) [] (A.told application.new)) }
-        ensures stores { IfOk result (λ a. StoresAbove V.inner self (S.Finalization.plain finalization.now) (V.plain block.now) a) }
-        ensures goes_on { GoesOn (λ a. a.held) self.held (written_both (at_own_height (V.plain block.now))
-            (at_height (V.plain block.now).height (S.Finalization.plain finalization.now))) result }
+        ensures puts { IfOk result (λ a. PutsAbove V.inner self (S.Finalization.plain finalization.now) (V.plain block) a) }
+        ensures goes_on { GoesOn (λ a. a.held) self.held (written_both (at_own_height (V.plain block))
+            (at_height (V.plain block).height (S.Finalization.plain finalization.now))) result }
         ensures usual { IfErr result (λ e. IsUsual e.fault) }
     {
+        let height = V::height(&block);
+        let digest = V::digest(&block);
         let node = self.put(finalization, block)?;
-        let node = node.sync_both()?;
-        let height = V::height(block);
-        node.report_tip(finalization.round(), height, V::digest(block), application)
+        node.report_tip(finalization.round(), height, digest, application)
     }
 
     /// Puts a block and its finalization.
-    fn put(self, finalization: &S::Finalization, block: &V::Block) -> Result<Self, Ended<V, S>>
+    fn put(self, finalization: &S::Finalization, block: V::Block) -> Result<Self, Ended<V, S>>
         requires small { IsSmall (finalization_bytes (S.Finalization.plain finalization.now)) }
-        requires small_block { IsSmall (V.plain block.now).encoded }
-        ensures blocks { IfOk result (λ a. Puts (is_held self.held.blocks.held (V.plain block.now)) self.held.blocks (at_own_height (V.plain block.now))
+        requires small_block { IsSmall (V.plain block).encoded }
+        requires ordered { IsOrdered self.held.writes }
+        ensures blocks { IfOk result (λ a. Puts (is_held self.held.blocks.held (V.plain block)) self.held.blocks (at_own_height (V.plain block))
             a.held.blocks) }
-        ensures certs { IfOk result (λ a. Puts (is_certified V.inner self.held.certs.held (V.plain block.now).height
-            (V.inner (S.Finalization.plain finalization.now).payload)) self.held.certs (at_height (V.plain block.now).height
+        ensures certs { IfOk result (λ a. Puts (is_certified V.inner self.held.certs.held (V.plain block).height
+            (V.inner (S.Finalization.plain finalization.now).payload)) self.held.certs (at_height (V.plain block).height
             (S.Finalization.plain finalization.now)) a.held.certs) }
         ensures same { IfOk result (λ a. a ≡ record self {
           held = record self.held {
             blocks = a.held.blocks;
             certs = a.held.certs;
+            writes = with_write (V.plain block).height self.held.writes;
             watches
                 = a.held.watches;
           };
         }) }
-        ensures goes_on { GoesOn (λ a. a.held) self.held (written_both (at_own_height (V.plain block.now))
-            (at_height (V.plain block.now).height (S.Finalization.plain finalization.now))) result }
+        ensures goes_on { GoesOn (λ a. a.held) self.held (written_both (at_own_height (V.plain block))
+            (at_height (V.plain block).height (S.Finalization.plain finalization.now))) result }
         ensures usual { IfErr result (λ e. IsUsual e.fault) }
     {
+        let height = V::height(&block);
         let stores = self.stores.put_block(block)?;
-        let stores = stores.put_certificate(V::height(block), finalization)?;
+        let stores = stores.put_certificate(height, finalization)?;
         Ok(Node { stores, ..self })
     }
 
@@ -235,33 +245,6 @@ impl<V: Variant, S: Holds<V>, P: Drop, E: Epocher> Node<V, S, P, E> {
         let mut node = self;
         node.life.tip = height;
         node
-    }
-
-    /// Makes the blocks and then the finalizations durable, and counts one more storing that they cover.
-    fn sync_both(self) -> Result<Self, Ended<V, S>>
-        ensures blocks { IfOk result (λ a. Syncs self.held.blocks a.held.blocks) }
-        ensures certs { IfOk result (λ a. Syncs self.held.certs a.held.certs) }
-        ensures same { IfOk result (λ a. a ≡ record self {
-          held = record self.held { blocks = a.held.blocks; certs = a.held.certs; watches = a.held.watches };
-          life = record self.life { covered = self.life.covered + 1 };
-        }) }
-        ensures goes_on { GoesOn (λ a. a.held) self.held nothing_written result }
-        ensures usual { IfErr result (λ e. IsUsual e.fault) }
-    {
-        let Node {
-            stores,
-            mut life,
-            of,
-        } = self;
-        let stores = stores.sync_blocks()?;
-        let stores = stores.sync_certificates()?;
-        match life.written.checked_add(1) {
-            Some(written) => {
-                life.written = written;
-                Ok(Node { stores, life, of })
-            }
-            None => Err(Node { stores, life, of }.run_out()),
-        }
     }
 
     /// Takes note of a finalized block at or below the processed height: its round is witnessed, and its finalization
@@ -372,8 +355,7 @@ impl<V: Variant, S: Holds<V>, P: Drop, E: Epocher> Node<V, S, P, E> {
         ensures goes_on { GoesOn (λ a. a.held) self.held (written_cert (at_height height (S.Finalization.plain finalization.now))) result }
         ensures usual { IfErr result (λ e. IsUsual e.fault) }
     {
-        let stores = self.stores.put_certificate(height, finalization)?;
-        let stores = stores.sync_certificates()?;
+        let stores = self.stores.store_certificate(height, finalization)?;
         Ok(Node { stores, ..self })
     }
 }

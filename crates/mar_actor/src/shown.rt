@@ -1,6 +1,7 @@
 //! What a node shows of itself.
 ghost use Rattle.std.specs.Prelude.{◌≡◌, option_map};
 ghost use Rattle.mar_key.specs.Views.{cutoff_of, processed_of};
+ghost use Rattle.mar_node.specs.Pool.{writing_of};
 ghost use Rattle.mar_store.specs.Changes.{heights};
 ghost use Rattle.mar_store.specs.Ranges.{ranges};
 
@@ -20,6 +21,7 @@ impl<V: Variant, S: Holds<V>, P: Drop, E: Epocher> Node<V, S, P, E> {
         ensures blocks_sure { result.blocks_sure.now ≡ ranges (heights self.now.held.blocks.sure) }
         ensures certs_held { result.certs_held.now ≡ ranges (heights self.now.held.certs.held) }
         ensures certs_sure { result.certs_sure.now ≡ ranges (heights self.now.held.certs.sure) }
+        ensures writes { writing_of result.writes.now ≡ self.now.held.writes }
     {
         Shown {
             processed: self.stores.floor().processed(),
@@ -29,6 +31,7 @@ impl<V: Variant, S: Holds<V>, P: Drop, E: Epocher> Node<V, S, P, E> {
             blocks_sure: self.stores.blocks_sure(),
             certs_held: self.stores.certificates_held(),
             certs_sure: self.stores.certificates_sure(),
+            writes: self.stores.writes(),
         }
     }
 }

@@ -21,9 +21,9 @@ use Rattle.mar_script.specs.Run.{Premises, Appears, read_to_end, Replays, Headli
 use Rattle.mar_laws.proofs.SmallDigests.{digest_0_is, digest_1_is}
 use Rattle.mar_laws.proofs.SmallChain.{chain as small_chain, d1, b0, b1, r1, f1, tag_0, tag_1, tag_2, settings, config}
 use Rattle.mar_laws.specs.Laws.{IsRunOf}
-use Rattle.mar_laws.proofs.DeliveryRun.{delivery_run, delivery_text, n4, line, output}
+use Rattle.mar_laws.proofs.DeliveryRun.{delivery_run, delivery_text, n5, line, output}
 use Rattle.mar_node.proofs.Soundness.{crash_is_good}
-use Rattle.mar_laws.proofs.DeliverySteps.{good4, delivery_is_run}
+use Rattle.mar_laws.proofs.DeliverySteps.{good5, delivery_is_run}
 use Rattle.mar_laws.proofs.PremisesMet.{delivery_lives, left, lines, premises}
 
 -- THE SCRIPT'S VALUES
@@ -199,11 +199,11 @@ module _ (chain : Chain) (p : Premises config chain lines empty_stores) where
   replays = record {
     run = delivery_run;
     lines_done = refl;
-    last = running n4;
+    last = running n5;
     lives = delivery_is_run chain at0 reported.0 reported.1 zero_safe safe_at_zero safe_at_one;
     output = refl;
     hands_back = (λ h. refl, λ h. refl, refl, λ h held. held, λ h held. held);
-    good = crash_is_good config chain n4 (good4 chain at0 reported.0 reported.1 zero_safe safe_at_zero safe_at_one);
+    good = crash_is_good config chain n5 (good5 chain at0 reported.0 reported.1 zero_safe safe_at_zero safe_at_one);
     watches_are = refl;
     some_pair = lit< tt;
     memory = (λ m. cc, (λ m. cc, (λ m. cc, (λ m. cc, (λ m. cc, λ m. absurd cc)))));
@@ -229,7 +229,7 @@ delivery_is script out is_input is_output = record {
   chain = small_chain;
   premises = premises;
   run = delivery_run;
-  last = running n4;
+  last = running n5;
   lines_done = refl;
   lives = delivery_lives;
   text_is = is_output ∙ sym delivery_text;

@@ -1,4 +1,5 @@
--- The delivery run: block 0 is handed over; block 1 is finalized, synced at once and handed over; both are acknowledged. Its text.
+-- The delivery run: block 0 is handed over; block 1 is finalized, and handed over once its sync finished; both are acknowledged. Its
+-- text.
 use Rattle.std.proofs.Common.{◌≡◌, ℕ, List, [], ◌∷◌, ◌++◌, Some, None, refl, codes, take}
 use Rattle.std.specs.Fmt.{digits}
 use Rattle.hex.specs.Hex.{encode_with}
@@ -13,7 +14,7 @@ use Rattle.mar_node.specs.Faults.{from_genesis}
 use Rattle.mar_node.specs.Step.{new_tip, handed_over, Made, nothing_made}
 use Rattle.mar_node.specs.Lives.{opened_node}
 use Rattle.mar_script.specs.Script.{open_line, tell_line, buffer_line, sync_line, ack_line}
-use Rattle.mar_script.specs.Text.{output_text, text, Output, silent_output, remark_output, remark_ignored, running, Done}
+use Rattle.mar_script.specs.Text.{output_text, text, Output, silent_output, running, Done}
 use Rattle.mar_node.specs.Held.{ArePassed}
 use Rattle.mar_node.proofs.Passing.{ArePassed-refl}
 use Rattle.mar_script.specs.Accounts.{Account, first_account, fresh_watches}
@@ -30,22 +31,38 @@ n0 = record begun { out = record { ticket = 0; height = 0; mark = mark_waiting }
 abbrev pub n1 : Node
 n1 = record n0 { buffer = b1 ∷ [] }
 
+-- block 1 and its finalization are written, and a sync that covers them is open
 abbrev pub n2 : Node
 n2 = record n1 {
+  blocks = record {
+    held = record { height = 0; value = b0 } ∷ record { height = 1; value = b1 } ∷ [];
+    sure = record { height = 0; value = b0 } ∷ [];
+    may = record { height = 0; value = b0 } ∷ record { height = 1; value = b1 } ∷ [];
+  };
+  certs = record { held = record { height = 1; value = f1 } ∷ []; sure = []; may = record { height = 1; value = f1 } ∷ [] };
+  uncovered = 1 ∷ [];
+  syncs = record { ticket = 0; position = 1 } ∷ [];
+  next_sync = 1;
+  tip = 1;
+}
+
+abbrev pub n3 : Node
+n3 = record n1 {
   blocks = reopened_store (record { height = 0; value = b0 } ∷ record { height = 1; value = b1 } ∷ []);
   certs = reopened_store (record { height = 1; value = f1 } ∷ []);
   out = record { ticket = 0; height = 0; mark = mark_waiting } ∷ record { ticket = 1; height = 1; mark = mark_waiting } ∷ [];
   covered = 1;
   uncovered = [];
+  next_sync = 1;
   tip = 1;
   next_ack = 2;
 }
 
-abbrev pub n3 : Node
-n3 = record n2 { processed = Some (at_block 0); meta = record { processed = Some 0; cutoff = cutoff_zero } ∷ []; out = record { ticket = 1; height = 1; mark = mark_waiting } ∷ [] }
-
 abbrev pub n4 : Node
-n4 = record n3 { processed = Some (at_block 1); cutoff = at_round r1; meta = record { processed = Some 1; cutoff = at_round r1 } ∷ []; out = []; witnessed = r1 }
+n4 = record n3 { processed = Some (at_block 0); meta = record { processed = Some 0; cutoff = cutoff_zero } ∷ []; out = record { ticket = 1; height = 1; mark = mark_waiting } ∷ [] }
+
+abbrev pub n5 : Node
+n5 = record n4 { processed = Some (at_block 1); cutoff = at_round r1; meta = record { processed = Some 1; cutoff = at_round r1 } ∷ []; out = []; witnessed = r1 }
 
 abbrev pub making : Made → Output
 making made = record silent_output { made = made }
@@ -61,10 +78,10 @@ abbrev pub delivery_run : List Done
 delivery_run =
     record { line = open_line (from_genesis b0); output = making (record nothing_made { reports = handed_over 0 b0 ∷ [] }); after = running n0; account = fresh }
     ∷ record { line = buffer_line b1; output = silent_output; after = running n1; account = fresh }
-    ∷ record { line = tell_line (report_finalization f1); output = making (record nothing_made { reports = new_tip r1 1 d1 ∷ handed_over 1 b1 ∷ [] }); after = running n2; account = fresh }
-    ∷ record { line = sync_line 0; output = remark_output remark_ignored; after = running n2; account = fresh }
-    ∷ record { line = ack_line 0; output = making (record nothing_made { asks = retain (above_height 0) ∷ [] }); after = running n3; account = fresh }
-    ∷ record { line = ack_line 1; output = making (record nothing_made { asks = retain (above_height 1) ∷ retain (above_round (at_round r1)) ∷ [] }); after = running n4; account = fresh }
+    ∷ record { line = tell_line (report_finalization f1); output = making (record nothing_made { reports = new_tip r1 1 d1 ∷ [] }); after = running n2; account = fresh }
+    ∷ record { line = sync_line 0; output = making (record nothing_made { reports = handed_over 1 b1 ∷ [] }); after = running n3; account = fresh }
+    ∷ record { line = ack_line 0; output = making (record nothing_made { asks = retain (above_height 0) ∷ [] }); after = running n4; account = fresh }
+    ∷ record { line = ack_line 1; output = making (record nothing_made { asks = retain (above_height 1) ∷ retain (above_round (at_round r1)) ∷ [] }); after = running n5; account = fresh }
     ∷ []
 
 -- a text line
@@ -78,9 +95,8 @@ output =
     ++ line (codes "node p=- o=0:0 c=0.0 w=- b=0-0 bs=0-0 f=- fs=- u=- s=- y=-")
     ++ line (codes "node p=- o=0:0 c=0.0 w=- b=0-0 bs=0-0 f=- fs=- u=- s=- y=-")
     ++ line (codes "tip 0.1 1 ce32c67642e5135e430855a082568f3b774ee1efc23b9f2d1bc13c3f65ce873a")
+    ++ line (codes "node p=- o=0:0 c=0.0 w=- b=0-1 bs=0-0 f=1-1 fs=- u=1 s=0:1 y=-")
     ++ line (codes "block 1 1 ce32c67642e5135e430855a082568f3b774ee1efc23b9f2d1bc13c3f65ce873a")
-    ++ line (codes "node p=- o=0:0,1:1 c=0.0 w=- b=0-1 bs=0-1 f=1-1 fs=1-1 u=- s=- y=-")
-    ++ line (codes "ignored")
     ++ line (codes "node p=- o=0:0,1:1 c=0.0 w=- b=0-1 bs=0-1 f=1-1 fs=1-1 u=- s=- y=-")
     ++ line (codes "retain height 0")
     ++ line (codes "node p=b0 o=1:1 c=0.0 w=- b=0-1 bs=0-1 f=1-1 fs=1-1 u=- s=- y=-")

@@ -1,24 +1,54 @@
 -- The delivery run's lines are lines of a run; their nodes are good.
-use Rattle.std.proofs.Common.{ap, option_map, List, ℕ, ◌==◌, [], ◌∷◌, Some, None, refl, IsFalse, inl, true, nat_lt, lit<, lit≤, arith, take}
+use Rattle.std.proofs.Common.{ap, option_map, List, ℕ, ◌==◌, Bool, Contains, if◌then◌else◌, is_some, [], ◌∷◌, Some, None, refl, IsTrue, IsFalse, ◌≡◌, ◌⊎◌, inl, inr, true, false, nat_lt, lit<, lit≤, arith, take}
 use Rattle.mar_cert.specs.Block.{Block}
 use Rattle.mar_types.specs.Round.{Round}
 use Rattle.mar_key.specs.Cutoff.{at_round, covers, cutoff_zero}
 use Rattle.mar_node.specs.Chain.{Chain, IsBlockAt, IsFinal, Finalizes}
 use Rattle.mar_store.specs.Kept.{At, has_height, reopened_store}
-use Rattle.mar_node.specs.Node.{FloorSafe, window_full, block_missing, IsGood}
-use Rattle.mar_node.specs.Event.{life_started, message_told, ack_given}
+use Rattle.mar_store.proofs.Lookups.{value_at-append_found}
+use Rattle.mar_node.specs.Node.{FloorSafe, Node, SureOrWritten, window_full, write_uncovered, block_missing, IsGood}
+use Rattle.mar_node.specs.Event.{life_started, message_told, ack_given, sync_finished}
 use Rattle.mar_key.specs.Keys.{retain, above_height, above_round}
 use Rattle.mar_node.specs.Faults.{from_genesis}
 use Rattle.mar_node.specs.Messages.{report_finalization}
 use Rattle.mar_node.specs.Step.{nothing_made, handed_over, new_tip, Advances}
 use Rattle.mar_node.specs.Lives.{Finds}
 use Rattle.mar_script.specs.Script.{open_line, tell_line, buffer_line, sync_line, ack_line}
-use Rattle.mar_script.specs.Text.{silent_output, remark_output, remark_ignored, running, stopped}
+use Rattle.mar_script.specs.Text.{silent_output, running, stopped}
 use Rattle.mar_script.specs.Run.{LineDone, Run, empty_stores, next_picks}
 use Rattle.mar_laws.proofs.SmallChain.{b0, b1, d1, f1, r1, config}
-use Rattle.mar_laws.proofs.DeliveryRun.{fresh, making, none_failed, begun, n0, n1, n2, n3, n4, delivery_run}
+use Rattle.mar_laws.proofs.DeliveryRun.{fresh, making, none_failed, begun, n0, n1, n2, n3, n4, n5, delivery_run}
 use Rattle.mar_laws.proofs.SmallEntries.{new_block, new_cert, new_certificates, same_certificates, settled_of, settled_stores}
-use Rattle.mar_laws.proofs.SmallFacts.{same_kept, grown_kept, not_entered, entered_own}
+use Rattle.mar_laws.proofs.SmallFacts.{same_kept, not_entered, entered_own}
+
+-- before its sync is started
+abbrev pub unticketed : Node
+unticketed = record n2 { syncs = []; next_sync = 0 }
+
+eq_of : (a b : ℕ) → (a == b) ≡ true → a ≡ b
+eq_of a b e = grind arith
+
+pub blocks_written : SureOrWritten n2.blocks (1 ∷ [])
+blocks_written h = by (0 == h) (1 == h) refl
+  where
+    by : (a c : Bool) → (1 == h) ≡ c → IsTrue (is_some (if a then Some b0 else if c then Some b1 else None)) → IsTrue (is_some (if a then Some b0 else None)) ⊎ Contains (1 ∷ []) h
+    by true c e held = inl refl
+    by false true e held = inr (0, lit< tt, eq_of 1 h e)
+    by false false e held = absurd cc
+
+pub certs_written : SureOrWritten n2.certs (1 ∷ [])
+certs_written h = by (1 == h) refl
+  where
+    by : (c : Bool) → (1 == h) ≡ c → IsTrue (is_some (if c then Some f1 else None)) → IsTrue false ⊎ Contains (1 ∷ []) h
+    by true e held = inr (0, lit< tt, eq_of 1 h e)
+    by false e held = absurd cc
+
+pub blocks_nested : (h : ℕ) → IsTrue (has_height n2.blocks.sure h) → IsTrue (has_height n2.blocks.held h)
+blocks_nested h = by (0 == h) (1 == h)
+  where
+    by : (a c : Bool) → IsTrue (is_some (if a then Some b0 else None)) → IsTrue (is_some (if a then Some b0 else if c then Some b1 else None))
+    by true c sure = refl
+    by false c sure = absurd cc
 
 -- Of any chain that has these two blocks and this finalized round, and whose other rounds the cutoffs
 -- zero, zero and (0, 1) cover safely.
@@ -58,6 +88,36 @@ module _ (chain : Chain) (at0 : IsBlockAt chain 0 b0) (at1 : IsBlockAt chain 1 b
     good2 : IsGood config chain n2
     good2 = record {
       heights = record {
+        stores = record {
+          nested_blocks = record { sure_held = blocks_nested; held_may = λ h is. is };
+          nested_certs = record { sure_held = λ h is. absurd cc; held_may = λ h is. is };
+          sure_blocks = blocks_written;
+          sure_certs = certs_written;
+        };
+        delivery = record {
+          consecutive = (refl, tt);
+          out_sure = (refl, tt);
+          within_window = lit≤ tt;
+          anchored = tt;
+        };
+        floor_clears = λ some. cc;
+        own_pair = refl;
+        sync_open = λ more. (0, lit< tt, refl);
+      };
+      of_chain = record {
+        stores = record { held_blocks = (at0, (at1, tt)); may_blocks = (at0, (at1, tt)); held_certs = (finalizes, tt); may_certs = (finalizes, tt) };
+        cache = record { finalizations = tt; blocks = tt };
+        asks = record { requests = tt; ready = tt; overflow = tt };
+        awaits = tt;
+        not_at_hand = tt;
+        floor_safe = zero_safe;
+        tip_reported = (lit≤ tt, tt);
+      };
+    }
+
+    good3 : IsGood config chain n3
+    good3 = record {
+      heights = record {
         stores = settled_stores _ _;
         delivery = record {
           consecutive = (refl, (refl, tt));
@@ -80,8 +140,8 @@ module _ (chain : Chain) (at0 : IsBlockAt chain 0 b0) (at1 : IsBlockAt chain 1 b
       };
     }
 
-    good3 : IsGood config chain n3
-    good3 = record {
+    good4 : IsGood config chain n4
+    good4 = record {
       heights = record {
         stores = settled_stores _ _;
         delivery = record {
@@ -100,13 +160,13 @@ module _ (chain : Chain) (at0 : IsBlockAt chain 0 b0) (at1 : IsBlockAt chain 1 b
         asks = record { requests = tt; ready = tt; overflow = tt };
         awaits = tt;
         not_at_hand = tt;
-        floor_safe = safe_at_zero n3.blocks.sure;
+        floor_safe = safe_at_zero n4.blocks.sure;
         tip_reported = (lit≤ tt, tt);
       };
     }
 
-    pub good4 : IsGood config chain n4
-    good4 = record {
+    pub good5 : IsGood config chain n5
+    good5 = record {
       heights = record {
         stores = settled_stores _ _;
         delivery = record { consecutive = tt; out_sure = tt; within_window = lit≤ tt; anchored = refl };
@@ -120,7 +180,7 @@ module _ (chain : Chain) (at0 : IsBlockAt chain 0 b0) (at1 : IsBlockAt chain 1 b
         asks = record { requests = tt; ready = tt; overflow = tt };
         awaits = tt;
         not_at_hand = tt;
-        floor_safe = safe_at_one n4.blocks.sure;
+        floor_safe = safe_at_one n5.blocks.sure;
         tip_reported = (lit≤ tt, tt);
       };
     }
@@ -190,22 +250,22 @@ module _ (chain : Chain) (at0 : IsBlockAt chain 0 b0) (at1 : IsBlockAt chain 1 b
     buffers : LineDone config chain fresh (running n0) (buffer_line b1) silent_output (running n1)
     buffers = (refl, refl)
 
-    finalized : Advances config chain n1 (message_told None (report_finalization f1)) (record nothing_made { reports = new_tip r1 1 d1 ∷ handed_over 1 b1 ∷ [] }) n2
+    finalized : Advances config chain n1 (message_told None (report_finalization f1)) (record nothing_made { reports = new_tip r1 1 d1 ∷ [] }) unticketed
     finalized = record {
-      hands = record { in_order = (refl, refl, refl, tt); counted = refl; out = refl; below_barrier = (tt, tt) };
-      hands_chain = ((at1, refl), tt);
+      hands = record { in_order = tt; counted = refl; out = refl; below_barrier = tt };
+      hands_chain = tt;
       processed = refl;
       cutoff = refl;
-      blocks = grown_kept 0 (record { height = 0; value = b0 } ∷ []) (record { height = 1; value = b1 } ∷ []);
-      certs = grown_kept 0 [] (record { height = 1; value = f1 } ∷ []);
+      blocks = record { held = λ h v above e. value_at-append_found n1.blocks.held (record { height = 1; value = b1 } ∷ []) h v e; sure = λ h v e still. e };
+      certs = record { held = λ h v above e. absurd cc; sure = λ h v e still. e };
       may_blocks = new_block;
       may_certs = new_cert;
-      certificates = new_certificates n2 refl;
+      certificates = new_certificates unticketed refl;
       writes = record {
         repaired = [];
         by_repair = λ h. entered_own (nat_lt 0 h) (0 == h) (1 == h) b0 b1;
         each_once = λ h. lit≤ tt;
-        blocking = 1;
+        blocking = 0;
         within = lit≤ tt;
         at_least = lit≤ tt;
         covered = refl;
@@ -225,23 +285,20 @@ module _ (chain : Chain) (at0 : IsBlockAt chain 0 b0) (at1 : IsBlockAt chain 1 b
       beside = record { asks = refl; sends = refl; answers = refl; subscriptions = refl; certified = λ h c. refl; next_sync = refl; untouched = refl };
     }
 
-    finals : LineDone config chain fresh (running n1) (tell_line (report_finalization f1)) (making (record nothing_made { reports = new_tip r1 1 d1 ∷ handed_over 1 b1 ∷ [] })) (running n2)
-    finals = (_, record { unticketed = n2; advances = finalized; ticket = refl; rests = window_full refl; good = good2 }, refl, refl, refl)
+    finals : LineDone config chain fresh (running n1) (tell_line (report_finalization f1)) (making (record nothing_made { reports = new_tip r1 1 d1 ∷ [] })) (running n2)
+    finals = (_, record { unticketed = unticketed; advances = finalized; ticket = refl; rests = write_uncovered 1 (0, lit< tt, refl) (lit≤ tt); good = good2 }, refl, refl, refl)
 
-    ignores : LineDone config chain fresh (running n2) (sync_line 0) (remark_output remark_ignored) (running n2)
-    ignores = (refl, refl)
-
-    acked0 : Advances config chain n2 (ack_given 0) (record nothing_made { asks = retain (above_height 0) ∷ [] }) n3
-    acked0 = record {
-      hands = record { in_order = tt; counted = refl; out = refl; below_barrier = tt };
-      hands_chain = tt;
+    synced : Advances config chain n2 (sync_finished 0) (record nothing_made { reports = handed_over 1 b1 ∷ [] }) n3
+    synced = record {
+      hands = record { in_order = (refl, refl, refl, tt); counted = refl; out = refl; below_barrier = (tt, tt) };
+      hands_chain = ((at1, refl), tt);
       processed = refl;
       cutoff = refl;
-      blocks = same_kept 0 n2.blocks;
-      certs = same_kept 0 n2.certs;
+      blocks = record { held = λ h v above e. e; sure = λ h v e still. value_at-append_found n1.blocks.held (record { height = 1; value = b1 } ∷ []) h v e };
+      certs = record { held = λ h v above e. e; sure = λ h v e still. absurd cc };
       may_blocks = λ x has. inl has;
       may_certs = λ x has. inl has;
-      certificates = same_certificates n2 (ack_given 0) n3 refl refl;
+      certificates = same_certificates n2 (sync_finished 0) n3 refl refl;
       writes = record {
         repaired = [];
         by_repair = λ h. not_entered (nat_lt 0 h) (has_height n2.blocks.held h) true;
@@ -266,11 +323,11 @@ module _ (chain : Chain) (at0 : IsBlockAt chain 0 b0) (at1 : IsBlockAt chain 1 b
       beside = record { asks = refl; sends = refl; answers = refl; subscriptions = refl; certified = λ h c. refl; next_sync = refl; untouched = refl };
     }
 
-    acks0 : LineDone config chain fresh (running n2) (ack_line 0) (making (record nothing_made { asks = retain (above_height 0) ∷ [] })) (running n3)
-    acks0 = (_, record { unticketed = n3; advances = acked0; ticket = refl; rests = block_missing refl; good = good3 }, refl, refl, refl)
+    syncs : LineDone config chain fresh (running n2) (sync_line 0) (making (record nothing_made { reports = handed_over 1 b1 ∷ [] })) (running n3)
+    syncs = (_, record { unticketed = n3; advances = synced; ticket = refl; rests = window_full refl; good = good3 }, refl, refl, refl)
 
-    acked1 : Advances config chain n3 (ack_given 1) (record nothing_made { asks = retain (above_height 1) ∷ retain (above_round (at_round r1)) ∷ [] }) n4
-    acked1 = record {
+    acked0 : Advances config chain n3 (ack_given 0) (record nothing_made { asks = retain (above_height 0) ∷ [] }) n4
+    acked0 = record {
       hands = record { in_order = tt; counted = refl; out = refl; below_barrier = tt };
       hands_chain = tt;
       processed = refl;
@@ -279,10 +336,10 @@ module _ (chain : Chain) (at0 : IsBlockAt chain 0 b0) (at1 : IsBlockAt chain 1 b
       certs = same_kept 0 n3.certs;
       may_blocks = λ x has. inl has;
       may_certs = λ x has. inl has;
-      certificates = same_certificates n3 (ack_given 1) n4 refl refl;
+      certificates = same_certificates n3 (ack_given 0) n4 refl refl;
       writes = record {
         repaired = [];
-        by_repair = λ h. not_entered (nat_lt 1 h) (has_height n3.blocks.held h) true;
+        by_repair = λ h. not_entered (nat_lt 0 h) (has_height n3.blocks.held h) true;
         each_once = λ h. lit≤ tt;
         blocking = 0;
         within = lit≤ tt;
@@ -304,12 +361,50 @@ module _ (chain : Chain) (at0 : IsBlockAt chain 0 b0) (at1 : IsBlockAt chain 1 b
       beside = record { asks = refl; sends = refl; answers = refl; subscriptions = refl; certified = λ h c. refl; next_sync = refl; untouched = refl };
     }
 
-    acks1 : LineDone config chain fresh (running n3) (ack_line 1) (making (record nothing_made { asks = retain (above_height 1) ∷ retain (above_round (at_round r1)) ∷ [] })) (running n4)
-    acks1 = (_, record { unticketed = n4; advances = acked1; ticket = refl; rests = block_missing refl; good = good4 }, refl, refl, refl)
+    acks0 : LineDone config chain fresh (running n3) (ack_line 0) (making (record nothing_made { asks = retain (above_height 0) ∷ [] })) (running n4)
+    acks0 = (_, record { unticketed = n4; advances = acked0; ticket = refl; rests = block_missing refl; good = good4 }, refl, refl, refl)
+
+    acked1 : Advances config chain n4 (ack_given 1) (record nothing_made { asks = retain (above_height 1) ∷ retain (above_round (at_round r1)) ∷ [] }) n5
+    acked1 = record {
+      hands = record { in_order = tt; counted = refl; out = refl; below_barrier = tt };
+      hands_chain = tt;
+      processed = refl;
+      cutoff = refl;
+      blocks = same_kept 0 n4.blocks;
+      certs = same_kept 0 n4.certs;
+      may_blocks = λ x has. inl has;
+      may_certs = λ x has. inl has;
+      certificates = same_certificates n4 (ack_given 1) n5 refl refl;
+      writes = record {
+        repaired = [];
+        by_repair = λ h. not_entered (nat_lt 1 h) (has_height n4.blocks.held h) true;
+        each_once = λ h. lit≤ tt;
+        blocking = 0;
+        within = lit≤ tt;
+        at_least = lit≤ tt;
+        covered = refl;
+        uncovered = refl;
+        syncs = refl;
+      };
+      repairs = record { at_hand = λ h b is. absurd cc; with_finalization = λ h b is. absurd cc };
+      tips = refl;
+      tips_chain = tt;
+      awaited = refl;
+      cache = record { cache = refl; lowest = refl; lowests = refl; cache_syncs = refl; witnessed = refl };
+      stored = tt;
+      stored_late = tt;
+      floor_stored = tt;
+      query = λ is. cc;
+      no_fault = refl;
+      beside = record { asks = refl; sends = refl; answers = refl; subscriptions = refl; certified = λ h c. refl; next_sync = refl; untouched = refl };
+    }
+
+    acks1 : LineDone config chain fresh (running n4) (ack_line 1) (making (record nothing_made { asks = retain (above_height 1) ∷ retain (above_round (at_round r1)) ∷ [] })) (running n5)
+    acks1 = (_, record { unticketed = n5; advances = acked1; ticket = refl; rests = block_missing refl; good = good5 }, refl, refl, refl)
 
     -- all of it is a run of lives
-    pub delivery_is_run : Run config chain fresh (stopped empty_stores) delivery_run (running n4)
-    delivery_is_run = (opens, record { luck = refl; calls = none_failed }, (buffers, record { luck = refl; calls = none_failed }, (finals, record { luck = refl; calls = none_failed }, (ignores, record { luck = refl; calls = none_failed }, (acks0, record { luck = refl; calls = none_failed }, (acks1, record { luck = refl; calls = none_failed }, refl))))))
+    pub delivery_is_run : Run config chain fresh (stopped empty_stores) delivery_run (running n5)
+    delivery_is_run = (opens, record { luck = refl; calls = none_failed }, (buffers, record { luck = refl; calls = none_failed }, (finals, record { luck = refl; calls = none_failed }, (syncs, record { luck = refl; calls = none_failed }, (acks0, record { luck = refl; calls = none_failed }, (acks1, record { luck = refl; calls = none_failed }, refl))))))
 
     -- and so is its first line: nothing more is handed over, since block 1 is missing
     pub opening_is_run : Run config chain fresh (stopped empty_stores) (take 1 delivery_run) (running n0)

@@ -14,7 +14,8 @@ pub mod CutRun
 pub mod WrongLives
 pub mod SpelledLines
 pub mod CacheRun
-pub mod LateSyncRun
+pub mod BlockingSyncRun
+pub mod TwoSyncsRun
 pub mod ChainHandovers
 pub mod RepairPass
 pub mod WriteCounts

@@ -15,9 +15,9 @@ use Rattle.mar_node.specs.Faults.{from_genesis, from_floor}
 use Rattle.mar_node.specs.Messages.{report_finalization, set_floor}
 use Rattle.mar_script.specs.Script.{Line, open_line}
 use Rattle.mar_laws.proofs.SmallChain.{chain, config, b0, b1, f1}
-use Rattle.mar_laws.proofs.DeliveryRun.{delivery_run, fresh, n4}
+use Rattle.mar_laws.proofs.DeliveryRun.{delivery_run, fresh, n5}
 use Rattle.mar_node.proofs.Soundness.{crash_is_good}
-use Rattle.mar_laws.proofs.DeliverySteps.{good4, delivery_is_run}
+use Rattle.mar_laws.proofs.DeliverySteps.{good5, delivery_is_run}
 use Rattle.mar_laws.proofs.SmallCutoffs.{zero_safe, safe_at_zero, safe_at_one}
 use Rattle.mar_laws.proofs.SmallFacts.{only, final_round, final_height}
 
@@ -178,20 +178,20 @@ premises = record { partition = fixed_partition 10 (lit< tt) (lit< tt); lawful =
 
 -- the stores that are handed back
 abbrev pub left : Remains
-left = record { ended = left_by n4; watches = fresh_watches }
+left = record { ended = left_by n5; watches = fresh_watches }
 
-pub delivery_lives : Run config chain fresh (stopped empty_stores) delivery_run (running n4)
+pub delivery_lives : Run config chain fresh (stopped empty_stores) delivery_run (running n5)
 delivery_lives = delivery_is_run chain refl refl (0, lit< tt, refl) zero_safe safe_at_zero safe_at_one
 
 pub delivery_replays : Replays config chain lines (text empty_stores delivery_run) read_to_end fresh_stores left
 delivery_replays = record {
   run = delivery_run;
   lines_done = refl;
-  last = running n4;
+  last = running n5;
   lives = delivery_lives;
   output = refl;
   hands_back = (λ h. refl, λ h. refl, refl, λ h held. held, λ h held. held);
-  good = crash_is_good config chain n4 (good4 chain refl refl (0, lit< tt, refl) zero_safe safe_at_zero safe_at_one);
+  good = crash_is_good config chain n5 (good5 chain refl refl (0, lit< tt, refl) zero_safe safe_at_zero safe_at_one);
   watches_are = refl;
   some_pair = lit< tt;
   memory = (λ m. cc, (λ m. cc, (λ m. cc, (λ m. cc, (λ m. cc, λ m. absurd cc)))));

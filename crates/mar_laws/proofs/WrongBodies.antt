@@ -20,7 +20,7 @@ use Rattle.mar_script.specs.Text.{running}
 use Rattle.mar_script.specs.Run.{empty_stores, HandsBack}
 use Rattle.mar_laws.proofs.SmallFacts.{only}
 use Rattle.mar_laws.proofs.SmallChain.{b0, b1, d1, f1, r1, chain, config}
-use Rattle.mar_laws.proofs.DeliveryRun.{begun, n1, n2, n3, n4}
+use Rattle.mar_laws.proofs.DeliveryRun.{begun, n1, n2, n3, n4, n5}
 
 -- FACTS
 
@@ -53,7 +53,7 @@ sync_failed before least fault left unsure c = not_some (sym unsure ∙ (c.hands
 -- NEVER HANDED OVER
 
 abbrev hoards : Node
-hoards = record n2 { out = n1.out; next_ack = 1 }
+hoards = record n3 { out = n1.out; next_ack = 1 }
 
 -- a body that stores everything, and rests for nothing
 never_hands : Rest config.window hoards → ⊥
@@ -79,13 +79,10 @@ unsafe_cutoff : (sure : List (At Block)) → FloorSafe None (at_round r1) sure c
 unsafe_cutoff sure safe = let p : true ≡ false = safe r1 1 (0, lit< tt, refl) in cc
 
 -- a body that leaves the cutoff as it is when the finalized block is acknowledged
-never_raised : (n : Node) → n.cutoff ≡ cutoff_zero → (made : Made) → Advances config chain n3 (ack_given 1) made n → ⊥
+never_raised : (n : Node) → n.cutoff ≡ cutoff_zero → (made : Made) → Advances config chain n4 (ack_given 1) made n → ⊥
 never_raised n is reports a = apart (sym is ∙ a.cutoff)
 
 -- A NEW SYNC FOR EACH FINISHED ONE
-
-abbrev synced : Node
-synced = record n2 { covered = 0; uncovered = 1 ∷ []; syncs = record { ticket = 0; position = 1 } ∷ []; next_sync = 1 }
 
 same_writes : (k : ℕ) (n : Node) → write_count (with_sync k n) ≡ write_count n
 same_writes k n = by (nat_lt k (write_count n) && nat_lt 0 (length n.uncovered))
@@ -105,7 +102,7 @@ nothing_opened k n same = subst (λ j. with_sync j n ≡ n) (sym same) (by (nat_
     by true off = absurd cc
 
 -- a body that opens a sync as one finishes, with nothing new to cover
-synced_anew : (n : Node) → write_count n ≡ 1 → n.syncs ≡ record { ticket = 1; position = 1 } ∷ [] → (made : Made) → Steps config chain synced (sync_finished 0 ∷ []) made n → ⊥
+synced_anew : (n : Node) → write_count n ≡ 1 → n.syncs ≡ record { ticket = 1; position = 1 } ∷ [] → (made : Made) → Steps config chain n2 (sync_finished 0 ∷ []) made n → ⊥
 synced_anew n count syncs made s = empty (sym syncs ∙ ap (λ m. m.syncs) (s.ticket ∙ nothing_opened 1 s.unticketed (sym (sym (same_writes 1 s.unticketed) ∙ sym (ap write_count s.ticket) ∙ count))) ∙ s.advances.writes.syncs)
   where
     empty : ◌≡◌ {A = List OpenSync} (record { ticket = 1; position = 1 } ∷ []) [] → ⊥
@@ -125,21 +122,21 @@ stores_nothing n unheld unprocessed reports a = refuse a.stored.block
     refuse (inr low) = let at : 1 ≤ height_of None = subst (λ p. 1 ≤ height_of p) unprocessed low in omega arith
 
 -- a body that prints a height that the stores handed back lack
-prints_more : HandsBack (running n2) empty_stores → ⊥
+prints_more : HandsBack (running n3) empty_stores → ⊥
 prints_more back = let e : true ≡ false = back.0 0 in cc
 
 -- GENESIS AGAIN AT EACH RESTART
 
 abbrev ended : Ended
 ended = record {
-  blocks_sure = n4.blocks.sure;
-  blocks_may = n4.blocks.may;
-  certs_sure = n4.certs.sure;
-  certs_may = n4.certs.may;
+  blocks_sure = n5.blocks.sure;
+  blocks_may = n5.blocks.may;
+  certs_sure = n5.certs.sure;
+  certs_may = n5.certs.may;
   cache_sure = [];
   cache_may = [];
   lowests = [];
-  meta = n4.meta;
+  meta = n5.meta;
 }
 
 none_brought : (n : Node) (a : Option Awaited) → processed_after n (life_started None) (brought_effect a None) ≡ n.processed

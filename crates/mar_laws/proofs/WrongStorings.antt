@@ -14,10 +14,10 @@ use Rattle.mar_node.specs.Cached.{epoch_of, verified_entry}
 use Rattle.mar_node.specs.Cache.{AdvancesCache, entries_with_puts, is_pruned}
 use Rattle.mar_node.specs.Faults.{Fault, dropped_ack, floor_invalid, next_after}
 use Rattle.mar_node.specs.Requests.{Repaired, Passes}
-use Rattle.mar_node.specs.Step.{Report, Made, nothing_made, handed_over, Advances}
+use Rattle.mar_node.specs.Step.{Made, nothing_made, handed_over, Advances}
 use Rattle.mar_node.specs.Lives.{CutsEvent, reached_after, reached_before}
 use Rattle.mar_laws.proofs.SmallChain.{b0, b1, d1, f1, r1, chain, config}
-use Rattle.mar_laws.proofs.DeliveryRun.{begun, n0, n1, n2, n3, n4}
+use Rattle.mar_laws.proofs.DeliveryRun.{begun, n0, n1, n3, n4, n5}
 use Rattle.mar_laws.proofs.SmallFacts.{none_in}
 use Rattle.mar_laws.proofs.RepairPass.{gapped, gap_at}
 
@@ -74,31 +74,31 @@ keeps_uncovered n none made a = low a.writes.blocking a.writes.at_least (sym non
 -- CUTS
 
 -- a body that syncs the metadata before it ends in a dropped acknowledgement
-syncs_dropped : (earlier : List Pair) (least : Option ℕ) (made : Made) (left : Ended) → (left.meta ≡ n3.meta → ⊥) → CutsEvent config chain earlier least n3 (ack_dropped 1) made (dropped_ack 1) left → ⊥
+syncs_dropped : (earlier : List Pair) (least : Option ℕ) (made : Made) (left : Ended) → (left.meta ≡ n4.meta → ⊥) → CutsEvent config chain earlier least n4 (ack_dropped 1) made (dropped_ack 1) left → ⊥
 syncs_dropped earlier least made left other c = other (c.unsynced refl)
 
 -- one that stores something of a floor that it refuses
-leaves_floor : (earlier : List Pair) (least : Option ℕ) (made : Made) (left : Ended) (f : Finalization) → (left ≡ left_by n3 → ⊥) → CutsEvent config chain earlier least n3 (message_told None (set_floor f)) made (floor_invalid f.round) left → ⊥
+leaves_floor : (earlier : List Pair) (least : Option ℕ) (made : Made) (left : Ended) (f : Finalization) → (left ≡ left_by n4 → ⊥) → CutsEvent config chain earlier least n4 (message_told None (set_floor f)) made (floor_invalid f.round) left → ⊥
 leaves_floor earlier least made left f other c = other (c.refused refl)
 
 -- one that hands block 1 over a second time as the acknowledgement of block 0 is cut, as the height before the event with the
 -- list after it would have it
-hands_again : (before : List Pair) (least : Option ℕ) (fault : Fault) (left : Ended) → CutsEvent config chain before least n2 (ack_given 0) (record nothing_made { reports = handed_over 2 b1 ∷ [] }) fault left → ⊥
+hands_again : (before : List Pair) (least : Option ℕ) (fault : Fault) (left : Ended) → CutsEvent config chain before least n3 (ack_given 0) (record nothing_made { reports = handed_over 2 b1 ∷ [] }) fault left → ⊥
 hands_again before least fault left c = by c.reached_is
   where
     apart : ◌≡◌ {A = ℕ} 1 2 → ⊥
     apart e = omega arith
 
-    by : (c.reached ≡ reached_before n2 (ack_given 0)) ⊎ (c.reached ≡ reached_after n2 (ack_given 0) no_floor) × Contains (map (λ p. p.processed) left.meta) c.reached.processed → ⊥
+    by : (c.reached ≡ reached_before n3 (ack_given 0)) ⊎ (c.reached ≡ reached_after n3 (ack_given 0) no_floor) × Contains (map (λ p. p.processed) left.meta) c.reached.processed → ⊥
     by (inl is) = apart (c.in_order.1 ∙ ap (λ r. next_after r.processed + length r.out) is)
     by (inr (is, durable)) = apart (c.in_order.1 ∙ ap (λ r. next_after r.processed + length r.out) is)
 
 -- one after which a held block may not be left
-forgets_held : (before : List Pair) (least : Option ℕ) (made : Made) (fault : Fault) (left : Ended) → left.blocks_may ≡ [] → CutsEvent config chain before least n2 (ack_given 0) made fault left → ⊥
+forgets_held : (before : List Pair) (least : Option ℕ) (made : Made) (fault : Fault) (left : Ended) → left.blocks_may ≡ [] → CutsEvent config chain before least n3 (ack_given 0) made fault left → ⊥
 forgets_held before least made fault left none c = on_off (sym (c.may.held_blocks 1 (lit≤ tt) refl) ∙ ap (λ xs. has_height xs 1) none)
 
 -- one that asks for what the event would not, before it is cut
-asks_otherwise : (before : List Pair) (least : Option ℕ) (fault : Fault) (left : Ended) → CutsEvent config chain before least n2 (ack_given 0) (record nothing_made { asks = retain (above_height 1) ∷ [] }) fault left → ⊥
+asks_otherwise : (before : List Pair) (least : Option ℕ) (fault : Fault) (left : Ended) → CutsEvent config chain before least n3 (ack_given 0) (record nothing_made { asks = retain (above_height 1) ∷ [] }) fault left → ⊥
 asks_otherwise before least fault left c = apart _ _ c.asks.1
   where
     apart : (xs ys : List Call) → retain (above_height 0) ∷ xs ≡ retain (above_height 1) ∷ ys → ⊥
@@ -116,7 +116,7 @@ stores_invalid n held made a = none_in b1 (a.repairs.at_hand 1 b1 (a.writes.by_r
         (subst (λ ys. (has_height ys 1 && true) ≡ true) (sym held) refl)
 
 abbrev behind : Node
-behind = record n4 { certs = n1.certs }
+behind = record n5 { certs = n1.certs }
 
 -- one that stores no certificate for a block that is held and processed already
 stores_no_late : (n : Node) → n.certs.held ≡ [] → (made : Made) → Advances config chain behind (message_told None (report_finalization f1)) made n → ⊥

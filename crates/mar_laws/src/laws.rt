@@ -2,8 +2,8 @@
 
 ghost use Rattle.mar_laws.specs.Laws.{HandsOverTheChain, IsRunOf, OutlivesRestarts};
 
-/// A script: the settings, a genesis, a block in the buffer, its finalization, a sync that has finished
-/// already, two acknowledgements.
+/// A script: the settings, a genesis, a block in the buffer, its finalization, the end of the sync that covers
+/// it, two acknowledgements.
 const DELIVERY_SCRIPT: &[u8] = b"\
 config 4 10 2 4 5 8 0 100\n\
 open genesis 00000000000000000000000000000000000000000000000000000000000000000000\n\
@@ -14,16 +14,15 @@ sync 0\n\
 ack 0\n\
 ack 1\n";
 
-/// What a node whose syncs block writes on it.
+/// What a node writes on it.
 const DELIVERY_OUTPUT: &[u8] = b"\
 node end p=- c=0.0 bs=- bm=- fs=- fm=-\n\
 block 0 0 17b0761f87b081d5cf10757ccc89f12be355c70e2e29df288b65b30710dcbcd1\n\
 node p=- o=0:0 c=0.0 w=- b=0-0 bs=0-0 f=- fs=- u=- s=- y=-\n\
 node p=- o=0:0 c=0.0 w=- b=0-0 bs=0-0 f=- fs=- u=- s=- y=-\n\
 tip 0.1 1 ce32c67642e5135e430855a082568f3b774ee1efc23b9f2d1bc13c3f65ce873a\n\
+node p=- o=0:0 c=0.0 w=- b=0-1 bs=0-0 f=1-1 fs=- u=1 s=0:1 y=-\n\
 block 1 1 ce32c67642e5135e430855a082568f3b774ee1efc23b9f2d1bc13c3f65ce873a\n\
-node p=- o=0:0,1:1 c=0.0 w=- b=0-1 bs=0-1 f=1-1 fs=1-1 u=- s=- y=-\n\
-ignored\n\
 node p=- o=0:0,1:1 c=0.0 w=- b=0-1 bs=0-1 f=1-1 fs=1-1 u=- s=- y=-\n\
 retain height 0\n\
 node p=b0 o=1:1 c=0.0 w=- b=0-1 bs=0-1 f=1-1 fs=1-1 u=- s=- y=-\n\

@@ -1,5 +1,5 @@
 -- An acknowledgement: what is given at the front is processed, and the node stays good.
-use Rattle.std.proofs.Common.{◌≡◌, inr, ℕ, zero, suc, ◌+◌, ◌<◌, ◌≤◌, List, [], ◌∷◌, ◌++◌, length, fold, Bool, true, false, if◌then◌else◌, nat_lt, Option, Some, None, Contains, option_map, refl, sym, ◌∙◌, ap, ap₂, subst, arith, append-nil}
+use Rattle.std.proofs.Common.{◌≡◌, inr, ℕ, zero, suc, ◌+◌, ◌≤◌, List, [], ◌∷◌, ◌++◌, length, fold, Bool, true, false, if◌then◌else◌, nat_lt, Option, Some, None, Contains, option_map, refl, sym, ◌∙◌, ap, ap₂, subst, arith, append-nil}
 use Rattle.std.specs.List.{cons_option, filter_map}
 use Rattle.std.proofs.lemmas.Bool.Decides.{nat_tests}
 use Rattle.std.proofs.lemmas.List.{length-map}
@@ -30,7 +30,7 @@ use Rattle.mar_node.proofs.Cutting.{MayBeLeft, keeps_heights}
 use Rattle.mar_node.proofs.FloorSafety.{FloorSafe-after, next_after-is}
 use Rattle.mar_node.proofs.OutstandingLemmas.{ConsecutiveFrom-after_given, ConsecutiveFrom-with_mark, all_sure-drained, all_sure-kept, first_unprocessed-rises}
 use Rattle.mar_node.proofs.Growing.{Grown-same}
-use Rattle.mar_node.proofs.PlainEvents.{Certificates-same, KeepsFrom-same, Writes-none, nothing_put}
+use Rattle.mar_node.proofs.PlainEvents.{Certificates-same, KeepsFrom-same, Writes-same, nothing_put}
 use Rattle.mar_node.proofs.Reaching.{Reaches}
 use Rattle.mar_node.proofs.Soundness.{HasAnchor-acked_to, IsFrom, IsSafePair-kept, own_pair_safe}
 
@@ -175,7 +175,7 @@ module _ {P E : Type 0} (config : Config) (chain : Chain) (lawful : IsLawful con
       };
       floor_clears = λ some. absurd cc;
       own_pair = refl;
-      sync_open = λ more. absurd (omega arith);
+      sync_open = good.heights.sync_open;
     };
     of_chain = record {
       stores = good.of_chain.stores;
@@ -194,6 +194,7 @@ module _ {P E : Type 0} (config : Config) (chain : Chain) (lawful : IsLawful con
     no_effect = refl;
     kept = refl;
     next_ack = refl;
+    next_sync = refl;
     sizes = refl;
     processed = refl;
     cutoff = cutoff-is;
@@ -208,8 +209,8 @@ module _ {P E : Type 0} (config : Config) (chain : Chain) (lawful : IsLawful con
     own_blocks = λ x has. nothing_put x has;
     own_certs = λ x has. nothing_put x has;
     certificates = Certificates-same a (drained_to own_pairs watches) (ack_given t) buffer asked refl;
-    writes = (Writes-none a (drained_to own_pairs watches) (ack_given t) buffer asked refl refl refl refl refl).0;
-    no_repair = (Writes-none a (drained_to own_pairs watches) (ack_given t) buffer asked refl refl refl refl refl).1;
+    writes = (Writes-same a (drained_to own_pairs watches) (ack_given t) buffer asked refl refl refl (λ syncs. refl) (λ syncs. refl)).0;
+    no_repair = (Writes-same a (drained_to own_pairs watches) (ack_given t) buffer asked refl refl refl (λ syncs. refl) (λ syncs. refl)).1;
     are_tips = tt;
     tips_rise = refl;
     tips_chain = tt;
@@ -223,10 +224,17 @@ module _ {P E : Type 0} (config : Config) (chain : Chain) (lawful : IsLawful con
     subscriptions = refl;
     certified = λ tip. refl;
     no_syncs = λ n'. refl;
-    good = IsGood-drained watches;
   }
 
   module _ (is_drained : Bool) (b : Seen P E) (drains : Drains config.epochs given is_drained b) where
+    -- it is good
+    pub IsGood-ack : (m : Seen P E) → m ≡ with_own_pair m.held.watches b → IsGood config chain (node_of m buffer asked)
+    IsGood-ack m after = subst (λ x. IsGood config chain (node_of x buffer asked)) (sym (after ∙ ap (with_own_pair m.held.watches) drains.same)) (IsGood-drained m.held.watches)
+
+    -- and has written no more
+    pub writes-ack : (m : Seen P E) → m ≡ with_own_pair m.held.watches b → m.held.writes ≡ a.held.writes
+    writes-ack m after = ap (λ x. x.held.writes) (after ∙ ap (with_own_pair m.held.watches) drains.same)
+
     -- An acknowledgement reaches the actor whose pair was synced after it drained.
     pub Reaches-ack : (m : Seen P E) → m ≡ with_own_pair m.held.watches b → Reaches config chain a (ack_given t) buffer asked [] m
     Reaches-ack m after = subst (λ x. Reaches config chain a (ack_given t) buffer asked [] x) (sym (after ∙ ap (with_own_pair m.held.watches) drains.same)) (Reaches-drained m.held.watches drains.not_dropped)
@@ -276,6 +284,12 @@ module _ {P E : Type 0} (config : Config) (chain : Chain) (lawful : IsLawful con
     pub Reaches-undrained : Reaches config chain a (ack_given t) buffer asked [] b
     Reaches-undrained = subst (λ x. Reaches config chain a (ack_given t) buffer asked [] x) (sym (drains.same ∙ ap (λ pairs. drained_to pairs b.held.watches) pairs-are)) (Reaches-drained b.held.watches drains.not_dropped)
 
+    pub IsGood-undrained : IsGood config chain (node_of b buffer asked)
+    IsGood-undrained = subst (λ x. IsGood config chain (node_of x buffer asked)) (sym (drains.same ∙ ap (λ pairs. drained_to pairs b.held.watches) pairs-are)) (IsGood-drained b.held.watches)
+
+    pub writes-undrained : b.held.writes ≡ a.held.writes
+    writes-undrained = ap (λ x. x.held.writes) drains.same
+
     -- as many are waited for, from the same height on, over the same blocks
     same_length : length b.life.out ≡ length a.life.out
     same_length = ap (λ x. length x.life.out) drains.same ∙ (ap (λ out. length out) (after_given-none given.life.out none_drained) ∙ length-map a.life.out (marked_entry t mark_given))
@@ -291,4 +305,4 @@ module _ {P E : Type 0} (config : Config) (chain : Chain) (lawful : IsLawful con
     Rest-undrained (floor_awaited some) = absurd cc
     Rest-undrained (window_full full) = window_full (same_length ∙ full)
     Rest-undrained (block_missing missing) = block_missing (subst (λ k. value_at b.held.blocks.held k ≡ None) (sym (ap₂ (λ p k. first_unprocessed p + k) same_processed same_length)) (subst (λ kept. value_at kept.held (first_unprocessed a.held.processed + length a.life.out) ≡ None) (sym same_blocks) missing))
-    Rest-undrained (write_uncovered h none low) = absurd (let lt : none.0 < 0 = none.1 in omega arith)
+    Rest-undrained (write_uncovered h waits low) = write_uncovered h (subst (λ w. Contains w.uncovered h) (sym (ap (λ x. x.held.writes) drains.same)) waits) (subst (λ k. h ≤ k) (sym (ap₂ (λ p k. first_unprocessed p + k) same_processed same_length)) low)

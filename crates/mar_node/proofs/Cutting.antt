@@ -13,7 +13,7 @@ use Rattle.mar_node.specs.Metadata.{Pair, first_pair, pair_of}
 use Rattle.mar_node.specs.Chain.{Chain, Finalizes, IsBlockAt}
 use Rattle.mar_node.specs.Config.{Config}
 use Rattle.mar_node.specs.Event.{Event, brought_block, cutoff_after, effect_of, no_floor, processed_after, told_finalization}
-use Rattle.mar_node.specs.Faults.{Fault, corrupt, damaged, dropped_ack, event_fault, floor_epoch_unavailable, floor_invalid, floor_parent_mismatch, genesis_height, genesis_mismatch, height_limit, is_by_value, meta_store, next_after, store_fault, ticket_limit, unbacked, want_of_memory}
+use Rattle.mar_node.specs.Faults.{Fault, corrupt, damaged, dropped_ack, event_fault, floor_epoch_unavailable, floor_invalid, floor_parent_mismatch, genesis_height, genesis_mismatch, height_limit, is_by_value, meta_store, next_after, store_fault, sync_kind, ticket_limit, unbacked, want_of_memory}
 use Rattle.mar_node.specs.Held.{Ending, IsArchiveFault, IsUsual, LeavesStore, Loses, Seen, Written, blocks_left, certs_left, ended_of}
 use Rattle.mar_node.specs.Lives.{Cuts, CutsBy, IsGoodEnded, NotBelow, Reached, is_dropped_ack, is_refused_floor, reached_after, reached_before}
 use Rattle.mar_node.specs.Node.{AreBlocksOf, AreCachedOf, AreFinalizationsOf, BlocksAgree, Ended, IsGood, Node}
@@ -264,6 +264,11 @@ usual_not_dropped (corrupt h c d) usual = absurd usual
 usual_not_dropped (unbacked h) usual = absurd usual
 usual_not_dropped (height_limit h) usual = absurd usual
 usual_not_dropped (ticket_limit k) usual = absurd usual
+
+-- nor is the fault of a sync that could not be started
+pub unstarted_plain : {T : Type 0} (fault : Fault) → IsArchiveFault fault ⊎ ((fault ≡ ticket_limit sync_kind) × T) → (is_by_value fault ≡ false) × (is_dropped_ack fault ≡ false)
+unstarted_plain fault (inl archive) = (usual_not_by_value fault (usual_from_archive fault archive), usual_not_dropped fault (usual_from_archive fault archive))
+unstarted_plain fault (inr limit) = (ap is_by_value limit.0, ap is_dropped_ack limit.0)
 
 pub never : (b : Bool) → b ≡ false → IsTrue b → ⊥
 never b off on = let both : false ≡ true = sym off ∙ on in cc

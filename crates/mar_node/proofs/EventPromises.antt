@@ -1,5 +1,5 @@
 -- What each event's calls make of the step's promise.
-use Rattle.std.proofs.Common.{◌≡◌, ℕ, ◌-◌, ◌^◌, List, [], ◌∷◌, true, false, nat_lt, Option, Some, None, Result, Ok, Err, IfErr, IfOk, MatchResult, Contains, refl, sym, ◌∙◌, ap, subst}
+use Rattle.std.proofs.Common.{◌≡◌, ℕ, ◌-◌, ◌^◌, ◌<◌, List, [], ◌∷◌, length, true, false, nat_lt, Option, Some, None, Result, Ok, Err, IfErr, IfOk, MatchResult, Contains, refl, sym, ◌∙◌, ap, subst, arith}
 use Rattle.mar_types.specs.Epochs.{Epochs, IsPartition}
 use Rattle.mar_cert.specs.Block.{Block}
 use Rattle.mar_cert.specs.Finalization.{Finalization}
@@ -8,7 +8,7 @@ use Rattle.mar_key.specs.Asked.{Asked}
 use Rattle.mar_key.specs.Hears.{Hears}
 use Rattle.mar_key.specs.Keys.{Call}
 use Rattle.mar_key.specs.Processed.{height_of}
-use Rattle.mar_store.specs.Kept.{At, value_at}
+use Rattle.mar_store.specs.Kept.{At}
 use Rattle.mar_store.specs.Changes.{IsNested, KeepsValues}
 use Rattle.mar_node.specs.Metadata.{Pair}
 use Rattle.mar_node.specs.Stored.{at_own_height}
@@ -16,40 +16,69 @@ use Rattle.mar_node.specs.Chain.{Chain}
 use Rattle.mar_node.specs.Config.{Config}
 use Rattle.mar_node.specs.Event.{Event, brought_block, effect_of, message_told, no_floor, sync_finished, told_finalization}
 use Rattle.mar_node.specs.Faults.{Fault, is_by_value}
-use Rattle.mar_node.specs.Held.{Ending, Grew, IsUsual, Loses, Seen, Written, nothing_written, written_both}
+use Rattle.mar_node.specs.Held.{AreWritten, Ending, Grew, IsUsual, Loses, Seen, Written, nothing_written, written_both}
 use Rattle.mar_node.specs.Lives.{is_dropped_ack, is_refused_floor}
-use Rattle.mar_node.specs.Moves.{HearsFront, HearsUpTo, IsRead, StoresAbove, at_height, found_at_hand, tip_reports}
+use Rattle.mar_node.specs.Moves.{FinishesSync, HearsFront, HearsUpTo, IsRead, IsStarted, PutsAbove, at_height, found_at_hand, tip_after, tip_reports}
 use Rattle.mar_node.specs.Requests.{own_asks, want_asks}
-use Rattle.mar_node.specs.Node.{AreBlocksOf, AreFinalizationsOf, Rest, at_hand}
+use Rattle.mar_node.specs.Node.{AreBlocksOf, AreFinalizationsOf, IsGood, Rest, at_hand}
+use Rattle.mar_node.specs.Writing.{total_writes}
 use Rattle.mar_node.specs.Promise.{CutsStep, IsLawfulStep, IsSetTo, KeepsPromise, heard_by, made_of, node_of}
-use Rattle.mar_node.specs.Step.{Report}
+use Rattle.mar_node.specs.Step.{AreTipsOf, Report, TipsFrom}
 use Rattle.mar_node.proofs.Cutting.{Cuts-before, MayBeLeft, never, only_one, usual_not_by_value, usual_not_dropped}
 use Rattle.mar_node.proofs.FinalizationEvent as final
 use Rattle.mar_node.proofs.FoundBlocks.{found-is}
 use Rattle.mar_node.proofs.Growing.{Grown-blocks, Grown-certs}
 use Rattle.mar_node.proofs.Handing.{Hears-nothing, HearsFront-nothing, Ran}
-use Rattle.mar_node.proofs.PlainEvents.{Reaches-sync, nothing_put}
-use Rattle.mar_node.proofs.Promises.{dispatched, undispatched}
+use Rattle.mar_node.proofs.PlainEvents.{nothing_put}
+use Rattle.mar_node.proofs.Promises.{dispatched, started, undispatched}
+use Rattle.mar_node.proofs.Reaching.{AreTips}
 use Rattle.mar_node.proofs.Soundness.{untold}
+use Rattle.mar_node.proofs.SyncEvent as sync
+use Rattle.mar_node.proofs.Tips.{tip_reports-rise, tip_reports-tips}
+
+some_contained : (xs : List ℕ) (x : ℕ) → Contains xs x → 0 < length xs
+some_contained xs x has = let low : has.0 < length xs = has.1 in omega arith
 
 module _ {P E : Type 0} (epochs : Epochs) (inner : List ℕ → List ℕ) (partition : IsPartition epochs) (a : Seen P E) (buffer : List Block) where
   pub partition_of : (config : Config) → config.epochs ≡ epochs → IsPartition config.epochs
   partition_of config is = subst IsPartition (sym is) partition
 
+  -- a call that failed once these tips were told
+  pub told_cut : (config : Config) (chain : Chain) (asked : List Asked) (e : Event) (step : IsLawfulStep config chain (node_of a buffer asked) (e ∷ [])) (no_effect : effect_of config (node_of a buffer asked) e ≡ no_floor) → ((fault : Fault) → is_refused_floor e fault ≡ false) → (tips : List Report) (tip : ℕ) → AreTips tips → TipsFrom a.life.tip tips tip → AreTipsOf chain tips → (told told' : Option (List Report)) (heard heard' : Option (List Call)) (written : Written) (x : Ending) → Hears told tips told' → HearsFront heard (own_asks config (node_of a buffer asked) e no_floor) heard' → written.blocks_from ≡ 0 → written.certs_from ≡ 0 → AreBlocksOf chain written.blocks → AreFinalizationsOf chain written.certs → ((y : At Block) → Contains written.blocks y → brought_block (node_of a buffer asked) e ≡ Some y.value) → ((y : At Finalization) → Contains written.certs y → told_finalization (node_of a buffer asked) e ≡ Some y.value) → Loses a.held written x → ((p : Pair) → Contains written.pairs p → MayBeLeft config chain a e buffer asked x.remains.ended.blocks_sure p) → is_by_value x.fault ≡ false → is_dropped_ack x.fault ≡ false → CutsStep config chain (node_of a buffer asked) (e ∷ []) (heard_by told heard) (heard_by told' heard') x
+  told_cut config chain asked e step no_effect unrefused tips tip are_tips rise of_chain told told' heard heard' written x tips_heard (asks, front, asks_heard) no_prune no_cert_prune of_blocks of_certs own_blocks own_certs lost may no_value not_dropped = record {
+    made = made_of tips asks;
+    heard = record { reports = tips_heard; asks = asks_heard; no_more = refl };
+    cuts = Cuts-before config chain a e buffer asked (untold config chain (node_of a buffer asked) e step.good).0 (untold config chain (node_of a buffer asked) e step.good).1 no_effect tips asks tip written x are_tips rise of_chain no_prune no_cert_prune of_blocks of_certs own_blocks own_certs lost may
+        (λ is. absurd (never (is_by_value x.fault) no_value is)) (never (is_refused_floor e x.fault) (unrefused x.fault)) (λ is. absurd (never (is_dropped_ack x.fault) not_dropped is)) front;
+  }
+
   -- a call that failed before anything was told
   pub quiet_cut : (config : Config) (chain : Chain) (asked : List Asked) (e : Event) (step : IsLawfulStep config chain (node_of a buffer asked) (e ∷ [])) (no_effect : effect_of config (node_of a buffer asked) e ≡ no_floor) → ((fault : Fault) → is_refused_floor e fault ≡ false) → (told told' : Option (List Report)) (heard heard' : Option (List Call)) (written : Written) (x : Ending) → Hears told [] told' → HearsFront heard (own_asks config (node_of a buffer asked) e no_floor) heard' → written.blocks_from ≡ 0 → written.certs_from ≡ 0 → AreBlocksOf chain written.blocks → AreFinalizationsOf chain written.certs → ((y : At Block) → Contains written.blocks y → brought_block (node_of a buffer asked) e ≡ Some y.value) → ((y : At Finalization) → Contains written.certs y → told_finalization (node_of a buffer asked) e ≡ Some y.value) → Loses a.held written x → ((p : Pair) → Contains written.pairs p → MayBeLeft config chain a e buffer asked x.remains.ended.blocks_sure p) → IsUsual x.fault → CutsStep config chain (node_of a buffer asked) (e ∷ []) (heard_by told heard) (heard_by told' heard') x
-  quiet_cut config chain asked e step no_effect unrefused told told' heard heard' written x silent (asks, front, asks_heard) no_prune no_cert_prune of_blocks of_certs own_blocks own_certs lost may usual = record {
-    made = made_of [] asks;
-    heard = record { reports = silent; asks = asks_heard; no_more = refl };
-    cuts = Cuts-before config chain a e buffer asked (untold config chain (node_of a buffer asked) e step.good).0 (untold config chain (node_of a buffer asked) e step.good).1 no_effect [] asks a.life.tip written x tt refl tt no_prune no_cert_prune of_blocks of_certs own_blocks own_certs lost may
-        (λ is. absurd (never (is_by_value x.fault) (usual_not_by_value x.fault usual) is)) (never (is_refused_floor e x.fault) (unrefused x.fault)) (λ is. absurd (never (is_dropped_ack x.fault) (usual_not_dropped x.fault usual) is)) front;
-  }
+  quiet_cut config chain asked e step no_effect unrefused told told' heard heard' written x silent asks no_prune no_cert_prune of_blocks of_certs own_blocks own_certs lost may usual =
+      told_cut config chain asked e step no_effect unrefused [] a.life.tip tt refl tt told told' heard heard' written x silent asks no_prune no_cert_prune of_blocks of_certs own_blocks own_certs lost may (usual_not_by_value x.fault usual) (usual_not_dropped x.fault usual)
 
   -- A SYNC
 
-  pub promise-sync : (t : ℕ) (told : Option (List Report)) (heard : Option (List Call)) → IsNested a.held.blocks → IsNested a.held.certs → KeepsPromise epochs inner a (sync_finished t ∷ []) buffer (heard_by told heard) (heard_by told heard) (Ok a)
-  promise-sync t told heard nested certs_nested config chain asked set step =
-      undispatched config chain a a (sync_finished t) buffer asked [] set.window step (λ fault. refl) (Reaches-sync config chain a buffer asked nested certs_nested step.good t) nested.sure_held told told heard heard (Hears-nothing told) (Hears-nothing heard) step.rests
+  module _ (t : ℕ) where
+    -- a sync that finished: more may be handed over
+    pub promise-finished : (told told' : Option (List Report)) (heard : Option (List Call)) (m : Seen P E) (result : Result (Seen P E) Ending) → IsNested a.held.blocks → IsNested a.held.certs → AreWritten a.held → IsNested m.held.blocks → IsNested m.held.certs → FinishesSync t a m → Ran m told told' result → KeepsPromise epochs inner a (sync_finished t ∷ []) buffer (heard_by told heard) (heard_by told' heard) result
+    promise-finished told told' heard m result nested certs_nested written new_nested new_certs finishes ran config chain asked set step =
+        dispatched config chain a m (sync_finished t) buffer asked [] (set.window ∙ sym (ap (λ s. s.life.sizes.window) finishes.same)) step (λ fault. refl)
+        (sync.Reaches-finished config chain a m t buffer asked nested certs_nested finishes new_nested new_certs) (sync.IsGood-finished config chain a m t buffer asked nested certs_nested finishes written.ordered new_nested new_certs step.good)
+        (sync.total-same config chain a m t buffer asked nested certs_nested finishes written.ordered) new_nested.sure_held told told told' heard heard result (Hears-nothing told) ran (Hears-nothing heard)
+
+    -- one that isn't open: nothing changes
+    pub promise-closed : (told : Option (List Report)) (heard : Option (List Call)) (m : Seen P E) → IsNested a.held.blocks → IsNested a.held.certs → AreWritten a.held → IsNested m.held.blocks → IsNested m.held.certs → FinishesSync t a m → m ≡ a → KeepsPromise epochs inner a (sync_finished t ∷ []) buffer (heard_by told heard) (heard_by told heard) (Ok m)
+    promise-closed told heard m nested certs_nested written new_nested new_certs finishes same config chain asked set step =
+        undispatched config chain a m (sync_finished t) buffer asked [] (set.window ∙ sym (ap (λ s. s.life.sizes.window) finishes.same)) step (λ fault. refl)
+        (sync.Reaches-finished config chain a m t buffer asked nested certs_nested finishes new_nested new_certs) (sync.IsGood-finished config chain a m t buffer asked nested certs_nested finishes written.ordered new_nested new_certs step.good)
+        (sync.total-same config chain a m t buffer asked nested certs_nested finishes written.ordered) new_nested.sure_held told told heard heard (Hears-nothing told) (Hears-nothing heard)
+        (subst (λ s. Rest config.window (node_of s buffer asked)) (sym same) step.rests)
+
+    -- one that could not be finished
+    pub promise-unfinished : (told : Option (List Report)) (heard : Option (List Call)) (x : Ending) → Loses a.held nothing_written x → IsUsual x.fault → KeepsPromise epochs inner a (sync_finished t ∷ []) buffer (heard_by told heard) (heard_by told heard) (Err x)
+    promise-unfinished told heard x lost usual config chain asked set step =
+        quiet_cut config chain asked (sync_finished t) step refl (λ fault. refl) told told heard heard nothing_written x (Hears-nothing told) (HearsFront-nothing heard _ heard (Hears-nothing heard)) refl refl tt tt (λ y has. nothing_put y has) (λ y has. nothing_put y has) lost (λ p has. nothing_put p has) usual
 
   -- FINALIZATIONS
 
@@ -69,6 +98,7 @@ module _ {P E : Type 0} (epochs : Epochs) (inner : List ℕ → List ℕ) (parti
         let same : IsRead a new = subst (IsRead a) (sym is) read in
         let none = hand config chain asked set step None found in
         undispatched config chain a new reported buffer asked [] (set.window ∙ sym (ap (λ s. s.life.sizes.window) same)) step (λ fault. refl) (final.Reaches-absent config chain a f buffer asked step.lawful step.one step.good step.reported.0 new same nested certs_nested none)
+        (subst (λ s. IsGood config chain (node_of s buffer asked)) (sym same) step.good) (let writes : total_writes new.held.writes ≡ total_writes a.held.writes = ap (λ s. total_writes s.held.writes) same in omega arith)
         (subst (λ s. KeepsValues s.held.blocks.sure s.held.blocks.held) (sym same) nested.sure_held) told told heard heard' (Hears-nothing told)
         (subst (λ cs. Hears heard cs heard') (final.asks-absent config chain a f buffer asked step.lawful step.one step.good step.reported.0 none) asks)
         (subst (λ s. Rest config.window (node_of s buffer asked)) (sym same) step.rests)
@@ -91,10 +121,20 @@ module _ {P E : Type 0} (epochs : Epochs) (inner : List ℕ → List ℕ) (parti
       pub promise-unstored : (told told' : Option (List Report)) (heard : Option (List Call)) (x : Ending) → Hears told [] told' → Loses a.held (written_both (at_own_height b) (at_height b.height f)) x → IsUsual x.fault → KeepsPromise epochs inner a (reported ∷ []) buffer (heard_by told heard) (heard_by told' heard) (Err x)
       promise-unstored told told' heard x silent lost usual config chain asked set step = quiet_cut config chain asked reported step refl (λ fault. refl) told told' heard heard (written_both (at_own_height b) (at_height b.height f)) x silent (HearsFront-nothing heard _ heard (Hears-nothing heard)) refl refl (of_block config chain asked set step) (of_cert config chain asked set step) (λ y has. hand config chain asked set step (Some b) found ∙ ap (λ (z : At Block). Some z.value) (only_one (at_own_height b) y has)) (λ y has. ap (λ (z : At Finalization). Some z.value) (only_one (at_height b.height f) y has)) lost (λ p has. nothing_put p has) usual
 
-      pub promise-stored : (m : Seen P E) (told told1 told' : Option (List Report)) (heard : Option (List Call)) (result : Result (Seen P E) Ending) → IsNested a.held.blocks → IsNested a.held.certs → nat_lt (height_of a.held.processed) b.height ≡ true → StoresAbove inner a f b m → Grew a.held (written_both (at_own_height b) (at_height b.height f)) m.held → Hears told (tip_reports a.life.tip f b) told1 → Ran m told1 told' result → KeepsPromise epochs inner a (reported ∷ []) buffer (heard_by told heard) (heard_by told' heard) result
-      promise-stored m told told1 told' heard result nested certs_nested above stores grew tips ran config chain asked set step =
+      -- no sync of what was put could be started
+      pub promise-unstarted : (told told' : Option (List Report)) (heard : Option (List Call)) (x : Ending) → Hears told (tip_reports a.life.tip f b) told' → Loses a.held (written_both (at_own_height b) (at_height b.height f)) x → is_by_value x.fault ≡ false → is_dropped_ack x.fault ≡ false → KeepsPromise epochs inner a (reported ∷ []) buffer (heard_by told heard) (heard_by told' heard) (Err x)
+      promise-unstarted told told' heard x tips lost no_value not_dropped config chain asked set step =
+          told_cut config chain asked reported step refl (λ fault. refl) (tip_reports a.life.tip f b) (tip_after a.life.tip b) (tip_reports-tips a.life.tip f b) (tip_reports-rise a.life.tip f b)
+          (final.tips_told config chain a f buffer asked step.lawful step.one step.good step.reported.0 b (hand config chain asked set step (Some b) found)) told told' heard heard (written_both (at_own_height b) (at_height b.height f)) x tips (HearsFront-nothing heard _ heard (Hears-nothing heard)) refl refl
+          (of_block config chain asked set step) (of_cert config chain asked set step) (λ y has. hand config chain asked set step (Some b) found ∙ ap (λ (z : At Block). Some z.value) (only_one (at_own_height b) y has)) (λ y has. ap (λ (z : At Finalization). Some z.value) (only_one (at_height b.height f) y has)) lost (λ p has. nothing_put p has) no_value not_dropped
+
+      pub promise-stored : (m new : Seen P E) (told told' : Option (List Report)) (heard : Option (List Call)) → IsNested new.held.blocks → IsNested new.held.certs → AreWritten new.held → nat_lt (height_of a.held.processed) b.height ≡ true → PutsAbove inner a f b m → IsStarted m new → Grew a.held (written_both (at_own_height b) (at_height b.height f)) m.held → Hears told (tip_reports a.life.tip f b) told' → KeepsPromise epochs inner a (reported ∷ []) buffer (heard_by told heard) (heard_by told' heard) (Ok new)
+      promise-stored m new told told' heard nested certs_nested written above puts_as is_started grew tips config chain asked set step =
           let is = hand config chain asked set step (Some b) found in
-          dispatched config chain a m reported buffer asked (tip_reports a.life.tip f b) (set.window ∙ sym (ap (λ s. s.life.sizes.window) stores.same)) step (λ fault. refl)
-          (final.Reaches-stored config chain a f buffer asked step.lawful step.one step.good step.reported.0 b m nested certs_nested (Grown-blocks a.held m.held _ refl grew) (Grown-certs a.held m.held _ refl grew) is above (subst (λ i. StoresAbove i a f b m) (sym set.inner_is) stores))
-          (λ h v at. subst (λ xs. value_at xs h ≡ Some v) stores.blocks.sure at) told told1 told' heard heard result tips ran
+          let puts : PutsAbove config.inner a f b m = subst (λ i. PutsAbove i a f b m) (sym set.inner_is) puts_as in
+          started config chain a m reported buffer asked (tip_reports a.life.tip f b) step
+          (final.Reaches-stored config chain a f buffer asked step.lawful step.one step.good step.reported.0 b m (Grown-blocks a.held m.held _ refl grew) (Grown-certs a.held m.held _ refl grew) is above puts)
+          new is_started (final.total-stored config chain a f buffer asked step.lawful step.one step.good step.reported.0 b m puts) (some_contained _ _ (final.waits-stored config chain a f buffer asked step.lawful step.one step.good step.reported.0 b m puts))
+          (final.IsGood-stored config chain a f buffer asked step.lawful step.one step.good step.reported.0 b m new nested certs_nested written is puts is_started)
+          (final.Rest-stored config chain a f buffer asked step.lawful step.one step.good step.reported.0 b m new puts is_started step.rests) told told' heard heard tips
           (subst (λ cs. Hears heard cs heard) (final.asks-stored config chain a f buffer asked step.lawful step.one step.good step.reported.0 b is above) (Hears-nothing heard))

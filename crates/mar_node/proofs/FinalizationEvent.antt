@@ -1,5 +1,5 @@
 -- A reported finalization: its block isn't at hand, or is stored above the processed height, or is noted at or below it.
-use Rattle.std.proofs.Common.{◌≡◌, ◌⊎◌, inl, inr, ℕ, zero, suc, ◌+◌, ◌-◌, ◌^◌, ◌<◌, ◌≤◌, List, [], ◌∷◌, ◌++◌, length, map, find, drop, fold, Bool, true, false, ◌&&◌, ◌||◌, not, ◌==◌, nat_lt, if◌then◌else◌, Option, Some, None, is_some, option_map, IfSome, IsTrue, IsFalse, Contains, bytes_eq, slice_get, refl, sym, ◌∙◌, ap, subst, arith, append-nil, le_refl, eqb-true, eq-eqb}
+use Rattle.std.proofs.Common.{◌≡◌, ◌⊎◌, inl, inr, ℕ, zero, suc, ◌+◌, ◌-◌, ◌^◌, ◌<◌, ◌≤◌, List, [], ◌∷◌, ◌++◌, length, map, drop, fold, Bool, true, false, ◌&&◌, ◌||◌, not, ◌==◌, nat_lt, if◌then◌else◌, Option, Some, None, is_some, option_map, IfSome, IsTrue, IsFalse, Contains, bytes_eq, slice_get, refl, sym, ◌∙◌, ap, subst, arith, append-nil, le_refl, eqb-true, eq-eqb, length-append}
 use Rattle.std.specs.List.{AllByRecursion, filter_map, list_any}
 use Rattle.std.specs.Option.{option_or}
 use Rattle.std.proofs.lemmas.List.Elements.{Contains-append_left, Contains-append_right}
@@ -13,7 +13,7 @@ use Rattle.mar_key.specs.Cutoff.{Cutoff, at_round, greatest_of}
 use Rattle.mar_key.specs.Processed.{first_unprocessed, height_in, height_of}
 use Rattle.mar_store.specs.Kept.{At, Kept, has_height, value_at}
 use Rattle.mar_store.specs.Changes.{IsNested, KeepsValues, left_of}
-use Rattle.mar_store.proofs.Lookups.{AllByRecursion-contains, AllByRecursion-from_contains, AllByRecursion-push, AllByRecursion-weaker, AllByRecursion-within, has_height-from_contains, has_height-push_cases, has_height-push_same, value_at-append, value_at-append_found}
+use Rattle.mar_store.proofs.Lookups.{AllByRecursion-contains, AllByRecursion-from_contains, AllByRecursion-weaker, Contains-from_value, has_height-from_contains, value-from_has_height, value_at-append}
 use Rattle.mar_node.specs.Metadata.{Pair, pair_of}
 use Rattle.mar_node.specs.Stored.{at_own_height, block_of, is_certified, is_held, values_of}
 use Rattle.mar_node.specs.Cached.{cached_finalization}
@@ -23,10 +23,11 @@ use Rattle.mar_node.specs.Chain.{Chain, Finalizes, IsBlockAt, IsFinal, IsLawful,
 use Rattle.mar_node.specs.Config.{Config}
 use Rattle.mar_node.specs.Event.{Event, Met, Storing, cutoff_after, message_told, met_finalization, met_of, met_rounds, no_floor, own_writes, processed_after, storing_of, told_finalization}
 use Rattle.mar_node.specs.Faults.{height_limit, last_height, storing_fault}
-use Rattle.mar_node.specs.Held.{Seen}
+use Rattle.mar_node.specs.Held.{AreWritten, Seen}
 use Rattle.mar_node.specs.Lives.{later_round}
-use Rattle.mar_node.specs.Moves.{IsRead, RaisesTo, StoresAbove, StoresLate, StoresValue, StoresWhere, at_height, lacks_finalization, late_tip, late_tips, tip_after, tip_reports}
-use Rattle.mar_node.specs.Node.{Agrees, AreBlocksOf, AreFinalizationsOf, AreNestedHeights, ConsecutiveFrom, FloorSafe, HasAnchor, IsFinalized, IsGood, Node, SureOrWritten, at_hand, write_count}
+use Rattle.mar_node.specs.Moves.{IsRead, IsStarted, PutsAbove, RaisesTo, StoresLate, StoresValue, StoresWhere, at_height, lacks_finalization, late_tip, late_tips, tip_after, tip_reports}
+use Rattle.mar_node.specs.Node.{Agrees, AreBlocksOf, AreFinalizationsOf, AreNestedHeights, ConsecutiveFrom, FloorSafe, HasAnchor, IsFinalized, IsGood, Node, OpenSync, Rest, SureOrWritten, at_hand, block_missing, floor_awaited, window_full, write_uncovered}
+use Rattle.mar_node.specs.Writing.{total_writes}
 use Rattle.mar_node.specs.Promise.{AreOne, node_of}
 use Rattle.mar_node.specs.Requests.{own_asks, raise_asks, reported_asks, want_asks}
 use Rattle.mar_node.specs.Sound.{IsSafePair}
@@ -37,9 +38,10 @@ use Rattle.mar_node.proofs.FloorSafety.{FloorSafe-still, KeepsHeightsFrom, Meets
 use Rattle.mar_node.proofs.FoundBlocks.{Contains-slice_get, values_in_chain}
 use Rattle.mar_node.proofs.PairsAfter.{HasAnchor-kept, IsSafePair-after}
 use Rattle.mar_node.proofs.Growing.{Grown, Grown-same}
-use Rattle.mar_node.proofs.PlainEvents.{Certificates-same, KeepsFrom-same, Writes-none, nothing_put}
+use Rattle.mar_node.proofs.PlainEvents.{Certificates-same, KeepsFrom-same, Writes-same, nothing_put}
 use Rattle.mar_node.proofs.Reaching.{AreTips, Reaches, some_first}
 use Rattle.mar_node.proofs.Soundness.{IsFrom, IsSafePair-kept}
+use Rattle.mar_node.proofs.StoredValues.{stored_height, entered_height, missing_stays, all_held, all_may, KeepsFrom-put, found_place, any_place, either_test, due_height, KeepsFrom-due, held_due, may_due, sure_due}
 use Rattle.mar_node.proofs.Tips.{above_from, low_from, tip_after-high, tip_reports-chain, tip_reports-rise, tip_reports-tips}
 
 -- WHAT A REPORT STORES AND TELLS
@@ -56,76 +58,6 @@ serves_none (Some b) = refl
 leaves_none : (o : Option Block) → unserved_subscriptions [] o ≡ []
 leaves_none None = refl
 leaves_none (Some b) = refl
-
--- PUTS THAT WERE SYNCED
-
--- what was held is held
-held_kept : {T : Type 0} (ignored : Bool) (old : Kept (At T)) (x : At T) (new : Kept (At T)) → StoresValue ignored old x new → KeepsValues old.held new.held
-held_kept true old x new stores h v is = subst (λ xs. value_at xs h ≡ Some v) (sym stores.held) is
-held_kept false old x new stores h v is = subst (λ xs. value_at xs h ≡ Some v) (sym stores.held) (value_at-append_found old.held (x ∷ []) h v is)
-
--- and what was sure is sure
-sure_kept : {T : Type 0} (ignored : Bool) (old : Kept (At T)) (x : At T) (new : Kept (At T)) → IsNested old → StoresValue ignored old x new → KeepsValues old.sure new.sure
-sure_kept ignored old x new nested stores h v is = subst (λ xs. value_at xs h ≡ Some v) (sym stores.sure) (held_kept ignored old x new stores h v (nested.sure_held h v is))
-
--- so it keeps all that stood
-KeepsFrom-stored : {T : Type 0} (bound : ℕ) (ignored : Bool) (old : Kept (At T)) (x : At T) (new : Kept (At T)) → IsNested old → StoresValue ignored old x new → KeepsFrom bound old new
-KeepsFrom-stored bound ignored old x new nested stores = record {
-  held = λ h v low is. held_kept ignored old x new stores h v is;
-  sure = λ h v is has. sure_kept ignored old x new nested stores h v is;
-}
-
--- its height is held, where it was only ignored for being held
-stored_height : {T : Type 0} (ignored : Bool) (old : Kept (At T)) (x : At T) (new : Kept (At T)) → (IsTrue ignored → IsTrue (has_height old.held x.height)) → StoresValue ignored old x new → IsTrue (has_height new.held x.height)
-stored_height true old x new there stores = subst (λ xs. IsTrue (has_height xs x.height)) (sym stores.held) (there refl)
-stored_height false old x new there stores = subst (λ xs. IsTrue (has_height xs x.height)) (sym stores.held) (has_height-push_same old.held x.height x.value)
-
--- no other height entered
-entered_height : {T : Type 0} (ignored : Bool) (old : Kept (At T)) (x : At T) (new : Kept (At T)) (h : ℕ) → StoresValue ignored old x new → IsTrue (has_height new.held h) → IsTrue (has_height old.held h) ⊎ (x.height ≡ h)
-entered_height true old x new h stores has = inl (subst (λ xs. IsTrue (has_height xs h)) stores.held has)
-entered_height false old x new h stores has = has_height-push_cases old.held x.height h x.value (subst (λ xs. IsTrue (has_height xs h)) stores.held has)
-
--- what holds of all that was held and of the put holds of all that is held
-all_held : {T : Type 0} (Q : At T → Type 0) (ignored : Bool) (old : Kept (At T)) (x : At T) (new : Kept (At T)) → StoresValue ignored old x new → AllByRecursion Q old.held → Q x → AllByRecursion Q new.held
-all_held Q true old x new stores all put = subst (AllByRecursion Q) (sym stores.held) all
-all_held Q false old x new stores all put = subst (AllByRecursion Q) (sym stores.held) (AllByRecursion-push Q old.held x all put)
-
--- and so for all that a crash can leave
-all_may : {T : Type 0} (Q : At T → Type 0) (ignored : Bool) (old : Kept (At T)) (x : At T) (new : Kept (At T)) → StoresValue ignored old x new → AllByRecursion Q old.held → Q x → AllByRecursion Q new.may
-all_may Q ignored old x new stores all put = AllByRecursion-within Q new.may new.held stores.may (all_held Q ignored old x new stores all put)
-
--- all that is held is sure
-all_sure : {T : Type 0} (ignored : Bool) (old : Kept (At T)) (x : At T) (new : Kept (At T)) → StoresValue ignored old x new → SureOrWritten new []
-all_sure ignored old x new stores h has = inl (subst (λ xs. IsTrue (has_height xs h)) (sym stores.sure) has)
-
--- LOOKING FOR A DIGEST
-
--- what stands in a list stands behind one more
-later_place : {T : Type 0} (y : T) (xs : List T) (x : T) → Contains xs x → Contains (y ∷ xs) x
-later_place y xs x has = Contains-append_right (y ∷ []) xs x has
-
--- what is found stands in the list
-found_place : {T : Type 0} (test : T → Bool) (xs : List (At T)) → IsTrue (is_some (find test (values_of xs))) → (x : At T) × Contains xs x × (test x.value ≡ true)
-found_place test [] some = absurd cc
-found_place {T = T} test (y ∷ xs) some = by (test y.value) refl some (found_place test xs)
-  where
-    by : (b : Bool) → test y.value ≡ b → IsTrue (is_some (if b then Some y.value else find test (values_of xs))) → (IsTrue (is_some (find test (values_of xs))) → (x : At T) × Contains xs x × (test x.value ≡ true)) → (x : At T) × Contains (y ∷ xs) x × (test x.value ≡ true)
-    by true is found others = (y, (zero, omega arith, refl), is)
-    by false is found others = let there = others found in (there.0, later_place y xs there.0 there.1, there.2)
-
--- so does what passes a test
-any_place : {T : Type 0} (test : T → Bool) (xs : List T) → IsTrue (list_any test xs) → (x : T) × Contains xs x × (test x ≡ true)
-any_place test [] some = absurd cc
-any_place {T = T} test (y ∷ xs) some = by (test y) refl some (any_place test xs)
-  where
-    by : (b : Bool) → test y ≡ b → IsTrue (b || list_any test xs) → (IsTrue (list_any test xs) → (x : T) × Contains xs x × (test x ≡ true)) → (x : T) × Contains (y ∷ xs) x × (test x ≡ true)
-    by true is found others = (y, (zero, omega arith, refl), is)
-    by false is found others = let there = others found in (there.0, later_place y xs there.0 there.1, there.2)
-
--- one of two tests passes
-either_test : (c d : Bool) → IsTrue (c || d) → IsTrue c ⊎ IsTrue d
-either_test true d is = inl refl
-either_test false d is = inr is
 
 -- TIPS
 
@@ -150,37 +82,6 @@ no_limit true h apart = by (h == last_height) refl
     by : (c : Bool) → (h == last_height) ≡ c → c ≡ false
     by true same = absurd (apart (eqb-true h last_height same))
     by false other = refl
-
--- PUTS THAT ARE DUE
-
--- a certificate that is due only where none is held: its height is held where a block is
-due_height : {T : Type 0} (ignored has_block : Bool) (old : Kept (At T)) (x : At T) (new : Kept (At T)) → (IsTrue ignored → IsTrue (has_height old.held x.height)) → StoresWhere (has_block && not (has_height old.held x.height)) ignored old x new → IsTrue has_block → IsTrue (has_height new.held x.height)
-due_height ignored false old x new there stores none = absurd cc
-due_height ignored true old x new there stores has = by (has_height old.held x.height) refl stores
-  where
-    by : (c : Bool) → has_height old.held x.height ≡ c → StoresWhere (not c) ignored old x new → IsTrue (has_height new.held x.height)
-    by true held same = subst (λ k. IsTrue (has_height k.held x.height)) (sym same) held
-    by false lacks put = stored_height ignored old x new there put
-
--- due or not, it keeps all that stood
-KeepsFrom-due : {T : Type 0} (bound : ℕ) (due ignored : Bool) (old : Kept (At T)) (x : At T) (new : Kept (At T)) → IsNested old → StoresWhere due ignored old x new → KeepsFrom bound old new
-KeepsFrom-due bound true ignored old x new nested stores = KeepsFrom-stored bound ignored old x new nested stores
-KeepsFrom-due bound false ignored old x new nested stores = subst (KeepsFrom bound old) (sym stores) (KeepsFrom-same bound old)
-
--- what holds of all that was held and of the put, where it is due, holds of all that is held
-held_due : {T : Type 0} (Q : At T → Type 0) (due ignored : Bool) (old : Kept (At T)) (x : At T) (new : Kept (At T)) → StoresWhere due ignored old x new → AllByRecursion Q old.held → (IsTrue due → Q x) → AllByRecursion Q new.held
-held_due Q true ignored old x new stores all put = all_held Q ignored old x new stores all (put refl)
-held_due Q false ignored old x new stores all put = subst (λ k. AllByRecursion Q k.held) (sym stores) all
-
--- and so for all that a crash can leave
-may_due : {T : Type 0} (Q : At T → Type 0) (due ignored : Bool) (old : Kept (At T)) (x : At T) (new : Kept (At T)) → StoresWhere due ignored old x new → AllByRecursion Q old.held → AllByRecursion Q old.may → Q x → AllByRecursion Q new.may
-may_due Q true ignored old x new stores held may put = all_may Q ignored old x new stores held put
-may_due Q false ignored old x new stores held may put = subst (λ k. AllByRecursion Q k.may) (sym stores) may
-
--- what is held stays sure
-sure_due : {T : Type 0} (due ignored : Bool) (old : Kept (At T)) (x : At T) (new : Kept (At T)) → StoresWhere due ignored old x new → SureOrWritten old [] → SureOrWritten new []
-sure_due true ignored old x new stores all = all_sure ignored old x new stores
-sure_due false ignored old x new stores all = subst (λ k. SureOrWritten k []) (sym stores) all
 
 -- WHICH CERTIFICATE ENTERS
 
@@ -234,6 +135,18 @@ Certificates-put n n' e true ignored x told stores = Certificates-pushed n n' e 
 Certificates-put n n' e false ignored x told same = Certificates-pushed n n' e true x told (ap (λ k. k.held) same)
 
 -- WHAT MAY BE LEFT
+
+-- what a store promises of its values, said of heights
+pub nested_heights : {T : Type 0} (kept : Kept (At T)) → IsNested kept → AreNestedHeights kept
+nested_heights {T = T} kept is = record { sure_held = λ h has. keeps_heights kept.sure kept.held is.sure_held h has; held_may = λ h has. by h (value-from_has_height kept.held h has) }
+  where
+    by : (h : ℕ) → (v : T) × (value_at kept.held h ≡ Some v) → IsTrue (has_height kept.may h)
+    by h (v, at) = has_height-from_contains kept.may (record { height = h; value = v }) (is.held_may _ (Contains-from_value kept.held h v at))
+
+-- the last position
+last_position : (syncs : List OpenSync) (s : OpenSync) → Contains (map (λ u. u.position) (syncs ++ s ∷ [])) s.position
+last_position [] s = (zero, omega arith, refl)
+last_position (u ∷ syncs) s = Contains-append_right (u.position ∷ []) (map (λ v. v.position) (syncs ++ s ∷ [])) s.position (last_position syncs s)
 
 -- all that is held is sure, and all that is sure may be left
 nested_stored : {T : Type 0} (start : Kept (At T)) (put : List (At T)) (ignored : Bool) (x : At T) (new : Kept (At T)) → StoresValue ignored start x new → Grown start put new → AreNestedHeights new
@@ -351,6 +264,7 @@ module _ {P E : Type 0} (config : Config) (chain : Chain) (a : Seen P E) (f : Fi
       no_effect = refl;
       kept = refl;
       next_ack = refl;
+      next_sync = refl;
       sizes = refl;
       processed = refl;
       cutoff = sym (cutoff_by [] met);
@@ -380,7 +294,6 @@ module _ {P E : Type 0} (config : Config) (chain : Chain) (a : Seen P E) (f : Fi
       subscriptions = ap (λ xs. xs ++ []) (leaves_none (at_hand n f.payload));
       certified = λ tip. refl;
       no_syncs = λ n'. refl;
-      good = good;
     })
       where
         met : met_rounds n (met_finalization n e) ≡ []
@@ -390,7 +303,7 @@ module _ {P E : Type 0} (config : Config) (chain : Chain) (a : Seen P E) (f : Fi
         stores = storing_by None absent
 
         written : (w : Writes n e no_floor n) × (w.repaired ≡ [])
-        written = Writes-none a a e buffer asked (ap (λ s. own_writes n s no_floor) stores) refl refl refl refl
+        written = Writes-same a a e buffer asked (ap (λ s. own_writes n s no_floor) stores) refl refl (λ syncs. refl) (λ syncs. refl)
 
     -- its block is asked for
     pub asks-absent : at_hand n f.payload ≡ None → want_asks a.held.cutoff f.round f.payload ≡ own_asks config n e no_floor
@@ -443,8 +356,8 @@ module _ {P E : Type 0} (config : Config) (chain : Chain) (a : Seen P E) (f : Fi
     -- MORE IS HELD
 
     -- the node stays good as more is held and sure, with the same blocks outstanding
-    IsGood-grown : (m : Seen P E) → AreNestedHeights m.held.blocks → AreNestedHeights m.held.certs → m.life.out ≡ a.life.out → m.held.processed ≡ a.held.processed → m.held.pairs ≡ pair_of m.held.processed m.held.cutoff ∷ [] → SureOrWritten m.held.blocks [] → SureOrWritten m.held.certs [] → KeepsHeightsFrom 0 a.held.blocks.sure m.held.blocks.sure → AreBlocksOf chain m.held.blocks.held → AreBlocksOf chain m.held.blocks.may → AreFinalizationsOf chain m.held.certs.held → AreFinalizationsOf chain m.held.certs.may → FloorSafe (option_map height_in a.held.processed) m.held.cutoff m.held.blocks.sure chain → AllByRecursion (λ x. x.height ≤ m.life.tip) m.held.certs.held → IsGood config chain (node_of m buffer asked)
-    IsGood-grown m nested_blocks nested_certs out processed own sure_blocks sure_certs stays held_blocks may_blocks held_certs may_certs safe below_tip = record {
+    IsGood-grown : (m : Seen P E) → AreNestedHeights m.held.blocks → AreNestedHeights m.held.certs → m.life.out ≡ a.life.out → m.held.processed ≡ a.held.processed → m.held.pairs ≡ pair_of m.held.processed m.held.cutoff ∷ [] → SureOrWritten m.held.blocks m.held.writes.uncovered → SureOrWritten m.held.certs m.held.writes.uncovered → (0 < length m.held.writes.uncovered → Contains (map (λ s. s.position) m.held.writes.syncs) (total_writes m.held.writes)) → KeepsHeightsFrom 0 a.held.blocks.sure m.held.blocks.sure → AreBlocksOf chain m.held.blocks.held → AreBlocksOf chain m.held.blocks.may → AreFinalizationsOf chain m.held.certs.held → AreFinalizationsOf chain m.held.certs.may → FloorSafe (option_map height_in a.held.processed) m.held.cutoff m.held.blocks.sure chain → AllByRecursion (λ x. x.height ≤ m.life.tip) m.held.certs.held → IsGood config chain (node_of m buffer asked)
+    IsGood-grown m nested_blocks nested_certs out processed own sure_blocks sure_certs sync_open stays held_blocks may_blocks held_certs may_certs safe below_tip = record {
       heights = record {
         stores = record {
           nested_blocks = nested_blocks;
@@ -460,7 +373,7 @@ module _ {P E : Type 0} (config : Config) (chain : Chain) (a : Seen P E) (f : Fi
         };
         floor_clears = λ some. absurd cc;
         own_pair = own;
-        sync_open = λ more. absurd (omega arith);
+        sync_open = sync_open;
       };
       of_chain = record {
         stores = record {
@@ -491,19 +404,19 @@ module _ {P E : Type 0} (config : Config) (chain : Chain) (a : Seen P E) (f : Fi
     pub not_last : (b : Block) → at_hand n f.payload ≡ Some b → b.height ≡ 2 ^ 64 - 1 → ⊥
     not_last b is last = let low : b.height < length chain.blocks = lawful.in_list f.round b.height (block-final b is).0 in let bound : length chain.blocks < 2 ^ 64 - 1 = lawful.bounded in omega arith
 
-    -- what it writes: its own height, which the sync of both archives covers
-    Writes-stored : (b : Block) (m : Seen P E) → at_hand n f.payload ≡ Some b → IsTrue (nat_lt (height_of a.held.processed) b.height) → StoresAbove config.inner a f b m → (w : Writes n e no_floor (node_of m buffer asked)) × (w.repaired ≡ [])
-    Writes-stored b m is above stores = (
+    -- what it writes: its own height
+    Writes-stored : (b : Block) (m : Seen P E) → at_hand n f.payload ≡ Some b → IsTrue (nat_lt (height_of a.held.processed) b.height) → PutsAbove config.inner a f b m → (w : Writes n e no_floor (node_of m buffer asked)) × (w.repaired ≡ [])
+    Writes-stored b m is above puts = (
       record {
         repaired = [];
         by_repair = λ h. sym (ap (λ ws. is_repaired n (ws ++ []) (node_of m buffer asked) h) own ∙ entered h);
         each_once = λ h. omega arith;
-        blocking = write_count n + 1;
-        within = subst (λ ws. write_count n + 1 ≤ write_count n + length (ws ++ [])) (sym own) (omega arith);
+        blocking = 0;
+        within = omega arith;
         at_least = omega arith;
-        covered = ap (λ s. s.life.covered) stores.same ∙ omega arith;
-        uncovered = sym (ap (λ ws. drop (m.life.covered - a.life.covered) (ws ++ [])) own ∙ ap (λ k. drop k (b.height ∷ [])) more);
-        syncs = refl;
+        covered = covered ∙ omega arith;
+        uncovered = ap (λ s. s.held.writes.uncovered) puts.same ∙ sym (ap (λ k. drop (k - a.held.writes.covered) (a.held.writes.uncovered ++ (own_writes n (storing_of n e) no_floor ++ []))) covered ∙ (ap (λ k. drop k (a.held.writes.uncovered ++ (own_writes n (storing_of n e) no_floor ++ []))) minus_same ∙ ap (λ ws. a.held.writes.uncovered ++ (ws ++ [])) own));
+        syncs = ap (λ s. s.held.writes.syncs) puts.same;
       },
       refl,
     )
@@ -511,53 +424,89 @@ module _ {P E : Type 0} (config : Config) (chain : Chain) (a : Seen P E) (f : Fi
         own : own_writes n (storing_of n e) no_floor ≡ b.height ∷ []
         own = ap (λ s. own_writes n s no_floor) (storing_by (Some b) is) ∙ ap (λ (c : Bool). if c then b.height ∷ [] else []) above
 
-        more : m.life.covered - a.life.covered ≡ 1
-        more = let after : m.life.covered ≡ a.life.covered + 1 = ap (λ s. s.life.covered) stores.same in omega arith
+        covered : m.held.writes.covered ≡ a.held.writes.covered
+        covered = ap (λ s. s.held.writes.covered) puts.same
+
+        minus_same : a.held.writes.covered - a.held.writes.covered ≡ 0
+        minus_same = omega arith
 
         entered : (h : ℕ) → is_repaired n (b.height ∷ []) (node_of m buffer asked) h ≡ false
-        entered h = only_own (has_height m.held.blocks.held h) (has_height a.held.blocks.held h) (b.height == h || false) (nat_lt (height_of m.held.processed) h) (λ has. from (entered_height (is_held a.held.blocks.held b) a.held.blocks (at_own_height b) m.held.blocks h stores.blocks has))
+        entered h = only_own (has_height m.held.blocks.held h) (has_height a.held.blocks.held h) (b.height == h || false) (nat_lt (height_of m.held.processed) h) (λ has. from (entered_height (is_held a.held.blocks.held b) a.held.blocks.held (at_own_height b) m.held.blocks.held h puts.blocks.held has))
           where
             from : IsTrue (has_height a.held.blocks.held h) ⊎ (b.height ≡ h) → IsTrue (has_height a.held.blocks.held h) ⊎ IsTrue (b.height == h || false)
             from (inl was) = inl was
             from (inr same) = inr (ap (λ c. c || false) (eq-eqb b.height h same))
 
-    -- the node that it leaves is good
-    IsGood-stored : (b : Block) (m : Seen P E) → IsNested a.held.blocks → IsNested a.held.certs → Grown a.held.blocks (at_own_height b ∷ []) m.held.blocks → Grown a.held.certs (at_height b.height f ∷ []) m.held.certs → at_hand n f.payload ≡ Some b → StoresAbove config.inner a f b m → IsGood config chain (node_of m buffer asked)
-    IsGood-stored b m blocks_nested certs_nested blocks_grown certs_grown is stores =
-        IsGood-grown m (nested_stored _ _ _ _ _ stores.blocks blocks_grown) (nested_stored _ _ _ _ _ stores.certs certs_grown) (ap (λ s. s.life.out) stores.same) processed own (all_sure _ _ _ _ stores.blocks) (all_sure _ _ _ _ stores.certs) stays
-        (all_held (λ x. IsBlockAt chain x.height x.value) _ _ _ _ stores.blocks good.of_chain.stores.held_blocks (block-final b is).1)
-        (all_may (λ x. IsBlockAt chain x.height x.value) _ _ _ _ stores.blocks good.of_chain.stores.held_blocks (block-final b is).1)
-        (all_held (λ x. Finalizes chain x.height x.value.round x.value.payload) _ _ _ _ stores.certs good.of_chain.stores.held_certs (finalizes b is))
-        (all_may (λ x. Finalizes chain x.height x.value.round x.value.payload) _ _ _ _ stores.certs good.of_chain.stores.held_certs (finalizes b is))
-        (subst (λ c. FloorSafe (option_map height_in a.held.processed) c m.held.blocks.sure chain) (sym cutoff) (FloorSafe-still chain (option_map height_in a.held.processed) a.held.cutoff a.held.blocks.sure m.held.blocks.sure (λ has. stays _ (omega arith) has) good.of_chain.floor_safe))
-        (subst (λ t. AllByRecursion (λ x. x.height ≤ t) m.held.certs.held) (sym tip) (all_held (λ x. x.height ≤ tip_after a.life.tip b) _ _ _ _ stores.certs (AllByRecursion-weaker (λ x. x.height ≤ a.life.tip) (λ x. x.height ≤ tip_after a.life.tip b) (λ x low. let high : a.life.tip ≤ tip_after a.life.tip b = (tip_after-high a.life.tip b).0 in omega arith) a.held.certs.held good.of_chain.tip_reported) (tip_after-high a.life.tip b).1))
+    -- one write more is counted, which waits
+    pub total-stored : (b : Block) (m : Seen P E) → PutsAbove config.inner a f b m → total_writes a.held.writes < total_writes m.held.writes
+    total-stored b m puts =
+        let more : length (a.held.writes.uncovered ++ b.height ∷ []) ≡ length a.held.writes.uncovered + 1 = length-append a.held.writes.uncovered (b.height ∷ []) in
+        subst (λ w. total_writes a.held.writes < total_writes w) (sym (ap (λ s. s.held.writes) puts.same)) (omega (arith, more))
+
+    pub waits-stored : (b : Block) (m : Seen P E) → PutsAbove config.inner a f b m → Contains m.held.writes.uncovered b.height
+    waits-stored b m puts = subst (λ w. Contains w.uncovered b.height) (sym (ap (λ s. s.held.writes) puts.same)) (Contains-append_right a.held.writes.uncovered (b.height ∷ []) b.height (zero, omega arith, refl))
+
+    -- once its sync is started, the node is good
+    pub IsGood-stored : (b : Block) (m new : Seen P E) → IsNested new.held.blocks → IsNested new.held.certs → AreWritten new.held → at_hand n f.payload ≡ Some b → PutsAbove config.inner a f b m → IsStarted m new → IsGood config chain (node_of new buffer asked)
+    IsGood-stored b m new blocks_nested certs_nested written is puts started =
+        IsGood-grown new (nested_heights new.held.blocks blocks_nested) (nested_heights new.held.certs certs_nested) (ap (λ s. s.life.out) started ∙ ap (λ s. s.life.out) puts.same) processed own written.blocks written.certs sync_open stays
+        (subst (λ k. AreBlocksOf chain k.held) (sym blocks) (all_held (λ x. IsBlockAt chain x.height x.value) _ _ _ _ puts.blocks.held good.of_chain.stores.held_blocks (block-final b is).1))
+        (subst (λ k. AreBlocksOf chain k.may) (sym blocks) (all_may (λ x. IsBlockAt chain x.height x.value) _ _ _ _ puts.blocks good.of_chain.stores.may_blocks (block-final b is).1))
+        (subst (λ k. AreFinalizationsOf chain k.held) (sym certs) (all_held (λ x. Finalizes chain x.height x.value.round x.value.payload) _ _ _ _ puts.certs.held good.of_chain.stores.held_certs (finalizes b is)))
+        (subst (λ k. AreFinalizationsOf chain k.may) (sym certs) (all_may (λ x. Finalizes chain x.height x.value.round x.value.payload) _ _ _ _ puts.certs good.of_chain.stores.may_certs (finalizes b is)))
+        (subst (λ c. FloorSafe (option_map height_in a.held.processed) c new.held.blocks.sure chain) (sym cutoff) (FloorSafe-still chain (option_map height_in a.held.processed) a.held.cutoff a.held.blocks.sure new.held.blocks.sure (λ has. stays _ (omega arith) has) good.of_chain.floor_safe))
+        (subst (λ k. AllByRecursion (λ x. x.height ≤ new.life.tip) k.held) (sym certs) (subst (λ t. AllByRecursion (λ x. x.height ≤ t) m.held.certs.held) (sym tip) (all_held (λ x. x.height ≤ tip_after a.life.tip b) _ _ _ _ puts.certs.held (AllByRecursion-weaker (λ x. x.height ≤ a.life.tip) (λ x. x.height ≤ tip_after a.life.tip b) (λ x low. let high : a.life.tip ≤ tip_after a.life.tip b = (tip_after-high a.life.tip b).0 in omega arith) a.held.certs.held good.of_chain.tip_reported) (tip_after-high a.life.tip b).1)))
       where
-        processed : m.held.processed ≡ a.held.processed
-        processed = ap (λ s. s.held.processed) stores.same
+        blocks : new.held.blocks ≡ m.held.blocks
+        blocks = ap (λ s. s.held.blocks) started
 
-        cutoff : m.held.cutoff ≡ a.held.cutoff
-        cutoff = ap (λ s. s.held.cutoff) stores.same
+        certs : new.held.certs ≡ m.held.certs
+        certs = ap (λ s. s.held.certs) started
 
-        tip : m.life.tip ≡ tip_after a.life.tip b
-        tip = ap (λ s. s.life.tip) stores.same
+        processed : new.held.processed ≡ a.held.processed
+        processed = ap (λ s. s.held.processed) started ∙ ap (λ s. s.held.processed) puts.same
 
-        own : m.held.pairs ≡ pair_of m.held.processed m.held.cutoff ∷ []
-        own = ap (λ s. s.held.pairs) stores.same ∙ (good.heights.own_pair ∙ sym (ap (λ s. pair_of s.held.processed s.held.cutoff ∷ []) stores.same))
+        cutoff : new.held.cutoff ≡ a.held.cutoff
+        cutoff = ap (λ s. s.held.cutoff) started ∙ ap (λ s. s.held.cutoff) puts.same
 
-        stays : KeepsHeightsFrom 0 a.held.blocks.sure m.held.blocks.sure
-        stays h low has = keeps_heights a.held.blocks.sure m.held.blocks.sure (sure_kept _ _ _ _ blocks_nested stores.blocks) h has
+        tip : new.life.tip ≡ tip_after a.life.tip b
+        tip = ap (λ s. s.life.tip) started ∙ ap (λ s. s.life.tip) puts.same
 
-    -- a block above the processed height is stored with its finalization
-    pub Reaches-stored : (b : Block) (m : Seen P E) → IsNested a.held.blocks → IsNested a.held.certs → Grown a.held.blocks (at_own_height b ∷ []) m.held.blocks → Grown a.held.certs (at_height b.height f ∷ []) m.held.certs → at_hand n f.payload ≡ Some b → IsTrue (nat_lt (height_of a.held.processed) b.height) → StoresAbove config.inner a f b m → Reaches config chain a e buffer asked (tip_reports a.life.tip f b) m
-    Reaches-stored b m blocks_nested certs_nested blocks_grown certs_grown is above stores = record {
+        own : new.held.pairs ≡ pair_of new.held.processed new.held.cutoff ∷ []
+        own = ap (λ s. s.held.pairs) started ∙ (ap (λ s. s.held.pairs) puts.same ∙ (good.heights.own_pair ∙ sym (ap (λ s. pair_of s.held.processed s.held.cutoff ∷ []) started ∙ ap (λ s. pair_of s.held.processed s.held.cutoff ∷ []) puts.same)))
+
+        sync_open : 0 < length new.held.writes.uncovered → Contains (map (λ s. s.position) new.held.writes.syncs) (total_writes new.held.writes)
+        sync_open some = subst (λ w. Contains (map (λ s. s.position) w.syncs) (total_writes w)) (sym (ap (λ s. s.held.writes) started)) (last_position m.held.writes.syncs (record { ticket = m.held.writes.next_sync; position = total_writes m.held.writes }))
+
+        stays : KeepsHeightsFrom 0 a.held.blocks.sure new.held.blocks.sure
+        stays h low has = subst (λ k. IsTrue (has_height k.sure h)) (sym blocks) (subst (λ xs. IsTrue (has_height xs h)) (sym puts.blocks.sure) has)
+
+    -- and rests
+    pub Rest-stored : (b : Block) (m new : Seen P E) → PutsAbove config.inner a f b m → IsStarted m new → Rest config.window n → Rest config.window (node_of new buffer asked)
+    Rest-stored b m new puts started (floor_awaited some) = absurd cc
+    Rest-stored b m new puts started (window_full full) = window_full (ap (λ s. length s.life.out) started ∙ (ap (λ s. length s.life.out) puts.same ∙ full))
+    Rest-stored b m new puts started (write_uncovered h waits low) = write_uncovered h (subst (λ w. Contains w.uncovered h) (sym (ap (λ s. s.held.writes) started)) (subst (λ w. Contains w.uncovered h) (sym (ap (λ s. s.held.writes) puts.same)) (Contains-append_left a.held.writes.uncovered (b.height ∷ []) h waits))) (subst (λ k. h ≤ k) (sym (ap (λ s. first_unprocessed s.held.processed + length s.life.out) started ∙ ap (λ s. first_unprocessed s.held.processed + length s.life.out) puts.same)) low)
+    Rest-stored b m new puts started (block_missing missing) = by (b.height == first_unprocessed a.held.processed + length a.life.out) refl
+      where
+        next : first_unprocessed new.held.processed + length new.life.out ≡ first_unprocessed a.held.processed + length a.life.out
+        next = ap (λ s. first_unprocessed s.held.processed + length s.life.out) started ∙ ap (λ s. first_unprocessed s.held.processed + length s.life.out) puts.same
+
+        by : (c : Bool) → (b.height == first_unprocessed a.held.processed + length a.life.out) ≡ c → Rest config.window (node_of new buffer asked)
+        by true same = write_uncovered b.height (subst (λ w. Contains w.uncovered b.height) (sym (ap (λ s. s.held.writes) started)) (waits-stored b m puts)) (let is : b.height ≡ first_unprocessed a.held.processed + length a.life.out = eqb-true b.height (first_unprocessed a.held.processed + length a.life.out) same in omega (arith, next))
+        by false other = block_missing (subst (λ k. value_at new.held.blocks.held k ≡ None) (sym next) (subst (λ k. value_at k.held (first_unprocessed a.held.processed + length a.life.out) ≡ None) (sym (ap (λ s. s.held.blocks) started)) (missing_stays _ _ _ _ (first_unprocessed a.held.processed + length a.life.out) puts.blocks.held other missing)))
+
+    -- a block above the processed height is put with its finalization
+    pub Reaches-stored : (b : Block) (m : Seen P E) → Grown a.held.blocks (at_own_height b ∷ []) m.held.blocks → Grown a.held.certs (at_height b.height f ∷ []) m.held.certs → at_hand n f.payload ≡ Some b → IsTrue (nat_lt (height_of a.held.processed) b.height) → PutsAbove config.inner a f b m → Reaches config chain a e buffer asked (tip_reports a.life.tip f b) m
+    Reaches-stored b m blocks_grown certs_grown is above puts = record {
       no_effect = refl;
-      kept = ap (λ s. s.life.out) stores.same;
-      next_ack = ap (λ s. s.life.next_ack) stores.same;
-      sizes = ap (λ s. s.life.sizes) stores.same;
-      processed = processed;
-      cutoff = ap (λ s. s.held.cutoff) stores.same ∙ sym (cutoff_by [] met);
-      blocks = KeepsFrom-stored _ _ _ _ _ blocks_nested stores.blocks;
-      certs = KeepsFrom-stored _ _ _ _ _ certs_nested stores.certs;
+      kept = ap (λ s. s.life.out) puts.same;
+      next_ack = ap (λ s. s.life.next_ack) puts.same;
+      next_sync = ap (λ s. s.held.writes.next_sync) puts.same;
+      sizes = ap (λ s. s.life.sizes) puts.same;
+      processed = ap (λ s. s.held.processed) puts.same;
+      cutoff = ap (λ s. s.held.cutoff) puts.same ∙ sym (cutoff_by [] met);
+      blocks = KeepsFrom-put _ _ _ _ _ puts.blocks;
+      certs = KeepsFrom-put _ _ _ _ _ puts.certs;
       put_blocks = at_own_height b ∷ [];
       put_certs = at_height b.height f ∷ [];
       blocks_grown = blocks_grown;
@@ -566,13 +515,13 @@ module _ {P E : Type 0} (config : Config) (chain : Chain) (a : Seen P E) (f : Fi
       of_certs = (finalizes b is, tt);
       own_blocks = λ x has. is ∙ ap (λ (y : At Block). Some y.value) (only_one (at_own_height b) x has);
       own_certs = λ x has. ap (λ (y : At Finalization). Some y.value) (only_one (at_height b.height f) x has);
-      certificates = Certificates-put n (node_of m buffer asked) e true (is_certified config.inner a.held.certs.held b.height (config.inner f.payload)) (at_height b.height f) refl stores.certs;
-      writes = (Writes-stored b m is above stores).0;
-      no_repair = (Writes-stored b m is above stores).1;
+      certificates = Certificates-pushed n (node_of m buffer asked) e (is_certified config.inner a.held.certs.held b.height (config.inner f.payload)) (at_height b.height f) refl puts.certs.held;
+      writes = (Writes-stored b m is above puts).0;
+      no_repair = (Writes-stored b m is above puts).1;
       are_tips = tip_reports-tips a.life.tip f b;
-      tips_rise = subst (TipsFrom a.life.tip (tip_reports a.life.tip f b)) (sym (ap (λ s. s.life.tip) stores.same)) (tip_reports-rise a.life.tip f b);
+      tips_rise = subst (TipsFrom a.life.tip (tip_reports a.life.tip f b)) (sym (ap (λ s. s.life.tip) puts.same)) (tip_reports-rise a.life.tip f b);
       tips_chain = tip_reports-chain chain a.life.tip f b (block-final b is).0 (block-final b is).1;
-      witnessed = ap (λ s. s.held.witnessed) stores.same ∙ sym (witnessed_by [] met);
+      witnessed = ap (λ s. s.held.witnessed) puts.same ∙ sym (witnessed_by [] met);
       stored = subst (λ s. IfSome s (IsStored (node_of m buffer asked))) (sym storing) stored;
       stored_late = subst (λ s. IfSome s (IsStoredLate n no_floor (node_of m buffer asked))) (sym storing) (λ with low held. absurd (let high : height_of a.held.processed < b.height = above_from (height_of a.held.processed) b.height above in omega arith));
       no_query = refl;
@@ -582,7 +531,6 @@ module _ {P E : Type 0} (config : Config) (chain : Chain) (a : Seen P E) (f : Fi
       subscriptions = ap (λ xs. xs ++ []) (leaves_none (at_hand n f.payload));
       certified = λ tip. refl;
       no_syncs = λ n'. refl;
-      good = IsGood-stored b m blocks_nested certs_nested blocks_grown certs_grown is stores;
     }
       where
         met : met_rounds n (met_finalization n e) ≡ []
@@ -591,14 +539,15 @@ module _ {P E : Type 0} (config : Config) (chain : Chain) (a : Seen P E) (f : Fi
         storing : storing_of n e ≡ Some (storing_met (met_of b f))
         storing = storing_by (Some b) is
 
-        processed : m.held.processed ≡ a.held.processed
-        processed = ap (λ s. s.held.processed) stores.same
-
         stored : IsStored (node_of m buffer asked) (storing_met (met_of b f))
         stored = record {
-          block = inl (stored_height (is_held a.held.blocks.held b) a.held.blocks (at_own_height b) m.held.blocks (λ ignored. block_there b is ignored) stores.blocks);
-          certificate = λ with high. stored_height (is_certified config.inner a.held.certs.held b.height (config.inner f.payload)) a.held.certs (at_height b.height f) m.held.certs (λ ignored. cert_there b is ignored) stores.certs;
+          block = inl (stored_height (is_held a.held.blocks.held b) a.held.blocks.held (at_own_height b) m.held.blocks.held (λ ignored. block_there b is ignored) puts.blocks.held);
+          certificate = λ with high. stored_height (is_certified config.inner a.held.certs.held b.height (config.inner f.payload)) a.held.certs.held (at_height b.height f) m.held.certs.held (λ ignored. cert_there b is ignored) puts.certs.held;
         }
+
+    -- what was told and put before a sync couldn't be started
+    pub tips_told : (b : Block) → at_hand n f.payload ≡ Some b → AreTipsOf chain (tip_reports a.life.tip f b)
+    tips_told b is = tip_reports-chain chain a.life.tip f b (block-final b is).0 (block-final b is).1
 
     -- and nothing is asked for
     pub asks-stored : (b : Block) → at_hand n f.payload ≡ Some b → IsTrue (nat_lt (height_of a.held.processed) b.height) → [] ≡ own_asks config n e no_floor
@@ -641,8 +590,9 @@ module _ {P E : Type 0} (config : Config) (chain : Chain) (a : Seen P E) (f : Fi
     IsGood-late : IsPartition config.epochs → (b : Block) (m : Seen P E) → Grown a.held.certs (at_height b.height f ∷ []) m.held.certs → at_hand n f.payload ≡ Some b → IsFalse (nat_lt (height_of a.held.processed) b.height) → a.life.tip ≤ m.life.tip → (IsTrue (lacks_finalization a.held b) → b.height ≤ m.life.tip) → IsNoted m → PutsLate b m.held.certs → IsGood config chain (node_of m buffer asked)
     IsGood-late partition b m grown is low rises below_tip same certs =
         IsGood-grown m (subst AreNestedHeights (sym blocks) good.heights.stores.nested_blocks) (nested_due _ _ _ _ _ _ certs grown good.heights.stores.nested_certs) (ap (λ s. s.life.out) same) (ap (λ s. s.held.processed) same) own
-        (subst (λ k. SureOrWritten k []) (sym blocks) good.heights.stores.sure_blocks)
-        (sure_due _ _ _ _ _ certs good.heights.stores.sure_certs)
+        (subst (λ k. SureOrWritten k m.held.writes.uncovered) (sym blocks) (subst (λ w. SureOrWritten a.held.blocks w.uncovered) (sym writes) good.heights.stores.sure_blocks))
+        (sure_due _ _ _ _ _ m.held.writes.uncovered certs (subst (λ w. SureOrWritten a.held.certs w.uncovered) (sym writes) good.heights.stores.sure_certs))
+        (subst (λ w. 0 < length w.uncovered → Contains (map (λ s. s.position) w.syncs) (total_writes w)) (sym writes) good.heights.sync_open)
         (λ h bound has. subst (λ k. IsTrue (has_height k.sure h)) (sym blocks) has)
         (subst (λ k. AreBlocksOf chain k.held) (sym blocks) good.of_chain.stores.held_blocks)
         (subst (λ k. AreBlocksOf chain k.may) (sym blocks) good.of_chain.stores.may_blocks)
@@ -657,12 +607,16 @@ module _ {P E : Type 0} (config : Config) (chain : Chain) (a : Seen P E) (f : Fi
         own : m.held.pairs ≡ pair_of m.held.processed m.held.cutoff ∷ []
         own = ap (λ s. s.held.pairs) same ∙ sym (ap (λ s. pair_of s.held.processed s.held.cutoff ∷ []) same)
 
+        writes : m.held.writes ≡ a.held.writes
+        writes = ap (λ s. s.held.writes) same
+
     -- with these tips
     Reaches-told : IsPartition config.epochs → (b : Block) (tips : List Report) (m : Seen P E) → IsNested a.held.blocks → IsNested a.held.certs → Grown a.held.certs (at_height b.height f ∷ []) m.held.certs → at_hand n f.payload ≡ Some b → IsFalse (nat_lt (height_of a.held.processed) b.height) → AreTips tips → TipsFrom a.life.tip tips m.life.tip → AreTipsOf chain tips → a.life.tip ≤ m.life.tip → (IsTrue (lacks_finalization a.held b) → b.height ≤ m.life.tip) → IsNoted m → PutsLate b m.held.certs → Reaches config chain a e buffer asked tips m
     Reaches-told partition b tips m blocks_nested certs_nested grown is low only rise of_chain rises below_tip same certs = record {
       no_effect = refl;
       kept = ap (λ s. s.life.out) same;
       next_ack = ap (λ s. s.life.next_ack) same;
+      next_sync = ap (λ s. s.held.writes.next_sync) same;
       sizes = ap (λ s. s.life.sizes) same;
       processed = processed;
       cutoff = ap (λ s. s.held.cutoff) same ∙ sym (cutoff_by (f.round ∷ []) met);
@@ -692,7 +646,6 @@ module _ {P E : Type 0} (config : Config) (chain : Chain) (a : Seen P E) (f : Fi
       subscriptions = ap (λ xs. xs ++ []) (leaves_none (at_hand n f.payload));
       certified = λ tip. refl;
       no_syncs = λ n'. refl;
-      good = IsGood-late partition b m grown is low rises below_tip same certs;
     }
       where
         met : met_rounds n (met_finalization n e) ≡ f.round ∷ []
@@ -708,7 +661,7 @@ module _ {P E : Type 0} (config : Config) (chain : Chain) (a : Seen P E) (f : Fi
         processed = ap (λ s. s.held.processed) same
 
         written : (v : Writes n e no_floor (node_of m buffer asked)) × (v.repaired ≡ [])
-        written = Writes-none a m e buffer asked (ap (λ s. own_writes n s no_floor) storing ∙ ap (λ (c : Bool). if c then b.height ∷ [] else []) low) (ap (λ k. k.held) blocks) (ap (λ s. s.life.covered) same) refl refl
+        written = Writes-same a m e buffer asked (ap (λ s. own_writes n s no_floor) storing ∙ ap (λ (c : Bool). if c then b.height ∷ [] else []) low) (ap (λ k. k.held) blocks) (ap (λ s. s.held.writes) same) (λ syncs. refl) (λ syncs. refl)
 
         at_most : b.height ≤ height_of m.held.processed
         at_most = subst (λ p. b.height ≤ height_of p) (sym processed) (low_from (height_of a.held.processed) b.height low)
@@ -736,3 +689,20 @@ module _ {P E : Type 0} (config : Config) (chain : Chain) (a : Seen P E) (f : Fi
       where
         as_noted : IsNoted m × (m.life.tip ≡ late_tip (lacks_finalization a.held b) a.life.tip b)
         as_noted = noted_same config.inner a w s m (at_round f.round ∷ []) (later_round a.held.witnessed (Some f.round)) f b raised synced stores
+
+    -- the node that these leave is good
+    pub IsGood-noted : IsPartition config.epochs → (b : Block) (w s m : Seen P E) → Grown a.held.certs (at_height b.height f ∷ []) m.held.certs → at_hand n f.payload ≡ Some b → IsFalse (nat_lt (height_of a.held.processed) b.height) → RaisesTo a (at_round f.round ∷ []) (later_round a.held.witnessed (Some f.round)) w → s ≡ record w { held = record w.held { pairs = pair_of w.held.processed w.held.cutoff ∷ []; watches = s.held.watches } } → StoresLate config.inner s f b m → IsGood config chain (node_of m buffer asked)
+    IsGood-noted partition b w s m grown is low raised synced stores = by (lacks_finalization a.held b) refl as_noted.1
+      where
+        as_noted : IsNoted m × (m.life.tip ≡ late_tip (lacks_finalization a.held b) a.life.tip b)
+        as_noted = noted_same config.inner a w s m (at_round f.round ∷ []) (later_round a.held.witnessed (Some f.round)) f b raised synced stores
+
+        certs : PutsLate b m.held.certs
+        certs = noted_certs config.inner a w s m (at_round f.round ∷ []) (later_round a.held.witnessed (Some f.round)) f b raised synced stores
+
+        by : (c : Bool) → lacks_finalization a.held b ≡ c → m.life.tip ≡ late_tip c a.life.tip b → IsGood config chain (node_of m buffer asked)
+        by true due at = IsGood-late partition b m grown is low (subst (λ k. a.life.tip ≤ k) (sym at) (tip_after-high a.life.tip b).0) (λ put. subst (λ k. b.height ≤ k) (sym at) (tip_after-high a.life.tip b).1) as_noted.0 certs
+        by false not_due at = IsGood-late partition b m grown is low (subst (λ k. a.life.tip ≤ k) (sym at) (omega arith)) (λ put. absurd (let both : false ≡ true = sym not_due ∙ put in cc)) as_noted.0 certs
+
+    pub writes-noted : (b : Block) (w s m : Seen P E) → RaisesTo a (at_round f.round ∷ []) (later_round a.held.witnessed (Some f.round)) w → s ≡ record w { held = record w.held { pairs = pair_of w.held.processed w.held.cutoff ∷ []; watches = s.held.watches } } → StoresLate config.inner s f b m → m.held.writes ≡ a.held.writes
+    writes-noted b w s m raised synced stores = ap (λ x. x.held.writes) stores.same ∙ (ap (λ x. x.held.writes) synced ∙ ap (λ x. x.held.writes) raised.same)

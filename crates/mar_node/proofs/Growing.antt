@@ -7,12 +7,13 @@ use Rattle.mar_key.specs.Processed.{Processed}
 use Rattle.mar_cert.specs.Block.{Block}
 use Rattle.mar_cert.specs.Finalization.{Finalization}
 use Rattle.mar_store.specs.Kept.{At, Kept, value_at}
-use Rattle.mar_store.specs.Changes.{Fails, IsNested, Left, Puts, Syncs, Within, left_of}
+use Rattle.mar_store.specs.Changes.{Fails, Finishes, IsNested, Left, Puts, Syncs, Within, left_of}
 use Rattle.mar_store.specs.Watch.{Watch}
 use Rattle.mar_store.proofs.Lookups.{Contains-from_value}
 use Rattle.mar_node.specs.Metadata.{Pair}
 use Rattle.mar_node.specs.Faults.{StoreName, block_store, cert_store, meta_store}
-use Rattle.mar_node.specs.Held.{ArePassed, Grew, Held, LeavesPairsSince, LeavesStore, Passes, WithinWritten, Written, nothing_written, watch_of, written_block, written_both, written_cert, written_pair}
+use Rattle.mar_node.specs.Held.{ArePassed, Grew, Held, LeavesPairsSince, LeavesStore, MakesSure, Passes, WithinWritten, Written, nothing_written, watch_of, written_block, written_both, written_cert, written_pair}
+use Rattle.mar_node.specs.Writing.{Writing}
 use Rattle.mar_node.proofs.Passing.{ArePassed-refl, ArePassed-store, ArePassed-then, with_watch}
 
 -- ONE STORE
@@ -41,17 +42,24 @@ LeavesStore-failed start bound put more old left before within fails = record {
 pub LeavesStore-put : {T : Type 0} (start : Kept (At T)) (bound : ℕ) (put : List (At T)) (ignored : Bool) (old : Kept (At T)) (x : At T) (new : Kept (At T)) → LeavesStore start bound put (left_of old) → Within (x ∷ []) put → Puts ignored old x new → LeavesStore start bound put (left_of new)
 LeavesStore-put start bound put ignored old x new before within puts = LeavesStore-failed start bound put (x ∷ []) (left_of old) (left_of new) before within (record { sure = puts.sure; may_kept = puts.may_kept; may = puts.may })
 
--- a sync finished
-pub LeavesStore-synced : {T : Type 0} (start : Kept (At T)) (bound : ℕ) (put : List (At T)) (old new : Kept (At T)) → LeavesStore start bound put (left_of old) → ((x : At T) → bound ≤ x.height → Contains start.held x → Contains old.held x) → IsNested old → IsNested new → Syncs old new → LeavesStore start bound put (left_of new)
-LeavesStore-synced start bound put old new before stays nested nested_new syncs = record {
-  sure = λ h v low is. subst (λ xs. value_at xs h ≡ Some v) (sym syncs.sure) (nested.sure_held h v (before.sure h v low is));
-  held = λ x low has. held x (stays x low has);
-  may = λ x has. before.may x (nested.held_may x (syncs.may x has));
-  sure_may = λ h v is. held _ (Contains-from_value old.held h v (subst (λ xs. value_at xs h ≡ Some v) syncs.sure is));
+-- a sync made more sure
+pub LeavesStore-surer : {T : Type 0} (start : Kept (At T)) (bound : ℕ) (put : List (At T)) (old new : Kept (At T)) → LeavesStore start bound put (left_of old) → ((x : At T) → bound ≤ x.height → Contains start.held x → Contains old.held x) → IsNested new → MakesSure old new → LeavesStore start bound put (left_of new)
+LeavesStore-surer start bound put old new before stays nested surer = record {
+  sure = λ h v low is. surer.sure h v (before.sure h v low is);
+  held = λ x low has. nested.held_may x (subst (λ xs. Contains xs x) (sym surer.held) (stays x low has));
+  may = λ x has. before.may x (surer.may x has);
+  sure_may = λ h v is. nested.held_may _ (Contains-from_value new.held h v (nested.sure_held h v is));
 }
-  where
-    held : (x : At _) → Contains old.held x → Contains new.may x
-    held x has = nested_new.held_may x (subst (λ xs. Contains xs x) (sym syncs.held) has)
+
+-- what makes more sure: nothing, a sync, the finish of one
+pub MakesSure-same : {T : Type 0} (old new : Kept (At T)) → new ≡ old → MakesSure old new
+MakesSure-same old new same = subst (MakesSure old) (sym same) (record { held = refl; sure = λ h v is. is; may = λ x has. has })
+
+pub MakesSure-synced : {T : Type 0} (old new : Kept (At T)) → IsNested old → Syncs old new → MakesSure old new
+MakesSure-synced old new nested syncs = record { held = syncs.held; sure = λ h v is. subst (λ xs. value_at xs h ≡ Some v) (sym syncs.sure) (nested.sure_held h v is); may = λ x has. nested.held_may x (syncs.may x has) }
+
+pub MakesSure-finished : {T : Type 0} (covered : List (At T)) (old new : Kept (At T)) → Finishes covered old new → MakesSure old new
+MakesSure-finished covered old new finishes = record { held = finishes.held; sure = finishes.sure; may = finishes.may }
 
 -- what was held is held as a value is put
 held_put : {T : Type 0} (ignored : Bool) (old : Kept (At T)) (x : At T) (new : Kept (At T)) → Puts ignored old x new → (y : At T) → Contains old.held y → Contains new.held y
@@ -150,31 +158,35 @@ module _ (start : Held) (all : Written) (old : Held) (grew : Grew start all old)
     passed = ArePassed-then start.watches old.watches (record old.watches { certs = w }) grew.passed (ArePassed-store old.watches cert_store w passes);
   }
 
-  pub Grew-sync_blocks : (blocks : Kept (At Block)) (w : Watch) → IsNested old.blocks → IsNested blocks → Syncs old.blocks blocks → Passes old.watches.blocks w → Grew start all (record old { blocks = blocks; watches = record old.watches { blocks = w } })
-  Grew-sync_blocks blocks w nested nested_new syncs passes = record {
+  pub Grew-surer_blocks : (blocks : Kept (At Block)) (w : Watch) → IsNested blocks → MakesSure old.blocks blocks → Passes old.watches.blocks w → Grew start all (record old { blocks = blocks; watches = record old.watches { blocks = w } })
+  Grew-surer_blocks blocks w nested surer passes = record {
     leaves = record {
-      blocks = LeavesStore-synced start.blocks all.blocks_from all.blocks old.blocks blocks grew.leaves.blocks grew.blocks nested nested_new syncs;
+      blocks = LeavesStore-surer start.blocks all.blocks_from all.blocks old.blocks blocks grew.leaves.blocks grew.blocks nested surer;
       certs = grew.leaves.certs;
       pairs = grew.leaves.pairs;
       no_cache = refl;
     };
-    blocks = λ y low has. subst (λ xs. Contains xs y) (sym syncs.held) (grew.blocks y low has);
+    blocks = λ y low has. subst (λ xs. Contains xs y) (sym surer.held) (grew.blocks y low has);
     certs = grew.certs;
     passed = ArePassed-then start.watches old.watches (record old.watches { blocks = w }) grew.passed (ArePassed-store old.watches block_store w passes);
   }
 
-  pub Grew-sync_certs : (certs : Kept (At Finalization)) (w : Watch) → IsNested old.certs → IsNested certs → Syncs old.certs certs → Passes old.watches.certs w → Grew start all (record old { certs = certs; watches = record old.watches { certs = w } })
-  Grew-sync_certs certs w nested nested_new syncs passes = record {
+  pub Grew-surer_certs : (certs : Kept (At Finalization)) (w : Watch) → IsNested certs → MakesSure old.certs certs → Passes old.watches.certs w → Grew start all (record old { certs = certs; watches = record old.watches { certs = w } })
+  Grew-surer_certs certs w nested surer passes = record {
     leaves = record {
       blocks = grew.leaves.blocks;
-      certs = LeavesStore-synced start.certs all.certs_from all.certs old.certs certs grew.leaves.certs grew.certs nested nested_new syncs;
+      certs = LeavesStore-surer start.certs all.certs_from all.certs old.certs certs grew.leaves.certs grew.certs nested surer;
       pairs = grew.leaves.pairs;
       no_cache = refl;
     };
     blocks = grew.blocks;
-    certs = λ y low has. subst (λ xs. Contains xs y) (sym syncs.held) (grew.certs y low has);
+    certs = λ y low has. subst (λ xs. Contains xs y) (sym surer.held) (grew.certs y low has);
     passed = ArePassed-then start.watches old.watches (record old.watches { certs = w }) grew.passed (ArePassed-store old.watches cert_store w passes);
   }
+
+  -- writes were taken in, or covered
+  pub Grew-writes : (writes : Writing) → Grew start all (record old { writes = writes })
+  Grew-writes writes = record { leaves = grew.leaves; blocks = grew.blocks; certs = grew.certs; passed = grew.passed }
 
 -- since a start that prunes nothing
 pub Grown-blocks : (start now : Held) (written : Written) → written.blocks_from ≡ 0 → Grew start written now → Grown start.blocks written.blocks now.blocks

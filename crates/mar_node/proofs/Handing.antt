@@ -1,19 +1,20 @@
 -- Blocks that are handed over one after another: each the next held one, under the next ticket.
-use Rattle.std.proofs.Common.{◌≡◌, ◌⊎◌, inl, inr, ℕ, suc, ◌+◌, ◌-◌, ◌<◌, ◌≤◌, ◌^◌, List, [], ◌∷◌, ◌++◌, length, map, Option, Some, None, Result, Err, Ok, MatchResult, IsTrue, refl, sym, ◌∙◌, ap, subst, arith, append_assoc, append-nil, length-append}
+use Rattle.std.proofs.Common.{◌≡◌, ◌⊎◌, inl, inr, ℕ, suc, ◌+◌, ◌-◌, ◌<◌, ◌≤◌, ◌^◌, List, [], ◌∷◌, ◌++◌, length, map, Option, Some, None, Result, Err, Ok, MatchResult, IsTrue, Contains, refl, sym, ◌∙◌, ap, subst, arith, append_assoc, append-nil, length-append}
+use Rattle.std.specs.List.{AllByRecursion}
 use Rattle.mar_cert.specs.Block.{Block}
 use Rattle.mar_key.specs.Hears.{Hears}
 use Rattle.mar_key.specs.Processed.{first_unprocessed}
-use Rattle.mar_store.specs.Kept.{At, has_height, value_at}
+use Rattle.mar_store.specs.Kept.{At, Kept, has_height, value_at}
 use Rattle.mar_store.specs.Changes.{IsNested, KeepsValues}
-use Rattle.mar_store.proofs.Lookups.{AllByRecursion-value_at, has_height-from_value, value-from_has_height}
+use Rattle.mar_store.proofs.Lookups.{AllByRecursion-contains, AllByRecursion-push, AllByRecursion-value_at, has_height-from_value, value-from_has_height}
 use Rattle.mar_node.specs.Acks.{Outstanding, height_after}
 use Rattle.mar_node.specs.Chain.{Chain, IsBlockAt}
 use Rattle.mar_node.specs.Faults.{ack_kind, ticket_limit}
 use Rattle.mar_node.specs.Held.{Ending, Grew, IsArchiveFault, Loses, Seen, Watches, nothing_written}
-use Rattle.mar_node.specs.Moves.{AreNextHeld, Dispatches, HasRoom, HearsFront, HearsUpTo, IsLastTicket, IsNext, IsRead, IsStill, StopsHanding, handed_report, next_in, with_handed, with_watches}
+use Rattle.mar_node.specs.Moves.{AreNextHeld, Dispatches, HasRoom, HearsFront, HearsUpTo, IsBelowWrites, IsLastTicket, IsNext, IsRead, IsStill, StopsHanding, handed_report, next_in, with_handed, with_watches}
 use Rattle.mar_node.specs.Step.{HeldFrom}
 use Rattle.mar_node.proofs.Growing.{Grew-refl}
-use Rattle.mar_node.specs.Node.{AreBlocksOf, ConsecutiveFrom}
+use Rattle.mar_node.specs.Node.{AreBlocksOf, ConsecutiveFrom, SureOrWritten}
 use Rattle.mar_node.specs.Step.{AreHandedOf, HandedBlock, HandedFrom, Report, handed_blocks, handed_over, outstanding_of}
 
 -- HEARING
@@ -110,10 +111,18 @@ pub handed_blocks-is : (xs : List HandedBlock) → handed_blocks (map handed_rep
 handed_blocks-is [] = refl
 handed_blocks-is (x ∷ xs) = ap (λ zs. x ∷ zs) (handed_blocks-is xs)
 
--- each that is held and sure is handed over sure
-pub HandedFrom-held : (held sure : List (At Block)) (ticket height : ℕ) (xs : List HandedBlock) → ((h : ℕ) → IsTrue (has_height held h) → IsTrue (has_height sure h)) → HeldFrom held ticket height xs → HandedFrom sure ticket height xs
-HandedFrom-held held sure ticket height [] all line = tt
-HandedFrom-held held sure ticket height (x ∷ xs) all line = (line.0, line.1, all height (has_height-from_value held height x.block line.2), HandedFrom-held held sure (ticket + 1) (height + 1) xs all line.3)
+-- a held height below each write that no sync covers is sure
+pub sure_below : {T : Type 0} (kept : Kept (At T)) (uncovered : List ℕ) (h : ℕ) → SureOrWritten kept uncovered → AllByRecursion (λ k. h < k) uncovered → IsTrue (has_height kept.held h) → IsTrue (has_height kept.sure h)
+sure_below kept uncovered h waits below has = by (waits h has)
+  where
+    by : IsTrue (has_height kept.sure h) ⊎ Contains uncovered h → IsTrue (has_height kept.sure h)
+    by (inl is) = is
+    by (inr waiting) = absurd (let apart : h < h = AllByRecursion-contains (λ k. h < k) uncovered h below waiting in omega arith)
+
+-- Each that is held, below the writes that no sync covers, is sure, and so it is handed over sure.
+pub HandedFrom-held : (held sure : List (At Block)) (uncovered : List ℕ) (ticket height : ℕ) (xs : List HandedBlock) → ((h : ℕ) → AllByRecursion (λ k. h < k) uncovered → IsTrue (has_height held h) → IsTrue (has_height sure h)) → AllByRecursion (λ x. AllByRecursion (λ k. x.block.height < k) uncovered) xs → HeldFrom held ticket height xs → HandedFrom sure ticket height xs
+HandedFrom-held held sure uncovered ticket height [] all below line = tt
+HandedFrom-held held sure uncovered ticket height (x ∷ xs) all below line = (line.0, line.1, all height (subst (λ h. AllByRecursion (λ k. h < k) uncovered) line.1 below.0) (has_height-from_value held height x.block line.2), HandedFrom-held held sure uncovered (ticket + 1) (height + 1) xs all below.1 line.3)
 
 -- a sure height has the held block
 pub sure_value : (held sure : List (At Block)) (h : ℕ) (b : Block) → KeepsValues sure held → IsTrue (has_height sure h) → value_at held h ≡ Some b → value_at sure h ≡ Some b
@@ -122,15 +131,15 @@ sure_value held sure h b keeps has is = by (value-from_has_height sure h has)
     by : (c : Block) × (value_at sure h ≡ Some c) → value_at sure h ≡ Some b
     by (c, at) = at ∙ (sym (keeps h c at) ∙ is)
 
-pub AreHandedOf-held : (chain : Chain) (held sure : List (At Block)) (ticket height : ℕ) (xs : List HandedBlock) → AreBlocksOf chain held → KeepsValues sure held → ((h : ℕ) → IsTrue (has_height held h) → IsTrue (has_height sure h)) → HeldFrom held ticket height xs → AreHandedOf chain sure xs
-AreHandedOf-held chain held sure ticket height [] blocks keeps all line = tt
-AreHandedOf-held chain held sure ticket height (x ∷ xs) blocks keeps all line = ((subst (λ k. IsBlockAt chain k x.block) (sym line.1) at_chain, subst (λ k. value_at sure k ≡ Some x.block) (sym line.1) sure_there), AreHandedOf-held chain held sure (ticket + 1) (height + 1) xs blocks keeps all line.3)
+pub AreHandedOf-held : (chain : Chain) (held sure : List (At Block)) (uncovered : List ℕ) (ticket height : ℕ) (xs : List HandedBlock) → AreBlocksOf chain held → KeepsValues sure held → ((h : ℕ) → AllByRecursion (λ k. h < k) uncovered → IsTrue (has_height held h) → IsTrue (has_height sure h)) → AllByRecursion (λ x. AllByRecursion (λ k. x.block.height < k) uncovered) xs → HeldFrom held ticket height xs → AreHandedOf chain sure xs
+AreHandedOf-held chain held sure uncovered ticket height [] blocks keeps all below line = tt
+AreHandedOf-held chain held sure uncovered ticket height (x ∷ xs) blocks keeps all below line = ((subst (λ k. IsBlockAt chain k x.block) (sym line.1) at_chain, subst (λ k. value_at sure k ≡ Some x.block) (sym line.1) sure_there), AreHandedOf-held chain held sure uncovered (ticket + 1) (height + 1) xs blocks keeps all below.1 line.3)
   where
     at_chain : IsBlockAt chain height x.block
     at_chain = AllByRecursion-value_at (λ y. IsBlockAt chain y.height y.value) held height x.block blocks line.2
 
     sure_there : value_at sure height ≡ Some x.block
-    sure_there = sure_value held sure height x.block keeps (all height (has_height-from_value held height x.block line.2)) line.2
+    sure_there = sure_value held sure height x.block keeps (all height (subst (λ h. AllByRecursion (λ k. h < k) uncovered) line.1 below.0) (has_height-from_value held height x.block line.2)) line.2
 
 -- A LOOP THAT HANDS OVER
 
@@ -145,6 +154,7 @@ pub record HandsSoFar {P E : Type 0} (start now : Seen P E) (told told' : Option
   pub handed : List HandedBlock
   pub heard : Hears told (map handed_report handed) told'
   pub next : AreNextHeld start handed
+  pub below_barrier : AllByRecursion (λ x. IsBelowWrites start x.block) handed
   pub room : HasRoom start handed
   pub same : IsRead (with_handed start handed) now
   pub grew : Grew start.held nothing_written now.held
@@ -159,6 +169,7 @@ HandsSoFar-first start told blocks certs = record {
   handed = [];
   heard = Hears-nothing told;
   next = tt;
+  below_barrier = tt;
   room = λ more. absurd (omega arith);
   same = IsRead-from (with_handed start []) start start.held.watches (sym (with_handed-none start));
   grew = Grew-refl start.held nothing_written blocks certs;
@@ -184,6 +195,7 @@ module _ {P E : Type 0} (start now : Seen P E) (told told' : Option (List Report
       handed = so_far.handed ++ x ∷ [];
       heard = subst (λ rs. Hears told rs told'') (sym (handed_report-append so_far.handed (x ∷ []))) (Hears-then told told' told'' (map handed_report so_far.handed) (handed_over next.life.next_ack b ∷ []) so_far.heard heard);
       next = AreNextHeld-then start so_far.handed (x ∷ []) so_far.next (ap (λ s. s.life.next_ack) next_same, of_now is_next.height, held_of_now is_next.held, tt);
+      below_barrier = AllByRecursion-push (λ y. IsBelowWrites start y.block) so_far.handed x so_far.below_barrier (subst (λ s. IsBelowWrites s b) so_far.same is_next.below_barrier);
       room = λ more. fits;
       same = IsRead-from (with_handed start (so_far.handed ++ x ∷ [])) new next.held.watches
           (same ∙ (ap (λ s. with_handed s (x ∷ [])) next_same ∙ ap (λ s. with_watches s next.held.watches) (with_handed-then start so_far.handed (x ∷ []))));
@@ -213,11 +225,11 @@ module _ {P E : Type 0} (start now : Seen P E) (told told' : Option (List Report
 
     -- no more can be handed over
     pub Ran-still : IsStill now → Ran start told told' (Ok next)
-    Ran-still still = (so_far.handed, so_far.heard, record { next = so_far.next; room = so_far.room; same = next_same; grew = grew; still = subst IsStill (sym read) still })
+    Ran-still still = (so_far.handed, so_far.heard, record { next = so_far.next; below_barrier = so_far.below_barrier; room = so_far.room; same = next_same; grew = grew; still = subst IsStill (sym read) still })
 
     -- the rules ended the life, or memory ran out
     pub Ran-ended : (told'' : Option (List Report)) (e : Ending) → Hears told' [] told'' → Loses start.held nothing_written e → IsArchiveFault e.fault ⊎ ((e.fault ≡ ticket_limit ack_kind) × (next.life.next_ack ≡ 2 ^ 64 - 1)) → Ran start told told'' (Err e)
-    Ran-ended told'' e heard lost kind = (so_far.handed, subst (λ rs. Hears told rs told'') (append-nil (map handed_report so_far.handed)) (Hears-then told told' told'' (map handed_report so_far.handed) [] so_far.heard heard), record { next = so_far.next; room = so_far.room; lost = lost; kind = by kind })
+    Ran-ended told'' e heard lost kind = (so_far.handed, subst (λ rs. Hears told rs told'') (append-nil (map handed_report so_far.handed)) (Hears-then told told' told'' (map handed_report so_far.handed) [] so_far.heard heard), record { next = so_far.next; below_barrier = so_far.below_barrier; room = so_far.room; lost = lost; kind = by kind })
       where
         by : IsArchiveFault e.fault ⊎ ((e.fault ≡ ticket_limit ack_kind) × (next.life.next_ack ≡ 2 ^ 64 - 1)) → IsArchiveFault e.fault ⊎ ((e.fault ≡ ticket_limit ack_kind) × IsLastTicket start (length so_far.handed))
         by (inl usual) = inl usual
@@ -225,11 +237,11 @@ module _ {P E : Type 0} (start now : Seen P E) (told told' : Option (List Report
 
   -- a call failed
   pub Ran-failed : (e : Ending) → Loses start.held nothing_written e → IsArchiveFault e.fault → Ran start told told' (Err e)
-  Ran-failed e lost usual = (so_far.handed, so_far.heard, record { next = so_far.next; room = so_far.room; lost = lost; kind = inl usual })
+  Ran-failed e lost usual = (so_far.handed, so_far.heard, record { next = so_far.next; below_barrier = so_far.below_barrier; room = so_far.room; lost = lost; kind = inl usual })
 
   -- as many were handed over as the window takes
   pub Ran-all : start.life.sizes.window ≤ count → Ran start told told' (Ok now)
-  Ran-all most = (so_far.handed, so_far.heard, record { next = so_far.next; room = so_far.room; same = so_far.same; grew = so_far.grew; still = inl full })
+  Ran-all most = (so_far.handed, so_far.heard, record { next = so_far.next; below_barrier = so_far.below_barrier; room = so_far.room; same = so_far.same; grew = so_far.grew; still = inl full })
     where
       full : now.life.sizes.window ≤ length now.life.out
       full =

@@ -1,5 +1,5 @@
 -- What a step keeps, and why one ends a life: from call to call.
-use Rattle.std.proofs.Common.{◌≡◌, ◌⊎◌, inl, inr, ℕ, zero, suc, ◌+◌, ◌-◌, ◌^◌, ◌<◌, ◌≤◌, Bool, List, length, Option, Result, Ok, Err, IfErr, IfOk, MatchResult, sym, ◌∙◌, ap, subst, arith}
+use Rattle.std.proofs.Common.{◌≡◌, ◌⊎◌, inl, inr, ℕ, zero, suc, ◌+◌, ◌-◌, ◌^◌, ◌<◌, ◌≤◌, Bool, List, length, Option, Result, Ok, Err, IfErr, IfOk, MatchResult, sym, ◌∙◌, ap, subst, arith, refl}
 use Rattle.mar_types.specs.Epochs.{Epochs}
 use Rattle.mar_types.specs.Round.{Round}
 use Rattle.mar_cert.specs.Block.{Block}
@@ -8,10 +8,11 @@ use Rattle.mar_key.specs.Cutoff.{Cutoff}
 use Rattle.mar_store.specs.Kept.{At, Kept}
 use Rattle.mar_node.specs.Acks.{mark_given, with_mark}
 use Rattle.mar_node.specs.Metadata.{Pair}
-use Rattle.mar_node.specs.Faults.{Fault, ack_kind, dropped_ack, ticket_limit}
+use Rattle.mar_node.specs.Faults.{Fault, TicketKind, ack_kind, dropped_ack, sync_kind, ticket_limit}
 use Rattle.mar_node.specs.Held.{ArePassed, Ending, Grew, IsArchiveFault, IsEndedBy, IsUsual, Loses, Seen, Watches, Written, nothing_written}
-use Rattle.mar_node.specs.Moves.{Drains, EndsDropped, EndsLife, HasRoom, IsLastTicket, IsRead, LivesOn, RaisesTo, RunsOut, StoresAbove, StoresLate}
+use Rattle.mar_node.specs.Moves.{Drains, EndsDropped, EndsLife, FinishesSync, HasRoom, IsLastTicket, IsRead, IsStarted, LivesOn, RaisesTo, PutsAbove, RunsOut, StoresLate}
 use Rattle.mar_node.specs.Step.{HandedBlock, Report}
+use Rattle.mar_node.specs.Writing.{Writing}
 use Rattle.mar_node.proofs.Cutting.{usual_from_archive}
 use Rattle.mar_node.proofs.Handing.{Ran}
 use Rattle.mar_node.proofs.Passing.{ArePassed-then, FailsBy-then}
@@ -19,18 +20,18 @@ use Rattle.mar_node.proofs.Passing.{ArePassed-then, FailsBy-then}
 -- ENDS
 
 -- a store's fault and want of memory are no last ticket
-usual_not_limit : (fault : Fault) → IsUsual fault → fault ≡ ticket_limit ack_kind → ⊥
-usual_not_limit fault usual is = subst IsUsual is usual
+usual_not_limit : (fault : Fault) (kind : TicketKind) → IsUsual fault → fault ≡ ticket_limit kind → ⊥
+usual_not_limit fault kind usual is = subst IsUsual is usual
 
-pub EndsLife-other : {P E : Type 0} (a : Seen P E) (x : Ending) → IsEndedBy a.held.watches x → (x.fault ≡ ticket_limit ack_kind → ⊥) → EndsLife a x
-EndsLife-other a x cause other = record { cause = cause; tickets = λ is. absurd (other is) }
+pub EndsLife-other : {P E : Type 0} (a : Seen P E) (x : Ending) → IsEndedBy a.held.watches x → ((kind : TicketKind) → x.fault ≡ ticket_limit kind → ⊥) → EndsLife a x
+EndsLife-other a x cause other = record { cause = cause; tickets = (λ is. absurd (other ack_kind is), λ is. absurd (other sync_kind is)) }
 
 pub EndsLife-usual : {P E : Type 0} (a : Seen P E) (x : Ending) → IsEndedBy a.held.watches x → IsUsual x.fault → EndsLife a x
-EndsLife-usual a x cause usual = EndsLife-other a x cause (usual_not_limit x.fault usual)
+EndsLife-usual a x cause usual = EndsLife-other a x cause (λ kind is. usual_not_limit x.fault kind usual is)
 
 pub EndsLife-drained : {P E : Type 0} (a m : Seen P E) (x : Ending) → IsEndedBy a.held.watches x → IsUsual x.fault ⊎ EndsDropped m x → EndsLife a x
 EndsLife-drained a m x cause (inl usual) = EndsLife-usual a x cause usual
-EndsLife-drained a m x cause (inr dropped) = EndsLife-other a x cause (λ is. let both : dropped_ack dropped.oldest.height ≡ ticket_limit ack_kind = sym dropped.fault ∙ is in cc)
+EndsLife-drained a m x cause (inr dropped) = EndsLife-other a x cause (λ kind is. let both : dropped_ack dropped.oldest.height ≡ ticket_limit kind = sym dropped.fault ∙ is in cc)
 
 room_within : {P E : Type 0} (a : Seen P E) (handed : List HandedBlock) → HasRoom a handed → length handed ≤ a.life.sizes.window
 room_within a handed room = by (length handed) room
@@ -44,25 +45,31 @@ pub LivesOn-ran : {P E : Type 0} (a : Seen P E) (told told' : Option (List Repor
 LivesOn-ran a told told' (Ok new) (handed, heard, ran) = record {
   passed = ran.grew.passed;
   tickets = let given : new.life.next_ack ≡ a.life.next_ack + length handed = ap (λ s. s.life.next_ack) ran.same in let room : length handed ≤ a.life.sizes.window = room_within a handed ran.room in omega arith;
+  sync_tickets = let same : new.held.writes.next_sync ≡ a.held.writes.next_sync = ap (λ s. s.held.writes.next_sync) ran.same in omega arith;
   provider = ap (λ s. s.life.provider) ran.same;
   epocher = ap (λ s. s.life.epocher) ran.same;
   sizes = ap (λ s. s.life.sizes) ran.same;
 }
-LivesOn-ran a told told' (Err x) (handed, heard, stops) = record { cause = stops.lost.cause; tickets = λ is. by is stops.kind }
+LivesOn-ran a told told' (Err x) (handed, heard, stops) = record { cause = stops.lost.cause; tickets = (λ is. by is stops.kind, λ is. absurd (no_sync is stops.kind)) }
   where
+    no_sync : x.fault ≡ ticket_limit sync_kind → IsArchiveFault x.fault ⊎ ((x.fault ≡ ticket_limit ack_kind) × IsLastTicket a (length handed)) → ⊥
+    no_sync is (inl of_blocks) = usual_not_limit x.fault sync_kind (usual_from_archive x.fault of_blocks) is
+    no_sync is (inr (limit, last)) = let both : ticket_limit ack_kind ≡ ticket_limit sync_kind = sym limit ∙ is in cc
+
     by : x.fault ≡ ticket_limit ack_kind → IsArchiveFault x.fault ⊎ ((x.fault ≡ ticket_limit ack_kind) × IsLastTicket a (length handed)) → 2 ^ 64 - 1 ≤ a.life.next_ack + a.life.sizes.window
-    by is (inl of_blocks) = absurd (usual_not_limit x.fault (usual_from_archive x.fault of_blocks) is)
+    by is (inl of_blocks) = absurd (usual_not_limit x.fault ack_kind (usual_from_archive x.fault of_blocks) is)
     by is (inr (limit, last)) = let room : length handed ≤ a.life.sizes.window = room_within a handed stops.room in omega (arith, last)
 
 -- PARTS
 
--- What the first calls of a step keep: the settings and the next ticket; no store failed.
+-- What the first calls of a step keep: the settings and the next tickets; no store failed.
 pub record IsPart {P E : Type 0} (old new : Seen P E) : Type 0 where
   pub passed : ArePassed old.held.watches new.held.watches
   pub provider : new.life.provider ≡ old.life.provider
   pub epocher : new.life.epocher ≡ old.life.epocher
   pub sizes : new.life.sizes ≡ old.life.sizes
   pub next_ack : new.life.next_ack ≡ old.life.next_ack
+  pub next_sync : new.held.writes.next_sync ≡ old.held.writes.next_sync
 
 pub IsPart-then : {P E : Type 0} (a m n : Seen P E) → IsPart a m → IsPart m n → IsPart a n
 IsPart-then a m n first second = record {
@@ -71,18 +78,20 @@ IsPart-then a m n first second = record {
   epocher = second.epocher ∙ first.epocher;
   sizes = second.sizes ∙ first.sizes;
   next_ack = second.next_ack ∙ first.next_ack;
+  next_sync = second.next_sync ∙ first.next_sync;
 }
 
 pub EndsLife-then : {P E : Type 0} (a m : Seen P E) (x : Ending) → IsPart a m → EndsLife m x → EndsLife a x
 EndsLife-then a m x part ends = record {
   cause = FailsBy-then a.held.watches m.held.watches x.fault x.remains.watches part.passed ends.cause;
-  tickets = λ is. subst (λ k. 2 ^ 64 - 1 ≤ k + a.life.sizes.window) part.next_ack (subst (λ s. 2 ^ 64 - 1 ≤ m.life.next_ack + s.window) part.sizes (ends.tickets is));
+  tickets = (λ is. subst (λ k. 2 ^ 64 - 1 ≤ k + a.life.sizes.window) part.next_ack (subst (λ s. 2 ^ 64 - 1 ≤ m.life.next_ack + s.window) part.sizes (ends.tickets.0 is)), λ is. sym part.next_sync ∙ ends.tickets.1 is);
 }
 
 pub LivesOn-then : {P E : Type 0} (a m : Seen P E) (result : Result (Seen P E) Ending) → IsPart a m → LivesOn m result → LivesOn a result
 LivesOn-then a m (Ok new) part same = record {
   passed = ArePassed-then a.held.watches m.held.watches new.held.watches part.passed same.passed;
   tickets = subst (λ k. new.life.next_ack ≤ k + a.life.sizes.window) part.next_ack (subst (λ s. new.life.next_ack ≤ m.life.next_ack + s.window) part.sizes same.tickets);
+  sync_tickets = subst (λ k. new.held.writes.next_sync ≤ k + 1) part.next_sync same.sync_tickets;
   provider = same.provider ∙ part.provider;
   epocher = same.epocher ∙ part.epocher;
   sizes = same.sizes ∙ part.sizes;
@@ -91,7 +100,7 @@ LivesOn-then a m (Err x) part ends = EndsLife-then a m x part ends
 
 -- a part is a step that gives no ticket
 pub LivesOn-part : {P E : Type 0} (a : Seen P E) (new : Seen P E) → IsPart a new → LivesOn a (Ok new)
-LivesOn-part a new part = record { passed = part.passed; tickets = let same : new.life.next_ack ≡ a.life.next_ack = part.next_ack in omega arith; provider = part.provider; epocher = part.epocher; sizes = part.sizes }
+LivesOn-part a new part = record { passed = part.passed; tickets = let same : new.life.next_ack ≡ a.life.next_ack = part.next_ack in omega arith; sync_tickets = let same : new.held.writes.next_sync ≡ a.held.writes.next_sync = part.next_sync in omega arith; provider = part.provider; epocher = part.epocher; sizes = part.sizes }
 
 -- calls that went well, or of which the last failed
 pub LivesOn-goes : {P E : Type 0} (a : Seen P E) (written : Written) (result : Result (Seen P E) Ending) → IfOk result (λ new. ArePassed a.held.watches new.held.watches → IsPart a new) → MatchResult result (λ new. Grew a.held written new.held) (Loses a.held written) → IfErr result (λ x. IsUsual x.fault) → LivesOn a result
@@ -99,44 +108,44 @@ LivesOn-goes a written (Ok new) part goes usual = LivesOn-part a new (part goes.
 LivesOn-goes a written (Err x) part goes usual = EndsLife-usual a x goes.cause usual
 
 -- an actor with other stores, cutoff, pairs, tip, writes and witnessed round
-abbrev pub moved : {P E : Type 0} → Seen P E → Kept (At Block) → Kept (At Finalization) → Cutoff → List Pair → Watches → ℕ → ℕ → Round → Seen P E
-moved a blocks certs cutoff pairs watches tip covered witnessed = record a {
-  held = record a.held { blocks = blocks; certs = certs; cutoff = cutoff; witnessed = witnessed; pairs = pairs; watches = watches };
-  life = record a.life { tip = tip; covered = covered };
+abbrev pub moved : {P E : Type 0} → Seen P E → Kept (At Block) → Kept (At Finalization) → Cutoff → List Pair → Watches → ℕ → Writing → Round → Seen P E
+moved a blocks certs cutoff pairs watches tip writes witnessed = record a {
+  held = record a.held { blocks = blocks; certs = certs; cutoff = cutoff; witnessed = witnessed; pairs = pairs; writes = writes; watches = watches };
+  life = record a.life { tip = tip };
 }
 
-pub IsPart-moved : {P E : Type 0} (a m : Seen P E) (blocks : Kept (At Block)) (certs : Kept (At Finalization)) (cutoff : Cutoff) (pairs : List Pair) (watches : Watches) (tip covered : ℕ) (witnessed : Round) → m ≡ moved a blocks certs cutoff pairs watches tip covered witnessed → ArePassed a.held.watches m.held.watches → IsPart a m
-IsPart-moved a m blocks certs cutoff pairs watches tip covered witnessed is passed = record { passed = passed; provider = ap (λ s. s.life.provider) is; epocher = ap (λ s. s.life.epocher) is; sizes = ap (λ s. s.life.sizes) is; next_ack = ap (λ s. s.life.next_ack) is }
+pub IsPart-moved : {P E : Type 0} (a m : Seen P E) (blocks : Kept (At Block)) (certs : Kept (At Finalization)) (cutoff : Cutoff) (pairs : List Pair) (watches : Watches) (tip : ℕ) (writes : Writing) (witnessed : Round) → m ≡ moved a blocks certs cutoff pairs watches tip writes witnessed → writes.next_sync ≡ a.held.writes.next_sync → ArePassed a.held.watches m.held.watches → IsPart a m
+IsPart-moved a m blocks certs cutoff pairs watches tip writes witnessed is same passed = record { passed = passed; provider = ap (λ s. s.life.provider) is; epocher = ap (λ s. s.life.epocher) is; sizes = ap (λ s. s.life.sizes) is; next_ack = ap (λ s. s.life.next_ack) is; next_sync = ap (λ s. s.held.writes.next_sync) is ∙ same }
 
 pub IsPart-read : {P E : Type 0} (a m : Seen P E) → IsRead a m → ArePassed a.held.watches m.held.watches → IsPart a m
-IsPart-read a m is passed = IsPart-moved a m _ _ _ _ _ _ _ _ is passed
+IsPart-read a m is passed = IsPart-moved a m _ _ _ _ _ _ _ _ is refl passed
 
 -- calls that read, of which the last may have failed
 pub LivesOn-read : {P E : Type 0} (a node : Seen P E) (result : Result (Seen P E) Ending) → IsRead a node → IfOk result (λ new. new ≡ node) → MatchResult result (λ new. Grew a.held nothing_written new.held) (Loses a.held nothing_written) → IfErr result (λ x. IsUsual x.fault) → LivesOn a result
 LivesOn-read a node (Ok new) read same goes usual = LivesOn-part a new (IsPart-read a new (subst (IsRead a) (sym same) read) goes.passed)
 LivesOn-read a node (Err x) read same goes usual = EndsLife-usual a x goes.cause usual
 
-pub IsPart-stored : {P E : Type 0} (inner : List ℕ → List ℕ) (a : Seen P E) (f : Finalization) (b : Block) (m : Seen P E) → StoresAbove inner a f b m → ArePassed a.held.watches m.held.watches → IsPart a m
-IsPart-stored inner a f b m stores passed = IsPart-moved a m _ _ _ _ _ _ _ _ stores.same passed
+pub IsPart-stored : {P E : Type 0} (inner : List ℕ → List ℕ) (a : Seen P E) (f : Finalization) (b : Block) (m : Seen P E) → PutsAbove inner a f b m → ArePassed a.held.watches m.held.watches → IsPart a m
+IsPart-stored inner a f b m stores passed = IsPart-moved a m _ _ _ _ _ _ _ _ stores.same refl passed
 
 pub IsPart-late : {P E : Type 0} (inner : List ℕ → List ℕ) (a : Seen P E) (f : Finalization) (b : Block) (m : Seen P E) → StoresLate inner a f b m → ArePassed a.held.watches m.held.watches → IsPart a m
-IsPart-late inner a f b m stores passed = IsPart-moved a m _ _ _ _ _ _ _ _ stores.same passed
+IsPart-late inner a f b m stores passed = IsPart-moved a m _ _ _ _ _ _ _ _ stores.same refl passed
 
 pub parts_late : {P E : Type 0} (inner : List ℕ → List ℕ) (a : Seen P E) (f : Finalization) (b : Block) (result : Result (Seen P E) Ending) → IfOk result (λ m. StoresLate inner a f b m) → IfOk result (λ m. ArePassed a.held.watches m.held.watches → IsPart a m)
 parts_late inner a f b (Ok m) stores = λ passed. IsPart-late inner a f b m stores passed
 parts_late inner a f b (Err x) stores = tt
 
 pub IsPart-raised : {P E : Type 0} (a m : Seen P E) (cutoffs : List Cutoff) (witnessed : Round) → RaisesTo a cutoffs witnessed m → ArePassed a.held.watches m.held.watches → IsPart a m
-IsPart-raised a m cutoffs witnessed raised passed = IsPart-moved a m _ _ _ _ _ _ _ _ raised.same passed
+IsPart-raised a m cutoffs witnessed raised passed = IsPart-moved a m _ _ _ _ _ _ _ _ raised.same refl passed
 
 pub IsPart-synced : {P E : Type 0} (a m : Seen P E) (pairs : List Pair) → m ≡ record a { held = record a.held { pairs = pairs; watches = m.held.watches } } → ArePassed a.held.watches m.held.watches → IsPart a m
-IsPart-synced a m pairs is passed = IsPart-moved a m _ _ _ _ _ _ _ _ is passed
+IsPart-synced a m pairs is passed = IsPart-moved a m _ _ _ _ _ _ _ _ is refl passed
 
 abbrev pub given_in : {P E : Type 0} → Seen P E → ℕ → Seen P E
 given_in a t = record a { life = record a.life { out = with_mark t mark_given a.life.out } }
 
 pub IsPart-drained : {P E : Type 0} (epochs : Epochs) (a : Seen P E) (t : ℕ) (is_drained : Bool) (d : Seen P E) → Drains epochs (given_in a t) is_drained d → ArePassed a.held.watches d.held.watches → IsPart a d
-IsPart-drained epochs a t is_drained d drains passed = record { passed = passed; provider = ap (λ s. s.life.provider) drains.same; epocher = ap (λ s. s.life.epocher) drains.same; sizes = ap (λ s. s.life.sizes) drains.same; next_ack = ap (λ s. s.life.next_ack) drains.same }
+IsPart-drained epochs a t is_drained d drains passed = record { passed = passed; provider = ap (λ s. s.life.provider) drains.same; epocher = ap (λ s. s.life.epocher) drains.same; sizes = ap (λ s. s.life.sizes) drains.same; next_ack = ap (λ s. s.life.next_ack) drains.same; next_sync = ap (λ s. s.held.writes.next_sync) drains.same }
 
 -- THE STEP
 
@@ -152,6 +161,10 @@ pub tickets_in : {P E : Type 0} (a : Seen P E) (result : Result (Seen P E) Endin
 tickets_in a (Ok new) same = same.tickets
 tickets_in a (Err x) ends = tt
 
+pub sync_tickets_in : {P E : Type 0} (a : Seen P E) (result : Result (Seen P E) Ending) → LivesOn a result → IfOk result (λ new. new.held.writes.next_sync ≤ a.held.writes.next_sync + 1)
+sync_tickets_in a (Ok new) same = same.sync_tickets
+sync_tickets_in a (Err x) ends = tt
+
 pub settings_kept : {P E : Type 0} (a : Seen P E) (result : Result (Seen P E) Ending) → LivesOn a result → IfOk result (λ new. SameSettings a new)
 settings_kept a (Ok new) same = (same.provider, same.epocher, same.sizes)
 settings_kept a (Err x) ends = tt
@@ -163,3 +176,25 @@ ended_by a (Err x) ends = ends.cause
 pub runs_out : {P E : Type 0} (a : Seen P E) (result : Result (Seen P E) Ending) → LivesOn a result → IfErr result (λ x. RunsOut a x)
 runs_out a (Ok new) same = tt
 runs_out a (Err x) ends = ends.tickets
+
+-- SYNCS
+
+-- a sync that was started takes the next ticket
+pub LivesOn-started : {P E : Type 0} (a m : Seen P E) (new : Seen P E) → IsPart a m → IsStarted m new → ArePassed a.held.watches new.held.watches → LivesOn a (Ok new)
+LivesOn-started a m new part started passed = record {
+  passed = passed;
+  tickets = let same : new.life.next_ack ≡ a.life.next_ack = ap (λ s. s.life.next_ack) started ∙ part.next_ack in omega arith;
+  sync_tickets = let next : new.held.writes.next_sync ≡ a.held.writes.next_sync + 1 = ap (λ s. s.held.writes.next_sync) started ∙ ap (λ k. k + 1) part.next_sync in omega arith;
+  provider = ap (λ s. s.life.provider) started ∙ part.provider;
+  epocher = ap (λ s. s.life.epocher) started ∙ part.epocher;
+  sizes = ap (λ s. s.life.sizes) started ∙ part.sizes;
+}
+
+-- or couldn't be
+pub EndsLife-unstarted : {P E : Type 0} (a m : Seen P E) (x : Ending) → IsPart a m → IsEndedBy a.held.watches x → IsArchiveFault x.fault ⊎ ((x.fault ≡ ticket_limit sync_kind) × (m.held.writes.next_sync ≡ 2 ^ 64 - 1)) → EndsLife a x
+EndsLife-unstarted a m x part cause (inl archive) = EndsLife-usual a x cause (usual_from_archive x.fault archive)
+EndsLife-unstarted a m x part cause (inr (limit, last)) = record { cause = cause; tickets = (λ is. absurd (let both : ticket_limit sync_kind ≡ ticket_limit ack_kind = sym limit ∙ is in cc), λ is. sym part.next_sync ∙ last) }
+
+-- one that finished keeps the tickets
+pub IsPart-finished : {P E : Type 0} (a m : Seen P E) (t : ℕ) → FinishesSync t a m → ArePassed a.held.watches m.held.watches → IsPart a m
+IsPart-finished a m t finishes passed = IsPart-moved a m _ _ _ _ _ _ _ _ finishes.same refl passed

@@ -15,11 +15,13 @@ pub mod RaiseAsks
 pub mod Draining
 pub mod Reaching
 pub mod PlainEvents
+pub mod SyncEvent
 pub mod Tips
 pub mod StartEvent
 pub mod FoundBlocks
 pub mod Cutting
 pub mod AckEvent
+pub mod StoredValues
 pub mod FinalizationEvent
 pub mod Promises
 pub mod EventPromises
@@ -33,3 +35,7 @@ pub mod Keys
 pub mod Pairs
 pub mod GoodOpenings
 pub mod Permitted
+pub mod Batches
+pub mod ByHeight
+pub mod Pools
+pub mod Gating

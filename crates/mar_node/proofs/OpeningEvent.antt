@@ -22,6 +22,7 @@ use Rattle.mar_node.specs.Lives.{BackedBy, CutsReopening, Finds, IsGoodEnded, Is
 use Rattle.mar_node.specs.Moves.{StoresValue, newest_tip}
 use Rattle.mar_node.specs.Stored.{newest}
 use Rattle.mar_node.specs.Node.{AreBlocksOf, AreCachedOf, BlocksAgree, Ended, FloorSafe, IsGood, IsGoodInHeights, Node, empty_inbox, empty_peers}
+use Rattle.mar_node.specs.Writing.{Writing, no_writes}
 use Rattle.mar_node.specs.Opening.{BeginsWith, Derives, Enters, IsBeginFault, derived_cutoff, derived_pair, is_begun, next_fault, pair_in}
 use Rattle.mar_node.specs.Step.{nothing_made}
 use Rattle.mar_node.specs.Promise.{Begins, IsLawfulOpening, IsOpeningFault, node_of}
@@ -262,8 +263,8 @@ module _ (old : Remains) (luck : ℕ) (first : Held) (reopens : ReopensAs old lu
           life = first_life provider epocher sizes
 
           -- a node of these values
-          abbrev of_values : Option Processed → Cutoff → List Pair → Round → Kept (At Finalization) → ℕ → Node
-          of_values p c pairs witnessed certs k = record opened {
+          abbrev of_values : Option Processed → Cutoff → List Pair → Round → Kept (At Finalization) → ℕ → Writing → Node
+          of_values p c pairs witnessed certs k w = record opened {
             processed = p;
             cutoff = c;
             meta = pairs;
@@ -271,11 +272,18 @@ module _ (old : Remains) (luck : ℕ) (first : Held) (reopens : ReopensAs old lu
             certs = certs;
             peers = empty_peers k;
             inbox = empty_inbox k;
+            covered = w.covered;
+            uncovered = w.uncovered;
+            syncs = w.syncs;
+            next_sync = w.next_sync;
           }
 
-          same_values : (p p' : Option Processed) (c c' : Cutoff) (m m' : List Pair) (w w' : Round) (f f' : Kept (At Finalization)) (k k' : ℕ) → p ≡ p' → c ≡ c' → m ≡ m' → w ≡ w' → f ≡ f' → k ≡ k' → of_values p c m w f k ≡ of_values p' c' m' w' f' k'
-          same_values p p' c c' m m' w w' f f' k k' ep ec em ew ef ek =
-              ap (λ x. of_values x c m w f k) ep ∙ (ap (λ x. of_values p' x m w f k) ec ∙ (ap (λ x. of_values p' c' x w f k) em ∙ (ap (λ x. of_values p' c' m' x f k) ew ∙ (ap (λ x. of_values p' c' m' w' x k) ef ∙ ap (λ x. of_values p' c' m' w' f' x) ek))))
+          same_values : (p p' : Option Processed) (c c' : Cutoff) (m m' : List Pair) (w w' : Round) (f f' : Kept (At Finalization)) (k k' : ℕ) (ws ws' : Writing) → p ≡ p' → c ≡ c' → m ≡ m' → w ≡ w' → f ≡ f' → k ≡ k' → ws ≡ ws' → of_values p c m w f k ws ≡ of_values p' c' m' w' f' k' ws'
+          same_values p p' c c' m m' w w' f f' k k' ws ws' ep ec em ew ef ek es =
+              ap (λ x. of_values x c m w f k ws) ep ∙ (ap (λ x. of_values p' x m w f k ws) ec ∙ (ap (λ x. of_values p' c' x w f k ws) em ∙ (ap (λ x. of_values p' c' m' x f k ws) ew ∙ (ap (λ x. of_values p' c' m' w' x k ws) ef ∙ (ap (λ x. of_values p' c' m' w' f' x ws) ek ∙ ap (λ x. of_values p' c' m' w' f' k' x) es)))))
+
+          writes_are : s.writes ≡ no_writes
+          writes_are = ap (λ x. x.writes) begins.same ∙ reopens.writes
 
           witnessed_is : opened_witnessed s.blocks.held s.certs.held (pair_in s) ≡ opened_witnessed s.blocks.held first.certs.held (pair_in first)
           witnessed_is = ap (λ p. opened_witnessed s.blocks.held s.certs.held p) pair_same ∙ ap (λ k. opened_witnessed s.blocks.held k.held (pair_in first)) certs_same
@@ -283,8 +291,8 @@ module _ (old : Remains) (luck : ℕ) (first : Held) (reopens : ReopensAs old lu
           begins_is : node_of (record { held = new; life = life }) [] [] ≡ opened
           begins_is =
               ap (λ h. node_of (record { held = h; life = life }) [] []) derives.same
-              ∙ same_values s.processed _ (derived_cutoff config.epochs s) _ (derived_pair config.epochs s ∷ []) _ (opened_witnessed s.blocks.held s.certs.held (pair_in s)) _ s.certs _ sizes.capacity _
-              processed_is cutoff_is (ap (λ p. p ∷ []) derived_is) witnessed_is (certs_same ∙ first_certs) (sym capacity)
+              ∙ same_values s.processed _ (derived_cutoff config.epochs s) _ (derived_pair config.epochs s ∷ []) _ (opened_witnessed s.blocks.held s.certs.held (pair_in s)) _ s.certs _ sizes.capacity _ s.writes _
+              processed_is cutoff_is (ap (λ p. p ∷ []) derived_is) witnessed_is (certs_same ∙ first_certs) (sym capacity) writes_are
 
           pub Finds-begun : Finds config old.ended (picks_of old luck) begin (node_of (record { held = new; life = life }) [] [])
           Finds-begun = subst (Finds config old.ended (picks_of old luck) begin) (sym begins_is) Finds-opened

@@ -1,5 +1,5 @@
 -- What a late finalization, and an acknowledgement, make of the step's promise.
-use Rattle.std.proofs.Common.{◌≡◌, ◌⊎◌, inl, inr, ℕ, ◌+◌, ◌<◌, List, [], ◌∷◌, length, Bool, false, if◌then◌else◌, nat_lt, Option, Some, None, Result, Ok, Err, IfErr, IfOk, MatchResult, OnErr, OnOk, Contains, refl, sym, ◌∙◌, ap, subst, arith, append-nil}
+use Rattle.std.proofs.Common.{◌≡◌, ◌⊎◌, inl, inr, ℕ, ◌+◌, ◌≤◌, List, [], ◌∷◌, length, Bool, false, if◌then◌else◌, nat_lt, Option, Some, None, Result, Ok, Err, IfErr, IfOk, MatchResult, OnErr, OnOk, Contains, refl, sym, ◌∙◌, ap, subst, arith, append-nil}
 use Rattle.mar_types.specs.Epochs.{Epochs, IsPartition}
 use Rattle.mar_cert.specs.Block.{Block}
 use Rattle.mar_cert.specs.Finalization.{Finalization}
@@ -22,6 +22,7 @@ use Rattle.mar_node.specs.Lives.{is_dropped_ack, is_refused_floor, later_round, 
 use Rattle.mar_node.specs.Moves.{Drains, EndsDropped, HearsFront, RaisesTo, StoresLate, at_height, found_at_hand, lacks_finalization, late_tips}
 use Rattle.mar_node.specs.Node.{AreFinalizationsOf, Rest, at_hand, block_missing, floor_awaited, window_full, write_uncovered}
 use Rattle.mar_node.specs.Promise.{CutsStep, IsGoodUntold, IsLawfulStep, IsSetTo, KeepsPromise, heard_by, made_of, node_of}
+use Rattle.mar_node.specs.Writing.{total_writes}
 use Rattle.mar_node.specs.Requests.{own_asks, raise_asks, retire_asks}
 use Rattle.mar_node.specs.Step.{IsFront, Report}
 use Rattle.mar_node.proofs.AckEvent as ack
@@ -35,11 +36,11 @@ use Rattle.mar_node.proofs.Promises.{dispatched, undispatched}
 use Rattle.mar_node.proofs.Soundness.{untold}
 
 -- it rests as long as what is outstanding, processed and held is the same
-pub Rest-same : {P E : Type 0} (window : ℕ) (a m : Seen P E) (buffer : List Block) (asked : List Asked) → m.life.out ≡ a.life.out → m.held.processed ≡ a.held.processed → m.held.blocks ≡ a.held.blocks → Rest window (node_of a buffer asked) → Rest window (node_of m buffer asked)
-Rest-same window a m buffer asked out processed blocks (floor_awaited some) = absurd cc
-Rest-same window a m buffer asked out processed blocks (window_full full) = window_full (ap length out ∙ full)
-Rest-same window a m buffer asked out processed blocks (block_missing missing) = block_missing (ap (λ k. value_at k.held (first_unprocessed m.held.processed + length m.life.out)) blocks ∙ (ap (λ p. value_at a.held.blocks.held (first_unprocessed p + length m.life.out)) processed ∙ (ap (λ o. value_at a.held.blocks.held (first_unprocessed a.held.processed + length o)) out ∙ missing)))
-Rest-same window a m buffer asked out processed blocks (write_uncovered h none low) = absurd (let lt : none.0 < 0 = none.1 in omega arith)
+pub Rest-same : {P E : Type 0} (window : ℕ) (a m : Seen P E) (buffer : List Block) (asked : List Asked) → m.life.out ≡ a.life.out → m.held.processed ≡ a.held.processed → m.held.blocks ≡ a.held.blocks → m.held.writes ≡ a.held.writes → Rest window (node_of a buffer asked) → Rest window (node_of m buffer asked)
+Rest-same window a m buffer asked out processed blocks writes (floor_awaited some) = absurd cc
+Rest-same window a m buffer asked out processed blocks writes (window_full full) = window_full (ap length out ∙ full)
+Rest-same window a m buffer asked out processed blocks writes (block_missing missing) = block_missing (ap (λ k. value_at k.held (first_unprocessed m.held.processed + length m.life.out)) blocks ∙ (ap (λ p. value_at a.held.blocks.held (first_unprocessed p + length m.life.out)) processed ∙ (ap (λ o. value_at a.held.blocks.held (first_unprocessed a.held.processed + length o)) out ∙ missing)))
+Rest-same window a m buffer asked out processed blocks writes (write_uncovered h waits low) = write_uncovered h (subst (λ w. Contains w.uncovered h) (sym writes) waits) (subst (λ k. h ≤ k) (sym (ap (λ p. first_unprocessed p + length m.life.out) processed ∙ ap (λ o. first_unprocessed a.held.processed + length o) out)) low)
 
 -- a dropped oldest is the fault by value
 dropped_first-some : (out : List Outstanding) (o : Outstanding) → dropped_oldest out ≡ Some o → dropped_first out ≡ Some (dropped_ack o.height)
@@ -148,13 +149,21 @@ module _ {P E : Type 0} (epochs : Epochs) (inner : List ℕ → List ℕ) (parti
       pub promise-late : (told told' : Option (List Report)) (heard heard' : Option (List Call)) (m : Seen P E) → IsNested a.held.blocks → IsNested a.held.certs → StoresLate inner s f b m → Grew s.held (written_cert (at_height b.height f)) m.held → Hears told (late_tips (lacks_finalization s.held b) s.life.tip f b) told' → Hears heard (raise_asks a.held.cutoff (at_round f.round ∷ [])) heard' → KeepsPromise epochs inner a (message_told None (report_finalization f) ∷ []) buffer (heard_by told heard) (heard_by told' heard') (Ok m)
       promise-late told told' heard heard' m nested certs_nested stores grew tips asks config chain asked set step =
           undispatched config chain a m (message_told None (report_finalization f)) buffer asked (late_tips (lacks_finalization a.held b) a.life.tip f b) (set.window ∙ sym sizes) step (λ fault. refl)
-          (final.Reaches-late config chain a f buffer asked step.lawful step.one step.good step.reported.0 (event.partition_of epochs inner partition a buffer config set.epochs_are) b w s m nested certs_nested (subst (λ k. Grown k (at_height b.height f ∷ []) m.held.certs) certs_same (Grown-certs s.held m.held (written_cert (at_height b.height f)) refl grew)) (hand config chain asked set step) low raised synced (subst (λ i. StoresLate i s f b m) (sym set.inner_is) stores))
+          (final.Reaches-late config chain a f buffer asked step.lawful step.one step.good step.reported.0 (event.partition_of epochs inner partition a buffer config set.epochs_are) b w s m nested certs_nested (subst (λ k. Grown k (at_height b.height f ∷ []) m.held.certs) certs_same (Grown-certs s.held m.held (written_cert (at_height b.height f)) refl grew)) (hand config chain asked set step) low raised synced stores_as)
+          (final.IsGood-noted config chain a f buffer asked step.lawful step.one step.good step.reported.0 (event.partition_of epochs inner partition a buffer config set.epochs_are) b w s m (subst (λ k. Grown k (at_height b.height f ∷ []) m.held.certs) certs_same (Grown-certs s.held m.held (written_cert (at_height b.height f)) refl grew)) (hand config chain asked set step) low raised synced stores_as)
+          (let same : total_writes m.held.writes ≡ total_writes a.held.writes = ap total_writes writes in omega arith)
           (subst (λ k. KeepsValues k.sure k.held) (sym blocks) nested.sure_held)
           told told' heard heard'
           (subst (λ t. Hears told (late_tips (lacks_finalization a.held b) t f b) told') tip_same (subst (λ d. Hears told (late_tips d s.life.tip f b) told') due_same tips))
           (subst (λ cs. Hears heard cs heard') (final.asks-late config chain a f buffer asked step.lawful step.one step.good step.reported.0 b (hand config chain asked set step) low) asks)
-          (Rest-same config.window a m buffer asked out processed blocks step.rests)
+          (Rest-same config.window a m buffer asked out processed blocks writes step.rests)
         where
+          stores_as : StoresLate config.inner s f b m
+          stores_as = subst (λ i. StoresLate i s f b m) (sym set.inner_is) stores
+
+          writes : m.held.writes ≡ a.held.writes
+          writes = final.writes-noted config chain a f buffer asked step.lawful step.one step.good step.reported.0 b w s m raised synced stores_as
+
           blocks : m.held.blocks ≡ a.held.blocks
           blocks = ap (λ k. k.held.blocks) stores.same ∙ blocks_same
 
@@ -218,6 +227,8 @@ module _ {P E : Type 0} (epochs : Epochs) (inner : List ℕ → List ℕ) (parti
       promise-acked told told' heard heard' m result nested certs_nested synced asks ran config chain asked set step =
           dispatched config chain a m (ack_given t) buffer asked [] (set.window ∙ sym (ap (λ k. k.life.sizes.window) synced ∙ window_same)) step (λ fault. refl)
           (ack.Reaches-ack config chain step.lawful (event.partition_of epochs inner partition a buffer config set.epochs_are) a t buffer asked nested certs_nested step.good is_drained d (of_config config set.epochs_are) m synced)
+          (ack.IsGood-ack config chain step.lawful (event.partition_of epochs inner partition a buffer config set.epochs_are) a t buffer asked nested certs_nested step.good is_drained d (of_config config set.epochs_are) m synced)
+          (let same : total_writes m.held.writes ≡ total_writes a.held.writes = ap total_writes (ack.writes-ack config chain step.lawful (event.partition_of epochs inner partition a buffer config set.epochs_are) a t buffer asked nested certs_nested step.good is_drained d (of_config config set.epochs_are) m synced) in omega arith)
           (subst (λ k. KeepsValues k.sure k.held) (sym blocks) nested.sure_held)
           told told told' heard heard' result (Hears-nothing told) ran
           (subst (λ cs. Hears heard cs heard') (asks_are config chain asked set step nested certs_nested) asks)
@@ -229,6 +240,8 @@ module _ {P E : Type 0} (epochs : Epochs) (inner : List ℕ → List ℕ) (parti
     promise-not_drained told heard heard' d is_drained not_drained any nested certs_nested asks config chain asked set step =
         undispatched config chain a d (ack_given t) buffer asked [] (set.window ∙ sym (ap (λ k. k.life.sizes.window) any.same)) step (λ fault. refl)
         (ack.Reaches-undrained config chain step.lawful (event.partition_of epochs inner partition a buffer config set.epochs_are) a t buffer asked nested certs_nested step.good d drains)
+        (ack.IsGood-undrained config chain step.lawful (event.partition_of epochs inner partition a buffer config set.epochs_are) a t buffer asked nested certs_nested step.good d drains)
+        (let same : total_writes d.held.writes ≡ total_writes a.held.writes = ap total_writes (ack.writes-undrained config chain step.lawful (event.partition_of epochs inner partition a buffer config set.epochs_are) a t buffer asked nested certs_nested step.good d drains) in omega arith)
         (subst (λ k. KeepsValues k.sure k.held) (sym blocks) nested.sure_held)
         told told heard heard' (Hears-nothing told)
         (subst (λ cs. Hears heard cs heard') (asks_are config chain asked set step nested certs_nested) asks)

@@ -1,5 +1,6 @@
 -- An event that reached some node, and handed over from there, is a step or a cut.
-use Rattle.std.proofs.Common.{◌≡◌, ◌⊎◌, inl, inr, ℕ, ◌+◌, ◌≤◌, List, [], ◌∷◌, ◌++◌, length, map, false, Option, Some, None, option_map, Result, Ok, Err, IsTrue, Contains, refl, sym, ◌∙◌, ap, ap₂, subst, arith, append-nil}
+use Rattle.std.proofs.Common.{◌≡◌, ◌⊎◌, inl, inr, ℕ, ◌+◌, ◌<◌, ◌≤◌, List, [], ◌∷◌, ◌++◌, length, map, false, Option, Some, None, option_map, Result, Ok, Err, IsTrue, Contains, refl, sym, ◌∙◌, ap, ap₂, subst, arith, append-nil}
+use Rattle.std.specs.List.{AllByRecursion}
 use Rattle.mar_cert.specs.Block.{Block}
 use Rattle.mar_key.specs.Asked.{Asked, asked_after}
 use Rattle.mar_key.specs.Hears.{Hears}
@@ -15,9 +16,10 @@ use Rattle.mar_node.specs.Event.{Event, cutoff_after, no_floor, processed_after,
 use Rattle.mar_node.specs.Faults.{Fault, ack_kind, is_by_value, meta_store, next_after, store_fault, ticket_limit}
 use Rattle.mar_node.specs.Held.{Ending, IsArchiveFault, LeavesStore, Seen, blocks_left, certs_left}
 use Rattle.mar_node.specs.Lives.{Cuts, NotBelow, Reached, is_dropped_ack, is_refused_floor, reached_after}
-use Rattle.mar_node.specs.Moves.{IsLastTicket, IsStill, StopsHanding, handed_report, next_in, with_handed}
+use Rattle.mar_node.specs.Moves.{IsLastTicket, IsStarted, IsStill, StopsHanding, handed_report, next_in, with_handed}
 use Rattle.mar_node.specs.Step.{HeldFrom}
-use Rattle.mar_node.specs.Node.{AreBlocksOf, Ended, Node, Rest}
+use Rattle.mar_node.specs.Node.{AreBlocksOf, Ended, IsGood, Node, Rest}
+use Rattle.mar_node.specs.Writing.{total_writes}
 use Rattle.mar_node.specs.Promise.{FinishesStep, IsGoodUntold, IsLawfulStep, StepsOrCuts, heard_by, made_of, node_of}
 use Rattle.mar_node.specs.Requests.{own_asks}
 use Rattle.mar_node.specs.Sound.{IsSafePair}
@@ -25,19 +27,19 @@ use Rattle.mar_node.specs.Step.{AreHandedOf, HandedBlock, HandedFrom, Report, St
 use Rattle.mar_node.proofs.Cutting.{Cuts-left, LeavesArchives, MayBeLeft, contains_first, keeps_heights, keeps_sure, never, only_one, some_from_first, usual_from_archive, usual_not_by_value, usual_not_dropped}
 use Rattle.mar_node.proofs.FloorSafety.{next_after-is}
 use Rattle.mar_node.proofs.Growing.{LeavesStore-then}
-use Rattle.mar_node.proofs.Handing.{HandedFrom-held, Hears-then, Ran, sure_value, with_handed-none}
+use Rattle.mar_node.proofs.Handing.{HandedFrom-held, Hears-then, Ran, sure_below, sure_value, with_handed-none}
 use Rattle.mar_node.proofs.OutstandingLemmas.{first_unprocessed-rises}
-use Rattle.mar_node.proofs.Reaching.{Reaches, Rest-still, Steps-reached, handed_after_tips, held_sure, next_is, tips_before_handed, tips_of_both, IsGood-handed}
+use Rattle.mar_node.proofs.Reaching.{HandsSure-next, HandsSure-none, IsGood-handed, Reaches, Rest-still, Steps-reached, Steps-started, handed_after_tips, next_is, tips_before_handed, tips_of_both}
 use Rattle.mar_node.proofs.Soundness.{IsFrom, IsSafePair-kept, own_pair_safe, untold}
 
 -- each held block that is handed over is sure with its value
-AreHandedOf-values : (chain : Chain) (held sure : List (At Block)) (ticket height : ℕ) (xs : List HandedBlock) → AreBlocksOf chain held → ((h : ℕ) (b : Block) → value_at held h ≡ Some b → value_at sure h ≡ Some b) → HeldFrom held ticket height xs → AreHandedOf chain sure xs
-AreHandedOf-values chain held sure ticket height [] blocks all line = tt
-AreHandedOf-values chain held sure ticket height (x ∷ xs) blocks all line = ((subst (λ k. IsBlockAt chain k x.block) (sym line.1) (AllByRecursion-value_at (λ y. IsBlockAt chain y.height y.value) held height x.block blocks line.2), subst (λ k. value_at sure k ≡ Some x.block) (sym line.1) (all height x.block line.2)), AreHandedOf-values chain held sure (ticket + 1) (height + 1) xs blocks all line.3)
+AreHandedOf-values : (chain : Chain) (held sure : List (At Block)) (uncovered : List ℕ) (ticket height : ℕ) (xs : List HandedBlock) → AreBlocksOf chain held → ((h : ℕ) (b : Block) → AllByRecursion (λ k. h < k) uncovered → value_at held h ≡ Some b → value_at sure h ≡ Some b) → AllByRecursion (λ x. AllByRecursion (λ k. x.block.height < k) uncovered) xs → HeldFrom held ticket height xs → AreHandedOf chain sure xs
+AreHandedOf-values chain held sure uncovered ticket height [] blocks all below line = tt
+AreHandedOf-values chain held sure uncovered ticket height (x ∷ xs) blocks all below line = ((subst (λ k. IsBlockAt chain k x.block) (sym line.1) (AllByRecursion-value_at (λ y. IsBlockAt chain y.height y.value) held height x.block blocks line.2), subst (λ k. value_at sure k ≡ Some x.block) (sym line.1) (all height x.block (subst (λ h. AllByRecursion (λ k. h < k) uncovered) line.1 below.0) line.2)), AreHandedOf-values chain held sure uncovered (ticket + 1) (height + 1) xs blocks all below.1 line.3)
 
 module _ {P E : Type 0} (config : Config) (chain : Chain) (a m : Seen P E) (e : Event) (buffer : List Block) (asked : List Asked) (tips : List Report)
     (window : config.window ≡ m.life.sizes.window) (step : IsLawfulStep config chain (node_of a buffer asked) (e ∷ [])) (unrefused : (fault : Fault) → is_refused_floor e fault ≡ false)
-    (reach : Reaches config chain a e buffer asked tips m) (sure_held : KeepsValues m.held.blocks.sure m.held.blocks.held)
+    (reach : Reaches config chain a e buffer asked tips m) (good : IsGood config chain (node_of m buffer asked)) (unwritten : total_writes m.held.writes ≤ total_writes a.held.writes) (sure_held : KeepsValues m.held.blocks.sure m.held.blocks.held)
   where
     abbrev pub n : Node
     n = node_of a buffer asked
@@ -80,38 +82,38 @@ module _ {P E : Type 0} (config : Config) (chain : Chain) (a m : Seen P E) (e : 
       kept : KeepsValues m.held.blocks.sure left.blocks_sure
       kept = keeps_sure m.held.blocks [] (blocks_left left) m_blocks
 
-      sure_from_held : (h : ℕ) → IsTrue (has_height m.held.blocks.held h) → IsTrue (has_height left.blocks_sure h)
-      sure_from_held h has = keeps_heights m.held.blocks.sure left.blocks_sure kept h (held_sure m.held.blocks reach.good.heights.stores.sure_blocks h has)
+      sure_from_held : (h : ℕ) → AllByRecursion (λ k. h < k) m.held.writes.uncovered → IsTrue (has_height m.held.blocks.held h) → IsTrue (has_height left.blocks_sure h)
+      sure_from_held h low has = keeps_heights m.held.blocks.sure left.blocks_sure kept h (sure_below m.held.blocks m.held.writes.uncovered h good.heights.stores.sure_blocks low has)
 
-      value_from_held : (h : ℕ) (b : Block) → value_at m.held.blocks.held h ≡ Some b → value_at left.blocks_sure h ≡ Some b
-      value_from_held h b is = kept h b (sure_value m.held.blocks.held m.held.blocks.sure h b sure_held (held_sure m.held.blocks reach.good.heights.stores.sure_blocks h (has_height-from_value m.held.blocks.held h b is)) is)
+      value_from_held : (h : ℕ) (b : Block) → AllByRecursion (λ k. h < k) m.held.writes.uncovered → value_at m.held.blocks.held h ≡ Some b → value_at left.blocks_sure h ≡ Some b
+      value_from_held h b low is = kept h b (sure_value m.held.blocks.held m.held.blocks.sure h b sure_held (sure_below m.held.blocks m.held.writes.uncovered h good.heights.stores.sure_blocks low (has_height-from_value m.held.blocks.held h b is)) is)
 
       blocks_are : handed_blocks (tips ++ map handed_report handed) ≡ handed
       blocks_are = handed_after_tips tips handed reach.are_tips
 
       first : first_pair left.meta ≡ Some (pair_of m.held.processed m.held.cutoff)
-      first = stops.lost.leaves.pairs.first ∙ ap first_pair reach.good.heights.own_pair
+      first = stops.lost.leaves.pairs.first ∙ ap first_pair good.heights.own_pair
 
       in_order : HandedFrom left.blocks_sure a.life.next_ack (next_after (option_map height_in m.held.processed) + length (undrained_blocks n e)) handed
       in_order =
           subst (λ k. HandedFrom left.blocks_sure a.life.next_ack (k + length (undrained_blocks n e)) handed) (sym (next_after-is m.held.processed))
           (subst (λ o. HandedFrom left.blocks_sure a.life.next_ack (first_unprocessed m.held.processed + length o) handed) reach.kept
           (subst (λ t. HandedFrom left.blocks_sure t (first_unprocessed m.held.processed + length m.life.out) handed) reach.next_ack
-          (subst (λ k. HandedFrom left.blocks_sure m.life.next_ack k handed) (next_is config chain m buffer asked reach.good)
-          (HandedFrom-held m.held.blocks.held left.blocks_sure m.life.next_ack (next_in m) handed sure_from_held stops.next))))
+          (subst (λ k. HandedFrom left.blocks_sure m.life.next_ack k handed) (next_is config chain m buffer asked good)
+          (HandedFrom-held m.held.blocks.held left.blocks_sure m.held.writes.uncovered m.life.next_ack (next_in m) handed sure_from_held stops.below_barrier stops.next))))
 
       each : (p : Pair) → Contains left.meta p → MayBeLeft config chain a e buffer asked left.blocks_sure p
       each p has = inr (pair_is ∙ is, subst (IsSafePair chain left.blocks_sure) is safe, subst (λ q. NotBelow (option_map height_in a.held.processed) q.processed) is not_below)
         where
           is : pair_of m.held.processed m.held.cutoff ≡ p
-          is = only_one (pair_of m.held.processed m.held.cutoff) p (subst (λ ps. Contains ps p) (append-nil m.held.pairs ∙ reach.good.heights.own_pair) (stops.lost.leaves.pairs.within p has))
+          is = only_one (pair_of m.held.processed m.held.cutoff) p (subst (λ ps. Contains ps p) (append-nil m.held.pairs ∙ good.heights.own_pair) (stops.lost.leaves.pairs.within p has))
 
           from : (o : Option ℕ) → IsFrom 0 o
           from None = tt
           from (Some h) = omega arith
 
           safe : IsSafePair chain left.blocks_sure (pair_of m.held.processed m.held.cutoff)
-          safe = IsSafePair-kept chain 0 m.held.blocks.sure left.blocks_sure (pair_of m.held.processed m.held.cutoff) (λ h low there. keeps_heights m.held.blocks.sure left.blocks_sure kept h there) (from (option_map height_in m.held.processed)) (own_pair_safe chain (node_of m buffer asked) reach.good.heights.delivery.anchored reach.good.of_chain.floor_safe)
+          safe = IsSafePair-kept chain 0 m.held.blocks.sure left.blocks_sure (pair_of m.held.processed m.held.cutoff) (λ h low there. keeps_heights m.held.blocks.sure left.blocks_sure kept h there) (from (option_map height_in m.held.processed)) (own_pair_safe chain (node_of m buffer asked) good.heights.delivery.anchored good.of_chain.floor_safe)
 
       by_kind : IsArchiveFault x.fault ⊎ ((x.fault ≡ ticket_limit ack_kind) × IsLastTicket m (length handed)) → (is_by_value x.fault ≡ false) × (is_dropped_ack x.fault ≡ false) × (x.fault ≡ store_fault meta_store → ⊥)
       by_kind (inl of_blocks) = (usual_not_by_value x.fault (usual_from_archive x.fault of_blocks), usual_not_dropped x.fault (usual_from_archive x.fault of_blocks), λ is. absurd (subst IsArchiveFault is of_blocks))
@@ -131,7 +133,7 @@ module _ {P E : Type 0} (config : Config) (chain : Chain) (a m : Seen P E) (e : 
           (inr (refl, subst (Contains (map (λ p. p.processed) left.meta)) (sym processed_is) (contains_first left.meta (pair_of m.held.processed m.held.cutoff) first)))
           (subst (λ p. HandedFrom left.blocks_sure a.life.next_ack (next_after p + length (undrained_blocks n e)) (handed_blocks (tips ++ map handed_report handed))) (sym processed_is)
           (subst (λ xs. HandedFrom left.blocks_sure a.life.next_ack (next_after (option_map height_in m.held.processed) + length (undrained_blocks n e)) xs) (sym blocks_are) in_order))
-          (subst (AreHandedOf chain left.blocks_sure) (sym blocks_are) (AreHandedOf-values chain m.held.blocks.held left.blocks_sure m.life.next_ack (next_in m) handed reach.good.of_chain.stores.held_blocks value_from_held stops.next))
+          (subst (AreHandedOf chain left.blocks_sure) (sym blocks_are) (AreHandedOf-values chain m.held.blocks.held left.blocks_sure m.held.writes.uncovered m.life.next_ack (next_in m) handed good.of_chain.stores.held_blocks value_from_held stops.below_barrier stops.next))
           leaves (some_from_first left.meta (pair_of m.held.processed m.held.cutoff) first)
           (inr ((by_kind stops.kind).2, first ∙ ap Some (sym pair_is)))
           each
@@ -146,9 +148,12 @@ module _ {P E : Type 0} (config : Config) (chain : Chain) (a m : Seen P E) (e : 
       made = made_of (tips ++ map handed_report handed) (own_asks config n e no_floor);
       heard = record { reports = Hears-then told told1 told' tips (map handed_report handed) tips_heard handed_heard; asks = asks_heard; no_more = refl };
       steps = subst (λ s. Steps config chain n (e ∷ []) (made_of (tips ++ map handed_report handed) (own_asks config n e no_floor)) (node_of s buffer (asked_after asked [] (own_asks config n e no_floor)))) (sym ran.same)
-          (Steps-reached config chain a m e buffer asked tips handed step.lawful window sure_held step.reported.0 good_before.1.of_chain.asks.requests reach ran.next ran.room
-          (Rest-still config chain (with_handed m handed) buffer asked step.lawful window (IsGood-handed config chain m buffer asked handed window reach.good ran.next ran.room) (subst IsStill ran.same ran.still)));
+          (Steps-reached config chain a m e buffer asked tips handed step.reported.0 good_before.1.of_chain.asks.requests reach (HandsSure-next config chain m buffer asked handed good sure_held ran.next ran.below_barrier) unwritten handed_good
+          (Rest-still config chain (with_handed m handed) buffer asked step.lawful window handed_good (subst IsStill ran.same ran.still)));
     }
+      where
+        handed_good : IsGood config chain (node_of (with_handed m handed) buffer asked)
+        handed_good = IsGood-handed config chain m buffer asked handed window good ran.next ran.below_barrier ran.room
     dispatched told told1 told' heard heard' (Err x) tips_heard (handed, handed_heard, stops) asks_heard = record {
       made = made_of (tips ++ map handed_report handed) (own_asks config n e no_floor);
       heard = record { reports = Hears-then told told1 told' tips (map handed_report handed) tips_heard handed_heard; asks = asks_heard; no_more = refl };
@@ -162,5 +167,15 @@ module _ {P E : Type 0} (config : Config) (chain : Chain) (a m : Seen P E) (e : 
       heard = record { reports = tips_heard; asks = asks_heard; no_more = refl };
       steps = subst (λ rs. Steps config chain n (e ∷ []) (made_of rs (own_asks config n e no_floor)) (node_of m buffer (asked_after asked [] (own_asks config n e no_floor)))) (append-nil tips)
           (subst (λ s. Steps config chain n (e ∷ []) (made_of (tips ++ []) (own_asks config n e no_floor)) (node_of s buffer (asked_after asked [] (own_asks config n e no_floor)))) (with_handed-none m)
-          (Steps-reached config chain a m e buffer asked tips [] step.lawful window sure_held step.reported.0 good_before.1.of_chain.asks.requests reach tt (λ more. absurd (omega arith)) (subst (λ s. Rest config.window (node_of s buffer asked)) (sym (with_handed-none m)) rests)));
+          (Steps-reached config chain a m e buffer asked tips [] step.reported.0 good_before.1.of_chain.asks.requests reach (HandsSure-none chain m) unwritten (subst (λ s. IsGood config chain (node_of s buffer asked)) (sym (with_handed-none m)) good) (subst (λ s. Rest config.window (node_of s buffer asked)) (sym (with_handed-none m)) rests)));
     }
+
+-- An event that wrote ends with a sync that covers what it wrote.
+module _ {P E : Type 0} (config : Config) (chain : Chain) (a m : Seen P E) (e : Event) (buffer : List Block) (asked : List Asked) (tips : List Report) (step : IsLawfulStep config chain (node_of a buffer asked) (e ∷ [])) (reach : Reaches config chain a e buffer asked tips m) where
+  pub started : (new : Seen P E) → IsStarted m new → total_writes a.held.writes < total_writes m.held.writes → 0 < length m.held.writes.uncovered → IsGood config chain (node_of new buffer asked) → Rest config.window (node_of new buffer asked) → (told told' : Option (List Report)) (heard heard' : Option (List Call)) → Hears told tips told' → Hears heard (own_asks config (node_of a buffer asked) e no_floor) heard' → FinishesStep config chain (node_of a buffer asked) (e ∷ []) (heard_by told heard) (heard_by told' heard') new
+  started new is written some good rests told told' heard heard' tips_heard asks_heard = record {
+    made = made_of tips (own_asks config (node_of a buffer asked) e no_floor);
+    heard = record { reports = tips_heard; asks = asks_heard; no_more = refl };
+    steps = subst (λ rs. Steps config chain (node_of a buffer asked) (e ∷ []) (made_of rs (own_asks config (node_of a buffer asked) e no_floor)) (node_of new buffer (asked_after asked [] (own_asks config (node_of a buffer asked) e no_floor)))) (append-nil tips)
+        (Steps-started config chain a m e buffer asked tips [] step.reported.0 (untold config chain (node_of a buffer asked) e step.good).1.of_chain.asks.requests reach (HandsSure-none chain m) new (subst (λ s. IsStarted s new) (sym (with_handed-none m)) is) written some good rests);
+  }

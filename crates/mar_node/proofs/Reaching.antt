@@ -8,7 +8,7 @@ use Rattle.mar_cert.specs.Finalization.{Finalization}
 use Rattle.mar_key.specs.Asked.{Asked, asked_after}
 use Rattle.mar_key.specs.Keys.{Call}
 use Rattle.mar_key.specs.Processed.{first_unprocessed}
-use Rattle.mar_store.specs.Kept.{At, Kept, has_height, value_at}
+use Rattle.mar_store.specs.Kept.{At, has_height, value_at}
 use Rattle.mar_store.specs.Changes.{KeepsValues}
 use Rattle.mar_store.proofs.Lookups.{AllByRecursion-append, AllByRecursion-value_at}
 use Rattle.mar_node.specs.Answers.{answers_of, certified_after, is_known, sends_of, subscriptions_after}
@@ -19,16 +19,17 @@ use Rattle.mar_node.specs.Config.{Config}
 use Rattle.mar_node.specs.Event.{Event, acked_to, blocks_from, brought_block, certs_from, cutoff_after, drained_blocks, effect_of, is_query, no_floor, storing_of, told_finalization, undrained_blocks}
 use Rattle.mar_node.specs.Faults.{event_fault, last_height}
 use Rattle.mar_node.specs.Held.{Seen}
-use Rattle.mar_node.specs.Moves.{AreNextHeld, HasRoom, IsStill, handed_report, next_in, with_handed}
-use Rattle.mar_node.specs.Node.{AreBlocksOf, AreFinalizationsOf, AreHonest, IsGood, Node, Rest, SureOrWritten, block_missing, empty_inbox, empty_peers, floor_awaited, window_full, write_count, write_uncovered}
+use Rattle.mar_node.specs.Moves.{AreNextHeld, HasRoom, IsBelowWrites, IsStarted, IsStill, handed_report, next_in, with_handed}
+use Rattle.mar_node.specs.Node.{AreBlocksOf, AreFinalizationsOf, AreHonest, IsGood, Node, Rest, block_missing, empty_inbox, empty_peers, floor_awaited, window_full, write_count, write_uncovered}
 use Rattle.mar_node.specs.Promise.{ReportsFinalized, made_of, node_of}
+use Rattle.mar_node.specs.Writing.{total_writes}
 use Rattle.mar_node.specs.Requests.{own_asks}
 use Rattle.mar_node.specs.Step.{AdvancesBy, AreHandedOf, AreTipsOf, CertificatesFrom, HandedBlock, HandedFrom, HandsOver, IsBlockFrom, IsCertFrom, IsStored, IsStoredLate, KeepsFrom, Report, Steps, TipsFrom, Writes, handed_blocks, handed_over, new_tip, outstanding_of}
 use Rattle.mar_node.proofs.Growing.{Grown}
-use Rattle.mar_node.proofs.Handing.{AreHandedOf-held, HandedFrom-held, handed_blocks-is, height_after-consecutive}
+use Rattle.mar_node.proofs.Handing.{AreHandedOf-held, HandedFrom-held, handed_blocks-is, height_after-consecutive, sure_below}
 use Rattle.mar_node.proofs.HonestAsks.{AreHonest-asked_after, own_asks-honest}
 use Rattle.mar_node.proofs.OutstandingLemmas.{ConsecutiveFrom-append, ConsecutiveFrom-handed}
-use Rattle.mar_node.proofs.SyncTickets.{with_sync-covered}
+use Rattle.mar_node.proofs.SyncTickets.{with_sync-unwritten, with_sync-written}
 
 -- REPORTS
 
@@ -63,14 +64,6 @@ tips_of_both chain (handed_over t b ∷ tips) xs only is = absurd only
 
 -- HANDING OVER FROM A GOOD NODE
 
--- where all writes are covered, a held height is sure
-pub held_sure : {T : Type 0} (kept : Kept (At T)) → SureOrWritten kept [] → (h : ℕ) → IsTrue (has_height kept.held h) → IsTrue (has_height kept.sure h)
-held_sure kept covered h has = by (covered h has)
-  where
-    by : IsTrue (has_height kept.sure h) ⊎ Contains [] h → IsTrue (has_height kept.sure h)
-    by (inl is) = is
-    by (inr none) = absurd (let lt : none.0 < 0 = none.1 in omega arith)
-
 all_out_sure : (sure : List (At Block)) (ticket height : ℕ) (xs : List HandedBlock) → HandedFrom sure ticket height xs → AllByRecursion (λ o. IsTrue (has_height sure o.height)) (map outstanding_of xs)
 all_out_sure sure ticket height [] line = tt
 all_out_sure sure ticket height (x ∷ xs) line = (subst (λ k. IsTrue (has_height sure k)) (sym line.1) line.2, all_out_sure sure (ticket + 1) (height + 1) xs line.3)
@@ -83,8 +76,8 @@ pub next_is : {P E : Type 0} (config : Config) (chain : Chain) (m : Seen P E) (b
 next_is config chain m buffer asked good = height_after-consecutive (first_unprocessed m.held.processed) m.life.out good.heights.delivery.consecutive
 
 -- the first part's node stays good as blocks are handed over
-pub IsGood-handed : {P E : Type 0} (config : Config) (chain : Chain) (m : Seen P E) (buffer : List Block) (asked : List Asked) (handed : List HandedBlock) → config.window ≡ m.life.sizes.window → IsGood config chain (node_of m buffer asked) → AreNextHeld m handed → HasRoom m handed → IsGood config chain (node_of (with_handed m handed) buffer asked)
-IsGood-handed config chain m buffer asked handed window good next room = record {
+pub IsGood-handed : {P E : Type 0} (config : Config) (chain : Chain) (m : Seen P E) (buffer : List Block) (asked : List Asked) (handed : List HandedBlock) → config.window ≡ m.life.sizes.window → IsGood config chain (node_of m buffer asked) → AreNextHeld m handed → AllByRecursion (λ x. IsBelowWrites m x.block) handed → HasRoom m handed → IsGood config chain (node_of (with_handed m handed) buffer asked)
+IsGood-handed config chain m buffer asked handed window good next below room = record {
   heights = record {
     stores = good.heights.stores;
     delivery = record {
@@ -95,7 +88,7 @@ IsGood-handed config chain m buffer asked handed window good next room = record 
     };
     floor_clears = λ some. absurd cc;
     own_pair = good.heights.own_pair;
-    sync_open = λ more. absurd (omega arith);
+    sync_open = good.heights.sync_open;
   };
   of_chain = record {
     stores = good.of_chain.stores;
@@ -109,7 +102,7 @@ IsGood-handed config chain m buffer asked handed window good next room = record 
 }
   where
     handed_sure : HandedFrom m.held.blocks.sure m.life.next_ack (next_in m) handed
-    handed_sure = HandedFrom-held m.held.blocks.held m.held.blocks.sure m.life.next_ack (next_in m) handed (held_sure m.held.blocks good.heights.stores.sure_blocks) next
+    handed_sure = HandedFrom-held m.held.blocks.held m.held.blocks.sure m.held.writes.uncovered m.life.next_ack (next_in m) handed (λ h low has. sure_below m.held.blocks m.held.writes.uncovered h good.heights.stores.sure_blocks low has) below next
 
     length_mapped : (xs : List HandedBlock) → length (map outstanding_of xs) ≡ length xs
     length_mapped [] = refl
@@ -126,8 +119,9 @@ in_list (c ∷ blocks) (suc i) b at = let low : i < length blocks = in_list bloc
 -- a good node that can hand over no more rests
 pub Rest-still : {P E : Type 0} (config : Config) (chain : Chain) (m : Seen P E) (buffer : List Block) (asked : List Asked) → IsLawful config.epochs chain → config.window ≡ m.life.sizes.window → IsGood config chain (node_of m buffer asked) → IsStill m → Rest config.window (node_of m buffer asked)
 Rest-still config chain m buffer asked lawful window good (inl full) = window_full (let within : length m.life.out ≤ config.window = good.heights.delivery.within_window in omega arith)
-Rest-still config chain m buffer asked lawful window good (inr (inl missing)) = block_missing (subst (λ k. value_at m.held.blocks.held k ≡ None) (next_is config chain m buffer asked good) missing)
-Rest-still config chain m buffer asked lawful window good (inr (inr end)) = block_missing (beyond (value_at m.held.blocks.held next) refl (high end))
+Rest-still config chain m buffer asked lawful window good (inr (inl (h, waits, low))) = write_uncovered h waits (subst (λ k. h ≤ k) (next_is config chain m buffer asked good) low)
+Rest-still config chain m buffer asked lawful window good (inr (inr (inl missing))) = block_missing (subst (λ k. value_at m.held.blocks.held k ≡ None) (next_is config chain m buffer asked good) missing)
+Rest-still config chain m buffer asked lawful window good (inr (inr (inr end))) = block_missing (beyond (value_at m.held.blocks.held next) refl (high end))
   where
     next : ℕ
     next = first_unprocessed m.held.processed + length m.life.out
@@ -150,6 +144,7 @@ pub record Reaches {P E : Type 0} (config : Config) (chain : Chain) (a : Seen P 
   pub no_effect : effect_of config (node_of a buffer asked) e ≡ no_floor
   pub kept : m.life.out ≡ undrained_blocks (node_of a buffer asked) e
   pub next_ack : m.life.next_ack ≡ a.life.next_ack
+  pub next_sync : m.held.writes.next_sync ≡ a.held.writes.next_sync
   pub sizes : m.life.sizes ≡ a.life.sizes
   pub processed : m.held.processed ≡ acked_to a.held.processed (drained_blocks (node_of a buffer asked) e)
   pub cutoff : m.held.cutoff ≡ cutoff_after config (node_of a buffer asked) e no_floor
@@ -179,7 +174,6 @@ pub record Reaches {P E : Type 0} (config : Config) (chain : Chain) (a : Seen P 
   pub subscriptions : subscriptions_after (node_of a buffer asked) e no_floor ≡ []
   pub certified : (tip : ℕ) → certified_after (node_of a buffer asked) e no_floor tip ≡ []
   pub no_syncs : (n' : Node) → started_syncs (node_of a buffer asked) n' e ≡ []
-  pub good : IsGood config chain (node_of m buffer asked)
 
 -- BOTH PARTS
 
@@ -197,16 +191,15 @@ IfSome-more : {T : Type 0} (P Q : T → Type 0) → ((x : T) → P x → Q x) �
 IfSome-more P Q more None is = tt
 IfSome-more P Q more (Some x) is = more x is
 
-all_nothing : {T : Type 0} (xs : List T) → AllByRecursion (λ x. ⊤) xs
-all_nothing [] = tt
-all_nothing (x ∷ xs) = (tt, all_nothing xs)
+plus_none : (k : ℕ) → k + 0 ≡ k
+plus_none k = omega arith
 
 -- another buffer and other requests stand beside it
 pub Rest-beside : {P E : Type 0} (window : ℕ) (m : Seen P E) (buffer buffer' : List Block) (asked asked' : List Asked) → Rest window (node_of m buffer asked) → Rest window (node_of m buffer' asked')
 Rest-beside window m buffer buffer' asked asked' (floor_awaited some) = absurd cc
 Rest-beside window m buffer buffer' asked asked' (window_full full) = window_full full
 Rest-beside window m buffer buffer' asked asked' (block_missing missing) = block_missing missing
-Rest-beside window m buffer buffer' asked asked' (write_uncovered h none low) = absurd (let lt : none.0 < 0 = none.1 in omega arith)
+Rest-beside window m buffer buffer' asked asked' (write_uncovered h waits low) = write_uncovered h waits low
 
 pub IsGood-beside : {P E : Type 0} (config : Config) (chain : Chain) (m : Seen P E) (buffer buffer' : List Block) (asked asked' : List Asked) → AreHonest chain asked' → IsGood config chain (node_of m buffer asked) → IsGood config chain (node_of m buffer' asked')
 IsGood-beside config chain m buffer buffer' asked asked' honest good = record {
@@ -228,10 +221,27 @@ IsGood-beside config chain m buffer buffer' asked asked' honest good = record {
   };
 }
 
+-- What is handed over from a good node: each the next held block, and sure.
+pub record HandsSure {P E : Type 0} (chain : Chain) (m : Seen P E) (handed : List HandedBlock) : Type 0 where
+  pub in_order : HandedFrom m.held.blocks.sure m.life.next_ack (first_unprocessed m.held.processed + length m.life.out) handed
+  pub of_chain : AreHandedOf chain m.held.blocks.sure handed
+  pub below_barrier : AllByRecursion (λ x. IsBelowWrites m x.block) handed
+
+pub HandsSure-none : {P E : Type 0} (chain : Chain) (m : Seen P E) → HandsSure chain m []
+HandsSure-none chain m = record { in_order = tt; of_chain = tt; below_barrier = tt }
+
+pub HandsSure-next : {P E : Type 0} (config : Config) (chain : Chain) (m : Seen P E) (buffer : List Block) (asked : List Asked) (handed : List HandedBlock) → IsGood config chain (node_of m buffer asked) → KeepsValues m.held.blocks.sure m.held.blocks.held → AreNextHeld m handed → AllByRecursion (λ x. IsBelowWrites m x.block) handed → HandsSure chain m handed
+HandsSure-next config chain m buffer asked handed good sure_is_held next below = record {
+  in_order = subst (λ k. HandedFrom m.held.blocks.sure m.life.next_ack k handed) (next_is config chain m buffer asked good) (HandedFrom-held m.held.blocks.held m.held.blocks.sure m.held.writes.uncovered m.life.next_ack (next_in m) handed sure below next);
+  of_chain = AreHandedOf-held chain m.held.blocks.held m.held.blocks.sure m.held.writes.uncovered m.life.next_ack (next_in m) handed good.of_chain.stores.held_blocks sure_is_held sure below next;
+  below_barrier = below;
+}
+  where
+    sure : (h : ℕ) → AllByRecursion (λ k. h < k) m.held.writes.uncovered → IsTrue (has_height m.held.blocks.held h) → IsTrue (has_height m.held.blocks.sure h)
+    sure h low has = sure_below m.held.blocks m.held.writes.uncovered h good.heights.stores.sure_blocks low has
+
 module _ {P E : Type 0} (config : Config) (chain : Chain) (a m : Seen P E) (e : Event) (buffer : List Block) (asked : List Asked) (tips : List Report) (handed : List HandedBlock)
-    (lawful : IsLawful config.epochs chain) (window : config.window ≡ m.life.sizes.window) (sure_is_held : KeepsValues m.held.blocks.sure m.held.blocks.held) (reported : ReportsFinalized chain e)
-    (honest : AreHonest chain asked) (reach : Reaches config chain a e buffer asked tips m) (next : AreNextHeld m handed) (room : HasRoom m handed)
-    (rests : Rest config.window (node_of (with_handed m handed) buffer asked))
+    (reported : ReportsFinalized chain e) (honest : AreHonest chain asked) (reach : Reaches config chain a e buffer asked tips m) (hands_sure : HandsSure chain m handed)
   where
     abbrev pub n : Node
     n = node_of a buffer asked
@@ -248,26 +258,21 @@ module _ {P E : Type 0} (config : Config) (chain : Chain) (a m : Seen P E) (e : 
     blocks_are : handed_blocks reports ≡ handed
     blocks_are = handed_after_tips tips handed reach.are_tips
 
-    sure_from_held : (h : ℕ) → IsTrue (has_height m.held.blocks.held h) → IsTrue (has_height m.held.blocks.sure h)
-    sure_from_held = held_sure m.held.blocks reach.good.heights.stores.sure_blocks
-
     in_order : HandedFrom m.held.blocks.sure a.life.next_ack (first_unprocessed m.held.processed + length (undrained_blocks n e)) handed
     in_order =
         subst (λ o. HandedFrom m.held.blocks.sure a.life.next_ack (first_unprocessed m.held.processed + length o) handed) reach.kept
-        (subst (λ t. HandedFrom m.held.blocks.sure t (first_unprocessed m.held.processed + length m.life.out) handed) reach.next_ack
-        (subst (λ k. HandedFrom m.held.blocks.sure m.life.next_ack k handed) (next_is config chain m buffer asked reach.good)
-        (HandedFrom-held m.held.blocks.held m.held.blocks.sure m.life.next_ack (next_in m) handed sure_from_held next)))
+        (subst (λ t. HandedFrom m.held.blocks.sure t (first_unprocessed m.held.processed + length m.life.out) handed) reach.next_ack hands_sure.in_order)
 
     hands : HandsOver n (undrained_blocks n e) reports n'
     hands = record {
       in_order = subst (λ xs. HandedFrom m.held.blocks.sure a.life.next_ack (first_unprocessed m.held.processed + length (undrained_blocks n e)) xs) (sym blocks_are) in_order;
       counted = ap (λ k. k + length handed) reach.next_ack ∙ ap (λ xs. a.life.next_ack + length xs) (sym blocks_are);
       out = ap (λ o. o ++ map outstanding_of handed) reach.kept ∙ ap (λ xs. undrained_blocks n e ++ map outstanding_of xs) (sym blocks_are);
-      below_barrier = all_nothing (handed_blocks reports);
+      below_barrier = subst (AllByRecursion (λ x. AllByRecursion (λ h. x.block.height < h) m.held.writes.uncovered)) (sym blocks_are) hands_sure.below_barrier;
     }
 
     hands_chain : AreHandedOf chain m.held.blocks.sure (handed_blocks reports)
-    hands_chain = subst (AreHandedOf chain m.held.blocks.sure) (sym blocks_are) (AreHandedOf-held chain m.held.blocks.held m.held.blocks.sure m.life.next_ack (next_in m) handed reach.good.of_chain.stores.held_blocks sure_is_held sure_from_held next)
+    hands_chain = subst (AreHandedOf chain m.held.blocks.sure) (sym blocks_are) hands_sure.of_chain
 
     none_repaired : (h : ℕ) → IsTrue (list_any (λ k. k == h) reach.writes.repaired) → ⊥
     none_repaired h any = let none : false ≡ true = subst (λ xs. IsTrue (list_any (λ k. k == h) xs)) reach.no_repair any in cc
@@ -313,20 +318,31 @@ module _ {P E : Type 0} (config : Config) (chain : Chain) (a m : Seen P E) (e : 
         answers = sym reach.answers;
         subscriptions = sym reach.subscriptions;
         certified = λ h c. ap (λ xs. is_known xs h c) (sym (reach.certified m.life.tip));
-        next_sync = sym (ap (λ xs. 0 + length xs) (reach.no_syncs n'));
+        next_sync = reach.next_sync ∙ sym (ap (λ xs. a.held.writes.next_sync + length xs) (reach.no_syncs n') ∙ plus_none a.held.writes.next_sync);
         untouched = untouched;
       };
     }
 
-    good_after : IsGood config chain n'
-    good_after = IsGood-beside config chain (with_handed m handed) buffer buffer asked (asked_after asked [] asks) (AreHonest-asked_after chain asked [] asks (own_asks-honest config chain n e no_floor reported tt) honest) (IsGood-handed config chain m buffer asked handed window reach.good next room)
+    -- The node that a step leaves: this one, or with a ticket.
+    honest_after : AreHonest chain (asked_after asked [] asks)
+    honest_after = AreHonest-asked_after chain asked [] asks (own_asks-honest config chain n e no_floor reported tt) honest
 
-    -- an event that reached some node, and handed over from there until it rests, is a step
-    pub Steps-reached : Steps config chain n (e ∷ []) (made_of reports asks) n'
-    Steps-reached = record {
+    -- an event that reached some node, and handed over from there until it rests, is a step where it wrote nothing
+    pub Steps-reached : total_writes m.held.writes ≤ total_writes a.held.writes → IsGood config chain (node_of (with_handed m handed) buffer asked) → Rest config.window (node_of (with_handed m handed) buffer asked) → Steps config chain n (e ∷ []) (made_of reports asks) n'
+    Steps-reached unwritten good rests = record {
       unticketed = n';
       advances = subst (λ fx. AdvancesBy config chain n e fx (made_of reports asks) n') (sym reach.no_effect) advances_unfloored;
-      ticket = sym (with_sync-covered (write_count n) n' refl);
+      ticket = sym (with_sync-unwritten (write_count n) n' unwritten);
       rests = Rest-beside config.window (with_handed m handed) buffer buffer asked (asked_after asked [] asks) rests;
-      good = good_after;
+      good = IsGood-beside config chain (with_handed m handed) buffer buffer asked (asked_after asked [] asks) honest_after good;
+    }
+
+    -- where it wrote, it ends with a sync that covers what it wrote
+    pub Steps-started : (new : Seen P E) → IsStarted (with_handed m handed) new → total_writes a.held.writes < total_writes m.held.writes → 0 < length m.held.writes.uncovered → IsGood config chain (node_of new buffer asked) → Rest config.window (node_of new buffer asked) → Steps config chain n (e ∷ []) (made_of reports asks) (node_of new buffer (asked_after asked [] asks))
+    Steps-started new started written some good rests = record {
+      unticketed = n';
+      advances = subst (λ fx. AdvancesBy config chain n e fx (made_of reports asks) n') (sym reach.no_effect) advances_unfloored;
+      ticket = ap (λ s. node_of s buffer (asked_after asked [] asks)) started ∙ sym (with_sync-written (write_count n) n' written some);
+      rests = Rest-beside config.window new buffer buffer asked (asked_after asked [] asks) rests;
+      good = IsGood-beside config chain new buffer buffer asked (asked_after asked [] asks) honest_after good;
     }

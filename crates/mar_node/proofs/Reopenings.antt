@@ -14,11 +14,13 @@ use Rattle.mar_store.proofs.Lookups.{value_at-from_contains}
 use Rattle.mar_node.specs.Metadata.{LeavesPairs, Pair, first_pair, lucky_pair, pair_at}
 use Rattle.mar_node.proofs.Pairs.{leaves_pairs, lucky_pair_of}
 use Rattle.mar_node.specs.Faults.{Fault, block_store, cache_store, cert_store, meta_store}
+use Rattle.mar_node.specs.Writing.{no_writes}
 use Rattle.mar_node.specs.Held.{ArePassed, Ending, Grew, Held, IsNoStores, LeavesUnopened, Loses, LosesOpening, Passes, Progress, Remains, ReopensAs, Watches, Written, blocks_left, certs_left, ended_of, nothing_written, progress_of}
 use Rattle.mar_node.proofs.Cutting.{only_one, some_from_first}
 use Rattle.mar_node.proofs.Growing.{Grew-refl, within_all}
 use Rattle.mar_node.proofs.Passing.{ArePassed-store, ArePassed-then, FailsBy-nothing, FailsBy-store, FailsBy-then}
 use Rattle.mar_node.proofs.StoreLosses.{IsHow}
+use Rattle.mar_node.specs.Writing.{no_writes}
 
 LeavesUnopened-same : {T : Type 0} (old : Left (At T)) (put : List (At T)) → LeavesUnopened old put old
 LeavesUnopened-same old put = record { sure = λ h v is. is; may = λ x has. Contains-append_left old.may put x has }
@@ -142,7 +144,7 @@ module _ (old_blocks : Left (At Block)) (old_certs : Left (At Finalization)) (ol
             passed_four = ArePassed-then watches two four passed_two (ArePassed-store two meta_store wm passed_meta)
 
         -- and what each found is what its luck keeps
-        pub reopens : (luck : ℕ) (ws : Watch) → Passes watches.cache ws → 0 < length old_values → IfSome watches.blocks.keeps (λ keeps. blocks.held ≡ lucky_found (keeps_by keeps luck) old_blocks) → IfSome watches.certs.keeps (λ keeps. certs.held ≡ lucky_found (keeps_by keeps luck) old_certs) → IfSome watches.meta.keeps (λ keeps. values ≡ lucky_values (keeps_by keeps luck 0) old_values) → ReopensAs old luck (record { blocks = blocks; certs = certs; processed = progress.processed; cutoff = progress.cutoff; witnessed = progress.witnessed; pairs = progress.pairs; watches = record { blocks = wb; certs = wc; meta = progress.watch; cache = ws } })
+        pub reopens : (luck : ℕ) (ws : Watch) → Passes watches.cache ws → 0 < length old_values → IfSome watches.blocks.keeps (λ keeps. blocks.held ≡ lucky_found (keeps_by keeps luck) old_blocks) → IfSome watches.certs.keeps (λ keeps. certs.held ≡ lucky_found (keeps_by keeps luck) old_certs) → IfSome watches.meta.keeps (λ keeps. values ≡ lucky_values (keeps_by keeps luck 0) old_values) → ReopensAs old luck (record { blocks = blocks; certs = certs; processed = progress.processed; cutoff = progress.cutoff; witnessed = progress.witnessed; pairs = progress.pairs; writes = no_writes; watches = record { blocks = wb; certs = wc; meta = progress.watch; cache = ws } })
         reopens luck ws passes some lucky_blocks lucky_certs lucky_meta = record {
           blocks = reopened;
           certs = certs_reopened;
@@ -157,6 +159,7 @@ module _ (old_blocks : Left (At Block)) (old_certs : Left (At Finalization)) (ol
           cutoff = ap (λ p. p.cutoff) is;
           witnessed = ap (λ p. p.witnessed) is;
           pairs = ap (λ p. p.pairs) is;
+          writes = refl;
           passed = all_passed ws passes;
           no_cache = refl;
         }

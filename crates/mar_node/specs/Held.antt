@@ -19,7 +19,8 @@ use Rattle.mar_node.specs.Cached.{Cached}
 use Rattle.mar_node.specs.Metadata.{Pair, first_pair, lucky_pair}
 use Rattle.mar_node.specs.Faults.{Fault, store_fault, want_of_memory, StoreName, block_store, cert_store, meta_store, cache_store}
 use Rattle.mar_node.specs.Lives.{IsPicked, Picks, round_zero}
-use Rattle.mar_node.specs.Node.{Ended}
+use Rattle.mar_node.specs.Node.{Ended, SureOrWritten}
+use Rattle.mar_node.specs.Writing.{IsOrdered, Writing, no_writes}
 
 -- what each store tells of its failures
 pub record Watches : Type 0 where
@@ -85,8 +86,8 @@ pub record Progress : Type 0 where
 abbrev pub progress_of : Pair → Watch → Progress
 progress_of p watch = record { processed = option_map at_block p.processed; cutoff = p.cutoff; witnessed = round_zero; pairs = p ∷ []; watch = watch }
 
--- The stores of a life, with the processed height, the cutoff, the last witnessed round, and the pairs that a crash can
--- leave of the first two.
+-- The stores of a life, with the processed height, the cutoff, the last witnessed round, the pairs that a crash can leave
+-- of the first two, and the writes that wait for a sync.
 pub record Held : Type 0 where
   pub blocks : Kept (At Block)
   pub certs : Kept (At Finalization)
@@ -94,7 +95,20 @@ pub record Held : Type 0 where
   pub cutoff : Cutoff
   pub witnessed : Round
   pub pairs : List Pair
+  pub writes : Writing
   pub watches : Watches
+
+-- What is held is sure or waits for a sync, and the open syncs are in order.
+pub record AreWritten (h : Held) : Type 0 where
+  pub blocks : SureOrWritten h.blocks h.writes.uncovered
+  pub certs : SureOrWritten h.certs h.writes.uncovered
+  pub ordered : IsOrdered h.writes
+
+-- A sync made more sure: nothing else is held, and nothing else may be left.
+pub record MakesSure {T : Type 0} (old new : Kept (At T)) : Type 0 where
+  pub held : new.held ≡ old.held
+  pub sure : KeepsValues old.sure new.sure
+  pub may : Within new.may old.may
 
 -- the sizes that an actor keeps to
 pub record Sizes : Type 0 where
@@ -109,7 +123,6 @@ pub record Remembered (P E : Type 0) : Type 0 where
   pub epocher : E
   pub sizes : Sizes
   pub out : List Outstanding
-  pub covered : ℕ
   pub tip : ℕ
   pub next_ack : ℕ
 
@@ -120,7 +133,6 @@ first_life provider epocher sizes = record {
   epocher = epocher;
   sizes = sizes;
   out = [];
-  covered = 0;
   tip = 0;
   next_ack = 0;
 }
@@ -270,6 +282,7 @@ pub record ReopensAs (old : Remains) (luck : ℕ) (new : Held) : Type 0 where
   pub cutoff : new.cutoff ≡ pair.cutoff
   pub witnessed : new.witnessed ≡ round_zero
   pub pairs : new.pairs ≡ pair ∷ []
+  pub writes : new.writes ≡ no_writes
   pub passed : ArePassed old.watches new.watches
   pub no_cache : old.ended ≡ ended_of (blocks_left old.ended) (certs_left old.ended) old.ended.meta
 

@@ -1,6 +1,12 @@
 pub mod Chain
 pub mod Config
 pub mod Node
+pub mod Writing
+pub mod Pool
+pub mod Gate
+pub mod Staged
+pub mod Views
+pub mod Gated
 pub mod Event
 pub mod Cache
 pub mod Faults

@@ -1,5 +1,6 @@
 -- What the parts of a step change: what is seen of an actor before and after them.
-use Rattle.std.specs.Prelude.{Bool, List, MatchResult, None, Option, Result, Some, [], bytes_eq, false, find, fold, if◌then◌else◌, is_some, length, map, nat_lt, not, option_to_list, true, ℕ, ◌&&◌, ◌++◌, ◌+◌, ◌-◌, ◌<◌, ◌^◌, ◌∷◌, ◌≡◌, ◌≤◌, ◌⊎◌}
+use Rattle.std.specs.List.{AllByRecursion}
+use Rattle.std.specs.Prelude.{Bool, Contains, List, MatchResult, None, Option, Result, Some, [], bytes_eq, false, find, fold, if◌then◌else◌, is_some, length, map, nat_lt, not, option_to_list, true, ℕ, ◌&&◌, ◌++◌, ◌+◌, ◌-◌, ◌<◌, ◌^◌, ◌∷◌, ◌≡◌, ◌≤◌, ◌⊎◌}
 use Rattle.std.specs.Option.{option_or}
 use Rattle.mar_types.specs.Round.{Round}
 use Rattle.mar_types.specs.Epochs.{Epochs}
@@ -9,14 +10,15 @@ use Rattle.mar_key.specs.Cutoff.{Cutoff, greatest_of}
 use Rattle.mar_key.specs.Hears.{Hears}
 use Rattle.mar_key.specs.Processed.{first_unprocessed}
 use Rattle.mar_store.specs.Kept.{At, Kept, has_height, value_at}
-use Rattle.mar_store.specs.Changes.{Within}
+use Rattle.mar_store.specs.Changes.{Puts, Within}
 use Rattle.mar_node.specs.Stored.{at_own_height, block_of, is_certified, is_held, newest}
 use Rattle.mar_node.specs.Acks.{Outstanding, after_given, after_oldest, dropped_oldest, given_front, given_oldest, height_after}
 use Rattle.mar_node.specs.Event.{acked_to, all_retired, round_at}
-use Rattle.mar_node.specs.Faults.{ack_kind, dropped_ack, last_height, ticket_limit}
+use Rattle.mar_node.specs.Faults.{ack_kind, dropped_ack, last_height, sync_kind, ticket_limit}
 use Rattle.mar_node.specs.Lives.{later_round}
 use Rattle.mar_node.specs.Step.{HandedBlock, HeldFrom, IsFront, Report, handed_over, new_tip, outstanding_of}
-use Rattle.mar_node.specs.Held.{ArePassed, Ending, Grew, Held, IsArchiveFault, IsEndedBy, Loses, Seen, Watches, nothing_written}
+use Rattle.mar_node.specs.Held.{ArePassed, AreWritten, Ending, Grew, Held, IsArchiveFault, IsEndedBy, Loses, MakesSure, Seen, Watches, nothing_written}
+use Rattle.mar_node.specs.Writing.{with_finished, with_started, with_write}
 
 -- HANDING OVER
 
@@ -47,16 +49,29 @@ AreNextHeld a handed = HeldFrom a.held.blocks.held a.life.next_ack (next_in a) h
 abbrev pub HasRoom : {P E : Type 0} → Seen P E → List HandedBlock → Type 0
 HasRoom a handed = 0 < length handed → length a.life.out + length handed ≤ a.life.sizes.window
 
--- the next block, for which there is room
+-- it stands below each height whose write no finished sync covers
+abbrev pub IsFree : {P E : Type 0} → Seen P E → ℕ → Type 0
+IsFree a height = AllByRecursion (λ h. height < h) a.held.writes.uncovered
+
+abbrev pub IsBelowWrites : {P E : Type 0} → Seen P E → Block → Type 0
+IsBelowWrites a b = IsFree a b.height
+
+-- the next block, for which there is room, and which a crash leaves
 pub record IsNext {P E : Type 0} (a : Seen P E) (b : Block) : Type 0 where
   pub room : length a.life.out < a.life.sizes.window
   pub held : value_at a.held.blocks.held (next_in a) ≡ Some b
   pub height : b.height ≡ next_in a
   pub below : b.height < last_height
+  pub below_barrier : IsBelowWrites a b
 
--- nothing more can be handed over: the window is full, the next block isn't held, or no height below the last is left
+-- a write at or below the next height is not yet covered
+abbrev pub IsBarred : {P E : Type 0} → Seen P E → Type 0
+IsBarred a = (h : ℕ) × Contains a.held.writes.uncovered h × (h ≤ next_in a)
+
+-- Nothing more can be handed over: the window is full, a write bars the next block, that block isn't held, or no height below
+-- the last is left.
 abbrev pub IsStill : {P E : Type 0} → Seen P E → Type 0
-IsStill a = (a.life.sizes.window ≤ length a.life.out) ⊎ (value_at a.held.blocks.held (next_in a) ≡ None) ⊎ (last_height ≤ next_in a) ⊎ (2 ^ 64 ≤ first_unprocessed a.held.processed)
+IsStill a = (a.life.sizes.window ≤ length a.life.out) ⊎ IsBarred a ⊎ (value_at a.held.blocks.held (next_in a) ≡ None) ⊎ (last_height ≤ next_in a) ⊎ (2 ^ 64 ≤ first_unprocessed a.held.processed)
 
 -- where so many tickets are given, the last one is reached
 abbrev pub IsLastTicket : {P E : Type 0} → Seen P E → ℕ → Type 0
@@ -65,6 +80,7 @@ IsLastTicket a given = a.life.next_ack + given ≡ 2 ^ 64 - 1
 -- The life ended while blocks were handed over.
 pub record StopsHanding {P E : Type 0} (old : Seen P E) (handed : List HandedBlock) (e : Ending) : Type 0 where
   pub next : AreNextHeld old handed
+  pub below_barrier : AllByRecursion (λ x. IsBelowWrites old x.block) handed
   pub room : HasRoom old handed
   pub lost : Loses old.held nothing_written e
   pub kind : IsArchiveFault e.fault ⊎ ((e.fault ≡ ticket_limit ack_kind) × IsLastTicket old (length handed))
@@ -72,6 +88,7 @@ pub record StopsHanding {P E : Type 0} (old : Seen P E) (handed : List HandedBlo
 -- All was handed over that could be.
 pub record Dispatches {P E : Type 0} (old : Seen P E) (handed : List HandedBlock) (new : Seen P E) : Type 0 where
   pub next : AreNextHeld old handed
+  pub below_barrier : AllByRecursion (λ x. IsBelowWrites old x.block) handed
   pub room : HasRoom old handed
   pub same : IsRead (with_handed old handed) new
   pub grew : Grew old.held nothing_written new.held
@@ -89,17 +106,19 @@ HearsUpTo old whole new result = MatchResult result (λ _. Hears old whole new) 
 
 -- LIVING ON
 
--- What a step keeps: no store failed, the settings are what they were, and no more tickets are given than the window has.
+-- What a step keeps: no store failed, the settings are what they were, and no more tickets are given than the window has, nor
+-- more than one of a sync.
 pub record SameLife {P E : Type 0} (old new : Seen P E) : Type 0 where
   pub passed : ArePassed old.held.watches new.held.watches
   pub tickets : new.life.next_ack ≤ old.life.next_ack + old.life.sizes.window
+  pub sync_tickets : new.held.writes.next_sync ≤ old.held.writes.next_sync + 1
   pub provider : new.life.provider ≡ old.life.provider
   pub epocher : new.life.epocher ≡ old.life.epocher
   pub sizes : new.life.sizes ≡ old.life.sizes
 
--- the tickets run out only where fewer are left than a window has
+-- The tickets run out only where fewer are left than a window has, and those of syncs where none is left.
 abbrev pub RunsOut : {P E : Type 0} → Seen P E → Ending → Type 0
-RunsOut a e = e.fault ≡ ticket_limit ack_kind → 2 ^ 64 - 1 ≤ a.life.next_ack + a.life.sizes.window
+RunsOut a e = (e.fault ≡ ticket_limit ack_kind → 2 ^ 64 - 1 ≤ a.life.next_ack + a.life.sizes.window) × (e.fault ≡ ticket_limit sync_kind → a.held.writes.next_sync ≡ 2 ^ 64 - 1)
 
 -- Why a step ended a life.
 pub record EndsLife {P E : Type 0} (old : Seen P E) (e : Ending) : Type 0 where
@@ -157,13 +176,26 @@ tip_reports tip f b = tips_above tip f.round b.height b.digest
 abbrev pub tip_after : ℕ → Block → ℕ
 tip_after tip b = risen_to tip b.height
 
--- A finalized block is stored above the processed height, with its finalization.
-pub record StoresAbove {P E : Type 0} (inner : List ℕ → List ℕ) (old : Seen P E) (f : Finalization) (b : Block) (new : Seen P E) : Type 0 where
-  pub blocks : StoresValue (is_held old.held.blocks.held b) old.held.blocks (at_own_height b) new.held.blocks
-  pub certs : StoresValue (is_certified inner old.held.certs.held b.height (inner f.payload)) old.held.certs (at_height b.height f) new.held.certs
+-- A finalized block was put above the processed height, with its finalization, and told as the tip where it is the newest.
+pub record PutsAbove {P E : Type 0} (inner : List ℕ → List ℕ) (old : Seen P E) (f : Finalization) (b : Block) (new : Seen P E) : Type 0 where
+  pub blocks : Puts (is_held old.held.blocks.held b) old.held.blocks (at_own_height b) new.held.blocks
+  pub certs : Puts (is_certified inner old.held.certs.held b.height (inner f.payload)) old.held.certs (at_height b.height f) new.held.certs
   pub same : new ≡ record old {
-    held = record old.held { blocks = new.held.blocks; certs = new.held.certs; watches = new.held.watches };
-    life = record old.life { tip = tip_after old.life.tip b; covered = old.life.covered + 1 };
+    held = record old.held { blocks = new.held.blocks; certs = new.held.certs; writes = with_write b.height old.held.writes; watches = new.held.watches };
+    life = record old.life { tip = tip_after old.life.tip b };
+  }
+
+-- and a sync that covers all writes was started
+abbrev pub IsStarted : {P E : Type 0} → Seen P E → Seen P E → Type 0
+IsStarted old new = new ≡ record old { held = record old.held { writes = with_started old.held.writes; watches = new.held.watches } }
+
+-- The sync of a ticket has finished: it made more sure.
+pub record FinishesSync {P E : Type 0} (ticket : ℕ) (old new : Seen P E) : Type 0 where
+  pub blocks : MakesSure old.held.blocks new.held.blocks
+  pub certs : MakesSure old.held.certs new.held.certs
+  pub written : AreWritten new.held
+  pub same : new ≡ record old {
+    held = record old.held { blocks = new.held.blocks; certs = new.held.certs; writes = with_finished ticket old.held.writes; watches = new.held.watches };
   }
 
 -- a put that was synced, where it was due

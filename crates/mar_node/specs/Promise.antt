@@ -19,16 +19,12 @@ use Rattle.mar_node.specs.Event.{Event, life_started, message_told}
 use Rattle.mar_node.specs.Faults.{Begin, Fault, from_floor, from_genesis, opening_fault}
 use Rattle.mar_node.specs.Held.{Ending, Remains, Seen, Sizes, picks_of}
 use Rattle.mar_node.specs.Lives.{Cuts, CutsReopening, Finds, IsGoodEnded, Picks}
-use Rattle.mar_node.specs.Node.{Awaited, CacheSync, CertifiedCommitment, Ended, IsFinalized, IsGood, Node, OpenSync, Rest, Subscription, empty_inbox, empty_peers}
+use Rattle.mar_node.specs.Node.{Awaited, CacheSync, CertifiedCommitment, Ended, IsFinalized, IsGood, Node, Rest, Subscription, empty_inbox, empty_peers}
 use Rattle.mar_node.specs.Step.{Made, Report, Steps, nothing_made}
 
--- What stands around the stores and the window of a life: an awaited floor, open syncs, the cache, the queues, and callers
--- that wait.
+-- What stands around the stores and the window of a life: an awaited floor, the cache, the queues, and callers that wait.
 pub record Around : Type 0 where
   pub awaited : Option Awaited
-  pub uncovered : List ℕ
-  pub syncs : List OpenSync
-  pub next_sync : ℕ
   pub cache : Kept Cached
   pub lowest : ℕ
   pub lowests : List ℕ
@@ -41,13 +37,10 @@ pub record Around : Type 0 where
   pub unanswered : List ℕ
   pub next_answer : ℕ
 
--- Nothing stands there yet: finished syncs cover all writes, and the queues have this capacity.
+-- Nothing stands there yet, and the queues have this capacity.
 abbrev pub nothing_around : ℕ → Around
 nothing_around capacity = record {
   awaited = None;
-  uncovered = [];
-  syncs = [];
-  next_sync = 0;
   cache = reopened_store [];
   lowest = 0;
   lowests = [];
@@ -71,9 +64,9 @@ node_around around a buffer asked = record {
   meta = a.held.pairs;
   out = a.life.out;
   awaited = around.awaited;
-  covered = a.life.covered;
-  uncovered = around.uncovered;
-  syncs = around.syncs;
+  covered = a.held.writes.covered;
+  uncovered = a.held.writes.uncovered;
+  syncs = a.held.writes.syncs;
   tip = a.life.tip;
   buffer = buffer;
   cache = around.cache;
@@ -89,7 +82,7 @@ node_around around a buffer asked = record {
   buffer_closed = around.buffer_closed;
   unanswered = around.unanswered;
   next_answer = around.next_answer;
-  next_sync = around.next_sync;
+  next_sync = a.held.writes.next_sync;
   next_ack = a.life.next_ack;
 }
 

@@ -1,6 +1,6 @@
 -- One step of a node: what it reports, and the node after it.
 use Rattle.std.specs.List.{AllByRecursion, filter_map, list_any}
-use Rattle.std.specs.Prelude.{Bool, Contains, IfSome, IsSome, IsTrue, List, None, Some, [], count_by, drop, filter, if◌then◌else◌, length, map, max, nat_lt, not, option_to_list, ℕ, ⊤, ◌&&◌, ◌++◌, ◌+◌, ◌-◌, ◌<◌, ◌==◌, ◌∷◌, ◌≡◌, ◌≤◌, ◌⊎◌}
+use Rattle.std.specs.Prelude.{Bool, Contains, IfSome, IsSome, IsTrue, List, None, Some, [], count_by, drop, if◌then◌else◌, length, map, max, nat_lt, not, option_to_list, ℕ, ⊤, ◌&&◌, ◌++◌, ◌+◌, ◌-◌, ◌<◌, ◌==◌, ◌∷◌, ◌≡◌, ◌≤◌, ◌⊎◌}
 use Rattle.mar_types.specs.Round.{Round}
 use Rattle.mar_cert.specs.Block.{Block}
 use Rattle.mar_cert.specs.Finalization.{Finalization}
@@ -11,6 +11,7 @@ use Rattle.mar_key.specs.Keys.{Call}
 use Rattle.mar_node.specs.Config.{Config}
 use Rattle.mar_node.specs.Acks.{Outstanding, mark_waiting}
 use Rattle.mar_node.specs.Node.{IsGood, Node, OpenSync, Rest, write_count}
+use Rattle.mar_node.specs.Writing.{position_of, without_sync}
 use Rattle.mar_node.specs.Cached.{cached_block, cached_finalization}
 use Rattle.mar_node.specs.Event.{Effect, Event, Storing, applies_floor, awaited_after, awaits_floor, block_buffered, blocks_from, brought_block, certs_from, cutoff_after, effect_of, finalization_for, is_above, is_query, kept_blocks, no_floor, own_writes, processed_after, storing_of, sync_finished, told_finalization}
 use Rattle.mar_node.specs.Cache.{HasNoCache, entries_with_puts, started_syncs}
@@ -97,15 +98,11 @@ is_repaired n own n' h = nat_lt (height_of n'.processed) h && (has_height n'.blo
 
 -- how many writes the finished sync covers
 abbrev pub finished_position : List OpenSync → Event → ℕ
-finished_position syncs (sync_finished t) = position_of syncs
-  where
-    position_of : List OpenSync → ℕ
-    position_of [] = 0
-    position_of (s ∷ others) = if s.ticket == t then s.position else position_of others
+finished_position syncs (sync_finished t) = position_of syncs t
 finished_position syncs _ = 0
 
 abbrev pub without_finished : Event → List OpenSync → List OpenSync
-without_finished (sync_finished t) syncs = filter (λ s. not (s.ticket == t)) syncs
+without_finished (sync_finished t) syncs = without_sync t syncs
 without_finished _ syncs = syncs
 
 -- an applied floor above the processed height syncs both archives, which covers every write

@@ -25,7 +25,7 @@ struct Asked {
 
 impl Model for Asked {
     ghost use Rattle.std.specs.Prelude.{◌≤◌};
-    ghost use Rattle.mar_parts.specs.Gate.{Gate};
+    ghost use Rattle.mar_node.specs.Gate.{Gate};
 
     ghost Value = { Gate };
 

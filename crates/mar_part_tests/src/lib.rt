@@ -27,3 +27,5 @@ mod subscriptions;
 mod tell;
 #[cfg(test)]
 mod told_apart;
+#[cfg(test)]
+mod waiting_writes;

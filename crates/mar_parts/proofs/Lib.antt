@@ -1,4 +1,3 @@
-pub mod Batches
 pub mod ByHeight
 pub mod ByName
 pub mod Entries

@@ -1,6 +1,7 @@
 //! What a node shows of itself while a life runs.
 use crate::acks::PendingAcks;
 use mar_key::{Cutoff, Processed};
+use mar_node::Writes;
 use mar_store::RangeSet;
 
 /// What a node shows while a life runs.
@@ -20,4 +21,6 @@ pub struct Shown<'a> {
     pub certs_held: &'a RangeSet,
     /// The heights of the certificates that every crash leaves.
     pub certs_sure: &'a RangeSet,
+    /// The writes that wait for a sync, and the syncs that are open.
+    pub writes: &'a Writes,
 }

@@ -11,8 +11,8 @@ three old a b c = simp append_assoc
 four : (old a b c d : List ℕ) → (((old ++ a) ++ b) ++ c) ++ d ≡ old ++ (a ++ (b ++ (c ++ d)))
 four old a b c d = simp append_assoc
 
-six : (old a b c d e f : List ℕ) → (((((old ++ a) ++ b) ++ c) ++ d) ++ e) ++ f ≡ old ++ (a ++ (b ++ (c ++ (d ++ (e ++ f)))))
-six old a b c d e f = simp append_assoc
+seven : (old a b c d e f g : List ℕ) → ((((((old ++ a) ++ b) ++ c) ++ d) ++ e) ++ f) ++ g ≡ old ++ (a ++ (b ++ (c ++ (d ++ (e ++ (f ++ g))))))
+seven old a b c d e f g = simp append_assoc
 
 pub in_three : (old m1 m2 new a b c whole : List ℕ) → m1 ≡ old ++ a → m2 ≡ m1 ++ b → new ≡ m2 ++ c → whole ≡ a ++ (b ++ c) → new ≡ old ++ whole
 in_three old m1 m2 new a b c whole p q r w = r ∙ ap (λ l. l ++ c) (q ∙ ap (λ l. l ++ b) p) ∙ three old a b c ∙ ap (λ l. old ++ l) (sym w)
@@ -20,9 +20,9 @@ in_three old m1 m2 new a b c whole p q r w = r ∙ ap (λ l. l ++ c) (q ∙ ap (
 pub in_four : (old m1 m2 m3 new a b c d : List ℕ) → m1 ≡ old ++ a → m2 ≡ m1 ++ b → m3 ≡ m2 ++ c → new ≡ m3 ++ d → new ≡ old ++ (a ++ (b ++ (c ++ d)))
 in_four old m1 m2 m3 new a b c d p q r s = s ∙ ap (λ l. l ++ d) (r ∙ ap (λ l. l ++ c) (q ∙ ap (λ l. l ++ b) p)) ∙ four old a b c d
 
-pub in_six : (old m1 m2 m3 m4 m5 new a b c d e f whole : List ℕ) → m1 ≡ old ++ a → m2 ≡ m1 ++ b → m3 ≡ m2 ++ c → m4 ≡ m3 ++ d → m5 ≡ m4 ++ e → new ≡ m5 ++ f → whole ≡ a ++ (b ++ (c ++ (d ++ (e ++ f)))) → new ≡ old ++ whole
-in_six old m1 m2 m3 m4 m5 new a b c d e f whole p q r s t u w =
-    u ∙ ap (λ l. l ++ f) (t ∙ ap (λ l. l ++ e) (s ∙ ap (λ l. l ++ d) (r ∙ ap (λ l. l ++ c) (q ∙ ap (λ l. l ++ b) p)))) ∙ six old a b c d e f ∙ ap (λ l. old ++ l) (sym w)
+pub in_seven : (old m1 m2 m3 m4 m5 m6 new a b c d e f g whole : List ℕ) → m1 ≡ old ++ a → m2 ≡ m1 ++ b → m3 ≡ m2 ++ c → m4 ≡ m3 ++ d → m5 ≡ m4 ++ e → m6 ≡ m5 ++ f → new ≡ m6 ++ g → whole ≡ a ++ (b ++ (c ++ (d ++ (e ++ (f ++ g))))) → new ≡ old ++ whole
+in_seven old m1 m2 m3 m4 m5 m6 new a b c d e f g whole p q r s t u v w =
+    v ∙ ap (λ l. l ++ g) (u ∙ ap (λ l. l ++ f) (t ∙ ap (λ l. l ++ e) (s ∙ ap (λ l. l ++ d) (r ∙ ap (λ l. l ++ c) (q ∙ ap (λ l. l ++ b) p))))) ∙ seven old a b c d e f g ∙ ap (λ l. old ++ l) (sym w)
 
 front4 : (a b c d rest : List ℕ) → (a ++ (b ++ (c ++ d))) ++ rest ≡ a ++ (b ++ (c ++ (d ++ rest)))
 front4 a b c d rest = simp append_assoc
@@ -38,13 +38,14 @@ line_end [] = refl
 line_end (w ∷ []) = refl
 line_end (w ∷ v ∷ ws) = append_assoc w (32 ∷ sentence (v ∷ ws)) (10 ∷ []) ∙ ap (λ l. w ++ (32 ∷ l)) (line_end (v ∷ ws))
 
-pub node_line : (p o c b bs f fs : List ℕ) → line_of (codes "node" ∷ (codes "p=" ++ p) ∷ (codes "o=" ++ o) ∷ (codes "c=" ++ c) ∷ codes "w=-" ∷ (codes "b=" ++ b) ∷ (codes "bs=" ++ bs) ∷ (codes "f=" ++ f) ∷ (codes "fs=" ++ fs) ∷ codes "u=-" ∷ codes "s=-" ∷ codes "y=-" ∷ [])
-    ≡ (codes "node p=" ++ (p ++ (codes " o=" ++ o))) ++ (codes " c=" ++ (c ++ (codes " w=-" ++ (((32 ∷ (codes "b=" ++ b)) ++ ((32 ∷ (codes "bs=" ++ bs)) ++ ((32 ∷ (codes "f=" ++ f)) ++ (32 ∷ (codes "fs=" ++ fs))))) ++ codes " u=- s=- y=-\n"))))
-node_line p o c b bs f fs =
-    line_end (codes "node" ∷ (codes "p=" ++ p) ∷ (codes "o=" ++ o) ∷ (codes "c=" ++ c) ∷ codes "w=-" ∷ (codes "b=" ++ b) ∷ (codes "bs=" ++ bs) ∷ (codes "f=" ++ f) ∷ (codes "fs=" ++ fs) ∷ codes "u=-" ∷ codes "s=-" ∷ codes "y=-" ∷ [])
+pub node_line : (p o c b bs f fs u s : List ℕ) → line_of (codes "node" ∷ (codes "p=" ++ p) ∷ (codes "o=" ++ o) ∷ (codes "c=" ++ c) ∷ codes "w=-" ∷ (codes "b=" ++ b) ∷ (codes "bs=" ++ bs) ∷ (codes "f=" ++ f) ∷ (codes "fs=" ++ fs) ∷ (codes "u=" ++ u) ∷ (codes "s=" ++ s) ∷ codes "y=-" ∷ [])
+    ≡ (codes "node p=" ++ (p ++ (codes " o=" ++ o))) ++ (codes " c=" ++ (c ++ (codes " w=-" ++ (((32 ∷ (codes "b=" ++ b)) ++ ((32 ∷ (codes "bs=" ++ bs)) ++ ((32 ∷ (codes "f=" ++ f)) ++ (32 ∷ (codes "fs=" ++ fs))))) ++ ((codes " u=" ++ (u ++ (codes " s=" ++ s))) ++ codes " y=-\n")))))
+node_line p o c b bs f fs u s =
+    line_end (codes "node" ∷ (codes "p=" ++ p) ∷ (codes "o=" ++ o) ∷ (codes "c=" ++ c) ∷ codes "w=-" ∷ (codes "b=" ++ b) ∷ (codes "bs=" ++ bs) ∷ (codes "f=" ++ f) ∷ (codes "fs=" ++ fs) ∷ (codes "u=" ++ u) ∷ (codes "s=" ++ s) ∷ codes "y=-" ∷ [])
     ∙ sym (
-    ap (λ l. (codes "node p=" ++ (p ++ (codes " o=" ++ o))) ++ (codes " c=" ++ (c ++ (codes " w=-" ++ l)))) (front4 (32 ∷ (codes "b=" ++ b)) (32 ∷ (codes "bs=" ++ bs)) (32 ∷ (codes "f=" ++ f)) (32 ∷ (codes "fs=" ++ fs)) (codes " u=- s=- y=-\n"))
-    ∙ front4 (codes "node p=") p (codes " o=") o (codes " c=" ++ (c ++ (codes " w=-" ++ ((32 ∷ (codes "b=" ++ b)) ++ ((32 ∷ (codes "bs=" ++ bs)) ++ ((32 ∷ (codes "f=" ++ f)) ++ ((32 ∷ (codes "fs=" ++ fs)) ++ codes " u=- s=- y=-\n")))))))
+    ap (λ l. (codes "node p=" ++ (p ++ (codes " o=" ++ o))) ++ (codes " c=" ++ (c ++ (codes " w=-" ++ (((32 ∷ (codes "b=" ++ b)) ++ ((32 ∷ (codes "bs=" ++ bs)) ++ ((32 ∷ (codes "f=" ++ f)) ++ (32 ∷ (codes "fs=" ++ fs))))) ++ l))))) (front4 (codes " u=") u (codes " s=") s (codes " y=-\n"))
+    ∙ ap (λ l. (codes "node p=" ++ (p ++ (codes " o=" ++ o))) ++ (codes " c=" ++ (c ++ (codes " w=-" ++ l)))) (front4 (32 ∷ (codes "b=" ++ b)) (32 ∷ (codes "bs=" ++ bs)) (32 ∷ (codes "f=" ++ f)) (32 ∷ (codes "fs=" ++ fs)) (codes " u=" ++ (u ++ (codes " s=" ++ (s ++ codes " y=-\n")))))
+    ∙ front4 (codes "node p=") p (codes " o=") o (codes " c=" ++ (c ++ (codes " w=-" ++ ((32 ∷ (codes "b=" ++ b)) ++ ((32 ∷ (codes "bs=" ++ bs)) ++ ((32 ∷ (codes "f=" ++ f)) ++ ((32 ∷ (codes "fs=" ++ fs)) ++ (codes " u=" ++ (u ++ (codes " s=" ++ (s ++ codes " y=-\n")))))))))))
     )
 
 pub ended_line : (p c bs bm fs fm : List ℕ) → line_of (codes "node" ∷ codes "end" ∷ (codes "p=" ++ p) ∷ (codes "c=" ++ c) ∷ (codes "bs=" ++ bs) ∷ (codes "bm=" ++ bm) ∷ (codes "fs=" ++ fs) ∷ (codes "fm=" ++ fm) ∷ [])

@@ -5,10 +5,14 @@ use Rattle.std.specs.List.{All, AllByRecursion, flat_map, join_with_byte}
 use Rattle.std.specs.Prelude.{codes, ◌==◌}
 use Rattle.std.proofs.lemmas.Bool.Decides.{nat_tests}
 use Rattle.std.proofs.lemmas.Fmt.{decimal_by_steps}
-use Rattle.std.proofs.lemmas.Grind.{common_steps}
-use Rattle.mar_script.specs.Text.{comma_list}
+use Rattle.std.proofs.lemmas.Grind.{common_steps, flat_map-append}
+use Rattle.mar_node.specs.Pool.{syncs_of}
+use Rattle.mar_node.specs.Views.{pooled_of}
+use Rattle.mar_node.specs.declared.OpenSync.{OpenSync}
+use Rattle.mar_script.specs.Text.{comma_list, sync_text}
 use Rattle.std.proofs.lemmas.List.{append-nil, append_cancel_right, map-id}
 use Rattle.std.proofs.lemmas.List.Elements.{All-cons, All-nil, All-push, All-weaker}
+use Rattle.std.proofs.lemmas.Simd.{map-map}
 use Rattle.std.proofs.lemmas.List.Splits.{join_with_byte-slice_split, slice_split_at, slice_split_none}
 use Rattle.mar_codec.specs.Varint.{IsNumber}
 use Rattle.mar_script.specs.Script.{IsSettings, Settings, comma_numbers, sentence, settings_bytes}
@@ -74,6 +78,22 @@ numbers_listed (x ∷ xs) = ap (λ ys. join_with_byte 44 (decimal x ∷ map deci
 -- the same of numbers
 pub numbers_shown : (xs tail : List ℕ) (x : ℕ) → 0 < length xs → x ≡ get_or xs 0 x → tail ≡ drop 1 xs → comma_numbers xs ≡ decimal x ++ flat_map (λ p. 44 ∷ decimal p) tail
 numbers_shown xs tail x some is behind = numbers_listed xs ∙ shown_list (λ p. p) decimal xs tail x some is behind
+
+numbers_first : (x : ℕ) (xs : List ℕ) → comma_numbers (x ∷ xs) ≡ decimal x ++ flat_map (λ p. 44 ∷ decimal p) xs
+numbers_first x xs = numbers_listed (x ∷ xs) ∙ joined (λ p. p) decimal x xs
+
+-- the comma list of numbers in two parts, the first with one at least
+pub numbers_in_parts : (xs ys : List ℕ) → 0 < length xs → comma_numbers (xs ++ ys) ≡ comma_numbers xs ++ flat_map (λ p. 44 ∷ decimal p) ys
+numbers_in_parts [] ys some = absurd (omega arith)
+numbers_in_parts (x ∷ xs) ys some =
+    numbers_first x (xs ++ ys) ∙ ap (λ l. decimal x ++ l) (flat_map-append (λ p. 44 ∷ decimal p) xs ys)
+    ∙ sym (append_assoc (decimal x) (flat_map (λ p. 44 ∷ decimal p) xs) (flat_map (λ p. 44 ∷ decimal p) ys))
+    ∙ ap (λ l. l ++ flat_map (λ p. 44 ∷ decimal p) ys) (sym (numbers_first x xs))
+
+-- the comma list of open syncs, by the first and those after it
+pub syncs_shown : (xs tail : List OpenSync) (x : OpenSync) → 0 < length xs → x ≡ get_or xs 0 x → tail ≡ drop 1 xs → comma_list (map sync_text (syncs_of (map pooled_of xs))) ≡ sync_text (pooled_of x).sync ++ flat_map (λ s. 44 ∷ sync_text (pooled_of s).sync) tail
+syncs_shown xs tail x some is behind =
+    ap (λ ss. comma_list (map sync_text ss)) (map-map (λ p. p.sync) pooled_of xs) ∙ shown_list (λ s. (pooled_of s).sync) sync_text xs tail x some is behind
 
 pub first_again : {S : Type 0} (xs : List S) (d : S) → 0 < length xs → get_or xs 0 d ≡ get_or xs 0 (get_or xs 0 d)
 first_again [] d some = absurd (omega arith)

@@ -24,10 +24,12 @@ use Rattle.mar_script.specs.Text.{Output, State, running, stopped}
 abbrev pub max_window : ℕ
 max_window = 1024
 
--- no block was dropped, and the tickets are as few as so many lines can have given
+-- No block was dropped, and the tickets are as few as so many lines can have given: a line hands over at most a window of
+-- blocks, and starts at most one sync of the finalized archives.
 pub record IsLasting (k : ℕ) (n : Node) : Type 0 where
   pub undropped : AllByRecursion (λ a. a.mark ≡ mark_dropped → ⊥) n.out
   pub tickets : n.next_ack ≤ max_window * k
+  pub sync_tickets : n.next_sync ≤ k
 
 -- A state behind so many lines: a good node that rests, or what is left good for the chain.
 abbrev pub IsBetween : Config → Chain → ℕ → State → Type 0

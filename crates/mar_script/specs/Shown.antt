@@ -4,11 +4,13 @@ use Rattle.mar_key.specs.Cutoff.{Cutoff}
 use Rattle.mar_key.specs.Processed.{Processed}
 use Rattle.mar_node.specs.Acks.{Outstanding}
 use Rattle.mar_node.specs.Faults.{Fault}
+use Rattle.mar_node.specs.Node.{OpenSync}
 use Rattle.mar_store.specs.Ranges.{Range}
 use Rattle.mar_codec.specs.declared.Sha256Digest.{Sha256Digest}
 use Rattle.mar_shelf.specs.Views.{fault_of}
 use Rattle.mar_shelf.specs.declared.Fault.{Fault as FaultCode}
-use Rattle.mar_script.specs.Text.{Remark, comma_list, cutoff_text, or_dash, outstanding_text, processed_text, range_text, remark_ignored, remark_running, remark_stopped}
+use Rattle.mar_script.specs.Script.{comma_numbers}
+use Rattle.mar_script.specs.Text.{Remark, comma_list, cutoff_text, or_dash, outstanding_text, processed_text, range_text, remark_ignored, remark_running, remark_stopped, sync_text}
 use Rattle.mar_script.specs.declared.text.RemarkShown.{RemarkShown}
 use Rattle.mar_script.specs.declared.text.RemarkShown.TheVariants.{Ignored, Running, Stopped}
 
@@ -23,9 +25,10 @@ plain_fault fault = fault_of (λ digest. digest.bytes) fault
 abbrev pub ranges_shown : List Range → List ℕ
 ranges_shown rs = comma_list (map range_text rs)
 
--- a node that awaits no floor, whose finalized writes are all synced, and that has no open syncs
-abbrev pub shown_words : Option Processed → List Outstanding → Cutoff → List Range → List Range → List Range → List Range → List (List ℕ)
-shown_words processed out cutoff blocks blocks_sure certs certs_sure =
+-- a node that awaits no floor and has no open sync of cache archives
+abbrev pub shown_words : Option Processed → List Outstanding → Cutoff → List Range → List Range → List Range → List Range
+    → List ℕ → List OpenSync → List (List ℕ)
+shown_words processed out cutoff blocks blocks_sure certs certs_sure uncovered syncs =
     codes "node"
     ∷ (codes "p=" ++ or_dash (option_map processed_text processed))
     ∷ (codes "o=" ++ comma_list (map outstanding_text out))
@@ -35,8 +38,8 @@ shown_words processed out cutoff blocks blocks_sure certs certs_sure =
     ∷ (codes "bs=" ++ ranges_shown blocks_sure)
     ∷ (codes "f=" ++ ranges_shown certs)
     ∷ (codes "fs=" ++ ranges_shown certs_sure)
-    ∷ codes "u=-"
-    ∷ codes "s=-"
+    ∷ (codes "u=" ++ comma_numbers uncovered)
+    ∷ (codes "s=" ++ comma_list (map sync_text syncs))
     ∷ codes "y=-"
     ∷ []
 

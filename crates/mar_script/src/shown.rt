@@ -2,13 +2,17 @@
 ghost use Rattle.std.specs.Prelude.{◌≡◌, ◌++◌, ◌∷◌, ◌<◌, [], IfOk, OnOk, codes, decimal, map, option_map, string_bytes, length};
 ghost use Rattle.std.specs.List.{flat_map};
 ghost use Rattle.mar_key.specs.Views.{cutoff_of, processed_of};
+ghost use Rattle.mar_node.specs.Pool.{syncs_of};
+ghost use Rattle.mar_node.specs.Views.{pooled_of};
 ghost use Rattle.mar_parts.specs.Views.{outstanding_of};
-ghost use Rattle.mar_script.specs.Text.{comma_list, cutoff_text, line_of, or_dash, outstanding_text, processed_text};
+ghost use Rattle.mar_script.specs.Script.{comma_numbers};
+ghost use Rattle.mar_script.specs.Text.{comma_list, cutoff_text, line_of, or_dash, outstanding_text, processed_text, sync_text};
 ghost use Rattle.mar_script.specs.Shown.{ended_shown_words, ranges_shown, shown_words};
 
 use crate::range_text::RangeText;
 use crate::text::{push_cutoff, push_number};
 use mar_key::{Cutoff, Processed};
+use mar_node::{OpenSync, Writes};
 use mar_parts::{Mark, PendingAck, PendingAcks, Shown};
 use mar_shelf::ShownRuins;
 use mar_store::RangeSet;
@@ -168,6 +172,84 @@ fn push_node_ranges(
     push_field(text, &mut kept.certs_sure, "fs=", node.certs_sure)
 }
 
+// Heights, each with a comma before it.
+fn push_more_heights(text: &mut String, heights: &[Height]) -> Result<(), AllocError>
+    ensures { OnOk result (string_bytes text.new ≡ string_bytes text.old ++ flat_map (λ h. 44 ∷ decimal h) heights.now) }
+{
+    for height in heights {
+        text.push_str(",")?;
+        push_number(text, height.get())?;
+    }
+    Ok(())
+}
+
+// Heights with a comma between, or `-` for none.
+fn push_height_list(text: &mut String, heights: &[Height]) -> Result<(), AllocError>
+    ensures { OnOk result (string_bytes text.new ≡ string_bytes text.old ++ comma_numbers heights.now) }
+{
+    if heights.is_empty() {
+        return text.push_str("-");
+    }
+    push_number(text, heights[0].get())?;
+    push_more_heights(text, heights.split_at(1).1)?;
+    Ok(())
+}
+
+// The same of heights in two parts.
+fn push_both(text: &mut String, front: &[Height], back: &[Height]) -> Result<(), AllocError>
+    ensures { OnOk result (string_bytes text.new ≡ string_bytes text.old ++ comma_numbers (front.now ++ back.now)) }
+{
+    if front.is_empty() {
+        return push_height_list(text, back);
+    }
+    push_height_list(text, front)?;
+    push_more_heights(text, back)?;
+    Ok(())
+}
+
+fn push_sync(text: &mut String, sync: OpenSync) -> Result<(), AllocError>
+    ensures { OnOk result (string_bytes text.new ≡ string_bytes text.old ++ sync_text (pooled_of sync).sync) }
+{
+    push_number(text, sync.ticket)?;
+    text.push_str(":")?;
+    push_number(text, sync.position)
+}
+
+// Open syncs, each with a comma before it.
+fn push_more_syncs(text: &mut String, syncs: &[OpenSync]) -> Result<(), AllocError>
+    ensures { OnOk result (string_bytes text.new ≡ string_bytes text.old ++ flat_map (λ s. 44 ∷ sync_text (pooled_of s).sync) syncs.now) }
+{
+    for sync in syncs {
+        text.push_str(",")?;
+        push_sync(text, *sync)?;
+    }
+    Ok(())
+}
+
+// Open syncs with a comma between, or `-` for none.
+fn push_sync_list(text: &mut String, syncs: &[OpenSync]) -> Result<(), AllocError>
+    ensures { OnOk result (string_bytes text.new ≡ string_bytes text.old ++ comma_list (map sync_text (syncs_of (map pooled_of syncs.now)))) }
+{
+    if syncs.is_empty() {
+        return text.push_str("-");
+    }
+    push_sync(text, syncs[0])?;
+    push_more_syncs(text, syncs.split_at(1).1)?;
+    Ok(())
+}
+
+// The writes that wait for a sync, and the open syncs.
+fn push_writes(text: &mut String, writes: &Writes) -> Result<(), AllocError>
+    ensures { OnOk result (string_bytes text.new ≡ string_bytes text.old ++ (codes " u=" ++ (comma_numbers writes.now.uncovered
+        ++ (codes " s=" ++ comma_list (map sync_text (syncs_of writes.now.pooled)))))) }
+{
+    let (front, back) = writes.uncovered();
+    text.push_str(" u=")?;
+    push_both(text, front, back)?;
+    text.push_str(" s=")?;
+    push_sync_list(text, writes.syncs())
+}
+
 /// Appends the line that shows a node.
 pub fn push_node(
     alloc: Global,
@@ -177,14 +259,16 @@ pub fn push_node(
 ) -> Result<(), AllocError>
     ensures { OnOk result (string_bytes text.new ≡ string_bytes text.old ++ line_of (shown_words (option_map processed_of node.now.processed)
         node.now.acks.now.entries (cutoff_of node.now.cutoff)
-        node.now.blocks_held.now node.now.blocks_sure.now node.now.certs_held.now node.now.certs_sure.now)) }
+        node.now.blocks_held.now node.now.blocks_sure.now node.now.certs_held.now node.now.certs_sure.now
+        node.now.writes.now.uncovered (syncs_of node.now.writes.now.pooled))) }
 {
     push_node_front(alloc, text, node)?;
     text.push_str(" c=")?;
     push_cutoff(text, node.cutoff)?;
     text.push_str(" w=-")?;
     push_node_ranges(text, kept, node)?;
-    text.push_str(" u=- s=- y=-\n")?;
+    push_writes(text, node.writes)?;
+    text.push_str(" y=-\n")?;
     Ok(())
 }
 

@@ -132,6 +132,7 @@ fn kind_text(kind: TicketKind) -> &'static str
     ensures { result.now ≡ kind_name (kind_of kind) }
 {
     match kind {
+        TicketKind::Sync => "sync",
         TicketKind::Ack => "ack",
     }
 }

@@ -2,3 +2,4 @@ pub mod Missing
 pub mod Archives
 pub mod MissingHeights
 pub mod GapHeights
+pub mod Awaiting

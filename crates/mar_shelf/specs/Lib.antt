@@ -1,3 +1,4 @@
 pub mod Gaps
 pub mod Fitting
 pub mod Views
+pub mod Pooling

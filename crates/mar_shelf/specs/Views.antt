@@ -2,7 +2,7 @@
 use Rattle.std.specs.Prelude.{ℕ, List}
 use Rattle.mar_cert.specs.Finalization.{Finalization}
 use Rattle.mar_store.specs.Kept.{At}
-use Rattle.mar_node.specs.Faults.{StoreName, block_store, cert_store, meta_store, cache_store, TicketKind, ack_kind, Fault, corrupt, dropped_ack, store_fault, genesis_height, genesis_mismatch, height_limit, ticket_limit, unbacked, want_of_memory}
+use Rattle.mar_node.specs.Faults.{StoreName, block_store, cert_store, meta_store, cache_store, TicketKind, ack_kind, sync_kind, Fault, corrupt, dropped_ack, store_fault, genesis_height, genesis_mismatch, height_limit, ticket_limit, unbacked, want_of_memory}
 use Rattle.mar_shelf.specs.declared.fault.StoreName.{StoreName as StoreNameCode}
 use Rattle.mar_shelf.specs.declared.fault.StoreName.TheVariants as store
 use Rattle.mar_shelf.specs.declared.fault.TicketKind.{TicketKind as TicketKindCode}
@@ -18,6 +18,7 @@ store_name_of store.Cache = cache_store
 
 abbrev pub kind_of : TicketKindCode → TicketKind
 kind_of kind.Ack = ack_kind
+kind_of kind.Sync = sync_kind
 
 -- by what commitments are as bytes
 abbrev pub fault_of : {C : Type 0} → (C → List ℕ) → FaultCode C → Fault

@@ -3,7 +3,7 @@ ghost use Rattle.std.specs.Prelude.{◌≡◌, ◌≤◌, ℕ, Bool, List, [], �
 ghost use Rattle.mar_store.specs.Watch.{armed, Heeds, HeedsOrNot, HeedsRead, Watch};
 ghost use Rattle.mar_store.specs.Sizes.{IsSmall};
 ghost use Rattle.mar_store.specs.Luck.{keeps_by, lucky_found};
-ghost use Rattle.mar_store.specs.Kept.{At, Kept, value_at};
+ghost use Rattle.mar_store.specs.Kept.{At, Kept, has_height, value_at};
 ghost use Rattle.mar_store.specs.Changes.{Left, Within, Puts, Syncs, Finishes, Prunes, Fails, left_of, IsReopened, IsNested, IsStillOr, heights};
 ghost use Rattle.mar_store.specs.Named.{last_index};
 ghost use Rattle.mar_store.specs.Ranges.{ranges};
@@ -200,6 +200,13 @@ pub trait Blocks<V: Variant>: Drop {
         ensures start { result.1 ≡ next_start (ranges (heights (stored self.now).held)) height }
     {
         next_gap(self.held_ranges().as_slice(), height)
+    }
+
+    /// Whether a block is held at a height.
+    fn holds(&self, height: Height) -> bool
+        ensures { result ≡ has_height (stored self.now).held height }
+    {
+        self.held_ranges().contains(height.get())
     }
 
     /// The heights of what is held.

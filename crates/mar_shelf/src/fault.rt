@@ -19,6 +19,8 @@ pub enum StoreName {
 pub enum TicketKind {
     /// Acknowledgements.
     Ack,
+    /// Syncs of the finalized archives.
+    Sync,
 }
 
 /// Why a life ended, with commitments of the kind `C`.

@@ -1,17 +1,20 @@
 //! The stores of a life, as far as the rules of a node see them.
-ghost use Rattle.std.specs.Prelude.{◌≡◌, ◌≤◌, ◌∷◌, [], IfErr, IfOk, IfSome, OnErr, OnOk, Some, map, option_map};
+ghost use Rattle.std.specs.Prelude.{◌≡◌, ◌≤◌, ◌-◌, ◌^◌, ◌⊎◌, ◌∷◌, [], IfErr, IfOk, IfSome, OnErr, OnOk, Some, false, map, option_map, true};
 ghost use Rattle.mar_key.specs.Processed.{at_absent, at_block};
 ghost use Rattle.mar_key.specs.Views.{cutoff_of};
-ghost use Rattle.mar_store.specs.Changes.{IsNested, Puts, Syncs, heights};
+ghost use Rattle.mar_store.specs.Changes.{IsNested, Puts, heights};
 ghost use Rattle.mar_store.specs.Kept.{has_height, value_at};
 ghost use Rattle.mar_store.specs.Named.{last_index};
 ghost use Rattle.mar_store.specs.Ranges.{ranges};
 ghost use Rattle.mar_store.specs.Sizes.{IsSmall};
-ghost use Rattle.mar_node.specs.Held.{ArePassed, GoesOn, Held, IsArchiveFault, IsUsual, LosesOpening, LosesSince, Remains, ReopensAs};
+ghost use Rattle.mar_node.specs.Held.{ArePassed, AreWritten, GoesOn, Held, IsArchiveFault, IsUsual, LosesOpening, LosesSince, MakesSure, Remains, ReopensAs};
 ghost use Rattle.mar_node.specs.Held.{blocks_left, certs_left, ended_of, nothing_written, remains_of, with_armed, written_block, written_cert, written_pair};
 ghost use Rattle.mar_node.specs.Lives.{later_round};
 ghost use Rattle.mar_node.specs.Metadata.{first_pair, pair_of};
-ghost use Rattle.mar_node.specs.Moves.{at_height};
+ghost use Rattle.mar_node.specs.Faults.{sync_kind, ticket_limit};
+ghost use Rattle.mar_node.specs.Moves.{StoresValue, at_height};
+ghost use Rattle.mar_node.specs.Pool.{writing_of};
+ghost use Rattle.mar_node.specs.Writing.{IsLastWrite, is_open_sync, with_finished, with_started, with_write};
 ghost use Rattle.mar_cert.specs.Finalization.{finalization_bytes};
 ghost use Rattle.mar_node.specs.Stored.{AreSmall, at_own_height, block_of, is_certified, is_held};
 ghost use Rattle.mar_shelf.specs.Views.{store_name_of};
@@ -21,10 +24,10 @@ use crate::shown::ShownRuins;
 use mar_block::Variant;
 use mar_cert::CommitsTo;
 use mar_key::Cutoff;
-use mar_node::State;
+use mar_node::{State, Writes};
 use mar_store::RangeSet;
 use mar_types::{Height, Round};
-use std::alloc::AllocError;
+use std::alloc::{AllocError, Global};
 use std::marker::Model;
 
 /// What is left of the stores of a life.
@@ -55,7 +58,8 @@ pub trait StoresRuin {
 
 /// The stores of a life: blocks, certificates, how far delivery has come, and the cache. A call that reads or changes
 /// one consumes all of them, and gives them back or ends the life with what is left. Such a call makes one call of a
-/// store, `set_cutoff` makes two and `reopen` one of each.
+/// store; `set_cutoff`, `start_sync`, `finish_sync` and the calls that make a value durable at once make two, and `reopen`
+/// one of each.
 pub trait Holds<V: Variant> {
     /// What is left where no life runs.
     type Ruins: StoresRuin;
@@ -66,8 +70,14 @@ pub trait Holds<V: Variant> {
     /// What they hold and may leave, and what each tells of its failures.
     ghost held: { Self → Held };
 
-    /// Opens what a crash left, in the order blocks, certificates, metadata, cache.
-    fn reopen(ruins: Self::Ruins, luck: u64) -> Result<Self, Ended<V, Self>>
+    /// Opens what a crash left, in the order blocks, certificates, metadata, cache. At most `max_staged` blocks are kept at
+    /// hand until they are handed over.
+    fn reopen(
+        alloc: Global,
+        ruins: Self::Ruins,
+        luck: u64,
+        max_staged: usize,
+    ) -> Result<Self, Ended<V, Self>>
     where
         Self: Sized,
         ensures ok { IfOk result (λ s. ReopensAs (Self.Ruins.left ruins) luck (held s)) }
@@ -80,11 +90,13 @@ pub trait Holds<V: Variant> {
         Self: Sized,
         ensures { Self.Ruins.left result ≡ remains_of (held self) };
 
-    /// What is sure is held, what is held may be left, and each held block is small. The call does nothing: it is a law.
+    /// What is sure is held, what is held may be left, each held block is small, and what isn't sure waits for a sync. The
+    /// call does nothing: it is a law.
     fn law(&self)
         ensures blocks { IsNested (held self.now).blocks }
         ensures certs { IsNested (held self.now).certs }
-        ensures small { AreSmall (map (λ x. x.value) (held self.now).blocks.held) };
+        ensures small { AreSmall (map (λ x. x.value) (held self.now).blocks.held) }
+        ensures written { AreWritten (held self.now) };
 
     /// Makes the counted call of a store fail that is so many calls away, 1 being the next. The cache counts none yet.
     fn arm(&mut self, store: StoreName, calls: u64) -> Result<(), AllocError>
@@ -131,6 +143,22 @@ pub trait Holds<V: Variant> {
     fn certificates_sure(&self) -> &RangeSet
         ensures { result.now ≡ ranges (heights (held self.now).certs.sure) };
 
+    /// The writes that wait for a sync, and the syncs that are open.
+    fn writes(&self) -> &Writes
+        ensures { writing_of result.now ≡ (held self.now).writes };
+
+    /// The block to hand over at a height: one that is staged, which is then no longer, or the one that is held. Blocks
+    /// staged at or below that height are dropped.
+    fn take_block(self, height: Height) -> Result<(Self, Option<V::Block>), Ended<V, Self>>
+    where
+        Self: Sized,
+        ensures found { IfOk result (λ r. option_map V.plain r.1 ≡ value_at (held self).blocks.held height) }
+        ensures own { IfOk result (λ r. IfSome r.1 (λ b. (V.plain b).height ≡ height)) }
+        ensures same { IfOk result (λ r. held r.0 ≡ record (held self) { watches = (held r.0).watches }) }
+        ensures goes_on { GoesOn (λ r. held r.0) (held self) nothing_written result }
+        ensures archive { IfErr result (λ e. IsArchiveFault e.fault) }
+        ensures usual { IfErr result (λ e. IsUsual e.fault) };
+
     /// The block that is held at a height.
     fn block_at(self, height: Height) -> Result<(Self, Option<V::Block>), Ended<V, Self>>
     where
@@ -175,27 +203,23 @@ pub trait Holds<V: Variant> {
         ensures archive { IfErr result (λ e. IsArchiveFault e.fault) }
         ensures usual { IfErr result (λ e. IsUsual e.fault) };
 
-    /// Stores a block, which becomes durable with the next sync of the blocks.
-    fn put_block(self, block: &V::Block) -> Result<Self, Ended<V, Self>>
+    /// Stores a block above the processed height. The write waits for a sync, below which nothing is handed over, and the
+    /// block is staged where it was taken in.
+    fn put_block(self, block: V::Block) -> Result<Self, Ended<V, Self>>
     where
         Self: Sized,
-        requires small { IsSmall (V.plain block.now).encoded }
-        ensures ok { IfOk result (λ s. Puts (is_held (held self).blocks.held (V.plain block.now)) (held self).blocks (at_own_height (V.plain block.now))
+        requires small { IsSmall (V.plain block).encoded }
+        ensures ok { IfOk result (λ s. Puts (is_held (held self).blocks.held (V.plain block)) (held self).blocks (at_own_height (V.plain block))
             (held s).blocks) }
-        ensures same { IfOk result (λ s. held s ≡ record (held self) { blocks = (held s).blocks; watches = (held s).watches }) }
-        ensures goes_on { GoesOn held (held self) (written_block (at_own_height (V.plain block.now))) result }
+        ensures same { IfOk result (λ s. held s ≡ record (held self) {
+          blocks = (held s).blocks;
+          writes = with_write (V.plain block).height (held self).writes;
+          watches = (held s).watches;
+        }) }
+        ensures goes_on { GoesOn held (held self) (written_block (at_own_height (V.plain block))) result }
         ensures usual { IfErr result (λ e. IsUsual e.fault) };
 
-    /// Makes the stored blocks durable.
-    fn sync_blocks(self) -> Result<Self, Ended<V, Self>>
-    where
-        Self: Sized,
-        ensures ok { IfOk result (λ s. Syncs (held self).blocks (held s).blocks) }
-        ensures same { IfOk result (λ s. held s ≡ record (held self) { blocks = (held s).blocks; watches = (held s).watches }) }
-        ensures goes_on { GoesOn held (held self) nothing_written result }
-        ensures usual { IfErr result (λ e. IsUsual e.fault) };
-
-    /// Stores a finalization at a height, which becomes durable with the next sync of the certificates.
+    /// Stores the finalization of the block that was put last, with which it waits for a sync.
     fn put_certificate(
         self,
         height: Height,
@@ -204,6 +228,7 @@ pub trait Holds<V: Variant> {
     where
         Self: Sized,
         requires small { IsSmall (finalization_bytes (Self.Finalization.plain finalization.now)) }
+        requires waits { IsLastWrite height (held self).writes }
         ensures ok { IfOk result (λ s. Puts (is_certified V.inner (held self).certs.held height (V.inner (Self.Finalization.plain finalization.now).payload))
             (held self).certs (at_height height (Self.Finalization.plain finalization.now)) (held s).certs) }
         ensures same { IfOk result (λ s. held s ≡ record (held self) { certs = (held s).certs; watches = (held s).watches }) }
@@ -211,13 +236,62 @@ pub trait Holds<V: Variant> {
         ensures archive { IfErr result (λ e. IsArchiveFault e.fault) }
         ensures usual { IfErr result (λ e. IsUsual e.fault) };
 
-    /// Makes the stored finalizations durable.
-    fn sync_certificates(self) -> Result<Self, Ended<V, Self>>
+    /// Stores a block and makes it durable at once.
+    fn store_block(self, block: &V::Block) -> Result<Self, Ended<V, Self>>
     where
         Self: Sized,
-        ensures ok { IfOk result (λ s. Syncs (held self).certs (held s).certs) }
+        requires small { IsSmall (V.plain block.now).encoded }
+        ensures ok { IfOk result (λ s. StoresValue (is_held (held self).blocks.held (V.plain block.now)) (held self).blocks
+            (at_own_height (V.plain block.now)) (held s).blocks) }
+        ensures same { IfOk result (λ s. held s ≡ record (held self) { blocks = (held s).blocks; watches = (held s).watches }) }
+        ensures goes_on { GoesOn held (held self) (written_block (at_own_height (V.plain block.now))) result }
+        ensures usual { IfErr result (λ e. IsUsual e.fault) };
+
+    /// Stores a finalization at a height and makes it durable at once; the writes that wait for a sync go on waiting.
+    fn store_certificate(
+        self,
+        height: Height,
+        finalization: &Self::Finalization,
+    ) -> Result<Self, Ended<V, Self>>
+    where
+        Self: Sized,
+        requires small { IsSmall (finalization_bytes (Self.Finalization.plain finalization.now)) }
+        ensures ok { IfOk result (λ s. StoresValue (is_certified V.inner (held self).certs.held height
+            (V.inner (Self.Finalization.plain finalization.now).payload)) (held self).certs
+            (at_height height (Self.Finalization.plain finalization.now)) (held s).certs) }
         ensures same { IfOk result (λ s. held s ≡ record (held self) { certs = (held s).certs; watches = (held s).watches }) }
+        ensures goes_on { GoesOn held (held self) (written_cert (at_height height (Self.Finalization.plain finalization.now))) result }
+        ensures archive { IfErr result (λ e. IsArchiveFault e.fault) }
+        ensures usual { IfErr result (λ e. IsUsual e.fault) };
+
+    /// Starts a sync of the blocks and the finalizations that covers all writes, under the next ticket. Where none is left
+    /// the life ends.
+    fn start_sync(self) -> Result<Self, Ended<V, Self>>
+    where
+        Self: Sized,
+        ensures ok { IfOk result (λ s. held s ≡ record (held self) { writes = with_started (held self).writes; watches = (held s).watches }) }
         ensures goes_on { GoesOn held (held self) nothing_written result }
+        ensures kind { IfErr result (λ e. IsArchiveFault e.fault
+            ⊎ ((e.fault ≡ ticket_limit sync_kind) × ((held self).writes.next_sync ≡ 2 ^ 64 - 1))) };
+
+    /// Finishes the sync of a ticket, which makes durable what was written before it was started, and says whether it was
+    /// open. One that isn't changes nothing, and asks no store.
+    fn finish_sync(self, ticket: u64) -> Result<(Self, bool), Ended<V, Self>>
+    where
+        Self: Sized,
+        ensures was_open { IfOk result (λ r. r.1 ≡ is_open_sync (held self).writes.syncs ticket) }
+        ensures closed { IfOk result (λ r. r.1 ≡ false → held r.0 ≡ held self) }
+        ensures failed { IfErr result (λ e. is_open_sync (held self).writes.syncs ticket ≡ true) }
+        ensures blocks { IfOk result (λ r. MakesSure (held self).blocks (held r.0).blocks) }
+        ensures certs { IfOk result (λ r. MakesSure (held self).certs (held r.0).certs) }
+        ensures written { IfOk result (λ r. AreWritten (held r.0)) }
+        ensures same { IfOk result (λ r. held r.0 ≡ record (held self) {
+          blocks = (held r.0).blocks;
+          certs = (held r.0).certs;
+          writes = with_finished ticket (held self).writes;
+          watches = (held r.0).watches;
+        }) }
+        ensures goes_on { GoesOn (λ r. held r.0) (held self) nothing_written result }
         ensures archive { IfErr result (λ e. IsArchiveFault e.fault) }
         ensures usual { IfErr result (λ e. IsUsual e.fault) };
 

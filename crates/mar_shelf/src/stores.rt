@@ -1,12 +1,15 @@
 //! The four stores of a life, which each call consumes.
-ghost use Rattle.std.specs.Prelude.{◌≡◌, map};
+ghost use Rattle.std.specs.Prelude.{◌≡◌, OnOk, map};
 ghost use Rattle.mar_store.specs.Lost.{wreck_of};
 ghost use Rattle.mar_node.specs.Held.{ended_of, lost_fault, missed_fault, remains_of};
 ghost use Rattle.mar_node.specs.Faults.{block_store, cache_store, cert_store, meta_store};
 ghost use Rattle.mar_node.specs.Metadata.{pair_at};
+ghost use Rattle.mar_node.specs.Pool.{pool_deferred, writing_of};
+ghost use Rattle.mar_node.specs.Writing.{IsOrdered};
+ghost use Rattle.mar_shelf.specs.Pooling.{staged_where};
 ghost use Rattle.mar_shelf.specs.Views.{fault_of, store_name_of};
 
-use crate::fault::{Fault, StoreName};
+use crate::fault::{Fault, StoreName, TicketKind};
 use crate::holds::{Ended, Holds};
 use crate::ruins::Ruins;
 use crate::{Blocks, Certificates, Shelf};
@@ -14,14 +17,16 @@ use mar_block::Variant;
 use mar_cert::CommitsTo;
 use mar_codec::Named;
 use mar_key::Cutoff;
-use mar_node::{Progress, State};
+use mar_node::{Progress, Staged, State, Writes};
 use mar_store::{Lost, Meta, Miss, RangeSet};
 use mar_types::{Height, Round};
-use std::alloc::AllocError;
+use std::alloc::{AllocError, Global};
 use std::marker::{Model, PhantomData};
 
-/// The stores of a life: blocks, certificates, how far delivery has come, and the cache. A contract sees what each holds
-/// and may leave, and how often it has failed. A call that fails ends the life, and hands back what is left.
+/// The stores of a life: blocks, certificates, how far delivery has come, and the cache; with the writes of the first two
+/// that wait for a sync, and the blocks that are staged until they are handed over. A contract sees what each store holds
+/// and may leave, how often it has failed, and the writes; not what is staged, since each such block is held. A call that
+/// fails ends the life, and hands back what is left.
 #[derive(Drop)]
 pub struct Stores<
     V: Variant,
@@ -33,6 +38,8 @@ pub struct Stores<
 > {
     blocks: FB,
     certs: FC,
+    writes: Writes,
+    staged: Staged<V::Block>,
     progress: Progress<M, V::Commitment, F>,
     shelf: H,
     of: PhantomData<(V, F)>,
@@ -47,6 +54,8 @@ impl<
     H: Shelf,
 > Model for Stores<V, F, FB, FC, M, H> {
     ghost use Rattle.mar_node.specs.Held.{Held};
+    ghost use Rattle.mar_node.specs.Pool.{writing_of};
+    ghost use Rattle.mar_shelf.specs.Pooling.{ArePooled};
 
     ghost Value = { Held };
 
@@ -57,8 +66,12 @@ impl<
       cutoff = s.progress.cutoff;
       witnessed = s.progress.witnessed;
       pairs = s.progress.pairs;
+      writes = writing_of s.writes;
       watches = record { blocks = FB.watch s.blocks; certs = FC.watch s.certs; meta = s.progress.watch; cache = H.watch s.shelf };
     } };
+
+    ghost invariant = { λ s. ArePooled V.plain (FB.stored s.blocks) (FB.number s.blocks) (FB.covers s.blocks)
+        (FC.stored s.certs) (FC.number s.certs) (FC.covers s.certs) s.writes s.staged.blocks };
 }
 
 impl<
@@ -75,7 +88,12 @@ impl<
 
     ghost held = { λ s. s };
 
-    fn reopen(ruins: Ruins<V, F, FB, FC, M, H>, luck: u64) -> Result<Self, Ended<V, Self>> {
+    fn reopen(
+        alloc: Global,
+        ruins: Ruins<V, F, FB, FC, M, H>,
+        luck: u64,
+        max_staged: usize,
+    ) -> Result<Self, Ended<V, Self>> {
         let Ruins {
             blocks,
             certs,
@@ -100,6 +118,8 @@ impl<
             Ok(shelf) => Ok(Stores {
                 blocks,
                 certs,
+                writes: Writes::new(alloc),
+                staged: Staged::new(alloc, max_staged),
                 progress,
                 shelf,
                 of: PhantomData,
@@ -123,6 +143,7 @@ impl<
     fn law(&self) {
         let _blocks = &self.blocks;
         let _certs = &self.certs;
+        self.writes.law();
     }
 
     fn arm(&mut self, store: StoreName, calls: u64) -> Result<(), AllocError> {
@@ -170,6 +191,22 @@ impl<
         self.certs.sure_ranges()
     }
 
+    fn writes(&self) -> &Writes {
+        &self.writes
+    }
+
+    fn take_block(self, height: Height) -> Result<(Self, Option<V::Block>), Ended<V, Self>> {
+        let mut stores = self;
+        stores.staged.retain(height);
+        if let Some(block) = stores.staged.remove(height) {
+            return Ok((stores, Some(block)));
+        }
+        match stores.blocks.get(height) {
+            Ok(block) => Ok((stores, block)),
+            Err(miss) => Err(stores.missed(StoreName::Blocks, miss)),
+        }
+    }
+
     fn block_at(self, height: Height) -> Result<(Self, Option<V::Block>), Ended<V, Self>> {
         let mut stores = self;
         match stores.blocks.get(height) {
@@ -202,21 +239,27 @@ impl<
         }
     }
 
-    fn put_block(self, block: &V::Block) -> Result<Self, Ended<V, Self>> {
-        match self.blocks.put(&V::digest(block), block) {
-            Ok(blocks) => Ok(Stores { blocks, ..self }),
+    fn put_block(self, block: V::Block) -> Result<Self, Ended<V, Self>> {
+        let height = V::height(&block);
+        let was_held = self.blocks.holds(height);
+        let blocks = match self.blocks.put(&V::digest(&block), &block) {
+            Ok(blocks) => blocks,
             Err(lost) => {
                 let meta = self.progress.wreck();
-                Err(Ended::of_blocks(lost, self.certs.wreck(), meta, self.shelf.wreck()))
+                return Err(Ended::of_blocks(lost, self.certs.wreck(), meta, self.shelf.wreck()));
             }
-        }
-    }
-
-    fn sync_blocks(self) -> Result<Self, Ended<V, Self>> {
-        match self.blocks.sync() {
-            Ok(blocks) => Ok(Stores { blocks, ..self }),
-            Err(lost) => {
-                let meta = self.progress.wreck();
+        };
+        let is_taken = !was_held & blocks.holds(height);
+        let (mut writes, mut staged) = (self.writes, self.staged);
+        match defer(&mut writes, &mut staged, height, block, is_taken) {
+            Ok(()) => Ok(Stores {
+                blocks,
+                writes,
+                staged,
+                ..self
+            }),
+            Err(_) => {
+                let (lost, meta) = (Lost::Memory(blocks.wreck()), self.progress.wreck());
                 Err(Ended::of_blocks(lost, self.certs.wreck(), meta, self.shelf.wreck()))
             }
         }
@@ -236,14 +279,110 @@ impl<
         }
     }
 
-    fn sync_certificates(self) -> Result<Self, Ended<V, Self>> {
-        match self.certs.sync() {
+    fn store_block(self, block: &V::Block) -> Result<Self, Ended<V, Self>> {
+        let blocks = match self.blocks.put(&V::digest(block), block) {
+            Ok(blocks) => blocks,
+            Err(lost) => {
+                let meta = self.progress.wreck();
+                return Err(Ended::of_blocks(lost, self.certs.wreck(), meta, self.shelf.wreck()));
+            }
+        };
+        match blocks.sync() {
+            Ok(blocks) => Ok(Stores { blocks, ..self }),
+            Err(lost) => {
+                let meta = self.progress.wreck();
+                Err(Ended::of_blocks(lost, self.certs.wreck(), meta, self.shelf.wreck()))
+            }
+        }
+    }
+
+    fn store_certificate(self, height: Height, finalization: &F) -> Result<Self, Ended<V, Self>> {
+        let certs = match self.certs.put(
+            height,
+            &V::commitment_to_inner(finalization.payload()),
+            finalization,
+        ) {
+            Ok(certs) => certs,
+            Err(lost) => {
+                let meta = self.progress.wreck();
+                return Err(Ended::of_certs(self.blocks.wreck(), lost, meta, self.shelf.wreck()));
+            }
+        };
+        match certs.sync() {
             Ok(certs) => Ok(Stores { certs, ..self }),
             Err(lost) => {
                 let meta = self.progress.wreck();
                 Err(Ended::of_certs(self.blocks.wreck(), lost, meta, self.shelf.wreck()))
             }
         }
+    }
+
+    fn start_sync(self) -> Result<Self, Ended<V, Self>> {
+        if !self.writes.has_ticket() {
+            return Err(Ended {
+                fault: Fault::TicketLimit(TicketKind::Sync),
+                ruins: self.wreck(),
+            });
+        }
+        let (blocks, blocks_ticket) = match self.blocks.start_sync() {
+            Ok(started) => started,
+            Err(lost) => {
+                let meta = self.progress.wreck();
+                return Err(Ended::of_blocks(lost, self.certs.wreck(), meta, self.shelf.wreck()));
+            }
+        };
+        let (certs, certs_ticket) = match self.certs.start_sync() {
+            Ok(started) => started,
+            Err(lost) => {
+                let meta = self.progress.wreck();
+                return Err(Ended::of_certs(blocks.wreck(), lost, meta, self.shelf.wreck()));
+            }
+        };
+        let mut writes = self.writes;
+        match writes.start(blocks_ticket, certs_ticket) {
+            Ok(()) => Ok(Stores {
+                blocks,
+                certs,
+                writes,
+                ..self
+            }),
+            Err(_) => {
+                let (lost, meta) = (Lost::Memory(blocks.wreck()), self.progress.wreck());
+                Err(Ended::of_blocks(lost, certs.wreck(), meta, self.shelf.wreck()))
+            }
+        }
+    }
+
+    fn finish_sync(self, ticket: u64) -> Result<(Self, bool), Ended<V, Self>> {
+        self.law();
+        let sync = match self.writes.find(ticket) {
+            Some(sync) => sync,
+            None => return Ok((self, false)),
+        };
+        let blocks = match self.blocks.finish(sync.blocks) {
+            Ok(blocks) => blocks,
+            Err(lost) => {
+                let meta = self.progress.wreck();
+                return Err(Ended::of_blocks(lost, self.certs.wreck(), meta, self.shelf.wreck()));
+            }
+        };
+        let certs = match self.certs.finish(sync.certs) {
+            Ok(certs) => certs,
+            Err(lost) => {
+                let meta = self.progress.wreck();
+                return Err(Ended::of_certs(blocks.wreck(), lost, meta, self.shelf.wreck()));
+            }
+        };
+        let mut writes = self.writes;
+        writes.finish(ticket);
+        let stores = Stores {
+            blocks,
+            certs,
+            writes,
+            ..self
+        };
+        stores.law();
+        Ok((stores, true))
     }
 
     fn set_processed(self, height: Height) -> Result<Self, Ended<V, Self>> {
@@ -294,6 +433,27 @@ impl<
             ruins: self.wreck(),
         }
     }
+}
+
+/// Defers a write at a height, and stages its block where it is to be. Where memory runs out the life is to end: the block
+/// may not be staged then, though the write is deferred.
+fn defer<B: Drop>(
+    writes: &mut Writes,
+    staged: &mut Staged<B>,
+    height: Height,
+    block: B,
+    is_taken: bool,
+) -> Result<(), AllocError>
+    ensures writes { OnOk result (writes.new ≡ pool_deferred height writes.old) }
+    ensures staged { OnOk result (staged.new ≡ staged_where is_taken height block staged.old) }
+    ensures ordered { IsOrdered (writing_of writes.old) }
+{
+    writes.law();
+    writes.defer(height)?;
+    if is_taken {
+        staged.insert(height, block)?;
+    }
+    Ok(())
 }
 
 /// The fault by which a read has no answer.

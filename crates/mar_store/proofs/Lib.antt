@@ -1,4 +1,5 @@
 pub mod SpanEdits
+pub mod SpanMembers
 pub mod Lookups
 pub mod NewestUpto
 pub mod RangeLemmas

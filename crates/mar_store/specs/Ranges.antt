@@ -1,5 +1,5 @@
 -- Heights as ranges that ascend and do not touch.
-use Rattle.std.specs.Prelude.{List, None, Option, Some, [], fold, if◌then◌else◌, nat_le, nat_lt, ℕ, ◌+◌, ◌==◌, ◌∷◌}
+use Rattle.std.specs.Prelude.{Bool, List, None, Option, Some, [], false, fold, if◌then◌else◌, nat_le, nat_lt, ℕ, ◌&&◌, ◌+◌, ◌==◌, ◌||◌, ◌∷◌}
 
 -- consecutive heights
 pub record Range : Type 0 where
@@ -27,3 +27,8 @@ abbrev pub last_end : List Range → Option ℕ
 last_end [] = None
 last_end (r ∷ []) = Some r.to
 last_end (r ∷ s ∷ rs) = last_end (s ∷ rs)
+
+-- whether some range has the height
+abbrev pub in_ranges : List Range → ℕ → Bool
+in_ranges [] h = false
+in_ranges (r ∷ rs) h = (nat_le r.from h && nat_le h r.to) || in_ranges rs h

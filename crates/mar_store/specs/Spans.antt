@@ -20,6 +20,11 @@ abbrev pub IsReached : ℕ → List Range → Type 0
 IsReached h [] = ⊤
 IsReached h (r ∷ rs) = h ≤ r.to + 1
 
+-- The first range ends at or above the height, or there is none.
+abbrev pub EndsFrom : ℕ → List Range → Type 0
+EndsFrom h [] = ⊤
+EndsFrom h (r ∷ rs) = h ≤ r.to
+
 -- The height is two or more below the first range, or there is none.
 abbrev pub IsAlone : ℕ → List Range → Type 0
 IsAlone h [] = ⊤

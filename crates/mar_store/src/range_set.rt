@@ -2,11 +2,11 @@
 ghost use Rattle.std.specs.Prelude.{◌≡◌, ◌+◌, ◌<◌, ◌≤◌, ◌++◌, ◌↔◌, ℕ, [], take, drop, fold, map, IfOk, OnOk, OnErr, IsTrue, vec_len, length};
 ghost use Rattle.mar_store.specs.Changes.{heights};
 ghost use Rattle.mar_store.specs.Entries.{seen};
-ghost use Rattle.mar_store.specs.Ranges.{last_end, with_height};
+ghost use Rattle.mar_store.specs.Ranges.{in_ranges, last_end, with_height};
 
 use crate::Item;
 use crate::entry::Entry;
-use crate::spans::{last_of, place_of, widen, widen_by};
+use crate::spans::{has_height, last_of, place_of, widen, widen_by};
 use std::alloc::{AllocError, Global};
 use std::marker::Model;
 
@@ -68,6 +68,13 @@ impl RangeSet {
         ensures { result ≡ last_end self.now }
     {
         last_of(&self.spans)
+    }
+
+    /// Whether it has a height, which is found by halving.
+    pub fn contains(&self, height: u64) -> bool
+        ensures { result ≡ in_ranges self.now height }
+    {
+        has_height(&self.spans, height)
     }
 
     /// Another set of the same heights.

@@ -2,7 +2,7 @@
 ghost use Rattle.std.specs.Prelude.{◌≡◌, ◌+◌, ◌++◌, ◌<◌, ◌≤◌, ◌↔◌, take, drop, fold, length, map, vec_capacity, vec_len, IsTrue, OnOk, OnErr};
 ghost use Rattle.mar_store.specs.Changes.{heights};
 ghost use Rattle.mar_store.specs.Entries.{seen};
-ghost use Rattle.mar_store.specs.Ranges.{last_end, with_height};
+ghost use Rattle.mar_store.specs.Ranges.{in_ranges, last_end, with_height};
 ghost use Rattle.mar_store.specs.Spans.{ranges_of, AscendFrom, AreOrdered, IsReached, IsAlone, IsFollowed, BeginsAfter};
 
 use crate::entry::Entry;
@@ -45,6 +45,24 @@ pub fn place_of(spans: &[HeightSpan], height: u64) -> usize
         }
     }
     low
+}
+
+/// Whether a span has the height. The first that doesn't end below it is found by halving.
+pub fn has_height(spans: &[HeightSpan], height: u64) -> bool
+    requires { AscendFrom 0 (ranges_of spans.now) }
+    ensures { result ≡ in_ranges (ranges_of spans.now) height }
+{
+    let mut low = 0;
+    let mut high = spans.len();
+    'halves: while low < high {
+        let middle = low + (high - low) / 2;
+        if spans[middle].to < height {
+            low = middle + 1;
+        } else {
+            high = middle;
+        }
+    }
+    low < spans.len() && spans[low].from <= height
 }
 
 /// Adds the indexes of entries: all of them, or none where memory runs out. Room is made before the first.

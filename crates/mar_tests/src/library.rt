@@ -1,5 +1,5 @@
-//! How to use marshal as a library: a node over stores of one's own is opened, given events, ended by a crash, and
-//! opened again.
+//! How to use marshal as a library: a node over stores of one's own is opened, given events, told that a sync of its
+//! stores has finished, ended by a crash, and opened again.
 ghost use Rattle.std.specs.Prelude.{◌≡◌, IsTrue};
 ghost use Rattle.mar_actor.specs.Views.{event_of};
 ghost use Rattle.mar_node.specs.Promise.{IsSmallEvent};
@@ -14,7 +14,6 @@ use mar_cert::{
     Proposal, Signer, Subject, mock_tag,
 };
 use mar_codec::{Digest, Digested, EncodeSize, Sha256, Sha256Digest};
-use mar_inbox::Message;
 use mar_key::Recorder;
 use mar_shelf::{
     BlockItem, Blocks, CertificateItem, Certificates, NoShelf, Shelf, Stores, immutable,
@@ -124,7 +123,7 @@ fn is_small(event: &Event<MockFinalization>) -> bool
 {
     match event {
         Event::Start => true,
-        Event::Message(Message::Finalization(finalization)) => {
+        Event::Finalization(finalization) => {
             let certificate = finalization.certificate.encode_size();
             certificate <= MOST && finalization.encode_size() <= MOST
         }
@@ -152,9 +151,69 @@ fn stepped<S: Holds<StandardBlocks, Finalization = MockFinalization>>(
     going_on(rt, node.step(event, &*buffer, peers, application))
 }
 
-// A life in which the genesis is handed over and acknowledged, and the next block is handed over once it is finalized.
-// A crash ends it before that block is acknowledged. Says whether the next life owes it under the ticket 0, beside what
-// that life leaves.
+// A sync's ticket, whether the sync is open, and whether it has finished.
+type Sync = (u64, bool, bool);
+
+const NOT_STARTED: [Sync; 2] = [(0, false, false), (u64::MAX, false, false)];
+
+const OPEN: [Sync; 2] = [(0, true, false), (1, false, false)];
+
+const FINISHED: [Sync; 2] = [(0, false, true), (1, false, false)];
+
+// That a node tells this of its syncs.
+fn have_syncs<S: Holds<StandardBlocks, Finalization = MockFinalization>>(
+    rt: &impl Abort,
+    node: &NodeOver<S>,
+    rows: &[Sync],
+) {
+    for (ticket, is_open, is_finished) in rows {
+        same(rt, node.awaits_sync(*ticket), *is_open);
+        same(rt, node.finished(*ticket), *is_finished);
+    }
+}
+
+// Tells a node that a sync has finished which isn't open. Nothing is handed over, and its syncs are as they were.
+fn untouched<S: Holds<StandardBlocks, Finalization = MockFinalization>>(
+    rt: &impl Abort,
+    node: NodeOver<S>,
+    ticket: u64,
+    rows: &[Sync],
+    around: &mut Surroundings,
+) -> NodeOver<S>
+    requires { AreSmall around.old.buffer.blocks }
+    ensures { around.new.buffer ≡ around.old.buffer }
+{
+    let handed = around.application.handed.len();
+    let node = stepped(rt, node, Event::Sync(ticket), around);
+    same(rt, around.application.handed.len(), handed);
+    have_syncs(rt, &node, rows);
+    node
+}
+
+// Tells a node that the block of height 1 is finalized. The node writes both and starts a sync of what it wrote, the
+// first of this life. Once it is told that this sync has finished, each crash leaves the block, and it is handed over.
+fn finalized_and_synced<S: Holds<StandardBlocks, Finalization = MockFinalization>>(
+    rt: &impl Abort,
+    node: NodeOver<S>,
+    finalized: MockFinalization,
+    around: &mut Surroundings,
+) -> NodeOver<S>
+    requires { AreSmall around.old.buffer.blocks }
+    ensures { around.new.buffer ≡ around.old.buffer }
+{
+    let node = stepped(rt, node, Event::Finalization(finalized), around);
+    assert!(rt; node.awaits_sync(0));
+    same(rt, around.application.handed.len(), 1);
+    let node = untouched(rt, node, 1, &OPEN, around);
+    let node = stepped(rt, node, Event::Sync(0), around);
+    assert!(rt; node.finished(0));
+    same(rt, around.application.handed.len(), 2);
+    node
+}
+
+// A life in which the genesis is handed over and acknowledged, and the next block is handed over once it is finalized
+// and durable. A crash ends it before that block is acknowledged. Says whether the next life owes it under the ticket 0,
+// beside what that life leaves.
 fn lived_twice<S: Holds<StandardBlocks, Finalization = MockFinalization>>(
     rt: &impl Abort,
     alloc: Global,
@@ -166,8 +225,9 @@ fn lived_twice<S: Holds<StandardBlocks, Finalization = MockFinalization>>(
 {
     let node = opened::<S>(rt, alloc, nothing, around);
     let node = stepped(rt, node, Event::Ack(0), around);
-    let message = Message::Finalization(finalized);
-    let node = stepped(rt, node, Event::Message(message), around);
+    let node = untouched(rt, node, 0, &NOT_STARTED, around);
+    let node = finalized_and_synced(rt, node, finalized, around);
+    let node = untouched(rt, node, 0, &FINISHED, around);
     let node = opened::<S>(rt, alloc, node.wreck(), around);
     (node.owes_ack(0), node.wreck())
 }

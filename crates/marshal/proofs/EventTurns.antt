@@ -1,5 +1,5 @@
 -- What the actor's promise makes of one event, where it tells all that was told and asked.
-use Rattle.std.proofs.Common.{Err, List, Ok, Option, Some, [], ap, ap₂, refl, subst, sym, ◌+◌, ◌++◌, ◌∙◌, ◌∷◌, ◌≡◌, ◌≤◌}
+use Rattle.std.proofs.Common.{Err, List, Ok, Option, Some, [], ap, ap₂, refl, subst, sym, ◌+◌, ◌++◌, ◌∙◌, ◌∷◌, ◌≡◌}
 use Rattle.std.specs.Prelude.{Result}
 use Rattle.mar_codec.specs.declared.Sha256Digest.{Sha256Digest}
 use Rattle.mar_types.specs.Epochs.{fixed_epochs}
@@ -7,14 +7,13 @@ use Rattle.mar_block.specs.Sent.{Held}
 use Rattle.mar_key.specs.Hears.{Hears}
 use Rattle.mar_key.specs.Keys.{Call}
 use Rattle.mar_node.specs.Event.{Event}
-use Rattle.mar_node.specs.Faults.{ack_kind, ticket_limit}
 use Rattle.mar_node.specs.Held.{ArePassed, Ending, FailsBy, Remains}
 use Rattle.mar_node.specs.Lives.{Cuts}
 use Rattle.mar_node.specs.Promise.{HearsMade, IsSetTo, KeepsPromise, heard_by, made_of, node_of}
 use Rattle.mar_node.specs.Step.{Made, Report, Steps}
 use Rattle.mar_shelf.specs.declared.fault.Fault.{Fault as FaultCode}
 use Rattle.mar_key.specs.Asked.{Asked, asked_after}
-use Rattle.marshal.specs.Playing.{IsNearLast, SeenNode, TakesEvent}
+use Rattle.marshal.specs.Playing.{GivesFew, IsNearLast, SeenNode, TakesEvent}
 use Rattle.mar_script.specs.Shown.{plain_fault}
 use Rattle.marshal.specs.declared.play.Outcome.TheVariants as outcome
 use Rattle.marshal.specs.declared.play.State.TheVariants as state
@@ -34,7 +33,7 @@ module _ (seen : SeenNode) (buffer : Held) (e : Event) (told0 told1 : List Repor
   made_is : (made : Made) → HearsMade (heard_by (Some told0) (Some asks0)) made (heard_by (Some told1) (Some asks1)) → made ≡ made_of told1 asks1
   made_is made heard = heard.no_more ∙ ap₂ made_of (told_all told0 told1 made.reports silent heard.reports) (told_all asks0 asks1 made.asks unasked heard.asks)
 
-  pub takes_ok : {H R : Type 0} (new : SeenNode) (opened : List Asked) → Promises (Ok new) → new.life.epocher ≡ seen.life.epocher → new.life.sizes ≡ seen.life.sizes → ArePassed seen.held.watches new.held.watches → new.life.next_ack ≤ seen.life.next_ack + seen.life.sizes.window → TakesEvent {H = H} {R = R} seen buffer opened e told1 asks1 (state.Running new buffer opened) outcome.Done
+  pub takes_ok : {H R : Type 0} (new : SeenNode) (opened : List Asked) → Promises (Ok new) → new.life.epocher ≡ seen.life.epocher → new.life.sizes ≡ seen.life.sizes → ArePassed seen.held.watches new.held.watches → GivesFew seen new → TakesEvent {H = H} {R = R} seen buffer opened e told1 asks1 (state.Running new buffer opened) outcome.Done
   takes_ok new opened promise epocher sizes passed tickets = record {
     set = λ config set. subst (λ z. IsSetTo config z (fixed_epochs new.life.epocher.length) (λ commitment. commitment)) (sym sizes) (subst (λ p. IsSetTo config seen.life.sizes (fixed_epochs p.length) (λ commitment. commitment)) (sym epocher) set);
     small = λ small. small;
@@ -46,7 +45,7 @@ module _ (seen : SeenNode) (buffer : Held) (e : Event) (told0 told1 : List Repor
         (subst (λ m. Steps config chain (node_of seen buffer.blocks asked) (e ∷ []) m (node_of new buffer.blocks (asked_after asked [] m.asks))) (made_is finishes.made finishes.heard) finishes.steps, refl, tickets);
   }
 
-  pub takes_err : {H R : Type 0} (opened : List Asked) (fault : FaultCode Sha256Digest) (left : Remains) → Promises (Err (record { fault = plain_fault fault; remains = left })) → FailsBy seen.held.watches (plain_fault fault) left.watches → (plain_fault fault ≡ ticket_limit ack_kind → IsNearLast seen)
+  pub takes_err : {H R : Type 0} (opened : List Asked) (fault : FaultCode Sha256Digest) (left : Remains) → Promises (Err (record { fault = plain_fault fault; remains = left })) → FailsBy seen.held.watches (plain_fault fault) left.watches → IsNearLast seen (plain_fault fault)
       → TakesEvent {H = H} {R = R} seen buffer opened e told1 asks1 (state.Stopped left 0) (outcome.Fault fault)
   takes_err opened fault left promise fails limit = record {
     set = λ config set. tt;

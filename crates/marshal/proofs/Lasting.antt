@@ -10,7 +10,7 @@ use Rattle.mar_node.specs.Acks.{Mark, Outstanding, after_given, is_given, is_unm
 use Rattle.mar_store.proofs.Lookups.{AllByRecursion-append}
 use Rattle.mar_node.specs.Chain.{Chain}
 use Rattle.mar_node.specs.Config.{Config}
-use Rattle.mar_node.specs.Event.{Event, ack_given, life_started, message_told, met_of, no_floor, undrained_blocks}
+use Rattle.mar_node.specs.Event.{Event, ack_given, life_started, message_told, met_of, no_floor, sync_finished, undrained_blocks}
 use Rattle.mar_node.specs.Faults.{dropped_first, event_fault, height_limit, last_height, storing_fault}
 use Rattle.mar_node.specs.Held.{Seen}
 use Rattle.mar_node.specs.Node.{Node, at_hand, write_count}
@@ -26,9 +26,16 @@ use Rattle.mar_script.specs.Refused.{max_lines}
 pub tickets_after : (k before after window : ℕ) → before ≤ max_window * k → window ≤ max_window → after ≤ before + window → after ≤ max_window * (k + 1)
 tickets_after k before after window low narrow given = omega (arith, low, narrow, given)
 
+-- and one of a sync
+pub syncs_after : (k before after : ℕ) → before ≤ k → after ≤ before + 1 → after ≤ k + 1
+syncs_after k before after low given = omega (arith, low, given)
+
 -- they last for all lines that a script may have
 pub tickets_last : (k before window : ℕ) → before ≤ max_window * k → k ≤ max_lines → window ≤ max_window → 2 ^ 64 - 1 ≤ before + window → ⊥
 tickets_last k before window low few narrow near = omega (arith, low, few, narrow, near)
+
+pub syncs_last : (k before : ℕ) → before ≤ k → k ≤ max_lines → before ≡ 2 ^ 64 - 1 → ⊥
+syncs_last k before low few last = omega (arith, low, few, last)
 
 -- BLOCKS
 
@@ -70,11 +77,12 @@ undropped-with_sync before n undropped = by (nat_lt before (write_count n)) (nat
     by true false = undropped
     by false c = undropped
 
--- a start, a reported finalization, an acknowledgement
+-- a start, a reported finalization, an acknowledgement, a sync that finished
 pub data IsPlain : Event → Type 0 where
   starts : IsPlain (life_started None)
   reports : (f : Finalization) → IsPlain (message_told None (report_finalization f))
   acks : (t : ℕ) → IsPlain (ack_given t)
+  finishes : (t : ℕ) → IsPlain (sync_finished t)
 
 not_at_limit : (above : Bool) (h : ℕ) → (h ≡ 2 ^ 64 - 1 → ⊥) → (if above && h == last_height then Some (height_limit h) else None) ≡ None
 not_at_limit false h not_last = refl
@@ -93,9 +101,11 @@ module _ {P E : Type 0} (config : Config) (chain : Chain) (a : Seen P E) (buffer
   undropped-step e (reports f) made n' steps undropped = subst (λ m. Undropped m.out) (sym steps.ticket) (undropped-with_sync (write_count node) steps.unticketed (undropped-kept node (message_told None (report_finalization f)) made steps.unticketed steps.advances.hands undropped))
   undropped-step e (acks t) made n' steps undropped = subst (λ m. Undropped m.out) (sym steps.ticket) (undropped-with_sync (write_count node) steps.unticketed
       (undropped-kept node (ack_given t) made steps.unticketed steps.advances.hands (undropped-after (with_mark t mark_given a.life.out) (undropped-marked t a.life.out undropped))))
+  undropped-step e (finishes t) made n' steps undropped = subst (λ m. Undropped m.out) (sym steps.ticket) (undropped-with_sync (write_count node) steps.unticketed (undropped-kept node (sync_finished t) made steps.unticketed steps.advances.hands undropped))
 
   pub no_event_fault : (e : Event) → IsPlain e → IsLawfulStep config chain node (e ∷ []) → Undropped node.out → event_fault config node e ≡ None
   no_event_fault e starts lawful undropped = refl
+  no_event_fault e (finishes t) lawful undropped = refl
   no_event_fault e (reports f) lawful undropped = by (at_hand node f.payload) refl
     where
       by : (o : Option Block) → at_hand node f.payload ≡ o → storing_fault node (option_map (λ m. record { height = m.block.height; with_certificate = true }) (option_map (λ b. met_of b f) o)) no_floor ≡ None

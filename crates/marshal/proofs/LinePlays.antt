@@ -1,5 +1,5 @@
 -- What the program's play makes of each line.
-use Rattle.std.proofs.Common.{Contains, List, None, Option, [], ap, arith, refl, subst, sym, ℕ, ◌++◌, ◌+◌, ◌<◌, ◌∷◌, ◌≡◌, ◌≤◌, ◌⊎◌}
+use Rattle.std.proofs.Common.{Contains, List, None, Option, [], ap, arith, refl, subst, sym, ℕ, ◌++◌, ◌+◌, ◌<◌, ◌∷◌, ◌≡◌, ◌≤◌, ◌⊎◌, ◌*◌}
 use Rattle.std.proofs.lemmas.List.Elements.{Contains-append_left}
 use Rattle.mar_codec.specs.declared.Sha256Digest.{Sha256Digest}
 use Rattle.mar_types.specs.Epochs.{fixed_epochs}
@@ -12,7 +12,7 @@ use Rattle.mar_key.specs.Keys.{Call}
 use Rattle.mar_node.specs.Chain.{Chain}
 use Rattle.mar_node.specs.Config.{Config}
 use Rattle.mar_node.specs.Event.{Event, life_started, message_told}
-use Rattle.mar_node.specs.Faults.{Fault, StoreName, from_genesis}
+use Rattle.mar_node.specs.Faults.{Fault, StoreName, from_genesis, ticket_limit}
 use Rattle.mar_node.specs.Held.{ArePassed, FailsBy, IsUsual, Remains, Sizes, Watches, picks_of, remains_of, with_armed}
 use Rattle.mar_node.specs.Lives.{CutsReopening, Finds}
 use Rattle.mar_node.specs.Stored.{AreSmall}
@@ -23,9 +23,13 @@ use Rattle.mar_node.specs.Step.{Report, nothing_made}
 use Rattle.mar_node.proofs.Passing.{ArePassed-refl}
 use Rattle.mar_node.proofs.Reaching.{IsGood-beside, Rest-beside}
 use Rattle.mar_shelf.specs.declared.fault.Fault.{Fault as FaultCode}
+use Rattle.mar_shelf.specs.declared.fault.TicketKind.{TicketKind}
+use Rattle.mar_shelf.specs.declared.fault.TicketKind.TheVariants.{Ack, Sync}
+use Rattle.mar_shelf.specs.Views.{kind_of}
+use Rattle.mar_script.specs.Refused.{max_lines}
 use Rattle.mar_script.specs.Accounts.{Account, Calls, CallsEnd, luck_after}
 use Rattle.mar_script.specs.Plays.{IsBetween, IsLawfulLine, Plays, max_window}
-use Rattle.marshal.specs.Playing.{AfterEvent, HasLuck, IsOpenAs, IsSetNode, PlaysLine, SeenNode, TakesEvent, account_in, empty_buffer}
+use Rattle.marshal.specs.Playing.{AfterEvent, HasLuck, IsNearLast, IsOpenAs, IsSetNode, PlaysLine, SeenNode, TakesEvent, account_in, empty_buffer}
 use Rattle.mar_script.specs.Run.{LineDone, OpenDone, StepDone}
 use Rattle.mar_script.specs.Script.{Line, Settings, buffer_line, config_of, crash_line, fail_line, open_line, tell_line}
 use Rattle.mar_script.specs.Text.{Output, State, running, stopped}
@@ -37,7 +41,7 @@ use Rattle.marshal.specs.declared.play.Outcome.TheVariants as outcome
 use Rattle.marshal.specs.declared.play.State.{State as StateCode}
 use Rattle.marshal.specs.declared.play.State.TheVariants as state
 use Rattle.mar_script.specs.declared.RemarkShown.{RemarkShown}
-use Rattle.marshal.proofs.Lasting.{IsPlain, starts, tickets_after, tickets_last}
+use Rattle.marshal.proofs.Lasting.{IsPlain, starts, syncs_after, syncs_last, tickets_after, tickets_last}
 use Rattle.marshal.proofs.LineTurns.{cut_between, cut_usual, lawful_step, step_between, step_cut, step_done}
 use Rattle.marshal.proofs.Replaying.{between_left}
 use Rattle.marshal.proofs.OpeningTurns.{lawful_start, opening_cut, opening_done, opening_usual, start_cut, undropped-found}
@@ -45,9 +49,14 @@ use Rattle.marshal.proofs.OpeningTurns.{lawful_start, opening_cut, opening_done,
 none_in : (b : Block) → Contains [] b → ⊥
 none_in b has = let lt : has.0 < 0 = has.1 in omega arith
 
+-- the tickets of so many lines last
+never_last : (k : ℕ) (seen : SeenNode) (fault : Fault) → seen.life.next_ack ≤ max_window * k → seen.held.writes.next_sync ≤ k → k ≤ max_lines → seen.life.sizes.window ≤ max_window → IsNearLast seen fault → (kind : TicketKind) → fault ≡ ticket_limit (kind_of kind) → ⊥
+never_last k seen fault acks syncs few narrow near Ack is = tickets_last k seen.life.next_ack seen.life.sizes.window acks few narrow (near.0 is)
+never_last k seen fault acks syncs few narrow near Sync is = syncs_last k seen.held.writes.next_sync syncs few (near.1 is)
+
 -- a state behind one line more
 later_state : (config : Config) (chain : Chain) (k : ℕ) (s : State) → IsBetween config chain k s → IsBetween config chain (k + 1) s
-later_state config chain k (running n) (good, rests, lasting) = (good, rests, record { undropped = lasting.undropped; tickets = omega (arith, lasting.tickets) })
+later_state config chain k (running n) (good, rests, lasting) = (good, rests, record { undropped = lasting.undropped; tickets = omega (arith, lasting.tickets); sync_tickets = omega (arith, lasting.sync_tickets) })
 later_state config chain k (stopped e) between = between
 
 -- what is asked of a state doesn't look at the buffer
@@ -55,7 +64,7 @@ put_between : (config : Config) (chain : Chain) (k : ℕ) (seen : SeenNode) (bef
 put_between config chain k seen before after asked (good, rests, lasting) = (
   IsGood-beside config chain seen before after asked asked good.of_chain.asks.requests good,
   Rest-beside config.window seen before after asked asked rests,
-  record { undropped = lasting.undropped; tickets = omega (arith, lasting.tickets) },
+  record { undropped = lasting.undropped; tickets = omega (arith, lasting.tickets); sync_tickets = omega (arith, lasting.sync_tickets) },
 )
 
 module _ {H R : Type 0} where
@@ -167,7 +176,8 @@ module _ {H R : Type 0} where
       by (state.Running new same_buffer old) outcome.Done chain account k set lawful (steps, kept, tickets) = record {
         done = line_done config chain account opened _ _ (step_done config chain seen buffer.blocks opened e rs cs new same_buffer.blocks steps);
         between = step_between config chain seen buffer.blocks opened k e plain rs cs new same_buffer.blocks lawful.between.2.undropped steps
-            (tickets_after k seen.life.next_ack new.life.next_ack seen.life.sizes.window lawful.between.2.tickets (subst (λ w. w ≤ max_window) set.window lawful.narrow) tickets);
+            (tickets_after k seen.life.next_ack new.life.next_ack seen.life.sizes.window lawful.between.2.tickets (subst (λ w. w ≤ max_window) set.window lawful.narrow) tickets.0)
+            (syncs_after k seen.held.writes.next_sync new.held.writes.next_sync lawful.between.2.sync_tickets tickets.1);
         buffered = λ b has. Contains-append_left _ _ b (subst (λ xs. Contains xs b) kept has);
         excused = tt;
       }
@@ -176,7 +186,7 @@ module _ {H R : Type 0} where
         between = cut_between config chain seen buffer.blocks opened (k + 1) e (made_of rs cs) (plain_fault fault) left.ended cuts;
         buffered = λ b has. absurd (none_in b has);
         excused = cut_usual config chain seen buffer.blocks opened e plain (made_of rs cs) fault left.ended (lawful_step config chain seen buffer.blocks opened k l e plain lawful same) lawful.between.2.undropped cuts
-            (λ is. tickets_last k seen.life.next_ack seen.life.sizes.window lawful.between.2.tickets lawful.few (subst (λ w. w ≤ max_window) set.window lawful.narrow) (limit is));
+            (never_last k seen (plain_fault fault) lawful.between.2.tickets lawful.between.2.sync_tickets lawful.few (subst (λ w. w ≤ max_window) set.window lawful.narrow) limit);
       }
       by (state.Running new same_buffer old) (outcome.Remark r) chain account k set lawful done = absurd done
       by (state.Running new same_buffer old) (outcome.Fault fault) chain account k set lawful done = absurd done
@@ -224,7 +234,8 @@ module _ {H R : Type 0} where
           record {
             done = opening_done config chain before.ended (picks_of before luck) g seen finds rs cs new same_buffer.blocks steps;
             between = step_between config chain seen [] [] k (life_started None) starts rs cs new same_buffer.blocks first.0 steps
-                (tickets_after k seen.life.next_ack new.life.next_ack seen.life.sizes.window (omega (arith, first.1)) (subst (λ w. w ≤ max_window) set.window lawful.narrow) tickets);
+                (tickets_after k seen.life.next_ack new.life.next_ack seen.life.sizes.window (omega (arith, first.1)) (subst (λ w. w ≤ max_window) set.window lawful.narrow) tickets.0)
+                (syncs_after k seen.held.writes.next_sync new.held.writes.next_sync (omega (arith, first.2)) tickets.1);
             buffered = λ b has. absurd (none_in b (subst (λ xs. Contains xs b) kept has));
             excused = tt;
           }
@@ -235,7 +246,7 @@ module _ {H R : Type 0} where
             between = cut_between config chain seen [] [] (k + 1) (life_started None) (made_of rs cs) (plain_fault fault) left.ended cuts;
             buffered = λ b has. absurd (none_in b has);
             excused = cut_usual config chain seen [] [] (life_started None) starts (made_of rs cs) fault left.ended (lawful_start config chain before.ended (picks_of before luck) g seen finds k lawful good) first.0 cuts
-                (λ is. tickets_last k seen.life.next_ack seen.life.sizes.window (omega (arith, first.1)) lawful.few (subst (λ w. w ≤ max_window) set.window lawful.narrow) (limit is));
+                (never_last k seen (plain_fault fault) (omega (arith, first.1)) (omega (arith, first.2)) lawful.few (subst (λ w. w ≤ max_window) set.window lawful.narrow) limit);
           }
       by (state.Running new same_buffer old) (outcome.Remark r) chain k lawful finds good done = absurd done
       by (state.Running new same_buffer old) (outcome.Fault fault) chain k lawful finds good done = absurd done

@@ -1,5 +1,5 @@
 -- What the program's steps make of a line while a life runs.
-use Rattle.std.proofs.Common.{Bool, IsTrue, List, None, Option, Some, [], ap, false, if◌then◌else◌, option_map, refl, subst, sym, true, ℕ, ◌*◌, ◌++◌, ◌+◌, ◌∙◌, ◌∷◌, ◌≡◌, ◌≤◌}
+use Rattle.std.proofs.Common.{Bool, IsTrue, List, None, Option, Some, [], ap, false, if◌then◌else◌, option_map, refl, subst, sym, true, ℕ, ◌*◌, ◌++◌, ◌+◌, ◌∙◌, ◌∷◌, ◌||◌, ◌≡◌, ◌≤◌}
 use Rattle.std.specs.List.{list_any}
 use Rattle.mar_codec.specs.declared.Sha256Digest.{Sha256Digest}
 use Rattle.mar_cert.specs.Block.{Block}
@@ -11,8 +11,8 @@ use Rattle.mar_key.specs.Processed.{height_in}
 use Rattle.mar_node.specs.Acks.{is_unmarked}
 use Rattle.mar_node.specs.Chain.{Chain}
 use Rattle.mar_node.specs.Config.{Config}
-use Rattle.mar_node.specs.Event.{Event, ack_given, message_told}
-use Rattle.mar_node.specs.Faults.{Fault, ack_kind, event_fault, is_by_value, ticket_limit}
+use Rattle.mar_node.specs.Event.{Event, ack_given, message_told, sync_finished}
+use Rattle.mar_node.specs.Faults.{Fault, event_fault, is_by_value, ticket_limit}
 use Rattle.mar_node.specs.Held.{IsUsual, Seen}
 use Rattle.mar_node.specs.Lives.{Cuts, CutsEvent}
 use Rattle.mar_node.specs.Node.{Ended, Node}
@@ -21,16 +21,17 @@ use Rattle.mar_node.specs.Step.{AdvancesAll, Made, Report, Steps, joined_made}
 use Rattle.mar_shelf.specs.declared.fault.Fault.{Fault as FaultCode}
 use Rattle.mar_shelf.specs.declared.fault.Fault.TheVariants as fault
 use Rattle.mar_shelf.specs.declared.fault.TicketKind.{TicketKind}
-use Rattle.mar_shelf.specs.declared.fault.TicketKind.TheVariants.{Ack}
+use Rattle.mar_shelf.specs.Views.{kind_of}
 use Rattle.mar_script.specs.Accounts.{Account}
 use Rattle.mar_script.specs.Plays.{IsBetween, IsLawfulLine, max_window}
 use Rattle.mar_script.specs.Run.{LineDone, RunningDone, StepDone}
-use Rattle.mar_script.specs.Script.{Line, ack_line, tell_line}
+use Rattle.mar_node.specs.Writing.{is_open_sync}
+use Rattle.mar_script.specs.Script.{Line, ack_line, sync_line, tell_line}
 use Rattle.mar_script.specs.Text.{Output, State, remark_ignored, running, stopped}
 use Rattle.mar_script.specs.Shown.{plain_fault}
 use Rattle.marshal.specs.Turn.{output_of}
 use Rattle.marshal.specs.declared.play.Outcome.TheVariants as outcome
-use Rattle.marshal.proofs.Lasting.{IsPlain, Undropped, acks, no_event_fault, reports, starts, undropped-step}
+use Rattle.marshal.proofs.Lasting.{IsPlain, Undropped, acks, finishes, no_event_fault, reports, starts, undropped-step}
 
 -- CUTS
 
@@ -57,7 +58,7 @@ only_cut config chain n e made fault left cuts = by cuts.finished cuts.first cut
     by (x ∷ xs) first mid d later split advances made_is cut = absurd (none_behind xs cuts.others d (tail x (xs ++ d ∷ cuts.others) split))
 
 -- a fault that no value calls for, and no want of tickets, is want of memory or a store's
-pub usual : (fault : FaultCode Sha256Digest) → (IsTrue (is_by_value (plain_fault fault)) → ⊥) → (plain_fault fault ≡ ticket_limit ack_kind → ⊥) → IsUsual (plain_fault fault)
+pub usual : (fault : FaultCode Sha256Digest) → (IsTrue (is_by_value (plain_fault fault)) → ⊥) → ((kind : TicketKind) → plain_fault fault ≡ ticket_limit (kind_of kind) → ⊥) → IsUsual (plain_fault fault)
 usual (fault.StoreFault s) valued limit = tt
 usual (fault.GenesisHeight h) valued limit = absurd (valued refl)
 usual (fault.GenesisMismatch a b) valued limit = absurd (valued refl)
@@ -65,10 +66,7 @@ usual (fault.Corrupt h a b) valued limit = absurd (valued refl)
 usual (fault.Unbacked h) valued limit = absurd (valued refl)
 usual (fault.HeightLimit h) valued limit = absurd (valued refl)
 usual (fault.AckDropped h) valued limit = absurd (valued refl)
-usual (fault.TicketLimit k) valued limit = absurd (limit (by k))
-  where
-    by : (k : TicketKind) → plain_fault (fault.TicketLimit k) ≡ ticket_limit ack_kind
-    by Ack = refl
+usual (fault.TicketLimit k) valued limit = absurd (limit k refl)
 usual fault.Memory valued limit = tt
 
 -- A STEP
@@ -81,8 +79,8 @@ module _ {P E : Type 0} (config : Config) (chain : Chain) (a : Seen P E) (buffer
   pub step_done : (e : Event) (rs : List Report) (asks : List Call) (b : Seen P E) (kept : List Block) → Steps config chain node (e ∷ []) (made_of rs asks) (node_of b kept (asked_after asked [] asks)) → StepDone config chain node (e ∷ []) [] (λ m. []) (output_of rs asks outcome.Done) (running (node_of b kept (asked_after asked [] asks)))
   step_done e rs asks b kept steps = (made_of rs asks, steps, refl, refl, refl)
 
-  pub step_between : (k : ℕ) (e : Event) → IsPlain e → (rs : List Report) (asks : List Call) (b : Seen P E) (kept : List Block) → Undropped a.life.out → Steps config chain node (e ∷ []) (made_of rs asks) (node_of b kept (asked_after asked [] asks)) → b.life.next_ack ≤ max_window * (k + 1) → IsBetween config chain (k + 1) (running (node_of b kept (asked_after asked [] asks)))
-  step_between k e plain rs asks b kept undropped steps tickets = (steps.good, steps.rests, record { undropped = undropped-step config chain a buffer asked e plain (made_of rs asks) (node_of b kept (asked_after asked [] asks)) steps undropped; tickets = tickets })
+  pub step_between : (k : ℕ) (e : Event) → IsPlain e → (rs : List Report) (asks : List Call) (b : Seen P E) (kept : List Block) → Undropped a.life.out → Steps config chain node (e ∷ []) (made_of rs asks) (node_of b kept (asked_after asked [] asks)) → b.life.next_ack ≤ max_window * (k + 1) → b.held.writes.next_sync ≤ k + 1 → IsBetween config chain (k + 1) (running (node_of b kept (asked_after asked [] asks)))
+  step_between k e plain rs asks b kept undropped steps tickets sync_tickets = (steps.good, steps.rests, record { undropped = undropped-step config chain a buffer asked e plain (made_of rs asks) (node_of b kept (asked_after asked [] asks)) steps undropped; tickets = tickets; sync_tickets = sync_tickets })
 
   -- a step that was cut
   pub step_cut : (e : Event) (rs : List Report) (asks : List Call) (fault : FaultCode Sha256Digest) (left : Ended) → Cuts config chain node (e ∷ []) (made_of rs asks) (plain_fault fault) left → StepDone config chain node (e ∷ []) [] (λ m. []) (output_of rs asks (outcome.Fault fault)) (stopped left)
@@ -91,7 +89,7 @@ module _ {P E : Type 0} (config : Config) (chain : Chain) (a : Seen P E) (buffer
   pub cut_between : (k : ℕ) (e : Event) (made : Made) (fault : Fault) (left : Ended) → Cuts config chain node (e ∷ []) made fault left → IsBetween config chain k (stopped left)
   cut_between k e made fault left cuts = (cuts.cut.leaves.good, cuts.cut.leaves.some_pair)
 
-  pub cut_usual : (e : Event) → IsPlain e → (made : Made) (fault : FaultCode Sha256Digest) (left : Ended) → IsLawfulStep config chain node (e ∷ []) → Undropped a.life.out → Cuts config chain node (e ∷ []) made (plain_fault fault) left → (plain_fault fault ≡ ticket_limit ack_kind → ⊥) → IsUsual (plain_fault fault)
+  pub cut_usual : (e : Event) → IsPlain e → (made : Made) (fault : FaultCode Sha256Digest) (left : Ended) → IsLawfulStep config chain node (e ∷ []) → Undropped a.life.out → Cuts config chain node (e ∷ []) made (plain_fault fault) left → ((kind : TicketKind) → plain_fault fault ≡ ticket_limit (kind_of kind) → ⊥) → IsUsual (plain_fault fault)
   cut_usual e plain made fault left lawful undropped cuts limit =
       usual fault (λ by_value. never (event_fault config node e) (plain_fault fault) (no_event_fault config chain a buffer asked e plain lawful undropped) ((only_cut config chain node e made (plain_fault fault) left cuts).cause by_value)) limit
     where
@@ -106,16 +104,19 @@ lawful_step config chain a buffer asked k line e plain lawful same = record { la
     told starts is = tt
     told (reports f) is = lawful.reported f (is f refl)
     told (acks t) is = tt
+    told (finishes t) is = tt
 
     good : {d : Event} → IsPlain d → IsGoodFor config chain (node_of a buffer asked) (d ∷ [])
     good starts = (a.life.tip, lawful.between.0)
     good (reports f) = lawful.between.0
     good (acks t) = lawful.between.0
+    good (finishes t) = lawful.between.0
 
     rests : {d : Event} → IsPlain d → RestsBefore config.window (node_of a buffer asked) (d ∷ [])
     rests starts = tt
     rests (reports f) = lawful.between.1
     rests (acks t) = lawful.between.1
+    rests (finishes t) = lawful.between.1
 
 -- THE ACKNOWLEDGEMENT LINE
 
@@ -126,3 +127,18 @@ ack_done config chain account a buffer asked t out after owes done = subst (λ (
 -- another isn't
 pub ack_ignored : {P E : Type 0} (config : Config) (chain : Chain) (account : Account) (a : Seen P E) (buffer : List Block) (asked : List Asked) (t : ℕ) (out : Output) (after : State) → list_any (is_unmarked t) a.life.out ≡ false → RunningDone config chain (node_of a buffer asked) (ack_line t) (Some remark_ignored) out after → LineDone config chain account (running (node_of a buffer asked)) (ack_line t) out after
 ack_ignored config chain account a buffer asked t out after owes done = subst (λ (b : Bool). RunningDone config chain (node_of a buffer asked) (ack_line t) (if b then None else Some remark_ignored) out after) (sym owes) done
+
+-- THE SYNC LINE
+
+-- whether a sync is open is said by those of the archives alone
+open_alone : (b : Bool) → (b || false) ≡ b
+open_alone true = refl
+open_alone false = refl
+
+-- an open sync finishes
+pub sync_done : {P E : Type 0} (config : Config) (chain : Chain) (account : Account) (a : Seen P E) (buffer : List Block) (asked : List Asked) (t : ℕ) (out : Output) (after : State) → is_open_sync a.held.writes.syncs t ≡ true → StepDone config chain (node_of a buffer asked) (sync_finished t ∷ []) [] (λ m. []) out after → LineDone config chain account (running (node_of a buffer asked)) (sync_line t) out after
+sync_done config chain account a buffer asked t out after is_open done = subst (λ (b : Bool). RunningDone config chain (node_of a buffer asked) (sync_line t) (if b then None else Some remark_ignored) out after) (sym (open_alone (is_open_sync a.held.writes.syncs t) ∙ is_open)) done
+
+-- another isn't awaited
+pub sync_ignored : {P E : Type 0} (config : Config) (chain : Chain) (account : Account) (a : Seen P E) (buffer : List Block) (asked : List Asked) (t : ℕ) (out : Output) (after : State) → is_open_sync a.held.writes.syncs t ≡ false → RunningDone config chain (node_of a buffer asked) (sync_line t) (Some remark_ignored) out after → LineDone config chain account (running (node_of a buffer asked)) (sync_line t) out after
+sync_ignored config chain account a buffer asked t out after closed done = subst (λ (b : Bool). RunningDone config chain (node_of a buffer asked) (sync_line t) (if b then None else Some remark_ignored) out after) (sym (open_alone (is_open_sync a.held.writes.syncs t) ∙ closed)) done

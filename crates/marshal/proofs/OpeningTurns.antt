@@ -33,8 +33,8 @@ use Rattle.marshal.proofs.LineTurns.{only_cut}
 -- BEFORE THE START
 
 -- the node that an opening finds has handed nothing over, and given no ticket
-pub undropped-found : (config : Config) (e : Ended) (picks : Picks) (begin : Begin) (n : Node) → Finds config e picks begin n → Undropped n.out × (n.next_ack ≡ 0)
-undropped-found config e picks begin n finds = (subst (λ m. Undropped m.out) (sym finds.node) tt, ap (λ m. m.next_ack) finds.node)
+pub undropped-found : (config : Config) (e : Ended) (picks : Picks) (begin : Begin) (n : Node) → Finds config e picks begin n → Undropped n.out × (n.next_ack ≡ 0) × (n.next_sync ≡ 0)
+undropped-found config e picks begin n finds = (subst (λ m. Undropped m.out) (sym finds.node) tt, ap (λ m. m.next_ack) finds.node, ap (λ m. m.next_sync) finds.node)
 
 -- what an opening asks is asked of its line
 pub lawful_opening : (config : Config) (chain : Chain) (e : Ended) (g : Block) (k : ℕ) → IsLawfulLine config chain k (stopped e) (open_line (from_genesis g)) → IsLawfulOpening config chain e (from_genesis g)

@@ -12,6 +12,7 @@ use Rattle.mar_key.specs.Keys.{Call}
 use Rattle.mar_store.specs.Changes.{heights}
 use Rattle.mar_node.specs.Metadata.{Pair, first_pair}
 use Rattle.mar_node.specs.Node.{Ended}
+use Rattle.mar_node.specs.Writing.{Writing}
 use Rattle.mar_actor.specs.declared.Update.{Update}
 use Rattle.mar_key.specs.Cutoff.{Cutoff}
 use Rattle.mar_key.specs.Processed.{Processed}
@@ -23,10 +24,10 @@ use Rattle.marshal.specs.Turn.{fault_in, output_of, plain_report, remark_in, rep
 use Rattle.marshal.specs.declared.play.Outcome.{Outcome}
 use Rattle.mar_script.proofs.Pushed.{in_four}
 
-pub node_shown : (p p' : Option Processed) (o o' : List Outstanding) (c c' : Cutoff) (b b' bs bs' f f' fs fs' : List Range) → p ≡ p' → o ≡ o' → c ≡ c' → b ≡ b' → bs ≡ bs' → f ≡ f' → fs ≡ fs' → shown_words p o c b bs f fs ≡ shown_words p' o' c' b' bs' f' fs'
-node_shown p p' o o' c c' b b' bs bs' f f' fs fs' e1 e2 e3 e4 e5 e6 e7 =
-    ap (λ x. shown_words x o c b bs f fs) e1 ∙ ap (λ x. shown_words p' x c b bs f fs) e2 ∙ ap (λ x. shown_words p' o' x b bs f fs) e3 ∙ ap (λ x. shown_words p' o' c' x bs f fs) e4
-    ∙ ap (λ x. shown_words p' o' c' b' x f fs) e5 ∙ ap (λ x. shown_words p' o' c' b' bs' x fs) e6 ∙ ap (λ x. shown_words p' o' c' b' bs' f' x) e7
+pub node_shown : (p p' : Option Processed) (o o' : List Outstanding) (c c' : Cutoff) (b b' bs bs' f f' fs fs' : List Range) (w w' : Writing) → p ≡ p' → o ≡ o' → c ≡ c' → b ≡ b' → bs ≡ bs' → f ≡ f' → fs ≡ fs' → w ≡ w' → shown_words p o c b bs f fs w.uncovered w.syncs ≡ shown_words p' o' c' b' bs' f' fs' w'.uncovered w'.syncs
+node_shown p p' o o' c c' b b' bs bs' f f' fs fs' w w' e1 e2 e3 e4 e5 e6 e7 e8 =
+    ap (λ x. shown_words x o c b bs f fs w.uncovered w.syncs) e1 ∙ ap (λ x. shown_words p' x c b bs f fs w.uncovered w.syncs) e2 ∙ ap (λ x. shown_words p' o' x b bs f fs w.uncovered w.syncs) e3 ∙ ap (λ x. shown_words p' o' c' x bs f fs w.uncovered w.syncs) e4
+    ∙ ap (λ x. shown_words p' o' c' b' x f fs w.uncovered w.syncs) e5 ∙ ap (λ x. shown_words p' o' c' b' bs' x fs w.uncovered w.syncs) e6 ∙ ap (λ x. shown_words p' o' c' b' bs' f' x w.uncovered w.syncs) e7 ∙ ap (λ x. shown_words p' o' c' b' bs' f' fs' x.uncovered x.syncs) e8
 
 pub ended_shown : (e : Ended) (p : Option ℕ) (c : Cutoff) (bs bm fs fm : List Range) → first_pair e.meta ≡ Some (record { processed = p; cutoff = c }) → bs ≡ ranges (heights e.blocks_sure) → bm ≡ ranges (heights e.blocks_may) → fs ≡ ranges (heights e.certs_sure) → fm ≡ ranges (heights e.certs_may)
     → ended_shown_words p c bs bm fs fm ≡ ended_words e

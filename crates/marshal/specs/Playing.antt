@@ -10,7 +10,7 @@ use Rattle.mar_key.specs.Keys.{Call}
 use Rattle.mar_node.specs.Chain.{Chain}
 use Rattle.mar_node.specs.Config.{Config}
 use Rattle.mar_node.specs.Event.{Event}
-use Rattle.mar_node.specs.Faults.{ack_kind, ticket_limit, want_of_memory}
+use Rattle.mar_node.specs.Faults.{Fault, ack_kind, sync_kind, ticket_limit, want_of_memory}
 use Rattle.mar_node.specs.Held.{Seen}
 use Rattle.mar_node.specs.Lives.{Cuts}
 use Rattle.mar_node.specs.Promise.{IsLawfulStep, IsSetTo, made_of, node_of}
@@ -105,16 +105,20 @@ TurnsLine config before line sunk after sunk' written = (IsErrOf written status.
 abbrev pub empty_buffer : Held
 empty_buffer = record { blocks = []; is_open = true; sent = [] }
 
--- no more tickets are left than a window needs
-abbrev pub IsNearLast : SeenNode → Type 0
-IsNearLast seen = 2 ^ 64 - 1 ≤ seen.life.next_ack + seen.life.sizes.window
+-- a window of tickets was given at most, and one of a sync
+abbrev pub GivesFew : SeenNode → SeenNode → Type 0
+GivesFew seen new = (new.life.next_ack ≤ seen.life.next_ack + seen.life.sizes.window) × (new.held.writes.next_sync ≤ seen.held.writes.next_sync + 1)
 
--- A step that finished and gave a window of tickets at most, with the buffer as it was; or a cut.
+-- where tickets ran out, no more were left than a window needs, or none of a sync
+abbrev pub IsNearLast : SeenNode → Fault → Type 0
+IsNearLast seen fault = (fault ≡ ticket_limit ack_kind → 2 ^ 64 - 1 ≤ seen.life.next_ack + seen.life.sizes.window) × (fault ≡ ticket_limit sync_kind → seen.held.writes.next_sync ≡ 2 ^ 64 - 1)
+
+-- A step that finished and gave few tickets, with the buffer as it was; or a cut.
 abbrev pub AfterEvent : {H R : Type 0} → Config → Chain → SeenNode → List Block → List Asked → Event → List Report → List Call → StateCode H R → Outcome → Type 0
 AfterEvent config chain seen buffer asked e reports asks (state.Running new same opened) outcome.Done =
-    Steps config chain (node_of seen buffer asked) (e ∷ []) (made_of reports asks) (node_of new same.blocks (asked_after asked [] asks)) × (same.blocks ≡ buffer) × (new.life.next_ack ≤ seen.life.next_ack + seen.life.sizes.window)
+    Steps config chain (node_of seen buffer asked) (e ∷ []) (made_of reports asks) (node_of new same.blocks (asked_after asked [] asks)) × (same.blocks ≡ buffer) × GivesFew seen new
 AfterEvent config chain seen buffer asked e reports asks (state.Stopped left luck) (outcome.Fault fault) =
-    Cuts config chain (node_of seen buffer asked) (e ∷ []) (made_of reports asks) (plain_fault fault) left.ended × (plain_fault fault ≡ ticket_limit ack_kind → IsNearLast seen)
+    Cuts config chain (node_of seen buffer asked) (e ∷ []) (made_of reports asks) (plain_fault fault) left.ended × IsNearLast seen (plain_fault fault)
 AfterEvent config chain seen buffer asked e reports asks after outcome = ⊥
 
 -- What one event makes of a life.

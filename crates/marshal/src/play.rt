@@ -24,7 +24,6 @@ use mar_actor::{Config, Ended, Event, Fault, Limits, Node, Start, StoreName};
 use mar_block::{EmptyBlock, MemBuffer, StandardBlocks};
 use mar_cert::{MockFinalization, MockProvider, MockScheme};
 use mar_codec::{Digested, Sha256, Sha256Digest};
-use mar_inbox::Message;
 use mar_key::{Ask, OpenRequests};
 use mar_script::{Line, RemarkShown, Settings};
 use mar_shelf::{Holds, StoresRuin};
@@ -270,7 +269,7 @@ fn finalize<H: Holds<StandardBlocks, Finalization = MockFinalization>>(
         (tell_line (report_finalization (plain_finalization finalization)))
         (map plain_report heard.new.told.updates.items) heard.new.asked result.0 result.1 }
 {
-    let event = Event::Message(Message::Finalization(finalization));
+    let event = Event::Finalization(finalization);
     let (state, outcome) = step(actor, buffer, requests, event, heard);
     (state, Ok(outcome))
 }

@@ -6,7 +6,7 @@ use Rattle.marshal.proofs.play.step.Goals as goal
 pub returns-in-Ok : goal.returns-in-Ok
 returns-in-Ok g c =
     takes_ok c.args.actor c.args.buffer _ _ _ _ _ (ap (λ us. map plain_report us) c.requires.silent) c.requires.unasked c.in-Ok.actor c.args.requests c.in-Ok.ensures.promise c.in-Ok.ensures.same_life.1 c.in-Ok.ensures.same_life.2
-    c.in-Ok.ensures.watches c.in-Ok.ensures.tickets
+    c.in-Ok.ensures.watches (c.in-Ok.ensures.tickets, c.in-Ok.ensures.sync_tickets)
 
 pub returns-in-Err : goal.returns-in-Err
 returns-in-Err g c =

@@ -35,24 +35,24 @@ returns-in-None g c =
       tells = subst (λ o. TellsInOrder (g.A.Reporter.told c.args.application.now) (finalized_tips c.args.self (g.S.Finalization.AsFinalization.plain c.args.finalization.now) o) (g.A.Reporter.told c.args.application.now) c.request.result) found (TellsInOrder-nothing (g.A.Reporter.told c.args.application.now) c.request.result);
     }
 
-pub store_and_dispatch-requires-clause-small_block : goal.store_and_dispatch-requires-clause-small_block
-store_and_dispatch-requires-clause-small_block g c = found_small g.V.Variant.inner (g.B.Buffer.blocks c.args.buffer.now) c.args.self.held.blocks.held (g.S.Finalization.AsFinalization.plain c.args.finalization.now).payload _ c.requires.small_buffer c.requires.small_held (sym (rw (c.in-Some.is, c.payload.ensures) at c.in_ok-node.ensures.found))
+pub store_above-requires-clause-small_block : goal.store_above-requires-clause-small_block
+store_above-requires-clause-small_block g c = found_small g.V.Variant.inner (g.B.Buffer.blocks c.args.buffer.now) c.args.self.held.blocks.held (g.S.Finalization.AsFinalization.plain c.args.finalization.now).payload _ c.requires.small_buffer c.requires.small_held (sym (rw (c.in-Some.is, c.payload.ensures) at c.in_ok-node.ensures.found))
 
 pub returns-then-is_above : goal.returns-then-is_above
 returns-then-is_above g c =
     let same = c.in_ok-node.ensures.same in
     let found = rw (c.in-Some.is, c.payload.ensures) at c.in_ok-node.ensures.found in
     let above = rw (same, c.height.ensures) at (sym c.is_above.ensures ∙ c.if-is_above.true) in
-    let promise = rw same at c.store_and_dispatch.ensures.promise in
+    let promise = rw same at c.store_above.ensures.promise in
     record {
       promise = λ nested certs_nested. promise _ nested certs_nested _ (sym found) above;
-      lives = λ nested certs_nested. LivesOn-then c.args.self c.in_ok-node.node _ (IsPart-read c.args.self c.in_ok-node.node same (c.in_ok-node.ensures.goes_on c.args.self.held nothing_written (Grew-refl _ _ nested certs_nested) (WithinWritten-refl _)).passed) (c.store_and_dispatch.ensures.lives (rw same nested) (rw same certs_nested));
-      by_value = subst (λ o. EndsWhereDue (storing_due c.args.self.held o) c.store_and_dispatch.result) found (rw same at c.store_and_dispatch.ensures.by_value above);
-      tells = subst (λ o. TellsInOrder (g.A.Reporter.told c.args.application.now) (finalized_tips c.args.self (g.S.Finalization.AsFinalization.plain c.args.finalization.now) o) (g.A.Reporter.told c.store_and_dispatch.new.application) c.store_and_dispatch.result) found (subst (λ tips. TellsInOrder (g.A.Reporter.told c.args.application.now) tips (g.A.Reporter.told c.store_and_dispatch.new.application) c.store_and_dispatch.result) (sym (finalized_tips-above c.args.self _ _ above)) (rw same at c.store_and_dispatch.ensures.tells));
+      lives = λ nested certs_nested. LivesOn-then c.args.self c.in_ok-node.node _ (IsPart-read c.args.self c.in_ok-node.node same (c.in_ok-node.ensures.goes_on c.args.self.held nothing_written (Grew-refl _ _ nested certs_nested) (WithinWritten-refl _)).passed) (c.store_above.ensures.lives (rw same nested) (rw same certs_nested));
+      by_value = subst (λ o. EndsWhereDue (storing_due c.args.self.held o) c.store_above.result) found (rw same at c.store_above.ensures.by_value above);
+      tells = subst (λ o. TellsInOrder (g.A.Reporter.told c.args.application.now) (finalized_tips c.args.self (g.S.Finalization.AsFinalization.plain c.args.finalization.now) o) (g.A.Reporter.told c.store_above.new.application) c.store_above.result) found (subst (λ tips. TellsInOrder (g.A.Reporter.told c.args.application.now) tips (g.A.Reporter.told c.store_above.new.application) c.store_above.result) (sym (finalized_tips-above c.args.self _ _ above)) (rw same at c.store_above.ensures.tells));
     }
 
-pub returns : goal.returns
-returns g c =
+pub returns-else-is_above : goal.returns-else-is_above
+returns-else-is_above g c =
     let same = c.in_ok-node.ensures.same in
     let found = rw (c.in-Some.is, c.payload.ensures) at c.in_ok-node.ensures.found in
     let low = rw (same, c.height.ensures) at (sym c.is_above.ensures ∙ c.if-is_above.false) in

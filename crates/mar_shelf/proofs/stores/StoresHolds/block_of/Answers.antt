@@ -3,6 +3,7 @@ use Rattle.mar_node.specs.Faults.{block_store}
 use Rattle.mar_node.proofs.Growing.{Grew-counted}
 use Rattle.mar_node.proofs.Passing.{Passes-one, by_miss}
 use Rattle.mar_node.proofs.StoreLosses.{Loses-missed}
+use Rattle.mar_shelf.proofs.Awaiting.{ArePooled-blocks}
 use Rattle.mar_shelf.proofs.stores.StoresHolds.block_of.Goals as goal
 
 pub returns-in-Ok-clause-goes_on : goal.returns-in-Ok-clause-goes_on
@@ -10,3 +11,9 @@ returns-in-Ok-clause-goes_on g c = rw (← c.stores.view_is) (λ start all grew 
 
 pub returns-in-Err-clause-goes_on : goal.returns-in-Err-clause-goes_on
 returns-in-Err-clause-goes_on g c = rw (← c.stores.view_is) (λ start all grew within. Loses-missed start all _ grew block_store _ _ _ (rw c.find.ensures.same at c.missed.ensures) (by_miss Bool _ _ block_store c.in-Err.miss c.in-Err.ensures.watched))
+
+pub invariant_of-stores : goal.invariant_of-stores
+invariant_of-stores g c = ArePooled-blocks c.stores.invariant c.find.ensures.same c.find.ensures.tickets c.find.ensures.covers (g.met.FB.Blocks.last c.find.new.self)
+
+pub invariant_of-stores-in-Err : goal.invariant_of-stores-in-Err
+invariant_of-stores-in-Err g c = ArePooled-blocks c.stores.invariant c.find.ensures.same c.find.ensures.tickets c.find.ensures.covers (g.met.FB.Blocks.last c.find.new.self)

@@ -3,6 +3,7 @@ use Rattle.mar_node.specs.Faults.{cert_store}
 use Rattle.mar_node.proofs.Growing.{Grew-counted}
 use Rattle.mar_node.proofs.Passing.{Passes-one, by_miss}
 use Rattle.mar_node.proofs.StoreLosses.{Loses-missed}
+use Rattle.mar_shelf.proofs.Awaiting.{ArePooled-certs}
 use Rattle.mar_shelf.proofs.stores.StoresHolds.certificate_at.Goals as goal
 
 pub returns-in-Ok-clause-goes_on : goal.returns-in-Ok-clause-goes_on
@@ -10,3 +11,9 @@ returns-in-Ok-clause-goes_on g c = rw (← c.stores.view_is) (λ start all grew 
 
 pub returns-in-Err-clause-goes_on : goal.returns-in-Err-clause-goes_on
 returns-in-Err-clause-goes_on g c = rw (← c.stores.view_is) (λ start all grew within. Loses-missed start all _ grew cert_store _ _ _ (rw c.get.ensures.same at c.missed.ensures) (by_miss Bool _ _ cert_store c.in-Err.miss c.in-Err.ensures.watched))
+
+pub invariant_of-stores : goal.invariant_of-stores
+invariant_of-stores g c = ArePooled-certs c.stores.invariant c.get.ensures.same c.get.ensures.tickets c.get.ensures.covers (g.met.FC.Certificates.last c.get.new.self)
+
+pub invariant_of-stores-in-Err : goal.invariant_of-stores-in-Err
+invariant_of-stores-in-Err g c = ArePooled-certs c.stores.invariant c.get.ensures.same c.get.ensures.tickets c.get.ensures.covers (g.met.FC.Certificates.last c.get.new.self)

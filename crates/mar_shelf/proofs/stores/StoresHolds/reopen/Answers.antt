@@ -4,7 +4,7 @@ use Rattle.mar_node.proofs.Reopenings.{lost_blocks, lost_certs, lost_meta, lost_
 use Rattle.mar_shelf.proofs.stores.StoresHolds.reopen.Goals as goal
 
 pub returns-in-Ok-reopen-3-clause-ok : goal.returns-in-Ok-reopen-3-clause-ok
-returns-in-Ok-reopen-3-clause-ok g c = rw (← c.ruins.view_is) (reopens _ _ _ _ _ _ c.in-Ok.ensures.done (Passes-one _ _ c.in-Ok.ensures.watched.0 c.in-Ok.ensures.watched.1) _ _ c.in-Ok-reopen.ensures.done (Passes-one _ _ c.in-Ok-reopen.ensures.watched.0 c.in-Ok-reopen.ensures.watched.1) _ _ _ c.in-Ok-reopen-2.ensures.done c.new-progress.ensures (Passes-one _ _ c.in-Ok-reopen-2.ensures.watched.0 c.in-Ok-reopen-2.ensures.watched.1) _ _ (Passes-one _ _ c.in-Ok-reopen-3.ensures.watched.0 c.in-Ok-reopen-3.ensures.watched.1) (g.met.M.Wreck.MetaRuin.some c.ruins.inside.meta) c.in-Ok.ensures.lucky c.in-Ok-reopen.ensures.lucky c.in-Ok-reopen-2.ensures.lucky)
+returns-in-Ok-reopen-3-clause-ok g c = rw (← c.ruins.view_is, c.new.ensures) (reopens _ _ _ _ _ _ c.in-Ok.ensures.done (Passes-one _ _ c.in-Ok.ensures.watched.0 c.in-Ok.ensures.watched.1) _ _ c.in-Ok-reopen.ensures.done (Passes-one _ _ c.in-Ok-reopen.ensures.watched.0 c.in-Ok-reopen.ensures.watched.1) _ _ _ c.in-Ok-reopen-2.ensures.done c.new-progress.ensures (Passes-one _ _ c.in-Ok-reopen-2.ensures.watched.0 c.in-Ok-reopen-2.ensures.watched.1) _ _ (Passes-one _ _ c.in-Ok-reopen-3.ensures.watched.0 c.in-Ok-reopen-3.ensures.watched.1) (g.met.M.Wreck.MetaRuin.some c.ruins.inside.meta) c.in-Ok.ensures.lucky c.in-Ok-reopen.ensures.lucky c.in-Ok-reopen-2.ensures.lucky)
 
 pub returns-in-Err-clause-lost : goal.returns-in-Err-clause-lost
 returns-in-Err-clause-lost g c = rw (← c.ruins.view_is) (rw c.of_blocks.ensures (lost_blocks _ _ _ _ _ _ _ c.in-Err.ensures.done (by_lost g.FB.Blocks.watch g.FB.Wreck.BlocksRuin.watch _ block_store c.in-Err.lost c.in-Err.ensures.watched)))

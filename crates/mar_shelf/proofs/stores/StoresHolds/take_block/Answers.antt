@@ -1,0 +1,32 @@
+use Rattle.std.proofs.Common.{Bool, Some, refl}
+use Rattle.mar_node.proofs.FoundBlocks.{own_height}
+use Rattle.mar_node.specs.Faults.{block_store}
+use Rattle.mar_node.proofs.Growing.{Grew-counted}
+use Rattle.mar_node.proofs.Passing.{Passes-one, by_miss}
+use Rattle.mar_node.proofs.StoreLosses.{Loses-missed}
+use Rattle.mar_shelf.proofs.Awaiting.{ArePooled-blocks, ArePooled-taken, held_taken}
+use Rattle.mar_shelf.proofs.stores.StoresHolds.take_block.Goals as goal
+
+pub returns-in-Ok-clause-own : goal.returns-in-Ok-clause-own
+returns-in-Ok-clause-own g c = own_height _ _ _ _ c.in-Ok.ensures.found (rw c.get.ensures.same at (g.met.FB.Blocks.own c.get.new.self)).heights
+
+pub returns-in-Ok-clause-goes_on : goal.returns-in-Ok-clause-goes_on
+returns-in-Ok-clause-goes_on g c = rw (← c.stores.view_is) (λ start all grew within. rw c.get.ensures.same (Grew-counted start all _ grew block_store _ (Passes-one _ _ c.in-Ok.ensures.watched.0 c.in-Ok.ensures.watched.1)))
+
+pub returns-in-Err-clause-goes_on : goal.returns-in-Err-clause-goes_on
+returns-in-Err-clause-goes_on g c = rw (← c.stores.view_is) (λ start all grew within. Loses-missed start all _ grew block_store _ _ _ (rw c.get.ensures.same at c.missed.ensures) (by_miss Bool _ _ block_store c.in-Err.miss c.in-Err.ensures.watched))
+
+pub invariant_of-stores : goal.invariant_of-stores
+invariant_of-stores g c = ArePooled-taken c.stores.invariant c.args.height c.stores.inside.staged refl c.retain.ensures c.remove.ensures.rest
+
+pub invariant_of-stores-in-Ok : goal.invariant_of-stores-in-Ok
+invariant_of-stores-in-Ok g c = ArePooled-blocks (ArePooled-taken c.stores.invariant c.args.height c.stores.inside.staged refl c.retain.ensures c.remove.ensures.rest) c.get.ensures.same c.get.ensures.tickets c.get.ensures.covers (g.met.FB.Blocks.last c.get.new.self)
+
+pub invariant_of-stores-in-Err : goal.invariant_of-stores-in-Err
+invariant_of-stores-in-Err g c = ArePooled-blocks (ArePooled-taken c.stores.invariant c.args.height c.stores.inside.staged refl c.retain.ensures c.remove.ensures.rest) c.get.ensures.same c.get.ensures.tickets c.get.ensures.covers (g.met.FB.Blocks.last c.get.new.self)
+
+pub returns-in-Some-clause-found : goal.returns-in-Some-clause-found
+returns-in-Some-clause-found g c = rw (← c.stores.view_is) (held_taken c.stores.invariant c.args.height c.stores.inside.staged c.in-Some.block refl c.retain.ensures c.in-Some.ensures.found)
+
+pub returns-in-Some-clause-own : goal.returns-in-Some-clause-own
+returns-in-Some-clause-own g c = own_height g.V.Variant.plain (Some c.in-Some.block) _ _ (held_taken c.stores.invariant c.args.height c.stores.inside.staged c.in-Some.block refl c.retain.ensures c.in-Some.ensures.found) (g.met.FB.Blocks.own c.stores.inside.blocks).heights
