@@ -1,56 +1,83 @@
-//! Values of one byte.
-ghost use Rattle.std.specs.Prelude.{[], ◌∷◌, replicate, true};
-ghost use Rattle.mar_crashes.specs.Bytes.{same_byte};
+//! Values that are their own digests.
+ghost use Rattle.std.specs.Prelude.{true};
+ghost use Rattle.mar_codec.specs.DigestLemmas.{same_proof};
 
-use mar_codec::{Hasher, Sha256, Sha256Digest};
+use mar_codec::{Digest, Hasher, Sha256, Sha256Digest};
 use mar_journal::JournalItem;
 use mar_store::Item;
 use std::alloc::{AllocError, Global};
+use std::convert::AsSlice;
 
-/// A byte, which 32 times itself names.
 #[derive(Drop)]
 pub struct Mark {
-    pub byte: u8,
+    digest: Sha256Digest,
+}
+
+impl Mark {
+    /// That whose digest is so many times a byte.
+    pub fn of(byte: u8) -> Self {
+        Mark {
+            digest: Sha256::fill(byte),
+        }
+    }
+
+    /// That whose digest begins with a number.
+    pub fn numbered(number: u64) -> Self {
+        let mut bytes = [0; 32];
+        bytes[..8].copy_from_slice(&number.to_be_bytes());
+        Mark {
+            digest: Sha256Digest::from(bytes),
+        }
+    }
+
+    /// Whether its digest is so many times a byte.
+    pub fn is_of(&self, byte: u8) -> bool {
+        self.digest == Sha256::fill(byte)
+    }
 }
 
 impl Item for Mark {
     type Key = Sha256Digest;
 
-    ghost name = { λ v. replicate 32 v.byte };
+    ghost name = { λ v. v.digest.bytes };
 
-    ghost size = { λ v. 1 };
+    ghost size = { λ v. 32 };
 
     ghost fits = { λ index v. true };
 
     fn key(&self) -> Sha256Digest {
-        Sha256::fill(self.byte)
+        self.digest
     }
 
     fn try_clone(&self) -> Result<Self, AllocError> {
-        Ok(Mark { byte: self.byte })
+        Ok(Mark {
+            digest: self.digest,
+        })
     }
 }
 
 impl JournalItem for Mark {
-    ghost use Rattle.std.specs.Prelude.{refl};
-
-    ghost spelled = { λ v. v.byte ∷ [] };
+    ghost spelled = { λ v. v.digest.bytes };
 
     fn write(&self, out: &mut Vec<u8>) -> Result<(), AllocError> {
-        out.push(self.byte)?;
-        Ok(())
+        out.extend_from_slice(self.digest.as_slice())
     }
 
     fn read(_alloc: Global, _index: u64, bytes: &[u8]) -> Result<Option<Self>, AllocError> {
-        match bytes {
-            [byte] => Ok(Some(Mark { byte: *byte })),
-            _ => Ok(None),
+        if bytes.len() != 32 {
+            return Ok(None);
         }
+        let mut array = [0; 32];
+        array.copy_from_slice(bytes);
+        Ok(Some(Mark {
+            digest: Sha256Digest::from(array),
+        }))
     }
 
-    ghost sized = { λ v. refl };
+    ghost sized = { λ v. v.digest.is_digest.0 };
 
-    ghost one = { λ index v w fits other same i. record { byte = same_byte v.byte w.byte same i } };
+    ghost one = { λ index v w fits other same i.
+        record { digest = record { bytes = same i; is_digest = same_proof 32 _ _ same v.digest.is_digest w.digest.is_digest i } } };
 
-    ghost keyed = { λ v. refl };
+    ghost keyed = { λ v. v.digest.is_digest.0 };
 }

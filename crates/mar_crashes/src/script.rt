@@ -1,36 +1,75 @@
 //! What a script has an archive do, and what the archive then holds.
+use crate::records::Amount;
 use std::alloc::{AllocError, Global};
 
-/// A line of a script.
+/// A step of a script.
 #[derive(Clone, Copy)]
 pub enum Step {
     /// Puts the value of a byte at the index of that number.
     Put(u8),
     /// Removes what is below an index.
     Prune(u8),
+    /// Puts the value of a byte, starts a sync, puts that of another, and finishes the sync.
+    Ticket(u8, u8),
     /// Makes all durable.
     Sync,
 }
 
-/// What is held, and what was held when the last sync succeeded.
+/// A line of a script.
+#[derive(Clone, Copy)]
+pub enum Line {
+    /// One step more.
+    Step(Step),
+    /// Has each of so many first calls fail by eight lucks, and counts what is found. Forgets the steps.
+    Each(u64),
+    /// Has each of so many first calls fail by two lucks, and shows what is found. Forgets the steps.
+    Table(u64),
+    /// The same of a store of metadata, which has steps of its own.
+    Metadata(u64),
+    /// Puts so many records.
+    Records(Amount),
+}
+
+/// What is held, what was held when the last sync succeeded, and how many steps went well.
 #[derive(Drop)]
 pub struct Lists {
     pub held: Vec<u8>,
     pub durable: Vec<u8>,
+    pub steps: u64,
 }
 
 fn byte_of(text: &str) -> Option<u8> {
     text.parse::<u8>().ok()
 }
 
-/// The step that a line names.
-pub fn step_of(line: &str) -> Option<Step> {
+fn ticket_of(text: &str) -> Option<Step> {
+    let (first, later) = text.split_once(' ')?;
+    Some(Step::Ticket(byte_of(first)?, byte_of(later)?))
+}
+
+fn amount_of(text: &str) -> Option<Amount> {
+    let (records, rest) = text.split_once(' ')?;
+    let (each, openings) = rest.split_once(' ')?;
+    Some(Amount {
+        records: records.parse::<u64>().ok()?,
+        each: each.parse::<u64>().ok()?,
+        openings: openings.parse::<u64>().ok()?,
+    })
+}
+
+/// What a line says.
+pub fn line_of(line: &str) -> Option<Line> {
     if line == "sync" {
-        return Some(Step::Sync);
+        return Some(Line::Step(Step::Sync));
     }
     match line.split_once(' ')? {
-        ("put", number) => Some(Step::Put(byte_of(number)?)),
-        ("prune", number) => Some(Step::Prune(byte_of(number)?)),
+        ("put", number) => Some(Line::Step(Step::Put(byte_of(number)?))),
+        ("prune", number) => Some(Line::Step(Step::Prune(byte_of(number)?))),
+        ("ticket", numbers) => Some(Line::Step(ticket_of(numbers)?)),
+        ("each", calls) => Some(Line::Each(calls.parse::<u64>().ok()?)),
+        ("table", calls) => Some(Line::Table(calls.parse::<u64>().ok()?)),
+        ("metadata", calls) => Some(Line::Metadata(calls.parse::<u64>().ok()?)),
+        ("records", numbers) => Some(Line::Records(amount_of(numbers)?)),
         _ => None,
     }
 }
@@ -41,20 +80,31 @@ impl Lists {
         Lists {
             held: Vec::new(alloc),
             durable: Vec::new(alloc),
+            steps: 0,
         }
     }
 
-    /// After a step that went well. A put of what is held does nothing.
+    // A put of what is held does nothing.
+    fn put(&mut self, byte: u8) -> Result<(), AllocError> {
+        if !self.held.contains(&byte) {
+            self.held.push(byte)?;
+        }
+        Ok(())
+    }
+
+    /// After a step that went well.
     pub fn note(&mut self, step: Step) -> Result<(), AllocError> {
         match step {
-            Step::Put(byte) => {
-                if !self.held.contains(&byte) {
-                    self.held.push(byte)?;
-                }
-            }
+            Step::Put(byte) => self.put(byte)?,
             Step::Prune(min) => self.held.retain(|byte| *byte >= min),
+            Step::Ticket(first, later) => {
+                self.put(first)?;
+                self.durable = self.held.clone()?;
+                self.put(later)?;
+            }
             Step::Sync => self.durable = self.held.clone()?,
         }
+        self.steps = self.steps.saturating_add(1);
         Ok(())
     }
 }

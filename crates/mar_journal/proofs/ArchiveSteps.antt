@@ -1,5 +1,5 @@
 -- The calls of an archive that is a journal, by its entries.
-use Rattle.std.proofs.Common.{Bool, Contains, List, Ok, Some, [], ap, append_assoc, arith, cond, drop, filter, fold, min, nat_le, bytes_eq, not, inl, inr, length, length-append, map, false, refl, subst, suc, sym, take, true, zero, ℕ, ◌&&◌, ◌++◌, ◌+◌, ◌-◌, IfOk, Result, Ok, Err, ◌<◌, ◌==◌, ◌^◌, ◌∙◌, ◌∷◌, ◌≡◌, ◌≤◌}
+use Rattle.std.proofs.Common.{Bool, Contains, List, Ok, Some, [], ap, append_assoc, arith, cond, drop, filter, fold, max, min, nat_le, bytes_eq, not, inl, inr, length, length-append, map, false, refl, subst, suc, sym, take, true, zero, ℕ, ◌&&◌, ◌++◌, ◌+◌, ◌-◌, IfOk, Result, Ok, Err, ◌<◌, ◌==◌, ◌^◌, ◌∙◌, ◌∷◌, ◌≡◌, ◌≤◌}
 use Rattle.std.proofs.Math.Logic.{∥∥₁_elim, ∥∥₁_map, ∥∥₁_map₂}
 use Rattle.std.specs.Coded.{Coded, Coded-set, coded_bool, coded_option, le_prop}
 use Rattle.std.proofs.lemmas.Bool.{and_from, eq-eqb, eqb-true, false≢true, true≢false}
@@ -8,8 +8,9 @@ use Rattle.std.specs.List.{AllByRecursion, AllByRecursion-prop}
 use Rattle.std.proofs.lemmas.List.{map-append}
 use Rattle.std.proofs.lemmas.List.Sums.{fold-append}
 use Rattle.mar_store.specs.Changes.{Fails, Finishes, IsReopened, IsStillOr, KeepsValues, Left, Prunes, Puts, Within, heights, left_of}
-use Rattle.mar_store.specs.Entries.{covered_by, is_covered, kept_of, seen}
+use Rattle.mar_store.specs.Entries.{AreCounted, covered_by, is_covered, kept_of, seen}
 use Rattle.mar_store.specs.Kept.{At, EachHeightOnce, Reopens, reopened_store, value_at}
+use Rattle.mar_store.specs.Named.{is_taken}
 use Rattle.mar_store.specs.RangeLemmas.{ranges_push}
 use Rattle.mar_store.specs.Ranges.{Range, ranges, with_height}
 use Rattle.mar_store.specs.declared.Entry.{Entry}
@@ -19,7 +20,7 @@ use Rattle.mar_store.proofs.Stores.{covers_pruned, filter_within, prunes}
 use Rattle.mar_codec.specs.Varint.{varint}
 use Rattle.mar_codec.specs.VarintLemmas.{length-varint}
 use Rattle.mar_journal.specs.ArchiveRecords.{IsArchived, archive_bytes, kept_by, kept_from}
-use Rattle.mar_journal.specs.ArchiveStore.{IsArchiveFile, IsArchiveLeft, IsBacked, StaysFound, archive_kept, left_may, within_right}
+use Rattle.mar_journal.specs.ArchiveStore.{IsArchiveFile, IsArchiveLeft, IsBacked, IsMarkOf, IsMarked, Ordered, StaysFound, archive_kept, last_mark, left_may, within_right}
 use Rattle.mar_journal.specs.Disk.{Elapses, LeavesOnly, Narrows}
 use Rattle.mar_store.specs.Watch.{Strikes, after_call, is_due}
 use Rattle.mar_journal.specs.Watches.{journal_watch}
@@ -29,6 +30,7 @@ use Rattle.mar_journal.specs.Records.{IsWritable}
 use Rattle.mar_journal.specs.declared.archive_record.ArchiveRecord.{ArchiveRecord}
 use Rattle.mar_journal.specs.declared.archive_record.ArchiveRecord.TheVariants.{Prune, Put}
 use Rattle.mar_journal.proofs.Crash.{end_within}
+use Rattle.mar_journal.proofs.Marks.{Ordered-prop, covered_before, mark_above, mark_last, mark_upto, newest_ordered, ordered_later, ordered_none, put_ordered}
 use Rattle.mar_journal.proofs.Moments.{and_then, goes_on, stayed, weaker}
 use Rattle.mar_journal.proofs.Replays.{CoversLess, backed_front, backed_left, backed_more, narrowed_left, old_or_new, opening_finds, opening_left, pending_long, pending_none, pending_same, pending_sure, reopens_held, reopens_weaker, undamaged, writing_left, writing_moments}
 
@@ -79,6 +81,9 @@ module _ {T D : Type 0} (name spelled : T → List ℕ) (fits : ℕ → T → Bo
   pub marked_all : ∥ Backed ∥₁ → length waiting ≤ length marks
   marked_all backed = ∥∥₁_elim backed le_prop (λ b. omega (arith, pending_long name sure may items accepted (kept_from name [] b.records) waiting marks b.pending))
 
+  pub ordered_of : ∥ Backed ∥₁ → Ordered accepted marks
+  ordered_of backed = ∥∥₁_elim backed (Ordered-prop accepted marks) (λ b. b.ordered)
+
   -- of the first waiting records
   module _ (k : ℕ) where
     abbrev Written : D → ℕ → Type 0
@@ -109,7 +114,27 @@ module _ {T D : Type 0} (name spelled : T → List ℕ) (fits : ℕ → T → Bo
     part_written moment left_since counts_now once backed later any =
         ∥∥₁_map backed (λ b. writing_left name spelled fits seen_bytes may_leave moment left_since counts_now disk later end sure may items accepted waiting marks k b (found_now once) (any b.records b.settled))
 
+-- a put that is taken in has its mark
+pub put_marked : {T : Type 0} (name : T → List ℕ) (items new : List (Entry T)) (index : ℕ) (item : T) (accepted later mark : ℕ) (waiting after : List (ArchiveRecord T)) (marks ends : List ℕ) → EachHeightOnce (map seen items) → is_taken name (map seen items) (record { height = index; value = item }) ≡ false
+    → map seen new ≡ map seen items ++ record { height = index; value = item } ∷ [] → KeepsCovers accepted (covered_by items) (covered_by new) → AreCounted later new → IsMarkOf new mark → after ≡ waiting ++ Put index item ∷ [] → ends ≡ marks ++ mark ∷ []
+    → IsMarked accepted later (Put index item) waiting marks after ends
+put_marked name items new index item accepted later mark waiting after marks ends once free are covers counted mark_is waits marks_are = record {
+  mark = mark;
+  waits = waits;
+  marked = marks_are;
+  above = mark_above name items new _ accepted later mark once free are covers counted mark_is;
+  upto = mark_upto name items new _ accepted later mark once free are covers counted mark_is;
+}
+
 -- a list with one value more or without it, by its length
+pub free_by_length : {T : Type 0} (b : Bool) (old new : List T) (x : T) → new ≡ cond b old (old ++ x ∷ []) → (length new ≡ length old → ⊥) → b ≡ false
+free_by_length true old new x is long = absurd (long (ap length is))
+free_by_length false old new x is long = refl
+
+pub taken_by_length : {T : Type 0} (b : Bool) (old new : List T) (x : T) → new ≡ cond b old (old ++ x ∷ []) → length new ≡ length old → b ≡ true
+taken_by_length true old new x is long = refl
+taken_by_length false old new x is long = absurd (omega (arith, long, ap length is, length-append old (x ∷ [])))
+
 pub same_by_length : {T : Type 0} (b : Bool) (old new : List T) (x : T) → new ≡ cond b old (old ++ x ∷ []) → length new ≡ length old → new ≡ old
 same_by_length true old new x is long = is
 same_by_length false old new x is long = absurd (omega (arith, long, ap length is, length-append old (x ∷ [])))
@@ -227,21 +252,22 @@ module _ {T D : Type 0} (name spelled : T → List ℕ) (fits : ℕ → T → Bo
           (within_both (map seen gone) (map seen items) (map seen new) (λ x has. subst (λ l. Contains l x) (sym are) has)) up (covers_less accepted items new covers) are b.pending;
       good = b.good;
       fit = subst (λ l. AllByRecursion (λ y. fits y.height y.value ≡ true) (map seen gone ++ l)) (sym are) b.fit;
+      ordered = ordered_later accepted later marks up b.ordered;
     })
 
-    pub put_backed : (index : ℕ) (item : T) (after : List (ArchiveRecord T)) (ends : List ℕ) (number mark : ℕ) → EachHeightOnce (map seen items) → take m (map seen new) ≡ take n (map seen items) → map seen new ≡ map seen items ++ record { height = index; value = item } ∷ []
+    pub put_backed : (index : ℕ) (item : T) (after : List (ArchiveRecord T)) (ends : List ℕ) (mark : ℕ) → EachHeightOnce (map seen items) → take m (map seen new) ≡ take n (map seen items) → map seen new ≡ map seen items ++ record { height = index; value = item } ∷ []
         → map seen new ≡ kept_by name (map seen items) (Put index item) → IsWritable (archive_bytes name spelled) (IsArchived fits spelled) (Put index item) → after ≡ waiting ++ Put index item ∷ [] → ends ≡ marks ++ mark ∷ []
-        → accepted ≤ later → KeepsCovers accepted (covered_by items) (covered_by new) → number ≤ accepted → mark ≤ number + 1 → mark ≤ last_number → ∥ Was ∥₁
+        → accepted ≤ later → KeepsCovers accepted (covered_by items) (covered_by new) → is_taken name (map seen items) (record { height = index; value = item }) ≡ false → AreCounted later new → IsMarkOf new mark → ∥ Was ∥₁
         → ∥ IsBacked name spelled fits seen_bytes may_leave disk end (take m (map seen new)) (left_may gone new) new later after ends ∥₁
-    put_backed index item after ends number mark once sure_is are is_later good is marks_are up covers within mark_is mark_last backed = ∥∥₁_map backed (λ b. backed_more name spelled fits seen_bytes may_leave disk end (take n (map seen items)) (left_may gone items) (take m (map seen new)) (left_may gone new) items new accepted later waiting after marks ends
+    put_backed index item after ends mark once sure_is are is_later good is marks_are up covers free counted mark_is backed = ∥∥₁_map backed (λ b. backed_more name spelled fits seen_bytes may_leave disk end (take n (map seen items)) (left_may gone items) (take m (map seen new)) (left_may gone new) items new accepted later waiting after marks ends
         (Put index item) mark b (same_values _ _ sure_is) (wider gone items new _ are) up (covers_less accepted items new covers)
         (record {
           found = reopens_weaker (take n (map seen items)) (left_may gone items) (take m (map seen new)) (left_may gone new) (map seen items) (same_values _ _ sure_is) (wider gone items new _ are) (reopens_held n (map seen items) (left_may gone items) once (within_right (map seen gone) (map seen items)));
-          covered = λ t below h v has. covered_held items t once h v (covers_less accepted items new covers t (omega (arith, below, mark_is, within)) (omega (arith, below, mark_last)) h v has);
-          upto = omega (arith, mark_is, within, up);
-          last = mark_last;
+          covered = covered_before name items new _ accepted later mark once free are covers counted mark_is;
+          upto = omega (arith, mark_upto name items new _ accepted later mark once free are covers counted mark_is);
+          last = mark_last name items new _ accepted later mark once free are covers counted mark_is;
         })
-        is_later good (fit_more fits gone items new _ are good.valid.1 b.fit) is marks_are)
+        is_later good (fit_more fits gone items new _ are good.valid.1 b.fit) is marks_are (put_ordered name items new _ accepted later mark once free are covers counted mark_is marks up b.ordered))
 
     -- where nothing waits, other values are sure
     pub sure_backed : (other : List (Entry T)) → waiting ≡ [] → map seen new ≡ map seen items → AllByRecursion (λ y. fits y.height y.value ≡ true) (left_may other new) → ∥ Was ∥₁
@@ -252,6 +278,7 @@ module _ {T D : Type 0} (name spelled : T → List ℕ) (fits : ℕ → T → Bo
       pending = pending_none name (take n (map seen items)) (left_may gone items) (take m (map seen new)) (left_may other new) items new accepted later (kept_from name [] b.records) waiting marks none are b.pending;
       good = b.good;
       fit = fit;
+      ordered = ordered_none later marks (pending_long name (take n (map seen items)) (left_may gone items) items accepted (kept_from name [] b.records) waiting marks b.pending ∙ ap length none);
     })
 
     pub fit_of_backed : ∥ Was ∥₁ → AllByRecursion (λ y. fits y.height y.value ≡ true) (left_may gone items)
@@ -269,6 +296,7 @@ module _ {T D : Type 0} (name spelled : T → List ℕ) (fits : ℕ → T → Bo
           pending = pending_sure name (take n (map seen items)) (left_may gone items) (take m (map seen new)) items accepted t (kept_from name [] b.records) waiting marks finishes.only above b.pending;
           good = b.good;
           fit = b.fit;
+          ordered = b.ordered;
         })))
 
 pub finishes_with_gone : {T : Type 0} (gone items new : List (Entry T)) (n m : ℕ) (more : List (At T)) → Finishes more (kept_of items n) (kept_of new m) → Finishes more (archive_kept gone items n) (archive_kept gone new m)
@@ -344,23 +372,24 @@ module _ {T : Type 0} (min : ℕ) (gone aside items new : List (Entry T)) (n m :
   pub prune_ranges : (more : List (At T)) (set : List Range) → map seen aside ≡ map seen gone ++ more → set ≡ ranges (heights ((map seen gone ++ more) ++ map seen (filter (λ e. nat_le min e.index) items))) → set ≡ ranges (heights (left_may aside new))
   prune_ranges more set is set_is = set_is ∙ ap (λ l. ranges (heights l)) (ap (λ l. l ++ map seen (filter (λ e. nat_le min e.index) items)) (sym is) ∙ ap (λ l. map seen aside ++ map seen l) (sym new_is))
 
-  pub prune_backed : {D : Type 0} (name spelled : T → List ℕ) (fits : ℕ → T → Bool) (seen_bytes : D → List ℕ) (may_leave : D → List ℕ → Type 0) (disk : D) (end accepted later : ℕ) (waiting after : List (ArchiveRecord T)) (marks ends : List ℕ) (mark : ℕ) → min < 2 ^ 64
-      → after ≡ waiting ++ Prune min ∷ [] → ends ≡ marks ++ mark ∷ [] → later ≡ accepted → mark ≤ accepted → mark ≤ last_number
+  pub prune_backed : {D : Type 0} (name spelled : T → List ℕ) (fits : ℕ → T → Bool) (seen_bytes : D → List ℕ) (may_leave : D → List ℕ → Type 0) (disk : D) (end accepted later : ℕ) (waiting after : List (ArchiveRecord T)) (marks ends : List ℕ) (number mark : ℕ) → min < 2 ^ 64
+      → after ≡ waiting ++ Prune min ∷ [] → ends ≡ marks ++ mark ∷ [] → later ≡ accepted → number ≤ accepted → mark ≡ max number (last_mark marks) → mark ≤ last_number
       → ∥ IsBacked name spelled fits seen_bytes may_leave disk end (take n (map seen items)) (left_may gone items) items accepted waiting marks ∥₁
       → ∥ IsBacked name spelled fits seen_bytes may_leave disk end (take m (map seen new)) (left_may aside new) new later after ends ∥₁
-  prune_backed name spelled fits seen_bytes may_leave disk end accepted later waiting after marks ends mark min_fits is marks_are same upto mark_last backed = ∥∥₁_map backed (λ b. backed_more name spelled fits seen_bytes may_leave disk end (take n (map seen items)) (left_may gone items) (take m (map seen new)) (left_may aside new) items new accepted later waiting after marks ends (Prune min) mark b inner.sure.only wider_prune
+  prune_backed name spelled fits seen_bytes may_leave disk end accepted later waiting after marks ends number mark min_fits is marks_are same within mark_is mark_last backed = ∥∥₁_map backed (λ b. let next = newest_ordered accepted number mark marks within mark_is mark_last b.ordered in backed_more name spelled fits seen_bytes may_leave disk end (take n (map seen items)) (left_may gone items) (take m (map seen new)) (left_may aside new) items new accepted later waiting after marks ends (Prune min) mark b inner.sure.only wider_prune
       (omega (arith, same)) covers
       (record {
         found = reopens_weaker (take n (map seen items)) (left_may gone items) (take m (map seen new)) (left_may aside new) (map seen items) inner.sure.only wider_prune (reopens_held n (map seen items) (left_may gone items) once (within_right (map seen gone) (map seen items)));
-        covered = λ t below h v has. covered_held items t once h v (covers t (omega (arith, below, upto)) (omega (arith, below, mark_last)) h v has);
-        upto = omega (arith, upto, same);
+        covered = λ t below h v has. covered_held items t once h v (covers t (omega (arith, below, next.0)) (omega (arith, below, mark_last)) h v has);
+        upto = omega (arith, next.0, same);
         last = mark_last;
       })
       (ap (map seen) new_is ∙ filter_seen min items)
       (record { valid = min_fits; small = omega (arith, length-varint min) })
       (AllByRecursion-within (λ y. fits y.height y.value ≡ true) (left_may aside new) (left_may gone items) narrower_prune b.fit)
       is
-      marks_are)
+      marks_are
+      (ordered_later accepted later _ (omega (arith, same)) next.1))
     where
       covers : CoversLess accepted items new
       covers t within below = (covers_pruned min accepted items new once new_is t within).only
@@ -502,13 +531,13 @@ module _ {T D : Type 0} (name spelled : T → List ℕ) (fits : ℕ → T → Bo
 
     pub reopened_backed : (end accepted : ℕ) → IsSettled (archive_bytes name spelled) (IsArchived fits spelled) seen_bytes may_leave records end later → AllByRecursion (λ y. fits y.height y.value ≡ true) (map seen new)
         → ∥ IsBacked name spelled fits seen_bytes may_leave later end (take m (map seen new)) (map seen new) new accepted [] [] ∥₁
-    reopened_backed end accepted settled fit = ∣ record { records = records; settled = settled; pending = sym held; good = tt; fit = fit } ∣₁
+    reopened_backed end accepted settled fit = ∣ record { records = records; settled = settled; pending = sym held; good = tt; fit = fit; ordered = tt } ∣₁
 
 -- a store just opened
 pub opened_backed : {T D : Type 0} (name spelled : T → List ℕ) (fits : ℕ → T → Bool) (seen_bytes : D → List ℕ) (may_leave : D → List ℕ → Type 0) (later : D) (records : List (ArchiveRecord T)) (new : List (Entry T)) (m end accepted : ℕ) → map seen new ≡ kept_from name [] records
     → IsSettled (archive_bytes name spelled) (IsArchived fits spelled) seen_bytes may_leave records end later → AllByRecursion (λ y. fits y.height y.value ≡ true) (map seen new)
     → ∥ IsBacked name spelled fits seen_bytes may_leave later end (take m (map seen new)) (map seen new) new accepted [] [] ∥₁
-opened_backed name spelled fits seen_bytes may_leave later records new m end accepted held settled fit = ∣ record { records = records; settled = settled; pending = sym held; good = tt; fit = fit } ∣₁
+opened_backed name spelled fits seen_bytes may_leave later records new m end accepted held settled fit = ∣ record { records = records; settled = settled; pending = sym held; good = tt; fit = fit; ordered = tt } ∣₁
 
 pub opened_kept : {T : Type 0} (new : List (Entry T)) (m : ℕ) (kept : List (At T)) → map seen new ≡ kept → take m (map seen new) ≡ map seen new → archive_kept [] new m ≡ reopened_store kept
 opened_kept new m kept held all_sure = ap (λ l. record { held = map seen new; sure = l; may = map seen new }) all_sure ∙ ap reopened_store held

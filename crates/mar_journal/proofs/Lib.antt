@@ -12,3 +12,4 @@ mod WritingAll
 mod Replays
 mod ArchiveSteps
 mod Fronts
+mod Marks

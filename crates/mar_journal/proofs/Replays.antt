@@ -11,13 +11,14 @@ use Rattle.mar_store.specs.Nested.{front_kept}
 use Rattle.mar_store.proofs.Lookups.{AllByRecursion-push, Contains-from_value}
 use Rattle.mar_journal.specs.ArchiveLemmas.{archive_one, archive_some}
 use Rattle.mar_journal.specs.ArchiveRecords.{IsArchived, archive_bytes, kept_by, kept_from}
-use Rattle.mar_journal.specs.ArchiveStore.{IsArchiveFile, IsArchiveLeft, IsBacked, Pending, Waits}
+use Rattle.mar_journal.specs.ArchiveStore.{IsArchiveFile, IsArchiveLeft, IsBacked, Ordered, Pending, Waits}
 use Rattle.mar_journal.specs.Disk.{LeavesOnly, Narrows}
 use Rattle.mar_journal.specs.Format.{IsDamaged, IsJournal, Stands, StandsUpto}
 use Rattle.mar_journal.specs.Journal.{IsOldOrNew, IsSettled}
 use Rattle.mar_journal.specs.Records.{IsWritable}
 use Rattle.mar_journal.specs.declared.archive_record.ArchiveRecord.{ArchiveRecord}
 use Rattle.mar_journal.proofs.Frames.{stands_one, stands_whole}
+use Rattle.mar_journal.proofs.Marks.{ordered_drop}
 use Rattle.mar_journal.proofs.Moments.{weaker}
 use Rattle.mar_journal.proofs.WritingAll.{all_drop}
 
@@ -161,20 +162,22 @@ module _ {T D : Type 0} (name spelled : T → List ℕ) (fits : ℕ → T → Bo
     pending = subst (λ l. Pending name sure may items accepted l (drop k waiting) (drop k marks)) (sym (kept_more name [] b.records (take k waiting))) (pending_drop name sure may items accepted (kept_from name [] b.records) waiting marks k b.pending);
     good = all_drop (IsWritable bytes Valid) k waiting b.good;
     fit = b.fit;
+    ordered = ordered_drop accepted k marks b.ordered;
   }
 
   -- one record more waits
   pub backed_more : (disk : D) (end : ℕ) (sure may less more : List (At T)) (items new : List (Entry T)) (accepted later : ℕ) (waiting after : List (ArchiveRecord T)) (marks ends : List ℕ) (r : ArchiveRecord T) (mark : ℕ)
       → IsBacked name spelled fits seen_bytes may_leave disk end sure may items accepted waiting marks → KeepsValues less sure → Within may more → accepted ≤ later → CoversLess accepted items new → Waits less more new later mark (map seen items)
       → map seen new ≡ kept_by name (map seen items) r → IsWritable bytes Valid r → AllByRecursion (λ x. fits x.height x.value ≡ true) more → after ≡ waiting ++ r ∷ [] → ends ≡ marks ++ mark ∷ []
-      → IsBacked name spelled fits seen_bytes may_leave disk end less more new later after ends
-  backed_more disk end sure may less more items new accepted later waiting after marks ends r mark b fewer wider up covers here is good fit are marks_are = record {
+      → Ordered later (marks ++ mark ∷ []) → IsBacked name spelled fits seen_bytes may_leave disk end less more new later after ends
+  backed_more disk end sure may less more items new accepted later waiting after marks ends r mark b fewer wider up covers here is good fit are marks_are ordered = record {
     records = b.records;
     settled = b.settled;
     pending = subst (λ l. Pending name less more new later (kept_from name [] b.records) l ends) (sym are)
         (subst (Pending name less more new later (kept_from name [] b.records) (waiting ++ r ∷ [])) (sym marks_are) (pending_push name sure may less more items new accepted later (kept_from name [] b.records) waiting marks r mark fewer wider up covers here is b.pending));
     good = subst (AllByRecursion (IsWritable bytes Valid)) (sym are) (AllByRecursion-push (IsWritable bytes Valid) waiting r b.good good);
     fit = fit;
+    ordered = subst (Ordered later) (sym marks_are) ordered;
   }
 
   -- what a front of the waiting records leaves

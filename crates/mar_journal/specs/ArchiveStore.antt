@@ -1,8 +1,8 @@
 -- An archive that is a journal: how what waits leads from the values on the disk to those that are held.
-use Rattle.std.specs.Prelude.{Bool, List, [], drop, get_or, length, map, min, suc, take, true, ℕ, ◌++◌, ◌+◌, ◌-◌, ◌<◌, ◌^◌, ◌∷◌, ◌≡◌, ◌≤◌, ◌⊎◌}
+use Rattle.std.specs.Prelude.{Bool, List, [], drop, get_or, length, map, min, suc, take, true, ℕ, ⊤, ◌++◌, ◌+◌, ◌-◌, ◌<◌, ◌^◌, ◌∷◌, ◌≡◌, ◌≤◌, ◌⊎◌}
 use Rattle.std.proofs.Common.{arith}
 use Rattle.std.specs.List.{AllByRecursion}
-use Rattle.mar_store.specs.Entries.{covered_by, seen}
+use Rattle.mar_store.specs.Entries.{covered_by, next_number, seen}
 use Rattle.mar_store.specs.Tickets.{last_number}
 use Rattle.mar_store.specs.Changes.{IsNested, KeepsValues, Within}
 use Rattle.mar_store.specs.Kept.{At, EachHeightOnce, Kept, Reopens}
@@ -40,6 +40,28 @@ Pending name sure may items accepted kept [] (n ∷ ns) = ⊥
 Pending name sure may items accepted kept (r ∷ rs) [] = ⊥
 Pending name sure may items accepted kept (r ∷ rs) (n ∷ ns) = Waits sure may items accepted n kept × Pending name sure may items accepted (kept_by name kept r) rs ns
 
+-- Marks ascend, and none is above the number of puts that were accepted.
+abbrev pub Ordered : ℕ → List ℕ → Type 0
+Ordered accepted [] = ⊤
+Ordered accepted (n ∷ ns) = (n ≤ accepted) × (n ≤ last_number) × AllByRecursion (λ m. n ≤ m) ns × Ordered accepted ns
+
+-- the last of some marks, and 0 where there is none
+abbrev pub last_mark : List ℕ → ℕ
+last_mark marks = get_or marks (length marks - 1) 0
+
+-- the number of the first ticket that covers the last of some entries
+abbrev pub IsMarkOf : {T : Type 0} → List (Entry T) → ℕ → Type 0
+IsMarkOf items mark = (front : List (Entry _)) (e : Entry _) → items ≡ front ++ e ∷ [] → mark ≡ next_number e.number
+
+-- One record more waits. Its mark is above the number of each ticket that was given out before, so none of these writes it;
+-- it isn't above the number of puts accepted since.
+pub record IsMarked {R : Type 0} (given accepted : ℕ) (r : R) (waiting : List R) (marks : List ℕ) (after : List R) (ends : List ℕ) : Type 0 where
+  pub mark : ℕ
+  pub waits : after ≡ waiting ++ r ∷ []
+  pub marked : ends ≡ marks ++ mark ∷ []
+  pub above : (given < mark) ⊎ (mark ≡ last_number)
+  pub upto : mark ≤ accepted
+
 -- The journal's records and those that wait lead to what is held.
 pub record IsBacked {T D : Type 0} (name spelled : T → List ℕ) (fits : ℕ → T → Bool) (seen_bytes : D → List ℕ) (may_leave : D → List ℕ → Type 0) (disk : D) (end : ℕ)
     (sure may : List (At T)) (items : List (Entry T)) (accepted : ℕ) (waiting : List (ArchiveRecord T)) (marks : List ℕ) : Type 0 where
@@ -48,6 +70,7 @@ pub record IsBacked {T D : Type 0} (name spelled : T → List ℕ) (fits : ℕ �
   pub pending : Pending name sure may items accepted (kept_from name [] records) waiting marks
   pub good : AllByRecursion (IsWritable (archive_bytes name spelled) (IsArchived fits spelled)) waiting
   pub fit : AllByRecursion (λ x. fits x.height x.value ≡ true) may
+  pub ordered : Ordered accepted marks
 
 -- How many of the waiting records a ticket has written: all up to the last whose mark isn't above its number.
 pub record IsFront (t : ℕ) (marks : List ℕ) (count : ℕ) : Type 0 where

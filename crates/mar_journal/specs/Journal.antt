@@ -1,8 +1,8 @@
 -- A journal on a disk.
-use Rattle.std.specs.Prelude.{List, ℕ, ◌++◌, ◌≡◌, ◌⊎◌, ⊤}
+use Rattle.std.specs.Prelude.{List, [], drop, length, take, ℕ, ⊤, ◌++◌, ◌+◌, ◌∷◌, ◌≡◌, ◌⊎◌}
 use Rattle.mar_codec.specs.Causes.{Rose}
 use Rattle.mar_journal.specs.Disk.{Only}
-use Rattle.mar_journal.specs.Format.{IsDamaged, IsJournal, IsNew}
+use Rattle.mar_journal.specs.Format.{IsDamaged, IsJournal, IsNew, behind_gate}
 use Rattle.mar_journal.specs.declared.journal.Unopened.{Unopened}
 use Rattle.mar_journal.specs.declared.journal.Unopened.TheVariants.{Damaged, Fault, Memory}
 
@@ -11,6 +11,10 @@ pub record IsSettled {R D : Type 0} (spelled : R → List ℕ) (Valid : R → Ty
     (records : List R) (end : ℕ) (disk : D) : Type 0 where
   pub journal : IsJournal spelled Valid records end (seen disk)
   pub only : Only (seen disk) (may_leave disk)
+
+-- behind the gate at this place a batch and a closed gate stand
+abbrev pub IsStaged : {R : Type 0} → (R → List ℕ) → List R → ℕ → List ℕ → Type 0
+IsStaged spelled batch end file = take (length (behind_gate spelled batch ++ 0 ∷ [])) (drop (end + 1) file) ≡ behind_gate spelled batch ++ 0 ∷ []
 
 -- The journal of the second disk has the records of the first one's, and behind them these.
 pub record Adds {R D : Type 0} (spelled : R → List ℕ) (Valid : R → Type 0) (seen : D → List ℕ) (may_leave : D → List ℕ → Type 0) (more : List R) (old new : D) : Type 0 where

@@ -1,5 +1,5 @@
 //! The calls of an archive, by a journal.
-ghost use Rattle.std.specs.Prelude.{◌≡◌, ◌<◌, ◌≤◌, [], ◌∷◌, List, ℕ, None, is_some, map, take, true, IfErr, IfOk, IfSome, MatchResult, OnErr, OnOk, drop};
+ghost use Rattle.std.specs.Prelude.{◌≡◌, ◌<◌, ◌≤◌, [], ◌++◌, ◌∷◌, List, ℕ, None, is_some, map, take, true, false, IfErr, IfOk, IfSome, MatchResult, OnErr, OnOk, drop};
 ghost use Rattle.std.specs.List.{AllByRecursion};
 ghost use Rattle.mar_store.specs.Changes.{Fails, Finishes, IsReopened, IsStillOr, Prunes, Puts, Syncs, left_of};
 ghost use Rattle.mar_store.specs.Entries.{covered_by, seen};
@@ -11,13 +11,13 @@ ghost use Rattle.mar_store.specs.Nested.{covers_last};
 ghost use Rattle.mar_store.specs.Tickets.{KeepsCovers, KeepsCoversFrom};
 ghost use Rattle.mar_store.specs.Watch.{Heeds, HeedsRead, armed};
 ghost use Rattle.mar_journal.specs.ArchiveRecords.{IsArchived, archive_bytes, kept_from};
-ghost use Rattle.mar_journal.specs.ArchiveStore.{IsFront, StaysFound, archive_kept, archive_nested, left_may};
+ghost use Rattle.mar_journal.specs.ArchiveStore.{IsFront, IsMarked, StaysFound, archive_kept, archive_nested, left_may};
 ghost use Rattle.mar_journal.specs.Format.{Stands};
 ghost use Rattle.mar_journal.specs.Journal.{Adds};
 ghost use Rattle.mar_journal.specs.declared.archive_record.ArchiveRecord.{ArchiveRecord};
 ghost use Rattle.mar_journal.specs.Watches.{HasFaultCause, journal_watch};
 
-use crate::archive_drafts::{front_of, prepare_prune, prepare_put};
+use crate::archive_drafts::{front_of, newest, prepare_prune, prepare_put};
 use crate::{Disk, JournalArchive, JournalArchiveWreck, JournalItem};
 use mar_store::{Archive, Identifier, Lost, Miss, RangeSet, SyncTicket};
 use std::alloc::AllocError;
@@ -98,6 +98,11 @@ impl<T: JournalItem, D: Disk> Archive<T> for JournalArchive<T, D> {
         ensures tickets { IfOk result (λ s. self.entries.pile.accepted ≤ s.entries.pile.accepted) }
         ensures covers { IfOk result (λ s. KeepsCovers self.entries.pile.accepted (covered_by self.entries.pile.items.items)
             (covered_by s.entries.pile.items.items)) }
+        ensures ignored { IfOk result (λ s. is_taken T.name (map seen self.entries.pile.items.items) (record { height = index; value = item }) ≡ true
+            → (s.waiting.items ≡ self.waiting.items) × (s.marks.items ≡ self.marks.items)) }
+        ensures marked { IfOk result (λ s. is_taken T.name (map seen self.entries.pile.items.items) (record { height = index; value = item }) ≡ false
+            → IsMarked self.entries.pile.accepted s.entries.pile.accepted (ArchiveRecord.Put index item) self.waiting.items self.marks.items
+            s.waiting.items s.marks.items) }
         ensures watched { Heeds (λ s. journal_watch s.alarm.faults s.alarm.due.items) (λ w. journal_watch w.alarm.faults w.alarm.due.items)
             (journal_watch self.alarm.faults self.alarm.due.items) result }
         ensures disk { MatchResult result (λ s. s.disk ≡ self.disk) (λ l. (wreck_of l).disk ≡ self.disk) }
@@ -170,6 +175,8 @@ impl<T: JournalItem, D: Disk> Archive<T> for JournalArchive<T, D> {
             ≡ left_of (archive_kept self.gone.items self.entries.pile.items.items self.entries.pile.synced))) }
         ensures made { IfOk result (λ s. s.1.number ≤ s.0.entries.pile.accepted) }
         ensures covered { IfOk result (λ s. covered_by s.0.entries.pile.items.items s.1.number ≡ map seen self.entries.pile.items.items) }
+        ensures waiting { IfOk result (λ s. (s.0.waiting ≡ self.waiting) × (s.0.marks ≡ self.marks)
+            × AllByRecursion (λ n. n ≤ s.1.number) s.0.marks.items) }
         ensures tickets { IfOk result (λ s. self.entries.pile.accepted ≤ s.0.entries.pile.accepted) }
         ensures covers { IfOk result (λ s. KeepsCovers self.entries.pile.accepted (covered_by self.entries.pile.items.items)
             (covered_by s.0.entries.pile.items.items)) }
@@ -182,8 +189,8 @@ impl<T: JournalItem, D: Disk> Archive<T> for JournalArchive<T, D> {
         if archive.alarm.rings() {
             return Err(Lost::Fault(archive.left()));
         }
-        let ticket = archive.entries.pile.ticket();
-        Ok((archive, ticket))
+        let number = newest(&archive.marks, archive.entries.pile.ticket().number());
+        Ok((archive, SyncTicket::new(number)))
     }
 
     fn finish(self, ticket: SyncTicket) -> Result<Self, Lost<JournalArchiveWreck<T, D>>>
@@ -208,6 +215,7 @@ impl<T: JournalItem, D: Disk> Archive<T> for JournalArchive<T, D> {
             (λ l. StaysFound T.name T.spelled T.fits D.moment D.left_since self.disk (wreck_of l).disk
             (take self.entries.pile.synced (map seen self.entries.pile.items.items)) (left_may self.gone.items self.entries.pile.items.items)) }
         ensures written { IfOk result (λ s. (count : ℕ) × IsFront ticket.number self.marks.items count
+            × AllByRecursion (λ n. n ≤ ticket.number) (take count self.marks.items)
             × (s.waiting.items ≡ drop count self.waiting.items) × (s.marks.items ≡ drop count self.marks.items)
             × ∥ Adds (archive_bytes T.name T.spelled) (IsArchived T.fits T.spelled) D.seen D.may_leave (take count self.waiting.items) self.disk s.disk ∥₁) }
         ensures idle { AllByRecursion (λ n. ticket.number < n) self.marks.items
@@ -241,6 +249,8 @@ impl<T: JournalItem, D: Disk> Archive<T> for JournalArchive<T, D> {
         ensures tickets { IfOk result (λ s. self.entries.pile.accepted ≤ s.entries.pile.accepted) }
         ensures covers { IfOk result (λ s. KeepsCoversFrom min self.entries.pile.accepted (covered_by self.entries.pile.items.items)
             (covered_by s.entries.pile.items.items)) }
+        ensures marked { IfOk result (λ s. (mark : ℕ) × (s.waiting.items ≡ self.waiting.items ++ ArchiveRecord.Prune min ∷ [])
+            × (s.marks.items ≡ self.marks.items ++ mark ∷ []) × (mark ≤ self.entries.pile.accepted)) }
         ensures watched { Heeds (λ s. journal_watch s.alarm.faults s.alarm.due.items) (λ w. journal_watch w.alarm.faults w.alarm.due.items)
             (journal_watch self.alarm.faults self.alarm.due.items) result }
         ensures disk { MatchResult result (λ s. s.disk ≡ self.disk) (λ l. (wreck_of l).disk ≡ self.disk) }

@@ -1,11 +1,11 @@
 //! What the calls of an archive that is a journal prepare before they change it.
-ghost use Rattle.std.specs.Prelude.{◌≡◌, ◌<◌, [], ◌++◌, ◌∷◌, not, fold, filter, map, nat_le, IfOk, OnErr, OnOk, drop, length, ◌≤◌};
+ghost use Rattle.std.specs.Prelude.{◌≡◌, ◌<◌, [], ◌++◌, ◌∷◌, not, fold, filter, map, nat_le, IfOk, OnErr, OnOk, drop, length, max, ◌≤◌};
 ghost use Rattle.mar_store.specs.Changes.{heights};
 ghost use Rattle.mar_store.specs.Entries.{seen};
 ghost use Rattle.mar_store.specs.Ranges.{ranges, with_height};
 ghost use Rattle.mar_journal.specs.Journal.{Adds};
 ghost use Rattle.mar_journal.specs.declared.archive_record.ArchiveRecord.{ArchiveRecord};
-ghost use Rattle.mar_journal.specs.ArchiveStore.{IsFront};
+ghost use Rattle.mar_journal.specs.ArchiveStore.{IsFront, IsMarkOf, last_mark};
 
 use crate::{ArchiveRecord, JournalItem};
 use mar_store::{Entry, RangeSet};
@@ -80,6 +80,28 @@ pub fn prepare_prune<T: JournalItem>(
     add_from(&mut may, &more, 0)?;
     add_from(&mut may, items, min)?;
     Ok((more, may))
+}
+
+/// The mark of the put of the last of some entries: the number of the first ticket that covers it.
+pub fn mark_of<T: JournalItem>(items: &[Entry<T>]) -> u64
+    ensures { IsMarkOf items.now result }
+{
+    let count = items.len();
+    if count == 0 {
+        return 0;
+    }
+    items[count - 1].number.saturating_add(1)
+}
+
+/// Of the last mark and another number the greater.
+pub fn newest(marks: &[u64], number: u64) -> u64
+    ensures { result ≡ max number (last_mark marks.now) }
+{
+    let count = marks.len();
+    if count == 0 {
+        return number;
+    }
+    number.max(marks[count - 1])
 }
 
 /// Adds a record to those that wait, with its mark.

@@ -1,10 +1,10 @@
 //! Journals on a disk: one is opened, and batches are added.
-ghost use Rattle.std.specs.Prelude.{◌≡◌, ◌<◌, ◌⊎◌, ◌++◌, ◌∷◌, [], List, length, IfErr, IfOk, OnOk};
+ghost use Rattle.std.specs.Prelude.{◌≡◌, ◌<◌, ◌≤◌, ◌+◌, ◌⊎◌, ◌++◌, ◌∷◌, [], List, length, IfErr, IfOk, OnOk};
 ghost use Rattle.std.specs.List.{AllByRecursion};
 ghost use Rattle.mar_journal.specs.Disk.{Answers, LeavesOnly, Narrows, Only};
-ghost use Rattle.mar_journal.specs.Format.{IsBatch, IsNew, Stands, StandsUpto, magic};
+ghost use Rattle.mar_journal.specs.Format.{IsBatch, IsNew, Stands, StandsUpto, behind_gate, magic};
 ghost use Rattle.mar_journal.specs.Records.{IsWritable};
-ghost use Rattle.mar_journal.specs.Journal.{HasReason, IsOldOrNew, IsSettled};
+ghost use Rattle.mar_journal.specs.Journal.{HasReason, IsOldOrNew, IsSettled, IsStaged};
 
 use crate::file::{MAX_BATCH, Scan, read_file, staged};
 use crate::{Disk, Record};
@@ -37,6 +37,56 @@ pub struct Opened<R> {
     pub end: usize,
 }
 
+// Writes a batch behind the closed gate at `end`, with a closed gate behind it, and makes it durable. It says how many bytes
+// that takes. The gate stays closed.
+fn stage<R: Record, D: Disk>(
+    alloc: Global,
+    disk: &mut D,
+    end: usize,
+    records: &[R],
+) -> Result<usize, Miss>
+    requires room { end < length (D.seen disk.old) }
+    requires batch { IsBatch R.spelled R.valid records.now }
+    ensures staged { OnOk result (IsStaged R.spelled records.now end (D.seen disk.new)) }
+    ensures durable { OnOk result (Only (D.seen disk.new) (D.may_leave disk.new)) }
+    ensures size { IfOk result (λ n. n ≡ length (behind_gate R.spelled records.now ++ 0 ∷ [])) }
+    ensures room { IfOk result (λ n. end + n < length (D.seen disk.new)) }
+    ensures same { OnOk result ((before : List R) → IsSettled R.spelled R.valid D.seen D.may_leave before end disk.old
+        → IsSettled R.spelled R.valid D.seen D.may_leave before end disk.new) }
+    ensures any_moment { (before : List R) → IsSettled R.spelled R.valid D.seen D.may_leave before end disk.old
+        → LeavesOnly D.moment D.left_since disk.old disk.new (Stands R.spelled R.valid before) }
+    ensures cause { Answers (D.faults disk.old) (D.faults disk.new) result }
+{
+    let bytes = match staged(alloc, records) {
+        Ok(bytes) => bytes,
+        Err(_) => return Err(Miss::Memory),
+    };
+    disk.write_at(end + 1, &bytes)?;
+    disk.sync()?;
+    Ok(bytes.len())
+}
+
+// Opens the closed gate at `end`, behind which these records stand already, and makes that durable.
+fn open_gate<R: Record, D: Disk>(disk: &mut D, end: usize, records: &[R]) -> Result<(), Miss>
+    requires room { end < length (D.seen disk.old) }
+    requires batch { IsBatch R.spelled R.valid records.now }
+    requires staged { IsStaged R.spelled records.now end (D.seen disk.old) }
+    requires durable { Only (D.seen disk.old) (D.may_leave disk.old) }
+    ensures done { (before : List R) → IsSettled R.spelled R.valid D.seen D.may_leave before end disk.old
+        → OnOk result (IsSettled R.spelled R.valid D.seen D.may_leave (before ++ records.now)
+        (end + length (behind_gate R.spelled records.now ++ 0 ∷ [])) disk.new) }
+    ensures any_moment { (before : List R) → IsSettled R.spelled R.valid D.seen D.may_leave before end disk.old
+        → LeavesOnly D.moment D.left_since disk.old disk.new
+        (λ c. Stands R.spelled R.valid before c ⊎ Stands R.spelled R.valid (before ++ records.now) c) }
+    ensures room { OnOk result (length (D.seen disk.old) ≤ length (D.seen disk.new)) }
+    ensures cause { Answers (D.faults disk.old) (D.faults disk.new) result }
+{
+    let _ = records;
+    disk.write_at(end, &[1])?;
+    disk.sync()?;
+    Ok(())
+}
+
 /// Adds a batch behind the closed gate at `end`, and says where the closed gate is then.
 pub fn append<R: Record, D: Disk>(
     alloc: Global,
@@ -54,15 +104,9 @@ pub fn append<R: Record, D: Disk>(
     ensures room { IfOk result (λ e. e < length (D.seen disk.new)) }
     ensures cause { Answers (D.faults disk.old) (D.faults disk.new) result }
 {
-    let bytes = match staged(alloc, records) {
-        Ok(bytes) => bytes,
-        Err(_) => return Err(Miss::Memory),
-    };
-    disk.write_at(end + 1, &bytes)?;
-    disk.sync()?;
-    disk.write_at(end, &[1])?;
-    disk.sync()?;
-    Ok(end + bytes.len())
+    let size = stage(alloc, disk, end, records)?;
+    open_gate(disk, end, records)?;
+    Ok(end + size)
 }
 
 /// Adds records as batches behind the closed gate at `end`, and says where the closed gate is then. With no records it

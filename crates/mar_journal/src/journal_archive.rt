@@ -1,5 +1,5 @@
 //! An archive that is a journal.
-ghost use Rattle.std.specs.Prelude.{◌≡◌, ◌<◌, ◌≤◌, ◌^◌, [], ◌++◌, ◌∷◌, List, ℕ, None, not, filter, map, nat_le, take, true, IfErr, IfOk, MatchResult, drop, length};
+ghost use Rattle.std.specs.Prelude.{◌≡◌, ◌<◌, ◌≤◌, ◌^◌, [], ◌++◌, ◌∷◌, List, ℕ, None, not, filter, map, nat_le, take, true, false, IfErr, IfOk, MatchResult, drop, length};
 ghost use Rattle.std.specs.List.{AllByRecursion};
 ghost use Rattle.mar_store.specs.Changes.{Fails, Finishes, IsReopened, Prunes, Puts, Syncs, heights, left_of};
 ghost use Rattle.mar_store.specs.Entries.{covered_by, seen};
@@ -9,14 +9,14 @@ ghost use Rattle.mar_store.specs.Named.{is_taken};
 ghost use Rattle.mar_store.specs.Ranges.{ranges, with_height};
 ghost use Rattle.mar_store.specs.Tickets.{KeepsCovers};
 ghost use Rattle.mar_journal.specs.ArchiveRecords.{IsArchived, archive_bytes, kept_from};
-ghost use Rattle.mar_journal.specs.ArchiveStore.{CountsLost, IsArchiveLeft, IsBacked, StaysFound, archive_kept, archive_within, left_may};
+ghost use Rattle.mar_journal.specs.ArchiveStore.{CountsLost, IsArchiveLeft, IsBacked, IsMarked, StaysFound, archive_kept, archive_within, left_may};
 ghost use Rattle.mar_journal.specs.Disk.{LeavesOnly};
 ghost use Rattle.mar_journal.specs.Format.{Stands};
 ghost use Rattle.mar_journal.specs.Journal.{Adds, HasReason, IsOldOrNew};
 ghost use Rattle.mar_journal.specs.declared.archive_record.ArchiveRecord.{ArchiveRecord};
 ghost use Rattle.mar_journal.specs.Watches.{HasFaultCause, journal_watch};
 
-use crate::archive_drafts::{add_waiting, drop_front, set_aside};
+use crate::archive_drafts::{add_waiting, drop_front, mark_of, newest, set_aside};
 use crate::archive_opening::open_entries;
 use crate::{ArchiveRecord, Disk, JournalItem, Unopened, write_all};
 use mar_store::{Alarm, ArchiveRuin, Entries, Entry, Lost, Miss, Pile, RangeSet};
@@ -153,6 +153,11 @@ impl<T: JournalItem, D: Disk> JournalArchive<T, D> {
         ensures tickets { IfOk result (λ s. self.entries.pile.accepted ≤ s.entries.pile.accepted) }
         ensures covers { IfOk result (λ s. KeepsCovers self.entries.pile.accepted (covered_by self.entries.pile.items.items)
             (covered_by s.entries.pile.items.items)) }
+        ensures ignored { IfOk result (λ s. is_taken T.name (map seen self.entries.pile.items.items) (record { height = index; value = item }) ≡ true
+            → (s.waiting.items ≡ self.waiting.items) × (s.marks.items ≡ self.marks.items)) }
+        ensures marked { IfOk result (λ s. is_taken T.name (map seen self.entries.pile.items.items) (record { height = index; value = item }) ≡ false
+            → IsMarked self.entries.pile.accepted s.entries.pile.accepted (ArchiveRecord.Put index item) self.waiting.items self.marks.items
+            s.waiting.items s.marks.items) }
         ensures alarm { MatchResult result (λ s. s.alarm ≡ self.alarm) (λ w. w.alarm ≡ self.alarm) }
         ensures disk { MatchResult result (λ s. s.disk ≡ self.disk) (λ w. w.disk ≡ self.disk) }
     {
@@ -168,7 +173,6 @@ impl<T: JournalItem, D: Disk> JournalArchive<T, D> {
             alarm,
         } = self;
         let count = entries.pile.items.len();
-        let number = entries.pile.ticket().number();
         match entries.put(index, item) {
             Err(pile) if pile.items.len() == count => Err(JournalArchiveWreck {
                 alloc,
@@ -199,33 +203,31 @@ impl<T: JournalItem, D: Disk> JournalArchive<T, D> {
                 end,
                 alarm,
             }),
-            Ok(entries) => match add_waiting(
-                &mut waiting,
-                &mut marks,
-                change,
-                number.saturating_add(1),
-            ) {
-                Ok(()) => Ok(JournalArchive {
-                    alloc,
-                    entries,
-                    gone,
-                    may: grown,
-                    waiting,
-                    marks,
-                    disk,
-                    end,
-                    alarm,
-                }),
-                Err(_) => Err(JournalArchiveWreck {
-                    alloc,
-                    pile: entries.into_pile(),
-                    gone,
-                    may: grown,
-                    disk,
-                    damage: None,
-                    alarm,
-                }),
-            },
+            Ok(entries) => {
+                let mark = mark_of(&entries.pile.items);
+                match add_waiting(&mut waiting, &mut marks, change, mark) {
+                    Ok(()) => Ok(JournalArchive {
+                        alloc,
+                        entries,
+                        gone,
+                        may: grown,
+                        waiting,
+                        marks,
+                        disk,
+                        end,
+                        alarm,
+                    }),
+                    Err(_) => Err(JournalArchiveWreck {
+                        alloc,
+                        pile: entries.into_pile(),
+                        gone,
+                        may: grown,
+                        disk,
+                        damage: None,
+                        alarm,
+                    }),
+                }
+            }
         }
     }
 
@@ -351,6 +353,8 @@ impl<T: JournalItem, D: Disk> JournalArchive<T, D> {
             (left_of (archive_kept w.gone.items w.pile.items.items w.pile.synced))) }
         ensures cut { IfOk result (λ s. s.entries.pile.items.items ≡ filter (λ e. nat_le min e.index) self.entries.pile.items.items) }
         ensures tickets { IfOk result (λ s. s.entries.pile.accepted ≡ self.entries.pile.accepted) }
+        ensures marked { IfOk result (λ s. (mark : ℕ) × (s.waiting.items ≡ self.waiting.items ++ ArchiveRecord.Prune min ∷ [])
+            × (s.marks.items ≡ self.marks.items ++ mark ∷ []) × (mark ≤ self.entries.pile.accepted)) }
         ensures alarm { MatchResult result (λ s. s.alarm ≡ self.alarm) (λ w. w.alarm ≡ self.alarm) }
         ensures disk { MatchResult result (λ s. s.disk ≡ self.disk) (λ w. w.disk ≡ self.disk) }
     {
@@ -368,7 +372,8 @@ impl<T: JournalItem, D: Disk> JournalArchive<T, D> {
         let count = gone.len();
         // Tickets count puts alone, so a prune goes with the put before it.
         let number = entries.pile.ticket().number();
-        match set_aside(&mut waiting, &mut marks, &mut gone, more, min, number) {
+        let mark = newest(&marks, number);
+        match set_aside(&mut waiting, &mut marks, &mut gone, more, min, mark) {
             Err(_) => Err(JournalArchiveWreck {
                 alloc,
                 pile: entries.into_pile(),

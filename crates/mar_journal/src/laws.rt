@@ -1,9 +1,10 @@
 //! What files stand for, and how moments add up: laws that callers rest on, each the contract of a function.
-ghost use Rattle.std.specs.Prelude.{◌≡◌, ℕ, List};
+ghost use Rattle.std.specs.Prelude.{◌≡◌, ◌<◌, ◌≤◌, ◌++◌, ℕ, List, length, take};
+ghost use Rattle.std.specs.List.{AllByRecursion};
 ghost use Rattle.mar_store.specs.Changes.{KeepsValues, Within};
 ghost use Rattle.mar_store.specs.Kept.{At};
 ghost use Rattle.mar_store.specs.Values.{Values};
-ghost use Rattle.mar_journal.specs.ArchiveStore.{StaysFound};
+ghost use Rattle.mar_journal.specs.ArchiveStore.{IsFront, StaysFound};
 ghost use Rattle.mar_journal.specs.Disk.{LeavesOnly};
 ghost use Rattle.mar_journal.specs.Format.{IsDamaged, Stands};
 ghost use Rattle.mar_journal.specs.MetaStore.{IsMetaFile};
@@ -32,4 +33,12 @@ pub fn metadata_moments_add_up<D: Disk>()
     ensures { (old mid new : D) (left later all : List Values) → LeavesOnly D.moment D.left_since old mid (IsMetaFile left)
         → LeavesOnly D.moment D.left_since mid new (IsMetaFile later) → Within left all → Within later all
         → LeavesOnly D.moment D.left_since old new (IsMetaFile all) }
+{}
+
+/// A ticket that finishes writes the records that waited when it was given out, and no more. Of those before it the marks
+/// are up to its number (`start_sync`: `waiting`), of the puts behind it they are above (`put`: `marked`); and just those up
+/// to its number are written (`finish`: `written`).
+pub fn tickets_write_what_came_before()
+    ensures { (t count : ℕ) (before later : List ℕ) → AllByRecursion (λ n. n ≤ t) before → AllByRecursion (λ n. t < n) later
+        → IsFront t (before ++ later) count → AllByRecursion (λ n. n ≤ t) (take count (before ++ later)) → count ≡ length before }
 {}

@@ -27,7 +27,10 @@ pub use journal::{Opened, Unopened, append, open, write_all};
 pub use journal_archive::{JournalArchive, JournalArchiveWreck};
 pub use journal_item::JournalItem;
 pub use journal_meta::{JournalMeta, JournalMetaWreck};
-pub use laws::{archive_moments_add_up, files_have_one_meaning, metadata_moments_add_up};
+pub use laws::{
+    archive_moments_add_up, files_have_one_meaning, metadata_moments_add_up,
+    tickets_write_what_came_before,
+};
 pub use mem_disk::MemDisk;
 pub use meta_record::MetaRecord;
 pub use record::Record;

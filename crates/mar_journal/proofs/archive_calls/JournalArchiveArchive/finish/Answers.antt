@@ -1,6 +1,7 @@
 use Rattle.std.proofs.Common.{[], ap, arith, inl, length, sym, ◌∙◌}
-use Rattle.mar_journal.proofs.ArchiveSteps.{fails_left, idle_moments, marked, struck}
+use Rattle.mar_journal.proofs.ArchiveSteps.{fails_left, idle_moments, marked, ordered_of, struck}
 use Rattle.mar_journal.proofs.Fronts.{none_written}
+use Rattle.mar_journal.proofs.Marks.{front_exact}
 use Rattle.mar_journal.proofs.archive_calls.JournalArchiveArchive.finish.Goals as goal
 
 pub returns-then-rings-clause-done : goal.returns-then-rings-clause-done
@@ -34,6 +35,7 @@ pub returns-in-Ok-make_covered_sure-clause-written : goal.returns-in-Ok-make_cov
 returns-in-Ok-make_covered_sure-clause-written g c = rw c.in-Ok-make_covered_sure.ensures.disk (
   c.front_of-count.result,
   rw (c.deref.ensures.value, c.number-number.ensures) at c.front_of-count.ensures,
+  front_exact c.args.self.entries.pile.accepted _ c.args.self.marks.items c.front_of-count.result (ordered_of g.T.Item.name g.T.JournalItem.spelled g.T.Item.fits g.D.Disk.seen g.D.Disk.may_leave c.args.self.disk c.args.self.end c.args.self.gone.items c.args.self.entries.pile.items.items c.args.self.entries.pile.synced c.args.self.entries.pile.accepted c.args.self.waiting.items c.args.self.marks.items c.args.self.backed) (rw (c.deref.ensures.value, c.number-number.ensures) at c.front_of-count.ensures),
   ap (λ v. v.items) c.in-Ok-make_covered_sure.ensures.waiting ∙ c.in-Ok.ensures.waiting,
   ap (λ v. v.items) c.in-Ok-make_covered_sure.ensures.marks ∙ c.in-Ok.ensures.marks,
   c.in-Ok.ensures.written,

@@ -1,5 +1,7 @@
-use Rattle.std.proofs.Common.{[], ap, inl, sym, ◌∙◌}
-use Rattle.mar_journal.proofs.ArchiveSteps.{fails_left, struck}
+use Rattle.std.proofs.Common.{[], ap, arith, inl, refl, sym, ◌∙◌, ◌≤◌}
+use Rattle.mar_journal.specs.ArchiveStore.{last_mark}
+use Rattle.mar_journal.proofs.ArchiveSteps.{fails_left, ordered_of, struck}
+use Rattle.mar_journal.proofs.Marks.{all_upto, covers_all, last_most, last_upto}
 use Rattle.mar_journal.proofs.archive_calls.JournalArchiveArchive.start_sync.Goals as goal
 
 pub returns-then-rings-clause-done : goal.returns-then-rings-clause-done
@@ -10,3 +12,18 @@ returns-then-rings-clause-watched g c = rw c.left.ensures.alarm (struck c.args.s
 
 pub returns-then-rings-clause-cause : goal.returns-then-rings-clause-cause
 returns-then-rings-clause-cause g c = inl (sym c.rings.ensures.rings ∙ c.if-rings.true)
+
+pub returns-clause-made : goal.returns-clause-made
+returns-clause-made g c =
+    let small : c.newest-number.result ≤ c.args.self.entries.pile.accepted = omega (arith, c.newest-number.ensures, c.number.ensures, c.ticket.ensures.made, ap last_mark c.deref.ensures.value, last_upto c.args.self.entries.pile.accepted c.args.self.marks.items (all_upto c.args.self.entries.pile.accepted c.args.self.entries.pile.accepted c.args.self.marks.items (omega arith) (ordered_of g.T.Item.name g.T.JournalItem.spelled g.T.Item.fits g.D.Disk.seen g.D.Disk.may_leave c.args.self.disk c.args.self.end c.args.self.gone.items c.args.self.entries.pile.items.items c.args.self.entries.pile.synced c.args.self.entries.pile.accepted c.args.self.waiting.items c.args.self.marks.items c.args.self.backed))) in
+    rw c.new.ensures small
+
+pub returns-clause-covered : goal.returns-clause-covered
+returns-clause-covered g c = rw c.new.ensures (covers_all c.args.self.entries.pile.items.items c.ticket.result.number c.newest-number.result (omega (arith, c.newest-number.ensures, c.number.ensures)) (omega arith) c.ticket.ensures.covered)
+
+pub returns-clause-waiting : goal.returns-clause-waiting
+returns-clause-waiting g c = (
+  refl,
+  refl,
+  rw c.new.ensures (last_most c.args.self.entries.pile.accepted c.newest-number.result c.args.self.marks.items (ordered_of g.T.Item.name g.T.JournalItem.spelled g.T.Item.fits g.D.Disk.seen g.D.Disk.may_leave c.args.self.disk c.args.self.end c.args.self.gone.items c.args.self.entries.pile.items.items c.args.self.entries.pile.synced c.args.self.entries.pile.accepted c.args.self.waiting.items c.args.self.marks.items c.args.self.backed) (omega (arith, c.newest-number.ensures, ap last_mark c.deref.ensures.value))),
+)

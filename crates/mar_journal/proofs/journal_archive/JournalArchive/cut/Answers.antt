@@ -2,7 +2,8 @@ use Rattle.std.proofs.Common.{ap, arith, map, refl, take, ◌++◌, ◌∙◌, �
 use Rattle.std.proofs.lemmas.List.{map-append, take_at}
 use Rattle.mar_store.specs.Entries.{seen}
 use Rattle.mar_store.proofs.Settled.{fails_still}
-use Rattle.mar_journal.proofs.ArchiveSteps.{nothing_lost, prune_backed, prune_ranges, prunes_with_gone}
+use Rattle.mar_journal.proofs.ArchiveSteps.{nothing_lost, ordered_of, prune_backed, prune_ranges, prunes_with_gone}
+use Rattle.mar_journal.proofs.Marks.{newest_ordered}
 use Rattle.mar_journal.proofs.journal_archive.JournalArchive.cut.Goals as goal
 
 pub invariant_of-result : goal.invariant_of-result
@@ -20,7 +21,7 @@ invariant_of-result-in-Ok-prune g c =
     let aside = more_is ∙ ap (λ l. map seen c.args.self.gone.items ++ l) c.requires.more in
     record {
       may_is = prune_ranges c.args.min c.args.self.gone.items c.set_aside.new.gone.items c.args.self.entries.pile.items.items c.in-Ok-prune.entries.pile.items.items c.args.self.entries.pile.synced c.in-Ok-prune.entries.pile.synced c.args.self.entries.pile.once c.in-Ok-prune.ensures.items c.in-Ok-prune.ensures.synced aside (map seen c.args.more.items) c.args.ranges_after more_is c.requires.may;
-      backed = prune_backed c.args.min c.args.self.gone.items c.set_aside.new.gone.items c.args.self.entries.pile.items.items c.in-Ok-prune.entries.pile.items.items c.args.self.entries.pile.synced c.in-Ok-prune.entries.pile.synced c.args.self.entries.pile.once c.in-Ok-prune.ensures.items c.in-Ok-prune.ensures.synced aside g.T.Item.name g.T.JournalItem.spelled g.T.Item.fits g.D.Disk.seen g.D.Disk.may_leave c.args.self.disk c.args.self.end c.args.self.entries.pile.accepted c.in-Ok-prune.entries.pile.accepted c.args.self.waiting.items c.set_aside.new.waiting.items c.args.self.marks.items c.set_aside.new.marks.items c.number-number.result c.requires.min c.in-Ok.ensures.waiting c.in-Ok.ensures.marks c.in-Ok-prune.ensures.tickets (omega (arith, c.number-number.ensures, c.ticket.ensures.made)) (omega arith) c.args.self.backed;
+      backed = prune_backed c.args.min c.args.self.gone.items c.set_aside.new.gone.items c.args.self.entries.pile.items.items c.in-Ok-prune.entries.pile.items.items c.args.self.entries.pile.synced c.in-Ok-prune.entries.pile.synced c.args.self.entries.pile.once c.in-Ok-prune.ensures.items c.in-Ok-prune.ensures.synced aside g.T.Item.name g.T.JournalItem.spelled g.T.Item.fits g.D.Disk.seen g.D.Disk.may_leave c.args.self.disk c.args.self.end c.args.self.entries.pile.accepted c.in-Ok-prune.entries.pile.accepted c.args.self.waiting.items c.set_aside.new.waiting.items c.args.self.marks.items c.set_aside.new.marks.items c.number-number.result c.newest-mark.result c.requires.min c.in-Ok.ensures.waiting c.in-Ok.ensures.marks c.in-Ok-prune.ensures.tickets (omega (arith, c.number-number.ensures, c.ticket.ensures.made)) (rw c.deref.ensures.value at c.newest-mark.ensures) (omega arith) c.args.self.backed;
     }
 
 pub returns-in-Ok-prune-clause-done : goal.returns-in-Ok-prune-clause-done
@@ -28,6 +29,15 @@ returns-in-Ok-prune-clause-done g c =
     let more_is = ap (map seen) c.in-Ok.ensures.gone ∙ map-append seen c.args.self.gone.items c.args.more.items in
     let aside = more_is ∙ ap (λ l. map seen c.args.self.gone.items ++ l) c.requires.more in
     prunes_with_gone c.args.min c.args.self.gone.items c.set_aside.new.gone.items c.args.self.entries.pile.items.items c.in-Ok-prune.entries.pile.items.items c.args.self.entries.pile.synced c.in-Ok-prune.entries.pile.synced c.args.self.entries.pile.once c.in-Ok-prune.ensures.items c.in-Ok-prune.ensures.synced aside
+
+pub returns-in-Ok-prune-clause-marked : goal.returns-in-Ok-prune-clause-marked
+returns-in-Ok-prune-clause-marked g c = (
+  c.newest-mark.result,
+  c.in-Ok.ensures.waiting,
+  c.in-Ok.ensures.marks,
+  (newest_ordered c.args.self.entries.pile.accepted c.number-number.result c.newest-mark.result c.args.self.marks.items (omega (arith, c.number-number.ensures, c.ticket.ensures.made)) (rw c.deref.ensures.value at c.newest-mark.ensures) (omega arith)
+      (ordered_of g.T.Item.name g.T.JournalItem.spelled g.T.Item.fits g.D.Disk.seen g.D.Disk.may_leave c.args.self.disk c.args.self.end c.args.self.gone.items c.args.self.entries.pile.items.items c.args.self.entries.pile.synced c.args.self.entries.pile.accepted c.args.self.waiting.items c.args.self.marks.items c.args.self.backed)).0,
+)
 
 pub invariant_of-result-in-Err-prune : goal.invariant_of-result-in-Err-prune
 invariant_of-result-in-Err-prune g c =

@@ -1,7 +1,8 @@
-use Rattle.std.proofs.Common.{[], ap, arith, ◌++◌, ◌∙◌, ◌∷◌}
+use Rattle.std.proofs.Common.{[], ap, arith, sym, ◌++◌, ◌∙◌, ◌∷◌}
 use Rattle.mar_store.proofs.Stores.{fails_done}
+use Rattle.std.proofs.lemmas.Bool.{true≢false}
 use Rattle.std.proofs.lemmas.List.{length-map}
-use Rattle.mar_journal.proofs.ArchiveSteps.{grown_ranges, keeps_backed, keeps_left, keeps_ranges, left_with_gone, more_by_length, more_by_still, more_left, nothing_lost, put_backed, put_is_writable, puts_with_gone, same_by_length, same_by_still}
+use Rattle.mar_journal.proofs.ArchiveSteps.{free_by_length, grown_ranges, keeps_backed, keeps_left, keeps_ranges, left_with_gone, more_by_length, more_by_still, more_left, nothing_lost, put_backed, put_is_writable, put_marked, puts_with_gone, same_by_length, same_by_still, taken_by_length}
 use Rattle.mar_journal.proofs.journal_archive.JournalArchive.place.Goals as goal
 
 pub invariant_of-result : goal.invariant_of-result
@@ -40,14 +41,27 @@ returns-in-Ok-clause-done g c = puts_with_gone c.args.self.gone.items c.args.sel
 pub invariant_of-result-in-Ok-add_waiting : goal.invariant_of-result-in-Ok-add_waiting
 invariant_of-result-in-Ok-add_waiting g c =
     let are = more_by_length _ _ _ (record { height = c.args.index; value = c.args.item }) c.in-Ok.ensures.done.held (λ e. c.if-len-count-2.false (let long = simp length-map at e in omega (arith, c.len-count.ensures, long, c.in-Ok.entries.pile.items.ok.0, c.args.self.entries.pile.items.ok.0))) in
+    let free = free_by_length _ _ _ (record { height = c.args.index; value = c.args.item }) c.in-Ok.ensures.done.held (λ e. c.if-len-count-2.false (let long = simp length-map at e in omega (arith, c.len-count.ensures, long, c.in-Ok.entries.pile.items.ok.0, c.args.self.entries.pile.items.ok.0))) in
     let good = put_is_writable g.T.Item.name g.T.JournalItem.spelled g.T.Item.fits c.args.index c.args.item c.requires.index c.requires.fits (g.met.T.JournalItem.keyed c.args.item) (omega (arith, g.met.T.JournalItem.sized c.args.item, c.requires.size)) in
     record {
       may_is = grown_ranges c.args.self.gone.items c.args.self.entries.pile.items.items c.in-Ok.entries.pile.items.items (record { height = c.args.index; value = c.args.item }) c.args.self.may c.args.grown c.args.self.may_is c.requires.grown are;
-      backed = put_backed g.T.Item.name g.T.JournalItem.spelled g.T.Item.fits g.D.Disk.may_leave c.args.self.disk c.args.self.gone.items c.args.self.entries.pile.items.items c.in-Ok.entries.pile.items.items c.args.self.entries.pile.synced c.in-Ok.entries.pile.synced g.D.Disk.seen c.args.self.end c.args.self.entries.pile.accepted c.in-Ok.entries.pile.accepted c.args.self.waiting.items c.args.self.marks.items c.args.index c.args.item c.add_waiting.new.waiting.items c.add_waiting.new.marks.items c.number-number.result c.saturating_add.result c.args.self.entries.pile.once c.in-Ok.ensures.done.sure are c.in-Ok.ensures.done.held good
+      backed = put_backed g.T.Item.name g.T.JournalItem.spelled g.T.Item.fits g.D.Disk.may_leave c.args.self.disk c.args.self.gone.items c.args.self.entries.pile.items.items c.in-Ok.entries.pile.items.items c.args.self.entries.pile.synced c.in-Ok.entries.pile.synced g.D.Disk.seen c.args.self.end c.args.self.entries.pile.accepted c.in-Ok.entries.pile.accepted c.args.self.waiting.items c.args.self.marks.items c.args.index c.args.item c.add_waiting.new.waiting.items c.add_waiting.new.marks.items c.mark_of-mark.result c.args.self.entries.pile.once c.in-Ok.ensures.done.sure are c.in-Ok.ensures.done.held good
           (c.in-Ok-add_waiting.ensures.waiting ∙ ap (λ r. c.args.self.waiting.items ++ r ∷ []) c.requires.change)
-          c.in-Ok-add_waiting.ensures.marks c.in-Ok.ensures.tickets c.in-Ok.ensures.covers (omega (arith, c.number-number.ensures, c.ticket.ensures.made)) (omega (arith, c.saturating_add.ensures)) (omega (arith, c.saturating_add.ensures))
+          c.in-Ok-add_waiting.ensures.marks c.in-Ok.ensures.tickets c.in-Ok.ensures.covers free c.in-Ok.entries.pile.counted (rw c.deref.ensures.value at c.mark_of-mark.ensures)
           c.args.self.backed;
     }
+
+pub returns-in-Ok-clause-marked : goal.returns-in-Ok-clause-marked
+returns-in-Ok-clause-marked g c = λ free. absurd (true≢false (sym (taken_by_length _ _ _ (record { height = c.args.index; value = c.args.item }) c.in-Ok.ensures.done.held (simp length-map (omega (arith, c.len-count.ensures, c.if-len-count-2.true, c.in-Ok.entries.pile.items.ok.0, c.args.self.entries.pile.items.ok.0)))) ∙ free))
+
+pub returns-in-Ok-add_waiting-clause-ignored : goal.returns-in-Ok-add_waiting-clause-ignored
+returns-in-Ok-add_waiting-clause-ignored g c = λ taken. absurd (true≢false (sym taken ∙ free_by_length _ _ _ (record { height = c.args.index; value = c.args.item }) c.in-Ok.ensures.done.held (λ e. c.if-len-count-2.false (let long = simp length-map at e in omega (arith, c.len-count.ensures, long, c.in-Ok.entries.pile.items.ok.0, c.args.self.entries.pile.items.ok.0)))))
+
+pub returns-in-Ok-add_waiting-clause-marked : goal.returns-in-Ok-add_waiting-clause-marked
+returns-in-Ok-add_waiting-clause-marked g c =
+    let are = more_by_length _ _ _ (record { height = c.args.index; value = c.args.item }) c.in-Ok.ensures.done.held (λ e. c.if-len-count-2.false (let long = simp length-map at e in omega (arith, c.len-count.ensures, long, c.in-Ok.entries.pile.items.ok.0, c.args.self.entries.pile.items.ok.0))) in
+    λ free. put_marked g.T.Item.name c.args.self.entries.pile.items.items c.in-Ok.entries.pile.items.items c.args.index c.args.item c.args.self.entries.pile.accepted c.in-Ok.entries.pile.accepted c.mark_of-mark.result c.args.self.waiting.items c.add_waiting.new.waiting.items c.args.self.marks.items c.add_waiting.new.marks.items c.args.self.entries.pile.once free are c.in-Ok.ensures.covers c.in-Ok.entries.pile.counted (rw c.deref.ensures.value at c.mark_of-mark.ensures)
+    (c.in-Ok-add_waiting.ensures.waiting ∙ ap (λ r. c.args.self.waiting.items ++ r ∷ []) c.requires.change) c.in-Ok-add_waiting.ensures.marks
 
 pub returns-in-Ok-add_waiting-clause-done : goal.returns-in-Ok-add_waiting-clause-done
 returns-in-Ok-add_waiting-clause-done g c = puts_with_gone c.args.self.gone.items c.args.self.entries.pile.items.items c.in-Ok.entries.pile.items.items c.args.self.entries.pile.synced c.in-Ok.entries.pile.synced (record { height = c.args.index; value = c.args.item }) _ c.in-Ok.ensures.done

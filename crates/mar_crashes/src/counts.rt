@@ -1,0 +1,94 @@
+//! Each of the first calls of a disk fails by each of eight lucks: how often what was durable is found behind it, and how
+//! often what the sync that failed was to make durable.
+use crate::play::{OnDisk, disk_of, holds, play};
+use crate::script::{Lists, Step};
+use mar_journal::{Disk, MemDisk};
+use mar_store::Archive;
+use std::alloc::{AllocError, Global};
+
+// Half of them keep the first write since the last sync: the gate, where that is all there is.
+const LUCKS: [u64; 8] = [0, 1, 2, 3, 6, 7, 0xffff_ffff_ffff_fffe, u64::MAX];
+
+// What a crash left.
+#[derive(Clone, Copy, PartialEq, Eq)]
+enum Found {
+    // What was durable, and no more.
+    Before,
+    // What the sync that failed was to make durable.
+    After,
+    // Another list, or none.
+    Neither,
+}
+
+// Whether it holds just these.
+fn has_just(archive: &mut OnDisk, list: &[u8]) -> bool {
+    for byte in 0..=u8::MAX {
+        if holds(archive, byte) != Some(list.contains(&byte)) {
+            return false;
+        }
+    }
+    true
+}
+
+// What is found behind a crash within the steps.
+fn found_later(
+    archive: OnDisk,
+    steps: &[Step],
+    luck: u64,
+    lists: &mut Lists,
+) -> Result<Found, AllocError> {
+    let wreck = play(steps, archive, lists)?;
+    let mut archive = match OnDisk::reopen(wreck, luck) {
+        Ok(archive) => archive,
+        Err(_) => return Ok(Found::Neither),
+    };
+    if has_just(&mut archive, &lists.durable) {
+        return Ok(Found::Before);
+    }
+    if has_just(&mut archive, &lists.held) {
+        return Ok(Found::After);
+    }
+    Ok(Found::Neither)
+}
+
+// What is found behind a crash within the first opening.
+fn found_first(alloc: Global, disk: MemDisk, luck: u64) -> Result<Found, AllocError> {
+    let mut disk = disk;
+    disk.crash(luck)?;
+    match OnDisk::open(alloc, disk) {
+        Ok(archive) => {
+            let mut archive = archive;
+            if has_just(&mut archive, &[]) {
+                Ok(Found::Before)
+            } else {
+                Ok(Found::Neither)
+            }
+        }
+        Err(_) => Ok(Found::Neither),
+    }
+}
+
+// What is found where this call of the disk fails.
+fn left_by(alloc: Global, steps: &[Step], call: u64, luck: u64) -> Result<Found, AllocError> {
+    match OnDisk::open(alloc, disk_of(alloc, call)?) {
+        Ok(archive) => {
+            let mut lists = Lists::new(alloc);
+            found_later(archive, steps, luck, &mut lists)
+        }
+        Err((_, disk)) => found_first(alloc, disk, luck),
+    }
+}
+
+/// How many lucks leave what was durable where this call fails, and how many what was to be.
+pub fn counts(alloc: Global, steps: &[Step], call: u64) -> Result<(u64, u64), AllocError> {
+    let mut before: u64 = 0;
+    let mut after: u64 = 0;
+    for luck in LUCKS {
+        match left_by(alloc, steps, call, luck)? {
+            Found::Before => before = before.saturating_add(1),
+            Found::After => after = after.saturating_add(1),
+            Found::Neither => {}
+        }
+    }
+    Ok((before, after))
+}

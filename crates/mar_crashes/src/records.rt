@@ -1,0 +1,56 @@
+//! So many records put in order, a sync behind each so many of them, and then crashes and openings.
+use crate::mark::Mark;
+use crate::play::{OnDisk, Wreck};
+use crate::text::ranges_text;
+use mar_journal::MemDisk;
+use mar_store::{Archive, Lost};
+use std::alloc::{AllocError, Global};
+
+/// How many records, how many of them a sync writes, and how often the archive is opened again.
+#[derive(Clone, Copy)]
+pub struct Amount {
+    pub records: u64,
+    pub each: u64,
+    pub openings: u64,
+}
+
+fn filled(archive: OnDisk, amount: Amount) -> Result<OnDisk, Lost<Wreck>> {
+    let mut archive = archive;
+    for number in 0..amount.records {
+        archive = archive.put(number, Mark::numbered(number))?;
+        if amount.each > 0 && number % amount.each == amount.each - 1 {
+            archive = archive.sync()?;
+        }
+    }
+    archive.sync()
+}
+
+fn reopened(archive: OnDisk, openings: u64) -> Result<OnDisk, Lost<Wreck>> {
+    let mut archive = archive;
+    for _opening in 0..openings {
+        archive = OnDisk::reopen(archive.wreck(), u64::MAX)?;
+    }
+    Ok(archive)
+}
+
+/// What is held and sure behind all that, how many bytes the disk has, and how many calls wrote, synced and crashed.
+pub fn told(alloc: Global, amount: Amount) -> Result<String, AllocError> {
+    let archive = match OnDisk::open(alloc, MemDisk::new(alloc)) {
+        Ok(archive) => archive,
+        Err(_) => return "not opened".to_string(alloc),
+    };
+    let archive = match filled(archive, amount) {
+        Ok(archive) => archive,
+        Err(_) => return "not written".to_string(alloc),
+    };
+    let archive = match reopened(archive, amount.openings) {
+        Ok(archive) => archive,
+        Err(_) => return "not reopened".to_string(alloc),
+    };
+    let held = ranges_text(alloc, archive.held_ranges())?;
+    let sure = ranges_text(alloc, archive.sure_ranges())?;
+    let disk = archive.into_disk();
+    let bytes = disk.bytes().len();
+    let calls = disk.calls().len();
+    format!(in alloc; "held {held}, sure {sure}, {bytes} bytes, {calls} calls")
+}
