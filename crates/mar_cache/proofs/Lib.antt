@@ -9,3 +9,6 @@ pub mod Thinning
 pub mod Views
 pub mod Plainly
 pub mod Within
+pub mod Spotting
+pub mod Indexing
+pub mod Looking

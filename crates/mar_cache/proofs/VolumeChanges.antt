@@ -124,7 +124,7 @@ loses_same plain change fs new is = rw is (loses_nothing plain change fs)
 
 -- A SYNC
 
-entries_marked : (s : Section) (n : ℕ) (fs : List Filing) → entries (map (with_mark s n) fs) ≡ entries fs
+pub entries_marked : (s : Section) (n : ℕ) (fs : List Filing) → entries (map (with_mark s n) fs) ≡ entries fs
 entries_marked s n [] = refl
 entries_marked s n (f ∷ fs) = ap (λ ys. f.entry ∷ ys) (entries_marked s n fs)
 
@@ -185,6 +185,20 @@ module _ {E : Type 0} (plain : E → Cached) (change : Change E) (number : ℕ) 
     may = λ y has. Contains-append_left (entries fs) _ y (filter_within (λ f. f.entry) (λ f. is_kept change f.entry) fs y (subst (λ ys. Contains ys y) (ap entries is) has));
     number = omega arith;
     covers = prunes_covered change number fs new is;
+  }
+
+  held_left : (y : Cached) → Contains (entries fs) y → is_kept change y ≡ true → Contains (entries new) y
+  held_left y has kept =
+      let all = filter_both (λ f. f.entry) (λ f. true) (is_kept change) fs y (subst (λ ys. Contains (entries ys) y) (sym (filter_all fs)) has) kept in
+      subst (λ ys. Contains (entries ys) y) (filter_all (filter (λ f. is_kept change f.entry) fs) ∙ sym is) all
+
+  -- where it failed behind the prune
+  pub loses_pruned : LosesVolume plain change (kept_in fs) (left_of (kept_in new))
+  loses_pruned = record {
+    sure = λ y sure kept. subst (λ ys. Contains ys y) (sym (ap sure_entries is)) (filter_both (λ f. f.entry) (λ f. f.is_sure) (is_kept change) fs y sure kept);
+    only = λ y sure. filter_within (λ f. f.entry) (λ f. is_kept change f.entry) (filter (λ f. f.is_sure) fs) y (subst (λ ys. Contains ys y) sure_left sure);
+    held = held_left;
+    may = λ y has. Contains-append_left (entries fs) _ y (filter_within (λ f. f.entry) (λ f. is_kept change f.entry) fs y (subst (λ ys. Contains ys y) (ap entries is) has));
   }
 
 pub filter_once : (p : Filing → Bool) (fs new : List Filing) → new ≡ filter p fs → EachPlaceOnce (entries fs) → EachPlaceOnce (entries new)

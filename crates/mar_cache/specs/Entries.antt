@@ -6,6 +6,8 @@ use Rattle.mar_cert.specs.Finalization.{Finalization, Notarization}
 use Rattle.mar_node.specs.Cached.{Cached, cached_block, certified_entry, finalization_entry, notarization_entry, notarized_entry, verified_entry}
 use Rattle.mar_cache.specs.declared.entry.Entry.{Entry}
 use Rattle.mar_cache.specs.declared.entry.Entry.TheVariants.{Certified, Finalization as OfFinalization, Notarization as OfNotarization, Notarized, Verified}
+use Rattle.mar_cache.specs.declared.entry.BlockName.{BlockName}
+use Rattle.mar_cache.specs.declared.entry.BlockName.TheVariants.{Commitment, Digest}
 use Rattle.mar_cache.specs.declared.entry.Sought.{Sought}
 use Rattle.mar_cache.specs.declared.entry.Sought.TheVariants.{BlockOf, CommittedTo, FinalizationFor, NotarizationAt, VerifiedAt, VerifiedBlock}
 
@@ -45,3 +47,24 @@ is_sought digest commitment inner (NotarizationAt r) x = is_notarization_at r x
 is_sought digest commitment inner (FinalizationFor d) x = is_for inner (digest d) x
 is_sought digest commitment inner (BlockOf d) x = has_digest (digest d) (cached_block x)
 is_sought digest commitment inner (CommittedTo c) x = has_commitment (commitment c) (cached_block x)
+
+-- what is looked for where that is a block of this name
+abbrev pub sought_block : {D C : Type 0} → BlockName D C → Sought D C
+sought_block (Digest d) = BlockOf d
+sought_block (Commitment c) = CommittedTo c
+
+-- what an entry has
+abbrev pub block_in : {B N F : Type 0} → Entry B N F → Option B
+block_in (OfFinalization f) = None
+block_in (Verified r b) = Some b
+block_in (Notarized r b) = Some b
+block_in (Certified e b) = Some b
+block_in (OfNotarization n) = None
+
+abbrev pub notarization_in : {B N F : Type 0} → Entry B N F → Option N
+notarization_in (OfNotarization n) = Some n
+notarization_in _ = None
+
+abbrev pub finalization_in : {B N F : Type 0} → Entry B N F → Option F
+finalization_in (OfFinalization f) = Some f
+finalization_in _ = None

@@ -8,3 +8,5 @@ pub mod Bounds
 pub mod Shelved
 pub mod Entries
 pub mod Calls
+pub mod Spots
+pub mod EntryKeys

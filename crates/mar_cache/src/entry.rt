@@ -1,14 +1,15 @@
 //! The entries of a cache, over blocks of a kind and certificates.
-ghost use Rattle.std.specs.Prelude.{◌≡◌, IfOk, bytes_eq, option_map};
-ghost use Rattle.mar_types.specs.Round.{round_eq, round_lt};
-ghost use Rattle.mar_node.specs.Cached.{cached_block};
-ghost use Rattle.mar_cache.specs.Entries.{cached_of, has_commitment, has_digest, is_for, is_notarization_at, is_sought, is_verified_at};
+ghost use Rattle.std.specs.Prelude.{◌≡◌};
+ghost use Rattle.mar_types.specs.Round.{round_lt};
+ghost use Rattle.mar_cache.specs.Entries.{block_in, cached_of, finalization_in, is_sought, notarization_in, sought_block};
+ghost use Rattle.mar_cache.specs.EntryKeys.{has_key};
 
-use crate::leaf::Leaf;
+use crate::entry_key::{EntryKey, block_keys, certificate_keys, key_of, keys_compared};
+use crate::keys::Keys;
+use crate::leaf::{KeyedLeaf, Leaf};
 use crate::section::Section;
 use mar_block::Variant;
 use mar_cert::{AsFinalization, CommitsTo};
-use mar_codec::Named;
 use mar_types::{Epoch, Height, Round};
 use std::alloc::AllocError;
 use std::marker::PhantomData;
@@ -40,6 +41,57 @@ pub enum Sought<D, C> {
     CommittedTo(C),
 }
 
+/// What names a block that is looked for.
+#[derive(Clone, Copy)]
+pub enum BlockName<D, C> {
+    Digest(D),
+    Commitment(C),
+}
+
+impl<B: Drop, N: Drop, F: Drop> Entry<B, N, F> {
+    /// The block in it.
+    pub fn into_block(self) -> Option<B>
+        ensures { result ≡ block_in self }
+    {
+        match self {
+            Entry::Verified(_, block) | Entry::Notarized(_, block) | Entry::Certified(_, block) => {
+                Some(block)
+            }
+            _ => None,
+        }
+    }
+
+    /// The notarization that it is.
+    pub fn into_notarization(self) -> Option<N>
+        ensures { result ≡ notarization_in self }
+    {
+        match self {
+            Entry::Notarization(notarization) => Some(notarization),
+            _ => None,
+        }
+    }
+
+    /// The finalization that it is.
+    pub fn into_finalization(self) -> Option<F>
+        ensures { result ≡ finalization_in self }
+    {
+        match self {
+            Entry::Finalization(finalization) => Some(finalization),
+            _ => None,
+        }
+    }
+}
+
+/// What is looked for where that is a block of this name.
+pub fn sought_block<D: Copy, C: Copy>(name: BlockName<D, C>) -> Sought<D, C>
+    ensures { result ≡ sought_block name }
+{
+    match name {
+        BlockName::Digest(digest) => Sought::BlockOf(digest),
+        BlockName::Commitment(commitment) => Sought::CommittedTo(commitment),
+    }
+}
+
 /// An entry over blocks of a kind.
 #[derive(Drop)]
 pub struct CacheEntry<V: Variant, N, F> {
@@ -66,84 +118,12 @@ pub trait KeptEntry<V: Variant, N: AsFinalization, F: CommitsTo<V::Commitment>>:
         ensures { Self.wants result ≡ is_sought V.Digest.bytes V.Commitment.bytes V.inner sought };
 }
 
-// Whether it is the same round.
-fn same_round(first: Round, second: Round) -> bool
-    ensures { result ≡ round_eq first second }
-{
-    first.epoch().get() == second.epoch().get() && first.view().get() == second.view().get()
-}
-
 // Whether the first round is below the second.
 fn is_earlier(first: Round, second: Round) -> bool
     ensures { result ≡ round_lt first second }
 {
     let (epoch, other) = (first.epoch().get(), second.epoch().get());
     epoch < other || (epoch == other && first.view().get() < second.view().get())
-}
-
-// Whether it is the same name.
-fn same_name<D: Named>(first: D, second: D) -> bool
-    ensures { result ≡ bytes_eq (D.bytes first) (D.bytes second) }
-{
-    first == second
-}
-
-impl<V: Variant, N: AsFinalization, F: CommitsTo<V::Commitment>> CacheEntry<V, N, F> {
-    // Whether it is a block that was verified in a round.
-    fn verified_at(&self, round: Round) -> bool
-        ensures { result ≡ is_verified_at round (cached_of V.plain N.plain F.plain self.now.entry) }
-    {
-        match &self.entry {
-            Entry::Verified(own, _) => same_round(*own, round),
-            _ => false,
-        }
-    }
-
-    // Whether it is the notarization of a round.
-    fn notarization_at(&self, round: Round) -> bool
-        ensures { result ≡ is_notarization_at round (cached_of V.plain N.plain F.plain self.now.entry) }
-    {
-        match &self.entry {
-            Entry::Notarization(notarization) => same_round(notarization.round(), round),
-            _ => false,
-        }
-    }
-
-    // Whether it is a finalization of the block of a digest.
-    fn finalizes(&self, digest: V::Digest) -> bool
-        ensures { result ≡ is_for V.inner (V.Digest.bytes digest) (cached_of V.plain N.plain F.plain self.now.entry) }
-    {
-        match &self.entry {
-            Entry::Finalization(finalization) => {
-                same_name(V::commitment_to_inner(finalization.payload()), digest)
-            }
-            _ => false,
-        }
-    }
-
-    // Whether it is a block of a digest.
-    fn has_digest(&self, digest: V::Digest) -> bool
-        ensures { result ≡ has_digest (V.Digest.bytes digest) (cached_block (cached_of V.plain N.plain F.plain self.now.entry)) }
-    {
-        match &self.entry {
-            Entry::Verified(_, block) | Entry::Notarized(_, block) | Entry::Certified(_, block) => {
-                same_name(V::digest(block), digest)
-            }
-            _ => false,
-        }
-    }
-
-    // Whether it is a block of a commitment.
-    fn has_commitment(&self, commitment: V::Commitment) -> bool
-        ensures { result ≡ has_commitment (V.Commitment.bytes commitment) (cached_block (cached_of V.plain N.plain F.plain self.now.entry)) }
-    {
-        match &self.entry {
-            Entry::Verified(_, block) | Entry::Notarized(_, block) | Entry::Certified(_, block) => {
-                same_name(V::commitment(block), commitment)
-            }
-            _ => false,
-        }
-    }
 }
 
 impl<V: Variant, N: AsFinalization, F: CommitsTo<V::Commitment>> Leaf for CacheEntry<V, N, F> {
@@ -181,28 +161,6 @@ impl<V: Variant, N: AsFinalization, F: CommitsTo<V::Commitment>> Leaf for CacheE
         }
     }
 
-    fn shares_place(&self, other: &Self) -> bool {
-        match (&self.entry, &other.entry) {
-            (Entry::Finalization(first), Entry::Finalization(second)) => {
-                same_round(first.round(), second.round())
-            }
-            (Entry::Notarization(first), Entry::Notarization(second)) => {
-                same_round(first.round(), second.round())
-            }
-            (Entry::Notarized(first, _), Entry::Notarized(second, _)) => {
-                same_round(*first, *second)
-            }
-            (Entry::Verified(first, block), Entry::Verified(second, other)) => {
-                same_round(*first, *second) && same_name(V::digest(block), V::digest(other))
-            }
-            (Entry::Certified(_, block), Entry::Certified(_, other)) => {
-                V::height(block).get() == V::height(other).get()
-                    && same_name(V::digest(block), V::digest(other))
-            }
-            _ => false,
-        }
-    }
-
     fn is_below(&self, round: Round) -> bool {
         match &self.entry {
             Entry::Finalization(finalization) => is_earlier(finalization.round(), round),
@@ -232,17 +190,47 @@ impl<V: Variant, N: AsFinalization, F: CommitsTo<V::Commitment>> Leaf for CacheE
             of: PhantomData,
         })
     }
+}
 
-    fn is_wanted(&self, wanted: &Sought<V::Digest, V::Commitment>) -> bool {
-        match wanted {
-            Sought::VerifiedAt(round) => self.verified_at(*round),
-            Sought::VerifiedBlock(round, digest) => {
-                self.verified_at(*round) && self.has_digest(*digest)
+impl<V: Variant, N: AsFinalization, F: CommitsTo<V::Commitment>> KeyedLeaf for CacheEntry<V, N, F>
+where
+    V::Digest: Ord,
+    V::Commitment: Ord,
+{
+    type Key = EntryKey<V::Digest, V::Commitment>;
+
+    ghost has = { λ k x. has_key V.Digest.bytes V.Commitment.bytes V.inner k x };
+
+    fn key_of(wanted: &Sought<V::Digest, V::Commitment>) -> EntryKey<V::Digest, V::Commitment> {
+        key_of(*wanted)
+    }
+
+    fn keys(&self) -> Keys<EntryKey<V::Digest, V::Commitment>> {
+        keys_compared::<V::Digest, V::Commitment>();
+        match &self.entry {
+            Entry::Finalization(finalization) => {
+                let place = EntryKey::FinalizationAt(finalization.round());
+                let digest = V::commitment_to_inner(finalization.payload());
+                certificate_keys(place, Some(EntryKey::FinalizationFor(digest)))
             }
-            Sought::NotarizationAt(round) => self.notarization_at(*round),
-            Sought::FinalizationFor(digest) => self.finalizes(*digest),
-            Sought::BlockOf(digest) => self.has_digest(*digest),
-            Sought::CommittedTo(commitment) => self.has_commitment(*commitment),
+            Entry::Verified(round, block) => {
+                let digest = V::digest(block);
+                let place = EntryKey::VerifiedBlock(*round, digest);
+                let round = Some(EntryKey::VerifiedAt(*round));
+                block_keys(place, round, digest, V::commitment(block))
+            }
+            Entry::Notarized(round, block) => {
+                let place = EntryKey::NotarizedAt(*round);
+                block_keys(place, None, V::digest(block), V::commitment(block))
+            }
+            Entry::Certified(_, block) => {
+                let digest = V::digest(block);
+                let place = EntryKey::CertifiedBlock(V::height(block), digest);
+                block_keys(place, None, digest, V::commitment(block))
+            }
+            Entry::Notarization(notarization) => {
+                certificate_keys(EntryKey::NotarizationAt(notarization.round()), None)
+            }
         }
     }
 }

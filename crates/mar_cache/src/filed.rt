@@ -1,17 +1,17 @@
 //! Entries in the order of their puts.
-ghost use Rattle.std.specs.Prelude.{◌≡◌, ◌==◌, ◌||◌, ◌+◌, ◌<◌, filter, if◌then◌else◌, map, nat_lt, not, option_map};
-ghost use Rattle.std.specs.Option.{option_copied};
-ghost use Rattle.std.specs.List.{list_any};
+ghost use Rattle.std.specs.Prelude.{◌≡◌, ◌==◌, ◌||◌, ◌<◌, IfOk, OnOk, filter, if◌then◌else◌, map, nat_lt, not};
+ghost use Rattle.std.specs.BTreeMap.{get};
 ghost use Rattle.mar_store.specs.Tickets.{last_number};
-ghost use Rattle.mar_node.specs.Cached.{same_place};
 ghost use Rattle.mar_node.specs.Cache.{is_below, is_certified_below};
-ghost use Rattle.mar_cache.specs.Sections.{earlier_of, first_found};
 ghost use Rattle.mar_cache.specs.Filings.{count_next, drawn, drawn_in_all, entries, filing_of, filings_of, with_draw, with_mark};
+ghost use Rattle.mar_cache.specs.Spots.{sooner, spot_at, spot_found};
 
-use crate::leaf::{Leaf, stands_before};
+use crate::index::{Index, Spot};
+use crate::leaf::{KeyedLeaf, Leaf};
 use crate::section::Section;
 use mar_store::is_lucky;
 use mar_types::{Height, Round};
+use std::alloc::{AllocError, Global};
 
 /// An entry, with the number of its put, and whether every crash leaves it.
 #[derive(Drop)]
@@ -21,38 +21,62 @@ pub struct Filed<E> {
     pub leaf: E,
 }
 
-/// Whether an entry of this one's place is there.
-pub fn holds<E: Leaf>(items: &[Filed<E>], leaf: &E) -> bool
-    ensures { result ≡ list_any (same_place (E.plain leaf.now)) (entries (filings_of E.plain items.now)) }
+/// The same entries again.
+pub fn copies_of<E: Leaf>(alloc: Global, items: &[Filed<E>]) -> Result<Vec<Filed<E>>, AllocError>
+    ensures { IfOk result (λ copies. filings_of E.plain copies.items ≡ filings_of E.plain items.now) }
 {
-    items.iter().any(|filed| leaf.shares_place(&filed.leaf))
+    let mut copies = Vec::new(alloc);
+    let mut place = 0;
+    while place < items.len() {
+        let copy = copy_of(&items[place])?;
+        copies.push(copy)?;
+        place += 1;
+    }
+    Ok(copies)
 }
 
-/// The entry that is looked for.
-pub fn find<'a, E: Leaf>(items: &'a [Filed<E>], wanted: &E::Wanted) -> Option<&'a E>
-    ensures { option_map E.plain (option_copied result) ≡ first_found (E.wants wanted.now) (entries (filings_of E.plain items.now)) }
+// The same entry again.
+fn copy_of<E: Leaf>(filed: &Filed<E>) -> Result<Filed<E>, AllocError>
+    ensures { IfOk result (λ copy. filing_of E.plain copy ≡ filing_of E.plain filed.now) }
 {
-    let mut found = None;
-    let mut place = items.len();
-    while place > 0 {
-        place -= 1;
-        found = first_of(wanted, &items[place].leaf, found);
-    }
-    found
+    Ok(Filed {
+        number: filed.number,
+        is_sure: filed.is_sure,
+        leaf: filed.leaf.try_clone()?,
+    })
 }
 
-// Of an entry and the one found behind it, the one that is found.
-fn first_of<'a, E: Leaf>(wanted: &E::Wanted, leaf: &'a E, later: Option<&'a E>) -> Option<&'a E>
-    ensures { option_map E.plain (option_copied result) ≡ (if E.wants wanted.now (E.plain leaf.now)
-        then earlier_of (E.plain leaf.now) (option_map E.plain (option_copied later.entry)) else option_map E.plain (option_copied later.entry)) }
+/// Where searches find these entries.
+pub fn index_of<E: KeyedLeaf>(
+    alloc: Global,
+    items: &[Filed<E>],
+) -> Result<Index<E::Key>, AllocError>
+    ensures { IfOk result (λ index. (k : E.Key) → get E.Key.cmp index.spots k ≡ spot_found (E.has k) (entries (filings_of E.plain items.now))) }
 {
-    if !leaf.is_wanted(wanted) {
-        return later;
+    let mut index = Index::new(alloc);
+    let mut place = 0;
+    while place < items.len() {
+        note(&mut index, &items[place].leaf, place)?;
+        place += 1;
     }
-    match later {
-        Some(other) if stands_before(other, leaf) => Some(other),
-        _ => Some(leaf),
-    }
+    Ok(index)
+}
+
+/// Notes where an entry stands that is put behind all others.
+pub fn note<E: KeyedLeaf>(
+    index: &mut Index<E::Key>,
+    leaf: &E,
+    place: usize,
+) -> Result<(), AllocError>
+    ensures { OnOk result ((k : E.Key) → get E.Key.cmp index.new.spots k ≡ (if E.has k (E.plain leaf.now)
+        then sooner (get E.Key.cmp index.old.spots k) (spot_at place (E.plain leaf.now)) else get E.Key.cmp index.old.spots k)) }
+{
+    let spot = Spot {
+        rank: leaf.section().rank(),
+        index: leaf.index(),
+        place,
+    };
+    index.note_all(leaf.keys(), spot)
 }
 
 /// Makes sure what the ticket of a number covers in an archive.

@@ -1,9 +1,12 @@
 //! What a cache keeps, whatever blocks and certificates it is made of.
 ghost use Rattle.std.specs.Prelude.{◌≡◌, Bool, IfOk};
+ghost use Rattle.std.specs.Ordering.{eq_by_cmp};
 ghost use Rattle.mar_node.specs.Cached.{Cached, epoch_of, same_place};
 ghost use Rattle.mar_node.specs.Cache.{is_below, is_certified_below};
-ghost use Rattle.mar_cache.specs.Sections.{index_of, section_of, stands_before};
+ghost use Rattle.mar_cache.specs.Sections.{index_of, section_of};
+ghost use Rattle.mar_cache.specs.Spots.{is_among};
 
+use crate::keys::Keys;
 use crate::section::Section;
 use mar_types::{Epoch, Height, Round};
 use std::alloc::AllocError;
@@ -31,10 +34,6 @@ pub trait Leaf: Drop {
     fn index(&self) -> u64
         ensures { result ≡ index_of (plain self.now) };
 
-    /// Whether no archive holds both.
-    fn shares_place(&self, other: &Self) -> bool
-        ensures { result ≡ same_place (plain self.now) (plain other.now) };
-
     /// Whether a prune by view below this round covers it.
     fn is_below(&self, round: Round) -> bool
         ensures { result ≡ is_below round (plain self.now) };
@@ -48,16 +47,21 @@ pub trait Leaf: Drop {
     where
         Self: Sized,
         ensures { IfOk result (λ e. plain e ≡ plain self.now) };
-
-    /// Whether it is what is looked for.
-    fn is_wanted(&self, wanted: &Self::Wanted) -> bool
-        ensures { result ≡ wants wanted.now (plain self.now) };
 }
 
-/// Whether the first is found before the second.
-pub(crate) fn stands_before<E: Leaf>(first: &E, second: &E) -> bool
-    ensures { result ≡ stands_before (E.plain first.now) (E.plain second.now) }
-{
-    let (rank, other) = (first.section().rank(), second.section().rank());
-    rank < other || (rank == other && first.index() < second.index())
+/// An entry that is found by keys, which have an order.
+pub trait KeyedLeaf: Leaf {
+    type Key: Ord + Copy;
+
+    /// Whether an entry has a key.
+    ghost has: { Self.Key → Cached → Bool };
+
+    /// The key of what is looked for.
+    fn key_of(wanted: &Self::Wanted) -> Self::Key
+        ensures { (x : Cached) → has result x ≡ Self.wants wanted.now x };
+
+    /// All its keys. No archive holds two that have the key of one place.
+    fn keys(&self) -> Keys<Self::Key>
+        ensures all { (k : Self.Key) → has k (Self.plain self.now) ≡ is_among (eq_by_cmp Self.Key.cmp) result k }
+        ensures place { (x : Cached) → has result.place x ≡ same_place (Self.plain self.now) x };
 }

@@ -1,5 +1,5 @@
 //! The epoch cache over volumes and a metadata store.
-ghost use Rattle.std.specs.Prelude.{◌≡◌, ◌&&◌, ◌+◌, ◌-◌, ◌<◌, ◌≤◌, ◌^◌, ◌++◌, ◌⊎◌, ◌∷◌, ℕ, [], option_map, true, false, Contains, OnOk, IfErr, IfOk, MatchResult, if◌then◌else◌, map, min, nat_le, not};
+ghost use Rattle.std.specs.Prelude.{◌≡◌, ◌&&◌, ◌+◌, ◌-◌, ◌<◌, ◌≤◌, ◌^◌, ◌++◌, ◌⊎◌, ◌∷◌, ℕ, [], option_map, true, false, Contains, OnErr, OnOk, IfErr, IfOk, MatchResult, if◌then◌else◌, map, min, nat_le, not};
 ghost use Rattle.std.specs.List.{AllByRecursion};
 ghost use Rattle.mar_store.specs.Changes.{Within};
 ghost use Rattle.mar_store.specs.Lost.{wreck_of};
@@ -681,6 +681,20 @@ impl<S: Stacks, M: Meta> Manager<S, M> {
     pub fn arm(&mut self, calls: u64) -> Result<(), AllocError>
         ensures armed { OnOk result (shelf_watch self.new.alarm (S.calm self.new.stacks && (M.watch self.new.meta).only_armed)
             ≡ armed calls (shelf_watch self.old.alarm (S.calm self.old.stacks && (M.watch self.old.meta).only_armed))) }
+        ensures stacks { self.new.stacks ≡ self.old.stacks }
+        ensures meta { self.new.meta ≡ self.old.meta }
+    {
+        self.alarm.arm(calls)
+    }
+}
+
+impl<S: Stacks, M: Meta> ManagerWreck<S, M> {
+    /// Makes the counted call fail that is so many calls away, 1 being the next, which is the reopening.
+    pub fn arm(&mut self, calls: u64) -> Result<(), AllocError>
+        ensures armed { OnOk result (shelf_watch self.new.alarm (S.Wreck.calm self.new.stacks && (M.Wreck.watch self.new.meta).only_armed)
+            ≡ armed calls (shelf_watch self.old.alarm (S.Wreck.calm self.old.stacks && (M.Wreck.watch self.old.meta).only_armed))) }
+        ensures unarmed { OnErr result (shelf_watch self.new.alarm (S.Wreck.calm self.new.stacks && (M.Wreck.watch self.new.meta).only_armed)
+            ≡ shelf_watch self.old.alarm (S.Wreck.calm self.old.stacks && (M.Wreck.watch self.old.meta).only_armed)) }
         ensures stacks { self.new.stacks ≡ self.old.stacks }
         ensures meta { self.new.meta ≡ self.old.meta }
     {

@@ -3,7 +3,7 @@ ghost use Rattle.std.specs.Prelude.{ℕ};
 ghost use Rattle.mar_cache.specs.Tomes.{IsBare};
 
 use crate::depot_stacks::DepotStacks;
-use crate::leaf::Leaf;
+use crate::leaf::KeyedLeaf;
 use crate::manager::Manager;
 use crate::mem_volume::{MemVolume, MemVolumeWreck};
 use crate::stacks::Stacks;
@@ -14,7 +14,7 @@ use std::alloc::Global;
 pub type MemStacks<E> = DepotStacks<MemVolume<E>, MemDepot<MemVolumeWreck<E>>>;
 
 /// A cache in memory that holds nothing; its lowest and its highest epoch are 0.
-pub fn empty_shelf<E: Leaf>(alloc: Global) -> Manager<MemStacks<E>, MemMeta>
+pub fn empty_shelf<E: KeyedLeaf>(alloc: Global) -> Manager<MemStacks<E>, MemMeta>
     ensures { (k : ℕ) → IsBare (⟦<DepotStacks<MemVolume<E>, MemDepot<MemVolumeWreck<E>>> as Stacks>⟧.tomes result.stacks k) }
 {
     let depot = MemDepot::new(alloc);

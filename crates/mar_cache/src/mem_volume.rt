@@ -1,192 +1,183 @@
 //! The archives of an epoch in memory.
-ghost use Rattle.std.specs.Prelude.{◌≡◌, ◌++◌, ◌==◌, ◌∷◌, ◌≤◌, [], false, true, filter, if◌then◌else◌, length, map, min, not, ◌+◌, IfErr, IfOk, MatchResult};
+ghost use Rattle.std.specs.Prelude.{◌≡◌, ◌++◌, ◌==◌, ◌∷◌, ◌≤◌, [], false, true, filter, if◌then◌else◌, length, map, IfErr, IfOk, MatchResult};
 ghost use Rattle.std.specs.List.{list_any};
+ghost use Rattle.std.specs.BTreeMap.{get};
 ghost use Rattle.mar_store.specs.Changes.{left_of};
 ghost use Rattle.mar_store.specs.Lost.{wreck_of};
-ghost use Rattle.mar_store.specs.Tickets.{last_number};
-ghost use Rattle.mar_node.specs.Cached.{EachPlaceOnce, same_place};
-ghost use Rattle.mar_node.specs.Cache.{is_below, is_certified_below};
-ghost use Rattle.mar_cache.specs.Filings.{AreNumbered, book_of, drawn_in_all, entries, filing_of, filings_of, kept_in, with_mark};
+ghost use Rattle.mar_node.specs.Cached.{same_place};
+ghost use Rattle.mar_cache.specs.Filings.{book_of, drawn_in_all, entries, filings_of, kept_in, with_mark};
+ghost use Rattle.mar_cache.specs.Spots.{spot_found};
 ghost use Rattle.mar_cache.specs.Volumes.{ChangesVolume, IsOfMemory, LosesVolume};
-ghost use Rattle.mar_cache.specs.Props.{AreNumbered-prop, EachPlaceOnce-prop};
 ghost use Rattle.mar_cache.specs.Laws.{kept_nested, nothing_filed};
 
 use crate::change::Change;
-use crate::filed::{Filed, find, holds, mark, settle, take_below, take_certified};
-use crate::leaf::Leaf;
+use crate::filed::{index_of, note};
+use crate::filings::Filings;
+use crate::index::Index;
+use crate::leaf::KeyedLeaf;
 use crate::section::Section;
 use crate::volume::{Volume, VolumeDepot, VolumeRuin};
 use mar_store::{EmptyStore, Lost, LuckHalf, MemDepot};
-use mar_types::{Height, Round};
-use std::alloc::Global;
+use std::alloc::{AllocError, Global};
 
-/// Entries in memory, in the order of their puts. Of an archive's entries that aren't sure, numbered from 0 in the order
-/// of their puts, a reopening keeps entry k where bit k mod 32 of luck is set.
+/// Entries in memory, in the order of their puts, with an index of them. Of an archive's entries that aren't sure, numbered
+/// from 0 in the order of their puts, a reopening keeps entry k where bit k mod 32 of luck is set.
 #[derive(Drop)]
-pub struct MemVolume<E: Leaf> {
-    items: Vec<Filed<E>>,
-    accepted: u64,
-    pub ghost once: { EachPlaceOnce (entries (filings_of E.plain items.items)) } by { EachPlaceOnce-prop (entries (filings_of E.plain items.items)) },
-    pub ghost counted: { AreNumbered accepted (filings_of E.plain items.items) } by { AreNumbered-prop accepted (filings_of E.plain items.items) },
+pub struct MemVolume<E: KeyedLeaf> {
+    filings: Filings<E>,
+    index: Index<E::Key>,
+    ghost indexed: { (k : E.Key) → get E.Key.cmp index.spots k ≡ spot_found (E.has k) (entries (filings_of E.plain filings.items.items)) },
 }
 
 /// What is left of a `MemVolume`.
 #[derive(Drop)]
-pub struct MemVolumeWreck<E: Leaf> {
-    volume: MemVolume<E>,
+pub struct MemVolumeWreck<E: KeyedLeaf> {
+    filings: Filings<E>,
 }
 
-impl<E: Leaf> MemVolume<E> {
-    // Puts an entry, but where one of its place is held.
-    fn put(self, leaf: E) -> Result<Self, Self>
-        ensures ok { IfOk result (λ s. filings_of E.plain s.items.items
-            ≡ (if list_any (same_place (E.plain leaf)) (entries (filings_of E.plain self.items.items)) then filings_of E.plain self.items.items
-            else filings_of E.plain self.items.items ++ record { number = self.accepted; is_sure = false; entry = E.plain leaf } ∷ [])) }
-        ensures accepted { IfOk result (λ s. s.accepted ≡ (if list_any (same_place (E.plain leaf)) (entries (filings_of E.plain self.items.items))
-            then self.accepted else min (self.accepted + 1) last_number)) }
-        ensures number { IfOk result (λ s. self.accepted ≤ s.accepted) }
-        ensures err { IfErr result (λ s. filings_of E.plain s.items.items ≡ filings_of E.plain self.items.items) }
+impl<E: KeyedLeaf> MemVolume<E> {
+    // The entries with an index of them. They come back where memory runs out.
+    fn of(filings: Filings<E>) -> Result<Self, Filings<E>>
+        ensures ok { IfOk result (λ s. s.filings ≡ filings) }
+        ensures err { IfErr result (λ f. f ≡ filings) }
     {
-        if holds(&self.items, &leaf) {
+        match index_of(*filings.items.allocator(), &filings.items) {
+            Ok(index) => Ok(MemVolume { filings, index }),
+            Err(_) => Err(filings),
+        }
+    }
+
+    // Whether an entry of this one's place is there.
+    fn holds(&self, leaf: &E) -> bool
+        ensures { result ≡ list_any (same_place (E.plain leaf.now)) (entries (filings_of E.plain self.now.filings.items.items)) }
+    {
+        self.index.spot_of(&leaf.keys().place).is_some()
+    }
+
+    // Puts an entry, but where one of its place is held. The entries alone come back where memory runs out.
+    fn put(self, leaf: E) -> Result<Self, Filings<E>>
+        ensures ok { IfOk result (λ s. filings_of E.plain s.filings.items.items
+            ≡ (if list_any (same_place (E.plain leaf)) (entries (filings_of E.plain self.filings.items.items))
+            then filings_of E.plain self.filings.items.items else filings_of E.plain self.filings.items.items
+            ++ record { number = self.filings.accepted; is_sure = false; entry = E.plain leaf } ∷ [])) }
+        ensures number { IfOk result (λ s. self.filings.accepted ≤ s.filings.accepted) }
+        ensures err { IfErr result (λ f. filings_of E.plain f.items.items ≡ filings_of E.plain self.filings.items.items) }
+    {
+        if self.holds(&leaf) {
             return Ok(self);
         }
-        let MemVolume {
-            mut items,
-            accepted,
-        } = self;
-        let filed = Filed {
-            number: accepted,
-            is_sure: false,
-            leaf,
-        };
-        match items.push(filed) {
-            Ok(()) => Ok(MemVolume {
-                items,
-                accepted: accepted.saturating_add(1),
-            }),
-            Err(_) => Err(MemVolume { items, accepted }),
+        let MemVolume { filings, mut index } = self;
+        match note(&mut index, &leaf, filings.items.len()) {
+            Err(_) => Err(filings),
+            Ok(()) => match filings.push(leaf) {
+                Ok(filings) => Ok(MemVolume { filings, index }),
+                Err(filings) => Err(filings),
+            },
         }
     }
 
     // Makes sure what the ticket of a number covers in an archive.
     fn marked(self, section: Section, number: u64) -> Self
-        ensures filings { filings_of E.plain result.items.items ≡ map (with_mark section number) (filings_of E.plain self.items.items) }
-        ensures accepted { result.accepted ≡ self.accepted }
+        ensures filings { filings_of E.plain result.filings.items.items
+            ≡ map (with_mark section number) (filings_of E.plain self.filings.items.items) }
+        ensures accepted { result.filings.accepted ≡ self.filings.accepted }
     {
-        let MemVolume {
-            mut items,
-            accepted,
-        } = self;
-        mark(&mut items, section, number);
-        MemVolume { items, accepted }
+        let MemVolume { filings, index } = self;
+        MemVolume {
+            filings: filings.marked(section, number),
+            index,
+        }
     }
 
-    // The entries by view that are below a round go.
-    fn without_below(self, round: Round) -> Self
-        ensures filings { filings_of E.plain result.items.items ≡ filter (λ f. not (is_below round f.entry)) (filings_of E.plain self.items.items) }
-        ensures accepted { result.accepted ≡ self.accepted }
+    // What is sure of these entries, with what the bits of `half` keep of the rest; all of it is sure.
+    fn settled(filings: &Filings<E>, half: u64) -> Result<Self, AllocError>
+        ensures filings { IfOk result (λ s. filings_of E.plain s.filings.items.items
+            ≡ filter (λ f. f.is_sure) (drawn_in_all half (filings_of E.plain filings.now.items.items))) }
     {
-        let MemVolume {
-            mut items,
-            accepted,
-        } = self;
-        take_below(&mut items, round);
-        MemVolume { items, accepted }
-    }
-
-    // The certified blocks that are below a height go.
-    fn without_certified(self, height: Height) -> Self
-        ensures filings { filings_of E.plain result.items.items
-            ≡ filter (λ f. not (is_certified_below height f.entry)) (filings_of E.plain self.items.items) }
-        ensures accepted { result.accepted ≡ self.accepted }
-    {
-        let MemVolume {
-            mut items,
-            accepted,
-        } = self;
-        take_certified(&mut items, height);
-        MemVolume { items, accepted }
-    }
-
-    // What is sure stays, with what the bits of `half` keep of the rest; all of it is sure.
-    fn settled(self, half: u64) -> Self
-        ensures filings { filings_of E.plain result.items.items ≡ filter (λ f. f.is_sure) (drawn_in_all half (filings_of E.plain self.items.items)) }
-        ensures accepted { result.accepted ≡ self.accepted }
-    {
-        let MemVolume {
-            mut items,
-            accepted,
-        } = self;
-        settle(&mut items, half);
-        MemVolume { items, accepted }
+        let filings = filings.try_clone()?.settled(half);
+        let index = index_of(*filings.items.allocator(), &filings.items)?;
+        Ok(MemVolume { filings, index })
     }
 }
 
-impl<E: Leaf> VolumeRuin for MemVolumeWreck<E> {
-    ghost left = { λ w. left_of (kept_in (filings_of E.plain w.volume.items.items)) };
+impl<E: KeyedLeaf> VolumeRuin for MemVolumeWreck<E> {
+    ghost left = { λ w. left_of (kept_in (filings_of E.plain w.filings.items.items)) };
 }
 
-impl<E: Leaf> EmptyStore for MemVolumeWreck<E> {
-    ghost is_empty = { λ w. length w.volume.items.items == 0 };
+impl<E: KeyedLeaf> EmptyStore for MemVolumeWreck<E> {
+    ghost is_empty = { λ w. length w.filings.items.items == 0 };
 
     fn empty(alloc: Global) -> Self {
         MemVolumeWreck {
-            volume: MemVolume {
-                items: Vec::new(alloc),
-                accepted: 0,
-            },
+            filings: Filings::new(alloc),
         }
     }
 }
 
-impl<E: Leaf> Volume for MemVolume<E> {
+impl<E: KeyedLeaf> Volume for MemVolume<E> {
     type Leaf = E;
 
     type Wreck = MemVolumeWreck<E>;
 
-    ghost book = { λ s. book_of s.accepted (filings_of E.plain s.items.items) };
+    ghost book = { λ s. book_of s.filings.accepted (filings_of E.plain s.filings.items.items) };
 
     ghost unfailing = { true };
 
-    ghost nested = { λ s. kept_nested (filings_of E.plain s.items.items) s.once };
+    ghost nested = { λ s. kept_nested (filings_of E.plain s.filings.items.items) s.filings.once };
 
     fn find(&self, wanted: &E::Wanted) -> Option<&E> {
-        find(&self.items, wanted)
+        match self.index.spot_of(&E::key_of(wanted)) {
+            Some(spot) => self.filings.leaf_at(spot.place),
+            None => None,
+        }
     }
 
     fn ticket(&self) -> u64 {
-        self.accepted
+        self.filings.accepted
     }
 
     fn change(self, change: Change<E>) -> Result<Self, Lost<MemVolumeWreck<E>>>
         ensures done { MatchResult result
-            (λ s. ChangesVolume E.plain change (book_of self.accepted (filings_of E.plain self.items.items))
-            (book_of s.accepted (filings_of E.plain s.items.items)))
-            (λ l. LosesVolume E.plain change (kept_in (filings_of E.plain self.items.items))
-            (left_of (kept_in (filings_of E.plain (wreck_of l).volume.items.items)))) }
+            (λ s. ChangesVolume E.plain change (book_of self.filings.accepted (filings_of E.plain self.filings.items.items))
+            (book_of s.filings.accepted (filings_of E.plain s.filings.items.items)))
+            (λ l. LosesVolume E.plain change (kept_in (filings_of E.plain self.filings.items.items))
+            (left_of (kept_in (filings_of E.plain (wreck_of l).filings.items.items)))) }
         ensures unfailing { IfErr result IsOfMemory }
     {
         match change {
             Change::Put(leaf) => match self.put(leaf) {
                 Ok(volume) => Ok(volume),
-                Err(volume) => Err(Lost::Memory(volume.wreck())),
+                Err(filings) => Err(Lost::Memory(MemVolumeWreck { filings })),
             },
             Change::Sync(section) => Ok(self.marked(section, u64::MAX)),
             Change::Finish(section, number) => Ok(self.marked(section, number)),
-            Change::PruneBelow(round) => Ok(self.without_below(round)),
-            Change::PruneCertified(height) => Ok(self.without_certified(height)),
+            Change::PruneBelow(round) => match MemVolume::of(self.filings.without_below(round)) {
+                Ok(volume) => Ok(volume),
+                Err(filings) => Err(Lost::Memory(MemVolumeWreck { filings })),
+            },
+            Change::PruneCertified(height) => {
+                match MemVolume::of(self.filings.without_certified(height)) {
+                    Ok(volume) => Ok(volume),
+                    Err(filings) => Err(Lost::Memory(MemVolumeWreck { filings })),
+                }
+            }
         }
     }
 
     fn wreck(self) -> MemVolumeWreck<E> {
-        MemVolumeWreck { volume: self }
+        MemVolumeWreck {
+            filings: self.filings,
+        }
     }
 
     fn reopen(wreck: MemVolumeWreck<E>, luck: u64) -> Result<Self, Lost<MemVolumeWreck<E>>> {
-        Ok(wreck.volume.settled(LuckHalf::Low.of(luck)))
+        match MemVolume::settled(&wreck.filings, LuckHalf::Low.of(luck)) {
+            Ok(volume) => Ok(volume),
+            Err(_) => Err(Lost::Memory(wreck)),
+        }
     }
 }
 
-impl<E: Leaf> VolumeDepot<MemVolumeWreck<E>> for MemDepot<MemVolumeWreck<E>> {
-    ghost empties = { λ w empty. nothing_filed E.plain w.volume.items.items empty };
+impl<E: KeyedLeaf> VolumeDepot<MemVolumeWreck<E>> for MemDepot<MemVolumeWreck<E>> {
+    ghost empties = { λ w empty. nothing_filed E.plain w.filings.items.items empty };
 }

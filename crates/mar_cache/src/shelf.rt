@@ -1,14 +1,14 @@
 //! The cache of what consensus and peers report before it is final.
-ghost use Rattle.std.specs.Prelude.{◌≡◌, ◌<◌, ◌≤◌, ◌++◌, ◌∷◌, ◌&&◌, ℕ, [], Contains, IfErr, IfOk, List, OnOk, option_map, true, false, map};
-ghost use Rattle.std.specs.List.{AllByRecursion};
+ghost use Rattle.std.specs.Prelude.{◌≡◌, ◌<◌, ◌≤◌, ◌++◌, ◌∷◌, ◌&&◌, ℕ, [], Contains, IfErr, IfOk, List, OnErr, OnOk, Option, option_and_then, option_map, true, false, map};
+ghost use Rattle.std.specs.List.{AllByRecursion, list_any};
 ghost use Rattle.mar_store.specs.Changes.{Within};
 ghost use Rattle.mar_store.specs.Lost.{wreck_of};
 ghost use Rattle.mar_store.specs.Watch.{Heeds, HeedsRead, Watch, armed};
-ghost use Rattle.mar_node.specs.Cached.{certified_entry, epoch_of, finalization_entry, notarization_entry, notarized_entry, verified_entry};
+ghost use Rattle.mar_node.specs.Cached.{Cached, cached_block, certified_entry, epoch_of, finalization_entry, notarization_entry, notarized_entry, verified_entry};
 ghost use Rattle.mar_node.specs.Cache.{is_certified_below};
 ghost use Rattle.mar_cache.specs.Bounds.{Bounds, bounds_of, includes};
 ghost use Rattle.mar_cache.specs.Calls.{IsPut, IsPutAndSynced, PutBounds, PutLeaves, Raises};
-ghost use Rattle.mar_cache.specs.Entries.{cached_of, is_sought};
+ghost use Rattle.mar_cache.specs.Entries.{cached_of, has_digest, is_for, is_notarization_at, is_sought, is_verified_at, sought_block};
 ghost use Rattle.mar_cache.specs.Sections.{first_found, section_of};
 ghost use Rattle.mar_cache.specs.Shelved.{AllChanges, AllLieWithin, IsClear, IsStarted, LeavesTomes, LieWithin, OpensOrStays, ThinsTome, at_epoch, finishes};
 ghost use Rattle.mar_cache.specs.Shelved.{is_pruned_by, nothing_gone, pruned_bounds, shelf_watch};
@@ -16,7 +16,7 @@ ghost use Rattle.mar_cache.specs.Tomes.{ChangesTome, HasSome, IsBare, IsLeftOrBa
 ghost use Rattle.mar_cache.specs.Tomes.{held_in, is_opened, left_of_tome};
 
 use crate::change::Change;
-use crate::entry::{Entry, KeptEntry, Sought};
+use crate::entry::{BlockName, Entry, KeptEntry, Sought, sought_block};
 use crate::manager::{Manager, ManagerWreck};
 use crate::section::Section;
 use crate::stacks::{Stacks, StacksRuin};
@@ -37,6 +37,12 @@ pub trait ShelfRuin: Drop {
 
     /// What it tells of its failures.
     ghost watch: { Self → Watch };
+
+    /// Makes the counted call fail that is so many calls away, 1 being the next, which is the reopening.
+    fn arm(&mut self, calls: u64) -> Result<(), AllocError>
+        ensures armed { OnOk result (watch self.new ≡ armed calls (watch self.old)) }
+        ensures unarmed { OnErr result (watch self.new ≡ watch self.old) }
+        ensures same { (ways self.new ≡ ways self.old) × (bounds self.new ≡ bounds self.old) };
 
     ghost within: { (w : Self) → AllLieWithin (ways w) (bounds w) };
 }
@@ -187,6 +193,79 @@ pub trait Shelf<V: Variant, N: AsFinalization, F: CommitsTo<V::Commitment>>: Dro
         ensures same { (tomes self.new ≡ tomes self.old) × (bounds self.new ≡ bounds self.old) × (left self.new ≡ left self.old) }
         ensures watched { HeedsRead (watch self.old) (watch self.new) result };
 
+    /// The notarization of a round.
+    final fn get_notarization(&mut self, round: Round) -> Result<Option<N>, Miss>
+        ensures found { IfOk result (λ o. option_map (λ n. notarization_entry (N.plain n)) o
+            ≡ first_found (is_notarization_at round) (held_in (tomes self.old round.epoch))) }
+        ensures same { (tomes self.new ≡ tomes self.old) × (bounds self.new ≡ bounds self.old) × (left self.new ≡ left self.old) }
+        ensures watched { HeedsRead (watch self.old) (watch self.new) result }
+    {
+        match self.get(round.epoch(), Sought::NotarizationAt(round)) {
+            Ok(Some(entry)) => Ok(entry.into_notarization()),
+            Ok(None) => Ok(None),
+            Err(miss) => Err(miss),
+        }
+    }
+
+    /// Whether the block of a digest was verified in a round.
+    final fn has_verified(&mut self, round: Round, digest: V::Digest) -> Result<bool, Miss>
+        ensures found { IfOk result (λ b. b ≡ list_any (λ x. is_verified_at round x && has_digest (V.Digest.bytes digest) (cached_block x))
+            (held_in (tomes self.old round.epoch))) }
+        ensures same { (tomes self.new ≡ tomes self.old) × (bounds self.new ≡ bounds self.old) × (left self.new ≡ left self.old) }
+        ensures watched { HeedsRead (watch self.old) (watch self.new) result }
+    {
+        match self.get(round.epoch(), Sought::VerifiedBlock(round, digest)) {
+            Ok(found) => Ok(found.is_some()),
+            Err(miss) => Err(miss),
+        }
+    }
+
+    /// The block that was verified in a round, of several the one put first.
+    final fn get_verified(&mut self, round: Round) -> Result<Option<V::Block>, Miss>
+        ensures found { IfOk result (λ o. option_map V.plain o
+            ≡ option_and_then cached_block (first_found (is_verified_at round) (held_in (tomes self.old round.epoch)))) }
+        ensures same { (tomes self.new ≡ tomes self.old) × (bounds self.new ≡ bounds self.old) × (left self.new ≡ left self.old) }
+        ensures watched { HeedsRead (watch self.old) (watch self.new) result }
+    {
+        match self.get(round.epoch(), Sought::VerifiedAt(round)) {
+            Ok(Some(entry)) => Ok(entry.into_block()),
+            Ok(None) => Ok(None),
+            Err(miss) => Err(miss),
+        }
+    }
+
+    /// A finalization of the block of a digest: in the newest epoch that has one, there that of the lowest view.
+    final fn get_finalization_for(&mut self, digest: V::Digest) -> Result<Option<F>, Miss>
+        ensures found { IfOk result (λ o. IsNewest (is_for V.inner (V.Digest.bytes digest)) (tomes self.old)
+            (option_map (λ f. finalization_entry (F.plain f)) o)) }
+        ensures same { (tomes self.new ≡ tomes self.old) × (bounds self.new ≡ bounds self.old) × (left self.new ≡ left self.old) }
+        ensures watched { HeedsRead (watch self.old) (watch self.new) result }
+    {
+        match self.search(Sought::FinalizationFor(digest)) {
+            Ok(Some(entry)) => Ok(entry.into_finalization()),
+            Ok(None) => Ok(None),
+            Err(miss) => Err(miss),
+        }
+    }
+
+    /// The block of a digest or of a commitment: in the newest epoch that has one, there among the verified blocks, then
+    /// the notarized and the certified ones, at the lowest view or height.
+    final fn find_block_matching(
+        &mut self,
+        name: BlockName<V::Digest, V::Commitment>,
+    ) -> Result<Option<V::Block>, Miss>
+        ensures found { IfOk result (λ o. (x : Option Cached) × (IsNewest (is_sought V.Digest.bytes V.Commitment.bytes V.inner (sought_block name))
+            (tomes self.old) x × (option_map V.plain o ≡ option_and_then cached_block x))) }
+        ensures same { (tomes self.new ≡ tomes self.old) × (bounds self.new ≡ bounds self.old) × (left self.new ≡ left self.old) }
+        ensures watched { HeedsRead (watch self.old) (watch self.new) result }
+    {
+        match self.search(sought_block(name)) {
+            Ok(Some(entry)) => Ok(entry.into_block()),
+            Ok(None) => Ok(None),
+            Err(miss) => Err(miss),
+        }
+    }
+
     /// Makes sure what a ticket covers. A ticket of an earlier life is none.
     fn finish(self, ticket: CacheTicket) -> Result<Self, Lost<Self::Wreck>>
     where
@@ -273,6 +352,10 @@ impl<S: Stacks, M: Meta> ShelfRuin for ManagerWreck<S, M> {
     ghost watch = { λ w. shelf_watch w.alarm (S.Wreck.calm w.stacks && (M.Wreck.watch w.meta).only_armed) };
 
     ghost within = { λ w. w.within };
+
+    fn arm(&mut self, calls: u64) -> Result<(), AllocError> {
+        ManagerWreck::arm(self, calls)
+    }
 }
 
 impl<V: Variant, N: AsFinalization, F: CommitsTo<V::Commitment>, S: Stacks, M: Meta> Shelf<V, N, F>

@@ -2,7 +2,7 @@
 //! carry; each calls one function of the library. They are of any cache, which
 //! `Maker` makes: that a cache in memory is let go costs much to prove, since its type is made of many.
 use crate::light::{Light, Name, Plate, Vote};
-use mar_cache::{CacheTicket, Entry, Shelf, Sought, Started};
+use mar_cache::{BlockName, CacheTicket, Entry, Shelf, ShelfRuin, Sought, Started};
 use mar_store::{Lost, Miss};
 use mar_types::{Epoch, Height, Round, View};
 use std::alloc::Global;
@@ -137,6 +137,28 @@ pub fn start_sync_notarizations<C: Shelf<Light, Vote, Vote>>(
     started(answer, starts, last)
 }
 
+/// Starts a sync of the notarizations of an epoch, as one with the last sync that started.
+pub fn join_notarizations<C: Shelf<Light, Vote, Vote>>(
+    cache: C,
+    epoch: u64,
+    last: &mut Option<CacheTicket>,
+) -> Life<C> {
+    let first = *last;
+    let life = start_sync_notarizations(cache, epoch, true, last);
+    *last = joined(first, *last);
+    life
+}
+
+// Two syncs of archives of one epoch as one.
+fn joined(first: Option<CacheTicket>, other: Option<CacheTicket>) -> Option<CacheTicket> {
+    match (first, other) {
+        (Some(first), Some(other)) if first.epoch == other.epoch && first.second.is_none() => {
+            Some(first.join(other))
+        }
+        _ => None,
+    }
+}
+
 pub fn finish<C: Shelf<Light, Vote, Vote>>(cache: C, last: Option<CacheTicket>) -> Life<C> {
     match last {
         Some(ticket) => changed(cache.finish(ticket)),
@@ -165,6 +187,15 @@ pub fn reopen<C: Shelf<Light, Vote, Vote>>(wreck: C::Wreck, luck: u64) -> Life<C
     changed(C::reopen(wreck, luck))
 }
 
+/// Arms what is left of a cache.
+pub fn arm_left<C: Shelf<Light, Vote, Vote>>(wreck: C::Wreck, calls: u64) -> Life<C> {
+    let mut wreck = wreck;
+    match wreck.arm(calls) {
+        Ok(()) => Life::Left(wreck),
+        Err(_) => Life::Wrong,
+    }
+}
+
 pub fn arm<C: Shelf<Light, Vote, Vote>>(cache: C, calls: u64) -> Life<C> {
     let mut cache = cache;
     match cache.arm(calls) {
@@ -180,14 +211,6 @@ fn looked<C: Shelf<Light, Vote, Vote>>(cache: C, found: Result<bool, Miss>) -> L
         Err(Miss::Fault) => crash(cache),
         _ => Life::Wrong,
     }
-}
-
-fn get<C: Shelf<Light, Vote, Vote>>(
-    cache: &mut C,
-    epoch: u64,
-    sought: Sought<Name, Name>,
-) -> Result<Option<Held>, Miss> {
-    cache.get(Epoch::new(epoch), sought)
 }
 
 fn search<C: Shelf<Light, Vote, Vote>>(
@@ -218,72 +241,100 @@ fn stands(found: Result<Option<Held>, Miss>, want: Option<Place>) -> Result<bool
     }
 }
 
-// Whether what was found is the verified block of that height.
-fn is_block(found: Result<Option<Held>, Miss>, want: Option<u8>) -> Result<bool, Miss> {
+// Whether what was found is the block of that height.
+fn is_block(found: Result<Option<Plate>, Miss>, want: Option<u8>) -> Result<bool, Miss> {
     match (found, want) {
         (Err(miss), _) => Err(miss),
-        (Ok(Some(Entry::Verified(_, block))), Some(height)) => Ok(block.name == name_at(height)),
+        (Ok(Some(block)), Some(height)) => Ok(block.name == name_at(height)),
+        (Ok(None), None) => Ok(true),
+        _ => Ok(false),
+    }
+}
+
+// Whether what was found is a certificate of that round.
+fn is_of(found: Result<Option<Vote>, Miss>, want: Option<Round>) -> Result<bool, Miss> {
+    match (found, want) {
+        (Err(miss), _) => Err(miss),
+        (Ok(Some(over)), Some(at)) => Ok(over.round == at),
         (Ok(None), None) => Ok(true),
         _ => Ok(false),
     }
 }
 
 /// The verified block of a round: its height.
-pub fn get_verified<C: Shelf<Light, Vote, Vote>>(
-    cache: C,
-    epoch: u64,
-    view: u64,
-    want: Option<u8>,
-) -> Life<C> {
+pub fn get_verified<C: Shelf<Light, Vote, Vote>>(cache: C, at: Round, want: Option<u8>) -> Life<C> {
     let mut cache = cache;
-    let found = get(&mut cache, epoch, Sought::VerifiedAt(round(epoch, view)));
+    let found = cache.get_verified(at);
     looked(cache, is_block(found, want))
 }
 
 pub fn has_verified<C: Shelf<Light, Vote, Vote>>(
     cache: C,
-    epoch: u64,
-    view: u64,
+    at: Round,
     height: u8,
     is_there: bool,
 ) -> Life<C> {
     let mut cache = cache;
-    let sought = Sought::VerifiedBlock(round(epoch, view), name_at(height));
-    let found = get(&mut cache, epoch, sought);
-    let want = if is_there { Some(height) } else { None };
-    looked(cache, is_block(found, want))
+    let found = match cache.has_verified(at, name_at(height)) {
+        Ok(has) => Ok(has == is_there),
+        Err(miss) => Err(miss),
+    };
+    looked(cache, found)
 }
 
 pub fn get_notarization<C: Shelf<Light, Vote, Vote>>(
     cache: C,
-    epoch: u64,
-    view: u64,
+    at: Round,
     is_there: bool,
 ) -> Life<C> {
     let mut cache = cache;
-    let sought = Sought::NotarizationAt(round(epoch, view));
-    let found = get(&mut cache, epoch, sought);
-    let want = if is_there {
-        Some(('o', epoch, view))
-    } else {
-        None
-    };
-    looked(cache, stands(found, want))
+    let found = cache.get_notarization(at);
+    let want = if is_there { Some(at) } else { None };
+    looked(cache, is_of(found, want))
 }
 
-/// The finalization of the block of a height.
+/// The finalization of the block of a height: its round.
 pub fn get_finalization_for<C: Shelf<Light, Vote, Vote>>(
     cache: C,
     height: u8,
-    want: Option<Place>,
+    want: Option<Round>,
 ) -> Life<C> {
     let mut cache = cache;
-    let found = search(&mut cache, Sought::FinalizationFor(name_at(height)));
-    looked(cache, stands(found, want))
+    let found = cache.get_finalization_for(name_at(height));
+    looked(cache, is_of(found, want))
 }
 
-/// The block of a height, by its digest.
+/// Whether there is a block of that name, which is a height's.
+pub fn find_block<C: Shelf<Light, Vote, Vote>>(
+    cache: C,
+    name: BlockName<Name, Name>,
+    want: Option<u8>,
+) -> Life<C> {
+    let mut cache = cache;
+    let found = cache.find_block_matching(name);
+    looked(cache, is_block(found, want))
+}
+
 pub fn find_by_digest<C: Shelf<Light, Vote, Vote>>(
+    cache: C,
+    height: u8,
+    is_there: bool,
+) -> Life<C> {
+    let want = if is_there { Some(height) } else { None };
+    find_block(cache, BlockName::Digest(name_at(height)), want)
+}
+
+pub fn find_by_commitment<C: Shelf<Light, Vote, Vote>>(
+    cache: C,
+    height: u8,
+    is_there: bool,
+) -> Life<C> {
+    let want = if is_there { Some(height) } else { None };
+    find_block(cache, BlockName::Commitment(name_at(height)), want)
+}
+
+/// The block of a height, by its digest: where it stands.
+pub fn place_by_digest<C: Shelf<Light, Vote, Vote>>(
     cache: C,
     height: u8,
     want: Option<Place>,
@@ -294,7 +345,7 @@ pub fn find_by_digest<C: Shelf<Light, Vote, Vote>>(
 }
 
 /// The same by its commitment.
-pub fn find_by_commitment<C: Shelf<Light, Vote, Vote>>(
+pub fn place_by_commitment<C: Shelf<Light, Vote, Vote>>(
     cache: C,
     height: u8,
     want: Option<Place>,

@@ -46,7 +46,7 @@ fn keeps<C: Shelf<Light, Vote, Vote>>(
 ) -> Life<C> {
     let (epoch, view, height, ..) = stay;
     match (life, wanted(stay, failed, luck)) {
-        (Life::Open(cache), Some(want)) => has_verified(cache, epoch, view, height, want),
+        (Life::Open(cache), Some(want)) => { has_verified(cache, round(epoch, view), height, want) }
         (life, _) => life,
     }
 }
@@ -80,6 +80,31 @@ pub fn a_call_that_fails_leaves_what_was_sure<M: Maker>(rt: &impl Abort, alloc: 
         let wrong = wrong_place::<M>(alloc, luck);
         assert!(rt; wrong.is_none(), "call {wrong:?}, luck {luck}");
     }
+}
+
+// What is left of a cache, armed and then opened.
+fn reopened<C: Shelf<Light, Vote, Vote>>(life: Life<C>, calls: u64) -> Life<C> {
+    match life {
+        Life::Left(wreck) => match arm_left(wreck, calls) {
+            Life::Left(wreck) => reopen(wreck, 0),
+            other => other,
+        },
+        other => other,
+    }
+}
+
+// Whether a reopening fails where what is left is armed, twice, and leaves what was left.
+fn reopens_unarmed<M: Maker>(alloc: Global) -> bool {
+    let puts = [Call::PutCertified(0, 1), Call::Crash];
+    let (life, _) = play(Life::Open(M::empty(alloc)), &puts);
+    let once = reopened(life, 1);
+    let twice = reopened(once, 1);
+    let is_left = matches!(twice, Life::Left(_));
+    is_left && answers(go_on(twice, 0), &[Call::Digest(1, Some(('c', 0, 1)))])
+}
+
+pub fn a_reopening_fails_where_what_is_left_is_armed<M: Maker>(rt: &impl Abort, alloc: Global) {
+    assert!(rt; reopens_unarmed::<M>(alloc), "not left");
 }
 
 // Whether a reopening fails that is armed, and leaves what was left.

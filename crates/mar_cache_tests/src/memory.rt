@@ -5,7 +5,7 @@ use crate::failures::*;
 use crate::light::{Light, Vote};
 use crate::luck::*;
 use crate::scripts::*;
-use mar_cache::{CacheEntry, KeptEntry, Manager, MemStacks, Stacks, empty_shelf};
+use mar_cache::{CacheEntry, KeptEntry, KeyedLeaf, Manager, MemStacks, Stacks, empty_shelf};
 use mar_store::{MemMeta, Meta};
 use std::alloc::Global;
 use std::marker::PhantomData;
@@ -15,8 +15,10 @@ fn all_scripts_are_answered<M: Maker>(rt: &impl Abort, alloc: Global) {
     epochs_are_kept::<M>(rt, alloc);
     what_is_put_with_a_sync_is_found_again::<M>(rt, alloc);
     a_ticket_covers_what_was_put_before_it::<M>(rt, alloc);
+    a_joined_ticket_covers_two_archives::<M>(rt, alloc);
     a_call_that_fails_leaves_what_was_sure::<M>(rt, alloc);
     a_reopening_fails_where_it_is_armed::<M>(rt, alloc);
+    a_reopening_fails_where_what_is_left_is_armed::<M>(rt, alloc);
     luck_keeps_what_is_unsure::<M>(rt, alloc);
 }
 
@@ -47,11 +49,11 @@ fn of_managers<P: Managed>(rt: &impl Abort, alloc: Global) {
     all_scripts_are_answered::<ByManager<P>>(rt, alloc);
 }
 
-struct InMemory<E: KeptEntry<Light, Vote, Vote>> {
+struct InMemory<E: KeptEntry<Light, Vote, Vote> + KeyedLeaf> {
     of: PhantomData<E>,
 }
 
-impl<E: KeptEntry<Light, Vote, Vote>> Managed for InMemory<E> {
+impl<E: KeptEntry<Light, Vote, Vote> + KeyedLeaf> Managed for InMemory<E> {
     type Leaf = E;
 
     type Stacks = MemStacks<E>;
@@ -63,7 +65,7 @@ impl<E: KeptEntry<Light, Vote, Vote>> Managed for InMemory<E> {
     }
 }
 
-fn of_entries<E: KeptEntry<Light, Vote, Vote>>(rt: &impl Abort, alloc: Global) {
+fn of_entries<E: KeptEntry<Light, Vote, Vote> + KeyedLeaf>(rt: &impl Abort, alloc: Global) {
     of_managers::<InMemory<E>>(rt, alloc);
 }
 

@@ -17,6 +17,8 @@ pub enum Call {
     PutFinalization(u64, u64, u8),
     SyncVerified(u64, bool),
     SyncNotarizations(u64, bool),
+    // One with the last sync that started.
+    JoinNotarizations(u64),
     // Of the last sync that started.
     Finish,
     PruneByView(u64, u64),
@@ -25,7 +27,10 @@ pub enum Call {
     Verified(u64, u64, Option<u8>),
     Has(u64, u64, u8, bool),
     Notarization(u64, u64, bool),
-    Finalization(u8, Option<Place>),
+    Finalization(u8, Option<(u64, u64)>),
+    Block(u8, bool),
+    Committed(u8, bool),
+    // Where the block stands.
     Digest(u8, Option<Place>),
     Commitment(u8, Option<Place>),
     // These aren't counted.
@@ -68,6 +73,7 @@ fn rule<C: Shelf<Light, Vote, Vote>>(
         Call::SyncNotarizations(epoch, starts) => {
             start_sync_notarizations(cache, epoch, starts, last)
         }
+        Call::JoinNotarizations(epoch) => join_notarizations(cache, epoch, last),
         Call::Finish => finish(cache, *last),
         Call::PruneByView(epoch, view) => prune_by_view(cache, round(epoch, view)),
         Call::PruneByHeight(height) => prune_by_height(cache, height),
@@ -80,16 +86,21 @@ fn rule<C: Shelf<Light, Vote, Vote>>(
 
 fn look_up<C: Shelf<Light, Vote, Vote>>(cache: C, call: Call) -> Life<C> {
     match call {
-        Call::Verified(epoch, view, want) => get_verified(cache, epoch, view, want),
+        Call::Verified(epoch, view, want) => get_verified(cache, round(epoch, view), want),
         Call::Has(epoch, view, height, is_there) => {
-            has_verified(cache, epoch, view, height, is_there)
+            has_verified(cache, round(epoch, view), height, is_there)
         }
         Call::Notarization(epoch, view, is_there) => {
-            get_notarization(cache, epoch, view, is_there)
+            get_notarization(cache, round(epoch, view), is_there)
         }
-        Call::Finalization(height, want) => get_finalization_for(cache, height, want),
-        Call::Digest(height, want) => find_by_digest(cache, height, want),
-        Call::Commitment(height, want) => find_by_commitment(cache, height, want),
+        Call::Finalization(height, None) => get_finalization_for(cache, height, None),
+        Call::Finalization(height, Some((epoch, view))) => {
+            get_finalization_for(cache, height, Some(round(epoch, view)))
+        }
+        Call::Block(height, is_there) => find_by_digest(cache, height, is_there),
+        Call::Committed(height, is_there) => find_by_commitment(cache, height, is_there),
+        Call::Digest(height, want) => place_by_digest(cache, height, want),
+        Call::Commitment(height, want) => place_by_commitment(cache, height, want),
         _ => Life::Wrong,
     }
 }
@@ -138,7 +149,7 @@ fn finds_again<M: Maker>(alloc: Global, calls: &[Call], found: &[Call]) -> bool 
 }
 
 // Every call, over epochs that a prune destroys.
-pub const CALLS: [Call; 56] = [
+pub const CALLS: [Call; 59] = [
     Call::SyncVerified(0, false),
     Call::SyncNotarizations(0, false),
     Call::PutVerified(0, 1, 1, true),
@@ -160,7 +171,7 @@ pub const CALLS: [Call; 56] = [
     Call::PutFinalization(0, 3, 3),
     Call::PutFinalization(2, 5, 3),
     Call::PutFinalization(2, 4, 3),
-    Call::Finalization(3, Some(('f', 2, 4))),
+    Call::Finalization(3, Some((2, 4))),
     Call::Finalization(1, None),
     Call::PutCertified(2, 6),
     Call::Digest(6, Some(('c', 2, 6))),
@@ -176,7 +187,7 @@ pub const CALLS: [Call; 56] = [
     Call::Load,
     // Below a view: its own view stays.
     Call::PruneByView(2, 5),
-    Call::Finalization(3, Some(('f', 2, 5))),
+    Call::Finalization(3, Some((2, 5))),
     Call::Verified(0, 1, None),
     Call::Digest(3, None),
     Call::Digest(6, Some(('c', 2, 6))),
@@ -198,6 +209,9 @@ pub const CALLS: [Call; 56] = [
     Call::SyncVerified(4, true),
     Call::Finish,
     Call::Finalization(3, None),
+    Call::Block(9, true),
+    Call::Committed(9, true),
+    Call::Block(3, false),
     Call::Verified(4, 0, Some(9)),
 ];
 
@@ -215,9 +229,25 @@ const FOUND: [Call; 6] = [
     Call::SyncVerified(0, true),
     Call::Has(0, 1, 1, false),
     Call::Digest(8, Some(('c', 0, 8))),
-    Call::Finalization(8, Some(('f', 1, 1))),
+    Call::Finalization(8, Some((1, 1))),
     Call::SyncVerified(1, true),
     Call::SyncVerified(2, false),
+];
+
+// The ticket of a put of a notarized block and that of the notarizations as one: it covers both archives.
+const JOINED: [Call; 6] = [
+    Call::PutNotarization(0, 2, 2, true),
+    Call::PutNotarized(0, 1, 1, true),
+    Call::JoinNotarizations(0),
+    Call::Finish,
+    Call::PutNotarization(0, 3, 3, true),
+    Call::Crash,
+];
+
+const FOUND_JOINED: [Call; 3] = [
+    Call::Digest(1, Some(('n', 0, 1))),
+    Call::Notarization(0, 2, true),
+    Call::Notarization(0, 3, false),
 ];
 
 // The ticket of the second put covers both, that of the first only its own.
@@ -270,6 +300,13 @@ pub fn epochs_are_kept<M: Maker>(rt: &impl Abort, alloc: Global) {
 
 pub fn what_is_put_with_a_sync_is_found_again<M: Maker>(rt: &impl Abort, alloc: Global) {
     assert!(rt; finds_again::<M>(alloc, &SYNCED, &FOUND), "not found");
+}
+
+pub fn a_joined_ticket_covers_two_archives<M: Maker>(rt: &impl Abort, alloc: Global) {
+    assert!(rt;
+        finds_again::<M>(alloc, &JOINED, &FOUND_JOINED),
+        "not found"
+    );
 }
 
 pub fn a_ticket_covers_what_was_put_before_it<M: Maker>(rt: &impl Abort, alloc: Global) {

@@ -1,10 +1,10 @@
-use Rattle.std.proofs.Common.{sym, subst}
-use Rattle.mar_cache.specs.Filings.{AreNumbered}
-use Rattle.mar_cache.proofs.VolumeChanges.{mark_once, marked_numbered}
+use Rattle.std.proofs.Common.{◌∙◌, ap, sym}
+use Rattle.mar_cache.specs.Filings.{entries, filings_of}
+use Rattle.mar_cache.specs.Spots.{spot_found}
+use Rattle.mar_cache.proofs.VolumeChanges.{entries_marked}
 use Rattle.mar_cache.proofs.mem_volume.MemVolume.marked.Goals as goal
 
 pub invariant_of-result : goal.invariant_of-result
 invariant_of-result g c = record {
-  once = mark_once c.args.section c.args.number _ _ c.mark.ensures c.args.self.once;
-  counted = subst (AreNumbered c.args.self.accepted) (sym c.mark.ensures) (marked_numbered c.args.section c.args.number c.args.self.accepted _ c.args.self.counted);
+  indexed = λ k. c.args.self.indexed k ∙ ap (spot_found (g.E.KeyedLeaf.has k)) (sym (ap entries c.marked.ensures.filings ∙ entries_marked c.args.section c.args.number (filings_of g.E.Leaf.plain c.args.self.filings.items.items)));
 }

@@ -1,7 +1,7 @@
 use Rattle.std.proofs.Common.{sym, subst}
 use Rattle.mar_cache.specs.Filings.{AreNumbered}
 use Rattle.mar_cache.proofs.VolumeChanges.{finds_once, settled_numbered}
-use Rattle.mar_cache.proofs.mem_volume.MemVolume.settled.Goals as goal
+use Rattle.mar_cache.proofs.filings.Filings.settled.Goals as goal
 
 pub invariant_of-result : goal.invariant_of-result
 invariant_of-result g c = record {
