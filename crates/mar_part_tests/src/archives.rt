@@ -1,4 +1,6 @@
 //! Archives in memory: scripts of calls, and tables of what luck keeps.
+ghost use Rattle.std.specs.Prelude.{◌≤◌, IfOk};
+
 use crate::ranges::are;
 use mar_codec::{Digest, Hasher, Sha256, Sha256Digest};
 use mar_store::{Archive, ArchiveRuin, Identifier, Item, Lost, LuckHalf, MemArchive, Miss};
@@ -46,9 +48,9 @@ fn item_of(number: u64, byte: u8) -> Numbered {
     }
 }
 
-// A call, and what it is to answer. One that changes an archive may end it, and the next call tells whether it did.
+// What changes an archive, or ends it.
 #[derive(Clone, Copy)]
-enum Call {
+enum Change {
     // A number under a digest of that byte, at an index.
     Put(u64, u64, u8),
     // The bytes from one to below another, each at the index of its number.
@@ -59,8 +61,16 @@ enum Call {
     // A sync that starts, a put, another that starts, a put, and both finished, the later one first.
     SyncTwice(u8, u8),
     Prune(u64),
-    // The eight counted calls, up to the first that fails.
-    EightCalls,
+}
+
+use Change::{Prune, Put, PutAll, Sync, SyncAround, SyncTwice};
+
+// A call, and what it is to answer. The call after a change tells whether the change ended the archive.
+#[derive(Clone, Copy)]
+enum Call {
+    Do(Change),
+    // The same, or nothing where the archive has ended.
+    Try(Change),
     Crash,
     Arm(u64),
     HasAt(u64, Result<bool, Miss>),
@@ -79,25 +89,15 @@ enum Call {
 }
 
 // An archive, or what is left of it.
-#[derive(Drop)]
-enum Life<A: Archive<Numbered>> {
-    Open(A),
-    Left(A::Wreck),
-}
+type Life<A> = Result<A, Lost<<A as Archive<Numbered>>::Wreck>>;
 
-fn life_of<A: Archive<Numbered>>(answer: Result<A, Lost<A::Wreck>>) -> Option<Life<A>> {
-    match answer {
-        Ok(archive) => Some(Life::Open(archive)),
-        Err(Lost::Fault(wreck)) => Some(Life::Left(wreck)),
-        Err(Lost::Memory(_)) => None,
-    }
-}
-
-fn put<A: Archive<Numbered>>(archive: A, byte: u8) -> Result<A, Lost<A::Wreck>> {
+fn put<A: Archive<Numbered>>(archive: A, byte: u8) -> Life<A>
+    ensures { IfOk result (λ a. A.number archive ≤ A.number a) }
+{
     archive.put(u64::from(byte), item_of(u64::from(byte), byte))
 }
 
-fn put_all<A: Archive<Numbered>>(archive: A, from: u8, to: u8) -> Result<A, Lost<A::Wreck>> {
+fn put_all<A: Archive<Numbered>>(archive: A, from: u8, to: u8) -> Life<A> {
     let mut archive = archive;
     for byte in from..to {
         archive = put(archive, byte)?;
@@ -105,32 +105,30 @@ fn put_all<A: Archive<Numbered>>(archive: A, from: u8, to: u8) -> Result<A, Lost
     Ok(archive)
 }
 
-fn sync_around<A: Archive<Numbered>>(archive: A, byte: u8) -> Result<A, Lost<A::Wreck>> {
+fn sync_around<A: Archive<Numbered>>(archive: A, byte: u8) -> Life<A>
+    ensures { IfOk result (λ a. A.number archive ≤ A.number a) }
+{
     let (archive, ticket) = archive.start_sync()?;
-    let archive = archive.put(u64::from(byte), item_of(u64::from(byte), byte))?;
+    let archive = put(archive, byte)?;
     archive.finish(ticket)
 }
 
-fn sync_twice<A: Archive<Numbered>>(
-    archive: A,
-    first: u8,
-    second: u8,
-) -> Result<A, Lost<A::Wreck>> {
+fn sync_twice<A: Archive<Numbered>>(archive: A, first: u8, second: u8) -> Life<A> {
     let (archive, earlier) = archive.start_sync()?;
-    let archive = archive.put(u64::from(first), item_of(u64::from(first), first))?;
-    let (archive, later) = archive.start_sync()?;
-    let archive = archive.put(u64::from(second), item_of(u64::from(second), second))?;
-    let archive = archive.finish(later)?;
+    let archive = put(archive, first)?;
+    let archive = sync_around(archive, second)?;
     archive.finish(earlier)
 }
 
-// Two puts and a sync, a third put, a sync that starts, a fourth put before it finishes, a prune.
-fn eight_calls<A: Archive<Numbered>>(archive: A) -> Result<A, Lost<A::Wreck>> {
-    let archive = put_all(archive, 0, 2)?;
-    let archive = archive.sync()?;
-    let archive = put_all(archive, 2, 3)?;
-    let archive = sync_around(archive, 3)?;
-    archive.prune(1)
+fn changed<A: Archive<Numbered>>(archive: A, change: Change) -> Life<A> {
+    match change {
+        Put(index, number, byte) => archive.put(index, item_of(number, byte)),
+        PutAll(from, to) => put_all(archive, from, to),
+        Sync => archive.sync(),
+        SyncAround(byte) => sync_around(archive, byte),
+        SyncTwice(first, second) => sync_twice(archive, first, second),
+        Prune(min) => archive.prune(min),
+    }
 }
 
 fn number_at<A: Archive<Numbered>>(
@@ -160,42 +158,43 @@ fn answers<A: Archive<Numbered>>(archive: &mut A, call: Call) -> bool {
 fn of_archive<A: Archive<Numbered>>(archive: A, call: Call) -> Option<Life<A>> {
     let mut archive = archive;
     match call {
-        Call::Put(index, number, byte) => life_of(archive.put(index, item_of(number, byte))),
-        Call::PutAll(from, to) => life_of(put_all(archive, from, to)),
-        Call::Sync => life_of(archive.sync()),
-        Call::SyncAround(byte) => life_of(sync_around(archive, byte)),
-        Call::SyncTwice(first, second) => life_of(sync_twice(archive, first, second)),
-        Call::Prune(min) => life_of(archive.prune(min)),
-        Call::EightCalls => life_of(eight_calls(archive)),
-        Call::Crash | Call::End => Some(Life::Left(archive.wreck())),
-        _ if answers(&mut archive, call) => Some(Life::Open(archive)),
+        Call::Do(change) | Call::Try(change) => Some(changed(archive, change)),
+        Call::Crash | Call::End => Some(Err(Lost::Fault(archive.wreck()))),
+        _ if answers(&mut archive, call) => Some(Ok(archive)),
         _ => None,
+    }
+}
+
+fn tells<W: ArchiveRuin<Numbered>>(wreck: &mut W, call: Call) -> bool {
+    match call {
+        Call::ArmLeft(calls) => wreck.arm(calls).is_ok(),
+        Call::LeftSure(want) => are(wreck.sure_ranges(), want),
+        Call::LeftAll(want) => are(wreck.may_ranges(), want),
+        Call::End | Call::Try(_) => true,
+        _ => false,
     }
 }
 
 fn of_wreck<A: Archive<Numbered>>(wreck: A::Wreck, call: Call) -> Option<Life<A>> {
     let mut wreck = wreck;
-    let is_so = match call {
-        Call::Reopen(luck) => return life_of(A::reopen(wreck, luck)),
-        Call::ArmLeft(calls) => wreck.arm(calls).is_ok(),
-        Call::LeftSure(want) => are(wreck.sure_ranges(), want),
-        Call::LeftAll(want) => are(wreck.may_ranges(), want),
-        Call::End => true,
-        _ => false,
-    };
-    if is_so { Some(Life::Left(wreck)) } else { None }
+    match call {
+        Call::Reopen(luck) => Some(A::reopen(wreck, luck)),
+        _ if tells(&mut wreck, call) => Some(Err(Lost::Fault(wreck))),
+        _ => None,
+    }
 }
 
 fn after<A: Archive<Numbered>>(life: Life<A>, call: Call) -> Option<Life<A>> {
     match life {
-        Life::Open(archive) => of_archive(archive, call),
-        Life::Left(wreck) => of_wreck(wreck, call),
+        Ok(archive) => of_archive(archive, call),
+        Err(Lost::Fault(wreck)) => of_wreck(wreck, call),
+        Err(Lost::Memory(_)) => None,
     }
 }
 
 // The place of the first call that doesn't answer as it is to.
 fn wrong_place<A: Archive<Numbered>>(archive: A, calls: &[Call]) -> Option<usize> {
-    let mut life = Life::Open(archive);
+    let mut life = Ok(archive);
     for (place, call) in calls.iter().enumerate() {
         match after(life, *call) {
             Some(next) => life = next,
@@ -218,14 +217,14 @@ fn follow(rt: &impl Abort, alloc: Global, half: LuckHalf, calls: &[Call]) {
 
 const AMPLE_MEMORY: [Call; 21] = [
     Call::Last(None),
-    Call::PutAll(3, 6),
-    Call::PutAll(7, 9),
-    Call::Sync,
-    Call::Put(20, 20, 20),
+    Call::Do(PutAll(3, 6)),
+    Call::Do(PutAll(7, 9)),
+    Call::Do(Sync),
+    Call::Do(Put(20, 20, 20)),
     // The index is held, and then the digest.
-    Call::Put(20, 21, 21),
-    Call::Put(22, 22, 20),
-    Call::Prune(5),
+    Call::Do(Put(20, 21, 21)),
+    Call::Do(Put(22, 22, 20)),
+    Call::Do(Prune(5)),
     Call::Held(&[(5, 5), (7, 8), (20, 20)]),
     Call::Last(Some(20)),
     Call::NumberAt(20, Ok(Some(20))),
@@ -236,15 +235,15 @@ const AMPLE_MEMORY: [Call; 21] = [
     Call::LeftSure(&[(5, 5), (7, 8)]),
     Call::LeftAll(&[(5, 5), (7, 8), (20, 20)]),
     Call::Reopen(0),
-    Call::PutAll(1, 2),
-    Call::Sync,
+    Call::Do(PutAll(1, 2)),
+    Call::Do(Sync),
     Call::Sure(&[(1, 1), (5, 5), (7, 8)]),
 ];
 
 const ARMED: [Call; 10] = [
     Call::Arm(2),
-    Call::PutAll(0, 1),
-    Call::PutAll(1, 2),
+    Call::Do(PutAll(0, 1)),
+    Call::Do(PutAll(1, 2)),
     Call::LeftAll(&[(0, 1)]),
     Call::ArmLeft(1),
     Call::ArmLeft(2),
@@ -255,7 +254,7 @@ const ARMED: [Call; 10] = [
 ];
 
 const ARMED_READS: [Call; 7] = [
-    Call::Put(0, 7, 0),
+    Call::Do(Put(0, 7, 0)),
     Call::Arm(1),
     Call::Arm(3),
     Call::HasAt(0, Err(Miss::Fault)),
@@ -265,14 +264,14 @@ const ARMED_READS: [Call; 7] = [
 ];
 
 const IN_REVERSE: [Call; 10] = [
-    Call::PutAll(0, 1),
-    Call::SyncTwice(1, 2),
+    Call::Do(PutAll(0, 1)),
+    Call::Do(SyncTwice(1, 2)),
     Call::Held(&[(0, 2)]),
     Call::Sure(&[(0, 1)]),
     Call::Crash,
     Call::Reopen(0),
-    Call::PutAll(10, 11),
-    Call::SyncTwice(11, 12),
+    Call::Do(PutAll(10, 11)),
+    Call::Do(SyncTwice(11, 12)),
     Call::Held(&[(0, 1), (10, 12)]),
     Call::Sure(&[(0, 1), (10, 11)]),
 ];
@@ -316,7 +315,7 @@ const BITS: [BitRow; 10] = [
 fn follow_bits(rt: &impl Abort, alloc: Global, rows: &[BitRow]) {
     for (half, bit, kept) in rows {
         let calls = [
-            Call::PutAll(0, 70),
+            Call::Do(PutAll(0, 70)),
             Call::Crash,
             Call::Reopen(2u64.saturating_pow(*bit)),
             Call::Held(*kept),
@@ -357,10 +356,10 @@ const PRUNES: [PruneRow; 9] = [
 fn follow_prunes(rt: &impl Abort, alloc: Global, rows: &[PruneRow]) {
     for (half, luck, min, kept) in rows {
         let calls = [
-            Call::PutAll(0, 10),
-            Call::Sync,
-            Call::PutAll(10, 60),
-            Call::Prune(*min),
+            Call::Do(PutAll(0, 10)),
+            Call::Do(Sync),
+            Call::Do(PutAll(10, 60)),
+            Call::Do(Prune(*min)),
             Call::Crash,
             Call::Reopen(*luck),
             Call::Held(*kept),
@@ -405,11 +404,17 @@ const ALL_AFTER_FAULTS: [FaultRow; 9] = [
     (u64::MAX, &[(1, 3)]),
 ];
 
+// Two puts and a sync, a third put, a sync that starts, a fourth put before it finishes, and a prune, up to the first of
+// these counted calls that fails.
 fn follow_faults(rt: &impl Abort, alloc: Global, luck: u64, rows: &[FaultRow]) {
     for (call, kept) in rows {
         let calls = [
             Call::Arm(*call),
-            Call::EightCalls,
+            Call::Try(PutAll(0, 2)),
+            Call::Try(Sync),
+            Call::Try(PutAll(2, 3)),
+            Call::Try(SyncAround(3)),
+            Call::Try(Prune(1)),
             Call::End,
             Call::Reopen(luck),
             Call::Held(*kept),

@@ -35,19 +35,7 @@ enum Call {
 }
 
 // A depot, or what is left of it.
-#[derive(Drop)]
-enum Life<D: Depot<Counted>> {
-    Open(D),
-    Left(D::Wreck),
-}
-
-fn life_of<D: Depot<Counted>>(answer: Result<D, Lost<D::Wreck>>) -> Option<Life<D>> {
-    match answer {
-        Ok(depot) => Some(Life::Open(depot)),
-        Err(Lost::Fault(wreck)) => Some(Life::Left(wreck)),
-        Err(Lost::Memory(_)) => None,
-    }
-}
+type Life<D> = Result<D, Lost<<D as Depot<Counted>>::Wreck>>;
 
 fn close<D: Depot<Counted>>(depot: &mut D, name: u64, count: u64) {
     depot.close(name, Counted { count });
@@ -58,10 +46,10 @@ fn count_on<D: Depot<Counted>>(depot: D, name: u64, count: u64) -> Option<Life<D
         Ok((depot, content)) if content.count == count => {
             let mut depot = depot;
             close(&mut depot, name, count.saturating_add(1));
-            Some(Life::Open(depot))
+            Some(Ok(depot))
         }
-        Err(Lost::Fault(wreck)) => Some(Life::Left(wreck)),
-        _ => None,
+        Ok(_) => None,
+        Err(lost) => Some(Err(lost)),
     }
 }
 
@@ -72,41 +60,51 @@ fn lists<D: Depot<Counted>>(depot: &mut D, want: Result<&[u64], Miss>) -> bool {
     }
 }
 
-fn of_depot<D: Depot<Counted>>(depot: D, call: Call) -> Option<Life<D>> {
-    let mut depot = depot;
-    let is_so = match call {
-        Call::Count(name, count) => return count_on(depot, name, count),
-        Call::Destroy(name) => return life_of(depot.destroy(name)),
-        Call::Crash => return Some(Life::Left(depot.wreck())),
+fn answers<D: Depot<Counted>>(depot: &mut D, call: Call) -> bool {
+    match call {
         Call::Close(name, count) => {
-            close(&mut depot, name, count);
+            close(depot, name, count);
             true
         }
-        Call::List(want) => lists(&mut depot, want),
+        Call::List(want) => lists(depot, want),
         Call::Arm(calls) => depot.arm(calls).is_ok(),
         _ => false,
-    };
-    if is_so { Some(Life::Open(depot)) } else { None }
+    }
+}
+
+fn of_depot<D: Depot<Counted>>(depot: D, call: Call) -> Option<Life<D>> {
+    let mut depot = depot;
+    match call {
+        Call::Count(name, count) => count_on(depot, name, count),
+        Call::Destroy(name) => Some(depot.destroy(name)),
+        Call::Crash => Some(Err(Lost::Fault(depot.wreck()))),
+        _ if answers(&mut depot, call) => Some(Ok(depot)),
+        _ => None,
+    }
 }
 
 fn of_wreck<D: Depot<Counted>>(wreck: D::Wreck, call: Call) -> Option<Life<D>> {
     let mut wreck = wreck;
     match call {
-        Call::Reopen => life_of(D::reopen(wreck, 0)),
-        Call::ArmLeft(calls) if wreck.arm(calls).is_ok() => Some(Life::Left(wreck)),
+        Call::Reopen => Some(D::reopen(wreck, 0)),
+        Call::ArmLeft(calls) if wreck.arm(calls).is_ok() => Some(Err(Lost::Fault(wreck))),
         _ => None,
+    }
+}
+
+fn after<D: Depot<Counted>>(life: Life<D>, call: Call) -> Option<Life<D>> {
+    match life {
+        Ok(depot) => of_depot(depot, call),
+        Err(Lost::Fault(wreck)) => of_wreck(wreck, call),
+        Err(Lost::Memory(_)) => None,
     }
 }
 
 // The place of the first call that doesn't answer as it is to.
 fn wrong_place<D: Depot<Counted>>(depot: D, calls: &[Call]) -> Option<usize> {
-    let mut life = Life::Open(depot);
+    let mut life = Ok(depot);
     for (place, call) in calls.iter().enumerate() {
-        let next = match life {
-            Life::Open(depot) => of_depot(depot, *call),
-            Life::Left(wreck) => of_wreck(wreck, *call),
-        };
-        match next {
+        match after(life, *call) {
             Some(next) => life = next,
             None => return Some(place),
         }
@@ -125,7 +123,7 @@ fn follow(rt: &impl Abort, alloc: Global, calls: &[Call]) {
     assert!(rt; wrong.is_none(), "call {wrong:?}");
 }
 
-const NAMES: [Call; 17] = [
+const NAMES: [Call; 18] = [
     Call::List(Ok(&[])),
     Call::Count(7, 0),
     Call::Count(3, 0),
@@ -143,6 +141,7 @@ const NAMES: [Call; 17] = [
     Call::Close(7, 9),
     Call::Count(3, 2),
     Call::Count(7, 0),
+    Call::List(Ok(&[3, 7])),
 ];
 
 #[test]
@@ -150,7 +149,7 @@ fn a_depot_keeps_its_names(rt: HostRuntime) {
     follow(&rt, rt.alloc(), &NAMES);
 }
 
-const ARMED: [Call; 11] = [
+const ARMED: [Call; 12] = [
     Call::Count(3, 0),
     Call::Arm(1),
     Call::List(Err(Miss::Fault)),
@@ -163,6 +162,7 @@ const ARMED: [Call; 11] = [
     Call::Destroy(4),
     Call::List(Ok(&[3])),
     Call::Count(3, 1),
+    Call::List(Ok(&[3])),
 ];
 
 #[test]

@@ -61,6 +61,12 @@ impl Asked {
     }
 }
 
+fn follow_each(rt: &impl Abort, alloc: Global, scripts: &[&[Call]]) {
+    for calls in scripts {
+        follow(rt, alloc, calls);
+    }
+}
+
 fn follow(rt: &impl Abort, alloc: Global, calls: &[Call]) {
     let mut asked = Asked {
         gate: DispatchGate::new(alloc),
@@ -126,12 +132,15 @@ const ADOPTED_ONCE: [Call; 12] = [
     Call::Barrier(None),
 ];
 
+const SCRIPTS: [&[Call]; 5] = [
+    &UNCOVERED,
+    &LOWEST,
+    &RELEASED_WITH_THE_LAST,
+    &RELEASED_UP_TO_THE_FIRST,
+    &ADOPTED_ONCE,
+];
+
 #[test]
 fn a_gate_holds_what_no_sync_covers(rt: HostRuntime) {
-    let alloc = rt.alloc();
-    follow(&rt, alloc, &UNCOVERED);
-    follow(&rt, alloc, &LOWEST);
-    follow(&rt, alloc, &RELEASED_WITH_THE_LAST);
-    follow(&rt, alloc, &RELEASED_UP_TO_THE_FIRST);
-    follow(&rt, alloc, &ADOPTED_ONCE);
+    follow_each(&rt, rt.alloc(), &SCRIPTS);
 }

@@ -54,9 +54,9 @@ fn request(asking: Asking) -> Request<Sha256Digest> {
     }
 }
 
-fn fetch(floors: &Floors, resolver: &mut Recording, asking: Asking) -> Result<bool, AllocError> {
-    let admission = floors.fetch_if_permitted(resolver, request(asking))?;
-    Ok(admission == FetchAdmission::Issued)
+fn is_fetched(rt: &impl Abort, floors: &Floors, resolver: &mut Recording, asking: Asking) -> bool {
+    let admission = floors.fetch_if_permitted(resolver, request(asking));
+    given(rt, admission) == FetchAdmission::Issued
 }
 
 // That each of these is asked or not.
@@ -64,11 +64,7 @@ fn admit(rt: &impl Abort, alloc: Global, floors: &Floors, rows: &[(Asking, bool)
     let mut resolver = Recorder::new(alloc);
     for (asking, issued) in rows {
         let asked = resolver.asks().len();
-        same(
-            rt,
-            given(rt, fetch(floors, &mut resolver, *asking)),
-            *issued,
-        );
+        same(rt, is_fetched(rt, floors, &mut resolver, *asking), *issued);
         same(rt, resolver.asks().len() > asked, *issued);
     }
 }
@@ -97,15 +93,17 @@ fn requests_above_the_floors_are_asked(rt: HostRuntime) {
 }
 
 fn fetch_all(
+    rt: &impl Abort,
     alloc: Global,
     resolver: &mut Recording,
     askings: &[Asking],
-) -> Result<FetchAdmission, AllocError> {
+) -> FetchAdmission {
     let mut requests = Vec::new(alloc);
     for asking in askings {
-        requests.push(request(*asking))?;
+        given(rt, requests.push(request(*asking)));
     }
-    low().fetch_all_if_permitted(alloc, resolver, requests.as_slice())
+    let admission = low().fetch_all_if_permitted(alloc, resolver, requests.as_slice());
+    given(rt, admission)
 }
 
 fn fetch_of_two(resolver: &mut Recording, height: u64) -> Result<FetchAdmission, AllocError> {
@@ -125,10 +123,10 @@ const NONE_ABOVE: [Asking; 2] = [Asking::Finalized(5), Asking::Notarized(0, 5)];
 fn several_requests_above_the_floors_are_asked(rt: HostRuntime) {
     let alloc = rt.alloc();
     let mut resolver = Recorder::new(alloc);
-    let admission = given(&rt, fetch_all(alloc, &mut resolver, &SOME_ABOVE));
+    let admission = fetch_all(&rt, alloc, &mut resolver, &SOME_ABOVE);
     same(&rt, admission, FetchAdmission::Issued);
     same(&rt, resolver.asks().len(), 2);
-    let admission = given(&rt, fetch_all(alloc, &mut resolver, &NONE_ABOVE));
+    let admission = fetch_all(&rt, alloc, &mut resolver, &NONE_ABOVE);
     same(&rt, admission, FetchAdmission::Denied);
     same(&rt, resolver.asks().len(), 2);
     let admission = given(&rt, fetch_of_two(&mut resolver, 5));

@@ -1,7 +1,7 @@
 //! Ranges of heights, and values of the stores that are told apart.
 use crate::tell::*;
 use mar_store::{HeightSpan, Identifier, LuckHalf, Miss, RangeSet, SyncTicket};
-use std::alloc::{AllocError, Global};
+use std::alloc::Global;
 use std::process::Abort;
 
 // Whether the ranges have those ends.
@@ -14,12 +14,12 @@ pub fn are(ranges: &RangeSet, want: &[(u64, u64)]) -> bool {
     are_so
 }
 
-fn set_of(alloc: Global, heights: &[u64]) -> Result<RangeSet, AllocError> {
+fn set_of(rt: &impl Abort, alloc: Global, heights: &[u64]) -> RangeSet {
     let mut set = RangeSet::new(alloc);
     for height in heights {
-        set.insert(*height)?;
+        given(rt, set.insert(*height));
     }
-    Ok(set)
+    set
 }
 
 // Heights in the order in which they are added, and the ranges that they make.
@@ -39,7 +39,7 @@ const ROWS: [Row; 3] = [
 
 fn make_ranges(rt: &impl Abort, alloc: Global, rows: &[Row]) {
     for (heights, ranges) in rows {
-        let set = given(rt, set_of(alloc, heights));
+        let set = set_of(rt, alloc, heights);
         assert!(rt; are(&set, ranges), "{heights:?}");
         assert!(rt; are(&given(rt, set.try_clone()), ranges), "{heights:?}");
         assert!(rt; set.is_empty() == heights.is_empty(), "{heights:?}");
@@ -49,15 +49,6 @@ fn make_ranges(rt: &impl Abort, alloc: Global, rows: &[Row]) {
 #[test]
 fn heights_in_any_order(rt: HostRuntime) {
     make_ranges(&rt, rt.alloc(), &ROWS);
-}
-
-// Whether a value equals itself and none of the others.
-fn differs<T: PartialEq>(value: &T, others: &[T]) -> bool {
-    let mut differs = value == value;
-    for other in others {
-        differs = differs && value != other && other != value;
-    }
-    differs
 }
 
 const fn span(from: u64, to: u64) -> HeightSpan {
@@ -74,6 +65,5 @@ fn values_are_told_apart(rt: HostRuntime) {
     assert!(rt; differs(&Identifier::Index(4), &others));
     let others = [Identifier::Key(5), Identifier::Index(4)];
     assert!(rt; differs(&Identifier::Key(4u64), &others));
-    let text = given(&rt, format!(in rt.alloc(); "{:?}", Miss::Fault));
-    assert!(rt; text.as_str() == "Fault");
+    debugs(&rt, rt.alloc(), &Miss::Fault, "Fault");
 }

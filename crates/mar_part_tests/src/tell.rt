@@ -30,3 +30,12 @@ pub fn is_at(got: Option<Height>, want: Option<u64>) -> bool {
         _ => false,
     }
 }
+
+// Whether a value equals itself and none of the others.
+pub fn differs<T: PartialEq>(value: &T, others: &[T]) -> bool {
+    let mut differs = value == value;
+    for other in others {
+        differs = differs && value != other && other != value;
+    }
+    differs
+}

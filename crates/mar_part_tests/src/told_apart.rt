@@ -2,19 +2,10 @@
 use crate::acknowledgements::ack;
 use crate::tell::*;
 use mar_parts::*;
-use std::alloc::{AllocError, Global};
+use std::alloc::Global;
 use std::cmp::Ordering;
 use std::process::Abort;
 use std::slice;
-
-// Whether a value equals itself and none of the others.
-fn differs<T: PartialEq>(value: &T, others: &[T]) -> bool {
-    let mut differs = value == value;
-    for other in others {
-        differs = differs && value != other && other != value;
-    }
-    differs
-}
 
 fn one() -> PendingAck {
     ack(1, 11, Mark::Given)
@@ -63,17 +54,17 @@ fn texts_of_the_oldest_acknowledgement(rt: HostRuntime) {
     debugs(&rt, alloc, &given, text);
 }
 
-fn served(alloc: Global, by_digest: &[u64], by_commitment: &[u64]) -> Result<Served, AllocError> {
-    Ok(Served {
-        by_digest: Vec::from_slice(alloc, by_digest)?,
-        by_commitment: Vec::from_slice(alloc, by_commitment)?,
-    })
+fn served(rt: &impl Abort, alloc: Global, by_digest: &[u64], by_commitment: &[u64]) -> Served {
+    Served {
+        by_digest: given(rt, Vec::from_slice(alloc, by_digest)),
+        by_commitment: given(rt, Vec::from_slice(alloc, by_commitment)),
+    }
 }
 
 // That what is served so differs from what serves 1 and 2 by digest, 3 and 4 by commitment.
 fn serves_others(rt: &impl Abort, alloc: Global, by_digest: &[u64], by_commitment: &[u64]) {
-    let one = given(rt, served(alloc, &[1, 2], &[3, 4]));
-    let other = given(rt, served(alloc, by_digest, by_commitment));
+    let one = served(rt, alloc, &[1, 2], &[3, 4]);
+    let other = served(rt, alloc, by_digest, by_commitment);
     assert!(rt; differs(&one, slice::from_ref(&other)));
 }
 
@@ -83,7 +74,7 @@ fn what_a_block_serves_is_told_apart(rt: HostRuntime) {
     serves_others(&rt, alloc, &[2, 1], &[3, 4]);
     serves_others(&rt, alloc, &[1, 2], &[4, 3]);
     serves_others(&rt, alloc, &[3, 4], &[1, 2]);
-    let nobody = given(&rt, served(alloc, &[], &[]));
+    let nobody = served(&rt, alloc, &[], &[]);
     debugs(
         &rt,
         alloc,

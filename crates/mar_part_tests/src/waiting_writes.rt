@@ -47,6 +47,12 @@ fn answers(rt: &impl Abort, writes: &mut Writes, call: Call) -> bool {
     true
 }
 
+fn follow_each(rt: &impl Abort, alloc: Global, scripts: &[&[Call]]) {
+    for calls in scripts {
+        follow(rt, alloc, calls);
+    }
+}
+
 fn follow(rt: &impl Abort, alloc: Global, calls: &[Call]) {
     let mut writes = Writes::new(alloc);
     for (place, call) in calls.iter().enumerate() {
@@ -113,11 +119,14 @@ const NOTHING_TO_COVER: [Call; 9] = [
     Call::Barrier(None),
 ];
 
+const SCRIPTS: [&[Call]; 4] = [
+    &IN_ORDER,
+    &LATER_SYNC_FIRST,
+    &BLOCKING_SYNC,
+    &NOTHING_TO_COVER,
+];
+
 #[test]
 fn a_write_waits_for_a_sync_that_covers_it(rt: HostRuntime) {
-    let alloc = rt.alloc();
-    follow(&rt, alloc, &IN_ORDER);
-    follow(&rt, alloc, &LATER_SYNC_FIRST);
-    follow(&rt, alloc, &BLOCKING_SYNC);
-    follow(&rt, alloc, &NOTHING_TO_COVER);
+    follow_each(&rt, rt.alloc(), &SCRIPTS);
 }

@@ -7,50 +7,43 @@ use mar_block::mocks::{Block as MockBlock, ready};
 use mar_block::*;
 use mar_cert::{MockScheme, Scheme};
 use mar_codec::{
-    Decode, Digest, Digestible, Hasher, MaxEncodeSize, Sha256, Sha256Digest, UInt, Write,
+    Digest, Digestible, Hasher, MaxEncodeSize, Read, Sha256, Sha256Digest, UInt, Write,
 };
 use mar_types::Height;
-use std::alloc::{AllocError, Global};
+use std::alloc::Global;
 use std::process::Abort;
 
 pub type Empty = EmptyBlock<Sha256>;
 
 type Mock = MockBlock<Sha256Digest, UInt>;
 
+// A block upon a parent.
+pub fn block_upon(parent: Sha256Digest, height: u64, timestamp: u64) -> Empty {
+    EmptyBlock::new(parent, Height::new(height), timestamp)
+}
+
 pub fn genesis() -> Empty {
-    EmptyBlock::new(Sha256Digest::empty(), Height::zero(), 0)
+    block_upon(Sha256Digest::empty(), 0, 0)
 }
 
 pub fn child() -> Empty {
-    EmptyBlock::new(genesis().digest(), Height::new(1), 0)
+    block_upon(genesis().digest(), 1, 0)
 }
 
-pub fn is_cloned<T: Clone + PartialEq + Drop>(value: &T) -> Result<bool, AllocError> {
-    let copy = value.clone()?;
-    Ok(copy == *value)
+pub fn is_cloned<T: Clone + PartialEq + Drop>(rt: &impl Abort, value: &T) -> bool {
+    given(rt, value.clone()) == *value
 }
 
 #[test]
 fn blocks_without_content(rt: HostRuntime) {
     assert!(rt; Empty::default() == genesis());
-    assert!(rt; given(&rt, is_cloned(&child())));
+    assert!(rt; is_cloned(&rt, &child()));
     child().is_block();
     Empty::spellings();
     same(&rt, Empty::MAX_ENCODE_SIZE, 52);
     let _ = StandardBlocks::default();
     debugs(&rt, rt.alloc(), &NoBuffer, "NoBuffer");
 }
-
-// Each byte of the parent's digest, the height and the timestamp.
-const EMPTY: [(u8, u64, u64); 4] = [(1, 1, 1), (2, 1, 1), (1, 2, 1), (1, 1, 2)];
-
-fn empty_block(row: (u8, u64, u64)) -> Empty {
-    let (parent, height, timestamp) = row;
-    EmptyBlock::new(Sha256::fill(parent), Height::new(height), timestamp)
-}
-
-// The context; the first byte and the last of the parent; the height; the timestamp; the first and the last of the digest.
-const PLACES: [usize; 7] = [0, 1, 32, 33, 34, 35, 66];
 
 // A mock block of a context, each byte of the parent's digest, a height and a timestamp.
 fn mock_block(rt: &impl Abort, alloc: Global, row: (u64, u8, u64, u64)) -> Mock {
@@ -60,36 +53,56 @@ fn mock_block(rt: &impl Abort, alloc: Global, row: (u64, u8, u64, u64)) -> Mock 
     given(rt, made)
 }
 
-// What a block's spelling is read as where one bit of this byte is changed.
-fn changed_at(rt: &impl Abort, alloc: Global, block: &Mock, place: usize) -> Mock {
-    let mut written = BytesMut::new(alloc);
-    given(rt, block.write(&mut written));
-    let mut bytes = given(rt, Vec::from_slice(alloc, written.as_slice()));
-    *bytes.get_mut(place).expect(rt, "no such place") ^= 1;
-    given(rt, Mock::decode_cfg(alloc, bytes.as_slice(), &()))
-}
-
-// A mock block, and what is read with one bit of these bytes changed.
-fn mock_blocks(rt: &impl Abort, alloc: Global, places: &[usize]) -> Vec<Mock> {
-    let block = mock_block(rt, alloc, (1, 1, 1, 1));
-    let mut blocks = Vec::new(alloc);
-    for place in places {
-        given(rt, blocks.push(changed_at(rt, alloc, &block, *place)));
-    }
-    given(rt, blocks.push(block));
-    blocks
+// What a value's spelling is read as where one bit of this byte is changed.
+fn changed_at<T: Write + Read<Cfg = ()>>(
+    rt: &impl Abort,
+    alloc: Global,
+    value: &T,
+    place: usize,
+) -> T {
+    let mut bytes = BytesMut::new(alloc);
+    put(rt, &mut bytes, value);
+    *bytes
+        .as_mut_slice()
+        .get_mut(place)
+        .expect(rt, "no such place") ^= 1;
+    given(rt, whole(alloc, bytes.as_slice()))
 }
 
 #[test]
 fn each_part_tells_blocks_apart(rt: HostRuntime) {
-    are_apart(&rt, &EMPTY.map(empty_block));
-    are_apart(&rt, mock_blocks(&rt, rt.alloc(), &PLACES).as_slice());
+    let blocks = [
+        block_upon(Sha256::fill(1), 1, 1),
+        block_upon(Sha256::fill(2), 1, 1),
+        block_upon(Sha256::fill(1), 2, 1),
+        block_upon(Sha256::fill(1), 1, 2),
+    ];
+    are_apart(&rt, &blocks);
+}
+
+// The bytes are the context; the first and the last of the parent; the height; the timestamp; the first and the last of
+// the digest.
+#[test]
+fn each_part_tells_mock_blocks_apart(rt: HostRuntime) {
+    let alloc = rt.alloc();
+    let block = mock_block(&rt, alloc, (1, 1, 1, 1));
+    let blocks = [
+        changed_at(&rt, alloc, &block, 0),
+        changed_at(&rt, alloc, &block, 1),
+        changed_at(&rt, alloc, &block, 32),
+        changed_at(&rt, alloc, &block, 33),
+        changed_at(&rt, alloc, &block, 34),
+        changed_at(&rt, alloc, &block, 35),
+        changed_at(&rt, alloc, &block, 66),
+        block,
+    ];
+    are_apart(&rt, &blocks);
 }
 
 #[test]
 fn mock_blocks_are_copied_and_ready_with_their_digest(rt: HostRuntime) {
     let block = mock_block(&rt, rt.alloc(), (300, 2, 128, 1));
-    assert!(rt; given(&rt, is_cloned(&block)));
+    assert!(rt; is_cloned(&rt, &block));
     let block = mock_block(&rt, rt.alloc(), (7, 2, 0, 0));
     let ready = given(&rt, ready(rt.alloc(), block));
     same(&rt, ready.digest(), ready.inner().digest());
@@ -115,22 +128,15 @@ fn shared_again<V: WireVariant>(block: V::Block) -> V::Block
     V::from_application_block(V::into_shared(block), payload)
 }
 
-// That a kind of blocks restores a block, whether or not its digest is known, and tells one parent of both.
-fn restores<V: WireVariant>(
+// That a block is known by its digest and tells its parent.
+fn tells<V: WireVariant>(
     rt: &impl Abort,
-    alloc: Global,
-    stored: V::StoredBlock,
-    copy: V::StoredBlock,
-    digest: V::Digest,
-)
-    requires { V.Digest.bytes digest ≡ (V.stored stored).digest }
-{
-    let parent = V::stored_parent_commitment(&copy);
-    let block = given(rt, V::restore(alloc, stored, digest));
-    let other = shared_again::<V>(given(rt, V::restore_across(alloc, copy)));
-    assert!(rt; V::digest(&block) == digest && V::digest(&other) == digest);
-    assert!(rt; V::parent_commitment(&block) == parent);
-    assert!(rt; V::parent_commitment(&other) == parent);
+    block: &V::Block,
+    digest: &V::Digest,
+    parent: &V::Commitment,
+) {
+    assert!(rt; V::digest(block) == *digest);
+    assert!(rt; V::parent_commitment(block) == *parent);
 }
 
 // The bounds of a kind of blocks, and whether certificates may sign this payload.
@@ -140,12 +146,30 @@ fn bounds<V: WireVariant, S: Scheme>(scheme: &S, payload: V::Commitment) -> (boo
     (passes, answer, V::max_buffer_payload_size(4, 53))
 }
 
+// That a kind of blocks restores a block, whether or not its digest is known, and tells one parent of both.
+fn restores<V: WireVariant, S: Scheme>(
+    rt: &impl Abort,
+    alloc: Global,
+    stored: V::StoredBlock,
+    copy: V::StoredBlock,
+    digest: V::Digest,
+    scheme: &S,
+)
+    requires { V.Digest.bytes digest ≡ (V.stored stored).digest }
+{
+    let parent = V::stored_parent_commitment(&copy);
+    let block = given(rt, V::restore(alloc, stored, digest));
+    tells::<V>(rt, &block, &digest, &parent);
+    let other = shared_again::<V>(given(rt, V::restore_across(alloc, copy)));
+    tells::<V>(rt, &other, &digest, &parent);
+    let payload = V::commitment(&block);
+    same(rt, bounds::<V, S>(scheme, payload), (true, 52, 53));
+}
+
 #[test]
 fn standard_blocks(rt: HostRuntime) {
-    let block = EmptyBlock::<Sha256>::new(genesis().digest(), Height::new(1), 0);
+    let block = child();
     let digest = block.digest();
-    restores::<StandardBlocks>(&rt, rt.alloc(), block, child(), digest);
     let scheme = MockScheme::new(4);
-    let bounds = bounds::<StandardBlocks, MockScheme>(&scheme, digest);
-    same(&rt, bounds, (true, 52, 53));
+    restores::<StandardBlocks, MockScheme>(&rt, rt.alloc(), block, child(), digest, &scheme);
 }

@@ -4,8 +4,9 @@ use crate::tell::*;
 use mar_block::mocks::ready;
 use mar_block::*;
 use mar_codec::{Digest, Digested, Digestible, Participant, Sha256Digest};
-use mar_types::{Epoch, Height, Round, View};
-use std::alloc::{AllocError, Global};
+use mar_key::Subscription;
+use mar_types::{Height, Round};
+use std::alloc::Global;
 use std::process::Abort;
 
 // Whether a block of both names is found by each.
@@ -19,10 +20,8 @@ fn finds<V: Variant, B: Buffer<V>>(rt: &impl Abort, buffer: &B, block: &V::Block
 fn subscribes<V: Variant, B: Buffer<V>>(buffer: &B, block: &V::Block) -> bool {
     let digest = V::digest(block);
     let commitment = V::commitment(block);
-    let by_digest = buffer.subscribe_by_digest(&digest);
-    let by_commitment = buffer.subscribe_by_commitment(&commitment);
-    by_digest.is_some_and(|s| s.name == digest)
-        && by_commitment.is_some_and(|s| s.name == commitment)
+    buffer.subscribe_by_digest(&digest) == Some(Subscription { name: digest })
+        && buffer.subscribe_by_commitment(&commitment) == Some(Subscription { name: commitment })
 }
 
 fn send<V: Variant, B: Buffer<V>>(
@@ -31,16 +30,15 @@ fn send<V: Variant, B: Buffer<V>>(
     block: V::Block,
     recipients: Recipients<Participant>,
 ) {
-    let round = Round::new(Epoch::new(2), View::new(7));
-    given(rt, buffer.send(round, block, recipients));
+    given(rt, buffer.send(round(2, 7), block, recipients));
 }
 
-fn peers_of(alloc: Global, numbers: &[u32]) -> Result<Recipients<Participant>, AllocError> {
+fn peers_of(rt: &impl Abort, alloc: Global, numbers: &[u32]) -> Recipients<Participant> {
     let mut peers = Vec::new(alloc);
     for number in numbers {
-        peers.push(Participant::new(*number))?;
+        given(rt, peers.push(Participant::new(*number)));
     }
-    Ok(Recipients::Some(peers))
+    Recipients::Some(peers)
 }
 
 // To each peer, or to the third alone.
@@ -48,20 +46,30 @@ fn recipients_of(rt: &impl Abort, alloc: Global, is_to_all: bool) -> Recipients<
     if is_to_all {
         return Recipients::All;
     }
-    given(rt, peers_of(alloc, &[3]))
+    peers_of(rt, alloc, &[3])
 }
 
-// The child of the first block, or the first block.
-fn block_of(rt: &impl Abort, alloc: Global, is_child: bool) -> Digested<Empty> {
-    let block = if is_child { child() } else { genesis() };
-    given(rt, ready(alloc, block))
+// A block by its number: the first block, the child of the first block, or one that stands alone at that height.
+const GENESIS: u64 = 0;
+
+const CHILD: u64 = u64::MAX;
+
+fn numbered(height: u64) -> Empty {
+    block_upon(Sha256Digest::empty(), height, height / 2)
+}
+
+// A copy of a block of that number.
+fn block_of(rt: &impl Abort, alloc: Global, number: u64) -> Digested<Empty> {
+    let block = if number == CHILD {
+        child()
+    } else {
+        numbered(number)
+    };
+    let block = given(rt, ready(alloc, block));
+    given(rt, StandardBlocks::try_clone(&block))
 }
 
 type Held = MemBuffer<StandardBlocks>;
-
-const CHILD: bool = true;
-
-const GENESIS: bool = false;
 
 const TO_ALL: bool = true;
 
@@ -75,12 +83,14 @@ enum Ask {
     Subscribes(bool),
 }
 
+// A call of a buffer in memory, or of the buffer that has nothing.
 #[derive(Clone, Copy)]
 enum Call {
-    Put(bool),
+    Put(u64),
     Close,
     IsOpen(bool),
-    Of(bool, Ask),
+    Of(u64, Ask),
+    OfNone(u64, Ask),
 }
 
 // Whether a buffer answers as it is to.
@@ -101,54 +111,47 @@ fn is_answered<V: Variant, B: Buffer<V>>(
     }
 }
 
-// Each call below in a function with no clause, so that what follows has nothing to carry.
-fn put(rt: &impl Abort, buffer: &mut Held, block: Digested<Empty>) {
-    given(rt, buffer.put(block));
-}
-
-fn close(buffer: &mut Held) {
-    buffer.close();
-}
-
-fn is_found(rt: &impl Abort, buffer: &Held, block: &Digested<Empty>) -> bool {
-    finds(rt, buffer, block)
-}
-
-fn copy_of(rt: &impl Abort, block: &Digested<Empty>) -> Digested<Empty> {
-    given(rt, StandardBlocks::try_clone(block))
+// The same of the buffer that has nothing.
+fn answers_none(rt: &impl Abort, alloc: Global, block: Digested<Empty>, ask: Ask) -> bool {
+    is_answered::<StandardBlocks, NoBuffer>(rt, alloc, &mut NoBuffer, block, ask)
 }
 
 // Whether a call answers as it is to.
 fn answers(rt: &impl Abort, alloc: Global, buffer: &mut Held, call: Call) -> bool {
     match call {
         Call::Put(block) => {
-            put(rt, buffer, block_of(rt, alloc, block));
+            given(rt, buffer.put(block_of(rt, alloc, block)));
             true
         }
         Call::Close => {
-            close(buffer);
+            buffer.close();
             true
         }
         Call::IsOpen(is_open) => buffer.is_open() == is_open,
         Call::Of(block, ask) => is_answered(rt, alloc, buffer, block_of(rt, alloc, block), ask),
+        Call::OfNone(block, ask) => answers_none(rt, alloc, block_of(rt, alloc, block), ask),
+    }
+}
+
+fn go_on(rt: &impl Abort, alloc: Global, buffer: &mut Held, calls: &[Call]) {
+    for (place, call) in calls.iter().enumerate() {
+        assert!(rt; answers(rt, alloc, buffer, *call), "call {place}");
     }
 }
 
 fn follow(rt: &impl Abort, alloc: Global, calls: &[Call]) -> Held {
     let mut buffer = MemBuffer::new(alloc);
-    for (place, call) in calls.iter().enumerate() {
-        assert!(rt; answers(rt, alloc, &mut buffer, *call), "call {place}");
-    }
+    go_on(rt, alloc, &mut buffer, calls);
     buffer
 }
 
-// The heights of the blocks that a buffer was handed to send, in order.
-fn heights_sent(alloc: Global, buffer: &Held) -> Result<Vec<u64>, AllocError> {
-    let mut heights = Vec::new(alloc);
-    for sent in buffer.sent() {
-        heights.push(sent.block.inner().height.get())?;
+// Whether the blocks that a buffer was handed to send have these heights, in order.
+fn sent_at(buffer: &Held, heights: &[u64]) -> bool {
+    let mut are_so = buffer.sent().len() == heights.len();
+    for (sent, height) in buffer.sent().iter().zip(heights) {
+        are_so = are_so & (sent.block.inner().height == Height::new(*height));
     }
-    Ok(heights)
+    are_so
 }
 
 const OPEN: [Call; 4] = [
@@ -158,26 +161,19 @@ const OPEN: [Call; 4] = [
     Call::IsOpen(true),
 ];
 
-// The round and the recipients of the last block that was sent.
-fn last_sent(rt: &impl Abort, buffer: &Held) -> (Round, Recipients<Participant>) {
+// That the last block was sent in this round to the third peer.
+fn is_last_sent(rt: &impl Abort, alloc: Global, buffer: &Held, at: Round) {
     let last = buffer.sent().last().expect(rt, "nothing was sent");
-    (last.round, given(rt, last.recipients.clone()))
+    same(rt, last.round, at);
+    debugs(rt, alloc, &last.recipients, "Some([Participant(3)])");
+    assert!(rt; is_cloned(rt, &last.recipients));
 }
 
 #[test]
 fn buffers_tell_and_send(rt: HostRuntime) {
     let buffer = follow(&rt, rt.alloc(), &OPEN);
-    let heights = given(&rt, heights_sent(rt.alloc(), &buffer));
-    debugs(&rt, rt.alloc(), &heights, "[1, 1]");
-    let (round, recipients) = last_sent(&rt, &buffer);
-    debugs(
-        &rt,
-        rt.alloc(),
-        &round,
-        "Round { epoch: Epoch(2), view: View(7) }",
-    );
-    debugs(&rt, rt.alloc(), &recipients, "Some([Participant(3)])");
-    assert!(rt; given(&rt, is_cloned(&recipients)));
+    assert!(rt; sent_at(&buffer, &[1, 1]));
+    is_last_sent(&rt, rt.alloc(), &buffer, round(2, 7));
 }
 
 const CLOSED: [Call; 16] = [
@@ -202,45 +198,19 @@ const CLOSED: [Call; 16] = [
 #[test]
 fn a_closed_buffer_holds_and_sends(rt: HostRuntime) {
     let buffer = follow(&rt, rt.alloc(), &CLOSED);
-    let heights = given(&rt, heights_sent(rt.alloc(), &buffer));
-    debugs(&rt, rt.alloc(), &heights, "[0, 1, 1, 0]");
+    assert!(rt; sent_at(&buffer, &[0, 1, 1, 0]));
 }
 
-const OF_NONE: [Ask; 4] = [
-    Ask::Finds(false),
-    Ask::Subscribes(false),
-    Ask::Send(TO_ALL),
-    Ask::Send(TO_THIRD),
+const OF_NONE: [Call; 4] = [
+    Call::OfNone(CHILD, Ask::Finds(false)),
+    Call::OfNone(CHILD, Ask::Subscribes(false)),
+    Call::OfNone(CHILD, Ask::Send(TO_ALL)),
+    Call::OfNone(CHILD, Ask::Send(TO_THIRD)),
 ];
-
-fn ask_none(rt: &impl Abort, alloc: Global, asks: &[Ask]) {
-    for ask in asks {
-        let block = block_of(rt, alloc, CHILD);
-        assert!(rt; is_answered::<StandardBlocks, NoBuffer>(rt, alloc, &mut NoBuffer, block, *ask));
-    }
-}
 
 #[test]
 fn no_buffer_has_a_block(rt: HostRuntime) {
-    ask_none(&rt, rt.alloc(), &OF_NONE);
-}
-
-fn numbered(height: u64) -> Empty {
-    EmptyBlock::new(Sha256Digest::empty(), Height::new(height), height / 2)
-}
-
-fn is_found_in_none(rt: &impl Abort, block: &Digested<Empty>) -> bool {
-    finds::<StandardBlocks, NoBuffer>(rt, &NoBuffer, block)
-}
-
-// That a block is found from when it is put on, by a buffer in memory alone. It is put twice.
-fn is_found_once_put(rt: &impl Abort, alloc: Global, buffer: &mut Held, height: u64) {
-    let block = given(rt, ready(alloc, numbered(height)));
-    assert!(rt; !is_found(rt, &*buffer, &block), "{height}");
-    assert!(rt; !is_found_in_none(rt, &block), "{height}");
-    put(rt, buffer, copy_of(rt, &block));
-    put(rt, buffer, copy_of(rt, &block));
-    assert!(rt; is_found(rt, &*buffer, &block), "{height}");
+    follow(&rt, rt.alloc(), &OF_NONE);
 }
 
 // What is found by each name.
@@ -279,11 +249,22 @@ fn is_found_as_put(rt: &impl Abort, buffer: &Held, height: u64) {
     assert!(rt; is_block(by_commitment, &block), "{height}");
 }
 
+// A block is found from when it is put on, by a buffer in memory alone. It is put twice.
+fn putting(height: u64) -> [Call; 5] {
+    [
+        Call::Of(height, Ask::Finds(false)),
+        Call::OfNone(height, Ask::Finds(false)),
+        Call::Put(height),
+        Call::Put(height),
+        Call::Of(height, Ask::Finds(true)),
+    ]
+}
+
 // Puts so many blocks, and finds each of them when all are put.
 fn finds_each(rt: &impl Abort, alloc: Global, count: u64) {
     let mut buffer = MemBuffer::new(alloc);
     for height in 0..count {
-        is_found_once_put(rt, alloc, &mut buffer, height);
+        go_on(rt, alloc, &mut buffer, &putting(height));
     }
     for height in 0..count {
         is_found_as_put(rt, &buffer, height);
@@ -295,21 +276,9 @@ fn blocks_found_by_name(rt: HostRuntime) {
     finds_each(&rt, rt.alloc(), 300);
 }
 
-const PEERS: [&[u32]; 4] = [&[], &[3], &[4], &[3, 4]];
-
-fn recipients(alloc: Global, rows: &[&[u32]]) -> Result<Vec<Recipients<Participant>>, AllocError> {
-    let mut all = Vec::new(alloc);
-    all.push(Recipients::All)?;
-    for numbers in rows {
-        all.push(peers_of(alloc, numbers)?)?;
-    }
-    Ok(all)
-}
-
 fn sending(view: u64, block: Empty, recipients: Recipients<Participant>) -> Sent<Empty> {
-    let round = Round::new(Epoch::new(2), View::new(view));
     Sent {
-        round,
+        round: round(2, view),
         block,
         recipients,
     }
@@ -317,12 +286,20 @@ fn sending(view: u64, block: Empty, recipients: Recipients<Participant>) -> Sent
 
 #[test]
 fn each_part_tells_sendings_apart(rt: HostRuntime) {
-    are_apart(&rt, given(&rt, recipients(rt.alloc(), &PEERS)).as_slice());
+    let alloc = rt.alloc();
+    let recipients = [
+        Recipients::All,
+        peers_of(&rt, alloc, &[]),
+        peers_of(&rt, alloc, &[3]),
+        peers_of(&rt, alloc, &[4]),
+        peers_of(&rt, alloc, &[3, 4]),
+    ];
+    are_apart(&rt, &recipients);
     let sendings = [
         sending(7, child(), Recipients::All),
         sending(8, child(), Recipients::All),
         sending(7, genesis(), Recipients::All),
-        sending(7, child(), given(&rt, peers_of(rt.alloc(), &[3]))),
+        sending(7, child(), peers_of(&rt, alloc, &[3])),
     ];
     are_apart(&rt, &sendings);
 }

@@ -1,58 +1,43 @@
 //! Certificates and what they are over: what tells them apart, copies of them, and their laws.
 use crate::tell::*;
+use bytes::BytesMut;
 use mar_cert::*;
-use mar_codec::{Decode, Encode, EncodeSize, Error, Sha256Digest};
+use mar_codec::{Decode, Encode, EncodeSize, Error, Read, Sha256Digest, Write};
 use mar_types::{Epoch, Round, View};
 use std::alloc::{AllocError, Global};
 use std::process::Abort;
 
 fn proposed(epoch: u64, view: u64, parent: u64, payload: u8) -> Proposal<Sha256Digest> {
     Proposal {
-        round: Round::new(Epoch::new(epoch), View::new(view)),
+        round: round(epoch, view),
         parent: View::new(parent),
         payload: Sha256Digest::from([payload; 32]),
     }
 }
 
-// Epoch, view, the parent's view, and each byte of the payload.
-const PROPOSALS: [(u64, u64, u64, u8); 5] = [
-    (1, 2, 1, 7),
-    (0, 2, 1, 7),
-    (1, 3, 1, 7),
-    (1, 2, 0, 7),
-    (1, 2, 1, 8),
-];
-
-fn proposals(
-    alloc: Global,
-    rows: &[(u64, u64, u64, u8)],
-) -> Result<Vec<Proposal<Sha256Digest>>, AllocError> {
-    let mut proposals = Vec::new(alloc);
-    for (epoch, view, parent, payload) in rows {
-        proposals.push(proposed(*epoch, *view, *parent, *payload))?;
+fn notarizes(payload: u8) -> Subject<Sha256Digest> {
+    Subject::Notarize {
+        proposal: proposed(1, 2, 1, payload),
     }
-    Ok(proposals)
 }
 
-fn subjects() -> [Subject<Sha256Digest>; 3] {
-    [
-        Subject::Notarize {
-            proposal: proposed(1, 2, 1, 7),
-        },
-        Subject::Finalize {
-            proposal: proposed(1, 2, 1, 7),
-        },
-        Subject::Notarize {
-            proposal: proposed(1, 2, 1, 8),
-        },
-    ]
+fn finalizes(payload: u8) -> Subject<Sha256Digest> {
+    Subject::Finalize {
+        proposal: proposed(1, 2, 1, payload),
+    }
 }
 
 #[test]
 fn each_part_tells_proposals_apart(rt: HostRuntime) {
-    let proposals = given(&rt, proposals(rt.alloc(), &PROPOSALS));
-    are_apart(&rt, proposals.as_slice());
-    are_apart(&rt, &subjects());
+    let proposals = [
+        proposed(1, 2, 1, 7),
+        proposed(0, 2, 1, 7),
+        proposed(1, 3, 1, 7),
+        proposed(1, 2, 0, 7),
+        proposed(1, 2, 1, 8),
+    ];
+    are_apart(&rt, &proposals);
+    are_apart(&rt, &[notarizes(7), finalizes(7), notarizes(8)]);
 }
 
 pub fn signer_of(member: u32, tag: u8) -> Signer {
@@ -63,110 +48,69 @@ pub fn signer_of(member: u32, tag: u8) -> Signer {
 }
 
 // A certificate of members, each with the same tag.
-fn signed_by(alloc: Global, members: &[u32]) -> Result<MockCertificate, AllocError> {
+fn signed_by(rt: &impl Abort, alloc: Global, members: &[u32]) -> MockCertificate {
     let mut signers = Vec::new(alloc);
     for member in members {
-        signers.push(signer_of(*member, 7))?;
+        given(rt, signers.push(signer_of(*member, 7)));
     }
-    Ok(MockCertificate { signers })
+    MockCertificate { signers }
 }
 
-const MEMBERS: [&[u32]; 4] = [&[0, 1], &[0], &[0, 2], &[0, 1, 2]];
-
-fn certificates(alloc: Global, rows: &[&[u32]]) -> Result<Vec<MockCertificate>, AllocError> {
-    let mut certificates = Vec::new(alloc);
-    for members in rows {
-        certificates.push(signed_by(alloc, members)?)?;
-    }
-    Ok(certificates)
-}
-
-fn notarized(alloc: Global, payload: u8, members: &[u32]) -> Result<MockNotarization, AllocError> {
-    Ok(Notarization {
+fn notarized(rt: &impl Abort, alloc: Global, payload: u8, members: &[u32]) -> MockNotarization {
+    Notarization {
         proposal: proposed(1, 2, 1, payload),
-        certificate: signed_by(alloc, members)?,
-    })
+        certificate: signed_by(rt, alloc, members),
+    }
 }
 
-fn finalized(alloc: Global, payload: u8, members: &[u32]) -> Result<MockFinalization, AllocError> {
-    Ok(Finalization {
+fn finalized(rt: &impl Abort, alloc: Global, payload: u8, members: &[u32]) -> MockFinalization {
+    Finalization {
         proposal: proposed(1, 2, 1, payload),
-        certificate: signed_by(alloc, members)?,
-    })
-}
-
-// Each byte of the payload, and the members.
-const CERTIFIED: [(u8, &[u32]); 3] = [(7, &[0, 1]), (8, &[0, 1]), (7, &[0])];
-
-fn notarizations(
-    alloc: Global,
-    rows: &[(u8, &[u32])],
-) -> Result<Vec<MockNotarization>, AllocError> {
-    let mut all = Vec::new(alloc);
-    for (payload, members) in rows {
-        all.push(notarized(alloc, *payload, members)?)?;
+        certificate: signed_by(rt, alloc, members),
     }
-    Ok(all)
-}
-
-fn finalizations(
-    alloc: Global,
-    rows: &[(u8, &[u32])],
-) -> Result<Vec<MockFinalization>, AllocError> {
-    let mut all = Vec::new(alloc);
-    for (payload, members) in rows {
-        all.push(finalized(alloc, *payload, members)?)?;
-    }
-    Ok(all)
 }
 
 #[test]
 fn each_part_tells_certificates_apart(rt: HostRuntime) {
     let alloc = rt.alloc();
-    are_apart(&rt, given(&rt, certificates(alloc, &MEMBERS)).as_slice());
-    are_apart(&rt, given(&rt, notarizations(alloc, &CERTIFIED)).as_slice());
-    are_apart(&rt, given(&rt, finalizations(alloc, &CERTIFIED)).as_slice());
+    let certificates = [
+        signed_by(&rt, alloc, &[0, 1]),
+        signed_by(&rt, alloc, &[0]),
+        signed_by(&rt, alloc, &[0, 2]),
+        signed_by(&rt, alloc, &[0, 1, 2]),
+    ];
+    are_apart(&rt, &certificates);
 }
 
-#[derive(Clone, Copy)]
-enum Report {
-    Notarized(u8, &'static [u32]),
-    Certified(u8, &'static [u32]),
-    Finalized(u8, &'static [u32]),
-    Other,
-}
-
-const REPORTS: [Report; 6] = [
-    Report::Notarized(7, &[0, 1]),
-    Report::Certified(7, &[0, 1]),
-    Report::Notarized(8, &[0, 1]),
-    Report::Finalized(7, &[0, 1]),
-    Report::Finalized(7, &[0]),
-    Report::Other,
-];
-
-type MockActivity = Activity<Sha256Digest, MockCertificate>;
-
-fn activity(alloc: Global, report: Report) -> Result<MockActivity, AllocError> {
-    Ok(match report {
-        Report::Notarized(payload, by) => Activity::Notarization(notarized(alloc, payload, by)?),
-        Report::Certified(payload, by) => Activity::Certification(notarized(alloc, payload, by)?),
-        Report::Finalized(payload, by) => Activity::Finalization(finalized(alloc, payload, by)?),
-        Report::Other => Activity::Other,
-    })
-}
-
-fn activities(alloc: Global, reports: &[Report]) -> Result<Vec<MockActivity>, AllocError> {
-    let mut activities = Vec::new(alloc);
-    for report in reports {
-        activities.push(activity(alloc, *report)?)?;
-    }
-    Ok(activities)
+#[test]
+fn each_part_tells_notarizations_and_finalizations_apart(rt: HostRuntime) {
+    let alloc = rt.alloc();
+    let notarizations = [
+        notarized(&rt, alloc, 7, &[0, 1]),
+        notarized(&rt, alloc, 8, &[0, 1]),
+        notarized(&rt, alloc, 7, &[0]),
+    ];
+    are_apart(&rt, &notarizations);
+    let finalizations = [
+        finalized(&rt, alloc, 7, &[0, 1]),
+        finalized(&rt, alloc, 8, &[0, 1]),
+        finalized(&rt, alloc, 7, &[0]),
+    ];
+    are_apart(&rt, &finalizations);
 }
 
 #[test]
 fn each_part_tells_reports_apart(rt: HostRuntime) {
-    are_apart(&rt, given(&rt, activities(rt.alloc(), &REPORTS)).as_slice());
+    let alloc = rt.alloc();
+    let reports = [
+        Activity::Notarization(notarized(&rt, alloc, 7, &[0, 1])),
+        Activity::Certification(notarized(&rt, alloc, 7, &[0, 1])),
+        Activity::Notarization(notarized(&rt, alloc, 8, &[0, 1])),
+        Activity::Finalization(finalized(&rt, alloc, 7, &[0, 1])),
+        Activity::Finalization(finalized(&rt, alloc, 7, &[0])),
+        Activity::Other,
+    ];
+    are_apart(&rt, &reports);
 }
 
 // View 1 of epoch 0, over view 0.
@@ -181,26 +125,33 @@ fn first_proposal(rt: &impl Abort) -> Proposal<Sha256Digest> {
 
 // A certificate of so many members.
 fn certificate_over(
+    rt: &impl Abort,
     alloc: Global,
     subject: &Subject<Sha256Digest>,
     count: u32,
-) -> Result<MockCertificate, AllocError> {
+) -> MockCertificate {
     let mut signers = Vec::new(alloc);
     for member in 0..count {
         let tag = mock_tag(subject, member);
-        signers.push(Signer { member, tag })?;
+        given(rt, signers.push(Signer { member, tag }));
     }
-    Ok(MockCertificate { signers })
+    MockCertificate { signers }
 }
 
-fn copy_of<F: AsFinalization>(finalization: &F) -> Result<(Round, F), AllocError> {
-    let copy = finalization.try_clone()?;
-    Ok((finalization.round(), copy))
+fn copy_of<F: AsFinalization>(finalization: &F) -> Result<F, AllocError> {
+    finalization.try_clone()
 }
 
-fn is_copied<C: Certificate + PartialEq>(certificate: &C) -> Result<bool, AllocError> {
-    let copy = certificate.try_clone()?;
-    Ok(copy == *certificate)
+fn round_of<F: AsFinalization>(finalization: &F) -> Round {
+    finalization.round()
+}
+
+fn copy_of_certificate<C: Certificate>(certificate: &C) -> Result<C, AllocError> {
+    certificate.try_clone()
+}
+
+fn is_copied(rt: &impl Abort, certificate: &MockCertificate) -> bool {
+    given(rt, copy_of_certificate(certificate)) == *certificate
 }
 
 fn payload_of<F: CommitsTo<Sha256Digest>>(finalization: &F) -> Sha256Digest {
@@ -213,7 +164,7 @@ fn first_finalization(rt: &impl Abort, alloc: Global) -> MockFinalization {
     };
     Finalization {
         proposal: first_proposal(rt),
-        certificate: given(rt, certificate_over(alloc, &subject, 3)),
+        certificate: certificate_over(rt, alloc, &subject, 3),
     }
 }
 
@@ -221,21 +172,16 @@ fn first_finalization(rt: &impl Abort, alloc: Global) -> MockFinalization {
 fn copies_of_finalizations(rt: HostRuntime) {
     let made = first_finalization(&rt, rt.alloc());
     let proposal = first_proposal(&rt);
-    let (round, copy) = given(&rt, copy_of(&made));
-    same(&rt, round, proposal.round);
+    same(&rt, round_of(&made), proposal.round);
     same(&rt, payload_of(&made), proposal.payload);
-    assert!(rt; copy == made);
-    let Finalization { certificate, .. } = made;
-    assert!(rt; given(&rt, is_copied(&certificate)));
+    assert!(rt; given(&rt, copy_of(&made)) == made);
+    assert!(rt; is_copied(&rt, &made.certificate));
 }
 
-fn is_read_again(rt: &impl Abort, alloc: Global, made: &MockCertificate, members: u32) -> bool {
-    let bytes = given(rt, made.encode(alloc));
-    let read = given(
-        rt,
-        MockCertificate::decode_cfg(alloc, bytes.as_slice(), &members),
-    );
-    read == *made && given(rt, is_copied(&read))
+fn read_again<T: Write + Read>(rt: &impl Abort, alloc: Global, made: &T, cfg: &T::Cfg) -> T {
+    let mut bytes = BytesMut::new(alloc);
+    put(rt, &mut bytes, made);
+    given(rt, T::decode_cfg(alloc, bytes.as_slice(), cfg))
 }
 
 fn are_read_again(rt: &impl Abort, alloc: Global, counts: &[u32]) {
@@ -243,8 +189,9 @@ fn are_read_again(rt: &impl Abort, alloc: Global, counts: &[u32]) {
         proposal: first_proposal(rt),
     };
     for members in counts {
-        let made = given(rt, certificate_over(alloc, &subject, *members));
-        assert!(rt; is_read_again(rt, alloc, &made, *members), "{members}");
+        let made = certificate_over(rt, alloc, &subject, *members);
+        let read = read_again(rt, alloc, &made, members);
+        assert!(rt; read == made && is_copied(rt, &read), "{members}");
     }
 }
 
@@ -262,7 +209,7 @@ fn copies_of_notarizations(rt: HostRuntime) {
     shows(&rt, rt.alloc(), &mock_tag(&subject, 63), text);
     let made = Notarization {
         proposal: first_proposal(&rt),
-        certificate: given(&rt, certificate_over(rt.alloc(), &subject, 3)),
+        certificate: certificate_over(&rt, rt.alloc(), &subject, 3),
     };
     let copy = given(&rt, made.try_clone());
     assert!(rt; Activity::Certification(copy) == Activity::Certification(made));

@@ -111,34 +111,8 @@ fn digests_from_bad_text(rt: HostRuntime) {
     are_no_digests(&rt, &NO_DIGESTS);
 }
 
-// A generator that counts.
-#[derive(Drop)]
-struct Counting(u8);
-
-impl Words for Counting {
-    ghost gives_word = { λ _ _ _. Unit {0} };
-
-    ghost gives_bytes = { λ _ _ _. Unit {0} };
-
-    fn next_u32(&mut self) -> u32 {
-        self.0 = self.0.wrapping_add(1);
-        u32::from(self.0)
-    }
-
-    fn fill(&mut self, out: &mut [u8]) {
-        for byte in out.iter_mut() {
-            self.0 = self.0.wrapping_add(1);
-            *byte = self.0;
-        }
-    }
-}
-
 fn filled_by<H: Hasher>(byte: u8) -> H::Digest {
     H::fill(byte)
-}
-
-fn random_by<D: Digest, W: Words>(words: &mut W) -> D {
-    D::random(words)
 }
 
 #[test]
@@ -149,7 +123,10 @@ fn made_digests(rt: HostRuntime) {
         filled_by::<Sha256>(0xaa),
         Sha256Digest::from([0xaa; 32]),
     );
-    let mut words = Counting(0);
+    let mut words = Counting {
+        last: 0,
+        at_each_byte: true,
+    };
     same(&rt, words.next_u32(), 1);
     let random: Sha256Digest = random_by(&mut words);
     let text = "02030405060708090a0b0c0d0e0f101112131415161718191a1b1c1d1e1f2021";
@@ -157,21 +134,48 @@ fn made_digests(rt: HostRuntime) {
     assert!(rt; Sha256Digest::empty() < random);
 }
 
-fn size_of_pair(alloc: Global, bytes: &[u8]) -> Result<usize, Error> {
-    let pair = <(u8, UInt)>::decode_cfg(alloc, bytes, &((), ()))?;
-    Ok(pair.encode_size())
+fn size_of_pair(alloc: Global, bytes: &[u8]) -> usize {
+    match <(u8, UInt)>::decode_cfg(alloc, bytes, &((), ())) {
+        Ok(pair) => pair.encode_size(),
+        Err(_) => 0,
+    }
+}
+
+const NUMBER: u64 = 0x0809_0a0b_0c0d_0e0f;
+
+// One integer of each kind, and a pair.
+fn integers(rt: &impl Abort, alloc: Global) -> BytesMut {
+    let mut buf = BytesMut::new(alloc);
+    put(rt, &mut buf, &0x01u8);
+    put(rt, &mut buf, &0x0203u16);
+    put(rt, &mut buf, &0x0405_0607u32);
+    put(rt, &mut buf, &U64::new(NUMBER));
+    put(rt, &mut buf, &(1u8, UInt(300)));
+    buf
+}
+
+// That the next value is this one.
+fn is_next<T: Read<Cfg = ()> + PartialEq>(
+    rt: &impl Abort,
+    alloc: Global,
+    buf: &mut BytesMut,
+    want: T,
+) {
+    let read: T = given(rt, next(alloc, buf));
+    assert!(rt; read == want);
+}
+
+fn is_last_pair(rt: &impl Abort, alloc: Global, buf: &mut BytesMut) {
+    same(rt, size_of_pair(alloc, buf.as_slice()), 3);
+    let pair: (u8, UInt) = given(rt, read_front(alloc, buf, &((), ())));
+    same(rt, pair, (1, UInt(300)));
+    assert!(rt; !buf.has_remaining());
 }
 
 #[test]
 fn integers_in_big_endian_bytes(rt: HostRuntime) {
     let alloc = rt.alloc();
-    let number = U64::new(0x0809_0a0b_0c0d_0e0f);
-    let mut buf = BytesMut::new(alloc);
-    put(&rt, &mut buf, &0x01u8);
-    put(&rt, &mut buf, &0x0203u16);
-    put(&rt, &mut buf, &0x0405_0607u32);
-    put(&rt, &mut buf, &number);
-    put(&rt, &mut buf, &(1u8, UInt(300)));
+    let mut buf = integers(&rt, alloc);
     in_hex(
         &rt,
         alloc,
@@ -179,14 +183,11 @@ fn integers_in_big_endian_bytes(rt: HostRuntime) {
         "0102030405060708090a0b0c0d0e0f01ac02",
     );
     same(&rt, read_byte(&mut buf), Ok(1));
-    same(&rt, next(alloc, &mut buf), Ok(0x0203u16));
-    same(&rt, next(alloc, &mut buf), Ok(0x0405_0607u32));
-    same(&rt, next(alloc, &mut buf), Ok(number));
-    same(&rt, u64::from(number), 0x0809_0a0b_0c0d_0e0f);
-    same(&rt, size_of_pair(alloc, buf.as_slice()), Ok(3));
-    let pair: (u8, UInt) = given(&rt, read_front(alloc, &mut buf, &((), ())));
-    same(&rt, pair, (1, UInt(300)));
-    assert!(rt; !buf.has_remaining());
+    is_next(&rt, alloc, &mut buf, 0x0203u16);
+    is_next(&rt, alloc, &mut buf, 0x0405_0607u32);
+    is_next(&rt, alloc, &mut buf, U64::new(NUMBER));
+    is_last_pair(&rt, alloc, &mut buf);
+    same(&rt, u64::from(U64::new(NUMBER)), 0x0809_0a0b_0c0d_0e0f);
 }
 
 // What was written of a value is read back, whatever follows it.
@@ -246,19 +247,27 @@ fn parts_are_read_in_order(rt: HostRuntime) {
     in_hex(&rt, alloc, both, "07");
 }
 
+// A digest of a first byte and others.
+fn begun_with(first: u8, others: u8) -> Sha256Digest {
+    let mut bytes = [others; 32];
+    bytes[0] = first;
+    Sha256Digest::from(bytes)
+}
+
 #[test]
-fn orders_and_hashes(rt: HostRuntime) {
+fn numbers_and_digests_are_ordered(rt: HostRuntime) {
     assert!(rt; ascend(UInt(255), UInt(256)));
     assert!(rt; ascend(U64::new(255), U64::new(256)));
     assert!(rt; ascend(Participant::new(255), Participant::new(256)));
-    let mut low = [9; 32];
-    let mut high = [0; 32];
-    low[0] = 1;
-    high[0] = 2;
-    assert!(rt; ascend(Sha256Digest::from(low), Sha256Digest::from(high)));
+    assert!(rt; ascend(begun_with(1, 9), begun_with(2, 0)));
+}
+
+#[test]
+fn numbers_are_hashed_and_made(rt: HostRuntime) {
     same(&rt, hash_of(&U64::new(5)), hash_of(&U64::from(5)));
     assert!(rt; hash_of(&U64::new(5)) != hash_of(&U64::new(6)));
-    same(&rt, (U64::default().get(), UInt::default().0), (0, 0));
+    same(&rt, U64::default().get(), 0);
+    same(&rt, UInt::default().0, 0);
     same(&rt, Participant::default().get(), 0);
     same(&rt, u32::from(Participant::from(3)), 3);
     same(&rt, Participant::from(3).get(), 3);
@@ -288,17 +297,35 @@ fn digest_of<B: Digestible>(value: &B) -> B::Digest
     value.digest()
 }
 
+// A copy of a value beside its digest, once the first is gone.
+fn copy_of<B: Digestible + Drop>(rt: &impl Abort, alloc: Global, value: B) -> Digested<B> {
+    let computed = given(rt, Digested::compute(alloc, value));
+    let copy = given(rt, computed.clone());
+    same(rt, computed.digest(), copy.digest());
+    drop(computed);
+    copy
+}
+
+// The digest of a value that is told it.
+fn told_digest<B: Digestible + Drop>(
+    rt: &impl Abort,
+    alloc: Global,
+    value: B,
+    digest: B::Digest,
+) -> B::Digest
+    requires { B.Digest.bytes digest ≡ B.digest_bytes value }
+{
+    given(rt, Digested::precomputed(alloc, value, digest)).digest()
+}
+
 #[test]
 fn digested_values_share_their_value(rt: HostRuntime) {
-    let computed = given(&rt, Digested::compute(rt.alloc(), Text("abc")));
-    let copy = given(&rt, computed.clone());
-    drop(computed);
+    let copy = copy_of(&rt, rt.alloc(), Text("abc"));
     assert!(rt; copy.inner().0 == "abc");
     same(&rt, copy.digest(), sha256_of(b"abc"));
-    let text = Text("abc");
-    let digest = digest_of(&text);
-    let given = given(&rt, Digested::precomputed(rt.alloc(), text, digest));
-    same(&rt, given.digest(), copy.digest());
+    let digest = digest_of(&Text("abc"));
+    let told = told_digest(&rt, rt.alloc(), Text("abc"), digest);
+    same(&rt, told, copy.digest());
 }
 
 // A value that counts how often its digest is computed.
@@ -329,38 +356,50 @@ fn a_digest_is_computed_once(rt: HostRuntime) {
     let second = Counted {
         computed: &computed,
     };
-    let value = given(&rt, Digested::compute(rt.alloc(), first));
-    same(&rt, value.digest(), given(&rt, value.clone()).digest());
+    let copy = copy_of(&rt, rt.alloc(), first);
     same(&rt, computed.get(), 1);
-    let other = given(
-        &rt,
-        Digested::precomputed(rt.alloc(), second, value.digest()),
-    );
-    same(&rt, other.digest(), value.digest());
+    let told = told_digest(&rt, rt.alloc(), second, Sha256::fill(7));
+    same(&rt, told, copy.digest());
     same(&rt, computed.get(), 1);
+}
+
+// Adds the numbers from one to below another.
+fn add_all(rt: &impl Abort, list: &mut NonEmptyVec<u32>, from: u32, to: u32) {
+    for item in from..to {
+        given(rt, list.push(item));
+    }
+}
+
+fn greatest(list: &NonEmptyVec<u32>) -> u32 {
+    let mut greatest = 0;
+    for item in list.iter() {
+        greatest = greatest.max(*item);
+    }
+    greatest
 }
 
 #[test]
 fn a_list_grows(rt: HostRuntime) {
     let mut list = given(&rt, NonEmptyVec::new(rt.alloc(), 0u32));
-    for item in 1..100 {
-        given(&rt, list.push(item));
-    }
+    add_all(&rt, &mut list, 1, 100);
     same(&rt, list.len(), 100);
     assert!(rt; list.as_slice().get(97..) == Some([97, 98, 99].as_slice()));
 }
 
 #[test]
 fn lists_with_a_first_item(rt: HostRuntime) {
-    let alloc = rt.alloc();
-    let mut list = given(&rt, NonEmptyVec::new(alloc, 7u32));
-    given(&rt, list.push(8));
+    let mut list = given(&rt, NonEmptyVec::new(rt.alloc(), 7u32));
+    add_all(&rt, &mut list, 8, 9);
     same(&rt, list.len(), 2);
     same(&rt, *list.first(), 7);
     assert!(rt; list.as_slice() == [7, 8].as_slice());
-    same(&rt, list.iter().copied().max(), Some(8));
+    same(&rt, greatest(&list), 8);
     assert!(rt; NonEmptyVec::from_vec(list.into_vec()).is_some());
-    assert!(rt; NonEmptyVec::<u32>::from_vec(Vec::new(alloc)).is_none());
+}
+
+#[test]
+fn no_list_without_a_first_item(rt: HostRuntime) {
+    assert!(rt; NonEmptyVec::<u32>::from_vec(Vec::new(rt.alloc())).is_none());
 }
 
 #[test]

@@ -1,13 +1,9 @@
 //! Cutoffs and floors: what they cover, their order, and what is printed of them.
 use crate::tell::*;
 use mar_key::{Cutoff, Floor, Processed, Retain, cutoff_laws};
-use mar_types::{Epoch, Height, Round, View};
+use mar_types::{Epoch, Height};
 use std::alloc::Global;
 use std::process::Abort;
-
-const fn round(epoch: u64, view: u64) -> Round {
-    Round::new(Epoch::new(epoch), View::new(view))
-}
 
 const fn of_round(epoch: u64, view: u64) -> Cutoff {
     Cutoff::Round(round(epoch, view))

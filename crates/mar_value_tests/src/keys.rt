@@ -3,7 +3,7 @@ use crate::tell::*;
 use bytes::{BufMut, BytesMut};
 use mar_codec::{MaxEncodeSize, Sha256Digest};
 use mar_key::{Key, digest_keys, key_laws, open_key_laws, same_key};
-use mar_types::{Epoch, Height, Round, View};
+use mar_types::Height;
 use std::alloc::Global;
 use std::process::Abort;
 
@@ -15,7 +15,7 @@ const fn finalized<D>(height: u64) -> Key<D> {
 
 const fn notarized<D>(epoch: u64, view: u64) -> Key<D> {
     Key::Notarized {
-        round: Round::new(Epoch::new(epoch), View::new(view)),
+        round: round(epoch, view),
     }
 }
 

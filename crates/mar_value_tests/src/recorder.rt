@@ -5,7 +5,7 @@ use mar_key::{
     Ask, Cutoff, Fetch, Judged, Key, OpenRequests, Outcome, Recorder, Request, Resolver, Retain,
     TargetedResolver,
 };
-use mar_types::{Epoch, Height, Round, View};
+use mar_types::{Epoch, Height};
 use std::alloc::{AllocError, Global};
 use std::process::Abort;
 use std::slice;
@@ -30,9 +30,8 @@ fn fresh(alloc: Global) -> Recording {
 fn settle(recording: &mut Recording, judged: &[Judged<Sha256Digest>]) -> Result<(), AllocError> {
     let asks = recording.recorder.asks();
     let since = asks.get(recording.settled..).unwrap_or(&[]);
-    recording.open.settle(judged, since)?;
     recording.settled = asks.len();
-    Ok(())
+    recording.open.settle(judged, since)
 }
 
 // A request: a block of the digest of a byte throughout, or what is finalized or notarized.
@@ -76,10 +75,6 @@ enum Call {
     AnnotationsOf(Asking, usize),
 }
 
-fn round(epoch: u64, view: u64) -> Round {
-    Round::new(Epoch::new(epoch), View::new(view))
-}
-
 fn digest(byte: u8) -> Sha256Digest {
     Sha256Digest::from([byte; 32])
 }
@@ -117,22 +112,31 @@ fn retain_of(keep: Keep) -> Retain {
 
 // What is finalized at this height and at the next one.
 fn both(height: u64) -> [Fetch<Sha256Digest>; 2] {
-    [height, height.saturating_add(1)].map(|height| fetch_of(Asking::Finalized(height)))
+    [
+        fetch_of(Asking::Finalized(height)),
+        fetch_of(Asking::Finalized(height.saturating_add(1))),
+    ]
+}
+
+fn first_of(fetches: &[Fetch<Sha256Digest>], count: usize) -> &[Fetch<Sha256Digest>] {
+    fetches.get(..count).unwrap_or(&[])
 }
 
 fn judged_of(
+    rt: &impl Abort,
     alloc: Global,
     outcomes: &[(u64, Asking, Outcome)],
-) -> Result<Vec<Judged<Sha256Digest>>, AllocError> {
+) -> Vec<Judged<Sha256Digest>> {
     let mut judged = Vec::new(alloc);
     for (ticket, asking, outcome) in outcomes {
-        judged.push(Judged {
+        let judgement = Judged {
             ticket: *ticket,
             key: key_of(*asking),
             outcome: *outcome,
-        })?;
+        };
+        given(rt, judged.push(judgement));
     }
-    Ok(judged)
+    judged
 }
 
 fn is_ask(ask: &Ask<Sha256Digest>, want: Wanted) -> bool {
@@ -171,19 +175,22 @@ fn open_count(open: &OpenRequests<Sha256Digest>) -> usize {
     count
 }
 
-fn asks(alloc: Global, recording: &mut Recording, call: Call) -> Result<(), AllocError> {
+fn asks(
+    rt: &impl Abort,
+    alloc: Global,
+    recording: &mut Recording,
+    call: Call,
+) -> Result<(), AllocError> {
     let recorder = &mut recording.recorder;
     match call {
         Call::Fetch(asking) => recorder.fetch(fetch_of(asking)),
         Call::Targeted(asking, peers) => recorder.fetch_targeted(fetch_of(asking), peers),
-        Call::FetchAll(height, count) => {
-            recorder.fetch_all(both(height).get(..count).unwrap_or(&[]))
-        }
+        Call::FetchAll(height, count) => recorder.fetch_all(first_of(&both(height), count)),
         Call::AllTargeted(height, count, peers) => {
-            recorder.fetch_all_targeted(both(height).get(..count).unwrap_or(&[]), peers)
+            recorder.fetch_all_targeted(first_of(&both(height), count), peers)
         }
         Call::Retain(keep) => recorder.retain(retain_of(keep)),
-        Call::Settle(outcomes) => settle(recording, judged_of(alloc, outcomes)?.as_slice()),
+        Call::Settle(outcomes) => settle(recording, judged_of(rt, alloc, outcomes).as_slice()),
         Call::Asks(_) | Call::Keys(_) | Call::AnnotationsOf(..) => Ok(()),
     }
 }
@@ -207,36 +214,35 @@ fn tells(recording: &Recording, call: Call) -> bool {
 // Makes the calls in turn.
 fn go_on(rt: &impl Abort, alloc: Global, recording: &mut Recording, calls: &[Call]) {
     for (place, call) in calls.iter().enumerate() {
-        given(rt, asks(alloc, recording, *call));
+        given(rt, asks(rt, alloc, recording, *call));
         assert!(rt; tells(recording, *call), "call {place}");
     }
 }
 
-// Makes both lists of calls on a fresh recorder.
-fn follow(rt: &impl Abort, alloc: Global, first: &[Call], then: &[Call]) {
-    let mut recording = fresh(alloc);
-    go_on(rt, alloc, &mut recording, first);
-    go_on(rt, alloc, &mut recording, then);
+// Makes the first calls on a fresh recorder, and then each of the others in turn on another one.
+fn follow(rt: &impl Abort, alloc: Global, first: &[Call], others: &[&[Call]]) {
+    for then in others {
+        let mut recording = fresh(alloc);
+        go_on(rt, alloc, &mut recording, first);
+        go_on(rt, alloc, &mut recording, then);
+    }
 }
 
 // Asks for these one by one, and then retains.
-fn ask_and_retain(
-    recording: &mut Recording,
-    askings: &[Asking],
-    keep: Keep,
-) -> Result<(), AllocError> {
+fn ask_and_retain(rt: &impl Abort, recording: &mut Recording, askings: &[Asking], keep: Keep) {
+    let recorder = &mut recording.recorder;
     for asking in askings {
-        recording.recorder.fetch(fetch_of(*asking))?;
+        given(rt, recorder.fetch(fetch_of(*asking)));
     }
-    recording.recorder.retain(retain_of(keep))?;
-    settle(recording, &[])
+    given(rt, recorder.retain(retain_of(keep)));
 }
 
 // That so many annotations are left of what each row asks, after it retained.
 fn leave(rt: &impl Abort, alloc: Global, rows: &[(&[Asking], Keep, usize)]) {
     for (askings, keep, left) in rows {
         let mut recording = fresh(alloc);
-        given(rt, ask_and_retain(&mut recording, askings, *keep));
+        ask_and_retain(rt, &mut recording, askings, *keep);
+        given(rt, settle(&mut recording, &[]));
         same(rt, open_count(&recording.open), *left);
     }
 }
@@ -307,20 +313,26 @@ const ASKED_THRICE: [Call; 5] = [
     ]),
 ];
 
-const INVALID: [Call; 2] = [
-    Call::Settle(&[(0, Asking::Finalized(7), Outcome::Invalid)]),
-    Call::AnnotationsOf(Asking::Finalized(7), 1),
+// What each judgement leaves.
+const JUDGED: [&[Call]; 3] = [
+    &[
+        Call::Settle(&[(0, Asking::Finalized(7), Outcome::Invalid)]),
+        Call::AnnotationsOf(Asking::Finalized(7), 1),
+    ],
+    &[
+        Call::Settle(&[(0, Asking::Finalized(7), Outcome::Ignored)]),
+        Call::AnnotationsOf(Asking::Finalized(7), 0),
+    ],
+    &[
+        Call::Settle(&[(0, Asking::Finalized(7), Outcome::Complete)]),
+        Call::AnnotationsOf(Asking::Finalized(7), 0),
+    ],
 ];
 
-const IGNORED: [Call; 2] = [
-    Call::Settle(&[(0, Asking::Finalized(7), Outcome::Ignored)]),
-    Call::AnnotationsOf(Asking::Finalized(7), 0),
-];
-
-const COMPLETE: [Call; 2] = [
-    Call::Settle(&[(0, Asking::Finalized(7), Outcome::Complete)]),
-    Call::AnnotationsOf(Asking::Finalized(7), 0),
-];
+#[test]
+fn a_recorder_tells_what_was_judged(rt: HostRuntime) {
+    follow(&rt, rt.alloc(), &ASKED_THRICE, &JUDGED);
+}
 
 const NONE_AND_SEVERAL: [Call; 9] = [
     Call::FetchAll(5, 0),
@@ -363,24 +375,22 @@ const JUDGED_BEFORE_ASKED: [Call; 6] = [
 #[test]
 fn a_recorder_tells_what_it_was_asked(rt: HostRuntime) {
     let alloc = rt.alloc();
-    follow(&rt, alloc, &ASKED_THRICE, &INVALID);
-    follow(&rt, alloc, &ASKED_THRICE, &IGNORED);
-    follow(&rt, alloc, &ASKED_THRICE, &COMPLETE);
-    follow(&rt, alloc, &NONE_AND_SEVERAL, &[]);
-    follow(&rt, alloc, &JUDGED_BEFORE_ASKED, &[]);
+    go_on(&rt, alloc, &mut fresh(alloc), &NONE_AND_SEVERAL);
+    go_on(&rt, alloc, &mut fresh(alloc), &JUDGED_BEFORE_ASKED);
 }
 
 // Asks in each way, through the bounds alone.
 fn ask_all<D: Digest, R: TargetedResolver<D>>(
+    rt: &impl Abort,
     resolver: &mut R,
     fetch: Fetch<D>,
     fetches: &[Fetch<D>],
-) -> Result<(), AllocError> {
-    resolver.fetch(fetch)?;
-    resolver.fetch_targeted(fetch, &[1, 2])?;
-    resolver.fetch_all(fetches)?;
-    resolver.fetch_all_targeted(fetches, &[3])?;
-    resolver.retain(Retain::AboveHeight(Height::zero()))
+) {
+    given(rt, resolver.fetch(fetch));
+    given(rt, resolver.fetch_targeted(fetch, &[1, 2]));
+    given(rt, resolver.fetch_all(fetches));
+    given(rt, resolver.fetch_all_targeted(fetches, &[3]));
+    given(rt, resolver.retain(Retain::AboveHeight(Height::zero())));
 }
 
 const ASKED_IN_EACH_WAY: [Call; 6] = [
@@ -404,6 +414,6 @@ fn a_recorder_behind_its_bounds(rt: HostRuntime) {
     let fetch = fetch_of(Asking::Notarized(1, 1));
     let mut recording = fresh(alloc);
     let recorder = &mut recording.recorder;
-    given(&rt, ask_all(recorder, fetch, slice::from_ref(&fetch)));
+    ask_all(&rt, recorder, fetch, slice::from_ref(&fetch));
     go_on(&rt, alloc, &mut recording, &ASKED_IN_EACH_WAY);
 }

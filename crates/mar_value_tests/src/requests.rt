@@ -3,13 +3,9 @@ use crate::tell::*;
 use mar_key::{
     Annotation, Cutoff, Fetch, Finalized, Judged, Key, Outcome, Request, Retain, Subscription,
 };
-use mar_types::{Epoch, Height, Round, View};
+use mar_types::{Epoch, Height};
 use std::alloc::Global;
 use std::process::Abort;
-
-const fn round(epoch: u64, view: u64) -> Round {
-    Round::new(Epoch::new(epoch), View::new(view))
-}
 
 const fn notarization(epoch: u64, view: u64) -> Annotation {
     Annotation::Notarization {
@@ -80,8 +76,9 @@ fn annotations_are_told_apart(rt: HostRuntime) {
 // Whether each comes before the next one, with another hash.
 fn all_ascend(annotations: &[Annotation]) -> bool {
     let mut ascends = true;
-    for (lesser, greater) in annotations.iter().zip(annotations.iter().skip(1)) {
-        ascends = ascends && ascend(*lesser, *greater) && hash_of(lesser) != hash_of(greater);
+    for pair in annotations.windows(2) {
+        let [lesser, greater] = *pair else { continue };
+        ascends = ascends && ascend(lesser, greater) && hash_of(&lesser) != hash_of(&greater);
     }
     ascends
 }

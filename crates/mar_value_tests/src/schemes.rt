@@ -10,11 +10,8 @@ fn scheme_of(rt: &impl Abort, members: u32) -> MockScheme {
     MockScheme::new(members)
 }
 
-// How many members, the first epoch and the last.
-const PROVIDERS: [(u32, u64, u64); 4] = [(4, 1, 2), (5, 1, 2), (4, 2, 2), (4, 1, 3)];
-
-fn provider_of(rt: &impl Abort, row: (u32, u64, u64)) -> MockProvider {
-    let (members, first, last) = row;
+// A provider of a scheme of so many members from the first epoch to the last.
+fn provider_of(rt: &impl Abort, members: u32, first: u64, last: u64) -> MockProvider {
     MockProvider::new(scheme_of(rt, members), Epoch::new(first), Epoch::new(last))
 }
 
@@ -24,7 +21,13 @@ fn each_part_tells_signers_and_schemes_apart(rt: HostRuntime) {
     let (four, five) = (scheme_of(&rt, 4), scheme_of(&rt, 5));
     are_apart(&rt, &[four, five]);
     are_apart(&rt, &[Scoped::scheme(four), Scoped::scheme(five)]);
-    are_apart(&rt, &PROVIDERS.map(|row| provider_of(&rt, row)));
+    let providers = [
+        provider_of(&rt, 4, 1, 2),
+        provider_of(&rt, 5, 1, 2),
+        provider_of(&rt, 4, 2, 2),
+        provider_of(&rt, 4, 1, 3),
+    ];
+    are_apart(&rt, &providers);
 }
 
 // The epoch, and how many members its scheme has.
@@ -34,18 +37,22 @@ fn is_given<P: Provider>(provider: &P, epoch: u64) -> bool {
     provider.scoped(Epoch::new(epoch)).is_some()
 }
 
+fn members_at(provider: &MockProvider, epoch: u64) -> Option<u32> {
+    let scheme = provider.scheme(Epoch::new(epoch))?;
+    Some(scheme.members())
+}
+
 fn gives(rt: &impl Abort, provider: &MockProvider, rows: &[(u64, Option<u32>)]) {
     for (epoch, members) in rows {
-        let given = provider.scheme(Epoch::new(*epoch));
-        assert!(rt; given.map(|scheme| scheme.members()) == *members, "{epoch}");
+        assert!(rt; members_at(provider, *epoch) == *members, "{epoch}");
         assert!(rt; is_given(provider, *epoch) == members.is_some(), "{epoch}");
     }
 }
 
 #[test]
 fn a_scheme_for_a_range_of_epochs(rt: HostRuntime) {
-    gives(&rt, &provider_of(&rt, (4, 2, 3)), &GIVEN);
-    let first = provider_of(&rt, (4, 0, 0));
+    gives(&rt, &provider_of(&rt, 4, 2, 3), &GIVEN);
+    let first = provider_of(&rt, 4, 0, 0);
     assert!(rt; is_given(&first, 0) && !is_given(&first, 1));
 }
 
@@ -56,5 +63,5 @@ fn debug_texts(rt: HostRuntime) {
     debugs(&rt, rt.alloc(), &signer_of(2, 0x0a), text);
     let text =
         "MockProvider { scheme: MockScheme { members: 4 }, first: Epoch(2), last: Epoch(3) }";
-    debugs(&rt, rt.alloc(), &provider_of(&rt, (4, 2, 3)), text);
+    debugs(&rt, rt.alloc(), &provider_of(&rt, 4, 2, 3), text);
 }

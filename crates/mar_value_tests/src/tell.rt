@@ -1,11 +1,16 @@
 //! What a test asks of a value. No function here has an `ensures`, so a test that calls one has nothing to carry.
 use bytes::BytesMut;
 use mar_codec::*;
+use mar_types::{Epoch, Round, View};
 use std::alloc::Global;
 use std::cmp::Ordering;
 use std::fmt::{Debug, Display};
 use std::hash::{DefaultHasher, Hash, Hasher as _};
 use std::process::Abort;
+
+pub const fn round(epoch: u64, view: u64) -> Round {
+    Round::new(Epoch::new(epoch), View::new(view))
+}
 
 // Stops the test where a value is not the wanted one.
 pub fn same<T: PartialEq + Drop>(rt: &impl Abort, got: T, want: T) {
@@ -114,4 +119,35 @@ pub fn are_apart<T: PartialEq>(rt: &impl Abort, values: &[T]) {
         let others = values.get(place + 1..).unwrap_or(&[]);
         assert!(rt; differs(value, others), "{place}");
     }
+}
+
+// A generator that counts, at each byte that it gives or at each call.
+#[derive(Drop)]
+pub struct Counting {
+    pub last: u8,
+    pub at_each_byte: bool,
+}
+
+impl Words for Counting {
+    ghost gives_word = { λ _ _ _. Unit {0} };
+
+    ghost gives_bytes = { λ _ _ _. Unit {0} };
+
+    fn next_u32(&mut self) -> u32 {
+        self.last = self.last.wrapping_add(1);
+        u32::from(self.last)
+    }
+
+    fn fill(&mut self, out: &mut [u8]) {
+        let step = u8::from(self.at_each_byte);
+        self.last = self.last.wrapping_add(u8::from(!self.at_each_byte));
+        for byte in out.iter_mut() {
+            self.last = self.last.wrapping_add(step);
+            *byte = self.last;
+        }
+    }
+}
+
+pub fn random_by<D: Digest, W: Words>(words: &mut W) -> D {
+    D::random(words)
 }

@@ -3,7 +3,7 @@ ghost use Rattle.std.specs.Prelude.{IfSome, replicate, ◌≡◌};
 ghost use Rattle.std.specs.Int.NonZero.{non_zero_u16_get};
 
 use crate::tell::*;
-use mar_codec::{Array, Digest, Digestible, FixedSize, Hasher, Sha256, Sha256Digest, Span, Words};
+use mar_codec::{Array, Digest, Digestible, FixedSize, Hasher, Sha256, Sha256Digest, Span};
 use mar_types::coding::{self, CodingConfig, CodingScheme};
 use mar_types::{COMMITMENT_DIGEST_SIZE, COMMITMENT_SIZE, Commitment};
 use std::alloc::{AllocError, Global};
@@ -24,10 +24,7 @@ pub fn config_of(minimum_shards: u16, extra_shards: u16) -> Option<CodingConfig>
 }
 
 pub fn config(rt: &impl Abort, minimum_shards: u16, extra_shards: u16) -> CodingConfig {
-    match config_of(minimum_shards, extra_shards) {
-        Some(config) => config,
-        None => panic!(rt; "zero"),
-    }
+    config_of(minimum_shards, extra_shards).expect(rt, "zero")
 }
 
 struct Plain;
@@ -69,30 +66,6 @@ fn parts_again(alloc: Global, parts: &Parts, minimum: u16, extra: u16) -> Option
     let config = made.config(alloc);
     let shards = (config.minimum_shards.get(), config.extra_shards.get());
     Some(((block, root, context, config), shards.0, shards.1))
-}
-
-// A generator that counts.
-#[derive(Drop)]
-struct Counting(u8);
-
-impl Words for Counting {
-    ghost gives_word = { λ _ _ _. Unit {0} };
-
-    ghost gives_bytes = { λ _ _ _. Unit {0} };
-
-    fn next_u32(&mut self) -> u32 {
-        self.0 = self.0.wrapping_add(1);
-        u32::from(self.0)
-    }
-
-    fn fill(&mut self, out: &mut [u8]) {
-        self.0 = self.0.wrapping_add(1);
-        out.fill(self.0);
-    }
-}
-
-fn random_by<D: Digest, W: Words>(words: &mut W) -> D {
-    D::random(words)
 }
 
 fn text_of<T: Span>(alloc: Global, value: &T) -> Result<String, AllocError> {
@@ -137,19 +110,30 @@ fn commitments_are_spelled_by_their_parts(rt: HostRuntime) {
     same(&rt, parts_again(alloc, &drawn, 5, 1), Some((drawn, 5, 1)));
 }
 
+// That a digest is drawn as this one, which is printed so, and that the empty one has these bytes.
+fn are_digests<D: Digest + Array + Default>(
+    rt: &impl Abort,
+    alloc: Global,
+    drawn: D,
+    text: &str,
+    nothing: &str,
+) {
+    let mut words = Counting {
+        last: 4,
+        at_each_byte: false,
+    };
+    let random: D = random_by(&mut words);
+    assert!(rt; random == drawn);
+    same(rt, size_of_array(&random), D::SIZE);
+    reads(rt, given(rt, text_of(alloc, &random)).as_str(), text);
+    assert!(rt; D::empty() == D::default());
+    in_hex(rt, alloc, D::empty().as_slice(), nothing);
+}
+
 #[test]
 fn commitments_are_digests(rt: HostRuntime) {
-    let mut words = Counting(4);
-    let random: Coded = random_by(&mut words);
-    same(&rt, random, Coded::from(drawn(&rt)));
-    same(&rt, size_of_array(&random), Coded::SIZE);
-    reads(
-        &rt,
-        given(&rt, text_of(rt.alloc(), &random)).as_str(),
-        DRAWN,
-    );
-    same(&rt, Coded::empty(), Coded::default());
-    in_hex(&rt, rt.alloc(), Coded::empty().as_slice(), NOTHING);
+    let drawn = Coded::from(drawn(&rt));
+    are_digests(&rt, rt.alloc(), drawn, DRAWN, NOTHING);
     same(&rt, COMMITMENT_DIGEST_SIZE, 32);
     same(&rt, coding::COMMITMENT_SIZE, 100);
 }

@@ -2,10 +2,6 @@
 use crate::tell::*;
 use mar_types::*;
 
-fn round(epoch: u64, view: u64) -> Round {
-    Round::new(Epoch::new(epoch), View::new(view))
-}
-
 #[test]
 fn numbers_and_rounds_are_ordered(rt: HostRuntime) {
     assert!(rt; ascend(Epoch::new(255), Epoch::new(256)));

@@ -5,9 +5,7 @@ use std::num::NonZeroU64;
 use std::process::Abort;
 
 fn epochs_of(rt: &impl Abort, length: u64) -> FixedEpocher {
-    let Some(length) = NonZeroU64::new(length) else {
-        panic!(rt; "zero")
-    };
+    let length = NonZeroU64::new(length).expect(rt, "zero");
     assert!(rt; length.get() > 1);
     FixedEpocher::new(length)
 }

@@ -49,10 +49,6 @@ fn reread_height(alloc: Global, height: u64) -> Result<Height, Error>
     reread(alloc, &Height::new(height))
 }
 
-fn round(epoch: u64, view: u64) -> Round {
-    Round::new(Epoch::new(epoch), View::new(view))
-}
-
 const ASCENDING: [(u64, u64); 5] = [(0, 0), (0, 9), (1, 0), (1, 1), (2, 0)];
 
 // That each round comes before the next.

@@ -5,10 +5,7 @@ use std::num::NonZeroU32;
 use std::process::Abort;
 
 fn terms_of(rt: &impl Abort, length: u32) -> TermLength {
-    match NonZeroU32::new(length) {
-        Some(length) => TermLength::new(length),
-        None => panic!(rt; "zero"),
-    }
+    TermLength::new(NonZeroU32::new(length).expect(rt, "zero"))
 }
 
 // A view, the first and the last of its term, the first of the next term, and its term's number.
