@@ -13,12 +13,14 @@ ghost use Rattle.mar_node.specs.Event.{ack_given, closed_at, retired, round_at};
 ghost use Rattle.mar_node.specs.Promise.{KeepsPromise, heard_by};
 ghost use Rattle.mar_node.specs.Held.{ArePassed, GoesOn, IsUsual, LosesSince, nothing_written, written_pair};
 ghost use Rattle.mar_node.specs.Lives.{later_round};
-ghost use Rattle.mar_node.specs.Moves.{Drains, DrainsNext, EndsDropped, EndsOldest, HearsUpTo, LivesOn, RaisesTo};
+ghost use Rattle.mar_node.specs.Moves.{Drains, DrainsNext, EndsDropped, EndsOldest, HearsUpTo, LivesOn};
 ghost use Rattle.mar_node.specs.Requests.{raise_asks, retire_asks};
 ghost use Rattle.mar_actor.specs.Due.{EndsWhereDue, dropping_due};
 ghost use Rattle.mar_actor.specs.Told.{TellsInOrder};
 
+use crate::ends::{ended_by, out_of_memory};
 use crate::node::Node;
+use crate::reads::round_at;
 use crate::reporter::Reporter;
 use mar_block::Variant;
 use mar_key::{Cutoff, Resolver, Retain};
@@ -94,152 +96,20 @@ impl<V: Variant, S: Holds<V>, P: Drop, E: Epocher> Node<V, S, P, E> {
         ensures goes_on { GoesOn (λ r. r.0.held) self.held nothing_written result }
         ensures kind { IfErr result (λ e. IsUsual e.fault ⊎ EndsOldest self e) }
     {
-        let mut node = self;
-        match node.life.acks.pop_ready() {
-            Oldest::Given(ack) => Ok((node.process(ack.height, resolver)?, true)),
-            Oldest::Unresolved => Ok((node, false)),
-            Oldest::Dropped(ack) => Err(node.end(Fault::AckDropped(ack.height))),
+        let Node {
+            stores,
+            mut life,
+            of,
+        } = self;
+        let epocher = life.epocher;
+        match life.acks.pop_ready() {
+            Oldest::Given(ack) => {
+                let stores = process::<V, S, E, R>(stores, &epocher, ack.height, resolver)?;
+                Ok((Node { stores, life, of }, true))
+            }
+            Oldest::Unresolved => Ok((Node { stores, life, of }, false)),
+            Oldest::Dropped(ack) => Err(ended_by::<V, S>(stores, Fault::AckDropped(ack.height))),
         }
-    }
-
-    /// Sets the processed height: requests at or below it are let go, and the cutoff rises to the round that finalized
-    /// it and over the epochs that end there.
-    fn process<R: Resolver<V::Commitment>>(
-        self,
-        height: Height,
-        resolver: &mut R,
-    ) -> Result<Self, Ended<V, S>>
-        ensures ok { IfOk result (λ a. a ≡ record self {
-          held = record self.held {
-            processed = Some (at_block height);
-            cutoff = greatest_of self.held.cutoff
-                (retired (E.epochs self.life.epocher) self.held.certs.held height);
-            witnessed = later_round self.held.witnessed
-                (round_at self.held.certs.held height);
-            watches = a.held.watches;
-          };
-        }) }
-        ensures asks { HearsUpTo (R.told resolver.old) (retain (above_height height)
-            ∷ raise_asks self.held.cutoff (retired (E.epochs self.life.epocher) self.held.certs.held height)) (R.told resolver.new) result }
-        ensures goes_on { GoesOn (λ a. a.held) self.held nothing_written result }
-        ensures usual { IfErr result (λ e. IsUsual e.fault) }
-    {
-        let node = self.set_processed(height, resolver)?;
-        let (node, round) = node.round_at(height)?;
-        let node = node.witness_some(round, resolver)?;
-        node.close_epochs(height, resolver)
-    }
-
-    fn set_processed<R: Resolver<V::Commitment>>(
-        self,
-        height: Height,
-        resolver: &mut R,
-    ) -> Result<Self, Ended<V, S>>
-        ensures ok { IfOk result (λ a. a ≡ record self { held = record self.held { processed = Some (at_block height); watches = a.held.watches } }) }
-        ensures asks { HearsUpTo (R.told resolver.old) (retain (above_height height) ∷ []) (R.told resolver.new) result }
-        ensures goes_on { GoesOn (λ a. a.held) self.held nothing_written result }
-        ensures usual { IfErr result (λ e. IsUsual e.fault) }
-    {
-        if resolver.retain(Retain::AboveHeight(height)).is_err() {
-            return Err(self.run_out());
-        }
-        let stores = self.stores.set_processed(height)?;
-        Ok(Node { stores, ..self })
-    }
-
-    /// Takes note of a finalized round, if there is one.
-    fn witness_some<R: Resolver<V::Commitment>>(
-        self,
-        round: Option<Round>,
-        resolver: &mut R,
-    ) -> Result<Self, Ended<V, S>>
-        ensures ok { IfOk result (λ a. RaisesTo self (option_to_list (option_map at_round round)) (later_round self.held.witnessed round) a) }
-        ensures asks { HearsUpTo (R.told resolver.old) (raise_asks self.held.cutoff (option_to_list (option_map at_round round)))
-            (R.told resolver.new) result }
-        ensures goes_on { GoesOn (λ a. a.held) self.held nothing_written result }
-        ensures usual { IfErr result (λ e. IsUsual e.fault) }
-    {
-        match round {
-            Some(round) => self.witness(round, resolver),
-            None => Ok(self),
-        }
-    }
-
-    /// Takes note of a finalized round: the cutoff rises to it.
-    pub(crate) fn witness<R: Resolver<V::Commitment>>(
-        self,
-        round: Round,
-        resolver: &mut R,
-    ) -> Result<Self, Ended<V, S>>
-        ensures ok { IfOk result (λ a. RaisesTo self (at_round round ∷ []) (later_round self.held.witnessed (Some round)) a) }
-        ensures asks { HearsUpTo (R.told resolver.old) (raise_asks self.held.cutoff (at_round round ∷ [])) (R.told resolver.new) result }
-        ensures goes_on { GoesOn (λ a. a.held) self.held nothing_written result }
-        ensures usual { IfErr result (λ e. IsUsual e.fault) }
-    {
-        let mut node = self;
-        node.stores.witness(round);
-        node.raise(&Cutoff::Round(round), resolver)
-    }
-
-    /// Raises the cutoff over the epochs that end at or below a height.
-    fn close_epochs<R: Resolver<V::Commitment>>(
-        self,
-        height: Height,
-        resolver: &mut R,
-    ) -> Result<Self, Ended<V, S>>
-        ensures ok { IfOk result (λ a. RaisesTo self (closed_at (E.epochs self.life.epocher) height) self.held.witnessed a) }
-        ensures asks { HearsUpTo (R.told resolver.old) (raise_asks self.held.cutoff (closed_at (E.epochs self.life.epocher) height)) (R.told resolver.new)
-            result }
-        ensures goes_on { GoesOn (λ a. a.held) self.held nothing_written result }
-        ensures usual { IfErr result (λ e. IsUsual e.fault) }
-    {
-        match closed_epoch(&self.life.epocher, height) {
-            Some(epoch) => self.raise(&Cutoff::Epoch(epoch), resolver),
-            None => Ok(self),
-        }
-    }
-
-    /// Raises the cutoff to this one where it is above.
-    fn raise<R: Resolver<V::Commitment>>(
-        self,
-        cutoff: &Cutoff,
-        resolver: &mut R,
-    ) -> Result<Self, Ended<V, S>>
-        ensures ok { IfOk result (λ a. RaisesTo self (cutoff_of cutoff.now ∷ []) self.held.witnessed a) }
-        ensures asks { HearsUpTo (R.told resolver.old) (raise_asks self.held.cutoff (cutoff_of cutoff.now ∷ [])) (R.told resolver.new) result }
-        ensures goes_on { GoesOn (λ a. a.held) self.held nothing_written result }
-        ensures usual { IfErr result (λ e. IsUsual e.fault) }
-    {
-        if self.is_raised_to(cutoff) {
-            Ok(self)
-        } else {
-            self.set_cutoff(cutoff, resolver)
-        }
-    }
-
-    /// Whether the cutoff is at least this one.
-    fn is_raised_to(&self, cutoff: &Cutoff) -> bool
-        ensures { result ≡ cutoff_le (cutoff_of cutoff.now) self.now.held.cutoff }
-    {
-        self.stores.floor().cutoff().reaches(*cutoff)
-    }
-
-    /// Sets the cutoff: requests of the rounds that it covers are let go.
-    fn set_cutoff<R: Resolver<V::Commitment>>(
-        self,
-        cutoff: &Cutoff,
-        resolver: &mut R,
-    ) -> Result<Self, Ended<V, S>>
-        ensures ok { IfOk result (λ a. a ≡ record self { held = record self.held { cutoff = cutoff_of cutoff.now; watches = a.held.watches } }) }
-        ensures asks { HearsUpTo (R.told resolver.old) (retain (above_round (cutoff_of cutoff.now)) ∷ []) (R.told resolver.new) result }
-        ensures goes_on { GoesOn (λ a. a.held) self.held nothing_written result }
-        ensures usual { IfErr result (λ e. IsUsual e.fault) }
-    {
-        if resolver.retain(Retain::AboveRound(*cutoff)).is_err() {
-            return Err(self.run_out());
-        }
-        let stores = self.stores.set_cutoff(cutoff)?;
-        Ok(Node { stores, ..self })
     }
 
     pub(crate) fn sync_metadata(self) -> Result<Self, Ended<V, S>>
@@ -257,4 +127,105 @@ impl<V: Variant, S: Holds<V>, P: Drop, E: Epocher> Node<V, S, P, E> {
         let stores = self.stores.sync_metadata()?;
         Ok(Node { stores, ..self })
     }
+}
+
+/// Sets the processed height: requests at or below it are let go, and the cutoff rises to the round that finalized it
+/// and over the epochs that end there.
+fn process<V: Variant, S: Holds<V>, E: Epocher, R: Resolver<V::Commitment>>(
+    stores: S,
+    epocher: &E,
+    height: Height,
+    resolver: &mut R,
+) -> Result<S, Ended<V, S>>
+    ensures ok { IfOk result (λ s. S.held s ≡ record (S.held stores) {
+      processed = Some (at_block height);
+      cutoff = greatest_of (S.held stores).cutoff
+          (retired (E.epochs epocher.now) (S.held stores).certs.held height);
+      witnessed = later_round (S.held stores).witnessed
+          (round_at (S.held stores).certs.held height);
+      watches = (S.held s).watches;
+    }) }
+    ensures asks { HearsUpTo (R.told resolver.old) (retain (above_height height)
+        ∷ raise_asks (S.held stores).cutoff (retired (E.epochs epocher.now) (S.held stores).certs.held height)) (R.told resolver.new) result }
+    ensures goes_on { GoesOn S.held (S.held stores) nothing_written result }
+    ensures usual { IfErr result (λ e. IsUsual e.fault) }
+{
+    if resolver.retain(Retain::AboveHeight(height)).is_err() {
+        return Err(out_of_memory::<V, S>(stores));
+    }
+    let stores = stores.set_processed(height)?;
+    let (stores, round) = round_at::<V, S>(stores, height)?;
+    let stores = witness::<V, S, R>(stores, round, resolver)?;
+    close_epochs::<V, S, E, R>(stores, epocher, height, resolver)
+}
+
+/// Takes note of a finalized round, if there is one: the cutoff rises to it.
+pub(crate) fn witness<V: Variant, S: Holds<V>, R: Resolver<V::Commitment>>(
+    stores: S,
+    round: Option<Round>,
+    resolver: &mut R,
+) -> Result<S, Ended<V, S>>
+    ensures ok { IfOk result (λ s. S.held s ≡ record (S.held stores) {
+      cutoff = greatest_of (S.held stores).cutoff (option_to_list (option_map at_round round));
+      witnessed = later_round (S.held stores).witnessed round;
+      watches = (S.held s).watches;
+    }) }
+    ensures asks { HearsUpTo (R.told resolver.old) (raise_asks (S.held stores).cutoff (option_to_list (option_map at_round round)))
+        (R.told resolver.new) result }
+    ensures goes_on { GoesOn S.held (S.held stores) nothing_written result }
+    ensures usual { IfErr result (λ e. IsUsual e.fault) }
+{
+    let mut stores = stores;
+    match round {
+        Some(round) => {
+            stores.witness(round);
+            raise::<V, S, R>(stores, &Cutoff::Round(round), resolver)
+        }
+        None => Ok(stores),
+    }
+}
+
+/// Raises the cutoff over the epochs that end at or below a height.
+fn close_epochs<V: Variant, S: Holds<V>, E: Epocher, R: Resolver<V::Commitment>>(
+    stores: S,
+    epocher: &E,
+    height: Height,
+    resolver: &mut R,
+) -> Result<S, Ended<V, S>>
+    ensures ok { IfOk result (λ s. S.held s ≡ record (S.held stores) {
+      cutoff = greatest_of (S.held stores).cutoff (closed_at (E.epochs epocher.now) height);
+      watches = (S.held s).watches;
+    }) }
+    ensures asks { HearsUpTo (R.told resolver.old) (raise_asks (S.held stores).cutoff (closed_at (E.epochs epocher.now) height)) (R.told resolver.new)
+        result }
+    ensures goes_on { GoesOn S.held (S.held stores) nothing_written result }
+    ensures usual { IfErr result (λ e. IsUsual e.fault) }
+{
+    match closed_epoch(epocher, height) {
+        Some(epoch) => raise::<V, S, R>(stores, &Cutoff::Epoch(epoch), resolver),
+        None => Ok(stores),
+    }
+}
+
+/// Raises the cutoff to this one where it is above: requests of the rounds that it covers are let go.
+fn raise<V: Variant, S: Holds<V>, R: Resolver<V::Commitment>>(
+    stores: S,
+    cutoff: &Cutoff,
+    resolver: &mut R,
+) -> Result<S, Ended<V, S>>
+    ensures ok { IfOk result (λ s. S.held s ≡ record (S.held stores) {
+      cutoff = greatest_of (S.held stores).cutoff (cutoff_of cutoff.now ∷ []);
+      watches = (S.held s).watches;
+    }) }
+    ensures asks { HearsUpTo (R.told resolver.old) (raise_asks (S.held stores).cutoff (cutoff_of cutoff.now ∷ [])) (R.told resolver.new) result }
+    ensures goes_on { GoesOn S.held (S.held stores) nothing_written result }
+    ensures usual { IfErr result (λ e. IsUsual e.fault) }
+{
+    if stores.floor().cutoff().reaches(*cutoff) {
+        return Ok(stores);
+    }
+    if resolver.retain(Retain::AboveRound(*cutoff)).is_err() {
+        return Err(out_of_memory::<V, S>(stores));
+    }
+    stores.set_cutoff(cutoff)
 }

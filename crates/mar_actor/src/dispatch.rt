@@ -1,4 +1,5 @@
 //! Handing blocks over in height order.
+ghost use Rattle.std.specs.List.{AllByRecursion};
 ghost use Rattle.std.specs.Prelude.{◌≡◌, ◌<◌, ◌≤◌, ◌-◌, ◌^◌, ◌⊎◌, ◌∷◌, [], ℕ, Contains, IfErr, IfNone, IfOk, IfSome, List, MatchResult, OnErr, OnOk, false, length, map, true};
 ghost use Rattle.mar_key.specs.Hears.{Hears};
 ghost use Rattle.mar_key.specs.Processed.{first_unprocessed};
@@ -10,6 +11,7 @@ ghost use Rattle.mar_node.specs.Step.{HandedBlock, handed_over};
 use crate::node::Node;
 use crate::reporter::{Exact, Reporter, Update};
 use mar_block::Variant;
+use mar_node::Writes;
 use mar_shelf::{Ended, Fault, Holds, TicketKind};
 use mar_types::{Epocher, Height};
 
@@ -45,9 +47,6 @@ impl<V: Variant, S: Holds<V>, P: Drop, E: Epocher> Node<V, S, P, E> {
         ensures goes_on { GoesOn (λ r. r.0.held) self.held nothing_written result }
         ensures archive { IfErr result (λ e. IsArchiveFault e.fault) }
     {
-        if !self.life.acks.has_capacity() {
-            return Ok((self, None));
-        }
         let Some(height) = self.next_height() else {
             return Ok((self, None));
         };
@@ -55,28 +54,22 @@ impl<V: Variant, S: Holds<V>, P: Drop, E: Epocher> Node<V, S, P, E> {
         Ok((Node { stores, ..self }, block))
     }
 
-    /// The height of the next block, where it is below the last height and no write bars it.
+    /// The height of the next block, where there is room for one, it is below the last height and no write bars it.
     fn next_height(&self) -> Option<Height>
-        ensures found { IfSome result (λ h. (h ≡ next_in self.now) × (h < last_height) × IsFree self.now h) }
-        ensures none { IfNone result (IsBarred self.now ⊎ (last_height ≤ next_in self.now) ⊎ (2 ^ 64 ≤ first_unprocessed self.now.held.processed)) }
+        ensures found { IfSome result (λ h. (length self.now.life.out < self.now.life.sizes.window) × (h ≡ next_in self.now) × (h < last_height)
+            × IsFree self.now h) }
+        ensures none { IfNone result ((self.now.life.sizes.window ≤ length self.now.life.out) ⊎ IsBarred self.now ⊎ (last_height ≤ next_in self.now)
+            ⊎ (2 ^ 64 ≤ first_unprocessed self.now.held.processed)) }
     {
+        if !self.life.acks.has_capacity() {
+            return None;
+        }
         let first = self.stores.floor().first_unprocessed()?;
         let next = self.life.acks.next_dispatch_height(first);
-        if next.get() == u64::MAX || self.is_barred(next) {
+        if next.get() == u64::MAX || is_barred(self.stores.writes(), next) {
             return None;
         }
         Some(next)
-    }
-
-    /// Whether a write at or below this height isn't covered by a finished sync.
-    fn is_barred(&self, height: Height) -> bool
-        ensures barred { result ≡ true → (k : ℕ) × Contains self.now.held.writes.uncovered k × (k ≤ height) }
-        ensures free { result ≡ false → IsFree self.now height }
-    {
-        match self.stores.writes().barrier() {
-            None => false,
-            Some(barrier) => barrier <= height,
-        }
     }
 
     /// Hands over a block under a new ticket.
@@ -108,5 +101,16 @@ impl<V: Variant, S: Holds<V>, P: Drop, E: Epocher> Node<V, S, P, E> {
         node.life.acks.enqueue(ticket, height);
         node.life.next_ack = ticket + 1;
         Ok(node)
+    }
+}
+
+/// Whether a write at or below this height isn't covered by a finished sync.
+fn is_barred(writes: &Writes, height: Height) -> bool
+    ensures barred { result ≡ true → (k : ℕ) × Contains writes.now.uncovered k × (k ≤ height) }
+    ensures free { result ≡ false → AllByRecursion (λ k. height < k) writes.now.uncovered }
+{
+    match writes.barrier() {
+        None => false,
+        Some(barrier) => barrier <= height,
     }
 }

@@ -1,13 +1,16 @@
 //! What an actor steps on.
 use crate::reporter::Exact;
+use mar_inbox::Message;
+use std::convert::Infallible;
 
-/// What an actor steps on, with finalizations of the kind `F`.
+/// What an actor steps on, with digests and finalizations of the kinds `D` and `F`.
 #[derive(Debug, Drop)]
-pub enum Event<F> {
+pub enum Event<D, F> {
     /// The life begins: the first step after an opening, which tells the newest tip and hands over what is stored.
     Start,
-    /// Consensus finalized a block.
-    Finalization(F),
+    /// Consensus finalized a block, or a caller asks. There is no cache yet, so no message can bring a block or a
+    /// notarization.
+    Message(Message<D, Infallible, Infallible, F>),
     /// The sync of this ticket is to finish: what it covers becomes durable, and blocks may be handed over. A ticket that
     /// isn't open is ignored.
     Sync(u64),
@@ -16,13 +19,13 @@ pub enum Event<F> {
 }
 
 /// The acknowledgement, given back.
-impl<F> From<Exact> for Event<F> {
+impl<D, F> From<Exact> for Event<D, F> {
     ghost use Rattle.std.specs.Prelude.{◌≡◌};
     ghost use Rattle.mar_actor.specs.declared.event.Event.TheVariants.{Ack};
 
     ghost from_gives = { λ exact event. event ≡ Ack exact.ticket };
 
-    fn from(acknowledgement: Exact) -> Event<F> {
+    fn from(acknowledgement: Exact) -> Event<D, F> {
         Event::Ack(acknowledgement.ticket())
     }
 }

@@ -1,14 +1,65 @@
-//! The actor: it stores what consensus finalizes and hands it to the application in height order.
+//! The actor between a consensus engine and an application: it stores what consensus finalizes, and hands it to the
+//! application in height order.
+//!
+//! # What is promised
+//!
+//! - **In order, and durable first.** The application is handed the finalized blocks one height after the other, from the
+//!   genesis on. Each is durable, together with its finalization, before it is handed over.
+//! - **At least once.** A block is handed over again after each opening until its acknowledgement is durable. So an
+//!   application must tolerate repeats: it stores, in one write, what a block made and the block's height, and passes over
+//!   a height that it has. What it counted in memory alone is gone with the life.
+//! - **A window.** At most `max_pending_acks` blocks are handed over and not yet acknowledged. Acknowledgements may come in
+//!   any order; processed is the longest front that is acknowledged.
+//! - **Tips come first.** The application is told of the newest finalized block as soon as that is known (`Update::Tip`),
+//!   though blocks below it may be missing. Tips only rise within a life.
+//! - **Answers.** A query is answered in its own step, from what stands, and changes nothing.
+//! - **An end says why.** A step that can't go on hands back what is left of the stores, and its fault names the store that
+//!   failed or the value that it could not take. Whatever was durable is still there, and the next opening goes on from it.
+//!
+//! # When something becomes durable
+//!
+//! 1. A reported finalization whose block is at hand is put into the archives, block and finalization, and a sync of both
+//!    is started. No disk is waited for: the step ends there.
+//! 2. The caller says that the sync has finished (`Event::Sync`). What it covers is durable, and blocks are handed over, up
+//!    to the first one that waits for another sync.
+//! 3. The application acknowledges (`Event::Ack`). The processed height, and the cutoff below which nothing is asked for any
+//!    more, become durable together, in that step, and then the next block may be handed over.
+//!
+//! A crash between two of these loses nothing that an earlier one made durable. Of what was written and not yet synced the
+//! next opening finds whatever the disk kept, and what it finds is as good as if it were reported again.
+//!
+//! # Settings
+//!
+//! - `provider`, `epocher`: who may certify which epoch, and which heights an epoch has. The mapping must never change.
+//! - `start`: the genesis. The same at each opening; another one is refused (`GenesisMismatch`).
+//! - `max_pending_acks`: 1 hands over one block at a time. More hides the time that the application takes for a block, at
+//!   the price of that many repeats after a crash, and of twice as many blocks in memory.
+//! - `mailbox_size`, `max_repair`, `view_retention`: change nothing yet.
+//!
+//! # Storage and repair
+//!
+//! There are four stores: blocks, finalizations, metadata, and a cache of what isn't final, which holds nothing yet. An
+//! opening reads them in that order, stores the genesis where it is missing, and refuses stores that don't fit together
+//! (`Unbacked`, `Corrupt`). A finalized block that isn't at hand is asked for by its commitment; blocks below it are not
+//! asked for yet.
+//!
+//! # Limits
+//!
+//! A block or a finalization takes at most 1,048,576 bytes. The last height, 2^64 - 1, can't be stored (`HeightLimit`), and
+//! a life gives out fewer than 2^64 tickets of each kind (`TicketLimit`). Certificates are taken as consensus's word.
 #![tactic(auto)]
 
 mod acknowledge;
 mod derived;
 mod dispatch;
+mod ends;
 mod event;
 mod life;
+mod names;
 mod newest;
 mod node;
 mod open;
+mod query;
 mod reads;
 mod reopened;
 mod report;

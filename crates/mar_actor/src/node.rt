@@ -1,5 +1,5 @@
 //! The node, which each of its steps consumes.
-ghost use Rattle.std.specs.Prelude.{◌≡◌, ◌≤◌, ◌+◌, ◌&&◌, ◌∷◌, [], ℕ, Err, IfErr, IfOk, Ok, OnErr, OnOk, false, map, nat_lt, not};
+ghost use Rattle.std.specs.Prelude.{◌≡◌, ◌≤◌, ◌+◌, ◌&&◌, ◌∷◌, ◌++◌, [], ℕ, Err, IfErr, IfOk, Ok, OnErr, OnOk, false, map, nat_lt, not};
 ghost use Rattle.std.specs.List.{list_any};
 ghost use Rattle.mar_store.specs.Changes.{IsNested};
 ghost use Rattle.mar_node.specs.Acks.{is_unmarked};
@@ -7,7 +7,10 @@ ghost use Rattle.mar_node.specs.Event.{sync_finished};
 ghost use Rattle.mar_node.specs.Faults.{want_of_memory};
 ghost use Rattle.mar_node.specs.Held.{ArePassed, AreWritten, GoesOn, IsArchiveFault, IsEndedBy, IsNoStores, IsUsual, nothing_written, remains_of, with_armed};
 ghost use Rattle.mar_node.specs.Moves.{RunsOut};
-ghost use Rattle.mar_node.specs.Promise.{IsSmallEvent, KeepsPromise, heard_by};
+ghost use Rattle.mar_inbox.specs.Answers.{told};
+ghost use Rattle.mar_inbox.specs.Views.{value_of};
+ghost use Rattle.mar_node.specs.Promise.{IsSmallEvent, KeepsPromise, heard_with};
+ghost use Rattle.mar_node.specs.Queries.{answers_found};
 ghost use Rattle.mar_node.specs.Stored.{AreSmall};
 ghost use Rattle.mar_node.specs.Writing.{is_open_sync};
 ghost use Rattle.mar_shelf.specs.Views.{fault_of, store_name_of};
@@ -17,8 +20,10 @@ ghost use Rattle.mar_actor.specs.Views.{event_of};
 
 use crate::event::Event;
 use crate::life::Life;
+use crate::query::{Told, told_by};
 use crate::reporter::Reporter;
 use mar_block::{Buffer, Variant};
+use mar_inbox::{AnswerTable, Value};
 use mar_key::Resolver;
 use mar_shelf::{Ended, Fault, Holds, StoreName, Stores};
 use mar_types::Epocher;
@@ -54,20 +59,29 @@ impl<V: Variant, S: Holds<V>, P: Drop, E: Epocher> Node<V, S, P, E> {
     /// may store is small: at most 1,048,576 bytes each.
     pub fn step<B: Buffer<V>, R: Resolver<V::Commitment>, A: Reporter<V>>(
         self,
-        event: Event<S::Finalization>,
+        event: Event<V::Digest, S::Finalization>,
+        answers: &mut AnswerTable<Value<V::Digest, V::Block, S::Finalization>>,
         buffer: &B,
         resolver: &mut R,
         application: &mut A,
     ) -> Result<Self, Ended<V, S>>
-        requires small_event { IsSmallEvent (event_of S.Finalization.plain event) }
+        requires small_event { IsSmallEvent (event_of V.Digest.bytes S.Finalization.plain event) }
         requires small_buffer { AreSmall (B.blocks buffer.now) }
-        ensures promise { KeepsPromise (E.epochs self.life.epocher) V.inner self (event_of S.Finalization.plain event ∷ []) (B.blocks buffer.now)
-            (heard_by (A.told application.old) (R.told resolver.old)) (heard_by (A.told application.new) (R.told resolver.new)) result }
+        ensures promise { KeepsPromise (E.epochs self.life.epocher) V.inner self (event_of V.Digest.bytes S.Finalization.plain event ∷ [])
+            (B.blocks buffer.now)
+            (heard_with (A.told application.old) (R.told resolver.old) (told (value_of V.Digest.bytes V.plain S.Finalization.plain) answers.old))
+            (heard_with (A.told application.new) (R.told resolver.new) (told (value_of V.Digest.bytes V.plain S.Finalization.plain) answers.new))
+            result }
+        ensures answered { OnOk result (told (value_of V.Digest.bytes V.plain S.Finalization.plain) answers.new
+            ≡ told (value_of V.Digest.bytes V.plain S.Finalization.plain) answers.old
+            ++ answers_found V.inner self.held (B.blocks buffer.now) (event_of V.Digest.bytes S.Finalization.plain event)) }
+        ensures unanswered { OnErr result (answers.new ≡ answers.old) }
         ensures watches { IfOk result (λ n. ArePassed self.held.watches n.held.watches) }
         ensures cause { IfErr result (λ e. IsEndedBy self.held.watches e) }
-        ensures idle { (t : ℕ) → event_of S.Finalization.plain event ≡ sync_finished t → is_open_sync self.held.writes.syncs t ≡ false → result ≡ Ok self }
-        ensures by_value { EndsWhereDue (due_fault V.inner self (B.blocks buffer.now) (event_of S.Finalization.plain event)) result }
-        ensures tells { TellsInOrder (A.told application.old) (tips_of V.inner self (B.blocks buffer.now) (event_of S.Finalization.plain event))
+        ensures idle { (t : ℕ) → event_of V.Digest.bytes S.Finalization.plain event ≡ sync_finished t → is_open_sync self.held.writes.syncs t ≡ false
+            → result ≡ Ok self }
+        ensures by_value { EndsWhereDue (due_fault V.inner self (B.blocks buffer.now) (event_of V.Digest.bytes S.Finalization.plain event)) result }
+        ensures tells { TellsInOrder (A.told application.old) (tips_of V.inner self (B.blocks buffer.now) (event_of V.Digest.bytes S.Finalization.plain event))
             (A.told application.new) result }
         ensures tickets { IfOk result (λ n. n.life.next_ack ≤ self.life.next_ack + self.life.sizes.window) }
         ensures sync_tickets { IfOk result (λ n. n.held.writes.next_sync ≤ self.held.writes.next_sync + 1) }
@@ -78,9 +92,12 @@ impl<V: Variant, S: Holds<V>, P: Drop, E: Epocher> Node<V, S, P, E> {
         self.law();
         match event {
             Event::Start => self.start(application),
-            Event::Finalization(finalization) => {
-                self.report_finalization(&finalization, buffer, resolver, application)
-            }
+            Event::Message(message) => match told_by(message) {
+                Told::Reported(finalization) => {
+                    self.report_finalization(&finalization, buffer, resolver, application)
+                }
+                Told::Asked(ticket, query) => self.answer(ticket, query, buffer, answers),
+            },
             Event::Sync(ticket) => self.finish_sync(ticket, application),
             Event::Ack(ticket) => self.acknowledge(ticket, resolver, application),
         }

@@ -2,10 +2,14 @@
 ghost use Rattle.std.specs.Prelude.{◌≡◌, ◌⊎◌, IfErr, IfOk};
 ghost use Rattle.mar_node.specs.Held.{ArePassed, IsEndedBy, IsUsual};
 ghost use Rattle.mar_node.specs.Promise.{IsFound, IsOpeningFault, IsSmallBegin, KeepsOpening};
+ghost use Rattle.mar_store.specs.Sizes.{IsSmall};
+ghost use Rattle.mar_actor.specs.Opened.{FailsToOpen, OpensAs};
 ghost use Rattle.mar_actor.specs.Views.{begin_of, sizes_of};
 
+use crate::derived::derive;
 use crate::life::Life;
 use crate::node::Node;
+use crate::reopened::begin;
 use crate::settings::Config;
 use mar_block::Variant;
 use mar_key::Floor;
@@ -60,16 +64,32 @@ impl<V: Variant, S: Holds<V>, P: Drop, E: Epocher> Node<V, S, P, E> {
             });
         };
         let max_staged = limits.max_pending_acks.saturating_mul(2);
-        let stores = S::reopen(alloc, ruins, luck, max_staged)?;
+        let stores = open_stores::<V, S, E>(alloc, ruins, luck, max_staged, &genesis, &epocher)?;
+        let floor = stores.floor().snapshot();
         let node = Node {
             stores,
             life: Life::new(provider, epocher, limits, acks),
             of: PhantomData,
         };
-        let node = node.begin(&genesis)?;
-        node.law();
-        let node = node.derive()?;
-        let floor = node.stores.floor().snapshot();
         Ok((node, floor))
     }
+}
+
+/// Reopens the stores, judges what they hold, and raises the cutoff to what the archives show.
+fn open_stores<V: Variant, S: Holds<V>, E: Epocher>(
+    alloc: Global,
+    ruins: S::Ruins,
+    luck: u64,
+    max_staged: usize,
+    genesis: &V::Block,
+    epocher: &E,
+) -> Result<S, Ended<V, S>>
+    requires small { IsSmall (V.plain genesis.now).encoded }
+    ensures opens { IfOk result (λ s. OpensAs (E.epochs epocher.now) (S.Ruins.left ruins) luck (V.plain genesis.now) (S.held s)) }
+    ensures fails { IfErr result (λ e. FailsToOpen (E.epochs epocher.now) (S.Ruins.left ruins) luck (V.plain genesis.now) e) }
+{
+    let stores = S::reopen(alloc, ruins, luck, max_staged)?;
+    let stores = begin::<V, S>(stores, genesis)?;
+    stores.law();
+    derive::<V, S, E>(stores, epocher)
 }

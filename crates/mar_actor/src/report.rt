@@ -2,24 +2,29 @@
 ghost use Rattle.std.specs.Prelude.{◌≡◌, ◌≤◌, ◌+◌, ◌&&◌, ◌∷◌, [], IfErr, IfOk, List, None, OnErr, OnOk, Option, Some, false, map, nat_lt, not, option_map, true};
 ghost use Rattle.mar_cert.specs.Block.{Block};
 ghost use Rattle.mar_node.specs.Messages.{report_finalization};
+ghost use Rattle.mar_key.specs.Cutoff.{at_round, greatest_of};
 ghost use Rattle.mar_key.specs.Hears.{Hears};
 ghost use Rattle.mar_key.specs.Keys.{Call};
 ghost use Rattle.mar_key.specs.Processed.{height_of};
-ghost use Rattle.mar_store.specs.Kept.{has_height};
 ghost use Rattle.mar_store.specs.Changes.{IsNested, Puts};
+ghost use Rattle.mar_store.specs.Kept.{has_height};
 ghost use Rattle.mar_store.specs.Sizes.{IsSmall};
 ghost use Rattle.mar_cert.specs.Finalization.{finalization_bytes};
-ghost use Rattle.mar_node.specs.Stored.{AreSmall, at_own_height, block_of, is_certified, is_held};
+ghost use Rattle.mar_node.specs.Stored.{AreSmall, at_own_height, is_certified, is_held};
 ghost use Rattle.mar_node.specs.Event.{message_told};
 ghost use Rattle.mar_node.specs.Promise.{KeepsPromise, heard_by};
-ghost use Rattle.mar_node.specs.Held.{GoesOn, IsArchiveFault, IsUsual, nothing_written, written_both, written_cert};
-ghost use Rattle.mar_node.specs.Moves.{HearsUpTo, IsRead, LivesOn, PutsAbove, StoresLate, StoresValue, at_height, found_at_hand, lacks_finalization, late_tips, of_commitment, risen_to, tip_after, tip_reports, tips_above};
-ghost use Rattle.mar_node.specs.Requests.{want_asks};
+ghost use Rattle.mar_node.specs.Held.{ArePassed, GoesOn, IsArchiveFault, IsUsual, LosesSince, nothing_written, written_both, written_cert, written_pair};
+ghost use Rattle.mar_node.specs.Moves.{HearsUpTo, IsRead, LivesOn, PutsAbove, StoresLate, StoresWhere, at_height, found_at_hand, lacks_finalization, late_tips, risen_to, tip_reports, tips_above};
+ghost use Rattle.mar_node.specs.Lives.{later_round};
+ghost use Rattle.mar_node.specs.Requests.{raise_asks, want_asks};
 ghost use Rattle.mar_node.specs.Writing.{IsOrdered, with_write};
 ghost use Rattle.mar_actor.specs.Due.{EndsWhereDue, storing_due};
+ghost use Rattle.mar_actor.specs.Noted.{noted_pair};
 ghost use Rattle.mar_actor.specs.Told.{TellsInOrder, finalized_tips};
 
+use crate::acknowledge::witness;
 use crate::node::Node;
+use crate::reads::block_at_hand;
 use crate::reporter::{Reporter, Update};
 use mar_block::{Buffer, Variant};
 use mar_cert::{AsFinalization, CommitsTo};
@@ -83,29 +88,8 @@ impl<V: Variant, S: Holds<V>, P: Drop, E: Epocher> Node<V, S, P, E> {
         ensures goes_on { GoesOn (λ r. r.0.held) self.held nothing_written result }
         ensures usual { IfErr result (λ e. IsUsual e.fault) }
     {
-        match buffer.find_by_commitment(&commitment) {
-            Ok(Some(block)) => Ok((self, Some(block))),
-            Ok(None) => self.stored_block(commitment),
-            Err(_) => Err(self.run_out()),
-        }
-    }
-
-    /// The stored block of a commitment.
-    fn stored_block(
-        self,
-        commitment: V::Commitment,
-    ) -> Result<(Self, Option<V::Block>), Ended<V, S>>
-        ensures same { IfOk result (λ r. IsRead self r.0) }
-        ensures found { IfOk result (λ r. option_map V.plain r.1 ≡ of_commitment (V.Commitment.bytes commitment)
-            (block_of self.held.blocks.held (V.inner (V.Commitment.bytes commitment)))) }
-        ensures goes_on { GoesOn (λ r. r.0.held) self.held nothing_written result }
-        ensures usual { IfErr result (λ e. IsUsual e.fault) }
-    {
-        let (stores, block) = self.stores.block_of(&V::commitment_to_inner(commitment))?;
-        Ok((
-            Node { stores, ..self },
-            of_commitment::<V>(block, commitment),
-        ))
+        let (stores, block) = block_at_hand::<V, S, B>(self.stores, commitment, buffer)?;
+        Ok((Node { stores, ..self }, block))
     }
 
     /// Requests the block of a finalization by commitment and round, unless the cutoff covers the round.
@@ -181,37 +165,9 @@ impl<V: Variant, S: Holds<V>, P: Drop, E: Epocher> Node<V, S, P, E> {
     {
         let height = V::height(&block);
         let digest = V::digest(&block);
-        let node = self.put(finalization, block)?;
+        let stores = put::<V, S>(self.stores, finalization, block)?;
+        let node = Node { stores, ..self };
         node.report_tip(finalization.round(), height, digest, application)
-    }
-
-    /// Puts a block and its finalization.
-    fn put(self, finalization: &S::Finalization, block: V::Block) -> Result<Self, Ended<V, S>>
-        requires small { IsSmall (finalization_bytes (S.Finalization.plain finalization.now)) }
-        requires small_block { IsSmall (V.plain block).encoded }
-        requires ordered { IsOrdered self.held.writes }
-        ensures blocks { IfOk result (λ a. Puts (is_held self.held.blocks.held (V.plain block)) self.held.blocks (at_own_height (V.plain block))
-            a.held.blocks) }
-        ensures certs { IfOk result (λ a. Puts (is_certified V.inner self.held.certs.held (V.plain block).height
-            (V.inner (S.Finalization.plain finalization.now).payload)) self.held.certs (at_height (V.plain block).height
-            (S.Finalization.plain finalization.now)) a.held.certs) }
-        ensures same { IfOk result (λ a. a ≡ record self {
-          held = record self.held {
-            blocks = a.held.blocks;
-            certs = a.held.certs;
-            writes = with_write (V.plain block).height self.held.writes;
-            watches
-                = a.held.watches;
-          };
-        }) }
-        ensures goes_on { GoesOn (λ a. a.held) self.held (written_both (at_own_height (V.plain block))
-            (at_height (V.plain block).height (S.Finalization.plain finalization.now))) result }
-        ensures usual { IfErr result (λ e. IsUsual e.fault) }
-    {
-        let height = V::height(&block);
-        let stores = self.stores.put_block(block)?;
-        let stores = stores.put_certificate(height, finalization)?;
-        Ok(Node { stores, ..self })
     }
 
     /// Reports a finalized block as the tip where it is above the last one reported.
@@ -234,17 +190,13 @@ impl<V: Variant, S: Holds<V>, P: Drop, E: Epocher> Node<V, S, P, E> {
         }
         let tip = Update::Tip(round, height, digest);
         match application.report(tip) {
-            Ok(()) => Ok(self.with_tip(height)),
+            Ok(()) => {
+                let mut node = self;
+                node.life.tip = height;
+                Ok(node)
+            }
             Err(_) => Err(self.run_out()),
         }
-    }
-
-    fn with_tip(self, height: Height) -> Self
-        ensures { result ≡ record self { life = record self.life { tip = height } } }
-    {
-        let mut node = self;
-        node.life.tip = height;
-        node
     }
 
     /// Takes note of a finalized block at or below the processed height: its round is witnessed, and its finalization
@@ -268,9 +220,35 @@ impl<V: Variant, S: Holds<V>, P: Drop, E: Epocher> Node<V, S, P, E> {
         ensures tells { TellsInOrder (A.told application.old) (late_tips (lacks_finalization self.held (V.plain block.now)) self.life.tip
             (S.Finalization.plain finalization.now) (V.plain block.now)) (A.told application.new) result }
     {
-        let node = self.witness(finalization.round(), resolver)?;
-        let node = node.sync_metadata()?;
+        let node = self.note_round(finalization.round(), resolver)?;
         node.store_late(finalization, block, application)
+    }
+
+    /// Witnesses a finalized round, to which the cutoff rises, and makes the processed height and the cutoff durable.
+    fn note_round<R: Resolver<V::Commitment>>(
+        self,
+        round: Round,
+        resolver: &mut R,
+    ) -> Result<Self, Ended<V, S>>
+        ensures ok { IfOk result (λ a. a ≡ record self {
+          held = record self.held {
+            cutoff = greatest_of self.held.cutoff
+                (at_round round ∷ []);
+            witnessed = later_round self.held.witnessed
+                (Some round);
+            pairs = noted_pair self.held round ∷ [];
+            watches = a.held.watches;
+          };
+        }) }
+        ensures passed { IfOk result (λ a. ArePassed self.held.watches a.held.watches) }
+        ensures asks { HearsUpTo (R.told resolver.old) (raise_asks self.held.cutoff (at_round round ∷ [])) (R.told resolver.new) result }
+        ensures lost { LosesSince self.held (written_pair (noted_pair self.held round)) result }
+        ensures usual { IfErr result (λ e. IsUsual e.fault) }
+    {
+        self.law();
+        let stores = witness::<V, S, R>(self.stores, Some(round), resolver)?;
+        let stores = stores.sync_metadata()?;
+        Ok(Node { stores, ..self })
     }
 
     /// Stores the missing finalization of a held block, makes it durable, and reports the block where it is the newest.
@@ -289,89 +267,86 @@ impl<V: Variant, S: Holds<V>, P: Drop, E: Epocher> Node<V, S, P, E> {
         ensures goes_on { GoesOn (λ a. a.held) self.held (written_cert (at_height (V.plain block.now).height (S.Finalization.plain finalization.now))) result }
         ensures usual { IfErr result (λ e. IsUsual e.fault) }
     {
-        let (node, lacks_finalization) = self.lacks_finalization(V::height(block))?;
-        if lacks_finalization {
-            node.store_missing(finalization, block, application)
-        } else {
-            Ok(node)
+        let (stores, is_stored) = put_late::<V, S>(self.stores, finalization, block)?;
+        let node = Node { stores, ..self };
+        if !is_stored {
+            return Ok(node);
         }
-    }
-
-    /// Whether a block is held at a height and no finalization is.
-    fn lacks_finalization(self, height: Height) -> Result<(Self, bool), Ended<V, S>>
-        ensures same { IfOk result (λ r. IsRead self r.0) }
-        ensures value { IfOk result (λ r. r.1 ≡ (has_height self.held.blocks.held height && not (has_height self.held.certs.held height))) }
-        ensures goes_on { GoesOn (λ r. r.0.held) self.held nothing_written result }
-        ensures archive { IfErr result (λ e. IsArchiveFault e.fault) }
-        ensures usual { IfErr result (λ e. IsUsual e.fault) }
-    {
-        let (node, block) = self.block_at(height)?;
-        if block.is_none() {
-            return Ok((node, false));
-        }
-        let (stores, has_certificate) = node.stores.has_certificate(height)?;
-        Ok((Node { stores, ..node }, !has_certificate))
-    }
-
-    /// Stores a finalization, makes it durable, and reports its block where it is the newest.
-    fn store_missing<A: Reporter<V>>(
-        self,
-        finalization: &S::Finalization,
-        block: &V::Block,
-        application: &mut A,
-    ) -> Result<Self, Ended<V, S>>
-        requires small { IsSmall (finalization_bytes (S.Finalization.plain finalization.now)) }
-        ensures ok { OnOk result (Hears (A.told application.old) (tip_reports self.life.tip (S.Finalization.plain finalization.now) (V.plain block.now))
-            (A.told application.new)) }
-        ensures err { OnErr result (Hears (A.told application.old) [] (A.told application.new)) }
-        ensures certs { IfOk result (λ a. StoresValue (is_certified V.inner self.held.certs.held (V.plain block.now).height
-            (V.inner (S.Finalization.plain finalization.now).payload)) self.held.certs (at_height (V.plain block.now).height
-            (S.Finalization.plain finalization.now)) a.held.certs) }
-        ensures same { IfOk result (λ a. a ≡ record self {
-          held = record self.held { certs = a.held.certs; watches = a.held.watches };
-          life = record self.life { tip = tip_after self.life.tip (V.plain block.now) };
-        }) }
-        ensures archive { IfErr result (λ e. IsArchiveFault e.fault) }
-        ensures goes_on { GoesOn (λ a. a.held) self.held (written_cert (at_height (V.plain block.now).height (S.Finalization.plain finalization.now))) result }
-        ensures usual { IfErr result (λ e. IsUsual e.fault) }
-    {
-        let node = self.store_certificate(V::height(block), finalization)?;
         let height = V::height(block);
         node.report_tip(finalization.round(), height, V::digest(block), application)
     }
-
-    /// Stores a finalization alone, and makes it durable.
-    fn store_certificate(
-        self,
-        height: Height,
-        finalization: &S::Finalization,
-    ) -> Result<Self, Ended<V, S>>
-        requires small { IsSmall (finalization_bytes (S.Finalization.plain finalization.now)) }
-        ensures certs { IfOk result (λ a. StoresValue (is_certified V.inner self.held.certs.held height
-            (V.inner (S.Finalization.plain finalization.now).payload)) self.held.certs (at_height height (S.Finalization.plain finalization.now))
-            a.held.certs) }
-        ensures same { IfOk result (λ a. a ≡ record self { held = record self.held { certs = a.held.certs; watches = a.held.watches } }) }
-        ensures archive { IfErr result (λ e. IsArchiveFault e.fault) }
-        ensures goes_on { GoesOn (λ a. a.held) self.held (written_cert (at_height height (S.Finalization.plain finalization.now))) result }
-        ensures usual { IfErr result (λ e. IsUsual e.fault) }
-    {
-        let stores = self.stores.store_certificate(height, finalization)?;
-        Ok(Node { stores, ..self })
-    }
 }
 
-/// The block, where it has this commitment.
-fn of_commitment<V: Variant>(block: Option<V::Block>, commitment: V::Commitment) -> Option<V::Block>
-    ensures { option_map V.plain result ≡ of_commitment (V.Commitment.bytes commitment) (option_map V.plain block) }
+/// Puts a block and its finalization.
+fn put<V: Variant, S: Holds<V>>(
+    stores: S,
+    finalization: &S::Finalization,
+    block: V::Block,
+) -> Result<S, Ended<V, S>>
+    requires small { IsSmall (finalization_bytes (S.Finalization.plain finalization.now)) }
+    requires small_block { IsSmall (V.plain block).encoded }
+    requires ordered { IsOrdered (S.held stores).writes }
+    ensures blocks { IfOk result (λ s. Puts (is_held (S.held stores).blocks.held (V.plain block)) (S.held stores).blocks
+        (at_own_height (V.plain block)) (S.held s).blocks) }
+    ensures certs { IfOk result (λ s. Puts (is_certified V.inner (S.held stores).certs.held (V.plain block).height
+        (V.inner (S.Finalization.plain finalization.now).payload)) (S.held stores).certs (at_height (V.plain block).height
+        (S.Finalization.plain finalization.now)) (S.held s).certs) }
+    ensures same { IfOk result (λ s. S.held s ≡ record (S.held stores) {
+      blocks = (S.held s).blocks;
+      certs = (S.held s).certs;
+      writes = with_write (V.plain block).height (S.held stores).writes;
+      watches = (S.held s).watches;
+    }) }
+    ensures goes_on { GoesOn S.held (S.held stores) (written_both (at_own_height (V.plain block))
+        (at_height (V.plain block).height (S.Finalization.plain finalization.now))) result }
+    ensures usual { IfErr result (λ e. IsUsual e.fault) }
 {
-    match block {
-        None => None,
-        Some(block) => {
-            if V::commitment(&block) == commitment {
-                Some(block)
-            } else {
-                None
-            }
-        }
+    let height = V::height(&block);
+    let stores = stores.put_block(block)?;
+    stores.put_certificate(height, finalization)
+}
+
+/// Stores the finalization of a held block where it is missing, makes it durable, and says whether it was missing.
+fn put_late<V: Variant, S: Holds<V>>(
+    stores: S,
+    finalization: &S::Finalization,
+    block: &V::Block,
+) -> Result<(S, bool), Ended<V, S>>
+    requires small { IsSmall (finalization_bytes (S.Finalization.plain finalization.now)) }
+    ensures lacked { IfOk result (λ r. r.1 ≡ lacks_finalization (S.held stores) (V.plain block.now)) }
+    ensures certs { IfOk result (λ r. StoresWhere r.1 (is_certified V.inner (S.held stores).certs.held (V.plain block.now).height
+        (V.inner (S.Finalization.plain finalization.now).payload)) (S.held stores).certs (at_height (V.plain block.now).height
+        (S.Finalization.plain finalization.now)) (S.held r.0).certs) }
+    ensures same { IfOk result (λ r. S.held r.0 ≡ record (S.held stores) { certs = (S.held r.0).certs; watches = (S.held r.0).watches }) }
+    ensures archive { IfErr result (λ e. IsArchiveFault e.fault) }
+    ensures goes_on { GoesOn (λ r. S.held r.0) (S.held stores) (written_cert (at_height (V.plain block.now).height
+        (S.Finalization.plain finalization.now))) result }
+    ensures usual { IfErr result (λ e. IsUsual e.fault) }
+{
+    let height = V::height(block);
+    let (stores, is_lacking) = lacks_finalization::<V, S>(stores, height)?;
+    if !is_lacking {
+        return Ok((stores, false));
     }
+    let stores = stores.store_certificate(height, finalization)?;
+    Ok((stores, true))
+}
+
+/// Whether a block is held at a height and no finalization is.
+fn lacks_finalization<V: Variant, S: Holds<V>>(
+    stores: S,
+    height: Height,
+) -> Result<(S, bool), Ended<V, S>>
+    ensures same { IfOk result (λ r. S.held r.0 ≡ record (S.held stores) { watches = (S.held r.0).watches }) }
+    ensures value { IfOk result (λ r. r.1 ≡ (has_height (S.held stores).blocks.held height && not (has_height (S.held stores).certs.held height))) }
+    ensures goes_on { GoesOn (λ r. S.held r.0) (S.held stores) nothing_written result }
+    ensures archive { IfErr result (λ e. IsArchiveFault e.fault) }
+    ensures usual { IfErr result (λ e. IsUsual e.fault) }
+{
+    let (stores, block) = stores.block_at(height)?;
+    if block.is_none() {
+        return Ok((stores, false));
+    }
+    let (stores, has_certificate) = stores.has_certificate(height)?;
+    Ok((stores, !has_certificate))
 }

@@ -13,6 +13,7 @@ ghost use Rattle.mar_actor.specs.Due.{EndsWhereDue};
 ghost use Rattle.mar_actor.specs.Told.{TellsInOrder};
 
 use crate::node::Node;
+use crate::reads::newest_certificate;
 use crate::reporter::Reporter;
 use mar_block::Variant;
 use mar_cert::{AsFinalization, CommitsTo};
@@ -42,7 +43,8 @@ impl<V: Variant, S: Holds<V>, P: Drop, E: Epocher> Node<V, S, P, E> {
         ensures goes_on { GoesOn (λ a. a.held) self.held nothing_written result }
         ensures usual { IfErr result (λ e. IsUsual e.fault) }
     {
-        let (node, found) = self.newest_certificate()?;
+        let (stores, found) = newest_certificate::<V, S>(self.stores)?;
+        let node = Node { stores, ..self };
         match found {
             None => Ok(node),
             Some((height, finalization)) => {

@@ -47,7 +47,7 @@ module _ {P E : Type 0} (epochs : Epochs) (inner : List ℕ → List ℕ) (parti
   pub told_cut : (config : Config) (chain : Chain) (asked : List Asked) (e : Event) (step : IsLawfulStep config chain (node_of a buffer asked) (e ∷ [])) (no_effect : effect_of config (node_of a buffer asked) e ≡ no_floor) → ((fault : Fault) → is_refused_floor e fault ≡ false) → (tips : List Report) (tip : ℕ) → AreTips tips → TipsFrom a.life.tip tips tip → AreTipsOf chain tips → (told told' : Option (List Report)) (heard heard' : Option (List Call)) (written : Written) (x : Ending) → Hears told tips told' → HearsFront heard (own_asks config (node_of a buffer asked) e no_floor) heard' → written.blocks_from ≡ 0 → written.certs_from ≡ 0 → AreBlocksOf chain written.blocks → AreFinalizationsOf chain written.certs → ((y : At Block) → Contains written.blocks y → brought_block (node_of a buffer asked) e ≡ Some y.value) → ((y : At Finalization) → Contains written.certs y → told_finalization (node_of a buffer asked) e ≡ Some y.value) → Loses a.held written x → ((p : Pair) → Contains written.pairs p → MayBeLeft config chain a e buffer asked x.remains.ended.blocks_sure p) → is_by_value x.fault ≡ false → is_dropped_ack x.fault ≡ false → CutsStep config chain (node_of a buffer asked) (e ∷ []) (heard_by told heard) (heard_by told' heard') x
   told_cut config chain asked e step no_effect unrefused tips tip are_tips rise of_chain told told' heard heard' written x tips_heard (asks, front, asks_heard) no_prune no_cert_prune of_blocks of_certs own_blocks own_certs lost may no_value not_dropped = record {
     made = made_of tips asks;
-    heard = record { reports = tips_heard; asks = asks_heard; no_more = refl };
+    heard = record { reports = tips_heard; asks = asks_heard; answers = refl; no_more = refl };
     cuts = Cuts-before config chain a e buffer asked (untold config chain (node_of a buffer asked) e step.good).0 (untold config chain (node_of a buffer asked) e step.good).1 no_effect tips asks tip written x are_tips rise of_chain no_prune no_cert_prune of_blocks of_certs own_blocks own_certs lost may
         (λ is. absurd (never (is_by_value x.fault) no_value is)) (never (is_refused_floor e x.fault) (unrefused x.fault)) (λ is. absurd (never (is_dropped_ack x.fault) not_dropped is)) front;
   }

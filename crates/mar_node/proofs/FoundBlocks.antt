@@ -38,7 +38,7 @@ Contains-slice_get {T = T} (y ∷ xs) zero x at = (zero, omega arith, inside at)
     inside e = cc
 Contains-slice_get (y ∷ xs) (suc i) x at = let has = Contains-slice_get xs i x at in (suc has.0, omega arith, has.2)
 
-find-append : {T : Type 0} (test : T → Bool) (xs ys : List T) → find test (xs ++ ys) ≡ option_or (find test xs) (find test ys)
+pub find-append : {T : Type 0} (test : T → Bool) (xs ys : List T) → find test (xs ++ ys) ≡ option_or (find test xs) (find test ys)
 find-append test [] ys = refl
 find-append {T = T} test (x ∷ xs) ys = by (test x) (find-append test xs ys)
   where

@@ -24,7 +24,9 @@ pub mod AckEvent
 pub mod StoredValues
 pub mod FinalizationEvent
 pub mod Promises
+pub mod Heard
 pub mod EventPromises
+pub mod Queries
 pub mod ProgressPromises
 pub mod Lasting
 pub mod Reopenings

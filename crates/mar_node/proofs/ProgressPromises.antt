@@ -65,7 +65,7 @@ module _ {P E : Type 0} (epochs : Epochs) (inner : List ℕ → List ℕ) (parti
   synced_cut : (config : Config) (chain : Chain) (asked : List Asked) (e : Event) (step : IsLawfulStep config chain (node_of a buffer asked) (e ∷ [])) (no_effect : effect_of config (node_of a buffer asked) e ≡ no_floor) → ((fault : Fault) → is_refused_floor e fault ≡ false) → (told told' : Option (List Report)) (heard heard' : Option (List Call)) (now : Held) (own : Pair) (y : At Finalization) (x : Ending) → Hears told [] told' → Hears heard (own_asks config (node_of a buffer asked) e no_floor) heard' → now.blocks ≡ a.held.blocks → now.certs ≡ a.held.certs → now.pairs ≡ own ∷ [] → own ≡ pair_of (processed_after (node_of a buffer asked) e no_floor) (cutoff_after config (node_of a buffer asked) e no_floor) → AreFinalizationsOf chain (y ∷ []) → told_finalization (node_of a buffer asked) e ≡ Some y.value → Loses now (written_cert y) x → ((sure : List (At Block)) → KeepsValues a.held.blocks.sure sure → (p : Pair) → Contains (own ∷ []) p → MayBeLeft config chain a e buffer asked sure p) → IsArchiveFault x.fault → CutsStep config chain (node_of a buffer asked) (e ∷ []) (heard_by told heard) (heard_by told' heard') x
   synced_cut config chain asked e step no_effect unrefused told told' heard heard' now own y x silent asks same_blocks same_certs pairs own_is of_cert told_is lost may of_archive = record {
     made = made_of [] (own_asks config (node_of a buffer asked) e no_floor);
-    heard = record { reports = silent; asks = asks; no_more = refl };
+    heard = record { reports = silent; asks = asks; answers = refl; no_more = refl };
     cuts = Cuts-left config chain a e buffer asked before.0 before.1 no_effect [] (own_asks config (node_of a buffer asked) e no_floor) a.life.tip (reached_before (node_of a buffer asked) e) x.fault x.remains.ended refl tt (inl refl) tt tt leaves
         (some_from_first x.remains.ended.meta own (lost.leaves.pairs.first ∙ ap first_pair pairs))
         (inr ((λ is. absurd (subst IsArchiveFault is of_archive)), lost.leaves.pairs.first ∙ (ap first_pair pairs ∙ ap Some own_is)))
@@ -200,7 +200,7 @@ module _ {P E : Type 0} (epochs : Epochs) (inner : List ℕ → List ℕ) (parti
         refl refl tt tt (λ z has. nothing_put z has) (λ z has. nothing_put z has) lost (λ p has. nothing_put p has) usual
     promise-undrained told heard heard' x nested certs_nested (asks, front, asks_heard) lost (inr ends) config chain asked set step = record {
       made = made_of [] asks;
-      heard = record { reports = Hears-nothing told; asks = asks_heard; no_more = refl };
+      heard = record { reports = Hears-nothing told; asks = asks_heard; answers = refl; no_more = refl };
       cuts = Cuts-before config chain a (ack_given t) buffer asked a.life.tip step.good refl [] asks a.life.tip nothing_written x tt refl tt refl refl tt tt (λ z has. nothing_put z has) (λ z has. nothing_put z has) lost (λ p has. nothing_put p has)
           (λ is. dropped_first-some (after_given given.life.out) ends.oldest ends.dropped ∙ ap Some (sym ends.fault)) (never (is_refused_floor (ack_given t) x.fault) refl) (λ is. ends.unsynced)
           (subst (λ cs. IsFront asks cs) (asks_are config chain asked set step nested certs_nested) front);

@@ -146,7 +146,7 @@ module _ {P E : Type 0} (config : Config) (chain : Chain) (a m : Seen P E) (e : 
     pub dispatched : (told told1 told' : Option (List Report)) (heard heard' : Option (List Call)) (result : Result (Seen P E) Ending) → Hears told tips told1 → Ran m told1 told' result → Hears heard (own_asks config n e no_floor) heard' → StepsOrCuts config chain n (e ∷ []) (heard_by told heard) (heard_by told' heard') result
     dispatched told told1 told' heard heard' (Ok d) tips_heard (handed, handed_heard, ran) asks_heard = record {
       made = made_of (tips ++ map handed_report handed) (own_asks config n e no_floor);
-      heard = record { reports = Hears-then told told1 told' tips (map handed_report handed) tips_heard handed_heard; asks = asks_heard; no_more = refl };
+      heard = record { reports = Hears-then told told1 told' tips (map handed_report handed) tips_heard handed_heard; asks = asks_heard; answers = refl; no_more = refl };
       steps = subst (λ s. Steps config chain n (e ∷ []) (made_of (tips ++ map handed_report handed) (own_asks config n e no_floor)) (node_of s buffer (asked_after asked [] (own_asks config n e no_floor)))) (sym ran.same)
           (Steps-reached config chain a m e buffer asked tips handed step.reported.0 good_before.1.of_chain.asks.requests reach (HandsSure-next config chain m buffer asked handed good sure_held ran.next ran.below_barrier) unwritten handed_good
           (Rest-still config chain (with_handed m handed) buffer asked step.lawful window handed_good (subst IsStill ran.same ran.still)));
@@ -156,7 +156,7 @@ module _ {P E : Type 0} (config : Config) (chain : Chain) (a m : Seen P E) (e : 
         handed_good = IsGood-handed config chain m buffer asked handed window good ran.next ran.below_barrier ran.room
     dispatched told told1 told' heard heard' (Err x) tips_heard (handed, handed_heard, stops) asks_heard = record {
       made = made_of (tips ++ map handed_report handed) (own_asks config n e no_floor);
-      heard = record { reports = Hears-then told told1 told' tips (map handed_report handed) tips_heard handed_heard; asks = asks_heard; no_more = refl };
+      heard = record { reports = Hears-then told told1 told' tips (map handed_report handed) tips_heard handed_heard; asks = asks_heard; answers = refl; no_more = refl };
       cuts = Cuts-handing handed x stops;
     }
 
@@ -164,7 +164,7 @@ module _ {P E : Type 0} (config : Config) (chain : Chain) (a m : Seen P E) (e : 
     pub undispatched : (told told' : Option (List Report)) (heard heard' : Option (List Call)) → Hears told tips told' → Hears heard (own_asks config n e no_floor) heard' → Rest config.window (node_of m buffer asked) → FinishesStep config chain n (e ∷ []) (heard_by told heard) (heard_by told' heard') m
     undispatched told told' heard heard' tips_heard asks_heard rests = record {
       made = made_of tips (own_asks config n e no_floor);
-      heard = record { reports = tips_heard; asks = asks_heard; no_more = refl };
+      heard = record { reports = tips_heard; asks = asks_heard; answers = refl; no_more = refl };
       steps = subst (λ rs. Steps config chain n (e ∷ []) (made_of rs (own_asks config n e no_floor)) (node_of m buffer (asked_after asked [] (own_asks config n e no_floor)))) (append-nil tips)
           (subst (λ s. Steps config chain n (e ∷ []) (made_of (tips ++ []) (own_asks config n e no_floor)) (node_of s buffer (asked_after asked [] (own_asks config n e no_floor)))) (with_handed-none m)
           (Steps-reached config chain a m e buffer asked tips [] step.reported.0 good_before.1.of_chain.asks.requests reach (HandsSure-none chain m) unwritten (subst (λ s. IsGood config chain (node_of s buffer asked)) (sym (with_handed-none m)) good) (subst (λ s. Rest config.window (node_of s buffer asked)) (sym (with_handed-none m)) rests)));
@@ -175,7 +175,7 @@ module _ {P E : Type 0} (config : Config) (chain : Chain) (a m : Seen P E) (e : 
   pub started : (new : Seen P E) → IsStarted m new → total_writes a.held.writes < total_writes m.held.writes → 0 < length m.held.writes.uncovered → IsGood config chain (node_of new buffer asked) → Rest config.window (node_of new buffer asked) → (told told' : Option (List Report)) (heard heard' : Option (List Call)) → Hears told tips told' → Hears heard (own_asks config (node_of a buffer asked) e no_floor) heard' → FinishesStep config chain (node_of a buffer asked) (e ∷ []) (heard_by told heard) (heard_by told' heard') new
   started new is written some good rests told told' heard heard' tips_heard asks_heard = record {
     made = made_of tips (own_asks config (node_of a buffer asked) e no_floor);
-    heard = record { reports = tips_heard; asks = asks_heard; no_more = refl };
+    heard = record { reports = tips_heard; asks = asks_heard; answers = refl; no_more = refl };
     steps = subst (λ rs. Steps config chain (node_of a buffer asked) (e ∷ []) (made_of rs (own_asks config (node_of a buffer asked) e no_floor)) (node_of new buffer (asked_after asked [] (own_asks config (node_of a buffer asked) e no_floor)))) (append-nil tips)
         (Steps-started config chain a m e buffer asked tips [] step.reported.0 (untold config chain (node_of a buffer asked) e step.good).1.of_chain.asks.requests reach (HandsSure-none chain m) new (subst (λ s. IsStarted s new) (sym (with_handed-none m)) is) written some good rests);
   }

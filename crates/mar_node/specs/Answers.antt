@@ -7,7 +7,7 @@ use Rattle.mar_cert.specs.Block.{Block, certified_bytes}
 use Rattle.mar_cert.specs.Finalization.{Finalization, Notarization, finalization_bytes}
 use Rattle.mar_key.specs.Processed.{Processed, anchor_of}
 use Rattle.mar_store.specs.Kept.{At, value_at}
-use Rattle.mar_node.specs.Stored.{newest, values_of}
+use Rattle.mar_node.specs.Stored.{block_of, newest}
 use Rattle.mar_key.specs.Keys.{Annotation, Key, block_key, certified_at, finalized_key, notarized_key}
 use Rattle.mar_node.specs.Messages.{Identifier, Message, Peers, certify, close_ticket, forward, get_anchor, get_block, get_finalization, get_info, get_processed, get_verified, latest, of_digest, of_height, prepared, proposed, report_certification, some_peers, subscribe_commitment, subscribe_digest, verified}
 use Rattle.mar_node.specs.Config.{Config}
@@ -51,17 +51,17 @@ or_none (Some v) = v
 abbrev pub at_hand_digest : Node → List ℕ → Option Block
 at_hand_digest n d = find (λ b. bytes_eq b.digest d) (all_at_hand n)
 
-abbrev pub certificate_info : Config → At Finalization → Value
-certificate_info config x = info_value x.height (config.inner x.value.payload)
+abbrev pub certificate_info : (List ℕ → List ℕ) → At Finalization → Value
+certificate_info inner x = info_value x.height (inner x.value.payload)
 
 abbrev pub block_info : Block → Value
 block_info b = info_value b.height b.digest
 
 -- by height: certificate, else block; by digest: finalized block; latest: newest certificate
-abbrev pub info : Config → Node → Identifier → Option Value
-info config n (of_height h) = option_or (option_map (λ f. info_value h (config.inner f.payload)) (value_at n.certs.held h)) (option_map block_info (value_at n.blocks.held h))
-info config n (of_digest d) = option_map block_info (find (λ b. bytes_eq b.digest d) (values_of n.blocks.held))
-info config n latest = option_map (certificate_info config) (newest n.certs.held)
+abbrev pub info : (List ℕ → List ℕ) → List (At Block) → List (At Finalization) → Identifier → Option Value
+info inner blocks certs (of_height h) = option_or (option_map (λ f. info_value h (inner f.payload)) (value_at certs h)) (option_map block_info (value_at blocks h))
+info inner blocks certs (of_digest d) = option_map block_info (block_of blocks d)
+info inner blocks certs latest = option_map (certificate_info inner) (newest certs)
 
 -- by height: finalized; by digest or latest: buffer, cache, archive
 abbrev pub block_for : Node → Identifier → Option Block
@@ -70,20 +70,23 @@ block_for n (of_digest d) = at_hand_digest n d
 block_for n latest = option_and_then (λ x. at_hand n x.value.payload) (newest n.certs.held)
 
 -- the processed height with the block that backs it
-abbrev pub anchor : Node → Option Processed → Option Value
-anchor n None = None
-anchor n (Some p) = option_map (anchor_value p) (value_at n.blocks.held (anchor_of p))
+abbrev pub anchor : List (At Block) → Option Processed → Option Value
+anchor blocks None = None
+anchor blocks (Some p) = option_map (anchor_value p) (value_at blocks (anchor_of p))
 
 abbrev pub bytes_of : Option Block → Value
 bytes_of b = or_none (option_map (λ x. bytes_value x.encoded) b)
 
+abbrev pub finalization_value : Option Finalization → Value
+finalization_value f = or_none (option_map (λ x. bytes_value (finalization_bytes x)) f)
+
 -- the answer to a query, None for another message
 abbrev pub query_value : Config → Node → Message → Option Value
-query_value config n (get_info id) = Some (or_none (info config n id))
+query_value config n (get_info id) = Some (or_none (info config.inner n.blocks.held n.certs.held id))
 query_value config n (get_block id) = Some (bytes_of (block_for n id))
-query_value config n (get_finalization h) = Some (or_none (option_map (λ f. bytes_value (finalization_bytes f)) (value_at n.certs.held h)))
+query_value config n (get_finalization h) = Some (finalization_value (value_at n.certs.held h))
 query_value config n get_processed = Some (or_none (option_map processed_value n.processed))
-query_value config n get_anchor = Some (or_none (anchor n n.processed))
+query_value config n get_anchor = Some (or_none (anchor n.blocks.held n.processed))
 query_value config n (get_verified r) = Some (bytes_of (first_verified n.cache.held r))
 query_value config n _ = None
 

@@ -19,6 +19,7 @@ pub mod Judge
 pub mod Held
 pub mod Moves
 pub mod Promise
+pub mod Queries
 pub mod Opening
 pub mod Newest
 pub mod Messages

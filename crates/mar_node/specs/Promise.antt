@@ -10,6 +10,7 @@ use Rattle.mar_key.specs.Hears.{Hears}
 use Rattle.mar_key.specs.Keys.{Call}
 use Rattle.mar_key.specs.PeerQueue.{PeerQueue}
 use Rattle.mar_store.specs.Kept.{At, Kept, Reopens, reopened_store}
+use Rattle.mar_node.specs.Answers.{TicketAnswer}
 use Rattle.mar_node.specs.Cached.{Cached}
 use Rattle.mar_node.specs.Messages.{Inbox, report_finalization}
 use Rattle.mar_node.specs.Metadata.{Pair}
@@ -135,19 +136,25 @@ pub record IsLawfulStep (config : Config) (chain : Chain) (n : Node) (events : L
 abbrev pub made_of : List Report → List Call → Made
 made_of reports asks = record { reports = reports; asks = asks; sends = []; answers = [] }
 
--- what those around a life have heard so far, where they tell that: the application, and the resolver
+-- what those around a life have heard so far: the application and the resolver, where they tell that, and those who ask
 pub record Heard : Type 0 where
   pub reports : Option (List Report)
   pub asks : Option (List Call)
+  pub answers : List TicketAnswer
 
+abbrev pub heard_with : Option (List Report) → Option (List Call) → List TicketAnswer → Heard
+heard_with reports asks answers = record { reports = reports; asks = asks; answers = answers }
+
+-- nobody was answered
 abbrev pub heard_by : Option (List Report) → Option (List Call) → Heard
-heard_by reports asks = record { reports = reports; asks = asks }
+heard_by reports asks = heard_with reports asks []
 
--- What they heard between the two is what was made; so far nobody is answered, and nothing sent.
+-- What they heard between the two is what was made; so far nothing is sent.
 pub record HearsMade (before : Heard) (made : Made) (after : Heard) : Type 0 where
   pub reports : Hears before.reports made.reports after.reports
   pub asks : Hears before.asks made.asks after.asks
-  pub no_more : made ≡ made_of made.reports made.asks
+  pub answers : after.answers ≡ before.answers ++ made.answers
+  pub no_more : made.sends ≡ []
 
 -- A step that finished: what was heard is what it made, and what is open with the resolver follows from that.
 pub record FinishesStep {P E : Type 0} (config : Config) (chain : Chain) (n : Node) (events : List Event) (before after : Heard) (new : Seen P E) : Type 0 where

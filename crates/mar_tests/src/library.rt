@@ -1,5 +1,5 @@
 //! How to use marshal as a library: a node over stores of one's own is opened, given events, told that a sync of its
-//! stores has finished, ended by a crash, and opened again.
+//! stores has finished, asked for what it has, ended by a crash, and opened again.
 ghost use Rattle.std.specs.Prelude.{◌≡◌, IsTrue};
 ghost use Rattle.mar_actor.specs.Views.{event_of};
 ghost use Rattle.mar_node.specs.Promise.{IsSmallEvent};
@@ -14,6 +14,7 @@ use mar_cert::{
     Proposal, Signer, Subject, mock_tag,
 };
 use mar_codec::{Digest, Digested, EncodeSize, Sha256, Sha256Digest};
+use mar_inbox::{AnswerTable, Identifier, Message, Standing, Value};
 use mar_key::Recorder;
 use mar_shelf::{
     BlockItem, Blocks, CertificateItem, Certificates, NoShelf, Shelf, Stores, immutable,
@@ -66,9 +67,13 @@ impl Reporter<StandardBlocks> for Application {
     }
 }
 
-/// What the node speaks to: the blocks that are at hand, the peers, and the application.
+/// What a node answers to whoever asks.
+type Answers = AnswerTable<Value<Sha256Digest, Block, MockFinalization>>;
+
+/// What the node speaks to: who asks, the blocks that are at hand, the peers, and the application.
 #[derive(Drop)]
 struct Surroundings {
+    answers: Answers,
     buffer: MemBuffer<StandardBlocks>,
     peers: Recorder<Sha256Digest>,
     application: Application,
@@ -118,15 +123,17 @@ fn opened<S: Holds<StandardBlocks, Finalization = MockFinalization>>(
 }
 
 // Whether a store can take what an event brings.
-fn is_small(event: &Event<MockFinalization>) -> bool
-    ensures { IsTrue result → IsSmallEvent (event_of ⟦<MockFinalization as AsFinalization>⟧.plain event.now) }
+fn is_small(event: &Event<Sha256Digest, MockFinalization>) -> bool
+    ensures { IsTrue result → IsSmallEvent (event_of (λ digest. digest.bytes) ⟦<MockFinalization as AsFinalization>⟧.plain event.now) }
 {
     match event {
         Event::Start => true,
-        Event::Finalization(finalization) => {
+        Event::Message(Message::Finalization(finalization)) => {
             let certificate = finalization.certificate.encode_size();
             certificate <= MOST && finalization.encode_size() <= MOST
         }
+        Event::Message(Message::GetInfo { .. }) => true,
+        Event::Message(_other) => false,
         Event::Sync(_ticket) => true,
         Event::Ack(_ticket) => true,
     }
@@ -136,7 +143,7 @@ fn is_small(event: &Event<MockFinalization>) -> bool
 fn stepped<S: Holds<StandardBlocks, Finalization = MockFinalization>>(
     rt: &impl Abort,
     node: NodeOver<S>,
-    event: Event<MockFinalization>,
+    event: Event<Sha256Digest, MockFinalization>,
     around: &mut Surroundings,
 ) -> NodeOver<S>
     requires { AreSmall around.old.buffer.blocks }
@@ -144,11 +151,13 @@ fn stepped<S: Holds<StandardBlocks, Finalization = MockFinalization>>(
 {
     assert!(rt; is_small(&event));
     let Surroundings {
+        answers,
         buffer,
         peers,
         application,
     } = around;
-    going_on(rt, node.step(event, &*buffer, peers, application))
+    let stepped = node.step(event, answers, &*buffer, peers, application);
+    going_on(rt, stepped)
 }
 
 // A sync's ticket, whether the sync is open, and whether it has finished.
@@ -201,13 +210,41 @@ fn finalized_and_synced<S: Holds<StandardBlocks, Finalization = MockFinalization
     requires { AreSmall around.old.buffer.blocks }
     ensures { around.new.buffer ≡ around.old.buffer }
 {
-    let node = stepped(rt, node, Event::Finalization(finalized), around);
+    let finalized = Event::Message(Message::Finalization(finalized));
+    let node = stepped(rt, node, finalized, around);
     assert!(rt; node.awaits_sync(0));
     same(rt, around.application.handed.len(), 1);
     let node = untouched(rt, node, 1, &OPEN, around);
     let node = stepped(rt, node, Event::Sync(0), around);
     assert!(rt; node.finished(0));
     same(rt, around.application.handed.len(), 2);
+    node
+}
+
+// The height of the newest finalized block that a node knows of, asked under this ticket.
+fn newest_height(rt: &impl Abort, answers: &Answers, ticket: u64) -> u64 {
+    match answers.poll(ticket) {
+        Standing::Value(Value::Info { height, .. }) => height.get(),
+        _other => panic!(rt; "the ticket has no answer"),
+    }
+}
+
+// Asks a node for the newest finalized block.
+fn asked<S: Holds<StandardBlocks, Finalization = MockFinalization>>(
+    rt: &impl Abort,
+    node: NodeOver<S>,
+    ticket: u64,
+    around: &mut Surroundings,
+) -> NodeOver<S>
+    requires { AreSmall around.old.buffer.blocks }
+    ensures { around.new.buffer ≡ around.old.buffer }
+{
+    let query = Message::GetInfo {
+        ticket,
+        identifier: Identifier::Latest,
+    };
+    let node = stepped(rt, node, Event::Message(query), around);
+    same(rt, newest_height(rt, &around.answers, ticket), 1);
     node
 }
 
@@ -228,6 +265,7 @@ fn lived_twice<S: Holds<StandardBlocks, Finalization = MockFinalization>>(
     let node = untouched(rt, node, 0, &NOT_STARTED, around);
     let node = finalized_and_synced(rt, node, finalized, around);
     let node = untouched(rt, node, 0, &FINISHED, around);
+    let node = asked(rt, node, 7, around);
     let node = opened::<S>(rt, alloc, node.wreck(), around);
     (node.owes_ack(0), node.wreck())
 }
@@ -332,6 +370,7 @@ fn around_at_first(rt: &impl Abort, alloc: Global, next: Block) -> Surroundings
         panic!(rt; "memory ran out");
     }
     Surroundings {
+        answers: AnswerTable::new(alloc),
         buffer,
         peers: Recorder::new(alloc),
         application: Application {

@@ -11,6 +11,7 @@ use Rattle.mar_node.specs.Held.{ArePassed, Ending, FailsBy, Remains}
 use Rattle.mar_node.specs.Lives.{Cuts}
 use Rattle.mar_node.specs.Promise.{HearsMade, IsSetTo, KeepsPromise, heard_by, made_of, node_of}
 use Rattle.mar_node.specs.Step.{Made, Report, Steps}
+use Rattle.mar_node.proofs.Heard.{made_of-heard}
 use Rattle.mar_shelf.specs.declared.fault.Fault.{Fault as FaultCode}
 use Rattle.mar_key.specs.Asked.{Asked, asked_after}
 use Rattle.marshal.specs.Playing.{GivesFew, IsNearLast, SeenNode, TakesEvent}
@@ -31,7 +32,7 @@ module _ (seen : SeenNode) (buffer : Held) (e : Event) (told0 told1 : List Repor
 
   -- what was made is what was heard since
   made_is : (made : Made) → HearsMade (heard_by (Some told0) (Some asks0)) made (heard_by (Some told1) (Some asks1)) → made ≡ made_of told1 asks1
-  made_is made heard = heard.no_more ∙ ap₂ made_of (told_all told0 told1 made.reports silent heard.reports) (told_all asks0 asks1 made.asks unasked heard.asks)
+  made_is made heard = made_of-heard _ _ made heard refl ∙ ap₂ made_of (told_all told0 told1 made.reports silent heard.reports) (told_all asks0 asks1 made.asks unasked heard.asks)
 
   pub takes_ok : {H R : Type 0} (new : SeenNode) (opened : List Asked) → Promises (Ok new) → new.life.epocher ≡ seen.life.epocher → new.life.sizes ≡ seen.life.sizes → ArePassed seen.held.watches new.held.watches → GivesFew seen new → TakesEvent {H = H} {R = R} seen buffer opened e told1 asks1 (state.Running new buffer opened) outcome.Done
   takes_ok new opened promise epocher sizes passed tickets = record {

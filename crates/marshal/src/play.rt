@@ -5,10 +5,12 @@ ghost use Rattle.mar_key.specs.Recorded.{ask_of};
 ghost use Rattle.mar_node.specs.Messages.{report_finalization};
 ghost use Rattle.mar_node.specs.Config.{Config as PlainConfig};
 ghost use Rattle.mar_node.specs.Faults.{from_genesis, want_of_memory};
-ghost use Rattle.mar_node.specs.Held.{remains_of};
+ghost use Rattle.mar_node.specs.Held.{Held, remains_of};
 ghost use Rattle.mar_node.specs.Promise.{IsSmallEvent};
+ghost use Rattle.mar_node.specs.Queries.{answers_found};
 ghost use Rattle.mar_node.specs.Stored.{AreSmall};
 ghost use Rattle.mar_store.specs.Sizes.{IsSmall};
+ghost use Rattle.mar_cert.specs.Block.{Block};
 ghost use Rattle.mar_cert.specs.Finalization.{finalization_bytes};
 ghost use Rattle.mar_script.specs.Plays.{IsSmallLine};
 ghost use Rattle.mar_actor.specs.Views.{begin_of, event_of, sizes_of};
@@ -24,6 +26,7 @@ use mar_actor::{Config, Ended, Event, Fault, Limits, Node, Start, StoreName};
 use mar_block::{EmptyBlock, MemBuffer, StandardBlocks};
 use mar_cert::{MockFinalization, MockProvider, MockScheme};
 use mar_codec::{Digested, Sha256, Sha256Digest};
+use mar_inbox::{AnswerTable, Message};
 use mar_key::{Ask, OpenRequests};
 use mar_script::{Line, RemarkShown, Settings};
 use mar_shelf::{Holds, StoresRuin};
@@ -194,9 +197,9 @@ fn play_running<H: Holds<StandardBlocks, Finalization = MockFinalization>>(
             Ok(Outcome::Remark(RemarkShown::Running)),
         ),
         Line::Buffer(block) => put(alloc, actor, buffer, requests, block),
-        Line::Final(finalization) => finalize(actor, buffer, requests, finalization, heard),
-        Line::Sync(ticket) => finish_sync(actor, buffer, requests, ticket, heard),
-        Line::Ack(ticket) => acknowledge(actor, buffer, requests, ticket, heard),
+        Line::Final(finalization) => finalize(alloc, actor, buffer, requests, finalization, heard),
+        Line::Sync(ticket) => finish_sync(alloc, actor, buffer, requests, ticket, heard),
+        Line::Ack(ticket) => acknowledge(alloc, actor, buffer, requests, ticket, heard),
         Line::Fail(store, calls) => arm(actor, buffer, requests, store, calls),
         Line::Crash(luck) => (crash(actor, buffer, requests, luck), Ok(Outcome::Done)),
     }
@@ -255,6 +258,7 @@ fn put<H: Holds<StandardBlocks, Finalization = MockFinalization>>(
 
 // Reports a finalization.
 fn finalize<H: Holds<StandardBlocks, Finalization = MockFinalization>>(
+    alloc: Global,
     actor: ScriptNode<H>,
     buffer: MemBuffer<StandardBlocks>,
     requests: OpenRequests<Sha256Digest>,
@@ -269,13 +273,14 @@ fn finalize<H: Holds<StandardBlocks, Finalization = MockFinalization>>(
         (tell_line (report_finalization (plain_finalization finalization)))
         (map plain_report heard.new.told.updates.items) heard.new.asked result.0 result.1 }
 {
-    let event = Event::Finalization(finalization);
-    let (state, outcome) = step(actor, buffer, requests, event, heard);
+    let event = Event::Message(Message::Finalization(finalization));
+    let (state, outcome) = step(alloc, actor, buffer, requests, event, heard);
     (state, Ok(outcome))
 }
 
 // Gives the acknowledgement of this ticket, where it is owed.
 fn acknowledge<H: Holds<StandardBlocks, Finalization = MockFinalization>>(
+    alloc: Global,
     actor: ScriptNode<H>,
     buffer: MemBuffer<StandardBlocks>,
     requests: OpenRequests<Sha256Digest>,
@@ -292,12 +297,13 @@ fn acknowledge<H: Holds<StandardBlocks, Finalization = MockFinalization>>(
         let remark = Outcome::Remark(RemarkShown::Ignored);
         return (State::Running(actor, buffer, requests), Ok(remark));
     }
-    let (state, outcome) = step(actor, buffer, requests, Event::Ack(ticket), heard);
+    let (state, outcome) = step(alloc, actor, buffer, requests, Event::Ack(ticket), heard);
     (state, Ok(outcome))
 }
 
 // Lets the sync of this ticket finish, where the node awaits it.
 fn finish_sync<H: Holds<StandardBlocks, Finalization = MockFinalization>>(
+    alloc: Global,
     actor: ScriptNode<H>,
     buffer: MemBuffer<StandardBlocks>,
     requests: OpenRequests<Sha256Digest>,
@@ -315,26 +321,36 @@ fn finish_sync<H: Holds<StandardBlocks, Finalization = MockFinalization>>(
         let remark = Outcome::Remark(RemarkShown::Ignored);
         return (State::Running(actor, buffer, requests), Ok(remark));
     }
-    let (state, outcome) = step(actor, buffer, requests, Event::Sync(ticket), heard);
+    let (state, outcome) = step(alloc, actor, buffer, requests, Event::Sync(ticket), heard);
     (state, Ok(outcome))
 }
 
-// Takes one event.
+// Takes one event that nobody is answered.
 fn step<H: Holds<StandardBlocks, Finalization = MockFinalization>>(
+    alloc: Global,
     actor: ScriptNode<H>,
     buffer: MemBuffer<StandardBlocks>,
     requests: OpenRequests<Sha256Digest>,
-    event: Event<MockFinalization>,
+    event: Event<Sha256Digest, MockFinalization>,
     heard: &mut Heard,
 ) -> (State<H>, Outcome)
-    requires small_event { IsSmallEvent (event_of plain_finalization event) }
+    requires small_event { IsSmallEvent (event_of (λ digest. digest.bytes) plain_finalization event) }
+    requires unanswered { (held : Held) (blocks : List Block)
+        → answers_found (λ commitment. commitment) held blocks (event_of (λ digest. digest.bytes) plain_finalization event) ≡ [] }
     requires small { AreSmall buffer.blocks }
     requires silent { heard.old.told.updates.items ≡ [] }
     requires unasked { heard.old.asked ≡ [] }
-    ensures { TakesEvent actor buffer requests (event_of plain_finalization event) (map plain_report heard.new.told.updates.items) heard.new.asked
-        result.0 result.1 }
+    ensures { TakesEvent actor buffer requests (event_of (λ digest. digest.bytes) plain_finalization event)
+        (map plain_report heard.new.told.updates.items) heard.new.asked result.0 result.1 }
 {
-    match actor.step(event, &buffer, &mut heard.asked, &mut heard.told) {
+    let mut answers = AnswerTable::new(alloc);
+    match actor.step(
+        event,
+        &mut answers,
+        &buffer,
+        &mut heard.asked,
+        &mut heard.told,
+    ) {
         Ok(actor) => (State::Running(actor, buffer, requests), Outcome::Done),
         Err(ended) => {
             let (fault, left) = parts_of(ended);
@@ -397,7 +413,7 @@ fn begin<H: Holds<StandardBlocks, Finalization = MockFinalization>>(
     match Node::init(alloc, left.ruins, setup(settings, genesis), luck) {
         Ok((actor, _floor)) => {
             let (buffer, requests) = (MemBuffer::new(alloc), OpenRequests::new(alloc));
-            step(actor, buffer, requests, Event::Start, heard)
+            step(alloc, actor, buffer, requests, Event::Start, heard)
         }
         Err(ended) => {
             let (fault, left) = parts_of(ended);

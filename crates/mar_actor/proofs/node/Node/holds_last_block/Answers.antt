@@ -1,6 +1,0 @@
-use Rattle.std.proofs.Common.{sym, ◌∙◌}
-use Rattle.mar_node.proofs.OpeningJudged.{holds_last}
-use Rattle.mar_actor.proofs.node.Node.holds_last_block.Goals as goal
-
-pub returns : goal.returns
-returns g c = rw (← c.self.view_is) (c.is_last.ensures.value ∙ sym (holds_last _ _ c.last_block.ensures c.is_last.ensures.fits))

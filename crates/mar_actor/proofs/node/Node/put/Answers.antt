@@ -1,5 +1,0 @@
-use Rattle.mar_node.proofs.Growing.{WithinWritten-block, WithinWritten-cert}
-use Rattle.mar_actor.proofs.node.Node.put.Goals as goal
-
-pub returns-clause-goes_on : goal.returns-clause-goes_on
-returns-clause-goes_on g c = let goes = rw c.height-height.ensures at c.in_ok-stores-2.ensures.goes_on in rw (← c.self.view_is) (λ start all grew within. goes start all (c.in_ok-stores.ensures.goes_on start all grew (WithinWritten-block _ _ all within)) (WithinWritten-cert _ _ all within))

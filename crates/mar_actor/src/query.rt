@@ -1,0 +1,336 @@
+//! What callers ask, and are answered from what stands: nothing changes but the answers.
+ghost use Rattle.std.specs.Prelude.{◌≡◌, ◌+◌, ◌++◌, ◌<◌, IfErr, IfNone, IfOk, IfSome, List, OnErr, OnOk, Some, option_map, ℕ};
+ghost use Rattle.mar_cert.specs.Block.{Block};
+ghost use Rattle.mar_cert.specs.Finalization.{Finalization};
+ghost use Rattle.mar_inbox.specs.Answers.{told};
+ghost use Rattle.mar_inbox.specs.Views.{identifier_of, message_of, ticket_of, value_of};
+ghost use Rattle.mar_key.specs.Processed.{anchor_of};
+ghost use Rattle.mar_key.specs.Views.{processed_of};
+ghost use Rattle.mar_node.specs.Answers.{anchor, block_info, bytes_of, certificate_info, finalization_value, info, or_none, processed_value};
+ghost use Rattle.mar_node.specs.Event.{message_told};
+ghost use Rattle.mar_node.specs.Held.{GoesOn, IsUsual, nothing_written};
+ghost use Rattle.mar_node.specs.Moves.{IsRead};
+ghost use Rattle.mar_node.specs.Queries.{answers_found, block_found, value_found};
+ghost use Rattle.mar_node.specs.Messages.{of_height};
+ghost use Rattle.mar_shelf.specs.Views.{entry_of};
+ghost use Rattle.mar_actor.specs.Asking.{backed_value};
+ghost use Rattle.mar_actor.specs.Views.{no_block, no_notarization, query_of, told_of};
+
+use crate::ends::out_of_memory;
+use crate::node::Node;
+use crate::reads::{block_at_hand, newest_certificate};
+use mar_block::{Buffer, Variant};
+use mar_cert::{AsFinalization, CommitsTo};
+use mar_inbox::{AnswerTable, Identifier, Message, Value};
+use mar_key::Processed;
+use mar_shelf::{Ended, Holds};
+use mar_types::{Epocher, Height, Round};
+use std::convert::Infallible;
+
+/// What a caller asks, without its ticket.
+#[derive(Drop)]
+pub(crate) enum Query<D> {
+    Info(Identifier<D>),
+    Block(Identifier<D>),
+    Finalization(Height),
+    Processed,
+    Anchor,
+    Verified(Round),
+}
+
+/// What a caller tells, or asks under a ticket.
+#[derive(Drop)]
+pub(crate) enum Told<D, F> {
+    Reported(F),
+    Asked(u64, Query<D>),
+}
+
+/// What a message tells or asks.
+pub(crate) fn told_by<D, F>(message: Message<D, Infallible, Infallible, F>) -> Told<D, F>
+    ensures { (digest : D → List ℕ) (plain : F → Finalization) → told_of digest plain result
+        ≡ message_told (ticket_of message) (message_of digest no_block no_notarization plain message) }
+{
+    match message {
+        Message::Finalization(finalization) => Told::Reported(finalization),
+        Message::GetInfo { ticket, identifier } => Told::Asked(ticket, Query::Info(identifier)),
+        Message::GetBlock { ticket, identifier } => Told::Asked(ticket, Query::Block(identifier)),
+        Message::GetFinalization { ticket, height } => {
+            Told::Asked(ticket, Query::Finalization(height))
+        }
+        Message::GetProcessed { ticket } => Told::Asked(ticket, Query::Processed),
+        Message::GetAnchor { ticket } => Told::Asked(ticket, Query::Anchor),
+        Message::GetVerified { ticket, round } => Told::Asked(ticket, Query::Verified(round)),
+    }
+}
+
+impl<V: Variant, S: Holds<V>, P: Drop, E: Epocher> Node<V, S, P, E> {
+    /// Answers a query from what stands.
+    pub(crate) fn answer<B: Buffer<V>>(
+        self,
+        ticket: u64,
+        query: Query<V::Digest>,
+        buffer: &B,
+        answers: &mut AnswerTable<Value<V::Digest, V::Block, S::Finalization>>,
+    ) -> Result<Self, Ended<V, S>>
+        ensures answered { OnOk result (told (value_of V.Digest.bytes V.plain S.Finalization.plain) answers.new
+            ≡ told (value_of V.Digest.bytes V.plain S.Finalization.plain) answers.old
+            ++ answers_found V.inner self.held (B.blocks buffer.now) (message_told (Some ticket) (query_of V.Digest.bytes query))) }
+        ensures unanswered { OnErr result (answers.new ≡ answers.old) }
+        ensures same { IfOk result (IsRead self) }
+        ensures goes_on { GoesOn (λ a. a.held) self.held nothing_written result }
+        ensures usual { IfErr result (λ e. IsUsual e.fault) }
+    {
+        let (stores, value) = value_for::<V, S, B>(self.stores, query, buffer)?;
+        let node = Node { stores, ..self };
+        match answers.put(ticket, value) {
+            Ok(()) => Ok(node),
+            Err(_) => Err(node.run_out()),
+        }
+    }
+}
+
+/// What a query is answered.
+fn value_for<V: Variant, S: Holds<V>, B: Buffer<V>>(
+    stores: S,
+    query: Query<V::Digest>,
+    buffer: &B,
+) -> Result<(S, Value<V::Digest, V::Block, S::Finalization>), Ended<V, S>>
+    ensures found { IfOk result (λ r. value_found V.inner (S.held stores) (B.blocks buffer.now) (query_of V.Digest.bytes query)
+        ≡ Some (value_of V.Digest.bytes V.plain S.Finalization.plain r.1)) }
+    ensures same { IfOk result (λ r. S.held r.0 ≡ record (S.held stores) { watches = (S.held r.0).watches }) }
+    ensures goes_on { GoesOn (λ r. S.held r.0) (S.held stores) nothing_written result }
+    ensures usual { IfErr result (λ e. IsUsual e.fault) }
+{
+    match query {
+        Query::Info(identifier) => info_of::<V, S>(stores, identifier),
+        Query::Block(identifier) => match block_for::<V, S, B>(stores, identifier, buffer) {
+            Ok((stores, block)) => Ok((stores, of_block(block))),
+            Err(ended) => Err(ended),
+        },
+        Query::Finalization(height) => match stores.certificate_at(height) {
+            Ok((stores, finalization)) => Ok((stores, of_finalization(finalization))),
+            Err(ended) => Err(ended),
+        },
+        Query::Processed => {
+            let processed = stores.floor().processed();
+            Ok((stores, of_processed(processed)))
+        }
+        Query::Anchor => backing_block::<V, S>(stores),
+        Query::Verified(_round) => Ok((stores, Value::None)),
+    }
+}
+
+/// Height and digest of the finalized block that is asked for.
+fn info_of<V: Variant, S: Holds<V>>(
+    stores: S,
+    identifier: Identifier<V::Digest>,
+) -> Result<(S, Value<V::Digest, V::Block, S::Finalization>), Ended<V, S>>
+    ensures found { IfOk result (λ r. or_none (info V.inner (S.held stores).blocks.held (S.held stores).certs.held (identifier_of V.Digest.bytes identifier))
+        ≡ value_of V.Digest.bytes V.plain S.Finalization.plain r.1) }
+    ensures same { IfOk result (λ r. S.held r.0 ≡ record (S.held stores) { watches = (S.held r.0).watches }) }
+    ensures goes_on { GoesOn (λ r. S.held r.0) (S.held stores) nothing_written result }
+    ensures usual { IfErr result (λ e. IsUsual e.fault) }
+{
+    match identifier {
+        Identifier::Height(height) => info_at::<V, S>(stores, height),
+        Identifier::Digest(digest) => match stores.block_of(&digest) {
+            Ok((stores, block)) => Ok((stores, info_of_block::<V, S>(block))),
+            Err(ended) => Err(ended),
+        },
+        Identifier::Latest => match newest_certificate::<V, S>(stores) {
+            Ok((stores, newest)) => Ok((stores, info_of_certificate::<V, S>(newest))),
+            Err(ended) => Err(ended),
+        },
+    }
+}
+
+/// Height and digest of the block that is finalized at a height: by its certificate, or else by the block itself.
+fn info_at<V: Variant, S: Holds<V>>(
+    stores: S,
+    height: Height,
+) -> Result<(S, Value<V::Digest, V::Block, S::Finalization>), Ended<V, S>>
+    ensures found { IfOk result (λ r. or_none (info V.inner (S.held stores).blocks.held (S.held stores).certs.held (of_height height))
+        ≡ value_of V.Digest.bytes V.plain S.Finalization.plain r.1) }
+    ensures same { IfOk result (λ r. S.held r.0 ≡ record (S.held stores) { watches = (S.held r.0).watches }) }
+    ensures goes_on { GoesOn (λ r. S.held r.0) (S.held stores) nothing_written result }
+    ensures usual { IfErr result (λ e. IsUsual e.fault) }
+{
+    match stores.certificate_at(height) {
+        Ok((stores, found)) => match found {
+            Some(certificate) => {
+                let found = Some((height, certificate));
+                Ok((stores, info_of_certificate::<V, S>(found)))
+            }
+            None => match stores.block_at(height) {
+                Ok((stores, block)) => Ok((stores, info_of_block::<V, S>(block))),
+                Err(ended) => Err(ended),
+            },
+        },
+        Err(ended) => Err(ended),
+    }
+}
+
+/// The block that is asked for.
+fn block_for<V: Variant, S: Holds<V>, B: Buffer<V>>(
+    stores: S,
+    identifier: Identifier<V::Digest>,
+    buffer: &B,
+) -> Result<(S, Option<V::Block>), Ended<V, S>>
+    ensures found { IfOk result (λ r. option_map V.plain r.1
+        ≡ block_found V.inner (S.held stores) (B.blocks buffer.now) (identifier_of V.Digest.bytes identifier)) }
+    ensures same { IfOk result (λ r. S.held r.0 ≡ record (S.held stores) { watches = (S.held r.0).watches }) }
+    ensures goes_on { GoesOn (λ r. S.held r.0) (S.held stores) nothing_written result }
+    ensures usual { IfErr result (λ e. IsUsual e.fault) }
+{
+    match identifier {
+        Identifier::Height(height) => stores.block_at(height),
+        Identifier::Digest(digest) => match buffer.find_by_digest(&digest) {
+            Ok(Some(block)) => Ok((stores, Some(block))),
+            Ok(None) => stores.block_of(&digest),
+            Err(_) => Err(out_of_memory::<V, S>(stores)),
+        },
+        Identifier::Latest => match newest_certificate::<V, S>(stores) {
+            Ok((stores, newest)) => match newest {
+                None => Ok((stores, None)),
+                Some((_height, finalization)) => {
+                    block_at_hand::<V, S, B>(stores, finalization.payload(), buffer)
+                }
+            },
+            Err(ended) => Err(ended),
+        },
+    }
+}
+
+/// The processed height and the block that backs it.
+fn backing_block<V: Variant, S: Holds<V>>(
+    stores: S,
+) -> Result<(S, Value<V::Digest, V::Block, S::Finalization>), Ended<V, S>>
+    ensures found { IfOk result (λ r. or_none (anchor (S.held stores).blocks.held (S.held stores).processed)
+        ≡ value_of V.Digest.bytes V.plain S.Finalization.plain r.1) }
+    ensures same { IfOk result (λ r. S.held r.0 ≡ record (S.held stores) { watches = (S.held r.0).watches }) }
+    ensures goes_on { GoesOn (λ r. S.held r.0) (S.held stores) nothing_written result }
+    ensures usual { IfErr result (λ e. IsUsual e.fault) }
+{
+    match anchor_height::<V, S>(&stores) {
+        None => Ok((stores, Value::None)),
+        Some(height) => match stores.block_at(height) {
+            Ok((stores, block)) => {
+                let processed = stores.floor().processed();
+                Ok((stores, of_anchor(processed, block)))
+            }
+            Err(ended) => Err(ended),
+        },
+    }
+}
+
+/// The height of the block that backs the processed height, where one at or below the last block may.
+fn anchor_height<V: Variant, S: Holds<V>>(stores: &S) -> Option<Height>
+    ensures found { IfSome result (λ h. option_map anchor_of (S.held stores.now).processed ≡ Some h) }
+    ensures none { IfNone result (anchor (S.held stores.now).blocks.held (S.held stores.now).processed ≡ None) }
+{
+    match stores.floor().processed() {
+        None => None,
+        Some(processed) => match stores.last_block() {
+            None => None,
+            Some(last) => backing_height(processed, last),
+        },
+    }
+}
+
+/// The height of the block that backs a processed height, unless it is past this last one.
+fn backing_height(processed: Processed, last: Height) -> Option<Height>
+    ensures found { IfSome result (λ h. h ≡ anchor_of (processed_of processed)) }
+    ensures none { IfNone result (last < anchor_of (processed_of processed)) }
+{
+    match processed {
+        Processed::Block(height) => Some(height),
+        Processed::Absent(height) => next_upto(height, last),
+    }
+}
+
+/// The next height, where it is at or below this last one.
+fn next_upto(height: Height, last: Height) -> Option<Height>
+    ensures found { IfSome result (λ h. h ≡ height + 1) }
+    ensures none { IfNone result (last < height + 1) }
+{
+    if height.get() < last.get() {
+        Some(height.next())
+    } else {
+        None
+    }
+}
+
+// A block, if there is one.
+fn of_block<D, B, F>(block: Option<B>) -> Value<D, B, F>
+    ensures { (digest : D → List ℕ) (plain : B → Block) (finalization : F → Finalization)
+        → bytes_of (option_map plain block) ≡ value_of digest plain finalization result }
+{
+    match block {
+        None => Value::None,
+        Some(block) => Value::Block(block),
+    }
+}
+
+// A finalization, if there is one.
+fn of_finalization<D, B, F>(found: Option<F>) -> Value<D, B, F>
+    ensures { (digest : D → List ℕ) (plain : B → Block) (finalization : F → Finalization)
+        → finalization_value (option_map finalization found) ≡ value_of digest plain finalization result }
+{
+    match found {
+        None => Value::None,
+        Some(found) => Value::Finalization(found),
+    }
+}
+
+// A processed height, if there is one.
+fn of_processed<D, B, F>(processed: Option<Processed>) -> Value<D, B, F>
+    ensures { (digest : D → List ℕ) (plain : B → Block) (finalization : F → Finalization)
+        → or_none (option_map processed_value (option_map processed_of processed)) ≡ value_of digest plain finalization result }
+{
+    match processed {
+        None => Value::None,
+        Some(processed) => Value::Processed(processed),
+    }
+}
+
+// A processed height with the block that backs it, if there are both.
+fn of_anchor<D, B: Drop, F>(processed: Option<Processed>, block: Option<B>) -> Value<D, B, F>
+    ensures { (digest : D → List ℕ) (plain : B → Block) (finalization : F → Finalization)
+        → or_none (backed_value (option_map processed_of processed) (option_map plain block)) ≡ value_of digest plain finalization result }
+{
+    match (processed, block) {
+        (Some(processed), Some(block)) => Value::Anchor { processed, block },
+        (_processed, _block) => Value::None,
+    }
+}
+
+// Height and digest of a block, if there is one.
+fn info_of_block<V: Variant, S: Holds<V>>(
+    block: Option<V::Block>,
+) -> Value<V::Digest, V::Block, S::Finalization>
+    ensures { or_none (option_map block_info (option_map V.plain block)) ≡ value_of V.Digest.bytes V.plain S.Finalization.plain result }
+{
+    match block {
+        None => Value::None,
+        Some(block) => Value::Info {
+            height: V::height(&block),
+            digest: V::digest(&block),
+        },
+    }
+}
+
+// Height and digest of the block that a certificate finalizes, if there is one.
+fn info_of_certificate<V: Variant, S: Holds<V>>(
+    found: Option<(Height, S::Finalization)>,
+) -> Value<V::Digest, V::Block, S::Finalization>
+    ensures { or_none (option_map (certificate_info V.inner) (option_map (entry_of S.Finalization.plain) found))
+        ≡ value_of V.Digest.bytes V.plain S.Finalization.plain result }
+{
+    match found {
+        None => Value::None,
+        Some((height, certificate)) => Value::Info {
+            height,
+            digest: V::commitment_to_inner(certificate.payload()),
+        },
+    }
+}
