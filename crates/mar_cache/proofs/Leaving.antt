@@ -270,6 +270,11 @@ module _ {A W : Type 0} (book : A → Book) (left : W → Left Cached) (told : B
       → (k : ℕ) → k ≢ e → tomes_of book left now told new names' k ≡ tomes_of book left opening told old names k
   exchanged_elsewhere now old new names names' e slot same same_names exchanged k other = rw (same, same_names) (exchanged_others book left opening told old new names e slot exchanged k other)
 
+  -- where a volume came to stand in the slot of an epoch
+  pub stands_here : (now : ℕ) (old new : BTreeMap ℕ (Slot A W)) (names names' : Names W) (e : ℕ) (v : A) → now ≡ opening → names' ≡ names → ((k : ℕ) → get nat_cmp new k ≡ (if k == e then option_map (λ _. Standing v opening) (get nat_cmp old k) else get nat_cmp old k))
+      → is_some (get nat_cmp old e) ≡ true → tomes_of book left now told new names' e ≡ opened (book v)
+  stands_here now old new names names' e v same same_names exchanged there = rw (same, same_names) (exchanged_here book left opening told old new names e (Standing v opening) exchanged there ∙ ap (λ b. cond b (opened (book v)) (shut (left_of (book v).kept))) (eq-eqb opening opening refl))
+
   pub standing_open : (v : A) (o : ℕ) (slot : Option (Slot A W)) (name : Option W) → slot ≡ Some (Standing v o) → o ≡ opening → tome_at book left opening told slot name ≡ opened (book v)
   standing_open v o slot name is same = ap (λ s. tome_at book left opening told s name) is ∙ ap (λ b. cond b (opened (book v)) (shut (left_of (book v).kept))) (eq-eqb o opening same)
 

@@ -9,6 +9,7 @@ pub mod Thinning
 pub mod Views
 pub mod Plainly
 pub mod Within
+pub mod Watched
 pub mod Spotting
 pub mod Indexing
 pub mod Looking

@@ -1,5 +1,5 @@
 -- What calls of a shelf leave where they fail after others went well.
-use Rattle.std.proofs.Common.{◌≡◌, ◌⊎◌, inl, inr, ◌≤◌, ◌<◌, ◌+◌, get_or, length, ℕ, zero, suc, List, [], ◌∷◌, ◌++◌, Bool, true, false, IsTrue, Contains, cond, refl, ap, sym, ◌∙◌, subst, filter, Result, Ok, Err, IfErr, IfOk, MatchResult, arith}
+use Rattle.std.proofs.Common.{◌≡◌, ◌⊎◌, inl, inr, ◌≤◌, ◌<◌, ◌+◌, get_or, length, ℕ, zero, suc, List, [], ◌∷◌, ◌++◌, Bool, true, false, IsTrue, Contains, cond, refl, ap, sym, ◌∙◌, subst, filter, Result, Ok, Err, IfErr, IfOk, MatchResult, None, Some, arith}
 use Rattle.std.specs.List.{AllByRecursion, list_any}
 use Rattle.std.proofs.lemmas.Bool.{cases_eq, eq-eqb}
 use Rattle.std.proofs.lemmas.List.Elements.{Contains-append_cases, Contains-append_left, Contains-append_right}
@@ -9,8 +9,10 @@ use Rattle.mar_store.specs.declared.Lost.{Lost}
 use Rattle.mar_store.proofs.Lookups.{AllByRecursion-weaker}
 use Rattle.mar_node.specs.Cached.{Cached, same_place}
 use Rattle.mar_cache.specs.Volumes.{Book, held_after, is_kept, puts_of}
-use Rattle.mar_cache.specs.Tomes.{ChangesTome, IsNestedTome, MightBe, is_opened, KeepsOtherTomes, LeavesTome, LosesTome, OpensTome, Tome, Tomes, left_of_tome, opened, shut, unknown}
-use Rattle.mar_cache.specs.Shelved.{at_epoch, DoesAt, OpensOrStays, GrowsTome, GrowsTomes, LeavesTomes}
+use Rattle.mar_cache.specs.declared.section.Section.{Section}
+use Rattle.mar_cache.specs.declared.started.Started.TheVariants.{Ready, Ticket}
+use Rattle.mar_cache.specs.Tomes.{ChangesTome, IsTicket, IsNestedTome, MightBe, is_opened, KeepsOtherTomes, LeavesTome, LosesTome, OpensTome, Tome, Tomes, left_of_tome, opened, shut, unknown}
+use Rattle.mar_cache.specs.Shelved.{at_epoch, IsStarted, DoesAt, OpensOrStays, GrowsTome, GrowsTomes, LeavesTomes}
 use Rattle.mar_cache.specs.declared.change.Change.{Change}
 use Rattle.mar_cache.specs.declared.change.Change.TheVariants.{Finish, PruneBelow, PruneCertified, Put, Sync}
 use Rattle.mar_cache.proofs.Filtering.{contains_more, contains_none}
@@ -223,3 +225,30 @@ reopened_ways before ways tomes (way, has, same) closed all = AllByRecursion-wea
     shut_same (opened b) is = absurd cc
     shut_same (shut l) is = refl
     shut_same unknown is = refl
+
+-- WHAT A START OF A SYNC ANSWERS
+
+pub started_none : (t : Tome) (e : ℕ) (s : Section) → IsTicket t None → IsStarted t e s Ready
+started_none (opened b) e s is = is
+started_none (shut l) e s is = tt
+started_none unknown e s is = tt
+
+pub started_some : (t : Tome) (e : ℕ) (s : Section) (n : ℕ) → IsTicket t (Some n) → IsStarted t e s (Ticket (record { epoch = e; first = record { section = s; number = n }; second = None }))
+started_some (opened b) e s n is = (refl, refl, is.0, is.1 s, refl)
+started_some (shut l) e s n is = absurd is
+started_some unknown e s n is = absurd is
+
+-- AN EPOCH THAT LIES WITHIN THE BOUNDS
+
+pub opens_or : {S L : Type 0} (tomes : S → Tomes) (e : ℕ) (old : Tomes) (Q : L → Type 0) (r : Result S L) → MatchResult r (λ s. OpensTome (old e) (tomes s e) × KeepsOtherTomes e old (tomes s)) Q → IfOk r (λ s. OpensOrStays (old e) (tomes s e) × KeepsOtherTomes e old (tomes s))
+opens_or tomes e old Q (Ok s) done = (inr done.0, done.1)
+opens_or tomes e old Q (Err l) done = tt
+
+opens_open : (t new : Tome) → OpensTome t new → is_opened new ≡ true
+opens_open (opened b) new is = ap is_opened is
+opens_open (shut l) new is = ap is_opened is.2
+opens_open unknown new is = ap is_opened is.1
+
+pub opens_now : {S L : Type 0} (tomes : S → Tomes) (e : ℕ) (old : Tomes) (Q : L → Type 0) (r : Result S L) → MatchResult r (λ s. OpensTome (old e) (tomes s e) × KeepsOtherTomes e old (tomes s)) Q → IfOk r (λ s. is_opened (tomes s e) ≡ true)
+opens_now tomes e old Q (Ok s) done = opens_open (old e) (tomes s e) done.0
+opens_now tomes e old Q (Err l) done = tt

@@ -1,7 +1,7 @@
 -- A prune by view: older epochs are destroyed, one after another.
 use Rattle.std.proofs.Common.{◌≡◌, ◌⊎◌, inl, inr, ◌≤◌, ◌<◌, ◌+◌, ◌==◌, ◌||◌, ◌&&◌, ℕ, List, [], ◌∷◌, ◌++◌, Bool, true, false, not, cond, Contains, get_or, length, nat_le, nat_lt, max, refl, ap, sym, ◌∙◌, subst, Result, Ok, Err, IfOk, IfErr, MatchResult, arith}
 use Rattle.std.specs.List.{AllByRecursion}
-use Rattle.std.proofs.lemmas.Bool.{cases_eq, eq-eqb, leb-true, ltb-false}
+use Rattle.std.proofs.lemmas.Bool.{cases_eq, eq-eqb, le-leb, leb-true, ltb-false}
 use Rattle.std.proofs.lemmas.List.Elements.{Contains-append_right}
 use Rattle.mar_types.specs.Round.{Round}
 use Rattle.mar_store.specs.Changes.{Within}
@@ -168,6 +168,10 @@ gt-leb a b less = by (nat_le a b) refl
     by : (c : Bool) → nat_le a b ≡ c → c ≡ false
     by true is = absurd (omega (arith, less, leb-true a b is))
     by false is = refl
+
+-- a round whose epoch isn't above the lowest leaves the bounds
+pub pruned_stays : (r : Round) (b : Bounds) (e l : ℕ) → e ≡ r.epoch → l ≡ b.lowest → e ≤ l → b ≡ pruned_bounds r b
+pruned_stays r b e l e_is l_is within = sym (ap (λ c. cond c b (record { lowest = r.epoch; highest = max b.highest r.epoch })) (le-leb r.epoch b.lowest (omega (arith, within, e_is, l_is))))
 
 -- the bounds that a prune by view makes durable
 pub pruned_is : (r : Round) (b : Bounds) (e l h m : ℕ) → e ≡ r.epoch → l ≡ b.lowest → h ≡ b.highest → m ≡ max h e → l < e → record { lowest = e; highest = m } ≡ pruned_bounds r b

@@ -1,5 +1,5 @@
 -- Epochs of which something is open or left lie from the lowest to the highest, also after a crash.
-use Rattle.std.proofs.Common.{◌≡◌, ◌⊎◌, inl, inr, ◌≤◌, ◌<◌, ◌&&◌, ℕ, zero, suc, List, [], ◌∷◌, ◌++◌, Bool, true, false, Contains, Err, cond, nat_le, max, refl, ap, sym, subst, arith}
+use Rattle.std.proofs.Common.{◌≡◌, ◌⊎◌, inl, inr, ◌≤◌, ◌<◌, ◌&&◌, ℕ, zero, suc, List, [], ◌∷◌, ◌++◌, Bool, true, false, Contains, Err, cond, nat_le, max, refl, ap, ap₂, sym, subst, arith, ◌∙◌}
 use Rattle.std.specs.List.{AllByRecursion}
 use Rattle.std.proofs.lemmas.Bool.{cases_eq, le-leb, leb-false, leb-true}
 use Rattle.std.proofs.lemmas.List.Elements.{Contains-append_cases}
@@ -9,11 +9,11 @@ use Rattle.mar_store.specs.Lost.{wreck_of}
 use Rattle.mar_store.specs.Watch.{IsCalm, Watch}
 use Rattle.mar_store.specs.declared.Lost.{Lost}
 use Rattle.mar_store.specs.declared.Lost.TheVariants.{Fault, Memory}
-use Rattle.mar_store.proofs.Lookups.{AllByRecursion-contains}
+use Rattle.mar_store.proofs.Lookups.{AllByRecursion-contains, AllByRecursion-weaker}
 use Rattle.mar_node.specs.Cached.{Cached}
 use Rattle.mar_cache.specs.Bounds.{Bounds, includes}
 use Rattle.mar_cache.specs.Shelved.{AllLieWithin, DropsOlder, LieWithin, pruned_bounds, raised}
-use Rattle.mar_cache.specs.Tomes.{ChangesTome, DestroysOrNot, HasSome, IsBare, IsLeftOrBare, KeepsOtherTomes, LosesTome, MightBe, Tome, Tomes, is_opened, left_of_tome, opened, shut, unknown}
+use Rattle.mar_cache.specs.Tomes.{ChangesTome, DestroysOrNot, HasSome, IsBare, IsLeftOrBare, KeepsOtherTomes, LosesTome, MightBe, OpensTome, Tome, Tomes, is_opened, left_of_tome, opened, shut, unknown}
 use Rattle.mar_cache.specs.declared.change.Change.{Change}
 
 -- AN EPOCH LIES WITHIN BOUNDS
@@ -64,6 +64,11 @@ opened_some (opened b) is = tt
 opened_some (shut l) is = absurd cc
 opened_some unknown is = absurd cc
 
+pub opens_itself : (t : Tome) → is_opened t ≡ true → OpensTome t t
+opens_itself (opened b) is = refl
+opens_itself (shut l) is = absurd cc
+opens_itself unknown is = absurd cc
+
 -- CALLS THAT WENT WELL
 
 pub within_same : (old new : Tomes) (b : Bounds) → ((k : ℕ) → new k ≡ old k) → LieWithin old b → LieWithin new b
@@ -71,6 +76,10 @@ within_same old new b same lie k some = lie k (subst HasSome (same k) some)
 
 pub within_raised : (tomes : Tomes) (b : Bounds) (e : ℕ) → LieWithin tomes b → LieWithin tomes (raised e b)
 within_raised tomes b e lie k some = let is = lie k some in includes_is (raised e b) k (from_lowest b k is) (omega (arith, to_highest b k is))
+
+-- the bounds with an epoch above the highest
+pub raised_is : (b : Bounds) (e l h : ℕ) → l ≡ b.lowest → h ≡ b.highest → h < e → ◌≡◌ {A = Bounds} (record { lowest = l; highest = e }) (raised e b)
+raised_is b e l h l_is h_is above = let top : e ≡ max b.highest e = omega (arith, h_is, above) in ap₂ {C = Bounds} (λ x y. record { lowest = x; highest = y }) l_is top
 
 pub within_opened : (old new : Tomes) (b : Bounds) (e : ℕ) → includes b e ≡ true → KeepsOtherTomes e old new → LieWithin old b → LieWithin new b
 within_opened old new b e inside others lie k some = by (cases_eq k e)
@@ -121,6 +130,9 @@ within_pruned r tomes b older lie k some = by (nat_le r.epoch b.lowest)
 one_of : {X : Type 0} (x y : X) → Contains (x ∷ []) y → y ≡ x
 one_of x y (zero, lt, is) = sym is
 one_of x y (suc k, lt, is) = absurd (omega (arith, lt))
+
+pub fallen_same : (old new : Tomes) (ways : List Tomes) → ((k : ℕ) → new k ≡ old k) → AllByRecursion (λ left. (k : ℕ) → left k ≡ left_of_tome (new k)) ways → AllByRecursion (λ left. (k : ℕ) → left k ≡ left_of_tome (old k)) ways
+fallen_same old new ways same all = AllByRecursion-weaker _ _ (λ left is k. is k ∙ ap left_of_tome (same k)) ways all
 
 -- of epochs that are left as they were
 pub fallen_within : (old : Tomes) (ways : List Tomes) (b : Bounds) (lefts : List Bounds) → AllByRecursion (λ left. (k : ℕ) → left k ≡ left_of_tome (old k)) ways → lefts ≡ b ∷ [] → LieWithin old b → AllLieWithin ways lefts

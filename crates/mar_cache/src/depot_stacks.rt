@@ -442,8 +442,9 @@ fn volume_of<A: Volume>(slot: &Slot<A, A::Wreck>, opening: u64) -> Option<&A>
         (λ v. tome_of_slot A.book A.Wreck.left opening slot.now ≡ opened (A.book v)) }
 {
     match slot {
-        Slot::Standing(volume, own) if *own == opening => Some(volume),
-        _ => None,
+        Slot::Standing(volume, own) => { if *own == opening { Some(volume) } else { None } }
+        Slot::Leftover(_) => None,
+        Slot::Away => None,
     }
 }
 

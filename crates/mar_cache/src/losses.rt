@@ -1,9 +1,9 @@
 //! How a store was lost, whatever is left of it.
-ghost use Rattle.std.specs.Prelude.{◌≡◌};
+ghost use Rattle.std.specs.Prelude.{◌≡◌, false, true};
 ghost use Rattle.mar_store.specs.Lost.{wreck_of};
 ghost use Rattle.mar_cache.specs.Volumes.{is_fault};
 
-use mar_store::Lost;
+use mar_store::{Lost, Miss};
 
 /// Whether a store failed, or memory ran out; and what is left of it.
 pub fn parts_of<W>(lost: Lost<W>) -> (bool, W)
@@ -25,5 +25,17 @@ pub fn lost_by<W>(failed: bool, wreck: W) -> Lost<W>
         Lost::Fault(wreck)
     } else {
         Lost::Memory(wreck)
+    }
+}
+
+/// A store that did not answer what it was asked, of which this is left.
+pub fn lost_for<W>(miss: Miss, wreck: W) -> Lost<W>
+    ensures fault { miss ≡ Miss.Fault → is_fault result ≡ true }
+    ensures memory { miss ≡ Miss.Memory → is_fault result ≡ false }
+    ensures wreck { wreck_of result ≡ wreck }
+{
+    match miss {
+        Miss::Fault => Lost::Fault(wreck),
+        Miss::Memory => Lost::Memory(wreck),
     }
 }

@@ -16,7 +16,7 @@ ghost use Rattle.mar_cache.specs.Shelved.{AllChanges, AllLieWithin, DoesAt, Drop
 use crate::bounds::{highest, includes, lowest, write_bounds};
 use crate::change::Change;
 use crate::leaf::Leaf;
-use crate::losses::{lost_by, parts_of};
+use crate::losses::{lost_by, lost_for, parts_of};
 use crate::section::Section;
 use crate::stacks::{Stacks, StacksRuin};
 use crate::started::{CacheTicket, SectionSync, Started};
@@ -416,21 +416,21 @@ impl<S: Stacks, M: Meta> Manager<S, M> {
         let Manager {
             mut stacks,
             meta,
-            mut alarm,
-        } = self;
-        let epochs = stacks.epochs();
-        if let Err(Miss::Fault) = epochs {
-            alarm.fail();
-        }
-        let manager = Manager {
-            stacks,
-            meta,
             alarm,
-        };
-        match epochs {
-            Ok(epochs) => Ok((manager, epochs)),
-            Err(Miss::Fault) => Err(Lost::Fault(manager.fallen())),
-            Err(Miss::Memory) => Err(Lost::Memory(manager.fallen())),
+        } = self;
+        match stacks.epochs() {
+            Ok(epochs) => {
+                let manager = Manager {
+                    stacks,
+                    meta,
+                    alarm,
+                };
+                Ok((manager, epochs))
+            }
+            Err(miss) => {
+                let lost = lost_for(miss, stacks.wreck());
+                Err(lost_stacks(lost, meta, alarm))
+            }
         }
     }
 

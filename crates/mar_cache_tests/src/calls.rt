@@ -27,7 +27,7 @@ pub trait Maker {
     fn empty(alloc: Global) -> Self::Cache;
 }
 
-pub fn round(epoch: u64, view: u64) -> Round {
+pub(crate) fn round(epoch: u64, view: u64) -> Round {
     Round::new(Epoch::new(epoch), View::new(view))
 }
 
@@ -68,7 +68,7 @@ fn started<C: Shelf<Light, Vote, Vote>>(
     }
 }
 
-pub fn put_verified<C: Shelf<Light, Vote, Vote>>(
+pub(crate) fn put_verified<C: Shelf<Light, Vote, Vote>>(
     cache: C,
     at: Round,
     height: u8,
@@ -80,7 +80,7 @@ pub fn put_verified<C: Shelf<Light, Vote, Vote>>(
     started(answer, starts, last)
 }
 
-pub fn put_notarized<C: Shelf<Light, Vote, Vote>>(
+pub(crate) fn put_notarized<C: Shelf<Light, Vote, Vote>>(
     cache: C,
     at: Round,
     height: u8,
@@ -92,7 +92,7 @@ pub fn put_notarized<C: Shelf<Light, Vote, Vote>>(
     started(answer, starts, last)
 }
 
-pub fn put_notarization<C: Shelf<Light, Vote, Vote>>(
+pub(crate) fn put_notarization<C: Shelf<Light, Vote, Vote>>(
     cache: C,
     at: Round,
     height: u8,
@@ -104,18 +104,26 @@ pub fn put_notarization<C: Shelf<Light, Vote, Vote>>(
     started(answer, starts, last)
 }
 
-pub fn put_certified<C: Shelf<Light, Vote, Vote>>(cache: C, epoch: u64, height: u8) -> Life<C> {
+pub(crate) fn put_certified<C: Shelf<Light, Vote, Vote>>(
+    cache: C,
+    epoch: u64,
+    height: u8,
+) -> Life<C> {
     let block = Plate::at(height);
     let epoch = Epoch::new(epoch);
     changed(cache.put_certified(epoch, block))
 }
 
-pub fn put_finalization<C: Shelf<Light, Vote, Vote>>(cache: C, at: Round, height: u8) -> Life<C> {
+pub(crate) fn put_finalization<C: Shelf<Light, Vote, Vote>>(
+    cache: C,
+    at: Round,
+    height: u8,
+) -> Life<C> {
     let over = vote(at, height);
     changed(cache.put_finalization(over))
 }
 
-pub fn start_sync_verified<C: Shelf<Light, Vote, Vote>>(
+pub(crate) fn start_sync_verified<C: Shelf<Light, Vote, Vote>>(
     cache: C,
     epoch: u64,
     starts: bool,
@@ -126,7 +134,7 @@ pub fn start_sync_verified<C: Shelf<Light, Vote, Vote>>(
     started(answer, starts, last)
 }
 
-pub fn start_sync_notarizations<C: Shelf<Light, Vote, Vote>>(
+pub(crate) fn start_sync_notarizations<C: Shelf<Light, Vote, Vote>>(
     cache: C,
     epoch: u64,
     starts: bool,
@@ -138,7 +146,7 @@ pub fn start_sync_notarizations<C: Shelf<Light, Vote, Vote>>(
 }
 
 /// Starts a sync of the notarizations of an epoch, as one with the last sync that started.
-pub fn join_notarizations<C: Shelf<Light, Vote, Vote>>(
+pub(crate) fn join_notarizations<C: Shelf<Light, Vote, Vote>>(
     cache: C,
     epoch: u64,
     last: &mut Option<CacheTicket>,
@@ -159,36 +167,36 @@ fn joined(first: Option<CacheTicket>, other: Option<CacheTicket>) -> Option<Cach
     }
 }
 
-pub fn finish<C: Shelf<Light, Vote, Vote>>(cache: C, last: Option<CacheTicket>) -> Life<C> {
+pub(crate) fn finish<C: Shelf<Light, Vote, Vote>>(cache: C, last: Option<CacheTicket>) -> Life<C> {
     match last {
         Some(ticket) => changed(cache.finish(ticket)),
         None => Life::Wrong,
     }
 }
 
-pub fn prune_by_view<C: Shelf<Light, Vote, Vote>>(cache: C, at: Round) -> Life<C> {
+pub(crate) fn prune_by_view<C: Shelf<Light, Vote, Vote>>(cache: C, at: Round) -> Life<C> {
     changed(cache.prune_by_view(at))
 }
 
-pub fn prune_by_height<C: Shelf<Light, Vote, Vote>>(cache: C, height: u64) -> Life<C> {
+pub(crate) fn prune_by_height<C: Shelf<Light, Vote, Vote>>(cache: C, height: u64) -> Life<C> {
     let height = Height::new(height);
     changed(cache.prune_by_height(height))
 }
 
-pub fn load_persisted_epochs<C: Shelf<Light, Vote, Vote>>(cache: C) -> Life<C> {
+pub(crate) fn load_persisted_epochs<C: Shelf<Light, Vote, Vote>>(cache: C) -> Life<C> {
     changed(cache.load_persisted_epochs())
 }
 
-pub fn crash<C: Shelf<Light, Vote, Vote>>(cache: C) -> Life<C> {
+pub(crate) fn crash<C: Shelf<Light, Vote, Vote>>(cache: C) -> Life<C> {
     Life::Left(cache.wreck())
 }
 
-pub fn reopen<C: Shelf<Light, Vote, Vote>>(wreck: C::Wreck, luck: u64) -> Life<C> {
+pub(crate) fn reopen<C: Shelf<Light, Vote, Vote>>(wreck: C::Wreck, luck: u64) -> Life<C> {
     changed(C::reopen(wreck, luck))
 }
 
 /// Arms what is left of a cache.
-pub fn arm_left<C: Shelf<Light, Vote, Vote>>(wreck: C::Wreck, calls: u64) -> Life<C> {
+pub(crate) fn arm_left<C: Shelf<Light, Vote, Vote>>(wreck: C::Wreck, calls: u64) -> Life<C> {
     let mut wreck = wreck;
     match wreck.arm(calls) {
         Ok(()) => Life::Left(wreck),
@@ -196,7 +204,7 @@ pub fn arm_left<C: Shelf<Light, Vote, Vote>>(wreck: C::Wreck, calls: u64) -> Lif
     }
 }
 
-pub fn arm<C: Shelf<Light, Vote, Vote>>(cache: C, calls: u64) -> Life<C> {
+pub(crate) fn arm<C: Shelf<Light, Vote, Vote>>(cache: C, calls: u64) -> Life<C> {
     let mut cache = cache;
     match cache.arm(calls) {
         Ok(()) => Life::Open(cache),
@@ -262,13 +270,17 @@ fn is_of(found: Result<Option<Vote>, Miss>, want: Option<Round>) -> Result<bool,
 }
 
 /// The verified block of a round: its height.
-pub fn get_verified<C: Shelf<Light, Vote, Vote>>(cache: C, at: Round, want: Option<u8>) -> Life<C> {
+pub(crate) fn get_verified<C: Shelf<Light, Vote, Vote>>(
+    cache: C,
+    at: Round,
+    want: Option<u8>,
+) -> Life<C> {
     let mut cache = cache;
     let found = cache.get_verified(at);
     looked(cache, is_block(found, want))
 }
 
-pub fn has_verified<C: Shelf<Light, Vote, Vote>>(
+pub(crate) fn has_verified<C: Shelf<Light, Vote, Vote>>(
     cache: C,
     at: Round,
     height: u8,
@@ -282,7 +294,7 @@ pub fn has_verified<C: Shelf<Light, Vote, Vote>>(
     looked(cache, found)
 }
 
-pub fn get_notarization<C: Shelf<Light, Vote, Vote>>(
+pub(crate) fn get_notarization<C: Shelf<Light, Vote, Vote>>(
     cache: C,
     at: Round,
     is_there: bool,
@@ -294,7 +306,7 @@ pub fn get_notarization<C: Shelf<Light, Vote, Vote>>(
 }
 
 /// The finalization of the block of a height: its round.
-pub fn get_finalization_for<C: Shelf<Light, Vote, Vote>>(
+pub(crate) fn get_finalization_for<C: Shelf<Light, Vote, Vote>>(
     cache: C,
     height: u8,
     want: Option<Round>,
@@ -305,7 +317,7 @@ pub fn get_finalization_for<C: Shelf<Light, Vote, Vote>>(
 }
 
 /// Whether there is a block of that name, which is a height's.
-pub fn find_block<C: Shelf<Light, Vote, Vote>>(
+pub(crate) fn find_block<C: Shelf<Light, Vote, Vote>>(
     cache: C,
     name: BlockName<Name, Name>,
     want: Option<u8>,
@@ -315,7 +327,7 @@ pub fn find_block<C: Shelf<Light, Vote, Vote>>(
     looked(cache, is_block(found, want))
 }
 
-pub fn find_by_digest<C: Shelf<Light, Vote, Vote>>(
+pub(crate) fn find_by_digest<C: Shelf<Light, Vote, Vote>>(
     cache: C,
     height: u8,
     is_there: bool,
@@ -324,7 +336,7 @@ pub fn find_by_digest<C: Shelf<Light, Vote, Vote>>(
     find_block(cache, BlockName::Digest(name_at(height)), want)
 }
 
-pub fn find_by_commitment<C: Shelf<Light, Vote, Vote>>(
+pub(crate) fn find_by_commitment<C: Shelf<Light, Vote, Vote>>(
     cache: C,
     height: u8,
     is_there: bool,
@@ -334,7 +346,7 @@ pub fn find_by_commitment<C: Shelf<Light, Vote, Vote>>(
 }
 
 /// The block of a height, by its digest: where it stands.
-pub fn place_by_digest<C: Shelf<Light, Vote, Vote>>(
+pub(crate) fn place_by_digest<C: Shelf<Light, Vote, Vote>>(
     cache: C,
     height: u8,
     want: Option<Place>,
@@ -345,7 +357,7 @@ pub fn place_by_digest<C: Shelf<Light, Vote, Vote>>(
 }
 
 /// The same by its commitment.
-pub fn place_by_commitment<C: Shelf<Light, Vote, Vote>>(
+pub(crate) fn place_by_commitment<C: Shelf<Light, Vote, Vote>>(
     cache: C,
     height: u8,
     want: Option<Place>,

@@ -75,7 +75,7 @@ fn wrong_place<M: Maker>(alloc: Global, luck: u64) -> Option<usize> {
     None
 }
 
-pub fn a_call_that_fails_leaves_what_was_sure<M: Maker>(rt: &impl Abort, alloc: Global) {
+pub(crate) fn a_call_that_fails_leaves_what_was_sure<M: Maker>(rt: &impl Abort, alloc: Global) {
     for luck in LUCKS {
         let wrong = wrong_place::<M>(alloc, luck);
         assert!(rt; wrong.is_none(), "call {wrong:?}, luck {luck}");
@@ -103,7 +103,10 @@ fn reopens_unarmed<M: Maker>(alloc: Global) -> bool {
     is_left && answers(go_on(twice, 0), &[Call::Digest(1, Some(('c', 0, 1)))])
 }
 
-pub fn a_reopening_fails_where_what_is_left_is_armed<M: Maker>(rt: &impl Abort, alloc: Global) {
+pub(crate) fn a_reopening_fails_where_what_is_left_is_armed<M: Maker>(
+    rt: &impl Abort,
+    alloc: Global,
+) {
     assert!(rt; reopens_unarmed::<M>(alloc), "not left");
 }
 
@@ -119,6 +122,6 @@ fn reopens_again<M: Maker>(alloc: Global) -> bool {
     is_left && answers(go_on(again, 0), &[Call::Digest(1, Some(('c', 0, 1)))])
 }
 
-pub fn a_reopening_fails_where_it_is_armed<M: Maker>(rt: &impl Abort, alloc: Global) {
+pub(crate) fn a_reopening_fails_where_it_is_armed<M: Maker>(rt: &impl Abort, alloc: Global) {
     assert!(rt; reopens_again::<M>(alloc), "not left");
 }

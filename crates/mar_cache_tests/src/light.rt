@@ -27,7 +27,7 @@ pub struct Plate {
 }
 
 impl Plate {
-    pub fn at(height: u8) -> Plate {
+    pub(crate) fn at(height: u8) -> Plate {
         Plate {
             height: Height::new(u64::from(height)),
             name: Name { bytes: [height] },

@@ -30,7 +30,7 @@ fn keeps_by<M: Maker>(alloc: Global, bit: u8, luck: u64) -> bool {
     matches!(life, Life::Open(_))
 }
 
-pub fn luck_keeps_what_is_unsure<M: Maker>(rt: &impl Abort, alloc: Global) {
+pub(crate) fn luck_keeps_what_is_unsure<M: Maker>(rt: &impl Abort, alloc: Global) {
     for bit in 0..32_u8 {
         assert!(rt; keeps_by::<M>(alloc, bit, 1 << bit), "bit {bit}");
     }

@@ -106,7 +106,7 @@ fn look_up<C: Shelf<Light, Vote, Vote>>(cache: C, call: Call) -> Life<C> {
 }
 
 /// The life after these calls, or after the first of them that failed or answered something else; and the place of that.
-pub fn play<C: Shelf<Light, Vote, Vote>>(life: Life<C>, calls: &[Call]) -> (Life<C>, usize) {
+pub(crate) fn play<C: Shelf<Light, Vote, Vote>>(life: Life<C>, calls: &[Call]) -> (Life<C>, usize) {
     let mut life = life;
     let mut last = None;
     for (place, call) in calls.iter().enumerate() {
@@ -119,12 +119,12 @@ pub fn play<C: Shelf<Light, Vote, Vote>>(life: Life<C>, calls: &[Call]) -> (Life
 }
 
 /// Whether a cache answers all these calls as it is to, and is open behind them.
-pub fn answers<C: Shelf<Light, Vote, Vote>>(life: Life<C>, calls: &[Call]) -> bool {
+pub(crate) fn answers<C: Shelf<Light, Vote, Vote>>(life: Life<C>, calls: &[Call]) -> bool {
     matches!(play(life, calls), (Life::Open(_), _))
 }
 
 /// A life that goes on with this luck, all of whose epochs are open.
-pub fn go_on<C: Shelf<Light, Vote, Vote>>(life: Life<C>, luck: u64) -> Life<C> {
+pub(crate) fn go_on<C: Shelf<Light, Vote, Vote>>(life: Life<C>, luck: u64) -> Life<C> {
     match life {
         Life::Left(wreck) => match reopen(wreck, luck) {
             Life::Open(cache) => load_persisted_epochs(cache),
@@ -293,23 +293,23 @@ fn covers<M: Maker>(alloc: Global, calls: &[Call], has_second: bool) -> bool {
     finds_again::<M>(alloc, calls, &found)
 }
 
-pub fn epochs_are_kept<M: Maker>(rt: &impl Abort, alloc: Global) {
+pub(crate) fn epochs_are_kept<M: Maker>(rt: &impl Abort, alloc: Global) {
     let wrong = wrong_place::<M>(alloc, &CALLS);
     assert!(rt; wrong.is_none(), "call before {wrong:?}");
 }
 
-pub fn what_is_put_with_a_sync_is_found_again<M: Maker>(rt: &impl Abort, alloc: Global) {
+pub(crate) fn what_is_put_with_a_sync_is_found_again<M: Maker>(rt: &impl Abort, alloc: Global) {
     assert!(rt; finds_again::<M>(alloc, &SYNCED, &FOUND), "not found");
 }
 
-pub fn a_joined_ticket_covers_two_archives<M: Maker>(rt: &impl Abort, alloc: Global) {
+pub(crate) fn a_joined_ticket_covers_two_archives<M: Maker>(rt: &impl Abort, alloc: Global) {
     assert!(rt;
         finds_again::<M>(alloc, &JOINED, &FOUND_JOINED),
         "not found"
     );
 }
 
-pub fn a_ticket_covers_what_was_put_before_it<M: Maker>(rt: &impl Abort, alloc: Global) {
+pub(crate) fn a_ticket_covers_what_was_put_before_it<M: Maker>(rt: &impl Abort, alloc: Global) {
     for (place, (calls, has_second)) in TICKETS.iter().enumerate() {
         assert!(rt; covers::<M>(alloc, calls, *has_second), "script {place}");
     }

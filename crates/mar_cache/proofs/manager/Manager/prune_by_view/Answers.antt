@@ -1,9 +1,11 @@
-use Rattle.std.proofs.Common.{◌∙◌, ap, map, refl, subst, sym}
+use Rattle.std.proofs.Common.{◌∙◌, ap, map, refl, subst, sym, ◌&&◌}
 use Rattle.std.proofs.lemmas.Result.{IfErr-weaker, err_from_is_err_and}
 use Rattle.mar_cache.specs.Bounds.{bounds_of}
 use Rattle.mar_cache.specs.Tomes.{IsBare}
 use Rattle.mar_cache.proofs.Shelving.{bounds_stay}
 use Rattle.mar_cache.proofs.Views.{drops_listed, drops_more, drops_same, fallen_drops, older_bare, pruned_left, view_drops, view_dropped, view_leaves, view_newer, view_older, view_own, view_ways}
+use Rattle.mar_cache.specs.Shelved.{shelf_watch}
+use Rattle.mar_cache.proofs.Watched.{heeds_lost, heeds_then}
 use Rattle.mar_cache.proofs.manager.Manager.prune_by_view.Goals as goal
 
 pub returns-in_err-manager-clause-ways : goal.returns-in_err-manager-clause-ways
@@ -152,3 +154,26 @@ pub returns-clause-bounds : goal.returns-clause-bounds
 returns-clause-bounds g c =
     let f = c.in_ok-manager-4.manager in
     rw (← c.in_ok-manager.ensures.meta, ← c.in_ok-manager-2.ensures.same.1, ← c.in_ok-manager-3.ensures.meta) (IfErr-weaker c.change.result _ _ (λ l same. pruned_left (map bounds_of (g.M.Meta.left c.in_ok-manager-3.manager.meta)) (bounds_of (g.M.Meta.current f.meta)) _ _ (ap (map bounds_of) same ∙ f.durable) c.in_ok-manager-4.ensures.raises) c.change.ensures.bounds)
+
+pub returns-in_err-manager-clause-watched : goal.returns-in_err-manager-clause-watched
+returns-in_err-manager-clause-watched g c =
+    let p = err_from_is_err_and c.from_residual.result c.from_residual.ensures.1 in
+    rw (p.1, p.2) c.in_err-manager.ensures.watched
+
+pub returns-in_err-manager-2-clause-watched : goal.returns-in_err-manager-2-clause-watched
+returns-in_err-manager-2-clause-watched g c =
+    let p = err_from_is_err_and c.from_residual-in_err-manager-2.result c.from_residual-in_err-manager-2.ensures.1 in
+    rw (p.1, p.2) (heeds_lost (λ w. shelf_watch w.alarm (g.S.Wreck.StacksRuin.calm w.stacks && (g.M.Wreck.MetaRuin.watch w.meta).only_armed)) _ _ _ c.in_ok-manager.ensures.watched.0 (c.in_ok-manager.ensures.watched.1) c.in_err-manager-2.ensures.watched)
+
+pub returns-in_err-manager-3-clause-watched : goal.returns-in_err-manager-3-clause-watched
+returns-in_err-manager-3-clause-watched g c =
+    let p = err_from_is_err_and c.from_residual-in_err-manager-3.result c.from_residual-in_err-manager-3.ensures.1 in
+    rw (p.1, p.2) (heeds_lost (λ w. shelf_watch w.alarm (g.S.Wreck.StacksRuin.calm w.stacks && (g.M.Wreck.MetaRuin.watch w.meta).only_armed)) _ _ _ c.in_ok-manager.ensures.watched.0 (c.in_ok-manager-2.ensures.watched ∙ c.in_ok-manager.ensures.watched.1) c.in_err-manager-3.ensures.watched)
+
+pub returns-in_err-manager-4-clause-watched : goal.returns-in_err-manager-4-clause-watched
+returns-in_err-manager-4-clause-watched g c =
+    let p = err_from_is_err_and c.from_residual-in_err-manager-4.result c.from_residual-in_err-manager-4.ensures.1 in
+    rw (p.1, p.2) (heeds_lost (λ w. shelf_watch w.alarm (g.S.Wreck.StacksRuin.calm w.stacks && (g.M.Wreck.MetaRuin.watch w.meta).only_armed)) _ _ _ c.in_ok-manager.ensures.watched.0 (c.in_ok-manager-3.ensures.watched ∙ c.in_ok-manager-2.ensures.watched ∙ c.in_ok-manager.ensures.watched.1) c.in_err-manager-4.ensures.watched)
+
+pub returns-clause-watched : goal.returns-clause-watched
+returns-clause-watched g c = heeds_then (λ m. shelf_watch m.alarm (g.S.Stacks.calm m.stacks && (g.M.Meta.watch m.meta).only_armed)) (λ w. shelf_watch w.alarm (g.S.Wreck.StacksRuin.calm w.stacks && (g.M.Wreck.MetaRuin.watch w.meta).only_armed)) (shelf_watch c.args.self.alarm (g.S.Stacks.calm c.args.self.stacks && (g.M.Meta.watch c.args.self.meta).only_armed)) _ c.change.result c.in_ok-manager.ensures.watched.0 (c.in_ok-manager-4.ensures.watched ∙ c.in_ok-manager-3.ensures.watched ∙ c.in_ok-manager-2.ensures.watched ∙ c.in_ok-manager.ensures.watched.1) c.change.ensures.watched

@@ -1,9 +1,10 @@
-use Rattle.std.proofs.Common.{[], ◌∷◌, ◌∙◌, ap, map, refl}
+use Rattle.std.proofs.Common.{[], ◌∷◌, ◌∙◌, ap, map, refl, ◌&&◌}
 use Rattle.std.proofs.lemmas.Result.{IfErr-weaker, err_from_is_err_and}
 use Rattle.mar_cache.specs.Bounds.{bounds_of}
-use Rattle.mar_cache.specs.Shelved.{at_epoch, nothing_gone, raised}
+use Rattle.mar_cache.specs.Shelved.{at_epoch, nothing_gone, raised, shelf_watch}
 use Rattle.mar_cache.proofs.Filtering.{contains_none}
 use Rattle.mar_cache.proofs.Shelving.{at_own, end_bounds, end_leaves, fallen_leaves, grows_at, loses_leaves, opens_grows, raised_within}
+use Rattle.mar_cache.proofs.Watched.{calm_lost_then, calm_then}
 use Rattle.mar_cache.proofs.manager.Manager.put.Goals as goal
 
 pub returns-in_err-manager-clause-ways : goal.returns-in_err-manager-clause-ways
@@ -43,3 +44,16 @@ pub returns-clause-bounds : goal.returns-clause-bounds
 returns-clause-bounds g c =
     let e = c.get-epoch.result in
     rw (← (c.get-epoch.ensures.value ∙ c.epoch.ensures)) (end_bounds (λ w. map bounds_of (g.M.Wreck.MetaRuin.left w.meta)) _ (map bounds_of (g.M.Meta.left c.args.self.meta)) (raised e (bounds_of (g.M.Meta.current c.args.self.meta))) (map bounds_of (g.M.Meta.left c.in_ok-manager.manager.meta)) c.change.result c.in_ok-manager.ensures.raises.1 (IfErr-weaker c.change.result _ _ (λ l is. ap (map bounds_of) (is ∙ ap g.M.Meta.left c.in_ok-manager-2.ensures.meta)) c.change.ensures.bounds))
+
+pub returns-in_err-manager-clause-watched : goal.returns-in_err-manager-clause-watched
+returns-in_err-manager-clause-watched g c =
+    let p = err_from_is_err_and c.from_residual.result c.from_residual.ensures.1 in
+    rw (p.1, p.2) c.in_err-manager.ensures.watched
+
+pub returns-in_err-manager-2-clause-watched : goal.returns-in_err-manager-2-clause-watched
+returns-in_err-manager-2-clause-watched g c =
+    let p = err_from_is_err_and c.from_residual-in_err-manager-2.result c.from_residual-in_err-manager-2.ensures.1 in
+    rw (p.1, p.2) (calm_lost_then (λ w. shelf_watch w.alarm (g.S.Wreck.StacksRuin.calm w.stacks && (g.M.Wreck.MetaRuin.watch w.meta).only_armed)) _ _ _ c.in_ok-manager.ensures.watched c.in_err-manager-2.ensures.watched)
+
+pub returns-clause-watched : goal.returns-clause-watched
+returns-clause-watched g c = calm_then (λ m. shelf_watch m.alarm (g.S.Stacks.calm m.stacks && (g.M.Meta.watch m.meta).only_armed)) (λ w. shelf_watch w.alarm (g.S.Wreck.StacksRuin.calm w.stacks && (g.M.Wreck.MetaRuin.watch w.meta).only_armed)) (shelf_watch c.args.self.alarm (g.S.Stacks.calm c.args.self.stacks && (g.M.Meta.watch c.args.self.meta).only_armed)) _ c.change.result (c.in_ok-manager-2.ensures.watched ∙ c.in_ok-manager.ensures.watched) c.change.ensures.watched

@@ -1,11 +1,12 @@
-use Rattle.std.proofs.Common.{[], ◌∷◌, ◌∙◌, ap, map, refl}
+use Rattle.std.proofs.Common.{[], ◌∷◌, ◌∙◌, ap, map, refl, ◌&&◌}
 use Rattle.std.proofs.lemmas.Result.{IfErr-weaker, err_from_is_err_and}
 use Rattle.mar_node.specs.Cached.{epoch_of}
 use Rattle.mar_cache.specs.Bounds.{bounds_of}
-use Rattle.mar_cache.specs.Shelved.{at_epoch, nothing_gone, raised}
+use Rattle.mar_cache.specs.Shelved.{at_epoch, nothing_gone, raised, shelf_watch}
 use Rattle.mar_cache.specs.declared.change.Change.TheVariants.{Put}
 use Rattle.mar_cache.proofs.Filtering.{contains_none}
 use Rattle.mar_cache.proofs.Shelving.{at_own, bounds_stay, does_grow, does_then, end_bounds, end_leaves, fallen_leaves}
+use Rattle.mar_cache.proofs.Watched.{heeds_lost, heeds_then}
 use Rattle.mar_cache.proofs.manager.Manager.put_and_sync.Goals as goal
 
 pub returns-in_err-manager-clause-ways : goal.returns-in_err-manager-clause-ways
@@ -44,3 +45,16 @@ returns-clause-done g c = λ above.
     let m = c.in_ok-manager.manager in
     let n = c.in_ok-manager-2.manager in
     rw (← c.in_ok-manager.ensures.stacks) (does_then g.S.Leaf.Leaf.plain (λ s. g.S.Stacks.tomes s.stacks) _ (epoch_of (g.S.Leaf.Leaf.plain c.args.leaf)) (Put c.args.leaf) _ (g.S.Stacks.tomes m.stacks) (g.S.Stacks.tomes n.stacks) c.change.result c.in_ok-manager-2.ensures.done (rw (c.get-epoch.ensures.value ∙ c.epoch.ensures, c.section-section.ensures) at c.change.ensures.done))
+
+pub returns-in_err-manager-clause-watched : goal.returns-in_err-manager-clause-watched
+returns-in_err-manager-clause-watched g c =
+    let p = err_from_is_err_and c.from_residual.result c.from_residual.ensures.1 in
+    rw (p.1, p.2) c.in_err-manager.ensures.watched
+
+pub returns-in_err-manager-2-clause-watched : goal.returns-in_err-manager-2-clause-watched
+returns-in_err-manager-2-clause-watched g c =
+    let p = err_from_is_err_and c.from_residual-in_err-manager-2.result c.from_residual-in_err-manager-2.ensures.1 in
+    rw (p.1, p.2) (heeds_lost (λ w. shelf_watch w.alarm (g.S.Wreck.StacksRuin.calm w.stacks && (g.M.Wreck.MetaRuin.watch w.meta).only_armed)) _ _ _ c.in_ok-manager.ensures.watched.0 (c.in_ok-manager.ensures.watched.1) c.in_err-manager-2.ensures.watched)
+
+pub returns-clause-watched : goal.returns-clause-watched
+returns-clause-watched g c = heeds_then (λ m. shelf_watch m.alarm (g.S.Stacks.calm m.stacks && (g.M.Meta.watch m.meta).only_armed)) (λ w. shelf_watch w.alarm (g.S.Wreck.StacksRuin.calm w.stacks && (g.M.Wreck.MetaRuin.watch w.meta).only_armed)) (shelf_watch c.args.self.alarm (g.S.Stacks.calm c.args.self.stacks && (g.M.Meta.watch c.args.self.meta).only_armed)) _ c.change.result c.in_ok-manager.ensures.watched.0 (c.in_ok-manager-2.ensures.watched ∙ c.in_ok-manager.ensures.watched.1) c.change.ensures.watched

@@ -8,3 +8,8 @@ pub returns-in_err-manager-clause-ways : goal.returns-in_err-manager-clause-ways
 returns-in_err-manager-clause-ways g c =
     let p = err_from_is_err_and c.from_residual.result c.from_residual.ensures.1 in
     rw (p.1, p.2) (fallen_leaves (at_epoch c.args.epoch []) nothing_gone (g.S.Stacks.tomes c.args.self.stacks) (g.met.S.Stacks.nested c.args.self.stacks) _ c.in_err-manager.ensures.ways)
+
+pub returns-in_err-manager-clause-watched : goal.returns-in_err-manager-clause-watched
+returns-in_err-manager-clause-watched g c =
+    let p = err_from_is_err_and c.from_residual.result c.from_residual.ensures.1 in
+    rw (p.1, p.2) c.in_err-manager.ensures.watched
