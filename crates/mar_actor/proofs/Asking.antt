@@ -3,7 +3,10 @@ use Rattle.std.proofs.Common.{◌≡◌, ℕ, ◌<◌, List, [], Option, Some, N
 use Rattle.std.specs.declared.convert.Infallible.{Infallible}
 use Rattle.mar_cert.specs.Block.{Block}
 use Rattle.mar_cert.specs.Finalization.{Finalization}
+use Rattle.mar_inbox.specs.Views.{query_of}
 use Rattle.mar_inbox.specs.declared.message.Message.{Message}
+use Rattle.mar_inbox.specs.declared.query.Query.{Query}
+use Rattle.mar_inbox.specs.declared.query.Query.TheVariants as query
 use Rattle.mar_key.specs.Processed.{Processed, anchor_of}
 use Rattle.mar_node.specs.Answers.{anchor, anchor_value, or_none}
 use Rattle.mar_node.specs.Event.{is_query, message_told}
@@ -18,11 +21,9 @@ use Rattle.mar_store.specs.Named.{last_index}
 use Rattle.mar_actor.specs.Asking.{backed_value}
 use Rattle.mar_actor.specs.Due.{due_fault}
 use Rattle.mar_actor.specs.Told.{tips_of}
-use Rattle.mar_actor.specs.Views.{event_of, query_of, told_of}
+use Rattle.mar_actor.specs.Views.{event_of, told_of}
 use Rattle.mar_actor.specs.declared.event.Event.{Event as EventCode}
 use Rattle.mar_actor.specs.declared.event.Event.TheVariants as event
-use Rattle.mar_actor.specs.declared.query.Query.{Query}
-use Rattle.mar_actor.specs.declared.query.Query.TheVariants as query
 use Rattle.mar_actor.specs.declared.query.Told.{Told}
 
 module _ {D : Type 0} (digest : D → List ℕ) (t : ℕ) where

@@ -8,7 +8,7 @@ use Rattle.mar_node.specs.Faults.{Begin, from_genesis}
 use Rattle.mar_node.specs.Held.{ArePassed, Ending, Grew, Held, IsEndedBy, IsUsual, Remains, Remembered, ReopensAs, Sizes, first_life, nothing_written, picks_of, written_block}
 use Rattle.mar_node.specs.Lives.{CutsReopening, Finds}
 use Rattle.mar_node.specs.Opening.{BeginsWith, Derives, LosesDeriving, next_fault}
-use Rattle.mar_node.specs.Promise.{Begins, IsLawfulOpening, IsOpeningFault, node_of}
+use Rattle.mar_node.specs.Promise.{Begins, IsLawfulOpening, IsOpeningFault, node_of, none_waiting}
 use Rattle.mar_node.specs.Step.{nothing_made}
 use Rattle.mar_node.specs.Stored.{at_own_height}
 use Rattle.mar_node.proofs.OpeningEvent.{begin_by_value, begins, cut_begun, cut_deriving, cut_early, deriving_cause, deriving_keeps, finds, next_by_value}
@@ -65,8 +65,8 @@ module _ (epochs : Epochs) (old : Remains) (luck : ℕ) (begin : Begin) (g : Blo
     derives : Derives config.epochs opens.begun new
     derives = subst (λ es. Derives es opens.begun new) (sym same) opens.derives
 
-    pub opened_begins : (chain : Chain) → IsLawfulOpening config chain old.ended begin → Begins config chain old.ended (picks_of old luck) begin (node_of (record { held = new; life = life }) [] [])
+    pub opened_begins : (chain : Chain) → IsLawfulOpening config chain old.ended begin → Begins config chain old.ended (picks_of old luck) begin (node_of (record { held = new; life = life }) [] none_waiting)
     opened_begins chain asks = begins config chain old luck begin opens.first opens.reopens g is opens.begun opens.begins opens.grew provider epocher sizes new life asks capacity derives life_is
 
-    pub opened_finds : Finds config old.ended (picks_of old luck) begin (node_of (record { held = new; life = life }) [] [])
+    pub opened_finds : Finds config old.ended (picks_of old luck) begin (node_of (record { held = new; life = life }) [] none_waiting)
     opened_finds = finds old begin luck opens.first opens.reopens g is opens.begun opens.begins config provider epocher sizes new life opens.grew capacity derives life_is

@@ -3,15 +3,13 @@ use Rattle.std.specs.Prelude.{ℕ, List, None, Some}
 use Rattle.std.specs.declared.convert.Infallible.{Infallible}
 use Rattle.mar_cert.specs.Block.{Block}
 use Rattle.mar_cert.specs.Finalization.{Finalization, Notarization}
-use Rattle.mar_inbox.specs.Views.{identifier_of, message_of, ticket_of}
-use Rattle.mar_node.specs.Messages.{Message, get_anchor, get_block, get_finalization, get_info, get_processed, get_verified, report_finalization}
+use Rattle.mar_inbox.specs.Views.{message_of, query_of, ticket_of}
+use Rattle.mar_node.specs.Messages.{report_finalization}
 use Rattle.mar_node.specs.Event.{Event, life_started, message_told, sync_finished, ack_given}
 use Rattle.mar_node.specs.Faults.{Begin, from_genesis}
 use Rattle.mar_node.specs.Step.{Report, new_tip, handed_over}
 use Rattle.mar_actor.specs.declared.event.Event.{Event as EventCode}
 use Rattle.mar_actor.specs.declared.event.Event.TheVariants as event
-use Rattle.mar_actor.specs.declared.query.Query.{Query}
-use Rattle.mar_actor.specs.declared.query.Query.TheVariants as query
 use Rattle.mar_actor.specs.declared.query.Told.{Told}
 use Rattle.mar_actor.specs.declared.query.Told.TheVariants as told
 use Rattle.mar_actor.specs.declared.reporter.Update.{Update}
@@ -34,15 +32,6 @@ event_of digest plain event.Start = life_started None
 event_of digest plain (event.Message m) = message_told (ticket_of m) (message_of digest no_block no_notarization plain m)
 event_of digest plain (event.Sync t) = sync_finished t
 event_of digest plain (event.Ack t) = ack_given t
-
--- what a caller asks
-abbrev pub query_of : {D : Type 0} → (D → List ℕ) → Query D → Message
-query_of digest (query.Info id) = get_info (identifier_of digest id)
-query_of digest (query.Block id) = get_block (identifier_of digest id)
-query_of digest (query.Finalization h) = get_finalization h
-query_of digest query.Processed = get_processed
-query_of digest query.Anchor = get_anchor
-query_of digest (query.Verified r) = get_verified r
 
 -- what a caller tells, or asks under a ticket
 abbrev pub told_of : {D F : Type 0} → (D → List ℕ) → (F → Finalization) → Told D F → Event

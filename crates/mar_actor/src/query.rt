@@ -3,7 +3,7 @@ ghost use Rattle.std.specs.Prelude.{◌≡◌, ◌+◌, ◌++◌, ◌<◌, IfErr
 ghost use Rattle.mar_cert.specs.Block.{Block};
 ghost use Rattle.mar_cert.specs.Finalization.{Finalization};
 ghost use Rattle.mar_inbox.specs.Answers.{told};
-ghost use Rattle.mar_inbox.specs.Views.{identifier_of, message_of, ticket_of, value_of};
+ghost use Rattle.mar_inbox.specs.Views.{identifier_of, message_of, query_of, ticket_of, value_of};
 ghost use Rattle.mar_key.specs.Processed.{anchor_of};
 ghost use Rattle.mar_key.specs.Views.{processed_of};
 ghost use Rattle.mar_node.specs.Answers.{anchor, block_info, bytes_of, certificate_info, finalization_value, info, or_none, processed_value};
@@ -14,29 +14,18 @@ ghost use Rattle.mar_node.specs.Queries.{answers_found, block_found, value_found
 ghost use Rattle.mar_node.specs.Messages.{of_height};
 ghost use Rattle.mar_shelf.specs.Views.{entry_of};
 ghost use Rattle.mar_actor.specs.Asking.{backed_value};
-ghost use Rattle.mar_actor.specs.Views.{no_block, no_notarization, query_of, told_of};
+ghost use Rattle.mar_actor.specs.Views.{no_block, no_notarization, told_of};
 
 use crate::ends::out_of_memory;
 use crate::node::Node;
 use crate::reads::{block_at_hand, newest_certificate};
 use mar_block::{Buffer, Variant};
 use mar_cert::{AsFinalization, CommitsTo};
-use mar_inbox::{AnswerTable, Identifier, Message, Value};
+use mar_inbox::{AnswerTable, Identifier, Message, Query, Value};
 use mar_key::Processed;
 use mar_shelf::{Ended, Holds};
-use mar_types::{Epocher, Height, Round};
+use mar_types::{Epocher, Height};
 use std::convert::Infallible;
-
-/// What a caller asks, without its ticket.
-#[derive(Drop)]
-pub(crate) enum Query<D> {
-    Info(Identifier<D>),
-    Block(Identifier<D>),
-    Finalization(Height),
-    Processed,
-    Anchor,
-    Verified(Round),
-}
 
 /// What a caller tells, or asks under a ticket.
 #[derive(Drop)]

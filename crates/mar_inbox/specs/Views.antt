@@ -14,6 +14,8 @@ use Rattle.mar_inbox.specs.declared.identifier.Identifier.{Identifier}
 use Rattle.mar_inbox.specs.declared.identifier.Identifier.TheVariants as identifier
 use Rattle.mar_inbox.specs.declared.message.Message.{Message}
 use Rattle.mar_inbox.specs.declared.message.Message.TheVariants as message
+use Rattle.mar_inbox.specs.declared.query.Query.{Query}
+use Rattle.mar_inbox.specs.declared.query.Query.TheVariants as query
 use Rattle.mar_inbox.specs.declared.value.Value.{Value}
 use Rattle.mar_inbox.specs.declared.value.Value.TheVariants as value
 
@@ -47,6 +49,15 @@ message_of digest plain notarization finalization (message.Certified t r b) = ce
 message_of digest plain notarization finalization (message.Notarization n) = report_notarization (notarization n)
 message_of digest plain notarization finalization (message.Finalization f) = report_finalization (finalization f)
 message_of digest plain notarization finalization (message.Certification n) = report_certification (notarization n)
+
+-- what a caller asks
+abbrev pub query_of : {D : Type 0} → (D → List ℕ) → Query D → PlainMessage
+query_of digest (query.Info i) = get_info (identifier_of digest i)
+query_of digest (query.Block i) = get_block (identifier_of digest i)
+query_of digest (query.Finalization h) = get_finalization h
+query_of digest query.Processed = get_processed
+query_of digest query.Anchor = get_anchor
+query_of digest (query.Verified r) = get_verified r
 
 -- the answer ticket of a message
 abbrev pub ticket_of : {D B N F : Type 0} → Message D B N F → Option ℕ

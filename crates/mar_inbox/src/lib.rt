@@ -5,9 +5,11 @@
 mod answers;
 mod identifier;
 mod message;
+mod query;
 mod value;
 
 pub use answers::{Answer, AnswerTable, Answered, Standing};
 pub use identifier::Identifier;
 pub use message::Message;
+pub use query::Query;
 pub use value::Value;

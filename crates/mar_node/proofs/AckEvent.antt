@@ -7,7 +7,6 @@ use Rattle.mar_types.specs.Epochs.{IsPartition}
 use Rattle.mar_types.specs.Round.{Round, round_lt}
 use Rattle.mar_cert.specs.Block.{Block}
 use Rattle.mar_cert.specs.Finalization.{Finalization}
-use Rattle.mar_key.specs.Asked.{Asked}
 use Rattle.mar_key.specs.Cutoff.{Cutoff, greatest_of}
 use Rattle.mar_key.specs.Processed.{Processed, first_unprocessed, height_in}
 use Rattle.mar_store.specs.Changes.{IsNested, KeepsValues}
@@ -23,7 +22,7 @@ use Rattle.mar_node.specs.Held.{Watches, Seen}
 use Rattle.mar_node.specs.Lives.{NotBelow, later_round}
 use Rattle.mar_node.specs.Moves.{Drains}
 use Rattle.mar_node.specs.Node.{FloorSafe, IsGood, Node, Rest, block_missing, floor_awaited, window_full, write_uncovered}
-use Rattle.mar_node.specs.Promise.{node_of}
+use Rattle.mar_node.specs.Promise.{Waiting, node_of}
 use Rattle.mar_node.specs.Requests.{own_asks, retire_asks}
 use Rattle.mar_node.specs.Sound.{IsSafePair}
 use Rattle.mar_node.proofs.Cutting.{MayBeLeft, keeps_heights}
@@ -99,9 +98,9 @@ later_rounds-are certs retention w (o ∷ out) = by (round_at certs o.height) (�
 abbrev pub with_own_pair : {P E : Type 0} → Watches → Seen P E → Seen P E
 with_own_pair watches b = record b { held = record b.held { pairs = pair_of b.held.processed b.held.cutoff ∷ []; watches = watches } }
 
-module _ {P E : Type 0} (config : Config) (chain : Chain) (lawful : IsLawful config.epochs chain) (partition : IsPartition config.epochs) (a : Seen P E) (t : ℕ) (buffer : List Block) (asked : List Asked) (nested : IsNested a.held.blocks) (certs_nested : IsNested a.held.certs) (good : IsGood config chain (node_of a buffer asked)) where
+module _ {P E : Type 0} (config : Config) (chain : Chain) (lawful : IsLawful config.epochs chain) (partition : IsPartition config.epochs) (a : Seen P E) (t : ℕ) (buffer : List Block) (waiting : Waiting) (nested : IsNested a.held.blocks) (certs_nested : IsNested a.held.certs) (good : IsGood config chain (node_of a buffer waiting)) where
   abbrev pub n : Node
-  n = node_of a buffer asked
+  n = node_of a buffer waiting
 
   -- the actor with the mark
   abbrev pub given : Seen P E
@@ -163,7 +162,7 @@ module _ {P E : Type 0} (config : Config) (chain : Chain) (lawful : IsLawful con
       omega arith
 
   -- it is good
-  IsGood-drained : (watches : Watches) → IsGood config chain (node_of (drained_to own_pairs watches) buffer asked)
+  IsGood-drained : (watches : Watches) → IsGood config chain (node_of (drained_to own_pairs watches) buffer waiting)
   IsGood-drained watches = record {
     heights = record {
       stores = good.heights.stores;
@@ -189,7 +188,7 @@ module _ {P E : Type 0} (config : Config) (chain : Chain) (lawful : IsLawful con
   }
 
   -- and the event reached it, where the oldest that stays wasn't dropped
-  Reaches-drained : (watches : Watches) → dropped_oldest (after_given given.life.out) ≡ None → Reaches config chain a (ack_given t) buffer asked [] (drained_to own_pairs watches)
+  Reaches-drained : (watches : Watches) → dropped_oldest (after_given given.life.out) ≡ None → Reaches config chain a (ack_given t) buffer waiting [] (drained_to own_pairs watches)
   Reaches-drained watches not_dropped = record {
     no_effect = refl;
     kept = refl;
@@ -208,9 +207,9 @@ module _ {P E : Type 0} (config : Config) (chain : Chain) (lawful : IsLawful con
     of_certs = tt;
     own_blocks = λ x has. nothing_put x has;
     own_certs = λ x has. nothing_put x has;
-    certificates = Certificates-same a (drained_to own_pairs watches) (ack_given t) buffer asked refl;
-    writes = (Writes-same a (drained_to own_pairs watches) (ack_given t) buffer asked refl refl refl (λ syncs. refl) (λ syncs. refl)).0;
-    no_repair = (Writes-same a (drained_to own_pairs watches) (ack_given t) buffer asked refl refl refl (λ syncs. refl) (λ syncs. refl)).1;
+    certificates = Certificates-same a (drained_to own_pairs watches) (ack_given t) buffer waiting refl;
+    writes = (Writes-same a (drained_to own_pairs watches) (ack_given t) buffer waiting refl refl refl (λ syncs. refl) (λ syncs. refl)).0;
+    no_repair = (Writes-same a (drained_to own_pairs watches) (ack_given t) buffer waiting refl refl refl (λ syncs. refl) (λ syncs. refl)).1;
     are_tips = tt;
     tips_rise = refl;
     tips_chain = tt;
@@ -228,16 +227,16 @@ module _ {P E : Type 0} (config : Config) (chain : Chain) (lawful : IsLawful con
 
   module _ (is_drained : Bool) (b : Seen P E) (drains : Drains config.epochs given is_drained b) where
     -- it is good
-    pub IsGood-ack : (m : Seen P E) → m ≡ with_own_pair m.held.watches b → IsGood config chain (node_of m buffer asked)
-    IsGood-ack m after = subst (λ x. IsGood config chain (node_of x buffer asked)) (sym (after ∙ ap (with_own_pair m.held.watches) drains.same)) (IsGood-drained m.held.watches)
+    pub IsGood-ack : (m : Seen P E) → m ≡ with_own_pair m.held.watches b → IsGood config chain (node_of m buffer waiting)
+    IsGood-ack m after = subst (λ x. IsGood config chain (node_of x buffer waiting)) (sym (after ∙ ap (with_own_pair m.held.watches) drains.same)) (IsGood-drained m.held.watches)
 
     -- and has written no more
     pub writes-ack : (m : Seen P E) → m ≡ with_own_pair m.held.watches b → m.held.writes ≡ a.held.writes
     writes-ack m after = ap (λ x. x.held.writes) (after ∙ ap (with_own_pair m.held.watches) drains.same)
 
     -- An acknowledgement reaches the actor whose pair was synced after it drained.
-    pub Reaches-ack : (m : Seen P E) → m ≡ with_own_pair m.held.watches b → Reaches config chain a (ack_given t) buffer asked [] m
-    Reaches-ack m after = subst (λ x. Reaches config chain a (ack_given t) buffer asked [] x) (sym (after ∙ ap (with_own_pair m.held.watches) drains.same)) (Reaches-drained m.held.watches drains.not_dropped)
+    pub Reaches-ack : (m : Seen P E) → m ≡ with_own_pair m.held.watches b → Reaches config chain a (ack_given t) buffer waiting [] m
+    Reaches-ack m after = subst (λ x. Reaches config chain a (ack_given t) buffer waiting [] x) (sym (after ∙ ap (with_own_pair m.held.watches) drains.same)) (Reaches-drained m.held.watches drains.not_dropped)
 
     -- its pair, said of the actor before
     pair-is : pair_of b.held.processed b.held.cutoff ≡ pair_of processed cutoff
@@ -249,7 +248,7 @@ module _ {P E : Type 0} (config : Config) (chain : Chain) (lawful : IsLawful con
 
     -- which is safe
     pub pair_after-safe : IsSafePair chain a.held.blocks.sure (pair_of b.held.processed b.held.cutoff)
-    pair_after-safe = subst (IsSafePair chain a.held.blocks.sure) (sym pair-is) (own_pair_safe chain (node_of (drained_to own_pairs a.held.watches) buffer asked) (IsGood-drained a.held.watches).heights.delivery.anchored floor_safe)
+    pair_after-safe = subst (IsSafePair chain a.held.blocks.sure) (sym pair-is) (own_pair_safe chain (node_of (drained_to own_pairs a.held.watches) buffer waiting) (IsGood-drained a.held.watches).heights.delivery.anchored floor_safe)
 
     -- and not below the one before
     pub NotBelow-drained : NotBelow (option_map height_in a.held.processed) (option_map height_in b.held.processed)
@@ -258,9 +257,9 @@ module _ {P E : Type 0} (config : Config) (chain : Chain) (lawful : IsLawful con
         subst (λ k. k ≤ next_after (option_map height_in processed)) (sym (next_after-is a.held.processed)) (subst (λ k. first_unprocessed a.held.processed ≤ k) (sym (next_after-is processed)) low))
 
     -- so it may be left where the sync of that pair fails
-    pub MayBeLeft-drained : (sure : List (At Block)) → KeepsValues a.held.blocks.sure sure → (p : Pair) → Contains (pair_of b.held.processed b.held.cutoff ∷ []) p → MayBeLeft config chain a (ack_given t) buffer asked sure p
+    pub MayBeLeft-drained : (sure : List (At Block)) → KeepsValues a.held.blocks.sure sure → (p : Pair) → Contains (pair_of b.held.processed b.held.cutoff ∷ []) p → MayBeLeft config chain a (ack_given t) buffer waiting sure p
     MayBeLeft-drained sure keeps p (suc k, lt, is) = absurd (omega arith)
-    MayBeLeft-drained sure keeps p (zero, lt, is) = subst (MayBeLeft config chain a (ack_given t) buffer asked sure) is (inr (pair_after-is, kept, NotBelow-drained))
+    MayBeLeft-drained sure keeps p (zero, lt, is) = subst (MayBeLeft config chain a (ack_given t) buffer waiting sure) is (inr (pair_after-is, kept, NotBelow-drained))
       where
         from : (o : Option ℕ) → IsFrom 0 o
         from None = tt
@@ -281,11 +280,11 @@ module _ {P E : Type 0} (config : Config) (chain : Chain) (lawful : IsLawful con
     pairs-are = good.heights.own_pair ∙ sym (ap (λ out. pair_of (acked_to a.held.processed out) (greatest_of a.held.cutoff (all_retired config.epochs a.held.certs.held out)) ∷ []) none_drained)
 
     -- An acknowledgement behind one that is waited for reaches the actor with its mark.
-    pub Reaches-undrained : Reaches config chain a (ack_given t) buffer asked [] b
-    Reaches-undrained = subst (λ x. Reaches config chain a (ack_given t) buffer asked [] x) (sym (drains.same ∙ ap (λ pairs. drained_to pairs b.held.watches) pairs-are)) (Reaches-drained b.held.watches drains.not_dropped)
+    pub Reaches-undrained : Reaches config chain a (ack_given t) buffer waiting [] b
+    Reaches-undrained = subst (λ x. Reaches config chain a (ack_given t) buffer waiting [] x) (sym (drains.same ∙ ap (λ pairs. drained_to pairs b.held.watches) pairs-are)) (Reaches-drained b.held.watches drains.not_dropped)
 
-    pub IsGood-undrained : IsGood config chain (node_of b buffer asked)
-    IsGood-undrained = subst (λ x. IsGood config chain (node_of x buffer asked)) (sym (drains.same ∙ ap (λ pairs. drained_to pairs b.held.watches) pairs-are)) (IsGood-drained b.held.watches)
+    pub IsGood-undrained : IsGood config chain (node_of b buffer waiting)
+    IsGood-undrained = subst (λ x. IsGood config chain (node_of x buffer waiting)) (sym (drains.same ∙ ap (λ pairs. drained_to pairs b.held.watches) pairs-are)) (IsGood-drained b.held.watches)
 
     pub writes-undrained : b.held.writes ≡ a.held.writes
     writes-undrained = ap (λ x. x.held.writes) drains.same
@@ -301,7 +300,7 @@ module _ {P E : Type 0} (config : Config) (chain : Chain) (lawful : IsLawful con
     same_blocks = ap (λ x. x.held.blocks) drains.same
 
     -- and it rests as before
-    pub Rest-undrained : Rest config.window n → Rest config.window (node_of b buffer asked)
+    pub Rest-undrained : Rest config.window n → Rest config.window (node_of b buffer waiting)
     Rest-undrained (floor_awaited some) = absurd cc
     Rest-undrained (window_full full) = window_full (same_length ∙ full)
     Rest-undrained (block_missing missing) = block_missing (subst (λ k. value_at b.held.blocks.held k ≡ None) (sym (ap₂ (λ p k. first_unprocessed p + k) same_processed same_length)) (subst (λ kept. value_at kept.held (first_unprocessed a.held.processed + length a.life.out) ≡ None) (sym same_blocks) missing))

@@ -3,7 +3,6 @@ use Rattle.std.proofs.Common.{◌≡◌, ◌⊎◌, inl, inr, ⊎_elim, ℕ, zer
 use Rattle.std.proofs.lemmas.List.Elements.{Contains-append_cases, Contains-append_right}
 use Rattle.mar_cert.specs.Block.{Block}
 use Rattle.mar_cert.specs.Finalization.{Finalization}
-use Rattle.mar_key.specs.Asked.{Asked}
 use Rattle.mar_key.specs.Keys.{Call}
 use Rattle.mar_key.specs.Processed.{height_in}
 use Rattle.mar_store.specs.Kept.{At, Kept, has_height, value_at}
@@ -18,7 +17,7 @@ use Rattle.mar_node.specs.Held.{Ending, IsArchiveFault, IsUsual, LeavesStore, Lo
 use Rattle.mar_node.specs.Lives.{Cuts, CutsBy, IsGoodEnded, NotBelow, Reached, is_dropped_ack, is_refused_floor, reached_after, reached_before}
 use Rattle.mar_node.specs.Node.{AreBlocksOf, AreCachedOf, AreFinalizationsOf, BlocksAgree, Ended, IsGood, Node}
 use Rattle.mar_node.specs.Answers.{answers_of, sends_of}
-use Rattle.mar_node.specs.Promise.{made_of, node_of}
+use Rattle.mar_node.specs.Promise.{Waiting, made_of, node_of}
 use Rattle.mar_node.specs.Requests.{own_asks}
 use Rattle.mar_node.specs.Sound.{IsSafePair}
 use Rattle.mar_node.specs.Step.{AreHandedOf, AreTipsOf, HandedFrom, IsFront, Report, TipsFrom, handed_blocks, handed_over, new_tip, nothing_made}
@@ -82,9 +81,9 @@ only_one x y (suc k, lt, is) = absurd (omega arith)
 
 -- CUTS
 
-module _ {P E : Type 0} (config : Config) (chain : Chain) (a : Seen P E) (e : Event) (buffer : List Block) (asked : List Asked) where
+module _ {P E : Type 0} (config : Config) (chain : Chain) (a : Seen P E) (e : Event) (buffer : List Block) (waiting : Waiting) where
   abbrev pub n : Node
-  n = node_of a buffer asked
+  n = node_of a buffer waiting
 
   abbrev pub own : Pair
   own = pair_of a.held.processed a.held.cutoff

@@ -4,7 +4,6 @@ use Rattle.mar_types.specs.Epochs.{Epochs, IsPartition}
 use Rattle.mar_cert.specs.Block.{Block}
 use Rattle.mar_cert.specs.Finalization.{Finalization}
 use Rattle.mar_node.specs.Messages.{report_finalization}
-use Rattle.mar_key.specs.Asked.{Asked}
 use Rattle.mar_key.specs.Hears.{Hears}
 use Rattle.mar_key.specs.Keys.{Call}
 use Rattle.mar_key.specs.Processed.{height_of}
@@ -22,7 +21,7 @@ use Rattle.mar_node.specs.Moves.{FinishesSync, HearsFront, HearsUpTo, IsRead, Is
 use Rattle.mar_node.specs.Requests.{own_asks, want_asks}
 use Rattle.mar_node.specs.Node.{AreBlocksOf, AreFinalizationsOf, IsGood, Rest, at_hand}
 use Rattle.mar_node.specs.Writing.{total_writes}
-use Rattle.mar_node.specs.Promise.{CutsStep, IsLawfulStep, IsSetTo, KeepsPromise, heard_by, made_of, node_of}
+use Rattle.mar_node.specs.Promise.{CutsStep, IsLawfulStep, IsSetTo, KeepsPromise, Waiting, heard_by, made_of, node_of}
 use Rattle.mar_node.specs.Step.{AreTipsOf, Report, TipsFrom}
 use Rattle.mar_node.proofs.Cutting.{Cuts-before, MayBeLeft, never, only_one, usual_not_by_value, usual_not_dropped}
 use Rattle.mar_node.proofs.FinalizationEvent as final
@@ -44,41 +43,41 @@ module _ {P E : Type 0} (epochs : Epochs) (inner : List ℕ → List ℕ) (parti
   partition_of config is = subst IsPartition (sym is) partition
 
   -- a call that failed once these tips were told
-  pub told_cut : (config : Config) (chain : Chain) (asked : List Asked) (e : Event) (step : IsLawfulStep config chain (node_of a buffer asked) (e ∷ [])) (no_effect : effect_of config (node_of a buffer asked) e ≡ no_floor) → ((fault : Fault) → is_refused_floor e fault ≡ false) → (tips : List Report) (tip : ℕ) → AreTips tips → TipsFrom a.life.tip tips tip → AreTipsOf chain tips → (told told' : Option (List Report)) (heard heard' : Option (List Call)) (written : Written) (x : Ending) → Hears told tips told' → HearsFront heard (own_asks config (node_of a buffer asked) e no_floor) heard' → written.blocks_from ≡ 0 → written.certs_from ≡ 0 → AreBlocksOf chain written.blocks → AreFinalizationsOf chain written.certs → ((y : At Block) → Contains written.blocks y → brought_block (node_of a buffer asked) e ≡ Some y.value) → ((y : At Finalization) → Contains written.certs y → told_finalization (node_of a buffer asked) e ≡ Some y.value) → Loses a.held written x → ((p : Pair) → Contains written.pairs p → MayBeLeft config chain a e buffer asked x.remains.ended.blocks_sure p) → is_by_value x.fault ≡ false → is_dropped_ack x.fault ≡ false → CutsStep config chain (node_of a buffer asked) (e ∷ []) (heard_by told heard) (heard_by told' heard') x
-  told_cut config chain asked e step no_effect unrefused tips tip are_tips rise of_chain told told' heard heard' written x tips_heard (asks, front, asks_heard) no_prune no_cert_prune of_blocks of_certs own_blocks own_certs lost may no_value not_dropped = record {
+  pub told_cut : (config : Config) (chain : Chain) (waiting : Waiting) (e : Event) (step : IsLawfulStep config chain (node_of a buffer waiting) (e ∷ [])) (no_effect : effect_of config (node_of a buffer waiting) e ≡ no_floor) → ((fault : Fault) → is_refused_floor e fault ≡ false) → (tips : List Report) (tip : ℕ) → AreTips tips → TipsFrom a.life.tip tips tip → AreTipsOf chain tips → (told told' : Option (List Report)) (heard heard' : Option (List Call)) (written : Written) (x : Ending) → Hears told tips told' → HearsFront heard (own_asks config (node_of a buffer waiting) e no_floor) heard' → written.blocks_from ≡ 0 → written.certs_from ≡ 0 → AreBlocksOf chain written.blocks → AreFinalizationsOf chain written.certs → ((y : At Block) → Contains written.blocks y → brought_block (node_of a buffer waiting) e ≡ Some y.value) → ((y : At Finalization) → Contains written.certs y → told_finalization (node_of a buffer waiting) e ≡ Some y.value) → Loses a.held written x → ((p : Pair) → Contains written.pairs p → MayBeLeft config chain a e buffer waiting x.remains.ended.blocks_sure p) → is_by_value x.fault ≡ false → is_dropped_ack x.fault ≡ false → CutsStep config chain (node_of a buffer waiting) (e ∷ []) (heard_by told heard) (heard_by told' heard') x
+  told_cut config chain waiting e step no_effect unrefused tips tip are_tips rise of_chain told told' heard heard' written x tips_heard (asks, front, asks_heard) no_prune no_cert_prune of_blocks of_certs own_blocks own_certs lost may no_value not_dropped = record {
     made = made_of tips asks;
     heard = record { reports = tips_heard; asks = asks_heard; answers = refl; no_more = refl };
-    cuts = Cuts-before config chain a e buffer asked (untold config chain (node_of a buffer asked) e step.good).0 (untold config chain (node_of a buffer asked) e step.good).1 no_effect tips asks tip written x are_tips rise of_chain no_prune no_cert_prune of_blocks of_certs own_blocks own_certs lost may
+    cuts = Cuts-before config chain a e buffer waiting (untold config chain (node_of a buffer waiting) e step.good).0 (untold config chain (node_of a buffer waiting) e step.good).1 no_effect tips asks tip written x are_tips rise of_chain no_prune no_cert_prune of_blocks of_certs own_blocks own_certs lost may
         (λ is. absurd (never (is_by_value x.fault) no_value is)) (never (is_refused_floor e x.fault) (unrefused x.fault)) (λ is. absurd (never (is_dropped_ack x.fault) not_dropped is)) front;
   }
 
   -- a call that failed before anything was told
-  pub quiet_cut : (config : Config) (chain : Chain) (asked : List Asked) (e : Event) (step : IsLawfulStep config chain (node_of a buffer asked) (e ∷ [])) (no_effect : effect_of config (node_of a buffer asked) e ≡ no_floor) → ((fault : Fault) → is_refused_floor e fault ≡ false) → (told told' : Option (List Report)) (heard heard' : Option (List Call)) (written : Written) (x : Ending) → Hears told [] told' → HearsFront heard (own_asks config (node_of a buffer asked) e no_floor) heard' → written.blocks_from ≡ 0 → written.certs_from ≡ 0 → AreBlocksOf chain written.blocks → AreFinalizationsOf chain written.certs → ((y : At Block) → Contains written.blocks y → brought_block (node_of a buffer asked) e ≡ Some y.value) → ((y : At Finalization) → Contains written.certs y → told_finalization (node_of a buffer asked) e ≡ Some y.value) → Loses a.held written x → ((p : Pair) → Contains written.pairs p → MayBeLeft config chain a e buffer asked x.remains.ended.blocks_sure p) → IsUsual x.fault → CutsStep config chain (node_of a buffer asked) (e ∷ []) (heard_by told heard) (heard_by told' heard') x
-  quiet_cut config chain asked e step no_effect unrefused told told' heard heard' written x silent asks no_prune no_cert_prune of_blocks of_certs own_blocks own_certs lost may usual =
-      told_cut config chain asked e step no_effect unrefused [] a.life.tip tt refl tt told told' heard heard' written x silent asks no_prune no_cert_prune of_blocks of_certs own_blocks own_certs lost may (usual_not_by_value x.fault usual) (usual_not_dropped x.fault usual)
+  pub quiet_cut : (config : Config) (chain : Chain) (waiting : Waiting) (e : Event) (step : IsLawfulStep config chain (node_of a buffer waiting) (e ∷ [])) (no_effect : effect_of config (node_of a buffer waiting) e ≡ no_floor) → ((fault : Fault) → is_refused_floor e fault ≡ false) → (told told' : Option (List Report)) (heard heard' : Option (List Call)) (written : Written) (x : Ending) → Hears told [] told' → HearsFront heard (own_asks config (node_of a buffer waiting) e no_floor) heard' → written.blocks_from ≡ 0 → written.certs_from ≡ 0 → AreBlocksOf chain written.blocks → AreFinalizationsOf chain written.certs → ((y : At Block) → Contains written.blocks y → brought_block (node_of a buffer waiting) e ≡ Some y.value) → ((y : At Finalization) → Contains written.certs y → told_finalization (node_of a buffer waiting) e ≡ Some y.value) → Loses a.held written x → ((p : Pair) → Contains written.pairs p → MayBeLeft config chain a e buffer waiting x.remains.ended.blocks_sure p) → IsUsual x.fault → CutsStep config chain (node_of a buffer waiting) (e ∷ []) (heard_by told heard) (heard_by told' heard') x
+  quiet_cut config chain waiting e step no_effect unrefused told told' heard heard' written x silent asks no_prune no_cert_prune of_blocks of_certs own_blocks own_certs lost may usual =
+      told_cut config chain waiting e step no_effect unrefused [] a.life.tip tt refl tt told told' heard heard' written x silent asks no_prune no_cert_prune of_blocks of_certs own_blocks own_certs lost may (usual_not_by_value x.fault usual) (usual_not_dropped x.fault usual)
 
   -- A SYNC
 
   module _ (t : ℕ) where
     -- a sync that finished: more may be handed over
     pub promise-finished : (told told' : Option (List Report)) (heard : Option (List Call)) (m : Seen P E) (result : Result (Seen P E) Ending) → IsNested a.held.blocks → IsNested a.held.certs → AreWritten a.held → IsNested m.held.blocks → IsNested m.held.certs → FinishesSync t a m → Ran m told told' result → KeepsPromise epochs inner a (sync_finished t ∷ []) buffer (heard_by told heard) (heard_by told' heard) result
-    promise-finished told told' heard m result nested certs_nested written new_nested new_certs finishes ran config chain asked set step =
-        dispatched config chain a m (sync_finished t) buffer asked [] (set.window ∙ sym (ap (λ s. s.life.sizes.window) finishes.same)) step (λ fault. refl)
-        (sync.Reaches-finished config chain a m t buffer asked nested certs_nested finishes new_nested new_certs) (sync.IsGood-finished config chain a m t buffer asked nested certs_nested finishes written.ordered new_nested new_certs step.good)
-        (sync.total-same config chain a m t buffer asked nested certs_nested finishes written.ordered) new_nested.sure_held told told told' heard heard result (Hears-nothing told) ran (Hears-nothing heard)
+    promise-finished told told' heard m result nested certs_nested written new_nested new_certs finishes ran config chain waiting set step =
+        dispatched config chain a m (sync_finished t) buffer waiting [] (set.window ∙ sym (ap (λ s. s.life.sizes.window) finishes.same)) step (λ fault. refl)
+        (sync.Reaches-finished config chain a m t buffer waiting nested certs_nested finishes new_nested new_certs) (sync.IsGood-finished config chain a m t buffer waiting nested certs_nested finishes written.ordered new_nested new_certs step.good)
+        (sync.total-same config chain a m t buffer waiting nested certs_nested finishes written.ordered) new_nested.sure_held told told told' heard heard result (Hears-nothing told) ran (Hears-nothing heard)
 
     -- one that isn't open: nothing changes
     pub promise-closed : (told : Option (List Report)) (heard : Option (List Call)) (m : Seen P E) → IsNested a.held.blocks → IsNested a.held.certs → AreWritten a.held → IsNested m.held.blocks → IsNested m.held.certs → FinishesSync t a m → m ≡ a → KeepsPromise epochs inner a (sync_finished t ∷ []) buffer (heard_by told heard) (heard_by told heard) (Ok m)
-    promise-closed told heard m nested certs_nested written new_nested new_certs finishes same config chain asked set step =
-        undispatched config chain a m (sync_finished t) buffer asked [] (set.window ∙ sym (ap (λ s. s.life.sizes.window) finishes.same)) step (λ fault. refl)
-        (sync.Reaches-finished config chain a m t buffer asked nested certs_nested finishes new_nested new_certs) (sync.IsGood-finished config chain a m t buffer asked nested certs_nested finishes written.ordered new_nested new_certs step.good)
-        (sync.total-same config chain a m t buffer asked nested certs_nested finishes written.ordered) new_nested.sure_held told told heard heard (Hears-nothing told) (Hears-nothing heard)
-        (subst (λ s. Rest config.window (node_of s buffer asked)) (sym same) step.rests)
+    promise-closed told heard m nested certs_nested written new_nested new_certs finishes same config chain waiting set step =
+        undispatched config chain a m (sync_finished t) buffer waiting [] (set.window ∙ sym (ap (λ s. s.life.sizes.window) finishes.same)) step (λ fault. refl)
+        (sync.Reaches-finished config chain a m t buffer waiting nested certs_nested finishes new_nested new_certs) (sync.IsGood-finished config chain a m t buffer waiting nested certs_nested finishes written.ordered new_nested new_certs step.good)
+        (sync.total-same config chain a m t buffer waiting nested certs_nested finishes written.ordered) new_nested.sure_held told told heard heard (Hears-nothing told) (Hears-nothing heard)
+        (subst (λ s. Rest config.window (node_of s buffer waiting)) (sym same) step.rests)
 
     -- one that could not be finished
     pub promise-unfinished : (told : Option (List Report)) (heard : Option (List Call)) (x : Ending) → Loses a.held nothing_written x → IsUsual x.fault → KeepsPromise epochs inner a (sync_finished t ∷ []) buffer (heard_by told heard) (heard_by told heard) (Err x)
-    promise-unfinished told heard x lost usual config chain asked set step =
-        quiet_cut config chain asked (sync_finished t) step refl (λ fault. refl) told told heard heard nothing_written x (Hears-nothing told) (HearsFront-nothing heard _ heard (Hears-nothing heard)) refl refl tt tt (λ y has. nothing_put y has) (λ y has. nothing_put y has) lost (λ p has. nothing_put p has) usual
+    promise-unfinished told heard x lost usual config chain waiting set step =
+        quiet_cut config chain waiting (sync_finished t) step refl (λ fault. refl) told told heard heard nothing_written x (Hears-nothing told) (HearsFront-nothing heard _ heard (Hears-nothing heard)) refl refl tt tt (λ y has. nothing_put y has) (λ y has. nothing_put y has) lost (λ p has. nothing_put p has) usual
 
   -- FINALIZATIONS
 
@@ -87,54 +86,54 @@ module _ {P E : Type 0} (epochs : Epochs) (inner : List ℕ → List ℕ) (parti
     reported = message_told None (report_finalization f)
 
     -- what the actor found is what is at hand
-    pub hand : (config : Config) (chain : Chain) (asked : List Asked) → IsSetTo config a.life.sizes epochs inner → IsLawfulStep config chain (node_of a buffer asked) (reported ∷ []) → (o : Option Block) → found_at_hand inner buffer a.held.blocks.held f.payload ≡ o → at_hand (node_of a buffer asked) f.payload ≡ o
-    hand config chain asked set step o found = sym (found-is config.inner chain a buffer asked f.payload step.one step.good.of_chain.stores.held_blocks) ∙ (ap (λ i. found_at_hand i buffer a.held.blocks.held f.payload) set.inner_is ∙ found)
+    pub hand : (config : Config) (chain : Chain) (waiting : Waiting) → IsSetTo config a.life.sizes epochs inner → IsLawfulStep config chain (node_of a buffer waiting) (reported ∷ []) → (o : Option Block) → found_at_hand inner buffer a.held.blocks.held f.payload ≡ o → at_hand (node_of a buffer waiting) f.payload ≡ o
+    hand config chain waiting set step o found = sym (found-is config.inner chain a buffer waiting f.payload step.one step.good.of_chain.stores.held_blocks) ∙ (ap (λ i. found_at_hand i buffer a.held.blocks.held f.payload) set.inner_is ∙ found)
 
     pub promise-unread : (told : Option (List Report)) (heard : Option (List Call)) (x : Ending) → Loses a.held nothing_written x → IsUsual x.fault → KeepsPromise epochs inner a (reported ∷ []) buffer (heard_by told heard) (heard_by told heard) (Err x)
-    promise-unread told heard x lost usual config chain asked set step = quiet_cut config chain asked reported step refl (λ fault. refl) told told heard heard nothing_written x (Hears-nothing told) (HearsFront-nothing heard _ heard (Hears-nothing heard)) refl refl tt tt (λ y has. nothing_put y has) (λ y has. nothing_put y has) lost (λ p has. nothing_put p has) usual
+    promise-unread told heard x lost usual config chain waiting set step = quiet_cut config chain waiting reported step refl (λ fault. refl) told told heard heard nothing_written x (Hears-nothing told) (HearsFront-nothing heard _ heard (Hears-nothing heard)) refl refl tt tt (λ y has. nothing_put y has) (λ y has. nothing_put y has) lost (λ p has. nothing_put p has) usual
 
     pub promise-absent : (told : Option (List Report)) (heard heard' : Option (List Call)) (node : Seen P E) (result : Result (Seen P E) Ending) → IsNested a.held.blocks → IsNested a.held.certs → found_at_hand inner buffer a.held.blocks.held f.payload ≡ None → HearsUpTo heard (want_asks a.held.cutoff f.round f.payload) heard' result → IsRead a node → IfOk result (λ new. new ≡ node) → MatchResult result (λ new. Grew a.held nothing_written new.held) (Loses a.held nothing_written) → IfErr result (λ x. IsUsual x.fault) → KeepsPromise epochs inner a (reported ∷ []) buffer (heard_by told heard) (heard_by told heard') result
-    promise-absent told heard heard' node (Ok new) nested certs_nested found asks read is goes usual config chain asked set step =
+    promise-absent told heard heard' node (Ok new) nested certs_nested found asks read is goes usual config chain waiting set step =
         let same : IsRead a new = subst (IsRead a) (sym is) read in
-        let none = hand config chain asked set step None found in
-        undispatched config chain a new reported buffer asked [] (set.window ∙ sym (ap (λ s. s.life.sizes.window) same)) step (λ fault. refl) (final.Reaches-absent config chain a f buffer asked step.lawful step.one step.good step.reported.0 new same nested certs_nested none)
-        (subst (λ s. IsGood config chain (node_of s buffer asked)) (sym same) step.good) (let writes : total_writes new.held.writes ≡ total_writes a.held.writes = ap (λ s. total_writes s.held.writes) same in omega arith)
+        let none = hand config chain waiting set step None found in
+        undispatched config chain a new reported buffer waiting [] (set.window ∙ sym (ap (λ s. s.life.sizes.window) same)) step (λ fault. refl) (final.Reaches-absent config chain a f buffer waiting step.lawful step.one step.good step.reported.0 new same nested certs_nested none)
+        (subst (λ s. IsGood config chain (node_of s buffer waiting)) (sym same) step.good) (let writes : total_writes new.held.writes ≡ total_writes a.held.writes = ap (λ s. total_writes s.held.writes) same in omega arith)
         (subst (λ s. KeepsValues s.held.blocks.sure s.held.blocks.held) (sym same) nested.sure_held) told told heard heard' (Hears-nothing told)
-        (subst (λ cs. Hears heard cs heard') (final.asks-absent config chain a f buffer asked step.lawful step.one step.good step.reported.0 none) asks)
-        (subst (λ s. Rest config.window (node_of s buffer asked)) (sym same) step.rests)
-    promise-absent told heard heard' node (Err x) nested certs_nested found asks read is goes usual config chain asked set step =
-        quiet_cut config chain asked reported step refl (λ fault. refl) told told heard heard' nothing_written x (Hears-nothing told)
-        (subst (λ cs. HearsFront heard cs heard') (final.asks-absent config chain a f buffer asked step.lawful step.one step.good step.reported.0 (hand config chain asked set step None found)) asks)
+        (subst (λ cs. Hears heard cs heard') (final.asks-absent config chain a f buffer waiting step.lawful step.one step.good step.reported.0 none) asks)
+        (subst (λ s. Rest config.window (node_of s buffer waiting)) (sym same) step.rests)
+    promise-absent told heard heard' node (Err x) nested certs_nested found asks read is goes usual config chain waiting set step =
+        quiet_cut config chain waiting reported step refl (λ fault. refl) told told heard heard' nothing_written x (Hears-nothing told)
+        (subst (λ cs. HearsFront heard cs heard') (final.asks-absent config chain a f buffer waiting step.lawful step.one step.good step.reported.0 (hand config chain waiting set step None found)) asks)
         refl refl tt tt (λ y has. nothing_put y has) (λ y has. nothing_put y has) goes (λ p has. nothing_put p has) usual
 
     module _ (b : Block) (found : found_at_hand inner buffer a.held.blocks.held f.payload ≡ Some b) where
-      pub of_block : (config : Config) (chain : Chain) (asked : List Asked) (set : IsSetTo config a.life.sizes epochs inner) (step : IsLawfulStep config chain (node_of a buffer asked) (reported ∷ [])) → AreBlocksOf chain (at_own_height b ∷ [])
-      of_block config chain asked set step = ((final.block-final config chain a f buffer asked step.lawful step.one step.good step.reported.0 b (hand config chain asked set step (Some b) found)).1, tt)
+      pub of_block : (config : Config) (chain : Chain) (waiting : Waiting) (set : IsSetTo config a.life.sizes epochs inner) (step : IsLawfulStep config chain (node_of a buffer waiting) (reported ∷ [])) → AreBlocksOf chain (at_own_height b ∷ [])
+      of_block config chain waiting set step = ((final.block-final config chain a f buffer waiting step.lawful step.one step.good step.reported.0 b (hand config chain waiting set step (Some b) found)).1, tt)
 
-      pub of_cert : (config : Config) (chain : Chain) (asked : List Asked) (set : IsSetTo config a.life.sizes epochs inner) (step : IsLawfulStep config chain (node_of a buffer asked) (reported ∷ [])) → AreFinalizationsOf chain (at_height b.height f ∷ [])
-      of_cert config chain asked set step = (final.finalizes config chain a f buffer asked step.lawful step.one step.good step.reported.0 b (hand config chain asked set step (Some b) found), tt)
+      pub of_cert : (config : Config) (chain : Chain) (waiting : Waiting) (set : IsSetTo config a.life.sizes epochs inner) (step : IsLawfulStep config chain (node_of a buffer waiting) (reported ∷ [])) → AreFinalizationsOf chain (at_height b.height f ∷ [])
+      of_cert config chain waiting set step = (final.finalizes config chain a f buffer waiting step.lawful step.one step.good step.reported.0 b (hand config chain waiting set step (Some b) found), tt)
 
       -- a block at the last height is none of a lawful chain
-      pub promise-limit : {T : Type 0} (config : Config) (chain : Chain) (asked : List Asked) → IsSetTo config a.life.sizes epochs inner → IsLawfulStep config chain (node_of a buffer asked) (reported ∷ []) → b.height ≡ 2 ^ 64 - 1 → T
-      promise-limit config chain asked set step last = absurd (final.not_last config chain a f buffer asked step.lawful step.one step.good step.reported.0 b (hand config chain asked set step (Some b) found) last)
+      pub promise-limit : {T : Type 0} (config : Config) (chain : Chain) (waiting : Waiting) → IsSetTo config a.life.sizes epochs inner → IsLawfulStep config chain (node_of a buffer waiting) (reported ∷ []) → b.height ≡ 2 ^ 64 - 1 → T
+      promise-limit config chain waiting set step last = absurd (final.not_last config chain a f buffer waiting step.lawful step.one step.good step.reported.0 b (hand config chain waiting set step (Some b) found) last)
 
       pub promise-unstored : (told told' : Option (List Report)) (heard : Option (List Call)) (x : Ending) → Hears told [] told' → Loses a.held (written_both (at_own_height b) (at_height b.height f)) x → IsUsual x.fault → KeepsPromise epochs inner a (reported ∷ []) buffer (heard_by told heard) (heard_by told' heard) (Err x)
-      promise-unstored told told' heard x silent lost usual config chain asked set step = quiet_cut config chain asked reported step refl (λ fault. refl) told told' heard heard (written_both (at_own_height b) (at_height b.height f)) x silent (HearsFront-nothing heard _ heard (Hears-nothing heard)) refl refl (of_block config chain asked set step) (of_cert config chain asked set step) (λ y has. hand config chain asked set step (Some b) found ∙ ap (λ (z : At Block). Some z.value) (only_one (at_own_height b) y has)) (λ y has. ap (λ (z : At Finalization). Some z.value) (only_one (at_height b.height f) y has)) lost (λ p has. nothing_put p has) usual
+      promise-unstored told told' heard x silent lost usual config chain waiting set step = quiet_cut config chain waiting reported step refl (λ fault. refl) told told' heard heard (written_both (at_own_height b) (at_height b.height f)) x silent (HearsFront-nothing heard _ heard (Hears-nothing heard)) refl refl (of_block config chain waiting set step) (of_cert config chain waiting set step) (λ y has. hand config chain waiting set step (Some b) found ∙ ap (λ (z : At Block). Some z.value) (only_one (at_own_height b) y has)) (λ y has. ap (λ (z : At Finalization). Some z.value) (only_one (at_height b.height f) y has)) lost (λ p has. nothing_put p has) usual
 
       -- no sync of what was put could be started
       pub promise-unstarted : (told told' : Option (List Report)) (heard : Option (List Call)) (x : Ending) → Hears told (tip_reports a.life.tip f b) told' → Loses a.held (written_both (at_own_height b) (at_height b.height f)) x → is_by_value x.fault ≡ false → is_dropped_ack x.fault ≡ false → KeepsPromise epochs inner a (reported ∷ []) buffer (heard_by told heard) (heard_by told' heard) (Err x)
-      promise-unstarted told told' heard x tips lost no_value not_dropped config chain asked set step =
-          told_cut config chain asked reported step refl (λ fault. refl) (tip_reports a.life.tip f b) (tip_after a.life.tip b) (tip_reports-tips a.life.tip f b) (tip_reports-rise a.life.tip f b)
-          (final.tips_told config chain a f buffer asked step.lawful step.one step.good step.reported.0 b (hand config chain asked set step (Some b) found)) told told' heard heard (written_both (at_own_height b) (at_height b.height f)) x tips (HearsFront-nothing heard _ heard (Hears-nothing heard)) refl refl
-          (of_block config chain asked set step) (of_cert config chain asked set step) (λ y has. hand config chain asked set step (Some b) found ∙ ap (λ (z : At Block). Some z.value) (only_one (at_own_height b) y has)) (λ y has. ap (λ (z : At Finalization). Some z.value) (only_one (at_height b.height f) y has)) lost (λ p has. nothing_put p has) no_value not_dropped
+      promise-unstarted told told' heard x tips lost no_value not_dropped config chain waiting set step =
+          told_cut config chain waiting reported step refl (λ fault. refl) (tip_reports a.life.tip f b) (tip_after a.life.tip b) (tip_reports-tips a.life.tip f b) (tip_reports-rise a.life.tip f b)
+          (final.tips_told config chain a f buffer waiting step.lawful step.one step.good step.reported.0 b (hand config chain waiting set step (Some b) found)) told told' heard heard (written_both (at_own_height b) (at_height b.height f)) x tips (HearsFront-nothing heard _ heard (Hears-nothing heard)) refl refl
+          (of_block config chain waiting set step) (of_cert config chain waiting set step) (λ y has. hand config chain waiting set step (Some b) found ∙ ap (λ (z : At Block). Some z.value) (only_one (at_own_height b) y has)) (λ y has. ap (λ (z : At Finalization). Some z.value) (only_one (at_height b.height f) y has)) lost (λ p has. nothing_put p has) no_value not_dropped
 
       pub promise-stored : (m new : Seen P E) (told told' : Option (List Report)) (heard : Option (List Call)) → IsNested new.held.blocks → IsNested new.held.certs → AreWritten new.held → nat_lt (height_of a.held.processed) b.height ≡ true → PutsAbove inner a f b m → IsStarted m new → Grew a.held (written_both (at_own_height b) (at_height b.height f)) m.held → Hears told (tip_reports a.life.tip f b) told' → KeepsPromise epochs inner a (reported ∷ []) buffer (heard_by told heard) (heard_by told' heard) (Ok new)
-      promise-stored m new told told' heard nested certs_nested written above puts_as is_started grew tips config chain asked set step =
-          let is = hand config chain asked set step (Some b) found in
+      promise-stored m new told told' heard nested certs_nested written above puts_as is_started grew tips config chain waiting set step =
+          let is = hand config chain waiting set step (Some b) found in
           let puts : PutsAbove config.inner a f b m = subst (λ i. PutsAbove i a f b m) (sym set.inner_is) puts_as in
-          started config chain a m reported buffer asked (tip_reports a.life.tip f b) step
-          (final.Reaches-stored config chain a f buffer asked step.lawful step.one step.good step.reported.0 b m (Grown-blocks a.held m.held _ refl grew) (Grown-certs a.held m.held _ refl grew) is above puts)
-          new is_started (final.total-stored config chain a f buffer asked step.lawful step.one step.good step.reported.0 b m puts) (some_contained _ _ (final.waits-stored config chain a f buffer asked step.lawful step.one step.good step.reported.0 b m puts))
-          (final.IsGood-stored config chain a f buffer asked step.lawful step.one step.good step.reported.0 b m new nested certs_nested written is puts is_started)
-          (final.Rest-stored config chain a f buffer asked step.lawful step.one step.good step.reported.0 b m new puts is_started step.rests) told told' heard heard tips
-          (subst (λ cs. Hears heard cs heard) (final.asks-stored config chain a f buffer asked step.lawful step.one step.good step.reported.0 b is above) (Hears-nothing heard))
+          started config chain a m reported buffer waiting (tip_reports a.life.tip f b) step
+          (final.Reaches-stored config chain a f buffer waiting step.lawful step.one step.good step.reported.0 b m (Grown-blocks a.held m.held _ refl grew) (Grown-certs a.held m.held _ refl grew) is above puts)
+          new is_started (final.total-stored config chain a f buffer waiting step.lawful step.one step.good step.reported.0 b m puts) (some_contained _ _ (final.waits-stored config chain a f buffer waiting step.lawful step.one step.good step.reported.0 b m puts))
+          (final.IsGood-stored config chain a f buffer waiting step.lawful step.one step.good step.reported.0 b m new nested certs_nested written is puts is_started)
+          (final.Rest-stored config chain a f buffer waiting step.lawful step.one step.good step.reported.0 b m new puts is_started step.rests) told told' heard heard tips
+          (subst (λ cs. Hears heard cs heard) (final.asks-stored config chain a f buffer waiting step.lawful step.one step.good step.reported.0 b is above) (Hears-nothing heard))

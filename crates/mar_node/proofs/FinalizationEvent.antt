@@ -8,7 +8,6 @@ use Rattle.mar_types.specs.Round.{Round, round_lt}
 use Rattle.mar_cert.specs.Block.{Block}
 use Rattle.mar_cert.specs.Finalization.{Finalization}
 use Rattle.mar_node.specs.Messages.{report_finalization}
-use Rattle.mar_key.specs.Asked.{Asked}
 use Rattle.mar_key.specs.Cutoff.{Cutoff, at_round, greatest_of}
 use Rattle.mar_key.specs.Processed.{first_unprocessed, height_in, height_of}
 use Rattle.mar_store.specs.Kept.{At, Kept, has_height, value_at}
@@ -28,7 +27,7 @@ use Rattle.mar_node.specs.Lives.{later_round}
 use Rattle.mar_node.specs.Moves.{IsRead, IsStarted, PutsAbove, RaisesTo, StoresLate, StoresValue, StoresWhere, at_height, lacks_finalization, late_tip, late_tips, tip_after, tip_reports}
 use Rattle.mar_node.specs.Node.{Agrees, AreBlocksOf, AreFinalizationsOf, AreNestedHeights, ConsecutiveFrom, FloorSafe, HasAnchor, IsFinalized, IsGood, Node, OpenSync, Rest, SureOrWritten, at_hand, block_missing, floor_awaited, window_full, write_uncovered}
 use Rattle.mar_node.specs.Writing.{total_writes}
-use Rattle.mar_node.specs.Promise.{AreOne, node_of}
+use Rattle.mar_node.specs.Promise.{AreOne, Waiting, node_of}
 use Rattle.mar_node.specs.Requests.{own_asks, raise_asks, reported_asks, want_asks}
 use Rattle.mar_node.specs.Sound.{IsSafePair}
 use Rattle.mar_node.specs.Step.{AreTipsOf, CertificatesFrom, IsCertFrom, IsStored, IsStoredLate, KeepsFrom, Report, TipsFrom, Writes, is_repaired}
@@ -196,12 +195,12 @@ noted_certs inner a w s m cutoffs r f b raised synced stores =
 
 -- A BLOCK AT HAND
 
-module _ {P E : Type 0} (config : Config) (chain : Chain) (a : Seen P E) (f : Finalization) (buffer : List Block) (asked : List Asked)
+module _ {P E : Type 0} (config : Config) (chain : Chain) (a : Seen P E) (f : Finalization) (buffer : List Block) (waiting : Waiting)
     (lawful : IsLawful config.epochs chain) (one : AreOne config.inner (chain.blocks ++ buffer))
-    (good : IsGood config chain (node_of a buffer asked)) (final : IsFinalized chain f.round f.payload)
+    (good : IsGood config chain (node_of a buffer waiting)) (final : IsFinalized chain f.round f.payload)
   where
     abbrev pub n : Node
-    n = node_of a buffer asked
+    n = node_of a buffer waiting
 
     abbrev pub e : Event
     e = message_told None (report_finalization f)
@@ -259,8 +258,8 @@ module _ {P E : Type 0} (config : Config) (chain : Chain) (a : Seen P E) (f : Fi
     -- NOT AT HAND
 
     -- a finalization whose block isn't at hand changes nothing
-    pub Reaches-absent : (m : Seen P E) → IsRead a m → IsNested a.held.blocks → IsNested a.held.certs → at_hand n f.payload ≡ None → Reaches config chain a e buffer asked [] m
-    Reaches-absent m same nested certs_nested absent = subst (Reaches config chain a e buffer asked []) (sym same) (record {
+    pub Reaches-absent : (m : Seen P E) → IsRead a m → IsNested a.held.blocks → IsNested a.held.certs → at_hand n f.payload ≡ None → Reaches config chain a e buffer waiting [] m
+    Reaches-absent m same nested certs_nested absent = subst (Reaches config chain a e buffer waiting []) (sym same) (record {
       no_effect = refl;
       kept = refl;
       next_ack = refl;
@@ -278,7 +277,7 @@ module _ {P E : Type 0} (config : Config) (chain : Chain) (a : Seen P E) (f : Fi
       of_certs = tt;
       own_blocks = λ x has. nothing_put x has;
       own_certs = λ x has. nothing_put x has;
-      certificates = Certificates-same a a e buffer asked refl;
+      certificates = Certificates-same a a e buffer waiting refl;
       writes = written.0;
       no_repair = written.1;
       are_tips = tt;
@@ -303,7 +302,7 @@ module _ {P E : Type 0} (config : Config) (chain : Chain) (a : Seen P E) (f : Fi
         stores = storing_by None absent
 
         written : (w : Writes n e no_floor n) × (w.repaired ≡ [])
-        written = Writes-same a a e buffer asked (ap (λ s. own_writes n s no_floor) stores) refl refl (λ syncs. refl) (λ syncs. refl)
+        written = Writes-same a a e buffer waiting (ap (λ s. own_writes n s no_floor) stores) refl refl (λ syncs. refl) (λ syncs. refl)
 
     -- its block is asked for
     pub asks-absent : at_hand n f.payload ≡ None → want_asks a.held.cutoff f.round f.payload ≡ own_asks config n e no_floor
@@ -356,7 +355,7 @@ module _ {P E : Type 0} (config : Config) (chain : Chain) (a : Seen P E) (f : Fi
     -- MORE IS HELD
 
     -- the node stays good as more is held and sure, with the same blocks outstanding
-    IsGood-grown : (m : Seen P E) → AreNestedHeights m.held.blocks → AreNestedHeights m.held.certs → m.life.out ≡ a.life.out → m.held.processed ≡ a.held.processed → m.held.pairs ≡ pair_of m.held.processed m.held.cutoff ∷ [] → SureOrWritten m.held.blocks m.held.writes.uncovered → SureOrWritten m.held.certs m.held.writes.uncovered → (0 < length m.held.writes.uncovered → Contains (map (λ s. s.position) m.held.writes.syncs) (total_writes m.held.writes)) → KeepsHeightsFrom 0 a.held.blocks.sure m.held.blocks.sure → AreBlocksOf chain m.held.blocks.held → AreBlocksOf chain m.held.blocks.may → AreFinalizationsOf chain m.held.certs.held → AreFinalizationsOf chain m.held.certs.may → FloorSafe (option_map height_in a.held.processed) m.held.cutoff m.held.blocks.sure chain → AllByRecursion (λ x. x.height ≤ m.life.tip) m.held.certs.held → IsGood config chain (node_of m buffer asked)
+    IsGood-grown : (m : Seen P E) → AreNestedHeights m.held.blocks → AreNestedHeights m.held.certs → m.life.out ≡ a.life.out → m.held.processed ≡ a.held.processed → m.held.pairs ≡ pair_of m.held.processed m.held.cutoff ∷ [] → SureOrWritten m.held.blocks m.held.writes.uncovered → SureOrWritten m.held.certs m.held.writes.uncovered → (0 < length m.held.writes.uncovered → Contains (map (λ s. s.position) m.held.writes.syncs) (total_writes m.held.writes)) → KeepsHeightsFrom 0 a.held.blocks.sure m.held.blocks.sure → AreBlocksOf chain m.held.blocks.held → AreBlocksOf chain m.held.blocks.may → AreFinalizationsOf chain m.held.certs.held → AreFinalizationsOf chain m.held.certs.may → FloorSafe (option_map height_in a.held.processed) m.held.cutoff m.held.blocks.sure chain → AllByRecursion (λ x. x.height ≤ m.life.tip) m.held.certs.held → IsGood config chain (node_of m buffer waiting)
     IsGood-grown m nested_blocks nested_certs out processed own sure_blocks sure_certs sync_open stays held_blocks may_blocks held_certs may_certs safe below_tip = record {
       heights = record {
         stores = record {
@@ -405,11 +404,11 @@ module _ {P E : Type 0} (config : Config) (chain : Chain) (a : Seen P E) (f : Fi
     not_last b is last = let low : b.height < length chain.blocks = lawful.in_list f.round b.height (block-final b is).0 in let bound : length chain.blocks < 2 ^ 64 - 1 = lawful.bounded in omega arith
 
     -- what it writes: its own height
-    Writes-stored : (b : Block) (m : Seen P E) → at_hand n f.payload ≡ Some b → IsTrue (nat_lt (height_of a.held.processed) b.height) → PutsAbove config.inner a f b m → (w : Writes n e no_floor (node_of m buffer asked)) × (w.repaired ≡ [])
+    Writes-stored : (b : Block) (m : Seen P E) → at_hand n f.payload ≡ Some b → IsTrue (nat_lt (height_of a.held.processed) b.height) → PutsAbove config.inner a f b m → (w : Writes n e no_floor (node_of m buffer waiting)) × (w.repaired ≡ [])
     Writes-stored b m is above puts = (
       record {
         repaired = [];
-        by_repair = λ h. sym (ap (λ ws. is_repaired n (ws ++ []) (node_of m buffer asked) h) own ∙ entered h);
+        by_repair = λ h. sym (ap (λ ws. is_repaired n (ws ++ []) (node_of m buffer waiting) h) own ∙ entered h);
         each_once = λ h. omega arith;
         blocking = 0;
         within = omega arith;
@@ -430,7 +429,7 @@ module _ {P E : Type 0} (config : Config) (chain : Chain) (a : Seen P E) (f : Fi
         minus_same : a.held.writes.covered - a.held.writes.covered ≡ 0
         minus_same = omega arith
 
-        entered : (h : ℕ) → is_repaired n (b.height ∷ []) (node_of m buffer asked) h ≡ false
+        entered : (h : ℕ) → is_repaired n (b.height ∷ []) (node_of m buffer waiting) h ≡ false
         entered h = only_own (has_height m.held.blocks.held h) (has_height a.held.blocks.held h) (b.height == h || false) (nat_lt (height_of m.held.processed) h) (λ has. from (entered_height (is_held a.held.blocks.held b) a.held.blocks.held (at_own_height b) m.held.blocks.held h puts.blocks.held has))
           where
             from : IsTrue (has_height a.held.blocks.held h) ⊎ (b.height ≡ h) → IsTrue (has_height a.held.blocks.held h) ⊎ IsTrue (b.height == h || false)
@@ -447,7 +446,7 @@ module _ {P E : Type 0} (config : Config) (chain : Chain) (a : Seen P E) (f : Fi
     waits-stored b m puts = subst (λ w. Contains w.uncovered b.height) (sym (ap (λ s. s.held.writes) puts.same)) (Contains-append_right a.held.writes.uncovered (b.height ∷ []) b.height (zero, omega arith, refl))
 
     -- once its sync is started, the node is good
-    pub IsGood-stored : (b : Block) (m new : Seen P E) → IsNested new.held.blocks → IsNested new.held.certs → AreWritten new.held → at_hand n f.payload ≡ Some b → PutsAbove config.inner a f b m → IsStarted m new → IsGood config chain (node_of new buffer asked)
+    pub IsGood-stored : (b : Block) (m new : Seen P E) → IsNested new.held.blocks → IsNested new.held.certs → AreWritten new.held → at_hand n f.payload ≡ Some b → PutsAbove config.inner a f b m → IsStarted m new → IsGood config chain (node_of new buffer waiting)
     IsGood-stored b m new blocks_nested certs_nested written is puts started =
         IsGood-grown new (nested_heights new.held.blocks blocks_nested) (nested_heights new.held.certs certs_nested) (ap (λ s. s.life.out) started ∙ ap (λ s. s.life.out) puts.same) processed own written.blocks written.certs sync_open stays
         (subst (λ k. AreBlocksOf chain k.held) (sym blocks) (all_held (λ x. IsBlockAt chain x.height x.value) _ _ _ _ puts.blocks.held good.of_chain.stores.held_blocks (block-final b is).1))
@@ -482,7 +481,7 @@ module _ {P E : Type 0} (config : Config) (chain : Chain) (a : Seen P E) (f : Fi
         stays h low has = subst (λ k. IsTrue (has_height k.sure h)) (sym blocks) (subst (λ xs. IsTrue (has_height xs h)) (sym puts.blocks.sure) has)
 
     -- and rests
-    pub Rest-stored : (b : Block) (m new : Seen P E) → PutsAbove config.inner a f b m → IsStarted m new → Rest config.window n → Rest config.window (node_of new buffer asked)
+    pub Rest-stored : (b : Block) (m new : Seen P E) → PutsAbove config.inner a f b m → IsStarted m new → Rest config.window n → Rest config.window (node_of new buffer waiting)
     Rest-stored b m new puts started (floor_awaited some) = absurd cc
     Rest-stored b m new puts started (window_full full) = window_full (ap (λ s. length s.life.out) started ∙ (ap (λ s. length s.life.out) puts.same ∙ full))
     Rest-stored b m new puts started (write_uncovered h waits low) = write_uncovered h (subst (λ w. Contains w.uncovered h) (sym (ap (λ s. s.held.writes) started)) (subst (λ w. Contains w.uncovered h) (sym (ap (λ s. s.held.writes) puts.same)) (Contains-append_left a.held.writes.uncovered (b.height ∷ []) h waits))) (subst (λ k. h ≤ k) (sym (ap (λ s. first_unprocessed s.held.processed + length s.life.out) started ∙ ap (λ s. first_unprocessed s.held.processed + length s.life.out) puts.same)) low)
@@ -491,12 +490,12 @@ module _ {P E : Type 0} (config : Config) (chain : Chain) (a : Seen P E) (f : Fi
         next : first_unprocessed new.held.processed + length new.life.out ≡ first_unprocessed a.held.processed + length a.life.out
         next = ap (λ s. first_unprocessed s.held.processed + length s.life.out) started ∙ ap (λ s. first_unprocessed s.held.processed + length s.life.out) puts.same
 
-        by : (c : Bool) → (b.height == first_unprocessed a.held.processed + length a.life.out) ≡ c → Rest config.window (node_of new buffer asked)
+        by : (c : Bool) → (b.height == first_unprocessed a.held.processed + length a.life.out) ≡ c → Rest config.window (node_of new buffer waiting)
         by true same = write_uncovered b.height (subst (λ w. Contains w.uncovered b.height) (sym (ap (λ s. s.held.writes) started)) (waits-stored b m puts)) (let is : b.height ≡ first_unprocessed a.held.processed + length a.life.out = eqb-true b.height (first_unprocessed a.held.processed + length a.life.out) same in omega (arith, next))
         by false other = block_missing (subst (λ k. value_at new.held.blocks.held k ≡ None) (sym next) (subst (λ k. value_at k.held (first_unprocessed a.held.processed + length a.life.out) ≡ None) (sym (ap (λ s. s.held.blocks) started)) (missing_stays _ _ _ _ (first_unprocessed a.held.processed + length a.life.out) puts.blocks.held other missing)))
 
     -- a block above the processed height is put with its finalization
-    pub Reaches-stored : (b : Block) (m : Seen P E) → Grown a.held.blocks (at_own_height b ∷ []) m.held.blocks → Grown a.held.certs (at_height b.height f ∷ []) m.held.certs → at_hand n f.payload ≡ Some b → IsTrue (nat_lt (height_of a.held.processed) b.height) → PutsAbove config.inner a f b m → Reaches config chain a e buffer asked (tip_reports a.life.tip f b) m
+    pub Reaches-stored : (b : Block) (m : Seen P E) → Grown a.held.blocks (at_own_height b ∷ []) m.held.blocks → Grown a.held.certs (at_height b.height f ∷ []) m.held.certs → at_hand n f.payload ≡ Some b → IsTrue (nat_lt (height_of a.held.processed) b.height) → PutsAbove config.inner a f b m → Reaches config chain a e buffer waiting (tip_reports a.life.tip f b) m
     Reaches-stored b m blocks_grown certs_grown is above puts = record {
       no_effect = refl;
       kept = ap (λ s. s.life.out) puts.same;
@@ -515,15 +514,15 @@ module _ {P E : Type 0} (config : Config) (chain : Chain) (a : Seen P E) (f : Fi
       of_certs = (finalizes b is, tt);
       own_blocks = λ x has. is ∙ ap (λ (y : At Block). Some y.value) (only_one (at_own_height b) x has);
       own_certs = λ x has. ap (λ (y : At Finalization). Some y.value) (only_one (at_height b.height f) x has);
-      certificates = Certificates-pushed n (node_of m buffer asked) e (is_certified config.inner a.held.certs.held b.height (config.inner f.payload)) (at_height b.height f) refl puts.certs.held;
+      certificates = Certificates-pushed n (node_of m buffer waiting) e (is_certified config.inner a.held.certs.held b.height (config.inner f.payload)) (at_height b.height f) refl puts.certs.held;
       writes = (Writes-stored b m is above puts).0;
       no_repair = (Writes-stored b m is above puts).1;
       are_tips = tip_reports-tips a.life.tip f b;
       tips_rise = subst (TipsFrom a.life.tip (tip_reports a.life.tip f b)) (sym (ap (λ s. s.life.tip) puts.same)) (tip_reports-rise a.life.tip f b);
       tips_chain = tip_reports-chain chain a.life.tip f b (block-final b is).0 (block-final b is).1;
       witnessed = ap (λ s. s.held.witnessed) puts.same ∙ sym (witnessed_by [] met);
-      stored = subst (λ s. IfSome s (IsStored (node_of m buffer asked))) (sym storing) stored;
-      stored_late = subst (λ s. IfSome s (IsStoredLate n no_floor (node_of m buffer asked))) (sym storing) (λ with low held. absurd (let high : height_of a.held.processed < b.height = above_from (height_of a.held.processed) b.height above in omega arith));
+      stored = subst (λ s. IfSome s (IsStored (node_of m buffer waiting))) (sym storing) stored;
+      stored_late = subst (λ s. IfSome s (IsStoredLate n no_floor (node_of m buffer waiting))) (sym storing) (λ with low held. absurd (let high : height_of a.held.processed < b.height = above_from (height_of a.held.processed) b.height above in omega arith));
       no_query = refl;
       no_fault = ap (λ s. storing_fault n s no_floor) storing ∙ ap (λ (c : Bool). if c then Some (height_limit b.height) else None) (no_limit (nat_lt (height_of a.held.processed) b.height) b.height (not_last b is));
       sends = refl;
@@ -539,7 +538,7 @@ module _ {P E : Type 0} (config : Config) (chain : Chain) (a : Seen P E) (f : Fi
         storing : storing_of n e ≡ Some (storing_met (met_of b f))
         storing = storing_by (Some b) is
 
-        stored : IsStored (node_of m buffer asked) (storing_met (met_of b f))
+        stored : IsStored (node_of m buffer waiting) (storing_met (met_of b f))
         stored = record {
           block = inl (stored_height (is_held a.held.blocks.held b) a.held.blocks.held (at_own_height b) m.held.blocks.held (λ ignored. block_there b is ignored) puts.blocks.held);
           certificate = λ with high. stored_height (is_certified config.inner a.held.certs.held b.height (config.inner f.payload)) a.held.certs.held (at_height b.height f) m.held.certs.held (λ ignored. cert_there b is ignored) puts.certs.held;
@@ -566,9 +565,9 @@ module _ {P E : Type 0} (config : Config) (chain : Chain) (a : Seen P E) (f : Fi
         (IsSafePair-after config chain lawful partition n e a.held.blocks.sure good.of_chain.stores.held_certs good.heights.delivery.anchored good.heights.delivery.consecutive good.heights.delivery.out_sure good.of_chain.floor_safe (λ h bound has. has) (subst (MeetsFinal chain) (sym (ap (λ o. option_map (λ c. met_of c f) o) is)) (block-final b is).0) tt tt)
 
     -- so a sync of it that failed may leave it
-    pub pair_late-left : IsPartition config.epochs → (b : Block) → at_hand n f.payload ≡ Some b → IsFalse (nat_lt (height_of a.held.processed) b.height) → (sure : List (At Block)) → KeepsValues a.held.blocks.sure sure → (p : Pair) → Contains (pair_of a.held.processed (greatest_of a.held.cutoff (at_round f.round ∷ [])) ∷ []) p → MayBeLeft config chain a e buffer asked sure p
+    pub pair_late-left : IsPartition config.epochs → (b : Block) → at_hand n f.payload ≡ Some b → IsFalse (nat_lt (height_of a.held.processed) b.height) → (sure : List (At Block)) → KeepsValues a.held.blocks.sure sure → (p : Pair) → Contains (pair_of a.held.processed (greatest_of a.held.cutoff (at_round f.round ∷ [])) ∷ []) p → MayBeLeft config chain a e buffer waiting sure p
     pair_late-left partition b is low sure keeps p (suc k, lt, same) = absurd (omega arith)
-    pair_late-left partition b is low sure keeps p (zero, lt, same) = subst (MayBeLeft config chain a e buffer asked sure) same (inr (sym (pair_late-is b is low), IsSafePair-kept chain 0 a.held.blocks.sure sure _ (λ h bound has. keeps_heights a.held.blocks.sure sure keeps h has) (from (option_map height_in a.held.processed)) (pair_late-safe partition b is low), le_refl _))
+    pair_late-left partition b is low sure keeps p (zero, lt, same) = subst (MayBeLeft config chain a e buffer waiting sure) same (inr (sym (pair_late-is b is low), IsSafePair-kept chain 0 a.held.blocks.sure sure _ (λ h bound has. keeps_heights a.held.blocks.sure sure keeps h has) (from (option_map height_in a.held.processed)) (pair_late-safe partition b is low), le_refl _))
       where
         from : (o : Option ℕ) → IsFrom 0 o
         from None = tt
@@ -587,7 +586,7 @@ module _ {P E : Type 0} (config : Config) (chain : Chain) (a : Seen P E) (f : Fi
     IsNoted m = m ≡ noted a (at_round f.round ∷ []) (later_round a.held.witnessed (Some f.round)) m
 
     -- the node that it leaves is good, where the tip reaches what was put
-    IsGood-late : IsPartition config.epochs → (b : Block) (m : Seen P E) → Grown a.held.certs (at_height b.height f ∷ []) m.held.certs → at_hand n f.payload ≡ Some b → IsFalse (nat_lt (height_of a.held.processed) b.height) → a.life.tip ≤ m.life.tip → (IsTrue (lacks_finalization a.held b) → b.height ≤ m.life.tip) → IsNoted m → PutsLate b m.held.certs → IsGood config chain (node_of m buffer asked)
+    IsGood-late : IsPartition config.epochs → (b : Block) (m : Seen P E) → Grown a.held.certs (at_height b.height f ∷ []) m.held.certs → at_hand n f.payload ≡ Some b → IsFalse (nat_lt (height_of a.held.processed) b.height) → a.life.tip ≤ m.life.tip → (IsTrue (lacks_finalization a.held b) → b.height ≤ m.life.tip) → IsNoted m → PutsLate b m.held.certs → IsGood config chain (node_of m buffer waiting)
     IsGood-late partition b m grown is low rises below_tip same certs =
         IsGood-grown m (subst AreNestedHeights (sym blocks) good.heights.stores.nested_blocks) (nested_due _ _ _ _ _ _ certs grown good.heights.stores.nested_certs) (ap (λ s. s.life.out) same) (ap (λ s. s.held.processed) same) own
         (subst (λ k. SureOrWritten k m.held.writes.uncovered) (sym blocks) (subst (λ w. SureOrWritten a.held.blocks w.uncovered) (sym writes) good.heights.stores.sure_blocks))
@@ -611,7 +610,7 @@ module _ {P E : Type 0} (config : Config) (chain : Chain) (a : Seen P E) (f : Fi
         writes = ap (λ s. s.held.writes) same
 
     -- with these tips
-    Reaches-told : IsPartition config.epochs → (b : Block) (tips : List Report) (m : Seen P E) → IsNested a.held.blocks → IsNested a.held.certs → Grown a.held.certs (at_height b.height f ∷ []) m.held.certs → at_hand n f.payload ≡ Some b → IsFalse (nat_lt (height_of a.held.processed) b.height) → AreTips tips → TipsFrom a.life.tip tips m.life.tip → AreTipsOf chain tips → a.life.tip ≤ m.life.tip → (IsTrue (lacks_finalization a.held b) → b.height ≤ m.life.tip) → IsNoted m → PutsLate b m.held.certs → Reaches config chain a e buffer asked tips m
+    Reaches-told : IsPartition config.epochs → (b : Block) (tips : List Report) (m : Seen P E) → IsNested a.held.blocks → IsNested a.held.certs → Grown a.held.certs (at_height b.height f ∷ []) m.held.certs → at_hand n f.payload ≡ Some b → IsFalse (nat_lt (height_of a.held.processed) b.height) → AreTips tips → TipsFrom a.life.tip tips m.life.tip → AreTipsOf chain tips → a.life.tip ≤ m.life.tip → (IsTrue (lacks_finalization a.held b) → b.height ≤ m.life.tip) → IsNoted m → PutsLate b m.held.certs → Reaches config chain a e buffer waiting tips m
     Reaches-told partition b tips m blocks_nested certs_nested grown is low only rise of_chain rises below_tip same certs = record {
       no_effect = refl;
       kept = ap (λ s. s.life.out) same;
@@ -630,15 +629,15 @@ module _ {P E : Type 0} (config : Config) (chain : Chain) (a : Seen P E) (f : Fi
       of_certs = (finalizes b is, tt);
       own_blocks = λ x has. nothing_put x has;
       own_certs = λ x has. ap (λ (y : At Finalization). Some y.value) (only_one (at_height b.height f) x has);
-      certificates = Certificates-put n (node_of m buffer asked) e (lacks_finalization a.held b) (is_certified config.inner a.held.certs.held b.height (config.inner f.payload)) (at_height b.height f) refl certs;
+      certificates = Certificates-put n (node_of m buffer waiting) e (lacks_finalization a.held b) (is_certified config.inner a.held.certs.held b.height (config.inner f.payload)) (at_height b.height f) refl certs;
       writes = written.0;
       no_repair = written.1;
       are_tips = only;
       tips_rise = rise;
       tips_chain = of_chain;
       witnessed = ap (λ s. s.held.witnessed) same ∙ (last_witnessed config.retention a.held.witnessed f.round ∙ sym (witnessed_by (f.round ∷ []) met));
-      stored = subst (λ s. IfSome s (IsStored (node_of m buffer asked))) (sym storing) stored;
-      stored_late = subst (λ s. IfSome s (IsStoredLate n no_floor (node_of m buffer asked))) (sym storing) (λ with at_most has. due_height _ (has_height a.held.blocks.held b.height) a.held.certs (at_height b.height f) m.held.certs (λ ignored. cert_there b is ignored) certs has);
+      stored = subst (λ s. IfSome s (IsStored (node_of m buffer waiting))) (sym storing) stored;
+      stored_late = subst (λ s. IfSome s (IsStoredLate n no_floor (node_of m buffer waiting))) (sym storing) (λ with at_most has. due_height _ (has_height a.held.blocks.held b.height) a.held.certs (at_height b.height f) m.held.certs (λ ignored. cert_there b is ignored) certs has);
       no_query = refl;
       no_fault = ap (λ s. storing_fault n s no_floor) storing ∙ ap (λ (c : Bool). if c && b.height == last_height then Some (height_limit b.height) else None) low;
       sends = refl;
@@ -660,21 +659,21 @@ module _ {P E : Type 0} (config : Config) (chain : Chain) (a : Seen P E) (f : Fi
         processed : m.held.processed ≡ a.held.processed
         processed = ap (λ s. s.held.processed) same
 
-        written : (v : Writes n e no_floor (node_of m buffer asked)) × (v.repaired ≡ [])
-        written = Writes-same a m e buffer asked (ap (λ s. own_writes n s no_floor) storing ∙ ap (λ (c : Bool). if c then b.height ∷ [] else []) low) (ap (λ k. k.held) blocks) (ap (λ s. s.held.writes) same) (λ syncs. refl) (λ syncs. refl)
+        written : (v : Writes n e no_floor (node_of m buffer waiting)) × (v.repaired ≡ [])
+        written = Writes-same a m e buffer waiting (ap (λ s. own_writes n s no_floor) storing ∙ ap (λ (c : Bool). if c then b.height ∷ [] else []) low) (ap (λ k. k.held) blocks) (ap (λ s. s.held.writes) same) (λ syncs. refl) (λ syncs. refl)
 
         at_most : b.height ≤ height_of m.held.processed
         at_most = subst (λ p. b.height ≤ height_of p) (sym processed) (low_from (height_of a.held.processed) b.height low)
 
-        stored : IsStored (node_of m buffer asked) (storing_met (met_of b f))
+        stored : IsStored (node_of m buffer waiting) (storing_met (met_of b f))
         stored = record { block = inr at_most; certificate = λ with high. absurd (let le : b.height ≤ height_of m.held.processed = at_most in omega arith) }
 
     -- a block at or below the processed height: its round is witnessed, its certificate put where the block is held without
     -- one, and that told as the tip where it is above the last one
-    pub Reaches-noted : IsPartition config.epochs → (b : Block) (m : Seen P E) → IsNested a.held.blocks → IsNested a.held.certs → Grown a.held.certs (at_height b.height f ∷ []) m.held.certs → at_hand n f.payload ≡ Some b → IsFalse (nat_lt (height_of a.held.processed) b.height) → IsNoted m → PutsLate b m.held.certs → m.life.tip ≡ late_tip (lacks_finalization a.held b) a.life.tip b → Reaches config chain a e buffer asked (late_tips (lacks_finalization a.held b) a.life.tip f b) m
+    pub Reaches-noted : IsPartition config.epochs → (b : Block) (m : Seen P E) → IsNested a.held.blocks → IsNested a.held.certs → Grown a.held.certs (at_height b.height f ∷ []) m.held.certs → at_hand n f.payload ≡ Some b → IsFalse (nat_lt (height_of a.held.processed) b.height) → IsNoted m → PutsLate b m.held.certs → m.life.tip ≡ late_tip (lacks_finalization a.held b) a.life.tip b → Reaches config chain a e buffer waiting (late_tips (lacks_finalization a.held b) a.life.tip f b) m
     Reaches-noted partition b m blocks_nested certs_nested grown is low same certs tip = by (lacks_finalization a.held b) refl tip
       where
-        by : (c : Bool) → lacks_finalization a.held b ≡ c → m.life.tip ≡ late_tip c a.life.tip b → Reaches config chain a e buffer asked (late_tips c a.life.tip f b) m
+        by : (c : Bool) → lacks_finalization a.held b ≡ c → m.life.tip ≡ late_tip c a.life.tip b → Reaches config chain a e buffer waiting (late_tips c a.life.tip f b) m
         by true due at =
             Reaches-told partition b (tip_reports a.life.tip f b) m blocks_nested certs_nested grown is low (tip_reports-tips a.life.tip f b)
             (subst (TipsFrom a.life.tip (tip_reports a.life.tip f b)) (sym at) (tip_reports-rise a.life.tip f b))
@@ -684,14 +683,14 @@ module _ {P E : Type 0} (config : Config) (chain : Chain) (a : Seen P E) (f : Fi
         by false not_due at = Reaches-told partition b [] m blocks_nested certs_nested grown is low tt at tt (subst (λ k. a.life.tip ≤ k) (sym at) (omega arith)) (λ put. absurd (let both : false ≡ true = sym not_due ∙ put in cc)) same certs
 
     -- from the raise, the sync and the late put
-    pub Reaches-late : IsPartition config.epochs → (b : Block) (w s m : Seen P E) → IsNested a.held.blocks → IsNested a.held.certs → Grown a.held.certs (at_height b.height f ∷ []) m.held.certs → at_hand n f.payload ≡ Some b → IsFalse (nat_lt (height_of a.held.processed) b.height) → RaisesTo a (at_round f.round ∷ []) (later_round a.held.witnessed (Some f.round)) w → s ≡ record w { held = record w.held { pairs = pair_of w.held.processed w.held.cutoff ∷ []; watches = s.held.watches } } → StoresLate config.inner s f b m → Reaches config chain a e buffer asked (late_tips (lacks_finalization a.held b) a.life.tip f b) m
+    pub Reaches-late : IsPartition config.epochs → (b : Block) (w s m : Seen P E) → IsNested a.held.blocks → IsNested a.held.certs → Grown a.held.certs (at_height b.height f ∷ []) m.held.certs → at_hand n f.payload ≡ Some b → IsFalse (nat_lt (height_of a.held.processed) b.height) → RaisesTo a (at_round f.round ∷ []) (later_round a.held.witnessed (Some f.round)) w → s ≡ record w { held = record w.held { pairs = pair_of w.held.processed w.held.cutoff ∷ []; watches = s.held.watches } } → StoresLate config.inner s f b m → Reaches config chain a e buffer waiting (late_tips (lacks_finalization a.held b) a.life.tip f b) m
     Reaches-late partition b w s m blocks_nested certs_nested grown is low raised synced stores = Reaches-noted partition b m blocks_nested certs_nested grown is low as_noted.0 (noted_certs config.inner a w s m (at_round f.round ∷ []) (later_round a.held.witnessed (Some f.round)) f b raised synced stores) as_noted.1
       where
         as_noted : IsNoted m × (m.life.tip ≡ late_tip (lacks_finalization a.held b) a.life.tip b)
         as_noted = noted_same config.inner a w s m (at_round f.round ∷ []) (later_round a.held.witnessed (Some f.round)) f b raised synced stores
 
     -- the node that these leave is good
-    pub IsGood-noted : IsPartition config.epochs → (b : Block) (w s m : Seen P E) → Grown a.held.certs (at_height b.height f ∷ []) m.held.certs → at_hand n f.payload ≡ Some b → IsFalse (nat_lt (height_of a.held.processed) b.height) → RaisesTo a (at_round f.round ∷ []) (later_round a.held.witnessed (Some f.round)) w → s ≡ record w { held = record w.held { pairs = pair_of w.held.processed w.held.cutoff ∷ []; watches = s.held.watches } } → StoresLate config.inner s f b m → IsGood config chain (node_of m buffer asked)
+    pub IsGood-noted : IsPartition config.epochs → (b : Block) (w s m : Seen P E) → Grown a.held.certs (at_height b.height f ∷ []) m.held.certs → at_hand n f.payload ≡ Some b → IsFalse (nat_lt (height_of a.held.processed) b.height) → RaisesTo a (at_round f.round ∷ []) (later_round a.held.witnessed (Some f.round)) w → s ≡ record w { held = record w.held { pairs = pair_of w.held.processed w.held.cutoff ∷ []; watches = s.held.watches } } → StoresLate config.inner s f b m → IsGood config chain (node_of m buffer waiting)
     IsGood-noted partition b w s m grown is low raised synced stores = by (lacks_finalization a.held b) refl as_noted.1
       where
         as_noted : IsNoted m × (m.life.tip ≡ late_tip (lacks_finalization a.held b) a.life.tip b)
@@ -700,7 +699,7 @@ module _ {P E : Type 0} (config : Config) (chain : Chain) (a : Seen P E) (f : Fi
         certs : PutsLate b m.held.certs
         certs = noted_certs config.inner a w s m (at_round f.round ∷ []) (later_round a.held.witnessed (Some f.round)) f b raised synced stores
 
-        by : (c : Bool) → lacks_finalization a.held b ≡ c → m.life.tip ≡ late_tip c a.life.tip b → IsGood config chain (node_of m buffer asked)
+        by : (c : Bool) → lacks_finalization a.held b ≡ c → m.life.tip ≡ late_tip c a.life.tip b → IsGood config chain (node_of m buffer waiting)
         by true due at = IsGood-late partition b m grown is low (subst (λ k. a.life.tip ≤ k) (sym at) (tip_after-high a.life.tip b).0) (λ put. subst (λ k. b.height ≤ k) (sym at) (tip_after-high a.life.tip b).1) as_noted.0 certs
         by false not_due at = IsGood-late partition b m grown is low (subst (λ k. a.life.tip ≤ k) (sym at) (omega arith)) (λ put. absurd (let both : false ≡ true = sym not_due ∙ put in cc)) as_noted.0 certs
 

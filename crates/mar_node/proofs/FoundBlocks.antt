@@ -5,7 +5,6 @@ use Rattle.std.specs.List.{AllByRecursion}
 use Rattle.std.proofs.lemmas.List.Elements.{Contains-append_left}
 use Rattle.std.proofs.lemmas.Slice.Eq.{bytes_eq-Decides}
 use Rattle.mar_cert.specs.Block.{Block}
-use Rattle.mar_key.specs.Asked.{Asked}
 use Rattle.mar_store.specs.Kept.{At, value_at}
 use Rattle.mar_store.proofs.Lookups.{AllByRecursion-value_at}
 use Rattle.mar_store.specs.Sizes.{IsSmall}
@@ -14,7 +13,7 @@ use Rattle.mar_node.specs.Chain.{Chain}
 use Rattle.mar_node.specs.Held.{Seen}
 use Rattle.mar_node.specs.Moves.{found_at_hand, of_commitment}
 use Rattle.mar_node.specs.Node.{AreBlocksOf, at_hand}
-use Rattle.mar_node.specs.Promise.{AreOne, node_of}
+use Rattle.mar_node.specs.Promise.{AreOne, Waiting, node_of}
 use Rattle.mar_node.proofs.AtHand.{AllByRecursion-find, bytes_same}
 
 -- what stands at a height stands at its own height
@@ -100,8 +99,8 @@ module _ (inner : List ℕ → List ℕ) (all : List Block) (one : AreOne inner 
       by false is false unnamed rest none = rest
 
 -- what the actor finds is the block at hand
-pub found-is : {P E : Type 0} (inner : List ℕ → List ℕ) (chain : Chain) (a : Seen P E) (buffer : List Block) (asked : List Asked) (commitment : List ℕ) → AreOne inner (chain.blocks ++ buffer) → AreBlocksOf chain a.held.blocks.held → found_at_hand inner buffer a.held.blocks.held commitment ≡ at_hand (node_of a buffer asked) commitment
-found-is inner chain a buffer asked commitment one blocks =
+pub found-is : {P E : Type 0} (inner : List ℕ → List ℕ) (chain : Chain) (a : Seen P E) (buffer : List Block) (waiting : Waiting) (commitment : List ℕ) → AreOne inner (chain.blocks ++ buffer) → AreBlocksOf chain a.held.blocks.held → found_at_hand inner buffer a.held.blocks.held commitment ≡ at_hand (node_of a buffer waiting) commitment
+found-is inner chain a buffer waiting commitment one blocks =
     sym (ap (λ xs. find (λ b. bytes_eq b.commitment commitment) (xs ++ values_of a.held.blocks.held)) (append-nil buffer)
     ∙ find-append (λ b. bytes_eq b.commitment commitment) buffer (values_of a.held.blocks.held)
     ∙ ap (λ o. option_or (find (λ b. bytes_eq b.commitment commitment) buffer) o) (by_digest inner (chain.blocks ++ buffer) one commitment (values_of a.held.blocks.held) (in_both (values_of a.held.blocks.held) (values_in_chain chain a.held.blocks.held blocks))))

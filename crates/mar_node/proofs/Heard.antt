@@ -27,11 +27,11 @@ module _ (reports reports' : Option (List Report)) (asks asks' : Option (List Ca
   }
 
   pub KeepsPromise-beside : {P E : Type 0} (epochs : Epochs) (inner : List ℕ → List ℕ) (old : Seen P E) (events : List Event) (buffer : List Block) (result : Result (Seen P E) Ending) → KeepsPromise epochs inner old events buffer (heard_with reports asks xs) (heard_with reports' asks' xs) result → KeepsPromise epochs inner old events buffer (heard_with reports asks ys) (heard_with reports' asks' ys) result
-  KeepsPromise-beside epochs inner old events buffer (Ok new) keeps config chain asked set step =
-      let finishes = keeps config chain asked set step in
+  KeepsPromise-beside epochs inner old events buffer (Ok new) keeps config chain waiting set step =
+      let finishes = keeps config chain waiting set step in
       record { made = finishes.made; heard = HearsMade-beside finishes.made finishes.heard; steps = finishes.steps }
-  KeepsPromise-beside epochs inner old events buffer (Err e) keeps config chain asked set step =
-      let cut = keeps config chain asked set step in
+  KeepsPromise-beside epochs inner old events buffer (Err e) keeps config chain waiting set step =
+      let cut = keeps config chain waiting set step in
       record { made = cut.made; heard = HearsMade-beside cut.made cut.heard; cuts = cut.cuts }
 
 -- what is made where nobody is answered and nothing sent

@@ -25,7 +25,7 @@ use Rattle.mar_node.specs.Node.{AreBlocksOf, AreCachedOf, BlocksAgree, Ended, Fl
 use Rattle.mar_node.specs.Writing.{Writing, no_writes}
 use Rattle.mar_node.specs.Opening.{BeginsWith, Derives, Enters, IsBeginFault, derived_cutoff, derived_pair, is_begun, next_fault, pair_in}
 use Rattle.mar_node.specs.Step.{nothing_made}
-use Rattle.mar_node.specs.Promise.{Begins, IsLawfulOpening, IsOpeningFault, node_of}
+use Rattle.mar_node.specs.Promise.{Begins, IsLawfulOpening, IsOpeningFault, node_of, none_waiting}
 use Rattle.mar_node.specs.Sound.{IsSafePair, IsSound}
 use Rattle.mar_node.proofs.Cutting.{keeps_heights, never, only_one, usual_not_by_value}
 use Rattle.mar_node.proofs.Openings.{IsGoodInHeights-opened, IsSound-opened, processed_at-height}
@@ -288,13 +288,13 @@ module _ (old : Remains) (luck : ℕ) (first : Held) (reopens : ReopensAs old lu
           witnessed_is : opened_witnessed s.blocks.held s.certs.held (pair_in s) ≡ opened_witnessed s.blocks.held first.certs.held (pair_in first)
           witnessed_is = ap (λ p. opened_witnessed s.blocks.held s.certs.held p) pair_same ∙ ap (λ k. opened_witnessed s.blocks.held k.held (pair_in first)) certs_same
 
-          begins_is : node_of (record { held = new; life = life }) [] [] ≡ opened
+          begins_is : node_of (record { held = new; life = life }) [] none_waiting ≡ opened
           begins_is =
-              ap (λ h. node_of (record { held = h; life = life }) [] []) derives.same
+              ap (λ h. node_of (record { held = h; life = life }) [] none_waiting) derives.same
               ∙ same_values s.processed _ (derived_cutoff config.epochs s) _ (derived_pair config.epochs s ∷ []) _ (opened_witnessed s.blocks.held s.certs.held (pair_in s)) _ s.certs _ sizes.capacity _ s.writes _
               processed_is cutoff_is (ap (λ p. p ∷ []) derived_is) witnessed_is (certs_same ∙ first_certs) (sym capacity) writes_are
 
-          pub Finds-begun : Finds config old.ended (picks_of old luck) begin (node_of (record { held = new; life = life }) [] [])
+          pub Finds-begun : Finds config old.ended (picks_of old luck) begin (node_of (record { held = new; life = life }) [] none_waiting)
           Finds-begun = subst (Finds config old.ended (picks_of old luck) begin) (sym begins_is) Finds-opened
 
         module _ (chain : Chain) (asks : IsLawfulOpening config chain old.ended begin) where
@@ -329,7 +329,7 @@ module _ (old : Remains) (luck : ℕ) (first : Held) (reopens : ReopensAs old lu
             tip_reported = newest_tip-high 0 first.certs.held;
           })
 
-          pub Begins-opened : {P E : Type 0} (provider : P) (epocher : E) (sizes : Sizes) (new : Held) → Derives config.epochs s new → config.capacity ≡ sizes.capacity → Begins config chain old.ended (picks_of old luck) begin (node_of (record { held = new; life = first_life provider epocher sizes }) [] [])
+          pub Begins-opened : {P E : Type 0} (provider : P) (epocher : E) (sizes : Sizes) (new : Held) → Derives config.epochs s new → config.capacity ≡ sizes.capacity → Begins config chain old.ended (picks_of old luck) begin (node_of (record { held = new; life = first_life provider epocher sizes }) [] none_waiting)
           Begins-opened provider epocher sizes new derives capacity = subst (Begins config chain old.ended (picks_of old luck) begin) (sym (begins_is provider epocher sizes new derives capacity)) (record { finds = Finds-opened; good = (tip, good) })
 
 -- A CUT
@@ -421,10 +421,10 @@ module _ (old : Remains) (begin : Begin) (luck : ℕ) (first : Held) (reopens : 
     next_by_value fault (inr judged) = inr (subst (λ b. IsOpeningFault old.ended b fault) (sym is) (IsOpeningFault-next old luck first reopens g s begins_with fault judged))
 
     -- a node that begins is what was found, whatever the chain
-    pub finds : {P E : Type 0} (config : Config) (provider : P) (epocher : E) (sizes : Sizes) (new : Held) (life : Remembered P E) → Grew first (written_block (at_own_height g)) s → config.capacity ≡ sizes.capacity → Derives config.epochs s new → life ≡ first_life provider epocher sizes → Finds config old.ended (picks_of old luck) begin (node_of (record { held = new; life = life }) [] [])
+    pub finds : {P E : Type 0} (config : Config) (provider : P) (epocher : E) (sizes : Sizes) (new : Held) (life : Remembered P E) → Grew first (written_block (at_own_height g)) s → config.capacity ≡ sizes.capacity → Derives config.epochs s new → life ≡ first_life provider epocher sizes → Finds config old.ended (picks_of old luck) begin (node_of (record { held = new; life = life }) [] none_waiting)
     finds config provider epocher sizes new _ grew capacity derives life_is =
-        subst (λ l. Finds config old.ended (picks_of old luck) begin (node_of (record { held = new; life = l }) [] [])) (sym life_is)
-        (subst (λ b. Finds config old.ended (picks_of old luck) b (node_of (record { held = new; life = first_life provider epocher sizes }) [] [])) (sym is)
+        subst (λ l. Finds config old.ended (picks_of old luck) begin (node_of (record { held = new; life = l }) [] none_waiting)) (sym life_is)
+        (subst (λ b. Finds config old.ended (picks_of old luck) b (node_of (record { held = new; life = first_life provider epocher sizes }) [] none_waiting)) (sym is)
         (Finds-begun old luck first reopens g s begins_with config grew derives.successor provider epocher sizes new derives capacity))
 
 -- a cutoff that couldn't be derived leaves what was sure
@@ -479,9 +479,9 @@ module _ (config : Config) (chain : Chain) (old : Remains) (luck : ℕ) (begin :
                   derived : derived_pair config.epochs s ≡ p
                   derived = only_one (derived_pair config.epochs s) p has
 
-      pub begins : {P E : Type 0} (provider : P) (epocher : E) (sizes : Sizes) (new : Held) (life : Remembered P E) → IsLawfulOpening config chain old.ended begin → config.capacity ≡ sizes.capacity → Derives config.epochs s new → life ≡ first_life provider epocher sizes → Begins config chain old.ended (picks_of old luck) begin (node_of (record { held = new; life = life }) [] [])
+      pub begins : {P E : Type 0} (provider : P) (epocher : E) (sizes : Sizes) (new : Held) (life : Remembered P E) → IsLawfulOpening config chain old.ended begin → config.capacity ≡ sizes.capacity → Derives config.epochs s new → life ≡ first_life provider epocher sizes → Begins config chain old.ended (picks_of old luck) begin (node_of (record { held = new; life = life }) [] none_waiting)
       begins provider epocher sizes new _ asks capacity derives life_is =
           let own = subst (IsLawfulOpening config chain old.ended) is asks in
-          subst (λ l. Begins config chain old.ended (picks_of old luck) begin (node_of (record { held = new; life = l }) [] [])) (sym life_is)
-          (subst (λ b. Begins config chain old.ended (picks_of old luck) b (node_of (record { held = new; life = first_life provider epocher sizes }) [] [])) (sym is)
+          subst (λ l. Begins config chain old.ended (picks_of old luck) begin (node_of (record { held = new; life = l }) [] none_waiting)) (sym life_is)
+          (subst (λ b. Begins config chain old.ended (picks_of old luck) b (node_of (record { held = new; life = first_life provider epocher sizes }) [] none_waiting)) (sym is)
           (Begins-opened old luck first reopens g s begins_with config grew derives.successor chain own provider epocher sizes new derives capacity))

@@ -2,13 +2,12 @@
 use Rattle.std.proofs.Common.{◌≡◌, inl, ◌<◌, Some, None, Contains, ℕ, ◌-◌, max, List, [], ◌++◌, drop, Bool, true, false, ◌&&◌, not, ◌==◌, nat_lt, refl, sym, ◌∙◌, ap, subst, arith, append-nil}
 use Rattle.std.specs.List.{list_any}
 use Rattle.mar_cert.specs.Block.{Block}
-use Rattle.mar_key.specs.Asked.{Asked}
 use Rattle.mar_key.specs.Processed.{height_of}
 use Rattle.mar_store.specs.Kept.{At, Kept, has_height, value_at}
 use Rattle.mar_node.specs.Event.{Event, no_floor, own_writes, storing_of}
 use Rattle.mar_node.specs.Held.{Seen}
 use Rattle.mar_node.specs.Node.{OpenSync}
-use Rattle.mar_node.specs.Promise.{node_of}
+use Rattle.mar_node.specs.Promise.{Waiting, node_of}
 use Rattle.mar_node.specs.Step.{CertificatesFrom, KeepsFrom, Writes, finished_position, without_finished}
 
 pub KeepsFrom-same : {T : Type 0} (bound : ℕ) (kept : Kept (At T)) → KeepsFrom bound kept kept
@@ -24,11 +23,11 @@ not_entered true false own = refl
 not_entered false held own = refl
 
 -- nothing is written and no block entered; `finished` is how many writes the sync that finished covers
-pub Writes-none : {P E : Type 0} (a m : Seen P E) (e : Event) (buffer : List Block) (asked : List Asked) → own_writes (node_of a buffer asked) (storing_of (node_of a buffer asked) e) no_floor ≡ [] → m.held.blocks.held ≡ a.held.blocks.held → m.held.writes.covered ≡ max a.held.writes.covered (finished_position a.held.writes.syncs e) → m.held.writes.uncovered ≡ drop (m.held.writes.covered - a.held.writes.covered) a.held.writes.uncovered → m.held.writes.syncs ≡ without_finished e a.held.writes.syncs → (w : Writes (node_of a buffer asked) e no_floor (node_of m buffer asked)) × (w.repaired ≡ [])
-Writes-none a m e buffer asked none held covered uncovered syncs = (
+pub Writes-none : {P E : Type 0} (a m : Seen P E) (e : Event) (buffer : List Block) (waiting : Waiting) → own_writes (node_of a buffer waiting) (storing_of (node_of a buffer waiting) e) no_floor ≡ [] → m.held.blocks.held ≡ a.held.blocks.held → m.held.writes.covered ≡ max a.held.writes.covered (finished_position a.held.writes.syncs e) → m.held.writes.uncovered ≡ drop (m.held.writes.covered - a.held.writes.covered) a.held.writes.uncovered → m.held.writes.syncs ≡ without_finished e a.held.writes.syncs → (w : Writes (node_of a buffer waiting) e no_floor (node_of m buffer waiting)) × (w.repaired ≡ [])
+Writes-none a m e buffer waiting none held covered uncovered syncs = (
   record {
     repaired = [];
-    by_repair = λ h. sym (subst (λ hs. (nat_lt (height_of m.held.processed) h && (has_height hs h && (not (has_height a.held.blocks.held h) && not (list_any (λ k. k == h) (own_writes (node_of a buffer asked) (storing_of (node_of a buffer asked) e) no_floor ++ []))))) ≡ false) (sym held) (not_entered (nat_lt (height_of m.held.processed) h) (has_height a.held.blocks.held h) (list_any (λ k. k == h) (own_writes (node_of a buffer asked) (storing_of (node_of a buffer asked) e) no_floor ++ []))));
+    by_repair = λ h. sym (subst (λ hs. (nat_lt (height_of m.held.processed) h && (has_height hs h && (not (has_height a.held.blocks.held h) && not (list_any (λ k. k == h) (own_writes (node_of a buffer waiting) (storing_of (node_of a buffer waiting) e) no_floor ++ []))))) ≡ false) (sym held) (not_entered (nat_lt (height_of m.held.processed) h) (has_height a.held.blocks.held h) (list_any (λ k. k == h) (own_writes (node_of a buffer waiting) (storing_of (node_of a buffer waiting) e) no_floor ++ []))));
     each_once = λ h. omega arith;
     blocking = 0;
     within = omega arith;
@@ -41,9 +40,9 @@ Writes-none a m e buffer asked none held covered uncovered syncs = (
 )
 
 -- and no sync finished
-pub Writes-same : {P E : Type 0} (a m : Seen P E) (e : Event) (buffer : List Block) (asked : List Asked) → own_writes (node_of a buffer asked) (storing_of (node_of a buffer asked) e) no_floor ≡ [] → m.held.blocks.held ≡ a.held.blocks.held → m.held.writes ≡ a.held.writes → ((syncs : List OpenSync) → finished_position syncs e ≡ 0) → ((syncs : List OpenSync) → without_finished e syncs ≡ syncs) → (w : Writes (node_of a buffer asked) e no_floor (node_of m buffer asked)) × (w.repaired ≡ [])
-Writes-same a m e buffer asked none held same position syncs =
-    Writes-none a m e buffer asked none held
+pub Writes-same : {P E : Type 0} (a m : Seen P E) (e : Event) (buffer : List Block) (waiting : Waiting) → own_writes (node_of a buffer waiting) (storing_of (node_of a buffer waiting) e) no_floor ≡ [] → m.held.blocks.held ≡ a.held.blocks.held → m.held.writes ≡ a.held.writes → ((syncs : List OpenSync) → finished_position syncs e ≡ 0) → ((syncs : List OpenSync) → without_finished e syncs ≡ syncs) → (w : Writes (node_of a buffer waiting) e no_floor (node_of m buffer waiting)) × (w.repaired ≡ [])
+Writes-same a m e buffer waiting none held same position syncs =
+    Writes-none a m e buffer waiting none held
     (ap (λ w. w.covered) same ∙ sym (ap (max a.held.writes.covered) (position a.held.writes.syncs) ∙ max-zero a.held.writes.covered))
     (ap (λ w. w.uncovered) same ∙ sym (ap (λ k. drop (k - a.held.writes.covered) a.held.writes.uncovered) (ap (λ w. w.covered) same) ∙ ap (λ k. drop k a.held.writes.uncovered) (minus-same a.held.writes.covered)))
     (ap (λ w. w.syncs) same ∙ sym (syncs a.held.writes.syncs))
@@ -52,8 +51,8 @@ Writes-same a m e buffer asked none held same position syncs =
     minus-same k = omega arith
 
 -- no certificate entered
-pub Certificates-same : {P E : Type 0} (a m : Seen P E) (e : Event) (buffer : List Block) (asked : List Asked) → m.held.certs ≡ a.held.certs → CertificatesFrom (node_of a buffer asked) e (node_of m buffer asked)
-Certificates-same a m e buffer asked same = record {
+pub Certificates-same : {P E : Type 0} (a m : Seen P E) (e : Event) (buffer : List Block) (waiting : Waiting) → m.held.certs ≡ a.held.certs → CertificatesFrom (node_of a buffer waiting) e (node_of m buffer waiting)
+Certificates-same a m e buffer waiting same = record {
   entered = λ h f is. inl (subst (λ k. value_at k.held h ≡ Some f) same is);
   own = λ s f stores told none. inl (subst (λ k. value_at k.held s.height ≡ None) (sym same) none);
 }

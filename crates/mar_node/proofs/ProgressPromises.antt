@@ -4,7 +4,6 @@ use Rattle.mar_types.specs.Epochs.{Epochs, IsPartition}
 use Rattle.mar_cert.specs.Block.{Block}
 use Rattle.mar_cert.specs.Finalization.{Finalization}
 use Rattle.mar_node.specs.Messages.{report_finalization}
-use Rattle.mar_key.specs.Asked.{Asked}
 use Rattle.mar_key.specs.Cutoff.{at_round, greatest_of}
 use Rattle.mar_key.specs.Hears.{Hears}
 use Rattle.mar_key.specs.Keys.{Call}
@@ -21,7 +20,7 @@ use Rattle.mar_node.specs.Held.{Ending, Grew, Held, IsArchiveFault, IsUsual, Lea
 use Rattle.mar_node.specs.Lives.{is_dropped_ack, is_refused_floor, later_round, reached_before}
 use Rattle.mar_node.specs.Moves.{Drains, EndsDropped, HearsFront, RaisesTo, StoresLate, at_height, found_at_hand, lacks_finalization, late_tips}
 use Rattle.mar_node.specs.Node.{AreFinalizationsOf, Rest, at_hand, block_missing, floor_awaited, window_full, write_uncovered}
-use Rattle.mar_node.specs.Promise.{CutsStep, IsGoodUntold, IsLawfulStep, IsSetTo, KeepsPromise, heard_by, made_of, node_of}
+use Rattle.mar_node.specs.Promise.{CutsStep, IsGoodUntold, IsLawfulStep, IsSetTo, KeepsPromise, Waiting, heard_by, made_of, node_of}
 use Rattle.mar_node.specs.Writing.{total_writes}
 use Rattle.mar_node.specs.Requests.{own_asks, raise_asks, retire_asks}
 use Rattle.mar_node.specs.Step.{IsFront, Report}
@@ -36,11 +35,11 @@ use Rattle.mar_node.proofs.Promises.{dispatched, undispatched}
 use Rattle.mar_node.proofs.Soundness.{untold}
 
 -- it rests as long as what is outstanding, processed and held is the same
-pub Rest-same : {P E : Type 0} (window : ℕ) (a m : Seen P E) (buffer : List Block) (asked : List Asked) → m.life.out ≡ a.life.out → m.held.processed ≡ a.held.processed → m.held.blocks ≡ a.held.blocks → m.held.writes ≡ a.held.writes → Rest window (node_of a buffer asked) → Rest window (node_of m buffer asked)
-Rest-same window a m buffer asked out processed blocks writes (floor_awaited some) = absurd cc
-Rest-same window a m buffer asked out processed blocks writes (window_full full) = window_full (ap length out ∙ full)
-Rest-same window a m buffer asked out processed blocks writes (block_missing missing) = block_missing (ap (λ k. value_at k.held (first_unprocessed m.held.processed + length m.life.out)) blocks ∙ (ap (λ p. value_at a.held.blocks.held (first_unprocessed p + length m.life.out)) processed ∙ (ap (λ o. value_at a.held.blocks.held (first_unprocessed a.held.processed + length o)) out ∙ missing)))
-Rest-same window a m buffer asked out processed blocks writes (write_uncovered h waits low) = write_uncovered h (subst (λ w. Contains w.uncovered h) (sym writes) waits) (subst (λ k. h ≤ k) (sym (ap (λ p. first_unprocessed p + length m.life.out) processed ∙ ap (λ o. first_unprocessed a.held.processed + length o) out)) low)
+pub Rest-same : {P E : Type 0} (window : ℕ) (a m : Seen P E) (buffer : List Block) (waiting : Waiting) → m.life.out ≡ a.life.out → m.held.processed ≡ a.held.processed → m.held.blocks ≡ a.held.blocks → m.held.writes ≡ a.held.writes → Rest window (node_of a buffer waiting) → Rest window (node_of m buffer waiting)
+Rest-same window a m buffer waiting out processed blocks writes (floor_awaited some) = absurd cc
+Rest-same window a m buffer waiting out processed blocks writes (window_full full) = window_full (ap length out ∙ full)
+Rest-same window a m buffer waiting out processed blocks writes (block_missing missing) = block_missing (ap (λ k. value_at k.held (first_unprocessed m.held.processed + length m.life.out)) blocks ∙ (ap (λ p. value_at a.held.blocks.held (first_unprocessed p + length m.life.out)) processed ∙ (ap (λ o. value_at a.held.blocks.held (first_unprocessed a.held.processed + length o)) out ∙ missing)))
+Rest-same window a m buffer waiting out processed blocks writes (write_uncovered h waits low) = write_uncovered h (subst (λ w. Contains w.uncovered h) (sym writes) waits) (subst (λ k. h ≤ k) (sym (ap (λ p. first_unprocessed p + length m.life.out) processed ∙ ap (λ o. first_unprocessed a.held.processed + length o) out)) low)
 
 -- a dropped oldest is the fault by value
 dropped_first-some : (out : List Outstanding) (o : Outstanding) → dropped_oldest out ≡ Some o → dropped_first out ≡ Some (dropped_ack o.height)
@@ -62,28 +61,28 @@ dropped_first-some (x ∷ out) o is = by x.mark refl is
 
 module _ {P E : Type 0} (epochs : Epochs) (inner : List ℕ → List ℕ) (partition : IsPartition epochs) (a : Seen P E) (buffer : List Block) where
   -- a call of an archive failed once the metadata held the event's pair, and nothing had been told
-  synced_cut : (config : Config) (chain : Chain) (asked : List Asked) (e : Event) (step : IsLawfulStep config chain (node_of a buffer asked) (e ∷ [])) (no_effect : effect_of config (node_of a buffer asked) e ≡ no_floor) → ((fault : Fault) → is_refused_floor e fault ≡ false) → (told told' : Option (List Report)) (heard heard' : Option (List Call)) (now : Held) (own : Pair) (y : At Finalization) (x : Ending) → Hears told [] told' → Hears heard (own_asks config (node_of a buffer asked) e no_floor) heard' → now.blocks ≡ a.held.blocks → now.certs ≡ a.held.certs → now.pairs ≡ own ∷ [] → own ≡ pair_of (processed_after (node_of a buffer asked) e no_floor) (cutoff_after config (node_of a buffer asked) e no_floor) → AreFinalizationsOf chain (y ∷ []) → told_finalization (node_of a buffer asked) e ≡ Some y.value → Loses now (written_cert y) x → ((sure : List (At Block)) → KeepsValues a.held.blocks.sure sure → (p : Pair) → Contains (own ∷ []) p → MayBeLeft config chain a e buffer asked sure p) → IsArchiveFault x.fault → CutsStep config chain (node_of a buffer asked) (e ∷ []) (heard_by told heard) (heard_by told' heard') x
-  synced_cut config chain asked e step no_effect unrefused told told' heard heard' now own y x silent asks same_blocks same_certs pairs own_is of_cert told_is lost may of_archive = record {
-    made = made_of [] (own_asks config (node_of a buffer asked) e no_floor);
+  synced_cut : (config : Config) (chain : Chain) (waiting : Waiting) (e : Event) (step : IsLawfulStep config chain (node_of a buffer waiting) (e ∷ [])) (no_effect : effect_of config (node_of a buffer waiting) e ≡ no_floor) → ((fault : Fault) → is_refused_floor e fault ≡ false) → (told told' : Option (List Report)) (heard heard' : Option (List Call)) (now : Held) (own : Pair) (y : At Finalization) (x : Ending) → Hears told [] told' → Hears heard (own_asks config (node_of a buffer waiting) e no_floor) heard' → now.blocks ≡ a.held.blocks → now.certs ≡ a.held.certs → now.pairs ≡ own ∷ [] → own ≡ pair_of (processed_after (node_of a buffer waiting) e no_floor) (cutoff_after config (node_of a buffer waiting) e no_floor) → AreFinalizationsOf chain (y ∷ []) → told_finalization (node_of a buffer waiting) e ≡ Some y.value → Loses now (written_cert y) x → ((sure : List (At Block)) → KeepsValues a.held.blocks.sure sure → (p : Pair) → Contains (own ∷ []) p → MayBeLeft config chain a e buffer waiting sure p) → IsArchiveFault x.fault → CutsStep config chain (node_of a buffer waiting) (e ∷ []) (heard_by told heard) (heard_by told' heard') x
+  synced_cut config chain waiting e step no_effect unrefused told told' heard heard' now own y x silent asks same_blocks same_certs pairs own_is of_cert told_is lost may of_archive = record {
+    made = made_of [] (own_asks config (node_of a buffer waiting) e no_floor);
     heard = record { reports = silent; asks = asks; answers = refl; no_more = refl };
-    cuts = Cuts-left config chain a e buffer asked before.0 before.1 no_effect [] (own_asks config (node_of a buffer asked) e no_floor) a.life.tip (reached_before (node_of a buffer asked) e) x.fault x.remains.ended refl tt (inl refl) tt tt leaves
+    cuts = Cuts-left config chain a e buffer waiting before.0 before.1 no_effect [] (own_asks config (node_of a buffer waiting) e no_floor) a.life.tip (reached_before (node_of a buffer waiting) e) x.fault x.remains.ended refl tt (inl refl) tt tt leaves
         (some_from_first x.remains.ended.meta own (lost.leaves.pairs.first ∙ ap first_pair pairs))
         (inr ((λ is. absurd (subst IsArchiveFault is of_archive)), lost.leaves.pairs.first ∙ (ap first_pair pairs ∙ ap Some own_is)))
         (λ p has. may x.remains.ended.blocks_sure (keeps_sure a.held.blocks [] (blocks_left x.remains.ended) blocks_leave) p (subst (λ ps. Contains ps p) (append-nil now.pairs ∙ pairs) (lost.leaves.pairs.within p has)))
         (λ is. absurd (never (is_by_value x.fault) (usual_not_by_value x.fault usual) is)) (never (is_refused_floor e x.fault) (unrefused x.fault)) (λ is. absurd (never (is_dropped_ack x.fault) (usual_not_dropped x.fault usual) is))
-        ([], sym (append-nil (own_asks config (node_of a buffer asked) e no_floor)));
+        ([], sym (append-nil (own_asks config (node_of a buffer waiting) e no_floor)));
   }
     where
       usual : IsUsual x.fault
       usual = usual_from_archive x.fault of_archive
 
-      before : IsGoodUntold config chain (node_of a buffer asked)
-      before = untold config chain (node_of a buffer asked) e step.good
+      before : IsGoodUntold config chain (node_of a buffer waiting)
+      before = untold config chain (node_of a buffer waiting) e step.good
 
       blocks_leave : LeavesStore a.held.blocks 0 [] (blocks_left x.remains.ended)
       blocks_leave = subst (λ k. LeavesStore k 0 [] (blocks_left x.remains.ended)) same_blocks lost.leaves.blocks
 
-      leaves : LeavesArchives chain (node_of a buffer asked) e x.remains.ended
+      leaves : LeavesArchives chain (node_of a buffer waiting) e x.remains.ended
       leaves = record {
         put_blocks = [];
         put_certs = y ∷ [];
@@ -102,37 +101,37 @@ module _ {P E : Type 0} (epochs : Epochs) (inner : List ℕ → List ℕ) (parti
     abbrev pub noted : Pair
     noted = pair_of a.held.processed (greatest_of a.held.cutoff (at_round f.round ∷ []))
 
-    hand : (config : Config) (chain : Chain) (asked : List Asked) → IsSetTo config a.life.sizes epochs inner → IsLawfulStep config chain (node_of a buffer asked) (message_told None (report_finalization f) ∷ []) → at_hand (node_of a buffer asked) f.payload ≡ Some b
-    hand config chain asked set step = event.hand epochs inner partition a buffer f config chain asked set step (Some b) found
+    hand : (config : Config) (chain : Chain) (waiting : Waiting) → IsSetTo config a.life.sizes epochs inner → IsLawfulStep config chain (node_of a buffer waiting) (message_told None (report_finalization f) ∷ []) → at_hand (node_of a buffer waiting) f.payload ≡ Some b
+    hand config chain waiting set step = event.hand epochs inner partition a buffer f config chain waiting set step (Some b) found
 
-    may : (config : Config) (chain : Chain) (asked : List Asked) (set : IsSetTo config a.life.sizes epochs inner) (step : IsLawfulStep config chain (node_of a buffer asked) (message_told None (report_finalization f) ∷ [])) (sure : List (At Block)) → KeepsValues a.held.blocks.sure sure → (p : Pair) → Contains (noted ∷ []) p → MayBeLeft config chain a (message_told None (report_finalization f)) buffer asked sure p
-    may config chain asked set step sure keeps p has = final.pair_late-left config chain a f buffer asked step.lawful step.one step.good step.reported.0 (event.partition_of epochs inner partition a buffer config set.epochs_are) b (hand config chain asked set step) low sure keeps p has
+    may : (config : Config) (chain : Chain) (waiting : Waiting) (set : IsSetTo config a.life.sizes epochs inner) (step : IsLawfulStep config chain (node_of a buffer waiting) (message_told None (report_finalization f) ∷ [])) (sure : List (At Block)) → KeepsValues a.held.blocks.sure sure → (p : Pair) → Contains (noted ∷ []) p → MayBeLeft config chain a (message_told None (report_finalization f)) buffer waiting sure p
+    may config chain waiting set step sure keeps p has = final.pair_late-left config chain a f buffer waiting step.lawful step.one step.good step.reported.0 (event.partition_of epochs inner partition a buffer config set.epochs_are) b (hand config chain waiting set step) low sure keeps p has
 
     -- raising the cutoff ended the life
     pub promise-unraised : (told : Option (List Report)) (heard heard' : Option (List Call)) (x : Ending) → HearsFront heard (raise_asks a.held.cutoff (at_round f.round ∷ [])) heard' → Loses a.held nothing_written x → IsUsual x.fault → KeepsPromise epochs inner a (message_told None (report_finalization f) ∷ []) buffer (heard_by told heard) (heard_by told heard') (Err x)
-    promise-unraised told heard heard' x front lost usual config chain asked set step =
-        event.quiet_cut epochs inner partition a buffer config chain asked (message_told None (report_finalization f)) step refl (λ fault. refl) told told heard heard' nothing_written x (Hears-nothing told)
-        (subst (λ cs. HearsFront heard cs heard') (final.asks-late config chain a f buffer asked step.lawful step.one step.good step.reported.0 b (hand config chain asked set step) low) front)
+    promise-unraised told heard heard' x front lost usual config chain waiting set step =
+        event.quiet_cut epochs inner partition a buffer config chain waiting (message_told None (report_finalization f)) step refl (λ fault. refl) told told heard heard' nothing_written x (Hears-nothing told)
+        (subst (λ cs. HearsFront heard cs heard') (final.asks-late config chain a f buffer waiting step.lawful step.one step.good step.reported.0 b (hand config chain waiting set step) low) front)
         refl refl tt tt (λ z has. nothing_put z has) (λ z has. nothing_put z has) lost (λ q has. nothing_put q has) usual
 
     -- the raised cutoff's own sync failed
     pub promise-unsynced : (told : Option (List Report)) (heard heard' : Option (List Call)) (p : Pair) (x : Ending) → p ≡ noted → HearsFront heard (raise_asks a.held.cutoff (at_round f.round ∷ [])) heard' → Loses a.held (written_pair p) x → IsUsual x.fault → KeepsPromise epochs inner a (message_told None (report_finalization f) ∷ []) buffer (heard_by told heard) (heard_by told heard') (Err x)
-    promise-unsynced told heard heard' p x is front lost usual config chain asked set step =
-        event.quiet_cut epochs inner partition a buffer config chain asked (message_told None (report_finalization f)) step refl (λ fault. refl) told told heard heard' (written_pair p) x (Hears-nothing told)
-        (subst (λ cs. HearsFront heard cs heard') (final.asks-late config chain a f buffer asked step.lawful step.one step.good step.reported.0 b (hand config chain asked set step) low) front) refl refl tt tt (λ z has. nothing_put z has) (λ z has. nothing_put z has) lost
-        (λ q has. may config chain asked set step x.remains.ended.blocks_sure (λ h v at. lost.leaves.blocks.sure h v (omega arith) at) q (subst (λ r. Contains (r ∷ []) q) is has)) usual
+    promise-unsynced told heard heard' p x is front lost usual config chain waiting set step =
+        event.quiet_cut epochs inner partition a buffer config chain waiting (message_told None (report_finalization f)) step refl (λ fault. refl) told told heard heard' (written_pair p) x (Hears-nothing told)
+        (subst (λ cs. HearsFront heard cs heard') (final.asks-late config chain a f buffer waiting step.lawful step.one step.good step.reported.0 b (hand config chain waiting set step) low) front) refl refl tt tt (λ z has. nothing_put z has) (λ z has. nothing_put z has) lost
+        (λ q has. may config chain waiting set step x.remains.ended.blocks_sure (λ h v at. lost.leaves.blocks.sure h v (omega arith) at) q (subst (λ r. Contains (r ∷ []) q) is has)) usual
 
     module _ (w s : Seen P E) (raised : RaisesTo a (at_round f.round ∷ []) (later_round a.held.witnessed (Some f.round)) w) (synced : s ≡ record w { held = record w.held { pairs = pair_of w.held.processed w.held.cutoff ∷ []; watches = s.held.watches } }) where
       pairs_are : s.held.pairs ≡ noted ∷ []
       pairs_are = ap (λ k. k.held.pairs) synced ∙ ap (λ k. pair_of k.held.processed k.held.cutoff ∷ []) raised.same
 
       pub promise-unstored_late : (told told' : Option (List Report)) (heard heard' : Option (List Call)) (x : Ending) → Hears told [] told' → Hears heard (raise_asks a.held.cutoff (at_round f.round ∷ [])) heard' → Loses s.held (written_cert (at_height b.height f)) x → IsArchiveFault x.fault → KeepsPromise epochs inner a (message_told None (report_finalization f) ∷ []) buffer (heard_by told heard) (heard_by told' heard') (Err x)
-      promise-unstored_late told told' heard heard' x silent asks lost of_archive config chain asked set step =
-          synced_cut config chain asked (message_told None (report_finalization f)) step refl (λ fault. refl) told told' heard heard' s.held noted (at_height b.height f) x silent
-          (subst (λ cs. Hears heard cs heard') (final.asks-late config chain a f buffer asked step.lawful step.one step.good step.reported.0 b (hand config chain asked set step) low) asks)
+      promise-unstored_late told told' heard heard' x silent asks lost of_archive config chain waiting set step =
+          synced_cut config chain waiting (message_told None (report_finalization f)) step refl (λ fault. refl) told told' heard heard' s.held noted (at_height b.height f) x silent
+          (subst (λ cs. Hears heard cs heard') (final.asks-late config chain a f buffer waiting step.lawful step.one step.good step.reported.0 b (hand config chain waiting set step) low) asks)
           (ap (λ k. k.held.blocks) synced ∙ ap (λ k. k.held.blocks) raised.same) (ap (λ k. k.held.certs) synced ∙ ap (λ k. k.held.certs) raised.same) pairs_are
-          (final.pair_late-is config chain a f buffer asked step.lawful step.one step.good step.reported.0 b (hand config chain asked set step) low)
-          (event.of_cert epochs inner partition a buffer f b found config chain asked set step) refl lost (may config chain asked set step) of_archive
+          (final.pair_late-is config chain a f buffer waiting step.lawful step.one step.good step.reported.0 b (hand config chain waiting set step) low)
+          (event.of_cert epochs inner partition a buffer f b found config chain waiting set step) refl lost (may config chain waiting set step) of_archive
 
       due_same : lacks_finalization s.held b ≡ lacks_finalization a.held b
       due_same = ap (λ k. lacks_finalization k.held b) synced ∙ ap (λ k. lacks_finalization k.held b) raised.same
@@ -147,22 +146,22 @@ module _ {P E : Type 0} (epochs : Epochs) (inner : List ℕ → List ℕ) (parti
       certs_same = ap (λ k. k.held.certs) synced ∙ ap (λ k. k.held.certs) raised.same
 
       pub promise-late : (told told' : Option (List Report)) (heard heard' : Option (List Call)) (m : Seen P E) → IsNested a.held.blocks → IsNested a.held.certs → StoresLate inner s f b m → Grew s.held (written_cert (at_height b.height f)) m.held → Hears told (late_tips (lacks_finalization s.held b) s.life.tip f b) told' → Hears heard (raise_asks a.held.cutoff (at_round f.round ∷ [])) heard' → KeepsPromise epochs inner a (message_told None (report_finalization f) ∷ []) buffer (heard_by told heard) (heard_by told' heard') (Ok m)
-      promise-late told told' heard heard' m nested certs_nested stores grew tips asks config chain asked set step =
-          undispatched config chain a m (message_told None (report_finalization f)) buffer asked (late_tips (lacks_finalization a.held b) a.life.tip f b) (set.window ∙ sym sizes) step (λ fault. refl)
-          (final.Reaches-late config chain a f buffer asked step.lawful step.one step.good step.reported.0 (event.partition_of epochs inner partition a buffer config set.epochs_are) b w s m nested certs_nested (subst (λ k. Grown k (at_height b.height f ∷ []) m.held.certs) certs_same (Grown-certs s.held m.held (written_cert (at_height b.height f)) refl grew)) (hand config chain asked set step) low raised synced stores_as)
-          (final.IsGood-noted config chain a f buffer asked step.lawful step.one step.good step.reported.0 (event.partition_of epochs inner partition a buffer config set.epochs_are) b w s m (subst (λ k. Grown k (at_height b.height f ∷ []) m.held.certs) certs_same (Grown-certs s.held m.held (written_cert (at_height b.height f)) refl grew)) (hand config chain asked set step) low raised synced stores_as)
+      promise-late told told' heard heard' m nested certs_nested stores grew tips asks config chain waiting set step =
+          undispatched config chain a m (message_told None (report_finalization f)) buffer waiting (late_tips (lacks_finalization a.held b) a.life.tip f b) (set.window ∙ sym sizes) step (λ fault. refl)
+          (final.Reaches-late config chain a f buffer waiting step.lawful step.one step.good step.reported.0 (event.partition_of epochs inner partition a buffer config set.epochs_are) b w s m nested certs_nested (subst (λ k. Grown k (at_height b.height f ∷ []) m.held.certs) certs_same (Grown-certs s.held m.held (written_cert (at_height b.height f)) refl grew)) (hand config chain waiting set step) low raised synced stores_as)
+          (final.IsGood-noted config chain a f buffer waiting step.lawful step.one step.good step.reported.0 (event.partition_of epochs inner partition a buffer config set.epochs_are) b w s m (subst (λ k. Grown k (at_height b.height f ∷ []) m.held.certs) certs_same (Grown-certs s.held m.held (written_cert (at_height b.height f)) refl grew)) (hand config chain waiting set step) low raised synced stores_as)
           (let same : total_writes m.held.writes ≡ total_writes a.held.writes = ap total_writes writes in omega arith)
           (subst (λ k. KeepsValues k.sure k.held) (sym blocks) nested.sure_held)
           told told' heard heard'
           (subst (λ t. Hears told (late_tips (lacks_finalization a.held b) t f b) told') tip_same (subst (λ d. Hears told (late_tips d s.life.tip f b) told') due_same tips))
-          (subst (λ cs. Hears heard cs heard') (final.asks-late config chain a f buffer asked step.lawful step.one step.good step.reported.0 b (hand config chain asked set step) low) asks)
-          (Rest-same config.window a m buffer asked out processed blocks writes step.rests)
+          (subst (λ cs. Hears heard cs heard') (final.asks-late config chain a f buffer waiting step.lawful step.one step.good step.reported.0 b (hand config chain waiting set step) low) asks)
+          (Rest-same config.window a m buffer waiting out processed blocks writes step.rests)
         where
           stores_as : StoresLate config.inner s f b m
           stores_as = subst (λ i. StoresLate i s f b m) (sym set.inner_is) stores
 
           writes : m.held.writes ≡ a.held.writes
-          writes = final.writes-noted config chain a f buffer asked step.lawful step.one step.good step.reported.0 b w s m raised synced stores_as
+          writes = final.writes-noted config chain a f buffer waiting step.lawful step.one step.good step.reported.0 b w s m raised synced stores_as
 
           blocks : m.held.blocks ≡ a.held.blocks
           blocks = ap (λ k. k.held.blocks) stores.same ∙ blocks_same
@@ -188,22 +187,22 @@ module _ {P E : Type 0} (epochs : Epochs) (inner : List ℕ → List ℕ) (parti
     given = record a { life = record a.life { out = with_mark t mark_given a.life.out } }
 
     -- what is asked as the given ones are processed is what the event asks
-    asks_are : (config : Config) (chain : Chain) (asked : List Asked) (set : IsSetTo config a.life.sizes epochs inner) (step : IsLawfulStep config chain (node_of a buffer asked) (ack_given t ∷ [])) → IsNested a.held.blocks → IsNested a.held.certs → retire_asks epochs a.held.certs.held a.held.cutoff (given_front given.life.out) ≡ own_asks config (node_of a buffer asked) (ack_given t) no_floor
-    asks_are config chain asked set step nested certs_nested =
-        subst (λ es. retire_asks es a.held.certs.held a.held.cutoff (given_front given.life.out) ≡ own_asks config (node_of a buffer asked) (ack_given t) no_floor) set.epochs_are
-        (ack.asks-drained config chain step.lawful (event.partition_of epochs inner partition a buffer config set.epochs_are) a t buffer asked nested certs_nested step.good)
+    asks_are : (config : Config) (chain : Chain) (waiting : Waiting) (set : IsSetTo config a.life.sizes epochs inner) (step : IsLawfulStep config chain (node_of a buffer waiting) (ack_given t ∷ [])) → IsNested a.held.blocks → IsNested a.held.certs → retire_asks epochs a.held.certs.held a.held.cutoff (given_front given.life.out) ≡ own_asks config (node_of a buffer waiting) (ack_given t) no_floor
+    asks_are config chain waiting set step nested certs_nested =
+        subst (λ es. retire_asks es a.held.certs.held a.held.cutoff (given_front given.life.out) ≡ own_asks config (node_of a buffer waiting) (ack_given t) no_floor) set.epochs_are
+        (ack.asks-drained config chain step.lawful (event.partition_of epochs inner partition a buffer config set.epochs_are) a t buffer waiting nested certs_nested step.good)
 
     pub promise-undrained : (told : Option (List Report)) (heard heard' : Option (List Call)) (x : Ending) → IsNested a.held.blocks → IsNested a.held.certs → HearsFront heard (retire_asks epochs a.held.certs.held a.held.cutoff (given_front given.life.out)) heard' → Loses a.held nothing_written x → IsUsual x.fault ⊎ EndsDropped given x → KeepsPromise epochs inner a (ack_given t ∷ []) buffer (heard_by told heard) (heard_by told heard') (Err x)
-    promise-undrained told heard heard' x nested certs_nested asks lost (inl usual) config chain asked set step =
-        event.quiet_cut epochs inner partition a buffer config chain asked (ack_given t) step refl (λ fault. refl) told told heard heard' nothing_written x (Hears-nothing told)
-        (subst (λ cs. HearsFront heard cs heard') (asks_are config chain asked set step nested certs_nested) asks)
+    promise-undrained told heard heard' x nested certs_nested asks lost (inl usual) config chain waiting set step =
+        event.quiet_cut epochs inner partition a buffer config chain waiting (ack_given t) step refl (λ fault. refl) told told heard heard' nothing_written x (Hears-nothing told)
+        (subst (λ cs. HearsFront heard cs heard') (asks_are config chain waiting set step nested certs_nested) asks)
         refl refl tt tt (λ z has. nothing_put z has) (λ z has. nothing_put z has) lost (λ p has. nothing_put p has) usual
-    promise-undrained told heard heard' x nested certs_nested (asks, front, asks_heard) lost (inr ends) config chain asked set step = record {
+    promise-undrained told heard heard' x nested certs_nested (asks, front, asks_heard) lost (inr ends) config chain waiting set step = record {
       made = made_of [] asks;
       heard = record { reports = Hears-nothing told; asks = asks_heard; answers = refl; no_more = refl };
-      cuts = Cuts-before config chain a (ack_given t) buffer asked a.life.tip step.good refl [] asks a.life.tip nothing_written x tt refl tt refl refl tt tt (λ z has. nothing_put z has) (λ z has. nothing_put z has) lost (λ p has. nothing_put p has)
+      cuts = Cuts-before config chain a (ack_given t) buffer waiting a.life.tip step.good refl [] asks a.life.tip nothing_written x tt refl tt refl refl tt tt (λ z has. nothing_put z has) (λ z has. nothing_put z has) lost (λ p has. nothing_put p has)
           (λ is. dropped_first-some (after_given given.life.out) ends.oldest ends.dropped ∙ ap Some (sym ends.fault)) (never (is_refused_floor (ack_given t) x.fault) refl) (λ is. ends.unsynced)
-          (subst (λ cs. IsFront asks cs) (asks_are config chain asked set step nested certs_nested) front);
+          (subst (λ cs. IsFront asks cs) (asks_are config chain waiting set step nested certs_nested) front);
     }
 
     module _ (is_drained : Bool) (d : Seen P E) (drains : Drains epochs given is_drained d) where
@@ -218,34 +217,34 @@ module _ {P E : Type 0} (epochs : Epochs) (inner : List ℕ → List ℕ) (parti
 
       -- the sync of the processed height failed
       pub promise-ack_unsynced : (told : Option (List Report)) (heard heard' : Option (List Call)) (x : Ending) → IsNested a.held.blocks → IsNested a.held.certs → Hears heard (retire_asks epochs a.held.certs.held a.held.cutoff (given_front given.life.out)) heard' → Loses a.held (written_pair (pair_of d.held.processed d.held.cutoff)) x → IsUsual x.fault → KeepsPromise epochs inner a (ack_given t ∷ []) buffer (heard_by told heard) (heard_by told heard') (Err x)
-      promise-ack_unsynced told heard heard' x nested certs_nested asks lost usual config chain asked set step =
-          event.quiet_cut epochs inner partition a buffer config chain asked (ack_given t) step refl (λ fault. refl) told told heard heard' (written_pair (pair_of d.held.processed d.held.cutoff)) x (Hears-nothing told)
-          (HearsFront-whole heard _ heard' (subst (λ cs. Hears heard cs heard') (asks_are config chain asked set step nested certs_nested) asks)) refl refl tt tt (λ z has. nothing_put z has) (λ z has. nothing_put z has) lost
-          (λ p has. ack.MayBeLeft-drained config chain step.lawful (event.partition_of epochs inner partition a buffer config set.epochs_are) a t buffer asked nested certs_nested step.good is_drained d (of_config config set.epochs_are) x.remains.ended.blocks_sure (λ h v at. lost.leaves.blocks.sure h v (omega arith) at) p has) usual
+      promise-ack_unsynced told heard heard' x nested certs_nested asks lost usual config chain waiting set step =
+          event.quiet_cut epochs inner partition a buffer config chain waiting (ack_given t) step refl (λ fault. refl) told told heard heard' (written_pair (pair_of d.held.processed d.held.cutoff)) x (Hears-nothing told)
+          (HearsFront-whole heard _ heard' (subst (λ cs. Hears heard cs heard') (asks_are config chain waiting set step nested certs_nested) asks)) refl refl tt tt (λ z has. nothing_put z has) (λ z has. nothing_put z has) lost
+          (λ p has. ack.MayBeLeft-drained config chain step.lawful (event.partition_of epochs inner partition a buffer config set.epochs_are) a t buffer waiting nested certs_nested step.good is_drained d (of_config config set.epochs_are) x.remains.ended.blocks_sure (λ h v at. lost.leaves.blocks.sure h v (omega arith) at) p has) usual
 
       pub promise-acked : (told told' : Option (List Report)) (heard heard' : Option (List Call)) (m : Seen P E) (result : Result (Seen P E) Ending) → IsNested a.held.blocks → IsNested a.held.certs → m ≡ record d { held = record d.held { pairs = pair_of d.held.processed d.held.cutoff ∷ []; watches = m.held.watches } } → Hears heard (retire_asks epochs a.held.certs.held a.held.cutoff (given_front given.life.out)) heard' → Ran m told told' result → KeepsPromise epochs inner a (ack_given t ∷ []) buffer (heard_by told heard) (heard_by told' heard') result
-      promise-acked told told' heard heard' m result nested certs_nested synced asks ran config chain asked set step =
-          dispatched config chain a m (ack_given t) buffer asked [] (set.window ∙ sym (ap (λ k. k.life.sizes.window) synced ∙ window_same)) step (λ fault. refl)
-          (ack.Reaches-ack config chain step.lawful (event.partition_of epochs inner partition a buffer config set.epochs_are) a t buffer asked nested certs_nested step.good is_drained d (of_config config set.epochs_are) m synced)
-          (ack.IsGood-ack config chain step.lawful (event.partition_of epochs inner partition a buffer config set.epochs_are) a t buffer asked nested certs_nested step.good is_drained d (of_config config set.epochs_are) m synced)
-          (let same : total_writes m.held.writes ≡ total_writes a.held.writes = ap total_writes (ack.writes-ack config chain step.lawful (event.partition_of epochs inner partition a buffer config set.epochs_are) a t buffer asked nested certs_nested step.good is_drained d (of_config config set.epochs_are) m synced) in omega arith)
+      promise-acked told told' heard heard' m result nested certs_nested synced asks ran config chain waiting set step =
+          dispatched config chain a m (ack_given t) buffer waiting [] (set.window ∙ sym (ap (λ k. k.life.sizes.window) synced ∙ window_same)) step (λ fault. refl)
+          (ack.Reaches-ack config chain step.lawful (event.partition_of epochs inner partition a buffer config set.epochs_are) a t buffer waiting nested certs_nested step.good is_drained d (of_config config set.epochs_are) m synced)
+          (ack.IsGood-ack config chain step.lawful (event.partition_of epochs inner partition a buffer config set.epochs_are) a t buffer waiting nested certs_nested step.good is_drained d (of_config config set.epochs_are) m synced)
+          (let same : total_writes m.held.writes ≡ total_writes a.held.writes = ap total_writes (ack.writes-ack config chain step.lawful (event.partition_of epochs inner partition a buffer config set.epochs_are) a t buffer waiting nested certs_nested step.good is_drained d (of_config config set.epochs_are) m synced) in omega arith)
           (subst (λ k. KeepsValues k.sure k.held) (sym blocks) nested.sure_held)
           told told told' heard heard' result (Hears-nothing told) ran
-          (subst (λ cs. Hears heard cs heard') (asks_are config chain asked set step nested certs_nested) asks)
+          (subst (λ cs. Hears heard cs heard') (asks_are config chain waiting set step nested certs_nested) asks)
         where
           blocks : m.held.blocks ≡ a.held.blocks
           blocks = ap (λ k. k.held.blocks) synced ∙ blocks_drained
 
     pub promise-not_drained : (told : Option (List Report)) (heard heard' : Option (List Call)) (d : Seen P E) (is_drained : Bool) → is_drained ≡ false → Drains epochs given is_drained d → IsNested a.held.blocks → IsNested a.held.certs → Hears heard (retire_asks epochs a.held.certs.held a.held.cutoff (given_front given.life.out)) heard' → KeepsPromise epochs inner a (ack_given t ∷ []) buffer (heard_by told heard) (heard_by told heard') (Ok d)
-    promise-not_drained told heard heard' d is_drained not_drained any nested certs_nested asks config chain asked set step =
-        undispatched config chain a d (ack_given t) buffer asked [] (set.window ∙ sym (ap (λ k. k.life.sizes.window) any.same)) step (λ fault. refl)
-        (ack.Reaches-undrained config chain step.lawful (event.partition_of epochs inner partition a buffer config set.epochs_are) a t buffer asked nested certs_nested step.good d drains)
-        (ack.IsGood-undrained config chain step.lawful (event.partition_of epochs inner partition a buffer config set.epochs_are) a t buffer asked nested certs_nested step.good d drains)
-        (let same : total_writes d.held.writes ≡ total_writes a.held.writes = ap total_writes (ack.writes-undrained config chain step.lawful (event.partition_of epochs inner partition a buffer config set.epochs_are) a t buffer asked nested certs_nested step.good d drains) in omega arith)
+    promise-not_drained told heard heard' d is_drained not_drained any nested certs_nested asks config chain waiting set step =
+        undispatched config chain a d (ack_given t) buffer waiting [] (set.window ∙ sym (ap (λ k. k.life.sizes.window) any.same)) step (λ fault. refl)
+        (ack.Reaches-undrained config chain step.lawful (event.partition_of epochs inner partition a buffer config set.epochs_are) a t buffer waiting nested certs_nested step.good d drains)
+        (ack.IsGood-undrained config chain step.lawful (event.partition_of epochs inner partition a buffer config set.epochs_are) a t buffer waiting nested certs_nested step.good d drains)
+        (let same : total_writes d.held.writes ≡ total_writes a.held.writes = ap total_writes (ack.writes-undrained config chain step.lawful (event.partition_of epochs inner partition a buffer config set.epochs_are) a t buffer waiting nested certs_nested step.good d drains) in omega arith)
         (subst (λ k. KeepsValues k.sure k.held) (sym blocks) nested.sure_held)
         told told heard heard' (Hears-nothing told)
-        (subst (λ cs. Hears heard cs heard') (asks_are config chain asked set step nested certs_nested) asks)
-        (ack.Rest-undrained config chain step.lawful (event.partition_of epochs inner partition a buffer config set.epochs_are) a t buffer asked nested certs_nested step.good d drains step.rests)
+        (subst (λ cs. Hears heard cs heard') (asks_are config chain waiting set step nested certs_nested) asks)
+        (ack.Rest-undrained config chain step.lawful (event.partition_of epochs inner partition a buffer config set.epochs_are) a t buffer waiting nested certs_nested step.good d drains step.rests)
       where
         blocks : d.held.blocks ≡ a.held.blocks
         blocks = ap (λ k. k.held.blocks) any.same

@@ -2,7 +2,6 @@
 use Rattle.std.proofs.Common.{◌≡◌, ◌⊎◌, inl, inr, ℕ, ◌+◌, ◌<◌, ◌≤◌, List, [], ◌∷◌, ◌++◌, length, map, false, Option, Some, None, option_map, Result, Ok, Err, IsTrue, Contains, refl, sym, ◌∙◌, ap, ap₂, subst, arith, append-nil}
 use Rattle.std.specs.List.{AllByRecursion}
 use Rattle.mar_cert.specs.Block.{Block}
-use Rattle.mar_key.specs.Asked.{Asked, asked_after}
 use Rattle.mar_key.specs.Hears.{Hears}
 use Rattle.mar_key.specs.Keys.{Call}
 use Rattle.mar_key.specs.Processed.{first_unprocessed, height_in}
@@ -20,7 +19,7 @@ use Rattle.mar_node.specs.Moves.{IsLastTicket, IsStarted, IsStill, StopsHanding,
 use Rattle.mar_node.specs.Step.{HeldFrom}
 use Rattle.mar_node.specs.Node.{AreBlocksOf, Ended, IsGood, Node, Rest}
 use Rattle.mar_node.specs.Writing.{total_writes}
-use Rattle.mar_node.specs.Promise.{FinishesStep, IsGoodUntold, IsLawfulStep, StepsOrCuts, heard_by, made_of, node_of}
+use Rattle.mar_node.specs.Promise.{FinishesStep, IsGoodUntold, IsLawfulStep, StepsOrCuts, Waiting, asked_since, heard_by, made_of, node_of}
 use Rattle.mar_node.specs.Requests.{own_asks}
 use Rattle.mar_node.specs.Sound.{IsSafePair}
 use Rattle.mar_node.specs.Step.{AreHandedOf, HandedBlock, HandedFrom, Report, Steps, handed_blocks}
@@ -37,12 +36,12 @@ AreHandedOf-values : (chain : Chain) (held sure : List (At Block)) (uncovered : 
 AreHandedOf-values chain held sure uncovered ticket height [] blocks all below line = tt
 AreHandedOf-values chain held sure uncovered ticket height (x ∷ xs) blocks all below line = ((subst (λ k. IsBlockAt chain k x.block) (sym line.1) (AllByRecursion-value_at (λ y. IsBlockAt chain y.height y.value) held height x.block blocks line.2), subst (λ k. value_at sure k ≡ Some x.block) (sym line.1) (all height x.block (subst (λ h. AllByRecursion (λ k. h < k) uncovered) line.1 below.0) line.2)), AreHandedOf-values chain held sure uncovered (ticket + 1) (height + 1) xs blocks all below.1 line.3)
 
-module _ {P E : Type 0} (config : Config) (chain : Chain) (a m : Seen P E) (e : Event) (buffer : List Block) (asked : List Asked) (tips : List Report)
-    (window : config.window ≡ m.life.sizes.window) (step : IsLawfulStep config chain (node_of a buffer asked) (e ∷ [])) (unrefused : (fault : Fault) → is_refused_floor e fault ≡ false)
-    (reach : Reaches config chain a e buffer asked tips m) (good : IsGood config chain (node_of m buffer asked)) (unwritten : total_writes m.held.writes ≤ total_writes a.held.writes) (sure_held : KeepsValues m.held.blocks.sure m.held.blocks.held)
+module _ {P E : Type 0} (config : Config) (chain : Chain) (a m : Seen P E) (e : Event) (buffer : List Block) (waiting : Waiting) (tips : List Report)
+    (window : config.window ≡ m.life.sizes.window) (step : IsLawfulStep config chain (node_of a buffer waiting) (e ∷ [])) (unrefused : (fault : Fault) → is_refused_floor e fault ≡ false)
+    (reach : Reaches config chain a e buffer waiting tips m) (good : IsGood config chain (node_of m buffer waiting)) (unwritten : total_writes m.held.writes ≤ total_writes a.held.writes) (sure_held : KeepsValues m.held.blocks.sure m.held.blocks.held)
   where
     abbrev pub n : Node
-    n = node_of a buffer asked
+    n = node_of a buffer waiting
 
     -- the node before, once some tip is told
     good_before : IsGoodUntold config chain n
@@ -99,10 +98,10 @@ module _ {P E : Type 0} (config : Config) (chain : Chain) (a m : Seen P E) (e : 
           subst (λ k. HandedFrom left.blocks_sure a.life.next_ack (k + length (undrained_blocks n e)) handed) (sym (next_after-is m.held.processed))
           (subst (λ o. HandedFrom left.blocks_sure a.life.next_ack (first_unprocessed m.held.processed + length o) handed) reach.kept
           (subst (λ t. HandedFrom left.blocks_sure t (first_unprocessed m.held.processed + length m.life.out) handed) reach.next_ack
-          (subst (λ k. HandedFrom left.blocks_sure m.life.next_ack k handed) (next_is config chain m buffer asked good)
+          (subst (λ k. HandedFrom left.blocks_sure m.life.next_ack k handed) (next_is config chain m buffer waiting good)
           (HandedFrom-held m.held.blocks.held left.blocks_sure m.held.writes.uncovered m.life.next_ack (next_in m) handed sure_from_held stops.below_barrier stops.next))))
 
-      each : (p : Pair) → Contains left.meta p → MayBeLeft config chain a e buffer asked left.blocks_sure p
+      each : (p : Pair) → Contains left.meta p → MayBeLeft config chain a e buffer waiting left.blocks_sure p
       each p has = inr (pair_is ∙ is, subst (IsSafePair chain left.blocks_sure) is safe, subst (λ q. NotBelow (option_map height_in a.held.processed) q.processed) is not_below)
         where
           is : pair_of m.held.processed m.held.cutoff ≡ p
@@ -113,7 +112,7 @@ module _ {P E : Type 0} (config : Config) (chain : Chain) (a m : Seen P E) (e : 
           from (Some h) = omega arith
 
           safe : IsSafePair chain left.blocks_sure (pair_of m.held.processed m.held.cutoff)
-          safe = IsSafePair-kept chain 0 m.held.blocks.sure left.blocks_sure (pair_of m.held.processed m.held.cutoff) (λ h low there. keeps_heights m.held.blocks.sure left.blocks_sure kept h there) (from (option_map height_in m.held.processed)) (own_pair_safe chain (node_of m buffer asked) good.heights.delivery.anchored good.of_chain.floor_safe)
+          safe = IsSafePair-kept chain 0 m.held.blocks.sure left.blocks_sure (pair_of m.held.processed m.held.cutoff) (λ h low there. keeps_heights m.held.blocks.sure left.blocks_sure kept h there) (from (option_map height_in m.held.processed)) (own_pair_safe chain (node_of m buffer waiting) good.heights.delivery.anchored good.of_chain.floor_safe)
 
       by_kind : IsArchiveFault x.fault ⊎ ((x.fault ≡ ticket_limit ack_kind) × IsLastTicket m (length handed)) → (is_by_value x.fault ≡ false) × (is_dropped_ack x.fault ≡ false) × (x.fault ≡ store_fault meta_store → ⊥)
       by_kind (inl of_blocks) = (usual_not_by_value x.fault (usual_from_archive x.fault of_blocks), usual_not_dropped x.fault (usual_from_archive x.fault of_blocks), λ is. absurd (subst IsArchiveFault is of_blocks))
@@ -128,7 +127,7 @@ module _ {P E : Type 0} (config : Config) (chain : Chain) (a m : Seen P E) (e : 
       -- a life that ended while blocks were handed over is cut there
       pub Cuts-handing : Cuts config chain n (e ∷ []) (made_of (tips ++ map handed_report handed) (own_asks config n e no_floor)) x.fault left
       Cuts-handing =
-          Cuts-left config chain a e buffer asked good_before.0 good_before.1 reach.no_effect (tips ++ map handed_report handed) (own_asks config n e no_floor) m.life.tip reached x.fault left
+          Cuts-left config chain a e buffer waiting good_before.0 good_before.1 reach.no_effect (tips ++ map handed_report handed) (own_asks config n e no_floor) m.life.tip reached x.fault left
           (tips_before_handed a.life.tip m.life.tip tips handed reach.are_tips reach.tips_rise) (tips_of_both chain tips handed reach.are_tips reach.tips_chain)
           (inr (refl, subst (Contains (map (λ p. p.processed) left.meta)) (sym processed_is) (contains_first left.meta (pair_of m.held.processed m.held.cutoff) first)))
           (subst (λ p. HandedFrom left.blocks_sure a.life.next_ack (next_after p + length (undrained_blocks n e)) (handed_blocks (tips ++ map handed_report handed))) (sym processed_is)
@@ -147,13 +146,13 @@ module _ {P E : Type 0} (config : Config) (chain : Chain) (a m : Seen P E) (e : 
     dispatched told told1 told' heard heard' (Ok d) tips_heard (handed, handed_heard, ran) asks_heard = record {
       made = made_of (tips ++ map handed_report handed) (own_asks config n e no_floor);
       heard = record { reports = Hears-then told told1 told' tips (map handed_report handed) tips_heard handed_heard; asks = asks_heard; answers = refl; no_more = refl };
-      steps = subst (λ s. Steps config chain n (e ∷ []) (made_of (tips ++ map handed_report handed) (own_asks config n e no_floor)) (node_of s buffer (asked_after asked [] (own_asks config n e no_floor)))) (sym ran.same)
-          (Steps-reached config chain a m e buffer asked tips handed step.reported.0 good_before.1.of_chain.asks.requests reach (HandsSure-next config chain m buffer asked handed good sure_held ran.next ran.below_barrier) unwritten handed_good
-          (Rest-still config chain (with_handed m handed) buffer asked step.lawful window handed_good (subst IsStill ran.same ran.still)));
+      steps = subst (λ s. Steps config chain n (e ∷ []) (made_of (tips ++ map handed_report handed) (own_asks config n e no_floor)) (node_of s buffer (asked_since waiting (own_asks config n e no_floor)))) (sym ran.same)
+          (Steps-reached config chain a m e buffer waiting tips handed step.reported.0 good_before.1.of_chain.asks.requests reach (HandsSure-next config chain m buffer waiting handed good sure_held ran.next ran.below_barrier) unwritten handed_good
+          (Rest-still config chain (with_handed m handed) buffer waiting step.lawful window handed_good (subst IsStill ran.same ran.still)));
     }
       where
-        handed_good : IsGood config chain (node_of (with_handed m handed) buffer asked)
-        handed_good = IsGood-handed config chain m buffer asked handed window good ran.next ran.below_barrier ran.room
+        handed_good : IsGood config chain (node_of (with_handed m handed) buffer waiting)
+        handed_good = IsGood-handed config chain m buffer waiting handed window good ran.next ran.below_barrier ran.room
     dispatched told told1 told' heard heard' (Err x) tips_heard (handed, handed_heard, stops) asks_heard = record {
       made = made_of (tips ++ map handed_report handed) (own_asks config n e no_floor);
       heard = record { reports = Hears-then told told1 told' tips (map handed_report handed) tips_heard handed_heard; asks = asks_heard; answers = refl; no_more = refl };
@@ -161,21 +160,21 @@ module _ {P E : Type 0} (config : Config) (chain : Chain) (a m : Seen P E) (e : 
     }
 
     -- what a step without a dispatch makes of it, where the reached node rests
-    pub undispatched : (told told' : Option (List Report)) (heard heard' : Option (List Call)) → Hears told tips told' → Hears heard (own_asks config n e no_floor) heard' → Rest config.window (node_of m buffer asked) → FinishesStep config chain n (e ∷ []) (heard_by told heard) (heard_by told' heard') m
+    pub undispatched : (told told' : Option (List Report)) (heard heard' : Option (List Call)) → Hears told tips told' → Hears heard (own_asks config n e no_floor) heard' → Rest config.window (node_of m buffer waiting) → FinishesStep config chain n (e ∷ []) (heard_by told heard) (heard_by told' heard') m
     undispatched told told' heard heard' tips_heard asks_heard rests = record {
       made = made_of tips (own_asks config n e no_floor);
       heard = record { reports = tips_heard; asks = asks_heard; answers = refl; no_more = refl };
-      steps = subst (λ rs. Steps config chain n (e ∷ []) (made_of rs (own_asks config n e no_floor)) (node_of m buffer (asked_after asked [] (own_asks config n e no_floor)))) (append-nil tips)
-          (subst (λ s. Steps config chain n (e ∷ []) (made_of (tips ++ []) (own_asks config n e no_floor)) (node_of s buffer (asked_after asked [] (own_asks config n e no_floor)))) (with_handed-none m)
-          (Steps-reached config chain a m e buffer asked tips [] step.reported.0 good_before.1.of_chain.asks.requests reach (HandsSure-none chain m) unwritten (subst (λ s. IsGood config chain (node_of s buffer asked)) (sym (with_handed-none m)) good) (subst (λ s. Rest config.window (node_of s buffer asked)) (sym (with_handed-none m)) rests)));
+      steps = subst (λ rs. Steps config chain n (e ∷ []) (made_of rs (own_asks config n e no_floor)) (node_of m buffer (asked_since waiting (own_asks config n e no_floor)))) (append-nil tips)
+          (subst (λ s. Steps config chain n (e ∷ []) (made_of (tips ++ []) (own_asks config n e no_floor)) (node_of s buffer (asked_since waiting (own_asks config n e no_floor)))) (with_handed-none m)
+          (Steps-reached config chain a m e buffer waiting tips [] step.reported.0 good_before.1.of_chain.asks.requests reach (HandsSure-none chain m) unwritten (subst (λ s. IsGood config chain (node_of s buffer waiting)) (sym (with_handed-none m)) good) (subst (λ s. Rest config.window (node_of s buffer waiting)) (sym (with_handed-none m)) rests)));
     }
 
 -- An event that wrote ends with a sync that covers what it wrote.
-module _ {P E : Type 0} (config : Config) (chain : Chain) (a m : Seen P E) (e : Event) (buffer : List Block) (asked : List Asked) (tips : List Report) (step : IsLawfulStep config chain (node_of a buffer asked) (e ∷ [])) (reach : Reaches config chain a e buffer asked tips m) where
-  pub started : (new : Seen P E) → IsStarted m new → total_writes a.held.writes < total_writes m.held.writes → 0 < length m.held.writes.uncovered → IsGood config chain (node_of new buffer asked) → Rest config.window (node_of new buffer asked) → (told told' : Option (List Report)) (heard heard' : Option (List Call)) → Hears told tips told' → Hears heard (own_asks config (node_of a buffer asked) e no_floor) heard' → FinishesStep config chain (node_of a buffer asked) (e ∷ []) (heard_by told heard) (heard_by told' heard') new
+module _ {P E : Type 0} (config : Config) (chain : Chain) (a m : Seen P E) (e : Event) (buffer : List Block) (waiting : Waiting) (tips : List Report) (step : IsLawfulStep config chain (node_of a buffer waiting) (e ∷ [])) (reach : Reaches config chain a e buffer waiting tips m) where
+  pub started : (new : Seen P E) → IsStarted m new → total_writes a.held.writes < total_writes m.held.writes → 0 < length m.held.writes.uncovered → IsGood config chain (node_of new buffer waiting) → Rest config.window (node_of new buffer waiting) → (told told' : Option (List Report)) (heard heard' : Option (List Call)) → Hears told tips told' → Hears heard (own_asks config (node_of a buffer waiting) e no_floor) heard' → FinishesStep config chain (node_of a buffer waiting) (e ∷ []) (heard_by told heard) (heard_by told' heard') new
   started new is written some good rests told told' heard heard' tips_heard asks_heard = record {
-    made = made_of tips (own_asks config (node_of a buffer asked) e no_floor);
+    made = made_of tips (own_asks config (node_of a buffer waiting) e no_floor);
     heard = record { reports = tips_heard; asks = asks_heard; answers = refl; no_more = refl };
-    steps = subst (λ rs. Steps config chain (node_of a buffer asked) (e ∷ []) (made_of rs (own_asks config (node_of a buffer asked) e no_floor)) (node_of new buffer (asked_after asked [] (own_asks config (node_of a buffer asked) e no_floor)))) (append-nil tips)
-        (Steps-started config chain a m e buffer asked tips [] step.reported.0 (untold config chain (node_of a buffer asked) e step.good).1.of_chain.asks.requests reach (HandsSure-none chain m) new (subst (λ s. IsStarted s new) (sym (with_handed-none m)) is) written some good rests);
+    steps = subst (λ rs. Steps config chain (node_of a buffer waiting) (e ∷ []) (made_of rs (own_asks config (node_of a buffer waiting) e no_floor)) (node_of new buffer (asked_since waiting (own_asks config (node_of a buffer waiting) e no_floor)))) (append-nil tips)
+        (Steps-started config chain a m e buffer waiting tips [] step.reported.0 (untold config chain (node_of a buffer waiting) e step.good).1.of_chain.asks.requests reach (HandsSure-none chain m) new (subst (λ s. IsStarted s new) (sym (with_handed-none m)) is) written some good rests);
   }

@@ -5,7 +5,6 @@ use Rattle.std.specs.Prelude.{option_and_then}
 use Rattle.mar_types.specs.Epochs.{Epochs, IsPartition}
 use Rattle.mar_cert.specs.Block.{Block}
 use Rattle.mar_cert.specs.Finalization.{Finalization}
-use Rattle.mar_key.specs.Asked.{Asked}
 use Rattle.mar_key.specs.Keys.{Call}
 use Rattle.mar_store.specs.Kept.{At, value_at}
 use Rattle.mar_store.specs.Named.{last_index}
@@ -21,7 +20,7 @@ use Rattle.mar_node.specs.Lives.{is_refused_floor}
 use Rattle.mar_node.specs.Messages.{Identifier, Message, certify, close_ticket, forward, get_anchor, get_block, get_finalization, get_info, get_processed, get_verified, hint_finalized, hint_notarized, latest, of_digest, of_height, prepared, proposed, prune_below, report_certification, report_finalization, report_notarization, set_floor, subscribe_commitment, subscribe_digest, verified}
 use Rattle.mar_node.specs.Moves.{IsRead, found_at_hand}
 use Rattle.mar_node.specs.Node.{AreBlocksOf, Node, OpenSync, at_hand, write_count}
-use Rattle.mar_node.specs.Promise.{AreOne, IsLawfulStep, KeepsPromise, heard_by, heard_with, node_of}
+use Rattle.mar_node.specs.Promise.{AreOne, IsLawfulStep, KeepsPromise, Waiting, heard_by, heard_with, node_of}
 use Rattle.mar_node.specs.Queries.{answers_found, block_found, value_found}
 use Rattle.mar_node.specs.Requests.{own_asks}
 use Rattle.mar_node.specs.Step.{AdvancesBy, IsStored, IsStoredLate, Made, Report, Steps, finished_position, without_finished}
@@ -36,18 +35,18 @@ use Rattle.mar_node.proofs.Tips.{below_last}
 
 -- WHAT IS FOUND
 
-module _ {P E : Type 0} (config : Config) (chain : Chain) (a : Seen P E) (buffer : List Block) (asked : List Asked) (one : AreOne config.inner (chain.blocks ++ buffer)) (blocks : AreBlocksOf chain a.held.blocks.held) where
-  latest_found : (o : Option (At Finalization)) → option_and_then (λ x. found_at_hand config.inner buffer a.held.blocks.held x.value.payload) o ≡ option_and_then (λ x. at_hand (node_of a buffer asked) x.value.payload) o
+module _ {P E : Type 0} (config : Config) (chain : Chain) (a : Seen P E) (buffer : List Block) (waiting : Waiting) (one : AreOne config.inner (chain.blocks ++ buffer)) (blocks : AreBlocksOf chain a.held.blocks.held) where
+  latest_found : (o : Option (At Finalization)) → option_and_then (λ x. found_at_hand config.inner buffer a.held.blocks.held x.value.payload) o ≡ option_and_then (λ x. at_hand (node_of a buffer waiting) x.value.payload) o
   latest_found None = refl
-  latest_found (Some x) = found-is config.inner chain a buffer asked x.value.payload one blocks
+  latest_found (Some x) = found-is config.inner chain a buffer waiting x.value.payload one blocks
 
-  block_found-is : (id : Identifier) → block_found config.inner a.held buffer id ≡ block_for (node_of a buffer asked) id
+  block_found-is : (id : Identifier) → block_found config.inner a.held buffer id ≡ block_for (node_of a buffer waiting) id
   block_found-is (of_height h) = refl
   block_found-is (of_digest d) = sym (ap (λ xs. find (λ b. bytes_eq b.digest d) (xs ++ values_of a.held.blocks.held)) (append-nil buffer) ∙ find-append (λ b. bytes_eq b.digest d) buffer (values_of a.held.blocks.held))
   block_found-is latest = latest_found (newest a.held.certs.held)
 
   -- what a query is answered on a lawful chain is what is found
-  pub value_found-is : (t : Option ℕ) (m : Message) → is_query (message_told t m) ≡ true → value_found config.inner a.held buffer m ≡ query_value config (node_of a buffer asked) m
+  pub value_found-is : (t : Option ℕ) (m : Message) → is_query (message_told t m) ≡ true → value_found config.inner a.held buffer m ≡ query_value config (node_of a buffer waiting) m
   value_found-is t (get_info id) is = refl
   value_found-is t (get_block id) is = ap (λ b. Some (bytes_of b)) (block_found-is id)
   value_found-is t (get_finalization h) is = refl
@@ -90,9 +89,9 @@ record IsIdle (config : Config) (n : Node) (e : Event) : Type 0 where
   pub no_syncs : (n' : Node) → started_syncs n n' e ≡ []
   pub unrefused : (fault : Fault) → is_refused_floor e fault ≡ false
 
-module _ {P E : Type 0} (config : Config) (chain : Chain) (a : Seen P E) (buffer : List Block) (asked : List Asked) (t : ℕ) where
+module _ {P E : Type 0} (config : Config) (chain : Chain) (a : Seen P E) (buffer : List Block) (waiting : Waiting) (t : ℕ) where
   abbrev n : Node
-  n = node_of a buffer asked
+  n = node_of a buffer waiting
 
   idle : (m : Message) → is_query (message_told (Some t) m) ≡ true → IsIdle config n (message_told (Some t) m)
   idle (get_info id) is = record { effect = refl; undrained = refl; processed = refl; cutoff = refl; storing = refl; position = λ xs. refl; syncs = λ xs. refl; witnessed = refl; no_fault = refl; asks = refl; sends = refl; subscriptions = refl; certified = λ tip. refl; no_syncs = λ n'. refl; unrefused = λ fault. refl }
@@ -119,7 +118,7 @@ module _ {P E : Type 0} (config : Config) (chain : Chain) (a : Seen P E) (buffer
 
   -- its answer is what is found
   answers_found-is : AreOne config.inner (chain.blocks ++ buffer) → AreBlocksOf chain a.held.blocks.held → (m : Message) → is_query (message_told (Some t) m) ≡ true → answers_found config.inner a.held buffer (message_told (Some t) m) ≡ answers_of config n 0 (message_told (Some t) m) no_floor
-  answers_found-is one blocks m is = ap (λ o. map (to t) (option_to_list o)) (value_found-is config chain a buffer asked one blocks (Some t) m is) ∙ own m is
+  answers_found-is one blocks m is = ap (λ o. map (to t) (option_to_list o)) (value_found-is config chain a buffer waiting one blocks (Some t) m is) ∙ own m is
     where
       own : (m : Message) → is_query (message_told (Some t) m) ≡ true → map (to t) (option_to_list (query_value config n m)) ≡ answers_of config n 0 (message_told (Some t) m) no_floor
       own (get_info id) is = refl
@@ -154,7 +153,7 @@ module _ {P E : Type 0} (config : Config) (chain : Chain) (a : Seen P E) (buffer
     advances : (answers : List TicketAnswer) → answers ≡ answers_of config n 0 e no_floor → AdvancesBy config chain n e no_floor (made_by answers) n
     advances answers answered =
         let quiet : IsIdle config n e = idle m query in
-        let wrote = Writes-same a a e buffer asked (ap (λ s. own_writes n s no_floor) quiet.storing) refl refl quiet.position quiet.syncs in
+        let wrote = Writes-same a a e buffer waiting (ap (λ s. own_writes n s no_floor) quiet.storing) refl refl quiet.position quiet.syncs in
         record {
           hands = record {
             in_order = tt;
@@ -169,7 +168,7 @@ module _ {P E : Type 0} (config : Config) (chain : Chain) (a : Seen P E) (buffer
           certs = KeepsFrom-same (certs_from n e no_floor) n.certs;
           may_blocks = λ x has. inl has;
           may_certs = λ x has. inl has;
-          certificates = Certificates-same a a e buffer asked refl;
+          certificates = Certificates-same a a e buffer waiting refl;
           writes = wrote.0;
           repairs = record { at_hand = λ h b any is. absurd (none_repaired wrote.0.repaired wrote.1 h any); with_finalization = λ h b any is some. absurd (none_repaired wrote.0.repaired wrote.1 h any) };
           tips = refl;
@@ -212,23 +211,23 @@ module _ {P E : Type 0} (config : Config) (chain : Chain) (a : Seen P E) (buffer
 module _ {P E : Type 0} (epochs : Epochs) (inner : List ℕ → List ℕ) (partition : IsPartition epochs) (a : Seen P E) (buffer : List Block) (t : ℕ) (m : Message) (query : is_query (message_told (Some t) m) ≡ true) where
   -- a query that is answered leaves what it read
   pub promise-answered : (told : Option (List Report)) (heard : Option (List Call)) (before after : List TicketAnswer) (new : Seen P E) → IsRead a new → after ≡ before ++ answers_found inner a.held buffer (message_told (Some t) m) → KeepsPromise epochs inner a (message_told (Some t) m ∷ []) buffer (heard_with told heard before) (heard_with told heard after) (Ok new)
-  promise-answered told heard before after new read answered config chain asked set step = record {
-    made = made_by config chain a buffer asked t m query answers;
+  promise-answered told heard before after new read answered config chain waiting set step = record {
+    made = made_by config chain a buffer waiting t m query answers;
     heard = record { reports = Hears-nothing told; asks = Hears-nothing heard; answers = answered; no_more = refl };
-    steps = subst (λ s. Steps config chain (node_of a buffer asked) (message_told (Some t) m ∷ []) (made_by config chain a buffer asked t m query answers) (node_of s buffer asked)) (sym read) (steps config chain a buffer asked t m query answers are step);
+    steps = subst (λ s. Steps config chain (node_of a buffer waiting) (message_told (Some t) m ∷ []) (made_by config chain a buffer waiting t m query answers) (node_of s buffer waiting)) (sym read) (steps config chain a buffer waiting t m query answers are step);
   }
     where
       answers : List TicketAnswer
       answers = answers_found inner a.held buffer (message_told (Some t) m)
 
-      are : answers ≡ answers_of config (node_of a buffer asked) 0 (message_told (Some t) m) no_floor
-      are = ap (λ i. answers_found i a.held buffer (message_told (Some t) m)) (sym set.inner_is) ∙ answers_found-is config chain a buffer asked t step.one step.good.of_chain.stores.held_blocks m query
+      are : answers ≡ answers_of config (node_of a buffer waiting) 0 (message_told (Some t) m) no_floor
+      are = ap (λ i. answers_found i a.held buffer (message_told (Some t) m)) (sym set.inner_is) ∙ answers_found-is config chain a buffer waiting t step.one step.good.of_chain.stores.held_blocks m query
 
   -- one whose answer was not found, or not put: nothing changes
   pub promise-unanswered : (told : Option (List Report)) (heard : Option (List Call)) (x : Ending) → Loses a.held nothing_written x → IsUsual x.fault → KeepsPromise epochs inner a (message_told (Some t) m ∷ []) buffer (heard_by told heard) (heard_by told heard) (Err x)
-  promise-unanswered told heard x lost usual config chain asked set step =
-      let quiet : IsIdle config (node_of a buffer asked) (message_told (Some t) m) = idle config chain a buffer asked t m query in
-      quiet_cut epochs inner partition a buffer config chain asked (message_told (Some t) m) step quiet.effect quiet.unrefused told told heard heard nothing_written x (Hears-nothing told) (HearsFront-nothing heard _ heard (Hears-nothing heard)) refl refl tt tt (λ y has. nothing_put y has) (λ y has. nothing_put y has) lost (λ p has. nothing_put p has) usual
+  promise-unanswered told heard x lost usual config chain waiting set step =
+      let quiet : IsIdle config (node_of a buffer waiting) (message_told (Some t) m) = idle config chain a buffer waiting t m query in
+      quiet_cut epochs inner partition a buffer config chain waiting (message_told (Some t) m) step quiet.effect quiet.unrefused told told heard heard nothing_written x (Hears-nothing told) (HearsFront-nothing heard _ heard (Hears-nothing heard)) refl refl tt tt (λ y has. nothing_put y has) (λ y has. nothing_put y has) lost (λ p has. nothing_put p has) usual
 
   -- a query
   pub promise-asked : (told : Option (List Report)) (heard : Option (List Call)) (before after : List TicketAnswer) (result : Result (Seen P E) Ending) → IfOk result (IsRead a) → OnOk result (after ≡ before ++ answers_found inner a.held buffer (message_told (Some t) m)) → OnErr result (after ≡ before) → MatchResult result (λ new. Grew a.held nothing_written new.held) (Loses a.held nothing_written) → IfErr result (λ x. IsUsual x.fault) → KeepsPromise epochs inner a (message_told (Some t) m ∷ []) buffer (heard_with told heard before) (heard_with told heard after) result

@@ -5,7 +5,6 @@ use Rattle.std.specs.List.{AllByRecursion, filter_map, list_any}
 use Rattle.std.proofs.lemmas.List.Elements.{Contains-append_cases}
 use Rattle.mar_cert.specs.Block.{Block}
 use Rattle.mar_cert.specs.Finalization.{Finalization}
-use Rattle.mar_key.specs.Asked.{Asked, asked_after}
 use Rattle.mar_key.specs.Keys.{Call}
 use Rattle.mar_key.specs.Processed.{first_unprocessed}
 use Rattle.mar_store.specs.Kept.{At, has_height, value_at}
@@ -21,7 +20,7 @@ use Rattle.mar_node.specs.Faults.{event_fault, last_height}
 use Rattle.mar_node.specs.Held.{Seen}
 use Rattle.mar_node.specs.Moves.{AreNextHeld, HasRoom, IsBelowWrites, IsStarted, IsStill, handed_report, next_in, with_handed}
 use Rattle.mar_node.specs.Node.{AreBlocksOf, AreFinalizationsOf, AreHonest, IsGood, Node, Rest, block_missing, empty_inbox, empty_peers, floor_awaited, window_full, write_count, write_uncovered}
-use Rattle.mar_node.specs.Promise.{ReportsFinalized, made_of, node_of}
+use Rattle.mar_node.specs.Promise.{ReportsFinalized, Waiting, asked_since, made_of, node_of}
 use Rattle.mar_node.specs.Writing.{total_writes}
 use Rattle.mar_node.specs.Requests.{own_asks}
 use Rattle.mar_node.specs.Step.{AdvancesBy, AreHandedOf, AreTipsOf, CertificatesFrom, HandedBlock, HandedFrom, HandsOver, IsBlockFrom, IsCertFrom, IsStored, IsStoredLate, KeepsFrom, Report, Steps, TipsFrom, Writes, handed_blocks, handed_over, new_tip, outstanding_of}
@@ -72,16 +71,16 @@ room_for : (out window k : ℕ) → out ≤ window → (0 < k → out + k ≤ wi
 room_for out window zero within room = omega arith
 room_for out window (suc k) within room = room (omega arith)
 
-pub next_is : {P E : Type 0} (config : Config) (chain : Chain) (m : Seen P E) (buffer : List Block) (asked : List Asked) → IsGood config chain (node_of m buffer asked) → next_in m ≡ first_unprocessed m.held.processed + length m.life.out
-next_is config chain m buffer asked good = height_after-consecutive (first_unprocessed m.held.processed) m.life.out good.heights.delivery.consecutive
+pub next_is : {P E : Type 0} (config : Config) (chain : Chain) (m : Seen P E) (buffer : List Block) (waiting : Waiting) → IsGood config chain (node_of m buffer waiting) → next_in m ≡ first_unprocessed m.held.processed + length m.life.out
+next_is config chain m buffer waiting good = height_after-consecutive (first_unprocessed m.held.processed) m.life.out good.heights.delivery.consecutive
 
 -- the first part's node stays good as blocks are handed over
-pub IsGood-handed : {P E : Type 0} (config : Config) (chain : Chain) (m : Seen P E) (buffer : List Block) (asked : List Asked) (handed : List HandedBlock) → config.window ≡ m.life.sizes.window → IsGood config chain (node_of m buffer asked) → AreNextHeld m handed → AllByRecursion (λ x. IsBelowWrites m x.block) handed → HasRoom m handed → IsGood config chain (node_of (with_handed m handed) buffer asked)
-IsGood-handed config chain m buffer asked handed window good next below room = record {
+pub IsGood-handed : {P E : Type 0} (config : Config) (chain : Chain) (m : Seen P E) (buffer : List Block) (waiting : Waiting) (handed : List HandedBlock) → config.window ≡ m.life.sizes.window → IsGood config chain (node_of m buffer waiting) → AreNextHeld m handed → AllByRecursion (λ x. IsBelowWrites m x.block) handed → HasRoom m handed → IsGood config chain (node_of (with_handed m handed) buffer waiting)
+IsGood-handed config chain m buffer waiting handed window good next below room = record {
   heights = record {
     stores = good.heights.stores;
     delivery = record {
-      consecutive = ConsecutiveFrom-append (first_unprocessed m.held.processed) m.life.out (map outstanding_of handed) good.heights.delivery.consecutive (ConsecutiveFrom-handed m.held.blocks.sure m.life.next_ack (first_unprocessed m.held.processed + length m.life.out) handed (subst (λ k. HandedFrom m.held.blocks.sure m.life.next_ack k handed) (next_is config chain m buffer asked good) handed_sure));
+      consecutive = ConsecutiveFrom-append (first_unprocessed m.held.processed) m.life.out (map outstanding_of handed) good.heights.delivery.consecutive (ConsecutiveFrom-handed m.held.blocks.sure m.life.next_ack (first_unprocessed m.held.processed + length m.life.out) handed (subst (λ k. HandedFrom m.held.blocks.sure m.life.next_ack k handed) (next_is config chain m buffer waiting good) handed_sure));
       out_sure = AllByRecursion-append (λ o. IsTrue (has_height m.held.blocks.sure o.height)) m.life.out (map outstanding_of handed) good.heights.delivery.out_sure (all_out_sure m.held.blocks.sure m.life.next_ack (next_in m) handed handed_sure);
       within_window = subst (λ w. length (m.life.out ++ map outstanding_of handed) ≤ w) (sym window) (subst (λ k. k ≤ m.life.sizes.window) (sym counted) (room_for (length m.life.out) m.life.sizes.window (length handed) (subst (λ w. length m.life.out ≤ w) window good.heights.delivery.within_window) room));
       anchored = good.heights.delivery.anchored;
@@ -117,17 +116,17 @@ in_list (c ∷ blocks) zero b at = omega arith
 in_list (c ∷ blocks) (suc i) b at = let low : i < length blocks = in_list blocks i b at in omega arith
 
 -- a good node that can hand over no more rests
-pub Rest-still : {P E : Type 0} (config : Config) (chain : Chain) (m : Seen P E) (buffer : List Block) (asked : List Asked) → IsLawful config.epochs chain → config.window ≡ m.life.sizes.window → IsGood config chain (node_of m buffer asked) → IsStill m → Rest config.window (node_of m buffer asked)
-Rest-still config chain m buffer asked lawful window good (inl full) = window_full (let within : length m.life.out ≤ config.window = good.heights.delivery.within_window in omega arith)
-Rest-still config chain m buffer asked lawful window good (inr (inl (h, waits, low))) = write_uncovered h waits (subst (λ k. h ≤ k) (next_is config chain m buffer asked good) low)
-Rest-still config chain m buffer asked lawful window good (inr (inr (inl missing))) = block_missing (subst (λ k. value_at m.held.blocks.held k ≡ None) (next_is config chain m buffer asked good) missing)
-Rest-still config chain m buffer asked lawful window good (inr (inr (inr end))) = block_missing (beyond (value_at m.held.blocks.held next) refl (high end))
+pub Rest-still : {P E : Type 0} (config : Config) (chain : Chain) (m : Seen P E) (buffer : List Block) (waiting : Waiting) → IsLawful config.epochs chain → config.window ≡ m.life.sizes.window → IsGood config chain (node_of m buffer waiting) → IsStill m → Rest config.window (node_of m buffer waiting)
+Rest-still config chain m buffer waiting lawful window good (inl full) = window_full (let within : length m.life.out ≤ config.window = good.heights.delivery.within_window in omega arith)
+Rest-still config chain m buffer waiting lawful window good (inr (inl (h, waits, low))) = write_uncovered h waits (subst (λ k. h ≤ k) (next_is config chain m buffer waiting good) low)
+Rest-still config chain m buffer waiting lawful window good (inr (inr (inl missing))) = block_missing (subst (λ k. value_at m.held.blocks.held k ≡ None) (next_is config chain m buffer waiting good) missing)
+Rest-still config chain m buffer waiting lawful window good (inr (inr (inr end))) = block_missing (beyond (value_at m.held.blocks.held next) refl (high end))
   where
     next : ℕ
     next = first_unprocessed m.held.processed + length m.life.out
 
     same : next_in m ≡ next
-    same = next_is config chain m buffer asked good
+    same = next_is config chain m buffer waiting good
 
     high : (last_height ≤ next_in m) ⊎ (2 ^ 64 ≤ first_unprocessed m.held.processed) → 2 ^ 64 - 1 ≤ next
     high (inl last) = subst (λ k. 2 ^ 64 - 1 ≤ k) same last
@@ -140,40 +139,40 @@ Rest-still config chain m buffer asked lawful window good (inr (inr (inr end))) 
 -- THE FIRST PART
 
 -- What an event does before it hands over: from `a` to `m`, with these tips and asks.
-pub record Reaches {P E : Type 0} (config : Config) (chain : Chain) (a : Seen P E) (e : Event) (buffer : List Block) (asked : List Asked) (tips : List Report) (m : Seen P E) : Type 0 where
-  pub no_effect : effect_of config (node_of a buffer asked) e ≡ no_floor
-  pub kept : m.life.out ≡ undrained_blocks (node_of a buffer asked) e
+pub record Reaches {P E : Type 0} (config : Config) (chain : Chain) (a : Seen P E) (e : Event) (buffer : List Block) (waiting : Waiting) (tips : List Report) (m : Seen P E) : Type 0 where
+  pub no_effect : effect_of config (node_of a buffer waiting) e ≡ no_floor
+  pub kept : m.life.out ≡ undrained_blocks (node_of a buffer waiting) e
   pub next_ack : m.life.next_ack ≡ a.life.next_ack
   pub next_sync : m.held.writes.next_sync ≡ a.held.writes.next_sync
   pub sizes : m.life.sizes ≡ a.life.sizes
-  pub processed : m.held.processed ≡ acked_to a.held.processed (drained_blocks (node_of a buffer asked) e)
-  pub cutoff : m.held.cutoff ≡ cutoff_after config (node_of a buffer asked) e no_floor
-  pub blocks : KeepsFrom (blocks_from (node_of a buffer asked) e no_floor) a.held.blocks m.held.blocks
-  pub certs : KeepsFrom (certs_from (node_of a buffer asked) e no_floor) a.held.certs m.held.certs
+  pub processed : m.held.processed ≡ acked_to a.held.processed (drained_blocks (node_of a buffer waiting) e)
+  pub cutoff : m.held.cutoff ≡ cutoff_after config (node_of a buffer waiting) e no_floor
+  pub blocks : KeepsFrom (blocks_from (node_of a buffer waiting) e no_floor) a.held.blocks m.held.blocks
+  pub certs : KeepsFrom (certs_from (node_of a buffer waiting) e no_floor) a.held.certs m.held.certs
   pub put_blocks : List (At Block)
   pub put_certs : List (At Finalization)
   pub blocks_grown : Grown a.held.blocks put_blocks m.held.blocks
   pub certs_grown : Grown a.held.certs put_certs m.held.certs
   pub of_blocks : AreBlocksOf chain put_blocks
   pub of_certs : AreFinalizationsOf chain put_certs
-  pub own_blocks : (x : At Block) → Contains put_blocks x → brought_block (node_of a buffer asked) e ≡ Some x.value
-  pub own_certs : (x : At Finalization) → Contains put_certs x → told_finalization (node_of a buffer asked) e ≡ Some x.value
-  pub certificates : CertificatesFrom (node_of a buffer asked) e (node_of m buffer asked)
-  pub writes : Writes (node_of a buffer asked) e no_floor (node_of m buffer asked)
+  pub own_blocks : (x : At Block) → Contains put_blocks x → brought_block (node_of a buffer waiting) e ≡ Some x.value
+  pub own_certs : (x : At Finalization) → Contains put_certs x → told_finalization (node_of a buffer waiting) e ≡ Some x.value
+  pub certificates : CertificatesFrom (node_of a buffer waiting) e (node_of m buffer waiting)
+  pub writes : Writes (node_of a buffer waiting) e no_floor (node_of m buffer waiting)
   pub no_repair : writes.repaired ≡ []
   pub are_tips : AreTips tips
   pub tips_rise : TipsFrom a.life.tip tips m.life.tip
   pub tips_chain : AreTipsOf chain tips
-  pub witnessed : m.held.witnessed ≡ (witnessing_of config (node_of a buffer asked) e no_floor).last
-  pub stored : IfSome (storing_of (node_of a buffer asked) e) (IsStored (node_of m buffer asked))
-  pub stored_late : IfSome (storing_of (node_of a buffer asked) e) (IsStoredLate (node_of a buffer asked) no_floor (node_of m buffer asked))
+  pub witnessed : m.held.witnessed ≡ (witnessing_of config (node_of a buffer waiting) e no_floor).last
+  pub stored : IfSome (storing_of (node_of a buffer waiting) e) (IsStored (node_of m buffer waiting))
+  pub stored_late : IfSome (storing_of (node_of a buffer waiting) e) (IsStoredLate (node_of a buffer waiting) no_floor (node_of m buffer waiting))
   pub no_query : is_query e ≡ false
-  pub no_fault : event_fault config (node_of a buffer asked) e ≡ None
-  pub sends : sends_of (node_of a buffer asked) e ≡ []
-  pub answers : answers_of config (node_of a buffer asked) 0 e no_floor ≡ []
-  pub subscriptions : subscriptions_after (node_of a buffer asked) e no_floor ≡ []
-  pub certified : (tip : ℕ) → certified_after (node_of a buffer asked) e no_floor tip ≡ []
-  pub no_syncs : (n' : Node) → started_syncs (node_of a buffer asked) n' e ≡ []
+  pub no_fault : event_fault config (node_of a buffer waiting) e ≡ None
+  pub sends : sends_of (node_of a buffer waiting) e ≡ []
+  pub answers : answers_of config (node_of a buffer waiting) 0 e no_floor ≡ []
+  pub subscriptions : subscriptions_after (node_of a buffer waiting) e no_floor ≡ []
+  pub certified : (tip : ℕ) → certified_after (node_of a buffer waiting) e no_floor tip ≡ []
+  pub no_syncs : (n' : Node) → started_syncs (node_of a buffer waiting) n' e ≡ []
 
 -- BOTH PARTS
 
@@ -195,14 +194,14 @@ plus_none : (k : ℕ) → k + 0 ≡ k
 plus_none k = omega arith
 
 -- another buffer and other requests stand beside it
-pub Rest-beside : {P E : Type 0} (window : ℕ) (m : Seen P E) (buffer buffer' : List Block) (asked asked' : List Asked) → Rest window (node_of m buffer asked) → Rest window (node_of m buffer' asked')
-Rest-beside window m buffer buffer' asked asked' (floor_awaited some) = absurd cc
-Rest-beside window m buffer buffer' asked asked' (window_full full) = window_full full
-Rest-beside window m buffer buffer' asked asked' (block_missing missing) = block_missing missing
-Rest-beside window m buffer buffer' asked asked' (write_uncovered h waits low) = write_uncovered h waits low
+pub Rest-beside : {P E : Type 0} (window : ℕ) (m : Seen P E) (buffer buffer' : List Block) (waiting waiting' : Waiting) → Rest window (node_of m buffer waiting) → Rest window (node_of m buffer' waiting')
+Rest-beside window m buffer buffer' waiting waiting' (floor_awaited some) = absurd cc
+Rest-beside window m buffer buffer' waiting waiting' (window_full full) = window_full full
+Rest-beside window m buffer buffer' waiting waiting' (block_missing missing) = block_missing missing
+Rest-beside window m buffer buffer' waiting waiting' (write_uncovered h waits low) = write_uncovered h waits low
 
-pub IsGood-beside : {P E : Type 0} (config : Config) (chain : Chain) (m : Seen P E) (buffer buffer' : List Block) (asked asked' : List Asked) → AreHonest chain asked' → IsGood config chain (node_of m buffer asked) → IsGood config chain (node_of m buffer' asked')
-IsGood-beside config chain m buffer buffer' asked asked' honest good = record {
+pub IsGood-beside : {P E : Type 0} (config : Config) (chain : Chain) (m : Seen P E) (buffer buffer' : List Block) (waiting waiting' : Waiting) → AreHonest chain waiting'.requests → IsGood config chain (node_of m buffer waiting) → IsGood config chain (node_of m buffer' waiting')
+IsGood-beside config chain m buffer buffer' waiting waiting' honest good = record {
   heights = record {
     stores = good.heights.stores;
     delivery = good.heights.delivery;
@@ -230,9 +229,9 @@ pub record HandsSure {P E : Type 0} (chain : Chain) (m : Seen P E) (handed : Lis
 pub HandsSure-none : {P E : Type 0} (chain : Chain) (m : Seen P E) → HandsSure chain m []
 HandsSure-none chain m = record { in_order = tt; of_chain = tt; below_barrier = tt }
 
-pub HandsSure-next : {P E : Type 0} (config : Config) (chain : Chain) (m : Seen P E) (buffer : List Block) (asked : List Asked) (handed : List HandedBlock) → IsGood config chain (node_of m buffer asked) → KeepsValues m.held.blocks.sure m.held.blocks.held → AreNextHeld m handed → AllByRecursion (λ x. IsBelowWrites m x.block) handed → HandsSure chain m handed
-HandsSure-next config chain m buffer asked handed good sure_is_held next below = record {
-  in_order = subst (λ k. HandedFrom m.held.blocks.sure m.life.next_ack k handed) (next_is config chain m buffer asked good) (HandedFrom-held m.held.blocks.held m.held.blocks.sure m.held.writes.uncovered m.life.next_ack (next_in m) handed sure below next);
+pub HandsSure-next : {P E : Type 0} (config : Config) (chain : Chain) (m : Seen P E) (buffer : List Block) (waiting : Waiting) (handed : List HandedBlock) → IsGood config chain (node_of m buffer waiting) → KeepsValues m.held.blocks.sure m.held.blocks.held → AreNextHeld m handed → AllByRecursion (λ x. IsBelowWrites m x.block) handed → HandsSure chain m handed
+HandsSure-next config chain m buffer waiting handed good sure_is_held next below = record {
+  in_order = subst (λ k. HandedFrom m.held.blocks.sure m.life.next_ack k handed) (next_is config chain m buffer waiting good) (HandedFrom-held m.held.blocks.held m.held.blocks.sure m.held.writes.uncovered m.life.next_ack (next_in m) handed sure below next);
   of_chain = AreHandedOf-held chain m.held.blocks.held m.held.blocks.sure m.held.writes.uncovered m.life.next_ack (next_in m) handed good.of_chain.stores.held_blocks sure_is_held sure below next;
   below_barrier = below;
 }
@@ -240,11 +239,11 @@ HandsSure-next config chain m buffer asked handed good sure_is_held next below =
     sure : (h : ℕ) → AllByRecursion (λ k. h < k) m.held.writes.uncovered → IsTrue (has_height m.held.blocks.held h) → IsTrue (has_height m.held.blocks.sure h)
     sure h low has = sure_below m.held.blocks m.held.writes.uncovered h good.heights.stores.sure_blocks low has
 
-module _ {P E : Type 0} (config : Config) (chain : Chain) (a m : Seen P E) (e : Event) (buffer : List Block) (asked : List Asked) (tips : List Report) (handed : List HandedBlock)
-    (reported : ReportsFinalized chain e) (honest : AreHonest chain asked) (reach : Reaches config chain a e buffer asked tips m) (hands_sure : HandsSure chain m handed)
+module _ {P E : Type 0} (config : Config) (chain : Chain) (a m : Seen P E) (e : Event) (buffer : List Block) (waiting : Waiting) (tips : List Report) (handed : List HandedBlock)
+    (reported : ReportsFinalized chain e) (honest : AreHonest chain waiting.requests) (reach : Reaches config chain a e buffer waiting tips m) (hands_sure : HandsSure chain m handed)
   where
     abbrev pub n : Node
-    n = node_of a buffer asked
+    n = node_of a buffer waiting
 
     abbrev pub reports : List Report
     reports = tips ++ map handed_report handed
@@ -253,7 +252,7 @@ module _ {P E : Type 0} (config : Config) (chain : Chain) (a m : Seen P E) (e : 
     asks = own_asks config n e no_floor
 
     abbrev pub n' : Node
-    n' = node_of (with_handed m handed) buffer (asked_after asked [] asks)
+    n' = node_of (with_handed m handed) buffer (asked_since waiting asks)
 
     blocks_are : handed_blocks reports ≡ handed
     blocks_are = handed_after_tips tips handed reach.are_tips
@@ -307,8 +306,8 @@ module _ {P E : Type 0} (config : Config) (chain : Chain) (a m : Seen P E) (e : 
       tips_chain = tips_of_both chain tips handed reach.are_tips reach.tips_chain;
       awaited = refl;
       cache = record { cache = refl; lowest = refl; lowests = refl; cache_syncs = refl; witnessed = reach.witnessed };
-      stored = IfSome-more (IsStored (node_of m buffer asked)) (IsStored n') (λ s is. record { block = is.block; certificate = is.certificate }) (storing_of n e) reach.stored;
-      stored_late = IfSome-more (IsStoredLate n no_floor (node_of m buffer asked)) (IsStoredLate n no_floor n') (λ s is. is) (storing_of n e) reach.stored_late;
+      stored = IfSome-more (IsStored (node_of m buffer waiting)) (IsStored n') (λ s is. record { block = is.block; certificate = is.certificate }) (storing_of n e) reach.stored;
+      stored_late = IfSome-more (IsStoredLate n no_floor (node_of m buffer waiting)) (IsStoredLate n no_floor n') (λ s is. is) (storing_of n e) reach.stored_late;
       floor_stored = tt;
       query = λ is. absurd (let none : false ≡ true = sym reach.no_query ∙ is in cc);
       no_fault = reach.no_fault;
@@ -324,25 +323,25 @@ module _ {P E : Type 0} (config : Config) (chain : Chain) (a m : Seen P E) (e : 
     }
 
     -- The node that a step leaves: this one, or with a ticket.
-    honest_after : AreHonest chain (asked_after asked [] asks)
-    honest_after = AreHonest-asked_after chain asked [] asks (own_asks-honest config chain n e no_floor reported tt) honest
+    honest_after : AreHonest chain (asked_since waiting asks).requests
+    honest_after = AreHonest-asked_after chain waiting.requests [] asks (own_asks-honest config chain n e no_floor reported tt) honest
 
     -- an event that reached some node, and handed over from there until it rests, is a step where it wrote nothing
-    pub Steps-reached : total_writes m.held.writes ≤ total_writes a.held.writes → IsGood config chain (node_of (with_handed m handed) buffer asked) → Rest config.window (node_of (with_handed m handed) buffer asked) → Steps config chain n (e ∷ []) (made_of reports asks) n'
+    pub Steps-reached : total_writes m.held.writes ≤ total_writes a.held.writes → IsGood config chain (node_of (with_handed m handed) buffer waiting) → Rest config.window (node_of (with_handed m handed) buffer waiting) → Steps config chain n (e ∷ []) (made_of reports asks) n'
     Steps-reached unwritten good rests = record {
       unticketed = n';
       advances = subst (λ fx. AdvancesBy config chain n e fx (made_of reports asks) n') (sym reach.no_effect) advances_unfloored;
       ticket = sym (with_sync-unwritten (write_count n) n' unwritten);
-      rests = Rest-beside config.window (with_handed m handed) buffer buffer asked (asked_after asked [] asks) rests;
-      good = IsGood-beside config chain (with_handed m handed) buffer buffer asked (asked_after asked [] asks) honest_after good;
+      rests = Rest-beside config.window (with_handed m handed) buffer buffer waiting (asked_since waiting asks) rests;
+      good = IsGood-beside config chain (with_handed m handed) buffer buffer waiting (asked_since waiting asks) honest_after good;
     }
 
     -- where it wrote, it ends with a sync that covers what it wrote
-    pub Steps-started : (new : Seen P E) → IsStarted (with_handed m handed) new → total_writes a.held.writes < total_writes m.held.writes → 0 < length m.held.writes.uncovered → IsGood config chain (node_of new buffer asked) → Rest config.window (node_of new buffer asked) → Steps config chain n (e ∷ []) (made_of reports asks) (node_of new buffer (asked_after asked [] asks))
+    pub Steps-started : (new : Seen P E) → IsStarted (with_handed m handed) new → total_writes a.held.writes < total_writes m.held.writes → 0 < length m.held.writes.uncovered → IsGood config chain (node_of new buffer waiting) → Rest config.window (node_of new buffer waiting) → Steps config chain n (e ∷ []) (made_of reports asks) (node_of new buffer (asked_since waiting asks))
     Steps-started new started written some good rests = record {
       unticketed = n';
       advances = subst (λ fx. AdvancesBy config chain n e fx (made_of reports asks) n') (sym reach.no_effect) advances_unfloored;
-      ticket = ap (λ s. node_of s buffer (asked_after asked [] asks)) started ∙ sym (with_sync-written (write_count n) n' written some);
-      rests = Rest-beside config.window new buffer buffer asked (asked_after asked [] asks) rests;
-      good = IsGood-beside config chain new buffer buffer asked (asked_after asked [] asks) honest_after good;
+      ticket = ap (λ s. node_of s buffer (asked_since waiting asks)) started ∙ sym (with_sync-written (write_count n) n' written some);
+      rests = Rest-beside config.window new buffer buffer waiting (asked_since waiting asks) rests;
+      good = IsGood-beside config chain new buffer buffer waiting (asked_since waiting asks) honest_after good;
     }

@@ -2,7 +2,6 @@
 use Rattle.std.proofs.Common.{ℕ, ◌≡◌, arith, List, [], ◌∷◌, ◌++◌, None, Option, Result, Err, refl, sym, ◌∙◌, ap, subst}
 use Rattle.mar_types.specs.Epochs.{Epochs, IsPartition}
 use Rattle.mar_cert.specs.Block.{Block}
-use Rattle.mar_key.specs.Asked.{Asked}
 use Rattle.mar_key.specs.Hears.{Hears}
 use Rattle.mar_key.specs.Keys.{Call}
 use Rattle.mar_store.specs.Changes.{IsNested, KeepsValues}
@@ -13,7 +12,7 @@ use Rattle.mar_node.specs.Held.{ArePassed, Ending, IsUsual, Loses, Seen, nothing
 use Rattle.mar_node.specs.Moves.{IsRead, LivesOn, newest_tips, with_newest}
 use Rattle.mar_node.specs.Stored.{newest}
 use Rattle.mar_node.specs.Node.{IsGood}
-use Rattle.mar_node.specs.Promise.{AreOne, IsGoodUntold, KeepsPromise, heard_by, node_of}
+use Rattle.mar_node.specs.Promise.{AreOne, IsGoodUntold, KeepsPromise, Waiting, heard_by, node_of}
 use Rattle.mar_node.specs.Writing.{total_writes}
 use Rattle.mar_node.specs.Step.{Report}
 use Rattle.mar_node.proofs.EventPromises.{quiet_cut}
@@ -25,9 +24,9 @@ use Rattle.mar_node.proofs.Promises.{dispatched}
 use Rattle.mar_node.proofs.Reaching.{Reaches}
 use Rattle.mar_node.proofs.Tips.{newest_tip-high, newest_tips-chain, newest_tips-rise, newest_tips-tips}
 
-module _ {P E : Type 0} (config : Config) (chain : Chain) (a : Seen P E) (buffer : List Block) (asked : List Asked) (nested : IsNested a.held.blocks) (certs_nested : IsNested a.held.certs) (untold : IsGoodUntold config chain (node_of a buffer asked)) where
+module _ {P E : Type 0} (config : Config) (chain : Chain) (a : Seen P E) (buffer : List Block) (waiting : Waiting) (nested : IsNested a.held.blocks) (certs_nested : IsNested a.held.certs) (untold : IsGoodUntold config chain (node_of a buffer waiting)) where
   -- once its newest finalization is told, a node is good
-  pub IsGood-told : IsGood config chain (node_of (with_newest a) buffer asked)
+  pub IsGood-told : IsGood config chain (node_of (with_newest a) buffer waiting)
   IsGood-told = record {
     heights = record {
       stores = untold.1.heights.stores;
@@ -47,8 +46,8 @@ module _ {P E : Type 0} (config : Config) (chain : Chain) (a : Seen P E) (buffer
     };
   }
 
-  pub Reaches-start : (m : Seen P E) → IsRead (with_newest a) m → AreOne config.inner (chain.blocks ++ buffer) → Reaches config chain a (life_started None) buffer asked (newest_tips config.inner a.life.tip (newest a.held.certs.held)) m
-  Reaches-start m same one = subst (Reaches config chain a (life_started None) buffer asked (newest_tips config.inner a.life.tip (newest a.held.certs.held))) (sym same) (record {
+  pub Reaches-start : (m : Seen P E) → IsRead (with_newest a) m → AreOne config.inner (chain.blocks ++ buffer) → Reaches config chain a (life_started None) buffer waiting (newest_tips config.inner a.life.tip (newest a.held.certs.held)) m
+  Reaches-start m same one = subst (Reaches config chain a (life_started None) buffer waiting (newest_tips config.inner a.life.tip (newest a.held.certs.held))) (sym same) (record {
     no_effect = refl;
     kept = refl;
     next_ack = refl;
@@ -66,9 +65,9 @@ module _ {P E : Type 0} (config : Config) (chain : Chain) (a : Seen P E) (buffer
     of_certs = tt;
     own_blocks = λ x has. nothing_put x has;
     own_certs = λ x has. nothing_put x has;
-    certificates = Certificates-same a (with_newest a) (life_started None) buffer asked refl;
-    writes = (Writes-same a (with_newest a) (life_started None) buffer asked refl refl refl (λ syncs. refl) (λ syncs. refl)).0;
-    no_repair = (Writes-same a (with_newest a) (life_started None) buffer asked refl refl refl (λ syncs. refl) (λ syncs. refl)).1;
+    certificates = Certificates-same a (with_newest a) (life_started None) buffer waiting refl;
+    writes = (Writes-same a (with_newest a) (life_started None) buffer waiting refl refl refl (λ syncs. refl) (λ syncs. refl)).0;
+    no_repair = (Writes-same a (with_newest a) (life_started None) buffer waiting refl refl refl (λ syncs. refl) (λ syncs. refl)).1;
     are_tips = newest_tips-tips config.inner a.life.tip (newest a.held.certs.held);
     tips_rise = newest_tips-rise config.inner a.life.tip (newest a.held.certs.held);
     tips_chain = newest_tips-chain config.inner chain buffer one a.life.tip a.held.certs.held untold.1.of_chain.stores.held_certs;
@@ -94,12 +93,12 @@ LivesOn-start a m told told' result same passed ran = LivesOn-then a m result (I
 module _ {P E : Type 0} (epochs : Epochs) (inner : List ℕ → List ℕ) (partition : IsPartition epochs) (a : Seen P E) (buffer : List Block) where
   -- nothing could be told
   pub promise-untold : (told told' : Option (List Report)) (heard : Option (List Call)) (x : Ending) → Hears told [] told' → Loses a.held nothing_written x → IsUsual x.fault → KeepsPromise epochs inner a (life_started None ∷ []) buffer (heard_by told heard) (heard_by told' heard) (Err x)
-  promise-untold told told' heard x silent lost usual config chain asked set step =
-      quiet_cut epochs inner partition a buffer config chain asked (life_started None) step refl (λ fault. refl) told told' heard heard nothing_written x silent (HearsFront-nothing heard _ heard (Hears-nothing heard)) refl refl tt tt (λ y has. nothing_put y has) (λ y has. nothing_put y has) lost (λ p has. nothing_put p has) usual
+  promise-untold told told' heard x silent lost usual config chain waiting set step =
+      quiet_cut epochs inner partition a buffer config chain waiting (life_started None) step refl (λ fault. refl) told told' heard heard nothing_written x silent (HearsFront-nothing heard _ heard (Hears-nothing heard)) refl refl tt tt (λ y has. nothing_put y has) (λ y has. nothing_put y has) lost (λ p has. nothing_put p has) usual
 
   pub promise-start : (told told1 told' : Option (List Report)) (heard : Option (List Call)) (m : Seen P E) (result : Result (Seen P E) Ending) → IsNested a.held.blocks → IsNested a.held.certs → IsRead (with_newest a) m → Hears told (newest_tips inner a.life.tip (newest a.held.certs.held)) told1 → Ran m told1 told' result → KeepsPromise epochs inner a (life_started None ∷ []) buffer (heard_by told heard) (heard_by told' heard) result
-  promise-start told told1 told' heard m result nested certs_nested same tips ran config chain asked set step =
-      dispatched config chain a m (life_started None) buffer asked (newest_tips config.inner a.life.tip (newest a.held.certs.held)) (set.window ∙ sym (ap (λ s. s.life.sizes.window) same)) step (λ fault. refl) (Reaches-start config chain a buffer asked nested certs_nested step.good m same step.one)
-      (subst (λ s. IsGood config chain (node_of s buffer asked)) (sym same) (IsGood-told config chain a buffer asked nested certs_nested step.good)) (let writes : total_writes m.held.writes ≡ total_writes a.held.writes = ap (λ s. total_writes s.held.writes) same in omega arith)
+  promise-start told told1 told' heard m result nested certs_nested same tips ran config chain waiting set step =
+      dispatched config chain a m (life_started None) buffer waiting (newest_tips config.inner a.life.tip (newest a.held.certs.held)) (set.window ∙ sym (ap (λ s. s.life.sizes.window) same)) step (λ fault. refl) (Reaches-start config chain a buffer waiting nested certs_nested step.good m same step.one)
+      (subst (λ s. IsGood config chain (node_of s buffer waiting)) (sym same) (IsGood-told config chain a buffer waiting nested certs_nested step.good)) (let writes : total_writes m.held.writes ≡ total_writes a.held.writes = ap (λ s. total_writes s.held.writes) same in omega arith)
       (subst (λ s. KeepsValues s.held.blocks.sure s.held.blocks.held) (sym same) nested.sure_held) told told1 told' heard heard result
       (subst (λ i. Hears told (newest_tips i a.life.tip (newest a.held.certs.held)) told1) (sym set.inner_is) tips) ran (Hears-nothing heard)

@@ -4,7 +4,6 @@ use Rattle.std.specs.List.{AllByRecursion, AllPairs}
 use Rattle.std.proofs.lemmas.List.{length-drop}
 use Rattle.std.proofs.lemmas.List.Elements.{Contains-append_left}
 use Rattle.mar_cert.specs.Block.{Block}
-use Rattle.mar_key.specs.Asked.{Asked}
 use Rattle.mar_key.specs.Processed.{first_unprocessed, height_in}
 use Rattle.mar_store.specs.Kept.{At, Kept, has_height, value_at}
 use Rattle.mar_store.specs.Changes.{IsNested}
@@ -16,7 +15,7 @@ use Rattle.mar_node.specs.Held.{MakesSure, Seen}
 use Rattle.mar_node.specs.Metadata.{pair_of}
 use Rattle.mar_node.specs.Moves.{FinishesSync}
 use Rattle.mar_node.specs.Node.{AreBlocksOf, AreFinalizationsOf, ConsecutiveFrom, FloorSafe, HasAnchor, IsGood}
-use Rattle.mar_node.specs.Promise.{node_of}
+use Rattle.mar_node.specs.Promise.{Waiting, node_of}
 use Rattle.mar_node.specs.Step.{KeepsFrom, Writes}
 use Rattle.mar_node.specs.Writing.{IsOrdered, position_of, total_writes, with_finished, without_sync}
 use Rattle.mar_node.proofs.Cutting.{keeps_heights}
@@ -28,7 +27,7 @@ use Rattle.mar_node.proofs.PlainEvents.{Writes-none, nothing_put}
 use Rattle.mar_node.proofs.Reaching.{Reaches}
 use Rattle.mar_node.proofs.SyncTickets.{position-stays, total-finished}
 
-module _ {P E : Type 0} (config : Config) (chain : Chain) (a m : Seen P E) (t : ℕ) (buffer : List Block) (asked : List Asked) (nested : IsNested a.held.blocks) (certs_nested : IsNested a.held.certs) (finishes : FinishesSync t a m) where
+module _ {P E : Type 0} (config : Config) (chain : Chain) (a m : Seen P E) (t : ℕ) (buffer : List Block) (waiting : Waiting) (nested : IsNested a.held.blocks) (certs_nested : IsNested a.held.certs) (finishes : FinishesSync t a m) where
   -- no more is left than was, and all that was sure is sure
   pub Grown-finished : {T : Type 0} (old new : Kept (At T)) → IsNested old → IsNested new → MakesSure old new → Grown old [] new
   Grown-finished old new old_nested new_nested makes = record {
@@ -44,11 +43,11 @@ module _ {P E : Type 0} (config : Config) (chain : Chain) (a m : Seen P E) (t : 
   KeepsFrom-finished : {T : Type 0} (old new : Kept (At T)) → MakesSure old new → KeepsFrom 0 old new
   KeepsFrom-finished old new makes = record { held = λ h v low is. subst (λ xs. value_at xs h ≡ Some v) (sym makes.held) is; sure = λ h v is has. makes.sure h v is }
 
-  written : (w : Writes (node_of a buffer asked) (sync_finished t) no_floor (node_of m buffer asked)) × (w.repaired ≡ [])
-  written = Writes-none a m (sync_finished t) buffer asked refl finishes.blocks.held (ap (λ s. s.held.writes.covered) finishes.same) (ap (λ s. s.held.writes.uncovered) finishes.same ∙ ap (λ k. drop (k - a.held.writes.covered) a.held.writes.uncovered) (sym (ap (λ s. s.held.writes.covered) finishes.same))) (ap (λ s. s.held.writes.syncs) finishes.same)
+  written : (w : Writes (node_of a buffer waiting) (sync_finished t) no_floor (node_of m buffer waiting)) × (w.repaired ≡ [])
+  written = Writes-none a m (sync_finished t) buffer waiting refl finishes.blocks.held (ap (λ s. s.held.writes.covered) finishes.same) (ap (λ s. s.held.writes.uncovered) finishes.same ∙ ap (λ k. drop (k - a.held.writes.covered) a.held.writes.uncovered) (sym (ap (λ s. s.held.writes.covered) finishes.same))) (ap (λ s. s.held.writes.syncs) finishes.same)
 
   -- a sync that finished, or wasn't open, reaches the actor in which it makes more sure
-  pub Reaches-finished : IsNested m.held.blocks → IsNested m.held.certs → Reaches config chain a (sync_finished t) buffer asked [] m
+  pub Reaches-finished : IsNested m.held.blocks → IsNested m.held.certs → Reaches config chain a (sync_finished t) buffer waiting [] m
   Reaches-finished new_nested new_certs = record {
     no_effect = refl;
     kept = ap (λ s. s.life.out) finishes.same;
@@ -107,7 +106,7 @@ module _ {P E : Type 0} (config : Config) (chain : Chain) (a m : Seen P E) (t : 
       by (inr stays) = stays
 
   -- the node that it leaves is good
-  pub IsGood-finished : IsOrdered a.held.writes → IsNested m.held.blocks → IsNested m.held.certs → IsGood config chain (node_of a buffer asked) → IsGood config chain (node_of m buffer asked)
+  pub IsGood-finished : IsOrdered a.held.writes → IsNested m.held.blocks → IsNested m.held.certs → IsGood config chain (node_of a buffer waiting) → IsGood config chain (node_of m buffer waiting)
   IsGood-finished ordered new_nested new_certs good = record {
     heights = record {
       stores = record {

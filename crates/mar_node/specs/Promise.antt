@@ -35,8 +35,6 @@ pub record Around : Type 0 where
   pub subscriptions : List Subscription
   pub certified : List CertifiedCommitment
   pub buffer_closed : Bool
-  pub unanswered : List ℕ
-  pub next_answer : ℕ
 
 -- Nothing stands there yet, and the queues have this capacity.
 abbrev pub nothing_around : ℕ → Around
@@ -51,13 +49,29 @@ nothing_around capacity = record {
   subscriptions = [];
   certified = [];
   buffer_closed = false;
-  unanswered = [];
-  next_answer = 0;
 }
 
--- the node that an actor is, with what stands around it, this buffer and these open requests
-abbrev pub node_around : {P E : Type 0} → Around → Seen P E → List Block → List Asked → Node
-node_around around a buffer asked = record {
+-- Who waits beside a life: the requests that are open with the resolver, the answer tickets for which neither an answer nor a
+-- closing has come, and the next answer ticket.
+pub record Waiting : Type 0 where
+  pub requests : List Asked
+  pub unanswered : List ℕ
+  pub next_answer : ℕ
+
+-- as a life begins
+abbrev pub none_waiting : Waiting
+none_waiting = record { requests = []; unanswered = []; next_answer = 0 }
+
+-- after these asks
+abbrev pub asked_since : Waiting → List Call → Waiting
+asked_since waiting asks = record waiting { requests = asked_after waiting.requests [] asks }
+
+abbrev pub waiting_in : Node → Waiting
+waiting_in n = record { requests = n.asked; unanswered = n.unanswered; next_answer = n.next_answer }
+
+-- the node that an actor is, with what stands around it, this buffer and those who wait
+abbrev pub node_around : {P E : Type 0} → Around → Seen P E → List Block → Waiting → Node
+node_around around a buffer waiting = record {
   blocks = a.held.blocks;
   certs = a.held.certs;
   processed = a.held.processed;
@@ -74,22 +88,22 @@ node_around around a buffer asked = record {
   lowest = around.lowest;
   lowests = around.lowests;
   cache_syncs = around.cache_syncs;
-  asked = asked;
+  asked = waiting.requests;
   peers = around.peers;
   inbox = around.inbox;
   subscriptions = around.subscriptions;
   certified = around.certified;
   witnessed = a.held.witnessed;
   buffer_closed = around.buffer_closed;
-  unanswered = around.unanswered;
-  next_answer = around.next_answer;
+  unanswered = waiting.unanswered;
+  next_answer = waiting.next_answer;
   next_sync = a.held.writes.next_sync;
   next_ack = a.life.next_ack;
 }
 
 -- as an actor is today
-abbrev pub node_of : {P E : Type 0} → Seen P E → List Block → List Asked → Node
-node_of a buffer asked = node_around (nothing_around a.life.sizes.capacity) a buffer asked
+abbrev pub node_of : {P E : Type 0} → Seen P E → List Block → Waiting → Node
+node_of a buffer waiting = node_around (nothing_around a.life.sizes.capacity) a buffer waiting
 
 -- the settings are the actor's
 pub record IsSetTo (config : Config) (sizes : Sizes) (epochs : Epochs) (inner : List ℕ → List ℕ) : Type 0 where
@@ -160,7 +174,7 @@ pub record HearsMade (before : Heard) (made : Made) (after : Heard) : Type 0 whe
 pub record FinishesStep {P E : Type 0} (config : Config) (chain : Chain) (n : Node) (events : List Event) (before after : Heard) (new : Seen P E) : Type 0 where
   pub made : Made
   pub heard : HearsMade before made after
-  pub steps : Steps config chain n events made (node_of new n.buffer (asked_after n.asked [] made.asks))
+  pub steps : Steps config chain n events made (node_of new n.buffer (asked_since (waiting_in n) made.asks))
 
 -- A step that was cut: what was heard is what it made until then.
 pub record CutsStep (config : Config) (chain : Chain) (n : Node) (events : List Event) (before after : Heard) (e : Ending) : Type 0 where
@@ -174,8 +188,8 @@ StepsOrCuts config chain n events before after result = MatchResult result (Fini
 -- What a step promises of every chain for which it is lawful: it is a step of the node, or a cut.
 abbrev pub KeepsPromise : {P E : Type 0} → Epochs → (List ℕ → List ℕ) → Seen P E → List Event → List Block → Heard → Heard → Result (Seen P E) Ending → Type 0
 KeepsPromise epochs inner old events buffer before after result =
-    (config : Config) (chain : Chain) (asked : List Asked) → IsSetTo config old.life.sizes epochs inner → IsLawfulStep config chain (node_of old buffer asked) events
-    → StepsOrCuts config chain (node_of old buffer asked) events before after result
+    (config : Config) (chain : Chain) (waiting : Waiting) → IsSetTo config old.life.sizes epochs inner → IsLawfulStep config chain (node_of old buffer waiting) events
+    → StepsOrCuts config chain (node_of old buffer waiting) events before after result
 
 -- what an event would store is small
 abbrev pub IsSmallEvent : Event → Type 0
@@ -208,11 +222,11 @@ pub record Begins (config : Config) (chain : Chain) (e : Ended) (picks : Picks) 
 abbrev pub KeepsOpening : {P E F : Type 0} → Epochs → (List ℕ → List ℕ) → Sizes → Remains → ℕ → Begin → Result (Seen P E × F) Ending → Type 0
 KeepsOpening epochs inner sizes old luck begin result =
     (config : Config) (chain : Chain) → IsSetTo config sizes epochs inner → IsLawfulOpening config chain old.ended begin
-    → MatchResult result (λ r. Begins config chain old.ended (picks_of old luck) begin (node_of r.0 [] [])) (λ e. CutsReopening config chain old.ended (picks_of old luck) begin nothing_made e.fault e.remains.ended)
+    → MatchResult result (λ r. Begins config chain old.ended (picks_of old luck) begin (node_of r.0 [] none_waiting)) (λ e. CutsReopening config chain old.ended (picks_of old luck) begin nothing_made e.fault e.remains.ended)
 
 -- a node that begins is what some reopening of these stores finds, in which no fault is due, whatever the chain
 abbrev pub IsFound : {P E : Type 0} → Epochs → (List ℕ → List ℕ) → Sizes → Remains → ℕ → Begin → Seen P E → Type 0
-IsFound epochs inner sizes old luck begin a = (config : Config) → IsSetTo config sizes epochs inner → Finds config old.ended (picks_of old luck) begin (node_of a [] [])
+IsFound epochs inner sizes old luck begin a = (config : Config) → IsSetTo config sizes epochs inner → Finds config old.ended (picks_of old luck) begin (node_of a [] none_waiting)
 
 -- the fault that an opening must end in, by what some reopening of these stores finds
 abbrev pub IsOpeningFault : Ended → Begin → Fault → Type 0

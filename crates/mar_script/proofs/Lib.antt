@@ -5,6 +5,7 @@ pub mod Sentences
 pub mod Spelled
 pub mod Pushed
 pub mod SpanTexts
+pub mod QueryWords
 pub mod ReadBytes
 pub mod FirstWords
 pub mod LineKinds

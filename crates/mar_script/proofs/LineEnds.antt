@@ -9,15 +9,15 @@ use Rattle.std.proofs.lemmas.List.Elements.{All-append, All-cons, All-contains, 
 use Rattle.hex.specs.Hex.{IsBytes, encode_lower, encode_with, hex_digit_value, lower_digits}
 use Rattle.hex.proofs.HexLemmas.{IsDigits-lower_digits}
 use Rattle.mar_codec.specs.Varint.{IsNumber}
-use Rattle.mar_node.specs.Messages.{report_finalization}
+use Rattle.mar_node.specs.Messages.{Identifier, get_anchor, get_block, get_finalization, get_info, get_processed, get_verified, latest, of_digest, of_height, report_finalization}
 use Rattle.mar_node.specs.Faults.{StoreName, block_store, cache_store, cert_store, from_genesis, meta_store}
 use Rattle.mar_cert.specs.Finalization.{finalization_bytes}
 use Rattle.mar_script.specs.Run.{IsConfigBytes, IsLineBytes}
-use Rattle.mar_script.specs.Script.{HasValues, IsBuilt, IsLine, IsSettings, Line, Settings, ack_line, buffer_line, crash_line, fail_line, hex, line_bytes, line_words, open_line, sentence, settings_bytes, settings_words, store_name, sync_line, tell_line}
+use Rattle.mar_script.specs.Script.{HasValues, IsBuilt, IsIdentifier, IsLine, IsSettings, Line, Settings, ack_line, buffer_line, crash_line, fail_line, hex, identifier_text, line_bytes, line_words, open_line, sentence, settings_bytes, settings_words, store_name, sync_line, tell_line}
 use Rattle.mar_script.specs.Refused.{IsUnended}
 use Rattle.mar_script.specs.Words.{numbers_of}
 use Rattle.mar_script.proofs.FirstWords.{heads}
-use Rattle.mar_script.proofs.ReadBytes.{block_is_bytes, finalization_is_bytes}
+use Rattle.mar_script.proofs.ReadBytes.{block_is_bytes, digest_is_bytes, finalization_is_bytes}
 use Rattle.mar_script.proofs.Sentences.{IsInk, digits_are_ink, settings_numbers}
 
 -- no line's end
@@ -87,10 +87,21 @@ store_inner cert_store = by_test (codes "certs") refl
 store_inner meta_store = by_test (codes "meta") refl
 store_inner cache_store = by_test (codes "cache") refl
 
+identifier_inner : (i : Identifier) → IsIdentifier i → All IsInner (identifier_text i)
+identifier_inner (of_height h) is = All-cons IsInner 104 (decimal h) (λ e. omega (arith, e)) (decimal_inner h is)
+identifier_inner (of_digest d) is = All-cons IsInner 100 (hex d) (λ e. omega (arith, e)) (hex_inner d (digest_is_bytes d is))
+identifier_inner latest is = by_test (codes "latest") refl
+
 words_inner : (n : ℕ) (l : Line) → n < 2 ^ 64 → IsBuilt l → HasValues n l → AllByRecursion (All IsInner) (line_words l)
 words_inner n (open_line (from_genesis b)) wide built values = (by_test (codes "open") refl, (by_test (codes "genesis") refl, (hex_inner b.encoded (block_is_bytes b values), tt)))
 words_inner n (buffer_line b) wide built values = (by_test (codes "buffer") refl, (hex_inner b.encoded (block_is_bytes b values), tt))
 words_inner n (tell_line (report_finalization f)) wide built values = (by_test (codes "final") refl, (hex_inner (finalization_bytes f) (finalization_is_bytes n f wide values), tt))
+words_inner n (tell_line (get_info i)) wide built values = (by_test (codes "info") refl, (identifier_inner i values, tt))
+words_inner n (tell_line (get_block i)) wide built values = (by_test (codes "block") refl, (identifier_inner i values, tt))
+words_inner n (tell_line (get_finalization h)) wide built values = (by_test (codes "finalization") refl, (decimal_inner h values, tt))
+words_inner n (tell_line get_processed) wide built values = (by_test (codes "processed") refl, tt)
+words_inner n (tell_line get_anchor) wide built values = (by_test (codes "anchor") refl, tt)
+words_inner n (tell_line (get_verified r)) wide built values = (by_test (codes "getverified") refl, (decimal_inner r.epoch values.0, (decimal_inner r.view values.1, tt)))
 words_inner n (sync_line t) wide built values = (by_test (codes "sync") refl, (decimal_inner t values, tt))
 words_inner n (ack_line t) wide built values = (by_test (codes "ack") refl, (decimal_inner t values, tt))
 words_inner n (fail_line store k) wide built values = (by_test (codes "fail") refl, (store_inner store, (decimal_inner k values.1, tt)))

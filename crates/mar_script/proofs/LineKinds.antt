@@ -1,24 +1,27 @@
 -- The first word of a line that is read tells its kind, and its kind what stands behind that word.
-use Rattle.std.proofs.Common.{Err, List, None, Ok, Result, Some, [], ap, arith, refl, subst, suc, sym, true, zero, ℕ, ◌++◌, ◌∙◌, ◌∷◌, ◌≡◌, ◌≤◌}
+use Rattle.std.proofs.Common.{Err, List, None, Ok, Result, Some, [], ap, arith, inl, inr, refl, subst, suc, sym, true, zero, ℕ, ◌++◌, ◌∙◌, ◌∷◌, ◌≡◌, ◌≤◌, ◌⊎◌}
 use Rattle.std.specs.Prelude.{IfOk, IsOkAnd, MatchResult, codes, decimal}
 use Rattle.std.proofs.lemmas.List.{append_cancel_right}
 use Rattle.std.proofs.lemmas.Result.{IfOk-weaker}
 use Rattle.mar_codec.specs.Varint.{IsNumber}
 use Rattle.mar_cert.specs.Finalization.{finalization_bytes}
 use Rattle.mar_node.specs.Faults.{StoreName, block_store, cache_store, cert_store, from_genesis, meta_store}
-use Rattle.mar_node.specs.Messages.{report_finalization}
+use Rattle.mar_node.specs.Messages.{get_anchor, get_block, get_finalization, get_info, get_processed, get_verified, report_finalization}
 use Rattle.mar_shelf.specs.Views.{store_name_of}
 use Rattle.mar_shelf.specs.declared.StoreName.{StoreName as StoreNameCode}
 use Rattle.mar_shelf.specs.declared.StoreName.TheVariants as code
-use Rattle.mar_script.specs.Lines.{Behind, IsWord, MadeOf, Parses, Spells, first_word, kinds, named, plain_line, stores}
-use Rattle.mar_script.specs.Script.{HasValues, IsBuilt, Line, ack_line, buffer_line, crash_line, fail_line, hex, line_bytes, open_line, store_name, sync_line, tell_line}
+use Rattle.mar_script.specs.Lines.{Behind, IsLone, IsWord, MadeOf, Parses, Spells, first_word, kinds, named, plain_line, stores}
+use Rattle.mar_script.specs.Script.{HasValues, IsBuilt, Line, ack_line, buffer_line, crash_line, fail_line, hex, identifier_text, line_bytes, open_line, store_name, sync_line, tell_line}
 use Rattle.mar_script.specs.Words.{Yields}
+use Rattle.mar_codec.specs.declared.Sha256Digest.{Sha256Digest}
+use Rattle.mar_inbox.specs.declared.Query.{Query}
 use Rattle.mar_script.specs.declared.line.Line.{Line as LineCode}
+use Rattle.mar_script.specs.declared.line.Line.TheVariants as line
 use Rattle.mar_script.specs.declared.words.ParseError.{ParseError}
 use Rattle.mar_script.specs.declared.words.ParseError.TheVariants.{Grammar}
 use Rattle.mar_script.specs.declared.line.Kind.{Kind}
 use Rattle.mar_script.specs.declared.line.Kind.TheVariants as kind
-use Rattle.mar_script.proofs.FirstWords.{is_table, no_sentence, one_split, row_named}
+use Rattle.mar_script.proofs.FirstWords.{inked_word, is_table, no_sentence, one_split, row_named}
 
 -- EACH KIND
 
@@ -27,6 +30,10 @@ named_kind : (k : Kind) → named kinds (first_word k) ≡ Some k
 named_kind kind.Open = refl
 named_kind kind.Buffer = refl
 named_kind kind.Final = refl
+named_kind kind.Info = refl
+named_kind kind.Block = refl
+named_kind kind.Finalization = refl
+named_kind kind.Verified = refl
 named_kind kind.Sync = refl
 named_kind kind.Ack = refl
 named_kind kind.Fail = refl
@@ -47,12 +54,16 @@ unfolding line_bytes
 kind_spells n kind.Open rest l of = spelled n (codes "open") rest l of (λ b is. (tt, is)) (λ b. refl)
 kind_spells n kind.Buffer rest l of = spelled n (codes "buffer") rest l of (λ b is. (tt, is)) (λ b. refl)
 kind_spells n kind.Final rest l of = spelled n (codes "final") rest l of (λ f is. (tt, is)) (λ f. refl)
+kind_spells n kind.Info rest l of = spelled n (codes "info") rest l of (λ i is. (tt, is)) (λ i. refl)
+kind_spells n kind.Block rest l of = spelled n (codes "block") rest l of (λ i is. (tt, is)) (λ i. refl)
+kind_spells n kind.Finalization rest l of = spelled n (codes "finalization") rest l of (λ h is. (tt, is)) (λ h. refl)
+kind_spells n kind.Verified rest l of = spelled n (codes "getverified") rest l of (λ r is. (tt, is)) (λ r. refl)
 kind_spells n kind.Sync rest l of = spelled n (codes "sync") rest l of (λ t is. (tt, is)) (λ t. refl)
 kind_spells n kind.Ack rest l of = spelled n (codes "ack") rest l of (λ t is. (tt, is)) (λ t. refl)
 kind_spells n kind.Fail rest l of = spelled n (codes "fail") rest l of (λ v is. (tt, is)) (λ v. refl)
 kind_spells n kind.Crash rest l of = spelled n (codes "crash") rest l of (λ t is. (tt, is)) (λ t. refl)
 
--- the bytes of a line, by its kind
+-- the bytes of a line of several words, by its kind
 record IsOfKind (n : ℕ) (bytes : List ℕ) (l : Line) : Type 0 where
   kind : Kind
   rest : List ℕ
@@ -65,15 +76,21 @@ of_kind {bytes = bytes} k rest e of = record { kind = k; rest = rest; spelled = 
 of_value : {V : Type 0} {make : V → Line} {IsValue : V → Type 0} {text : V → List ℕ} (v : V) → IsValue v → MadeOf make IsValue text (text v) (make v)
 of_value v is = record { value = v; is = is; spelled = refl; made = refl }
 
-kind_of : (n : ℕ) (bytes : List ℕ) (l : Line) → Spells n bytes l → IsOfKind n bytes l
+kind_of : (n : ℕ) (bytes : List ℕ) (l : Line) → Spells n bytes l → IsOfKind n bytes l ⊎ IsLone bytes l
 unfolding line_bytes
-kind_of n bytes (open_line (from_genesis b)) s = of_kind kind.Open (codes "genesis" ++ 32 ∷ hex b.encoded) s.spelled (of_value b s.values)
-kind_of n bytes (buffer_line b) s = of_kind kind.Buffer (hex b.encoded) s.spelled (of_value b s.values)
-kind_of n bytes (tell_line (report_finalization f)) s = of_kind kind.Final (hex (finalization_bytes f)) s.spelled (of_value f s.values)
-kind_of n bytes (sync_line t) s = of_kind kind.Sync (decimal t) s.spelled (of_value t s.values)
-kind_of n bytes (ack_line t) s = of_kind kind.Ack (decimal t) s.spelled (of_value t s.values)
-kind_of n bytes (fail_line store k) s = of_kind kind.Fail (store_name store ++ 32 ∷ decimal k) s.spelled (of_value (store, k) s.values)
-kind_of n bytes (crash_line luck) s = of_kind kind.Crash (decimal luck) s.spelled (of_value luck s.values)
+kind_of n bytes (open_line (from_genesis b)) s = inl (of_kind kind.Open (codes "genesis" ++ 32 ∷ hex b.encoded) s.spelled (of_value b s.values))
+kind_of n bytes (buffer_line b) s = inl (of_kind kind.Buffer (hex b.encoded) s.spelled (of_value b s.values))
+kind_of n bytes (tell_line (report_finalization f)) s = inl (of_kind kind.Final (hex (finalization_bytes f)) s.spelled (of_value f s.values))
+kind_of n bytes (tell_line (get_info i)) s = inl (of_kind kind.Info (identifier_text i) s.spelled (of_value i s.values))
+kind_of n bytes (tell_line (get_block i)) s = inl (of_kind kind.Block (identifier_text i) s.spelled (of_value i s.values))
+kind_of n bytes (tell_line (get_finalization h)) s = inl (of_kind kind.Finalization (decimal h) s.spelled (of_value h s.values))
+kind_of n bytes (tell_line get_processed) s = inr (append_cancel_right bytes (codes "processed") (10 ∷ []) s.spelled)
+kind_of n bytes (tell_line get_anchor) s = inr (append_cancel_right bytes (codes "anchor") (10 ∷ []) s.spelled)
+kind_of n bytes (tell_line (get_verified r)) s = inl (of_kind kind.Verified (decimal r.epoch ++ 32 ∷ decimal r.view) s.spelled (of_value r s.values))
+kind_of n bytes (sync_line t) s = inl (of_kind kind.Sync (decimal t) s.spelled (of_value t s.values))
+kind_of n bytes (ack_line t) s = inl (of_kind kind.Ack (decimal t) s.spelled (of_value t s.values))
+kind_of n bytes (fail_line store k) s = inl (of_kind kind.Fail (store_name store ++ 32 ∷ decimal k) s.spelled (of_value (store, k) s.values))
+kind_of n bytes (crash_line luck) s = inl (of_kind kind.Crash (decimal luck) s.spelled (of_value luck s.values))
 kind_of n bytes l s = absurd s.built
 
 -- the names of stores, in the same way
@@ -88,10 +105,41 @@ stores_table = refl
 
 -- LINES
 
--- the first word of a line is in the table of kinds
+-- a line of one word has no space
+lone_word : (bytes : List ℕ) (l : Line) → IsLone bytes l → IsWord bytes
+lone_word bytes (tell_line get_processed) is = subst IsWord (sym is) (inked_word (codes "processed") refl)
+lone_word bytes (tell_line get_anchor) is = subst IsWord (sym is) (inked_word (codes "anchor") refl)
+lone_word bytes l is = absurd is
+
+lone_spells : (n : ℕ) (bytes : List ℕ) (l : Line) → IsLone bytes l → Spells n bytes l
+unfolding line_bytes
+lone_spells n bytes (tell_line get_processed) is = record { built = tt; values = tt; spelled = ap (λ w. w ++ 10 ∷ []) is }
+lone_spells n bytes (tell_line get_anchor) is = record { built = tt; values = tt; spelled = ap (λ w. w ++ 10 ∷ []) is }
+lone_spells n bytes l is = absurd is
+
+lone_only : (n : ℕ) (bytes : List ℕ) (l : Line) → IsWord bytes → Spells n bytes l → IsLone bytes l
+lone_only n bytes l is s = elim (kind_of n bytes l s) [
+  | inl of ↦ absurd (no_sentence bytes (first_word of.kind) of.rest is of.spelled)
+  | inr lone ↦ lone
+]
+
+-- a line of one word is parsed by that word
+pub parsed_lone : (n : ℕ) (bytes : List ℕ) (result : Result LineCode ParseError) → IsWord bytes → Parses (IsLone bytes) result → Parses (Spells n bytes) result
+parsed_lone n bytes result is p = record {
+  found = IfOk-weaker result _ _ (λ l lone. lone_spells n bytes (plain_line l) lone) p.found;
+  only = λ l s. p.only l (lone_only n bytes l is s);
+}
+
+several : (n : ℕ) (bytes word rest : List ℕ) (l : Line) → bytes ≡ word ++ 32 ∷ rest → Spells n bytes l → IsOfKind n bytes l
+several n bytes word rest l e s = elim (kind_of n bytes l s) [
+  | inl of ↦ of
+  | inr lone ↦ absurd (no_sentence bytes word rest (lone_word bytes l lone) e)
+]
+
+-- the first word of a line of several is in the table of kinds
 line_word : (n : ℕ) (bytes word rest : List ℕ) (l : Line) → bytes ≡ word ++ 32 ∷ rest → IsWord word → Spells n bytes l → (k : Kind) × (named kinds word ≡ Some k) × Behind n k rest l
 line_word n bytes word rest l e is s =
-    let of = kind_of n bytes l s in
+    let of = several n bytes word rest l e s in
     let row = row_named first_word kinds (first_word of.kind) of.kind kinds_table (named_kind of.kind) in
     let split = one_split word (first_word of.kind) rest of.rest is row.1 (sym e ∙ of.spelled) in
     (of.kind, ap (named kinds) split.0 ∙ named_kind of.kind, subst (λ (r : List ℕ). Behind n of.kind r l) (sym split.1) of.behind)
@@ -109,9 +157,6 @@ parsed n bytes word rest k result e is names p =
           p.only l (subst (λ (j : Kind). Behind n j rest l) same of.2);
     }
 
-pub one_word : (n : ℕ) (bytes : List ℕ) → IsWord bytes → (l : Line) → Spells n bytes l → ⊥
-one_word n bytes is l s = let of = kind_of n bytes l s in no_sentence bytes (first_word of.kind) of.rest is of.spelled
-
 pub no_kind : (n : ℕ) (bytes word rest : List ℕ) → bytes ≡ word ++ 32 ∷ rest → IsWord word → named kinds word ≡ None → (l : Line) → Spells n bytes l → ⊥
 no_kind n bytes word rest e is none l s = let of = line_word n bytes word rest l e is s in cc (none, of.1)
 
@@ -128,6 +173,20 @@ line_of make IsValue text word plain code (Ok x) (Ok l) same is found only maps 
 line_of make IsValue text word plain code (Ok x) (Err e) same is found only maps = absurd maps
 line_of make IsValue text word plain code (Err e) (Ok l) same is found only maps = absurd (cc)
 line_of make IsValue text word plain code (Err e) (Err d) same is found only maps = record { found = tt; only = λ line of. let p : d ≡ e = cc in rw p (only of.value of.is of.spelled) }
+
+-- the same of a query
+pub query_line : {C V : Type 0} (make : V → Line) (IsValue : V → Type 0) (text : V → List ℕ) (word : List ℕ) (plain : C → V) (ask : C → Query Sha256Digest) (read : Result C ParseError) (asked : Result (Query Sha256Digest) ParseError) (result : Result LineCode ParseError)
+    → ((x : C) → plain_line (line.Query (ask x)) ≡ make (plain x)) → IfOk read (λ x. IsValue (plain x)) → IfOk read (λ x. word ≡ text (plain x)) → ((v : V) → IsValue v → word ≡ text v → Yields (λ x. plain x ≡ v) read)
+    → MatchResult read (λ x. IsOkAnd asked (λ q. q ≡ ask x)) (λ e. asked ≡ Err e) → MatchResult asked (λ q. IsOkAnd result (λ l. l ≡ line.Query q)) (λ e. result ≡ Err e) → Parses (MadeOf make IsValue text word) result
+query_line make IsValue text word plain ask read asked result same is found only asks maps =
+    line_of make IsValue text word plain (λ x. line.Query (ask x)) read result same is found only (twice read asked result asks maps)
+  where
+    twice : (r : Result _ ParseError) (a : Result (Query Sha256Digest) ParseError) (l : Result LineCode ParseError) → MatchResult r (λ x. IsOkAnd a (λ q. q ≡ ask x)) (λ e. a ≡ Err e) → MatchResult a (λ q. IsOkAnd l (λ m. m ≡ line.Query q)) (λ e. l ≡ Err e) → MatchResult r (λ x. IsOkAnd l (λ m. m ≡ line.Query (ask x))) (λ e. l ≡ Err e)
+    twice (Ok x) (Ok q) (Ok m) first second = second ∙ ap line.Query first
+    twice (Ok x) (Ok q) (Err e) first second = second
+    twice (Ok x) (Err e) l first second = absurd first
+    twice (Err e) (Ok q) l first second = absurd cc
+    twice (Err e) (Err d) l first second = let same : d ≡ e = cc in second ∙ ap Err same
 
 pub refused : {Is : Line → Type 0} → ((l : Line) → Is l → ⊥) → Parses Is (Err Grammar)
 refused none = record { found = tt; only = none }

@@ -44,6 +44,9 @@ digest_bytes d is = All-from_recursion IsByte d is.1
 all_bytes : (xs : List ℕ) → AreBytes xs → IsBytes xs
 all_bytes xs are = below_from_all xs (recursion_from_All IsByte xs are)
 
+pub digest_is_bytes : (d : List ℕ) → IsDigest d → IsBytes d
+digest_is_bytes d is = all_bytes d (digest_bytes d is)
+
 -- A BLOCK
 
 pub block_is_bytes : (b : Block) → IsBlock b → IsBytes b.encoded

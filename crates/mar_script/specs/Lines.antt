@@ -4,6 +4,7 @@ use Rattle.std.specs.Option.{option_map}
 use Rattle.std.specs.Prelude.{Contains, IfOk, List, Option, Result, [], codes, decimal, map, ℕ, ◌++◌, ◌∷◌, ◌≡◌, ◌≤◌}
 use Rattle.std.specs.Str.{bytes_eq}
 use Rattle.sha2.specs.Sha256.{sha256}
+use Rattle.mar_types.specs.Round.{IsRound}
 use Rattle.mar_codec.specs.Varint.{IsNumber}
 use Rattle.mar_codec.specs.declared.Sha256.{Sha256}
 use Rattle.mar_codec.specs.declared.Sha256Digest.{Sha256Digest}
@@ -17,11 +18,12 @@ use Rattle.mar_cert.specs.declared.MockCertificate.{MockCertificate}
 use Rattle.mar_cert.specs.Block.{Block, IsBlock}
 use Rattle.mar_block.specs.EmptyBlock.{block_bytes, block_message, standard_block}
 use Rattle.mar_block.specs.declared.EmptyBlock.{EmptyBlock}
-use Rattle.mar_node.specs.Messages.{report_finalization}
+use Rattle.mar_inbox.specs.Views.{query_of}
+use Rattle.mar_node.specs.Messages.{get_anchor, get_block, get_finalization, get_info, get_processed, get_verified, report_finalization}
 use Rattle.mar_node.specs.Faults.{StoreName, from_genesis}
 use Rattle.mar_shelf.specs.Views.{store_name_of}
 use Rattle.mar_shelf.specs.declared.StoreName.{StoreName as StoreNameCode}
-use Rattle.mar_script.specs.Script.{HasValues, IsBuilt, Line, ack_line, buffer_line, crash_line, fail_line, hex, line_bytes, open_line, store_name, sync_line, tell_line}
+use Rattle.mar_script.specs.Script.{HasValues, IsBuilt, IsIdentifier, Line, ack_line, buffer_line, crash_line, fail_line, hex, identifier_text, line_bytes, open_line, store_name, sync_line, tell_line}
 use Rattle.mar_script.specs.Words.{Yields}
 use Rattle.mar_script.specs.declared.line.Line.{Line as LineCode}
 use Rattle.mar_script.specs.declared.line.Line.TheVariants as line
@@ -41,6 +43,7 @@ abbrev pub plain_line : LineCode → Line
 plain_line (line.OpenGenesis b) = open_line (from_genesis (plain_block b))
 plain_line (line.Buffer b) = buffer_line (plain_block b)
 plain_line (line.Final f) = tell_line (report_finalization (plain_finalization f))
+plain_line (line.Query q) = tell_line (query_of (λ digest. digest.bytes) q)
 plain_line (line.Sync t) = sync_line t
 plain_line (line.Ack t) = ack_line t
 plain_line (line.Fail store calls) = fail_line (store_name_of store) calls
@@ -69,11 +72,15 @@ kinds = map (λ row. (row.0.now, row.1)) KINDS
 abbrev pub stores : List (List ℕ × StoreNameCode)
 stores = map (λ row. (row.0.now, row.1)) STORES
 
--- the first word of each kind of line that is read
+-- the first word of each kind of line that is read, but for those of one word
 abbrev pub first_word : Kind → List ℕ
 first_word kind.Open = codes "open"
 first_word kind.Buffer = codes "buffer"
 first_word kind.Final = codes "final"
+first_word kind.Info = codes "info"
+first_word kind.Block = codes "block"
+first_word kind.Finalization = codes "finalization"
+first_word kind.Verified = codes "getverified"
 first_word kind.Sync = codes "sync"
 first_word kind.Ack = codes "ack"
 first_word kind.Fail = codes "fail"
@@ -91,10 +98,20 @@ abbrev pub Behind : ℕ → Kind → List ℕ → Line → Type 0
 Behind n kind.Open = MadeOf (λ b. open_line (from_genesis b)) IsBlock (λ b. codes "genesis" ++ 32 ∷ hex b.encoded)
 Behind n kind.Buffer = MadeOf buffer_line IsBlock (λ b. hex b.encoded)
 Behind n kind.Final = MadeOf (λ f. tell_line (report_finalization f)) (IsFinalization n) (λ f. hex (finalization_bytes f))
+Behind n kind.Info = MadeOf (λ i. tell_line (get_info i)) IsIdentifier identifier_text
+Behind n kind.Block = MadeOf (λ i. tell_line (get_block i)) IsIdentifier identifier_text
+Behind n kind.Finalization = MadeOf (λ h. tell_line (get_finalization h)) IsNumber decimal
+Behind n kind.Verified = MadeOf (λ r. tell_line (get_verified r)) IsRound (λ r. decimal r.epoch ++ 32 ∷ decimal r.view)
 Behind n kind.Sync = MadeOf sync_line IsNumber decimal
 Behind n kind.Ack = MadeOf ack_line IsNumber decimal
 Behind n kind.Fail = MadeOf {V = StoreName × ℕ} (λ v. fail_line v.0 v.1) (λ v. (1 ≤ v.1) × IsNumber v.1) (λ v. store_name v.0 ++ 32 ∷ decimal v.1)
 Behind n kind.Crash = MadeOf crash_line IsNumber decimal
+
+-- these bytes are a line of one word
+abbrev pub IsLone : List ℕ → Line → Type 0
+IsLone bytes (tell_line get_processed) = bytes ≡ codes "processed"
+IsLone bytes (tell_line get_anchor) = bytes ≡ codes "anchor"
+IsLone bytes line = ⊥
 
 -- The answer is a line of which this holds; where there is one, it is that or want of memory.
 pub record Parses (Is : Line → Type 0) (result : Result LineCode ParseError) : Type 0 where

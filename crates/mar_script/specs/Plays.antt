@@ -25,11 +25,12 @@ abbrev pub max_window : ℕ
 max_window = 1024
 
 -- No block was dropped, and the tickets are as few as so many lines can have given: a line hands over at most a window of
--- blocks, and starts at most one sync of the finalized archives.
+-- blocks, starts at most one sync of the finalized archives, and is answered at most once.
 pub record IsLasting (k : ℕ) (n : Node) : Type 0 where
   pub undropped : AllByRecursion (λ a. a.mark ≡ mark_dropped → ⊥) n.out
   pub tickets : n.next_ack ≤ max_window * k
   pub sync_tickets : n.next_sync ≤ k
+  pub answer_tickets : n.next_answer ≤ k
 
 -- A state behind so many lines: a good node that rests, or what is left good for the chain.
 abbrev pub IsBetween : Config → Chain → ℕ → State → Type 0

@@ -223,6 +223,12 @@ HasValues n (crash_line luck) = IsNumber luck
 -- The lines that are read today. The others stand in the grammar, and are answered as outside it.
 abbrev pub IsBuiltMessage : Message → Type 0
 IsBuiltMessage (report_finalization f) = ⊤
+IsBuiltMessage (get_info id) = ⊤
+IsBuiltMessage (get_block id) = ⊤
+IsBuiltMessage (get_finalization h) = ⊤
+IsBuiltMessage get_processed = ⊤
+IsBuiltMessage get_anchor = ⊤
+IsBuiltMessage (get_verified r) = ⊤
 IsBuiltMessage _ = ⊥
 
 -- a line that is read

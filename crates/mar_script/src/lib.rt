@@ -1,8 +1,10 @@
 //! Scripts and their output as text: where their bytes come from and go to, their lines, and what is written of each.
 #![tactic(auto)]
 
+mod answers;
 mod asks;
 mod line;
+mod query_line;
 mod range_text;
 mod reader;
 mod reading;
@@ -15,6 +17,7 @@ mod text;
 mod words;
 mod writing;
 
+pub use answers::push_answers;
 pub use asks::push_asks;
 pub use line::{Line, parse_line};
 pub use range_text::RangeText;

@@ -3,16 +3,17 @@ ghost use Rattle.std.specs.Prelude.{◌≡◌, ℕ, IfOk};
 ghost use Rattle.mar_cert.specs.Block.{Block as PlainBlock, IsBlock};
 ghost use Rattle.mar_cert.specs.Finalization.{Finalization as PlainFinalization, finalization_bytes};
 ghost use Rattle.mar_cert.specs.MockScheme.{IsFinalization};
-ghost use Rattle.mar_codec.specs.declared.Sha256Digest.{Sha256Digest};
-ghost use Rattle.mar_script.specs.Lines.{Behind, Parses, Spells, kinds, named, plain_block, plain_finalization, plain_line, stores};
+ghost use Rattle.mar_script.specs.Lines.{Behind, IsLone, Parses, Spells, kinds, named, plain_block, plain_finalization, plain_line, stores};
 ghost use Rattle.mar_script.specs.Script.{IsSettings, Line as PlainLine, hex};
 ghost use Rattle.mar_script.specs.Words.{Yields};
 
+use crate::query_line::{height, identifier, round};
 use crate::settings::Settings;
 use crate::words::{ParseError, bytes_of, look_up, number, split_word};
 use mar_block::EmptyBlock;
 use mar_cert::MockFinalization;
-use mar_codec::{Decode, Error, Sha256};
+use mar_codec::{Decode, Error, Sha256, Sha256Digest};
+use mar_inbox::Query;
 use mar_shelf::StoreName;
 use std::alloc::Global;
 
@@ -25,6 +26,8 @@ pub enum Line {
     Buffer(EmptyBlock<Sha256>),
     /// Reports a finalization.
     Final(MockFinalization),
+    /// Asks what stands, under the next answer ticket.
+    Query(Query<Sha256Digest>),
     /// The sync of this ticket finishes.
     Sync(u64),
     /// The block of this ticket is acknowledged.
@@ -35,12 +38,16 @@ pub enum Line {
     Crash(u64),
 }
 
-// What a line is, by its first word.
+// What a line of several words is, by its first.
 #[derive(Clone, Copy)]
 enum Kind {
     Open,
     Buffer,
     Final,
+    Info,
+    Block,
+    Finalization,
+    Verified,
     Sync,
     Ack,
     Fail,
@@ -48,10 +55,14 @@ enum Kind {
 }
 
 // The first word of each kind of line.
-const KINDS: [(&[u8], Kind); 7] = [
+const KINDS: [(&[u8], Kind); 11] = [
     (b"open", Kind::Open),
     (b"buffer", Kind::Buffer),
     (b"final", Kind::Final),
+    (b"info", Kind::Info),
+    (b"block", Kind::Block),
+    (b"finalization", Kind::Finalization),
+    (b"getverified", Kind::Verified),
     (b"sync", Kind::Sync),
     (b"ack", Kind::Ack),
     (b"fail", Kind::Fail),
@@ -73,12 +84,25 @@ pub fn parse_line(alloc: Global, settings: Settings, line: &[u8]) -> Result<Line
     ensures only { (l : PlainLine) → Spells settings.members line.now l → Yields (λ found. plain_line found ≡ l) result }
 {
     let Some((word, rest)) = split_word(line) else {
-        return Err(ParseError::Grammar);
+        return lone_line(line);
     };
     let Some(kind) = kind_named(word) else {
         return Err(ParseError::Grammar);
     };
     parse_kind(alloc, settings.members as u32, kind, rest)
+}
+
+// The line of this one word.
+fn lone_line(word: &[u8]) -> Result<Line, ParseError>
+    ensures { Parses (IsLone word.now) result }
+{
+    if word == b"processed".as_slice() {
+        return Ok(Line::Query(Query::Processed));
+    }
+    if word == b"anchor".as_slice() {
+        return Ok(Line::Query(Query::Anchor));
+    }
+    Err(ParseError::Grammar)
 }
 
 // The kind of a line with this first word.
@@ -103,6 +127,10 @@ fn parse_kind(alloc: Global, members: u32, kind: Kind, rest: &[u8]) -> Result<Li
         Kind::Open => open(alloc, rest),
         Kind::Buffer => block_of(alloc, rest).map(Line::Buffer),
         Kind::Final => finalization_of(alloc, members, rest).map(Line::Final),
+        Kind::Info => identifier(rest).map(Query::Info).map(Line::Query),
+        Kind::Block => identifier(rest).map(Query::Block).map(Line::Query),
+        Kind::Finalization => height(rest).map(Query::Finalization).map(Line::Query),
+        Kind::Verified => round(rest).map(Query::Verified).map(Line::Query),
         Kind::Sync => number(rest).map(Line::Sync),
         Kind::Ack => number(rest).map(Line::Ack),
         Kind::Fail => fail(rest),

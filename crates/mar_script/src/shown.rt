@@ -41,7 +41,8 @@ impl RangeTexts {
     }
 }
 
-fn push_some_processed(text: &mut String, processed: Processed) -> Result<(), AllocError>
+/// Appends a processed height, with whether its block is stored.
+pub fn push_some_processed(text: &mut String, processed: Processed) -> Result<(), AllocError>
     ensures { OnOk result (string_bytes text.new ≡ string_bytes text.old ++ processed_text (processed_of processed)) }
 {
     match processed {

@@ -4,16 +4,15 @@ use Rattle.std.specs.Prelude.{IfSome, Result}
 use Rattle.std.proofs.lemmas.List.{append-nil}
 use Rattle.mar_block.specs.Sent.{Held}
 use Rattle.mar_key.specs.Asked.{Asked}
-use Rattle.mar_key.specs.Keys.{Call}
 use Rattle.mar_store.specs.Changes.{IsNested}
 use Rattle.mar_store.proofs.Lookups.{has_height-within}
 use Rattle.mar_node.specs.Chain.{Chain}
 use Rattle.mar_node.specs.Config.{Config}
 use Rattle.mar_node.specs.Faults.{want_of_memory}
 use Rattle.mar_node.specs.Held.{Remains, remains_of}
-use Rattle.mar_node.specs.Promise.{node_of}
+use Rattle.mar_node.specs.Promise.{Waiting, node_of}
 use Rattle.mar_node.specs.Node.{Ended}
-use Rattle.mar_node.specs.Step.{IsFront, Report}
+use Rattle.mar_node.specs.Step.{IsFront, Made, nothing_made}
 use Rattle.mar_script.specs.Endings.{IsReadersEnd, IsWritersEnd}
 use Rattle.mar_script.specs.Lines.{plain_line}
 use Rattle.mar_script.specs.Accounts.{AccountsFor, luck_after}
@@ -48,8 +47,8 @@ pub no_fault : {U : Type 0} {u : U} (b : StatusCode) → ◌≡◌ {A = Result U
 no_fault b is = cc
 
 -- a node's stores are handed back
-pub hands_running : (seen : SeenNode) (buffer : Held) → IsNested seen.held.blocks → IsNested seen.held.certs → (asked : List Asked) → HandsBack (running (node_of seen buffer.blocks asked)) (remains_of seen.held).ended
-hands_running seen buffer blocks certs asked = (
+pub hands_running : (seen : SeenNode) (buffer : Held) → IsNested seen.held.blocks → IsNested seen.held.certs → (waiting : Waiting) → HandsBack (running (node_of seen buffer.blocks waiting)) (remains_of seen.held).ended
+hands_running seen buffer blocks certs waiting = (
   λ h. refl,
   λ h. refl,
   refl,
@@ -100,20 +99,20 @@ module _ (source : Option (List ℕ)) (s : Settings) (valid : IsSettings s) (bef
   stops_unshown pending now taken sunk' status.Usage end gives is front = absurd end
 
 -- what there is at first is the text of no lines
-pub shown_first : {U : Type 0} (sunk sunk' : Option (List ℕ)) (reports : List Report) (asks : List Call) (before : Ended) (written : Result U StatusCode) → reports ≡ [] → asks ≡ [] → WritesText sunk (λ asked. output_text (output_of reports asks outcome.Done) (stopped before)) sunk' written → WritesText sunk (λ asked. text before []) sunk' written
-shown_first sunk sunk' reports asks before written silent unasked wrote =
+pub shown_first : {U : Type 0} (sunk sunk' : Option (List ℕ)) (made : Made) (before : Ended) (written : Result U StatusCode) → made ≡ nothing_made → WritesText sunk (λ asked. output_text (output_of made outcome.Done) (stopped before)) sunk' written → WritesText sunk (λ asked. text before []) sunk' written
+shown_first sunk sunk' made before written silent wrote =
     subst (λ bs. WritesText sunk (λ asked. bs) sunk' written) (sym (append-nil (output_text silent_output (stopped before))))
-    (subst (λ cs. WritesText sunk (λ asked. output_text (output_of [] cs outcome.Done) (stopped before)) sunk' written) unasked (subst (λ rs. WritesText sunk (λ asked. output_text (output_of rs asks outcome.Done) (stopped before)) sunk' written) silent wrote))
+    (subst (λ m. WritesText sunk (λ asked. output_text (output_of m outcome.Done) (stopped before)) sunk' written) silent wrote)
 
 module _ {H R : Type 0} where
   -- a state's text doesn't depend on the open requests
   pub text_open : (out : Output) (s : StateCode H R) (asked : List Asked) → output_text out (state_with asked s) ≡ output_text out (state_with [] s)
   unfolding output_text
-  text_open out (state.Running seen buffer opened) asked = refl
+  text_open out (state.Running seen buffer pending) asked = refl
   text_open out (state.Stopped left luck) asked = refl
 
   pub left_remains : (s : StateCode H R) (asked : List Asked) → left_in (state_with asked s) ≡ (remains_in s).ended
-  left_remains (state.Running seen buffer opened) asked = refl
+  left_remains (state.Running seen buffer pending) asked = refl
   left_remains (state.Stopped left luck) asked = refl
 
   -- a line that was written leaves the settings, and small blocks

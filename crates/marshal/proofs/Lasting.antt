@@ -1,20 +1,23 @@
 -- A life in which nothing is dropped ends in no fault that its events call for, and its tickets last for all lines of a script.
-use Rattle.std.proofs.Common.{Bool, List, None, Option, Some, [], arith, eqb-true, false, if◌then◌else◌, length, map, nat_lt, option_map, refl, subst, sym, true, ℕ, ◌&&◌, ◌*◌, ◌++◌, ◌+◌, ◌-◌, ◌==◌, ◌^◌, ◌∷◌, ◌≡◌, ◌≤◌}
+use Rattle.std.proofs.Common.{Bool, IsTrue, List, None, Option, Some, [], arith, eqb-true, false, if◌then◌else◌, length, map, nat_lt, option_map, refl, subst, sym, true, ℕ, ◌&&◌, ◌*◌, ◌++◌, ◌+◌, ◌-◌, ◌<◌, ◌==◌, ◌^◌, ◌∷◌, ◌≡◌, ◌≤◌}
 use Rattle.std.specs.List.{AllByRecursion}
 use Rattle.mar_cert.specs.Block.{Block}
 use Rattle.mar_cert.specs.Finalization.{Finalization}
+use Rattle.mar_codec.specs.declared.Sha256Digest.{Sha256Digest}
+use Rattle.mar_inbox.specs.Views.{query_of}
+use Rattle.mar_inbox.specs.declared.Query.{Query}
+use Rattle.mar_inbox.specs.declared.Query.TheVariants as query
 use Rattle.mar_node.specs.Messages.{report_finalization}
-use Rattle.mar_key.specs.Asked.{Asked}
 use Rattle.mar_key.specs.Processed.{height_of}
 use Rattle.mar_node.specs.Acks.{Mark, Outstanding, after_given, is_given, is_unmarked, mark_dropped, mark_given, mark_waiting, with_mark}
 use Rattle.mar_store.proofs.Lookups.{AllByRecursion-append}
 use Rattle.mar_node.specs.Chain.{Chain}
 use Rattle.mar_node.specs.Config.{Config}
-use Rattle.mar_node.specs.Event.{Event, ack_given, life_started, message_told, met_of, no_floor, sync_finished, undrained_blocks}
+use Rattle.mar_node.specs.Event.{Event, ack_given, is_query, life_started, message_told, met_of, no_floor, sync_finished, undrained_blocks}
 use Rattle.mar_node.specs.Faults.{dropped_first, event_fault, height_limit, last_height, storing_fault}
 use Rattle.mar_node.specs.Held.{Seen}
 use Rattle.mar_node.specs.Node.{Node, at_hand, write_count}
-use Rattle.mar_node.specs.Promise.{IsLawfulStep, node_of}
+use Rattle.mar_node.specs.Promise.{IsLawfulStep, ReportsFinalized, Waiting, node_of}
 use Rattle.mar_node.specs.Step.{HandedBlock, HandsOver, Made, Steps, handed_blocks, outstanding_of, with_sync}
 use Rattle.mar_node.proofs.FinalizationEvent.{not_last}
 use Rattle.mar_script.specs.Plays.{max_window}
@@ -33,6 +36,10 @@ syncs_after k before after low given = omega (arith, low, given)
 -- they last for all lines that a script may have
 pub tickets_last : (k before window : ℕ) → before ≤ max_window * k → k ≤ max_lines → window ≤ max_window → 2 ^ 64 - 1 ≤ before + window → ⊥
 tickets_last k before window low few narrow near = omega (arith, low, few, narrow, near)
+
+-- nor can they when callers are answered
+pub answers_last : (k next : ℕ) → next ≤ k → k ≤ max_lines → next < 2 ^ 64 - 1
+answers_last k next low few = omega (arith, low, few)
 
 pub syncs_last : (k before : ℕ) → before ≤ k → k ≤ max_lines → before ≡ 2 ^ 64 - 1 → ⊥
 syncs_last k before low few last = omega (arith, low, few, last)
@@ -77,12 +84,34 @@ undropped-with_sync before n undropped = by (nat_lt before (write_count n)) (nat
     by true false = undropped
     by false c = undropped
 
--- a start, a reported finalization, an acknowledgement, a sync that finished
+-- a caller asks this under a ticket
+abbrev pub asked_event : ℕ → Query Sha256Digest → Event
+asked_event t q = message_told (Some t) (query_of (λ digest. digest.bytes) q)
+
+pub asks_query : (t : ℕ) (q : Query Sha256Digest) → IsTrue (is_query (asked_event t q))
+asks_query t (query.Info id) = refl
+asks_query t (query.Block id) = refl
+asks_query t (query.Finalization h) = refl
+asks_query t query.Processed = refl
+asks_query t query.Anchor = refl
+asks_query t (query.Verified r) = refl
+
+-- and reports nothing
+pub asks_reports : (chain : Chain) (t : ℕ) (q : Query Sha256Digest) → ReportsFinalized chain (asked_event t q)
+asks_reports chain t (query.Info id) = tt
+asks_reports chain t (query.Block id) = tt
+asks_reports chain t (query.Finalization h) = tt
+asks_reports chain t query.Processed = tt
+asks_reports chain t query.Anchor = tt
+asks_reports chain t (query.Verified r) = tt
+
+-- a start, a reported finalization, an acknowledgement, a sync that finished, a query
 pub data IsPlain : Event → Type 0 where
   starts : IsPlain (life_started None)
   reports : (f : Finalization) → IsPlain (message_told None (report_finalization f))
   acks : (t : ℕ) → IsPlain (ack_given t)
   finishes : (t : ℕ) → IsPlain (sync_finished t)
+  queries : (t : ℕ) (q : Query Sha256Digest) → IsPlain (asked_event t q)
 
 not_at_limit : (above : Bool) (h : ℕ) → (h ≡ 2 ^ 64 - 1 → ⊥) → (if above && h == last_height then Some (height_limit h) else None) ≡ None
 not_at_limit false h not_last = refl
@@ -92,9 +121,9 @@ not_at_limit true h not_last = by (h == last_height) refl
     by true is = absurd (not_last (eqb-true h last_height is))
     by false is = refl
 
-module _ {P E : Type 0} (config : Config) (chain : Chain) (a : Seen P E) (buffer : List Block) (asked : List Asked) where
+module _ {P E : Type 0} (config : Config) (chain : Chain) (a : Seen P E) (buffer : List Block) (waiting : Waiting) where
   abbrev node : Node
-  node = node_of a buffer asked
+  node = node_of a buffer waiting
 
   pub undropped-step : (e : Event) → IsPlain e → (made : Made) (n' : Node) → Steps config chain node (e ∷ []) made n' → Undropped node.out → Undropped n'.out
   undropped-step e starts made n' steps undropped = subst (λ m. Undropped m.out) (sym steps.ticket) (undropped-with_sync (write_count node) steps.unticketed (undropped-kept node (life_started None) made steps.unticketed steps.advances.hands undropped))
@@ -102,15 +131,25 @@ module _ {P E : Type 0} (config : Config) (chain : Chain) (a : Seen P E) (buffer
   undropped-step e (acks t) made n' steps undropped = subst (λ m. Undropped m.out) (sym steps.ticket) (undropped-with_sync (write_count node) steps.unticketed
       (undropped-kept node (ack_given t) made steps.unticketed steps.advances.hands (undropped-after (with_mark t mark_given a.life.out) (undropped-marked t a.life.out undropped))))
   undropped-step e (finishes t) made n' steps undropped = subst (λ m. Undropped m.out) (sym steps.ticket) (undropped-with_sync (write_count node) steps.unticketed (undropped-kept node (sync_finished t) made steps.unticketed steps.advances.hands undropped))
+  undropped-step e (queries t q) made n' steps undropped = subst (λ m. Undropped m.out) (sym steps.ticket) (undropped-with_sync (write_count node) steps.unticketed (subst (λ m. Undropped m.out) (sym (steps.advances.query (asks_query t q))) undropped))
+
+  query_fault : (t : ℕ) (q : Query Sha256Digest) → event_fault config node (asked_event t q) ≡ None
+  query_fault t (query.Info id) = refl
+  query_fault t (query.Block id) = refl
+  query_fault t (query.Finalization h) = refl
+  query_fault t query.Processed = refl
+  query_fault t query.Anchor = refl
+  query_fault t (query.Verified r) = refl
 
   pub no_event_fault : (e : Event) → IsPlain e → IsLawfulStep config chain node (e ∷ []) → Undropped node.out → event_fault config node e ≡ None
   no_event_fault e starts lawful undropped = refl
   no_event_fault e (finishes t) lawful undropped = refl
+  no_event_fault e (queries t q) lawful undropped = query_fault t q
   no_event_fault e (reports f) lawful undropped = by (at_hand node f.payload) refl
     where
       by : (o : Option Block) → at_hand node f.payload ≡ o → storing_fault node (option_map (λ m. record { height = m.block.height; with_certificate = true }) (option_map (λ b. met_of b f) o)) no_floor ≡ None
       by None is = refl
-      by (Some b) is = not_at_limit (nat_lt (height_of a.held.processed) b.height) b.height (not_last config chain a f buffer asked lawful.lawful lawful.one lawful.good lawful.reported.0 b is)
+      by (Some b) is = not_at_limit (nat_lt (height_of a.held.processed) b.height) b.height (not_last config chain a f buffer waiting lawful.lawful lawful.one lawful.good lawful.reported.0 b is)
   no_event_fault e (acks t) lawful undropped = none_first (after_given (with_mark t mark_given a.life.out)) (undropped-after (with_mark t mark_given a.life.out) (undropped-marked t a.life.out undropped))
     where
       none_first : (out : List Outstanding) → Undropped out → dropped_first out ≡ None

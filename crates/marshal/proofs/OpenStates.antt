@@ -25,32 +25,32 @@ err_seen (Err e) P told seen = told
 
 module _ {H R : Type 0} where
   state_open : (asked opened : List Asked) (s : StateCode H R) → state_with asked (with_open opened s) ≡ state_with asked s
-  state_open asked opened (state.Running seen buffer old) = refl
+  state_open asked opened (state.Running seen buffer pending) = refl
   state_open asked opened (state.Stopped left luck) = refl
 
   remains_open : (opened : List Asked) (s : StateCode H R) → remains_in (with_open opened s) ≡ remains_in s
-  remains_open opened (state.Running seen buffer old) = refl
+  remains_open opened (state.Running seen buffer pending) = refl
   remains_open opened (state.Stopped left luck) = refl
 
   set_open : (config : Config) (opened : List Asked) (s : StateCode H R) → IsSetAs config s → IsSetAs config (with_open opened s)
-  set_open config opened (state.Running seen buffer old) set = set
+  set_open config opened (state.Running seen buffer pending) set = set
   set_open config opened (state.Stopped left luck) set = set
 
   small_open : (opened : List Asked) (s : StateCode H R) → HasSmallBlocks s → HasSmallBlocks (with_open opened s)
-  small_open opened (state.Running seen buffer old) small = small
+  small_open opened (state.Running seen buffer pending) small = small
   small_open opened (state.Stopped left luck) small = small
 
   lucky_open : (luck : ℕ) (opened : List Asked) (s : StateCode H R) → HasLuck luck s → HasLuck luck (with_open opened s)
-  lucky_open luck opened (state.Running seen buffer old) has = has
+  lucky_open luck opened (state.Running seen buffer pending) has = has
   lucky_open luck opened (state.Stopped left now) has = has
 
   pub open_same : (s : StateCode H R) → s ≡ with_open (open_in s) s
-  open_same (state.Running seen buffer old) = refl
+  open_same (state.Running seen buffer pending) = refl
   open_same (state.Stopped left luck) = refl
 
   -- what was asked is taken in where it is all taken in
   open_after : (asks : List Call) (before done : StateCode H R) (opened : List Asked) → IsOpenAs (open_in before) done → opened ≡ asked_after (open_in done) [] asks → state_with (asked_after (open_in before) [] asks) done ≡ state_of (with_open opened done)
-  open_after asks before (state.Running seen buffer old) opened keeps all = ap (λ asked. state_with {H = H} {R = R} asked (state.Running seen buffer old)) (sym (all ∙ ap (λ asked. asked_after asked [] asks) keeps))
+  open_after asks before (state.Running seen buffer pending) opened keeps all = ap (λ asked. state_with {H = H} {R = R} asked (state.Running seen buffer pending)) (sym (all ∙ ap (λ asked. asked_after asked [] asks) keeps))
   open_after asks before (state.Stopped left luck) opened keeps all = refl
 
   -- A line that was done, and of what it asked a part was taken in.

@@ -3,8 +3,6 @@ use Rattle.std.proofs.Common.{Contains, List, None, [], ap, arith, inl, inr, opt
 use Rattle.std.proofs.lemmas.List.Elements.{Contains-append_cases, Contains-append_left, Contains-append_right}
 use Rattle.mar_codec.specs.declared.Sha256Digest.{Sha256Digest}
 use Rattle.mar_cert.specs.Block.{Block}
-use Rattle.mar_key.specs.Asked.{asked_after}
-use Rattle.mar_key.specs.Keys.{Call}
 use Rattle.mar_key.specs.Processed.{height_in}
 use Rattle.mar_node.specs.Metadata.{Pair, pair_of}
 use Rattle.mar_store.proofs.Lookups.{AllByRecursion-weaker}
@@ -15,8 +13,8 @@ use Rattle.mar_node.specs.Faults.{Begin, from_genesis}
 use Rattle.mar_node.specs.Held.{IsUsual, Seen}
 use Rattle.mar_node.specs.Lives.{Cuts, CutsEvent, CutsReopening, Finds, NotBelow, Picks}
 use Rattle.mar_node.specs.Node.{Ended, Node}
-use Rattle.mar_node.specs.Promise.{IsGoodUntold, IsLawfulOpening, IsLawfulStep, IsOpeningFault, made_of, node_of}
-use Rattle.mar_node.specs.Step.{Report, Steps, nothing_made}
+use Rattle.mar_node.specs.Promise.{IsGoodUntold, IsLawfulOpening, IsLawfulStep, IsOpeningFault, asked_since, node_of, none_waiting}
+use Rattle.mar_node.specs.Step.{Made, Steps, nothing_made}
 use Rattle.mar_shelf.specs.declared.fault.Fault.{Fault as FaultCode}
 use Rattle.mar_node.proofs.Cutting.{only_one}
 use Rattle.mar_node.proofs.GoodOpenings.{IsOpeningFault-none}
@@ -52,7 +50,7 @@ lawful_opening config chain e g k lawful = record {
 
 module _ (config : Config) (chain : Chain) (e : Ended) (picks : Picks) (g : Block) where
   -- an opening that was cut before its start
-  pub opening_cut : (fault : FaultCode Sha256Digest) (left : Ended) → CutsReopening config chain e picks (from_genesis g) nothing_made (plain_fault fault) left → OpenDone config chain e picks (from_genesis g) (output_of [] [] (outcome.Fault fault)) (stopped left)
+  pub opening_cut : (fault : FaultCode Sha256Digest) (left : Ended) → CutsReopening config chain e picks (from_genesis g) nothing_made (plain_fault fault) left → OpenDone config chain e picks (from_genesis g) (output_of nothing_made (outcome.Fault fault)) (stopped left)
   opening_cut fault left cuts = (plain_fault fault, refl, refl, inl cuts, refl)
 
   -- it has no fault that values call for
@@ -60,21 +58,21 @@ module _ (config : Config) (chain : Chain) (e : Ended) (picks : Picks) (g : Bloc
   opening_usual fault k lawful (inl usual) = usual
   opening_usual fault k lawful (inr faulty) = absurd (IsOpeningFault-none config chain e (from_genesis g) (plain_fault fault) (lawful_opening config chain e g k lawful) faulty)
 
-  module _ {P E : Type 0} (a : Seen P E) (finds : Finds config e picks (from_genesis g) (node_of a [] [])) where
+  module _ {P E : Type 0} (a : Seen P E) (finds : Finds config e picks (from_genesis g) (node_of a [] none_waiting)) where
     abbrev first : Node
-    first = node_of a [] []
+    first = node_of a [] none_waiting
 
     -- what is asked of its start
     pub lawful_start : (k : ℕ) → IsLawfulLine config chain k (stopped e) (open_line (from_genesis g)) → IsGoodUntold config chain first → IsLawfulStep config chain first (life_started None ∷ [])
     lawful_start k lawful good = record { lawful = lawful.lawful; one = lawful.one; reported = (tt, tt); good = good; rests = tt }
 
     -- an opening that finished
-    pub opening_done : (rs : List Report) (asks : List Call) (b : Seen P E) (kept : List Block) → Steps config chain first (life_started None ∷ []) (made_of rs asks) (node_of b kept (asked_after [] [] asks)) → OpenDone config chain e picks (from_genesis g) (output_of rs asks outcome.Done) (running (node_of b kept (asked_after [] [] asks)))
-    opening_done rs asks b kept steps = (made_of rs asks, record { first = first; finds = finds; start = steps }, refl, refl)
+    pub opening_done : (made : Made) (b : Seen P E) (kept : List Block) → Steps config chain first (life_started None ∷ []) made (node_of b kept (asked_since none_waiting made.asks)) → OpenDone config chain e picks (from_genesis g) (output_of made outcome.Done) (running (node_of b kept (asked_since none_waiting made.asks)))
+    opening_done made b kept steps = (made, record { first = first; finds = finds; start = steps }, refl, refl)
 
     -- an opening that was cut in its start
-    pub start_cut : (rs : List Report) (asks : List Call) (fault : FaultCode Sha256Digest) (left : Ended) → IsGoodUntold config chain first → Cuts config chain first (life_started None ∷ []) (made_of rs asks) (plain_fault fault) left → OpenDone config chain e picks (from_genesis g) (output_of rs asks (outcome.Fault fault)) (stopped left)
-    start_cut rs asks fault left good cuts = (plain_fault fault, refl, refl, inr (record { first = first; finds = finds; cut = from_left (only_cut config chain first (life_started None) (made_of rs asks) (plain_fault fault) left cuts) }), refl)
+    pub start_cut : (made : Made) (fault : FaultCode Sha256Digest) (left : Ended) → IsGoodUntold config chain first → Cuts config chain first (life_started None ∷ []) made (plain_fault fault) left → OpenDone config chain e picks (from_genesis g) (output_of made (outcome.Fault fault)) (stopped left)
+    start_cut made fault left good cuts = (plain_fault fault, refl, refl, inr (record { first = first; finds = finds; cut = from_left (only_cut config chain first (life_started None) made (plain_fault fault) left cuts) }), refl)
       where
         -- the pair of the opened node is the one that its start stands on
         pair_before : (p : Pair) → Contains (first.meta ++ pair_of first.processed first.cutoff ∷ pair_of (processed_after first (life_started None) no_floor) (cutoff_after config first (life_started None) no_floor) ∷ []) p → Contains (e.meta ++ pair_of first.processed first.cutoff ∷ pair_of (processed_after first (life_started None) no_floor) (cutoff_after config first (life_started None) no_floor) ∷ []) p
@@ -84,7 +82,7 @@ module _ (config : Config) (chain : Chain) (e : Ended) (picks : Picks) (g : Bloc
             by (inl own) = Contains-append_right e.meta _ p (0, omega arith, only_one (pair_of first.processed first.cutoff) p (subst (λ ps. Contains ps p) good.1.heights.own_pair own))
             by (inr later) = Contains-append_right e.meta _ p later
 
-        from_left : CutsEvent config chain first.meta (option_map height_in first.processed) first (life_started None) (made_of rs asks) (plain_fault fault) left → CutsEvent config chain e.meta None first (life_started None) (made_of rs asks) (plain_fault fault) left
+        from_left : CutsEvent config chain first.meta (option_map height_in first.processed) first (life_started None) made (plain_fault fault) left → CutsEvent config chain e.meta None first (life_started None) made (plain_fault fault) left
         from_left cut = record {
           tip = cut.tip;
           tips = cut.tips;

@@ -4,25 +4,21 @@ use Rattle.std.proofs.lemmas.List.{append-nil}
 use Rattle.std.proofs.lemmas.List.Folds.{flat_map-map}
 use Rattle.std.specs.List.{flat_map}
 use Rattle.std.specs.Prelude.{OnOk, codes, decimal}
-use Rattle.mar_codec.specs.declared.Sha256.{Sha256}
-use Rattle.mar_codec.specs.declared.Sha256Digest.{Sha256Digest}
-use Rattle.mar_block.specs.declared.EmptyBlock.{EmptyBlock}
 use Rattle.mar_key.specs.Asked.{Asked}
-use Rattle.mar_key.specs.Keys.{Call}
 use Rattle.mar_store.specs.Changes.{heights}
 use Rattle.mar_node.specs.Metadata.{Pair, first_pair}
 use Rattle.mar_node.specs.Node.{Ended}
+use Rattle.mar_node.specs.Step.{Made}
 use Rattle.mar_node.specs.Writing.{Writing}
-use Rattle.mar_actor.specs.declared.Update.{Update}
 use Rattle.mar_key.specs.Cutoff.{Cutoff}
 use Rattle.mar_key.specs.Processed.{Processed}
 use Rattle.mar_node.specs.Acks.{Outstanding}
 use Rattle.mar_store.specs.Ranges.{Range, ranges}
 use Rattle.mar_script.specs.Shown.{ended_shown_words, shown_words}
-use Rattle.mar_script.specs.Text.{State, ask_words, cutoff_text, ended_words, fault_words, line_of, or_dash, output_text, pair_words, ranges_text, remark_words, report_words, some_words, state_words}
-use Rattle.marshal.specs.Turn.{fault_in, output_of, plain_report, remark_in, report_text}
+use Rattle.mar_script.specs.Text.{State, answer_words, ask_words, cutoff_text, ended_words, fault_words, line_of, or_dash, output_text, pair_words, ranges_text, remark_words, report_words, some_words, state_words}
+use Rattle.marshal.specs.Turn.{fault_in, made_in, output_of, plain_report, remark_in, report_text}
+use Rattle.marshal.specs.declared.heard.Heard.{Heard}
 use Rattle.marshal.specs.declared.play.Outcome.{Outcome}
-use Rattle.mar_script.proofs.Pushed.{in_four}
 
 pub node_shown : (p p' : Option Processed) (o o' : List Outstanding) (c c' : Cutoff) (b b' bs bs' f f' fs fs' : List Range) (w w' : Writing) → p ≡ p' → o ≡ o' → c ≡ c' → b ≡ b' → bs ≡ bs' → f ≡ f' → fs ≡ fs' → w ≡ w' → shown_words p o c b bs f fs w.uncovered w.syncs ≡ shown_words p' o' c' b' bs' f' fs' w'.uncovered w'.syncs
 node_shown p p' o o' c c' b b' bs bs' f f' fs fs' w w' e1 e2 e3 e4 e5 e6 e7 e8 =
@@ -52,20 +48,34 @@ line_shown (Err e) new old words shown appended is = appended
 abbrev pub outcome_text : Outcome → List ℕ
 outcome_text o = some_words (option_map remark_words (remark_in o)) ++ some_words (option_map (λ f. codes "fault" ∷ fault_words f) (fault_in o))
 
-in_parts : (a b rem fault node : List ℕ) → a ++ b ++ [] ++ [] ++ [] ++ rem ++ fault ++ node ≡ a ++ (b ++ ((rem ++ fault) ++ node))
-in_parts a b rem fault node = simp (append_assoc, append-nil)
+in_parts : (a b c rem fault node : List ℕ) → a ++ b ++ [] ++ c ++ [] ++ rem ++ fault ++ node ≡ a ++ (b ++ (c ++ ((rem ++ fault) ++ node)))
+in_parts a b c rem fault node = simp (append_assoc, append-nil)
 
-turn_text : (updates : List (Update Sha256Digest (EmptyBlock Sha256 Sha256Digest))) (asks : List Call) (o : Outcome) (after : State)
-    → output_text (output_of (map plain_report updates) asks o) after ≡ flat_map report_text updates ++ (flat_map (λ a. line_of (ask_words a)) asks ++ (outcome_text o ++ line_of (state_words after)))
+-- what is written of what was made, but for the reports
+abbrev pub asks_text : Made → List ℕ
+asks_text made = flat_map (λ a. line_of (ask_words a)) made.asks
+
+abbrev pub answers_text : Made → List ℕ
+answers_text made = flat_map (λ a. line_of (answer_words a)) made.answers
+
+turn_text : (heard : Heard) (o : Outcome) (after : State) → output_text (output_of (made_in heard) o) after ≡ flat_map report_text heard.told.updates.items ++ (asks_text (made_in heard) ++ (answers_text (made_in heard) ++ (outcome_text o ++ line_of (state_words after))))
 unfolding output_text
-turn_text updates asks o after =
-    in_parts (flat_map (λ r. line_of (report_words r)) (map plain_report updates)) (flat_map (λ a. line_of (ask_words a)) asks) (some_words (option_map remark_words (remark_in o))) (some_words (option_map (λ f. codes "fault" ∷ fault_words f) (fault_in o))) (line_of (state_words after))
-    ∙ ap (λ l. l ++ (flat_map (λ a. line_of (ask_words a)) asks ++ (outcome_text o ++ line_of (state_words after)))) (flat_map-map (λ r. line_of (report_words r)) plain_report updates)
+turn_text heard o after =
+    in_parts (flat_map (λ r. line_of (report_words r)) (map plain_report heard.told.updates.items)) (asks_text (made_in heard)) (answers_text (made_in heard)) (some_words (option_map remark_words (remark_in o)))
+    (some_words (option_map (λ f. codes "fault" ∷ fault_words f) (fault_in o))) (line_of (state_words after))
+    ∙ ap (λ l. l ++ (asks_text (made_in heard) ++ (answers_text (made_in heard) ++ (outcome_text o ++ line_of (state_words after))))) (flat_map-map (λ r. line_of (report_words r)) plain_report heard.told.updates.items)
 
--- what was appended in four parts is a line's text
-pub turn_shown : {T E : Type 0} (r : Result T E) (old m1 m2 m3 new : List ℕ) (updates : List (Update Sha256Digest (EmptyBlock Sha256 Sha256Digest))) (asks : List Call) (o : Outcome) (shown : List Asked → State)
-    → m1 ≡ old ++ flat_map report_text updates → m2 ≡ m1 ++ flat_map (λ a. line_of (ask_words a)) asks → m3 ≡ m2 ++ outcome_text o → OnOk r ((asked : List Asked) → new ≡ m3 ++ line_of (state_words (shown asked)))
-    → OnOk r ((asked : List Asked) → new ≡ old ++ output_text (output_of (map plain_report updates) asks o) (shown asked))
-turn_shown (Ok v) old m1 m2 m3 new updates asks o shown p q s appended = λ asked.
-    in_four old m1 m2 m3 new _ _ _ _ p q s (appended asked) ∙ ap (λ l. old ++ l) (sym (turn_text updates asks o (shown asked)))
-turn_shown (Err e) old m1 m2 m3 new updates asks o shown p q s appended = appended
+in_five : (old m1 m2 m3 m4 new a b c d e : List ℕ) → m1 ≡ old ++ a → m2 ≡ m1 ++ b → m3 ≡ m2 ++ c → m4 ≡ m3 ++ d → new ≡ m4 ++ e → new ≡ old ++ (a ++ (b ++ (c ++ (d ++ e))))
+in_five old m1 m2 m3 m4 new a b c d e p q r s t =
+    t ∙ (ap (λ xs. xs ++ e) (s ∙ ap (λ xs. xs ++ d) (r ∙ ap (λ xs. xs ++ c) (q ∙ ap (λ xs. xs ++ b) p))) ∙ all)
+  where
+    all : ((((old ++ a) ++ b) ++ c) ++ d) ++ e ≡ old ++ (a ++ (b ++ (c ++ (d ++ e))))
+    all = simp (append_assoc)
+
+-- what was appended in five parts is a line's text
+pub turn_shown : {T E : Type 0} (r : Result T E) (old m1 m2 m3 m4 new : List ℕ) (heard : Heard) (o : Outcome) (shown : List Asked → State)
+    → m1 ≡ old ++ flat_map report_text heard.told.updates.items → m2 ≡ m1 ++ asks_text (made_in heard) → m3 ≡ m2 ++ answers_text (made_in heard) → m4 ≡ m3 ++ outcome_text o → OnOk r ((asked : List Asked) → new ≡ m4 ++ line_of (state_words (shown asked)))
+    → OnOk r ((asked : List Asked) → new ≡ old ++ output_text (output_of (made_in heard) o) (shown asked))
+turn_shown (Ok v) old m1 m2 m3 m4 new heard o shown p q r s appended = λ asked.
+    in_five old m1 m2 m3 m4 new _ _ _ _ _ p q r s (appended asked) ∙ ap (λ l. old ++ l) (sym (turn_text heard o (shown asked)))
+turn_shown (Err e) old m1 m2 m3 m4 new heard o shown p q r s appended = appended

@@ -1,11 +1,14 @@
-//! What a node tells the application and asks of its peers while one line is done.
+//! What a node tells the application, asks of its peers and answers callers while one line is done.
 ghost use Rattle.std.specs.Prelude.{◌≡◌, ◌∷◌, [], OnErr, OnOk, Some, map};
 ghost use Rattle.mar_key.specs.Hears.{Hears};
-ghost use Rattle.marshal.specs.Turn.{plain_report};
+ghost use Rattle.mar_node.specs.Step.{nothing_made};
+ghost use Rattle.marshal.specs.Turn.{made_in, plain_report};
 
 use mar_actor::{Reporter, Update};
 use mar_block::{EmptyBlock, StandardBlocks};
+use mar_cert::MockFinalization;
 use mar_codec::{Digested, Sha256, Sha256Digest};
+use mar_inbox::{AnswerTable, Value};
 use mar_key::Recorder;
 use std::alloc::{AllocError, Global};
 
@@ -15,24 +18,25 @@ pub struct Told {
     pub updates: Vec<Update<Sha256Digest, Digested<EmptyBlock<Sha256>>>>,
 }
 
-/// What a node told and asked while one line was done.
+/// What a node told, asked and answered while one line was done.
 #[derive(Drop)]
 pub struct Heard {
     pub told: Told,
     pub asked: Recorder<Sha256Digest>,
+    pub answers: AnswerTable<Value<Sha256Digest, Digested<EmptyBlock<Sha256>>, MockFinalization>>,
 }
 
 impl Heard {
-    /// Of a line that has told and asked nothing yet.
+    /// Of a line that has told, asked and answered nothing yet.
     pub fn new(alloc: Global) -> Self
-        ensures told { result.told.updates.items ≡ [] }
-        ensures asked { result.asked ≡ [] }
+        ensures { made_in result ≡ nothing_made }
     {
         Heard {
             told: Told {
                 updates: Vec::new(alloc),
             },
             asked: Recorder::new(alloc),
+            answers: AnswerTable::new(alloc),
         }
     }
 }

@@ -24,6 +24,12 @@ the lines of a script behind its settings, `config` and eight numbers:
   final HEX           consensus reports a finalization
   ack T               the application acknowledges the block of ticket T
   sync T              a sync finishes
+  info ID             asks for height and digest of a finalized block; ID is hN (a height), dHEX (a digest) or latest
+  block ID            asks for a block
+  finalization H      asks for the finalization at this height
+  processed           asks for the processed height
+  anchor              asks for it and the block that backs it
+  getverified E V     asks for the block that was first verified in the round of epoch E and view V
   fail STORE N        the Nth counted call of this store from here on fails: blocks, certs or meta (cache has none yet)
   crash N             ends the life; of what a crash may leave, the next opening finds what N picks
 

@@ -5,12 +5,11 @@ ghost use Rattle.mar_key.specs.Recorded.{ask_of};
 ghost use Rattle.mar_node.specs.Messages.{report_finalization};
 ghost use Rattle.mar_node.specs.Config.{Config as PlainConfig};
 ghost use Rattle.mar_node.specs.Faults.{from_genesis, want_of_memory};
-ghost use Rattle.mar_node.specs.Held.{Held, remains_of};
+ghost use Rattle.mar_node.specs.Held.{remains_of};
 ghost use Rattle.mar_node.specs.Promise.{IsSmallEvent};
-ghost use Rattle.mar_node.specs.Queries.{answers_found};
+ghost use Rattle.mar_node.specs.Step.{nothing_made};
 ghost use Rattle.mar_node.specs.Stored.{AreSmall};
 ghost use Rattle.mar_store.specs.Sizes.{IsSmall};
-ghost use Rattle.mar_cert.specs.Block.{Block};
 ghost use Rattle.mar_cert.specs.Finalization.{finalization_bytes};
 ghost use Rattle.mar_script.specs.Plays.{IsSmallLine};
 ghost use Rattle.mar_actor.specs.Views.{begin_of, event_of, sizes_of};
@@ -19,14 +18,15 @@ ghost use Rattle.mar_script.specs.Lines.{plain_block, plain_finalization, plain_
 ghost use Rattle.marshal.specs.Playing.{HasSmallBlocks, PlaysLine, PlaysOrNot, TakesEvent};
 ghost use Rattle.mar_script.specs.Shown.{plain_fault};
 ghost use Rattle.mar_script.specs.Script.{IsSettings, ack_line, buffer_line, config_of, fail_line, open_line, sync_line, tell_line};
-ghost use Rattle.marshal.specs.Turn.{fault_in, open_in, output_of, plain_report, with_open};
+ghost use Rattle.mar_inbox.specs.Views.{query_of};
+ghost use Rattle.marshal.specs.Turn.{fault_in, made_in, open_in, output_of, with_open};
 
 use crate::heard::Heard;
 use mar_actor::{Config, Ended, Event, Fault, Limits, Node, Start, StoreName};
 use mar_block::{EmptyBlock, MemBuffer, StandardBlocks};
 use mar_cert::{MockFinalization, MockProvider, MockScheme};
 use mar_codec::{Digested, Sha256, Sha256Digest};
-use mar_inbox::{AnswerTable, Message};
+use mar_inbox::{Message, Query};
 use mar_key::{Ask, OpenRequests};
 use mar_script::{Line, RemarkShown, Settings};
 use mar_shelf::{Holds, StoresRuin};
@@ -53,11 +53,19 @@ impl<H: Holds<StandardBlocks, Finalization = MockFinalization>> Model for Left<H
     ghost view = { λ l. H.Ruins.left l.ruins };
 }
 
-/// A node while a life runs, with the blocks that its buffer has and what is open with its resolver; else what is left of
-/// its stores, and the luck of the next opening.
+/// What is pending beside a node while its life runs: the requests that are open with its resolver, and the ticket of the
+/// next caller that asks.
+#[derive(Drop)]
+pub struct Pending {
+    pub requests: OpenRequests<Sha256Digest>,
+    pub next_answer: u64,
+}
+
+/// A node while a life runs, with the blocks that its buffer has and what is pending; else what is left of its stores, and
+/// the luck of the next opening.
 #[derive(Drop)]
 pub enum State<H: Holds<StandardBlocks, Finalization = MockFinalization>> {
-    Running(ScriptNode<H>, MemBuffer<StandardBlocks>, OpenRequests<Sha256Digest>),
+    Running(ScriptNode<H>, MemBuffer<StandardBlocks>, Pending),
     Stopped(Left<H>, u64),
 }
 
@@ -68,7 +76,7 @@ impl<H: Holds<StandardBlocks, Finalization = MockFinalization>> State<H> {
         ensures err { OnErr result ((opened : List Asked) × (self.new ≡ with_open opened self.old)) }
     {
         match self {
-            State::Running(_, _, requests) => requests.settle(&[], asks),
+            State::Running(_, _, pending) => pending.requests.settle(&[], asks),
             State::Stopped(_, _) => Ok(()),
         }
     }
@@ -108,13 +116,12 @@ pub fn play<H: Holds<StandardBlocks, Finalization = MockFinalization>>(
     requires settings { IsSettings settings }
     requires small_line { IsSmallLine (plain_line line) }
     requires small { HasSmallBlocks state }
-    requires silent { heard.old.told.updates.items ≡ [] }
-    requires unasked { heard.old.asked ≡ [] }
-    ensures { PlaysOrNot (config_of settings) state (plain_line line) (map plain_report heard.new.told.updates.items) heard.new.asked result.0 result.1 }
+    requires silent { made_in heard.old ≡ nothing_made }
+    ensures { PlaysOrNot (config_of settings) state (plain_line line) (made_in heard.new) result.0 result.1 }
 {
     match state {
-        State::Running(actor, buffer, requests) => play_running(
-            alloc, actor, buffer, requests, line, heard,
+        State::Running(actor, buffer, pending) => play_running(
+            alloc, actor, buffer, pending, line, heard,
         ),
         State::Stopped(left, luck) => play_stopped(alloc, settings, left, luck, line, heard),
     }
@@ -131,10 +138,8 @@ fn play_stopped<H: Holds<StandardBlocks, Finalization = MockFinalization>>(
 ) -> (State<H>, Result<Outcome, AllocError>)
     requires settings { IsSettings settings }
     requires small_line { IsSmallLine (plain_line line) }
-    requires silent { heard.old.told.updates.items ≡ [] }
-    requires unasked { heard.old.asked ≡ [] }
-    ensures { PlaysOrNot (config_of settings) (State.Stopped left luck) (plain_line line) (map plain_report heard.new.told.updates.items) heard.new.asked
-        result.0 result.1 }
+    requires silent { made_in heard.old ≡ nothing_made }
+    ensures { PlaysOrNot (config_of settings) (State.Stopped left luck) (plain_line line) (made_in heard.new) result.0 result.1 }
 {
     match line {
         Line::OpenGenesis(genesis) => open(alloc, settings, left, luck, genesis, heard),
@@ -144,6 +149,7 @@ fn play_stopped<H: Holds<StandardBlocks, Finalization = MockFinalization>>(
         Line::Final(_finalization) => pass(left, luck),
         Line::Sync(_ticket) => pass(left, luck),
         Line::Ack(_ticket) => pass(left, luck),
+        Line::Query(_query) => pass(left, luck),
     }
 }
 
@@ -166,7 +172,7 @@ fn arm_left<H: Holds<StandardBlocks, Finalization = MockFinalization>>(
     store: StoreName,
     calls: u64,
 ) -> (State<H>, Result<Outcome, AllocError>)
-    ensures { (config : PlainConfig) → PlaysOrNot config (State.Stopped left luck) (fail_line (store_name_of store) calls) [] [] result.0 result.1 }
+    ensures { (config : PlainConfig) → PlaysOrNot config (State.Stopped left luck) (fail_line (store_name_of store) calls) nothing_made result.0 result.1 }
 {
     let mut left = left;
     if let Err(error) = left.ruins.arm(store, calls) {
@@ -180,28 +186,27 @@ fn play_running<H: Holds<StandardBlocks, Finalization = MockFinalization>>(
     alloc: Global,
     actor: ScriptNode<H>,
     buffer: MemBuffer<StandardBlocks>,
-    requests: OpenRequests<Sha256Digest>,
+    pending: Pending,
     line: Line,
     heard: &mut Heard,
 ) -> (State<H>, Result<Outcome, AllocError>)
     requires small_line { IsSmallLine (plain_line line) }
     requires small { AreSmall buffer.blocks }
-    requires silent { heard.old.told.updates.items ≡ [] }
-    requires unasked { heard.old.asked ≡ [] }
-    ensures { (config : PlainConfig) → PlaysOrNot config (State.Running actor buffer requests) (plain_line line) (map plain_report heard.new.told.updates.items)
-        heard.new.asked result.0 result.1 }
+    requires silent { made_in heard.old ≡ nothing_made }
+    ensures { (config : PlainConfig) → PlaysOrNot config (State.Running actor buffer pending) (plain_line line) (made_in heard.new) result.0 result.1 }
 {
     match line {
         Line::OpenGenesis(_genesis) => (
-            State::Running(actor, buffer, requests),
+            State::Running(actor, buffer, pending),
             Ok(Outcome::Remark(RemarkShown::Running)),
         ),
-        Line::Buffer(block) => put(alloc, actor, buffer, requests, block),
-        Line::Final(finalization) => finalize(alloc, actor, buffer, requests, finalization, heard),
-        Line::Sync(ticket) => finish_sync(alloc, actor, buffer, requests, ticket, heard),
-        Line::Ack(ticket) => acknowledge(alloc, actor, buffer, requests, ticket, heard),
-        Line::Fail(store, calls) => arm(actor, buffer, requests, store, calls),
-        Line::Crash(luck) => (crash(actor, buffer, requests, luck), Ok(Outcome::Done)),
+        Line::Buffer(block) => put(alloc, actor, buffer, pending, block),
+        Line::Final(finalization) => finalize(actor, buffer, pending, finalization, heard),
+        Line::Sync(ticket) => finish_sync(actor, buffer, pending, ticket, heard),
+        Line::Ack(ticket) => acknowledge(actor, buffer, pending, ticket, heard),
+        Line::Query(query) => ask(actor, buffer, pending, query, heard),
+        Line::Fail(store, calls) => arm(actor, buffer, pending, store, calls),
+        Line::Crash(luck) => (crash(actor, buffer, pending, luck), Ok(Outcome::Done)),
     }
 }
 
@@ -209,7 +214,7 @@ fn play_running<H: Holds<StandardBlocks, Finalization = MockFinalization>>(
 fn crash<H: Holds<StandardBlocks, Finalization = MockFinalization>>(
     actor: ScriptNode<H>,
     _buffer: MemBuffer<StandardBlocks>,
-    _requests: OpenRequests<Sha256Digest>,
+    _pending: Pending,
     luck: u64,
 ) -> State<H>
     ensures { result ≡ State.Stopped (remains_of actor.held) luck }
@@ -222,17 +227,18 @@ fn crash<H: Holds<StandardBlocks, Finalization = MockFinalization>>(
 fn arm<H: Holds<StandardBlocks, Finalization = MockFinalization>>(
     actor: ScriptNode<H>,
     buffer: MemBuffer<StandardBlocks>,
-    requests: OpenRequests<Sha256Digest>,
+    pending: Pending,
     store: StoreName,
     calls: u64,
 ) -> (State<H>, Result<Outcome, AllocError>)
-    ensures { (config : PlainConfig) → PlaysOrNot config (State.Running actor buffer requests) (fail_line (store_name_of store) calls) [] [] result.0 result.1 }
+    ensures { (config : PlainConfig) → PlaysOrNot config (State.Running actor buffer pending) (fail_line (store_name_of store) calls)
+        nothing_made result.0 result.1 }
 {
     let mut actor = actor;
     if let Err(error) = actor.arm(store, calls) {
-        return (State::Running(actor, buffer, requests), Err(error));
+        return (State::Running(actor, buffer, pending), Err(error));
     }
-    (State::Running(actor, buffer, requests), Ok(Outcome::Done))
+    (State::Running(actor, buffer, pending), Ok(Outcome::Done))
 }
 
 // Puts a block into the buffer.
@@ -240,118 +246,126 @@ fn put<H: Holds<StandardBlocks, Finalization = MockFinalization>>(
     alloc: Global,
     actor: ScriptNode<H>,
     buffer: MemBuffer<StandardBlocks>,
-    requests: OpenRequests<Sha256Digest>,
+    pending: Pending,
     block: EmptyBlock<Sha256>,
 ) -> (State<H>, Result<Outcome, AllocError>)
-    ensures { (config : PlainConfig) → PlaysOrNot config (State.Running actor buffer requests) (buffer_line (plain_block block)) [] [] result.0 result.1 }
+    ensures { (config : PlainConfig) → PlaysOrNot config (State.Running actor buffer pending) (buffer_line (plain_block block)) nothing_made result.0 result.1 }
 {
     let mut buffer = buffer;
     let block = match Digested::compute(alloc, block) {
         Ok(block) => block,
-        Err(error) => return (State::Running(actor, buffer, requests), Err(error)),
+        Err(error) => return (State::Running(actor, buffer, pending), Err(error)),
     };
     match buffer.put(block) {
-        Ok(()) => (State::Running(actor, buffer, requests), Ok(Outcome::Done)),
-        Err(error) => (State::Running(actor, buffer, requests), Err(error)),
+        Ok(()) => (State::Running(actor, buffer, pending), Ok(Outcome::Done)),
+        Err(error) => (State::Running(actor, buffer, pending), Err(error)),
     }
 }
 
 // Reports a finalization.
 fn finalize<H: Holds<StandardBlocks, Finalization = MockFinalization>>(
-    alloc: Global,
     actor: ScriptNode<H>,
     buffer: MemBuffer<StandardBlocks>,
-    requests: OpenRequests<Sha256Digest>,
+    pending: Pending,
     finalization: MockFinalization,
     heard: &mut Heard,
 ) -> (State<H>, Result<Outcome, AllocError>)
     requires small_event { IsSmall (finalization_bytes (plain_finalization finalization)) }
     requires small { AreSmall buffer.blocks }
-    requires silent { heard.old.told.updates.items ≡ [] }
-    requires unasked { heard.old.asked ≡ [] }
-    ensures { (config : PlainConfig) → PlaysOrNot config (State.Running actor buffer requests)
+    requires silent { made_in heard.old ≡ nothing_made }
+    ensures { (config : PlainConfig) → PlaysOrNot config (State.Running actor buffer pending)
         (tell_line (report_finalization (plain_finalization finalization)))
-        (map plain_report heard.new.told.updates.items) heard.new.asked result.0 result.1 }
+        (made_in heard.new) result.0 result.1 }
 {
     let event = Event::Message(Message::Finalization(finalization));
-    let (state, outcome) = step(alloc, actor, buffer, requests, event, heard);
+    let (state, outcome) = step(actor, buffer, pending, event, heard);
     (state, Ok(outcome))
 }
 
 // Gives the acknowledgement of this ticket, where it is owed.
 fn acknowledge<H: Holds<StandardBlocks, Finalization = MockFinalization>>(
-    alloc: Global,
     actor: ScriptNode<H>,
     buffer: MemBuffer<StandardBlocks>,
-    requests: OpenRequests<Sha256Digest>,
+    pending: Pending,
     ticket: u64,
     heard: &mut Heard,
 ) -> (State<H>, Result<Outcome, AllocError>)
     requires small { AreSmall buffer.blocks }
-    requires silent { heard.old.told.updates.items ≡ [] }
-    requires unasked { heard.old.asked ≡ [] }
-    ensures { (config : PlainConfig) → PlaysOrNot config (State.Running actor buffer requests) (ack_line ticket) (map plain_report heard.new.told.updates.items)
-        heard.new.asked result.0 result.1 }
+    requires silent { made_in heard.old ≡ nothing_made }
+    ensures { (config : PlainConfig) → PlaysOrNot config (State.Running actor buffer pending) (ack_line ticket) (made_in heard.new) result.0 result.1 }
 {
     if !actor.owes_ack(ticket) {
         let remark = Outcome::Remark(RemarkShown::Ignored);
-        return (State::Running(actor, buffer, requests), Ok(remark));
+        return (State::Running(actor, buffer, pending), Ok(remark));
     }
-    let (state, outcome) = step(alloc, actor, buffer, requests, Event::Ack(ticket), heard);
+    let (state, outcome) = step(actor, buffer, pending, Event::Ack(ticket), heard);
+    (state, Ok(outcome))
+}
+
+// Asks what stands, under the next answer ticket.
+fn ask<H: Holds<StandardBlocks, Finalization = MockFinalization>>(
+    actor: ScriptNode<H>,
+    buffer: MemBuffer<StandardBlocks>,
+    pending: Pending,
+    query: Query<Sha256Digest>,
+    heard: &mut Heard,
+) -> (State<H>, Result<Outcome, AllocError>)
+    requires small { AreSmall buffer.blocks }
+    requires silent { made_in heard.old ≡ nothing_made }
+    ensures { (config : PlainConfig) → PlaysOrNot config (State.Running actor buffer pending) (tell_line (query_of (λ digest. digest.bytes) query))
+        (made_in heard.new) result.0 result.1 }
+{
+    let ticket = pending.next_answer;
+    let pending = Pending {
+        requests: pending.requests,
+        next_answer: ticket.saturating_add(1),
+    };
+    let event = Event::Message(query.under(ticket));
+    let (state, outcome) = step(actor, buffer, pending, event, heard);
     (state, Ok(outcome))
 }
 
 // Lets the sync of this ticket finish, where the node awaits it.
 fn finish_sync<H: Holds<StandardBlocks, Finalization = MockFinalization>>(
-    alloc: Global,
     actor: ScriptNode<H>,
     buffer: MemBuffer<StandardBlocks>,
-    requests: OpenRequests<Sha256Digest>,
+    pending: Pending,
     ticket: u64,
     heard: &mut Heard,
 ) -> (State<H>, Result<Outcome, AllocError>)
     requires small { AreSmall buffer.blocks }
-    requires silent { heard.old.told.updates.items ≡ [] }
-    requires unasked { heard.old.asked ≡ [] }
-    ensures { (config : PlainConfig) → PlaysOrNot config (State.Running actor buffer requests) (sync_line ticket)
-        (map plain_report heard.new.told.updates.items)
-        heard.new.asked result.0 result.1 }
+    requires silent { made_in heard.old ≡ nothing_made }
+    ensures { (config : PlainConfig) → PlaysOrNot config (State.Running actor buffer pending) (sync_line ticket) (made_in heard.new) result.0 result.1 }
 {
     if !actor.awaits_sync(ticket) {
         let remark = Outcome::Remark(RemarkShown::Ignored);
-        return (State::Running(actor, buffer, requests), Ok(remark));
+        return (State::Running(actor, buffer, pending), Ok(remark));
     }
-    let (state, outcome) = step(alloc, actor, buffer, requests, Event::Sync(ticket), heard);
+    let (state, outcome) = step(actor, buffer, pending, Event::Sync(ticket), heard);
     (state, Ok(outcome))
 }
 
-// Takes one event that nobody is answered.
+// Takes one event.
 fn step<H: Holds<StandardBlocks, Finalization = MockFinalization>>(
-    alloc: Global,
     actor: ScriptNode<H>,
     buffer: MemBuffer<StandardBlocks>,
-    requests: OpenRequests<Sha256Digest>,
+    pending: Pending,
     event: Event<Sha256Digest, MockFinalization>,
     heard: &mut Heard,
 ) -> (State<H>, Outcome)
     requires small_event { IsSmallEvent (event_of (λ digest. digest.bytes) plain_finalization event) }
-    requires unanswered { (held : Held) (blocks : List Block)
-        → answers_found (λ commitment. commitment) held blocks (event_of (λ digest. digest.bytes) plain_finalization event) ≡ [] }
     requires small { AreSmall buffer.blocks }
-    requires silent { heard.old.told.updates.items ≡ [] }
-    requires unasked { heard.old.asked ≡ [] }
-    ensures { TakesEvent actor buffer requests (event_of (λ digest. digest.bytes) plain_finalization event)
-        (map plain_report heard.new.told.updates.items) heard.new.asked result.0 result.1 }
+    requires silent { made_in heard.old ≡ nothing_made }
+    ensures { TakesEvent actor buffer pending (event_of (λ digest. digest.bytes) plain_finalization event) (made_in heard.new) result.0 result.1 }
 {
-    let mut answers = AnswerTable::new(alloc);
     match actor.step(
         event,
-        &mut answers,
+        &mut heard.answers,
         &buffer,
         &mut heard.asked,
         &mut heard.told,
     ) {
-        Ok(actor) => (State::Running(actor, buffer, requests), Outcome::Done),
+        Ok(actor) => (State::Running(actor, buffer, pending), Outcome::Done),
         Err(ended) => {
             let (fault, left) = parts_of(ended);
             (State::Stopped(left, 0), Outcome::Fault(fault))
@@ -380,10 +394,9 @@ fn open<H: Holds<StandardBlocks, Finalization = MockFinalization>>(
 ) -> (State<H>, Result<Outcome, AllocError>)
     requires settings { IsSettings settings }
     requires small { IsSmall (plain_block genesis).encoded }
-    requires silent { heard.old.told.updates.items ≡ [] }
-    requires unasked { heard.old.asked ≡ [] }
+    requires silent { made_in heard.old ≡ nothing_made }
     ensures { PlaysOrNot (config_of settings) (State.Stopped left luck) (open_line (from_genesis (plain_block genesis)))
-        (map plain_report heard.new.told.updates.items) heard.new.asked result.0 result.1 }
+        (made_in heard.new) result.0 result.1 }
 {
     match Digested::compute(alloc, genesis) {
         Ok(genesis) => {
@@ -405,15 +418,18 @@ fn begin<H: Holds<StandardBlocks, Finalization = MockFinalization>>(
 ) -> (State<H>, Outcome)
     requires settings { IsSettings settings }
     requires small { IsSmall (plain_block genesis).encoded }
-    requires silent { heard.old.told.updates.items ≡ [] }
-    requires unasked { heard.old.asked ≡ [] }
+    requires silent { made_in heard.old ≡ nothing_made }
     ensures { PlaysLine (config_of settings) (State.Stopped left luck) (open_line (from_genesis (plain_block genesis)))
-        (output_of (map plain_report heard.new.told.updates.items) heard.new.asked result.1) result.0 }
+        (output_of (made_in heard.new) result.1) result.0 }
 {
     match Node::init(alloc, left.ruins, setup(settings, genesis), luck) {
         Ok((actor, _floor)) => {
             let (buffer, requests) = (MemBuffer::new(alloc), OpenRequests::new(alloc));
-            step(alloc, actor, buffer, requests, Event::Start, heard)
+            let pending = Pending {
+                requests,
+                next_answer: 0,
+            };
+            step(actor, buffer, pending, Event::Start, heard)
         }
         Err(ended) => {
             let (fault, left) = parts_of(ended);

@@ -1,5 +1,5 @@
 //! Replays a script over the stores of a node.
-ghost use Rattle.std.specs.Prelude.{◌≡◌, ◌+◌, ◌++◌, ◌<◌, ℕ, List, Option, Some, [], false, IfErr, IsErrOf, OnOk, map};
+ghost use Rattle.std.specs.Prelude.{◌≡◌, ◌+◌, ◌++◌, ◌<◌, ℕ, List, Option, Some, [], false, IfErr, IsErrOf, OnOk};
 ghost use Rattle.mar_codec.specs.Causes.{Rose};
 ghost use Rattle.mar_key.specs.Asked.{Asked};
 ghost use Rattle.mar_node.specs.Held.{Remains};
@@ -12,7 +12,7 @@ ghost use Rattle.mar_script.specs.Run.{HandsBack, IsShownAs};
 ghost use Rattle.mar_script.specs.Script.{IsSettings, config_of, settings_bytes};
 ghost use Rattle.mar_script.specs.Streams.{Gives, Takes};
 ghost use Rattle.mar_script.specs.Text.{output_text, text};
-ghost use Rattle.marshal.specs.Turn.{output_of, plain_report, remains_in, state_with};
+ghost use Rattle.marshal.specs.Turn.{made_in, output_of, remains_in, state_with};
 
 use crate::heard::Heard;
 use crate::play::{Left, Outcome, State, play};
@@ -82,7 +82,7 @@ pub fn left_of<H: Holds<StandardBlocks, Finalization = MockFinalization>>(
     ensures hands_back { (asked : List Asked) → HandsBack (state_with asked state) (H.Ruins.left result).ended }
 {
     match state {
-        State::Running(actor, _buffer, _requests) => actor.wreck(),
+        State::Running(actor, _buffer, _pending) => actor.wreck(),
         State::Stopped(left, _luck) => left.ruins,
     }
 }
@@ -180,8 +180,8 @@ pub fn write_turn<K: Sink, H: Holds<StandardBlocks, Finalization = MockFinalizat
     ensures end { IfErr result IsWritersEnd }
     ensures calm { (IsErrOf result Status.WriteFault → ⊥) → K.faults sink.new ≡ K.faults sink.old }
     ensures write_fault { IsErrOf result Status.WriteFault → Rose (K.faults sink.old) (K.faults sink.new) }
-    ensures wrote { WritesText (K.written sink.old) (λ asked. output_text (output_of (map plain_report heard.now.told.updates.items) heard.now.asked
-        outcome) (state_with asked state.now)) (K.written sink.new) result }
+    ensures wrote { WritesText (K.written sink.old) (λ asked. output_text (output_of (made_in heard.now) outcome) (state_with asked state.now))
+        (K.written sink.new) result }
     ensures handed { more ≡ false → OnOk result (K.held_back sink.new ≡ 0) }
 {
     page.text.clear();

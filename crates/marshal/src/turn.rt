@@ -1,9 +1,9 @@
 //! The text of one line of a script.
-ghost use Rattle.std.specs.Prelude.{◌≡◌, ◌++◌, ◌∷◌, List, OnOk, codes, map, option_map, string_bytes};
+ghost use Rattle.std.specs.Prelude.{◌≡◌, ◌++◌, ◌∷◌, List, OnOk, codes, option_map, string_bytes};
 ghost use Rattle.std.specs.List.{flat_map};
 ghost use Rattle.mar_key.specs.Asked.{Asked};
 ghost use Rattle.mar_script.specs.Text.{fault_words, line_of, output_text, remark_words, some_words, state_words};
-ghost use Rattle.marshal.specs.Turn.{fault_in, output_of, plain_report, remark_in, report_text, state_with};
+ghost use Rattle.marshal.specs.Turn.{fault_in, made_in, output_of, remark_in, report_text, state_with};
 
 use crate::heard::Heard;
 use crate::play::{Outcome, State};
@@ -12,7 +12,8 @@ use mar_block::{EmptyBlock, StandardBlocks, Variant};
 use mar_cert::MockFinalization;
 use mar_codec::{Digested, Sha256, Sha256Digest};
 use mar_script::{
-    RangeTexts, push_asks, push_block, push_ended, push_fault, push_node, push_remark, push_tip,
+    RangeTexts, push_answers, push_asks, push_block, push_ended, push_fault, push_node,
+    push_remark, push_tip,
 };
 use mar_shelf::{Holds, StoresRuin};
 use std::alloc::{AllocError, Global};
@@ -35,7 +36,8 @@ impl Page {
     }
 }
 
-/// Appends what a line made: what the application was told, what was asked, a remark or a fault, and what there is now.
+/// Appends what a line made: what the application was told, what was asked, what callers were answered, a remark or a fault,
+/// and what there is now.
 pub fn push_turn<H: Holds<StandardBlocks, Finalization = MockFinalization>>(
     alloc: Global,
     text: &mut String,
@@ -45,10 +47,11 @@ pub fn push_turn<H: Holds<StandardBlocks, Finalization = MockFinalization>>(
     state: &State<H>,
 ) -> Result<(), AllocError>
     ensures { OnOk result ((asked : List Asked) → string_bytes text.new ≡ string_bytes text.old
-        ++ output_text (output_of (map plain_report heard.now.told.updates.items) heard.now.asked outcome) (state_with asked state.now)) }
+        ++ output_text (output_of (made_in heard.now) outcome) (state_with asked state.now)) }
 {
     push_updates(alloc, text, &heard.told.updates)?;
     push_asks(alloc, text, heard.asked.asks())?;
+    push_answers(alloc, text, heard.answers.answers())?;
     push_outcome(alloc, text, outcome)?;
     push_state(alloc, text, ranges, state)
 }

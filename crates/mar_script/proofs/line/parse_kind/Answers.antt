@@ -1,7 +1,10 @@
 use Rattle.std.proofs.Common.{refl, ℕ}
+use Rattle.mar_types.specs.Round.{Round}
+use Rattle.mar_inbox.specs.Views.{identifier_of}
+use Rattle.mar_inbox.specs.declared.Query.TheVariants as query
 use Rattle.mar_script.specs.Lines.{plain_block, plain_finalization}
 use Rattle.mar_script.specs.declared.line.Line.TheVariants as line
-use Rattle.mar_script.proofs.LineKinds.{line_of}
+use Rattle.mar_script.proofs.LineKinds.{line_of, query_line}
 use Rattle.mar_script.proofs.line.parse_kind.Goals as goal
 
 pub returns-in-Open : goal.returns-in-Open
@@ -12,6 +15,18 @@ returns-in-Buffer c = rw c.in-Buffer.is (line_of _ _ _ _ plain_block line.Buffer
 
 pub returns-in-Final : goal.returns-in-Final
 returns-in-Final c = rw c.in-Final.is (line_of _ _ _ _ plain_finalization line.Final c.finalization_of.result _ (λ f. refl) c.finalization_of.ensures.is_finalization c.finalization_of.ensures.found c.finalization_of.ensures.only c.map-in-Final.ensures.cases)
+
+pub returns-in-Info : goal.returns-in-Info
+returns-in-Info c = rw c.in-Info.is (query_line _ _ _ _ (identifier_of (λ d. d.bytes)) query.Info c.identifier.result c.map-in-Info.result _ (λ i. refl) c.identifier.ensures.is_identifier c.identifier.ensures.found c.identifier.ensures.only c.map-in-Info.ensures.cases c.map-in-Info-2.ensures.cases)
+
+pub returns-in-Block : goal.returns-in-Block
+returns-in-Block c = rw c.in-Block.is (query_line _ _ _ _ (identifier_of (λ d. d.bytes)) query.Block c.identifier-in-Block.result c.map-in-Block.result _ (λ i. refl) c.identifier-in-Block.ensures.is_identifier c.identifier-in-Block.ensures.found c.identifier-in-Block.ensures.only c.map-in-Block.ensures.cases c.map-in-Block-2.ensures.cases)
+
+pub returns-in-Finalization : goal.returns-in-Finalization
+returns-in-Finalization c = rw c.in-Finalization.is (query_line _ _ _ _ (λ (h : ℕ). h) query.Finalization c.height.result c.map-in-Finalization.result _ (λ h. refl) c.height.ensures.fits c.height.ensures.found c.height.ensures.only c.map-in-Finalization.ensures.cases c.map-in-Finalization-2.ensures.cases)
+
+pub returns-in-Verified : goal.returns-in-Verified
+returns-in-Verified c = rw c.in-Verified.is (query_line _ _ _ _ (λ (r : Round). r) query.Verified c.round.result c.map-in-Verified.result _ (λ r. refl) c.round.ensures.is_round c.round.ensures.found c.round.ensures.only c.map-in-Verified.ensures.cases c.map-in-Verified-2.ensures.cases)
 
 pub returns-in-Sync : goal.returns-in-Sync
 returns-in-Sync c = rw c.in-Sync.is (line_of _ _ _ _ (λ (t : ℕ). t) line.Sync c.number.result _ (λ t. refl) c.number.ensures.fits c.number.ensures.found c.number.ensures.only c.map-in-Sync.ensures.cases)

@@ -3,4 +3,4 @@ use Rattle.marshal.proofs.LinePlays.{plays_fail}
 use Rattle.marshal.proofs.play.arm.Goals as goal
 
 pub returns : goal.returns
-returns g c = λ config. plays_fail config c.args.actor _ c.args.buffer c.args.requests (store_name_of c.args.store) c.args.calls c.in_default.ensures.armed
+returns g c = λ config. plays_fail config c.args.actor _ c.args.buffer c.args.pending (store_name_of c.args.store) c.args.calls c.in_default.ensures.armed

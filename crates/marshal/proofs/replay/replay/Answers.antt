@@ -1,6 +1,5 @@
-use Rattle.std.proofs.Common.{Err, Ok, [], ap, map, refl, subst, ◌≡◌}
+use Rattle.std.proofs.Common.{Err, Ok, [], refl, subst}
 use Rattle.mar_script.specs.Endings.{IsReadersEnd, IsWritersEnd}
-use Rattle.marshal.specs.Turn.{plain_report}
 use Rattle.mar_script.proofs.FirstOutside.{outside_is, script_is}
 use Rattle.marshal.proofs.Headlines.{shown_first, stops_first, stops_unshown}
 use Rattle.mar_script.proofs.ReadSteps.{begins, ends_first, ends_unwritten}
@@ -41,15 +40,13 @@ returns-in-Err-clause-headline g c = stops_first _ _ _ _ _ (g.H.Ruins.StoresRuin
 pub returns-in-Err-write_turn-clause-headline : goal.returns-in-Err-write_turn-clause-headline
 returns-in-Err-write_turn-clause-headline g c =
     let first = rw c.new-reader.ensures at c.in-Ok.ensures.first in
-    let silent : map plain_report c.new-heard.result.told.updates.items ≡ [] = ap (λ us. map plain_report us) c.new-heard.ensures.told in
     let stores = g.H.Ruins.StoresRuin.left c.args.stores in
-    let wrote = shown_first {U = Unit {0}} _ _ _ _ stores.ended (Err c.in-Err-write_turn.status) silent c.new-heard.ensures.asked (rw c.in-Err-write_turn.is at c.write_turn.ensures.wrote) in
+    let wrote = shown_first {U = Unit {0}} _ _ _ stores.ended (Err c.in-Err-write_turn.status) c.new-heard.ensures (rw c.in-Err-write_turn.is at c.write_turn.ensures.wrote) in
     rw c.left_of-stores.ensures.left (stops_unshown _ _ c.in-Ok.ensures.valid stores _ _ _ first.read _ _ c.in-Err-write_turn.ensures.end first.gives first.first (wrote []))
 
 pub returns-clause-headline : goal.returns-clause-headline
 returns-clause-headline g c =
     let first = rw c.new-reader.ensures at c.in-Ok.ensures.first in
-    let silent : map plain_report c.new-heard.result.told.updates.items ≡ [] = ap (λ us. map plain_report us) c.new-heard.ensures.told in
     let stores = g.H.Ruins.StoresRuin.left c.args.stores in
-    let wrote = shown_first {U = Unit {0}} _ _ _ _ stores.ended (Ok c.in_default.field-0) silent c.new-heard.ensures.asked (rw c.in_default.is at c.write_turn.ensures.wrote) in
+    let wrote = shown_first {U = Unit {0}} _ _ _ stores.ended (Ok c.in_default.field-0) c.new-heard.ensures (rw c.in_default.is at c.write_turn.ensures.wrote) in
     rw c.left_of.ensures.left (c.later_lines-state.ensures.headline _ first.read _ stores first.gives first.first refl (wrote []) (rw c.left_of.ensures.left at c.left_of.ensures.hands_back))

@@ -1,5 +1,5 @@
-use Rattle.std.proofs.Common.{[], inr, map, refl, sym}
-use Rattle.marshal.specs.Turn.{open_in, output_of, plain_report}
+use Rattle.std.proofs.Common.{[], inr, refl, sym}
+use Rattle.marshal.specs.Turn.{made_in, open_in, output_of}
 use Rattle.marshal.proofs.Headlines.{ok_not_err}
 use Rattle.marshal.proofs.OpenStates.{err_seen, open_same}
 use Rattle.mar_script.proofs.Streams.{takes_none}
@@ -7,7 +7,7 @@ use Rattle.marshal.proofs.replay.turn.Goals as goal
 
 pub returns-then-ran_out-clause-turned : goal.returns-then-ran_out-clause-turned
 returns-then-ran_out-clause-turned g c = inr (record {
-  out = output_of (map plain_report c.play-state.new.heard.told.updates.items) c.play-state.new.heard.asked c.in-Ok.outcome;
+  out = output_of (made_in c.play-state.new.heard) c.in-Ok.outcome;
   done = c.play-state.result.0;
   plays = rw c.in-Ok.is at c.play-state.ensures;
   takes_in = record { opened = open_in c.play-state.result.0; same = open_same c.play-state.result.0; all = λ u is. absurd (ok_not_err u _ (sym is)) };
@@ -19,7 +19,7 @@ pub returns-then-is_err-clause-turned : goal.returns-then-is_err-clause-turned
 returns-then-is_err-clause-turned g c =
     let part = err_seen c.take_in.result _ c.take_in.ensures.err c.if-is_err.ensures.value in
     inr (record {
-      out = output_of (map plain_report c.play-state.new.heard.told.updates.items) c.play-state.new.heard.asked c.in-Ok.outcome;
+      out = output_of (made_in c.play-state.new.heard) c.in-Ok.outcome;
       done = c.play-state.result.0;
       plays = rw c.in-Ok.is at c.play-state.ensures;
       takes_in = record { opened = part.0; same = part.1; all = λ u is. absurd (ok_not_err u _ (sym is)) };
