@@ -1,6 +1,6 @@
 pub mod Filtering
 pub mod Places
-pub mod VolumeChanges
+pub mod EpochArchivesChanges
 pub mod Draws
 pub mod Leaving
 pub mod BoundsKept

@@ -7,7 +7,7 @@ use Rattle.mar_cert.specs.Block.{Block}
 use Rattle.mar_cert.specs.Finalization.{Finalization, Notarization}
 use Rattle.mar_node.specs.Cached.{Cached, cached_block, finalization_entry, notarization_entry}
 use Rattle.mar_cache.specs.Sections.{earlier_of, first_found, stands_before}
-use Rattle.mar_cache.specs.Tomes.{IsNewest, Tomes, held_in}
+use Rattle.mar_cache.specs.EpochStates.{EpochStates, IsNewest, held_in}
 use Rattle.mar_cache.specs.Entries.{block_in, cached_of, finalization_in, is_for, is_notarization_at, notarization_in}
 use Rattle.mar_cache.specs.declared.entry.Entry.{Entry}
 use Rattle.mar_cache.specs.declared.entry.Entry.TheVariants.{Certified, Finalization as OfFinalization, Notarization as OfNotarization, Notarized, Verified}
@@ -52,8 +52,8 @@ module _ {B N F : Type 0} (block : B → Block) (notarization : N → Notarizati
   abbrev plain : Entry B N F → Cached
   plain = cached_of block notarization finalization
 
-  pub has_found : (p : Cached → Bool) (tomes : Tomes) (k e : ℕ) (o : Option (Entry B N F)) (r : Bool) → k ≡ e → r ≡ is_some o → option_map plain o ≡ first_found p (held_in (tomes k)) → r ≡ list_any p (held_in (tomes e))
-  has_found p tomes k e o r at tells is = tells ∙ mapped o ∙ ap is_some is ∙ some_found p (held_in (tomes k)) ∙ ap (λ n. list_any p (held_in (tomes n))) at
+  pub has_found : (p : Cached → Bool) (states : EpochStates) (k e : ℕ) (o : Option (Entry B N F)) (r : Bool) → k ≡ e → r ≡ is_some o → option_map plain o ≡ first_found p (held_in (states k)) → r ≡ list_any p (held_in (states e))
+  has_found p states k e o r at tells is = tells ∙ mapped o ∙ ap is_some is ∙ some_found p (held_in (states k)) ∙ ap (λ n. list_any p (held_in (states n))) at
     where
       mapped : (o : Option (Entry B N F)) → is_some o ≡ is_some (option_map plain o)
       mapped None = refl
@@ -67,13 +67,13 @@ module _ {B N F : Type 0} (block : B → Block) (notarization : N → Notarizati
   block_of (OfNotarization n) = refl
 
   -- what was found is this entry, in which that is
-  pub block_found : (p : Cached → Bool) (tomes : Tomes) (k e : ℕ) (found : Option (Entry B N F)) (x : Entry B N F) (o : Option B) → k ≡ e → found ≡ Some x → o ≡ block_in x → option_map plain found ≡ first_found p (held_in (tomes k))
-      → option_map block o ≡ option_and_then cached_block (first_found p (held_in (tomes e)))
-  block_found p tomes k e found x o at was gives is = ap (option_map block) gives ∙ block_of x ∙ ap (option_and_then cached_block) (sym (ap (option_map plain) was) ∙ is ∙ ap (λ n. first_found p (held_in (tomes n))) at)
+  pub block_found : (p : Cached → Bool) (states : EpochStates) (k e : ℕ) (found : Option (Entry B N F)) (x : Entry B N F) (o : Option B) → k ≡ e → found ≡ Some x → o ≡ block_in x → option_map plain found ≡ first_found p (held_in (states k))
+      → option_map block o ≡ option_and_then cached_block (first_found p (held_in (states e)))
+  block_found p states k e found x o at was gives is = ap (option_map block) gives ∙ block_of x ∙ ap (option_and_then cached_block) (sym (ap (option_map plain) was) ∙ is ∙ ap (λ n. first_found p (held_in (states n))) at)
 
-  pub newest_block : (p : Cached → Bool) (tomes : Tomes) (found : Option (Entry B N F)) (x : Entry B N F) (o : Option B) → found ≡ Some x → o ≡ block_in x → IsNewest p tomes (option_map plain found)
-      → (y : Option Cached) × (IsNewest p tomes y × (option_map block o ≡ option_and_then cached_block y))
-  newest_block p tomes found x o was gives is = (Some (plain x), (subst (IsNewest p tomes) (ap (option_map plain) was) is, ap (option_map block) gives ∙ block_of x))
+  pub newest_block : (p : Cached → Bool) (states : EpochStates) (found : Option (Entry B N F)) (x : Entry B N F) (o : Option B) → found ≡ Some x → o ≡ block_in x → IsNewest p states (option_map plain found)
+      → (y : Option Cached) × (IsNewest p states y × (option_map block o ≡ option_and_then cached_block y))
+  newest_block p states found x o was gives is = (Some (plain x), (subst (IsNewest p states) (ap (option_map plain) was) is, ap (option_map block) gives ∙ block_of x))
 
   notarization_of : (r : Round) (x : Entry B N F) → is_notarization_at r (plain x) ≡ true → option_map (λ n. notarization_entry (notarization n)) (notarization_in x) ≡ Some (plain x)
   notarization_of r (OfFinalization f) passes = absurd cc
@@ -82,11 +82,11 @@ module _ {B N F : Type 0} (block : B → Block) (notarization : N → Notarizati
   notarization_of r (Certified k b) passes = absurd cc
   notarization_of r (OfNotarization n) passes = refl
 
-  pub notarization_found : (r : Round) (tomes : Tomes) (k : ℕ) (found : Option (Entry B N F)) (x : Entry B N F) (o : Option N) → k ≡ r.epoch → found ≡ Some x → o ≡ notarization_in x → option_map plain found ≡ first_found (is_notarization_at r) (held_in (tomes k))
-      → option_map (λ n. notarization_entry (notarization n)) o ≡ first_found (is_notarization_at r) (held_in (tomes r.epoch))
-  notarization_found r tomes k found x o at was gives is =
-      let there : Some (plain x) ≡ first_found (is_notarization_at r) (held_in (tomes r.epoch)) = sym (ap (option_map plain) was) ∙ is ∙ ap (λ n. first_found (is_notarization_at r) (held_in (tomes n))) at in
-      ap (option_map (λ n. notarization_entry (notarization n))) gives ∙ notarization_of r x (passes_found (is_notarization_at r) (held_in (tomes r.epoch)) (plain x) there) ∙ there
+  pub notarization_found : (r : Round) (states : EpochStates) (k : ℕ) (found : Option (Entry B N F)) (x : Entry B N F) (o : Option N) → k ≡ r.epoch → found ≡ Some x → o ≡ notarization_in x → option_map plain found ≡ first_found (is_notarization_at r) (held_in (states k))
+      → option_map (λ n. notarization_entry (notarization n)) o ≡ first_found (is_notarization_at r) (held_in (states r.epoch))
+  notarization_found r states k found x o at was gives is =
+      let there : Some (plain x) ≡ first_found (is_notarization_at r) (held_in (states r.epoch)) = sym (ap (option_map plain) was) ∙ is ∙ ap (λ n. first_found (is_notarization_at r) (held_in (states n))) at in
+      ap (option_map (λ n. notarization_entry (notarization n))) gives ∙ notarization_of r x (passes_found (is_notarization_at r) (held_in (states r.epoch)) (plain x) there) ∙ there
 
   finalization_of : (inner : List ℕ → List ℕ) (d : List ℕ) (x : Entry B N F) → is_for inner d (plain x) ≡ true → option_map (λ f. finalization_entry (finalization f)) (finalization_in x) ≡ Some (plain x)
   finalization_of inner d (OfFinalization f) passes = refl
@@ -95,11 +95,11 @@ module _ {B N F : Type 0} (block : B → Block) (notarization : N → Notarizati
   finalization_of inner d (Certified k b) passes = absurd cc
   finalization_of inner d (OfNotarization n) passes = absurd cc
 
-  newest_passes : (p : Cached → Bool) (tomes : Tomes) (x : Cached) → IsNewest p tomes (Some x) → p x ≡ true
-  newest_passes p tomes x newest = passes_found p (held_in (tomes newest.0)) x (sym newest.1)
+  newest_passes : (p : Cached → Bool) (states : EpochStates) (x : Cached) → IsNewest p states (Some x) → p x ≡ true
+  newest_passes p states x newest = passes_found p (held_in (states newest.0)) x (sym newest.1)
 
-  pub finalization_found : (inner : List ℕ → List ℕ) (d : List ℕ) (tomes : Tomes) (found : Option (Entry B N F)) (x : Entry B N F) (o : Option F) → found ≡ Some x → o ≡ finalization_in x → IsNewest (is_for inner d) tomes (option_map plain found)
-      → IsNewest (is_for inner d) tomes (option_map (λ f. finalization_entry (finalization f)) o)
-  finalization_found inner d tomes found x o was gives is =
-      let newest : IsNewest (is_for inner d) tomes (Some (plain x)) = subst (IsNewest (is_for inner d) tomes) (ap (option_map plain) was) is in
-      subst (IsNewest (is_for inner d) tomes) (sym (ap (option_map (λ f. finalization_entry (finalization f))) gives ∙ finalization_of inner d x (newest_passes (is_for inner d) tomes (plain x) newest))) newest
+  pub finalization_found : (inner : List ℕ → List ℕ) (d : List ℕ) (states : EpochStates) (found : Option (Entry B N F)) (x : Entry B N F) (o : Option F) → found ≡ Some x → o ≡ finalization_in x → IsNewest (is_for inner d) states (option_map plain found)
+      → IsNewest (is_for inner d) states (option_map (λ f. finalization_entry (finalization f)) o)
+  finalization_found inner d states found x o was gives is =
+      let newest : IsNewest (is_for inner d) states (Some (plain x)) = subst (IsNewest (is_for inner d) states) (ap (option_map plain) was) is in
+      subst (IsNewest (is_for inner d) states) (sym (ap (option_map (λ f. finalization_entry (finalization f))) gives ∙ finalization_of inner d x (newest_passes (is_for inner d) states (plain x) newest))) newest

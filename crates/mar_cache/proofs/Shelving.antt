@@ -8,11 +8,11 @@ use Rattle.mar_store.specs.Lost.{wreck_of}
 use Rattle.mar_store.specs.declared.Lost.{Lost}
 use Rattle.mar_store.proofs.Lookups.{AllByRecursion-weaker}
 use Rattle.mar_node.specs.Cached.{Cached, same_place}
-use Rattle.mar_cache.specs.Volumes.{Book, held_after, is_kept, puts_of}
+use Rattle.mar_cache.specs.EpochArchives.{Book, held_after, is_kept, puts_of}
 use Rattle.mar_cache.specs.declared.section.Section.{Section}
 use Rattle.mar_cache.specs.declared.started.Started.TheVariants.{Ready, Ticket}
-use Rattle.mar_cache.specs.Tomes.{ChangesTome, IsTicket, IsNestedTome, MightBe, is_opened, KeepsOtherTomes, LeavesTome, LosesTome, OpensTome, Tome, Tomes, left_of_tome, opened, shut, unknown}
-use Rattle.mar_cache.specs.Shelved.{at_epoch, IsStarted, DoesAt, OpensOrStays, GrowsTome, GrowsTomes, LeavesTomes}
+use Rattle.mar_cache.specs.EpochStates.{ChangesEpoch, IsTicket, IsNestedEpoch, MightBe, is_opened, KeepsOtherEpochs, LeavesEpoch, LosesEpoch, OpensEpoch, EpochState, EpochStates, left_of_epoch, opened, shut, unknown}
+use Rattle.mar_cache.specs.Shelved.{at_epoch, IsStarted, DoesAt, OpensOrStays, GrowsEpoch, GrowsEpochs, LeavesEpochs}
 use Rattle.mar_cache.specs.declared.change.Change.{Change}
 use Rattle.mar_cache.specs.declared.change.Change.TheVariants.{Finish, PruneBelow, PruneCertified, Put, Sync}
 use Rattle.mar_cache.proofs.Filtering.{contains_more, contains_none}
@@ -29,11 +29,11 @@ filter_contains {A} test (y ∷ ys) x has passes = by (test y) refl has (λ has'
 
 -- what is held and isn't pruned is held after a change
 held_kept : {E : Type 0} (plain : E → Cached) (change : Change E) (held : List Cached) (x : Cached) → Contains held x → IsTrue (is_kept change x) → Contains (held_after plain change held) x
-held_kept plain (Put leaf) held x has kept = by (list_any (same_place (plain leaf)) held)
+held_kept plain (Put entry) held x has kept = by (list_any (same_place (plain entry)) held)
   where
-    by : (b : Bool) → Contains (cond b held (held ++ plain leaf ∷ [])) x
+    by : (b : Bool) → Contains (cond b held (held ++ plain entry ∷ [])) x
     by true = has
-    by false = Contains-append_left held (plain leaf ∷ []) x has
+    by false = Contains-append_left held (plain entry ∷ []) x has
 held_kept plain (Sync s) held x has kept = has
 held_kept plain (Finish s n) held x has kept = has
 held_kept plain (PruneBelow r) held x has kept = filter_contains _ held x has kept
@@ -50,34 +50,34 @@ raised_within false old r left is x has = Contains-append_right old (r ∷ []) x
 
 -- A CRASH, AND A CALL THAT FAILED
 
-pub leaves_itself : (put : List Cached) (gone : Cached → Bool) (t : Tome) → IsNestedTome t → LeavesTome put gone t (left_of_tome t)
+pub leaves_itself : (put : List Cached) (gone : Cached → Bool) (t : EpochState) → IsNestedEpoch t → LeavesEpoch put gone t (left_of_epoch t)
 leaves_itself put gone (opened b) nested = record { sure = λ x has stays. has; held = λ x has stays. nested.held_may x has; may = λ known x has. inl has }
 leaves_itself put gone (shut l) nested = record { sure = λ x has stays. has; held = λ x has stays. contains_none x has; may = λ known x has. inl has }
 leaves_itself put gone unknown nested = record { sure = λ x has stays. has; held = λ x has stays. contains_none x has; may = λ known x has. inl has }
 
-module _ (put : ℕ → List Cached) (gone : ℕ → Cached → Bool) (old : Tomes) (nested : (k : ℕ) → IsNestedTome (old k)) where
-  pub fallen_leaves : (ways : List Tomes) → AllByRecursion (λ left. (k : ℕ) → left k ≡ left_of_tome (old k)) ways → AllByRecursion (LeavesTomes put gone old) ways
-  fallen_leaves ways all = AllByRecursion-weaker _ _ (λ left same k. subst (LeavesTome (put k) (gone k) (old k)) (sym (same k)) (leaves_itself (put k) (gone k) (old k) (nested k))) ways all
+module _ (put : ℕ → List Cached) (gone : ℕ → Cached → Bool) (old : EpochStates) (nested : (k : ℕ) → IsNestedEpoch (old k)) where
+  pub fallen_leaves : (ways : List EpochStates) → AllByRecursion (λ left. (k : ℕ) → left k ≡ left_of_epoch (old k)) ways → AllByRecursion (LeavesEpochs put gone old) ways
+  fallen_leaves ways all = AllByRecursion-weaker _ _ (λ left same k. subst (LeavesEpoch (put k) (gone k) (old k)) (sym (same k)) (leaves_itself (put k) (gone k) (old k) (nested k))) ways all
 
-  pub loses_leaves : (e : ℕ) (more : List Cached) (lets : Cached → Bool) (ways : List Tomes) → Within more (put e) → ((x : Cached) → gone e x ≡ false → lets x ≡ false) → AllByRecursion (LosesTome e (old e) more lets old) ways → AllByRecursion (LeavesTomes put gone old) ways
+  pub loses_leaves : (e : ℕ) (more : List Cached) (lets : Cached → Bool) (ways : List EpochStates) → Within more (put e) → ((x : Cached) → gone e x ≡ false → lets x ≡ false) → AllByRecursion (LosesEpoch e (old e) more lets old) ways → AllByRecursion (LeavesEpochs put gone old) ways
   loses_leaves e more lets ways wider fewer all = AllByRecursion-weaker _ _ (λ left lost k. by left lost k (cases_eq k e)) ways all
     where
-      by : (left : Tomes) → LosesTome e (old e) more lets old left → (k : ℕ) → (k ≡ e) ⊎ (k ≡ e → ⊥) → LeavesTome (put k) (gone k) (old k) (left k)
-      by left lost k (inl same) = subst (λ j. LeavesTome (put j) (gone j) (old j) (left j)) (sym same) (record {
+      by : (left : EpochStates) → LosesEpoch e (old e) more lets old left → (k : ℕ) → (k ≡ e) ⊎ (k ≡ e → ⊥) → LeavesEpoch (put k) (gone k) (old k) (left k)
+      by left lost k (inl same) = subst (λ j. LeavesEpoch (put j) (gone j) (old j) (left j)) (sym same) (record {
         sure = λ x has stays. lost.here.sure x has (fewer x stays);
         held = λ x has stays. lost.here.held x has (fewer x stays);
         may = λ known x has. elim (lost.here.may known x has) [ inl before ↦ inl before | inr new ↦ inr (wider x new) ];
       })
-      by left lost k (inr other) = subst (LeavesTome (put k) (gone k) (old k)) (sym (lost.others k other)) (leaves_itself (put k) (gone k) (old k) (nested k))
+      by left lost k (inr other) = subst (LeavesEpoch (put k) (gone k) (old k)) (sym (lost.others k other)) (leaves_itself (put k) (gone k) (old k) (nested k))
 
 -- CALLS THAT WENT WELL
 
-pub grows_itself : (put : List Cached) (gone : Cached → Bool) (t : Tome) → GrowsTome put gone t t
+pub grows_itself : (put : List Cached) (gone : Cached → Bool) (t : EpochState) → GrowsEpoch put gone t t
 grows_itself put gone t = record { sure = λ x has stays. has; held = λ x has stays. has; may = λ known x has. inl has; known = λ known. known }
 
-pub opens_grows : (put : List Cached) (gone : Cached → Bool) (t u : Tome) → OpensTome t u → GrowsTome put gone t u
-opens_grows put gone (opened b) u is = subst (GrowsTome put gone (opened b)) (sym is) (grows_itself put gone (opened b))
-opens_grows put gone (shut l) u (b, found, is) = subst (GrowsTome put gone (shut l)) (sym is) (subst (λ kept. GrowsTome put gone (shut l) (opened (record b { kept = kept }))) (sym found.is) (record {
+pub opens_grows : (put : List Cached) (gone : Cached → Bool) (t u : EpochState) → OpensEpoch t u → GrowsEpoch put gone t u
+opens_grows put gone (opened b) u is = subst (GrowsEpoch put gone (opened b)) (sym is) (grows_itself put gone (opened b))
+opens_grows put gone (shut l) u (b, found, is) = subst (GrowsEpoch put gone (shut l)) (sym is) (subst (λ kept. GrowsEpoch put gone (shut l) (opened (record b { kept = kept }))) (sym found.is) (record {
   sure = λ x has stays. found.reopens.with_sure x has;
   held = λ x has stays. contains_none x has;
   may = λ known x has. inl (found.reopens.within_may x has);
@@ -85,17 +85,17 @@ opens_grows put gone (shut l) u (b, found, is) = subst (GrowsTome put gone (shut
 }))
 opens_grows put gone unknown u (b, is) = record { sure = λ x has stays. contains_none x has; held = λ x has stays. contains_none x has; may = λ known x has. absurd cc; known = λ known. absurd cc }
 
-pub changes_grows : {E : Type 0} (plain : E → Cached) (change : Change E) (put : List Cached) (gone : Cached → Bool) (t u : Tome) → Within (puts_of plain change) put → ((x : Cached) → gone x ≡ false → IsTrue (is_kept change x)) → ChangesTome plain change t u → GrowsTome put gone t u
-changes_grows plain change put gone (opened b) u wider fewer (c, does, is) = subst (GrowsTome put gone (opened b)) (sym is) (record {
+pub changes_grows : {E : Type 0} (plain : E → Cached) (change : Change E) (put : List Cached) (gone : Cached → Bool) (t u : EpochState) → Within (puts_of plain change) put → ((x : Cached) → gone x ≡ false → IsTrue (is_kept change x)) → ChangesEpoch plain change t u → GrowsEpoch put gone t u
+changes_grows plain change put gone (opened b) u wider fewer (c, does, is) = subst (GrowsEpoch put gone (opened b)) (sym is) (record {
   sure = λ x has stays. does.sure x has (fewer x stays);
   held = λ x has stays. subst (λ ys. Contains ys x) (sym does.held) (held_kept plain change b.kept.held x has (fewer x stays));
   may = λ known x has. elim (Contains-append_cases b.kept.may (puts_of plain change) x (does.may x has)) [ inl before ↦ inl before | inr new ↦ inr (wider x new) ];
   known = λ known. refl;
 })
-changes_grows plain change put gone (shut l) u wider fewer is = subst (GrowsTome put gone (shut l)) (sym is) (grows_itself put gone (shut l))
-changes_grows plain change put gone unknown u wider fewer is = subst (GrowsTome put gone unknown) (sym is) (grows_itself put gone unknown)
+changes_grows plain change put gone (shut l) u wider fewer is = subst (GrowsEpoch put gone (shut l)) (sym is) (grows_itself put gone (shut l))
+changes_grows plain change put gone unknown u wider fewer is = subst (GrowsEpoch put gone unknown) (sym is) (grows_itself put gone unknown)
 
-grows_leaves : (put : List Cached) (gone : Cached → Bool) (t u x : Tome) → GrowsTome put gone t u → LeavesTome put gone u x → LeavesTome put gone t x
+grows_leaves : (put : List Cached) (gone : Cached → Bool) (t u x : EpochState) → GrowsEpoch put gone t u → LeavesEpoch put gone u x → LeavesEpoch put gone t x
 grows_leaves put gone t u x grows leaves = record {
   sure = λ y has stays. leaves.sure y (grows.sure y has stays) stays;
   held = λ y has stays. leaves.held y (grows.held y has stays) stays;
@@ -103,17 +103,17 @@ grows_leaves put gone t u x grows leaves = record {
 }
 
 -- a call that failed after others went well
-pub grown_leaves : (put : ℕ → List Cached) (gone : ℕ → Cached → Bool) (old mid : Tomes) (ways : List Tomes) → GrowsTomes put gone old mid → AllByRecursion (LeavesTomes put gone mid) ways → AllByRecursion (LeavesTomes put gone old) ways
+pub grown_leaves : (put : ℕ → List Cached) (gone : ℕ → Cached → Bool) (old mid : EpochStates) (ways : List EpochStates) → GrowsEpochs put gone old mid → AllByRecursion (LeavesEpochs put gone mid) ways → AllByRecursion (LeavesEpochs put gone old) ways
 grown_leaves put gone old mid ways grows all = AllByRecursion-weaker _ _ (λ left leaves k. grows_leaves (put k) (gone k) (old k) (mid k) (left k) (grows k) (leaves k)) ways all
 
-pub grows_at : (put : ℕ → List Cached) (gone : ℕ → Cached → Bool) (e : ℕ) (old mid : Tomes) → GrowsTome (put e) (gone e) (old e) (mid e) → KeepsOtherTomes e old mid → GrowsTomes put gone old mid
+pub grows_at : (put : ℕ → List Cached) (gone : ℕ → Cached → Bool) (e : ℕ) (old mid : EpochStates) → GrowsEpoch (put e) (gone e) (old e) (mid e) → KeepsOtherEpochs e old mid → GrowsEpochs put gone old mid
 grows_at put gone e old mid here others k = by (cases_eq k e)
   where
-    by : (k ≡ e) ⊎ (k ≡ e → ⊥) → GrowsTome (put k) (gone k) (old k) (mid k)
-    by (inl same) = subst (λ j. GrowsTome (put j) (gone j) (old j) (mid j)) (sym same) here
-    by (inr other) = subst (GrowsTome (put k) (gone k) (old k)) (sym (others k other)) (grows_itself (put k) (gone k) (old k))
+    by : (k ≡ e) ⊎ (k ≡ e → ⊥) → GrowsEpoch (put k) (gone k) (old k) (mid k)
+    by (inl same) = subst (λ j. GrowsEpoch (put j) (gone j) (old j) (mid j)) (sym same) here
+    by (inr other) = subst (GrowsEpoch (put k) (gone k) (old k)) (sym (others k other)) (grows_itself (put k) (gone k) (old k))
 
-pub grows_then : (put : List Cached) (gone : Cached → Bool) (t u v : Tome) → GrowsTome put gone t u → GrowsTome put gone u v → GrowsTome put gone t v
+pub grows_then : (put : List Cached) (gone : Cached → Bool) (t u v : EpochState) → GrowsEpoch put gone t u → GrowsEpoch put gone u v → GrowsEpoch put gone t v
 grows_then put gone t u v first second = record {
   sure = λ x has stays. second.sure x (first.sure x has stays) stays;
   held = λ x has stays. second.held x (first.held x has stays) stays;
@@ -122,24 +122,24 @@ grows_then put gone t u v first second = record {
 }
 
 -- an epoch was opened and changed
-pub does_grow : {E : Type 0} (plain : E → Cached) (change : Change E) (put : ℕ → List Cached) (gone : ℕ → Cached → Bool) (e : ℕ) (old new : Tomes) → Within (puts_of plain change) (put e) → ((x : Cached) → gone e x ≡ false → IsTrue (is_kept change x)) → DoesAt plain e (change ∷ []) old new → GrowsTomes put gone old new
+pub does_grow : {E : Type 0} (plain : E → Cached) (change : Change E) (put : ℕ → List Cached) (gone : ℕ → Cached → Bool) (e : ℕ) (old new : EpochStates) → Within (puts_of plain change) (put e) → ((x : Cached) → gone e x ≡ false → IsTrue (is_kept change x)) → DoesAt plain e (change ∷ []) old new → GrowsEpochs put gone old new
 does_grow plain change put gone e old new wider fewer does =
-    grows_at put gone e old new (subst (GrowsTome (put e) (gone e) (old e)) (sym does.done.2) (grows_then (put e) (gone e) (old e) does.mid does.done.0 (opens_grows (put e) (gone e) (old e) does.mid does.opens) (changes_grows plain change (put e) (gone e) does.mid does.done.0 wider fewer does.done.1))) does.others
+    grows_at put gone e old new (subst (GrowsEpoch (put e) (gone e) (old e)) (sym does.done.2) (grows_then (put e) (gone e) (old e) does.mid does.done.0 (opens_grows (put e) (gone e) (old e) does.mid does.opens) (changes_grows plain change (put e) (gone e) does.mid does.done.0 wider fewer does.done.1))) does.others
 
 -- an epoch was opened and changed, and then changed again
-pub does_then : {E S W : Type 0} (plain : E → Cached) (tomes : S → Tomes) (Q : Lost W → Type 0) (e : ℕ) (first second : Change E) (old mid : Tomes) (r : Result S (Lost W)) → DoesAt plain e (first ∷ []) old mid → MatchResult r (λ s. ChangesTome plain second (mid e) (tomes s e) × KeepsOtherTomes e mid (tomes s)) Q → IfOk r (λ s. DoesAt plain e (first ∷ second ∷ []) old (tomes s))
-does_then plain tomes Q e first second old mid (Ok s) does then = record {
+pub does_then : {E S W : Type 0} (plain : E → Cached) (states : S → EpochStates) (Q : Lost W → Type 0) (e : ℕ) (first second : Change E) (old mid : EpochStates) (r : Result S (Lost W)) → DoesAt plain e (first ∷ []) old mid → MatchResult r (λ s. ChangesEpoch plain second (mid e) (states s e) × KeepsOtherEpochs e mid (states s)) Q → IfOk r (λ s. DoesAt plain e (first ∷ second ∷ []) old (states s))
+does_then plain states Q e first second old mid (Ok s) does then = record {
   mid = does.mid;
   opens = does.opens;
-  done = (does.done.0, does.done.1, (tomes s e, subst (λ t. ChangesTome plain second t (tomes s e)) does.done.2 then.0, refl));
+  done = (does.done.0, does.done.1, (states s e, subst (λ t. ChangesEpoch plain second t (states s e)) does.done.2 then.0, refl));
   others = λ k other. then.1 k other ∙ does.others k other;
 }
-does_then plain tomes Q e first second old mid (Err l) does then = tt
+does_then plain states Q e first second old mid (Err l) does then = tt
 
 -- what a call leaves that failed at its end, after others went well
-pub end_leaves : {S W : Type 0} (P : S → Type 0) (ways : W → List Tomes) (put : ℕ → List Cached) (gone : ℕ → Cached → Bool) (e : ℕ) (more : List Cached) (lets : Cached → Bool) (old mid : Tomes) (r : Result S (Lost W))
-    → ((k : ℕ) → IsNestedTome (mid k)) → Within more (put e) → ((x : Cached) → gone e x ≡ false → lets x ≡ false) → GrowsTomes put gone old mid
-    → MatchResult r P (λ l. AllByRecursion (LosesTome e (mid e) more lets mid) (ways (wreck_of l))) → IfErr r (λ l. AllByRecursion (LeavesTomes put gone old) (ways (wreck_of l)))
+pub end_leaves : {S W : Type 0} (P : S → Type 0) (ways : W → List EpochStates) (put : ℕ → List Cached) (gone : ℕ → Cached → Bool) (e : ℕ) (more : List Cached) (lets : Cached → Bool) (old mid : EpochStates) (r : Result S (Lost W))
+    → ((k : ℕ) → IsNestedEpoch (mid k)) → Within more (put e) → ((x : Cached) → gone e x ≡ false → lets x ≡ false) → GrowsEpochs put gone old mid
+    → MatchResult r P (λ l. AllByRecursion (LosesEpoch e (mid e) more lets mid) (ways (wreck_of l))) → IfErr r (λ l. AllByRecursion (LeavesEpochs put gone old) (ways (wreck_of l)))
 end_leaves P ways put gone e more lets old mid (Ok s) nested wider fewer grows done = tt
 end_leaves P ways put gone e more lets old mid (Err l) nested wider fewer grows done = grown_leaves put gone old mid (ways (wreck_of l)) grows (loses_leaves put gone mid nested e more lets (ways (wreck_of l)) wider fewer done)
 
@@ -153,37 +153,37 @@ at_own e xs x has = subst (λ b. Contains (cond b xs []) x) (sym (eq-eqb e e ref
 
 -- OPENINGS ONE AFTER ANOTHER
 
-pub stays_grow : (put : List Cached) (gone : Cached → Bool) (t u : Tome) → OpensOrStays t u → GrowsTome put gone t u
-stays_grow put gone t u (inl same) = subst (GrowsTome put gone t) (sym same) (grows_itself put gone t)
+pub stays_grow : (put : List Cached) (gone : Cached → Bool) (t u : EpochState) → OpensOrStays t u → GrowsEpoch put gone t u
+stays_grow put gone t u (inl same) = subst (GrowsEpoch put gone t) (sym same) (grows_itself put gone t)
 stays_grow put gone t u (inr opens) = opens_grows put gone t u opens
 
-is_open_then : (t u : Tome) → OpensTome t u → (b : Book) × (u ≡ opened b)
+is_open_then : (t u : EpochState) → OpensEpoch t u → (b : Book) × (u ≡ opened b)
 is_open_then (opened b) u is = (b, is)
 is_open_then (shut l) u (b, found, is) = (b, is)
 is_open_then unknown u (b, is) = (b, is)
 
-pub stays_then : (t u v : Tome) → OpensOrStays t u → OpensOrStays u v → OpensOrStays t v
+pub stays_then : (t u v : EpochState) → OpensOrStays t u → OpensOrStays u v → OpensOrStays t v
 stays_then t u v first (inl same) = subst (OpensOrStays t) (sym same) first
-stays_then t u v (inl same) (inr opens) = inr (subst (λ w. OpensTome w v) same opens)
+stays_then t u v (inl same) (inr opens) = inr (subst (λ w. OpensEpoch w v) same opens)
 stays_then t u v (inr before) (inr opens) =
     let open_now = is_open_then t u before in
-    let same : v ≡ u = subst (λ w. OpensTome w v) open_now.1 opens ∙ sym open_now.1 in
-    inr (subst (OpensTome t) (sym same) before)
+    let same : v ≡ u = subst (λ w. OpensEpoch w v) open_now.1 opens ∙ sym open_now.1 in
+    inr (subst (OpensEpoch t) (sym same) before)
 
-pub step_stays : (e : ℕ) (old mid new : Tomes) → ((k : ℕ) → OpensOrStays (old k) (mid k)) → OpensOrStays (mid e) (new e) → KeepsOtherTomes e mid new → (k : ℕ) → OpensOrStays (old k) (new k)
+pub step_stays : (e : ℕ) (old mid new : EpochStates) → ((k : ℕ) → OpensOrStays (old k) (mid k)) → OpensOrStays (mid e) (new e) → KeepsOtherEpochs e mid new → (k : ℕ) → OpensOrStays (old k) (new k)
 step_stays e old mid new before here others k = by (cases_eq k e)
   where
     by : (k ≡ e) ⊎ (k ≡ e → ⊥) → OpensOrStays (old k) (new k)
     by (inl same) = subst (λ j. OpensOrStays (old j) (new j)) (sym same) (stays_then (old e) (mid e) (new e) (before e) here)
     by (inr other) = subst (OpensOrStays (old k)) (sym (others k other)) (before k)
 
-opened_one : (t u : Tome) → OpensOrStays t u → is_opened t ≡ true → is_opened u ≡ true
+opened_one : (t u : EpochState) → OpensOrStays t u → is_opened t ≡ true → is_opened u ≡ true
 opened_one t u (inl same) is = ap is_opened same ∙ is
 opened_one (opened b) u (inr opens) is = ap is_opened opens
 opened_one (shut l) u (inr opens) is = absurd cc
 opened_one unknown u (inr opens) is = absurd cc
 
-pub opened_stays : (e : ℕ) (mid new : Tomes) → OpensOrStays (mid e) (new e) → KeepsOtherTomes e mid new → (k : ℕ) → is_opened (mid k) ≡ true → is_opened (new k) ≡ true
+pub opened_stays : (e : ℕ) (mid new : EpochStates) → OpensOrStays (mid e) (new e) → KeepsOtherEpochs e mid new → (k : ℕ) → is_opened (mid k) ≡ true → is_opened (new k) ≡ true
 opened_stays e mid new here others k is = by (cases_eq k e)
   where
     by : (k ≡ e) ⊎ (k ≡ e → ⊥) → is_opened (new k) ≡ true
@@ -191,16 +191,16 @@ opened_stays e mid new here others k is = by (cases_eq k e)
     by (inr other) = ap is_opened (others k other) ∙ is
 
 -- the epochs of a list so far that pass are open, and so is the next
-pub opened_more : (tomes : Tomes) (es : List ℕ) (place : ℕ) (test : ℕ → Bool) → ((j : ℕ) → j < place → test (get_or es j 0) ≡ true → is_opened (tomes (get_or es j 0)) ≡ true) → (test (get_or es place 0) ≡ true → is_opened (tomes (get_or es place 0)) ≡ true)
-    → (j : ℕ) → j < place + 1 → test (get_or es j 0) ≡ true → is_opened (tomes (get_or es j 0)) ≡ true
-opened_more tomes es place test before here j less passes = by (cases_eq j place)
+pub opened_more : (states : EpochStates) (es : List ℕ) (place : ℕ) (test : ℕ → Bool) → ((j : ℕ) → j < place → test (get_or es j 0) ≡ true → is_opened (states (get_or es j 0)) ≡ true) → (test (get_or es place 0) ≡ true → is_opened (states (get_or es place 0)) ≡ true)
+    → (j : ℕ) → j < place + 1 → test (get_or es j 0) ≡ true → is_opened (states (get_or es j 0)) ≡ true
+opened_more states es place test before here j less passes = by (cases_eq j place)
   where
-    by : (j ≡ place) ⊎ (j ≡ place → ⊥) → is_opened (tomes (get_or es j 0)) ≡ true
-    by (inl same) = subst (λ i. is_opened (tomes (get_or es i 0)) ≡ true) (sym same) (here (subst (λ i. test (get_or es i 0) ≡ true) same passes))
+    by : (j ≡ place) ⊎ (j ≡ place → ⊥) → is_opened (states (get_or es j 0)) ≡ true
+    by (inl same) = subst (λ i. is_opened (states (get_or es i 0)) ≡ true) (sym same) (here (subst (λ i. test (get_or es i 0) ≡ true) same passes))
     by (inr other) = before j (omega (arith, less, other)) passes
 
 -- an epoch that doesn't pass stays as it was, where the one at hand changes only if it passes
-pub outside_stays : (test : ℕ → Bool) (e : ℕ) (old mid new : Tomes) → ((k : ℕ) → test k ≡ false → mid k ≡ old k) → (test e ≡ false → (k : ℕ) → new k ≡ mid k) → KeepsOtherTomes e mid new → (k : ℕ) → test k ≡ false → new k ≡ old k
+pub outside_stays : (test : ℕ → Bool) (e : ℕ) (old mid new : EpochStates) → ((k : ℕ) → test k ≡ false → mid k ≡ old k) → (test e ≡ false → (k : ℕ) → new k ≡ mid k) → KeepsOtherEpochs e mid new → (k : ℕ) → test k ≡ false → new k ≡ old k
 outside_stays test e old mid new before here others k fails = by (cases_eq k e)
   where
     by : (k ≡ e) ⊎ (k ≡ e → ⊥) → new k ≡ old k
@@ -212,43 +212,43 @@ index_default [] j a b less = absurd (omega (arith, less))
 index_default (x ∷ xs) zero a b less = refl
 index_default (x ∷ xs) (suc j) a b less = index_default xs j a b (omega (arith, less))
 
-pub opened_all : (tomes : Tomes) (es : List ℕ) (place : ℕ) (test : ℕ → Bool) → length es ≤ place → ((j : ℕ) → j < place → test (get_or es j 0) ≡ true → is_opened (tomes (get_or es j 0)) ≡ true) → (k : ℕ) → test k ≡ true → Contains es k → is_opened (tomes k) ≡ true
-opened_all tomes es place test over all k passes (j, less, is) =
+pub opened_all : (states : EpochStates) (es : List ℕ) (place : ℕ) (test : ℕ → Bool) → length es ≤ place → ((j : ℕ) → j < place → test (get_or es j 0) ≡ true → is_opened (states (get_or es j 0)) ≡ true) → (k : ℕ) → test k ≡ true → Contains es k → is_opened (states k) ≡ true
+opened_all states es place test over all k passes (j, less, is) =
     let at : get_or es j 0 ≡ k = index_default es j 0 k less ∙ is in
-    subst (λ e. is_opened (tomes e) ≡ true) at (all j (omega (arith, over, less)) (subst (λ e. test e ≡ true) (sym at) passes))
+    subst (λ e. is_opened (states e) ≡ true) at (all j (omega (arith, over, less)) (subst (λ e. test e ≡ true) (sym at) passes))
 
 -- what is left of a reopened shelf might have been left before
-pub reopened_ways : (before ways : List Tomes) (tomes : Tomes) → MightBe before tomes → ((k : ℕ) → is_opened (tomes k) ≡ false) → AllByRecursion (λ left. (k : ℕ) → left k ≡ left_of_tome (tomes k)) ways → AllByRecursion (MightBe before) ways
-reopened_ways before ways tomes (way, has, same) closed all = AllByRecursion-weaker _ _ (λ left is. (way, has, λ k. is k ∙ shut_same (tomes k) (closed k) ∙ same k)) ways all
+pub reopened_ways : (before ways : List EpochStates) (states : EpochStates) → MightBe before states → ((k : ℕ) → is_opened (states k) ≡ false) → AllByRecursion (λ left. (k : ℕ) → left k ≡ left_of_epoch (states k)) ways → AllByRecursion (MightBe before) ways
+reopened_ways before ways states (way, has, same) closed all = AllByRecursion-weaker _ _ (λ left is. (way, has, λ k. is k ∙ shut_same (states k) (closed k) ∙ same k)) ways all
   where
-    shut_same : (t : Tome) → is_opened t ≡ false → left_of_tome t ≡ t
+    shut_same : (t : EpochState) → is_opened t ≡ false → left_of_epoch t ≡ t
     shut_same (opened b) is = absurd cc
     shut_same (shut l) is = refl
     shut_same unknown is = refl
 
 -- WHAT A START OF A SYNC ANSWERS
 
-pub started_none : (t : Tome) (e : ℕ) (s : Section) → IsTicket t None → IsStarted t e s Ready
+pub started_none : (t : EpochState) (e : ℕ) (s : Section) → IsTicket t None → IsStarted t e s Ready
 started_none (opened b) e s is = is
 started_none (shut l) e s is = tt
 started_none unknown e s is = tt
 
-pub started_some : (t : Tome) (e : ℕ) (s : Section) (n : ℕ) → IsTicket t (Some n) → IsStarted t e s (Ticket (record { epoch = e; first = record { section = s; number = n }; second = None }))
+pub started_some : (t : EpochState) (e : ℕ) (s : Section) (n : ℕ) → IsTicket t (Some n) → IsStarted t e s (Ticket (record { epoch = e; first = record { section = s; number = n }; second = None }))
 started_some (opened b) e s n is = (refl, refl, is.0, is.1 s, refl)
 started_some (shut l) e s n is = absurd is
 started_some unknown e s n is = absurd is
 
 -- AN EPOCH THAT LIES WITHIN THE BOUNDS
 
-pub opens_or : {S L : Type 0} (tomes : S → Tomes) (e : ℕ) (old : Tomes) (Q : L → Type 0) (r : Result S L) → MatchResult r (λ s. OpensTome (old e) (tomes s e) × KeepsOtherTomes e old (tomes s)) Q → IfOk r (λ s. OpensOrStays (old e) (tomes s e) × KeepsOtherTomes e old (tomes s))
-opens_or tomes e old Q (Ok s) done = (inr done.0, done.1)
-opens_or tomes e old Q (Err l) done = tt
+pub opens_or : {S L : Type 0} (states : S → EpochStates) (e : ℕ) (old : EpochStates) (Q : L → Type 0) (r : Result S L) → MatchResult r (λ s. OpensEpoch (old e) (states s e) × KeepsOtherEpochs e old (states s)) Q → IfOk r (λ s. OpensOrStays (old e) (states s e) × KeepsOtherEpochs e old (states s))
+opens_or states e old Q (Ok s) done = (inr done.0, done.1)
+opens_or states e old Q (Err l) done = tt
 
-opens_open : (t new : Tome) → OpensTome t new → is_opened new ≡ true
+opens_open : (t new : EpochState) → OpensEpoch t new → is_opened new ≡ true
 opens_open (opened b) new is = ap is_opened is
 opens_open (shut l) new is = ap is_opened is.2
 opens_open unknown new is = ap is_opened is.1
 
-pub opens_now : {S L : Type 0} (tomes : S → Tomes) (e : ℕ) (old : Tomes) (Q : L → Type 0) (r : Result S L) → MatchResult r (λ s. OpensTome (old e) (tomes s e) × KeepsOtherTomes e old (tomes s)) Q → IfOk r (λ s. is_opened (tomes s e) ≡ true)
-opens_now tomes e old Q (Ok s) done = opens_open (old e) (tomes s e) done.0
-opens_now tomes e old Q (Err l) done = tt
+pub opens_now : {S L : Type 0} (states : S → EpochStates) (e : ℕ) (old : EpochStates) (Q : L → Type 0) (r : Result S L) → MatchResult r (λ s. OpensEpoch (old e) (states s e) × KeepsOtherEpochs e old (states s)) Q → IfOk r (λ s. is_opened (states s e) ≡ true)
+opens_now states e old Q (Ok s) done = opens_open (old e) (states s e) done.0
+opens_now states e old Q (Err l) done = tt

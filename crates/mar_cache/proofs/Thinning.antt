@@ -3,9 +3,9 @@ use Rattle.std.proofs.Common.{◌≡◌, ◌⊎◌, inl, inr, ◌≤◌, ◌<◌
 use Rattle.std.proofs.lemmas.Bool.{cases_eq}
 use Rattle.mar_node.specs.Cached.{Cached}
 use Rattle.mar_node.specs.Cache.{is_certified_below}
-use Rattle.mar_cache.specs.Volumes.{held_after, is_kept, puts_of}
-use Rattle.mar_cache.specs.Tomes.{ChangesTome, HasSome, KeepsOtherTomes, Tome, Tomes, held_in, is_opened, opened, shut, unknown}
-use Rattle.mar_cache.specs.Shelved.{IsClear, KeepsTickets, ThinsTome}
+use Rattle.mar_cache.specs.EpochArchives.{held_after, is_kept, puts_of}
+use Rattle.mar_cache.specs.EpochStates.{ChangesEpoch, EpochState, EpochStates, HasSome, KeepsOtherEpochs, held_in, is_opened, opened, shut, unknown}
+use Rattle.mar_cache.specs.Shelved.{IsClear, KeepsTickets, ThinsEpoch}
 use Rattle.mar_cache.specs.declared.change.Change.{Change}
 use Rattle.mar_cache.specs.declared.change.Change.TheVariants.{PruneCertified}
 use Rattle.mar_cache.proofs.Filtering.{contains_more, contains_none}
@@ -37,12 +37,12 @@ pub kept_from_test : (b : Bool) → b ≡ false → IsTrue (not b)
 kept_from_test true is = absurd cc
 kept_from_test false is = refl
 
-tickets_itself : (test : Cached → Bool) (t : Tome) → KeepsTickets test t t
+tickets_itself : (test : Cached → Bool) (t : EpochState) → KeepsTickets test t t
 tickets_itself test (opened b) = (omega arith, λ s t below less x has stays. has)
 tickets_itself test (shut l) = tt
 tickets_itself test unknown = tt
 
-tickets_then : (test : Cached → Bool) (t u v : Tome) → KeepsTickets test t u → KeepsTickets test u v → KeepsTickets test t v
+tickets_then : (test : Cached → Bool) (t u v : EpochState) → KeepsTickets test t u → KeepsTickets test u v → KeepsTickets test t v
 tickets_then test (opened b) (opened c) (opened d) first second = (omega (arith, first.0, second.0), λ s t below less x has stays. second.1 s t (omega (arith, below, first.0)) less x (first.1 s t below less x has stays) stays)
 tickets_then test (opened b) (opened c) (shut l) first second = absurd second
 tickets_then test (opened b) (opened c) unknown first second = absurd second
@@ -51,15 +51,15 @@ tickets_then test (opened b) unknown v first second = absurd first
 tickets_then test (shut l) u v first second = tt
 tickets_then test unknown u v first second = tt
 
-pub thins_itself : (test : Cached → Bool) (t : Tome) → ThinsTome test t t
+pub thins_itself : (test : Cached → Bool) (t : EpochState) → ThinsEpoch test t t
 thins_itself test t = record { grows = grows_itself [] test t; within = λ x has. has; opened = refl; tickets = tickets_itself test t }
 
-thins_then : (test : Cached → Bool) (t u v : Tome) → ThinsTome test t u → ThinsTome test u v → ThinsTome test t v
+thins_then : (test : Cached → Bool) (t u v : EpochState) → ThinsEpoch test t u → ThinsEpoch test u v → ThinsEpoch test t v
 thins_then test t u v first second = record { grows = grows_then [] test t u v first.grows second.grows; within = λ x has. first.within x (second.within x has); opened = second.opened ∙ first.opened; tickets = tickets_then test t u v first.tickets second.tickets }
 
 -- one prune of an epoch
-pub thins_change : {E : Type 0} (plain : E → Cached) (change : Change E) (test : Cached → Bool) (t u : Tome) → puts_of plain change ≡ [] → ((x : Cached) → is_kept change x ≡ not (test x)) → ((held : List Cached) → held_after plain change held ≡ filter (λ x. not (test x)) held) → ChangesTome plain change t u → ThinsTome test t u
-thins_change plain change test (opened b) u no_puts kept held_is (c, does, is) = subst (ThinsTome test (opened b)) (sym is) (record {
+pub thins_change : {E : Type 0} (plain : E → Cached) (change : Change E) (test : Cached → Bool) (t u : EpochState) → puts_of plain change ≡ [] → ((x : Cached) → is_kept change x ≡ not (test x)) → ((held : List Cached) → held_after plain change held ≡ filter (λ x. not (test x)) held) → ChangesEpoch plain change t u → ThinsEpoch test t u
+thins_change plain change test (opened b) u no_puts kept held_is (c, does, is) = subst (ThinsEpoch test (opened b)) (sym is) (record {
   grows = changes_grows plain change [] test (opened b) (opened c) (λ x has. subst (λ ys. Contains ys x) no_puts has) (λ x stays. kept x ∙ kept_from_test (test x) stays) (c, does, refl);
   within = λ x has. from b.kept.held x (subst (λ ys. Contains ys x) (does.held ∙ held_is b.kept.held) has);
   opened = refl;
@@ -68,17 +68,17 @@ thins_change plain change test (opened b) u no_puts kept held_is (c, does, is) =
   where
     from : (xs : List Cached) (x : Cached) → Contains (filter (λ y. not (test y)) xs) x → Contains xs x
     from xs x has = within_filter (λ y. not (test y)) xs x has
-thins_change plain change test (shut l) u no_puts kept held_is is = subst (ThinsTome test (shut l)) (sym is) (thins_itself test (shut l))
-thins_change plain change test unknown u no_puts kept held_is is = subst (ThinsTome test unknown) (sym is) (thins_itself test unknown)
+thins_change plain change test (shut l) u no_puts kept held_is is = subst (ThinsEpoch test (shut l)) (sym is) (thins_itself test (shut l))
+thins_change plain change test unknown u no_puts kept held_is is = subst (ThinsEpoch test unknown) (sym is) (thins_itself test unknown)
 
-pub thins_step : (test : Cached → Bool) (e : ℕ) (old mid new : Tomes) → ((k : ℕ) → ThinsTome test (old k) (mid k)) → ThinsTome test (mid e) (new e) → KeepsOtherTomes e mid new → (k : ℕ) → ThinsTome test (old k) (new k)
+pub thins_step : (test : Cached → Bool) (e : ℕ) (old mid new : EpochStates) → ((k : ℕ) → ThinsEpoch test (old k) (mid k)) → ThinsEpoch test (mid e) (new e) → KeepsOtherEpochs e mid new → (k : ℕ) → ThinsEpoch test (old k) (new k)
 thins_step test e old mid new before here others k = by (cases_eq k e)
   where
-    by : (k ≡ e) ⊎ (k ≡ e → ⊥) → ThinsTome test (old k) (new k)
-    by (inl same) = subst (λ j. ThinsTome test (old j) (new j)) (sym same) (thins_then test (old e) (mid e) (new e) (before e) here)
-    by (inr other) = subst (ThinsTome test (old k)) (sym (others k other)) (before k)
+    by : (k ≡ e) ⊎ (k ≡ e → ⊥) → ThinsEpoch test (old k) (new k)
+    by (inl same) = subst (λ j. ThinsEpoch test (old j) (new j)) (sym same) (thins_then test (old e) (mid e) (new e) (before e) here)
+    by (inr other) = subst (ThinsEpoch test (old k)) (sym (others k other)) (before k)
 
-pub clear_stays : (test : Cached → Bool) (e : ℕ) (mid new : Tomes) → ThinsTome test (mid e) (new e) → KeepsOtherTomes e mid new → (k : ℕ) → IsClear test (mid k) → IsClear test (new k)
+pub clear_stays : (test : Cached → Bool) (e : ℕ) (mid new : EpochStates) → ThinsEpoch test (mid e) (new e) → KeepsOtherEpochs e mid new → (k : ℕ) → IsClear test (mid k) → IsClear test (new k)
 clear_stays test e mid new here others k clear = by (cases_eq k e)
   where
     by : (k ≡ e) ⊎ (k ≡ e → ⊥) → IsClear test (new k)
@@ -89,35 +89,35 @@ not_true : (b : Bool) → not b ≡ true → b ≡ false
 not_true true is = absurd cc
 not_true false is = refl
 
-pub clear_here : {E : Type 0} (plain : E → Cached) (height : ℕ) (t u : Tome) → ChangesTome plain (PruneCertified height) t u → IsClear (is_certified_below height) u
+pub clear_here : {E : Type 0} (plain : E → Cached) (height : ℕ) (t u : EpochState) → ChangesEpoch plain (PruneCertified height) t u → IsClear (is_certified_below height) u
 clear_here plain height (opened b) u (c, does, is) = subst (IsClear (is_certified_below height)) (sym is) (λ x has. not_true (is_certified_below height x) (passes_filter (λ y. not (is_certified_below height y)) b.kept.held x (subst (λ ys. Contains ys x) does.held has)))
 clear_here plain height (shut l) u is = subst (IsClear (is_certified_below height)) (sym is) (λ x has. contains_none x has)
 clear_here plain height unknown u is = subst (IsClear (is_certified_below height)) (sym is) (λ x has. contains_none x has)
 
-pub clear_more : (test : Cached → Bool) (tomes : Tomes) (es : List ℕ) (place : ℕ) → ((j : ℕ) → j < place → IsClear test (tomes (get_or es j 0))) → IsClear test (tomes (get_or es place 0)) → (j : ℕ) → j < place + 1 → IsClear test (tomes (get_or es j 0))
-clear_more test tomes es place before here j less = by (cases_eq j place)
+pub clear_more : (test : Cached → Bool) (states : EpochStates) (es : List ℕ) (place : ℕ) → ((j : ℕ) → j < place → IsClear test (states (get_or es j 0))) → IsClear test (states (get_or es place 0)) → (j : ℕ) → j < place + 1 → IsClear test (states (get_or es j 0))
+clear_more test states es place before here j less = by (cases_eq j place)
   where
-    by : (j ≡ place) ⊎ (j ≡ place → ⊥) → IsClear test (tomes (get_or es j 0))
-    by (inl same) = subst (λ i. IsClear test (tomes (get_or es i 0))) (sym same) here
+    by : (j ≡ place) ⊎ (j ≡ place → ⊥) → IsClear test (states (get_or es j 0))
+    by (inl same) = subst (λ i. IsClear test (states (get_or es i 0))) (sym same) here
     by (inr other) = before j (omega (arith, less, other))
 
-pub clear_all : (test : Cached → Bool) (tomes : Tomes) (es : List ℕ) (place : ℕ) → length es ≤ place → ((j : ℕ) → j < place → IsClear test (tomes (get_or es j 0))) → (k : ℕ) → Contains es k → IsClear test (tomes k)
-clear_all test tomes es place over all k (j, less, is) = subst (λ e. IsClear test (tomes e)) (index_default es j 0 k less ∙ is) (all j (omega (arith, over, less)))
+pub clear_all : (test : Cached → Bool) (states : EpochStates) (es : List ℕ) (place : ℕ) → length es ≤ place → ((j : ℕ) → j < place → IsClear test (states (get_or es j 0))) → (k : ℕ) → Contains es k → IsClear test (states k)
+clear_all test states es place over all k (j, less, is) = subst (λ e. IsClear test (states e)) (index_default es j 0 k less ∙ is) (all j (omega (arith, over, less)))
 
 -- what isn't open holds nothing
-pub clear_each : (test : Cached → Bool) (old mid new : Tomes) → ((k : ℕ) → mid k ≡ old k) → ((k : ℕ) → ThinsTome test (mid k) (new k)) → ((k : ℕ) → HasSome (old k) → IsClear test (new k)) → (k : ℕ) → IsClear test (new k)
+pub clear_each : (test : Cached → Bool) (old mid new : EpochStates) → ((k : ℕ) → mid k ≡ old k) → ((k : ℕ) → ThinsEpoch test (mid k) (new k)) → ((k : ℕ) → HasSome (old k) → IsClear test (new k)) → (k : ℕ) → IsClear test (new k)
 clear_each test old mid new same thins clear k = by (old k) refl
   where
-    closed : (t : Tome) → is_opened t ≡ false → IsClear test t
+    closed : (t : EpochState) → is_opened t ≡ false → IsClear test t
     closed (opened b) is = absurd cc
     closed (shut l) is = λ x has. contains_none x has
     closed unknown is = λ x has. contains_none x has
 
-    by : (t : Tome) → old k ≡ t → IsClear test (new k)
+    by : (t : EpochState) → old k ≡ t → IsClear test (new k)
     by (opened b) is = clear k (subst HasSome (sym is) tt)
     by (shut l) is = closed (new k) ((thins k).opened ∙ ap is_opened (same k ∙ is))
     by unknown is = closed (new k) ((thins k).opened ∙ ap is_opened (same k ∙ is))
 
-pub clear_if : {S L : Type 0} (test : Cached → Bool) (tomes : S → Tomes) (old mid : Tomes) (es : List ℕ) (r : Result S L) → ((k : ℕ) → mid k ≡ old k) → IfOk r (λ s. (k : ℕ) → ThinsTome test (mid k) (tomes s k)) → ((k : ℕ) → Contains es k → IfOk r (λ s. IsClear test (tomes s k))) → ((k : ℕ) → HasSome (old k) → Contains es k) → IfOk r (λ s. (k : ℕ) → IsClear test (tomes s k))
-clear_if test tomes old mid es (Ok s) same thins clear found = clear_each test old mid (tomes s) same thins (λ k some. clear k (found k some))
-clear_if test tomes old mid es (Err l) same thins clear found = tt
+pub clear_if : {S L : Type 0} (test : Cached → Bool) (states : S → EpochStates) (old mid : EpochStates) (es : List ℕ) (r : Result S L) → ((k : ℕ) → mid k ≡ old k) → IfOk r (λ s. (k : ℕ) → ThinsEpoch test (mid k) (states s k)) → ((k : ℕ) → Contains es k → IfOk r (λ s. IsClear test (states s k))) → ((k : ℕ) → HasSome (old k) → Contains es k) → IfOk r (λ s. (k : ℕ) → IsClear test (states s k))
+clear_if test states old mid es (Ok s) same thins clear found = clear_each test old mid (states s) same thins (λ k some. clear k (found k some))
+clear_if test states old mid es (Err l) same thins clear found = tt

@@ -7,7 +7,7 @@ use Rattle.mar_store.specs.declared.Lost.{Lost}
 use Rattle.mar_store.specs.declared.Lost.TheVariants.{Fault, Memory}
 use Rattle.mar_codec.specs.Causes.{Rose}
 use Rattle.mar_cache.specs.Shelved.{shelf_watch}
-use Rattle.mar_cache.specs.Volumes.{is_fault}
+use Rattle.mar_cache.specs.EpochArchives.{is_fault}
 
 pub and_left : (p q : Bool) → (p && q) ≡ true → p ≡ true
 and_left true q is = refl
@@ -31,9 +31,9 @@ pub for_memory : {W : Type 0} (left : W → Watch) (old : Watch) (l : Lost W) �
 for_memory left old (Fault w) none heeds only = absurd (let clash : true ≡ false = sym (heeds.armed only) ∙ ap is_due none in cc)
 for_memory left old (Memory w) none heeds only = refl
 
--- A CACHE WHOSE VOLUMES FAILED
+-- A CACHE WHOSE EPOCHS FAILED
 
--- a fault is counted where the volumes failed, and where only armed calls fail they fail for memory alone
+-- a fault is counted where the epochs failed, and where only armed calls fail they fail for memory alone
 pub lost_calm : {S W : Type 0} (s : S) (now : S → Watch) (alarm_of : W → Alarm) (calm_of : W → Bool) (alarm : Alarm) (calm failed : Bool) (r : Lost W) → is_fault r ≡ failed → (alarm_of (wreck_of r)).due.items ≡ alarm.due.items
     → (alarm_of (wreck_of r)).faults ≡ cond failed (min (alarm.faults + 1) (2 ^ 64 - 1)) alarm.faults → calm_of (wreck_of r) ≡ calm → (calm ≡ true → failed ≡ false) → IsCalm now (λ w. shelf_watch (alarm_of w) (calm_of w)) (shelf_watch alarm calm) (Err r)
 lost_calm s now alarm_of calm_of alarm calm true (Fault w) is due faults same memory = (omega (arith, faults), λ only. absurd (let clash : true ≡ false = memory only in cc), ap₂ (λ d c. record { faults = (alarm_of w).faults; due = d; armable = true; only_armed = c; keeps = (shelf_watch alarm calm).keeps }) due same)

@@ -5,15 +5,15 @@ use Rattle.mar_store.specs.Changes.{Within}
 use Rattle.mar_node.specs.Cached.{Cached, epoch_of}
 use Rattle.mar_cache.specs.Bounds.{Bounds}
 use Rattle.mar_cache.specs.Sections.{section_of}
-use Rattle.mar_cache.specs.Shelved.{DoesAt, LeavesTomes, at_epoch, nothing_gone, raised}
-use Rattle.mar_cache.specs.Tomes.{Tomes}
+use Rattle.mar_cache.specs.Shelved.{DoesAt, LeavesEpochs, at_epoch, nothing_gone, raised}
+use Rattle.mar_cache.specs.EpochStates.{EpochStates}
 use Rattle.mar_cache.specs.declared.change.Change.TheVariants.{Put, Sync}
 
 -- an entry is put in its epoch, which is opened where it isn't open; then its archive is synced
-abbrev pub IsPut : Cached → Tomes → Tomes → Type 0
+abbrev pub IsPut : Cached → EpochStates → EpochStates → Type 0
 IsPut x old new = DoesAt (λ y. y) (epoch_of x) (Put x ∷ []) old new
 
-abbrev pub IsPutAndSynced : Cached → Tomes → Tomes → Type 0
+abbrev pub IsPutAndSynced : Cached → EpochStates → EpochStates → Type 0
 IsPutAndSynced x old new = DoesAt (λ y. y) (epoch_of x) (Put x ∷ Sync (section_of x) ∷ []) old new
 
 -- where an epoch is above the highest, that rises to it, and is durable
@@ -21,8 +21,8 @@ abbrev pub Raises : ℕ → Bounds → List Bounds → Bounds → List Bounds �
 Raises e bounds left new new_left = (new ≡ raised e bounds) × (new_left ≡ (if nat_le e bounds.highest then left else raised e bounds ∷ []))
 
 -- what a put that failed leaves of the epochs
-abbrev pub PutLeaves : Cached → Tomes → List Tomes → Type 0
-PutLeaves x old ways = AllByRecursion (LeavesTomes (at_epoch (epoch_of x) (x ∷ [])) nothing_gone old) ways
+abbrev pub PutLeaves : Cached → EpochStates → List EpochStates → Type 0
+PutLeaves x old ways = AllByRecursion (LeavesEpochs (at_epoch (epoch_of x) (x ∷ [])) nothing_gone old) ways
 
 -- and of the bounds
 abbrev pub PutBounds : Cached → Bounds → List Bounds → List Bounds → Type 0

@@ -1,9 +1,9 @@
 pub mod Sections
-pub mod Volumes
-pub mod Filings
+pub mod EpochArchives
+pub mod EntryLogs
 pub mod Props
 pub mod Laws
-pub mod Tomes
+pub mod EpochStates
 pub mod Bounds
 pub mod Shelved
 pub mod Entries

@@ -3,11 +3,11 @@ use Rattle.std.specs.Prelude.{List, [], ℕ, ◌∷◌}
 use Rattle.std.specs.Coded.{Coded-set, coded_bool, ×_prop, Unit-prop}
 use Rattle.std.specs.List.{AllByRecursion-prop}
 use Rattle.mar_node.specs.Cached.{Cached, EachPlaceOnce}
-use Rattle.mar_cache.specs.Filings.{AreNumbered, Filing}
+use Rattle.mar_cache.specs.EntryLogs.{AreNumbered, Logged}
 
 pub EachPlaceOnce-prop : (xs : List Cached) → IsProp (EachPlaceOnce xs)
 EachPlaceOnce-prop [] = Unit-prop
 EachPlaceOnce-prop (x ∷ xs) = ×_prop (Coded-set coded_bool _ _) (EachPlaceOnce-prop xs)
 
-pub AreNumbered-prop : (n : ℕ) (fs : List Filing) → IsProp (AreNumbered n fs)
+pub AreNumbered-prop : (n : ℕ) (fs : List Logged) → IsProp (AreNumbered n fs)
 AreNumbered-prop n fs = AllByRecursion-prop _ (λ f. Coded-set coded_bool _ _) fs

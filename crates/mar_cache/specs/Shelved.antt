@@ -9,7 +9,7 @@ use Rattle.mar_store.specs.declared.Alarm.{Alarm}
 use Rattle.mar_node.specs.Cached.{Cached}
 use Rattle.mar_node.specs.Cache.{is_below}
 use Rattle.mar_cache.specs.Bounds.{Bounds, LeavesBounds, includes}
-use Rattle.mar_cache.specs.Tomes.{ChangesTome, HasSome, IsBare, KeepsOtherTomes, LeavesTome, OpensTome, Tome, Tomes, held_in, is_known, is_opened, may_in, opened, sure_in}
+use Rattle.mar_cache.specs.EpochStates.{ChangesEpoch, EpochState, EpochStates, HasSome, IsBare, KeepsOtherEpochs, LeavesEpoch, OpensEpoch, held_in, is_known, is_opened, may_in, opened, sure_in}
 use Rattle.mar_cache.specs.declared.change.Change.{Change}
 use Rattle.mar_cache.specs.declared.change.Change.TheVariants.{Finish}
 use Rattle.mar_cache.specs.declared.section.Section.{Section}
@@ -22,7 +22,7 @@ use Rattle.mar_cache.specs.Sections.{is_in}
 -- What a shelf has of each epoch, its lowest and highest epoch, what a crash can leave of those two, and what it tells of
 -- its failures.
 pub record Shelved : Type 0 where
-  pub tomes : Tomes
+  pub states : EpochStates
   pub bounds : Bounds
   pub bounds_left : List Bounds
   pub watch : Watch
@@ -30,7 +30,7 @@ pub record Shelved : Type 0 where
 -- What is left of a shelf: the ways in which epochs may be left, what may be left of the bounds, and what it tells of its
 -- failures.
 pub record Fallen : Type 0 where
-  pub ways : List Tomes
+  pub ways : List EpochStates
   pub bounds_left : List Bounds
   pub watch : Watch
 
@@ -39,32 +39,32 @@ abbrev pub shelf_watch : Alarm → Bool → Watch
 shelf_watch alarm calm = record { faults = alarm.faults; due = alarm.due.items; armable = true; only_armed = calm; keeps = None }
 
 -- each epoch of which something is open or left lies from the lowest to the highest
-abbrev pub LieWithin : Tomes → Bounds → Type 0
-LieWithin tomes b = (k : ℕ) → HasSome (tomes k) → includes b k ≡ true
+abbrev pub LieWithin : EpochStates → Bounds → Type 0
+LieWithin states b = (k : ℕ) → HasSome (states k) → includes b k ≡ true
 
 -- the same in each way in which epochs may be left, with each of the bounds that may be left
-abbrev pub AllLieWithin : List Tomes → List Bounds → Type 0
-AllLieWithin ways bounds = (tomes : Tomes) → Contains ways tomes → (b : Bounds) → Contains bounds b → LieWithin tomes b
+abbrev pub AllLieWithin : List EpochStates → List Bounds → Type 0
+AllLieWithin ways bounds = (states : EpochStates) → Contains ways states → (b : Bounds) → Contains bounds b → LieWithin states b
 
 -- what is put in one epoch
 abbrev pub at_epoch : ℕ → List Cached → ℕ → List Cached
 at_epoch e put k = if k == e then put else []
 
 -- What is left of each epoch, since some start.
-abbrev pub LeavesTomes : (ℕ → List Cached) → (ℕ → Cached → Bool) → Tomes → Tomes → Type 0
-LeavesTomes put gone old left = (k : ℕ) → LeavesTome (put k) (gone k) (old k) (left k)
+abbrev pub LeavesEpochs : (ℕ → List Cached) → (ℕ → Cached → Bool) → EpochStates → EpochStates → Type 0
+LeavesEpochs put gone old left = (k : ℕ) → LeavesEpoch (put k) (gone k) (old k) (left k)
 
 abbrev pub nothing_gone : ℕ → Cached → Bool
 nothing_gone k x = false
 
 -- A call that failed: what is left of each epoch, and of the bounds.
 pub record LosesShelf (put : ℕ → List Cached) (gone : ℕ → Cached → Bool) (more : List Bounds) (old : Shelved) (left : Fallen) : Type 0 where
-  pub tomes : AllByRecursion (LeavesTomes put gone old.tomes) left.ways
+  pub states : AllByRecursion (LeavesEpochs put gone old.states) left.ways
   pub bounds : LeavesBounds old.bounds_left more left.bounds_left
 
 -- What there is of an epoch after calls that went well: what was sure is sure, what was held is held, and nothing else may
 -- be left but what might be and what was put.
-pub record GrowsTome (put : List Cached) (gone : Cached → Bool) (old new : Tome) : Type 0 where
+pub record GrowsEpoch (put : List Cached) (gone : Cached → Bool) (old new : EpochState) : Type 0 where
   pub sure : (x : Cached) → Contains (sure_in old) x → gone x ≡ false → Contains (sure_in new) x
   pub held : (x : Cached) → Contains (held_in old) x → gone x ≡ false → Contains (held_in new) x
   pub may : IsTrue (is_known old) → (x : Cached) → Contains (may_in new) x → Contains (may_in old) x ⊎ Contains put x
@@ -79,23 +79,23 @@ pub record RaisesBounds (e : ℕ) (old new : Shelved) : Type 0 where
   pub bounds : new.bounds ≡ raised e old.bounds
   pub left : new.bounds_left ≡ (if nat_le e old.bounds.highest then old.bounds_left else raised e old.bounds ∷ [])
 
-abbrev pub GrowsTomes : (ℕ → List Cached) → (ℕ → Cached → Bool) → Tomes → Tomes → Type 0
-GrowsTomes put gone old new = (k : ℕ) → GrowsTome (put k) (gone k) (old k) (new k)
+abbrev pub GrowsEpochs : (ℕ → List Cached) → (ℕ → Cached → Bool) → EpochStates → EpochStates → Type 0
+GrowsEpochs put gone old new = (k : ℕ) → GrowsEpoch (put k) (gone k) (old k) (new k)
 
 -- changes of an epoch, one after another
-abbrev pub AllChanges : {E : Type 0} → (E → Cached) → List (Change E) → Tome → Tome → Type 0
+abbrev pub AllChanges : {E : Type 0} → (E → Cached) → List (Change E) → EpochState → EpochState → Type 0
 AllChanges plain [] old new = new ≡ old
-AllChanges plain (change ∷ changes) old new = (mid : Tome) × ChangesTome plain change old mid × AllChanges plain changes mid new
+AllChanges plain (change ∷ changes) old new = (mid : EpochState) × ChangesEpoch plain change old mid × AllChanges plain changes mid new
 
 -- An epoch is opened where it isn't open, and changed.
-pub record DoesAt {E : Type 0} (plain : E → Cached) (e : ℕ) (changes : List (Change E)) (old new : Tomes) : Type 0 where
-  pub mid : Tome
-  pub opens : OpensTome (old e) mid
+pub record DoesAt {E : Type 0} (plain : E → Cached) (e : ℕ) (changes : List (Change E)) (old new : EpochStates) : Type 0 where
+  pub mid : EpochState
+  pub opens : OpensEpoch (old e) mid
   pub done : AllChanges plain changes mid (new e)
-  pub others : KeepsOtherTomes e old new
+  pub others : KeepsOtherEpochs e old new
 
 -- What a start of a sync answers: a ticket that covers all that the archive holds, where the epoch is open.
-abbrev pub IsStarted : Tome → ℕ → Section → Started → Type 0
+abbrev pub IsStarted : EpochState → ℕ → Section → Started → Type 0
 IsStarted (opened b) e s (Ticket t) = (t.epoch ≡ e) × (t.first.section ≡ s) × (t.first.number ≤ b.number) × (b.covers s t.first.number ≡ filter (is_in s) b.kept.held) × (t.second ≡ None)
 IsStarted (opened b) e s Ready = ⊥
 IsStarted _ e s (Ticket t) = ⊥
@@ -110,28 +110,28 @@ abbrev pub finishes : {E : Type 0} → CacheTicket → List (Change E)
 finishes t = Finish t.first.section t.first.number ∷ finishes_second t.second
 
 -- An epoch is opened, or it stays as it is.
-abbrev pub OpensOrStays : Tome → Tome → Type 0
-OpensOrStays old new = (new ≡ old) ⊎ OpensTome old new
+abbrev pub OpensOrStays : EpochState → EpochState → Type 0
+OpensOrStays old new = (new ≡ old) ⊎ OpensEpoch old new
 
 -- What tickets cover stays, unless a prune covers it.
-abbrev pub KeepsTickets : (Cached → Bool) → Tome → Tome → Type 0
+abbrev pub KeepsTickets : (Cached → Bool) → EpochState → EpochState → Type 0
 KeepsTickets test (opened b) (opened c) = (b.number ≤ c.number) × ((s : Section) (t : ℕ) → t ≤ b.number → t < last_number → (x : Cached) → Contains (b.covers s t) x → test x ≡ false → Contains (c.covers s t) x)
 KeepsTickets test (opened b) _ = ⊥
 KeepsTickets test _ new = ⊤
 
 -- An epoch in which what passes the test may be gone, and nothing else.
-pub record ThinsTome (test : Cached → Bool) (old new : Tome) : Type 0 where
-  pub grows : GrowsTome [] test old new
+pub record ThinsEpoch (test : Cached → Bool) (old new : EpochState) : Type 0 where
+  pub grows : GrowsEpoch [] test old new
   pub within : Within (held_in new) (held_in old)
   pub opened : is_opened new ≡ is_opened old
   pub tickets : KeepsTickets test old new
 
 -- nothing is held that passes the test
-abbrev pub IsClear : (Cached → Bool) → Tome → Type 0
+abbrev pub IsClear : (Cached → Bool) → EpochState → Type 0
 IsClear test t = (x : Cached) → Contains (held_in t) x → test x ≡ false
 
 -- some epochs below another are destroyed, all else stays
-abbrev pub DropsOlder : ℕ → Tomes → Tomes → Type 0
+abbrev pub DropsOlder : ℕ → EpochStates → EpochStates → Type 0
 DropsOlder below old new = (k : ℕ) → (new k ≡ old k) ⊎ ((k < below) × IsBare (new k))
 
 -- what a prune by view below a round takes: older epochs, and what is below the view in its own

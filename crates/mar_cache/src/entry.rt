@@ -4,9 +4,9 @@ ghost use Rattle.mar_types.specs.Round.{round_lt};
 ghost use Rattle.mar_cache.specs.Entries.{block_in, cached_of, finalization_in, is_sought, notarization_in, sought_block};
 ghost use Rattle.mar_cache.specs.EntryKeys.{has_key};
 
+use crate::as_entry::{AsEntry, KeyedEntry};
 use crate::entry_key::{EntryKey, block_keys, certificate_keys, key_of, keys_compared};
 use crate::keys::Keys;
-use crate::leaf::{KeyedLeaf, Leaf};
 use crate::section::Section;
 use mar_block::Variant;
 use mar_cert::{AsFinalization, CommitsTo};
@@ -100,7 +100,7 @@ pub struct CacheEntry<V: Variant, N, F> {
 }
 
 /// What keeps an entry over blocks of a kind.
-pub trait KeptEntry<V: Variant, N: AsFinalization, F: CommitsTo<V::Commitment>>: Leaf {
+pub trait KeptEntry<V: Variant, N: AsFinalization, F: CommitsTo<V::Commitment>>: AsEntry {
     /// That entry.
     fn of(entry: Entry<V::Block, N, F>) -> Self
     where
@@ -126,7 +126,7 @@ fn is_earlier(first: Round, second: Round) -> bool
     epoch < other || (epoch == other && first.view().get() < second.view().get())
 }
 
-impl<V: Variant, N: AsFinalization, F: CommitsTo<V::Commitment>> Leaf for CacheEntry<V, N, F> {
+impl<V: Variant, N: AsFinalization, F: CommitsTo<V::Commitment>> AsEntry for CacheEntry<V, N, F> {
     type Wanted = Sought<V::Digest, V::Commitment>;
 
     ghost plain = { λ e. cached_of V.plain N.plain F.plain e.entry };
@@ -192,7 +192,7 @@ impl<V: Variant, N: AsFinalization, F: CommitsTo<V::Commitment>> Leaf for CacheE
     }
 }
 
-impl<V: Variant, N: AsFinalization, F: CommitsTo<V::Commitment>> KeyedLeaf for CacheEntry<V, N, F>
+impl<V: Variant, N: AsFinalization, F: CommitsTo<V::Commitment>> KeyedEntry for CacheEntry<V, N, F>
 where
     V::Digest: Ord,
     V::Commitment: Ord,

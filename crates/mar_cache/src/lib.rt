@@ -1,39 +1,39 @@
 //! The cache of what consensus and peers report before it is final.
 #![tactic(auto)]
 
+mod as_entry;
 mod bounds;
 mod change;
-mod depot_stacks;
+mod depot_epochs;
 mod entry;
 mod entry_key;
-mod filed;
-mod filings;
+mod entry_log;
+mod epoch_archives;
+mod epochs;
 mod index;
 mod keys;
-mod leaf;
+mod logged_entry;
 mod losses;
 mod manager;
+mod mem_epoch_archives;
 mod mem_shelf;
-mod mem_volume;
 mod section;
 mod shelf;
 mod slot;
 mod slots;
-mod stacks;
 mod started;
-mod volume;
 
+pub use as_entry::{AsEntry, KeyedEntry};
 pub use change::Change;
-pub use depot_stacks::{DepotStacks, DepotStacksWreck};
+pub use depot_epochs::{DepotEpochs, DepotEpochsWreck};
 pub use entry::{BlockName, CacheEntry, Entry, KeptEntry, Sought};
 pub use entry_key::EntryKey;
+pub use epoch_archives::{EpochArchives, EpochArchivesDepot, EpochArchivesRuin};
+pub use epochs::{Epochs, EpochsRuin};
 pub use keys::Keys;
-pub use leaf::{KeyedLeaf, Leaf};
 pub use manager::{Manager, ManagerWreck};
-pub use mem_shelf::{MemStacks, empty_shelf};
-pub use mem_volume::{MemVolume, MemVolumeWreck};
+pub use mem_epoch_archives::{MemEpochArchives, MemEpochArchivesWreck};
+pub use mem_shelf::{MemEpochs, empty_shelf};
 pub use section::Section;
 pub use shelf::{Shelf, ShelfRuin};
-pub use stacks::{Stacks, StacksRuin};
 pub use started::{CacheTicket, SectionSync, Started};
-pub use volume::{Volume, VolumeDepot, VolumeRuin};

@@ -1,7 +1,7 @@
 //! How a store was lost, whatever is left of it.
 ghost use Rattle.std.specs.Prelude.{◌≡◌, false, true};
 ghost use Rattle.mar_store.specs.Lost.{wreck_of};
-ghost use Rattle.mar_cache.specs.Volumes.{is_fault};
+ghost use Rattle.mar_cache.specs.EpochArchives.{is_fault};
 
 use mar_store::{Lost, Miss};
 

@@ -10,16 +10,16 @@ ghost use Rattle.mar_cache.specs.Bounds.{Bounds, bounds_of, includes};
 ghost use Rattle.mar_cache.specs.Calls.{IsPut, IsPutAndSynced, PutBounds, PutLeaves, Raises};
 ghost use Rattle.mar_cache.specs.Entries.{cached_of, has_digest, is_for, is_notarization_at, is_sought, is_verified_at, sought_block};
 ghost use Rattle.mar_cache.specs.Sections.{first_found, section_of};
-ghost use Rattle.mar_cache.specs.Shelved.{AllChanges, AllLieWithin, IsClear, IsStarted, LeavesTomes, LieWithin, OpensOrStays, ThinsTome, at_epoch, finishes};
+ghost use Rattle.mar_cache.specs.Shelved.{AllChanges, AllLieWithin, IsClear, IsStarted, LeavesEpochs, LieWithin, OpensOrStays, ThinsEpoch, at_epoch, finishes};
 ghost use Rattle.mar_cache.specs.Shelved.{is_pruned_by, nothing_gone, pruned_bounds, shelf_watch};
-ghost use Rattle.mar_cache.specs.Tomes.{ChangesTome, HasSome, IsBare, IsLeftOrBare, IsNewest, KeepsOtherTomes, MightBe, Tomes};
-ghost use Rattle.mar_cache.specs.Tomes.{held_in, is_opened, left_of_tome};
+ghost use Rattle.mar_cache.specs.EpochStates.{ChangesEpoch, EpochStates, HasSome, IsBare, IsLeftOrBare, IsNewest, KeepsOtherEpochs, MightBe};
+ghost use Rattle.mar_cache.specs.EpochStates.{held_in, is_opened, left_of_epoch};
 
 use crate::change::Change;
 use crate::entry::{BlockName, Entry, KeptEntry, Sought, sought_block};
+use crate::epochs::{Epochs, EpochsRuin};
 use crate::manager::{Manager, ManagerWreck};
 use crate::section::Section;
-use crate::stacks::{Stacks, StacksRuin};
 use crate::started::{CacheTicket, Started};
 use mar_block::Variant;
 use mar_cert::{AsFinalization, CommitsTo};
@@ -30,7 +30,7 @@ use std::alloc::AllocError;
 /// What is left of a shelf.
 pub trait ShelfRuin: Drop {
     // The ways in which its epochs may be left.
-    ghost ways: { Self → List Tomes };
+    ghost ways: { Self → List EpochStates };
 
     // What may be left of its lowest and highest epoch.
     ghost bounds: { Self → List Bounds };
@@ -52,7 +52,7 @@ pub trait Shelf<V: Variant, N: AsFinalization, F: CommitsTo<V::Commitment>>: Dro
     type Wreck: ShelfRuin;
 
     // What there is of each epoch.
-    ghost tomes: { Self → Tomes };
+    ghost states: { Self → EpochStates };
 
     // The lowest and the highest epoch, and what a crash may leave of the two.
     ghost bounds: { Self → Bounds };
@@ -71,15 +71,15 @@ pub trait Shelf<V: Variant, N: AsFinalization, F: CommitsTo<V::Commitment>>: Dro
     where
         Self: Sized,
         ensures ready { epoch_of (verified_entry round (V.plain block)) < (bounds self).lowest
-            → IfOk result (λ r. (r.1 ≡ Started.Ready) × (tomes r.0 ≡ tomes self) × (bounds r.0 ≡ bounds self)
+            → IfOk result (λ r. (r.1 ≡ Started.Ready) × (states r.0 ≡ states self) × (bounds r.0 ≡ bounds self)
             × (left r.0 ≡ left self)) }
         ensures done { (bounds self).lowest ≤ epoch_of (verified_entry round (V.plain block))
-            → IfOk result (λ r. IsPut (verified_entry round (V.plain block)) (tomes self) (tomes r.0)
-            × IsStarted (tomes r.0 (epoch_of (verified_entry round (V.plain block)))) (epoch_of (verified_entry round (V.plain block)))
+            → IfOk result (λ r. IsPut (verified_entry round (V.plain block)) (states self) (states r.0)
+            × IsStarted (states r.0 (epoch_of (verified_entry round (V.plain block)))) (epoch_of (verified_entry round (V.plain block)))
             (section_of (verified_entry round (V.plain block))) r.1) }
         ensures raises { (bounds self).lowest ≤ epoch_of (verified_entry round (V.plain block))
             → IfOk result (λ r. Raises (epoch_of (verified_entry round (V.plain block))) (bounds self) (left self) (bounds r.0) (left r.0)) }
-        ensures ways { IfErr result (λ l. PutLeaves (verified_entry round (V.plain block)) (tomes self) (Self.Wreck.ways (wreck_of l))) }
+        ensures ways { IfErr result (λ l. PutLeaves (verified_entry round (V.plain block)) (states self) (Self.Wreck.ways (wreck_of l))) }
         ensures bounds { IfErr result (λ l. PutBounds (verified_entry round (V.plain block)) (bounds self) (left self) (Self.Wreck.bounds (wreck_of l))) }
         ensures watched { Heeds (λ r. watch r.0) Self.Wreck.watch (watch self) result };
 
@@ -92,15 +92,15 @@ pub trait Shelf<V: Variant, N: AsFinalization, F: CommitsTo<V::Commitment>>: Dro
     where
         Self: Sized,
         ensures ready { epoch_of (notarized_entry round (V.plain block)) < (bounds self).lowest
-            → IfOk result (λ r. (r.1 ≡ Started.Ready) × (tomes r.0 ≡ tomes self) × (bounds r.0 ≡ bounds self)
+            → IfOk result (λ r. (r.1 ≡ Started.Ready) × (states r.0 ≡ states self) × (bounds r.0 ≡ bounds self)
             × (left r.0 ≡ left self)) }
         ensures done { (bounds self).lowest ≤ epoch_of (notarized_entry round (V.plain block))
-            → IfOk result (λ r. IsPut (notarized_entry round (V.plain block)) (tomes self) (tomes r.0)
-            × IsStarted (tomes r.0 (epoch_of (notarized_entry round (V.plain block)))) (epoch_of (notarized_entry round (V.plain block)))
+            → IfOk result (λ r. IsPut (notarized_entry round (V.plain block)) (states self) (states r.0)
+            × IsStarted (states r.0 (epoch_of (notarized_entry round (V.plain block)))) (epoch_of (notarized_entry round (V.plain block)))
             (section_of (notarized_entry round (V.plain block))) r.1) }
         ensures raises { (bounds self).lowest ≤ epoch_of (notarized_entry round (V.plain block))
             → IfOk result (λ r. Raises (epoch_of (notarized_entry round (V.plain block))) (bounds self) (left self) (bounds r.0) (left r.0)) }
-        ensures ways { IfErr result (λ l. PutLeaves (notarized_entry round (V.plain block)) (tomes self) (Self.Wreck.ways (wreck_of l))) }
+        ensures ways { IfErr result (λ l. PutLeaves (notarized_entry round (V.plain block)) (states self) (Self.Wreck.ways (wreck_of l))) }
         ensures bounds { IfErr result (λ l. PutBounds (notarized_entry round (V.plain block)) (bounds self) (left self) (Self.Wreck.bounds (wreck_of l))) }
         ensures watched { Heeds (λ r. watch r.0) Self.Wreck.watch (watch self) result };
 
@@ -109,15 +109,15 @@ pub trait Shelf<V: Variant, N: AsFinalization, F: CommitsTo<V::Commitment>>: Dro
     where
         Self: Sized,
         ensures ready { epoch_of (notarization_entry (N.plain notarization)) < (bounds self).lowest
-            → IfOk result (λ r. (r.1 ≡ Started.Ready) × (tomes r.0 ≡ tomes self) × (bounds r.0 ≡ bounds self)
+            → IfOk result (λ r. (r.1 ≡ Started.Ready) × (states r.0 ≡ states self) × (bounds r.0 ≡ bounds self)
             × (left r.0 ≡ left self)) }
         ensures done { (bounds self).lowest ≤ epoch_of (notarization_entry (N.plain notarization))
-            → IfOk result (λ r. IsPut (notarization_entry (N.plain notarization)) (tomes self) (tomes r.0)
-            × IsStarted (tomes r.0 (epoch_of (notarization_entry (N.plain notarization)))) (epoch_of (notarization_entry (N.plain notarization)))
+            → IfOk result (λ r. IsPut (notarization_entry (N.plain notarization)) (states self) (states r.0)
+            × IsStarted (states r.0 (epoch_of (notarization_entry (N.plain notarization)))) (epoch_of (notarization_entry (N.plain notarization)))
             (section_of (notarization_entry (N.plain notarization))) r.1) }
         ensures raises { (bounds self).lowest ≤ epoch_of (notarization_entry (N.plain notarization))
             → IfOk result (λ r. Raises (epoch_of (notarization_entry (N.plain notarization))) (bounds self) (left self) (bounds r.0) (left r.0)) }
-        ensures ways { IfErr result (λ l. PutLeaves (notarization_entry (N.plain notarization)) (tomes self) (Self.Wreck.ways (wreck_of l))) }
+        ensures ways { IfErr result (λ l. PutLeaves (notarization_entry (N.plain notarization)) (states self) (Self.Wreck.ways (wreck_of l))) }
         ensures bounds { IfErr result (λ l. PutBounds (notarization_entry (N.plain notarization)) (bounds self) (left self) (Self.Wreck.bounds (wreck_of l))) }
         ensures watched { Heeds (λ r. watch r.0) Self.Wreck.watch (watch self) result };
 
@@ -126,13 +126,13 @@ pub trait Shelf<V: Variant, N: AsFinalization, F: CommitsTo<V::Commitment>>: Dro
     where
         Self: Sized,
         ensures ready { epoch_of (certified_entry epoch (V.plain block)) < (bounds self).lowest
-            → IfOk result (λ s. (tomes s ≡ tomes self) × (bounds s ≡ bounds self)
+            → IfOk result (λ s. (states s ≡ states self) × (bounds s ≡ bounds self)
             × (left s ≡ left self)) }
         ensures done { (bounds self).lowest ≤ epoch_of (certified_entry epoch (V.plain block))
-            → IfOk result (λ s. IsPutAndSynced (certified_entry epoch (V.plain block)) (tomes self) (tomes s)) }
+            → IfOk result (λ s. IsPutAndSynced (certified_entry epoch (V.plain block)) (states self) (states s)) }
         ensures raises { (bounds self).lowest ≤ epoch_of (certified_entry epoch (V.plain block))
             → IfOk result (λ s. Raises (epoch_of (certified_entry epoch (V.plain block))) (bounds self) (left self) (bounds s) (left s)) }
-        ensures ways { IfErr result (λ l. PutLeaves (certified_entry epoch (V.plain block)) (tomes self) (Self.Wreck.ways (wreck_of l))) }
+        ensures ways { IfErr result (λ l. PutLeaves (certified_entry epoch (V.plain block)) (states self) (Self.Wreck.ways (wreck_of l))) }
         ensures bounds { IfErr result (λ l. PutBounds (certified_entry epoch (V.plain block)) (bounds self) (left self) (Self.Wreck.bounds (wreck_of l))) }
         ensures watched { Heeds (λ s. watch s) Self.Wreck.watch (watch self) result };
 
@@ -141,13 +141,13 @@ pub trait Shelf<V: Variant, N: AsFinalization, F: CommitsTo<V::Commitment>>: Dro
     where
         Self: Sized,
         ensures ready { epoch_of (finalization_entry (F.plain finalization)) < (bounds self).lowest
-            → IfOk result (λ s. (tomes s ≡ tomes self) × (bounds s ≡ bounds self)
+            → IfOk result (λ s. (states s ≡ states self) × (bounds s ≡ bounds self)
             × (left s ≡ left self)) }
         ensures done { (bounds self).lowest ≤ epoch_of (finalization_entry (F.plain finalization))
-            → IfOk result (λ s. IsPutAndSynced (finalization_entry (F.plain finalization)) (tomes self) (tomes s)) }
+            → IfOk result (λ s. IsPutAndSynced (finalization_entry (F.plain finalization)) (states self) (states s)) }
         ensures raises { (bounds self).lowest ≤ epoch_of (finalization_entry (F.plain finalization))
             → IfOk result (λ s. Raises (epoch_of (finalization_entry (F.plain finalization))) (bounds self) (left self) (bounds s) (left s)) }
-        ensures ways { IfErr result (λ l. PutLeaves (finalization_entry (F.plain finalization)) (tomes self) (Self.Wreck.ways (wreck_of l))) }
+        ensures ways { IfErr result (λ l. PutLeaves (finalization_entry (F.plain finalization)) (states self) (Self.Wreck.ways (wreck_of l))) }
         ensures bounds { IfErr result (λ l. PutBounds (finalization_entry (F.plain finalization)) (bounds self) (left self) (Self.Wreck.bounds (wreck_of l))) }
         ensures watched { Heeds (λ s. watch s) Self.Wreck.watch (watch self) result };
 
@@ -155,9 +155,9 @@ pub trait Shelf<V: Variant, N: AsFinalization, F: CommitsTo<V::Commitment>>: Dro
     fn start_sync_verified(self, epoch: Epoch) -> Result<(Self, Started), Lost<Self::Wreck>>
     where
         Self: Sized,
-        ensures same { IfOk result (λ r. (tomes r.0 ≡ tomes self) × (bounds r.0 ≡ bounds self) × (left r.0 ≡ left self)) }
-        ensures started { IfOk result (λ r. IsStarted (tomes self epoch) epoch Section.Verified r.1) }
-        ensures ways { IfErr result (λ l. AllByRecursion (LeavesTomes (at_epoch epoch []) nothing_gone (tomes self)) (Self.Wreck.ways (wreck_of l))) }
+        ensures same { IfOk result (λ r. (states r.0 ≡ states self) × (bounds r.0 ≡ bounds self) × (left r.0 ≡ left self)) }
+        ensures started { IfOk result (λ r. IsStarted (states self epoch) epoch Section.Verified r.1) }
+        ensures ways { IfErr result (λ l. AllByRecursion (LeavesEpochs (at_epoch epoch []) nothing_gone (states self)) (Self.Wreck.ways (wreck_of l))) }
         ensures bounds { IfErr result (λ l. Self.Wreck.bounds (wreck_of l) ≡ left self) }
         ensures watched { Heeds (λ r. watch r.0) Self.Wreck.watch (watch self) result };
 
@@ -165,9 +165,9 @@ pub trait Shelf<V: Variant, N: AsFinalization, F: CommitsTo<V::Commitment>>: Dro
     fn start_sync_notarizations(self, epoch: Epoch) -> Result<(Self, Started), Lost<Self::Wreck>>
     where
         Self: Sized,
-        ensures same { IfOk result (λ r. (tomes r.0 ≡ tomes self) × (bounds r.0 ≡ bounds self) × (left r.0 ≡ left self)) }
-        ensures started { IfOk result (λ r. IsStarted (tomes self epoch) epoch Section.Notarizations r.1) }
-        ensures ways { IfErr result (λ l. AllByRecursion (LeavesTomes (at_epoch epoch []) nothing_gone (tomes self)) (Self.Wreck.ways (wreck_of l))) }
+        ensures same { IfOk result (λ r. (states r.0 ≡ states self) × (bounds r.0 ≡ bounds self) × (left r.0 ≡ left self)) }
+        ensures started { IfOk result (λ r. IsStarted (states self epoch) epoch Section.Notarizations r.1) }
+        ensures ways { IfErr result (λ l. AllByRecursion (LeavesEpochs (at_epoch epoch []) nothing_gone (states self)) (Self.Wreck.ways (wreck_of l))) }
         ensures bounds { IfErr result (λ l. Self.Wreck.bounds (wreck_of l) ≡ left self) }
         ensures watched { Heeds (λ r. watch r.0) Self.Wreck.watch (watch self) result };
 
@@ -179,8 +179,8 @@ pub trait Shelf<V: Variant, N: AsFinalization, F: CommitsTo<V::Commitment>>: Dro
         sought: Sought<V::Digest, V::Commitment>,
     ) -> Result<Option<Entry<V::Block, N, F>>, Miss>
         ensures found { IfOk result (λ o. option_map (cached_of V.plain N.plain F.plain) o
-            ≡ first_found (is_sought V.Digest.bytes V.Commitment.bytes V.inner sought) (held_in (tomes self.old epoch))) }
-        ensures same { (tomes self.new ≡ tomes self.old) × (bounds self.new ≡ bounds self.old) × (left self.new ≡ left self.old) }
+            ≡ first_found (is_sought V.Digest.bytes V.Commitment.bytes V.inner sought) (held_in (states self.old epoch))) }
+        ensures same { (states self.new ≡ states self.old) × (bounds self.new ≡ bounds self.old) × (left self.new ≡ left self.old) }
         ensures watched { HeedsRead (watch self.old) (watch self.new) result };
 
     /// What is looked for, in the newest epoch that has it: a finalization of a block, a block by its digest or commitment.
@@ -188,16 +188,16 @@ pub trait Shelf<V: Variant, N: AsFinalization, F: CommitsTo<V::Commitment>>: Dro
         &mut self,
         sought: Sought<V::Digest, V::Commitment>,
     ) -> Result<Option<Entry<V::Block, N, F>>, Miss>
-        ensures found { IfOk result (λ o. IsNewest (is_sought V.Digest.bytes V.Commitment.bytes V.inner sought) (tomes self.old)
+        ensures found { IfOk result (λ o. IsNewest (is_sought V.Digest.bytes V.Commitment.bytes V.inner sought) (states self.old)
             (option_map (cached_of V.plain N.plain F.plain) o)) }
-        ensures same { (tomes self.new ≡ tomes self.old) × (bounds self.new ≡ bounds self.old) × (left self.new ≡ left self.old) }
+        ensures same { (states self.new ≡ states self.old) × (bounds self.new ≡ bounds self.old) × (left self.new ≡ left self.old) }
         ensures watched { HeedsRead (watch self.old) (watch self.new) result };
 
     /// The notarization of a round.
     final fn get_notarization(&mut self, round: Round) -> Result<Option<N>, Miss>
         ensures found { IfOk result (λ o. option_map (λ n. notarization_entry (N.plain n)) o
-            ≡ first_found (is_notarization_at round) (held_in (tomes self.old round.epoch))) }
-        ensures same { (tomes self.new ≡ tomes self.old) × (bounds self.new ≡ bounds self.old) × (left self.new ≡ left self.old) }
+            ≡ first_found (is_notarization_at round) (held_in (states self.old round.epoch))) }
+        ensures same { (states self.new ≡ states self.old) × (bounds self.new ≡ bounds self.old) × (left self.new ≡ left self.old) }
         ensures watched { HeedsRead (watch self.old) (watch self.new) result }
     {
         match self.get(round.epoch(), Sought::NotarizationAt(round)) {
@@ -210,8 +210,8 @@ pub trait Shelf<V: Variant, N: AsFinalization, F: CommitsTo<V::Commitment>>: Dro
     /// Whether the block of a digest was verified in a round.
     final fn has_verified(&mut self, round: Round, digest: V::Digest) -> Result<bool, Miss>
         ensures found { IfOk result (λ b. b ≡ list_any (λ x. is_verified_at round x && has_digest (V.Digest.bytes digest) (cached_block x))
-            (held_in (tomes self.old round.epoch))) }
-        ensures same { (tomes self.new ≡ tomes self.old) × (bounds self.new ≡ bounds self.old) × (left self.new ≡ left self.old) }
+            (held_in (states self.old round.epoch))) }
+        ensures same { (states self.new ≡ states self.old) × (bounds self.new ≡ bounds self.old) × (left self.new ≡ left self.old) }
         ensures watched { HeedsRead (watch self.old) (watch self.new) result }
     {
         match self.get(round.epoch(), Sought::VerifiedBlock(round, digest)) {
@@ -223,8 +223,8 @@ pub trait Shelf<V: Variant, N: AsFinalization, F: CommitsTo<V::Commitment>>: Dro
     /// The block that was verified in a round, of several the one put first.
     final fn get_verified(&mut self, round: Round) -> Result<Option<V::Block>, Miss>
         ensures found { IfOk result (λ o. option_map V.plain o
-            ≡ option_and_then cached_block (first_found (is_verified_at round) (held_in (tomes self.old round.epoch)))) }
-        ensures same { (tomes self.new ≡ tomes self.old) × (bounds self.new ≡ bounds self.old) × (left self.new ≡ left self.old) }
+            ≡ option_and_then cached_block (first_found (is_verified_at round) (held_in (states self.old round.epoch)))) }
+        ensures same { (states self.new ≡ states self.old) × (bounds self.new ≡ bounds self.old) × (left self.new ≡ left self.old) }
         ensures watched { HeedsRead (watch self.old) (watch self.new) result }
     {
         match self.get(round.epoch(), Sought::VerifiedAt(round)) {
@@ -236,9 +236,9 @@ pub trait Shelf<V: Variant, N: AsFinalization, F: CommitsTo<V::Commitment>>: Dro
 
     /// A finalization of the block of a digest: in the newest epoch that has one, there that of the lowest view.
     final fn get_finalization_for(&mut self, digest: V::Digest) -> Result<Option<F>, Miss>
-        ensures found { IfOk result (λ o. IsNewest (is_for V.inner (V.Digest.bytes digest)) (tomes self.old)
+        ensures found { IfOk result (λ o. IsNewest (is_for V.inner (V.Digest.bytes digest)) (states self.old)
             (option_map (λ f. finalization_entry (F.plain f)) o)) }
-        ensures same { (tomes self.new ≡ tomes self.old) × (bounds self.new ≡ bounds self.old) × (left self.new ≡ left self.old) }
+        ensures same { (states self.new ≡ states self.old) × (bounds self.new ≡ bounds self.old) × (left self.new ≡ left self.old) }
         ensures watched { HeedsRead (watch self.old) (watch self.new) result }
     {
         match self.search(Sought::FinalizationFor(digest)) {
@@ -255,8 +255,8 @@ pub trait Shelf<V: Variant, N: AsFinalization, F: CommitsTo<V::Commitment>>: Dro
         name: BlockName<V::Digest, V::Commitment>,
     ) -> Result<Option<V::Block>, Miss>
         ensures found { IfOk result (λ o. (x : Option Cached) × (IsNewest (is_sought V.Digest.bytes V.Commitment.bytes V.inner (sought_block name))
-            (tomes self.old) x × (option_map V.plain o ≡ option_and_then cached_block x))) }
-        ensures same { (tomes self.new ≡ tomes self.old) × (bounds self.new ≡ bounds self.old) × (left self.new ≡ left self.old) }
+            (states self.old) x × (option_map V.plain o ≡ option_and_then cached_block x))) }
+        ensures same { (states self.new ≡ states self.old) × (bounds self.new ≡ bounds self.old) × (left self.new ≡ left self.old) }
         ensures watched { HeedsRead (watch self.old) (watch self.new) result }
     {
         match self.search(sought_block(name)) {
@@ -270,10 +270,10 @@ pub trait Shelf<V: Variant, N: AsFinalization, F: CommitsTo<V::Commitment>>: Dro
     fn finish(self, ticket: CacheTicket) -> Result<Self, Lost<Self::Wreck>>
     where
         Self: Sized,
-        ensures done { IfOk result (λ s. AllChanges (λ y. y) (finishes ticket) (tomes self ticket.epoch) (tomes s ticket.epoch)
-            × KeepsOtherTomes ticket.epoch (tomes self) (tomes s)) }
+        ensures done { IfOk result (λ s. AllChanges (λ y. y) (finishes ticket) (states self ticket.epoch) (states s ticket.epoch)
+            × KeepsOtherEpochs ticket.epoch (states self) (states s)) }
         ensures meta { IfOk result (λ s. (bounds s ≡ bounds self) × (left s ≡ left self)) }
-        ensures ways { IfErr result (λ l. AllByRecursion (LeavesTomes (at_epoch ticket.epoch []) nothing_gone (tomes self)) (Self.Wreck.ways (wreck_of l))) }
+        ensures ways { IfErr result (λ l. AllByRecursion (LeavesEpochs (at_epoch ticket.epoch []) nothing_gone (states self)) (Self.Wreck.ways (wreck_of l))) }
         ensures bounds { IfErr result (λ l. Self.Wreck.bounds (wreck_of l) ≡ left self) }
         ensures watched { Heeds watch Self.Wreck.watch (watch self) result };
 
@@ -281,11 +281,11 @@ pub trait Shelf<V: Variant, N: AsFinalization, F: CommitsTo<V::Commitment>>: Dro
     fn load_persisted_epochs(self) -> Result<Self, Lost<Self::Wreck>>
     where
         Self: Sized,
-        ensures done { IfOk result (λ s. (k : ℕ) → OpensOrStays (tomes self k) (tomes s k)) }
-        ensures opened { (k : ℕ) → HasSome (tomes self k) → IfOk result (λ s. is_opened (tomes s k) ≡ true) }
-        ensures stays { (k : ℕ) → includes (bounds self) k ≡ false → IfOk result (λ s. tomes s k ≡ tomes self k) }
+        ensures done { IfOk result (λ s. (k : ℕ) → OpensOrStays (states self k) (states s k)) }
+        ensures opened { (k : ℕ) → HasSome (states self k) → IfOk result (λ s. is_opened (states s k) ≡ true) }
+        ensures stays { (k : ℕ) → includes (bounds self) k ≡ false → IfOk result (λ s. states s k ≡ states self k) }
         ensures meta { IfOk result (λ s. (bounds s ≡ bounds self) × (left s ≡ left self)) }
-        ensures ways { IfErr result (λ l. AllByRecursion (LeavesTomes (λ k. []) nothing_gone (tomes self)) (Self.Wreck.ways (wreck_of l))) }
+        ensures ways { IfErr result (λ l. AllByRecursion (LeavesEpochs (λ k. []) nothing_gone (states self)) (Self.Wreck.ways (wreck_of l))) }
         ensures bounds { IfErr result (λ l. Self.Wreck.bounds (wreck_of l) ≡ left self) }
         ensures watched { Heeds watch Self.Wreck.watch (watch self) result };
 
@@ -293,10 +293,11 @@ pub trait Shelf<V: Variant, N: AsFinalization, F: CommitsTo<V::Commitment>>: Dro
     fn prune_by_height(self, height: Height) -> Result<Self, Lost<Self::Wreck>>
     where
         Self: Sized,
-        ensures done { IfOk result (λ s. (k : ℕ) → ThinsTome (is_certified_below height) (tomes self k) (tomes s k)) }
-        ensures clear { IfOk result (λ s. (k : ℕ) → IsClear (is_certified_below height) (tomes s k)) }
+        ensures done { IfOk result (λ s. (k : ℕ) → ThinsEpoch (is_certified_below height) (states self k) (states s k)) }
+        ensures clear { IfOk result (λ s. (k : ℕ) → IsClear (is_certified_below height) (states s k)) }
         ensures meta { IfOk result (λ s. (bounds s ≡ bounds self) × (left s ≡ left self)) }
-        ensures ways { IfErr result (λ l. AllByRecursion (LeavesTomes (λ k. []) (λ k. is_certified_below height) (tomes self)) (Self.Wreck.ways (wreck_of l))) }
+        ensures ways { IfErr result (λ l. AllByRecursion (LeavesEpochs (λ k. []) (λ k. is_certified_below height) (states self))
+            (Self.Wreck.ways (wreck_of l))) }
         ensures bounds { IfErr result (λ l. Self.Wreck.bounds (wreck_of l) ≡ left self) }
         ensures watched { Heeds watch Self.Wreck.watch (watch self) result };
 
@@ -305,12 +306,12 @@ pub trait Shelf<V: Variant, N: AsFinalization, F: CommitsTo<V::Commitment>>: Dro
     fn prune_by_view(self, round: Round) -> Result<Self, Lost<Self::Wreck>>
     where
         Self: Sized,
-        ensures own { IfOk result (λ s. ChangesTome (λ y. y) (Change.PruneBelow round) (tomes self round.epoch) (tomes s round.epoch)) }
-        ensures newer { IfOk result (λ s. (k : ℕ) → round.epoch < k → tomes s k ≡ tomes self k) }
-        ensures older { IfOk result (λ s. (k : ℕ) → k < round.epoch → IsBare (tomes s k)) }
+        ensures own { IfOk result (λ s. ChangesEpoch (λ y. y) (Change.PruneBelow round) (states self round.epoch) (states s round.epoch)) }
+        ensures newer { IfOk result (λ s. (k : ℕ) → round.epoch < k → states s k ≡ states self k) }
+        ensures older { IfOk result (λ s. (k : ℕ) → k < round.epoch → IsBare (states s k)) }
         ensures raises { IfOk result (λ s. bounds s ≡ pruned_bounds round (bounds self)) }
-        ensures ways { IfErr result (λ l. AllByRecursion (LeavesTomes (λ k. []) (is_pruned_by round) (tomes self)) (Self.Wreck.ways (wreck_of l))) }
-        ensures dropped { IfErr result (λ l. AllByRecursion (λ ways. (k : ℕ) → k < round.epoch → IsLeftOrBare (tomes self k) (ways k))
+        ensures ways { IfErr result (λ l. AllByRecursion (LeavesEpochs (λ k. []) (is_pruned_by round) (states self)) (Self.Wreck.ways (wreck_of l))) }
+        ensures dropped { IfErr result (λ l. AllByRecursion (λ ways. (k : ℕ) → k < round.epoch → IsLeftOrBare (states self k) (ways k))
             (Self.Wreck.ways (wreck_of l))) }
         ensures bounds { IfErr result (λ l. Within (Self.Wreck.bounds (wreck_of l)) (left self ++ pruned_bounds round (bounds self) ∷ [])) }
         ensures watched { Heeds watch Self.Wreck.watch (watch self) result };
@@ -319,7 +320,7 @@ pub trait Shelf<V: Variant, N: AsFinalization, F: CommitsTo<V::Commitment>>: Dro
     fn wreck(self) -> Self::Wreck
     where
         Self: Sized,
-        ensures ways { AllByRecursion (λ ways. (k : ℕ) → ways k ≡ left_of_tome (tomes self k)) (Self.Wreck.ways result) }
+        ensures ways { AllByRecursion (λ ways. (k : ℕ) → ways k ≡ left_of_epoch (states self k)) (Self.Wreck.ways result) }
         ensures bounds { Self.Wreck.bounds result ≡ left self }
         ensures watch { Self.Wreck.watch result ≡ watch self };
 
@@ -327,8 +328,8 @@ pub trait Shelf<V: Variant, N: AsFinalization, F: CommitsTo<V::Commitment>>: Dro
     fn reopen(wreck: Self::Wreck, luck: u64) -> Result<Self, Lost<Self::Wreck>>
     where
         Self: Sized,
-        ensures tomes { IfOk result (λ s. MightBe (Self.Wreck.ways wreck) (tomes s)) }
-        ensures shut { IfOk result (λ s. (k : ℕ) → is_opened (tomes s k) ≡ false) }
+        ensures states { IfOk result (λ s. MightBe (Self.Wreck.ways wreck) (states s)) }
+        ensures shut { IfOk result (λ s. (k : ℕ) → is_opened (states s k) ≡ false) }
         ensures bounds { IfOk result (λ s. Contains (Self.Wreck.bounds wreck) (bounds s) × (left s ≡ bounds s ∷ [])) }
         ensures ways { IfErr result (λ l. AllByRecursion (MightBe (Self.Wreck.ways wreck)) (Self.Wreck.ways (wreck_of l))) }
         ensures left { IfErr result (λ l. Within (Self.Wreck.bounds (wreck_of l)) (Self.Wreck.bounds wreck)) }
@@ -337,19 +338,19 @@ pub trait Shelf<V: Variant, N: AsFinalization, F: CommitsTo<V::Commitment>>: Dro
     /// Makes a later call fail.
     fn arm(&mut self, calls: u64) -> Result<(), AllocError>
         ensures armed { OnOk result (watch self.new ≡ armed calls (watch self.old)) }
-        ensures same { (tomes self.new ≡ tomes self.old) × (bounds self.new ≡ bounds self.old) × (left self.new ≡ left self.old) };
+        ensures same { (states self.new ≡ states self.old) × (bounds self.new ≡ bounds self.old) × (left self.new ≡ left self.old) };
 
-    ghost within: { (s : Self) → LieWithin (tomes s) (bounds s) };
+    ghost within: { (s : Self) → LieWithin (states s) (bounds s) };
 
     ghost durable: { (s : Self) → left s ≡ bounds s ∷ [] };
 }
 
-impl<S: Stacks, M: Meta> ShelfRuin for ManagerWreck<S, M> {
-    ghost ways = { λ w. S.Wreck.left w.stacks };
+impl<S: Epochs, M: Meta> ShelfRuin for ManagerWreck<S, M> {
+    ghost ways = { λ w. S.Wreck.left w.epochs };
 
     ghost bounds = { λ w. map bounds_of (M.Wreck.left w.meta) };
 
-    ghost watch = { λ w. shelf_watch w.alarm (S.Wreck.calm w.stacks && (M.Wreck.watch w.meta).only_armed) };
+    ghost watch = { λ w. shelf_watch w.alarm (S.Wreck.calm w.epochs && (M.Wreck.watch w.meta).only_armed) };
 
     ghost within = { λ w. w.within };
 
@@ -358,20 +359,20 @@ impl<S: Stacks, M: Meta> ShelfRuin for ManagerWreck<S, M> {
     }
 }
 
-impl<V: Variant, N: AsFinalization, F: CommitsTo<V::Commitment>, S: Stacks, M: Meta> Shelf<V, N, F>
+impl<V: Variant, N: AsFinalization, F: CommitsTo<V::Commitment>, S: Epochs, M: Meta> Shelf<V, N, F>
     for Manager<S, M>
 where
-    S::Leaf: KeptEntry<V, N, F>,
+    S::Entry: KeptEntry<V, N, F>,
 {
     type Wreck = ManagerWreck<S, M>;
 
-    ghost tomes = { λ m. S.tomes m.stacks };
+    ghost states = { λ m. S.states m.epochs };
 
     ghost bounds = { λ m. bounds_of (M.current m.meta) };
 
     ghost left = { λ m. map bounds_of (M.left m.meta) };
 
-    ghost watch = { λ m. shelf_watch m.alarm (S.calm m.stacks && (M.watch m.meta).only_armed) };
+    ghost watch = { λ m. shelf_watch m.alarm (S.calm m.epochs && (M.watch m.meta).only_armed) };
 
     ghost within = { λ m. m.within };
 
@@ -382,7 +383,7 @@ where
         round: Round,
         block: V::Block,
     ) -> Result<(Self, Started), Lost<ManagerWreck<S, M>>> {
-        self.put_and_start(S::Leaf::of(Entry::Verified(round, block)))
+        self.put_and_start(S::Entry::of(Entry::Verified(round, block)))
     }
 
     fn put_notarized(
@@ -390,14 +391,14 @@ where
         round: Round,
         block: V::Block,
     ) -> Result<(Self, Started), Lost<ManagerWreck<S, M>>> {
-        self.put_and_start(S::Leaf::of(Entry::Notarized(round, block)))
+        self.put_and_start(S::Entry::of(Entry::Notarized(round, block)))
     }
 
     fn put_notarization(
         self,
         notarization: N,
     ) -> Result<(Self, Started), Lost<ManagerWreck<S, M>>> {
-        self.put_and_start(S::Leaf::of(Entry::Notarization(notarization)))
+        self.put_and_start(S::Entry::of(Entry::Notarization(notarization)))
     }
 
     fn put_certified(
@@ -405,11 +406,11 @@ where
         epoch: Epoch,
         block: V::Block,
     ) -> Result<Self, Lost<ManagerWreck<S, M>>> {
-        self.put_and_sync(S::Leaf::of(Entry::Certified(epoch, block)))
+        self.put_and_sync(S::Entry::of(Entry::Certified(epoch, block)))
     }
 
     fn put_finalization(self, finalization: F) -> Result<Self, Lost<ManagerWreck<S, M>>> {
-        self.put_and_sync(S::Leaf::of(Entry::Finalization(finalization)))
+        self.put_and_sync(S::Entry::of(Entry::Finalization(finalization)))
     }
 
     fn start_sync_verified(
@@ -432,15 +433,15 @@ where
         sought: Sought<V::Digest, V::Commitment>,
     ) -> Result<Option<Entry<V::Block, N, F>>, Miss>
         ensures found { IfOk result (λ o. option_map (cached_of V.plain N.plain F.plain) o
-            ≡ first_found (is_sought V.Digest.bytes V.Commitment.bytes V.inner sought) (held_in (S.tomes self.old.stacks epoch))) }
-        ensures same { (S.tomes self.new.stacks ≡ S.tomes self.old.stacks) × (bounds_of (M.current self.new.meta) ≡ bounds_of (M.current self.old.meta))
+            ≡ first_found (is_sought V.Digest.bytes V.Commitment.bytes V.inner sought) (held_in (S.states self.old.epochs epoch))) }
+        ensures same { (S.states self.new.epochs ≡ S.states self.old.epochs) × (bounds_of (M.current self.new.meta) ≡ bounds_of (M.current self.old.meta))
             × (map bounds_of (M.left self.new.meta) ≡ map bounds_of (M.left self.old.meta)) }
-        ensures watched { HeedsRead (shelf_watch self.old.alarm (S.calm self.old.stacks && (M.watch self.old.meta).only_armed))
-            (shelf_watch self.new.alarm (S.calm self.new.stacks && (M.watch self.new.meta).only_armed)) result }
+        ensures watched { HeedsRead (shelf_watch self.old.alarm (S.calm self.old.epochs && (M.watch self.old.meta).only_armed))
+            (shelf_watch self.new.alarm (S.calm self.new.epochs && (M.watch self.new.meta).only_armed)) result }
     {
-        let wanted = S::Leaf::sought(sought);
+        let wanted = S::Entry::sought(sought);
         match self.find_in(epoch.get(), &wanted) {
-            Ok(Some(leaf)) => Ok(Some(leaf.into_entry())),
+            Ok(Some(entry)) => Ok(Some(entry.into_entry())),
             Ok(None) => Ok(None),
             Err(miss) => Err(miss),
         }
@@ -450,16 +451,16 @@ where
         &mut self,
         sought: Sought<V::Digest, V::Commitment>,
     ) -> Result<Option<Entry<V::Block, N, F>>, Miss>
-        ensures found { IfOk result (λ o. IsNewest (is_sought V.Digest.bytes V.Commitment.bytes V.inner sought) (S.tomes self.old.stacks)
+        ensures found { IfOk result (λ o. IsNewest (is_sought V.Digest.bytes V.Commitment.bytes V.inner sought) (S.states self.old.epochs)
             (option_map (cached_of V.plain N.plain F.plain) o)) }
-        ensures same { (S.tomes self.new.stacks ≡ S.tomes self.old.stacks) × (bounds_of (M.current self.new.meta) ≡ bounds_of (M.current self.old.meta))
+        ensures same { (S.states self.new.epochs ≡ S.states self.old.epochs) × (bounds_of (M.current self.new.meta) ≡ bounds_of (M.current self.old.meta))
             × (map bounds_of (M.left self.new.meta) ≡ map bounds_of (M.left self.old.meta)) }
-        ensures watched { HeedsRead (shelf_watch self.old.alarm (S.calm self.old.stacks && (M.watch self.old.meta).only_armed))
-            (shelf_watch self.new.alarm (S.calm self.new.stacks && (M.watch self.new.meta).only_armed)) result }
+        ensures watched { HeedsRead (shelf_watch self.old.alarm (S.calm self.old.epochs && (M.watch self.old.meta).only_armed))
+            (shelf_watch self.new.alarm (S.calm self.new.epochs && (M.watch self.new.meta).only_armed)) result }
     {
-        let wanted = S::Leaf::sought(sought);
+        let wanted = S::Entry::sought(sought);
         match self.find(&wanted) {
-            Ok(Some(leaf)) => Ok(Some(leaf.into_entry())),
+            Ok(Some(entry)) => Ok(Some(entry.into_entry())),
             Ok(None) => Ok(None),
             Err(miss) => Err(miss),
         }

@@ -3,10 +3,10 @@
 /// What is at hand of an epoch.
 #[derive(Drop)]
 pub enum Slot<A, W> {
-    /// Its volume, and the number of the opening in which that was opened.
+    /// Its archives, and the number of the opening in which they were opened.
     Standing(A, u64),
-    /// What is left of its volume.
+    /// What is left of its archives.
     Leftover(W),
-    /// Its volume is away, while it changes.
+    /// Its archives are away, while they change.
     Away,
 }

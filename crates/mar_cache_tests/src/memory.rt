@@ -5,7 +5,7 @@ use crate::failures::*;
 use crate::light::{Light, Vote};
 use crate::luck::*;
 use crate::scripts::*;
-use mar_cache::{CacheEntry, KeptEntry, KeyedLeaf, Manager, MemStacks, Stacks, empty_shelf};
+use mar_cache::{CacheEntry, Epochs, KeptEntry, KeyedEntry, Manager, MemEpochs, empty_shelf};
 use mar_store::{MemMeta, Meta};
 use std::alloc::Global;
 use std::marker::PhantomData;
@@ -24,13 +24,13 @@ fn all_scripts_are_answered<M: Maker>(rt: &impl Abort, alloc: Global) {
 
 // What makes managers of epochs that hold nothing.
 trait Managed {
-    type Leaf: KeptEntry<Light, Vote, Vote>;
+    type Entry: KeptEntry<Light, Vote, Vote>;
 
-    type Stacks: Stacks<Leaf = Self::Leaf>;
+    type Epochs: Epochs<Entry = Self::Entry>;
 
     type Meta: Meta;
 
-    fn empty(alloc: Global) -> Manager<Self::Stacks, Self::Meta>;
+    fn empty(alloc: Global) -> Manager<Self::Epochs, Self::Meta>;
 }
 
 struct ByManager<P: Managed> {
@@ -38,9 +38,9 @@ struct ByManager<P: Managed> {
 }
 
 impl<P: Managed> Maker for ByManager<P> {
-    type Cache = Manager<P::Stacks, P::Meta>;
+    type Cache = Manager<P::Epochs, P::Meta>;
 
-    fn empty(alloc: Global) -> Manager<P::Stacks, P::Meta> {
+    fn empty(alloc: Global) -> Manager<P::Epochs, P::Meta> {
         P::empty(alloc)
     }
 }
@@ -49,23 +49,23 @@ fn of_managers<P: Managed>(rt: &impl Abort, alloc: Global) {
     all_scripts_are_answered::<ByManager<P>>(rt, alloc);
 }
 
-struct InMemory<E: KeptEntry<Light, Vote, Vote> + KeyedLeaf> {
+struct InMemory<E: KeptEntry<Light, Vote, Vote> + KeyedEntry> {
     of: PhantomData<E>,
 }
 
-impl<E: KeptEntry<Light, Vote, Vote> + KeyedLeaf> Managed for InMemory<E> {
-    type Leaf = E;
+impl<E: KeptEntry<Light, Vote, Vote> + KeyedEntry> Managed for InMemory<E> {
+    type Entry = E;
 
-    type Stacks = MemStacks<E>;
+    type Epochs = MemEpochs<E>;
 
     type Meta = MemMeta;
 
-    fn empty(alloc: Global) -> Manager<MemStacks<E>, MemMeta> {
+    fn empty(alloc: Global) -> Manager<MemEpochs<E>, MemMeta> {
         empty_shelf(alloc)
     }
 }
 
-fn of_entries<E: KeptEntry<Light, Vote, Vote> + KeyedLeaf>(rt: &impl Abort, alloc: Global) {
+fn of_entries<E: KeptEntry<Light, Vote, Vote> + KeyedEntry>(rt: &impl Abort, alloc: Global) {
     of_managers::<InMemory<E>>(rt, alloc);
 }
 

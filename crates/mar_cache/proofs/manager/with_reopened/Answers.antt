@@ -20,7 +20,7 @@ pub invariant_of-result-clause-within : goal.invariant_of-result-clause-within
 invariant_of-result-clause-within g c = c.requires.within _ (contains_map bounds_of _ _ c.in-Ok.ensures.done)
 
 pub invariant_of-wreck-clause-within : goal.invariant_of-wreck-clause-within
-invariant_of-wreck-clause-within g c = rw c.parts_of-failed.ensures.wreck (left_within (g.S.Stacks.tomes c.args.stacks) _ (map bounds_of (g.M.Wreck.MetaRuin.left c.args.meta)) _ c.requires.within c.wreck.ensures.left (within_map bounds_of _ _ (λ x has. subst (λ ys. Contains ys x) (append-nil _) (c.in-Err.ensures.done.within x has))))
+invariant_of-wreck-clause-within g c = rw c.parts_of-failed.ensures.wreck (left_within (g.S.Epochs.states c.args.epochs) _ (map bounds_of (g.M.Wreck.MetaRuin.left c.args.meta)) _ c.requires.within c.wreck.ensures.left (within_map bounds_of _ _ (λ x has. subst (λ ys. Contains ys x) (append-nil _) (c.in-Err.ensures.done.within x has))))
 
 pub invariant_of-result-clause-unchanged : goal.invariant_of-result-clause-unchanged
 invariant_of-result-clause-unchanged g c = c.in-Ok.ensures.changes
@@ -32,4 +32,4 @@ pub invariant_of-wreck-clause-quiet : goal.invariant_of-wreck-clause-quiet
 invariant_of-wreck-clause-quiet g c = rw c.parts_of-failed.ensures.wreck (none_due g.M.Wreck.MetaRuin.watch (g.M.Wreck.MetaRuin.watch c.args.meta) c.in-Err.lost c.requires.quiet c.in-Err.ensures.watched)
 
 pub returns-in-Ok-clause-watched : goal.returns-in-Ok-clause-watched
-returns-in-Ok-clause-watched g c = ap (λ w. shelf_watch c.args.alarm (g.S.Stacks.calm c.args.stacks && w.only_armed)) c.in-Ok.ensures.watched.1
+returns-in-Ok-clause-watched g c = ap (λ w. shelf_watch c.args.alarm (g.S.Epochs.calm c.args.epochs && w.only_armed)) c.in-Ok.ensures.watched.1

@@ -8,5 +8,5 @@ invariant_of-result g c =
     let old = c.args.self in
     record {
       quiet = ap (λ w. w.due) c.wreck-2.ensures.watch ∙ old.quiet;
-      within = fallen_within (g.S.Stacks.tomes old.stacks) _ (bounds_of (g.M.Meta.current old.meta)) _ c.wreck.ensures.left (ap (map bounds_of) c.wreck-2.ensures.left ∙ old.durable) old.within;
+      within = fallen_within (g.S.Epochs.states old.epochs) _ (bounds_of (g.M.Meta.current old.meta)) _ c.wreck.ensures.left (ap (map bounds_of) c.wreck-2.ensures.left ∙ old.durable) old.within;
     }

@@ -8,7 +8,7 @@ use Rattle.mar_cache.proofs.manager.Manager.open_all.Goals as goal
 pub returns-in_err-manager-clause-ways : goal.returns-in_err-manager-clause-ways
 returns-in_err-manager-clause-ways g c =
     let p = err_from_is_err_and c.from_residual.result c.from_residual.ensures.1 in
-    rw (p.1, p.2) (grown_leaves (λ k. []) nothing_gone (g.S.Stacks.tomes c.args.self.stacks) (g.S.Stacks.tomes c.loop-place.manager.stacks) _ (λ k. stays_grow [] (nothing_gone k) _ _ (c.loop-place.invariant.stays k)) c.in_err-manager.ensures.ways)
+    rw (p.1, p.2) (grown_leaves (λ k. []) nothing_gone (g.S.Epochs.states c.args.self.epochs) (g.S.Epochs.states c.loop-place.manager.epochs) _ (λ k. stays_grow [] (nothing_gone k) _ _ (c.loop-place.invariant.stays k)) c.in_err-manager.ensures.ways)
 
 pub loop-place-preserved : goal.loop-place-preserved
 loop-place-preserved g c =
@@ -18,12 +18,12 @@ loop-place-preserved g c =
     let b = bounds_of (g.M.Meta.current c.args.self.meta) in
     record {
       within = omega arith;
-      stays = step_stays _ (g.S.Stacks.tomes c.args.self.stacks) (g.S.Stacks.tomes now.stacks) (g.S.Stacks.tomes next.stacks) c.loop-place.invariant.stays step.done.0 step.done.1;
-      opened = opened_more (g.S.Stacks.tomes next.stacks) c.args.epochs.now c.loop-place.place (includes b) (λ j less passes. opened_stays _ (g.S.Stacks.tomes now.stacks) (g.S.Stacks.tomes next.stacks) step.done.0 step.done.1 _ (c.loop-place.invariant.opened j less passes)) (rw c.loop-place.invariant.meta at step.opened);
-      outside = outside_stays (includes b) _ (g.S.Stacks.tomes c.args.self.stacks) (g.S.Stacks.tomes now.stacks) (g.S.Stacks.tomes next.stacks) c.loop-place.invariant.outside (λ fails k. ap (λ s. g.S.Stacks.tomes s k) ((rw c.loop-place.invariant.meta at step.stays) fails)) step.done.1;
+      stays = step_stays _ (g.S.Epochs.states c.args.self.epochs) (g.S.Epochs.states now.epochs) (g.S.Epochs.states next.epochs) c.loop-place.invariant.stays step.done.0 step.done.1;
+      opened = opened_more (g.S.Epochs.states next.epochs) c.args.listed.now c.loop-place.place (includes b) (λ j less passes. opened_stays _ (g.S.Epochs.states now.epochs) (g.S.Epochs.states next.epochs) step.done.0 step.done.1 _ (c.loop-place.invariant.opened j less passes)) (rw c.loop-place.invariant.meta at step.opened);
+      outside = outside_stays (includes b) _ (g.S.Epochs.states c.args.self.epochs) (g.S.Epochs.states now.epochs) (g.S.Epochs.states next.epochs) c.loop-place.invariant.outside (λ fails k. ap (λ s. g.S.Epochs.states s k) ((rw c.loop-place.invariant.meta at step.stays) fails)) step.done.1;
       meta = step.meta ∙ c.loop-place.invariant.meta;
       watch = step.watched ∙ c.loop-place.invariant.watch;
     }
 
 pub returns-clause-opened : goal.returns-clause-opened
-returns-clause-opened g c = λ k passes has. opened_all (g.S.Stacks.tomes c.loop-place.manager.stacks) c.args.epochs.now c.loop-place.place (includes (bounds_of (g.M.Meta.current c.args.self.meta))) c.loop-place-test.false c.loop-place.invariant.opened k passes has
+returns-clause-opened g c = λ k passes has. opened_all (g.S.Epochs.states c.loop-place.manager.epochs) c.args.listed.now c.loop-place.place (includes (bounds_of (g.M.Meta.current c.args.self.meta))) c.loop-place-test.false c.loop-place.invariant.opened k passes has

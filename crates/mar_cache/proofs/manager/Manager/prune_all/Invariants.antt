@@ -1,16 +1,16 @@
 use Rattle.std.proofs.Common.{◌≡◌, ◌≤◌, ◌<◌, ◌-◌, ℕ, get_or, length, ◌&&◌}
 use Rattle.mar_node.specs.Cache.{is_certified_below}
-use Rattle.mar_cache.specs.Shelved.{IsClear, ThinsTome, shelf_watch}
+use Rattle.mar_cache.specs.Shelved.{IsClear, ThinsEpoch, shelf_watch}
 use Rattle.mar_cache.proofs.manager.Manager.prune_all.Given as goal
 
 abbrev pub invariant-loop-place : goal.invariant-loop-place
 invariant-loop-place g l = record {
-  within : l.place ≤ length l.epochs;
-  thins : (k : ℕ) → ThinsTome (is_certified_below l.height) (g.S.Stacks.tomes l.initial.manager.stacks k) (g.S.Stacks.tomes l.manager.stacks k);
-  clear : (j : ℕ) → j < l.place → IsClear (is_certified_below l.height) (g.S.Stacks.tomes l.manager.stacks (get_or l.epochs j 0));
+  within : l.place ≤ length l.listed;
+  thins : (k : ℕ) → ThinsEpoch (is_certified_below l.height) (g.S.Epochs.states l.initial.manager.epochs k) (g.S.Epochs.states l.manager.epochs k);
+  clear : (j : ℕ) → j < l.place → IsClear (is_certified_below l.height) (g.S.Epochs.states l.manager.epochs (get_or l.listed j 0));
   meta : l.manager.meta ≡ l.initial.manager.meta;
-  watch : shelf_watch l.manager.alarm (g.S.Stacks.calm l.manager.stacks && (g.M.Meta.watch l.manager.meta).only_armed) ≡ shelf_watch l.initial.manager.alarm (g.S.Stacks.calm l.initial.manager.stacks && (g.M.Meta.watch l.initial.manager.meta).only_armed);
+  watch : shelf_watch l.manager.alarm (g.S.Epochs.calm l.manager.epochs && (g.M.Meta.watch l.manager.meta).only_armed) ≡ shelf_watch l.initial.manager.alarm (g.S.Epochs.calm l.initial.manager.epochs && (g.M.Meta.watch l.initial.manager.meta).only_armed);
 }
 
 abbrev pub decreases-loop-place : goal.decreases-loop-place
-decreases-loop-place g l = length l.epochs - l.place
+decreases-loop-place g l = length l.listed - l.place

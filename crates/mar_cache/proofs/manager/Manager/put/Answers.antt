@@ -11,7 +11,7 @@ pub returns-in_err-manager-clause-ways : goal.returns-in_err-manager-clause-ways
 returns-in_err-manager-clause-ways g c =
     let e = c.get-epoch.result in
     let p = err_from_is_err_and c.from_residual.result c.from_residual.ensures.1 in
-    rw (p.1, p.2, ← (c.get-epoch.ensures.value ∙ c.epoch.ensures)) (fallen_leaves (at_epoch e (g.S.Leaf.Leaf.plain c.args.leaf ∷ [])) nothing_gone (g.S.Stacks.tomes c.args.self.stacks) (g.met.S.Stacks.nested c.args.self.stacks) _ c.in_err-manager.ensures.ways)
+    rw (p.1, p.2, ← (c.get-epoch.ensures.value ∙ c.epoch.ensures)) (fallen_leaves (at_epoch e (g.S.Entry.AsEntry.plain c.args.entry ∷ [])) nothing_gone (g.S.Epochs.states c.args.self.epochs) (g.met.S.Epochs.nested c.args.self.epochs) _ c.in_err-manager.ensures.ways)
 
 pub returns-in_err-manager-clause-bounds : goal.returns-in_err-manager-clause-bounds
 returns-in_err-manager-clause-bounds g c =
@@ -23,7 +23,7 @@ returns-in_err-manager-2-clause-ways g c =
     let e = c.get-epoch.result in
     let m = c.in_ok-manager.manager in
     let p = err_from_is_err_and c.from_residual-in_err-manager-2.result c.from_residual-in_err-manager-2.ensures.1 in
-    rw (p.1, p.2, ← c.in_ok-manager.ensures.stacks, ← (c.get-epoch.ensures.value ∙ c.epoch.ensures)) (loses_leaves (at_epoch e (g.S.Leaf.Leaf.plain c.args.leaf ∷ [])) nothing_gone (g.S.Stacks.tomes m.stacks) (g.met.S.Stacks.nested m.stacks) e [] _ _ (λ x has. contains_none x has) (λ x stays. refl) c.in_err-manager-2.ensures.done)
+    rw (p.1, p.2, ← c.in_ok-manager.ensures.epochs, ← (c.get-epoch.ensures.value ∙ c.epoch.ensures)) (loses_leaves (at_epoch e (g.S.Entry.AsEntry.plain c.args.entry ∷ [])) nothing_gone (g.S.Epochs.states m.epochs) (g.met.S.Epochs.nested m.epochs) e [] _ _ (λ x has. contains_none x has) (λ x stays. refl) c.in_err-manager-2.ensures.done)
 
 pub returns-in_err-manager-2-clause-bounds : goal.returns-in_err-manager-2-clause-bounds
 returns-in_err-manager-2-clause-bounds g c =
@@ -36,8 +36,8 @@ returns-clause-ways g c =
     let e = c.get-epoch.result in
     let m = c.in_ok-manager.manager in
     let n = c.in_ok-manager-2.manager in
-    rw (← c.in_ok-manager.ensures.stacks, ← (c.get-epoch.ensures.value ∙ c.epoch.ensures)) (end_leaves _ (λ w. g.S.Wreck.StacksRuin.left w.stacks) (at_epoch e (g.S.Leaf.Leaf.plain c.args.leaf ∷ [])) nothing_gone e (g.S.Leaf.Leaf.plain c.args.leaf ∷ []) _ (g.S.Stacks.tomes m.stacks) (g.S.Stacks.tomes n.stacks) c.change.result (g.met.S.Stacks.nested n.stacks) (at_own e (g.S.Leaf.Leaf.plain c.args.leaf ∷ [])) (λ x stays. refl)
-    (grows_at (at_epoch e (g.S.Leaf.Leaf.plain c.args.leaf ∷ [])) nothing_gone e (g.S.Stacks.tomes m.stacks) (g.S.Stacks.tomes n.stacks) (opens_grows ((at_epoch e (g.S.Leaf.Leaf.plain c.args.leaf ∷ [])) e) (nothing_gone e) _ _ c.in_ok-manager-2.ensures.done.0) c.in_ok-manager-2.ensures.done.1)
+    rw (← c.in_ok-manager.ensures.epochs, ← (c.get-epoch.ensures.value ∙ c.epoch.ensures)) (end_leaves _ (λ w. g.S.Wreck.EpochsRuin.left w.epochs) (at_epoch e (g.S.Entry.AsEntry.plain c.args.entry ∷ [])) nothing_gone e (g.S.Entry.AsEntry.plain c.args.entry ∷ []) _ (g.S.Epochs.states m.epochs) (g.S.Epochs.states n.epochs) c.change.result (g.met.S.Epochs.nested n.epochs) (at_own e (g.S.Entry.AsEntry.plain c.args.entry ∷ [])) (λ x stays. refl)
+    (grows_at (at_epoch e (g.S.Entry.AsEntry.plain c.args.entry ∷ [])) nothing_gone e (g.S.Epochs.states m.epochs) (g.S.Epochs.states n.epochs) (opens_grows ((at_epoch e (g.S.Entry.AsEntry.plain c.args.entry ∷ [])) e) (nothing_gone e) _ _ c.in_ok-manager-2.ensures.done.0) c.in_ok-manager-2.ensures.done.1)
     c.change.ensures.done)
 
 pub returns-clause-bounds : goal.returns-clause-bounds
@@ -53,7 +53,7 @@ returns-in_err-manager-clause-watched g c =
 pub returns-in_err-manager-2-clause-watched : goal.returns-in_err-manager-2-clause-watched
 returns-in_err-manager-2-clause-watched g c =
     let p = err_from_is_err_and c.from_residual-in_err-manager-2.result c.from_residual-in_err-manager-2.ensures.1 in
-    rw (p.1, p.2) (calm_lost_then (λ w. shelf_watch w.alarm (g.S.Wreck.StacksRuin.calm w.stacks && (g.M.Wreck.MetaRuin.watch w.meta).only_armed)) _ _ _ c.in_ok-manager.ensures.watched c.in_err-manager-2.ensures.watched)
+    rw (p.1, p.2) (calm_lost_then (λ w. shelf_watch w.alarm (g.S.Wreck.EpochsRuin.calm w.epochs && (g.M.Wreck.MetaRuin.watch w.meta).only_armed)) _ _ _ c.in_ok-manager.ensures.watched c.in_err-manager-2.ensures.watched)
 
 pub returns-clause-watched : goal.returns-clause-watched
-returns-clause-watched g c = calm_then (λ m. shelf_watch m.alarm (g.S.Stacks.calm m.stacks && (g.M.Meta.watch m.meta).only_armed)) (λ w. shelf_watch w.alarm (g.S.Wreck.StacksRuin.calm w.stacks && (g.M.Wreck.MetaRuin.watch w.meta).only_armed)) (shelf_watch c.args.self.alarm (g.S.Stacks.calm c.args.self.stacks && (g.M.Meta.watch c.args.self.meta).only_armed)) _ c.change.result (c.in_ok-manager-2.ensures.watched ∙ c.in_ok-manager.ensures.watched) c.change.ensures.watched
+returns-clause-watched g c = calm_then (λ m. shelf_watch m.alarm (g.S.Epochs.calm m.epochs && (g.M.Meta.watch m.meta).only_armed)) (λ w. shelf_watch w.alarm (g.S.Wreck.EpochsRuin.calm w.epochs && (g.M.Wreck.MetaRuin.watch w.meta).only_armed)) (shelf_watch c.args.self.alarm (g.S.Epochs.calm c.args.self.epochs && (g.M.Meta.watch c.args.self.meta).only_armed)) _ c.change.result (c.in_ok-manager-2.ensures.watched ∙ c.in_ok-manager.ensures.watched) c.change.ensures.watched

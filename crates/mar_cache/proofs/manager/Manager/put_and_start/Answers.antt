@@ -10,7 +10,7 @@ use Rattle.mar_cache.proofs.manager.Manager.put_and_start.Goals as goal
 pub returns-in_err-manager-clause-ways : goal.returns-in_err-manager-clause-ways
 returns-in_err-manager-clause-ways g c =
     let p = err_from_is_err_and c.from_residual.result c.from_residual.ensures.1 in
-    rw (p.1, p.2) (fallen_leaves (at_epoch (epoch_of (g.S.Leaf.Leaf.plain c.args.leaf)) (g.S.Leaf.Leaf.plain c.args.leaf ∷ [])) nothing_gone (g.S.Stacks.tomes c.args.self.stacks) (g.met.S.Stacks.nested c.args.self.stacks) _ c.in_err-manager.ensures.ways)
+    rw (p.1, p.2) (fallen_leaves (at_epoch (epoch_of (g.S.Entry.AsEntry.plain c.args.entry)) (g.S.Entry.AsEntry.plain c.args.entry ∷ [])) nothing_gone (g.S.Epochs.states c.args.self.epochs) (g.met.S.Epochs.nested c.args.self.epochs) _ c.in_err-manager.ensures.ways)
 
 pub returns-in_err-manager-clause-bounds : goal.returns-in_err-manager-clause-bounds
 returns-in_err-manager-clause-bounds g c =
@@ -30,4 +30,4 @@ returns-in_err-manager-clause-watched g c =
 pub returns-in_err-manager-2-clause-watched : goal.returns-in_err-manager-2-clause-watched
 returns-in_err-manager-2-clause-watched g c =
     let p = err_from_is_err_and c.from_residual-in_err-manager-2.result c.from_residual-in_err-manager-2.ensures.1 in
-    rw (p.1, p.2) (heeds_lost (λ w. shelf_watch w.alarm (g.S.Wreck.StacksRuin.calm w.stacks && (g.M.Wreck.MetaRuin.watch w.meta).only_armed)) _ _ _ c.in_ok-manager.ensures.watched.0 c.in_ok-manager.ensures.watched.1 c.in_err-manager-2.ensures.watched)
+    rw (p.1, p.2) (heeds_lost (λ w. shelf_watch w.alarm (g.S.Wreck.EpochsRuin.calm w.epochs && (g.M.Wreck.MetaRuin.watch w.meta).only_armed)) _ _ _ c.in_ok-manager.ensures.watched.0 c.in_ok-manager.ensures.watched.1 c.in_err-manager-2.ensures.watched)

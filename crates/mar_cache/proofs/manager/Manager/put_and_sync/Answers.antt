@@ -12,7 +12,7 @@ use Rattle.mar_cache.proofs.manager.Manager.put_and_sync.Goals as goal
 pub returns-in_err-manager-clause-ways : goal.returns-in_err-manager-clause-ways
 returns-in_err-manager-clause-ways g c =
     let p = err_from_is_err_and c.from_residual.result c.from_residual.ensures.1 in
-    rw (p.1, p.2) (fallen_leaves (at_epoch (epoch_of (g.S.Leaf.Leaf.plain c.args.leaf)) (g.S.Leaf.Leaf.plain c.args.leaf ∷ [])) nothing_gone (g.S.Stacks.tomes c.args.self.stacks) (g.met.S.Stacks.nested c.args.self.stacks) _ c.in_err-manager.ensures.ways)
+    rw (p.1, p.2) (fallen_leaves (at_epoch (epoch_of (g.S.Entry.AsEntry.plain c.args.entry)) (g.S.Entry.AsEntry.plain c.args.entry ∷ [])) nothing_gone (g.S.Epochs.states c.args.self.epochs) (g.met.S.Epochs.nested c.args.self.epochs) _ c.in_err-manager.ensures.ways)
 
 pub returns-in_err-manager-clause-bounds : goal.returns-in_err-manager-clause-bounds
 returns-in_err-manager-clause-bounds g c =
@@ -24,13 +24,13 @@ returns-clause-ways g c =
     let e = c.get-epoch.result in
     let m = c.in_ok-manager.manager in
     let n = c.in_ok-manager-2.manager in
-    rw (← c.in_ok-manager.ensures.stacks, ← (c.get-epoch.ensures.value ∙ c.epoch.ensures)) (end_leaves _ (λ w. g.S.Wreck.StacksRuin.left w.stacks) (at_epoch e (g.S.Leaf.Leaf.plain c.args.leaf ∷ [])) nothing_gone e [] _ (g.S.Stacks.tomes m.stacks) (g.S.Stacks.tomes n.stacks) c.change.result (g.met.S.Stacks.nested n.stacks) (λ x has. contains_none x has) (λ x stays. refl)
-    (does_grow g.S.Leaf.Leaf.plain (Put c.args.leaf) (at_epoch e (g.S.Leaf.Leaf.plain c.args.leaf ∷ [])) nothing_gone e (g.S.Stacks.tomes m.stacks) (g.S.Stacks.tomes n.stacks) (at_own e (g.S.Leaf.Leaf.plain c.args.leaf ∷ [])) (λ x stays. refl) (rw (← (c.get-epoch.ensures.value ∙ c.epoch.ensures)) at c.in_ok-manager-2.ensures.done))
+    rw (← c.in_ok-manager.ensures.epochs, ← (c.get-epoch.ensures.value ∙ c.epoch.ensures)) (end_leaves _ (λ w. g.S.Wreck.EpochsRuin.left w.epochs) (at_epoch e (g.S.Entry.AsEntry.plain c.args.entry ∷ [])) nothing_gone e [] _ (g.S.Epochs.states m.epochs) (g.S.Epochs.states n.epochs) c.change.result (g.met.S.Epochs.nested n.epochs) (λ x has. contains_none x has) (λ x stays. refl)
+    (does_grow g.S.Entry.AsEntry.plain (Put c.args.entry) (at_epoch e (g.S.Entry.AsEntry.plain c.args.entry ∷ [])) nothing_gone e (g.S.Epochs.states m.epochs) (g.S.Epochs.states n.epochs) (at_own e (g.S.Entry.AsEntry.plain c.args.entry ∷ [])) (λ x stays. refl) (rw (← (c.get-epoch.ensures.value ∙ c.epoch.ensures)) at c.in_ok-manager-2.ensures.done))
     c.change.ensures.done)
 
 pub returns-clause-bounds : goal.returns-clause-bounds
 returns-clause-bounds g c =
-    let e = epoch_of (g.S.Leaf.Leaf.plain c.args.leaf) in
+    let e = epoch_of (g.S.Entry.AsEntry.plain c.args.entry) in
     let m = c.in_ok-manager.manager in
     let n = c.in_ok-manager-2.manager in
     rw (← c.in_ok-manager.ensures.meta) (end_bounds (λ w. map bounds_of (g.M.Wreck.MetaRuin.left w.meta)) _ (map bounds_of (g.M.Meta.left m.meta)) (raised e (bounds_of (g.M.Meta.current m.meta))) (map bounds_of (g.M.Meta.left n.meta)) c.change.result c.in_ok-manager-2.ensures.raises.1 (IfErr-weaker c.change.result _ _ (λ l is. ap (map bounds_of) is) c.change.ensures.bounds))
@@ -44,7 +44,7 @@ pub returns-clause-done : goal.returns-clause-done
 returns-clause-done g c = λ above.
     let m = c.in_ok-manager.manager in
     let n = c.in_ok-manager-2.manager in
-    rw (← c.in_ok-manager.ensures.stacks) (does_then g.S.Leaf.Leaf.plain (λ s. g.S.Stacks.tomes s.stacks) _ (epoch_of (g.S.Leaf.Leaf.plain c.args.leaf)) (Put c.args.leaf) _ (g.S.Stacks.tomes m.stacks) (g.S.Stacks.tomes n.stacks) c.change.result c.in_ok-manager-2.ensures.done (rw (c.get-epoch.ensures.value ∙ c.epoch.ensures, c.section-section.ensures) at c.change.ensures.done))
+    rw (← c.in_ok-manager.ensures.epochs) (does_then g.S.Entry.AsEntry.plain (λ s. g.S.Epochs.states s.epochs) _ (epoch_of (g.S.Entry.AsEntry.plain c.args.entry)) (Put c.args.entry) _ (g.S.Epochs.states m.epochs) (g.S.Epochs.states n.epochs) c.change.result c.in_ok-manager-2.ensures.done (rw (c.get-epoch.ensures.value ∙ c.epoch.ensures, c.section-section.ensures) at c.change.ensures.done))
 
 pub returns-in_err-manager-clause-watched : goal.returns-in_err-manager-clause-watched
 returns-in_err-manager-clause-watched g c =
@@ -54,7 +54,7 @@ returns-in_err-manager-clause-watched g c =
 pub returns-in_err-manager-2-clause-watched : goal.returns-in_err-manager-2-clause-watched
 returns-in_err-manager-2-clause-watched g c =
     let p = err_from_is_err_and c.from_residual-in_err-manager-2.result c.from_residual-in_err-manager-2.ensures.1 in
-    rw (p.1, p.2) (heeds_lost (λ w. shelf_watch w.alarm (g.S.Wreck.StacksRuin.calm w.stacks && (g.M.Wreck.MetaRuin.watch w.meta).only_armed)) _ _ _ c.in_ok-manager.ensures.watched.0 (c.in_ok-manager.ensures.watched.1) c.in_err-manager-2.ensures.watched)
+    rw (p.1, p.2) (heeds_lost (λ w. shelf_watch w.alarm (g.S.Wreck.EpochsRuin.calm w.epochs && (g.M.Wreck.MetaRuin.watch w.meta).only_armed)) _ _ _ c.in_ok-manager.ensures.watched.0 (c.in_ok-manager.ensures.watched.1) c.in_err-manager-2.ensures.watched)
 
 pub returns-clause-watched : goal.returns-clause-watched
-returns-clause-watched g c = heeds_then (λ m. shelf_watch m.alarm (g.S.Stacks.calm m.stacks && (g.M.Meta.watch m.meta).only_armed)) (λ w. shelf_watch w.alarm (g.S.Wreck.StacksRuin.calm w.stacks && (g.M.Wreck.MetaRuin.watch w.meta).only_armed)) (shelf_watch c.args.self.alarm (g.S.Stacks.calm c.args.self.stacks && (g.M.Meta.watch c.args.self.meta).only_armed)) _ c.change.result c.in_ok-manager.ensures.watched.0 (c.in_ok-manager-2.ensures.watched ∙ c.in_ok-manager.ensures.watched.1) c.change.ensures.watched
+returns-clause-watched g c = heeds_then (λ m. shelf_watch m.alarm (g.S.Epochs.calm m.epochs && (g.M.Meta.watch m.meta).only_armed)) (λ w. shelf_watch w.alarm (g.S.Wreck.EpochsRuin.calm w.epochs && (g.M.Wreck.MetaRuin.watch w.meta).only_armed)) (shelf_watch c.args.self.alarm (g.S.Epochs.calm c.args.self.epochs && (g.M.Meta.watch c.args.self.meta).only_armed)) _ c.change.result c.in_ok-manager.ensures.watched.0 (c.in_ok-manager-2.ensures.watched ∙ c.in_ok-manager.ensures.watched.1) c.change.ensures.watched

@@ -16,6 +16,6 @@ returns-then-epoch-low-clause-raises g c = pruned_stays c.args.round (bounds_of 
 
 pub keep_bounds-requires : goal.keep_bounds-requires
 keep_bounds-requires g c =
-    let tomes = g.S.Stacks.tomes c.args.self.stacks in
+    let states = g.S.Epochs.states c.args.self.epochs in
     let b = bounds_of (g.M.Meta.current c.args.self.meta) in
-    record { within = subst (LieWithin tomes) (sym (pruned_is c.args.round b c.get-epoch.result c.lowest-low.result c.highest-high.result c.max.result (c.get-epoch.ensures.value ∙ c.epoch.ensures) c.lowest-low.ensures c.highest-high.ensures c.max.ensures c.if-epoch-low.false)) (within_pruned c.args.round tomes b c.requires.older c.args.self.within) }
+    record { within = subst (LieWithin states) (sym (pruned_is c.args.round b c.get-epoch.result c.lowest-low.result c.highest-high.result c.max.result (c.get-epoch.ensures.value ∙ c.epoch.ensures) c.lowest-low.ensures c.highest-high.ensures c.max.ensures c.if-epoch-low.false)) (within_pruned c.args.round states b c.requires.older c.args.self.within) }

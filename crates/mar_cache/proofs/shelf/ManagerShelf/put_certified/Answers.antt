@@ -9,9 +9,9 @@ use Rattle.mar_cache.proofs.shelf.ManagerShelf.put_certified.Goals as goal
 
 pub returns-clause-done : goal.returns-clause-done
 returns-clause-done g c =
-    let tomes = g.S.Stacks.tomes in
-    let plain = g.S.Leaf.Leaf.plain in
-    subst (λ x. (bounds_of (g.M.Meta.current c.args.self.meta)).lowest ≤ epoch_of x → IfOk c.put_and_sync.result (λ s. IsPutAndSynced x (tomes c.args.self.stacks) (tomes s.stacks))) c.of.ensures (λ low. IfOk-weaker c.put_and_sync.result _ _ (λ s d. sync_plain plain c.of.result _ _ d) (c.put_and_sync.ensures.done low))
+    let states = g.S.Epochs.states in
+    let plain = g.S.Entry.AsEntry.plain in
+    subst (λ x. (bounds_of (g.M.Meta.current c.args.self.meta)).lowest ≤ epoch_of x → IfOk c.put_and_sync.result (λ s. IsPutAndSynced x (states c.args.self.epochs) (states s.epochs))) c.of.ensures (λ low. IfOk-weaker c.put_and_sync.result _ _ (λ s d. sync_plain plain c.of.result _ _ d) (c.put_and_sync.ensures.done low))
 
 pub returns-clause-bounds : goal.returns-clause-bounds
 returns-clause-bounds g c = subst (λ x. IfErr c.put_and_sync.result (λ l. PutBounds x (bounds_of (g.M.Meta.current c.args.self.meta)) (map bounds_of (g.M.Meta.left c.args.self.meta)) (map bounds_of (g.M.Wreck.MetaRuin.left (wreck_of l).meta)))) c.of.ensures c.put_and_sync.ensures.bounds

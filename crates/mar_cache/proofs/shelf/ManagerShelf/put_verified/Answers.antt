@@ -11,9 +11,9 @@ use Rattle.mar_cache.proofs.shelf.ManagerShelf.put_verified.Goals as goal
 
 pub returns-clause-done : goal.returns-clause-done
 returns-clause-done g c =
-    let tomes = g.S.Stacks.tomes in
-    let plain = g.S.Leaf.Leaf.plain in
-    subst (λ x. (bounds_of (g.M.Meta.current c.args.self.meta)).lowest ≤ epoch_of x → IfOk c.put_and_start.result (λ r. IsPut x (tomes c.args.self.stacks) (tomes r.0.stacks) × IsStarted (tomes r.0.stacks (epoch_of x)) (epoch_of x) (section_of x) r.1)) c.of.ensures (λ low. IfOk-weaker c.put_and_start.result _ _ (λ r d. (put_plain plain c.of.result _ _ d.0, d.1)) (c.put_and_start.ensures.done low))
+    let states = g.S.Epochs.states in
+    let plain = g.S.Entry.AsEntry.plain in
+    subst (λ x. (bounds_of (g.M.Meta.current c.args.self.meta)).lowest ≤ epoch_of x → IfOk c.put_and_start.result (λ r. IsPut x (states c.args.self.epochs) (states r.0.epochs) × IsStarted (states r.0.epochs (epoch_of x)) (epoch_of x) (section_of x) r.1)) c.of.ensures (λ low. IfOk-weaker c.put_and_start.result _ _ (λ r d. (put_plain plain c.of.result _ _ d.0, d.1)) (c.put_and_start.ensures.done low))
 
 pub returns-clause-bounds : goal.returns-clause-bounds
 returns-clause-bounds g c = subst (λ x. IfErr c.put_and_start.result (λ l. PutBounds x (bounds_of (g.M.Meta.current c.args.self.meta)) (map bounds_of (g.M.Meta.left c.args.self.meta)) (map bounds_of (g.M.Wreck.MetaRuin.left (wreck_of l).meta)))) c.of.ensures c.put_and_start.ensures.bounds
