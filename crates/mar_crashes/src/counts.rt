@@ -1,9 +1,9 @@
 //! Each of the first calls of a disk fails by each of eight lucks: how often what was durable is found behind it, and how
 //! often what the sync that failed was to make durable.
-use crate::play::{OnDisk, disk_of, holds, play};
+use crate::play::{crashed, disk_of, play};
 use crate::script::{Lists, Step};
-use mar_journal::{Disk, MemDisk};
-use mar_store::Archive;
+use mar_journal::MemDisk;
+use mar_plays::Marks;
 use std::alloc::{AllocError, Global};
 
 // Half of them keep the first write since the last sync: the gate, where that is all there is.
@@ -21,9 +21,9 @@ enum Found {
 }
 
 // Whether it holds just these.
-fn has_just(archive: &mut OnDisk, list: &[u8]) -> bool {
+fn has_just<S: Marks>(archive: &mut S, list: &[u8]) -> bool {
     for byte in 0..=u8::MAX {
-        if holds(archive, byte) != Some(list.contains(&byte)) {
+        if archive.holds(byte) != Some(list.contains(&byte)) {
             return false;
         }
     }
@@ -31,14 +31,14 @@ fn has_just(archive: &mut OnDisk, list: &[u8]) -> bool {
 }
 
 // What is found behind a crash within the steps.
-fn found_later(
-    archive: OnDisk,
+fn found_later<S: Marks>(
+    archive: S,
     steps: &[Step],
     luck: u64,
     lists: &mut Lists,
 ) -> Result<Found, AllocError> {
     let wreck = play(steps, archive, lists)?;
-    let mut archive = match OnDisk::reopen(wreck, luck) {
+    let mut archive = match S::open_left(wreck, luck) {
         Ok(archive) => archive,
         Err(_) => return Ok(Found::Neither),
     };
@@ -52,10 +52,8 @@ fn found_later(
 }
 
 // What is found behind a crash within the first opening.
-fn found_first(alloc: Global, disk: MemDisk, luck: u64) -> Result<Found, AllocError> {
-    let mut disk = disk;
-    disk.crash(luck)?;
-    match OnDisk::open(alloc, disk) {
+fn found_first<S: Marks>(alloc: Global, disk: MemDisk, luck: u64) -> Result<Found, AllocError> {
+    match S::open_on(alloc, crashed(disk, luck)?) {
         Ok(archive) => {
             let mut archive = archive;
             if has_just(&mut archive, &[]) {
@@ -69,22 +67,31 @@ fn found_first(alloc: Global, disk: MemDisk, luck: u64) -> Result<Found, AllocEr
 }
 
 // What is found where this call of the disk fails.
-fn left_by(alloc: Global, steps: &[Step], call: u64, luck: u64) -> Result<Found, AllocError> {
-    match OnDisk::open(alloc, disk_of(alloc, call)?) {
+fn left_by<S: Marks>(
+    alloc: Global,
+    steps: &[Step],
+    call: u64,
+    luck: u64,
+) -> Result<Found, AllocError> {
+    match S::open_on(alloc, disk_of(alloc, call)?) {
         Ok(archive) => {
             let mut lists = Lists::new(alloc);
             found_later(archive, steps, luck, &mut lists)
         }
-        Err((_, disk)) => found_first(alloc, disk, luck),
+        Err((_, disk)) => found_first::<S>(alloc, disk, luck),
     }
 }
 
 /// How many lucks leave what was durable where this call fails, and how many what was to be.
-pub fn counts(alloc: Global, steps: &[Step], call: u64) -> Result<(u64, u64), AllocError> {
+pub(crate) fn counts<S: Marks>(
+    alloc: Global,
+    steps: &[Step],
+    call: u64,
+) -> Result<(u64, u64), AllocError> {
     let mut before: u64 = 0;
     let mut after: u64 = 0;
     for luck in LUCKS {
-        match left_by(alloc, steps, call, luck)? {
+        match left_by::<S>(alloc, steps, call, luck)? {
             Found::Before => before = before.saturating_add(1),
             Found::After => after = after.saturating_add(1),
             Found::Neither => {}

@@ -5,8 +5,8 @@
 //! `records` puts many records, so that what they take can be measured. Almost no function here has a clause: it is a test.
 #![tactic(auto)]
 
+mod archive;
 mod counts;
-mod mark;
 mod metadata;
 mod play;
 mod records;
@@ -16,6 +16,8 @@ mod text;
 
 use crate::counts::counts;
 use crate::script::{Line, Step, line_of};
+use crate::table::Shown;
+use mar_plays::{MetaOnDisk, OnDisk};
 use std::io;
 
 // What is kept of the writes since the last sync, and the word for it.
@@ -23,26 +25,16 @@ const LUCKS: [(u64, &'static str); 2] = [(0, "nothing"), (u64::MAX, "all")];
 
 fn tell_counts(rt: HostRuntime, steps: &[Step], calls: u64) -> io::Result<()> {
     for call in 1..=calls {
-        let (before, after) = counts(rt.alloc(), steps, call)?;
+        let (before, after) = counts::<OnDisk>(rt.alloc(), steps, call)?;
         println!(rt; "{call}: {before} before, {after} after")?;
     }
     Ok(())
 }
 
-fn tell_table(rt: HostRuntime, steps: &[Step], calls: u64) -> io::Result<()> {
+fn tell_table<S: Shown>(rt: HostRuntime, steps: &[Step], calls: u64) -> io::Result<()> {
     for call in 1..=calls {
         for (luck, kept) in LUCKS {
-            let text = table::row(rt.alloc(), steps, call, luck)?;
-            println!(rt; "{call}, {kept} kept: {text}")?;
-        }
-    }
-    Ok(())
-}
-
-fn tell_metadata(rt: HostRuntime, calls: u64) -> io::Result<()> {
-    for call in 1..=calls {
-        for (luck, kept) in LUCKS {
-            let text = metadata::row(rt.alloc(), call, luck)?;
+            let text = table::row::<S>(rt.alloc(), steps, call, luck)?;
             println!(rt; "{call}, {kept} kept: {text}")?;
         }
     }
@@ -60,12 +52,12 @@ fn main(rt: HostRuntime) -> io::Result<()> {
                 steps.clear();
             }
             Some(Line::Table(calls)) => {
-                tell_table(rt, &steps, calls)?;
+                tell_table::<OnDisk>(rt, &steps, calls)?;
                 steps.clear();
             }
-            Some(Line::Metadata(calls)) => tell_metadata(rt, calls)?,
+            Some(Line::Metadata(calls)) => tell_table::<MetaOnDisk>(rt, &[], calls)?,
             Some(Line::Records(amount)) => {
-                let text = records::told(rt.alloc(), amount)?;
+                let text = records::told::<OnDisk>(rt.alloc(), amount)?;
                 println!(rt; "{line}: {text}")?;
             }
             None => println!(rt; "{line}: no line")?,

@@ -1,37 +1,33 @@
-//! Plays a script on an archive that is a journal, over a disk in memory.
-use crate::mark::Mark;
+//! Plays a script on an archive, over a disk in memory.
 use crate::script::{Lists, Step};
-use mar_journal::{JournalArchive, JournalArchiveWreck, MemDisk};
-use mar_store::{Archive, Identifier, Lost};
+use mar_journal::{Disk, MemDisk};
+use mar_plays::{Mark, Marks};
+use mar_store::Lost;
 use std::alloc::{AllocError, Global};
 
-pub type OnDisk = JournalArchive<Mark, MemDisk>;
-
-pub type Wreck = JournalArchiveWreck<Mark, MemDisk>;
-
-fn put(archive: OnDisk, byte: u8) -> Result<OnDisk, Lost<Wreck>> {
-    archive.put(byte as u64, Mark::of(byte))
-}
-
 // Puts a value, starts a sync, puts another, and finishes the sync.
-fn ticket(archive: OnDisk, first: u8, later: u8) -> Result<OnDisk, Lost<Wreck>> {
-    let archive = archive.put(first as u64, Mark::of(first))?;
-    let (archive, ticket) = archive.start_sync()?;
-    let archive = archive.put(later as u64, Mark::of(later))?;
-    archive.finish(ticket)
+fn ticket<S: Marks>(archive: S, first: u8, later: u8) -> Result<S, Lost<S::Wreck>> {
+    let archive = archive.add(first as u64, Mark::of(first))?;
+    let (archive, ticket) = archive.begin_save()?;
+    let archive = archive.add(later as u64, Mark::of(later))?;
+    archive.end_save(ticket)
 }
 
-fn take(archive: OnDisk, step: Step) -> Result<OnDisk, Lost<Wreck>> {
+fn take<S: Marks>(archive: S, step: Step) -> Result<S, Lost<S::Wreck>> {
     match step {
-        Step::Put(byte) => put(archive, byte),
-        Step::Prune(min) => archive.prune(min as u64),
+        Step::Put(byte) => archive.add(byte as u64, Mark::of(byte)),
+        Step::Prune(min) => archive.cut(min as u64),
         Step::Ticket(first, later) => ticket(archive, first, later),
-        Step::Sync => archive.sync(),
+        Step::Sync => archive.save(),
     }
 }
 
 /// Plays the steps up to the first that fails. Where none does the store ends as a crash would end it.
-pub fn play(steps: &[Step], archive: OnDisk, lists: &mut Lists) -> Result<Wreck, AllocError> {
+pub(crate) fn play<S: Marks>(
+    steps: &[Step],
+    archive: S,
+    lists: &mut Lists,
+) -> Result<S::Wreck, AllocError> {
     let mut archive = archive;
     for step in steps {
         archive = match take(archive, *step) {
@@ -41,21 +37,19 @@ pub fn play(steps: &[Step], archive: OnDisk, lists: &mut Lists) -> Result<Wreck,
         };
         lists.note(*step)?;
     }
-    Ok(archive.wreck())
-}
-
-/// Whether it holds the value of a byte; none where it holds another there.
-pub fn holds(archive: &mut OnDisk, byte: u8) -> Option<bool> {
-    match archive.get(Identifier::Index(byte as u64)) {
-        Ok(Some(mark)) if mark.is_of(byte) => Some(true),
-        Ok(None) => Some(false),
-        _ => None,
-    }
+    Ok(archive.end())
 }
 
 /// An empty disk whose call of this number fails.
-pub fn disk_of(alloc: Global, call: u64) -> Result<MemDisk, AllocError> {
+pub(crate) fn disk_of(alloc: Global, call: u64) -> Result<MemDisk, AllocError> {
     let mut disk = MemDisk::new(alloc);
     disk.arm(call)?;
+    Ok(disk)
+}
+
+/// What a crash leaves of a disk.
+pub(crate) fn crashed(disk: MemDisk, luck: u64) -> Result<MemDisk, AllocError> {
+    let mut disk = disk;
+    disk.crash(luck)?;
     Ok(disk)
 }

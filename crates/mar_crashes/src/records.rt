@@ -1,9 +1,8 @@
 //! So many records put in order, a sync behind each so many of them, and then crashes and openings.
-use crate::mark::Mark;
-use crate::play::{OnDisk, Wreck};
 use crate::text::ranges_text;
 use mar_journal::MemDisk;
-use mar_store::{Archive, Lost};
+use mar_plays::{Mark, Marks};
+use mar_store::Lost;
 use std::alloc::{AllocError, Global};
 
 /// How many records, how many of them a sync writes, and how often the archive is opened again.
@@ -14,28 +13,28 @@ pub struct Amount {
     pub openings: u64,
 }
 
-fn filled(archive: OnDisk, amount: Amount) -> Result<OnDisk, Lost<Wreck>> {
+fn filled<S: Marks>(archive: S, amount: Amount) -> Result<S, Lost<S::Wreck>> {
     let mut archive = archive;
     for number in 0..amount.records {
-        archive = archive.put(number, Mark::numbered(number))?;
+        archive = archive.add(number, Mark::numbered(number))?;
         if amount.each > 0 && number % amount.each == amount.each - 1 {
-            archive = archive.sync()?;
+            archive = archive.save()?;
         }
     }
-    archive.sync()
+    archive.save()
 }
 
-fn reopened(archive: OnDisk, openings: u64) -> Result<OnDisk, Lost<Wreck>> {
+fn reopened<S: Marks>(archive: S, openings: u64) -> Result<S, Lost<S::Wreck>> {
     let mut archive = archive;
     for _opening in 0..openings {
-        archive = OnDisk::reopen(archive.wreck(), u64::MAX)?;
+        archive = S::open_left(archive.end(), u64::MAX)?;
     }
     Ok(archive)
 }
 
 /// What is held and sure behind all that, how many bytes the disk has, and how many calls wrote, synced and crashed.
-pub fn told(alloc: Global, amount: Amount) -> Result<String, AllocError> {
-    let archive = match OnDisk::open(alloc, MemDisk::new(alloc)) {
+pub(crate) fn told<S: Marks>(alloc: Global, amount: Amount) -> Result<String, AllocError> {
+    let archive = match S::open_on(alloc, MemDisk::new(alloc)) {
         Ok(archive) => archive,
         Err(_) => return "not opened".to_string(alloc),
     };
@@ -47,9 +46,9 @@ pub fn told(alloc: Global, amount: Amount) -> Result<String, AllocError> {
         Ok(archive) => archive,
         Err(_) => return "not reopened".to_string(alloc),
     };
-    let held = ranges_text(alloc, archive.held_ranges())?;
-    let sure = ranges_text(alloc, archive.sure_ranges())?;
-    let disk = archive.into_disk();
+    let held = ranges_text(alloc, archive.held())?;
+    let sure = ranges_text(alloc, archive.sure())?;
+    let disk = archive.disk();
     let bytes = disk.bytes().len();
     let calls = disk.calls().len();
     format!(in alloc; "held {held}, sure {sure}, {bytes} bytes, {calls} calls")

@@ -58,7 +58,7 @@ fn amount_of(text: &str) -> Option<Amount> {
 }
 
 /// What a line says.
-pub fn line_of(line: &str) -> Option<Line> {
+pub(crate) fn line_of(line: &str) -> Option<Line> {
     if line == "sync" {
         return Some(Line::Step(Step::Sync));
     }
@@ -76,7 +76,7 @@ pub fn line_of(line: &str) -> Option<Line> {
 
 impl Lists {
     /// Of an archive that holds nothing.
-    pub fn new(alloc: Global) -> Self {
+    pub(crate) fn new(alloc: Global) -> Self {
         Lists {
             held: Vec::new(alloc),
             durable: Vec::new(alloc),
@@ -93,7 +93,7 @@ impl Lists {
     }
 
     /// After a step that went well.
-    pub fn note(&mut self, step: Step) -> Result<(), AllocError> {
+    pub(crate) fn note(&mut self, step: Step) -> Result<(), AllocError> {
         match step {
             Step::Put(byte) => self.put(byte)?,
             Step::Prune(min) => self.held.retain(|byte| *byte >= min),

@@ -3,7 +3,7 @@ use mar_store::RangeSet;
 use std::alloc::{AllocError, Global};
 
 /// The ranges of a set, as `1-3,5`; `-` for none.
-pub fn ranges_text(alloc: Global, set: &RangeSet) -> Result<String, AllocError> {
+pub(crate) fn ranges_text(alloc: Global, set: &RangeSet) -> Result<String, AllocError> {
     if set.is_empty() {
         return "-".to_string(alloc);
     }
@@ -33,7 +33,7 @@ fn push_run(alloc: Global, text: &mut String, byte: u8, count: u64) -> Result<()
 }
 
 /// Bytes in hexadecimal, each behind a space; those that stand in a row once, with their number.
-pub fn bytes_text(alloc: Global, bytes: &[u8]) -> Result<String, AllocError> {
+pub(crate) fn bytes_text(alloc: Global, bytes: &[u8]) -> Result<String, AllocError> {
     let mut text = String::new(alloc);
     let mut last: u8 = 0;
     let mut count: u64 = 0;

@@ -1,5 +1,5 @@
 -- The calls of an archive that is a journal, by its entries.
-use Rattle.std.proofs.Common.{Bool, Contains, List, Ok, Some, [], ap, append_assoc, arith, cond, drop, filter, fold, max, min, nat_le, bytes_eq, not, inl, inr, length, length-append, map, false, refl, subst, suc, sym, take, true, zero, ℕ, ◌&&◌, ◌++◌, ◌+◌, ◌-◌, IfOk, Result, Ok, Err, ◌<◌, ◌==◌, ◌^◌, ◌∙◌, ◌∷◌, ◌≡◌, ◌≤◌}
+use Rattle.std.proofs.Common.{Bool, Contains, List, Ok, Some, [], ap, append_assoc, arith, cond, drop, filter, fold, max, min, nat_le, bytes_eq, not, inl, inr, length, length-append, map, false, refl, subst, suc, sym, take, true, zero, ℕ, ◌&&◌, ◌++◌, ◌+◌, ◌-◌, IfErr, IfOk, MatchResult, Result, Ok, Err, ◌<◌, ◌==◌, ◌^◌, ◌∙◌, ◌∷◌, ◌≡◌, ◌≤◌}
 use Rattle.std.proofs.Math.Logic.{∥∥₁_elim, ∥∥₁_map, ∥∥₁_map₂}
 use Rattle.std.specs.Coded.{Coded, Coded-set, coded_bool, coded_option, le_prop}
 use Rattle.std.proofs.lemmas.Bool.{and_from, eq-eqb, eqb-true, false≢true, true≢false}
@@ -20,9 +20,12 @@ use Rattle.mar_store.proofs.Stores.{covers_pruned, filter_within, prunes}
 use Rattle.mar_codec.specs.Varint.{varint}
 use Rattle.mar_codec.specs.VarintLemmas.{length-varint}
 use Rattle.mar_journal.specs.ArchiveRecords.{IsArchived, archive_bytes, kept_by, kept_from}
-use Rattle.mar_journal.specs.ArchiveStore.{IsArchiveFile, IsArchiveLeft, IsBacked, IsMarkOf, IsMarked, Ordered, StaysFound, archive_kept, last_mark, left_may, within_right}
+use Rattle.mar_journal.specs.ArchiveStore.{CountsLost, IsArchiveFile, IsArchiveLeft, IsBacked, IsMarkOf, IsMarked, Ordered, StaysFound, archive_kept, last_mark, left_may, within_right}
 use Rattle.mar_journal.specs.Disk.{Elapses, LeavesOnly, Narrows}
-use Rattle.mar_store.specs.Watch.{Strikes, after_call, is_due}
+use Rattle.mar_store.specs.Lost.{wreck_of}
+use Rattle.mar_store.specs.Watch.{Heeds, LostHeeds, Strikes, after_call, counted, is_due}
+use Rattle.mar_store.specs.declared.Lost.{Lost}
+use Rattle.mar_store.specs.declared.Lost.TheVariants.{Fault, Memory}
 use Rattle.mar_journal.specs.Watches.{journal_watch}
 use Rattle.mar_journal.specs.Format.{IsBatch, IsDamaged, IsJournal, Stands, StandsUpto, joined}
 use Rattle.mar_journal.specs.Journal.{Adds, IsOldOrNew, IsSettled}
@@ -411,6 +414,46 @@ struck faults later due now rings true_is is are counts =
       armed = λ only. sym is ∙ true_is;
       same = rw are refl;
     }
+
+-- no call was armed, and none failed
+pub unstruck : (faults later : ℕ) (due now : List ℕ) (rings : Bool) → rings ≡ false → rings ≡ is_due due → now ≡ after_call due → later ≡ cond rings (min (faults + 1) (2 ^ 64 - 1)) faults
+    → (is_due due ≡ false) × (journal_watch later now ≡ counted (journal_watch faults due))
+unstruck faults later due now rings false_is is are counts =
+    let count : later ≡ faults = counts ∙ ap (λ b. cond b (min (faults + 1) (2 ^ 64 - 1)) faults) false_is in
+    (sym is ∙ false_is, rw (are, count) refl)
+
+-- no call was armed, and what the store stands on failed
+pub struck_later : (faults later last : ℕ) (due now end : List ℕ) (rings : Bool) → rings ≡ false → rings ≡ is_due due → now ≡ after_call due → later ≡ cond rings (min (faults + 1) (2 ^ 64 - 1)) faults
+    → end ≡ now → last ≡ min (later + 1) (2 ^ 64 - 1) → Strikes (journal_watch faults due) (journal_watch last end)
+struck_later faults later last due now end rings false_is is are counts end_is last_is =
+    let count : later ≡ faults = counts ∙ ap (λ b. cond b (min (faults + 1) (2 ^ 64 - 1)) faults) false_is in
+    record {
+      rose = omega (arith, count, last_is);
+      armed = λ only. absurd (false≢true only);
+      same = rw (end_is, are) refl;
+    }
+
+-- no call was armed, and the store was lost all the same
+pub lost_unstruck : {W : Type 0} (count : W → ℕ) (left : W → List ℕ) (faults later : ℕ) (due now : List ℕ) (rings : Bool) → rings ≡ false → rings ≡ is_due due → now ≡ after_call due
+    → later ≡ cond rings (min (faults + 1) (2 ^ 64 - 1)) faults → (l : Lost W) → CountsLost count later l → left (wreck_of l) ≡ now
+    → LostHeeds (λ w. journal_watch (count w) (left w)) (journal_watch faults due) l
+lost_unstruck count left faults later due now rings false_is is are counts (Fault w) counted_is left_is =
+    let same : later ≡ faults = counts ∙ ap (λ b. cond b (min (faults + 1) (2 ^ 64 - 1)) faults) false_is in
+    record {
+      rose = omega (arith, counted_is, same);
+      armed = λ only. absurd (false≢true only);
+      same = rw (left_is, are) refl;
+    }
+lost_unstruck count left faults later due now rings false_is is are counts (Memory w) counted_is left_is =
+    let same : later ≡ faults = counts ∙ ap (λ b. cond b (min (faults + 1) (2 ^ 64 - 1)) faults) false_is in
+    (sym is ∙ false_is, rw (counted_is, same, left_is, are) refl)
+
+-- no call was armed before a reopening
+pub heeds_reopened : {S W : Type 0} (kept : S → ℕ) (goes : S → List ℕ) (count : W → ℕ) (left : W → List ℕ) (faults later : ℕ) (due now : List ℕ) (rings : Bool) → rings ≡ false → rings ≡ is_due due → now ≡ after_call due
+    → later ≡ cond rings (min (faults + 1) (2 ^ 64 - 1)) faults → (r : Result S (Lost W)) → MatchResult r (λ s. goes s ≡ now) (λ l. left (wreck_of l) ≡ now) → IfOk r (λ s. kept s ≡ later) → IfErr r (CountsLost count later)
+    → Heeds (λ s. journal_watch (kept s) (goes s)) (λ w. journal_watch (count w) (left w)) (journal_watch faults due) r
+heeds_reopened kept goes count left faults later due now rings false_is is are counts (Ok s) due_is calm counted_is = unstruck faults (kept s) due (goes s) rings false_is is (due_is ∙ are) (calm ∙ counts)
+heeds_reopened kept goes count left faults later due now rings false_is is are counts (Err l) due_is calm counted_is = lost_unstruck count left faults later due now rings false_is is are counts l counted_is due_is
 
 -- the records of a journal are good ones
 all_append : {X : Type 0} (P : X → Type 0) (xs ys : List X) → AllByRecursion P xs → AllByRecursion P ys → AllByRecursion P (xs ++ ys)

@@ -6,6 +6,6 @@ mod archives;
 #[cfg(test)]
 mod calls;
 #[cfg(test)]
-mod digests;
+mod crashes;
 #[cfg(test)]
 mod metadata;

@@ -1,5 +1,6 @@
 use Rattle.std.proofs.Common.{[], ap, arith, inl, length, sym, ◌∙◌}
-use Rattle.mar_journal.proofs.ArchiveSteps.{fails_left, idle_moments, marked, ordered_of, struck}
+use Rattle.mar_store.specs.Entries.{covered_by}
+use Rattle.mar_journal.proofs.ArchiveSteps.{fails_left, idle_moments, lost_unstruck, marked, ordered_of, struck, unstruck}
 use Rattle.mar_journal.proofs.Fronts.{none_written}
 use Rattle.mar_journal.proofs.Marks.{front_exact}
 use Rattle.mar_journal.proofs.archive_calls.JournalArchiveArchive.finish.Goals as goal
@@ -46,3 +47,30 @@ returns-then-rings-clause-cause g c = inl (sym c.rings.ensures.rings ∙ c.if-ri
 
 pub returns-in-Err-clause-cause : goal.returns-in-Err-clause-cause
 returns-in-Err-clause-cause g c = c.in-Err.ensures.cause c.args.self.alarm.due.items
+
+pub returns-in-Err-clause-watched : goal.returns-in-Err-clause-watched
+returns-in-Err-clause-watched g c = lost_unstruck (λ w. w.alarm.faults) (λ w. w.alarm.due.items) c.args.self.alarm.faults _ c.args.self.alarm.due.items _ c.rings.result c.if-rings.false c.rings.ensures.rings c.rings.ensures.due c.rings.ensures.faults c.in-Err.lost c.in-Err.ensures.counts c.in-Err.ensures.due
+
+pub returns-in-Ok-make_covered_sure-clause-watched : goal.returns-in-Ok-make_covered_sure-clause-watched
+returns-in-Ok-make_covered_sure-clause-watched g c = rw (c.in-Ok-make_covered_sure.ensures.alarm ∙ c.in-Ok.ensures.alarm) (unstruck c.args.self.alarm.faults _ c.args.self.alarm.due.items _ c.rings.result c.if-rings.false c.rings.ensures.rings c.rings.ensures.due c.rings.ensures.faults)
+
+pub returns-in-Ok-make_covered_sure-clause-any_moment : goal.returns-in-Ok-make_covered_sure-clause-any_moment
+returns-in-Ok-make_covered_sure-clause-any_moment g c = rw c.in-Ok-make_covered_sure.ensures.disk c.in-Ok.ensures.any_moment
+
+pub returns-in-Ok-make_covered_sure-clause-done : goal.returns-in-Ok-make_covered_sure-clause-done
+returns-in-Ok-make_covered_sure-clause-done g c = rw (c.in-Ok.ensures.entries, c.in-Ok.ensures.gone, c.number-number.ensures) at c.in-Ok-make_covered_sure.ensures.done
+
+pub returns-in-Err-make_covered_sure-clause-watched : goal.returns-in-Err-make_covered_sure-clause-watched
+returns-in-Err-make_covered_sure-clause-watched g c = rw (c.in-Err-make_covered_sure.ensures.alarm ∙ c.in-Ok.ensures.alarm) (unstruck c.args.self.alarm.faults _ c.args.self.alarm.due.items _ c.rings.result c.if-rings.false c.rings.ensures.rings c.rings.ensures.due c.rings.ensures.faults)
+
+pub returns-in-Err-make_covered_sure-clause-any_moment : goal.returns-in-Err-make_covered_sure-clause-any_moment
+returns-in-Err-make_covered_sure-clause-any_moment g c = rw c.in-Err-make_covered_sure.ensures.disk c.in-Ok.ensures.any_moment
+
+pub returns-in-Err-make_covered_sure-clause-done : goal.returns-in-Err-make_covered_sure-clause-done
+returns-in-Err-make_covered_sure-clause-done g c = rw (c.in-Ok.ensures.entries, c.in-Ok.ensures.gone) at c.in-Err-make_covered_sure.ensures.done
+
+pub returns-in-Ok-make_covered_sure-clause-covers : goal.returns-in-Ok-make_covered_sure-clause-covers
+returns-in-Ok-make_covered_sure-clause-covers g c = λ t under last. ap (λ l. covered_by l t) (c.in-Ok-make_covered_sure.ensures.items ∙ ap (λ e. e.pile.items.items) c.in-Ok.ensures.entries)
+
+pub returns-in-Ok-make_covered_sure-clause-tickets : goal.returns-in-Ok-make_covered_sure-clause-tickets
+returns-in-Ok-make_covered_sure-clause-tickets g c = omega (arith, c.in-Ok-make_covered_sure.ensures.tickets, ap (λ e. e.pile.accepted) c.in-Ok.ensures.entries)

@@ -1,6 +1,6 @@
-use Rattle.std.proofs.Common.{[], ap, inl, sym, ◌∙◌}
+use Rattle.std.proofs.Common.{[], ap, arith, inl, sym, ◌∙◌}
 use Rattle.mar_store.proofs.Stores.{covers_pruned}
-use Rattle.mar_journal.proofs.ArchiveSteps.{fails_left, struck}
+use Rattle.mar_journal.proofs.ArchiveSteps.{fails_left, struck, unstruck}
 use Rattle.mar_journal.proofs.archive_calls.JournalArchiveArchive.prune.Goals as goal
 
 pub returns-then-rings-clause-done : goal.returns-then-rings-clause-done
@@ -17,3 +17,30 @@ returns-in-Ok-cut-clause-covers g c = covers_pruned c.args.min c.args.self.entri
 
 pub returns-then-rings-clause-cause : goal.returns-then-rings-clause-cause
 returns-then-rings-clause-cause g c = inl (sym c.rings.ensures.rings ∙ c.if-rings.true)
+
+pub returns-in-Err-clause-watched : goal.returns-in-Err-clause-watched
+returns-in-Err-clause-watched g c = rw c.left-in-Err.ensures.alarm (unstruck c.args.self.alarm.faults _ c.args.self.alarm.due.items _ c.rings.result c.if-rings.false c.rings.ensures.rings c.rings.ensures.due c.rings.ensures.faults)
+
+pub returns-in-Ok-cut-clause-watched : goal.returns-in-Ok-cut-clause-watched
+returns-in-Ok-cut-clause-watched g c = rw c.in-Ok-cut.ensures.alarm (unstruck c.args.self.alarm.faults _ c.args.self.alarm.due.items _ c.rings.result c.if-rings.false c.rings.ensures.rings c.rings.ensures.due c.rings.ensures.faults)
+
+pub returns-in-Err-cut-clause-watched : goal.returns-in-Err-cut-clause-watched
+returns-in-Err-cut-clause-watched g c = rw c.in-Err-cut.ensures.alarm (unstruck c.args.self.alarm.faults _ c.args.self.alarm.due.items _ c.rings.result c.if-rings.false c.rings.ensures.rings c.rings.ensures.due c.rings.ensures.faults)
+
+pub returns-in-Ok-cut-clause-done : goal.returns-in-Ok-cut-clause-done
+returns-in-Ok-cut-clause-done g c = c.in-Ok-cut.ensures.done
+
+pub returns-in-Ok-cut-clause-tickets : goal.returns-in-Ok-cut-clause-tickets
+returns-in-Ok-cut-clause-tickets g c = omega (arith, c.in-Ok-cut.ensures.tickets)
+
+pub returns-in-Ok-cut-clause-marked : goal.returns-in-Ok-cut-clause-marked
+returns-in-Ok-cut-clause-marked g c = c.in-Ok-cut.ensures.marked
+
+pub returns-in-Err-cut-clause-done : goal.returns-in-Err-cut-clause-done
+returns-in-Err-cut-clause-done g c = c.in-Err-cut.ensures.done
+
+pub cut-requires-clause-more : goal.cut-requires-clause-more
+cut-requires-clause-more g c = rw c.deref-2.ensures.value at c.in-Ok.ensures.more
+
+pub cut-requires-clause-may : goal.cut-requires-clause-may
+cut-requires-clause-may g c = rw (c.deref.ensures.value, c.deref-2.ensures.value) at c.in-Ok.ensures.may

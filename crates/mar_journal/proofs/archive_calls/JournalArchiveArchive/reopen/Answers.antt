@@ -1,5 +1,6 @@
-use Rattle.std.proofs.Common.{inl, sym, ◌∙◌}
-use Rattle.mar_journal.proofs.ArchiveSteps.{still_moments}
+use Rattle.std.proofs.Common.{inl, refl, sym, ◌∙◌}
+use Rattle.mar_store.proofs.Settled.{fails_still}
+use Rattle.mar_journal.proofs.ArchiveSteps.{heeds_reopened, still_moments, struck}
 use Rattle.mar_journal.proofs.archive_calls.JournalArchiveArchive.reopen.Goals as goal
 
 pub returns-then-rings-clause-any_moment : goal.returns-then-rings-clause-any_moment
@@ -10,3 +11,12 @@ returns-then-rings-clause-cause g c = inl (sym c.rings.ensures.rings ∙ c.if-ri
 
 pub returns-clause-cause : goal.returns-clause-cause
 returns-clause-cause g c = c.find.ensures.cause c.args.wreck.alarm.due.items
+
+pub returns-then-rings-clause-done : goal.returns-then-rings-clause-done
+returns-then-rings-clause-done g c = fails_still _ _ refl
+
+pub returns-then-rings-clause-watched : goal.returns-then-rings-clause-watched
+returns-then-rings-clause-watched g c = struck c.args.wreck.alarm.faults _ c.args.wreck.alarm.due.items _ c.rings.result c.if-rings.true c.rings.ensures.rings c.rings.ensures.due c.rings.ensures.faults
+
+pub returns-clause-watched : goal.returns-clause-watched
+returns-clause-watched g c = heeds_reopened (λ s. s.alarm.faults) (λ s. s.alarm.due.items) (λ w. w.alarm.faults) (λ w. w.alarm.due.items) c.args.wreck.alarm.faults _ c.args.wreck.alarm.due.items _ c.rings.result c.if-rings.false c.rings.ensures.rings c.rings.ensures.due c.rings.ensures.faults _ c.find.ensures.due c.find.ensures.calm c.find.ensures.counts

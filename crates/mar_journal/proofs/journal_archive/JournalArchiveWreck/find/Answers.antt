@@ -1,4 +1,5 @@
-use Rattle.std.proofs.Common.{[], inr}
+use Rattle.std.proofs.Common.{[], inr, refl}
+use Rattle.mar_store.proofs.Settled.{fails_still}
 use Rattle.mar_journal.specs.ArchiveRecords.{kept_from}
 use Rattle.mar_journal.proofs.ArchiveSteps.{crash_left, crash_moments, not_damaged, opened_kept, reopen_moments, reopened, reopened_backed, unopened_left}
 use Rattle.mar_journal.proofs.journal_archive.JournalArchiveWreck.find.Goals as goal
@@ -61,3 +62,15 @@ returns-in-Err-Memory-clause-any_moment g c = reopen_moments g.T.Item.name g.T.J
 
 pub returns-in-Err-Damaged-clause-cause : goal.returns-in-Err-Damaged-clause-cause
 returns-in-Err-Damaged-clause-cause g c = absurd (not_damaged g.T.Item.name g.T.JournalItem.spelled g.T.Item.fits g.D.Disk.seen g.D.Disk.may_leave g.D.Disk.moment g.D.Disk.left_since g.met.D.Disk.counts_now g.met.T.JournalItem.keyed g.met.T.JournalItem.one c.args.self.disk c.crash.new.self c.open_entries.new.disk c.args.self.gone.items c.args.self.pile.items.items c.args.self.pile.synced c.crash.ensures.crash c.args.self.is_left _ (g.met.D.Disk.is_image c.crash.new.self) (rw c.in-Err-Damaged.field-0-is at c.in-Err-Damaged.ensures.reason).1)
+
+pub returns-then-is_err-clause-done : goal.returns-then-is_err-clause-done
+returns-then-is_err-clause-done g c = fails_still _ _ refl
+
+pub returns-in-Err-Fault-clause-done : goal.returns-in-Err-Fault-clause-done
+returns-in-Err-Fault-clause-done g c = fails_still _ _ refl
+
+pub returns-in-Err-Damaged-clause-done : goal.returns-in-Err-Damaged-clause-done
+returns-in-Err-Damaged-clause-done g c = fails_still _ _ refl
+
+pub returns-in-Err-Memory-clause-done : goal.returns-in-Err-Memory-clause-done
+returns-in-Err-Memory-clause-done g c = fails_still _ _ refl

@@ -1,6 +1,7 @@
-use Rattle.std.proofs.Common.{Contains, [], ap, inr, subst, sym, ◌∙◌, ◌∷◌}
+use Rattle.std.proofs.Common.{Contains, [], ap, inl, inr, subst, sym, ◌∙◌, ◌∷◌}
 use Rattle.mar_store.specs.MemMeta.{values_of}
 use Rattle.mar_journal.specs.MetaStore.{failed_entries, failed_in, left_by_meta}
+use Rattle.mar_journal.proofs.ArchiveSteps.{struck, struck_later, unstruck}
 use Rattle.mar_journal.proofs.MetaSteps.{crash_moments, leaves_still, opening_finds, opening_left, reopen_moments, store_opened, undamaged, wreck_moments}
 use Rattle.mar_journal.proofs.journal_meta.JournalMetaMeta.reopen.Goals as goal
 
@@ -69,3 +70,30 @@ returns-in-Err-Damaged-clause-undamaged g c = absurd (undamaged g.D.Disk.seen g.
 
 pub returns-in-Err-Damaged-clause-cause : goal.returns-in-Err-Damaged-clause-cause
 returns-in-Err-Damaged-clause-cause g c = absurd (undamaged g.D.Disk.seen g.D.Disk.may_leave c.crash.new.self (left_by_meta (values_of c.wreck.inside.synced) (failed_in (failed_entries c.wreck.inside.failed))) _ (g.met.D.Disk.is_image c.crash.new.self) (λ x now. c.wreck.invariant x (c.crash.ensures.crash x now)) (rw c.in-Err-Damaged.field-0-is at c.in-Err-Damaged.ensures.reason).1)
+
+pub returns-then-rings-clause-watched : goal.returns-then-rings-clause-watched
+returns-then-rings-clause-watched g c = rw (c.of.ensures, ← c.wreck.view_is) (struck c.wreck.inside.alarm.faults _ c.wreck.inside.alarm.due.items _ c.rings.result c.if-rings.true c.rings.ensures.rings c.rings.ensures.due c.rings.ensures.faults)
+
+pub returns-then-is_err-clause-watched : goal.returns-then-is_err-clause-watched
+returns-then-is_err-clause-watched g c = rw (c.of-then-is_err.ensures, ← c.wreck.view_is) (unstruck c.wreck.inside.alarm.faults _ c.wreck.inside.alarm.due.items _ c.rings.result c.if-rings.false c.rings.ensures.rings c.rings.ensures.due c.rings.ensures.faults)
+
+pub returns-in-Ok-clause-watched : goal.returns-in-Ok-clause-watched
+returns-in-Ok-clause-watched g c = rw (← c.wreck.view_is) (unstruck c.wreck.inside.alarm.faults _ c.wreck.inside.alarm.due.items _ c.rings.result c.if-rings.false c.rings.ensures.rings c.rings.ensures.due c.rings.ensures.faults)
+
+pub returns-in-Err-Fault-clause-watched : goal.returns-in-Err-Fault-clause-watched
+returns-in-Err-Fault-clause-watched g c = rw (c.of-in-Err-Fault.ensures, ← c.wreck.view_is) (struck_later c.wreck.inside.alarm.faults _ _ c.wreck.inside.alarm.due.items _ _ c.rings.result c.if-rings.false c.rings.ensures.rings c.rings.ensures.due c.rings.ensures.faults c.fail.ensures.due c.fail.ensures.faults)
+
+pub returns-in-Err-Damaged-clause-watched : goal.returns-in-Err-Damaged-clause-watched
+returns-in-Err-Damaged-clause-watched g c = rw (c.of-in-Err-Damaged.ensures, ← c.wreck.view_is) (struck_later c.wreck.inside.alarm.faults _ _ c.wreck.inside.alarm.due.items _ _ c.rings.result c.if-rings.false c.rings.ensures.rings c.rings.ensures.due c.rings.ensures.faults c.fail-in-Err-Damaged.ensures.due c.fail-in-Err-Damaged.ensures.faults)
+
+pub returns-in-Err-Memory-clause-watched : goal.returns-in-Err-Memory-clause-watched
+returns-in-Err-Memory-clause-watched g c = rw (c.of-in-Err-Memory.ensures, ← c.wreck.view_is) (unstruck c.wreck.inside.alarm.faults _ c.wreck.inside.alarm.due.items _ c.rings.result c.if-rings.false c.rings.ensures.rings c.rings.ensures.due c.rings.ensures.faults)
+
+pub returns-then-rings-clause-cause : goal.returns-then-rings-clause-cause
+returns-then-rings-clause-cause g c = rw (c.of.ensures, ← c.wreck.view_is) (inl (sym c.rings.ensures.rings ∙ c.if-rings.true))
+
+pub of-requires : goal.of-requires
+of-requires g c = c.wreck.invariant
+
+pub of-requires-then-is_err : goal.of-requires-then-is_err
+of-requires-then-is_err g c = λ x now. c.wreck.invariant x (c.crash.ensures.crash x now)

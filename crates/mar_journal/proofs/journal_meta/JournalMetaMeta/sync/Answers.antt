@@ -1,9 +1,10 @@
-use Rattle.std.proofs.Common.{[], ap, arith, map, ◌∙◌, ◌∷◌}
+use Rattle.std.proofs.Common.{Some, [], ap, arith, inl, map, sym, ◌∙◌, ◌∷◌}
 use Rattle.std.proofs.lemmas.List.{nil_from_length}
 use Rattle.mar_store.specs.MemMeta.{values_of}
 use Rattle.mar_journal.specs.MetaRecords.{record_for}
+use Rattle.mar_journal.proofs.ArchiveSteps.{struck, struck_later, unstruck}
 use Rattle.mar_journal.proofs.Bodies.{none_from}
-use Rattle.mar_journal.proofs.MetaSteps.{adds_batch, adds_none, idle_moments, leaves_failed, store_same, store_synced, sync_left, sync_moments}
+use Rattle.mar_journal.proofs.MetaSteps.{adds_batch, adds_none, idle_moments, leaves_failed, store_left, store_same, store_synced, sync_left, sync_moments}
 use Rattle.mar_journal.proofs.journal_meta.JournalMetaMeta.sync.Goals as goal
 
 pub returns-then-rings-clause-done : goal.returns-then-rings-clause-done
@@ -75,3 +76,30 @@ returns-then-is_empty-clause-written g c =
 
 pub returns-in-Ok-append-clause-written : goal.returns-in-Ok-append-clause-written
 returns-in-Ok-append-clause-written g c = rw (← c.self.view_is) (adds_batch g.D.Disk.seen g.D.Disk.may_leave c.self.inside.disk c.append.new.disk c.self.inside.end c.in-Ok-append.end (values_of c.self.inside.values) (values_of c.self.inside.synced) c.self.inside.changed.items c.deref-2.result.now c.self.invariant (c.deref-2.ensures.value ∙ c.in-Ok.ensures.are ∙ ap (map (record_for (values_of c.self.inside.values))) c.deref.ensures.value) (c.in-Ok-append.ensures.done c.self.invariant.records c.self.invariant.settled))
+
+pub returns-then-rings-clause-watched : goal.returns-then-rings-clause-watched
+returns-then-rings-clause-watched g c = rw (c.of.ensures, ← c.self.view_is) (struck c.self.inside.alarm.faults _ c.self.inside.alarm.due.items _ c.rings.result c.if-rings.true c.rings.ensures.rings c.rings.ensures.due c.rings.ensures.faults)
+
+pub returns-then-is_empty-clause-watched : goal.returns-then-is_empty-clause-watched
+returns-then-is_empty-clause-watched g c = rw (← c.self.view_is) (unstruck c.self.inside.alarm.faults _ c.self.inside.alarm.due.items _ c.rings.result c.if-rings.false c.rings.ensures.rings c.rings.ensures.due c.rings.ensures.faults)
+
+pub returns-in-Err-clause-watched : goal.returns-in-Err-clause-watched
+returns-in-Err-clause-watched g c = rw (c.of-in-Err.ensures, ← c.self.view_is) (unstruck c.self.inside.alarm.faults _ c.self.inside.alarm.due.items _ c.rings.result c.if-rings.false c.rings.ensures.rings c.rings.ensures.due c.rings.ensures.faults)
+
+pub returns-in-Ok-append-clause-watched : goal.returns-in-Ok-append-clause-watched
+returns-in-Ok-append-clause-watched g c = rw (← c.self.view_is) (unstruck c.self.inside.alarm.faults _ c.self.inside.alarm.due.items _ c.rings.result c.if-rings.false c.rings.ensures.rings c.rings.ensures.due c.rings.ensures.faults)
+
+pub returns-in-Err-Fault-clause-watched : goal.returns-in-Err-Fault-clause-watched
+returns-in-Err-Fault-clause-watched g c = rw (c.of-in-Err-Fault.ensures, ← c.self.view_is) (struck_later c.self.inside.alarm.faults _ _ c.self.inside.alarm.due.items _ _ c.rings.result c.if-rings.false c.rings.ensures.rings c.rings.ensures.due c.rings.ensures.faults c.fail.ensures.due c.fail.ensures.faults)
+
+pub returns-clause-watched : goal.returns-clause-watched
+returns-clause-watched g c = rw (c.of-in-Err-Memory.ensures, ← c.self.view_is) (unstruck c.self.inside.alarm.faults _ c.self.inside.alarm.due.items _ c.rings.result c.if-rings.false c.rings.ensures.rings c.rings.ensures.due c.rings.ensures.faults)
+
+pub returns-then-rings-clause-cause : goal.returns-then-rings-clause-cause
+returns-then-rings-clause-cause g c = rw (c.of.ensures, ← c.self.view_is) (inl (sym c.rings.ensures.rings ∙ c.if-rings.true))
+
+pub of-requires : goal.of-requires
+of-requires g c = store_left g.D.Disk.seen g.D.Disk.may_leave c.self.inside.disk c.self.inside.end (values_of c.self.inside.values) (values_of c.self.inside.synced) c.self.inside.changed.items (Some (values_of c.self.inside.values)) c.self.invariant
+
+pub of-requires-in-Err : goal.of-requires-in-Err
+of-requires-in-Err g c = store_left g.D.Disk.seen g.D.Disk.may_leave c.self.inside.disk c.self.inside.end (values_of c.self.inside.values) (values_of c.self.inside.synced) c.self.inside.changed.items (Some (values_of c.self.inside.values)) c.self.invariant
