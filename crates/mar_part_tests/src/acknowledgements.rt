@@ -1,4 +1,5 @@
 //! Scripts of calls, and what each call is to answer.
+use crate::tell::*;
 use mar_parts::{Mark, Oldest, PendingAck, PendingAcks};
 use mar_types::Height;
 use std::alloc::Global;
@@ -78,12 +79,11 @@ fn answers(rt: &impl Abort, acks: &mut PendingAcks, call: Call) -> bool {
 fn follow(rt: &impl Abort, alloc: Global, max: usize, calls: &[Call]) {
     let mut acks = PendingAcks::new(alloc, max).expect(rt, "memory");
     for (place, call) in calls.iter().enumerate() {
-        let is_so = answers(rt, &mut acks, *call);
-        assert!(rt; is_so, "call {place}");
+        holds_at(rt, place, answers(rt, &mut acks, *call));
     }
 }
 
-pub const fn ack(ticket: u64, height: u64, mark: Mark) -> PendingAck {
+pub(crate) const fn ack(ticket: u64, height: u64, mark: Mark) -> PendingAck {
     PendingAck {
         ticket,
         height: Height::new(height),
@@ -178,17 +178,15 @@ const MARKS: [(Mark, u64, bool); 4] = [
     (Mark::Dropped, 4, false),
 ];
 
-fn are_unmarked(rows: &[(Mark, u64, bool)]) -> bool {
-    let mut are_so = true;
+fn are_unmarked(rt: &impl Abort, rows: &[(Mark, u64, bool)]) {
     for (mark, ticket, is_unmarked) in rows {
-        are_so = are_so & (ack(4, 6, *mark).is_unmarked(*ticket) == *is_unmarked);
+        same(rt, ack(4, 6, *mark).is_unmarked(*ticket), *is_unmarked);
     }
-    are_so
 }
 
 #[test]
 fn acknowledgements_within_their_window(rt: HostRuntime) {
     follow(&rt, rt.alloc(), 0, &OF_NONE);
     follow(&rt, rt.alloc(), 1, &OF_ONE);
-    assert!(rt; are_unmarked(&MARKS));
+    are_unmarked(&rt, &MARKS);
 }

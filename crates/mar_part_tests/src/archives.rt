@@ -2,6 +2,7 @@
 ghost use Rattle.std.specs.Prelude.{◌≤◌, IfOk};
 
 use crate::ranges::are;
+use crate::tell::*;
 use mar_codec::{Digest, Hasher, Sha256, Sha256Digest};
 use mar_store::{Archive, ArchiveRuin, Identifier, Item, Lost, LuckHalf, MemArchive, Miss};
 use std::alloc::{AllocError, Global};
@@ -211,8 +212,7 @@ fn wrong_in_memory(alloc: Global, half: LuckHalf, calls: &[Call]) -> Option<usiz
 }
 
 fn follow(rt: &impl Abort, alloc: Global, half: LuckHalf, calls: &[Call]) {
-    let wrong = wrong_in_memory(alloc, half, calls);
-    assert!(rt; wrong.is_none(), "call {wrong:?}");
+    none_is_wrong(rt, 0, wrong_in_memory(alloc, half, calls));
 }
 
 const AMPLE_MEMORY: [Call; 21] = [
@@ -313,7 +313,7 @@ const BITS: [BitRow; 10] = [
 ];
 
 fn follow_bits(rt: &impl Abort, alloc: Global, rows: &[BitRow]) {
-    for (half, bit, kept) in rows {
+    for (place, (half, bit, kept)) in rows.iter().enumerate() {
         let calls = [
             Call::Do(PutAll(0, 70)),
             Call::Crash,
@@ -321,8 +321,7 @@ fn follow_bits(rt: &impl Abort, alloc: Global, rows: &[BitRow]) {
             Call::Held(*kept),
             Call::Sure(*kept),
         ];
-        let wrong = wrong_in_memory(alloc, *half, &calls);
-        assert!(rt; wrong.is_none(), "bit {bit}, call {wrong:?}");
+        none_is_wrong(rt, place, wrong_in_memory(alloc, *half, &calls));
     }
 }
 
@@ -354,7 +353,7 @@ const PRUNES: [PruneRow; 9] = [
 
 // Ten values that are sure and fifty more, all below a bound pruned.
 fn follow_prunes(rt: &impl Abort, alloc: Global, rows: &[PruneRow]) {
-    for (half, luck, min, kept) in rows {
+    for (place, (half, luck, min, kept)) in rows.iter().enumerate() {
         let calls = [
             Call::Do(PutAll(0, 10)),
             Call::Do(Sync),
@@ -365,8 +364,7 @@ fn follow_prunes(rt: &impl Abort, alloc: Global, rows: &[PruneRow]) {
             Call::Held(*kept),
             Call::Sure(*kept),
         ];
-        let wrong = wrong_in_memory(alloc, *half, &calls);
-        assert!(rt; wrong.is_none(), "luck {luck} from {min}, call {wrong:?}");
+        none_is_wrong(rt, place, wrong_in_memory(alloc, *half, &calls));
     }
 }
 
@@ -407,7 +405,7 @@ const ALL_AFTER_FAULTS: [FaultRow; 9] = [
 // Two puts and a sync, a third put, a sync that starts, a fourth put before it finishes, and a prune, up to the first of
 // these counted calls that fails.
 fn follow_faults(rt: &impl Abort, alloc: Global, luck: u64, rows: &[FaultRow]) {
-    for (call, kept) in rows {
+    for (place, (call, kept)) in rows.iter().enumerate() {
         let calls = [
             Call::Arm(*call),
             Call::Try(PutAll(0, 2)),
@@ -419,8 +417,7 @@ fn follow_faults(rt: &impl Abort, alloc: Global, luck: u64, rows: &[FaultRow]) {
             Call::Reopen(luck),
             Call::Held(*kept),
         ];
-        let wrong = wrong_in_memory(alloc, LuckHalf::Low, &calls);
-        assert!(rt; wrong.is_none(), "armed {call}, call {wrong:?}");
+        none_is_wrong(rt, place, wrong_in_memory(alloc, LuckHalf::Low, &calls));
     }
 }
 

@@ -49,8 +49,7 @@ fn follow_each(rt: &impl Abort, alloc: Global, scripts: &[&[Call]]) {
 fn follow(rt: &impl Abort, alloc: Global, calls: &[Call]) {
     let mut certified = Certified::new(alloc);
     for (place, call) in calls.iter().enumerate() {
-        let is_so = answers(rt, &mut certified, *call);
-        assert!(rt; is_so, "call {place}");
+        holds_at(rt, place, answers(rt, &mut certified, *call));
     }
 }
 
@@ -125,7 +124,7 @@ fn close(rt: &impl Abort, rows: &[(u64, Option<u64>)]) {
     let epocher = FixedEpocher::new(NonZeroU64::new(11).expect(rt, "zero"));
     for (height, epoch) in rows {
         let closed = closed_epoch(&epocher, Height::new(*height));
-        assert!(rt; is_epoch(closed, *epoch), "at {height}");
+        holds(rt, is_epoch(closed, *epoch));
     }
 }
 

@@ -1,4 +1,5 @@
 //! A depot in memory: scripts of calls.
+use crate::tell::*;
 use mar_store::{Depot, DepotRuin, EmptyStore, Lost, MemDepot, Miss};
 use std::alloc::Global;
 use std::process::Abort;
@@ -119,8 +120,7 @@ fn wrong_in_memory(alloc: Global, calls: &[Call]) -> Option<usize> {
 }
 
 fn follow(rt: &impl Abort, alloc: Global, calls: &[Call]) {
-    let wrong = wrong_in_memory(alloc, calls);
-    assert!(rt; wrong.is_none(), "call {wrong:?}");
+    none_is_wrong(rt, 0, wrong_in_memory(alloc, calls));
 }
 
 const NAMES: [Call; 18] = [

@@ -73,8 +73,7 @@ fn follow(rt: &impl Abort, alloc: Global, calls: &[Call]) {
         adoptions: 0,
     };
     for (place, call) in calls.iter().enumerate() {
-        let is_so = asked.answers(rt, *call);
-        assert!(rt; is_so, "call {place}");
+        holds_at(rt, place, asked.answers(rt, *call));
     }
 }
 

@@ -242,8 +242,7 @@ fn answers(alloc: Global, floors: &mut Floors, call: Call) -> bool {
 
 fn follow(rt: &impl Abort, alloc: Global, floors: &mut Floors, calls: &[Call]) {
     for (place, call) in calls.iter().enumerate() {
-        let is_so = answers(alloc, floors, *call);
-        assert!(rt; is_so, "call {place}");
+        holds_at(rt, place, answers(alloc, floors, *call));
     }
 }
 

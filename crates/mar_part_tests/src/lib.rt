@@ -1,8 +1,11 @@
-//! Tests of stores and of the parts of a node, as scripts of their calls and tables of cases.
+//! Tests of stores, of the parts of a node, and of what callers tell it and are answered, as scripts of calls and tables
+//! of cases.
 #![tactic(auto)]
 
 #[cfg(test)]
 mod acknowledgements;
+#[cfg(test)]
+mod answers;
 #[cfg(test)]
 mod archives;
 #[cfg(test)]
@@ -13,6 +16,8 @@ mod depots;
 mod dispatch_gate;
 #[cfg(test)]
 mod floors;
+#[cfg(test)]
+mod messages;
 #[cfg(test)]
 mod metadata;
 #[cfg(test)]

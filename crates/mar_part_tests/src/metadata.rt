@@ -1,6 +1,7 @@
 //! Metadata in memory: scripts of calls, and which map luck picks.
 ghost use Rattle.std.specs.Prelude.{◌≡◌, ◌≤◌, [], IfOk, length};
 
+use crate::tell::*;
 use mar_store::{Lost, MemMeta, Meta, MetaRuin};
 use std::alloc::Global;
 use std::process::Abort;
@@ -113,8 +114,7 @@ fn wrong_in_memory(alloc: Global, calls: &[Call]) -> Option<usize> {
 }
 
 fn follow(rt: &impl Abort, alloc: Global, calls: &[Call]) {
-    let wrong = wrong_in_memory(alloc, calls);
-    assert!(rt; wrong.is_none(), "call {wrong:?}");
+    none_is_wrong(rt, 0, wrong_in_memory(alloc, calls));
 }
 
 const CHANGES: [Call; 15] = [
@@ -165,7 +165,7 @@ const PICKED: [(u64, u64); 6] = [
 ];
 
 fn follow_picks(rt: &impl Abort, alloc: Global, rows: &[(u64, u64)]) {
-    for (luck, value) in rows {
+    for (place, (luck, value)) in rows.iter().enumerate() {
         let calls = [
             Call::Put(1, 10),
             Call::Sync,
@@ -175,8 +175,7 @@ fn follow_picks(rt: &impl Abort, alloc: Global, rows: &[(u64, u64)]) {
             Call::Reopen(*luck),
             Call::Get(1, Some(*value)),
         ];
-        let wrong = wrong_in_memory(alloc, &calls);
-        assert!(rt; wrong.is_none(), "luck {luck}, call {wrong:?}");
+        none_is_wrong(rt, place, wrong_in_memory(alloc, &calls));
     }
 }
 

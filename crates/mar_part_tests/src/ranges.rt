@@ -5,7 +5,7 @@ use std::alloc::Global;
 use std::process::Abort;
 
 // Whether the ranges have those ends.
-pub fn are(ranges: &RangeSet, want: &[(u64, u64)]) -> bool {
+pub(crate) fn are(ranges: &RangeSet, want: &[(u64, u64)]) -> bool {
     let ranges = ranges.as_slice();
     let mut are_so = ranges.len() == want.len();
     for (range, (from, to)) in ranges.iter().zip(want) {
@@ -40,9 +40,9 @@ const ROWS: [Row; 3] = [
 fn make_ranges(rt: &impl Abort, alloc: Global, rows: &[Row]) {
     for (heights, ranges) in rows {
         let set = set_of(rt, alloc, heights);
-        assert!(rt; are(&set, ranges), "{heights:?}");
-        assert!(rt; are(&given(rt, set.try_clone()), ranges), "{heights:?}");
-        assert!(rt; set.is_empty() == heights.is_empty(), "{heights:?}");
+        holds(rt, are(&set, ranges));
+        holds(rt, are(&given(rt, set.try_clone()), ranges));
+        same(rt, set.is_empty(), heights.is_empty());
     }
 }
 
@@ -57,13 +57,16 @@ const fn span(from: u64, to: u64) -> HeightSpan {
 
 #[test]
 fn values_are_told_apart(rt: HostRuntime) {
-    assert!(rt; differs(&SyncTicket::new(4), &[SyncTicket::new(5)]));
-    assert!(rt; differs(&LuckHalf::Low, &[LuckHalf::High]));
-    assert!(rt; differs(&Miss::Fault, &[Miss::Memory]));
-    assert!(rt; differs(&span(4, 6), &[span(5, 6), span(4, 7), span(6, 4)]));
-    let others = [Identifier::Index(5), Identifier::Key(4u64)];
-    assert!(rt; differs(&Identifier::Index(4), &others));
-    let others = [Identifier::Key(5), Identifier::Index(4)];
-    assert!(rt; differs(&Identifier::Key(4u64), &others));
+    are_apart(&rt, &[SyncTicket::new(4), SyncTicket::new(5)]);
+    are_apart(&rt, &[LuckHalf::Low, LuckHalf::High]);
+    are_apart(&rt, &[Miss::Fault, Miss::Memory]);
+    are_apart(&rt, &[span(4, 6), span(5, 6), span(4, 7), span(6, 4)]);
+    let identifiers = [
+        Identifier::Index(4),
+        Identifier::Index(5),
+        Identifier::Key(4u64),
+        Identifier::Key(5),
+    ];
+    are_apart(&rt, &identifiers);
     debugs(&rt, rt.alloc(), &Miss::Fault, "Fault");
 }

@@ -29,7 +29,7 @@ fn answers(rt: &impl Abort, staged: &mut Staged<u64>, call: Call) -> bool {
 fn follow(rt: &impl Abort, alloc: Global, calls: &[Call]) {
     let mut staged = Staged::new(alloc, 2);
     for (place, call) in calls.iter().enumerate() {
-        assert!(rt; answers(rt, &mut staged, *call), "call {place}");
+        holds_at(rt, place, answers(rt, &mut staged, *call));
     }
 }
 

@@ -66,8 +66,7 @@ fn tells(stream: &Kept, call: Call) -> bool {
 fn follow(rt: &impl Abort, mut stream: Kept, calls: &[Call]) -> Kept {
     for (place, call) in calls.iter().enumerate() {
         stream = after(stream, *call).expect(rt, "a call");
-        let is_so = tells(&stream, *call);
-        assert!(rt; is_so, "call {place}");
+        holds_at(rt, place, tells(&stream, *call));
     }
     stream
 }
@@ -117,7 +116,7 @@ fn a_stream_lasts_from_a_sync_on(rt: HostRuntime) {
     same(&rt, stream.next_height(), Height::zero());
     let wreck = follow(&rt, stream, &SYNCED).wreck();
     same(&rt, synced_height(&wreck), Some(Height::new(4)));
-    assert!(rt; synced_cutoff(&wreck) == cutoff_of((3, Some(9))));
+    same(&rt, synced_cutoff(&wreck), cutoff_of((3, Some(9))));
 }
 
 type Progressed = Progress<MemMeta, Sha256Digest, MockFinalization>;

@@ -158,8 +158,7 @@ fn go_on<B: Buffer<StandardBlocks>>(
         if let Call::Insert(named, ticket) = *call {
             given(rt, insert(waits, name_of(rt, alloc, named), ticket, buffer));
         }
-        let is_so = answers(rt, alloc, waits, *call);
-        assert!(rt; is_so, "call {place}");
+        holds_at(rt, place, answers(rt, alloc, waits, *call));
     }
 }
 

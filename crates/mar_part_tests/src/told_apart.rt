@@ -5,44 +5,38 @@ use mar_parts::*;
 use std::alloc::Global;
 use std::cmp::Ordering;
 use std::process::Abort;
-use std::slice;
 
-fn one() -> PendingAck {
-    ack(1, 11, Mark::Given)
+fn acks() -> [PendingAck; 5] {
+    [
+        ack(1, 11, Mark::Given),
+        ack(2, 11, Mark::Given),
+        ack(1, 12, Mark::Given),
+        ack(1, 11, Mark::Waiting),
+        ack(1, 11, Mark::Dropped),
+    ]
 }
 
-const OTHERS: [(u64, u64, Mark); 4] = [
-    (2, 11, Mark::Given),
-    (1, 12, Mark::Given),
-    (1, 11, Mark::Waiting),
-    (1, 11, Mark::Dropped),
-];
-
-fn olds_differ(oldest: Oldest, other: Oldest) -> bool {
-    differs(&oldest, slice::from_ref(&other))
-}
-
-// Whether an acknowledgement differs from each of these, alone and as the oldest one.
-fn all_differ(rows: &[(u64, u64, Mark)]) -> bool {
-    let mut are_so = true;
-    for (ticket, height, mark) in rows {
-        let other = ack(*ticket, *height, *mark);
-        are_so = are_so
-            & differs(&one(), slice::from_ref(&other))
-            & olds_differ(Oldest::Given(one()), Oldest::Given(other))
-            & olds_differ(Oldest::Dropped(one()), Oldest::Dropped(other));
-    }
-    are_so
+fn oldest() -> [Oldest; 11] {
+    [
+        Oldest::Unresolved,
+        Oldest::Given(ack(1, 11, Mark::Given)),
+        Oldest::Given(ack(2, 11, Mark::Given)),
+        Oldest::Given(ack(1, 12, Mark::Given)),
+        Oldest::Given(ack(1, 11, Mark::Waiting)),
+        Oldest::Given(ack(1, 11, Mark::Dropped)),
+        Oldest::Dropped(ack(1, 11, Mark::Given)),
+        Oldest::Dropped(ack(2, 11, Mark::Given)),
+        Oldest::Dropped(ack(1, 12, Mark::Given)),
+        Oldest::Dropped(ack(1, 11, Mark::Waiting)),
+        Oldest::Dropped(ack(1, 11, Mark::Dropped)),
+    ]
 }
 
 #[test]
 fn acknowledgements_are_told_apart(rt: HostRuntime) {
-    assert!(rt; differs(&Mark::Given, &[Mark::Waiting, Mark::Dropped]));
-    assert!(rt; differs(&Mark::Waiting, &[Mark::Dropped]));
-    assert!(rt; all_differ(&OTHERS));
-    assert!(rt; olds_differ(Oldest::Given(one()), Oldest::Unresolved));
-    assert!(rt; olds_differ(Oldest::Given(one()), Oldest::Dropped(one())));
-    assert!(rt; olds_differ(Oldest::Unresolved, Oldest::Dropped(one())));
+    are_apart(&rt, &[Mark::Given, Mark::Waiting, Mark::Dropped]);
+    are_apart(&rt, &acks());
+    are_apart(&rt, &oldest());
 }
 
 #[test]
@@ -61,52 +55,46 @@ fn served(rt: &impl Abort, alloc: Global, by_digest: &[u64], by_commitment: &[u6
     }
 }
 
-// That what is served so differs from what serves 1 and 2 by digest, 3 and 4 by commitment.
-fn serves_others(rt: &impl Abort, alloc: Global, by_digest: &[u64], by_commitment: &[u64]) {
-    let one = served(rt, alloc, &[1, 2], &[3, 4]);
-    let other = served(rt, alloc, by_digest, by_commitment);
-    assert!(rt; differs(&one, slice::from_ref(&other)));
-}
-
 #[test]
 fn what_a_block_serves_is_told_apart(rt: HostRuntime) {
     let alloc = rt.alloc();
-    serves_others(&rt, alloc, &[2, 1], &[3, 4]);
-    serves_others(&rt, alloc, &[1, 2], &[4, 3]);
-    serves_others(&rt, alloc, &[3, 4], &[1, 2]);
+    let all = [
+        served(&rt, alloc, &[1, 2], &[3, 4]),
+        served(&rt, alloc, &[2, 1], &[3, 4]),
+        served(&rt, alloc, &[1, 2], &[4, 3]),
+        served(&rt, alloc, &[3, 4], &[1, 2]),
+    ];
+    are_apart(&rt, &all);
     let nobody = served(&rt, alloc, &[], &[]);
-    debugs(
-        &rt,
-        alloc,
-        &nobody,
-        "Served { by_digest: [], by_commitment: [] }",
-    );
+    let text = "Served { by_digest: [], by_commitment: [] }";
+    debugs(&rt, alloc, &nobody, text);
 }
 
 type Plain = Key<u64, u64>;
 
-// Whether the first comes before the second by every comparison.
-fn ascend(lesser: Plain, greater: Plain) -> bool {
-    lesser < greater
-        && greater > lesser
-        && lesser != greater
-        && lesser.cmp(&greater) == Ordering::Less
-        && greater.partial_cmp(&lesser) == Some(Ordering::Greater)
+// That the first comes before the second by every comparison.
+fn ascend(rt: &impl Abort, lesser: Plain, greater: Plain) {
+    holds(
+        rt,
+        (lesser < greater) & (greater > lesser) & (lesser != greater),
+    );
+    same(rt, lesser.cmp(&greater), Ordering::Less);
+    same(rt, greater.partial_cmp(&lesser), Some(Ordering::Greater));
 }
 
-fn keys_differ(key: Plain, others: &[Plain]) -> bool {
-    differs(&key, others)
-}
+const KEYS: [Plain; 4] = [
+    Key::Digest(8),
+    Key::Digest(9),
+    Key::Commitment(8),
+    Key::Commitment(9),
+];
 
 #[test]
 fn keys_are_told_apart_and_ordered(rt: HostRuntime) {
-    let others = [Key::Digest(9), Key::Commitment(8)];
-    assert!(rt; keys_differ(Key::Digest(8), &others));
-    let others = [Key::Digest(8), Key::Commitment(9)];
-    assert!(rt; keys_differ(Key::Commitment(8), &others));
-    assert!(rt; ascend(Key::Digest(8), Key::Digest(9)));
-    assert!(rt; ascend(Key::Digest(9), Key::Commitment(1)));
-    assert!(rt; ascend(Key::Commitment(1), Key::Commitment(2)));
+    are_apart(&rt, &KEYS);
+    ascend(&rt, Key::Digest(8), Key::Digest(9));
+    ascend(&rt, Key::Digest(9), Key::Commitment(1));
+    ascend(&rt, Key::Commitment(1), Key::Commitment(2));
 }
 
 fn parts_have_laws() {

@@ -27,8 +27,8 @@ fn start(rt: &impl Abort, writes: &mut Writes) {
 fn covers(writes: &Writes, ticket: u64, position: Option<u64>) -> bool {
     match writes.find(ticket) {
         Some(sync) => {
-            let is_same = sync.ticket == ticket && Some(sync.position) == position;
-            is_same && sync.blocks.number() == 10 && sync.certs.number() == 20
+            let is_same = (sync.ticket == ticket) & (Some(sync.position) == position);
+            is_same & (sync.blocks.number() == 10) & (sync.certs.number() == 20)
         }
         None => position.is_none(),
     }
@@ -56,8 +56,7 @@ fn follow_each(rt: &impl Abort, alloc: Global, scripts: &[&[Call]]) {
 fn follow(rt: &impl Abort, alloc: Global, calls: &[Call]) {
     let mut writes = Writes::new(alloc);
     for (place, call) in calls.iter().enumerate() {
-        let is_so = answers(rt, &mut writes, *call);
-        assert!(rt; is_so, "call {place}");
+        holds_at(rt, place, answers(rt, &mut writes, *call));
     }
 }
 

@@ -6,7 +6,7 @@ use std::alloc::{AllocError, Global};
 use std::fmt::{Debug, Display};
 
 // The value and the bytes that spell it.
-pub fn spelled<T: Write + Debug>(alloc: Global, value: &T) -> Result<String, AllocError> {
+pub(crate) fn spelled<T: Write + Debug>(alloc: Global, value: &T) -> Result<String, AllocError> {
     let mut buf = BytesMut::new(alloc);
     value.write(&mut buf)?;
     let text = hex::encode(alloc, buf.as_slice())?;
@@ -14,7 +14,7 @@ pub fn spelled<T: Write + Debug>(alloc: Global, value: &T) -> Result<String, All
 }
 
 // The value that these bytes spell under the configuration and the bytes that spell it, or why they are refused.
-pub fn told_by<T: Read + Debug>(
+pub(crate) fn told_by<T: Read + Debug>(
     alloc: Global,
     bytes: &[u8],
     cfg: &T::Cfg,
@@ -26,12 +26,15 @@ pub fn told_by<T: Read + Debug>(
 }
 
 // The same of what needs no configuration.
-pub fn told<T: Read<Cfg = ()> + Debug>(alloc: Global, bytes: &[u8]) -> Result<String, AllocError> {
+pub(crate) fn told<T: Read<Cfg = ()> + Debug>(
+    alloc: Global,
+    bytes: &[u8],
+) -> Result<String, AllocError> {
     told_by::<T>(alloc, bytes, &())
 }
 
 // The same of a value that is printed in both ways.
-pub fn shown<T: Read<Cfg = ()> + Debug + Display>(
+pub(crate) fn shown<T: Read<Cfg = ()> + Debug + Display>(
     alloc: Global,
     bytes: &[u8],
 ) -> Result<String, AllocError> {
@@ -45,7 +48,7 @@ pub fn shown<T: Read<Cfg = ()> + Debug + Display>(
 }
 
 // Whether the value is written as the bytes that it was read from.
-pub fn is_spelled_by<T: Write>(
+pub(crate) fn is_spelled_by<T: Write>(
     alloc: Global,
     value: &T,
     bytes: &[u8],

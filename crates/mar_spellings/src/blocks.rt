@@ -16,7 +16,11 @@ type Mock = MockBlock<Sha256Digest, UInt>;
 
 /// What is told of bytes under a name: `block` or `mock_block`, or that a mock block is expected under a commitment:
 /// `trusted` or `untrusted`, with `/` and the commitment.
-pub fn told_as(alloc: Global, name: &str, bytes: &[u8]) -> Option<Result<String, AllocError>> {
+pub(crate) fn told_as(
+    alloc: Global,
+    name: &str,
+    bytes: &[u8],
+) -> Option<Result<String, AllocError>> {
     match name {
         "block" => Some(empty_block(alloc, bytes)),
         "mock_block" => Some(mock_block(alloc, bytes)),

@@ -5,6 +5,7 @@ use mar_cert::{
     Subject, verify_certificates,
 };
 use mar_codec::{Decode, Digest, Encode, EncodeSize, Error, Sha256Digest, read_front};
+use mar_types::{Epoch, Round};
 use std::alloc::{AllocError, Global};
 
 // No certificate that is told of takes more bytes.
@@ -12,7 +13,11 @@ const LONGEST: usize = 4096;
 
 /// What is told of bytes under a name: `proposal`, or `certificate`, `notarization`, `finalization`, `batch` and
 /// `changed`, each with `/` and a number of members.
-pub fn told_as(alloc: Global, name: &str, bytes: &[u8]) -> Option<Result<String, AllocError>> {
+pub(crate) fn told_as(
+    alloc: Global,
+    name: &str,
+    bytes: &[u8],
+) -> Option<Result<String, AllocError>> {
     if name == "proposal" {
         return Some(proposal(alloc, bytes));
     }
@@ -70,6 +75,17 @@ fn certificate(alloc: Global, bytes: &[u8], members: u32) -> Result<String, Allo
     }
 }
 
+// What a certificate that was read tells of itself.
+#[derive(Drop)]
+struct Told {
+    round: Round,
+    epoch: Epoch,
+    size: usize,
+    most: usize,
+    spelled: &'static str,
+    verdict: &'static str,
+}
+
 fn notarization(alloc: Global, bytes: &[u8], scheme: MockScheme) -> Result<String, AllocError> {
     let read = match MockNotarization::decode_cfg(alloc, bytes, &scheme.members()) {
         Ok(read) => read,
@@ -78,17 +94,18 @@ fn notarization(alloc: Global, bytes: &[u8], scheme: MockScheme) -> Result<Strin
     if read.certificate.encode_size() > LONGEST {
         return "too long".to_string(alloc);
     }
-    let (round, epoch, size) = (read.round(), read.epoch(), read.encode_size());
-    let most = MockNotarization::max_encode_size::<MockScheme>(scheme.members());
-    let spelled = is_spelled_by(alloc, &read, bytes)?;
-    let verdict = verdict(read.verify(&Scoped::scheme(scheme)));
+    let told = Told {
+        round: read.round(),
+        epoch: read.epoch(),
+        size: read.encode_size(),
+        most: MockNotarization::max_encode_size::<MockScheme>(scheme.members()),
+        spelled: is_spelled_by(alloc, &read, bytes)?,
+        verdict: verdict(read.verify(&Scoped::scheme(scheme))),
+    };
     let subject = Subject::Notarize {
         proposal: read.proposal.copy(),
     };
-    let judged = judged(alloc, scheme, &subject, &read.certificate)?;
-    format!(in alloc;
-        "{judged}; {round} of epoch {epoch}, {size} of {most} bytes, {spelled}, {verdict}"
-    )
+    judged(alloc, scheme, &subject, &read.certificate, &told)
 }
 
 fn finalization(alloc: Global, bytes: &[u8], scheme: MockScheme) -> Result<String, AllocError> {
@@ -99,17 +116,18 @@ fn finalization(alloc: Global, bytes: &[u8], scheme: MockScheme) -> Result<Strin
     if read.certificate.encode_size() > LONGEST {
         return "too long".to_string(alloc);
     }
-    let (round, epoch, size) = (read.round(), read.epoch(), read.encode_size());
-    let most = MockFinalization::max_encode_size::<MockScheme>(scheme.members());
-    let spelled = is_spelled_by(alloc, &read, bytes)?;
-    let verdict = verdict(read.verify(&Scoped::scheme(scheme)));
+    let told = Told {
+        round: read.round(),
+        epoch: read.epoch(),
+        size: read.encode_size(),
+        most: MockFinalization::max_encode_size::<MockScheme>(scheme.members()),
+        spelled: is_spelled_by(alloc, &read, bytes)?,
+        verdict: verdict(read.verify(&Scoped::scheme(scheme))),
+    };
     let subject = Subject::Finalize {
         proposal: read.proposal.copy(),
     };
-    let judged = judged(alloc, scheme, &subject, &read.certificate)?;
-    format!(in alloc;
-        "{judged}; {round} of epoch {epoch}, {size} of {most} bytes, {spelled}, {verdict}"
-    )
+    judged(alloc, scheme, &subject, &read.certificate, &told)
 }
 
 fn verdict(is_verified: bool) -> &'static str {
@@ -120,12 +138,14 @@ fn verdict(is_verified: bool) -> &'static str {
     }
 }
 
-// The subject, how many sign of how many and how many suffice, the sizes of both parts and the committee's verdict.
+// The subject, how many sign of how many and how many suffice, the sizes of both parts, the committee's verdict, and
+// what the certificate tells.
 fn judged(
     alloc: Global,
     scheme: MockScheme,
     subject: &Subject<Sha256Digest>,
     certificate: &MockCertificate,
+    told: &Told,
 ) -> Result<String, AllocError> {
     let bytes = certificate.encode(alloc)?;
     let scoped = Scoped::scheme(scheme);
@@ -135,9 +155,16 @@ fn judged(
     };
     let (signers, members, quorum) = (certificate.signers.len(), scheme.members(), scheme.quorum());
     let (size, more) = (subject.proposal().encode_size(), bytes.len());
+    let told = parts(alloc, told)?;
     format!(in alloc;
-        "{subject:?} {size} + {more} bytes, {signers} of {members} where {quorum} suffice: {verdict}"
+        "{subject:?} {size} + {more} bytes, {signers} of {members} where {quorum} suffice: {verdict}; {told}"
     )
+}
+
+fn parts(alloc: Global, told: &Told) -> Result<String, AllocError> {
+    let (round, epoch, size, most) = (told.round, told.epoch, told.size, told.most);
+    let (spelled, verdict) = (told.spelled, told.verdict);
+    format!(in alloc; "{round} of epoch {epoch}, {size} of {most} bytes, {spelled}, {verdict}")
 }
 
 // Whether a committee verifies a certificate over a subject, read by its own reader and by that of any committee.

@@ -5,15 +5,23 @@ use mar_codec::{
 };
 use std::alloc::{AllocError, Global};
 
-// The digest of this message so many times, each time in two pieces.
-fn digest_of(message: &[u8], times: u64) -> Sha256Digest {
+// The digest of this message so many times, each time in two pieces, through the bound.
+fn digest_of<H: Hasher>(message: &[u8], times: u64) -> H::Digest {
     let (first, second) = message.split_at(message.len() / 2);
-    let mut hasher = Sha256::new();
+    let mut hasher = H::new();
     for _ in 0..times {
         hasher.update(first);
         hasher.update(second);
     }
     hasher.finalize()
+}
+
+// The digest that is written so in hexadecimal.
+fn digest_from(alloc: Global, text: &[u8]) -> Result<String, AllocError> {
+    match Sha256Digest::from_hex(text) {
+        Some(digest) => spelled(alloc, &digest),
+        None => "no digest".to_string(alloc),
+    }
 }
 
 // The member whose place these bytes spell, in both ways of printing.
@@ -66,7 +74,11 @@ fn list(alloc: Global, bytes: &[u8]) -> Result<String, AllocError> {
 }
 
 /// What is said of these bytes as a value of mar_codec, if the name is one of its types.
-pub fn told_as(alloc: Global, name: &str, bytes: &[u8]) -> Option<Result<String, AllocError>> {
+pub(crate) fn told_as(
+    alloc: Global,
+    name: &str,
+    bytes: &[u8],
+) -> Option<Result<String, AllocError>> {
     Some(match name {
         "uint" => told::<UInt>(alloc, bytes),
         "u8" => told::<u8>(alloc, bytes),
@@ -80,8 +92,9 @@ pub fn told_as(alloc: Global, name: &str, bytes: &[u8]) -> Option<Result<String,
         "error" => error(alloc, bytes),
         "list" => list(alloc, bytes),
         "digest" => shown::<Sha256Digest>(alloc, bytes),
-        "sha256" => spelled(alloc, &digest_of(bytes, 1)),
-        "sha256/1000" => spelled(alloc, &digest_of(bytes, 1000)),
+        "from_hex" => digest_from(alloc, bytes),
+        "sha256" => spelled(alloc, &digest_of::<Sha256>(bytes, 1)),
+        "sha256/1000" => spelled(alloc, &digest_of::<Sha256>(bytes, 1000)),
         _ => return None,
     })
 }

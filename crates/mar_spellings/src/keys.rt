@@ -13,7 +13,11 @@ fn spelled(alloc: Global, key: &Key<Sha256Digest>) -> Result<String, AllocError>
     format!(in alloc; "{key} {key:?} {text}")
 }
 
-pub fn told_as(alloc: Global, name: &str, bytes: &[u8]) -> Option<Result<String, AllocError>> {
+pub(crate) fn told_as(
+    alloc: Global,
+    name: &str,
+    bytes: &[u8],
+) -> Option<Result<String, AllocError>> {
     if name != "key" {
         return None;
     }

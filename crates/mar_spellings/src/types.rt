@@ -31,15 +31,17 @@ impl CodingScheme for Scheme {
 
 type Coded = Commitment<Plain, Scheme, Sha256>;
 
-// The parts of the commitment that these bytes spell.
+// The parts of the commitment that these bytes spell, and the one that is made of them.
 fn parts(alloc: Global, bytes: &[u8]) -> Result<String, AllocError> {
     match Coded::decode_cfg(alloc, bytes, &()) {
         Ok(made) => {
             let block = made.block(alloc);
             let root = made.root(alloc);
             let context = made.context(alloc);
-            let config = spelled(alloc, &made.config(alloc))?;
-            format!(in alloc; "{block} {root} {context} {config}")
+            let config = made.config(alloc);
+            let again = Coded::from((block, root, context, config));
+            let config = spelled(alloc, &config)?;
+            format!(in alloc; "{block} {root} {context} {config}, made as {again}")
         }
         Err(error) => error.to_string(alloc),
     }
@@ -99,7 +101,11 @@ fn place(alloc: Global, length: u64, bytes: &[u8]) -> Result<String, AllocError>
 }
 
 /// What is said of these bytes as a value of mar_types, if the name is one of its types.
-pub fn told_as(alloc: Global, name: &str, bytes: &[u8]) -> Option<Result<String, AllocError>> {
+pub(crate) fn told_as(
+    alloc: Global,
+    name: &str,
+    bytes: &[u8],
+) -> Option<Result<String, AllocError>> {
     Some(match name {
         "epoch" => shown::<Epoch>(alloc, bytes),
         "height" => shown::<Height>(alloc, bytes),

@@ -5,10 +5,8 @@ use crate::tell::*;
 use bytes::BytesMut;
 use mar_block::mocks::{Block as MockBlock, ready};
 use mar_block::*;
-use mar_cert::{MockScheme, Scheme};
-use mar_codec::{
-    Digest, Digestible, Hasher, MaxEncodeSize, Read, Sha256, Sha256Digest, UInt, Write,
-};
+use mar_cert::MockScheme;
+use mar_codec::{Decode, Digest, Digestible, Hasher, MaxEncodeSize, Sha256, Sha256Digest, UInt};
 use mar_types::Height;
 use std::alloc::Global;
 use std::process::Abort;
@@ -18,26 +16,26 @@ pub type Empty = EmptyBlock<Sha256>;
 type Mock = MockBlock<Sha256Digest, UInt>;
 
 // A block upon a parent.
-pub fn block_upon(parent: Sha256Digest, height: u64, timestamp: u64) -> Empty {
+pub(crate) fn block_upon(parent: Sha256Digest, height: u64, timestamp: u64) -> Empty {
     EmptyBlock::new(parent, Height::new(height), timestamp)
 }
 
-pub fn genesis() -> Empty {
+pub(crate) fn genesis() -> Empty {
     block_upon(Sha256Digest::empty(), 0, 0)
 }
 
-pub fn child() -> Empty {
+pub(crate) fn child() -> Empty {
     block_upon(genesis().digest(), 1, 0)
 }
 
-pub fn is_cloned<T: Clone + PartialEq + Drop>(rt: &impl Abort, value: &T) -> bool {
+pub(crate) fn is_cloned<T: Clone + PartialEq + Drop>(rt: &impl Abort, value: &T) -> bool {
     given(rt, value.clone()) == *value
 }
 
 #[test]
 fn blocks_without_content(rt: HostRuntime) {
-    assert!(rt; Empty::default() == genesis());
-    assert!(rt; is_cloned(&rt, &child()));
+    holds(&rt, Empty::default() == genesis());
+    holds(&rt, is_cloned(&rt, &child()));
     child().is_block();
     Empty::spellings();
     same(&rt, Empty::MAX_ENCODE_SIZE, 52);
@@ -53,20 +51,14 @@ fn mock_block(rt: &impl Abort, alloc: Global, row: (u64, u8, u64, u64)) -> Mock 
     given(rt, made)
 }
 
-// What a value's spelling is read as where one bit of this byte is changed.
-fn changed_at<T: Write + Read<Cfg = ()>>(
-    rt: &impl Abort,
-    alloc: Global,
-    value: &T,
-    place: usize,
-) -> T {
+// What a block's spelling is read as where one bit of this byte is changed.
+fn changed_at(rt: &impl Abort, alloc: Global, block: &Mock, place: usize) -> Mock {
     let mut bytes = BytesMut::new(alloc);
-    put(rt, &mut bytes, value);
-    *bytes
-        .as_mut_slice()
-        .get_mut(place)
-        .expect(rt, "no such place") ^= 1;
-    given(rt, whole(alloc, bytes.as_slice()))
+    put(rt, &mut bytes, block);
+    if let Some(byte) = bytes.as_mut_slice().get_mut(place) {
+        *byte ^= 1;
+    }
+    given(rt, Mock::decode_cfg(alloc, bytes.as_slice(), &()))
 }
 
 #[test]
@@ -102,7 +94,7 @@ fn each_part_tells_mock_blocks_apart(rt: HostRuntime) {
 #[test]
 fn mock_blocks_are_copied_and_ready_with_their_digest(rt: HostRuntime) {
     let block = mock_block(&rt, rt.alloc(), (300, 2, 128, 1));
-    assert!(rt; is_cloned(&rt, &block));
+    holds(&rt, is_cloned(&rt, &block));
     let block = mock_block(&rt, rt.alloc(), (7, 2, 0, 0));
     let ready = given(&rt, ready(rt.alloc(), block));
     same(&rt, ready.digest(), ready.inner().digest());
@@ -135,25 +127,18 @@ fn tells<V: WireVariant>(
     digest: &V::Digest,
     parent: &V::Commitment,
 ) {
-    assert!(rt; V::digest(block) == *digest);
-    assert!(rt; V::parent_commitment(block) == *parent);
+    holds(rt, V::digest(block) == *digest);
+    holds(rt, V::parent_commitment(block) == *parent);
 }
 
-// The bounds of a kind of blocks, and whether certificates may sign this payload.
-fn bounds<V: WireVariant, S: Scheme>(scheme: &S, payload: V::Commitment) -> (bool, usize, usize) {
-    let passes = V::check_payload(scheme, payload);
-    let answer = V::max_backfill_block_size(52);
-    (passes, answer, V::max_buffer_payload_size(4, 53))
-}
-
-// That a kind of blocks restores a block, whether or not its digest is known, and tells one parent of both.
-fn restores<V: WireVariant, S: Scheme>(
+// That a kind of blocks restores a block, whether or not its digest is known, and tells one parent of both; that
+// certificates may sign it; and its bounds.
+fn restores<V: WireVariant>(
     rt: &impl Abort,
     alloc: Global,
     stored: V::StoredBlock,
     copy: V::StoredBlock,
     digest: V::Digest,
-    scheme: &S,
 )
     requires { V.Digest.bytes digest ≡ (V.stored stored).digest }
 {
@@ -163,13 +148,14 @@ fn restores<V: WireVariant, S: Scheme>(
     let other = shared_again::<V>(given(rt, V::restore_across(alloc, copy)));
     tells::<V>(rt, &other, &digest, &parent);
     let payload = V::commitment(&block);
-    same(rt, bounds::<V, S>(scheme, payload), (true, 52, 53));
+    holds(rt, V::check_payload(&MockScheme::new(4), payload));
+    same(rt, V::max_backfill_block_size(52), 52);
+    same(rt, V::max_buffer_payload_size(4, 53), 53);
 }
 
 #[test]
 fn standard_blocks(rt: HostRuntime) {
     let block = child();
     let digest = block.digest();
-    let scheme = MockScheme::new(4);
-    restores::<StandardBlocks, MockScheme>(&rt, rt.alloc(), block, child(), digest, &scheme);
+    restores::<StandardBlocks>(&rt, rt.alloc(), block, child(), digest);
 }

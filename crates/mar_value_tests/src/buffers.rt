@@ -10,27 +10,18 @@ use std::alloc::Global;
 use std::process::Abort;
 
 // Whether a block of both names is found by each.
-fn finds<V: Variant, B: Buffer<V>>(rt: &impl Abort, buffer: &B, block: &V::Block) -> bool {
-    let by_digest = given(rt, buffer.find_by_digest(&V::digest(block)));
-    let by_commitment = given(rt, buffer.find_by_commitment(&V::commitment(block)));
-    by_digest.is_some() && by_commitment.is_some()
+fn finds<B: Buffer<StandardBlocks>>(rt: &impl Abort, buffer: &B, block: &Block) -> bool {
+    let name = StandardBlocks::digest(block);
+    let by_digest = given(rt, buffer.find_by_digest(&name));
+    let by_commitment = given(rt, buffer.find_by_commitment(&name));
+    by_digest.is_some() & by_commitment.is_some()
 }
 
 // Whether both kinds of subscriptions to a block are given, each by its name.
-fn subscribes<V: Variant, B: Buffer<V>>(buffer: &B, block: &V::Block) -> bool {
-    let digest = V::digest(block);
-    let commitment = V::commitment(block);
-    buffer.subscribe_by_digest(&digest) == Some(Subscription { name: digest })
-        && buffer.subscribe_by_commitment(&commitment) == Some(Subscription { name: commitment })
-}
-
-fn send<V: Variant, B: Buffer<V>>(
-    rt: &impl Abort,
-    buffer: &mut B,
-    block: V::Block,
-    recipients: Recipients<Participant>,
-) {
-    given(rt, buffer.send(round(2, 7), block, recipients));
+fn subscribes<B: Buffer<StandardBlocks>>(buffer: &B, block: &Block) -> bool {
+    let name = StandardBlocks::commitment(block);
+    let want = Some(Subscription { name });
+    (buffer.subscribe_by_digest(&name) == want) & (buffer.subscribe_by_commitment(&name) == want)
 }
 
 fn peers_of(rt: &impl Abort, alloc: Global, numbers: &[u32]) -> Recipients<Participant> {
@@ -69,6 +60,8 @@ fn block_of(rt: &impl Abort, alloc: Global, number: u64) -> Digested<Empty> {
     given(rt, StandardBlocks::try_clone(&block))
 }
 
+type Block = Digested<Empty>;
+
 type Held = MemBuffer<StandardBlocks>;
 
 const TO_ALL: bool = true;
@@ -91,19 +84,27 @@ enum Call {
     IsOpen(bool),
     Of(u64, Ask),
     OfNone(u64, Ask),
+    // The heights of the blocks that were handed over to send, in order.
+    Sent(&'static [u64]),
+    // The last block was sent in round 7 of epoch 2 to the third peer.
+    LastToThird,
+    // So many blocks are put, and each is found.
+    PutAll(u64),
+    FindsAll(u64),
 }
 
 // Whether a buffer answers as it is to.
-fn is_answered<V: Variant, B: Buffer<V>>(
+fn is_answered<B: Buffer<StandardBlocks>>(
     rt: &impl Abort,
     alloc: Global,
     buffer: &mut B,
-    block: V::Block,
+    block: Block,
     ask: Ask,
 ) -> bool {
     match ask {
         Ask::Send(to) => {
-            send(rt, buffer, block, recipients_of(rt, alloc, to));
+            let recipients = recipients_of(rt, alloc, to);
+            given(rt, buffer.send(round(2, 7), block, recipients));
             true
         }
         Ask::Finds(found) => finds(rt, &*buffer, &block) == found,
@@ -111,38 +112,31 @@ fn is_answered<V: Variant, B: Buffer<V>>(
     }
 }
 
-// The same of the buffer that has nothing.
-fn answers_none(rt: &impl Abort, alloc: Global, block: Digested<Empty>, ask: Ask) -> bool {
-    is_answered::<StandardBlocks, NoBuffer>(rt, alloc, &mut NoBuffer, block, ask)
-}
-
 // Whether a call answers as it is to.
 fn answers(rt: &impl Abort, alloc: Global, buffer: &mut Held, call: Call) -> bool {
     match call {
-        Call::Put(block) => {
-            given(rt, buffer.put(block_of(rt, alloc, block)));
-            true
+        Call::Put(block) => given(rt, buffer.put(block_of(rt, alloc, block))),
+        Call::Close => buffer.close(),
+        Call::IsOpen(is_open) => return buffer.is_open() == is_open,
+        Call::Of(block, ask) => {
+            return is_answered(rt, alloc, buffer, block_of(rt, alloc, block), ask);
         }
-        Call::Close => {
-            buffer.close();
-            true
+        Call::OfNone(block, ask) => {
+            return is_answered(rt, alloc, &mut NoBuffer, block_of(rt, alloc, block), ask);
         }
-        Call::IsOpen(is_open) => buffer.is_open() == is_open,
-        Call::Of(block, ask) => is_answered(rt, alloc, buffer, block_of(rt, alloc, block), ask),
-        Call::OfNone(block, ask) => answers_none(rt, alloc, block_of(rt, alloc, block), ask),
+        Call::Sent(heights) => return sent_at(buffer, heights),
+        Call::LastToThird => is_last_sent(rt, alloc, buffer, round(2, 7)),
+        Call::PutAll(count) => put_all(rt, alloc, buffer, count),
+        Call::FindsAll(count) => find_all(rt, buffer, count),
     }
+    true
 }
 
-fn go_on(rt: &impl Abort, alloc: Global, buffer: &mut Held, calls: &[Call]) {
-    for (place, call) in calls.iter().enumerate() {
-        assert!(rt; answers(rt, alloc, buffer, *call), "call {place}");
-    }
-}
-
-fn follow(rt: &impl Abort, alloc: Global, calls: &[Call]) -> Held {
+fn follow(rt: &impl Abort, alloc: Global, calls: &[Call]) {
     let mut buffer = MemBuffer::new(alloc);
-    go_on(rt, alloc, &mut buffer, calls);
-    buffer
+    for (place, call) in calls.iter().enumerate() {
+        holds_at(rt, place, answers(rt, alloc, &mut buffer, *call));
+    }
 }
 
 // Whether the blocks that a buffer was handed to send have these heights, in order.
@@ -154,29 +148,73 @@ fn sent_at(buffer: &Held, heights: &[u64]) -> bool {
     are_so
 }
 
-const OPEN: [Call; 4] = [
-    Call::Of(CHILD, Ask::Subscribes(true)),
-    Call::Of(CHILD, Ask::Send(TO_ALL)),
-    Call::Of(CHILD, Ask::Send(TO_THIRD)),
-    Call::IsOpen(true),
-];
-
 // That the last block was sent in this round to the third peer.
 fn is_last_sent(rt: &impl Abort, alloc: Global, buffer: &Held, at: Round) {
     let last = buffer.sent().last().expect(rt, "nothing was sent");
     same(rt, last.round, at);
     debugs(rt, alloc, &last.recipients, "Some([Participant(3)])");
-    assert!(rt; is_cloned(rt, &last.recipients));
+    holds(rt, is_cloned(rt, &last.recipients));
 }
+
+// The height and the digest that the commitment names.
+fn place_of<V: Variant>(block: &V::Block) -> (Height, V::Digest) {
+    let digest = V::commitment_to_inner(V::commitment(block));
+    (V::height(block), digest)
+}
+
+fn is_block(found: Option<Block>, block: &Empty) -> bool {
+    let Some(found) = found else {
+        return false;
+    };
+    let (height, digest) = place_of::<StandardBlocks>(&found);
+    (*found.inner() == *block) & (height == block.height) & (digest == block.digest())
+}
+
+// That the block of this height is what is found by each of its names.
+fn is_found_as_put(rt: &impl Abort, buffer: &Held, height: u64) {
+    let block = numbered(height);
+    let name = block.digest();
+    let by_digest = given(rt, buffer.find_by_digest(&name));
+    holds(rt, is_block(by_digest, &block));
+    let by_commitment = given(rt, buffer.find_by_commitment(&name));
+    holds(rt, is_block(by_commitment, &block));
+}
+
+// Puts so many blocks, each of them twice. A block is found from when it is put on, by a buffer in memory alone.
+fn put_all(rt: &impl Abort, alloc: Global, buffer: &mut Held, count: u64) {
+    for height in 0..count {
+        let block = block_of(rt, alloc, height);
+        holds(
+            rt,
+            !finds(rt, &*buffer, &block) & !finds(rt, &NoBuffer, &block),
+        );
+        given(rt, buffer.put(block_of(rt, alloc, height)));
+        given(rt, buffer.put(block_of(rt, alloc, height)));
+        holds(rt, finds(rt, &*buffer, &block));
+    }
+}
+
+fn find_all(rt: &impl Abort, buffer: &Held, count: u64) {
+    for height in 0..count {
+        is_found_as_put(rt, buffer, height);
+    }
+}
+
+const OPEN: [Call; 6] = [
+    Call::Of(CHILD, Ask::Subscribes(true)),
+    Call::Of(CHILD, Ask::Send(TO_ALL)),
+    Call::Of(CHILD, Ask::Send(TO_THIRD)),
+    Call::IsOpen(true),
+    Call::Sent(&[1, 1]),
+    Call::LastToThird,
+];
 
 #[test]
 fn buffers_tell_and_send(rt: HostRuntime) {
-    let buffer = follow(&rt, rt.alloc(), &OPEN);
-    assert!(rt; sent_at(&buffer, &[1, 1]));
-    is_last_sent(&rt, rt.alloc(), &buffer, round(2, 7));
+    follow(&rt, rt.alloc(), &OPEN);
 }
 
-const CLOSED: [Call; 16] = [
+const CLOSED: [Call; 17] = [
     Call::Put(GENESIS),
     Call::Of(GENESIS, Ask::Send(TO_ALL)),
     Call::Of(CHILD, Ask::Send(TO_ALL)),
@@ -193,12 +231,12 @@ const CLOSED: [Call; 16] = [
     Call::Of(CHILD, Ask::Subscribes(false)),
     Call::Of(GENESIS, Ask::Subscribes(false)),
     Call::IsOpen(false),
+    Call::Sent(&[0, 1, 1, 0]),
 ];
 
 #[test]
 fn a_closed_buffer_holds_and_sends(rt: HostRuntime) {
-    let buffer = follow(&rt, rt.alloc(), &CLOSED);
-    assert!(rt; sent_at(&buffer, &[0, 1, 1, 0]));
+    follow(&rt, rt.alloc(), &CLOSED);
 }
 
 const OF_NONE: [Call; 4] = [
@@ -213,67 +251,11 @@ fn no_buffer_has_a_block(rt: HostRuntime) {
     follow(&rt, rt.alloc(), &OF_NONE);
 }
 
-// What is found by each name.
-fn found<V: Variant, B: Buffer<V>>(
-    rt: &impl Abort,
-    buffer: &B,
-    digest: &V::Digest,
-    commitment: &V::Commitment,
-) -> [Option<V::Block>; 2] {
-    [
-        given(rt, buffer.find_by_digest(digest)),
-        given(rt, buffer.find_by_commitment(commitment)),
-    ]
-}
-
-// The height and the digest that the commitment names.
-fn place_of<V: Variant>(block: &V::Block) -> (Height, V::Digest) {
-    let digest = V::commitment_to_inner(V::commitment(block));
-    (V::height(block), digest)
-}
-
-fn is_block(found: Option<Digested<Empty>>, block: &Empty) -> bool {
-    let Some(found) = found else {
-        return false;
-    };
-    let (height, digest) = place_of::<StandardBlocks>(&found);
-    *found.inner() == *block && height == block.height && digest == block.digest()
-}
-
-// That the block of this height is what is found by each of its names.
-fn is_found_as_put(rt: &impl Abort, buffer: &Held, height: u64) {
-    let block = numbered(height);
-    let name = block.digest();
-    let [by_digest, by_commitment] = found(rt, buffer, &name, &name);
-    assert!(rt; is_block(by_digest, &block), "{height}");
-    assert!(rt; is_block(by_commitment, &block), "{height}");
-}
-
-// A block is found from when it is put on, by a buffer in memory alone. It is put twice.
-fn putting(height: u64) -> [Call; 5] {
-    [
-        Call::Of(height, Ask::Finds(false)),
-        Call::OfNone(height, Ask::Finds(false)),
-        Call::Put(height),
-        Call::Put(height),
-        Call::Of(height, Ask::Finds(true)),
-    ]
-}
-
-// Puts so many blocks, and finds each of them when all are put.
-fn finds_each(rt: &impl Abort, alloc: Global, count: u64) {
-    let mut buffer = MemBuffer::new(alloc);
-    for height in 0..count {
-        go_on(rt, alloc, &mut buffer, &putting(height));
-    }
-    for height in 0..count {
-        is_found_as_put(rt, &buffer, height);
-    }
-}
+const BY_NAME: [Call; 2] = [Call::PutAll(300), Call::FindsAll(300)];
 
 #[test]
 fn blocks_found_by_name(rt: HostRuntime) {
-    finds_each(&rt, rt.alloc(), 300);
+    follow(&rt, rt.alloc(), &BY_NAME);
 }
 
 fn sending(view: u64, block: Empty, recipients: Recipients<Participant>) -> Sent<Empty> {

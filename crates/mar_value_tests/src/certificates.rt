@@ -1,8 +1,7 @@
 //! Certificates and what they are over: what tells them apart, copies of them, and their laws.
 use crate::tell::*;
-use bytes::BytesMut;
 use mar_cert::*;
-use mar_codec::{Decode, Encode, EncodeSize, Error, Read, Sha256Digest, Write};
+use mar_codec::{Decode, Encode, EncodeSize, Error, Sha256Digest};
 use mar_types::{Epoch, Round, View};
 use std::alloc::{AllocError, Global};
 use std::process::Abort;
@@ -40,7 +39,7 @@ fn each_part_tells_proposals_apart(rt: HostRuntime) {
     are_apart(&rt, &[notarizes(7), finalizes(7), notarizes(8)]);
 }
 
-pub fn signer_of(member: u32, tag: u8) -> Signer {
+pub(crate) fn signer_of(member: u32, tag: u8) -> Signer {
     Signer {
         member,
         tag: Sha256Digest::from([tag; 32]),
@@ -150,10 +149,6 @@ fn copy_of_certificate<C: Certificate>(certificate: &C) -> Result<C, AllocError>
     certificate.try_clone()
 }
 
-fn is_copied(rt: &impl Abort, certificate: &MockCertificate) -> bool {
-    given(rt, copy_of_certificate(certificate)) == *certificate
-}
-
 fn payload_of<F: CommitsTo<Sha256Digest>>(finalization: &F) -> Sha256Digest {
     finalization.payload()
 }
@@ -174,30 +169,25 @@ fn copies_of_finalizations(rt: HostRuntime) {
     let proposal = first_proposal(&rt);
     same(&rt, round_of(&made), proposal.round);
     same(&rt, payload_of(&made), proposal.payload);
-    assert!(rt; given(&rt, copy_of(&made)) == made);
-    assert!(rt; is_copied(&rt, &made.certificate));
+    holds(&rt, given(&rt, copy_of(&made)) == made);
 }
 
-fn read_again<T: Write + Read>(rt: &impl Abort, alloc: Global, made: &T, cfg: &T::Cfg) -> T {
-    let mut bytes = BytesMut::new(alloc);
-    put(rt, &mut bytes, made);
-    given(rt, T::decode_cfg(alloc, bytes.as_slice(), cfg))
-}
-
-fn are_read_again(rt: &impl Abort, alloc: Global, counts: &[u32]) {
+// That certificates of so many members are copied.
+fn are_copied(rt: &impl Abort, alloc: Global, counts: &[u32]) {
     let subject = Subject::Finalize {
         proposal: first_proposal(rt),
     };
     for members in counts {
         let made = certificate_over(rt, alloc, &subject, *members);
-        let read = read_again(rt, alloc, &made, members);
-        assert!(rt; read == made && is_copied(rt, &read), "{members}");
+        holds(rt, given(rt, copy_of_certificate(&made)) == made);
     }
 }
 
+const COUNTS: [u32; 5] = [1, 4, 5, 43, 64];
+
 #[test]
 fn copies_of_certificates_of_all_members(rt: HostRuntime) {
-    are_read_again(&rt, rt.alloc(), &[1, 4, 5, 43, 64]);
+    are_copied(&rt, rt.alloc(), &COUNTS);
 }
 
 #[test]
@@ -212,7 +202,10 @@ fn copies_of_notarizations(rt: HostRuntime) {
         certificate: certificate_over(&rt, rt.alloc(), &subject, 3),
     };
     let copy = given(&rt, made.try_clone());
-    assert!(rt; Activity::Certification(copy) == Activity::Certification(made));
+    holds(
+        &rt,
+        Activity::Certification(copy) == Activity::Certification(made),
+    );
 }
 
 // What is read is a finalization by the definition.
@@ -228,7 +221,7 @@ fn laws_of_mock_certificates(rt: HostRuntime) {
     assert!(rt; made.certificate.encode_size() == 100);
     let bytes = given(&rt, made.encode(rt.alloc()));
     let read = given(&rt, read_of_four(rt.alloc(), bytes.as_slice()));
-    assert!(rt; read == made);
+    holds(&rt, read == made);
     mock_finalizations();
     mock_verdicts();
 }

@@ -2,8 +2,6 @@
 use crate::tell::*;
 use mar_key::{Cutoff, Floor, Processed, Retain, cutoff_laws};
 use mar_types::{Epoch, Height};
-use std::alloc::Global;
-use std::process::Abort;
 
 const fn of_round(epoch: u64, view: u64) -> Cutoff {
     Cutoff::Round(round(epoch, view))
@@ -19,33 +17,34 @@ fn covers(cutoff: Cutoff, epoch: u64, view: u64) -> bool {
 
 #[test]
 fn cutoffs_are_ordered_by_what_they_cover(rt: HostRuntime) {
-    assert!(rt; ascend(of_round(3, u64::MAX), of_epoch(3)));
-    assert!(rt; ascend(of_epoch(3), of_round(4, 0)));
-    assert!(rt; ascend(of_round(2, 0), of_epoch(2)));
-    assert!(rt; covers(Cutoff::zero(), 0, 0));
-    assert!(rt; !covers(Cutoff::zero(), 0, 1));
-    assert!(rt; of_epoch(3).reaches(of_round(3, 7)));
+    ascend(&rt, of_round(3, u64::MAX), of_epoch(3));
+    ascend(&rt, of_epoch(3), of_round(4, 0));
+    ascend(&rt, of_round(2, 0), of_epoch(2));
+    holds(&rt, covers(Cutoff::zero(), 0, 0));
+    holds(&rt, !covers(Cutoff::zero(), 0, 1));
+    holds(&rt, of_epoch(3).reaches(of_round(3, 7)));
     same(&rt, Cutoff::zero().raised_to(of_epoch(3)), of_epoch(3));
-    assert!(rt; hash_of(&Cutoff::zero()) != hash_of(&of_epoch(0)));
+    ascend(&rt, Cutoff::zero(), of_epoch(0));
     cutoff_laws();
-}
-
-fn is_shown(rt: &impl Abort, alloc: Global, cutoff: Cutoff, text: &str) {
-    shows(rt, alloc, &cutoff, text);
 }
 
 #[test]
 fn texts_of_cutoffs(rt: HostRuntime) {
     let alloc = rt.alloc();
-    is_shown(&rt, alloc, of_epoch(3), "3");
-    is_shown(&rt, alloc, of_epoch(u64::MAX), "18446744073709551615");
-    is_shown(&rt, alloc, of_round(2, 40), "(2, 40)");
-    is_shown(
-        &rt,
-        alloc,
-        of_round(u64::MAX, u64::MAX),
-        "(18446744073709551615, 18446744073709551615)",
-    );
+    shows(&rt, alloc, &of_epoch(3), "3");
+    shows(&rt, alloc, &of_epoch(u64::MAX), "18446744073709551615");
+    shows(&rt, alloc, &of_round(2, 40), "(2, 40)");
+    let text = "(18446744073709551615, 18446744073709551615)";
+    shows(&rt, alloc, &of_round(u64::MAX, u64::MAX), text);
+    let keep = Retain::AboveRound(of_epoch(3));
+    debugs(&rt, alloc, &keep, "AboveRound(Epoch(Epoch(3)))");
+    let floor = Floor::new(Some(Processed::Block(Height::new(1))), of_epoch(0));
+    let text = "Floor { processed: Some(Block(Height(1))), cutoff: Epoch(Epoch(0)) }";
+    debugs(&rt, alloc, &floor, text);
+}
+
+fn floor_of(processed: Option<Processed>, view: u64) -> Floor {
+    Floor::new(processed, of_round(1, view))
 }
 
 fn floor() -> Floor {
@@ -68,48 +67,28 @@ fn floors_hold_what_they_are_given(rt: HostRuntime) {
 }
 
 #[test]
-fn texts_of_floors(rt: HostRuntime) {
-    let keep = Retain::AboveRound(of_epoch(3));
-    debugs(&rt, rt.alloc(), &keep, "AboveRound(Epoch(Epoch(3)))");
-    let floor = Floor::new(Some(Processed::Block(Height::new(1))), of_epoch(0));
-    let text = "Floor { processed: Some(Block(Height(1))), cutoff: Epoch(Epoch(0)) }";
-    debugs(&rt, rt.alloc(), &floor, text);
-}
-
-fn floor_of(processed: Option<Processed>, view: u64) -> Floor {
-    Floor::new(processed, of_round(1, view))
-}
-
-#[test]
-fn each_part_of_a_floor_tells(rt: HostRuntime) {
+fn each_part_of_a_floor_or_a_retain_tells(rt: HostRuntime) {
     let (low, high) = (Height::new(4), Height::new(5));
-    let others = [
+    let processed = [
+        Processed::Absent(low),
         Processed::Block(low),
         Processed::Block(high),
         Processed::Absent(high),
     ];
-    assert!(rt; differs(&Processed::Absent(low), &others));
-    assert!(rt; differs(&Processed::Block(low), &[Processed::Block(high)]));
-    let others = [
+    are_apart(&rt, &processed);
+    let floors = [
+        floor_of(Some(Processed::Block(low)), 8),
         floor_of(None, 8),
         floor_of(Some(Processed::Absent(low)), 8),
         floor_of(Some(Processed::Block(low)), 9),
     ];
-    let floor = floor_of(Some(Processed::Block(low)), 8);
-    assert!(rt; differs(&floor, &others));
-}
-
-#[test]
-fn each_part_of_a_retain_tells(rt: HostRuntime) {
-    let low = Retain::AboveHeight(Height::new(4));
-    let others = [
-        Retain::AboveHeight(Height::new(5)),
+    are_apart(&rt, &floors);
+    let retains = [
+        Retain::AboveHeight(low),
+        Retain::AboveHeight(high),
         Retain::AboveRound(of_epoch(4)),
-    ];
-    assert!(rt; differs(&low, &others));
-    let others = [
         Retain::AboveRound(of_epoch(5)),
         Retain::AboveRound(of_round(4, 0)),
     ];
-    assert!(rt; differs(&Retain::AboveRound(of_epoch(4)), &others));
+    are_apart(&rt, &retains);
 }

@@ -37,8 +37,8 @@ const fn by_round(epoch: u64, view: u64) -> Annotation {
     })
 }
 
-// Whether the height 6 bounds it, or else the round of view 7 in epoch 2; with whether it asks for a finalized block,
-// and its text.
+// That the height 6 bounds it, or else the round of view 7 in epoch 2; with whether it asks for a finalized block, and
+// its text.
 fn is_bound(
     rt: &impl Abort,
     alloc: Global,
@@ -50,10 +50,10 @@ fn is_bound(
     let at = Height::new(6);
     same(rt, annotation.is_finalized(), finalized);
     same(rt, annotation.is_at_or_below(at), by_a_height);
-    assert!(rt; !annotation.is_at_or_below(Height::new(5)));
+    holds(rt, !annotation.is_at_or_below(Height::new(5)));
     let cutoff = Cutoff::Round(round(2, 7));
     same(rt, annotation.is_covered_by(cutoff), !by_a_height);
-    assert!(rt; !annotation.is_covered_by(Cutoff::Epoch(Epoch::new(1))));
+    holds(rt, !annotation.is_covered_by(Cutoff::Epoch(Epoch::new(1))));
     same(rt, Retain::AboveHeight(at).denies(&annotation), by_a_height);
     debugs(rt, alloc, &annotation, text);
 }
@@ -73,47 +73,37 @@ fn annotations_are_told_apart(rt: HostRuntime) {
     is_bound(&rt, alloc, by_round(2, 7), false, true, text);
 }
 
-// Whether each comes before the next one, with another hash.
-fn all_ascend(annotations: &[Annotation]) -> bool {
-    let mut ascends = true;
-    for pair in annotations.windows(2) {
-        let [lesser, greater] = *pair else { continue };
-        ascends = ascends && ascend(lesser, greater) && hash_of(&lesser) != hash_of(&greater);
-    }
-    ascends
-}
-
 #[test]
 fn annotations_are_ordered_by_kind_and_then_by_what_they_hold(rt: HostRuntime) {
-    let annotations = [
-        notarization(1, 9),
-        notarization(2, 0),
-        untrusted(255),
-        untrusted(256),
-        certified(255),
-        certified(256),
-        by_height(255),
-        by_height(256),
-        by_round(1, 9),
-        by_round(2, 0),
-    ];
-    assert!(rt; all_ascend(&annotations));
+    ascend(&rt, notarization(1, 9), notarization(2, 0));
+    ascend(&rt, notarization(2, 0), untrusted(255));
+    ascend(&rt, untrusted(255), untrusted(256));
+    ascend(&rt, untrusted(256), certified(255));
+    ascend(&rt, certified(255), certified(256));
+    ascend(&rt, certified(256), by_height(255));
+    ascend(&rt, by_height(255), by_height(256));
+    ascend(&rt, by_height(256), by_round(1, 9));
+    ascend(&rt, by_round(1, 9), by_round(2, 0));
     let height = Height::new(256);
     let round = round(1, 9);
-    assert!(rt; ascend(Finalized::ByHeight { height }, Finalized::ByRound { round }));
+    ascend(
+        &rt,
+        Finalized::ByHeight { height },
+        Finalized::ByRound { round },
+    );
 }
 
 fn lives_by_its_height(rt: &impl Abort, request: Request<u64>) {
-    assert!(rt; request.above_height_floor(Height::new(5)));
-    assert!(rt; !request.above_height_floor(Height::new(6)));
-    assert!(rt; request.above_round_floor(Cutoff::Epoch(Epoch::new(9))));
+    holds(rt, request.above_height_floor(Height::new(5)));
+    holds(rt, !request.above_height_floor(Height::new(6)));
+    holds(rt, request.above_round_floor(Cutoff::Epoch(Epoch::new(9))));
 }
 
 fn lives_by_its_round(rt: &impl Abort, request: Request<u64>) {
-    assert!(rt; request.above_height_floor(Height::new(9)));
-    assert!(rt; request.above_round_floor(Cutoff::Round(round(0, 5))));
-    assert!(rt; !request.above_round_floor(Cutoff::Round(round(0, 6))));
-    assert!(rt; !request.above_round_floor(Cutoff::Epoch(Epoch::zero())));
+    holds(rt, request.above_height_floor(Height::new(9)));
+    holds(rt, request.above_round_floor(Cutoff::Round(round(0, 5))));
+    holds(rt, !request.above_round_floor(Cutoff::Round(round(0, 6))));
+    holds(rt, !request.above_round_floor(Cutoff::Epoch(Epoch::zero())));
 }
 
 #[test]
@@ -131,27 +121,30 @@ fn requests_live_above_their_floors(rt: HostRuntime) {
     debugs(&rt, rt.alloc(), &request, text);
 }
 
-// Whether the request differs from the others, and what is fetched for it from what is fetched for them.
-fn requests_differ(request: Request<u64>, others: &[Request<u64>]) -> bool {
-    let mut is_so = differs(&request, others);
-    let fetch = Fetch::from(request);
-    for other in others {
-        is_so = is_so && differs(&fetch, &[Fetch::from(*other)]);
-    }
-    is_so
-}
-
-#[test]
-fn each_part_of_a_request_tells(rt: HostRuntime) {
+// The first three differ in the annotation alone.
+fn requests() -> [Request<u64>; 5] {
     let (low, high) = (Height::new(4), Height::new(5));
-    // The first two differ from the request in the annotation alone.
-    let others = [
+    [
+        Request::certified(1, low),
         Request::untrusted(1, low),
         Request::certified(1, high),
         Request::certified(2, low),
         Request::finalized(low),
+    ]
+}
+
+#[test]
+fn each_part_of_a_request_tells(rt: HostRuntime) {
+    are_apart(&rt, &requests());
+    let [one, two, three, four, five] = requests();
+    let fetches = [
+        Fetch::from(one),
+        Fetch::from(two),
+        Fetch::from(three),
+        Fetch::from(four),
+        Fetch::from(five),
     ];
-    assert!(rt; requests_differ(Request::certified(1, low), &others));
+    are_apart(&rt, &fetches);
 }
 
 fn judged_of(ticket: u64, height: u64, outcome: Outcome) -> Judged<u64> {
@@ -166,14 +159,15 @@ fn judged_of(ticket: u64, height: u64, outcome: Outcome) -> Judged<u64> {
 
 #[test]
 fn each_part_of_a_judgement_tells(rt: HostRuntime) {
-    let others = [
+    let judgements = [
+        judged_of(0, 4, Outcome::Complete),
         judged_of(1, 4, Outcome::Complete),
         judged_of(0, 5, Outcome::Complete),
         judged_of(0, 4, Outcome::Ignored),
     ];
-    assert!(rt; differs(&judged_of(0, 4, Outcome::Complete), &others));
-    let others = [Outcome::Invalid, Outcome::Ignored];
-    assert!(rt; differs(&Outcome::Complete, &others));
-    assert!(rt; differs(&Outcome::Invalid, &[Outcome::Ignored]));
-    assert!(rt; differs(&Subscription { name: 1u64 }, &[Subscription { name: 2 }]));
+    are_apart(&rt, &judgements);
+    let outcomes = [Outcome::Complete, Outcome::Invalid, Outcome::Ignored];
+    are_apart(&rt, &outcomes);
+    let subscriptions = [Subscription { name: 1u64 }, Subscription { name: 2 }];
+    are_apart(&rt, &subscriptions);
 }

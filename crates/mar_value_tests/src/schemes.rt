@@ -44,8 +44,8 @@ fn members_at(provider: &MockProvider, epoch: u64) -> Option<u32> {
 
 fn gives(rt: &impl Abort, provider: &MockProvider, rows: &[(u64, Option<u32>)]) {
     for (epoch, members) in rows {
-        assert!(rt; members_at(provider, *epoch) == *members, "{epoch}");
-        assert!(rt; is_given(provider, *epoch) == members.is_some(), "{epoch}");
+        same(rt, members_at(provider, *epoch), *members);
+        same(rt, is_given(provider, *epoch), members.is_some());
     }
 }
 
@@ -53,7 +53,8 @@ fn gives(rt: &impl Abort, provider: &MockProvider, rows: &[(u64, Option<u32>)]) 
 fn a_scheme_for_a_range_of_epochs(rt: HostRuntime) {
     gives(&rt, &provider_of(&rt, 4, 2, 3), &GIVEN);
     let first = provider_of(&rt, 4, 0, 0);
-    assert!(rt; is_given(&first, 0) && !is_given(&first, 1));
+    holds(&rt, is_given(&first, 0));
+    holds(&rt, !is_given(&first, 1));
 }
 
 #[test]

@@ -3,15 +3,15 @@ ghost use Rattle.std.specs.Prelude.{IfSome, replicate, ◌≡◌};
 ghost use Rattle.std.specs.Int.NonZero.{non_zero_u16_get};
 
 use crate::tell::*;
-use mar_codec::{Array, Digest, Digestible, FixedSize, Hasher, Sha256, Sha256Digest, Span};
+use mar_codec::{Array, Digest, Digestible, EncodeSize, FixedSize, Hasher, Sha256, Sha256Digest};
 use mar_types::coding::{self, CodingConfig, CodingScheme};
 use mar_types::{COMMITMENT_DIGEST_SIZE, COMMITMENT_SIZE, Commitment};
-use std::alloc::{AllocError, Global};
+use std::alloc::Global;
 use std::convert::AsSlice;
 use std::num::NonZeroU16;
 use std::process::Abort;
 
-pub fn config_of(minimum_shards: u16, extra_shards: u16) -> Option<CodingConfig>
+pub(crate) fn config_of(minimum_shards: u16, extra_shards: u16) -> Option<CodingConfig>
     ensures { IfSome result (λ config. (non_zero_u16_get config.minimum_shards ≡ minimum_shards)
         × (non_zero_u16_get config.extra_shards ≡ extra_shards)) }
 {
@@ -23,7 +23,7 @@ pub fn config_of(minimum_shards: u16, extra_shards: u16) -> Option<CodingConfig>
     })
 }
 
-pub fn config(rt: &impl Abort, minimum_shards: u16, extra_shards: u16) -> CodingConfig {
+pub(crate) fn config(rt: &impl Abort, minimum_shards: u16, extra_shards: u16) -> CodingConfig {
     config_of(minimum_shards, extra_shards).expect(rt, "zero")
 }
 
@@ -68,17 +68,9 @@ fn parts_again(alloc: Global, parts: &Parts, minimum: u16, extra: u16) -> Option
     Some(((block, root, context, config), shards.0, shards.1))
 }
 
-fn text_of<T: Span>(alloc: Global, value: &T) -> Result<String, AllocError> {
-    value.to_string(alloc)
-}
-
 fn size_of_array<T: Array>(value: &T) -> usize {
     value.as_slice().len()
 }
-
-const MADE: &str = "0101010101010101010101010101010101010101010101010101010101010101\
-0202020202020202020202020202020202020202020202020202020202020202\
-030303030303030303030303030303030303030303030303030303030303030301020003";
 
 const DRAWN: &str = "0606060606060606060606060606060606060606060606060606060606060606\
 0707070707070707070707070707070707070707070707070707070707070707\
@@ -88,11 +80,6 @@ const NOTHING: &str = "000000000000000000000000000000000000000000000000000000000
 0000000000000000000000000000000000000000000000000000000000000000\
 000000000000000000000000000000000000000000000000000000000000000000000000";
 
-fn made(rt: &impl Abort) -> Coded {
-    let config = config(rt, 258, 3);
-    Coded::from((Plain.digest(), Sha256::fill(2), Sha256::fill(3), config))
-}
-
 // The word is 5, so there are 5 shards, and 1 in place of 0.
 fn drawn(rt: &impl Abort) -> Parts {
     let config = config(rt, 5, 1);
@@ -100,14 +87,15 @@ fn drawn(rt: &impl Abort) -> Parts {
 }
 
 #[test]
-fn commitments_are_spelled_by_their_parts(rt: HostRuntime) {
-    let alloc = rt.alloc();
-    let made = made(&rt);
-    spells(&rt, alloc, &made, MADE);
-    in_hex(&rt, alloc, made.as_slice(), MADE);
-    same(&rt, size_of_array(&made), COMMITMENT_SIZE);
+fn commitments_have_their_parts(rt: HostRuntime) {
     let drawn = drawn(&rt);
-    same(&rt, parts_again(alloc, &drawn, 5, 1), Some((drawn, 5, 1)));
+    let again = parts_again(rt.alloc(), &drawn, 5, 1);
+    same(&rt, again, Some((drawn, 5, 1)));
+    same(&rt, COMMITMENT_SIZE, 100);
+    same(&rt, COMMITMENT_DIGEST_SIZE, 32);
+    same(&rt, coding::COMMITMENT_SIZE, 100);
+    same(&rt, CodingConfig::SIZE, 4);
+    same(&rt, config(&rt, 258, 3).encode_size(), 4);
 }
 
 // That a digest is drawn as this one, which is printed so, and that the empty one has these bytes.
@@ -123,45 +111,31 @@ fn are_digests<D: Digest + Array + Default>(
         at_each_byte: false,
     };
     let random: D = random_by(&mut words);
-    assert!(rt; random == drawn);
+    holds(rt, random == drawn);
     same(rt, size_of_array(&random), D::SIZE);
-    reads(rt, given(rt, text_of(alloc, &random)).as_str(), text);
-    assert!(rt; D::empty() == D::default());
+    shows(rt, alloc, &random, text);
+    holds(rt, D::empty() == D::default());
     in_hex(rt, alloc, D::empty().as_slice(), nothing);
 }
 
 #[test]
 fn commitments_are_digests(rt: HostRuntime) {
     let drawn = Coded::from(drawn(&rt));
+    same(&rt, drawn.encode_size(), 100);
     are_digests(&rt, rt.alloc(), drawn, DRAWN, NOTHING);
-    same(&rt, COMMITMENT_DIGEST_SIZE, 32);
-    same(&rt, coding::COMMITMENT_SIZE, 100);
+}
+
+fn coded(block: u8, others: u8, config: CodingConfig) -> Coded {
+    let others = Sha256::fill(others);
+    Coded::from((Sha256::fill(block), others, others, config))
 }
 
 #[test]
-fn commitments_are_ordered_by_their_parts(rt: HostRuntime) {
+fn each_part_of_a_commitment_is_ordered_and_hashed(rt: HostRuntime) {
     let (few, many) = (config(&rt, 1, 9), config(&rt, 2, 1));
-    assert!(rt; ascend(few, many));
-    assert!(rt; ascend(config(&rt, 1, 1), config(&rt, 1, 2)));
-    let first = Coded::from((Sha256::fill(1), Sha256::fill(9), Sha256::fill(9), many));
-    let second = Coded::from((Sha256::fill(2), Sha256::fill(0), Sha256::fill(0), few));
-    assert!(rt; ascend(first, second));
-}
-
-#[test]
-fn each_part_of_a_commitment_is_hashed(rt: HostRuntime) {
-    let config_of_two = config(&rt, 2, 3);
-    assert!(rt; hashes_differ(config_of_two, config(&rt, 3, 3)));
-    assert!(rt; hashes_differ(config_of_two, config(&rt, 2, 2)));
-    let (one, two) = (Sha256::fill(1), Sha256::fill(2));
-    let made = Coded::from((one, one, one, config_of_two));
-    assert!(rt; hashes_differ(made, Coded::from((two, one, one, config_of_two))));
-    assert!(rt; hashes_differ(one, two));
-}
-
-#[test]
-fn configs_are_two_numbers(rt: HostRuntime) {
-    let config = config(&rt, 258, 3);
-    spells(&rt, rt.alloc(), &config, "01020003");
-    same(&rt, CodingConfig::SIZE, 4);
+    ascend(&rt, few, many);
+    ascend(&rt, config(&rt, 1, 1), many);
+    ascend(&rt, config(&rt, 1, 1), config(&rt, 1, 2));
+    ascend(&rt, coded(1, 9, many), coded(2, 0, few));
+    ascend(&rt, coded(1, 1, few), coded(2, 1, few));
 }

@@ -30,7 +30,8 @@ fn epochs_and_views_stop_at_their_ends(rt: HostRuntime) {
         View::new(7).saturating_sub(ViewDelta::default()).next(),
         View::new(8),
     );
-    assert!(rt; ViewDelta::zero().is_zero() && View::zero().is_zero());
+    holds(&rt, ViewDelta::zero().is_zero());
+    holds(&rt, View::zero().is_zero());
 }
 
 #[test]

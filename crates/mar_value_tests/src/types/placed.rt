@@ -27,17 +27,22 @@ fn epoch_of<E: Epocher>(epocher: &E, height: u64) -> Option<EpochInfo> {
 // A height, its epoch, the epoch's first and last height, how long it is, how far in the height is, and the phase.
 type Row = (u64, u64, u64, u64, u64, u64, EpochPhase);
 
+fn is_placed(rt: &impl Abort, epocher: &FixedEpocher, row: Row) {
+    let (height, epoch, first, last, length, relative, phase) = row;
+    let info = info_of(epoch, height, first, last);
+    same(rt, epoch_of(epocher, height), Some(info));
+    same(rt, info.epoch().get(), epoch);
+    let (from, at, to) = (info.first().get(), info.height().get(), info.last().get());
+    same(rt, (from, at, to), (first, height, last));
+    assert!(rt; from <= at && from <= to && to < 1000);
+    same(rt, info.length().get(), length);
+    same(rt, info.relative().get(), relative);
+    same(rt, info.phase(), phase);
+}
+
 fn are_placed(rt: &impl Abort, epocher: &FixedEpocher, rows: &[Row]) {
-    for (height, epoch, first, last, length, relative, phase) in rows {
-        let info = info_of(*epoch, *height, *first, *last);
-        same(rt, epoch_of(epocher, *height), Some(info));
-        same(rt, info.epoch().get(), *epoch);
-        let (from, at, to) = (info.first().get(), info.height().get(), info.last().get());
-        same(rt, (from, at, to), (*first, *height, *last));
-        assert!(rt; from <= at && from <= to && to < 1000);
-        same(rt, info.length().get(), *length);
-        same(rt, info.relative().get(), *relative);
-        same(rt, info.phase(), *phase);
+    for row in rows {
+        is_placed(rt, epocher, *row);
     }
 }
 
@@ -74,12 +79,13 @@ fn fixed_epochs_have_their_bounds(rt: HostRuntime) {
 fn each_part_tells_epochs_apart(rt: HostRuntime) {
     let phases = [EpochPhase::Early, EpochPhase::Midpoint, EpochPhase::Late];
     are_apart(&rt, &phases);
-    let others = [
+    let epochs = [
+        info_of(2, 25, 20, 29),
         info_of(1, 25, 20, 29),
         info_of(2, 24, 20, 29),
         info_of(2, 25, 21, 29),
         info_of(2, 25, 20, 28),
     ];
-    assert!(rt; differs(&info_of(2, 25, 20, 29), &others));
-    assert!(rt; differs(&epochs_of(&rt, 10), &[epochs_of(&rt, 11)]));
+    are_apart(&rt, &epochs);
+    are_apart(&rt, &[epochs_of(&rt, 10), epochs_of(&rt, 11)]);
 }

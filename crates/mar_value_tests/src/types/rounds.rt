@@ -4,7 +4,7 @@ ghost use Rattle.mar_types.specs.Round.{round_lt};
 
 use crate::tell::*;
 use bytes::{BufMut, BytesMut};
-use mar_codec::{Error, Read, ReadExt, Span, Write};
+use mar_codec::{EncodeSize, Error, Read, ReadExt, Span, Write};
 use mar_types::{Epoch, Epochable, Height, Round, View, Viewable};
 use std::alloc::{AllocError, Global};
 use std::process::Abort;
@@ -49,13 +49,18 @@ fn reread_height(alloc: Global, height: u64) -> Result<Height, Error>
     reread(alloc, &Height::new(height))
 }
 
-const ASCENDING: [(u64, u64); 5] = [(0, 0), (0, 9), (1, 0), (1, 1), (2, 0)];
+// A round, and one that comes after it.
+const ASCENDING: [(u64, u64, u64, u64); 4] = [
+    (0, 0, 0, 9),
+    (0, 9, 1, 0),
+    (1, 0, 1, 1),
+    (1, 1, 2, 0),
+];
 
-// That each round comes before the next.
-fn follow(rt: &impl Abort, rounds: &[(u64, u64)]) {
-    for pair in rounds.windows(2) {
-        let [(e, v), (f, w)] = *pair else { continue };
-        assert!(rt; comes_before(round(e, v), round(f, w)), "{e} {v}");
+fn follow(rt: &impl Abort, rounds: &[(u64, u64, u64, u64)]) {
+    for (epoch, view, other_epoch, other_view) in rounds {
+        let (earlier, later) = (round(*epoch, *view), round(*other_epoch, *other_view));
+        holds(rt, comes_before(earlier, later));
     }
 }
 
@@ -71,29 +76,8 @@ fn rounds_are_ordered_and_read_back(rt: HostRuntime) {
     same(&rt, reread_height(alloc, 12345), Ok(Height::new(12345)));
 }
 
-const HEIGHTS: [(u64, &str); 4] = [
-    (0, "00"),
-    (12345, "b960"),
-    (67890, "b29204"),
-    (u64::MAX, "ffffffffffffffffff01"),
-];
-
-fn are_spelled(rt: &impl Abort, alloc: Global, heights: &[(u64, &str)]) {
-    for (number, text) in heights {
-        spells(rt, alloc, &Height::new(*number), text);
-    }
-}
-
-#[test]
-fn heights_and_rounds_have_their_sizes(rt: HostRuntime) {
-    let alloc = rt.alloc();
-    are_spelled(&rt, alloc, &HEIGHTS);
-    spells(&rt, alloc, &round(12345, 67890), "b960b29204");
-    let mut rest: &[u8] = b"\xb9\x60\xb2\x92\x04\x07";
-    let read = Round::read_cfg(alloc, &mut rest, &());
-    same(&rt, read, Ok(round(12345, 67890)));
-    in_hex(&rt, alloc, rest, "07");
-}
+// A round, and a byte more.
+const READ: &[u8] = b"\xb9\x60\xb2\x92\x04\x07";
 
 #[test]
 fn rounds_have_their_parts(rt: HostRuntime) {
@@ -104,4 +88,9 @@ fn rounds_have_their_parts(rt: HostRuntime) {
     same(&rt, Viewable::view(&round), view);
     same(&rt, Round::default(), Round::zero());
     same(&rt, Round::zero(), Round::new(Epoch::zero(), View::zero()));
+    same(&rt, round.encode_size(), 5);
+    same(&rt, Height::new(12345).encode_size(), 2);
+    let mut rest = READ;
+    is_next(&rt, rt.alloc(), &mut rest, round);
+    in_hex(&rt, rt.alloc(), rest, "07");
 }

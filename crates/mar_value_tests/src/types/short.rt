@@ -23,7 +23,7 @@ pub struct Short {
 
 impl Short {
     // A slice, since a slice tells of each item that it is a byte.
-    pub fn from_slice(slice: &[u8]) -> Self
+    pub(crate) fn from_slice(slice: &[u8]) -> Self
         requires { length slice.now ≡ 2 }
         ensures { result.bytes ≡ slice.now }
     {

@@ -4,7 +4,7 @@ ghost use Rattle.std.specs.Prelude.{replicate};
 use crate::tell::*;
 use crate::types::commitments::config;
 use crate::types::short::Short;
-use mar_codec::{Decode, Digestible, Error, Hasher, Kind, Reason, Sha256};
+use mar_codec::{Decode, Digestible, Encode, Error, Hasher, Kind, Reason, Sha256};
 use mar_types::Commitment;
 use mar_types::coding::CodingScheme;
 use std::alloc::Global;
@@ -50,15 +50,38 @@ fn refused(alloc: Global, bytes: &[u8]) -> Option<Error> {
     Coded::decode_cfg(alloc, bytes, &()).err()
 }
 
-fn are_refused(rt: &impl Abort, alloc: Global, bytes: &[u8; 100], rows: &[Row]) {
-    for (place, byte, other_place, other_byte, reason) in rows {
-        let mut bad = *bytes;
-        assert!(rt; *place < 100 && *other_place < 100);
-        bad[*place] = *byte;
-        bad[*other_place] = *other_byte;
-        let wanted = Error::Invalid(Kind::Commitment, *reason);
-        assert!(rt; refused(alloc, &bad) == Some(wanted), "at {place}");
+// Whether bytes that are spoiled so are refused for that reason.
+fn is_refused(rt: &impl Abort, alloc: Global, bytes: [u8; 100], row: Row) -> bool {
+    let (place, byte, other_place, other_byte, reason) = row;
+    let mut bad = bytes;
+    assert!(rt; place < 100);
+    bad[place] = byte;
+    assert!(rt; other_place < 100);
+    bad[other_place] = other_byte;
+    refused(alloc, &bad) == Some(Error::Invalid(Kind::Commitment, reason))
+}
+
+fn are_refused(rt: &impl Abort, alloc: Global, bytes: [u8; 100], rows: &[Row]) {
+    for (place, row) in rows.iter().enumerate() {
+        holds_at(rt, place, is_refused(rt, alloc, bytes, *row));
     }
+}
+
+const TEXT: &str = "0101000000000000000000000000000000000000000000000000000000000000\
+0203000000000000000000000000000000000000000000000000000000000000\
+040404040404040404040404040404040404040404040404040404040404040400010001";
+
+// The bytes of a commitment, which are this text and are read as it.
+fn bytes_of(rt: &impl Abort, alloc: Global, made: &Coded) -> [u8; 100] {
+    let text = given(rt, made.encode(alloc));
+    in_hex(rt, alloc, text.as_slice(), TEXT);
+    let mut bytes = [0; 100];
+    bytes.copy_from_slice(made.as_slice());
+    holds(
+        rt,
+        given(rt, Coded::decode_cfg(alloc, bytes.as_slice(), &())) == *made,
+    );
+    bytes
 }
 
 #[test]
@@ -66,11 +89,6 @@ fn the_first_refused_part_gives_the_reason(rt: HostRuntime) {
     let alloc = rt.alloc();
     let root = Short::from_slice(&[2, 3]);
     let made = Coded::from((Tiny.digest(), root, Sha256::fill(4), config(&rt, 1, 1)));
-    let text = "0101000000000000000000000000000000000000000000000000000000000000\
-0203000000000000000000000000000000000000000000000000000000000000\
-040404040404040404040404040404040404040404040404040404040404040400010001";
-    spells(&rt, alloc, &made, text);
-    let mut bytes = [0; 100];
-    bytes.copy_from_slice(made.as_slice());
-    are_refused(&rt, alloc, &bytes, &SPOILED);
+    let bytes = bytes_of(&rt, alloc, &made);
+    are_refused(&rt, alloc, bytes, &SPOILED);
 }

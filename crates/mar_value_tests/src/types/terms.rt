@@ -11,27 +11,36 @@ fn terms_of(rt: &impl Abort, length: u32) -> TermLength {
 // A view, the first and the last of its term, the first of the next term, and its term's number.
 type Place = (u64, u64, u64, u64, u64);
 
+fn has_place(rt: &impl Abort, length: TermLength, place: Place) {
+    let (number, first, last, next, index) = place;
+    let view = View::new(number);
+    same(rt, view.term_start(length).get(), first);
+    same(rt, view.term_index(length), index);
+    same(rt, view.is_term_start(length), number == first);
+    assert!(rt; number < 100);
+    same(rt, view.term_end(length).get(), last);
+    same(rt, view.next_term_start(length).get(), next);
+}
+
 fn have_places(rt: &impl Abort, length: TermLength, places: &[Place]) {
-    for (view, first, last, next, index) in places {
-        let view = View::new(*view);
-        same(rt, view.term_start(length).get(), *first);
-        same(rt, view.term_index(length), *index);
-        same(rt, view.is_term_start(length), view.get() == *first);
-        let small = view.get() < 100;
-        assert!(rt; small);
-        same(rt, view.term_end(length).get(), *last);
-        same(rt, view.next_term_start(length).get(), *next);
+    for place in places {
+        has_place(rt, length, *place);
     }
 }
 
 // A view, another, and whether it admits and covers that.
 type Pair = (u64, u64, bool, bool);
 
+fn leads(rt: &impl Abort, length: TermLength, pair: Pair) {
+    let (view, other, admits, covers) = pair;
+    let (view, other) = (View::new(view), View::new(other));
+    same(rt, view.admits(other, length), admits);
+    same(rt, view.covers(other, length), covers);
+}
+
 fn lead(rt: &impl Abort, length: TermLength, pairs: &[Pair]) {
-    for (view, other, admits, covers) in pairs {
-        let (view, other) = (View::new(*view), View::new(*other));
-        assert!(rt; view.admits(other, length) == *admits, "{view} {other}");
-        assert!(rt; view.covers(other, length) == *covers, "{view} {other}");
+    for pair in pairs {
+        leads(rt, length, *pair);
     }
 }
 
@@ -71,13 +80,14 @@ fn terms_have_their_length(rt: HostRuntime) {
 #[test]
 fn views_of_one_term(rt: HostRuntime) {
     let (three, six) = (terms_of(&rt, 3), View::new(6));
-    assert!(rt; six.same_term(View::new(4), three) && !six.same_term(View::new(7), three));
+    holds(&rt, six.same_term(View::new(4), three));
+    holds(&rt, !six.same_term(View::new(7), three));
     let covering = View::new(8).covering_range(terms_of(&rt, 5));
-    same(&rt, *covering.start(), View::new(6));
+    same(&rt, *covering.start(), six);
     same(&rt, *covering.end(), View::new(8));
     same(&rt, TermLength::default(), TermLength::ONE);
     same(&rt, TermLength::ONE.get(), 1);
     same(&rt, TermLength::MAX.get(), 4294967295);
-    assert!(rt; three != TermLength::ONE);
-    assert!(rt; hash_of(&three) != hash_of(&TermLength::ONE));
+    are_apart(&rt, &[three, TermLength::ONE]);
+    holds(&rt, hash_of(&three) != hash_of(&TermLength::ONE));
 }

@@ -35,16 +35,15 @@ fn is_one(answered: &Answered<u64>, want: (u64, Option<u64>)) -> bool {
         Answer::Value(value) => Some(value),
         Answer::Closed => None,
     };
-    answered.ticket == want.0 && value == want.1
+    (answered.ticket == want.0) & (value == want.1)
 }
 
 fn are(answers: &[Answered<u64>], want: Came) -> bool {
+    let mut are_so = answers.len() == want.len();
     for (answered, want) in answers.iter().zip(want.iter()) {
-        if !is_one(answered, *want) {
-            return false;
-        }
+        are_so = are_so & is_one(answered, *want);
     }
-    answers.len() == want.len()
+    are_so
 }
 
 fn answers(rt: &impl Abort, table: &mut AnswerTable<u64>, call: Call) -> bool {
@@ -70,7 +69,7 @@ fn answers(rt: &impl Abort, table: &mut AnswerTable<u64>, call: Call) -> bool {
 fn follow(rt: &impl Abort, alloc: Global, calls: &[Call]) {
     let mut table = AnswerTable::new(alloc);
     for (place, call) in calls.iter().enumerate() {
-        assert!(rt; answers(rt, &mut table, *call), "call {place}");
+        holds_at(rt, place, answers(rt, &mut table, *call));
     }
 }
 
@@ -144,17 +143,9 @@ fn put_all(rt: &impl Abort, table: &mut AnswerTable<NodeValue>) {
 fn a_node_answers(rt: HostRuntime) {
     let mut table = AnswerTable::new(rt.alloc());
     put_all(&rt, &mut table);
-    same(
-        &rt,
-        matches!(table.poll(0), Standing::Value(Value::None)),
-        true,
-    );
-    same(
-        &rt,
-        matches!(table.poll(1), Standing::Value(Value::True)),
-        true,
-    );
-    same(&rt, matches!(table.poll(2), Standing::Closed), true);
+    holds(&rt, matches!(table.poll(0), Standing::Value(Value::None)));
+    holds(&rt, matches!(table.poll(1), Standing::Value(Value::True)));
+    holds(&rt, matches!(table.poll(2), Standing::Closed));
     same(&rt, table.answers().len(), 4);
     same(&rt, table.take().len(), 4);
 }

@@ -105,12 +105,12 @@ fn is_digest(identifier: Identifier<Sha256Digest>, want: Sha256Digest) -> bool {
 #[test]
 fn a_block_is_asked_by_height_or_by_digest(rt: HostRuntime) {
     let digest = Sha256Digest::empty();
-    same(&rt, is_height(Height::new(7).into(), 7), true);
-    same(&rt, is_digest((&digest).into(), digest), true);
+    holds(&rt, is_height(Height::new(7).into(), 7));
+    holds(&rt, is_digest((&digest).into(), digest));
     let index = mar_store::Identifier::Index(8);
-    same(&rt, is_height(index.into(), 8), true);
+    holds(&rt, is_height(index.into(), 8));
     let key = mar_store::Identifier::Key(digest);
-    same(&rt, is_digest(key.into(), digest), true);
+    holds(&rt, is_digest(key.into(), digest));
 }
 
 #[test]
