@@ -15,6 +15,7 @@ use Rattle.mar_actor.specs.declared.query.Told.TheVariants as told
 use Rattle.mar_actor.specs.declared.reporter.Update.{Update}
 use Rattle.mar_actor.specs.declared.reporter.Update.TheVariants as update
 use Rattle.mar_node.specs.Held.{Sizes}
+use Rattle.mar_actor.specs.declared.settings.Config.{Config}
 use Rattle.mar_actor.specs.declared.settings.Limits.{Limits}
 use Rattle.mar_actor.specs.declared.settings.Start.{Start}
 use Rattle.mar_actor.specs.declared.settings.Start.TheVariants as start
@@ -46,5 +47,10 @@ report_of digest plain (update.Block b ack) = handed_over ack.ticket (plain b)
 abbrev pub begin_of : {B : Type 0} → (B → Block) → Start B → Begin
 begin_of plain (start.Genesis b) = from_genesis (plain b)
 
-abbrev pub sizes_of : Limits → Sizes
-sizes_of l = record { window = l.max_pending_acks; max_repair = l.max_repair; retention = l.view_retention; capacity = l.mailbox_size }
+-- the sizes that an actor is set to
+abbrev pub sizes_of : {P E B C : Type 0} → Config P E B C → Sizes
+sizes_of c = record { window = c.max_pending_acks; max_repair = c.max_repair; retention = c.view_retention; capacity = c.mailbox_size }
+
+-- and those that a life keeps, with this window
+abbrev pub sizes_in : ℕ → Limits → Sizes
+sizes_in window l = record { window = window; max_repair = l.max_repair; retention = l.view_retention; capacity = l.mailbox_size }

@@ -34,7 +34,7 @@
 //! - `start`: the genesis. The same at each opening; another one is refused (`GenesisMismatch`).
 //! - `max_pending_acks`: 1 hands over one block at a time. More hides the time that the application takes for a block, at
 //!   the price of that many repeats after a crash, and of twice as many blocks in memory.
-//! - `mailbox_size`, `max_repair`, `view_retention`: change nothing yet.
+//! - `mailbox_size`, `max_repair`, `view_retention`, `block_codec_config`: change nothing yet.
 //!
 //! # Storage and repair
 //!
@@ -76,4 +76,4 @@ pub use mar_shelf::{
 };
 pub use node::{Actor, Node};
 pub use reporter::{Exact, Reporter, Update};
-pub use settings::{Config, Limits, Start};
+pub use settings::{Config, Start};

@@ -1,7 +1,7 @@
 //! What a life keeps beside its stores.
 ghost use Rattle.std.specs.Prelude.{◌≡◌, []};
 ghost use Rattle.mar_node.specs.Held.{first_life};
-ghost use Rattle.mar_actor.specs.Views.{sizes_of};
+ghost use Rattle.mar_actor.specs.Views.{sizes_in};
 
 use crate::settings::Limits;
 use mar_parts::PendingAcks;
@@ -23,14 +23,14 @@ pub(crate) struct Life<P, E> {
 
 impl<P, E> Model for Life<P, E> {
     ghost use Rattle.mar_node.specs.Held.{Remembered};
-    ghost use Rattle.mar_actor.specs.Views.{sizes_of};
+    ghost use Rattle.mar_actor.specs.Views.{sizes_in};
 
     ghost Value = { Remembered P E };
 
     ghost view = { λ l. record {
       provider = l.provider;
       epocher = l.epocher;
-      sizes = record (sizes_of l.limits) { window = l.acks.max };
+      sizes = sizes_in l.acks.max l.limits;
       out = l.acks.entries;
       tip = l.tip;
       next_ack = l.next_ack;
@@ -41,7 +41,7 @@ impl<P, E> Life<P, E> {
     /// What a life begins with.
     pub(crate) fn new(provider: P, epocher: E, limits: Limits, acks: PendingAcks) -> Self
         requires { acks.entries ≡ [] }
-        ensures { result ≡ first_life provider epocher (record (sizes_of limits) { window = acks.max }) }
+        ensures { result ≡ first_life provider epocher (sizes_in acks.max limits) }
     {
         Life {
             provider,

@@ -10,7 +10,7 @@ use crate::derived::derive;
 use crate::life::Life;
 use crate::node::Node;
 use crate::reopened::begin;
-use crate::settings::Config;
+use crate::settings::{Config, Limits};
 use mar_block::Variant;
 use mar_key::Floor;
 use mar_parts::PendingAcks;
@@ -31,21 +31,21 @@ impl<V: Variant, S: Holds<V>, P: Drop, E: Epocher> Node<V, S, P, E> {
     /// zero, `GenesisMismatch` where another block zero is stored, `Unbacked` where neither the processed block nor the
     /// next one is stored, `Corrupt` where the next block isn't the one that its certificate names, `HeightLimit` where
     /// the last height is processed or stored, and `Memory`.
-    pub fn init(
+    pub fn init<C: Drop>(
         alloc: Global,
         ruins: S::Ruins,
-        config: Config<P, E, V::Block>,
+        config: Config<P, E, V::Block, C>,
         luck: u64,
     ) -> Result<(Self, Floor), Ended<V, S>>
         requires small { IsSmallBegin (begin_of V.plain config.start) }
-        ensures opens { KeepsOpening (E.epochs config.epocher) V.inner (sizes_of config.limits) (S.Ruins.left ruins) luck (begin_of V.plain config.start)
+        ensures opens { KeepsOpening (E.epochs config.epocher) V.inner (sizes_of config) (S.Ruins.left ruins) luck (begin_of V.plain config.start)
             result }
         ensures same_life { IfOk result (λ r. (r.0.life.provider ≡ config.provider) × (r.0.life.epocher ≡ config.epocher)
-            × (r.0.life.sizes ≡ sizes_of config.limits)) }
+            × (r.0.life.sizes ≡ sizes_of config)) }
         ensures watches { IfOk result (λ r. ArePassed (S.Ruins.left ruins).watches r.0.held.watches) }
         ensures cause { IfErr result (λ e. IsEndedBy (S.Ruins.left ruins).watches e) }
         ensures by_value { IfErr result (λ e. IsUsual e.fault ⊎ IsOpeningFault (S.Ruins.left ruins).ended (begin_of V.plain config.start) e.fault) }
-        ensures finds { IfOk result (λ r. IsFound (E.epochs config.epocher) V.inner (sizes_of config.limits) (S.Ruins.left ruins) luck
+        ensures finds { IfOk result (λ r. IsFound (E.epochs config.epocher) V.inner (sizes_of config) (S.Ruins.left ruins) luck
             (begin_of V.plain config.start) r.0) }
         ensures floor { IfOk result (λ r. r.1 ≡ record { processed = r.0.held.processed; cutoff = r.0.held.cutoff }) }
     {
@@ -54,18 +54,27 @@ impl<V: Variant, S: Holds<V>, P: Drop, E: Epocher> Node<V, S, P, E> {
             provider,
             epocher,
             start,
-            limits,
+            mailbox_size,
+            view_retention,
+            block_codec_config: _,
+            max_repair,
+            max_pending_acks,
         } = config;
         let genesis = start.genesis();
-        let Ok(acks) = PendingAcks::new(alloc, limits.max_pending_acks) else {
+        let Ok(acks) = PendingAcks::new(alloc, max_pending_acks) else {
             return Err(Ended {
                 fault: Fault::Memory,
                 ruins,
             });
         };
-        let max_staged = limits.max_pending_acks.saturating_mul(2);
+        let max_staged = max_pending_acks.saturating_mul(2);
         let stores = open_stores::<V, S, E>(alloc, ruins, luck, max_staged, &genesis, &epocher)?;
         let floor = stores.floor().snapshot();
+        let limits = Limits {
+            mailbox_size,
+            max_repair,
+            view_retention,
+        };
         let node = Node {
             stores,
             life: Life::new(provider, epocher, limits, acks),

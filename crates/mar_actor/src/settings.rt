@@ -6,17 +6,12 @@ ghost use Rattle.mar_actor.specs.Views.{begin_of};
 
 use mar_types::ViewDelta;
 
-/// The sizes that an actor keeps to.
-#[derive(Clone, Copy, Debug, PartialEq, Eq)]
-pub struct Limits {
-    /// How many blocks may be handed over and not yet acknowledged; at least 1.
-    pub max_pending_acks: usize,
-    /// How many messages wait in order; at least 1. No message waits yet: each is a step of its own.
-    pub mailbox_size: usize,
-    /// How many missing heights are asked for at once; at least 1. None is asked for by its height yet.
-    pub max_repair: usize,
-    /// How many views below the last witnessed round the cache keeps. There is no cache yet.
-    pub view_retention: ViewDelta,
+/// The sizes that a life keeps beside its window.
+#[derive(Clone, Copy)]
+pub(crate) struct Limits {
+    pub(crate) mailbox_size: usize,
+    pub(crate) max_repair: usize,
+    pub(crate) view_retention: ViewDelta,
 }
 
 /// What a chain begins from, with blocks of the kind `B`.
@@ -39,13 +34,21 @@ impl<B> Start<B> {
 
 /// What an actor is opened with: who gives the schemes of epochs, which heights an epoch has, and the rest.
 #[derive(Drop)]
-pub struct Config<P, E, B> {
+pub struct Config<P, E, B, C> {
     /// Who gives the scheme of an epoch. Nothing is verified with it yet.
     pub provider: P,
     /// Which heights an epoch has.
     pub epocher: E,
     /// What the chain begins from: the same at each opening.
     pub start: Start<B>,
-    /// The sizes.
-    pub limits: Limits,
+    /// How many messages wait in order; at least 1. No message waits yet: each is a step of its own.
+    pub mailbox_size: usize,
+    /// How many views below the last witnessed round the cache keeps. There is no cache yet.
+    pub view_retention: ViewDelta,
+    /// How the bytes of a block are read. No bytes come from peers yet.
+    pub block_codec_config: C,
+    /// How many missing heights are asked for at once; at least 1. None is asked for by its height yet.
+    pub max_repair: usize,
+    /// How many blocks may be handed over and not yet acknowledged; at least 1.
+    pub max_pending_acks: usize,
 }

@@ -30,7 +30,7 @@ pub struct RangeTexts {
 }
 
 impl RangeTexts {
-    /// Of no ranges.
+    /// Of no ranges. No clause speaks of what is kept here, since nothing that is written depends on it.
     pub fn new(alloc: Global) -> Self {
         RangeTexts {
             blocks: RangeText::new(alloc),

@@ -22,7 +22,7 @@ ghost use Rattle.mar_inbox.specs.Views.{query_of};
 ghost use Rattle.marshal.specs.Turn.{fault_in, made_in, open_in, output_of, with_open};
 
 use crate::heard::Heard;
-use mar_actor::{Config, Ended, Event, Fault, Limits, Node, Start, StoreName};
+use mar_actor::{Config, Ended, Event, Fault, Node, Start, StoreName};
 use mar_block::{EmptyBlock, MemBuffer, StandardBlocks};
 use mar_cert::{MockFinalization, MockProvider, MockScheme};
 use mar_codec::{Digested, Sha256, Sha256Digest};
@@ -442,12 +442,12 @@ fn begin<H: Holds<StandardBlocks, Finalization = MockFinalization>>(
 fn setup(
     settings: Settings,
     genesis: Digested<EmptyBlock<Sha256>>,
-) -> Config<MockProvider, FixedEpocher, Digested<EmptyBlock<Sha256>>>
+) -> Config<MockProvider, FixedEpocher, Digested<EmptyBlock<Sha256>>, ()>
     requires { IsSettings settings }
     ensures start { begin_of plain_block result.start ≡ from_genesis (plain_block genesis) }
     ensures epochs { result.epocher.length ≡ settings.epoch_length }
     ensures provider { result.provider ≡ record { members = settings.members; first = settings.first_epoch; last = settings.last_epoch } }
-    ensures sizes { sizes_of result.limits ≡ record {
+    ensures sizes { sizes_of result ≡ record {
       window = settings.window;
       max_repair = settings.max_repair;
       retention = settings.retention;
@@ -462,11 +462,10 @@ fn setup(
         provider: MockProvider::new(scheme, first, last),
         epocher: FixedEpocher::new(NonZeroU64::new(settings.epoch_length).unwrap()),
         start: Start::Genesis(genesis),
-        limits: Limits {
-            max_pending_acks: settings.window as usize,
-            mailbox_size: settings.capacity as usize,
-            max_repair: settings.max_repair as usize,
-            view_retention: ViewDelta::new(settings.retention),
-        },
+        mailbox_size: settings.capacity as usize,
+        view_retention: ViewDelta::new(settings.retention),
+        block_codec_config: (),
+        max_repair: settings.max_repair as usize,
+        max_pending_acks: settings.window as usize,
     }
 }

@@ -1,5 +1,5 @@
 //! The text of one line of a script.
-ghost use Rattle.std.specs.Prelude.{◌≡◌, ◌++◌, ◌∷◌, List, OnOk, codes, option_map, string_bytes};
+ghost use Rattle.std.specs.Prelude.{◌≡◌, ◌++◌, ◌∷◌, [], List, OnOk, codes, option_map, string_bytes};
 ghost use Rattle.std.specs.List.{flat_map};
 ghost use Rattle.mar_key.specs.Asked.{Asked};
 ghost use Rattle.mar_script.specs.Text.{fault_words, line_of, output_text, remark_words, some_words, state_words};
@@ -28,7 +28,9 @@ pub struct Page {
 
 impl Page {
     /// One on which nothing is written.
-    pub fn new(alloc: Global) -> Self {
+    pub fn new(alloc: Global) -> Self
+        ensures { string_bytes result.text ≡ [] }
+    {
         Page {
             text: String::new(alloc),
             ranges: RangeTexts::new(alloc),

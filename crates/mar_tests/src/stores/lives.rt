@@ -1,5 +1,5 @@
 //! Each counted call with ample memory, in lives of which one call is armed.
-pub use blocks::lived;
+pub(crate) use blocks::lived;
 use mar_store::RangeSet;
 
 mod blocks;

@@ -43,7 +43,11 @@ fn left<S: Blocks<StandardBlocks>>(store: S, blocks: &[Block; 3], life: Life) ->
 }
 
 // The store after a life that goes as it is to.
-pub fn lived<S: Blocks<StandardBlocks>>(store: S, blocks: &[Block; 3], life: Life) -> Option<S> {
+pub(crate) fn lived<S: Blocks<StandardBlocks>>(
+    store: S,
+    blocks: &[Block; 3],
+    life: Life,
+) -> Option<S> {
     let mut store = store;
     if store.arm(life.call).is_err() {
         return None;

@@ -31,12 +31,12 @@ returns-in_err-stores-clause-cause g c =
 pub returns-clause-opens : goal.returns-clause-opens
 returns-clause-opens g c =
     let life = rw c.in-Ok.ensures at c.new-2.ensures in
-    λ config chain set asks. opened_begins _ (g.S.Ruins.StoresRuin.left c.args.ruins) _ _ _ (c.genesis-genesis.ensures g.V.Variant.plain) c.args.config.provider c.args.config.epocher (sizes_of c.args.config.limits) (g.S.Holds.held c.in_ok-stores.stores) _ c.in_ok-stores.ensures.opens life config set.epochs_are set.capacity chain asks
+    λ config chain set asks. opened_begins _ (g.S.Ruins.StoresRuin.left c.args.ruins) _ _ _ (c.genesis-genesis.ensures g.V.Variant.plain) c.args.config.provider c.args.config.epocher (sizes_of c.args.config) (g.S.Holds.held c.in_ok-stores.stores) _ c.in_ok-stores.ensures.opens life config set.epochs_are set.capacity chain asks
 
 pub returns-clause-finds : goal.returns-clause-finds
 returns-clause-finds g c =
     let life = rw c.in-Ok.ensures at c.new-2.ensures in
-    λ config set. opened_finds _ (g.S.Ruins.StoresRuin.left c.args.ruins) _ _ _ (c.genesis-genesis.ensures g.V.Variant.plain) c.args.config.provider c.args.config.epocher (sizes_of c.args.config.limits) (g.S.Holds.held c.in_ok-stores.stores) _ c.in_ok-stores.ensures.opens life config set.epochs_are set.capacity
+    λ config set. opened_finds _ (g.S.Ruins.StoresRuin.left c.args.ruins) _ _ _ (c.genesis-genesis.ensures g.V.Variant.plain) c.args.config.provider c.args.config.epocher (sizes_of c.args.config) (g.S.Holds.held c.in_ok-stores.stores) _ c.in_ok-stores.ensures.opens life config set.epochs_are set.capacity
 
 pub returns-clause-watches : goal.returns-clause-watches
 returns-clause-watches g c = opened_passed _ (g.S.Ruins.StoresRuin.left c.args.ruins) _ _ _ (c.genesis-genesis.ensures g.V.Variant.plain) _ c.in_ok-stores.ensures.opens

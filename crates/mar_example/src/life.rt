@@ -1,0 +1,141 @@
+//! A node's life: it is opened over what an earlier one left, and given one event after another.
+ghost use Rattle.std.specs.Prelude.{◌≡◌};
+ghost use Rattle.mar_cert.specs.Finalization.{finalization_bytes};
+ghost use Rattle.mar_node.specs.Stored.{AreSmall};
+ghost use Rattle.mar_store.specs.Sizes.{IsSmall};
+
+use crate::chain::{Block, genesis};
+use crate::service::Service;
+use mar_actor::{Config, Ended, Event, Fault, Holds, Node, Start};
+use mar_block::{MemBuffer, StandardBlocks};
+use mar_cert::{AsFinalization, MockFinalization, MockProvider, MockScheme};
+use mar_codec::Sha256Digest;
+use mar_inbox::{AnswerTable, Identifier, Message, Standing, Value};
+use mar_key::Recorder;
+use mar_types::{Epoch, FixedEpocher, ViewDelta};
+use std::alloc::Global;
+use std::num::NonZeroU64;
+
+/// A node over some stores.
+pub(crate) type Member<S> = Node<StandardBlocks, S, MockProvider, FixedEpocher>;
+
+/// What a node speaks to: those who ask, the blocks that are at hand, the peers, and the service.
+#[derive(Drop)]
+pub(crate) struct Around {
+    pub(crate) answers: AnswerTable<Value<Sha256Digest, Block, MockFinalization>>,
+    pub(crate) buffer: MemBuffer<StandardBlocks>,
+    pub(crate) peers: Recorder<Sha256Digest>,
+    pub(crate) service: Service,
+}
+
+// Four members, epochs of ten heights, and at most two blocks that wait for their acknowledgement.
+fn config(genesis: Block) -> Config<MockProvider, FixedEpocher, Block, ()>
+    ensures { result.start ≡ Start.Genesis genesis }
+{
+    Config {
+        provider: MockProvider::new(MockScheme::new(4), Epoch::zero(), Epoch::new(100)),
+        epocher: FixedEpocher::new(NonZeroU64::new(10).unwrap()),
+        start: Start::Genesis(genesis),
+        mailbox_size: 8,
+        view_retention: ViewDelta::new(5),
+        block_codec_config: (),
+        max_repair: 4,
+        max_pending_acks: 2,
+    }
+}
+
+/// Opens a node over what is left of its stores, and starts it: what isn't acknowledged is handed over again.
+pub(crate) fn begun<S: Holds<StandardBlocks, Finalization = MockFinalization>>(
+    alloc: Global,
+    left: S::Ruins,
+    around: &mut Around,
+) -> Result<Member<S>, Ended<StandardBlocks, S>>
+    requires small_buffer { AreSmall around.old.buffer.blocks }
+    ensures { around.new.buffer ≡ around.old.buffer }
+{
+    let Some(genesis) = genesis(alloc) else {
+        return Err(Ended {
+            fault: Fault::Memory,
+            ruins: left,
+        });
+    };
+    let (node, _floor) = Member::<S>::init(alloc, left, config(genesis), 0)?;
+    let Around {
+        answers,
+        buffer,
+        peers,
+        service,
+    } = around;
+    node.step(Event::Start, answers, &*buffer, peers, service)
+}
+
+/// Tells a node that a block is finalized, and then that the sync of this ticket, which the node started for it, has
+/// finished: the block is durable and is handed over.
+pub(crate) fn finalized<S: Holds<StandardBlocks, Finalization = MockFinalization>>(
+    node: Member<S>,
+    finalization: MockFinalization,
+    ticket: u64,
+    around: &mut Around,
+) -> Result<Member<S>, Ended<StandardBlocks, S>>
+    requires small { IsSmall (finalization_bytes (⟦<MockFinalization as AsFinalization>⟧.plain finalization)) }
+    requires small_buffer { AreSmall around.old.buffer.blocks }
+    ensures { around.new.buffer ≡ around.old.buffer }
+{
+    let Around {
+        answers,
+        buffer,
+        peers,
+        service,
+    } = around;
+    let reported = Event::Message(Message::Finalization(finalization));
+    let node = node.step(reported, answers, &*buffer, peers, service)?;
+    // where the block isn't at hand it is asked for, and no sync is started
+    if !node.awaits_sync(ticket) {
+        return Ok(node);
+    }
+    node.step(Event::Sync(ticket), answers, &*buffer, peers, service)
+}
+
+/// Gives a node the acknowledgement of the block of this ticket.
+pub(crate) fn acknowledged<S: Holds<StandardBlocks, Finalization = MockFinalization>>(
+    node: Member<S>,
+    ticket: u64,
+    around: &mut Around,
+) -> Result<Member<S>, Ended<StandardBlocks, S>>
+    requires small_buffer { AreSmall around.old.buffer.blocks }
+    ensures { around.new.buffer ≡ around.old.buffer }
+{
+    let Around {
+        answers,
+        buffer,
+        peers,
+        service,
+    } = around;
+    node.step(Event::Ack(ticket), answers, &*buffer, peers, service)
+}
+
+/// Asks a node under a ticket for the newest finalized block, and says its height.
+pub(crate) fn newest<S: Holds<StandardBlocks, Finalization = MockFinalization>>(
+    node: Member<S>,
+    ticket: u64,
+    around: &mut Around,
+) -> Result<(Member<S>, Option<u64>), Ended<StandardBlocks, S>>
+    requires small_buffer { AreSmall around.old.buffer.blocks }
+{
+    let Around {
+        answers,
+        buffer,
+        peers,
+        service,
+    } = around;
+    let query = Message::GetInfo {
+        ticket,
+        identifier: Identifier::Latest,
+    };
+    let node = node.step(Event::Message(query), answers, &*buffer, peers, service)?;
+    let height = match answers.poll(ticket) {
+        Standing::Value(Value::Info { height, .. }) => Some(height.get()),
+        _other => None,
+    };
+    Ok((node, height))
+}
