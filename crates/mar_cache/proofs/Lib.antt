@@ -1,3 +1,4 @@
+pub mod Exits
 pub mod Filtering
 pub mod Places
 pub mod EpochArchivesChanges

@@ -12,7 +12,7 @@ use Rattle.mar_cache.specs.EpochArchives.{Book, held_after, is_kept, puts_of}
 use Rattle.mar_cache.specs.declared.section.Section.{Section}
 use Rattle.mar_cache.specs.declared.started.Started.TheVariants.{Ready, Ticket}
 use Rattle.mar_cache.specs.EpochStates.{ChangesEpoch, IsTicket, IsNestedEpoch, MightBe, is_opened, KeepsOtherEpochs, LeavesEpoch, LosesEpoch, OpensEpoch, EpochState, EpochStates, left_of_epoch, opened, shut, unknown}
-use Rattle.mar_cache.specs.Shelved.{at_epoch, IsStarted, DoesAt, OpensOrStays, GrowsEpoch, GrowsEpochs, LeavesEpochs}
+use Rattle.mar_cache.specs.Shelved.{AllChanges, at_epoch, IsStarted, DoesAt, OpensOrStays, GrowsEpoch, GrowsEpochs, LeavesEpochs}
 use Rattle.mar_cache.specs.declared.change.Change.{Change}
 use Rattle.mar_cache.specs.declared.change.Change.TheVariants.{Finish, PruneBelow, PruneCertified, Put, Sync}
 use Rattle.mar_cache.proofs.Filtering.{contains_more, contains_none}
@@ -70,6 +70,11 @@ module _ (put : ℕ → List Cached) (gone : ℕ → Cached → Bool) (old : Epo
       })
       by left lost k (inr other) = subst (LeavesEpoch (put k) (gone k) (old k)) (sym (lost.others k other)) (leaves_itself (put k) (gone k) (old k) (nested k))
 
+-- what a call leaves that failed behind one that changed no epoch
+pub same_leaves : {S W : Type 0} (ways : W → List EpochStates) (put : ℕ → List Cached) (gone : ℕ → Cached → Bool) (old new : EpochStates) (r : Result S (Lost W)) → ((k : ℕ) → new k ≡ old k) → IfErr r (λ l. AllByRecursion (LeavesEpochs put gone new) (ways (wreck_of l))) → IfErr r (λ l. AllByRecursion (LeavesEpochs put gone old) (ways (wreck_of l)))
+same_leaves ways put gone old new (Ok s) same all = tt
+same_leaves ways put gone old new (Err l) same all = AllByRecursion-weaker _ _ (λ left leaves k. subst (λ t. LeavesEpoch (put k) (gone k) t (left k)) (same k) (leaves k)) (ways (wreck_of l)) all
+
 -- CALLS THAT WENT WELL
 
 pub grows_itself : (put : List Cached) (gone : Cached → Bool) (t : EpochState) → GrowsEpoch put gone t t
@@ -125,6 +130,15 @@ grows_then put gone t u v first second = record {
 pub does_grow : {E : Type 0} (plain : E → Cached) (change : Change E) (put : ℕ → List Cached) (gone : ℕ → Cached → Bool) (e : ℕ) (old new : EpochStates) → Within (puts_of plain change) (put e) → ((x : Cached) → gone e x ≡ false → IsTrue (is_kept change x)) → DoesAt plain e (change ∷ []) old new → GrowsEpochs put gone old new
 does_grow plain change put gone e old new wider fewer does =
     grows_at put gone e old new (subst (GrowsEpoch (put e) (gone e) (old e)) (sym does.done.2) (grows_then (put e) (gone e) (old e) does.mid does.done.0 (opens_grows (put e) (gone e) (old e) does.mid does.opens) (changes_grows plain change (put e) (gone e) does.mid does.done.0 wider fewer does.done.1))) does.others
+
+pub does_once : {E S W : Type 0} (plain : E → Cached) (states : S → EpochStates) (Q : Lost W → Type 0) (e : ℕ) (change : Change E) (old mid : EpochStates) (r : Result S (Lost W)) → OpensEpoch (old e) (mid e) × KeepsOtherEpochs e old mid → MatchResult r (λ s. ChangesEpoch plain change (mid e) (states s e) × KeepsOtherEpochs e mid (states s)) Q → IfOk r (λ s. DoesAt plain e (change ∷ []) old (states s))
+does_once plain states Q e change old mid (Ok s) opens does = record { mid = mid e; opens = opens.0; done = (states s e, does.0, refl); others = λ k other. does.1 k other ∙ opens.1 k other }
+does_once plain states Q e change old mid (Err l) opens does = tt
+
+-- an epoch was changed twice
+pub changes_twice : {E S W : Type 0} (plain : E → Cached) (states : S → EpochStates) (Q : Lost W → Type 0) (e : ℕ) (first second : Change E) (old mid : EpochStates) (r : Result S (Lost W)) → ChangesEpoch plain first (old e) (mid e) × KeepsOtherEpochs e old mid → MatchResult r (λ s. ChangesEpoch plain second (mid e) (states s e) × KeepsOtherEpochs e mid (states s)) Q → IfOk r (λ s. AllChanges plain (first ∷ second ∷ []) (old e) (states s e) × KeepsOtherEpochs e old (states s))
+changes_twice plain states Q e first second old mid (Ok s) before does = ((mid e, before.0, (states s e, does.0, refl)), λ k other. does.1 k other ∙ before.1 k other)
+changes_twice plain states Q e first second old mid (Err l) before does = tt
 
 -- an epoch was opened and changed, and then changed again
 pub does_then : {E S W : Type 0} (plain : E → Cached) (states : S → EpochStates) (Q : Lost W → Type 0) (e : ℕ) (first second : Change E) (old mid : EpochStates) (r : Result S (Lost W)) → DoesAt plain e (first ∷ []) old mid → MatchResult r (λ s. ChangesEpoch plain second (mid e) (states s e) × KeepsOtherEpochs e mid (states s)) Q → IfOk r (λ s. DoesAt plain e (first ∷ second ∷ []) old (states s))

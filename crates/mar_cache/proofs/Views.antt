@@ -96,9 +96,17 @@ older_bare old mid new below same drops bare k under = by (bare_or_some (old k))
     by (inr some) = bare k some under
     by (inl none) = still_bare below mid new drops k (subst IsBare (sym (same k)) none)
 
--- what was destroyed, of epochs that were listed
-pub drops_listed : {S : Type 0} (states : S → EpochStates) (m n d f : S) (e below : ℕ) → e ≡ below → ((k : ℕ) → states n k ≡ states m k) → DropsOlder e (states n) (states d) → f ≡ d → DropsOlder below (states m) (states f)
-drops_listed states m n d f e below is same drops stays = subst (λ s. DropsOlder below (states m) (states s)) (sym stays) (drops_then below (states m) (states n) (states d) (drops_same below (states m) (states n) same) (subst (λ b. DropsOlder b (states n) (states d)) is drops))
+-- the same of epochs as they were before they were listed
+pub drops_from : {S W : Type 0} (states : S → EpochStates) (ways : W → List EpochStates) (below : ℕ) (old mid : EpochStates) (r : Result S (Lost W)) → ((k : ℕ) → mid k ≡ old k)
+    → MatchResult r (λ s. DropsOlder below mid (states s)) (λ l. AllByRecursion (DropsOlder below (λ k. left_of_epoch (mid k))) (ways (wreck_of l)))
+    → MatchResult r (λ s. DropsOlder below old (states s)) (λ l. AllByRecursion (DropsOlder below (λ k. left_of_epoch (old k))) (ways (wreck_of l)))
+drops_from states ways below old mid (Ok s) same drops = drops_then below old mid (states s) (drops_same below old mid same) drops
+drops_from states ways below old mid (Err l) same drops = drops_more below old mid (ways (wreck_of l)) (drops_same below old mid same) drops
+
+pub bare_if : {S L : Type 0} (states : S → EpochStates) (Q : L → Type 0) (below : ℕ) (old mid : EpochStates) (es : List ℕ) (r : Result S L) → ((k : ℕ) → mid k ≡ old k) → MatchResult r (λ s. DropsOlder below mid (states s)) Q
+    → ((k : ℕ) → Contains es k → k < below → IfOk r (λ s. IsBare (states s k))) → ((k : ℕ) → HasSome (old k) → Contains es k) → IfOk r (λ s. (k : ℕ) → k < below → IsBare (states s k))
+bare_if states Q below old mid es (Ok s) same drops bare found = λ k under. older_bare old mid (states s) below same drops (λ j some less. bare j (found j some) less) k under
+bare_if states Q below old mid es (Err l) same drops bare found = tt
 
 -- WHAT A PRUNE BY VIEW LEAVES
 

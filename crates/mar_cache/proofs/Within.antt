@@ -139,13 +139,10 @@ pub fallen_within : (old : EpochStates) (ways : List EpochStates) (b : Bounds) (
 fallen_within old ways b lefts all is lie states has c among k some =
     subst (λ d. includes d k ≡ true) (sym (one_of b c (subst (λ cs. Contains cs c) is among))) (lie k (some_before (old k) (subst HasSome (AllByRecursion-contains _ ways states all has k) some)))
 
--- the same, where other bounds may be left too
-pub written_within : (old : EpochStates) (ways : List EpochStates) (b new : Bounds) (olds lefts : List Bounds) → AllByRecursion (λ left. (k : ℕ) → left k ≡ left_of_epoch (old k)) ways → Within lefts (olds ++ new ∷ []) → olds ≡ b ∷ [] → LieWithin old b → LieWithin old new → AllLieWithin ways lefts
-written_within old ways b new olds lefts all within is lie lie_new states has c among k some =
-    elim (Contains-append_cases olds (new ∷ []) c (within c among)) [ inl before ↦ by b (one_of b c (subst (λ cs. Contains cs c) is before)) lie | inr now ↦ by new (one_of new c now) lie_new ]
-  where
-    by : (d : Bounds) → c ≡ d → LieWithin old d → includes c k ≡ true
-    by d same lies = subst (λ d. includes d k ≡ true) (sym same) (lies k (some_before (old k) (subst HasSome (AllByRecursion-contains _ ways states all has k) some)))
+-- the bounds that may be left where new ones were to be written
+pub written_within : (old : EpochStates) (b new : Bounds) (olds lefts : List Bounds) → Within lefts (olds ++ new ∷ []) → olds ≡ b ∷ [] → LieWithin old b → LieWithin old new → (c : Bounds) → Contains lefts c → LieWithin old c
+written_within old b new olds lefts within is lie lie_new c among =
+    elim (Contains-append_cases olds (new ∷ []) c (within c among)) [ inl before ↦ subst (LieWithin old) (sym (one_of b c (subst (λ cs. Contains cs c) is before))) lie | inr now ↦ subst (LieWithin old) (sym (one_of new c now)) lie_new ]
 
 -- where a call failed that opens or changes one epoch within the bounds
 pub loses_within : (old : EpochStates) (ways : List EpochStates) (e : ℕ) (was : EpochState) (put : List Cached) (gone : Cached → Bool) (b : Bounds) (lefts : List Bounds) → AllByRecursion (LosesEpoch e was put gone old) ways → includes b e ≡ true → lefts ≡ b ∷ [] → LieWithin old b → AllLieWithin ways lefts

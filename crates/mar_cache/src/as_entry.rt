@@ -1,5 +1,6 @@
 //! What a cache keeps, whatever blocks and certificates it is made of.
-ghost use Rattle.std.specs.Prelude.{◌≡◌, Bool, IfOk};
+ghost use Rattle.std.specs.Prelude.{◌≡◌, Bool, IfErr, IfOk, option_map};
+ghost use Rattle.std.specs.Option.{option_copied};
 ghost use Rattle.std.specs.Ordering.{eq_by_cmp};
 ghost use Rattle.mar_node.specs.Cached.{Cached, epoch_of, same_place};
 ghost use Rattle.mar_node.specs.Cache.{is_below, is_certified_below};
@@ -8,6 +9,7 @@ ghost use Rattle.mar_cache.specs.Spots.{is_among};
 
 use crate::keys::Keys;
 use crate::section::Section;
+use mar_store::Miss;
 use mar_types::{Epoch, Height, Round};
 use std::alloc::AllocError;
 
@@ -64,4 +66,18 @@ pub trait KeyedEntry: AsEntry {
     fn keys(&self) -> Keys<Self::Key>
         ensures all { (k : Self.Key) → has k (Self.plain self.now) ≡ is_among (eq_by_cmp Self.Key.cmp) result k }
         ensures place { (x : Cached) → has result.place x ≡ same_place (Self.plain self.now) x };
+}
+
+/// A copy of an entry that was found.
+pub fn copied<E: AsEntry>(found: Option<&E>) -> Result<Option<E>, Miss>
+    ensures found { IfOk result (λ o. option_map E.plain o ≡ option_map E.plain (option_copied found.entry)) }
+    ensures memory { IfErr result (λ m. m ≡ Miss.Memory) }
+{
+    match found {
+        None => Ok(None),
+        Some(entry) => match entry.try_clone() {
+            Ok(copy) => Ok(Some(copy)),
+            Err(_) => Err(Miss::Memory),
+        },
+    }
 }

@@ -1,9 +1,9 @@
 //! How a store was lost, whatever is left of it.
-ghost use Rattle.std.specs.Prelude.{◌≡◌, false, true};
+ghost use Rattle.std.specs.Prelude.{◌≡◌, ◌+◌, ◌-◌, ◌^◌, false, if◌then◌else◌, min, true};
 ghost use Rattle.mar_store.specs.Lost.{wreck_of};
 ghost use Rattle.mar_cache.specs.EpochArchives.{is_fault};
 
-use mar_store::{Lost, Miss};
+use mar_store::{Alarm, Lost, Miss};
 
 /// Whether a store failed, or memory ran out; and what is left of it.
 pub fn parts_of<W>(lost: Lost<W>) -> (bool, W)
@@ -38,4 +38,16 @@ pub fn lost_for<W>(miss: Miss, wreck: W) -> Lost<W>
         Miss::Fault => Lost::Fault(wreck),
         Miss::Memory => Lost::Memory(wreck),
     }
+}
+
+/// The alarm of a store where one that it stands on was lost: a fault is counted where that failed.
+pub fn alarm_after(alarm: Alarm, failed: bool) -> Alarm
+    ensures due { result.due.items ≡ alarm.due.items }
+    ensures faults { result.faults ≡ (if failed then min (alarm.faults + 1) (2 ^ 64 - 1) else alarm.faults) }
+{
+    let mut alarm = alarm;
+    if failed {
+        alarm.fail();
+    }
+    alarm
 }

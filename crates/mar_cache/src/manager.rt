@@ -4,7 +4,6 @@ ghost use Rattle.std.specs.List.{AllByRecursion};
 ghost use Rattle.mar_store.specs.Changes.{Within};
 ghost use Rattle.mar_store.specs.Lost.{wreck_of};
 ghost use Rattle.mar_store.specs.Watch.{Heeds, HeedsRead, IsCalm, armed};
-ghost use Rattle.std.specs.Option.{option_copied};
 ghost use Rattle.mar_node.specs.Cached.{epoch_of};
 ghost use Rattle.mar_node.specs.Cache.{is_certified_below};
 ghost use Rattle.mar_cache.specs.Sections.{first_found, section_of};
@@ -13,11 +12,11 @@ ghost use Rattle.mar_cache.specs.EpochStates.{ChangesEpoch, KeepsOtherEpochs, Ha
 ghost use Rattle.mar_cache.specs.EpochArchives.{is_fault, is_kept, puts_of};
 ghost use Rattle.mar_cache.specs.Shelved.{AllChanges, AllLieWithin, DoesAt, DropsOlder, IsStarted, LeavesEpochs, LieWithin, IsClear, OpensOrStays, ThinsEpoch, at_epoch, finishes, is_pruned_by, nothing_gone, pruned_bounds, raised, shelf_watch};
 
-use crate::as_entry::AsEntry;
+use crate::as_entry::{AsEntry, copied};
 use crate::bounds::{highest, includes, lowest, write_bounds};
 use crate::change::Change;
 use crate::epochs::{Epochs, EpochsRuin};
-use crate::losses::{lost_by, lost_for, parts_of};
+use crate::losses::{alarm_after, lost_by, lost_for, parts_of};
 use crate::section::Section;
 use crate::started::{CacheTicket, SectionSync, Started};
 use mar_store::{Alarm, Lost, Meta, MetaRuin, Miss};
@@ -124,7 +123,7 @@ impl<S: Epochs, M: Meta> Manager<S, M> {
         let Manager {
             epochs,
             meta,
-            mut alarm,
+            alarm,
         } = self;
         match write_bounds(meta, lowest, highest) {
             Ok(meta) => Ok(Manager {
@@ -132,18 +131,7 @@ impl<S: Epochs, M: Meta> Manager<S, M> {
                 meta,
                 alarm,
             }),
-            Err(lost) => {
-                let (failed, meta) = parts_of(lost);
-                if failed {
-                    alarm.fail();
-                }
-                let wreck = ManagerWreck {
-                    epochs: epochs.wreck(),
-                    meta,
-                    alarm,
-                };
-                Err(lost_by(failed, wreck))
-            }
+            Err(lost) => Err(lost_meta(epochs, lost, alarm)),
         }
     }
 
@@ -550,11 +538,25 @@ impl<S: Epochs, M: Meta> Manager<S, M> {
             (shelf_watch self.alarm (S.calm self.epochs && (M.watch self.meta).only_armed)) result }
     {
         let manager = self.begin()?;
-        let (manager, listed) = manager.listed()?;
         let epoch = round.epoch().get();
-        let manager = manager.destroy_all(&listed, epoch)?;
+        let manager = manager.destroy_older(epoch)?;
         let manager = manager.raise_lowest(round)?;
         manager.change(epoch, Change::PruneBelow(round))
+    }
+
+    // Destroys each epoch that is below another.
+    fn destroy_older(self, below: u64) -> Result<Self, Lost<ManagerWreck<S, M>>>
+        ensures done { MatchResult result (λ m. DropsOlder below (S.states self.epochs) (S.states m.epochs))
+            (λ l. AllByRecursion (DropsOlder below (λ k. left_of_epoch (S.states self.epochs k))) (S.Wreck.left (wreck_of l).epochs)) }
+        ensures bare { IfOk result (λ m. (k : ℕ) → k < below → IsBare (S.states m.epochs k)) }
+        ensures meta { IfOk result (λ m. m.meta ≡ self.meta) }
+        ensures bounds { IfErr result (λ l. M.Wreck.left (wreck_of l).meta ≡ M.left self.meta) }
+        ensures watched { IsCalm (λ m. shelf_watch m.alarm (S.calm m.epochs && (M.watch m.meta).only_armed))
+            (λ w. shelf_watch w.alarm (S.Wreck.calm w.epochs && (M.Wreck.watch w.meta).only_armed))
+            (shelf_watch self.alarm (S.calm self.epochs && (M.watch self.meta).only_armed)) result }
+    {
+        let (manager, listed) = self.listed()?;
+        manager.destroy_all(&listed, below)
     }
 
     // Destroys an epoch that is below another.
@@ -665,13 +667,10 @@ impl<S: Epochs, M: Meta> Manager<S, M> {
             Ok(epochs) => with_reopened(epochs, meta, alarm, luck),
             Err(lost) => {
                 let (failed, epochs) = parts_of(lost);
-                if failed {
-                    alarm.fail();
-                }
                 let wreck = ManagerWreck {
                     epochs,
                     meta,
-                    alarm,
+                    alarm: alarm_after(alarm, failed),
                 };
                 Err(lost_by(failed, wreck))
             }
@@ -720,30 +719,36 @@ fn lost_epochs<S: Epochs, M: Meta>(
     ensures faults { (wreck_of result).alarm.faults ≡ (if is_fault lost then min (alarm.faults + 1) (2 ^ 64 - 1) else alarm.faults) }
 {
     let (failed, epochs) = parts_of(lost);
-    let mut alarm = alarm;
-    if failed {
-        alarm.fail();
-    }
     let wreck = ManagerWreck {
         epochs,
         meta: meta.wreck(),
-        alarm,
+        alarm: alarm_after(alarm, failed),
     };
     lost_by(failed, wreck)
 }
 
-// A copy of an entry that was found.
-fn copied<E: AsEntry>(found: Option<&E>) -> Result<Option<E>, Miss>
-    ensures found { IfOk result (λ o. option_map E.plain o ≡ option_map E.plain (option_copied found.entry)) }
-    ensures memory { IfErr result (λ m. m ≡ Miss.Memory) }
+// What is left of the cache where its metadata is lost.
+fn lost_meta<S: Epochs, M: Meta>(
+    epochs: S,
+    lost: Lost<M::Wreck>,
+    alarm: Alarm,
+) -> Lost<ManagerWreck<S, M>>
+    requires quiet { (M.Wreck.watch (wreck_of lost)).due ≡ [] }
+    requires within { (b : Bounds) → Contains (map bounds_of (M.Wreck.left (wreck_of lost))) b → LieWithin (S.states epochs) b }
+    ensures ways { AllByRecursion (λ left. (k : ℕ) → left k ≡ left_of_epoch (S.states epochs k)) (S.Wreck.left (wreck_of result).epochs) }
+    ensures meta { (wreck_of result).meta ≡ wreck_of lost }
+    ensures fault { is_fault result ≡ is_fault lost }
+    ensures calm { S.Wreck.calm (wreck_of result).epochs ≡ S.calm epochs }
+    ensures due { (wreck_of result).alarm.due.items ≡ alarm.due.items }
+    ensures faults { (wreck_of result).alarm.faults ≡ (if is_fault lost then min (alarm.faults + 1) (2 ^ 64 - 1) else alarm.faults) }
 {
-    match found {
-        None => Ok(None),
-        Some(entry) => match entry.try_clone() {
-            Ok(copy) => Ok(Some(copy)),
-            Err(_) => Err(Miss::Memory),
-        },
-    }
+    let (failed, meta) = parts_of(lost);
+    let wreck = ManagerWreck {
+        epochs: epochs.wreck(),
+        meta,
+        alarm: alarm_after(alarm, failed),
+    };
+    lost_by(failed, wreck)
 }
 
 // The cache over epochs that were reopened; its metadata is reopened too.
@@ -763,24 +768,12 @@ fn with_reopened<S: Epochs, M: Meta>(
         (λ w. shelf_watch w.alarm (S.Wreck.calm w.epochs && (M.Wreck.watch w.meta).only_armed))
         (shelf_watch alarm (S.calm epochs && (M.Wreck.watch meta).only_armed)) result }
 {
-    let mut alarm = alarm;
     match M::reopen(meta, luck) {
         Ok(meta) => Ok(Manager {
             epochs,
             meta,
             alarm,
         }),
-        Err(lost) => {
-            let (failed, meta) = parts_of(lost);
-            if failed {
-                alarm.fail();
-            }
-            let wreck = ManagerWreck {
-                epochs: epochs.wreck(),
-                meta,
-                alarm,
-            };
-            Err(lost_by(failed, wreck))
-        }
+        Err(lost) => Err(lost_meta(epochs, lost, alarm)),
     }
 }

@@ -26,5 +26,5 @@ pub returns-in-Err-clause-bounds : goal.returns-in-Err-clause-bounds
 returns-in-Err-clause-bounds g c = c.lost_epochs.ensures.bounds
 
 pub returns-in-Err-clause-watched : goal.returns-in-Err-clause-watched
-returns-in-Err-clause-watched g c = lost_calm c.args.self (λ m. shelf_watch m.alarm (g.S.Epochs.calm m.epochs && (g.M.Meta.watch m.meta).only_armed)) (λ w. w.alarm) (λ w. g.S.Wreck.EpochsRuin.calm w.epochs && (g.M.Wreck.MetaRuin.watch w.meta).only_armed) c.args.self.alarm _ _ c.lost_epochs.result c.lost_epochs.ensures.fault c.lost_epochs.ensures.due c.lost_epochs.ensures.faults
+returns-in-Err-clause-watched g c = lost_calm (λ w. w.alarm) (λ w. g.S.Wreck.EpochsRuin.calm w.epochs && (g.M.Wreck.MetaRuin.watch w.meta).only_armed) c.args.self.alarm _ _ c.lost_epochs.result c.lost_epochs.ensures.fault c.lost_epochs.ensures.due c.lost_epochs.ensures.faults
     (ap₂ (λ a b. a && b) (ap g.S.Wreck.EpochsRuin.calm (c.lost_epochs.ensures.ways ∙ c.lost_for-lost.ensures.wreck) ∙ c.wreck.ensures.calm ∙ c.list.ensures.calm) (ap (λ x. x.only_armed) c.lost_epochs.ensures.watch)) (λ only. c.lost_for-lost.ensures.memory (c.in-Err.ensures.memory (and_left _ _ only)))
