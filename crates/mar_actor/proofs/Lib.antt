@@ -3,3 +3,5 @@ pub mod Due
 pub mod Opened
 pub mod Raised
 pub mod Told
+pub mod Outcomes
+pub mod Reported

@@ -1,13 +1,13 @@
 -- What an opening promises, by what was made of its stores.
-use Rattle.std.proofs.Common.{◌≡◌, ◌⊎◌, inl, inr, ℕ, List, [], Option, Some, Result, Ok, Err, IfErr, IfOk, refl, subst, sym}
+use Rattle.std.proofs.Common.{◌≡◌, ◌⊎◌, ◌∷◌, inl, inr, ℕ, [], None, Some, refl, subst, sym}
 use Rattle.mar_types.specs.Epochs.{Epochs}
 use Rattle.mar_cert.specs.Block.{Block}
 use Rattle.mar_node.specs.Chain.{Chain}
 use Rattle.mar_node.specs.Config.{Config}
-use Rattle.mar_node.specs.Faults.{Begin, from_genesis}
-use Rattle.mar_node.specs.Held.{ArePassed, Ending, Grew, Held, IsEndedBy, IsUsual, Remains, Remembered, ReopensAs, Sizes, first_life, nothing_written, picks_of, written_block}
+use Rattle.mar_node.specs.Faults.{Begin, Fault, from_genesis}
+use Rattle.mar_node.specs.Held.{ArePassed, Ending, Grew, Held, IsEndedBy, IsUsual, Loses, Remains, Remembered, ReopensAs, Sizes, Written, ended_on, first_life, nothing_written, picks_of, written_block}
 use Rattle.mar_node.specs.Lives.{CutsReopening, Finds}
-use Rattle.mar_node.specs.Opening.{BeginsWith, Derives, LosesDeriving, next_fault}
+use Rattle.mar_node.specs.Opening.{BeginsWith, Derives, derived_pair, next_fault}
 use Rattle.mar_node.specs.Promise.{Begins, IsLawfulOpening, IsOpeningFault, node_of, none_waiting}
 use Rattle.mar_node.specs.Step.{nothing_made}
 use Rattle.mar_node.specs.Stored.{at_own_height}
@@ -19,22 +19,21 @@ use Rattle.mar_actor.specs.Opened.{FailsToOpen, OpensAs}
 -- WHAT WAS MADE OF THEM
 
 module _ (epochs : Epochs) (old : Remains) (luck : ℕ) (g : Block) where
-  pub opens_with : {S : Type 0} (held : S → Held) (first begun : Held) → ReopensAs old luck first → BeginsWith g first begun → Grew first (written_block (at_own_height g)) begun → (result : Result S Ending) → IfOk result (λ s. Derives epochs begun (held s)) → IfOk result (λ s. ArePassed begun.watches (held s).watches) → IfOk result (λ s. OpensAs epochs old luck g (held s))
-  opens_with held first begun reopens begins grew (Ok s) derives passed = record { first = first; begun = begun; reopens = reopens; begins = begins; grew = grew; derives = derives; passed = passed }
-  opens_with held first begun reopens begins grew (Err e) derives passed = tt
+  module _ (first begun : Held) (reopens : ReopensAs old luck first) (begins : BeginsWith g first begun) (grew : Grew first (written_block (at_own_height g)) begun) where
+    pub opens_with : (new : Held) → Derives epochs begun new → ArePassed begun.watches new.watches → OpensAs epochs old luck g new
+    opens_with new derives passed = record { first = first; begun = begun; reopens = reopens; begins = begins; grew = grew; derives = derives; passed = passed }
 
-  pub fails_deriving : {S : Type 0} (first begun : Held) → ReopensAs old luck first → BeginsWith g first begun → Grew first (written_block (at_own_height g)) begun → Grew begun nothing_written begun → (result : Result S Ending) → LosesDeriving epochs begun result → IfErr result (λ e. IsUsual e.fault ⊎ (next_fault begun ≡ Some e.fault)) → IfErr result (λ e. FailsToOpen epochs old luck g e)
-  fails_deriving first begun reopens begins grew same (Ok s) loses kind = tt
-  fails_deriving first begun reopens begins grew same (Err e) loses kind = inr (inr (record {
-    first = first;
-    begun = begun;
-    reopens = reopens;
-    begins = begins;
-    grew = grew;
-    lost = loses first (written_block (at_own_height g)) grew;
-    keeps = deriving_keeps epochs begun e (loses begun nothing_written same);
-    kind = kind;
-  }))
+    pub fails_deriving : Grew begun nothing_written begun → (fault : Fault) (now : Held) → ((start : Held) (all : Written) → Grew start all begun → Loses start all (ended_on fault now) ⊎ (next_fault begun ≡ None) × Loses start (record all { pairs = derived_pair epochs begun ∷ all.pairs }) (ended_on fault now)) → IsUsual fault ⊎ (next_fault begun ≡ Some fault) → FailsToOpen epochs old luck g (ended_on fault now)
+    fails_deriving same fault now loses kind = inr (inr (record {
+      first = first;
+      begun = begun;
+      reopens = reopens;
+      begins = begins;
+      grew = grew;
+      lost = loses first (written_block (at_own_height g)) grew;
+      keeps = deriving_keeps epochs begun (ended_on fault now) (loses begun nothing_written same);
+      kind = kind;
+    }))
 
 -- WHAT IS PROMISED
 

@@ -1,5 +1,5 @@
 //! The round cutoff that archives show when they are opened.
-ghost use Rattle.std.specs.Prelude.{◌≡◌, ◌<◌, ◌^◌, ◌⊎◌, ◌++◌, ◌∷◌, [], IfErr, IfOk, None, Option, Some, option_map, option_to_list};
+ghost use Rattle.std.specs.Prelude.{◌≡◌, ◌<◌, ◌^◌, ◌⊎◌, ◌++◌, ◌∷◌, [], IfErr, IfOk, None, OnOk, Option, Some, option_map, option_to_list, true};
 ghost use Rattle.mar_types.specs.Epochs.{closed_epoch};
 ghost use Rattle.mar_key.specs.Cutoff.{at_epoch, at_round, greatest_of};
 ghost use Rattle.mar_key.specs.Processed.{first_unprocessed};
@@ -7,11 +7,11 @@ ghost use Rattle.mar_key.specs.Views.{cutoff_of};
 ghost use Rattle.mar_store.specs.Kept.{EachHeightOnce, newest_upto};
 ghost use Rattle.mar_node.specs.Metadata.{pair_of};
 ghost use Rattle.mar_node.specs.Faults.{next_after, successor_fault};
-ghost use Rattle.mar_node.specs.Held.{ArePassed, GoesOn, IsUsual, LosesSince, nothing_written, written_pair};
+ghost use Rattle.mar_node.specs.Held.{ArePassed, GoesOn, IsNoStores, IsUsual, LosesSince, nothing_written, written_pair};
 ghost use Rattle.mar_node.specs.Lives.{closed_epoch_at, later_round, processed_round, round_zero, successor_round};
 ghost use Rattle.mar_node.specs.Opening.{Derives, LosesDeriving, next_fault, pair_in};
+ghost use Rattle.mar_shelf.specs.Views.{fault_of};
 
-use crate::ends::ended_by;
 use crate::names::is_same;
 use crate::newest::last_upto;
 use crate::reads::round_at;
@@ -19,31 +19,32 @@ use mar_block::Variant;
 use mar_cert::{AsFinalization, CommitsTo};
 use mar_key::Cutoff;
 use mar_node::closed_epoch;
-use mar_shelf::{Ended, Fault, Holds};
+use mar_shelf::{Fault, Holds};
 use mar_types::{Epoch, Epocher, Height, Round};
 
 /// Raises the cutoff to what the archives show, and makes it durable. The later of the rounds that show it is witnessed.
 pub(crate) fn derive<V: Variant, S: Holds<V>, E: Epocher>(
-    stores: S,
+    stores: &mut S,
     epocher: &E,
-) -> Result<S, Ended<V, S>>
-    requires once { EachHeightOnce (S.held stores).certs.held }
-    requires pairs { (S.held stores).pairs ≡ pair_in (S.held stores) ∷ [] }
-    requires fresh { (S.held stores).witnessed ≡ round_zero }
-    requires below { first_unprocessed (S.held stores).processed < 2 ^ 64 }
-    ensures ok { IfOk result (λ s. Derives (E.epochs epocher.now) (S.held stores) (S.held s)) }
-    ensures passed { IfOk result (λ s. ArePassed (S.held stores).watches (S.held s).watches) }
-    ensures lost { LosesDeriving (E.epochs epocher.now) (S.held stores) result }
-    ensures kind { IfErr result (λ e. IsUsual e.fault ⊎ (next_fault (S.held stores) ≡ Some e.fault)) }
+) -> Result<(), Fault<V::Commitment>>
+    requires once { EachHeightOnce (S.held stores.old).certs.held }
+    requires pairs { (S.held stores.old).pairs ≡ pair_in (S.held stores.old) ∷ [] }
+    requires fresh { (S.held stores.old).witnessed ≡ round_zero }
+    requires below { first_unprocessed (S.held stores.old).processed < 2 ^ 64 }
+    requires intact { (S.held stores.old).intact ≡ true }
+    ensures ok { OnOk result (Derives (E.epochs epocher.now) (S.held stores.old) (S.held stores.new)) }
+    ensures passed { OnOk result (ArePassed (S.held stores.old).watches (S.held stores.new).watches) }
+    ensures lost { LosesDeriving (fault_of V.Commitment.bytes) (E.epochs epocher.now) (S.held stores.old) (S.held stores.new) result }
+    ensures kind { IfErr result (λ e. IsUsual (fault_of V.Commitment.bytes e) ⊎ (next_fault (S.held stores.old) ≡ Some (fault_of V.Commitment.bytes e))) }
 {
     stores.law();
-    let (stores, successor) = successor::<V, S>(stores)?;
-    let (stores, newest) = processed_round::<V, S>(stores)?;
-    let cutoff = derived_cutoff::<V, S, E>(&stores, epocher, &newest, &successor);
-    let mut stores = raise_to::<V, S>(stores, &cutoff)?;
-    note_round::<V, S>(&mut stores, &newest);
-    note_round::<V, S>(&mut stores, &successor);
-    Ok(stores)
+    let successor = successor::<V, S>(stores)?;
+    let newest = processed_round::<V, S>(stores)?;
+    let cutoff = derived_cutoff::<V, S, E>(stores, epocher, &newest, &successor);
+    raise_to::<V, S>(stores, &cutoff)?;
+    note_round::<V, S>(stores, &newest);
+    note_round::<V, S>(stores, &successor);
+    Ok(())
 }
 
 /// Takes note of a round, if there is one. Nothing is asked yet, so that nothing is let go.
@@ -57,72 +58,74 @@ fn note_round<V: Variant, S: Holds<V>>(stores: &mut S, round: &Option<Round>)
 
 /// The round of the certificate just above the processed height, where its block is held too. Where that is another
 /// block than the one that the certificate names the life ends.
-fn successor<V: Variant, S: Holds<V>>(stores: S) -> Result<(S, Option<Round>), Ended<V, S>>
-    requires below { first_unprocessed (S.held stores).processed < 2 ^ 64 }
-    ensures same { IfOk result (λ r. S.held r.0 ≡ record (S.held stores) { watches = (S.held r.0).watches }) }
-    ensures none { IfOk result (λ r. next_fault (S.held stores) ≡ None) }
-    ensures round { IfOk result (λ r. r.1 ≡ successor_round (S.held stores).blocks.held (S.held stores).certs.held
-        (next_after (pair_in (S.held stores)).processed)) }
-    ensures goes_on { GoesOn (λ r. S.held r.0) (S.held stores) nothing_written result }
-    ensures kind { IfErr result (λ e. IsUsual e.fault ⊎ (next_fault (S.held stores) ≡ Some e.fault)) }
+fn successor<V: Variant, S: Holds<V>>(stores: &mut S) -> Result<Option<Round>, Fault<V::Commitment>>
+    requires below { first_unprocessed (S.held stores.old).processed < 2 ^ 64 }
+    ensures same { OnOk result (S.held stores.new ≡ record (S.held stores.old) { watches = (S.held stores.new).watches }) }
+    ensures none { OnOk result (next_fault (S.held stores.old) ≡ None) }
+    ensures round { IfOk result (λ r. r ≡ successor_round (S.held stores.old).blocks.held (S.held stores.old).certs.held
+        (next_after (pair_in (S.held stores.old)).processed)) }
+    ensures goes_on { GoesOn (fault_of V.Commitment.bytes) (S.held stores.old) nothing_written (S.held stores.new) result }
+    ensures kind { IfErr result (λ e. IsUsual (fault_of V.Commitment.bytes e) ⊎ (next_fault (S.held stores.old) ≡ Some (fault_of V.Commitment.bytes e))) }
 {
     let next = stores.floor().next_height();
-    let (stores, block) = stores.block_at(next)?;
-    let (stores, certificate) = stores.certificate_at(next)?;
+    let block = stores.block_at(next)?;
+    let certificate = stores.certificate_at(next)?;
     match (block, certificate) {
-        (Some(block), Some(certificate)) => judge::<V, S>(stores, &block, &certificate),
-        (_block, _certificate) => Ok((stores, None)),
+        (Some(block), Some(certificate)) => judge::<V, S::Finalization>(&block, &certificate),
+        (_block, _certificate) => Ok(None),
     }
 }
 
 /// The round of a certificate. Where it names another block than the one that is stored the life ends.
-fn judge<V: Variant, S: Holds<V>>(
-    stores: S,
+fn judge<V: Variant, F: CommitsTo<V::Commitment>>(
     block: &V::Block,
-    certificate: &S::Finalization,
-) -> Result<(S, Option<Round>), Ended<V, S>>
-    ensures none { IfOk result (λ r. successor_fault (Some (V.plain block.now)) (Some (S.Finalization.plain certificate.now)) ≡ None) }
-    ensures same { IfOk result (λ r. r ≡ (stores, Some (S.Finalization.plain certificate.now).round)) }
-    ensures goes_on { GoesOn (λ r. S.held r.0) (S.held stores) nothing_written result }
-    ensures fault { IfErr result (λ e. successor_fault (Some (V.plain block.now)) (Some (S.Finalization.plain certificate.now)) ≡ Some e.fault) }
+    certificate: &F,
+) -> Result<Option<Round>, Fault<V::Commitment>>
+    ensures none { OnOk result (successor_fault (Some (V.plain block.now)) (Some (F.plain certificate.now)) ≡ None) }
+    ensures round { IfOk result (λ r. r ≡ Some (F.plain certificate.now).round) }
+    ensures fault { IfErr result (λ e. successor_fault (Some (V.plain block.now)) (Some (F.plain certificate.now)) ≡ Some (fault_of V.Commitment.bytes e)) }
+    ensures no_stores { IfErr result (λ e. IsNoStores (fault_of V.Commitment.bytes e)) }
 {
     let commitment = V::commitment(block);
     let payload = certificate.payload();
     if is_same(commitment, payload) {
-        Ok((stores, Some(certificate.round())))
+        Ok(Some(certificate.round()))
     } else {
-        let fault = Fault::Corrupt(V::height(block), commitment, payload);
-        Err(ended_by::<V, S>(stores, fault))
+        Err(Fault::Corrupt(V::height(block), commitment, payload))
     }
 }
 
 /// The round of the newest certificate at or below the processed height.
-fn processed_round<V: Variant, S: Holds<V>>(stores: S) -> Result<(S, Option<Round>), Ended<V, S>>
-    requires once { EachHeightOnce (S.held stores).certs.held }
-    ensures same { IfOk result (λ r. S.held r.0 ≡ record (S.held stores) { watches = (S.held r.0).watches }) }
-    ensures round { IfOk result (λ r. r.1 ≡ processed_round (S.held stores).certs.held (pair_in (S.held stores)).processed) }
-    ensures goes_on { GoesOn (λ r. S.held r.0) (S.held stores) nothing_written result }
-    ensures usual { IfErr result (λ e. IsUsual e.fault) }
+fn processed_round<V: Variant, S: Holds<V>>(
+    stores: &mut S,
+) -> Result<Option<Round>, Fault<V::Commitment>>
+    requires intact { (S.held stores.old).intact ≡ true }
+    requires once { EachHeightOnce (S.held stores.old).certs.held }
+    ensures same { OnOk result (S.held stores.new ≡ record (S.held stores.old) { watches = (S.held stores.new).watches }) }
+    ensures round { IfOk result (λ r. r ≡ processed_round (S.held stores.old).certs.held (pair_in (S.held stores.old)).processed) }
+    ensures goes_on { GoesOn (fault_of V.Commitment.bytes) (S.held stores.old) nothing_written (S.held stores.new) result }
+    ensures usual { IfErr result (λ e. IsUsual (fault_of V.Commitment.bytes e)) }
 {
     match stores.floor().processed() {
-        None => Ok((stores, None)),
+        None => Ok(None),
         Some(processed) => newest_round::<V, S>(stores, processed.height()),
     }
 }
 
 /// The round of the newest certificate at or below a height.
 fn newest_round<V: Variant, S: Holds<V>>(
-    stores: S,
+    stores: &mut S,
     height: Height,
-) -> Result<(S, Option<Round>), Ended<V, S>>
-    requires once { EachHeightOnce (S.held stores).certs.held }
-    ensures same { IfOk result (λ r. S.held r.0 ≡ record (S.held stores) { watches = (S.held r.0).watches }) }
-    ensures round { IfOk result (λ r. r.1 ≡ option_map (λ x. x.value.round) (newest_upto (S.held stores).certs.held height)) }
-    ensures goes_on { GoesOn (λ r. S.held r.0) (S.held stores) nothing_written result }
-    ensures usual { IfErr result (λ e. IsUsual e.fault) }
+) -> Result<Option<Round>, Fault<V::Commitment>>
+    requires intact { (S.held stores.old).intact ≡ true }
+    requires once { EachHeightOnce (S.held stores.old).certs.held }
+    ensures same { OnOk result (S.held stores.new ≡ record (S.held stores.old) { watches = (S.held stores.new).watches }) }
+    ensures round { IfOk result (λ r. r ≡ option_map (λ x. x.value.round) (newest_upto (S.held stores.old).certs.held height)) }
+    ensures goes_on { GoesOn (fault_of V.Commitment.bytes) (S.held stores.old) nothing_written (S.held stores.new) result }
+    ensures usual { IfErr result (λ e. IsUsual (fault_of V.Commitment.bytes e)) }
 {
     match last_upto(stores.certificates_held().as_slice(), height) {
-        None => Ok((stores, None)),
+        None => Ok(None),
         Some(newest) => round_at::<V, S>(stores, newest),
     }
 }
@@ -166,23 +169,28 @@ fn closed_at<V: Variant, S: Holds<V>, E: Epocher>(
 }
 
 /// Sets the cutoff to this one and makes it durable, where it is another.
-fn raise_to<V: Variant, S: Holds<V>>(stores: S, cutoff: &Cutoff) -> Result<S, Ended<V, S>>
-    requires pairs { (S.held stores).pairs ≡ pair_in (S.held stores) ∷ [] }
-    ensures same { IfOk result (λ s. S.held s ≡ record (S.held stores) {
+fn raise_to<V: Variant, S: Holds<V>>(
+    stores: &mut S,
+    cutoff: &Cutoff,
+) -> Result<(), Fault<V::Commitment>>
+    requires intact { (S.held stores.old).intact ≡ true }
+    requires pairs { (S.held stores.old).pairs ≡ pair_in (S.held stores.old) ∷ [] }
+    ensures same { OnOk result (S.held stores.new ≡ record (S.held stores.old) {
       cutoff = cutoff_of cutoff.now;
-      pairs = pair_of (S.held stores).processed
+      pairs = pair_of (S.held stores.old).processed
           (cutoff_of cutoff.now) ∷ [];
-      watches = (S.held s).watches;
+      watches = (S.held stores.new).watches;
     }) }
-    ensures passed { IfOk result (λ s. ArePassed (S.held stores).watches (S.held s).watches) }
-    ensures lost { LosesSince (S.held stores) (written_pair (pair_of (S.held stores).processed (cutoff_of cutoff.now))) result }
-    ensures usual { IfErr result (λ e. IsUsual e.fault) }
+    ensures passed { OnOk result (ArePassed (S.held stores.old).watches (S.held stores.new).watches) }
+    ensures lost { LosesSince (fault_of V.Commitment.bytes) (S.held stores.old)
+        (written_pair (pair_of (S.held stores.old).processed (cutoff_of cutoff.now))) (S.held stores.new) result }
+    ensures usual { IfErr result (λ e. IsUsual (fault_of V.Commitment.bytes e)) }
 {
     stores.law();
     if stores.floor().cutoff() == *cutoff {
-        return Ok(stores);
+        return Ok(());
     }
-    let stores = stores.set_cutoff(cutoff)?;
+    stores.set_cutoff(cutoff)?;
     stores.sync_metadata()
 }
 

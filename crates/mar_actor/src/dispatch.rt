@@ -3,105 +3,112 @@ ghost use Rattle.std.specs.List.{AllByRecursion};
 ghost use Rattle.std.specs.Prelude.{◌≡◌, ◌<◌, ◌≤◌, ◌-◌, ◌^◌, ◌⊎◌, ◌∷◌, [], ℕ, Contains, IfErr, IfNone, IfOk, IfSome, List, MatchResult, OnErr, OnOk, false, length, map, true};
 ghost use Rattle.mar_key.specs.Hears.{Hears};
 ghost use Rattle.mar_key.specs.Processed.{first_unprocessed};
-ghost use Rattle.mar_node.specs.Faults.{ack_kind, last_height, ticket_limit};
-ghost use Rattle.mar_node.specs.Held.{GoesOn, IsArchiveFault, nothing_written};
-ghost use Rattle.mar_node.specs.Moves.{Dispatches, IsBarred, IsFree, IsNext, IsRead, IsStill, StopsHanding, handed_report, next_in, with_handed};
+ghost use Rattle.mar_node.specs.Faults.{ack_kind, last_height, ticket_limit, want_of_memory};
+ghost use Rattle.mar_node.specs.Held.{GoesOn, Held, IsArchiveFault, nothing_written, outcome, seen};
+ghost use Rattle.mar_node.specs.Moves.{Dispatches, IsBarred, IsFree, IsNext, IsStill, StopsHanding, handed_report, next_in, with_handed};
+ghost use Rattle.mar_shelf.specs.Views.{fault_of};
 ghost use Rattle.mar_node.specs.Step.{HandedBlock, handed_over};
 
-use crate::node::Node;
+use crate::life::Life;
 use crate::reporter::{Exact, Reporter, Update};
 use mar_block::Variant;
 use mar_node::Writes;
-use mar_shelf::{Ended, Fault, Holds, TicketKind};
-use mar_types::{Epocher, Height};
+use mar_shelf::{Fault, Holds, TicketKind};
+use mar_types::Height;
 
-impl<V: Variant, S: Holds<V>, P: Drop, E: Epocher> Node<V, S, P, E> {
-    /// Hands over the next blocks until the window is full, a write bars the next block or it isn't held.
-    pub(crate) fn dispatch<A: Reporter<V>>(self, application: &mut A) -> Result<Self, Ended<V, S>>
-        ensures ran { (handed : List HandedBlock) × Hears (A.told application.old) (map handed_report handed) (A.told application.new)
-            × MatchResult result (λ a. Dispatches self handed a) (λ e. StopsHanding self handed e) }
-    {
-        self.law();
-        let mut node = self;
-        'window: for _handed in 0..node.life.acks.capacity() {
-            let (next, block) = match node.next_block() {
-                Ok(found) => found,
-                Err(ended) => return Err(ended),
-            };
-            match block {
-                None => return Ok(next),
-                Some(block) => match next.hand_over(block, application) {
-                    Ok(handed) => node = handed,
-                    Err(ended) => return Err(ended),
-                },
-            }
+/// Hands over the next blocks until the window is full, a write bars the next block or it isn't held.
+pub(crate) fn dispatch<V, S, P, E, A>(
+    stores: &mut S,
+    life: &mut Life<P, E>,
+    application: &mut A,
+) -> Result<(), Fault<V::Commitment>>
+where
+    V: Variant,
+    S: Holds<V>,
+    A: Reporter<V>,
+    requires intact { (S.held stores.old).intact ≡ true }
+    ensures ran { (handed : List HandedBlock) × Hears (A.told application.old) (map handed_report handed) (A.told application.new)
+        × MatchResult (outcome (fault_of V.Commitment.bytes) (seen (S.held stores.new) life.new) result)
+        (λ a. Dispatches (seen (S.held stores.old) life.old) handed a) (λ e. StopsHanding (seen (S.held stores.old) life.old) handed e) }
+{
+    stores.law();
+    'window: for _handed in 0..life.acks.capacity() {
+        match next_block::<V, S, P, E>(stores, life) {
+            Ok(Some(block)) => match hand_over::<V, P, E, A>(life, block, application) {
+                Ok(()) => {}
+                Err(fault) => return Err(fault),
+            },
+            Ok(None) => return Ok(()),
+            Err(fault) => return Err(fault),
         }
-        Ok(node)
     }
+    Ok(())
+}
 
-    /// The next block to hand over, where there is room for one, no write bars it and it is held.
-    fn next_block(self) -> Result<(Self, Option<V::Block>), Ended<V, S>>
-        ensures same { IfOk result (λ r. IsRead self r.0) }
-        ensures found { IfOk result (λ r. IfSome r.1 (λ b. IsNext self (V.plain b))) }
-        ensures none { IfOk result (λ r. IfNone r.1 (IsStill self)) }
-        ensures goes_on { GoesOn (λ r. r.0.held) self.held nothing_written result }
-        ensures archive { IfErr result (λ e. IsArchiveFault e.fault) }
-    {
-        let Some(height) = self.next_height() else {
-            return Ok((self, None));
-        };
-        let (stores, block) = self.stores.take_block(height)?;
-        Ok((Node { stores, ..self }, block))
+/// The next block to hand over, where there is room for one, no write bars it and it is held.
+fn next_block<V: Variant, S: Holds<V>, P, E>(
+    stores: &mut S,
+    life: &Life<P, E>,
+) -> Result<Option<V::Block>, Fault<V::Commitment>>
+    ensures same { OnOk result (S.held stores.new ≡ record (S.held stores.old) { watches = (S.held stores.new).watches }) }
+    ensures found { IfOk result (λ r. IfSome r (λ b. IsNext (seen (S.held stores.old) life.now) (V.plain b))) }
+    ensures none { IfOk result (λ r. IfNone r (IsStill (seen (S.held stores.old) life.now))) }
+    ensures goes_on { GoesOn (fault_of V.Commitment.bytes) (S.held stores.old) nothing_written (S.held stores.new) result }
+    ensures archive { IfErr result (λ e. IsArchiveFault (fault_of V.Commitment.bytes e)) }
+{
+    match next_height::<V, S, P, E>(stores, life) {
+        None => Ok(None),
+        Some(height) => stores.take_block(height),
     }
+}
 
-    /// The height of the next block, where there is room for one, it is below the last height and no write bars it.
-    fn next_height(&self) -> Option<Height>
-        ensures found { IfSome result (λ h. (length self.now.life.out < self.now.life.sizes.window) × (h ≡ next_in self.now) × (h < last_height)
-            × IsFree self.now h) }
-        ensures none { IfNone result ((self.now.life.sizes.window ≤ length self.now.life.out) ⊎ IsBarred self.now ⊎ (last_height ≤ next_in self.now)
-            ⊎ (2 ^ 64 ≤ first_unprocessed self.now.held.processed)) }
-    {
-        if !self.life.acks.has_capacity() {
-            return None;
-        }
-        let first = self.stores.floor().first_unprocessed()?;
-        let next = self.life.acks.next_dispatch_height(first);
-        if next.get() == u64::MAX || is_barred(self.stores.writes(), next) {
-            return None;
-        }
-        Some(next)
+/// The height of the next block, where there is room for one, it is below the last height and no write bars it.
+fn next_height<V: Variant, S: Holds<V>, P, E>(stores: &S, life: &Life<P, E>) -> Option<Height>
+    ensures found { IfSome result (λ h. (length life.now.out < life.now.sizes.window) × (h ≡ next_in (seen (S.held stores.now) life.now))
+        × (h < last_height) × IsFree (seen (S.held stores.now) life.now) h) }
+    ensures none { IfNone result ((life.now.sizes.window ≤ length life.now.out) ⊎ IsBarred (seen (S.held stores.now) life.now)
+        ⊎ (last_height ≤ next_in (seen (S.held stores.now) life.now)) ⊎ (2 ^ 64 ≤ first_unprocessed (S.held stores.now).processed)) }
+{
+    if !life.acks.has_capacity() {
+        return None;
     }
+    let first = stores.floor().first_unprocessed()?;
+    let next = life.acks.next_dispatch_height(first);
+    if next.get() == u64::MAX || is_barred(stores.writes(), next) {
+        return None;
+    }
+    Some(next)
+}
 
-    /// Hands over a block under a new ticket.
-    fn hand_over<A: Reporter<V>>(
-        self,
-        block: V::Block,
-        application: &mut A,
-    ) -> Result<Self, Ended<V, S>>
-        requires room { length self.life.out < self.life.sizes.window }
-        requires below { (V.plain block).height < last_height }
-        ensures ok { OnOk result (Hears (A.told application.old) (handed_over self.life.next_ack (V.plain block) ∷ []) (A.told application.new)) }
-        ensures err { OnErr result (Hears (A.told application.old) [] (A.told application.new)) }
-        ensures same { IfOk result (λ a. a ≡ with_handed self (record { ticket = self.life.next_ack; block = V.plain block } ∷ [])) }
-        ensures goes_on { GoesOn (λ a. a.held) self.held nothing_written result }
-        ensures kind { IfErr result (λ e. IsArchiveFault e.fault ⊎ ((e.fault ≡ ticket_limit ack_kind) × (self.life.next_ack ≡ 2 ^ 64 - 1))) }
-    {
-        let height = V::height(&block);
-        let ticket = self.life.next_ack;
-        if ticket == u64::MAX {
-            return Err(self.end(Fault::TicketLimit(TicketKind::Ack)));
-        }
-        if application
-            .report(Update::Block(block, Exact::handle(ticket)))
-            .is_err()
-        {
-            return Err(self.run_out());
-        }
-        let mut node = self;
-        node.life.acks.enqueue(ticket, height);
-        node.life.next_ack = ticket + 1;
-        Ok(node)
+/// Hands over a block under a new ticket.
+fn hand_over<V: Variant, P, E, A: Reporter<V>>(
+    life: &mut Life<P, E>,
+    block: V::Block,
+    application: &mut A,
+) -> Result<(), Fault<V::Commitment>>
+    requires room { length life.old.out < life.old.sizes.window }
+    requires below { (V.plain block).height < last_height }
+    ensures ok { OnOk result (Hears (A.told application.old) (handed_over life.old.next_ack (V.plain block) ∷ []) (A.told application.new)) }
+    ensures err { OnErr result (Hears (A.told application.old) [] (A.told application.new)) }
+    ensures same { OnOk result ((held : Held) → seen held life.new
+        ≡ with_handed (seen held life.old) (record { ticket = life.old.next_ack; block = V.plain block } ∷ [])) }
+    ensures kind { IfErr result (λ e. (fault_of V.Commitment.bytes e ≡ want_of_memory)
+        ⊎ ((fault_of V.Commitment.bytes e ≡ ticket_limit ack_kind) × (life.old.next_ack ≡ 2 ^ 64 - 1))) }
+{
+    let height = V::height(&block);
+    let ticket = life.next_ack;
+    if ticket == u64::MAX {
+        return Err(Fault::TicketLimit(TicketKind::Ack));
     }
+    if application
+        .report(Update::Block(block, Exact::handle(ticket)))
+        .is_err()
+    {
+        return Err(Fault::Memory);
+    }
+    life.acks.enqueue(ticket, height);
+    life.next_ack = ticket + 1;
+    Ok(())
 }
 
 /// Whether a write at or below this height isn't covered by a finished sync.

@@ -52,7 +52,6 @@
 mod acknowledge;
 mod derived;
 mod dispatch;
-mod ends;
 mod event;
 mod life;
 mod names;

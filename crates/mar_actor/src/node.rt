@@ -1,27 +1,30 @@
 //! The node, which each of its steps consumes.
-ghost use Rattle.std.specs.Prelude.{◌≡◌, ◌≤◌, ◌+◌, ◌&&◌, ◌∷◌, ◌++◌, [], ℕ, Err, IfErr, IfOk, Ok, OnErr, OnOk, false, map, nat_lt, not};
+ghost use Rattle.std.specs.Prelude.{◌≡◌, ◌≤◌, ◌+◌, ◌&&◌, ◌∷◌, ◌++◌, [], ℕ, IfErr, IfOk, Ok, OnErr, OnOk, false, map, nat_lt, not, true};
 ghost use Rattle.std.specs.List.{list_any};
 ghost use Rattle.mar_store.specs.Changes.{IsNested};
 ghost use Rattle.mar_node.specs.Acks.{is_unmarked};
 ghost use Rattle.mar_node.specs.Event.{sync_finished};
-ghost use Rattle.mar_node.specs.Faults.{want_of_memory};
-ghost use Rattle.mar_node.specs.Held.{ArePassed, AreWritten, GoesOn, IsArchiveFault, IsEndedBy, IsNoStores, IsUsual, nothing_written, remains_of, with_armed};
-ghost use Rattle.mar_node.specs.Moves.{RunsOut};
+ghost use Rattle.mar_node.specs.Held.{ArePassed, AreWritten, IsEndedBy, outcome, remains_of, seen, with_armed};
+ghost use Rattle.mar_node.specs.Moves.{LivesOn, RunsOut};
 ghost use Rattle.mar_inbox.specs.Answers.{told};
 ghost use Rattle.mar_inbox.specs.Views.{value_of};
 ghost use Rattle.mar_node.specs.Promise.{IsSmallEvent, KeepsPromise, heard_with};
 ghost use Rattle.mar_node.specs.Queries.{answers_found};
 ghost use Rattle.mar_node.specs.Stored.{AreSmall};
-ghost use Rattle.mar_node.specs.Writing.{is_open_sync};
+ghost use Rattle.mar_node.specs.Writing.{IsOrdered, is_open_sync};
 ghost use Rattle.mar_shelf.specs.Views.{fault_of, store_name_of};
 ghost use Rattle.mar_actor.specs.Due.{EndsWhereDue, due_fault};
 ghost use Rattle.mar_actor.specs.Told.{TellsInOrder, tips_of};
 ghost use Rattle.mar_actor.specs.Views.{event_of};
 
+use crate::acknowledge::acknowledge;
 use crate::event::Event;
 use crate::life::Life;
-use crate::query::{Told, told_by};
+use crate::query::{Told, answer, told_by};
+use crate::report::report_finalization;
 use crate::reporter::Reporter;
+use crate::start::start;
+use crate::sync::finish_sync;
 use mar_block::{Buffer, Variant};
 use mar_inbox::{AnswerTable, Value};
 use mar_key::Resolver;
@@ -42,11 +45,14 @@ pub struct Node<V: Variant, S: Holds<V>, P: Drop, E: Epocher> {
 pub type Actor<V, F, P, E, FB, FC, M, H> = Node<V, Stores<V, F, FB, FC, M, H>, P, E>;
 
 impl<V: Variant, S: Holds<V>, P: Drop, E: Epocher> Model for Node<V, S, P, E> {
+    ghost use Rattle.std.specs.Prelude.{◌≡◌, true};
     ghost use Rattle.mar_node.specs.Held.{Seen};
 
     ghost Value = { Seen P E };
 
     ghost view = { λ n. record { held = S.held n.stores; life = n.life } };
+
+    ghost invariant = { λ n. (S.held n.stores).intact ≡ true };
 }
 
 impl<V: Variant, S: Holds<V>, P: Drop, E: Epocher> Node<V, S, P, E> {
@@ -90,16 +96,25 @@ impl<V: Variant, S: Holds<V>, P: Drop, E: Epocher> Node<V, S, P, E> {
             × (n.life.sizes ≡ self.life.sizes)) }
     {
         self.law();
-        match event {
-            Event::Start => self.start(application),
-            Event::Message(message) => match told_by(message) {
-                Told::Reported(finalization) => {
-                    self.report_finalization(&finalization, buffer, resolver, application)
-                }
-                Told::Asked(ticket, query) => self.answer(ticket, query, buffer, answers),
-            },
-            Event::Sync(ticket) => self.finish_sync(ticket, application),
-            Event::Ack(ticket) => self.acknowledge(ticket, resolver, application),
+        let Node {
+            mut stores,
+            mut life,
+            of,
+        } = self;
+        match take::<V, S, P, E, B, R, A>(
+            &mut stores,
+            &mut life,
+            event,
+            answers,
+            buffer,
+            resolver,
+            application,
+        ) {
+            Ok(()) => Ok(Node { stores, life, of }),
+            Err(fault) => {
+                let ruins = stores.wreck();
+                Err(Ended { fault, ruins })
+            }
         }
     }
 
@@ -153,25 +168,66 @@ impl<V: Variant, S: Holds<V>, P: Drop, E: Epocher> Node<V, S, P, E> {
     {
         self.stores.writes().is_finished(ticket)
     }
+}
 
-    /// Ends the life for want of memory.
-    pub(crate) fn run_out(self) -> Ended<V, S>
-        ensures goes_on { GoesOn (λ s. s) self.held nothing_written (Err result) }
-        ensures memory { result.fault ≡ want_of_memory }
-        ensures archive { IsArchiveFault result.fault }
-        ensures usual { IsUsual result.fault }
-    {
-        self.end(Fault::Memory)
-    }
-
-    /// Ends the life without a fault of a store.
-    pub(crate) fn end(self, fault: Fault<V::Commitment>) -> Ended<V, S>
-        ensures value { result ≡ record { fault = fault_of V.Commitment.bytes fault; remains = remains_of self.held } }
-        ensures goes_on { IsNoStores (fault_of V.Commitment.bytes fault) → GoesOn (λ s. s) self.held nothing_written (Err result) }
-    {
-        Ended {
-            fault,
-            ruins: self.stores.wreck(),
+/// Takes one event, in place.
+fn take<V, S, P, E, B, R, A>(
+    stores: &mut S,
+    life: &mut Life<P, E>,
+    event: Event<V::Digest, S::Finalization>,
+    answers: &mut AnswerTable<Value<V::Digest, V::Block, S::Finalization>>,
+    buffer: &B,
+    resolver: &mut R,
+    application: &mut A,
+) -> Result<(), Fault<V::Commitment>>
+where
+    V: Variant,
+    S: Holds<V>,
+    E: Epocher,
+    B: Buffer<V>,
+    R: Resolver<V::Commitment>,
+    A: Reporter<V>,
+    requires intact { (S.held stores.old).intact ≡ true }
+    requires blocks { IsNested (S.held stores.old).blocks }
+    requires certs { IsNested (S.held stores.old).certs }
+    requires small { AreSmall (map (λ x. x.value) (S.held stores.old).blocks.held) }
+    requires ordered { IsOrdered (S.held stores.old).writes }
+    requires small_event { IsSmallEvent (event_of V.Digest.bytes S.Finalization.plain event) }
+    requires small_buffer { AreSmall (B.blocks buffer.now) }
+    ensures promise { KeepsPromise (E.epochs life.old.epocher) V.inner (seen (S.held stores.old) life.old)
+        (event_of V.Digest.bytes S.Finalization.plain event ∷ []) (B.blocks buffer.now)
+        (heard_with (A.told application.old) (R.told resolver.old) (told (value_of V.Digest.bytes V.plain S.Finalization.plain) answers.old))
+        (heard_with (A.told application.new) (R.told resolver.new) (told (value_of V.Digest.bytes V.plain S.Finalization.plain) answers.new))
+        (outcome (fault_of V.Commitment.bytes) (seen (S.held stores.new) life.new) result) }
+    ensures answered { OnOk result (told (value_of V.Digest.bytes V.plain S.Finalization.plain) answers.new
+        ≡ told (value_of V.Digest.bytes V.plain S.Finalization.plain) answers.old
+        ++ answers_found V.inner (S.held stores.old) (B.blocks buffer.now) (event_of V.Digest.bytes S.Finalization.plain event)) }
+    ensures unanswered { OnErr result (answers.new ≡ answers.old) }
+    ensures lives { LivesOn (seen (S.held stores.old) life.old) (outcome (fault_of V.Commitment.bytes) (seen (S.held stores.new) life.new) result) }
+    ensures idle { (t : ℕ) → event_of V.Digest.bytes S.Finalization.plain event ≡ sync_finished t → is_open_sync (S.held stores.old).writes.syncs t ≡ false
+        → (result ≡ Ok tt) × (S.held stores.new ≡ S.held stores.old) × (life.new ≡ life.old) }
+    ensures by_value { EndsWhereDue (due_fault V.inner (seen (S.held stores.old) life.old) (B.blocks buffer.now)
+        (event_of V.Digest.bytes S.Finalization.plain event)) (outcome (fault_of V.Commitment.bytes) (seen (S.held stores.new) life.new) result) }
+    ensures tells { TellsInOrder (A.told application.old) (tips_of V.inner (seen (S.held stores.old) life.old) (B.blocks buffer.now)
+        (event_of V.Digest.bytes S.Finalization.plain event)) (A.told application.new)
+        (outcome (fault_of V.Commitment.bytes) (seen (S.held stores.new) life.new) result) }
+{
+    match event {
+        Event::Start => start::<V, S, P, E, A>(stores, life, application),
+        Event::Message(message) => match told_by(message) {
+            Told::Reported(finalization) => report_finalization::<V, S, P, E, B, R, A>(
+                stores,
+                life,
+                &finalization,
+                buffer,
+                resolver,
+                application,
+            ),
+            Told::Asked(ticket, query) => answer::<V, S, B>(stores, ticket, query, buffer, answers),
+        },
+        Event::Sync(ticket) => finish_sync::<V, S, P, E, A>(stores, life, ticket, application),
+        Event::Ack(ticket) => {
+            acknowledge::<V, S, P, E, R, A>(stores, life, ticket, resolver, application)
         }
     }
 }

@@ -1,5 +1,5 @@
 //! Opening the stores of a node that begins.
-ghost use Rattle.std.specs.Prelude.{◌≡◌, ◌⊎◌, IfErr, IfOk};
+ghost use Rattle.std.specs.Prelude.{◌≡◌, ◌⊎◌, IfErr, IfOk, true};
 ghost use Rattle.mar_node.specs.Held.{ArePassed, IsEndedBy, IsUsual};
 ghost use Rattle.mar_node.specs.Promise.{IsFound, IsOpeningFault, IsSmallBegin, KeepsOpening};
 ghost use Rattle.mar_store.specs.Sizes.{IsSmall};
@@ -94,11 +94,19 @@ fn open_stores<V: Variant, S: Holds<V>, E: Epocher>(
     epocher: &E,
 ) -> Result<S, Ended<V, S>>
     requires small { IsSmall (V.plain genesis.now).encoded }
+    ensures intact { IfOk result (λ s. (S.held s).intact ≡ true) }
     ensures opens { IfOk result (λ s. OpensAs (E.epochs epocher.now) (S.Ruins.left ruins) luck (V.plain genesis.now) (S.held s)) }
     ensures fails { IfErr result (λ e. FailsToOpen (E.epochs epocher.now) (S.Ruins.left ruins) luck (V.plain genesis.now) e) }
 {
-    let stores = S::reopen(alloc, ruins, luck, max_staged)?;
-    let stores = begin::<V, S>(stores, genesis)?;
+    let mut stores = S::reopen(alloc, ruins, luck, max_staged)?;
+    if let Err(fault) = begin::<V, S>(&mut stores, genesis) {
+        let ruins = stores.wreck();
+        return Err(Ended { fault, ruins });
+    }
     stores.law();
-    derive::<V, S, E>(stores, epocher)
+    if let Err(fault) = derive::<V, S, E>(&mut stores, epocher) {
+        let ruins = stores.wreck();
+        return Err(Ended { fault, ruins });
+    }
+    Ok(stores)
 }

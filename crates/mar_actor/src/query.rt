@@ -9,22 +9,19 @@ ghost use Rattle.mar_key.specs.Views.{processed_of};
 ghost use Rattle.mar_node.specs.Answers.{anchor, block_info, bytes_of, certificate_info, finalization_value, info, or_none, processed_value};
 ghost use Rattle.mar_node.specs.Event.{message_told};
 ghost use Rattle.mar_node.specs.Held.{GoesOn, IsUsual, nothing_written};
-ghost use Rattle.mar_node.specs.Moves.{IsRead};
 ghost use Rattle.mar_node.specs.Queries.{answers_found, block_found, value_found};
 ghost use Rattle.mar_node.specs.Messages.{of_height};
-ghost use Rattle.mar_shelf.specs.Views.{entry_of};
+ghost use Rattle.mar_shelf.specs.Views.{entry_of, fault_of};
 ghost use Rattle.mar_actor.specs.Asking.{backed_value};
 ghost use Rattle.mar_actor.specs.Views.{no_block, no_notarization, told_of};
 
-use crate::ends::out_of_memory;
-use crate::node::Node;
 use crate::reads::{block_at_hand, newest_certificate};
 use mar_block::{Buffer, Variant};
 use mar_cert::{AsFinalization, CommitsTo};
 use mar_inbox::{AnswerTable, Identifier, Message, Query, Value};
 use mar_key::Processed;
-use mar_shelf::{Ended, Holds};
-use mar_types::{Epocher, Height};
+use mar_shelf::{Fault, Holds};
+use mar_types::Height;
 use std::convert::Infallible;
 
 /// What a caller tells, or asks under a ticket.
@@ -52,82 +49,80 @@ pub(crate) fn told_by<D, F>(message: Message<D, Infallible, Infallible, F>) -> T
     }
 }
 
-impl<V: Variant, S: Holds<V>, P: Drop, E: Epocher> Node<V, S, P, E> {
-    /// Answers a query from what stands.
-    pub(crate) fn answer<B: Buffer<V>>(
-        self,
-        ticket: u64,
-        query: Query<V::Digest>,
-        buffer: &B,
-        answers: &mut AnswerTable<Value<V::Digest, V::Block, S::Finalization>>,
-    ) -> Result<Self, Ended<V, S>>
-        ensures answered { OnOk result (told (value_of V.Digest.bytes V.plain S.Finalization.plain) answers.new
-            ≡ told (value_of V.Digest.bytes V.plain S.Finalization.plain) answers.old
-            ++ answers_found V.inner self.held (B.blocks buffer.now) (message_told (Some ticket) (query_of V.Digest.bytes query))) }
-        ensures unanswered { OnErr result (answers.new ≡ answers.old) }
-        ensures same { IfOk result (IsRead self) }
-        ensures goes_on { GoesOn (λ a. a.held) self.held nothing_written result }
-        ensures usual { IfErr result (λ e. IsUsual e.fault) }
-    {
-        let (stores, value) = value_for::<V, S, B>(self.stores, query, buffer)?;
-        let node = Node { stores, ..self };
-        match answers.put(ticket, value) {
-            Ok(()) => Ok(node),
-            Err(_) => Err(node.run_out()),
-        }
+/// Answers a query from what stands.
+pub(crate) fn answer<V: Variant, S: Holds<V>, B: Buffer<V>>(
+    stores: &mut S,
+    ticket: u64,
+    query: Query<V::Digest>,
+    buffer: &B,
+    answers: &mut AnswerTable<Value<V::Digest, V::Block, S::Finalization>>,
+) -> Result<(), Fault<V::Commitment>>
+    ensures answered { OnOk result (told (value_of V.Digest.bytes V.plain S.Finalization.plain) answers.new
+        ≡ told (value_of V.Digest.bytes V.plain S.Finalization.plain) answers.old
+        ++ answers_found V.inner (S.held stores.old) (B.blocks buffer.now) (message_told (Some ticket) (query_of V.Digest.bytes query))) }
+    ensures unanswered { OnErr result (answers.new ≡ answers.old) }
+    ensures same { OnOk result (S.held stores.new ≡ record (S.held stores.old) { watches = (S.held stores.new).watches }) }
+    ensures goes_on { GoesOn (fault_of V.Commitment.bytes) (S.held stores.old) nothing_written (S.held stores.new) result }
+    ensures usual { IfErr result (λ e. IsUsual (fault_of V.Commitment.bytes e)) }
+{
+    let value = value_for::<V, S, B>(stores, query, buffer)?;
+    match answers.put(ticket, value) {
+        Ok(()) => Ok(()),
+        Err(_) => Err(Fault::Memory),
     }
 }
 
 /// What a query is answered.
 fn value_for<V: Variant, S: Holds<V>, B: Buffer<V>>(
-    stores: S,
+    stores: &mut S,
     query: Query<V::Digest>,
     buffer: &B,
-) -> Result<(S, Value<V::Digest, V::Block, S::Finalization>), Ended<V, S>>
-    ensures found { IfOk result (λ r. value_found V.inner (S.held stores) (B.blocks buffer.now) (query_of V.Digest.bytes query)
-        ≡ Some (value_of V.Digest.bytes V.plain S.Finalization.plain r.1)) }
-    ensures same { IfOk result (λ r. S.held r.0 ≡ record (S.held stores) { watches = (S.held r.0).watches }) }
-    ensures goes_on { GoesOn (λ r. S.held r.0) (S.held stores) nothing_written result }
-    ensures usual { IfErr result (λ e. IsUsual e.fault) }
+) -> Result<Value<V::Digest, V::Block, S::Finalization>, Fault<V::Commitment>>
+    ensures found { IfOk result (λ r. value_found V.inner (S.held stores.old) (B.blocks buffer.now) (query_of V.Digest.bytes query)
+        ≡ Some (value_of V.Digest.bytes V.plain S.Finalization.plain r)) }
+    ensures same { OnOk result (S.held stores.new ≡ record (S.held stores.old) { watches = (S.held stores.new).watches }) }
+    ensures goes_on { GoesOn (fault_of V.Commitment.bytes) (S.held stores.old) nothing_written (S.held stores.new) result }
+    ensures usual { IfErr result (λ e. IsUsual (fault_of V.Commitment.bytes e)) }
 {
     match query {
         Query::Info(identifier) => info_of::<V, S>(stores, identifier),
         Query::Block(identifier) => match block_for::<V, S, B>(stores, identifier, buffer) {
-            Ok((stores, block)) => Ok((stores, of_block(block))),
+            Ok(block) => Ok(of_block(block)),
             Err(ended) => Err(ended),
         },
         Query::Finalization(height) => match stores.certificate_at(height) {
-            Ok((stores, finalization)) => Ok((stores, of_finalization(finalization))),
+            Ok(finalization) => Ok(of_finalization(finalization)),
             Err(ended) => Err(ended),
         },
         Query::Processed => {
             let processed = stores.floor().processed();
-            Ok((stores, of_processed(processed)))
+            Ok(of_processed(processed))
         }
         Query::Anchor => backing_block::<V, S>(stores),
-        Query::Verified(_round) => Ok((stores, Value::None)),
+        Query::Verified(_round) => Ok(Value::None),
     }
 }
 
 /// Height and digest of the finalized block that is asked for.
 fn info_of<V: Variant, S: Holds<V>>(
-    stores: S,
+    stores: &mut S,
     identifier: Identifier<V::Digest>,
-) -> Result<(S, Value<V::Digest, V::Block, S::Finalization>), Ended<V, S>>
-    ensures found { IfOk result (λ r. or_none (info V.inner (S.held stores).blocks.held (S.held stores).certs.held (identifier_of V.Digest.bytes identifier))
-        ≡ value_of V.Digest.bytes V.plain S.Finalization.plain r.1) }
-    ensures same { IfOk result (λ r. S.held r.0 ≡ record (S.held stores) { watches = (S.held r.0).watches }) }
-    ensures goes_on { GoesOn (λ r. S.held r.0) (S.held stores) nothing_written result }
-    ensures usual { IfErr result (λ e. IsUsual e.fault) }
+) -> Result<Value<V::Digest, V::Block, S::Finalization>, Fault<V::Commitment>>
+    ensures found { IfOk result (λ r. or_none (info V.inner (S.held stores.old).blocks.held (S.held stores.old).certs.held
+        (identifier_of V.Digest.bytes identifier))
+        ≡ value_of V.Digest.bytes V.plain S.Finalization.plain r) }
+    ensures same { OnOk result (S.held stores.new ≡ record (S.held stores.old) { watches = (S.held stores.new).watches }) }
+    ensures goes_on { GoesOn (fault_of V.Commitment.bytes) (S.held stores.old) nothing_written (S.held stores.new) result }
+    ensures usual { IfErr result (λ e. IsUsual (fault_of V.Commitment.bytes e)) }
 {
     match identifier {
         Identifier::Height(height) => info_at::<V, S>(stores, height),
         Identifier::Digest(digest) => match stores.block_of(&digest) {
-            Ok((stores, block)) => Ok((stores, info_of_block::<V, S>(block))),
+            Ok(block) => Ok(info_of_block::<V, S>(block)),
             Err(ended) => Err(ended),
         },
         Identifier::Latest => match newest_certificate::<V, S>(stores) {
-            Ok((stores, newest)) => Ok((stores, info_of_certificate::<V, S>(newest))),
+            Ok(newest) => Ok(info_of_certificate::<V, S>(newest)),
             Err(ended) => Err(ended),
         },
     }
@@ -135,23 +130,23 @@ fn info_of<V: Variant, S: Holds<V>>(
 
 /// Height and digest of the block that is finalized at a height: by its certificate, or else by the block itself.
 fn info_at<V: Variant, S: Holds<V>>(
-    stores: S,
+    stores: &mut S,
     height: Height,
-) -> Result<(S, Value<V::Digest, V::Block, S::Finalization>), Ended<V, S>>
-    ensures found { IfOk result (λ r. or_none (info V.inner (S.held stores).blocks.held (S.held stores).certs.held (of_height height))
-        ≡ value_of V.Digest.bytes V.plain S.Finalization.plain r.1) }
-    ensures same { IfOk result (λ r. S.held r.0 ≡ record (S.held stores) { watches = (S.held r.0).watches }) }
-    ensures goes_on { GoesOn (λ r. S.held r.0) (S.held stores) nothing_written result }
-    ensures usual { IfErr result (λ e. IsUsual e.fault) }
+) -> Result<Value<V::Digest, V::Block, S::Finalization>, Fault<V::Commitment>>
+    ensures found { IfOk result (λ r. or_none (info V.inner (S.held stores.old).blocks.held (S.held stores.old).certs.held (of_height height))
+        ≡ value_of V.Digest.bytes V.plain S.Finalization.plain r) }
+    ensures same { OnOk result (S.held stores.new ≡ record (S.held stores.old) { watches = (S.held stores.new).watches }) }
+    ensures goes_on { GoesOn (fault_of V.Commitment.bytes) (S.held stores.old) nothing_written (S.held stores.new) result }
+    ensures usual { IfErr result (λ e. IsUsual (fault_of V.Commitment.bytes e)) }
 {
     match stores.certificate_at(height) {
-        Ok((stores, found)) => match found {
+        Ok(found) => match found {
             Some(certificate) => {
                 let found = Some((height, certificate));
-                Ok((stores, info_of_certificate::<V, S>(found)))
+                Ok(info_of_certificate::<V, S>(found))
             }
             None => match stores.block_at(height) {
-                Ok((stores, block)) => Ok((stores, info_of_block::<V, S>(block))),
+                Ok(block) => Ok(info_of_block::<V, S>(block)),
                 Err(ended) => Err(ended),
             },
         },
@@ -161,26 +156,26 @@ fn info_at<V: Variant, S: Holds<V>>(
 
 /// The block that is asked for.
 fn block_for<V: Variant, S: Holds<V>, B: Buffer<V>>(
-    stores: S,
+    stores: &mut S,
     identifier: Identifier<V::Digest>,
     buffer: &B,
-) -> Result<(S, Option<V::Block>), Ended<V, S>>
-    ensures found { IfOk result (λ r. option_map V.plain r.1
-        ≡ block_found V.inner (S.held stores) (B.blocks buffer.now) (identifier_of V.Digest.bytes identifier)) }
-    ensures same { IfOk result (λ r. S.held r.0 ≡ record (S.held stores) { watches = (S.held r.0).watches }) }
-    ensures goes_on { GoesOn (λ r. S.held r.0) (S.held stores) nothing_written result }
-    ensures usual { IfErr result (λ e. IsUsual e.fault) }
+) -> Result<Option<V::Block>, Fault<V::Commitment>>
+    ensures found { IfOk result (λ r. option_map V.plain r
+        ≡ block_found V.inner (S.held stores.old) (B.blocks buffer.now) (identifier_of V.Digest.bytes identifier)) }
+    ensures same { OnOk result (S.held stores.new ≡ record (S.held stores.old) { watches = (S.held stores.new).watches }) }
+    ensures goes_on { GoesOn (fault_of V.Commitment.bytes) (S.held stores.old) nothing_written (S.held stores.new) result }
+    ensures usual { IfErr result (λ e. IsUsual (fault_of V.Commitment.bytes e)) }
 {
     match identifier {
         Identifier::Height(height) => stores.block_at(height),
         Identifier::Digest(digest) => match buffer.find_by_digest(&digest) {
-            Ok(Some(block)) => Ok((stores, Some(block))),
+            Ok(Some(block)) => Ok(Some(block)),
             Ok(None) => stores.block_of(&digest),
-            Err(_) => Err(out_of_memory::<V, S>(stores)),
+            Err(_) => Err(Fault::Memory),
         },
         Identifier::Latest => match newest_certificate::<V, S>(stores) {
-            Ok((stores, newest)) => match newest {
-                None => Ok((stores, None)),
+            Ok(newest) => match newest {
+                None => Ok(None),
                 Some((_height, finalization)) => {
                     block_at_hand::<V, S, B>(stores, finalization.payload(), buffer)
                 }
@@ -192,20 +187,20 @@ fn block_for<V: Variant, S: Holds<V>, B: Buffer<V>>(
 
 /// The processed height and the block that backs it.
 fn backing_block<V: Variant, S: Holds<V>>(
-    stores: S,
-) -> Result<(S, Value<V::Digest, V::Block, S::Finalization>), Ended<V, S>>
-    ensures found { IfOk result (λ r. or_none (anchor (S.held stores).blocks.held (S.held stores).processed)
-        ≡ value_of V.Digest.bytes V.plain S.Finalization.plain r.1) }
-    ensures same { IfOk result (λ r. S.held r.0 ≡ record (S.held stores) { watches = (S.held r.0).watches }) }
-    ensures goes_on { GoesOn (λ r. S.held r.0) (S.held stores) nothing_written result }
-    ensures usual { IfErr result (λ e. IsUsual e.fault) }
+    stores: &mut S,
+) -> Result<Value<V::Digest, V::Block, S::Finalization>, Fault<V::Commitment>>
+    ensures found { IfOk result (λ r. or_none (anchor (S.held stores.old).blocks.held (S.held stores.old).processed)
+        ≡ value_of V.Digest.bytes V.plain S.Finalization.plain r) }
+    ensures same { OnOk result (S.held stores.new ≡ record (S.held stores.old) { watches = (S.held stores.new).watches }) }
+    ensures goes_on { GoesOn (fault_of V.Commitment.bytes) (S.held stores.old) nothing_written (S.held stores.new) result }
+    ensures usual { IfErr result (λ e. IsUsual (fault_of V.Commitment.bytes e)) }
 {
-    match anchor_height::<V, S>(&stores) {
-        None => Ok((stores, Value::None)),
+    match anchor_height::<V, S>(stores) {
+        None => Ok(Value::None),
         Some(height) => match stores.block_at(height) {
-            Ok((stores, block)) => {
+            Ok(block) => {
                 let processed = stores.floor().processed();
-                Ok((stores, of_anchor(processed, block)))
+                Ok(of_anchor(processed, block))
             }
             Err(ended) => Err(ended),
         },

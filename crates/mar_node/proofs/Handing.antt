@@ -41,7 +41,7 @@ HearsFront-more old xs ys new (front, (rest, is), heard) = (front, (rest ++ ys, 
 pub HearsFront-then : {T : Type 0} (old : Option (List T)) (xs : List T) (mid : Option (List T)) (ys : List T) (new : Option (List T)) → Hears old xs mid → HearsFront mid ys new → HearsFront old (xs ++ ys) new
 HearsFront-then old xs mid ys new before (front, (rest, is), heard) = (xs ++ front, (rest, ap (λ zs. xs ++ zs) is ∙ sym (append_assoc xs front rest)), Hears-then old mid new xs front before heard)
 
-pub HearsUpTo-then : {T A : Type 0} (old : Option (List T)) (xs : List T) (mid : Option (List T)) (ys : List T) (new : Option (List T)) (result : Result A Ending) → Hears old xs mid → HearsUpTo mid ys new result → HearsUpTo old (xs ++ ys) new result
+pub HearsUpTo-then : {T A C : Type 0} (old : Option (List T)) (xs : List T) (mid : Option (List T)) (ys : List T) (new : Option (List T)) (result : Result A C) → Hears old xs mid → HearsUpTo mid ys new result → HearsUpTo old (xs ++ ys) new result
 HearsUpTo-then old xs mid ys new (Ok r) before after = Hears-then old mid new xs ys before after
 HearsUpTo-then old xs mid ys new (Err e) before after = HearsFront-then old xs mid ys new before after
 

@@ -1,5 +1,5 @@
 -- What a step keeps, and why one ends a life: from call to call.
-use Rattle.std.proofs.Common.{◌≡◌, ◌⊎◌, inl, inr, ℕ, zero, suc, ◌+◌, ◌-◌, ◌^◌, ◌<◌, ◌≤◌, Bool, List, length, Option, Result, Ok, Err, IfErr, IfOk, MatchResult, sym, ◌∙◌, ap, subst, arith, refl}
+use Rattle.std.proofs.Common.{◌≡◌, ◌⊎◌, inl, inr, ℕ, zero, suc, ◌+◌, ◌-◌, ◌^◌, ◌<◌, ◌≤◌, Bool, List, length, Option, Result, Ok, Err, IfErr, IfOk, MatchResult, sym, ◌∙◌, ap, subst, arith, refl, true}
 use Rattle.mar_types.specs.Epochs.{Epochs}
 use Rattle.mar_types.specs.Round.{Round}
 use Rattle.mar_cert.specs.Block.{Block}
@@ -49,6 +49,7 @@ LivesOn-ran a told told' (Ok new) (handed, heard, ran) = record {
   provider = ap (λ s. s.life.provider) ran.same;
   epocher = ap (λ s. s.life.epocher) ran.same;
   sizes = ap (λ s. s.life.sizes) ran.same;
+  intact = ap (λ s. s.held.intact) ran.same;
 }
 LivesOn-ran a told told' (Err x) (handed, heard, stops) = record { cause = stops.lost.cause; tickets = (λ is. by is stops.kind, λ is. absurd (no_sync is stops.kind)) }
   where
@@ -70,6 +71,7 @@ pub record IsPart {P E : Type 0} (old new : Seen P E) : Type 0 where
   pub sizes : new.life.sizes ≡ old.life.sizes
   pub next_ack : new.life.next_ack ≡ old.life.next_ack
   pub next_sync : new.held.writes.next_sync ≡ old.held.writes.next_sync
+  pub intact : new.held.intact ≡ old.held.intact
 
 pub IsPart-then : {P E : Type 0} (a m n : Seen P E) → IsPart a m → IsPart m n → IsPart a n
 IsPart-then a m n first second = record {
@@ -79,6 +81,7 @@ IsPart-then a m n first second = record {
   sizes = second.sizes ∙ first.sizes;
   next_ack = second.next_ack ∙ first.next_ack;
   next_sync = second.next_sync ∙ first.next_sync;
+  intact = second.intact ∙ first.intact;
 }
 
 pub EndsLife-then : {P E : Type 0} (a m : Seen P E) (x : Ending) → IsPart a m → EndsLife m x → EndsLife a x
@@ -95,12 +98,13 @@ LivesOn-then a m (Ok new) part same = record {
   provider = same.provider ∙ part.provider;
   epocher = same.epocher ∙ part.epocher;
   sizes = same.sizes ∙ part.sizes;
+  intact = same.intact ∙ part.intact;
 }
 LivesOn-then a m (Err x) part ends = EndsLife-then a m x part ends
 
 -- a part is a step that gives no ticket
 pub LivesOn-part : {P E : Type 0} (a : Seen P E) (new : Seen P E) → IsPart a new → LivesOn a (Ok new)
-LivesOn-part a new part = record { passed = part.passed; tickets = let same : new.life.next_ack ≡ a.life.next_ack = part.next_ack in omega arith; sync_tickets = let same : new.held.writes.next_sync ≡ a.held.writes.next_sync = part.next_sync in omega arith; provider = part.provider; epocher = part.epocher; sizes = part.sizes }
+LivesOn-part a new part = record { passed = part.passed; tickets = let same : new.life.next_ack ≡ a.life.next_ack = part.next_ack in omega arith; sync_tickets = let same : new.held.writes.next_sync ≡ a.held.writes.next_sync = part.next_sync in omega arith; provider = part.provider; epocher = part.epocher; sizes = part.sizes; intact = part.intact }
 
 -- calls that went well, or of which the last failed
 pub LivesOn-goes : {P E : Type 0} (a : Seen P E) (written : Written) (result : Result (Seen P E) Ending) → IfOk result (λ new. ArePassed a.held.watches new.held.watches → IsPart a new) → MatchResult result (λ new. Grew a.held written new.held) (Loses a.held written) → IfErr result (λ x. IsUsual x.fault) → LivesOn a result
@@ -115,7 +119,7 @@ moved a blocks certs cutoff pairs watches tip writes witnessed = record a {
 }
 
 pub IsPart-moved : {P E : Type 0} (a m : Seen P E) (blocks : Kept (At Block)) (certs : Kept (At Finalization)) (cutoff : Cutoff) (pairs : List Pair) (watches : Watches) (tip : ℕ) (writes : Writing) (witnessed : Round) → m ≡ moved a blocks certs cutoff pairs watches tip writes witnessed → writes.next_sync ≡ a.held.writes.next_sync → ArePassed a.held.watches m.held.watches → IsPart a m
-IsPart-moved a m blocks certs cutoff pairs watches tip writes witnessed is same passed = record { passed = passed; provider = ap (λ s. s.life.provider) is; epocher = ap (λ s. s.life.epocher) is; sizes = ap (λ s. s.life.sizes) is; next_ack = ap (λ s. s.life.next_ack) is; next_sync = ap (λ s. s.held.writes.next_sync) is ∙ same }
+IsPart-moved a m blocks certs cutoff pairs watches tip writes witnessed is same passed = record { passed = passed; provider = ap (λ s. s.life.provider) is; epocher = ap (λ s. s.life.epocher) is; sizes = ap (λ s. s.life.sizes) is; next_ack = ap (λ s. s.life.next_ack) is; next_sync = ap (λ s. s.held.writes.next_sync) is ∙ same; intact = ap (λ s. s.held.intact) is }
 
 pub IsPart-read : {P E : Type 0} (a m : Seen P E) → IsRead a m → ArePassed a.held.watches m.held.watches → IsPart a m
 IsPart-read a m is passed = IsPart-moved a m _ _ _ _ _ _ _ _ is refl passed
@@ -145,7 +149,7 @@ abbrev pub given_in : {P E : Type 0} → Seen P E → ℕ → Seen P E
 given_in a t = record a { life = record a.life { out = with_mark t mark_given a.life.out } }
 
 pub IsPart-drained : {P E : Type 0} (epochs : Epochs) (a : Seen P E) (t : ℕ) (is_drained : Bool) (d : Seen P E) → Drains epochs (given_in a t) is_drained d → ArePassed a.held.watches d.held.watches → IsPart a d
-IsPart-drained epochs a t is_drained d drains passed = record { passed = passed; provider = ap (λ s. s.life.provider) drains.same; epocher = ap (λ s. s.life.epocher) drains.same; sizes = ap (λ s. s.life.sizes) drains.same; next_ack = ap (λ s. s.life.next_ack) drains.same; next_sync = ap (λ s. s.held.writes.next_sync) drains.same }
+IsPart-drained epochs a t is_drained d drains passed = record { passed = passed; provider = ap (λ s. s.life.provider) drains.same; epocher = ap (λ s. s.life.epocher) drains.same; sizes = ap (λ s. s.life.sizes) drains.same; next_ack = ap (λ s. s.life.next_ack) drains.same; next_sync = ap (λ s. s.held.writes.next_sync) drains.same; intact = ap (λ s. s.held.intact) drains.same }
 
 -- THE STEP
 
@@ -185,6 +189,7 @@ LivesOn-started a m new part started passed = record {
   passed = passed;
   tickets = let same : new.life.next_ack ≡ a.life.next_ack = ap (λ s. s.life.next_ack) started ∙ part.next_ack in omega arith;
   sync_tickets = let next : new.held.writes.next_sync ≡ a.held.writes.next_sync + 1 = ap (λ s. s.held.writes.next_sync) started ∙ ap (λ k. k + 1) part.next_sync in omega arith;
+  intact = ap (λ s. s.held.intact) started ∙ part.intact;
   provider = ap (λ s. s.life.provider) started ∙ part.provider;
   epocher = ap (λ s. s.life.epocher) started ∙ part.epocher;
   sizes = ap (λ s. s.life.sizes) started ∙ part.sizes;
@@ -198,3 +203,8 @@ EndsLife-unstarted a m x part cause (inr (limit, last)) = record { cause = cause
 -- one that finished keeps the tickets
 pub IsPart-finished : {P E : Type 0} (a m : Seen P E) (t : ℕ) → FinishesSync t a m → ArePassed a.held.watches m.held.watches → IsPart a m
 IsPart-finished a m t finishes passed = IsPart-moved a m _ _ _ _ _ _ _ _ finishes.same refl passed
+
+-- no call that changes a store failed
+pub intact_in : {P E : Type 0} (a : Seen P E) (result : Result (Seen P E) Ending) → a.held.intact ≡ true → LivesOn a result → IfOk result (λ new. new.held.intact ≡ true)
+intact_in a (Ok new) whole same = same.intact ∙ whole
+intact_in a (Err x) whole ends = tt

@@ -56,7 +56,7 @@ raise_asks-append c (x ∷ xs) ys = by (cutoff_le x c) refl (raise_asks-append c
     by false above same other = ap (λ zs. retain (above_round x) ∷ zs) (other ∙ ap (λ d. raise_asks x xs ++ raise_asks (greatest_of d xs) ys) (sym (max_high c x above)))
 
 -- what is heard as a height is processed: one retain, the raise to its round, the raise over epochs
-pub HearsUpTo-processed : {A : Type 0} (result : Result A Ending) (first second third last : Option (List Call)) (call : Call) (c d : Cutoff) (xs ys : List Cutoff) → Hears first (call ∷ []) second → Hears second (raise_asks c xs) third → d ≡ greatest_of c xs → HearsUpTo third (raise_asks d ys) last result → HearsUpTo first (call ∷ raise_asks c (xs ++ ys)) last result
+pub HearsUpTo-processed : {A C : Type 0} (result : Result A C) (first second third last : Option (List Call)) (call : Call) (c d : Cutoff) (xs ys : List Cutoff) → Hears first (call ∷ []) second → Hears second (raise_asks c xs) third → d ≡ greatest_of c xs → HearsUpTo third (raise_asks d ys) last result → HearsUpTo first (call ∷ raise_asks c (xs ++ ys)) last result
 HearsUpTo-processed result first second third last call c d xs ys before raised is after =
     subst (λ zs. HearsUpTo first (call ∷ zs) last result) (sym (raise_asks-append c xs ys))
     (HearsUpTo-then first (call ∷ raise_asks c xs) third (raise_asks (greatest_of c xs) ys) last result (Hears-then first second third (call ∷ []) (raise_asks c xs) before raised) (subst (λ k. HearsUpTo third (raise_asks k ys) last result) is after))
@@ -89,7 +89,7 @@ module _ {P E : Type 0} (epochs_of : E → Epochs) (old one two : Seen P E) (pro
       (HearsFront-raised old.held.cutoff (option_to_list (option_map at_round (round_at old.held.certs.held height))) (closed_at (epochs_of old.life.epocher) height) second last (subst (λ zs. HearsFront second zs last) raised_old front))
 
   -- or it went on, and over the epochs
-  pub process_asks : (three : Seen P E) (result : Result (Seen P E) Ending) (first second third last : Option (List Call)) (witnessed : Round) → RaisesTo two (option_to_list (option_map at_round round)) witnessed three → Hears first (retain (above_height height) ∷ []) second → Hears second (raise_asks two.held.cutoff (option_to_list (option_map at_round round))) third → HearsUpTo third (raise_asks three.held.cutoff (closed_at (epochs_of three.life.epocher) height)) last result → HearsUpTo first (retain (above_height height) ∷ raise_asks old.held.cutoff retired_old) last result
+  pub process_asks : {A C : Type 0} (three : Seen P E) (result : Result A C) (first second third last : Option (List Call)) (witnessed : Round) → RaisesTo two (option_to_list (option_map at_round round)) witnessed three → Hears first (retain (above_height height) ∷ []) second → Hears second (raise_asks two.held.cutoff (option_to_list (option_map at_round round))) third → HearsUpTo third (raise_asks three.held.cutoff (closed_at (epochs_of three.life.epocher) height)) last result → HearsUpTo first (retain (above_height height) ∷ raise_asks old.held.cutoff retired_old) last result
   process_asks three result first second third last witnessed raised before between after =
       HearsUpTo-processed result first second third last (retain (above_height height)) old.held.cutoff three.held.cutoff (option_to_list (option_map at_round (round_at old.held.certs.held height))) (closed_at (epochs_of old.life.epocher) height)
       before

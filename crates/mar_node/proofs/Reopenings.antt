@@ -144,7 +144,7 @@ module _ (old_blocks : Left (At Block)) (old_certs : Left (At Finalization)) (ol
             passed_four = ArePassed-then watches two four passed_two (ArePassed-store two meta_store wm passed_meta)
 
         -- and what each found is what its luck keeps
-        pub reopens : (luck : ℕ) (ws : Watch) → Passes watches.cache ws → 0 < length old_values → IfSome watches.blocks.keeps (λ keeps. blocks.held ≡ lucky_found (keeps_by keeps luck) old_blocks) → IfSome watches.certs.keeps (λ keeps. certs.held ≡ lucky_found (keeps_by keeps luck) old_certs) → IfSome watches.meta.keeps (λ keeps. values ≡ lucky_values (keeps_by keeps luck 0) old_values) → ReopensAs old luck (record { blocks = blocks; certs = certs; processed = progress.processed; cutoff = progress.cutoff; witnessed = progress.witnessed; pairs = progress.pairs; writes = no_writes; watches = record { blocks = wb; certs = wc; meta = progress.watch; cache = ws } })
+        pub reopens : (luck : ℕ) (ws : Watch) → Passes watches.cache ws → 0 < length old_values → IfSome watches.blocks.keeps (λ keeps. blocks.held ≡ lucky_found (keeps_by keeps luck) old_blocks) → IfSome watches.certs.keeps (λ keeps. certs.held ≡ lucky_found (keeps_by keeps luck) old_certs) → IfSome watches.meta.keeps (λ keeps. values ≡ lucky_values (keeps_by keeps luck 0) old_values) → ReopensAs old luck (record { blocks = blocks; certs = certs; processed = progress.processed; cutoff = progress.cutoff; witnessed = progress.witnessed; pairs = progress.pairs; writes = no_writes; watches = record { blocks = wb; certs = wc; meta = progress.watch; cache = ws }; intact = progress.intact })
         reopens luck ws passes some lucky_blocks lucky_certs lucky_meta = record {
           blocks = reopened;
           certs = certs_reopened;
@@ -161,6 +161,7 @@ module _ (old_blocks : Left (At Block)) (old_certs : Left (At Finalization)) (ol
           pairs = ap (λ p. p.pairs) is;
           writes = refl;
           passed = all_passed ws passes;
+          intact = ap (λ p. p.intact) is;
           no_cache = refl;
         }
           where

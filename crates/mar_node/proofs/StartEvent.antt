@@ -85,7 +85,7 @@ module _ {P E : Type 0} (config : Config) (chain : Chain) (a : Seen P E) (buffer
 
 -- the tip alone moves, and the store of certificates is read
 IsPart-newest : {P E : Type 0} (a m : Seen P E) → IsRead (with_newest a) m → ArePassed a.held.watches m.held.watches → IsPart a m
-IsPart-newest a m same passed = record { passed = passed; provider = ap (λ s. s.life.provider) same; epocher = ap (λ s. s.life.epocher) same; sizes = ap (λ s. s.life.sizes) same; next_ack = ap (λ s. s.life.next_ack) same; next_sync = ap (λ s. s.held.writes.next_sync) same }
+IsPart-newest a m same passed = record { passed = passed; provider = ap (λ s. s.life.provider) same; epocher = ap (λ s. s.life.epocher) same; sizes = ap (λ s. s.life.sizes) same; next_ack = ap (λ s. s.life.next_ack) same; next_sync = ap (λ s. s.held.writes.next_sync) same; intact = ap (λ s. s.held.intact) same }
 
 pub LivesOn-start : {P E : Type 0} (a m : Seen P E) (told told' : Option (List Report)) (result : Result (Seen P E) Ending) → IsRead (with_newest a) m → ArePassed a.held.watches m.held.watches → Ran m told told' result → LivesOn a result
 LivesOn-start a m told told' result same passed ran = LivesOn-then a m result (IsPart-newest a m same passed) (LivesOn-ran m told told' result ran)

@@ -1,5 +1,5 @@
 -- What a life keeps: its stores, and what it remembers beside them; what is left of the stores.
-use Rattle.std.specs.Prelude.{Contains, IfErr, List, MatchResult, Option, Result, Some, [], false, length, option_map, suc, true, zero, ℕ, ⊤, ◌++◌, ◌<◌, ◌∷◌, ◌≡◌, ◌≤◌, ◌⊎◌}
+use Rattle.std.specs.Prelude.{Bool, Contains, Err, IfErr, List, MatchResult, Ok, Option, Result, Some, [], false, length, option_map, suc, true, zero, ℕ, ⊤, ◌++◌, ◌<◌, ◌∷◌, ◌≡◌, ◌≤◌, ◌⊎◌}
 use Rattle.mar_codec.specs.Causes.{Rose}
 use Rattle.mar_types.specs.Round.{Round}
 use Rattle.mar_cert.specs.Finalization.{Finalization}
@@ -81,10 +81,11 @@ pub record Progress : Type 0 where
   pub witnessed : Round
   pub pairs : List Pair
   pub watch : Watch
+  pub intact : Bool  -- no call that changes the store has failed
 
 -- as a store says that was just reopened
 abbrev pub progress_of : Pair → Watch → Progress
-progress_of p watch = record { processed = option_map at_block p.processed; cutoff = p.cutoff; witnessed = round_zero; pairs = p ∷ []; watch = watch }
+progress_of p watch = record { processed = option_map at_block p.processed; cutoff = p.cutoff; witnessed = round_zero; pairs = p ∷ []; watch = watch; intact = true }
 
 -- The stores of a life, with the processed height, the cutoff, the last witnessed round, the pairs that a crash can leave
 -- of the first two, and the writes that wait for a sync.
@@ -97,6 +98,7 @@ pub record Held : Type 0 where
   pub pairs : List Pair
   pub writes : Writing
   pub watches : Watches
+  pub intact : Bool  -- no call that changes a store has failed: where one has, nothing is said of what is held
 
 -- What is held is sure or waits for a sync, and the open syncs are in order.
 pub record AreWritten (h : Held) : Type 0 where
@@ -141,6 +143,9 @@ first_life provider epocher sizes = record {
 pub record Seen (P E : Type 0) : Type 0 where
   pub held : Held
   pub life : Remembered P E
+
+abbrev pub seen : {P E : Type 0} → Held → Remembered P E → Seen P E
+seen held life = record { held = held; life = life }
 
 -- What is left of the stores, and what each tells of its failures.
 pub record Remains : Type 0 where
@@ -252,14 +257,24 @@ pub record Loses (start : Held) (written : Written) (e : Ending) : Type 0 where
   pub leaves : LeavesMore start written e.remains.ended
   pub cause : IsEndedBy start.watches e
 
--- Whatever was written before since some start, these writes join it; `held_in` says where the stores are in the result.
-abbrev pub GoesOn : {T : Type 0} → (T → Held) → Held → Written → Result T Ending → Type 0
-GoesOn held_in old written result =
-    (start : Held) (all : Written) → Grew start all old → WithinWritten written all → MatchResult result (λ r. Grew start all (held_in r)) (Loses start all)
+-- how a life ended, on these stores
+abbrev pub ended_on : Fault → Held → Ending
+ended_on fault held = record { fault = fault; remains = remains_of held }
+
+-- Whatever was written before since some start, these writes join it. The call was made in place: it went on to these stores, or
+-- the life ended on them.
+abbrev pub GoesOn : {T C : Type 0} → (C → Fault) → Held → Written → Held → Result T C → Type 0
+GoesOn fault old written new result =
+    (start : Held) (all : Written) → Grew start all old → WithinWritten written all → MatchResult result (λ _. Grew start all new) (λ c. Loses start all (ended_on (fault c) new))
 
 -- the same of a call of which only a failure is said
-abbrev pub LosesSince : {T : Type 0} → Held → Written → Result T Ending → Type 0
-LosesSince old written result = (start : Held) (all : Written) → Grew start all old → WithinWritten written all → IfErr result (Loses start all)
+abbrev pub LosesSince : {T C : Type 0} → (C → Fault) → Held → Written → Held → Result T C → Type 0
+LosesSince fault old written new result = (start : Held) (all : Written) → Grew start all old → WithinWritten written all → IfErr result (λ c. Loses start all (ended_on (fault c) new))
+
+-- what a rule came to that was made in place: the life goes on as this, or it ended on what this holds
+abbrev pub outcome : {P E T C : Type 0} → (C → Fault) → Seen P E → Result T C → Result (Seen P E) Ending
+outcome fault now (Ok x) = Ok now
+outcome fault now (Err c) = Err (ended_on (fault c) now.held)
 
 -- OPENING
 
@@ -284,6 +299,7 @@ pub record ReopensAs (old : Remains) (luck : ℕ) (new : Held) : Type 0 where
   pub pairs : new.pairs ≡ pair ∷ []
   pub writes : new.writes ≡ no_writes
   pub passed : ArePassed old.watches new.watches
+  pub intact : new.intact ≡ true
   pub no_cache : old.ended ≡ ended_of (blocks_left old.ended) (certs_left old.ended) old.ended.meta
 
 -- What is left of a store that was opened, or was to be: what was sure is sure, and nothing may be left but what might

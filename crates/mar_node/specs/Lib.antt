@@ -3,6 +3,7 @@ pub mod Config
 pub mod Node
 pub mod Writing
 pub mod Pool
+pub mod Places
 pub mod Gate
 pub mod Staged
 pub mod Views

@@ -101,7 +101,7 @@ abbrev pub HearsFront : {T : Type 0} → Option (List T) → List T → Option (
 HearsFront old whole new = (front : List _) × IsFront front whole × Hears old front new
 
 -- all of them, or a front where the life ended
-abbrev pub HearsUpTo : {T A : Type 0} → Option (List T) → List T → Option (List T) → Result A Ending → Type 0
+abbrev pub HearsUpTo : {T A C : Type 0} → Option (List T) → List T → Option (List T) → Result A C → Type 0
 HearsUpTo old whole new result = MatchResult result (λ _. Hears old whole new) (λ _. HearsFront old whole new)
 
 -- LIVING ON
@@ -115,6 +115,7 @@ pub record SameLife {P E : Type 0} (old new : Seen P E) : Type 0 where
   pub provider : new.life.provider ≡ old.life.provider
   pub epocher : new.life.epocher ≡ old.life.epocher
   pub sizes : new.life.sizes ≡ old.life.sizes
+  pub intact : new.held.intact ≡ old.held.intact
 
 -- The tickets run out only where fewer are left than a window has, and those of syncs where none is left.
 abbrev pub RunsOut : {P E : Type 0} → Seen P E → Ending → Type 0

@@ -7,7 +7,7 @@ use Rattle.mar_store.specs.Kept.{At, Kept, has_height, value_at}
 use Rattle.mar_node.specs.Stored.{at_own_height, is_held}
 use Rattle.mar_node.specs.Metadata.{Pair, pair_of}
 use Rattle.mar_node.specs.Faults.{Fault, anchor_fault, from_genesis, genesis_fault, limit_fault, next_after, successor_fault}
-use Rattle.mar_node.specs.Held.{Ending, Grew, Held, Loses, Written}
+use Rattle.mar_node.specs.Held.{Grew, Held, Loses, Written, ended_on}
 use Rattle.mar_node.specs.Lives.{opened_cutoff, opened_witnessed, processed_at}
 use Rattle.mar_node.specs.Moves.{StoresValue}
 
@@ -71,6 +71,6 @@ pub record Derives (epochs : Epochs) (old new : Held) : Type 0 where
   }
 
 -- What is left, since some start, where the cutoff couldn't be derived or made durable.
-abbrev pub LosesDeriving : {T : Type 0} → Epochs → Held → Result T Ending → Type 0
-LosesDeriving epochs old result =
-    (start : Held) (all : Written) → Grew start all old → IfErr result (λ e. Loses start all e ⊎ (next_fault old ≡ None) × Loses start (record all { pairs = derived_pair epochs old ∷ all.pairs }) e)
+abbrev pub LosesDeriving : {T C : Type 0} → (C → Fault) → Epochs → Held → Held → Result T C → Type 0
+LosesDeriving fault epochs old new result =
+    (start : Held) (all : Written) → Grew start all old → IfErr result (λ c. Loses start all (ended_on (fault c) new) ⊎ (next_fault old ≡ None) × Loses start (record all { pairs = derived_pair epochs old ∷ all.pairs }) (ended_on (fault c) new))

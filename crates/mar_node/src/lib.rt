@@ -5,6 +5,7 @@
 mod closed;
 mod floor;
 mod gate;
+mod place;
 mod progress;
 mod staged;
 mod stream;
@@ -13,6 +14,7 @@ mod writes;
 pub use closed::closed_epoch;
 pub use floor::{FetchAdmission, State};
 pub use gate::DispatchGate;
+pub use place::{Place, parts_of};
 pub use progress::Progress;
 pub use staged::Staged;
 pub use stream::{Stream, synced_cutoff, synced_height};

@@ -1,35 +1,38 @@
 //! How far delivery has come.
-ghost use Rattle.std.specs.Prelude.{◌≡◌, ◌∷◌, [], MatchResult, OnErr, OnOk, Some, map};
+ghost use Rattle.std.specs.Prelude.{◌≡◌, ◌∷◌, [], OnErr, OnOk, Some, map, true};
 ghost use Rattle.mar_node.specs.Lives.{later_round};
 ghost use Rattle.mar_key.specs.Processed.{at_absent, at_block};
 ghost use Rattle.mar_key.specs.Views.{cutoff_of};
 ghost use Rattle.mar_store.specs.Lost.{wreck_of};
-ghost use Rattle.mar_store.specs.Watch.{armed, IsCalm};
-ghost use Rattle.mar_node.specs.Metadata.{HeedsOrIdles, LeavesPairs, pair_at, pair_of};
+ghost use Rattle.mar_store.specs.Watch.{armed};
+ghost use Rattle.mar_node.specs.Metadata.{LeavesPairs, pair_at, pair_of};
+ghost use Rattle.mar_node.specs.Places.{HeedsOrIdlesOn, IsCalmOn};
 ghost use Rattle.mar_node.specs.Held.{progress_of};
 
 use crate::floor::State;
+use crate::place::{Place, parts_of};
 use crate::stream::Stream;
 use mar_cert::CommitsTo;
 use mar_codec::Named;
 use mar_key::{Cutoff, Floor, Processed};
-use mar_store::{Lost, Meta};
+use mar_store::{Meta, MetaRuin, Miss};
 use mar_types::{Height, Round};
 use std::alloc::AllocError;
 use std::marker::Model;
 
 /// The floors of a node, with the stream that keeps the processed height and the round cutoff. Changes are seen at once;
-/// those of the two become durable together with the next sync.
+/// those of the two become durable together with the next sync. Where a call failed that changes the store, later ones
+/// change nothing and answer want of memory, and what is left of it is handed back as it is.
 #[derive(Drop)]
 pub struct Progress<M: Meta, C: Named, F: CommitsTo<C>> {
-    stream: Stream<M>,
+    stream: Place<Stream<M>, M::Wreck>,
     floor: State<C, F>,
 }
 
 impl<M: Meta, C: Named, F: CommitsTo<C>> Model for Progress<M, C, F> {
-    ghost use Rattle.std.specs.Prelude.{◌≡◌};
     ghost use Rattle.mar_node.specs.Metadata.{pair_of};
     ghost use Rattle.mar_node.specs.Held.{Progress};
+    ghost use Rattle.mar_node.specs.Places.{Reads, is_open, pairs_at, watch_at};
 
     ghost Value = { Progress };
 
@@ -37,11 +40,12 @@ impl<M: Meta, C: Named, F: CommitsTo<C>> Model for Progress<M, C, F> {
       processed = p.floor.processed;
       cutoff = p.floor.cutoff;
       witnessed = p.floor.witnessed;
-      pairs = p.stream.left;
-      watch = p.stream.watch;
+      pairs = pairs_at M.Wreck.left p.stream;
+      watch = watch_at (λ s. s.watch) M.Wreck.watch p.stream;
+      intact = is_open p.stream;
     } };
 
-    ghost invariant = { λ p. p.stream.pair ≡ pair_of p.floor.processed p.floor.cutoff };
+    ghost invariant = { λ p. Reads p.stream (pair_of p.floor.processed p.floor.cutoff) };
 }
 
 impl<M: Meta, C: Named, F: CommitsTo<C>> Progress<M, C, F> {
@@ -55,7 +59,7 @@ impl<M: Meta, C: Named, F: CommitsTo<C>> Progress<M, C, F> {
         let processed = stream.processed_height().map(Processed::Block);
         let floor = Floor::new(processed, stream.cutoff());
         Progress {
-            stream,
+            stream: Place::Open(stream),
             floor: State::new(None, floor, Round::zero()),
         }
     }
@@ -90,7 +94,11 @@ impl<M: Meta, C: Named, F: CommitsTo<C>> Progress<M, C, F> {
         ensures armed { OnOk result (self.new ≡ record self.old { watch = armed calls self.old.watch }) }
         ensures unarmed { OnErr result (self.new ≡ self.old) }
     {
-        self.stream.arm(calls)
+        match &mut self.stream {
+            Place::Open(stream) => stream.arm(calls),
+            Place::Lost(wreck) => wreck.arm(calls),
+            Place::Away => unreachable!(),
+        }
     }
 
     /// What a crash now leaves.
@@ -98,44 +106,88 @@ impl<M: Meta, C: Named, F: CommitsTo<C>> Progress<M, C, F> {
         ensures left { map pair_at (M.Wreck.left result) ≡ self.pairs }
         ensures watch { M.Wreck.watch result ≡ self.watch }
     {
-        self.stream.wreck()
+        let Progress {
+            stream,
+            floor: _floor,
+        } = self;
+        match stream {
+            Place::Open(stream) => stream.wreck(),
+            Place::Lost(wreck) => wreck,
+            Place::Away => unreachable!(),
+        }
     }
 
     /// The block at this height is processed.
-    pub fn set_processed(self, height: Height) -> Result<Self, Lost<M::Wreck>>
-        ensures done { MatchResult result
-            (λ p. (p.processed ≡ Some (at_block height)) × (p.cutoff ≡ self.cutoff) × (p.witnessed ≡ self.witnessed) × (p.pairs ≡ self.pairs))
-            (λ l. LeavesPairs self.pairs [] (map pair_at (M.Wreck.left (wreck_of l)))) }
-        ensures watched { IsCalm (λ p. p.watch) M.Wreck.watch self.watch result }
+    pub fn set_processed(&mut self, height: Height) -> Result<(), Miss>
+        ensures ok { OnOk result (self.new ≡ record self.old { processed = Some (at_block height) }) }
+        ensures lost { OnErr result ((self.new ≡ record self.old { pairs = self.new.pairs; watch = self.new.watch; intact = self.new.intact })
+            × LeavesPairs self.old.pairs [] self.new.pairs) }
+        ensures watched { IsCalmOn self.old.watch self.new.watch result }
     {
-        let stream = self.stream.acknowledge(height)?;
-        let mut floor = self.floor;
-        floor.set_processed(Processed::Block(height));
-        Ok(Progress { stream, floor })
+        let stream = match self.stream.take() {
+            Some(stream) => stream,
+            None => return Err(Miss::Memory),
+        };
+        match stream.acknowledge(height) {
+            Ok(stream) => {
+                self.stream = Place::Open(stream);
+                self.floor.set_processed(Processed::Block(height));
+                Ok(())
+            }
+            Err(lost) => {
+                let (miss, wreck) = parts_of(lost);
+                self.stream = Place::Lost(wreck);
+                Err(miss)
+            }
+        }
     }
 
     /// The cutoff is this one now.
-    pub fn set_cutoff(self, cutoff: &Cutoff) -> Result<Self, Lost<M::Wreck>>
-        ensures done { MatchResult result
-            (λ p. (p.processed ≡ self.processed) × (p.cutoff ≡ cutoff_of cutoff.now) × (p.witnessed ≡ self.witnessed) × (p.pairs ≡ self.pairs))
-            (λ l. LeavesPairs self.pairs [] (map pair_at (M.Wreck.left (wreck_of l)))) }
-        ensures watched { IsCalm (λ p. p.watch) M.Wreck.watch self.watch result }
+    pub fn set_cutoff(&mut self, cutoff: &Cutoff) -> Result<(), Miss>
+        ensures ok { OnOk result (self.new ≡ record self.old { cutoff = cutoff_of cutoff.now }) }
+        ensures lost { OnErr result ((self.new ≡ record self.old { pairs = self.new.pairs; watch = self.new.watch; intact = self.new.intact })
+            × LeavesPairs self.old.pairs [] self.new.pairs) }
+        ensures watched { IsCalmOn self.old.watch self.new.watch result }
     {
-        let stream = self.stream.set_cutoff(*cutoff)?;
-        let mut floor = self.floor;
-        floor.set_cutoff(*cutoff);
-        Ok(Progress { stream, floor })
+        let stream = match self.stream.take() {
+            Some(stream) => stream,
+            None => return Err(Miss::Memory),
+        };
+        match stream.set_cutoff(*cutoff) {
+            Ok(stream) => {
+                self.stream = Place::Open(stream);
+                self.floor.set_cutoff(*cutoff);
+                Ok(())
+            }
+            Err(lost) => {
+                let (miss, wreck) = parts_of(lost);
+                self.stream = Place::Lost(wreck);
+                Err(miss)
+            }
+        }
     }
 
     /// Makes both durable together. Where they are durable already nothing is done or counted.
-    pub fn sync(self) -> Result<Self, Lost<M::Wreck>>
-        ensures done { MatchResult result
-            (λ p. (p.processed ≡ self.processed) × (p.cutoff ≡ self.cutoff) × (p.witnessed ≡ self.witnessed)
-            × (p.pairs ≡ pair_of self.processed self.cutoff ∷ []))
-            (λ l. LeavesPairs self.pairs (pair_of self.processed self.cutoff ∷ []) (map pair_at (M.Wreck.left (wreck_of l)))) }
-        ensures watched { HeedsOrIdles (λ p. p.watch) M.Wreck.watch self.watch result }
+    pub fn sync(&mut self) -> Result<(), Miss>
+        ensures ok { OnOk result (self.new ≡ record self.old { pairs = pair_of self.old.processed self.old.cutoff ∷ []; watch = self.new.watch }) }
+        ensures lost { OnErr result ((self.new ≡ record self.old { pairs = self.new.pairs; watch = self.new.watch; intact = self.new.intact })
+            × LeavesPairs self.old.pairs (pair_of self.old.processed self.old.cutoff ∷ []) self.new.pairs) }
+        ensures watched { HeedsOrIdlesOn self.old.watch self.new.watch result }
     {
-        let stream = self.stream.sync()?;
-        Ok(Progress { stream, ..self })
+        let stream = match self.stream.take() {
+            Some(stream) => stream,
+            None => return Err(Miss::Memory),
+        };
+        match stream.sync() {
+            Ok(stream) => {
+                self.stream = Place::Open(stream);
+                Ok(())
+            }
+            Err(lost) => {
+                let (miss, wreck) = parts_of(lost);
+                self.stream = Place::Lost(wreck);
+                Err(miss)
+            }
+        }
     }
 }

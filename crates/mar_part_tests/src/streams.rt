@@ -134,12 +134,12 @@ fn has_values(meta: &MemMeta, height: Option<u64>, epoch: Option<u64>, view: Opt
 
 // Makes all durable, crashes, and opens again, where these values are read.
 fn reread(
-    progress: Progressed,
+    mut progress: Progressed,
     height: Option<u64>,
     epoch: Option<u64>,
     view: Option<u64>,
 ) -> Option<Progressed> {
-    let progress = progress.sync().ok()?;
+    progress.sync().ok()?;
     let meta = <MemMeta as Meta>::reopen(progress.wreck(), 0).ok()?;
     if !has_values(&meta, height, epoch, view) {
         return None;
@@ -150,8 +150,8 @@ fn reread(
 // Sets both, and reads them again.
 fn kept(mut progress: Progressed, height: u64, cutoff: Plain) -> Option<Progressed> {
     progress.witness(Round::new(Epoch::new(5), View::new(height)));
-    let progress = progress.set_processed(Height::new(height)).ok()?;
-    let progress = progress.set_cutoff(&cutoff_of(cutoff)).ok()?;
+    progress.set_processed(Height::new(height)).ok()?;
+    progress.set_cutoff(&cutoff_of(cutoff)).ok()?;
     reread(progress, Some(height), Some(cutoff.0), cutoff.1)
 }
 

@@ -25,7 +25,9 @@ use Rattle.mar_node.specs.Staged.{Staged, has_place, kept_from, staged_at, witho
 use Rattle.mar_node.proofs.Pools.{position_found}
 use Rattle.mar_node.specs.Held.{Held}
 use Rattle.mar_node.specs.Writing.{IsLastWrite, IsOrdered, Writing, position_of, total_writes}
-use Rattle.mar_shelf.specs.Pooling.{AreHeld, ArePooled, AwaitsSyncs, staged_where, writes_behind}
+use Rattle.mar_node.specs.declared.Place.{Place}
+use Rattle.mar_node.specs.declared.Place.TheVariants.{Away, Lost, Open}
+use Rattle.mar_shelf.specs.Pooling.{AreHeld, ArePooled, AwaitsSyncs, CertsPooled, staged_where, writes_behind}
 
 -- LISTS
 
@@ -266,28 +268,23 @@ put_there true old h v new puts free has = absurd (both (has_height old.held h) 
     both false free has = absurd cc
 put_there false old h v new puts free has = subst (λ xs. value_at xs h ≡ Some v) (sym puts.held) (value_at-append old.held (record { height = h; value = v } ∷ []) h ∙ (ap (λ o. option_or o (value_at (record { height = h; value = v } ∷ []) h)) (missing-from_has_height old.held h free) ∙ value_at-one h v))
 
-module _ {B : Type 0} {plain : B → Block} {blocks : Kept (At Block)} {bn : ℕ} {bc : ℕ → List (At Block)} {certs : Kept (At Finalization)} {cn : ℕ} {cc : ℕ → List (At Finalization)} {pool : Pool} {staged : List (ℕ × B)} (pooled : ArePooled plain blocks bn bc certs cn cc pool staged) where
-  -- blocks were read, or a call of them was armed
-  pub ArePooled-blocks : {new : Kept (At Block)} {number : ℕ} {covers : ℕ → List (At Block)} → new ≡ blocks → number ≡ bn → KeepsCovers bn bc covers → covers last_number ≡ new.held → ArePooled plain new number covers certs cn cc pool staged
-  ArePooled-blocks {new = new} {number = number} {covers = covers} same numbered keeps last = record {
-    of_blocks = AwaitsSyncs-same (λ p. p.blocks) blocks bn bc pool pooled.of_blocks new number covers same (omega (arith, numbered)) keeps last;
-    of_certs = pooled.of_certs;
+module _ {B : Type 0} {plain : B → Block} {blocks : Kept (At Block)} {bn : ℕ} {bc : ℕ → List (At Block)} {pool : Pool} {staged : List (ℕ × B)} (pooled : ArePooled plain blocks bn bc pool staged) where
+  -- a call that changed nothing but which tickets there are
+  pub blocks_same : {new : Kept (At Block)} {number : ℕ} {covers : ℕ → List (At Block)} → new ≡ blocks → bn ≤ number → KeepsCovers bn bc covers → covers last_number ≡ new.held → ArePooled plain new number covers pool staged
+  blocks_same {new = new} {number = number} {covers = covers} same more keeps last = record {
+    waits = AwaitsSyncs-same (λ p. p.blocks) blocks bn bc pool pooled.waits new number covers same more keeps last;
     of_staged = AreHeld-kept plain blocks.held new.held staged (λ h v is. subst (λ k. value_at k.held h ≡ Some v) (sym same) is) pooled.of_staged;
   }
 
-  pub ArePooled-certs : {new : Kept (At Finalization)} {number : ℕ} {covers : ℕ → List (At Finalization)} → new ≡ certs → number ≡ cn → KeepsCovers cn cc covers → covers last_number ≡ new.held → ArePooled plain blocks bn bc new number covers pool staged
-  ArePooled-certs {new = new} {number = number} {covers = covers} same numbered keeps last = record {
-    of_blocks = pooled.of_blocks;
-    of_certs = AwaitsSyncs-same (λ p. p.certs) certs cn cc pool pooled.of_certs new number covers same (omega (arith, numbered)) keeps last;
-    of_staged = pooled.of_staged;
-  }
+  -- blocks were read, or a call of them was armed
+  pub blocks_read : {new : Kept (At Block)} {number : ℕ} {covers : ℕ → List (At Block)} → new ≡ blocks → number ≡ bn → KeepsCovers bn bc covers → covers last_number ≡ new.held → ArePooled plain new number covers pool staged
+  blocks_read same numbered keeps last = blocks_same same (omega (arith, numbered)) keeps last
 
   -- a block is put, and its write waits
-  pub ArePooled-put_block : {ignored : Bool} {b : B} {new : Kept (At Block)} {number : ℕ} {covers : ℕ → List (At Block)} {later : Pool} {kept : Staged B} {was is_there : Bool} → (places : Staged B) → places.blocks ≡ staged → Puts ignored blocks (at_own_height (plain b)) new → bn ≤ number → KeepsCovers bn bc covers → covers last_number ≡ new.held → IsOrdered (writing_of pool) → later ≡ pool_deferred (plain b).height pool
-      → was ≡ has_height blocks.held (plain b).height → is_there ≡ has_height new.held (plain b).height → kept ≡ staged_where (not was && is_there) (plain b).height b places → ArePooled plain new number covers certs cn cc later kept.blocks
-  ArePooled-put_block {ignored = ignored} {b = b} {new = new} {number = number} {covers = covers} {later = later} {kept = kept} {was = was} {is_there = is_there} places of_places puts more keeps last ordered deferred before after is = subst (λ p. ArePooled plain new number covers certs cn cc p kept.blocks) (sym deferred) (record {
-    of_blocks = AwaitsSyncs-put (λ p. p.blocks) blocks bn bc (pool_deferred (plain b).height pool) (AwaitsSyncs-deferred (λ p. p.blocks) blocks bn bc pool pooled.of_blocks (plain b).height) ignored (plain b).height (plain b) new number covers (record { before = writing_of pool; ordered = ordered; is = refl }) puts more keeps last;
-    of_certs = AwaitsSyncs-deferred (λ p. p.certs) certs cn cc pool pooled.of_certs (plain b).height;
+  pub blocks_put : {ignored : Bool} {b : B} {new : Kept (At Block)} {number : ℕ} {covers : ℕ → List (At Block)} {later : Pool} {kept : Staged B} {was is_there : Bool} → (places : Staged B) → places.blocks ≡ staged → Puts ignored blocks (at_own_height (plain b)) new → bn ≤ number → KeepsCovers bn bc covers → covers last_number ≡ new.held → IsOrdered (writing_of pool) → later ≡ pool_deferred (plain b).height pool
+      → was ≡ has_height blocks.held (plain b).height → is_there ≡ has_height new.held (plain b).height → kept ≡ staged_where (not was && is_there) (plain b).height b places → ArePooled plain new number covers later kept.blocks
+  blocks_put {ignored = ignored} {b = b} {new = new} {number = number} {covers = covers} {later = later} {kept = kept} {was = was} {is_there = is_there} places of_places puts more keeps last ordered deferred before after is = subst (λ p. ArePooled plain new number covers p kept.blocks) (sym deferred) (record {
+    waits = AwaitsSyncs-put (λ p. p.blocks) blocks bn bc (pool_deferred (plain b).height pool) (AwaitsSyncs-deferred (λ p. p.blocks) blocks bn bc pool pooled.waits (plain b).height) ignored (plain b).height (plain b) new number covers (record { before = writing_of pool; ordered = ordered; is = refl }) puts more keeps last;
     of_staged = subst (λ s. AreHeld plain new.held s.blocks) (sym is) (stage was is_there before after);
   })
     where
@@ -306,71 +303,77 @@ module _ {B : Type 0} {plain : B → Block} {blocks : Kept (At Block)} {bn : ℕ
           placed true = AreHeld-inserted plain new.held (plain b).height b places.blocks there old_staged
           placed false = old_staged
 
-  -- a finalization is put with the last write
-  pub ArePooled-put_cert : {ignored : Bool} {height : ℕ} {value : Finalization} {new : Kept (At Finalization)} {number : ℕ} {covers : ℕ → List (At Finalization)} → IsLastWrite height (writing_of pool) → Puts ignored certs (record { height = height; value = value }) new → cn ≤ number → KeepsCovers cn cc covers → covers last_number ≡ new.held → ArePooled plain blocks bn bc new number covers pool staged
-  ArePooled-put_cert {ignored = ignored} {height = height} {value = value} {new = new} {number = number} {covers = covers} write puts more keeps last = record {
-    of_blocks = pooled.of_blocks;
-    of_certs = AwaitsSyncs-put (λ p. p.certs) certs cn cc pool pooled.of_certs ignored height value new number covers write puts more keeps last;
-    of_staged = pooled.of_staged;
-  }
-
   -- a block is put and synced
-  pub ArePooled-store_block : {ignored : Bool} {x : At Block} {mid new : Kept (At Block)} {between number : ℕ} {covers : ℕ → List (At Block)} → Puts ignored blocks x mid → Syncs mid new → bn ≤ between → between ≤ number → ArePooled plain new number covers certs cn cc pool staged
-  ArePooled-store_block {ignored = ignored} {x = x} {mid = mid} {new = new} {number = number} {covers = covers} puts syncs first second = record {
-    of_blocks = AwaitsSyncs-sure (λ p. p.blocks) blocks bn bc pool pooled.of_blocks new number covers (syncs.sure ∙ sym syncs.held) (omega (arith, first, second));
-    of_certs = pooled.of_certs;
+  pub blocks_stored : {ignored : Bool} {x : At Block} {mid new : Kept (At Block)} {between number : ℕ} {covers : ℕ → List (At Block)} → Puts ignored blocks x mid → Syncs mid new → bn ≤ between → between ≤ number → ArePooled plain new number covers pool staged
+  blocks_stored {ignored = ignored} {x = x} {mid = mid} {new = new} {number = number} {covers = covers} puts syncs first second = record {
+    waits = AwaitsSyncs-sure (λ p. p.blocks) blocks bn bc pool pooled.waits new number covers (syncs.sure ∙ sym syncs.held) (omega (arith, first, second));
     of_staged = AreHeld-kept plain blocks.held new.held staged (λ h v is. subst (λ xs. value_at xs h ≡ Some v) (sym syncs.held) (held_by_put ignored blocks x mid puts h v is)) pooled.of_staged;
   }
 
-  pub ArePooled-store_cert : {mid new : Kept (At Finalization)} {between number : ℕ} {covers : ℕ → List (At Finalization)} → Syncs mid new → cn ≤ between → between ≤ number → ArePooled plain blocks bn bc new number covers pool staged
-  ArePooled-store_cert {new = new} {number = number} {covers = covers} syncs first second = record {
-    of_blocks = pooled.of_blocks;
-    of_certs = AwaitsSyncs-sure (λ p. p.certs) certs cn cc pool pooled.of_certs new number covers (syncs.sure ∙ sym syncs.held) (omega (arith, first, second));
-    of_staged = pooled.of_staged;
+  -- a sync of both archives is started
+  pub blocks_started : {new : Kept (At Block)} {number : ℕ} {covers : ℕ → List (At Block)} {later : Pool} {b : ℕ} (c : ℕ) → new ≡ blocks → bn ≤ number → KeepsCovers bn bc covers → covers last_number ≡ new.held → b ≤ number → b ≤ last_number → covers b ≡ blocks.held → later ≡ pool_started b c pool → ArePooled plain new number covers later staged
+  blocks_started {new = new} {number = number} {covers = covers} {later = later} {b = b} c same more keeps last made fits covered started = let now = blocks_same {new = new} same more keeps last in subst (λ p. ArePooled plain new number covers p staged) (sym started) (record {
+    waits = AwaitsSyncs-started (λ p. p.blocks) new number covers pool now.waits b c made fits (covered ∙ sym (ap (λ k. k.held) same));
+    of_staged = now.of_staged;
+  })
+
+  -- a sync has finished in the blocks alone
+  pub blocks_surer : {covered : List (At Block)} {new : Kept (At Block)} {number : ℕ} {covers : ℕ → List (At Block)} → Finishes covered blocks new → bn ≤ number → KeepsCovers bn bc covers → covers last_number ≡ new.held → ArePooled plain new number covers pool staged
+  blocks_surer {new = new} {number = number} {covers = covers} finishes more keeps last = record {
+    waits = AwaitsSyncs-surer (λ p. p.blocks) blocks bn bc pool pooled.waits new number covers finishes.held finishes.sure more keeps last;
+    of_staged = AreHeld-kept plain blocks.held new.held staged (λ h v is. subst (λ xs. value_at xs h ≡ Some v) (sym finishes.held) is) pooled.of_staged;
   }
 
-  -- a sync of both is started
-  pub ArePooled-started : {new_blocks : Kept (At Block)} {blocks_number : ℕ} {blocks_covers : ℕ → List (At Block)} {new_certs : Kept (At Finalization)} {certs_number : ℕ} {certs_covers : ℕ → List (At Finalization)} {later : Pool} {b c : ℕ}
-      → new_blocks ≡ blocks → bn ≤ blocks_number → KeepsCovers bn bc blocks_covers → blocks_covers last_number ≡ new_blocks.held → b ≤ blocks_number → b ≤ last_number → blocks_covers b ≡ blocks.held
-      → new_certs ≡ certs → cn ≤ certs_number → KeepsCovers cn cc certs_covers → certs_covers last_number ≡ new_certs.held → c ≤ certs_number → c ≤ last_number → certs_covers c ≡ certs.held
-      → later ≡ pool_started b c pool → ArePooled plain new_blocks blocks_number blocks_covers new_certs certs_number certs_covers later staged
-  ArePooled-started {new_blocks = new_blocks} {blocks_number = blocks_number} {blocks_covers = blocks_covers} {new_certs = new_certs} {certs_number = certs_number} {certs_covers = certs_covers} {later = later} {b = b} {c = c} same_blocks more_blocks keeps_blocks last_blocks made_blocks fits_blocks covered_blocks same_certs more_certs keeps_certs last_certs made_certs fits_certs covered_certs started =
-      subst (λ p. ArePooled plain new_blocks blocks_number blocks_covers new_certs certs_number certs_covers p staged) (sym started) (record {
-        of_blocks = AwaitsSyncs-started (λ p. p.blocks) new_blocks blocks_number blocks_covers pool (AwaitsSyncs-same (λ p. p.blocks) blocks bn bc pool pooled.of_blocks new_blocks blocks_number blocks_covers same_blocks more_blocks keeps_blocks last_blocks) b c made_blocks fits_blocks (covered_blocks ∙ sym (ap (λ k. k.held) same_blocks));
-        of_certs = AwaitsSyncs-started (λ p. p.certs) new_certs certs_number certs_covers pool (AwaitsSyncs-same (λ p. p.certs) certs cn cc pool pooled.of_certs new_certs certs_number certs_covers same_certs more_certs keeps_certs last_certs) b c made_certs fits_certs (covered_certs ∙ sym (ap (λ k. k.held) same_certs));
-        of_staged = AreHeld-kept plain blocks.held new_blocks.held staged (λ h v is. subst (λ k. value_at k.held h ≡ Some v) (sym same_blocks) is) pooled.of_staged;
-      })
-
-  -- a sync of both has finished
-  pub ArePooled-finished : (ticket : ℕ) {p : Pooled} {new_blocks : Kept (At Block)} {blocks_number : ℕ} {blocks_covers : ℕ → List (At Block)} {new_certs : Kept (At Finalization)} {certs_number : ℕ} {certs_covers : ℕ → List (At Finalization)} {later : Pool} → Some p ≡ pooled_at pool.pooled ticket
-      → Finishes (bc p.blocks) blocks new_blocks → bn ≤ blocks_number → KeepsCovers bn bc blocks_covers → blocks_covers last_number ≡ new_blocks.held
-      → Finishes (cc p.certs) certs new_certs → cn ≤ certs_number → KeepsCovers cn cc certs_covers → certs_covers last_number ≡ new_certs.held
-      → later ≡ pool_finished ticket pool → ArePooled plain new_blocks blocks_number blocks_covers new_certs certs_number certs_covers later staged
-  ArePooled-finished ticket {p = p} {new_blocks = new_blocks} {blocks_number = blocks_number} {blocks_covers = blocks_covers} {new_certs = new_certs} {certs_number = certs_number} {certs_covers = certs_covers} {later = later} found finishes_blocks more_blocks keeps_blocks last_blocks finishes_certs more_certs keeps_certs last_certs finished =
-      subst (λ q. ArePooled plain new_blocks blocks_number blocks_covers new_certs certs_number certs_covers q staged) (sym finished) (record {
-        of_blocks = AwaitsSyncs-finished (λ q. q.blocks) blocks bn bc pool pooled.of_blocks ticket p new_blocks blocks_number blocks_covers (sym found) finishes_blocks more_blocks keeps_blocks last_blocks;
-        of_certs = AwaitsSyncs-finished (λ q. q.certs) certs cn cc pool pooled.of_certs ticket p new_certs certs_number certs_covers (sym found) finishes_certs more_certs keeps_certs last_certs;
-        of_staged = AreHeld-kept plain blocks.held new_blocks.held staged (λ h v is. subst (λ xs. value_at xs h ≡ Some v) (sym finishes_blocks.held) is) pooled.of_staged;
-      })
-
-  -- the tickets of an open sync were given
-  pub given_blocks : (ticket : ℕ) (p : Pooled) → Some p ≡ pooled_at pool.pooled ticket → p.blocks ≤ bn
-  given_blocks ticket p found = (pooled.of_blocks.given p (at_contains ticket pool.pooled p (sym found))).0
-
-  pub given_certs : (ticket : ℕ) (p : Pooled) → Some p ≡ pooled_at pool.pooled ticket → p.certs ≤ cn
-  given_certs ticket p found = (pooled.of_certs.given p (at_contains ticket pool.pooled p (sym found))).0
+  -- and in both archives
+  pub blocks_finished : (ticket : ℕ) {p : Pooled} {new : Kept (At Block)} {number : ℕ} {covers : ℕ → List (At Block)} {later : Pool} → Some p ≡ pooled_at pool.pooled ticket → Finishes (bc p.blocks) blocks new → bn ≤ number → KeepsCovers bn bc covers → covers last_number ≡ new.held → later ≡ pool_finished ticket pool → ArePooled plain new number covers later staged
+  blocks_finished ticket {p = p} {new = new} {number = number} {covers = covers} found finishes more keeps last finished = subst (λ q. ArePooled plain new number covers q staged) (sym finished) (record {
+    waits = AwaitsSyncs-finished (λ q. q.blocks) blocks bn bc pool pooled.waits ticket p new number covers (sym found) finishes more keeps last;
+    of_staged = (blocks_surer finishes more keeps last).of_staged;
+  })
 
   AreHeld-mid : (height : ℕ) (places : Staged B) {mid : Staged B} → places.blocks ≡ staged → mid ≡ kept_from height places → AreHeld plain blocks.held mid.blocks
   AreHeld-mid height places of_places kept = subst (λ s. AreHeld plain blocks.held s.blocks) (sym kept) (AreHeld-filtered plain blocks.held (λ e. nat_le height e.0) places.blocks (subst (AreHeld plain blocks.held) (sym of_places) pooled.of_staged))
 
   -- a block was taken out of what is staged
-  pub ArePooled-taken : (height : ℕ) (places : Staged B) {mid later : Staged B} → places.blocks ≡ staged → mid ≡ kept_from height places → later ≡ without_height height mid → ArePooled plain blocks bn bc certs cn cc pool later.blocks
-  ArePooled-taken height places {mid = mid} {later = later} of_places kept is = record {
-    of_blocks = pooled.of_blocks;
-    of_certs = pooled.of_certs;
+  pub blocks_taken : (height : ℕ) (places : Staged B) {mid later : Staged B} → places.blocks ≡ staged → mid ≡ kept_from height places → later ≡ without_height height mid → ArePooled plain blocks bn bc pool later.blocks
+  blocks_taken height places {mid = mid} {later = later} of_places kept is = record {
+    waits = pooled.waits;
     of_staged = subst (λ s. AreHeld plain blocks.held s.blocks) (sym is) (AreHeld-removed plain blocks.held (λ k. k == height) mid.blocks (AreHeld-mid height places of_places kept));
   }
 
   -- and it is the one that is held
   pub held_taken : (height : ℕ) (places : Staged B) {mid : Staged B} (b : B) → places.blocks ≡ staged → mid ≡ kept_from height places → Some b ≡ staged_at mid height → Some (plain b) ≡ value_at blocks.held height
   held_taken height places {mid = mid} b of_places kept found = sym (AreHeld-found plain blocks.held height mid.blocks b (sym found) (AreHeld-mid height places of_places kept))
+
+module _ {certs : Kept (At Finalization)} {cn : ℕ} {cc : ℕ → List (At Finalization)} {pool : Pool} (waits : AwaitsSyncs (λ p. p.certs) certs cn cc pool) where
+  pub certs_same : {new : Kept (At Finalization)} {number : ℕ} {covers : ℕ → List (At Finalization)} → new ≡ certs → cn ≤ number → KeepsCovers cn cc covers → covers last_number ≡ new.held → AwaitsSyncs (λ p. p.certs) new number covers pool
+  certs_same {new = new} {number = number} {covers = covers} same more keeps last = AwaitsSyncs-same (λ p. p.certs) certs cn cc pool waits new number covers same more keeps last
+
+  pub certs_read : {new : Kept (At Finalization)} {number : ℕ} {covers : ℕ → List (At Finalization)} → new ≡ certs → number ≡ cn → KeepsCovers cn cc covers → covers last_number ≡ new.held → AwaitsSyncs (λ p. p.certs) new number covers pool
+  certs_read same numbered keeps last = certs_same same (omega (arith, numbered)) keeps last
+
+  -- a finalization is put with the last write
+  pub certs_put : {ignored : Bool} {height : ℕ} {value : Finalization} {new : Kept (At Finalization)} {number : ℕ} {covers : ℕ → List (At Finalization)} → IsLastWrite height (writing_of pool) → Puts ignored certs (record { height = height; value = value }) new → cn ≤ number → KeepsCovers cn cc covers → covers last_number ≡ new.held → AwaitsSyncs (λ p. p.certs) new number covers pool
+  certs_put {ignored = ignored} {height = height} {value = value} {new = new} {number = number} {covers = covers} write puts more keeps last = AwaitsSyncs-put (λ p. p.certs) certs cn cc pool waits ignored height value new number covers write puts more keeps last
+
+  pub certs_stored : {mid new : Kept (At Finalization)} {between number : ℕ} {covers : ℕ → List (At Finalization)} → Syncs mid new → cn ≤ between → between ≤ number → AwaitsSyncs (λ p. p.certs) new number covers pool
+  certs_stored {new = new} {number = number} {covers = covers} syncs first second = AwaitsSyncs-sure (λ p. p.certs) certs cn cc pool waits new number covers (syncs.sure ∙ sym syncs.held) (omega (arith, first, second))
+
+  pub certs_started : {new : Kept (At Finalization)} {number : ℕ} {covers : ℕ → List (At Finalization)} {later : Pool} {c : ℕ} (b : ℕ) → new ≡ certs → cn ≤ number → KeepsCovers cn cc covers → covers last_number ≡ new.held → c ≤ number → c ≤ last_number → covers c ≡ certs.held → later ≡ pool_started b c pool → AwaitsSyncs (λ p. p.certs) new number covers later
+  certs_started {new = new} {number = number} {covers = covers} {c = c} b same more keeps last made fits covered started = subst (AwaitsSyncs (λ p. p.certs) new number covers) (sym started) (AwaitsSyncs-started (λ p. p.certs) new number covers pool (certs_same same more keeps last) b c made fits (covered ∙ sym (ap (λ k. k.held) same)))
+
+  pub certs_finished : (ticket : ℕ) {p : Pooled} {new : Kept (At Finalization)} {number : ℕ} {covers : ℕ → List (At Finalization)} {later : Pool} → Some p ≡ pooled_at pool.pooled ticket → Finishes (cc p.certs) certs new → cn ≤ number → KeepsCovers cn cc covers → covers last_number ≡ new.held → later ≡ pool_finished ticket pool → AwaitsSyncs (λ p. p.certs) new number covers later
+  certs_finished ticket {p = p} {new = new} {number = number} {covers = covers} found finishes more keeps last finished = subst (AwaitsSyncs (λ p. p.certs) new number covers) (sym finished) (AwaitsSyncs-finished (λ q. q.certs) certs cn cc pool waits ticket p new number covers (sym found) finishes more keeps last)
+
+-- the tickets of an open sync were given
+pub given : {T : Type 0} (ticket_of : Pooled → ℕ) {kept : Kept (At T)} {number : ℕ} {covers : ℕ → List (At T)} {pool : Pool} → AwaitsSyncs ticket_of kept number covers pool → (ticket : ℕ) (p : Pooled) → Some p ≡ pooled_at pool.pooled ticket → ticket_of p ≤ number
+given ticket_of {pool = pool} waits ticket p found = (waits.given p (at_contains ticket pool.pooled p (sym found))).0
+
+-- a write was deferred, wherever the finalizations are
+pub certs_deferred : {S W : Type 0} (stored : S → Kept (At Finalization)) (number : S → ℕ) (covers : S → ℕ → List (At Finalization)) (place : Place S W) (pool later : Pool) (height : ℕ) → CertsPooled stored number covers place pool → later ≡ pool_deferred height pool → CertsPooled stored number covers place later
+certs_deferred {S = S} {W = W} stored number covers place pool later height pooled deferred = subst (CertsPooled stored number covers place) (sym deferred) (by place pooled)
+  where
+    by : (p : Place S W) → CertsPooled stored number covers p pool → CertsPooled stored number covers p (pool_deferred height pool)
+    by (Open s) waits = AwaitsSyncs-deferred (λ p. p.certs) (stored s) (number s) (covers s) pool waits height
+    by (Lost w) lost = tt
+    by Away away = away

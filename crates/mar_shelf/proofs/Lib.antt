@@ -3,3 +3,4 @@ pub mod Archives
 pub mod MissingHeights
 pub mod GapHeights
 pub mod Awaiting
+pub mod InPlace

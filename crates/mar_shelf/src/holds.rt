@@ -17,7 +17,7 @@ ghost use Rattle.mar_node.specs.Pool.{writing_of};
 ghost use Rattle.mar_node.specs.Writing.{IsLastWrite, is_open_sync, with_finished, with_started, with_write};
 ghost use Rattle.mar_cert.specs.Finalization.{finalization_bytes};
 ghost use Rattle.mar_node.specs.Stored.{AreSmall, at_own_height, block_of, is_certified, is_held};
-ghost use Rattle.mar_shelf.specs.Views.{store_name_of};
+ghost use Rattle.mar_shelf.specs.Views.{fault_of, store_name_of};
 
 use crate::fault::{Fault, StoreName};
 use crate::shown::ShownRuins;
@@ -57,9 +57,10 @@ pub trait StoresRuin {
 }
 
 /// The stores of a life: blocks, certificates, how far delivery has come, and the cache. A call that reads or changes
-/// one consumes all of them, and gives them back or ends the life with what is left. Such a call makes one call of a
-/// store; `set_cutoff`, `start_sync`, `finish_sync` and the calls that make a value durable at once make two, and `reopen`
-/// one of each.
+/// one answers a fault where that failed; the life has ended then, and `wreck` gives what is left. Where a change of a
+/// store failed, later calls of it leave what is left of it and answer want of memory. Each makes one call of a store;
+/// `set_cutoff`, `start_sync`, `finish_sync` and the calls that make a value durable at once make two, and `reopen` one of
+/// each.
 pub trait Holds<V: Variant> {
     /// What is left where no life runs.
     type Ruins: StoresRuin;
@@ -93,10 +94,10 @@ pub trait Holds<V: Variant> {
     /// What is sure is held, what is held may be left, each held block is small, and what isn't sure waits for a sync. The
     /// call does nothing: it is a law.
     fn law(&self)
-        ensures blocks { IsNested (held self.now).blocks }
-        ensures certs { IsNested (held self.now).certs }
-        ensures small { AreSmall (map (λ x. x.value) (held self.now).blocks.held) }
-        ensures written { AreWritten (held self.now) };
+        ensures blocks { (held self.now).intact ≡ true → IsNested (held self.now).blocks }
+        ensures certs { (held self.now).intact ≡ true → IsNested (held self.now).certs }
+        ensures small { (held self.now).intact ≡ true → AreSmall (map (λ x. x.value) (held self.now).blocks.held) }
+        ensures written { (held self.now).intact ≡ true → AreWritten (held self.now) };
 
     /// Makes the counted call of a store fail that is so many calls away, 1 being the next. The cache counts none yet.
     fn arm(&mut self, store: StoreName, calls: u64) -> Result<(), AllocError>
@@ -129,19 +130,19 @@ pub trait Holds<V: Variant> {
 
     /// The heights of the held blocks.
     fn blocks_held(&self) -> &RangeSet
-        ensures { result.now ≡ ranges (heights (held self.now).blocks.held) };
+        ensures { (held self.now).intact ≡ true → result.now ≡ ranges (heights (held self.now).blocks.held) };
 
     /// The heights of the blocks that every crash leaves.
     fn blocks_sure(&self) -> &RangeSet
-        ensures { result.now ≡ ranges (heights (held self.now).blocks.sure) };
+        ensures { (held self.now).intact ≡ true → result.now ≡ ranges (heights (held self.now).blocks.sure) };
 
     /// The heights of the held finalizations.
     fn certificates_held(&self) -> &RangeSet
-        ensures { result.now ≡ ranges (heights (held self.now).certs.held) };
+        ensures { (held self.now).intact ≡ true → result.now ≡ ranges (heights (held self.now).certs.held) };
 
     /// The heights of the finalizations that every crash leaves.
     fn certificates_sure(&self) -> &RangeSet
-        ensures { result.now ≡ ranges (heights (held self.now).certs.sure) };
+        ensures { (held self.now).intact ≡ true → result.now ≡ ranges (heights (held self.now).certs.sure) };
 
     /// The writes that wait for a sync, and the syncs that are open.
     fn writes(&self) -> &Writes
@@ -149,180 +150,155 @@ pub trait Holds<V: Variant> {
 
     /// The block to hand over at a height: one that is staged, which is then no longer, or the one that is held. Blocks
     /// staged at or below that height are dropped.
-    fn take_block(self, height: Height) -> Result<(Self, Option<V::Block>), Ended<V, Self>>
-    where
-        Self: Sized,
-        ensures found { IfOk result (λ r. option_map V.plain r.1 ≡ value_at (held self).blocks.held height) }
-        ensures own { IfOk result (λ r. IfSome r.1 (λ b. (V.plain b).height ≡ height)) }
-        ensures same { IfOk result (λ r. held r.0 ≡ record (held self) { watches = (held r.0).watches }) }
-        ensures goes_on { GoesOn (λ r. held r.0) (held self) nothing_written result }
-        ensures archive { IfErr result (λ e. IsArchiveFault e.fault) }
-        ensures usual { IfErr result (λ e. IsUsual e.fault) };
+    fn take_block(&mut self, height: Height) -> Result<Option<V::Block>, Fault<V::Commitment>>
+        ensures found { IfOk result (λ r. option_map V.plain r ≡ value_at (held self.old).blocks.held height) }
+        ensures own { IfOk result (λ r. IfSome r (λ b. (V.plain b).height ≡ height)) }
+        ensures same { OnOk result (held self.new ≡ record (held self.old) { watches = (held self.new).watches }) }
+        ensures goes_on { GoesOn (fault_of V.Commitment.bytes) (held self.old) nothing_written (held self.new) result }
+        ensures archive { IfErr result (λ e. IsArchiveFault (fault_of V.Commitment.bytes e)) }
+        ensures usual { IfErr result (λ e. IsUsual (fault_of V.Commitment.bytes e)) };
 
     /// The block that is held at a height.
-    fn block_at(self, height: Height) -> Result<(Self, Option<V::Block>), Ended<V, Self>>
-    where
-        Self: Sized,
-        ensures found { IfOk result (λ r. option_map V.plain r.1 ≡ value_at (held self).blocks.held height) }
-        ensures own { IfOk result (λ r. IfSome r.1 (λ b. (V.plain b).height ≡ height)) }
-        ensures same { IfOk result (λ r. held r.0 ≡ record (held self) { watches = (held r.0).watches }) }
-        ensures goes_on { GoesOn (λ r. held r.0) (held self) nothing_written result }
-        ensures archive { IfErr result (λ e. IsArchiveFault e.fault) }
-        ensures usual { IfErr result (λ e. IsUsual e.fault) };
+    fn block_at(&mut self, height: Height) -> Result<Option<V::Block>, Fault<V::Commitment>>
+        ensures found { IfOk result (λ r. option_map V.plain r ≡ value_at (held self.old).blocks.held height) }
+        ensures own { IfOk result (λ r. IfSome r (λ b. (V.plain b).height ≡ height)) }
+        ensures same { OnOk result (held self.new ≡ record (held self.old) { watches = (held self.new).watches }) }
+        ensures goes_on { GoesOn (fault_of V.Commitment.bytes) (held self.old) nothing_written (held self.new) result }
+        ensures archive { IfErr result (λ e. IsArchiveFault (fault_of V.Commitment.bytes e)) }
+        ensures usual { IfErr result (λ e. IsUsual (fault_of V.Commitment.bytes e)) };
 
     /// A held block of this digest.
-    fn block_of(self, digest: &V::Digest) -> Result<(Self, Option<V::Block>), Ended<V, Self>>
-    where
-        Self: Sized,
-        ensures found { IfOk result (λ r. option_map V.plain r.1 ≡ block_of (held self).blocks.held (V.Digest.bytes digest.now)) }
-        ensures same { IfOk result (λ r. held r.0 ≡ record (held self) { watches = (held r.0).watches }) }
-        ensures goes_on { GoesOn (λ r. held r.0) (held self) nothing_written result }
-        ensures archive { IfErr result (λ e. IsArchiveFault e.fault) }
-        ensures usual { IfErr result (λ e. IsUsual e.fault) };
+    fn block_of(&mut self, digest: &V::Digest) -> Result<Option<V::Block>, Fault<V::Commitment>>
+        ensures found { IfOk result (λ r. option_map V.plain r ≡ block_of (held self.old).blocks.held (V.Digest.bytes digest.now)) }
+        ensures same { OnOk result (held self.new ≡ record (held self.old) { watches = (held self.new).watches }) }
+        ensures goes_on { GoesOn (fault_of V.Commitment.bytes) (held self.old) nothing_written (held self.new) result }
+        ensures archive { IfErr result (λ e. IsArchiveFault (fault_of V.Commitment.bytes e)) }
+        ensures usual { IfErr result (λ e. IsUsual (fault_of V.Commitment.bytes e)) };
 
     /// The finalization that is held at a height.
     fn certificate_at(
-        self,
+        &mut self,
         height: Height,
-    ) -> Result<(Self, Option<Self::Finalization>), Ended<V, Self>>
-    where
-        Self: Sized,
-        ensures found { IfOk result (λ r. option_map Self.Finalization.plain r.1 ≡ value_at (held self).certs.held height) }
-        ensures same { IfOk result (λ r. held r.0 ≡ record (held self) { watches = (held r.0).watches }) }
-        ensures goes_on { GoesOn (λ r. held r.0) (held self) nothing_written result }
-        ensures archive { IfErr result (λ e. IsArchiveFault e.fault) }
-        ensures usual { IfErr result (λ e. IsUsual e.fault) };
+    ) -> Result<Option<Self::Finalization>, Fault<V::Commitment>>
+        ensures found { IfOk result (λ r. option_map Self.Finalization.plain r ≡ value_at (held self.old).certs.held height) }
+        ensures same { OnOk result (held self.new ≡ record (held self.old) { watches = (held self.new).watches }) }
+        ensures goes_on { GoesOn (fault_of V.Commitment.bytes) (held self.old) nothing_written (held self.new) result }
+        ensures archive { IfErr result (λ e. IsArchiveFault (fault_of V.Commitment.bytes e)) }
+        ensures usual { IfErr result (λ e. IsUsual (fault_of V.Commitment.bytes e)) };
 
     /// Whether a finalization is held at a height.
-    fn has_certificate(self, height: Height) -> Result<(Self, bool), Ended<V, Self>>
-    where
-        Self: Sized,
-        ensures found { IfOk result (λ r. r.1 ≡ has_height (held self).certs.held height) }
-        ensures same { IfOk result (λ r. held r.0 ≡ record (held self) { watches = (held r.0).watches }) }
-        ensures goes_on { GoesOn (λ r. held r.0) (held self) nothing_written result }
-        ensures archive { IfErr result (λ e. IsArchiveFault e.fault) }
-        ensures usual { IfErr result (λ e. IsUsual e.fault) };
+    fn has_certificate(&mut self, height: Height) -> Result<bool, Fault<V::Commitment>>
+        ensures found { IfOk result (λ r. r ≡ has_height (held self.old).certs.held height) }
+        ensures same { OnOk result (held self.new ≡ record (held self.old) { watches = (held self.new).watches }) }
+        ensures goes_on { GoesOn (fault_of V.Commitment.bytes) (held self.old) nothing_written (held self.new) result }
+        ensures archive { IfErr result (λ e. IsArchiveFault (fault_of V.Commitment.bytes e)) }
+        ensures usual { IfErr result (λ e. IsUsual (fault_of V.Commitment.bytes e)) };
 
     /// Stores a block above the processed height. The write waits for a sync, below which nothing is handed over, and the
     /// block is staged where it was taken in.
-    fn put_block(self, block: V::Block) -> Result<Self, Ended<V, Self>>
-    where
-        Self: Sized,
+    fn put_block(&mut self, block: V::Block) -> Result<(), Fault<V::Commitment>>
         requires small { IsSmall (V.plain block).encoded }
-        ensures ok { IfOk result (λ s. Puts (is_held (held self).blocks.held (V.plain block)) (held self).blocks (at_own_height (V.plain block))
-            (held s).blocks) }
-        ensures same { IfOk result (λ s. held s ≡ record (held self) {
-          blocks = (held s).blocks;
-          writes = with_write (V.plain block).height (held self).writes;
-          watches = (held s).watches;
+        ensures ok { OnOk result (Puts (is_held (held self.old).blocks.held (V.plain block)) (held self.old).blocks (at_own_height (V.plain block))
+            (held self.new).blocks) }
+        ensures same { OnOk result (held self.new ≡ record (held self.old) {
+          blocks = (held self.new).blocks;
+          writes = with_write (V.plain block).height (held self.old).writes;
+          watches = (held self.new).watches;
         }) }
-        ensures goes_on { GoesOn held (held self) (written_block (at_own_height (V.plain block))) result }
-        ensures usual { IfErr result (λ e. IsUsual e.fault) };
+        ensures goes_on { GoesOn (fault_of V.Commitment.bytes) (held self.old) (written_block (at_own_height (V.plain block))) (held self.new) result }
+        ensures usual { IfErr result (λ e. IsUsual (fault_of V.Commitment.bytes e)) };
 
     /// Stores the finalization of the block that was put last, with which it waits for a sync.
     fn put_certificate(
-        self,
+        &mut self,
         height: Height,
         finalization: &Self::Finalization,
-    ) -> Result<Self, Ended<V, Self>>
-    where
-        Self: Sized,
+    ) -> Result<(), Fault<V::Commitment>>
         requires small { IsSmall (finalization_bytes (Self.Finalization.plain finalization.now)) }
-        requires waits { IsLastWrite height (held self).writes }
-        ensures ok { IfOk result (λ s. Puts (is_certified V.inner (held self).certs.held height (V.inner (Self.Finalization.plain finalization.now).payload))
-            (held self).certs (at_height height (Self.Finalization.plain finalization.now)) (held s).certs) }
-        ensures same { IfOk result (λ s. held s ≡ record (held self) { certs = (held s).certs; watches = (held s).watches }) }
-        ensures goes_on { GoesOn held (held self) (written_cert (at_height height (Self.Finalization.plain finalization.now))) result }
-        ensures archive { IfErr result (λ e. IsArchiveFault e.fault) }
-        ensures usual { IfErr result (λ e. IsUsual e.fault) };
+        requires waits { IsLastWrite height (held self.old).writes }
+        ensures ok { OnOk result (Puts (is_certified V.inner (held self.old).certs.held height (V.inner (Self.Finalization.plain finalization.now).payload))
+            (held self.old).certs (at_height height (Self.Finalization.plain finalization.now)) (held self.new).certs) }
+        ensures same { OnOk result (held self.new ≡ record (held self.old) { certs = (held self.new).certs; watches = (held self.new).watches }) }
+        ensures goes_on { GoesOn (fault_of V.Commitment.bytes) (held self.old)
+            (written_cert (at_height height (Self.Finalization.plain finalization.now))) (held self.new) result }
+        ensures archive { IfErr result (λ e. IsArchiveFault (fault_of V.Commitment.bytes e)) }
+        ensures usual { IfErr result (λ e. IsUsual (fault_of V.Commitment.bytes e)) };
 
     /// Stores a block and makes it durable at once.
-    fn store_block(self, block: &V::Block) -> Result<Self, Ended<V, Self>>
-    where
-        Self: Sized,
+    fn store_block(&mut self, block: &V::Block) -> Result<(), Fault<V::Commitment>>
         requires small { IsSmall (V.plain block.now).encoded }
-        ensures ok { IfOk result (λ s. StoresValue (is_held (held self).blocks.held (V.plain block.now)) (held self).blocks
-            (at_own_height (V.plain block.now)) (held s).blocks) }
-        ensures same { IfOk result (λ s. held s ≡ record (held self) { blocks = (held s).blocks; watches = (held s).watches }) }
-        ensures goes_on { GoesOn held (held self) (written_block (at_own_height (V.plain block.now))) result }
-        ensures usual { IfErr result (λ e. IsUsual e.fault) };
+        ensures ok { OnOk result (StoresValue (is_held (held self.old).blocks.held (V.plain block.now)) (held self.old).blocks
+            (at_own_height (V.plain block.now)) (held self.new).blocks) }
+        ensures same { OnOk result (held self.new ≡ record (held self.old) { blocks = (held self.new).blocks; watches = (held self.new).watches }) }
+        ensures goes_on { GoesOn (fault_of V.Commitment.bytes) (held self.old) (written_block (at_own_height (V.plain block.now))) (held self.new) result }
+        ensures usual { IfErr result (λ e. IsUsual (fault_of V.Commitment.bytes e)) };
 
     /// Stores a finalization at a height and makes it durable at once; the writes that wait for a sync go on waiting.
     fn store_certificate(
-        self,
+        &mut self,
         height: Height,
         finalization: &Self::Finalization,
-    ) -> Result<Self, Ended<V, Self>>
-    where
-        Self: Sized,
+    ) -> Result<(), Fault<V::Commitment>>
         requires small { IsSmall (finalization_bytes (Self.Finalization.plain finalization.now)) }
-        ensures ok { IfOk result (λ s. StoresValue (is_certified V.inner (held self).certs.held height
-            (V.inner (Self.Finalization.plain finalization.now).payload)) (held self).certs
-            (at_height height (Self.Finalization.plain finalization.now)) (held s).certs) }
-        ensures same { IfOk result (λ s. held s ≡ record (held self) { certs = (held s).certs; watches = (held s).watches }) }
-        ensures goes_on { GoesOn held (held self) (written_cert (at_height height (Self.Finalization.plain finalization.now))) result }
-        ensures archive { IfErr result (λ e. IsArchiveFault e.fault) }
-        ensures usual { IfErr result (λ e. IsUsual e.fault) };
+        ensures ok { OnOk result (StoresValue (is_certified V.inner (held self.old).certs.held height
+            (V.inner (Self.Finalization.plain finalization.now).payload)) (held self.old).certs
+            (at_height height (Self.Finalization.plain finalization.now)) (held self.new).certs) }
+        ensures same { OnOk result (held self.new ≡ record (held self.old) { certs = (held self.new).certs; watches = (held self.new).watches }) }
+        ensures goes_on { GoesOn (fault_of V.Commitment.bytes) (held self.old)
+            (written_cert (at_height height (Self.Finalization.plain finalization.now))) (held self.new) result }
+        ensures archive { IfErr result (λ e. IsArchiveFault (fault_of V.Commitment.bytes e)) }
+        ensures usual { IfErr result (λ e. IsUsual (fault_of V.Commitment.bytes e)) };
 
     /// Starts a sync of the blocks and the finalizations that covers all writes, under the next ticket. Where none is left
     /// the life ends.
-    fn start_sync(self) -> Result<Self, Ended<V, Self>>
-    where
-        Self: Sized,
-        ensures ok { IfOk result (λ s. held s ≡ record (held self) { writes = with_started (held self).writes; watches = (held s).watches }) }
-        ensures goes_on { GoesOn held (held self) nothing_written result }
-        ensures kind { IfErr result (λ e. IsArchiveFault e.fault
-            ⊎ ((e.fault ≡ ticket_limit sync_kind) × ((held self).writes.next_sync ≡ 2 ^ 64 - 1))) };
+    fn start_sync(&mut self) -> Result<(), Fault<V::Commitment>>
+        ensures ok { OnOk result (held self.new ≡ record (held self.old) { writes = with_started (held self.old).writes; watches = (held self.new).watches }) }
+        ensures goes_on { GoesOn (fault_of V.Commitment.bytes) (held self.old) nothing_written (held self.new) result }
+        ensures kind { IfErr result (λ e. IsArchiveFault (fault_of V.Commitment.bytes e)
+            ⊎ ((fault_of V.Commitment.bytes e ≡ ticket_limit sync_kind) × ((held self.old).writes.next_sync ≡ 2 ^ 64 - 1))) };
 
     /// Finishes the sync of a ticket, which makes durable what was written before it was started, and says whether it was
     /// open. One that isn't changes nothing, and asks no store.
-    fn finish_sync(self, ticket: u64) -> Result<(Self, bool), Ended<V, Self>>
-    where
-        Self: Sized,
-        ensures was_open { IfOk result (λ r. r.1 ≡ is_open_sync (held self).writes.syncs ticket) }
-        ensures closed { IfOk result (λ r. r.1 ≡ false → held r.0 ≡ held self) }
-        ensures failed { IfErr result (λ e. is_open_sync (held self).writes.syncs ticket ≡ true) }
-        ensures blocks { IfOk result (λ r. MakesSure (held self).blocks (held r.0).blocks) }
-        ensures certs { IfOk result (λ r. MakesSure (held self).certs (held r.0).certs) }
-        ensures written { IfOk result (λ r. AreWritten (held r.0)) }
-        ensures same { IfOk result (λ r. held r.0 ≡ record (held self) {
-          blocks = (held r.0).blocks;
-          certs = (held r.0).certs;
-          writes = with_finished ticket (held self).writes;
-          watches = (held r.0).watches;
+    fn finish_sync(&mut self, ticket: u64) -> Result<bool, Fault<V::Commitment>>
+        ensures was_open { IfOk result (λ r. r ≡ is_open_sync (held self.old).writes.syncs ticket) }
+        ensures closed { IfOk result (λ r. r ≡ false → held self.new ≡ held self.old) }
+        ensures failed { IfErr result (λ e. is_open_sync (held self.old).writes.syncs ticket ≡ true) }
+        ensures blocks { OnOk result (MakesSure (held self.old).blocks (held self.new).blocks) }
+        ensures certs { OnOk result (MakesSure (held self.old).certs (held self.new).certs) }
+        ensures written { (held self.old).intact ≡ true → OnOk result (AreWritten (held self.new)) }
+        ensures same { OnOk result (held self.new ≡ record (held self.old) {
+          blocks = (held self.new).blocks;
+          certs = (held self.new).certs;
+          writes = with_finished ticket (held self.old).writes;
+          watches = (held self.new).watches;
         }) }
-        ensures goes_on { GoesOn (λ r. held r.0) (held self) nothing_written result }
-        ensures archive { IfErr result (λ e. IsArchiveFault e.fault) }
-        ensures usual { IfErr result (λ e. IsUsual e.fault) };
+        ensures goes_on { GoesOn (fault_of V.Commitment.bytes) (held self.old) nothing_written (held self.new) result }
+        ensures archive { IfErr result (λ e. IsArchiveFault (fault_of V.Commitment.bytes e)) }
+        ensures usual { IfErr result (λ e. IsUsual (fault_of V.Commitment.bytes e)) };
 
     /// The block at this height is processed, which becomes durable with the next sync of the metadata.
-    fn set_processed(self, height: Height) -> Result<Self, Ended<V, Self>>
-    where
-        Self: Sized,
-        ensures ok { IfOk result (λ s. held s ≡ record (held self) { processed = Some (at_block height); watches = (held s).watches }) }
-        ensures goes_on { GoesOn held (held self) nothing_written result }
-        ensures usual { IfErr result (λ e. IsUsual e.fault) };
+    fn set_processed(&mut self, height: Height) -> Result<(), Fault<V::Commitment>>
+        ensures ok { OnOk result (held self.new ≡ record (held self.old) { processed = Some (at_block height); watches = (held self.new).watches }) }
+        ensures goes_on { GoesOn (fault_of V.Commitment.bytes) (held self.old) nothing_written (held self.new) result }
+        ensures usual { IfErr result (λ e. IsUsual (fault_of V.Commitment.bytes e)) };
 
     /// Sets the cutoff, which becomes durable with the next sync of the metadata.
-    fn set_cutoff(self, cutoff: &Cutoff) -> Result<Self, Ended<V, Self>>
-    where
-        Self: Sized,
-        ensures ok { IfOk result (λ s. held s ≡ record (held self) { cutoff = cutoff_of cutoff.now; watches = (held s).watches }) }
-        ensures goes_on { GoesOn held (held self) nothing_written result }
-        ensures usual { IfErr result (λ e. IsUsual e.fault) };
+    fn set_cutoff(&mut self, cutoff: &Cutoff) -> Result<(), Fault<V::Commitment>>
+        ensures ok { OnOk result (held self.new ≡ record (held self.old) { cutoff = cutoff_of cutoff.now; watches = (held self.new).watches }) }
+        ensures goes_on { GoesOn (fault_of V.Commitment.bytes) (held self.old) nothing_written (held self.new) result }
+        ensures usual { IfErr result (λ e. IsUsual (fault_of V.Commitment.bytes e)) };
 
     /// Makes the processed height and the cutoff durable together.
-    fn sync_metadata(self) -> Result<Self, Ended<V, Self>>
-    where
-        Self: Sized,
-        ensures ok { IfOk result (λ s. held s ≡ record (held self) {
-          pairs = pair_of (held self).processed (held self).cutoff
+    fn sync_metadata(&mut self) -> Result<(), Fault<V::Commitment>>
+        ensures ok { OnOk result (held self.new ≡ record (held self.old) {
+          pairs = pair_of (held self.old).processed (held self.old).cutoff
               ∷ [];
-          watches = (held s).watches;
+          watches = (held self.new).watches;
         }) }
-        ensures passed { IfOk result (λ s. ArePassed (held self).watches (held s).watches) }
-        ensures lost { LosesSince (held self) (written_pair (pair_of (held self).processed (held self).cutoff)) result }
-        ensures usual { IfErr result (λ e. IsUsual e.fault) };
+        ensures passed { OnOk result (ArePassed (held self.old).watches (held self.new).watches) }
+        ensures lost { LosesSince (fault_of V.Commitment.bytes) (held self.old)
+            (written_pair (pair_of (held self.old).processed (held self.old).cutoff)) (held self.new) result }
+        ensures usual { IfErr result (λ e. IsUsual (fault_of V.Commitment.bytes e)) };
 }
 
 /// How a life ended, and what is left.

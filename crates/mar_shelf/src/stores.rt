@@ -1,10 +1,12 @@
-//! The four stores of a life, which each call consumes.
-ghost use Rattle.std.specs.Prelude.{◌≡◌, OnOk, map};
+//! The four stores of a life.
+ghost use Rattle.std.specs.Prelude.{◌≡◌, OnErr, OnOk, map, true};
 ghost use Rattle.mar_store.specs.Lost.{wreck_of};
-ghost use Rattle.mar_node.specs.Held.{ended_of, lost_fault, missed_fault, remains_of};
+ghost use Rattle.mar_node.specs.Held.{ended_of, lost_fault, missed_fault};
 ghost use Rattle.mar_node.specs.Faults.{block_store, cache_store, cert_store, meta_store};
 ghost use Rattle.mar_node.specs.Metadata.{pair_at};
+ghost use Rattle.mar_node.specs.Places.{is_there, kept_at, watch_at};
 ghost use Rattle.mar_node.specs.Pool.{pool_deferred, writing_of};
+ghost use Rattle.mar_store.specs.Changes.{left_of};
 ghost use Rattle.mar_node.specs.Writing.{IsOrdered};
 ghost use Rattle.mar_shelf.specs.Pooling.{staged_where};
 ghost use Rattle.mar_shelf.specs.Views.{fault_of, store_name_of};
@@ -12,12 +14,12 @@ ghost use Rattle.mar_shelf.specs.Views.{fault_of, store_name_of};
 use crate::fault::{Fault, StoreName, TicketKind};
 use crate::holds::{Ended, Holds};
 use crate::ruins::Ruins;
-use crate::{Blocks, Certificates, Shelf};
+use crate::{Blocks, BlocksRuin, Certificates, CertificatesRuin, Shelf};
 use mar_block::Variant;
 use mar_cert::CommitsTo;
 use mar_codec::Named;
 use mar_key::Cutoff;
-use mar_node::{Progress, Staged, State, Writes};
+use mar_node::{Place, Progress, Staged, State, Writes};
 use mar_store::{Lost, Meta, Miss, RangeSet};
 use mar_types::{Height, Round};
 use std::alloc::{AllocError, Global};
@@ -25,8 +27,8 @@ use std::marker::{Model, PhantomData};
 
 /// The stores of a life: blocks, certificates, how far delivery has come, and the cache; with the writes of the first two
 /// that wait for a sync, and the blocks that are staged until they are handed over. A contract sees what each store holds
-/// and may leave, how often it has failed, and the writes; not what is staged, since each such block is held. A call that
-/// fails ends the life, and hands back what is left.
+/// and may leave, how often it has failed, and the writes; not what is staged, since each such block is held. Where a
+/// change of a store failed, what is left of it stands in its place, and later calls of it leave that and fail.
 #[derive(Drop)]
 pub struct Stores<
     V: Variant,
@@ -36,8 +38,8 @@ pub struct Stores<
     M: Meta,
     H: Shelf,
 > {
-    blocks: FB,
-    certs: FC,
+    blocks: Place<FB, FB::Wreck>,
+    certs: Place<FC, FC::Wreck>,
     writes: Writes,
     staged: Staged<V::Block>,
     progress: Progress<M, V::Commitment, F>,
@@ -55,23 +57,31 @@ impl<
 > Model for Stores<V, F, FB, FC, M, H> {
     ghost use Rattle.mar_node.specs.Held.{Held};
     ghost use Rattle.mar_node.specs.Pool.{writing_of};
-    ghost use Rattle.mar_shelf.specs.Pooling.{ArePooled};
+    ghost use Rattle.mar_node.specs.Places.{is_open, kept_at, watch_at};
+    ghost use Rattle.mar_shelf.specs.Pooling.{BlocksPooled, CertsPooled};
+    ghost use Rattle.std.specs.Prelude.{◌&&◌};
 
     ghost Value = { Held };
 
     ghost view = { λ s. record {
-      blocks = FB.stored s.blocks;
-      certs = FC.stored s.certs;
+      blocks = kept_at FB.stored FB.Wreck.left s.blocks;
+      certs = kept_at FC.stored FC.Wreck.left s.certs;
       processed = s.progress.processed;
       cutoff = s.progress.cutoff;
       witnessed = s.progress.witnessed;
       pairs = s.progress.pairs;
       writes = writing_of s.writes;
-      watches = record { blocks = FB.watch s.blocks; certs = FC.watch s.certs; meta = s.progress.watch; cache = H.watch s.shelf };
+      watches = record {
+        blocks = watch_at FB.watch FB.Wreck.watch s.blocks;
+        certs = watch_at FC.watch FC.Wreck.watch s.certs;
+        meta = s.progress.watch;
+        cache = H.watch s.shelf;
+      };
+      intact = is_open s.blocks && (is_open s.certs && s.progress.intact);
     } };
 
-    ghost invariant = { λ s. ArePooled V.plain (FB.stored s.blocks) (FB.number s.blocks) (FB.covers s.blocks)
-        (FC.stored s.certs) (FC.number s.certs) (FC.covers s.certs) s.writes s.staged.blocks };
+    ghost invariant = { λ s. BlocksPooled V.plain FB.stored FB.number FB.covers s.blocks s.writes s.staged.blocks
+        × CertsPooled FC.stored FC.number FC.covers s.certs s.writes };
 }
 
 impl<
@@ -116,8 +126,8 @@ impl<
         };
         match H::reopen(shelf, luck) {
             Ok(shelf) => Ok(Stores {
-                blocks,
-                certs,
+                blocks: Place::Open(blocks),
+                certs: Place::Open(certs),
                 writes: Writes::new(alloc),
                 staged: Staged::new(alloc, max_staged),
                 progress,
@@ -132,24 +142,39 @@ impl<
     }
 
     fn wreck(self) -> Ruins<V, F, FB, FC, M, H> {
+        let Stores {
+            blocks,
+            certs,
+            writes: _writes,
+            staged: _staged,
+            progress,
+            shelf,
+            of: _of,
+        } = self;
         Ruins {
-            blocks: self.blocks.wreck(),
-            certs: self.certs.wreck(),
-            meta: self.progress.wreck(),
-            shelf: self.shelf.wreck(),
+            blocks: blocks_left::<V, FB>(blocks),
+            certs: certificates_left::<V, F, FC>(certs),
+            meta: progress.wreck(),
+            shelf: shelf.wreck(),
         }
     }
 
     fn law(&self) {
-        let _blocks = &self.blocks;
-        let _certs = &self.certs;
         self.writes.law();
     }
 
     fn arm(&mut self, store: StoreName, calls: u64) -> Result<(), AllocError> {
         match store {
-            StoreName::Blocks => self.blocks.arm(calls),
-            StoreName::Certs => self.certs.arm(calls),
+            StoreName::Blocks => match &mut self.blocks {
+                Place::Open(blocks) => blocks.arm(calls),
+                Place::Lost(wreck) => wreck.arm(calls),
+                Place::Away => unreachable!(),
+            },
+            StoreName::Certs => match &mut self.certs {
+                Place::Open(certs) => certs.arm(calls),
+                Place::Lost(wreck) => wreck.arm(calls),
+                Place::Away => unreachable!(),
+            },
             StoreName::Meta => self.progress.arm(calls),
             StoreName::Cache => Ok(()),
         }
@@ -168,275 +193,341 @@ impl<
     }
 
     fn last_block(&self) -> Option<Height> {
-        self.blocks.last_index()
+        match &self.blocks {
+            Place::Open(blocks) => blocks.last_index(),
+            _lost => None,
+        }
     }
 
     fn last_certificate(&self) -> Option<Height> {
-        self.certs.last_index()
+        match &self.certs {
+            Place::Open(certs) => certs.last_index(),
+            _lost => None,
+        }
     }
 
     fn blocks_held(&self) -> &RangeSet {
-        self.blocks.held_ranges()
+        match &self.blocks {
+            Place::Open(blocks) => blocks.held_ranges(),
+            Place::Lost(wreck) => wreck.sure_ranges(),
+            Place::Away => unreachable!(),
+        }
     }
 
     fn blocks_sure(&self) -> &RangeSet {
-        self.blocks.sure_ranges()
+        match &self.blocks {
+            Place::Open(blocks) => blocks.sure_ranges(),
+            Place::Lost(wreck) => wreck.sure_ranges(),
+            Place::Away => unreachable!(),
+        }
     }
 
     fn certificates_held(&self) -> &RangeSet {
-        self.certs.held_ranges()
+        match &self.certs {
+            Place::Open(certs) => certs.held_ranges(),
+            Place::Lost(wreck) => wreck.sure_ranges(),
+            Place::Away => unreachable!(),
+        }
     }
 
     fn certificates_sure(&self) -> &RangeSet {
-        self.certs.sure_ranges()
+        match &self.certs {
+            Place::Open(certs) => certs.sure_ranges(),
+            Place::Lost(wreck) => wreck.sure_ranges(),
+            Place::Away => unreachable!(),
+        }
     }
 
     fn writes(&self) -> &Writes {
         &self.writes
     }
 
-    fn take_block(self, height: Height) -> Result<(Self, Option<V::Block>), Ended<V, Self>> {
-        let mut stores = self;
-        stores.staged.retain(height);
-        if let Some(block) = stores.staged.remove(height) {
-            return Ok((stores, Some(block)));
-        }
-        match stores.blocks.get(height) {
-            Ok(block) => Ok((stores, block)),
-            Err(miss) => Err(stores.missed(StoreName::Blocks, miss)),
-        }
-    }
-
-    fn block_at(self, height: Height) -> Result<(Self, Option<V::Block>), Ended<V, Self>> {
-        let mut stores = self;
-        match stores.blocks.get(height) {
-            Ok(block) => Ok((stores, block)),
-            Err(miss) => Err(stores.missed(StoreName::Blocks, miss)),
-        }
-    }
-
-    fn block_of(self, digest: &V::Digest) -> Result<(Self, Option<V::Block>), Ended<V, Self>> {
-        let mut stores = self;
-        match stores.blocks.find(digest) {
-            Ok(block) => Ok((stores, block)),
-            Err(miss) => Err(stores.missed(StoreName::Blocks, miss)),
-        }
-    }
-
-    fn certificate_at(self, height: Height) -> Result<(Self, Option<F>), Ended<V, Self>> {
-        let mut stores = self;
-        match stores.certs.get(height) {
-            Ok(certificate) => Ok((stores, certificate)),
-            Err(miss) => Err(stores.missed(StoreName::Certs, miss)),
-        }
-    }
-
-    fn has_certificate(self, height: Height) -> Result<(Self, bool), Ended<V, Self>> {
-        let mut stores = self;
-        match stores.certs.has(height) {
-            Ok(found) => Ok((stores, found)),
-            Err(miss) => Err(stores.missed(StoreName::Certs, miss)),
-        }
-    }
-
-    fn put_block(self, block: V::Block) -> Result<Self, Ended<V, Self>> {
-        let height = V::height(&block);
-        let was_held = self.blocks.holds(height);
-        let blocks = match self.blocks.put(&V::digest(&block), &block) {
-            Ok(blocks) => blocks,
-            Err(lost) => {
-                let meta = self.progress.wreck();
-                return Err(Ended::of_blocks(lost, self.certs.wreck(), meta, self.shelf.wreck()));
-            }
+    fn take_block(&mut self, height: Height) -> Result<Option<V::Block>, Fault<V::Commitment>> {
+        let Place::Open(blocks) = &mut self.blocks else {
+            return Err(Fault::Memory);
         };
-        let is_taken = !was_held & blocks.holds(height);
-        let (mut writes, mut staged) = (self.writes, self.staged);
-        match defer(&mut writes, &mut staged, height, block, is_taken) {
-            Ok(()) => Ok(Stores {
-                blocks,
-                writes,
-                staged,
-                ..self
-            }),
-            Err(_) => {
-                let (lost, meta) = (Lost::Memory(blocks.wreck()), self.progress.wreck());
-                Err(Ended::of_blocks(lost, self.certs.wreck(), meta, self.shelf.wreck()))
-            }
+        self.staged.retain(height);
+        if let Some(block) = self.staged.remove(height) {
+            return Ok(Some(block));
+        }
+        match blocks.get(height) {
+            Ok(block) => Ok(block),
+            Err(miss) => Err(missed_by(StoreName::Blocks, miss)),
         }
     }
 
-    fn put_certificate(self, height: Height, finalization: &F) -> Result<Self, Ended<V, Self>> {
-        match self.certs.put(
-            height,
-            &V::commitment_to_inner(finalization.payload()),
-            finalization,
-        ) {
-            Ok(certs) => Ok(Stores { certs, ..self }),
+    fn block_at(&mut self, height: Height) -> Result<Option<V::Block>, Fault<V::Commitment>> {
+        let Place::Open(blocks) = &mut self.blocks else {
+            return Err(Fault::Memory);
+        };
+        match blocks.get(height) {
+            Ok(block) => Ok(block),
+            Err(miss) => Err(missed_by(StoreName::Blocks, miss)),
+        }
+    }
+
+    fn block_of(&mut self, digest: &V::Digest) -> Result<Option<V::Block>, Fault<V::Commitment>> {
+        let Place::Open(blocks) = &mut self.blocks else {
+            return Err(Fault::Memory);
+        };
+        match blocks.find(digest) {
+            Ok(block) => Ok(block),
+            Err(miss) => Err(missed_by(StoreName::Blocks, miss)),
+        }
+    }
+
+    fn certificate_at(&mut self, height: Height) -> Result<Option<F>, Fault<V::Commitment>> {
+        let Place::Open(certs) = &mut self.certs else {
+            return Err(Fault::Memory);
+        };
+        match certs.get(height) {
+            Ok(certificate) => Ok(certificate),
+            Err(miss) => Err(missed_by(StoreName::Certs, miss)),
+        }
+    }
+
+    fn has_certificate(&mut self, height: Height) -> Result<bool, Fault<V::Commitment>> {
+        let Place::Open(certs) = &mut self.certs else {
+            return Err(Fault::Memory);
+        };
+        match certs.has(height) {
+            Ok(found) => Ok(found),
+            Err(miss) => Err(missed_by(StoreName::Certs, miss)),
+        }
+    }
+
+    fn put_block(&mut self, block: V::Block) -> Result<(), Fault<V::Commitment>> {
+        let height = V::height(&block);
+        let Some(blocks) = self.blocks.take() else {
+            return Err(Fault::Memory);
+        };
+        let was_held = blocks.holds(height);
+        match blocks.put(&V::digest(&block), &block) {
+            Ok(blocks) => {
+                let is_taken = !was_held & blocks.holds(height);
+                match defer(&mut self.writes, &mut self.staged, height, block, is_taken) {
+                    Ok(()) => {
+                        self.blocks = Place::Open(blocks);
+                        Ok(())
+                    }
+                    Err(_) => {
+                        self.blocks = Place::Lost(blocks.wreck());
+                        Err(Fault::Memory)
+                    }
+                }
+            }
             Err(lost) => {
-                let meta = self.progress.wreck();
-                Err(Ended::of_certs(self.blocks.wreck(), lost, meta, self.shelf.wreck()))
+                let (fault, wreck) = lost_by(lost, StoreName::Blocks);
+                self.blocks = Place::Lost(wreck);
+                Err(fault)
             }
         }
     }
 
-    fn store_block(self, block: &V::Block) -> Result<Self, Ended<V, Self>> {
-        let blocks = match self.blocks.put(&V::digest(block), block) {
+    fn put_certificate(
+        &mut self,
+        height: Height,
+        finalization: &F,
+    ) -> Result<(), Fault<V::Commitment>> {
+        let Some(certs) = self.certs.take() else {
+            return Err(Fault::Memory);
+        };
+        let digest = V::commitment_to_inner(finalization.payload());
+        match certs.put(height, &digest, finalization) {
+            Ok(certs) => {
+                self.certs = Place::Open(certs);
+                Ok(())
+            }
+            Err(lost) => {
+                let (fault, wreck) = lost_by(lost, StoreName::Certs);
+                self.certs = Place::Lost(wreck);
+                Err(fault)
+            }
+        }
+    }
+
+    fn store_block(&mut self, block: &V::Block) -> Result<(), Fault<V::Commitment>> {
+        let Some(blocks) = self.blocks.take() else {
+            return Err(Fault::Memory);
+        };
+        let blocks = match blocks.put(&V::digest(block), block) {
             Ok(blocks) => blocks,
             Err(lost) => {
-                let meta = self.progress.wreck();
-                return Err(Ended::of_blocks(lost, self.certs.wreck(), meta, self.shelf.wreck()));
+                let (fault, wreck) = lost_by(lost, StoreName::Blocks);
+                self.blocks = Place::Lost(wreck);
+                return Err(fault);
             }
         };
         match blocks.sync() {
-            Ok(blocks) => Ok(Stores { blocks, ..self }),
+            Ok(blocks) => {
+                self.blocks = Place::Open(blocks);
+                Ok(())
+            }
             Err(lost) => {
-                let meta = self.progress.wreck();
-                Err(Ended::of_blocks(lost, self.certs.wreck(), meta, self.shelf.wreck()))
+                let (fault, wreck) = lost_by(lost, StoreName::Blocks);
+                self.blocks = Place::Lost(wreck);
+                Err(fault)
             }
         }
     }
 
-    fn store_certificate(self, height: Height, finalization: &F) -> Result<Self, Ended<V, Self>> {
-        let certs = match self.certs.put(
-            height,
-            &V::commitment_to_inner(finalization.payload()),
-            finalization,
-        ) {
+    fn store_certificate(
+        &mut self,
+        height: Height,
+        finalization: &F,
+    ) -> Result<(), Fault<V::Commitment>> {
+        let Some(certs) = self.certs.take() else {
+            return Err(Fault::Memory);
+        };
+        let digest = V::commitment_to_inner(finalization.payload());
+        let certs = match certs.put(height, &digest, finalization) {
             Ok(certs) => certs,
             Err(lost) => {
-                let meta = self.progress.wreck();
-                return Err(Ended::of_certs(self.blocks.wreck(), lost, meta, self.shelf.wreck()));
+                let (fault, wreck) = lost_by(lost, StoreName::Certs);
+                self.certs = Place::Lost(wreck);
+                return Err(fault);
             }
         };
         match certs.sync() {
-            Ok(certs) => Ok(Stores { certs, ..self }),
+            Ok(certs) => {
+                self.certs = Place::Open(certs);
+                Ok(())
+            }
             Err(lost) => {
-                let meta = self.progress.wreck();
-                Err(Ended::of_certs(self.blocks.wreck(), lost, meta, self.shelf.wreck()))
+                let (fault, wreck) = lost_by(lost, StoreName::Certs);
+                self.certs = Place::Lost(wreck);
+                Err(fault)
             }
         }
     }
 
-    fn start_sync(self) -> Result<Self, Ended<V, Self>> {
+    fn start_sync(&mut self) -> Result<(), Fault<V::Commitment>> {
         if !self.writes.has_ticket() {
-            return Err(Ended {
-                fault: Fault::TicketLimit(TicketKind::Sync),
-                ruins: self.wreck(),
-            });
+            return Err(Fault::TicketLimit(TicketKind::Sync));
         }
-        let (blocks, blocks_ticket) = match self.blocks.start_sync() {
-            Ok(started) => started,
+        let Some(blocks) = self.blocks.take() else {
+            return Err(Fault::Memory);
+        };
+        let blocks_ticket = match blocks.start_sync() {
+            Ok((blocks, ticket)) => {
+                self.blocks = Place::Open(blocks);
+                ticket
+            }
             Err(lost) => {
-                let meta = self.progress.wreck();
-                return Err(Ended::of_blocks(lost, self.certs.wreck(), meta, self.shelf.wreck()));
+                let (fault, wreck) = lost_by(lost, StoreName::Blocks);
+                self.blocks = Place::Lost(wreck);
+                return Err(fault);
             }
         };
-        let (certs, certs_ticket) = match self.certs.start_sync() {
-            Ok(started) => started,
-            Err(lost) => {
-                let meta = self.progress.wreck();
-                return Err(Ended::of_certs(blocks.wreck(), lost, meta, self.shelf.wreck()));
-            }
+        let Some(certs) = self.certs.take() else {
+            return Err(Fault::Memory);
         };
-        let mut writes = self.writes;
-        match writes.start(blocks_ticket, certs_ticket) {
-            Ok(()) => Ok(Stores {
-                blocks,
-                certs,
-                writes,
-                ..self
-            }),
-            Err(_) => {
-                let (lost, meta) = (Lost::Memory(blocks.wreck()), self.progress.wreck());
-                Err(Ended::of_blocks(lost, certs.wreck(), meta, self.shelf.wreck()))
+        match certs.start_sync() {
+            Ok((certs, certs_ticket)) => match self.writes.start(blocks_ticket, certs_ticket) {
+                Ok(()) => {
+                    self.certs = Place::Open(certs);
+                    Ok(())
+                }
+                Err(_) => {
+                    self.certs = Place::Lost(certs.wreck());
+                    Err(Fault::Memory)
+                }
+            },
+            Err(lost) => {
+                let (fault, wreck) = lost_by(lost, StoreName::Certs);
+                self.certs = Place::Lost(wreck);
+                Err(fault)
             }
         }
     }
 
-    fn finish_sync(self, ticket: u64) -> Result<(Self, bool), Ended<V, Self>> {
+    fn finish_sync(&mut self, ticket: u64) -> Result<bool, Fault<V::Commitment>> {
         self.law();
         let sync = match self.writes.find(ticket) {
             Some(sync) => sync,
-            None => return Ok((self, false)),
+            None => return Ok(false),
         };
-        let blocks = match self.blocks.finish(sync.blocks) {
-            Ok(blocks) => blocks,
+        let Some(blocks) = self.blocks.take() else {
+            return Err(Fault::Memory);
+        };
+        match blocks.finish(sync.blocks) {
+            Ok(blocks) => self.blocks = Place::Open(blocks),
             Err(lost) => {
-                let meta = self.progress.wreck();
-                return Err(Ended::of_blocks(lost, self.certs.wreck(), meta, self.shelf.wreck()));
+                let (fault, wreck) = lost_by(lost, StoreName::Blocks);
+                self.blocks = Place::Lost(wreck);
+                return Err(fault);
             }
+        }
+        let Some(certs) = self.certs.take() else {
+            return Err(Fault::Memory);
         };
-        let certs = match self.certs.finish(sync.certs) {
-            Ok(certs) => certs,
+        match certs.finish(sync.certs) {
+            Ok(certs) => {
+                self.certs = Place::Open(certs);
+                self.writes.finish(ticket);
+                self.law();
+                Ok(true)
+            }
             Err(lost) => {
-                let meta = self.progress.wreck();
-                return Err(Ended::of_certs(blocks.wreck(), lost, meta, self.shelf.wreck()));
+                let (fault, wreck) = lost_by(lost, StoreName::Certs);
+                self.certs = Place::Lost(wreck);
+                Err(fault)
             }
-        };
-        let mut writes = self.writes;
-        writes.finish(ticket);
-        let stores = Stores {
-            blocks,
-            certs,
-            writes,
-            ..self
-        };
-        stores.law();
-        Ok((stores, true))
+        }
     }
 
-    fn set_processed(self, height: Height) -> Result<Self, Ended<V, Self>> {
+    fn set_processed(&mut self, height: Height) -> Result<(), Fault<V::Commitment>> {
         match self.progress.set_processed(height) {
-            Ok(progress) => Ok(Stores { progress, ..self }),
-            Err(lost) => {
-                let (blocks, certs) = (self.blocks.wreck(), self.certs.wreck());
-                Err(Ended::of_meta(blocks, certs, lost, self.shelf.wreck()))
-            }
+            Ok(()) => Ok(()),
+            Err(miss) => Err(missed_by(StoreName::Meta, miss)),
         }
     }
 
-    fn set_cutoff(self, cutoff: &Cutoff) -> Result<Self, Ended<V, Self>> {
+    fn set_cutoff(&mut self, cutoff: &Cutoff) -> Result<(), Fault<V::Commitment>> {
         match self.progress.set_cutoff(cutoff) {
-            Ok(progress) => Ok(Stores { progress, ..self }),
-            Err(lost) => {
-                let (blocks, certs) = (self.blocks.wreck(), self.certs.wreck());
-                Err(Ended::of_meta(blocks, certs, lost, self.shelf.wreck()))
-            }
+            Ok(()) => Ok(()),
+            Err(miss) => Err(missed_by(StoreName::Meta, miss)),
         }
     }
 
-    fn sync_metadata(self) -> Result<Self, Ended<V, Self>> {
+    fn sync_metadata(&mut self) -> Result<(), Fault<V::Commitment>> {
         match self.progress.sync() {
-            Ok(progress) => Ok(Stores { progress, ..self }),
-            Err(lost) => {
-                let (blocks, certs) = (self.blocks.wreck(), self.certs.wreck());
-                Err(Ended::of_meta(blocks, certs, lost, self.shelf.wreck()))
-            }
+            Ok(()) => Ok(()),
+            Err(miss) => Err(missed_by(StoreName::Meta, miss)),
         }
     }
 }
 
-impl<
-    V: Variant,
-    F: CommitsTo<V::Commitment>,
-    FB: Blocks<V>,
-    FC: Certificates<V, F>,
-    M: Meta,
-    H: Shelf,
-> Stores<V, F, FB, FC, M, H> {
-    /// Ends the life where a read of this store had no answer.
-    fn missed(self, store: StoreName, miss: Miss) -> Ended<V, Self>
-        ensures { result ≡ record { fault = missed_fault (store_name_of store) miss; remains = remains_of self } }
-    {
-        Ended {
-            fault: missed_by(store, miss),
-            ruins: self.wreck(),
-        }
+/// What is left of the blocks.
+fn blocks_left<V: Variant, FB: Blocks<V>>(place: Place<FB, FB::Wreck>) -> FB::Wreck
+    requires { is_there place ≡ true }
+    ensures left { FB.Wreck.left result ≡ left_of (kept_at FB.stored FB.Wreck.left place) }
+    ensures watch { FB.Wreck.watch result ≡ watch_at FB.watch FB.Wreck.watch place }
+{
+    match place {
+        Place::Open(blocks) => blocks.wreck(),
+        Place::Lost(wreck) => wreck,
+        Place::Away => unreachable!(),
     }
 }
 
-/// Defers a write at a height, and stages its block where it is to be. Where memory runs out the life is to end: the block
-/// may not be staged then, though the write is deferred.
+/// What is left of the finalizations.
+fn certificates_left<V: Variant, F: CommitsTo<V::Commitment>, FC: Certificates<V, F>>(
+    place: Place<FC, FC::Wreck>,
+) -> FC::Wreck
+    requires { is_there place ≡ true }
+    ensures left { FC.Wreck.left result ≡ left_of (kept_at FC.stored FC.Wreck.left place) }
+    ensures watch { FC.Wreck.watch result ≡ watch_at FC.watch FC.Wreck.watch place }
+{
+    match place {
+        Place::Open(certs) => certs.wreck(),
+        Place::Lost(wreck) => wreck,
+        Place::Away => unreachable!(),
+    }
+}
+
+/// Stages a block where it is to be, and defers its write at a height. Where memory runs out the life is to end: the write
+/// isn't deferred then, though the block may be staged.
 fn defer<B: Drop>(
     writes: &mut Writes,
     staged: &mut Staged<B>,
@@ -445,15 +536,15 @@ fn defer<B: Drop>(
     is_taken: bool,
 ) -> Result<(), AllocError>
     ensures writes { OnOk result (writes.new ≡ pool_deferred height writes.old) }
+    ensures same { OnErr result (writes.new ≡ writes.old) }
     ensures staged { OnOk result (staged.new ≡ staged_where is_taken height block staged.old) }
     ensures ordered { IsOrdered (writing_of writes.old) }
 {
     writes.law();
-    writes.defer(height)?;
     if is_taken {
         staged.insert(height, block)?;
     }
-    Ok(())
+    writes.defer(height)
 }
 
 /// The fault by which a read has no answer.

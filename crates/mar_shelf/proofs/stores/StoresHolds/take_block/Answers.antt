@@ -4,29 +4,30 @@ use Rattle.mar_node.specs.Faults.{block_store}
 use Rattle.mar_node.proofs.Growing.{Grew-counted}
 use Rattle.mar_node.proofs.Passing.{Passes-one, by_miss}
 use Rattle.mar_node.proofs.StoreLosses.{Loses-missed}
-use Rattle.mar_shelf.proofs.Awaiting.{ArePooled-blocks, ArePooled-taken, held_taken}
+use Rattle.mar_shelf.proofs.Awaiting.{blocks_read, blocks_taken, held_taken}
 use Rattle.mar_shelf.proofs.stores.StoresHolds.take_block.Goals as goal
+use Rattle.mar_shelf.proofs.stores.StoresHolds.take_block.Goals.{in-Err, in-Ok}
 
-pub returns-in-Ok-clause-own : goal.returns-in-Ok-clause-own
-returns-in-Ok-clause-own g c = own_height _ _ _ _ c.in-Ok.ensures.found (rw c.get.ensures.same at (g.met.FB.Blocks.own c.get.new.self)).heights
-
-pub returns-in-Ok-clause-goes_on : goal.returns-in-Ok-clause-goes_on
-returns-in-Ok-clause-goes_on g c = rw (← c.stores.view_is) (λ start all grew within. rw c.get.ensures.same (Grew-counted start all _ grew block_store _ (Passes-one _ _ c.in-Ok.ensures.watched.0 c.in-Ok.ensures.watched.1)))
-
-pub returns-in-Err-clause-goes_on : goal.returns-in-Err-clause-goes_on
-returns-in-Err-clause-goes_on g c = rw (← c.stores.view_is) (λ start all grew within. Loses-missed start all _ grew block_store _ _ _ (rw c.get.ensures.same at c.missed.ensures) (by_miss Bool _ _ block_store c.in-Err.miss c.in-Err.ensures.watched))
-
-pub invariant_of-stores : goal.invariant_of-stores
-invariant_of-stores g c = ArePooled-taken c.stores.invariant c.args.height c.stores.inside.staged refl c.retain.ensures c.remove.ensures.rest
-
-pub invariant_of-stores-in-Ok : goal.invariant_of-stores-in-Ok
-invariant_of-stores-in-Ok g c = ArePooled-blocks (ArePooled-taken c.stores.invariant c.args.height c.stores.inside.staged refl c.retain.ensures c.remove.ensures.rest) c.get.ensures.same c.get.ensures.tickets c.get.ensures.covers (g.met.FB.Blocks.last c.get.new.self)
-
-pub invariant_of-stores-in-Err : goal.invariant_of-stores-in-Err
-invariant_of-stores-in-Err g c = ArePooled-blocks (ArePooled-taken c.stores.invariant c.args.height c.stores.inside.staged refl c.retain.ensures c.remove.ensures.rest) c.get.ensures.same c.get.ensures.tickets c.get.ensures.covers (g.met.FB.Blocks.last c.get.new.self)
+pub invariant_of-self-in-Some : goal.invariant_of-self-in-Some
+invariant_of-self-in-Some g c = (blocks_taken (rw c.in-Open.is at c.self.invariant.0) c.args.height c.self.inside.staged refl c.retain.ensures c.remove.ensures.rest, c.self.invariant.1)
 
 pub returns-in-Some-clause-found : goal.returns-in-Some-clause-found
-returns-in-Some-clause-found g c = rw (← c.stores.view_is) (held_taken c.stores.invariant c.args.height c.stores.inside.staged c.in-Some.block refl c.retain.ensures c.in-Some.ensures.found)
+returns-in-Some-clause-found g c = rw (← c.self.view_is, c.in-Open.is) (held_taken (rw c.in-Open.is at c.self.invariant.0) c.args.height c.self.inside.staged c.in-Some.block refl c.retain.ensures c.in-Some.ensures.found)
 
 pub returns-in-Some-clause-own : goal.returns-in-Some-clause-own
-returns-in-Some-clause-own g c = own_height g.V.Variant.plain (Some c.in-Some.block) _ _ (held_taken c.stores.invariant c.args.height c.stores.inside.staged c.in-Some.block refl c.retain.ensures c.in-Some.ensures.found) (g.met.FB.Blocks.own c.stores.inside.blocks).heights
+returns-in-Some-clause-own g c = own_height g.V.Variant.plain (Some c.in-Some.block) _ _ (held_taken (rw c.in-Open.is at c.self.invariant.0) c.args.height c.self.inside.staged c.in-Some.block refl c.retain.ensures c.in-Some.ensures.found) (g.met.FB.Blocks.own c.in-Open.blocks).heights
+
+pub invariant_of-self-2 : goal.invariant_of-self-2
+invariant_of-self-2 g c = (blocks_read (blocks_taken (rw c.in-Open.is at c.self.invariant.0) c.args.height c.self.inside.staged refl c.retain.ensures c.remove.ensures.rest) c.get.ensures.same c.get.ensures.tickets c.get.ensures.covers (g.met.FB.Blocks.last c.get.new.self), c.self.invariant.1)
+
+pub returns-clause-own : goal.returns-clause-own
+returns-clause-own g c = elim c.match-get.branch [
+  | in-Ok w ↦ rw w.result-is (own_height _ _ _ _ w.in-Ok.ensures.found (g.met.FB.Blocks.own c.in-Open.blocks).heights)
+  | in-Err w ↦ rw w.result-is tt
+]
+
+pub returns-clause-goes_on : goal.returns-clause-goes_on
+returns-clause-goes_on g c = elim c.match-get.branch [
+  | in-Ok w ↦ rw (w.result-is, ← c.self.view_is, c.in-Open.is) (λ start all grew within. rw c.get.ensures.same (Grew-counted start all _ grew block_store _ (Passes-one _ _ w.in-Ok.ensures.watched.0 w.in-Ok.ensures.watched.1)))
+  | in-Err w ↦ rw (w.result-is, ← c.self.view_is, c.in-Open.is) (λ start all grew within. rw (c.get.ensures.same, w.missed_by.ensures) (Loses-missed start all _ grew block_store _ _ _ refl (by_miss Bool _ _ block_store w.in-Err.miss w.in-Err.ensures.watched)))
+]

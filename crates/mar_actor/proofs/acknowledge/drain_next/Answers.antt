@@ -1,0 +1,16 @@
+use Rattle.std.proofs.Common.{inr, refl, sym}
+use Rattle.std.proofs.lemmas.Result.{err_from_is_err_and}
+use Rattle.mar_parts.specs.Views.{outstanding_of}
+use Rattle.mar_node.proofs.Handing.{Hears-nothing, HearsFront-nothing}
+use Rattle.mar_actor.proofs.acknowledge.drain_next.Goals as goal
+
+pub returns-in_err-process-clause-goes_on : goal.returns-in_err-process-clause-goes_on
+returns-in_err-process-clause-goes_on g c =
+    let p = err_from_is_err_and c.from_residual.result c.from_residual.ensures.1 in
+    rw (p.1, p.2) c.in_err-process.ensures.goes_on
+
+pub returns-in-Dropped-clause-asks : goal.returns-in-Dropped-clause-asks
+returns-in-Dropped-clause-asks g c = HearsFront-nothing _ _ _ (Hears-nothing _)
+
+pub returns-in-Dropped-clause-kind : goal.returns-in-Dropped-clause-kind
+returns-in-Dropped-clause-kind g c = inr (record { oldest = outstanding_of c.in-Dropped.ack; dropped = rw (← c.life.view_is) (sym c.in-Dropped.ensures.dropped); fault = refl; unsynced = refl })

@@ -1,4 +1,0 @@
-use Rattle.mar_actor.proofs.node.Node.next_block.Goals as goal
-
-pub returns-clause-goes_on : goal.returns-clause-goes_on
-returns-clause-goes_on g c = rw (← c.self.view_is) c.in_ok-stores.ensures.goes_on

@@ -1,0 +1,30 @@
+use Rattle.std.proofs.Common.{None, refl}
+use Rattle.std.proofs.lemmas.Result.{err_from_is_err_and}
+use Rattle.mar_node.specs.Held.{nothing_written, seen}
+use Rattle.mar_node.proofs.Growing.{Grew-refl, WithinWritten-refl}
+use Rattle.mar_node.proofs.Lasting.{EndsLife-usual}
+use Rattle.mar_node.proofs.StartEvent.{LivesOn-start, promise-start, promise-untold}
+use Rattle.mar_actor.proofs.Due.{EndsWhereDue-ran, usual-due}
+use Rattle.mar_actor.proofs.Told.{TellsInOrder-ended, TellsInOrder-ran}
+use Rattle.mar_actor.proofs.start.start.Goals as goal
+
+pub returns-in_err-report_newest : goal.returns-in_err-report_newest
+returns-in_err-report_newest g c =
+    let p = err_from_is_err_and c.from_residual.result c.from_residual.ensures.1 in
+    let old = seen (g.S.Holds.held c.args.stores.now) c.args.life.now in
+    rw (p.1, p.2) (record {
+      promise = λ nested certs_nested heard buffer. promise-untold (g.E.Epocher.epochs c.args.life.now.epocher) g.V.Variant.inner (g.met.E.Epocher.partition c.args.life.now.epocher) old buffer _ _ heard _ c.in_err-report_newest.ensures.err (c.in_err-report_newest.ensures.goes_on (g.S.Holds.held c.args.stores.now) nothing_written (Grew-refl (g.S.Holds.held c.args.stores.now) nothing_written nested certs_nested) (WithinWritten-refl nothing_written)) c.in_err-report_newest.ensures.usual;
+      lives = λ nested certs_nested. EndsLife-usual old _ (c.in_err-report_newest.ensures.goes_on (g.S.Holds.held c.args.stores.now) nothing_written (Grew-refl (g.S.Holds.held c.args.stores.now) nothing_written nested certs_nested) (WithinWritten-refl nothing_written)).cause c.in_err-report_newest.ensures.usual;
+      by_value = usual-due None _ c.in_err-report_newest.ensures.usual;
+      tells = TellsInOrder-ended _ _ _ c.in_err-report_newest.ensures.err;
+    })
+
+pub returns : goal.returns
+returns g c =
+    let old = seen (g.S.Holds.held c.args.stores.now) c.args.life.now in
+    record {
+      promise = λ nested certs_nested heard buffer. promise-start (g.E.Epocher.epochs c.args.life.now.epocher) g.V.Variant.inner (g.met.E.Epocher.partition c.args.life.now.epocher) old buffer _ _ _ heard _ _ nested certs_nested c.in_ok-report_newest.ensures.same c.in_ok-report_newest.ensures.ok c.dispatch.ensures.ran;
+      lives = λ nested certs_nested. LivesOn-start old _ _ _ _ c.in_ok-report_newest.ensures.same (c.in_ok-report_newest.ensures.goes_on (g.S.Holds.held c.args.stores.now) nothing_written (Grew-refl (g.S.Holds.held c.args.stores.now) nothing_written nested certs_nested) (WithinWritten-refl nothing_written)).passed c.dispatch.ensures.ran;
+      by_value = EndsWhereDue-ran None refl _ _ _ _ c.dispatch.ensures.ran;
+      tells = TellsInOrder-ran _ _ _ _ _ _ c.in_ok-report_newest.ensures.ok c.dispatch.ensures.ran;
+    }
