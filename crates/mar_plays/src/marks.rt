@@ -1,5 +1,5 @@
 //! Values that are their own digests.
-ghost use Rattle.std.specs.Prelude.{true};
+ghost use Rattle.std.specs.Prelude.{◌≡◌, bytes_eq, replicate, true};
 ghost use Rattle.mar_codec.specs.DigestLemmas.{same_proof};
 
 use mar_codec::{Digest, Hasher, Sha256, Sha256Digest};
@@ -15,13 +15,15 @@ pub struct Mark {
 
 impl Mark {
     /// That whose digest is so many times a byte.
-    pub fn of(byte: u8) -> Self {
+    pub fn of(byte: u8) -> Self
+        ensures { result.digest.bytes ≡ replicate 32 byte }
+    {
         Mark {
             digest: Sha256::fill(byte),
         }
     }
 
-    /// That whose digest begins with a number.
+    /// That whose digest begins with a number, of which no test needs more than that it is another for another number.
     pub fn numbered(number: u64) -> Self {
         let mut bytes = [0; 32];
         bytes[..8].copy_from_slice(&number.to_be_bytes());
@@ -31,7 +33,9 @@ impl Mark {
     }
 
     /// Whether its digest is so many times a byte.
-    pub fn is_of(&self, byte: u8) -> bool {
+    pub fn is_of(&self, byte: u8) -> bool
+        ensures { result ≡ bytes_eq self.now.digest.bytes (replicate 32 byte) }
+    {
         self.digest == Sha256::fill(byte)
     }
 }
