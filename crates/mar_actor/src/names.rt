@@ -1,7 +1,7 @@
 //! Names that are compared.
 ghost use Rattle.std.specs.Prelude.{◌≡◌, bytes_eq};
 
-use mar_codec::Named;
+use mar_types::Named;
 
 /// Whether two names have the same bytes.
 pub(crate) fn is_same<D: Named>(name: D, other: D) -> bool

@@ -1,8 +1,8 @@
 -- A block whose parts were read one after another.
 use Rattle.std.proofs.Common.{List, append_assoc, subst, sym, ℕ, ◌++◌}
-use Rattle.mar_codec.specs.Codec.{Joined, Takes}
-use Rattle.mar_codec.specs.CodecLemmas.{joined_takes}
-use Rattle.mar_codec.specs.Varint.{IsVarint, varint}
+use Rattle.mar_types.specs.Codec.{Joined, Takes}
+use Rattle.mar_types.specs.CodecLemmas.{joined_takes}
+use Rattle.mar_types.specs.Varint.{IsVarint, varint}
 use Rattle.mar_block.specs.EmptyBlock.{SpellsBlock, block_bytes}
 
 pub block_taken : (Parent : List ℕ → Type 0) (parent : List ℕ) (height timestamp : ℕ) (old first second new : List ℕ)

@@ -1,10 +1,10 @@
 -- Blocks of a parent, a height and a timestamp: their bytes, and what names them.
 use Rattle.std.specs.Int.{to_be_bytes, w64}
 use Rattle.std.specs.Prelude.{List, ℕ, ◌++◌}
-use Rattle.mar_codec.specs.Codec.{Joined}
-use Rattle.mar_codec.specs.Refusals.{RefusesJoined, RefusesVarint}
-use Rattle.mar_codec.specs.Varint.{IsVarint, varint}
-use Rattle.mar_codec.specs.declared.Error.{Error}
+use Rattle.mar_types.specs.Codec.{Joined}
+use Rattle.mar_types.specs.Refusals.{RefusesJoined, RefusesVarint}
+use Rattle.mar_types.specs.Varint.{IsVarint, varint}
+use Rattle.mar_types.specs.declared.Error.{Error}
 use Rattle.mar_cert.specs.Block.{Block}
 
 -- the bytes that spell a block

@@ -1,11 +1,11 @@
 -- The bytes of a block spell that block alone.
 use Rattle.std.proofs.Common.{List, ap, append_assoc, arith, length, length-append, refl, sym, ℕ, ◌++◌, ◌+◌, ◌∙◌, ◌≡◌, ◌≤◌}
 use Rattle.sha2.specs.Sha256.{sha256}
-use Rattle.mar_codec.specs.Codec.{IsUnambiguous, Joined}
-use Rattle.mar_codec.specs.CodecLemmas.{joined_unambiguous}
-use Rattle.mar_codec.specs.Digest.{IsDigest}
-use Rattle.mar_codec.specs.Varint.{IsVarint, varint}
-use Rattle.mar_codec.specs.VarintLemmas.{length-varint, varint-injective, varint_unambiguous}
+use Rattle.mar_types.specs.Codec.{IsUnambiguous, Joined}
+use Rattle.mar_types.specs.CodecLemmas.{joined_unambiguous}
+use Rattle.mar_types.specs.Digest.{IsDigest}
+use Rattle.mar_types.specs.Varint.{IsVarint, varint}
+use Rattle.mar_types.specs.VarintLemmas.{length-varint, varint-injective, varint_unambiguous}
 use Rattle.mar_cert.specs.SignersLemmas.{same_rest, varint_rest}
 use Rattle.mar_cert.specs.Block.{Block, IsBlock}
 use Rattle.mar_block.specs.EmptyBlock.{SpellsBlock, block_bytes, block_message}

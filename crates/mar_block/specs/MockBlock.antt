@@ -1,10 +1,10 @@
 -- Blocks of a context, a parent, a height, a timestamp and a digest of their own: their bytes, and what names them.
 use Rattle.std.specs.Int.{to_be_bytes, w64}
 use Rattle.std.specs.Prelude.{List, ℕ, ◌++◌}
-use Rattle.mar_codec.specs.Codec.{Joined}
-use Rattle.mar_codec.specs.Refusals.{RefusesJoined, RefusesVarint}
-use Rattle.mar_codec.specs.Varint.{IsVarint, varint}
-use Rattle.mar_codec.specs.declared.Error.{Error}
+use Rattle.mar_types.specs.Codec.{Joined}
+use Rattle.mar_types.specs.Refusals.{RefusesJoined, RefusesVarint}
+use Rattle.mar_types.specs.Varint.{IsVarint, varint}
+use Rattle.mar_types.specs.declared.Error.{Error}
 
 -- the bytes that spell a block, by the spellings of its parts
 abbrev pub mock_bytes : List ℕ → List ℕ → ℕ → ℕ → List ℕ → List ℕ

@@ -1,9 +1,9 @@
 -- Blocks with a digest of their own: no spelling begins another, and it tells the digest.
 use Rattle.std.proofs.Common.{List, ap, append_assoc, arith, length, length-append, sym, ℕ, ◌*◌, ◌++◌, ◌+◌, ◌∙◌, ◌≡◌, ◌≤◌}
-use Rattle.mar_codec.specs.Codec.{IsUnambiguous, Joined}
-use Rattle.mar_codec.specs.CodecLemmas.{joined_unambiguous}
-use Rattle.mar_codec.specs.Varint.{IsVarint, varint}
-use Rattle.mar_codec.specs.VarintLemmas.{length-varint, varint_unambiguous}
+use Rattle.mar_types.specs.Codec.{IsUnambiguous, Joined}
+use Rattle.mar_types.specs.CodecLemmas.{joined_unambiguous}
+use Rattle.mar_types.specs.Varint.{IsVarint, varint}
+use Rattle.mar_types.specs.VarintLemmas.{length-varint, varint_unambiguous}
 use Rattle.mar_cert.specs.SignersLemmas.{same_rest}
 use Rattle.mar_block.specs.MockBlock.{SpellsMock, mock_bytes}
 

@@ -1,8 +1,7 @@
 //! What blocks are.
 ghost use Rattle.std.specs.Prelude.{◌≡◌, ◌≤◌, ◌<◌, ◌^◌, ℕ, List, IfOk, length};
 
-use mar_codec::{Digestible, Read};
-use mar_types::Height;
+use mar_types::{Digestible, Height, Read};
 use std::alloc::AllocError;
 
 /// What stands at a height.

@@ -6,9 +6,8 @@ ghost use Rattle.mar_block.specs.Sent.{Sending, Sends};
 
 use crate::Variant;
 use crate::recipients::Recipients;
-use mar_codec::Participant;
 use mar_key::Subscription;
-use mar_types::Round;
+use mar_types::{Participant, Round};
 use std::alloc::AllocError;
 
 /// Finds blocks that were received, tells of those that come, and sends blocks.

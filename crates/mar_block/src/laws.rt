@@ -1,7 +1,7 @@
 //! How blocks, what is expected of them and what was sent are compared: laws that callers rest on, each the contract of a
 //! function.
 ghost use Rattle.std.specs.Prelude.{nat_eq, ◌&&◌, ◌≡◌};
-ghost use Rattle.mar_codec.specs.Equal.{TellsApart};
+ghost use Rattle.mar_types.specs.Equal.{TellsApart};
 ghost use Rattle.mar_types.specs.Round.{round_eq};
 ghost use Rattle.mar_block.specs.Recipients.{recipients_eq};
 ghost use Rattle.mar_block.specs.declared.recipients.Recipients.{Recipients as RecipientsOf};
@@ -11,7 +11,7 @@ use crate::empty_block::EmptyBlock;
 use crate::expected::ExpectedCommitment;
 use crate::mocks::Block;
 use crate::recipients::{Recipients, Sent};
-use mar_codec::Hasher;
+use mar_types::Hasher;
 
 /// Where commitments are equal exactly where they are the same, so is what is expected of a block. What was sent is equal
 /// where its round, its block and its recipients are, and recipients where they are all peers or the same ones in order.

@@ -1,14 +1,13 @@
 //! A buffer in memory.
 ghost use Rattle.std.specs.Prelude.{◌≡◌, ◌++◌, ◌∷◌, [], IfOk, OnErr, OnOk, Some, false, map, option_map, true};
-ghost use Rattle.mar_codec.specs.Places.{at_place};
+ghost use Rattle.mar_types.specs.Places.{at_place};
 ghost use Rattle.mar_block.specs.Sent.{sending};
 
 use crate::places::BlockPlaces;
 use crate::recipients::{Recipients, Sent};
 use crate::{Buffer, Variant};
-use mar_codec::{Digest, Participant};
 use mar_key::Subscription;
-use mar_types::Round;
+use mar_types::{Digest, Participant, Round};
 use std::alloc::{AllocError, Global};
 use std::marker::Model;
 
@@ -33,7 +32,7 @@ where
 {
     ghost use Rattle.std.specs.Prelude.{map};
     ghost use Rattle.std.specs.BTreeMap.{get};
-    ghost use Rattle.mar_codec.specs.Places.{PlacesFirst};
+    ghost use Rattle.mar_types.specs.Places.{PlacesFirst};
     ghost use Rattle.mar_block.specs.Sent.{Held, sending};
 
     ghost Value = { Held };

@@ -1,10 +1,10 @@
 //! Where blocks stand, by their names.
 ghost use Rattle.std.specs.Prelude.{◌≡◌, None, Some, IfOk, OnErr, OnOk, bytes_eq, if◌then◌else◌, is_some, not};
 ghost use Rattle.std.specs.BTreeMap.{get};
-ghost use Rattle.mar_codec.specs.Places.{or_place};
+ghost use Rattle.mar_types.specs.Places.{or_place};
 
 use crate::Variant;
-use mar_codec::Digest;
+use mar_types::Digest;
 use std::alloc::{AllocError, Global};
 use std::collections::BTreeMap;
 

@@ -1,6 +1,5 @@
 //! To whom a block is sent, and what was sent.
-use mar_codec::Participant;
-use mar_types::Round;
+use mar_types::{Participant, Round};
 
 /// To which peers of the kind `P` something is sent.
 #[derive(Clone, Debug, PartialEq, Eq, Drop)]

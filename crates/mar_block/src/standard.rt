@@ -1,7 +1,7 @@
 //! Blocks whose commitment is their digest.
 ghost use Rattle.std.specs.Prelude.{◌≡◌, ◌⊎◌, IfErr, IfOk, refl, true};
 ghost use Rattle.std.proofs.Common.{sym};
-ghost use Rattle.mar_codec.specs.Refusals.{RefusesWhole};
+ghost use Rattle.mar_types.specs.Refusals.{RefusesWhole};
 ghost use Rattle.mar_cert.specs.Block.{Block as PlainBlock};
 ghost use Rattle.mar_block.specs.EmptyBlock.{standard_block};
 ghost use Rattle.mar_block.specs.Expected.{Decodes, commitment_of};
@@ -12,8 +12,7 @@ use crate::expected::ExpectedCommitment;
 use crate::variant::{Variant, WireVariant};
 use bytes::Buf;
 use mar_cert::Scheme;
-use mar_codec::{Decode, Digested, Error, Kind, Read, Reason};
-use mar_types::Height;
+use mar_types::{Decode, Digested, Error, Height, Kind, Read, Reason};
 use std::alloc::{AllocError, Global};
 use std::marker::PhantomData;
 

@@ -7,8 +7,7 @@ use crate::blocks::Block;
 use crate::expected::ExpectedCommitment;
 use bytes::Buf;
 use mar_cert::Scheme;
-use mar_codec::{Error, Named, Read};
-use mar_types::Height;
+use mar_types::{Error, Height, Named, Read};
 use std::alloc::{AllocError, Global};
 
 /// What a node must know of its blocks: their place, their names and their parents.

@@ -6,7 +6,7 @@ use Rattle.mar_store.specs.Watch.{Heeds, IsCalm, LostHeeds, Strikes, counted, Wa
 use Rattle.mar_store.specs.declared.Alarm.{Alarm}
 use Rattle.mar_store.specs.declared.Lost.{Lost}
 use Rattle.mar_store.specs.declared.Lost.TheVariants.{Fault, Memory}
-use Rattle.mar_codec.specs.Causes.{Rose}
+use Rattle.mar_types.specs.Causes.{Rose}
 use Rattle.mar_cache.specs.Shelved.{shelf_watch}
 use Rattle.mar_cache.specs.EpochArchives.{is_fault}
 

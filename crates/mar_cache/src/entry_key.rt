@@ -6,8 +6,7 @@ ghost use Rattle.mar_cache.specs.declared.entry_key.EntryKey.{EntryKey as KeyOf}
 
 use crate::entry::Sought;
 use crate::keys::Keys;
-use mar_codec::Named;
-use mar_types::{Height, Round};
+use mar_types::{Height, Named, Round};
 
 /// What an entry is found by: its place in its archive, or what it shares with others.
 #[derive(Clone, Copy, PartialEq, Eq, PartialOrd, Ord)]

@@ -3,8 +3,7 @@ ghost use Rattle.std.specs.Prelude.{refl};
 
 use mar_block::Variant;
 use mar_cert::{AsFinalization, CommitsTo};
-use mar_codec::Named;
-use mar_types::{Height, Round};
+use mar_types::{Height, Named, Round};
 use std::alloc::AllocError;
 
 // A name of one byte.

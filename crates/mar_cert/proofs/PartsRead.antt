@@ -1,9 +1,9 @@
 -- Two spellings that are read one after the other, where one isn't there.
 use Rattle.std.proofs.Common.{List, inl, inr, ℕ, ◌≡◌, ◌⊎◌}
-use Rattle.mar_codec.specs.CodecLemmas.{joined_no_first, joined_no_second}
-use Rattle.mar_codec.specs.Codec.{HasNoFront, IsUnambiguous, Joined, Takes}
-use Rattle.mar_codec.specs.declared.Error.{Error}
-use Rattle.mar_codec.specs.declared.Error.TheVariants.{Memory}
+use Rattle.mar_types.specs.CodecLemmas.{joined_no_first, joined_no_second}
+use Rattle.mar_types.specs.Codec.{HasNoFront, IsUnambiguous, Joined, Takes}
+use Rattle.mar_types.specs.declared.Error.{Error}
+use Rattle.mar_types.specs.declared.Error.TheVariants.{Memory}
 
 pub first_err : (First Second : List ℕ → Type 0) (bytes : List ℕ) (e : Error) → (e ≡ Memory) ⊎ HasNoFront First bytes → (e ≡ Memory) ⊎ HasNoFront (Joined First Second) bytes
 first_err First Second bytes e (inl memory) = inl memory

@@ -3,7 +3,7 @@ use Rattle.std.proofs.Common.{Err, List, Ok, Result, [], add-one, ap, append_ass
 use Rattle.std.proofs.lemmas.List.{append-nil}
 use Rattle.std.specs.List.{flat_map}
 use Rattle.std.specs.Prelude.{OnErr}
-use Rattle.mar_codec.specs.Codec.{AppendsFront}
+use Rattle.mar_types.specs.Codec.{AppendsFront}
 
 -- a front of the bytes stands in the buffer, and `left` is to come
 pub record IsPartWritten (bytes left start now : List ℕ) (room spare : ℕ) : Type 0 where

@@ -11,15 +11,15 @@ use Rattle.mar_cert.specs.MockViews.{plain_signer}
 use Rattle.mar_cert.specs.declared.signer.Signer.{Signer as SignerOf}
 use Rattle.mar_cert.specs.Signers.{AreSigners, CountsWithin, IsMockCertificate, RefusesCertificate, RefusesSigner, RefusesSigners, certificate_bytes, next_member}
 use Rattle.mar_cert.specs.SignersLemmas.{certificate_of_signers, no_certificate}
-use Rattle.mar_codec.specs.Codec.{HasNoFront, Takes}
-use Rattle.mar_codec.specs.Refusals.{RefusesVarint}
-use Rattle.mar_codec.specs.Varint.{IsNumber, IsVarint, varint}
-use Rattle.mar_codec.specs.VarintLemmas.{varint-injective}
-use Rattle.mar_codec.specs.Digest.{IsDigest}
-use Rattle.mar_codec.specs.declared.Error.{Error}
-use Rattle.mar_codec.specs.declared.Error.TheVariants.{Invalid, Memory}
-use Rattle.mar_codec.specs.declared.Kind.TheVariants.{Certificate}
-use Rattle.mar_codec.specs.declared.Reason.TheVariants.{Signers}
+use Rattle.mar_types.specs.Codec.{HasNoFront, Takes}
+use Rattle.mar_types.specs.Refusals.{RefusesVarint}
+use Rattle.mar_types.specs.Varint.{IsNumber, IsVarint, varint}
+use Rattle.mar_types.specs.VarintLemmas.{varint-injective}
+use Rattle.mar_types.specs.Digest.{IsDigest}
+use Rattle.mar_types.specs.declared.Error.{Error}
+use Rattle.mar_types.specs.declared.Error.TheVariants.{Invalid, Memory}
+use Rattle.mar_types.specs.declared.Kind.TheVariants.{Certificate}
+use Rattle.mar_types.specs.declared.Reason.TheVariants.{Signers}
 
 pub are_more : (n low : ℕ) (done : List Signer) (s : Signer) → AreSigners n low done → next_member low done ≤ s.member → s.member < n → IsDigest s.tag → AreSigners n low (done ++ s ∷ [])
 are_more n low [] s are above below tag = (above, below, tag, tt)

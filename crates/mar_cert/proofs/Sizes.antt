@@ -1,8 +1,8 @@
 -- How many bytes proposals, signers and certificates take.
 use Rattle.std.proofs.Common.{List, arith, length, length-append, ℕ, ◌++◌, ◌+◌, ◌*◌, ◌≡◌, ◌≤◌, ap, [], ◌∷◌}
 use Rattle.std.specs.List.{flat_map}
-use Rattle.mar_codec.specs.Varint.{varint}
-use Rattle.mar_codec.specs.VarintLemmas.{length-varint, varint-small}
+use Rattle.mar_types.specs.Varint.{varint}
+use Rattle.mar_types.specs.VarintLemmas.{length-varint, varint-small}
 use Rattle.mar_types.specs.Round.{Round, round_bytes}
 use Rattle.mar_types.specs.RoundBytes.{length-round_bytes}
 use Rattle.mar_cert.specs.MockScheme.{Signer, signer_bytes}

@@ -3,8 +3,8 @@ use Rattle.std.specs.Int.{to_be_bytes, w64}
 use Rattle.std.specs.Prelude.{List, ℕ, ◌++◌, ◌≡◌}
 use Rattle.sha2.specs.Sha256.{sha256}
 use Rattle.mar_cert.specs.Finalization.{Finalization, finalization_bytes}
-use Rattle.mar_codec.specs.Varint.{IsNumber, varint}
-use Rattle.mar_codec.specs.Digest.{IsDigest}
+use Rattle.mar_types.specs.Varint.{IsNumber, varint}
+use Rattle.mar_types.specs.Digest.{IsDigest}
 
 -- a block's parts; `encoded` is what it looks like as bytes
 pub record Block : Type 0 where

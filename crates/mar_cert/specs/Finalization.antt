@@ -1,7 +1,7 @@
 -- Certificates over proposals as plain data.
 use Rattle.std.specs.Prelude.{List, ℕ, ◌++◌}
 use Rattle.mar_types.specs.Round.{Round, round_bytes}
-use Rattle.mar_codec.specs.Varint.{varint}
+use Rattle.mar_types.specs.Varint.{varint}
 
 -- a certificate over a proposal; `parent` is the parent's view
 pub record Finalization : Type 0 where

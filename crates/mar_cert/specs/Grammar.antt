@@ -1,12 +1,12 @@
 -- Which bytes spell a proposal or a finalization.
 use Rattle.std.proofs.Common.{List, ap, append_assoc, refl, subst, sym, ℕ, ◌++◌, ◌∙◌, ◌≡◌, length}
-use Rattle.mar_codec.specs.Codec.{IsUnambiguous, Joined}
-use Rattle.mar_codec.specs.CodecLemmas.{joined_unambiguous}
-use Rattle.mar_codec.specs.Digest.{IsDigest}
-use Rattle.mar_codec.specs.Refusals.{RefusesJoined, RefusesVarint}
-use Rattle.mar_codec.specs.Varint.{IsNumber, IsVarint, varint}
-use Rattle.mar_codec.specs.VarintLemmas.{varint_unambiguous}
-use Rattle.mar_codec.specs.declared.Error.{Error}
+use Rattle.mar_types.specs.Codec.{IsUnambiguous, Joined}
+use Rattle.mar_types.specs.CodecLemmas.{joined_unambiguous}
+use Rattle.mar_types.specs.Digest.{IsDigest}
+use Rattle.mar_types.specs.Refusals.{RefusesJoined, RefusesVarint}
+use Rattle.mar_types.specs.Varint.{IsNumber, IsVarint, varint}
+use Rattle.mar_types.specs.VarintLemmas.{varint_unambiguous}
+use Rattle.mar_types.specs.declared.Error.{Error}
 use Rattle.std.proofs.lemmas.List.{append_cancel_left}
 use Rattle.mar_types.specs.Round.{IsRound, Round, SpellsRound, round_bytes}
 use Rattle.mar_types.specs.RoundBytes.{round_front, round_unambiguous}

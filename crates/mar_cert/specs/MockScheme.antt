@@ -6,8 +6,8 @@ use Rattle.std.specs.Prelude.{Bool, List, None, Option, Some, [], bytes_eq, code
 use Rattle.sha2.specs.Sha256.{sha256}
 use Rattle.mar_types.specs.Round.{IsRound}
 use Rattle.mar_cert.specs.Finalization.{Finalization, Subject, finalize, notarize, proposal_bytes}
-use Rattle.mar_codec.specs.Varint.{IsNumber, read_varint, varint}
-use Rattle.mar_codec.specs.Digest.{IsDigest}
+use Rattle.mar_types.specs.Varint.{IsNumber, read_varint, varint}
+use Rattle.mar_types.specs.Digest.{IsDigest}
 
 -- a member's part of a mock certificate
 pub record Signer : Type 0 where

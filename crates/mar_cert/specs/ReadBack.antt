@@ -5,9 +5,9 @@ use Rattle.std.specs.Prelude.{nat_lt}
 use Rattle.std.proofs.Math.Nat.{pow-succ'}
 use Rattle.std.proofs.Math.Seq.{drop-append_seam, take-append_seam}
 use Rattle.std.proofs.lemmas.Bool.{and_left, and_right, cases_eq, cases_lt, le-leb, le-ltb, lt-leb, ne_eqb}
-use Rattle.mar_codec.specs.Digest.{IsDigest}
-use Rattle.mar_codec.specs.Varint.{IsNumber, read_varint, read_varint_within, varint, varint_within}
-use Rattle.mar_codec.specs.VarintLemmas.{varint_within-large, varint_within-small}
+use Rattle.mar_types.specs.Digest.{IsDigest}
+use Rattle.mar_types.specs.Varint.{IsNumber, read_varint, read_varint_within, varint, varint_within}
+use Rattle.mar_types.specs.VarintLemmas.{varint_within-large, varint_within-small}
 use Rattle.mar_cert.specs.MockScheme.{Signer, read_signers, signer_bytes, signers_of}
 use Rattle.mar_cert.specs.Signers.{certificate_bytes}
 

@@ -2,13 +2,13 @@
 use Rattle.std.specs.List.{flat_map}
 use Rattle.std.specs.Prelude.{List, [], length, ℕ, ◌++◌, ◌+◌, ◌<◌, ◌∷◌, ◌≡◌, ◌≤◌, ◌⊎◌}
 use Rattle.mar_cert.specs.MockScheme.{IsCertificate, Signer, signer_bytes}
-use Rattle.mar_codec.specs.Digest.{IsDigest}
-use Rattle.mar_codec.specs.Refusals.{RefusesShort, RefusesVarint}
-use Rattle.mar_codec.specs.Varint.{IsNumber, varint}
-use Rattle.mar_codec.specs.declared.Error.{Error}
-use Rattle.mar_codec.specs.declared.Error.TheVariants.{Invalid}
-use Rattle.mar_codec.specs.declared.Kind.TheVariants.{Certificate}
-use Rattle.mar_codec.specs.declared.Reason.TheVariants.{Signers}
+use Rattle.mar_types.specs.Digest.{IsDigest}
+use Rattle.mar_types.specs.Refusals.{RefusesShort, RefusesVarint}
+use Rattle.mar_types.specs.Varint.{IsNumber, varint}
+use Rattle.mar_types.specs.declared.Error.{Error}
+use Rattle.mar_types.specs.declared.Error.TheVariants.{Invalid}
+use Rattle.mar_types.specs.declared.Kind.TheVariants.{Certificate}
+use Rattle.mar_types.specs.declared.Reason.TheVariants.{Signers}
 
 -- members ascend from this number on and are below n, each with a tag
 abbrev pub AreSigners : ℕ → ℕ → List Signer → Type 0

@@ -5,12 +5,12 @@ use Rattle.std.specs.List.{AllByRecursion, flat_map}
 use Rattle.std.specs.List.Sorted.{IsStrictlyIncreasing}
 use Rattle.mar_cert.specs.MockScheme.{IsCertificate, Signer, signer_bytes}
 use Rattle.mar_cert.specs.Signers.{AreSigners, IsMockCertificate, RefusesCertificate, RefusesSigner, certificate_bytes, next_member}
-use Rattle.mar_codec.specs.Codec.{HasNoFront, IsUnambiguous}
-use Rattle.mar_codec.specs.Digest.{IsDigest}
-use Rattle.mar_codec.specs.Refusals.{RefusesVarint}
-use Rattle.mar_codec.specs.Varint.{IsNumber, varint}
-use Rattle.mar_codec.specs.VarintLemmas.{no_bad_varint, no_cut_varint, varint_front}
-use Rattle.mar_codec.specs.declared.Error.{Error}
+use Rattle.mar_types.specs.Codec.{HasNoFront, IsUnambiguous}
+use Rattle.mar_types.specs.Digest.{IsDigest}
+use Rattle.mar_types.specs.Refusals.{RefusesVarint}
+use Rattle.mar_types.specs.Varint.{IsNumber, varint}
+use Rattle.mar_types.specs.VarintLemmas.{no_bad_varint, no_cut_varint, varint_front}
+use Rattle.mar_types.specs.declared.Error.{Error}
 
 cons_tail : (x y : ℕ) (xs ys : List ℕ) → x ∷ xs ≡ y ∷ ys → xs ≡ ys
 cons_tail x y xs ys e = cc

@@ -3,7 +3,7 @@ use Rattle.std.proofs.Common.{List, Some, [], ap, arith, length, refl, subst, sy
 use Rattle.std.specs.List.{AllByRecursion, list_all}
 use Rattle.std.specs.Prelude.{IsTrue, bytes_eq}
 use Rattle.std.proofs.lemmas.Bool.{and_from, and_parts, le-leb, leb-true, lt-ltb, ltb-true}
-use Rattle.mar_codec.specs.Varint.{IsNumber}
+use Rattle.mar_types.specs.Varint.{IsNumber}
 use Rattle.mar_cert.specs.Finalization.{Finalization, Subject}
 use Rattle.mar_cert.specs.MockScheme.{IsCertificate, IsFinalization, Signer, Verifies, is_ascending_from, is_signed_by, mock_verifies, quorum, signers_of, tag_of}
 use Rattle.mar_cert.specs.ReadBack.{AreSpelled, signers_of-back}

@@ -1,6 +1,6 @@
 -- Proposals and certificates over them, as plain data and as bytes.
 use Rattle.std.specs.Prelude.{Bool, List, ℕ, ◌++◌}
-use Rattle.mar_codec.specs.Varint.{varint}
+use Rattle.mar_types.specs.Varint.{varint}
 use Rattle.mar_types.specs.Round.{round_bytes}
 use Rattle.mar_cert.specs.Finalization.{Finalization, Notarization, Subject as PlainSubject, finalize, notarize}
 use Rattle.mar_cert.specs.declared.finalization.Finalization.{Finalization as FinalizationOf}

@@ -2,7 +2,7 @@
 //! function.
 ghost use Rattle.std.specs.Prelude.{bytes_eq, ◌≡◌, ◌&&◌, ◌==◌};
 ghost use Rattle.std.specs.Cmp.Lexicographic.{pointwise};
-ghost use Rattle.mar_codec.specs.Equal.{TellsApart};
+ghost use Rattle.mar_types.specs.Equal.{TellsApart};
 
 use crate::finalization::{Finalization, Proposal};
 use crate::mock::MockCertificate;

@@ -6,16 +6,16 @@ ghost use Rattle.mar_cert.specs.SignersLemmas.{certificate_unambiguous};
 ghost use Rattle.mar_cert.specs.MockScheme.{IsFinalization, signer_bytes};
 ghost use Rattle.mar_cert.specs.Finalization.{Finalization as PlainFinalization, finalization_bytes};
 ghost use Rattle.mar_cert.specs.MockViews.{plain_signer, plain_signers};
-ghost use Rattle.mar_codec.specs.Codec.{HasNoFront, Takes};
-ghost use Rattle.mar_codec.specs.Varint.{IsNumber, varint};
-ghost use Rattle.mar_codec.specs.Digest.{IsDigest};
+ghost use Rattle.mar_types.specs.Codec.{HasNoFront, Takes};
+ghost use Rattle.mar_types.specs.Varint.{IsNumber, varint};
+ghost use Rattle.mar_types.specs.Digest.{IsDigest};
 
 use crate::finalization::{AsFinalization, Finalization};
 use crate::notarization::Notarization;
 use crate::scheme::Certificate;
 use crate::signer::Signer;
 use bytes::{Buf, BufMut};
-use mar_codec::{EncodeSize, Error, Kind, Read, Reason, Sha256Digest, UInt, Write};
+use mar_types::{EncodeSize, Error, Kind, Read, Reason, Sha256Digest, UInt, Write};
 use std::alloc::{AllocError, Global};
 
 impl Write for Signer {

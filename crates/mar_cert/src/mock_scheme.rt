@@ -15,8 +15,7 @@ use crate::mock_tags::mock_tag;
 use crate::scheme::{Provider, Scheme};
 use crate::signer::Signer;
 use crate::subject::Subject;
-use mar_codec::Digest;
-use mar_types::Epoch;
+use mar_types::{Digest, Epoch};
 use std::marker::Model;
 
 // The most members that a committee has.

@@ -2,11 +2,11 @@
 ghost use Rattle.std.specs.Prelude.{◌≡◌, ◌++◌, List, ℕ};
 ghost use Rattle.mar_cert.specs.MockScheme.{subject_byte, tag_over};
 ghost use Rattle.mar_cert.specs.Views.{plain_subject, proposal_of, spelling_of};
-ghost use Rattle.mar_codec.specs.Varint.{varint};
+ghost use Rattle.mar_types.specs.Varint.{varint};
 
 use crate::finalization::Proposal;
 use crate::subject::Subject;
-use mar_codec::{Digest, Hasher, Sha256, Sha256Digest};
+use mar_types::{Digest, Hasher, Sha256, Sha256Digest};
 use std::convert::AsSlice;
 
 /// The tag that a member makes over a subject.

@@ -9,8 +9,7 @@ use crate::finalization::Proposal;
 use crate::scheme::{Certificate, Scheme, Scoped};
 use crate::subject::Subject;
 use bytes::{Buf, BufMut};
-use mar_codec::{Digest, EncodeSize, Error, Read, Write, read_pair, write_pair};
-use mar_types::{Epoch, Round};
+use mar_types::{Digest, EncodeSize, Epoch, Error, Read, Round, Write, read_pair, write_pair};
 use std::alloc::{AllocError, Global};
 
 /// A certificate that a proposal was notarized.

@@ -5,8 +5,7 @@ ghost use Rattle.mar_cert.specs.Verdicts.{Judges};
 ghost use Rattle.mar_cert.specs.Views.{verdict_of};
 
 use crate::subject::Subject;
-use mar_codec::{Digest, EncodeSize, Read};
-use mar_types::Epoch;
+use mar_types::{Digest, EncodeSize, Epoch, Read};
 use std::alloc::{AllocError, Global};
 use std::marker::Model;
 

@@ -1,7 +1,7 @@
 //! A member's part of a mock certificate.
 ghost use Rattle.std.specs.Prelude.{◌<◌, ◌^◌};
 
-use mar_codec::Sha256Digest;
+use mar_types::Sha256Digest;
 
 /// A member's part of a certificate.
 #[derive(Clone, Copy, Debug, PartialEq, Eq)]

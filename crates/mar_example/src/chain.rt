@@ -8,8 +8,7 @@ use mar_cert::{
     AsFinalization, Finalization, MockCertificate, MockFinalization, Proposal, Signer, Subject,
     mock_tag,
 };
-use mar_codec::{Digest, Digested, EncodeSize, Sha256, Sha256Digest};
-use mar_types::{Epoch, Height, Round, View};
+use mar_types::{Digest, Digested, EncodeSize, Epoch, Height, Round, Sha256, Sha256Digest, View};
 use std::alloc::Global;
 
 /// A block of the chain.

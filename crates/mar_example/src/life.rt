@@ -9,10 +9,9 @@ use crate::service::Service;
 use mar_actor::{Config, Ended, Event, Fault, Holds, Node, Start};
 use mar_block::{MemBuffer, StandardBlocks};
 use mar_cert::{AsFinalization, MockFinalization, MockProvider, MockScheme};
-use mar_codec::Sha256Digest;
 use mar_inbox::{AnswerTable, Identifier, Message, Standing, Value};
 use mar_key::Recorder;
-use mar_types::{Epoch, FixedEpocher, ViewDelta};
+use mar_types::{Epoch, FixedEpocher, Sha256Digest, ViewDelta};
 use std::alloc::Global;
 use std::num::NonZeroU64;
 

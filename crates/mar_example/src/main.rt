@@ -20,7 +20,7 @@ use crate::service::{Handed, Service};
 use mar_actor::{Ended, Fault, Holds, Ruins, Stores};
 use mar_block::{MemBuffer, StandardBlocks, Variant};
 use mar_cert::{AsFinalization, MockFinalization};
-use mar_codec::Sha256Digest;
+use mar_types::Sha256Digest;
 use mar_inbox::AnswerTable;
 use mar_key::Recorder;
 use mar_shelf::{BlockItem, Blocks, CertificateItem, Certificates, NoShelf, Shelf, immutable};

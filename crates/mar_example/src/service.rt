@@ -2,7 +2,7 @@
 use crate::chain::Block;
 use mar_actor::{Reporter, Update};
 use mar_block::StandardBlocks;
-use mar_codec::Sha256Digest;
+use mar_types::Sha256Digest;
 use std::alloc::{AllocError, Global};
 
 /// A block that was handed over: its height, the ticket under which it is acknowledged, and the total then.

@@ -6,7 +6,7 @@ use Rattle.std.proofs.lemmas.List.Edits.{length-swap}
 use Rattle.std.proofs.lemmas.List.Elements.{Contains-append_cases}
 use Rattle.std.proofs.lemmas.List.Sorted.{Contains-permutation, IsPermutation-refl, IsPermutation-swap, IsPermutation-sym, IsPermutation-trans}
 use Rattle.std.proofs.lemmas.Option.{get_or_from_slice_get, slice_get-get_or}
-use Rattle.mar_codec.specs.Varint.{IsNumber}
+use Rattle.mar_types.specs.Varint.{IsNumber}
 use Rattle.mar_store.proofs.Lookups.{AllByRecursion-append}
 use Rattle.mar_gen.specs.Draws.{drawn, state_after}
 use Rattle.mar_gen.specs.Plan.{IsStepWithin, IsWithin, exchanged, height_at, height_steps, heights_upto, order, plan, restart, steps_upto}

@@ -5,9 +5,9 @@ use Rattle.std.specs.List.{AllByRecursion}
 use Rattle.std.specs.Prelude.{slice_index}
 use Rattle.sha2.specs.Sha256.{digest_bytes, final_hash, initial_hash_256, sha256}
 use Rattle.sha2.proofs.Facts256.{length-sha256}
-use Rattle.mar_codec.specs.Digest.{IsByte, IsDigest}
-use Rattle.mar_codec.specs.Varint.{IsNumber, varint}
-use Rattle.mar_codec.specs.VarintLemmas.{length-varint}
+use Rattle.mar_types.specs.Digest.{IsByte, IsDigest}
+use Rattle.mar_types.specs.Varint.{IsNumber, varint}
+use Rattle.mar_types.specs.VarintLemmas.{length-varint}
 use Rattle.mar_types.specs.Round.{round_bytes}
 use Rattle.mar_store.proofs.Lookups.{AllByRecursion-append}
 use Rattle.mar_cert.specs.Block.{IsBlock}

@@ -2,7 +2,7 @@
 use Rattle.std.specs.Prelude.{List, [], replicate, suc, zero, ℕ, ◌%◌, ◌++◌, ◌+◌, ◌/◌, ◌∷◌}
 use Rattle.sha2.specs.Sha256.{sha256}
 use Rattle.mar_types.specs.Round.{Round, round_bytes}
-use Rattle.mar_codec.specs.Varint.{varint}
+use Rattle.mar_types.specs.Varint.{varint}
 use Rattle.mar_cert.specs.Block.{Block}
 use Rattle.mar_cert.specs.Finalization.{Finalization, finalize}
 use Rattle.mar_cert.specs.MockScheme.{Signer, tag_over}
@@ -11,8 +11,8 @@ use Rattle.mar_cert.specs.Signers.{certificate_bytes}
 use Rattle.mar_cert.specs.Views.{final_of}
 use Rattle.mar_cert.specs.declared.Finalization.{Finalization as FinalizationCode}
 use Rattle.mar_cert.specs.declared.MockCertificate.{MockCertificate}
-use Rattle.mar_codec.specs.declared.Sha256.{Sha256}
-use Rattle.mar_codec.specs.declared.Sha256Digest.{Sha256Digest}
+use Rattle.mar_types.specs.declared.Sha256.{Sha256}
+use Rattle.mar_types.specs.declared.Sha256Digest.{Sha256Digest}
 use Rattle.mar_block.specs.EmptyBlock.{block_bytes, block_message, standard_block}
 use Rattle.mar_block.specs.declared.EmptyBlock.{EmptyBlock}
 use Rattle.mar_node.specs.Chain.{Chain, Final}

@@ -3,7 +3,7 @@ use Rattle.std.specs.Borrow.{Bor}
 use Rattle.std.specs.List.{count_by, slice_get, slice_split}
 use Rattle.std.specs.Option.{is_some, option_or}
 use Rattle.std.specs.Prelude.{List, None, Option, Some, [], bytes_eq, codes, decimal, drop, if◌then◌else◌, length, map, option_and_then, take, ℕ, ◌++◌, ◌==◌, ◌∷◌, ◌≡◌}
-use Rattle.mar_codec.specs.Varint.{IsNumber}
+use Rattle.mar_types.specs.Varint.{IsNumber}
 use Rattle.mar_gen.specs.declared.output.Owed.{Owed}
 use Rattle.mar_gen.specs.declared.output.Owed.TheVariants.{Ack, Sync}
 

@@ -1,7 +1,7 @@
 -- The order in which the heights come, and the steps of a made script that don't depend on the node.
 use Rattle.std.specs.List.{swap}
 use Rattle.std.specs.Prelude.{Bool, List, [], false, get_or, if◌then◌else◌, suc, true, zero, ℕ, ◌%◌, ◌*◌, ◌++◌, ◌+◌, ◌-◌, ◌/◌, ◌==◌, ◌∷◌, ◌≤◌, ⊤}
-use Rattle.mar_codec.specs.Varint.{IsNumber}
+use Rattle.mar_types.specs.Varint.{IsNumber}
 use Rattle.mar_gen.specs.Draws.{drawn}
 use Rattle.mar_gen.specs.declared.steps.Planned.{Planned}
 use Rattle.mar_gen.specs.declared.steps.Planned.TheVariants.{Buffer, Crash, Final, Open}

@@ -12,8 +12,7 @@ use mar_block::EmptyBlock;
 use mar_cert::{
     Finalization, MockCertificate, MockFinalization, Proposal, Signer, Subject, mock_tag,
 };
-use mar_codec::{Digest, Digestible, Sha256, Sha256Digest};
-use mar_types::{Epoch, Height, Round, View};
+use mar_types::{Digest, Digestible, Epoch, Height, Round, Sha256, Sha256Digest, View};
 use std::alloc::{AllocError, Global};
 
 /// Blocks 0 to `last`: each has the digest of the one before it as its parent and a draw as its timestamp, block 0 has

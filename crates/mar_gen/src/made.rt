@@ -7,7 +7,7 @@ ghost use Rattle.mar_gen.specs.Plan.{IsStepWithin, is_open, plan as plan_drawn};
 use crate::chain::made_blocks;
 use crate::steps::{Planned, plan};
 use mar_block::EmptyBlock;
-use mar_codec::Sha256;
+use mar_types::Sha256;
 use std::alloc::{AllocError, Global};
 
 /// The blocks and the steps of the script of a seed and so many heights.

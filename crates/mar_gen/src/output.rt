@@ -2,7 +2,7 @@
 ghost use Rattle.std.specs.Prelude.{◌≡◌, ◌<◌, ◌^◌, ℕ, IfOk, IfSome, None, Some, codes, decimal, map, option_map, string_bytes};
 ghost use Rattle.std.specs.Option.{is_some};
 ghost use Rattle.std.specs.List.{count_by};
-ghost use Rattle.mar_codec.specs.Varint.{IsNumber};
+ghost use Rattle.mar_types.specs.Varint.{IsNumber};
 ghost use Rattle.mar_gen.specs.Output.{HasFirst, HasNone, IsOwed, behind as behind_front, blocks_in, first_behind as first_behind_front, node_words as words_of_node, or_dash, pieces as pieces_at, processed_in, seen, summary as summary_of, summary_back, summary_front, words_of};
 
 use itoa::Buffer;

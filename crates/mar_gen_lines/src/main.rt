@@ -5,7 +5,7 @@
 ghost use Rattle.mar_gen.specs.Plan.{IsStepWithin};
 
 use bytes::BytesMut;
-use mar_codec::{Digestible, Write};
+use mar_types::{Digestible, Write};
 use mar_gen::{Made, Planned, finalization, number};
 use std::alloc::{AllocError, Global};
 use std::io;

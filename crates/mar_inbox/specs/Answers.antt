@@ -1,6 +1,6 @@
 -- What came for tickets, in order, and what stands for one of them.
 use Rattle.std.specs.Prelude.{Bool, IfSome, List, None, Option, Some, false, fold, if◌then◌else◌, length, map, option_map, true, ℕ, ◌<◌, ◌==◌, ◌≡◌}
-use Rattle.mar_codec.specs.Places.{at_place}
+use Rattle.mar_types.specs.Places.{at_place}
 use Rattle.mar_node.specs.Answers.{TicketAnswer, closed_value, to}
 use Rattle.mar_node.specs.Answers.{Value as PlainValue}
 use Rattle.mar_inbox.specs.declared.answers.Answer.{Answer}

@@ -9,8 +9,7 @@ ghost use Rattle.mar_inbox.specs.Views.{message_of, ticket_of};
 
 use crate::identifier::Identifier;
 use mar_block::Recipients;
-use mar_codec::Participant;
-use mar_types::{Height, Round};
+use mar_types::{Height, Participant, Round};
 
 /// What a caller tells the actor or asks of it, with digests, blocks, notarizations and finalizations of the kinds `D`,
 /// `B`, `N` and `F`. A message that is answered has a ticket, under which its answer comes.

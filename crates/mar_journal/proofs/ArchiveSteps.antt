@@ -17,8 +17,8 @@ use Rattle.mar_store.specs.declared.Entry.{Entry}
 use Rattle.mar_store.specs.Tickets.{KeepsCovers, last_number}
 use Rattle.mar_store.proofs.Lookups.{AllByRecursion-push, AllByRecursion-within, Contains-from_value, value_at-from_contains}
 use Rattle.mar_store.proofs.Stores.{covers_pruned, filter_within, prunes}
-use Rattle.mar_codec.specs.Varint.{varint}
-use Rattle.mar_codec.specs.VarintLemmas.{length-varint}
+use Rattle.mar_types.specs.Varint.{varint}
+use Rattle.mar_types.specs.VarintLemmas.{length-varint}
 use Rattle.mar_journal.specs.ArchiveRecords.{IsArchived, archive_bytes, kept_by, kept_from}
 use Rattle.mar_journal.specs.ArchiveStore.{CountsLost, IsArchiveFile, IsArchiveLeft, IsBacked, IsMarkOf, IsMarked, Ordered, StaysFound, archive_kept, last_mark, left_may, within_right}
 use Rattle.mar_journal.specs.Disk.{Elapses, LeavesOnly, Narrows}

@@ -3,10 +3,10 @@ use Rattle.std.proofs.Common.{Fits, List, [], ap, append_assoc, arith, drop, get
 use Rattle.std.proofs.lemmas.List.{drop-drop}
 use Rattle.std.proofs.lemmas.Nat.{be_bytes_4}
 use Rattle.std.specs.Int.{from_be_bytes, w32}
-use Rattle.mar_codec.specs.Codec.{HasNoFront, Joined}
-use Rattle.mar_codec.specs.CodecLemmas.{joined_no_second}
-use Rattle.mar_codec.specs.Varint.{IsVarint, varint}
-use Rattle.mar_codec.specs.VarintLemmas.{varint_unambiguous}
+use Rattle.mar_types.specs.Codec.{HasNoFront, Joined}
+use Rattle.mar_types.specs.CodecLemmas.{joined_no_second}
+use Rattle.mar_types.specs.Varint.{IsVarint, varint}
+use Rattle.mar_types.specs.VarintLemmas.{varint_unambiguous}
 use Rattle.mar_journal.specs.Format.{four}
 use Rattle.mar_journal.specs.Numbers.{NumberStandsFirst, TwoStandFirst}
 

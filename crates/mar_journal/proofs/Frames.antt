@@ -4,7 +4,7 @@ use Rattle.std.proofs.lemmas.List.{append-nil, append_cancel_left}
 use Rattle.std.proofs.lemmas.Nat.{from_be_bytes-to_be_bytes_4}
 use Rattle.std.specs.Int.{from_be_bytes, w32}
 use Rattle.std.specs.List.{AllByRecursion}
-use Rattle.mar_codec.specs.DigestLemmas.{same_front}
+use Rattle.mar_types.specs.DigestLemmas.{same_front}
 use Rattle.mar_journal.specs.MetaLemmas.{tail_of}
 use Rattle.mar_journal.specs.Format.{IsBatch, IsDamaged, IsJournal, IsNew, IsNoBatch, Stands, behind_gate, body, four, frames, joined, magic}
 

@@ -2,8 +2,8 @@
 use Rattle.std.proofs.Common.{Bool, List, ap, arith, bytes_eq, drop, false, length, length-append, length-drop, length-take, refl, subst, sym, take, take-append-drop, true, ℕ, ◌++◌, ◌+◌, ◌-◌, ◌<◌, ◌∙◌, ◌≡◌, ◌≤◌}
 use Rattle.std.proofs.lemmas.List.{drop-drop, drop_at, take_at}
 use Rattle.std.proofs.lemmas.Slice.Eq.{bytes_eq-Decides}
-use Rattle.mar_codec.specs.Codec.{HasNoFront}
-use Rattle.mar_codec.specs.Varint.{IsNumber, IsVarint, varint}
+use Rattle.mar_types.specs.Codec.{HasNoFront}
+use Rattle.mar_types.specs.Varint.{IsNumber, IsVarint, varint}
 use Rattle.mar_journal.specs.ArchiveLemmas.{after_front, after_number, put_split}
 use Rattle.mar_journal.specs.ArchiveRecords.{put_bytes}
 use Rattle.mar_journal.specs.Heads.{HasNoHead, HasNoPut, HeadStandsFirst, PutStandsFirst}

@@ -3,8 +3,8 @@ use Rattle.std.proofs.Common.{Bool, Contains, List, None, Option, Some, [], ap, 
 use Rattle.std.proofs.lemmas.Bool.Decides.{nat_tests}
 use Rattle.std.proofs.lemmas.List.{append-nil, length-map, take_more}
 use Rattle.std.specs.List.{AllByRecursion, list_any}
-use Rattle.mar_codec.specs.Varint.{varint}
-use Rattle.mar_codec.specs.VarintLemmas.{length-varint}
+use Rattle.mar_types.specs.Varint.{varint}
+use Rattle.mar_types.specs.VarintLemmas.{length-varint}
 use Rattle.mar_store.specs.Changes.{Within}
 use Rattle.mar_store.specs.Values.{LeavesValues, SetsValue, Values, no_values, others_of, with_key}
 use Rattle.mar_journal.specs.Disk.{Elapses, LeavesOnly, Narrows}

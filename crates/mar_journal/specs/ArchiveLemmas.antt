@@ -2,9 +2,9 @@
 use Rattle.std.specs.Prelude.{Bool, List, length, true, ℕ, ◌++◌, ◌<◌, ◌≡◌}
 use Rattle.std.proofs.Common.{ap, append_assoc, arith, sym, ◌∙◌}
 use Rattle.std.proofs.lemmas.List.{append_cancel_left}
-use Rattle.mar_codec.specs.DigestLemmas.{same_front}
-use Rattle.mar_codec.specs.Varint.{varint}
-use Rattle.mar_codec.specs.VarintLemmas.{varint_front}
+use Rattle.mar_types.specs.DigestLemmas.{same_front}
+use Rattle.mar_types.specs.Varint.{varint}
+use Rattle.mar_types.specs.VarintLemmas.{varint_front}
 use Rattle.mar_journal.specs.ArchiveRecords.{IsArchived, archive_bytes, put_bytes}
 use Rattle.mar_journal.specs.MetaLemmas.{tail_of}
 use Rattle.mar_journal.specs.declared.archive_record.ArchiveRecord.{ArchiveRecord}

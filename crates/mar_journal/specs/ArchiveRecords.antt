@@ -1,6 +1,6 @@
 -- Records of an archive: their bytes, and what they leave.
 use Rattle.std.specs.Prelude.{Bool, List, [], filter, if◌then◌else◌, length, nat_le, true, ℕ, ◌++◌, ◌∷◌, ◌≡◌}
-use Rattle.mar_codec.specs.Varint.{IsNumber, varint}
+use Rattle.mar_types.specs.Varint.{IsNumber, varint}
 use Rattle.mar_store.specs.Kept.{At}
 use Rattle.mar_store.specs.Named.{is_taken}
 use Rattle.mar_journal.specs.declared.archive_record.ArchiveRecord.{ArchiveRecord}

@@ -1,6 +1,6 @@
 -- What the calls of a disk do to its bytes, and what a crash may leave between two syncs.
 use Rattle.std.specs.Prelude.{IsErrOf, List, OnOk, Result, length, drop, max, take, ℕ, ◌++◌, ◌+◌, ◌≡◌, ◌≤◌, ◌⊎◌}
-use Rattle.mar_codec.specs.Causes.{Rose}
+use Rattle.mar_types.specs.Causes.{Rose}
 use Rattle.mar_store.specs.declared.Miss.{Miss}
 use Rattle.mar_store.specs.declared.Miss.TheVariants.{Fault}
 

@@ -1,6 +1,6 @@
 -- What stands before the value of a put.
 use Rattle.std.specs.Prelude.{Bool, List, drop, length, take, ℕ, ◌++◌, ◌+◌, ◌≡◌, ◌≤◌}
-use Rattle.mar_codec.specs.Varint.{IsNumber, varint}
+use Rattle.mar_types.specs.Varint.{IsNumber, varint}
 use Rattle.mar_journal.specs.ArchiveRecords.{IsArchived, put_bytes}
 use Rattle.mar_journal.specs.declared.archive_record.ArchiveRecord.TheVariants.{Put}
 

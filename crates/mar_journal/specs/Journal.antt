@@ -1,6 +1,6 @@
 -- A journal on a disk.
 use Rattle.std.specs.Prelude.{List, [], drop, length, take, ℕ, ⊤, ◌++◌, ◌+◌, ◌∷◌, ◌≡◌, ◌⊎◌}
-use Rattle.mar_codec.specs.Causes.{Rose}
+use Rattle.mar_types.specs.Causes.{Rose}
 use Rattle.mar_journal.specs.Disk.{Only}
 use Rattle.mar_journal.specs.Format.{IsDamaged, IsJournal, IsNew, behind_gate}
 use Rattle.mar_journal.specs.declared.journal.Unopened.{Unopened}

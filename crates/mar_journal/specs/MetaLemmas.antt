@@ -2,8 +2,8 @@
 use Rattle.std.specs.Prelude.{List, length, ℕ, ◌++◌, ◌<◌, ◌∷◌, ◌≡◌}
 use Rattle.std.proofs.Common.{ap, append_assoc, arith, sym, ◌∙◌}
 use Rattle.std.proofs.lemmas.List.{append_cancel_left}
-use Rattle.mar_codec.specs.Varint.{varint}
-use Rattle.mar_codec.specs.VarintLemmas.{varint_front}
+use Rattle.mar_types.specs.Varint.{varint}
+use Rattle.mar_types.specs.VarintLemmas.{varint_front}
 use Rattle.mar_journal.specs.MetaRecords.{IsMeta, meta_bytes}
 use Rattle.mar_journal.specs.declared.meta_record.MetaRecord.{MetaRecord}
 use Rattle.mar_journal.specs.declared.meta_record.MetaRecord.TheVariants.{Remove, Set}

@@ -1,6 +1,6 @@
 -- Records of a metadata store: their bytes, and the values that they leave.
 use Rattle.std.specs.Prelude.{List, None, Option, Some, [], if◌then◌else◌, ℕ, ◌++◌, ◌==◌, ◌∷◌}
-use Rattle.mar_codec.specs.Varint.{IsNumber, varint}
+use Rattle.mar_types.specs.Varint.{IsNumber, varint}
 use Rattle.mar_store.specs.Values.{Values, no_values}
 use Rattle.mar_journal.specs.declared.meta_record.MetaRecord.{MetaRecord}
 use Rattle.mar_journal.specs.declared.meta_record.MetaRecord.TheVariants.{Remove, Set}

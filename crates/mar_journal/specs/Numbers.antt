@@ -1,6 +1,6 @@
 -- Numbers at the front of bytes.
 use Rattle.std.specs.Prelude.{List, length, drop, ℕ, ◌++◌, ◌≡◌, ◌≤◌}
-use Rattle.mar_codec.specs.Varint.{IsNumber, varint}
+use Rattle.mar_types.specs.Varint.{IsNumber, varint}
 
 -- this number stands first, and takes so many bytes
 pub record NumberStandsFirst (number size : ℕ) (bytes : List ℕ) : Type 0 where

@@ -1,6 +1,6 @@
 -- What a journal tells of its failures: a call may fail that isn't armed, and it doesn't go by luck.
 use Rattle.std.specs.Prelude.{List, None, false, true, ℕ, ⊤, ◌≡◌, ◌⊎◌}
-use Rattle.mar_codec.specs.Causes.{Rose}
+use Rattle.mar_types.specs.Causes.{Rose}
 use Rattle.mar_store.specs.Watch.{Watch, is_due}
 use Rattle.mar_store.specs.declared.Lost.{Lost}
 use Rattle.mar_store.specs.declared.Lost.TheVariants.{Fault, Memory}

@@ -6,7 +6,7 @@ ghost use Rattle.mar_journal.specs.Heads.{HasNoHead, HasNoPut, HeadStandsFirst, 
 
 use crate::numbers::{read_number, write_number};
 use crate::{JournalItem, Record};
-use mar_codec::Digest;
+use mar_types::Digest;
 use std::alloc::{AllocError, Global};
 use std::convert::AsSlice;
 

@@ -1,6 +1,6 @@
 //! A disk in memory.
 ghost use Rattle.std.specs.Prelude.{◌≡◌, ◌<◌, ◌≤◌, ◌^◌, ◌+◌, ◌-◌, ◌++◌, ◌∷◌, [], List, ℕ, true, false, length, max, IfOk, OnOk};
-ghost use Rattle.mar_codec.specs.Causes.{Rose};
+ghost use Rattle.mar_types.specs.Causes.{Rose};
 ghost use Rattle.mar_journal.specs.Disk.{Follows, Narrows, Only, Torn};
 ghost use Rattle.mar_journal.specs.Calls.{GoesOn, LeavesOf, LeftSince, crashed, keeps_write, overwritten, padded, seen_after};
 ghost use Rattle.mar_journal.specs.CallLemmas.{leaves_seen, leaves_now, only_leaves};

@@ -1,10 +1,10 @@
 //! Numbers as varints, in slices.
 ghost use Rattle.std.specs.Prelude.{◌≡◌, ◌++◌, MatchOption, OnOk};
-ghost use Rattle.mar_codec.specs.Codec.{HasNoFront, Joined};
-ghost use Rattle.mar_codec.specs.Varint.{IsVarint, varint};
+ghost use Rattle.mar_types.specs.Codec.{HasNoFront, Joined};
+ghost use Rattle.mar_types.specs.Varint.{IsVarint, varint};
 ghost use Rattle.mar_journal.specs.Numbers.{NumberStandsFirst, TwoStandFirst};
 
-use mar_codec::{Read, UInt, Write};
+use mar_types::{Read, UInt, Write};
 use std::alloc::{AllocError, Global};
 
 /// The number at the front, and how many bytes it takes.

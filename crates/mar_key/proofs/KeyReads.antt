@@ -1,7 +1,7 @@
 -- What a reader of a key took, by the key's kind.
 use Rattle.std.proofs.Common.{List, ap, refl, subst, ℕ, ◌++◌, ◌∙◌, ◌∷◌, ◌≡◌}
-use Rattle.mar_codec.specs.Codec.{Takes}
-use Rattle.mar_codec.specs.Varint.{IsVarint, varint}
+use Rattle.mar_types.specs.Codec.{Takes}
+use Rattle.mar_types.specs.Varint.{IsVarint, varint}
 use Rattle.mar_types.specs.Round.{Round, SpellsRound, round_bytes}
 use Rattle.mar_key.specs.Keys.{block_key, finalized_key, notarized_key}
 use Rattle.mar_key.specs.SpelledKeys.{SpellsKey}

@@ -1,8 +1,8 @@
 -- A key's bytes: how many, and that no key's bytes begin another's.
 use Rattle.std.proofs.Common.{List, ap, arith, length, max, subst, sym, ℕ, ◌++◌, ◌+◌, ◌∙◌, ◌∷◌, ◌≡◌, ◌≤◌}
-use Rattle.mar_codec.specs.Codec.{IsUnambiguous}
-use Rattle.mar_codec.specs.Varint.{varint}
-use Rattle.mar_codec.specs.VarintLemmas.{length-varint, varint-injective, varint_front}
+use Rattle.mar_types.specs.Codec.{IsUnambiguous}
+use Rattle.mar_types.specs.Varint.{varint}
+use Rattle.mar_types.specs.VarintLemmas.{length-varint, varint-injective, varint_front}
 use Rattle.mar_types.specs.Round.{round_bytes}
 use Rattle.mar_types.specs.RoundBytes.{length-round_bytes, round_bytes-injective, round_front}
 use Rattle.mar_key.specs.Keys.{IsKey, IsKeyOf, Key, block_key, finalized_key, key_bytes, notarized_key}

@@ -2,8 +2,8 @@
 use Rattle.std.specs.Prelude.{Bool, List, Option, bytes_eq, false, nat_le, true, ℕ, ◌==◌, ◌∷◌}
 use Rattle.mar_types.specs.Round.{IsRound, Round, round_bytes, round_eq}
 use Rattle.mar_key.specs.Cutoff.{Cutoff, covers}
-use Rattle.mar_codec.specs.Varint.{IsNumber, varint}
-use Rattle.mar_codec.specs.Digest.{IsDigest}
+use Rattle.mar_types.specs.Varint.{IsNumber, varint}
+use Rattle.mar_types.specs.Digest.{IsDigest}
 
 -- what can be asked of peers: a block by commitment, a finalization by height, a notarization by round
 pub data Key : Type 0 where

@@ -1,9 +1,9 @@
 -- Which bytes spell a key, and which error the others get.
 use Rattle.std.specs.Prelude.{List, ℕ, ◌<◌, ◌∷◌, ◌≡◌, ◌⊎◌}
-use Rattle.mar_codec.specs.Refusals.{RefusesJoined, RefusesShort, RefusesVarint}
-use Rattle.mar_codec.specs.Varint.{IsVarint}
-use Rattle.mar_codec.specs.declared.Error.{Error}
-use Rattle.mar_codec.specs.declared.Error.TheVariants.{InvalidEnum}
+use Rattle.mar_types.specs.Refusals.{RefusesJoined, RefusesShort, RefusesVarint}
+use Rattle.mar_types.specs.Varint.{IsVarint}
+use Rattle.mar_types.specs.declared.Error.{Error}
+use Rattle.mar_types.specs.declared.Error.TheVariants.{InvalidEnum}
 use Rattle.mar_key.specs.Keys.{IsKeyOf, Key, key_bytes}
 
 -- these bytes spell a key, whose commitment is spelled so

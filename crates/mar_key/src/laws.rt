@@ -3,7 +3,7 @@ ghost use Rattle.std.specs.List.{list_any};
 ghost use Rattle.std.specs.Prelude.{IsTrue, List, [], length, not, ◌≡◌, ◌≤◌};
 ghost use Rattle.std.specs.Ordering.{is_eq, is_le};
 ghost use Rattle.std.specs.declared.cmp.Ordering.TheVariants.{Less};
-ghost use Rattle.mar_codec.specs.Equal.{TellsApart};
+ghost use Rattle.mar_types.specs.Equal.{TellsApart};
 ghost use Rattle.mar_types.specs.Round.{Round as PlainRound};
 ghost use Rattle.mar_key.specs.Asked.{Asked as PlainAsked, IsOpenList, Judged as PlainJudged, annotations_of, asked_after, has_none};
 ghost use Rattle.mar_key.specs.Cutoff.{covers, cutoff_le};
@@ -19,7 +19,7 @@ use crate::open_requests::Judged;
 use crate::outcomes::Outcome;
 use crate::requests::{Fetch, Request};
 use crate::subscription::Subscription;
-use mar_codec::{Digest, Read, Sha256Digest};
+use mar_types::{Digest, Read, Sha256Digest};
 use std::hash::Hash;
 
 /// Cutoffs are ordered as the definition has them, an epoch's above each round of it; one covers a round exactly where

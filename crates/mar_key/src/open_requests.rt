@@ -11,7 +11,7 @@ use crate::keys::Key;
 use crate::outcomes::Outcome;
 use crate::recorder::Ask;
 use crate::requests::Fetch;
-use mar_codec::Digest;
+use mar_types::Digest;
 use std::alloc::{AllocError, Global};
 use std::marker::Model;
 

@@ -6,7 +6,7 @@ ghost use Rattle.mar_key.specs.Views.{annotation_of, key_of};
 use crate::keys::Key;
 use crate::outcomes::Delivery;
 use bytes::Bytes;
-use mar_codec::Digest;
+use mar_types::Digest;
 use std::alloc::AllocError;
 
 /// Takes what peers send for the keys that are asked of them.

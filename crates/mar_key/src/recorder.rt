@@ -8,7 +8,7 @@ ghost use Rattle.mar_key.specs.Recorded.{ask_of};
 use crate::annotations::Retain;
 use crate::requests::Fetch;
 use crate::resolvers::{Resolver, TargetedResolver};
-use mar_codec::Digest;
+use mar_types::Digest;
 use std::alloc::{AllocError, Global};
 use std::marker::Model;
 

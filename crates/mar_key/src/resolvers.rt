@@ -6,7 +6,7 @@ ghost use Rattle.mar_key.specs.Views.{call_of, retain_of, targeted_of};
 
 use crate::annotations::Retain;
 use crate::requests::Fetch;
-use mar_codec::Named;
+use mar_types::Named;
 use std::alloc::AllocError;
 
 /// Fetches from peers what it is asked for, naming commitments by `D`.

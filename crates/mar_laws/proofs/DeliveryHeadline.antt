@@ -12,9 +12,9 @@ use Rattle.mar_key.specs.Cutoff.{at_round, covers, cutoff_zero}
 use Rattle.mar_node.specs.Chain.{Chain, IsBlockAt, IsFinal, commitment_at}
 use Rattle.mar_store.specs.Kept.{At}
 use Rattle.mar_node.specs.Node.{FloorSafe}
-use Rattle.mar_codec.specs.Digest.{IsByte}
+use Rattle.mar_types.specs.Digest.{IsByte}
 use Rattle.mar_cert.specs.MockScheme.{IsFinalization, Signer, read_signers, mock_verifies}
-use Rattle.mar_codec.specs.Varint.{varint_within, read_varint_within}
+use Rattle.mar_types.specs.Varint.{varint_within, read_varint_within}
 use Rattle.mar_script.specs.Script.{IsSettings, IsLine, settings_bytes, line_bytes}
 use Rattle.mar_script.specs.Text.{running, text}
 use Rattle.mar_script.specs.Run.{Premises, Appears, read_to_end, Replays, Headline, empty_stores, fresh_stores}

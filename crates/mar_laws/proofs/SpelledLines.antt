@@ -11,7 +11,7 @@ use Rattle.mar_key.specs.Asked.{judged_invalid}
 use Rattle.mar_node.specs.Messages.{hint_finalized, get_info, of_height, subscribe_commitment, fetch_by_commitment}
 use Rattle.mar_node.specs.Node.{Node}
 use Rattle.mar_node.specs.Acks.{mark_waiting, mark_given, mark_dropped}
-use Rattle.mar_codec.specs.Varint.{varint, read_varint, read_varint_within, varint_within}
+use Rattle.mar_types.specs.Varint.{varint, read_varint, read_varint_within, varint_within}
 use Rattle.mar_cert.specs.MockScheme.{read_signers, signers_of}
 use Rattle.mar_node.specs.Faults.{meta_store}
 use Rattle.mar_node.specs.Answers.{info_value, anchor_value, sync_value, to}

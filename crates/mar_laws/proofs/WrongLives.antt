@@ -1,6 +1,6 @@
 -- Bodies of lines that crash or make a store fail, and stores, that the definitions refuse.
 use Rattle.std.proofs.Common.{List, None, Option, Some, [], ap, arith, inl, inr, length, length-append, refl, sym, true, ℕ, ◌++◌, ◌+◌, ◌-◌, ◌<◌, ◌^◌, ◌∙◌, ◌∷◌, ◌≡◌, ◌⊎◌}
-use Rattle.mar_codec.specs.Causes.{Rose}
+use Rattle.mar_types.specs.Causes.{Rose}
 use Rattle.mar_store.specs.Watch.{Strikes, Watch, armed}
 use Rattle.mar_key.specs.Cutoff.{cutoff_zero}
 use Rattle.mar_node.specs.Faults.{Fault, StoreName, block_store, from_genesis, meta_store, store_fault}

@@ -1,6 +1,6 @@
 -- What a life keeps: its stores, and what it remembers beside them; what is left of the stores.
 use Rattle.std.specs.Prelude.{Bool, Contains, Err, IfErr, List, MatchResult, Ok, Option, Result, Some, [], false, length, option_map, suc, true, zero, ℕ, ⊤, ◌++◌, ◌<◌, ◌∷◌, ◌≡◌, ◌≤◌, ◌⊎◌}
-use Rattle.mar_codec.specs.Causes.{Rose}
+use Rattle.mar_types.specs.Causes.{Rose}
 use Rattle.mar_types.specs.Round.{Round}
 use Rattle.mar_cert.specs.Finalization.{Finalization}
 use Rattle.mar_key.specs.Cutoff.{Cutoff}

@@ -1,6 +1,6 @@
 -- What contracts see of stores in their places.
 use Rattle.std.specs.Prelude.{Bool, Err, List, Ok, Result, [], false, map, true, ⊤, ◌≡◌, ◌⊎◌}
-use Rattle.mar_codec.specs.Causes.{Rose}
+use Rattle.mar_types.specs.Causes.{Rose}
 use Rattle.mar_store.specs.Changes.{Left}
 use Rattle.mar_store.specs.Kept.{Kept}
 use Rattle.mar_store.specs.Values.{Values}

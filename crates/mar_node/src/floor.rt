@@ -8,9 +8,8 @@ ghost use Rattle.mar_node.specs.Faults.{is_at_limit};
 ghost use Rattle.mar_node.specs.Floors.{admission, awaits, floor_of, pending_finalization, permits, permitted, round_before, with_witness, without_floor};
 
 use mar_cert::CommitsTo;
-use mar_codec::Named;
 use mar_key::{Cutoff, Fetch, Floor, Processed, Request, Resolver, Subscription, TargetedResolver};
-use mar_types::{Height, Round};
+use mar_types::{Height, Named, Round};
 use std::alloc::{AllocError, Global};
 use std::marker::Model;
 

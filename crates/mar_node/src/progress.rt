@@ -13,10 +13,9 @@ use crate::floor::State;
 use crate::place::{Place, parts_of};
 use crate::stream::Stream;
 use mar_cert::CommitsTo;
-use mar_codec::Named;
 use mar_key::{Cutoff, Floor, Processed};
 use mar_store::{Meta, MetaRuin, Miss};
-use mar_types::{Height, Round};
+use mar_types::{Height, Named, Round};
 use std::alloc::AllocError;
 use std::marker::Model;
 

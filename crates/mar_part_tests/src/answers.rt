@@ -3,7 +3,7 @@
 use crate::tell::*;
 use mar_block::EmptyBlock;
 use mar_cert::{Finalization, MockCertificate};
-use mar_codec::{Digested, Sha256, Sha256Digest};
+use mar_types::{Digested, Sha256, Sha256Digest};
 use mar_inbox::*;
 use std::alloc::Global;
 use std::process::Abort;

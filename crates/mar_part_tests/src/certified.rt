@@ -1,8 +1,7 @@
 //! Scripts of the commitments that are known as certified, and the epochs that a height closes.
 use crate::tell::*;
-use mar_codec::{Hasher, Sha256, Sha256Digest};
 use mar_parts::{Certified, closed_epoch};
-use mar_types::{Epoch, FixedEpocher, Height};
+use mar_types::{Epoch, FixedEpocher, Hasher, Height, Sha256, Sha256Digest};
 use std::alloc::Global;
 use std::num::NonZeroU64;
 use std::process::Abort;

@@ -2,10 +2,9 @@
 use crate::tell::*;
 use mar_block::Subscription;
 use mar_cert::{CommitsTo, MockCertificate, MockFinalization, Proposal};
-use mar_codec::{Digest, Hasher, Sha256, Sha256Digest};
 use mar_key::{Cutoff, Floor, Processed, Recorder, Request};
 use mar_parts::*;
-use mar_types::{Epoch, Height, Round, View};
+use mar_types::{Digest, Epoch, Hasher, Height, Round, Sha256, Sha256Digest, View};
 use std::alloc::{AllocError, Global};
 use std::process::Abort;
 

@@ -2,9 +2,8 @@
 //! test only says what is to come out.
 use crate::tell::*;
 use mar_block::Recipients;
-use mar_codec::{Digest, Sha256Digest};
 use mar_inbox::*;
-use mar_types::{Epoch, Height, Round, View};
+use mar_types::{Digest, Epoch, Height, Round, Sha256Digest, View};
 use std::process::Abort;
 
 type Plain = Message<Sha256Digest, u64, u64, u64>;

@@ -1,12 +1,11 @@
 //! Scripts of what a stream keeps, and the keys under which it does.
 use crate::tell::*;
 use mar_cert::MockFinalization;
-use mar_codec::Sha256Digest;
 use mar_key::Cutoff;
 use mar_node::Progress;
 use mar_parts::{Stream, synced_cutoff, synced_height};
 use mar_store::{MemMeta, Meta};
-use mar_types::{Epoch, Height, Round, View};
+use mar_types::{Epoch, Height, Round, Sha256Digest, View};
 use std::process::Abort;
 
 type Kept = Stream<MemMeta>;

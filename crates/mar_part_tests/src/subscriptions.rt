@@ -1,9 +1,8 @@
 //! Subscriptions, over buffers that promise and buffers that don't.
 use crate::tell::*;
 use mar_block::{Buffer, EmptyBlock, NoBuffer, Recipients, StandardBlocks, Subscription};
-use mar_codec::{Digest, Digested, Digestible, Participant, Sha256, Sha256Digest};
 use mar_parts::*;
-use mar_types::{Height, Round};
+use mar_types::{Digest, Digested, Digestible, Height, Participant, Round, Sha256, Sha256Digest};
 use std::alloc::{AllocError, Global};
 use std::cell::Cell;
 use std::process::Abort;

@@ -5,8 +5,7 @@ ghost use Rattle.std.specs.Fn.{FnReturnsAt};
 ghost use Rattle.std.specs.Ordering.{nat_cmp};
 ghost use Rattle.mar_parts.specs.Certified.{is_among, is_known};
 
-use mar_codec::Digest;
-use mar_types::Height;
+use mar_types::{Digest, Height};
 use std::alloc::{AllocError, Global};
 use std::collections::{BTreeMap, BTreeSet};
 use std::marker::Model;

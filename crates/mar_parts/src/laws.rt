@@ -1,7 +1,7 @@
 //! How the parts' values are compared: laws that callers rest on, each the contract of a function.
 ghost use Rattle.std.specs.Cmp.Lexicographic.{pointwise};
 ghost use Rattle.std.specs.Prelude.{nat_eq, ◌&&◌, ◌≡◌};
-ghost use Rattle.mar_codec.specs.Equal.{TellsApart};
+ghost use Rattle.mar_types.specs.Equal.{TellsApart};
 ghost use Rattle.mar_parts.specs.WaitKeys.{key_cmp};
 ghost use Rattle.mar_parts.specs.declared.subscriptions.Key.{Key as KeyOf};
 

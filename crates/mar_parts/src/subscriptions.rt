@@ -5,7 +5,7 @@ ghost use Rattle.mar_parts.specs.WaitKeys.{is_commitment_key, is_digest_key, wai
 
 use crate::waiters::Waiters;
 use mar_block::{Buffer, Variant};
-use mar_codec::Digest;
+use mar_types::Digest;
 use std::alloc::{AllocError, Global};
 use std::marker::Model;
 

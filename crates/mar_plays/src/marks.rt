@@ -1,8 +1,8 @@
 //! Values that are their own digests.
 ghost use Rattle.std.specs.Prelude.{◌≡◌, bytes_eq, replicate, true};
-ghost use Rattle.mar_codec.specs.DigestLemmas.{same_proof};
+ghost use Rattle.mar_types.specs.DigestLemmas.{same_proof};
 
-use mar_codec::{Digest, Hasher, Sha256, Sha256Digest};
+use mar_types::{Digest, Hasher, Sha256, Sha256Digest};
 use mar_journal::JournalItem;
 use mar_store::Item;
 use std::alloc::{AllocError, Global};

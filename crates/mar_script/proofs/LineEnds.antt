@@ -8,7 +8,7 @@ use Rattle.std.proofs.lemmas.Fmt.{length-decimal-le}
 use Rattle.std.proofs.lemmas.List.Elements.{All-append, All-cons, All-contains, All-nil, All-weaker, Contains-append_left, Contains-append_right}
 use Rattle.hex.specs.Hex.{IsBytes, encode_lower, encode_with, hex_digit_value, lower_digits}
 use Rattle.hex.proofs.HexLemmas.{IsDigits-lower_digits}
-use Rattle.mar_codec.specs.Varint.{IsNumber}
+use Rattle.mar_types.specs.Varint.{IsNumber}
 use Rattle.mar_node.specs.Messages.{Identifier, get_anchor, get_block, get_finalization, get_info, get_processed, get_verified, latest, of_digest, of_height, report_finalization}
 use Rattle.mar_node.specs.Faults.{StoreName, block_store, cache_store, cert_store, from_genesis, meta_store}
 use Rattle.mar_cert.specs.Finalization.{finalization_bytes}

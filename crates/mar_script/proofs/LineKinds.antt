@@ -3,7 +3,7 @@ use Rattle.std.proofs.Common.{Err, List, None, Ok, Result, Some, [], ap, arith, 
 use Rattle.std.specs.Prelude.{IfOk, IsOkAnd, MatchResult, codes, decimal}
 use Rattle.std.proofs.lemmas.List.{append_cancel_right}
 use Rattle.std.proofs.lemmas.Result.{IfOk-weaker}
-use Rattle.mar_codec.specs.Varint.{IsNumber}
+use Rattle.mar_types.specs.Varint.{IsNumber}
 use Rattle.mar_cert.specs.Finalization.{finalization_bytes}
 use Rattle.mar_node.specs.Faults.{StoreName, block_store, cache_store, cert_store, from_genesis, meta_store}
 use Rattle.mar_node.specs.Messages.{get_anchor, get_block, get_finalization, get_info, get_processed, get_verified, report_finalization}
@@ -13,7 +13,7 @@ use Rattle.mar_shelf.specs.declared.StoreName.TheVariants as code
 use Rattle.mar_script.specs.Lines.{Behind, IsLone, IsWord, MadeOf, Parses, Spells, first_word, kinds, named, plain_line, stores}
 use Rattle.mar_script.specs.Script.{HasValues, IsBuilt, Line, ack_line, buffer_line, crash_line, fail_line, hex, identifier_text, line_bytes, open_line, store_name, sync_line, tell_line}
 use Rattle.mar_script.specs.Words.{Yields}
-use Rattle.mar_codec.specs.declared.Sha256Digest.{Sha256Digest}
+use Rattle.mar_types.specs.declared.Sha256Digest.{Sha256Digest}
 use Rattle.mar_inbox.specs.declared.Query.{Query}
 use Rattle.mar_script.specs.declared.line.Line.{Line as LineCode}
 use Rattle.mar_script.specs.declared.line.Line.TheVariants as line

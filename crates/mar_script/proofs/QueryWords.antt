@@ -4,8 +4,8 @@ use Rattle.std.specs.Fmt.{decimal}
 use Rattle.std.proofs.lemmas.List.Elements.{All-contains}
 use Rattle.hex.specs.Hex.{decode_of, encode_lower}
 use Rattle.hex.proofs.HexLemmas.{decode_of-encode_lower}
-use Rattle.mar_codec.specs.Digest.{IsDigest}
-use Rattle.mar_codec.specs.Varint.{IsNumber}
+use Rattle.mar_types.specs.Digest.{IsDigest}
+use Rattle.mar_types.specs.Varint.{IsNumber}
 use Rattle.mar_types.specs.Round.{IsRound, Round}
 use Rattle.mar_script.specs.Lines.{IsWord}
 use Rattle.mar_script.specs.Script.{hex}

@@ -5,12 +5,12 @@ use Rattle.std.proofs.lemmas.Bool.{cases_lt}
 use Rattle.std.proofs.lemmas.List.Elements.{All-append, All-cons, All-from_recursion, All-nil, All-same, recursion_from_All}
 use Rattle.std.specs.List.{All, flat_map}
 use Rattle.hex.specs.Hex.{IsBytes}
-use Rattle.mar_codec.specs.declared.Error.{Error}
-use Rattle.mar_codec.specs.declared.Error.TheVariants.{Memory}
-use Rattle.mar_codec.specs.Digest.{IsByte, IsDigest}
-use Rattle.mar_codec.specs.DigestLemmas.{below_from_all}
-use Rattle.mar_codec.specs.Varint.{IsNumber, varint, varint_within}
-use Rattle.mar_codec.specs.VarintLemmas.{varint_within-large, varint_within-small}
+use Rattle.mar_types.specs.declared.Error.{Error}
+use Rattle.mar_types.specs.declared.Error.TheVariants.{Memory}
+use Rattle.mar_types.specs.Digest.{IsByte, IsDigest}
+use Rattle.mar_types.specs.DigestLemmas.{below_from_all}
+use Rattle.mar_types.specs.Varint.{IsNumber, varint, varint_within}
+use Rattle.mar_types.specs.VarintLemmas.{varint_within-large, varint_within-small}
 use Rattle.mar_cert.specs.Finalization.{Finalization, finalization_bytes, proposal_bytes}
 use Rattle.mar_cert.specs.MockScheme.{IsFinalization, Signer, signer_bytes}
 use Rattle.mar_cert.specs.Signers.{AreSigners}

@@ -14,7 +14,7 @@ use Rattle.std.proofs.lemmas.List.{append-nil, append_cancel_right, map-id}
 use Rattle.std.proofs.lemmas.List.Elements.{All-cons, All-nil, All-push, All-weaker}
 use Rattle.std.proofs.lemmas.Simd.{map-map}
 use Rattle.std.proofs.lemmas.List.Splits.{join_with_byte-slice_split, slice_split_at, slice_split_none}
-use Rattle.mar_codec.specs.Varint.{IsNumber}
+use Rattle.mar_types.specs.Varint.{IsNumber}
 use Rattle.mar_script.specs.Script.{IsSettings, Settings, comma_numbers, sentence, settings_bytes}
 use Rattle.mar_script.specs.Words.{numbers_of, words_in}
 

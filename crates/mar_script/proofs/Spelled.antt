@@ -11,7 +11,7 @@ use Rattle.std.proofs.lemmas.Slice.Eq.{bytes_eq-Decides}
 use Rattle.std.proofs.Math.Seq.{take-append_seam, take-suc}
 use Rattle.hex.specs.Hex.{IsBytes, decode_of, encode_lower}
 use Rattle.hex.proofs.HexLemmas.{decode_of-encode_lower}
-use Rattle.mar_codec.specs.Varint.{IsNumber}
+use Rattle.mar_types.specs.Varint.{IsNumber}
 use Rattle.mar_script.specs.Script.{hex}
 use Rattle.mar_script.specs.Words.{IsWithheld, words_of}
 use Rattle.mar_script.specs.declared.words.ParseError.{ParseError}

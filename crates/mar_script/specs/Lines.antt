@@ -5,9 +5,9 @@ use Rattle.std.specs.Prelude.{Contains, IfOk, List, Option, Result, [], codes, d
 use Rattle.std.specs.Str.{bytes_eq}
 use Rattle.sha2.specs.Sha256.{sha256}
 use Rattle.mar_types.specs.Round.{IsRound}
-use Rattle.mar_codec.specs.Varint.{IsNumber}
-use Rattle.mar_codec.specs.declared.Sha256.{Sha256}
-use Rattle.mar_codec.specs.declared.Sha256Digest.{Sha256Digest}
+use Rattle.mar_types.specs.Varint.{IsNumber}
+use Rattle.mar_types.specs.declared.Sha256.{Sha256}
+use Rattle.mar_types.specs.declared.Sha256Digest.{Sha256Digest}
 use Rattle.mar_cert.specs.Finalization.{Finalization, finalization_bytes}
 use Rattle.mar_cert.specs.MockScheme.{IsFinalization}
 use Rattle.mar_cert.specs.MockViews.{plain_signers}

@@ -1,7 +1,7 @@
 -- What each script line does, runs of lines, and the headline.
 use Rattle.std.specs.List.{AllByRecursion, flat_map, list_any}
 use Rattle.std.specs.Prelude.{Any, Bool, Contains, IfSome, IsFalse, IsTrue, List, None, Option, Some, [], bytes_eq, false, filter, if◌then◌else◌, length, map, not, true, ℕ, ⊤, ◌&&◌, ◌++◌, ◌+◌, ◌<◌, ◌==◌, ◌||◌, ◌∷◌, ◌≡◌, ◌⊎◌}
-use Rattle.mar_codec.specs.Causes.{Rose}
+use Rattle.mar_types.specs.Causes.{Rose}
 use Rattle.mar_cert.specs.Block.{Block, IsBlock}
 use Rattle.mar_cert.specs.Finalization.{Finalization, finalization_bytes}
 use Rattle.mar_key.specs.Cutoff.{covers, cutoff_zero}

@@ -6,7 +6,7 @@ use Rattle.mar_node.specs.Acks.{Outstanding}
 use Rattle.mar_node.specs.Faults.{Fault}
 use Rattle.mar_node.specs.Node.{OpenSync}
 use Rattle.mar_store.specs.Ranges.{Range}
-use Rattle.mar_codec.specs.declared.Sha256Digest.{Sha256Digest}
+use Rattle.mar_types.specs.declared.Sha256Digest.{Sha256Digest}
 use Rattle.mar_shelf.specs.Views.{fault_of}
 use Rattle.mar_shelf.specs.declared.Fault.{Fault as FaultCode}
 use Rattle.mar_script.specs.Script.{comma_numbers}

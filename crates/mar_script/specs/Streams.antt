@@ -1,7 +1,7 @@
 -- What a read takes of a source and a write gives to a sink, where they tell it, and how a script's lines are taken.
 use Rattle.std.specs.Prelude.{Err, List, None, Ok, Option, Result, Some, Vec, [], drop, length, take, ℕ, ◌++◌, ◌+◌, ◌<◌, ◌∷◌, ◌≡◌, ◌≤◌}
 use Rattle.std.specs.declared.alloc.Global.{Global}
-use Rattle.mar_codec.specs.Causes.{Rose}
+use Rattle.mar_types.specs.Causes.{Rose}
 use Rattle.mar_store.specs.declared.Miss.{Miss}
 use Rattle.mar_store.specs.declared.Miss.TheVariants.{Fault as Missed, Memory as Forgot}
 use Rattle.mar_script.specs.Refused.{IsUnended, max_line}

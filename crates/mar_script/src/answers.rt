@@ -14,10 +14,9 @@ use crate::shown::push_some_processed;
 use crate::text::{push_hex, push_number};
 use mar_block::EmptyBlock;
 use mar_cert::MockFinalization;
-use mar_codec::{Digested, Encode, Sha256, Sha256Digest, Write};
 use mar_inbox::{Answer, Answered, Value};
 use mar_key::Processed;
-use mar_types::Height;
+use mar_types::{Digested, Encode, Height, Sha256, Sha256Digest, Write};
 use std::alloc::{AllocError, Global};
 use std::convert::AsSlice;
 

@@ -1,7 +1,7 @@
 //! The words of lines that ask.
 ghost use Rattle.std.specs.Prelude.{◌≡◌, ◌++◌, ◌∷◌, ℕ, List, IfOk, decimal};
-ghost use Rattle.mar_codec.specs.Digest.{IsDigest};
-ghost use Rattle.mar_codec.specs.Varint.{IsNumber};
+ghost use Rattle.mar_types.specs.Digest.{IsDigest};
+ghost use Rattle.mar_types.specs.Varint.{IsNumber};
 ghost use Rattle.mar_inbox.specs.Views.{identifier_of};
 ghost use Rattle.mar_node.specs.Messages.{Identifier as PlainIdentifier};
 ghost use Rattle.mar_types.specs.Round.{IsRound, Round as PlainRound};
@@ -9,9 +9,8 @@ ghost use Rattle.mar_script.specs.Script.{IsIdentifier, hex, identifier_text};
 ghost use Rattle.mar_script.specs.Words.{Yields};
 
 use crate::words::{ParseError, number, split_word};
-use mar_codec::Sha256Digest;
 use mar_inbox::Identifier;
-use mar_types::{Epoch, Height, Round, View};
+use mar_types::{Epoch, Height, Round, Sha256Digest, View};
 
 /// The height that a word spells.
 pub fn height(word: &[u8]) -> Result<Height, ParseError>

@@ -1,6 +1,6 @@
 //! The lines of a script, from a source that is read in pieces.
 ghost use Rattle.std.specs.Prelude.{◌≡◌, ◌≤◌, ◌<◌, ◌+◌, ◌++◌, ◌∷◌, ℕ, List, [], false, IfOk, IfSome, OnOk, OnErr, IsErrOf, take, drop, length};
-ghost use Rattle.mar_codec.specs.Causes.{Rose};
+ghost use Rattle.mar_types.specs.Causes.{Rose};
 ghost use Rattle.mar_script.specs.Run.{IsShownAs};
 ghost use Rattle.mar_script.specs.Refused.{IsUnended};
 ghost use Rattle.mar_script.specs.Streams.{EndsAt, Gives, RaisedByFault, TakesLine};

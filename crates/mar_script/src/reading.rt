@@ -1,6 +1,6 @@
 //! The lines of a script, read and parsed, and how a run ends where there is none.
 ghost use Rattle.std.specs.Prelude.{◌≡◌, ◌+◌, ◌<◌, ◌≤◌, [], IfErr, IfNone, IfOk, IsErrOf};
-ghost use Rattle.mar_codec.specs.Causes.{Rose};
+ghost use Rattle.mar_types.specs.Causes.{Rose};
 ghost use Rattle.mar_script.specs.Endings.{IsReadersEnd};
 ghost use Rattle.mar_script.specs.Reading.{TakesFirst, TakesNext, missing_status, refused_at, refused_status};
 ghost use Rattle.mar_script.specs.Run.{IsShownAs};

@@ -9,10 +9,9 @@ ghost use Rattle.mar_shelf.specs.Views.{kind_of, store_name_of};
 ghost use Rattle.mar_script.specs.Shown.{plain_fault, remark_of};
 
 use itoa::Buffer;
-use mar_codec::Sha256Digest;
 use mar_key::Cutoff;
 use mar_shelf::{Fault, StoreName, TicketKind};
-use mar_types::{Height, Round};
+use mar_types::{Height, Round, Sha256Digest};
 use std::alloc::{AllocError, Global};
 use std::convert::AsSlice;
 

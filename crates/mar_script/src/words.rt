@@ -2,7 +2,7 @@
 ghost use Rattle.std.specs.Prelude.{◌≡◌, ◌↔◌, ◌/◌, ◌%◌, ◌<◌, ◌^◌, ◌++◌, ◌∷◌, ℕ, List, Some, IfOk, IfSome, IsSomeAnd, IsTrue, length, decimal, map, slice_index};
 ghost use Rattle.std.specs.List.{AllByRecursion};
 ghost use Rattle.hex.specs.Hex.{IsBytes, lower_digits};
-ghost use Rattle.mar_codec.specs.Varint.{IsNumber};
+ghost use Rattle.mar_types.specs.Varint.{IsNumber};
 ghost use Rattle.mar_script.specs.Lines.{IsWord, named};
 ghost use Rattle.mar_script.specs.Refused.{HasFirstWord};
 ghost use Rattle.mar_script.specs.Script.{hex};

@@ -1,6 +1,6 @@
 //! A text written whole, and how a run ends where it isn't.
 ghost use Rattle.std.specs.Prelude.{◌≡◌, false, IfErr, IsErrOf, OnErr, OnOk};
-ghost use Rattle.mar_codec.specs.Causes.{Rose};
+ghost use Rattle.mar_types.specs.Causes.{Rose};
 ghost use Rattle.mar_script.specs.Endings.{IsWritersEnd};
 ghost use Rattle.mar_script.specs.Streams.{Takes, TakesFront};
 

@@ -7,9 +7,8 @@ use crate::archive::{Archived, Pruning, Wreck, wrapped, wrapped_with_ticket};
 use crate::item::BlockItem;
 use crate::{Blocks, BlocksRuin};
 use mar_block::Variant;
-use mar_codec::Digest;
 use mar_store::{Archive, ArchiveRuin, Identifier, Lost, Miss, RangeSet, SyncTicket};
-use mar_types::Height;
+use mar_types::{Digest, Height};
 use std::alloc::AllocError;
 
 impl<V: Variant, W: ArchiveRuin<BlockItem<V>>> BlocksRuin for Wreck<BlockItem<V>, W>

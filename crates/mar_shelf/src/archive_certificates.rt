@@ -7,9 +7,8 @@ use crate::item::CertificateItem;
 use crate::{Certificates, CertificatesRuin};
 use mar_block::Variant;
 use mar_cert::CommitsTo;
-use mar_codec::Digest;
 use mar_store::{Archive, ArchiveRuin, Identifier, Lost, Miss, RangeSet, SyncTicket};
-use mar_types::Height;
+use mar_types::{Digest, Height};
 use std::alloc::AllocError;
 
 impl<

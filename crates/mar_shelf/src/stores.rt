@@ -17,11 +17,10 @@ use crate::ruins::Ruins;
 use crate::{Blocks, BlocksRuin, Certificates, CertificatesRuin, Shelf};
 use mar_block::Variant;
 use mar_cert::CommitsTo;
-use mar_codec::Named;
 use mar_key::Cutoff;
 use mar_node::{Place, Progress, Staged, State, Writes};
 use mar_store::{Lost, Meta, Miss, RangeSet};
-use mar_types::{Height, Round};
+use mar_types::{Height, Named, Round};
 use std::alloc::{AllocError, Global};
 use std::marker::{Model, PhantomData};
 

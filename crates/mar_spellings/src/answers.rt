@@ -1,7 +1,7 @@
 //! What is said of a value, or of bytes that spell none. No function of this crate has an `ensures`: what they say is
 //! compared with the whole output that is wanted.
 use bytes::BytesMut;
-use mar_codec::{Decode, Read, Write};
+use mar_types::{Decode, Read, Write};
 use std::alloc::{AllocError, Global};
 use std::fmt::{Debug, Display};
 

@@ -6,7 +6,7 @@ use mar_block::mocks::Block as MockBlock;
 use mar_block::{
     BoundedBlock, CertifiableBlock, EmptyBlock, ExpectedCommitment, Standard, WireVariant,
 };
-use mar_codec::{Decode, Digestible, EncodeSize, Error, Read, Sha256, Sha256Digest, UInt};
+use mar_types::{Decode, Digestible, EncodeSize, Error, Read, Sha256, Sha256Digest, UInt};
 use std::alloc::{AllocError, Global};
 use std::fmt::Debug;
 

@@ -1,8 +1,6 @@
-//! What mar_codec makes of a case.
+//! What mar_types makes of a case.
 use crate::answers::{shown, spelled, told, told_by};
-use mar_codec::{
-    Decode, Error, Hasher, Kind, NonEmptyVec, Participant, Reason, Sha256, Sha256Digest, U64, UInt,
-};
+use mar_types::{Decode, Error, Hasher, Kind, NonEmptyVec, Participant, Reason, Sha256, Sha256Digest, U64, UInt};
 use std::alloc::{AllocError, Global};
 
 // The digest of this message so many times, each time in two pieces, through the bound.
@@ -73,7 +71,7 @@ fn list(alloc: Global, bytes: &[u8]) -> Result<String, AllocError> {
     }
 }
 
-/// What is said of these bytes as a value of mar_codec, if the name is one of its types.
+/// What is said of these bytes as a value of mar_types, if the name is one of its types.
 pub(crate) fn told_as(
     alloc: Global,
     name: &str,

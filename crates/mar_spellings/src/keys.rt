@@ -1,5 +1,5 @@
 //! What is made of the bytes of a key.
-use mar_codec::{Decode, Encode, EncodeSize, Sha256Digest};
+use mar_types::{Decode, Encode, EncodeSize, Sha256Digest};
 use mar_key::Key;
 use std::alloc::{AllocError, Global};
 

@@ -1,11 +1,7 @@
 //! What mar_types makes of a case.
 use crate::answers::{shown, spelled, told};
-use mar_codec::{Decode, Digestible, Error, Hasher, Sha256, Sha256Digest, UInt};
 use mar_types::coding::{CodingConfig, CodingScheme, Commitment};
-use mar_types::{
-    Epoch, EpochDelta, Epocher, FixedEpocher, Height, HeightDelta, Round, TermLength, View,
-    ViewDelta,
-};
+use mar_types::{Decode, Digestible, Epoch, EpochDelta, Epocher, Error, FixedEpocher, Hasher, Height, HeightDelta, Round, Sha256, Sha256Digest, TermLength, UInt, View, ViewDelta};
 use std::alloc::{AllocError, Global};
 use std::num::{NonZeroU32, NonZeroU64};
 

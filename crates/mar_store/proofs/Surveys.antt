@@ -3,14 +3,14 @@ use Rattle.std.proofs.Common.{◌≡◌, ◌∙◌, ◌<◌, ◌+◌, ℕ, List,
 use Rattle.std.specs.Prelude.{if◌then◌else◌}
 use Rattle.std.proofs.lemmas.List.{map_push, length-append}
 use Rattle.mar_store.specs.Changes.{heights}
-use Rattle.mar_codec.specs.Places.{first_place, or_place}
+use Rattle.mar_types.specs.Places.{first_place, or_place}
 use Rattle.mar_store.specs.Ranges.{Range, ranges, with_height}
 use Rattle.mar_store.specs.RangeLemmas.{ranges_push}
 use Rattle.mar_store.specs.Entries.{seen}
 use Rattle.mar_store.specs.declared.entry.Entry.{Entry}
 use Rattle.mar_store.specs.Choices.{chosen}
 use Rattle.mar_store.proofs.Chosen.{chosen_step}
-use Rattle.mar_codec.specs.PlacesLemmas.{first_place_push}
+use Rattle.mar_types.specs.PlacesLemmas.{first_place_push}
 
 ranges_one : {T : Type 0} (xs : List (Entry T)) (e : Entry T) (b : Bool) (old new : List Range) → old ≡ ranges (heights (map seen xs)) → new ≡ cond b (with_height e.index old) old → new ≡ ranges (heights (map seen (xs ++ cond b (e ∷ []) [])))
 ranges_one xs e true old new was is = is ∙ (ap (with_height e.index) was ∙ (sym (ranges_push (heights (map seen xs)) e.index) ∙ ap ranges (sym (ap heights (map_push seen xs e) ∙ map_push (λ x. x.height) (map seen xs) (seen e)))))

@@ -1,7 +1,7 @@
 -- What a store tells of its failures: how often it has failed, which calls are armed to fail, and how it goes by luck.
 use Rattle.std.specs.Prelude.{Bool, Err, List, None, Ok, Option, Result, [], if◌then◌else◌, nat_le, true, false, ℕ, ◌++◌, ◌-◌, ◌==◌, ◌∷◌, ◌≡◌, ◌⊎◌}
 use Rattle.std.specs.List.{list_any}
-use Rattle.mar_codec.specs.Causes.{Rose}
+use Rattle.mar_types.specs.Causes.{Rose}
 use Rattle.mar_store.specs.declared.luck.LuckHalf.{LuckHalf}
 use Rattle.mar_store.specs.declared.lost.Lost.{Lost}
 use Rattle.mar_store.specs.declared.lost.Lost.TheVariants.{Fault, Memory}

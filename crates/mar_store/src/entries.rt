@@ -7,7 +7,7 @@ ghost use Rattle.mar_store.specs.Changes.{Fails, Finishes, IsStillOr, Puts, Sync
 ghost use Rattle.mar_store.specs.Kept.{reopened_store, value_at};
 ghost use Rattle.mar_store.specs.Named.{is_taken, value_found, value_named};
 ghost use Rattle.mar_store.specs.Luck.{is_lucky, lucky_found};
-ghost use Rattle.mar_codec.specs.Places.{at_place, first_place};
+ghost use Rattle.mar_types.specs.Places.{at_place, first_place};
 ghost use Rattle.mar_store.specs.Tickets.{KeepsCovers};
 ghost use Rattle.mar_store.specs.Entries.{covered_by, kept_of, next_number, seen};
 

@@ -1,7 +1,7 @@
 //! What an archive keeps.
 ghost use Rattle.std.specs.Prelude.{◌≡◌, ℕ, List, Bool, IfOk};
 
-use mar_codec::Digest;
+use mar_types::Digest;
 use std::alloc::AllocError;
 
 /// The most bytes that an archived value may take.

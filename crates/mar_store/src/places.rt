@@ -2,9 +2,9 @@
 ghost use Rattle.std.specs.Prelude.{◌≡◌, ◌==◌, ℕ, None, Some, OnOk, if◌then◌else◌, bytes_eq};
 ghost use Rattle.std.specs.Ordering.{nat_cmp};
 ghost use Rattle.std.specs.BTreeMap.{get};
-ghost use Rattle.mar_codec.specs.Places.{or_place};
+ghost use Rattle.mar_types.specs.Places.{or_place};
 
-use mar_codec::Digest;
+use mar_types::Digest;
 use std::alloc::{AllocError, Global};
 use std::collections::BTreeMap;
 

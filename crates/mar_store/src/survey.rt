@@ -4,7 +4,7 @@ ghost use Rattle.std.specs.Ordering.{nat_cmp};
 ghost use Rattle.std.specs.BTreeMap.{get};
 ghost use Rattle.mar_store.specs.Changes.{heights};
 ghost use Rattle.mar_store.specs.Ranges.{ranges, with_height};
-ghost use Rattle.mar_codec.specs.Places.{first_place, or_place};
+ghost use Rattle.mar_types.specs.Places.{first_place, or_place};
 ghost use Rattle.mar_store.specs.Entries.{seen};
 ghost use Rattle.mar_store.specs.Choices.{chosen, stays};
 

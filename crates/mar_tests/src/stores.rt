@@ -4,11 +4,10 @@ ghost use Rattle.std.specs.Prelude.{◌≤◌, IfOk};
 use crate::tell::*;
 use lives::{Life, lived};
 use mar_block::{EmptyBlock, StandardBlocks, Variant};
-use mar_codec::{Digest, Digested, EncodeSize, Sha256, Sha256Digest};
 use mar_mocks::Recording;
 use mar_shelf::{BlockItem, Blocks, NoShelf, Shelf, immutable, prunable};
 use mar_store::{Archive, Item, Lost, LuckHalf, MemArchive};
-use mar_types::Height;
+use mar_types::{Digest, Digested, EncodeSize, Height, Sha256, Sha256Digest};
 use std::alloc::{AllocError, Global};
 
 mod lives;

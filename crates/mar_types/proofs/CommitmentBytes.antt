@@ -1,11 +1,11 @@
 -- Bytes that are refused as a commitment spell none.
 use Rattle.std.proofs.Common.{◌≡◌, inl, inr, ℕ, ◌+◌, List, length, take, sym, ◌∙◌, ap, subst, arith, length-append}
 use Rattle.std.proofs.Math.Seq.{take-append_seam}
-use Rattle.mar_codec.specs.Codec.{HasNoFront, Takes}
-use Rattle.mar_codec.specs.Digest.{IsBytes}
-use Rattle.mar_codec.specs.DigestLemmas.{bytes_unambiguous}
-use Rattle.mar_codec.specs.declared.Error.{Error}
-use Rattle.mar_codec.specs.declared.Reason.{Reason}
+use Rattle.mar_types.specs.Codec.{HasNoFront, Takes}
+use Rattle.mar_types.specs.Digest.{IsBytes}
+use Rattle.mar_types.specs.DigestLemmas.{bytes_unambiguous}
+use Rattle.mar_types.specs.declared.error.Error.{Error}
+use Rattle.mar_types.specs.declared.error.Reason.{Reason}
 use Rattle.mar_types.specs.Coding.{RefusesCommitment, RefusesField, RefusesParts, SpellsCommitment, SpellsField}
 use Rattle.mar_types.proofs.FieldBytes.{clash}
 

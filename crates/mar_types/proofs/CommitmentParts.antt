@@ -1,7 +1,7 @@
 -- The parts that a commitment is made of.
 use Rattle.std.proofs.Common.{List, ap, length, refl, sym, ℕ, ◌∙◌, ◌≡◌}
 use Rattle.std.specs.List.{AllByRecursion}
-use Rattle.mar_codec.specs.Digest.{IsByte, IsBytes}
+use Rattle.mar_types.specs.Digest.{IsByte, IsBytes}
 use Rattle.mar_types.specs.Coding.{commitment_bytes}
 
 -- what spells a digest of one size is so many bytes

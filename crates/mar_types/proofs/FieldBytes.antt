@@ -1,6 +1,6 @@
 -- What stands in a commitment's field.
 use Rattle.std.proofs.Common.{◌≡◌, ℕ, Bool, true, false, List, [], ◌∷◌, ◌++◌, length, refl, sym, ◌∙◌, ap, subst, arith}
-use Rattle.mar_codec.specs.Codec.{Takes}
+use Rattle.mar_types.specs.Codec.{Takes}
 
 -- a front as long as the whole is the whole
 whole_front : (front rest : List ℕ) → length front ≡ length (front ++ rest) → front ≡ front ++ rest

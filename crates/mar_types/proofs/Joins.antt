@@ -1,9 +1,9 @@
 -- An epoch with no view after it is no round, and what holds of an error.
 use Rattle.std.proofs.Common.{◌≡◌, ℕ, List, ◌++◌, Result, Ok, Err, OnErr, refl, sym, ◌∙◌, ap, append_assoc}
 use Rattle.std.proofs.lemmas.List.{append_cancel_left}
-use Rattle.mar_codec.specs.Codec.{HasNoFront}
-use Rattle.mar_codec.specs.Varint.{IsVarint, varint}
-use Rattle.mar_codec.specs.VarintLemmas.{varint_front}
+use Rattle.mar_types.specs.Codec.{HasNoFront}
+use Rattle.mar_types.specs.Varint.{IsVarint, varint}
+use Rattle.mar_types.specs.VarintLemmas.{varint_front}
 use Rattle.mar_types.specs.Round.{SpellsRound}
 
 -- after an epoch, bytes that begin with no view don't go on as a round's

@@ -1,3 +1,5 @@
+pub mod VarintSteps
+pub mod Rereads
 pub mod Partitions
 pub mod Spread
 pub mod NextTerms

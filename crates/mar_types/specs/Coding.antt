@@ -2,14 +2,14 @@
 use Rattle.std.specs.Int.{from_be_bytes, to_be_bytes, w16}
 use Rattle.std.specs.List.{list_all, slice_range}
 use Rattle.std.specs.Prelude.{Bool, List, drop, false, length, max, replicate, take, true, ℕ, ◌%◌, ◌++◌, ◌-◌, ◌/◌, ◌<◌, ◌==◌, ◌^◌, ◌≡◌, ◌≤◌, ◌⊎◌}
-use Rattle.mar_codec.specs.Codec.{Joined}
-use Rattle.mar_codec.specs.Digest.{IsBytes}
-use Rattle.mar_codec.specs.Refusals.{RefusesJoined, RefusesShort}
-use Rattle.mar_codec.specs.declared.Error.{Error}
-use Rattle.mar_codec.specs.declared.Error.TheVariants.{Invalid}
-use Rattle.mar_codec.specs.declared.Reason.{Reason}
-use Rattle.mar_codec.specs.declared.Kind.TheVariants.{Commitment}
-use Rattle.mar_codec.specs.declared.Reason.TheVariants.{BlockDigest, CodingConfig, CodingRoot, ContextDigest, DigestPadding}
+use Rattle.mar_types.specs.Codec.{Joined}
+use Rattle.mar_types.specs.Digest.{IsBytes}
+use Rattle.mar_types.specs.Refusals.{RefusesJoined, RefusesShort}
+use Rattle.mar_types.specs.declared.error.Error.{Error}
+use Rattle.mar_types.specs.declared.error.Error.TheVariants.{Invalid}
+use Rattle.mar_types.specs.declared.error.Reason.{Reason}
+use Rattle.mar_types.specs.declared.error.Kind.TheVariants.{Commitment}
+use Rattle.mar_types.specs.declared.error.Reason.TheVariants.{BlockDigest, CodingConfig, CodingRoot, ContextDigest, DigestPadding}
 
 -- a number of shards: two bytes, which aren't both zero
 abbrev pub SpellsShards : List ℕ → Type 0

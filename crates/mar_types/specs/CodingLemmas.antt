@@ -1,8 +1,8 @@
 -- No spelling of shards begins another.
 use Rattle.std.proofs.Common.{List, ℕ}
-use Rattle.mar_codec.specs.Codec.{IsUnambiguous}
-use Rattle.mar_codec.specs.CodecLemmas.{joined_unambiguous}
-use Rattle.mar_codec.specs.DigestLemmas.{bytes_unambiguous}
+use Rattle.mar_types.specs.Codec.{IsUnambiguous}
+use Rattle.mar_types.specs.CodecLemmas.{joined_unambiguous}
+use Rattle.mar_types.specs.DigestLemmas.{bytes_unambiguous}
 use Rattle.mar_types.specs.Coding.{SpellsCommitment, SpellsConfig, SpellsShards}
 
 pub shards_unambiguous : IsUnambiguous SpellsShards

@@ -3,7 +3,7 @@ use Rattle.std.proofs.Common.{List, [], ap, append_assoc, arith, drop, length, l
 use Rattle.std.proofs.Math.Seq.{drop-append_seam, take-append_seam}
 use Rattle.std.proofs.lemmas.List.{append-nil, length-replicate}
 use Rattle.std.specs.List.{AllByRecursion, slice_range}
-use Rattle.mar_codec.specs.Digest.{IsByte, IsBytes}
+use Rattle.mar_types.specs.Digest.{IsByte, IsBytes}
 use Rattle.mar_types.specs.Coding.{JoinsParts, SpellsCommitment, SpellsConfig, SpellsField, commitment_bytes, is_zero, padded}
 
 -- a digest that is spelled, and fits a field

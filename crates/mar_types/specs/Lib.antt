@@ -1,3 +1,16 @@
+pub mod Causes
+pub mod Varint
+pub mod Digest
+pub mod Codec
+pub mod Refusals
+pub mod ReadBack
+pub mod VarintLemmas
+pub mod DigestLemmas
+pub mod CodecLemmas
+pub mod Texts
+pub mod Equal
+pub mod Places
+pub mod PlacesLemmas
 pub mod Round
 pub mod Epochs
 pub mod Fixed

@@ -1,7 +1,7 @@
 -- Rounds, in the order of epoch and view.
 use Rattle.std.specs.Fmt.{decimal}
 use Rattle.std.specs.Prelude.{Bool, List, codes, nat_le, nat_lt, ℕ, ◌&&◌, ◌++◌, ◌==◌, ◌||◌, ◌≡◌}
-use Rattle.mar_codec.specs.Varint.{IsNumber, varint}
+use Rattle.mar_types.specs.Varint.{IsNumber, varint}
 
 -- a view of an epoch
 pub record Round : Type 0 where

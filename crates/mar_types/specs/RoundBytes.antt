@@ -1,9 +1,9 @@
 -- A round's bytes: how many, and that no round's bytes begin another's.
 use Rattle.std.proofs.Common.{◌≡◌, ℕ, ◌≤◌, List, [], ◌++◌, length, sym, ◌∙◌, ap, arith, append_assoc, length-append}
 use Rattle.std.proofs.lemmas.List.{append_cancel_left}
-use Rattle.mar_codec.specs.Codec.{IsUnambiguous}
-use Rattle.mar_codec.specs.Varint.{varint}
-use Rattle.mar_codec.specs.VarintLemmas.{length-varint, varint_front}
+use Rattle.mar_types.specs.Codec.{IsUnambiguous}
+use Rattle.mar_types.specs.Varint.{varint}
+use Rattle.mar_types.specs.VarintLemmas.{length-varint, varint_front}
 use Rattle.mar_types.specs.Round.{Round, SpellsRound, round_bytes}
 
 pub length-round_bytes : (r : Round) → length (round_bytes r) ≤ 20

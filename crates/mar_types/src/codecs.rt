@@ -1,8 +1,8 @@
 //! Epochs, heights, views and rounds as bytes: each number a varint, a round its epoch and then its view.
 ghost use Rattle.std.specs.Prelude.{◌≡◌, ◌≤◌, false, length};
-ghost use Rattle.mar_codec.specs.Varint.{IsVarint, varint};
-ghost use Rattle.mar_codec.specs.VarintLemmas.{length-varint, varint-injective, varint_unambiguous};
-ghost use Rattle.mar_codec.specs.Refusals.{RefusesJoined, RefusesVarint};
+ghost use Rattle.mar_types.specs.Varint.{IsVarint, varint};
+ghost use Rattle.mar_types.specs.VarintLemmas.{length-varint, varint-injective, varint_unambiguous};
+ghost use Rattle.mar_types.specs.Refusals.{RefusesJoined, RefusesVarint};
 ghost use Rattle.mar_types.specs.Round.{SpellsRound, round_bytes};
 ghost use Rattle.mar_types.specs.RoundBytes.{length-round_bytes, round_bytes-injective, round_unambiguous};
 
@@ -11,7 +11,7 @@ use crate::heights::Height;
 use crate::rounds::Round;
 use crate::views::View;
 use bytes::{Buf, BufMut};
-use mar_codec::{EncodeSize, Error, MaxEncodeSize, Read, Span, U64, UInt, Write};
+use crate::{EncodeSize, Error, MaxEncodeSize, Read, Span, U64, UInt, Write};
 use std::alloc::{AllocError, Global};
 
 impl Write for Epoch {

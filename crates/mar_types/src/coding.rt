@@ -2,13 +2,13 @@
 ghost use Rattle.std.specs.Prelude.{IfErr, IfOk, OnOk, false, length, max, refl, ◌%◌, ◌++◌, ◌/◌, ◌^◌, ◌≡◌};
 ghost use Rattle.std.specs.Int.{to_be_bytes, w16};
 ghost use Rattle.std.specs.Int.NonZero.{non_zero_u16_get};
-ghost use Rattle.mar_codec.specs.Codec.{Takes};
+ghost use Rattle.mar_types.specs.Codec.{Takes};
 ghost use Rattle.mar_types.specs.Coding.{RefusesConfig, RefusesShards, SpellsConfig, SpellsShards, config_bytes};
 ghost use Rattle.mar_types.specs.CodingLemmas.{config_unambiguous};
 
 pub use crate::commitments::{COMMITMENT_DIGEST_SIZE, COMMITMENT_SIZE, Commitment};
 use bytes::{Buf, BufMut};
-use mar_codec::{Digest, EncodeSize, Error, FixedSize, Kind, Read, Reason, Write, read_array};
+use crate::{Digest, EncodeSize, Error, FixedSize, Kind, Read, Reason, Write, read_array};
 use std::alloc::{AllocError, Global};
 use std::num::NonZeroU16;
 

@@ -3,15 +3,15 @@ ghost use Rattle.std.specs.Prelude.{IfErr, IfOk, Some, false, length, refl, repl
 ghost use Rattle.std.specs.Int.NonZero.{non_zero_u16_get};
 ghost use Rattle.std.proofs.Common.{lit<};
 ghost use Rattle.hex.specs.Hex.{encode_lower};
-ghost use Rattle.mar_codec.specs.Digest.{IsBytes, IsBytes-prop};
-ghost use Rattle.mar_codec.specs.DigestLemmas.{same_proof};
+ghost use Rattle.mar_types.specs.Digest.{IsBytes, IsBytes-prop};
+ghost use Rattle.mar_types.specs.DigestLemmas.{same_proof};
 ghost use Rattle.mar_types.specs.Coding.{DrawsCommitment, JoinsParts, RefusesCommitment, RefusesParts, SpellsCommitment, SpellsField, commitment_bytes, config_bytes};
 ghost use Rattle.mar_types.specs.CodingLemmas.{commitment_unambiguous};
 
 use crate::coding::{CodingConfig, CodingScheme};
 use crate::fields::{FieldDigest, field, field_bytes, put_field, read_field};
 use bytes::{Buf, BufMut};
-use mar_codec::{
+use crate::{
     Array, Digest, Digestible, EncodeSize, Error, FixedSize, Hasher, Named, Read, Reason, Span,
     Words, Write, read_array, write_hex,
 };

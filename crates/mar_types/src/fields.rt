@@ -3,7 +3,7 @@ ghost use Rattle.std.specs.Prelude.{◌≡◌, ◌≤◌, IfErr, IfOk, length, t
 ghost use Rattle.std.proofs.Common.{lit≤};
 ghost use Rattle.mar_types.specs.Coding.{RefusesField, SpellsField, is_zero, padded};
 
-use mar_codec::{Digest, Error, Kind, Reason, Sha256Digest};
+use crate::{Digest, Error, Kind, Reason, Sha256Digest};
 use std::alloc::Global;
 
 /// A digest of at most 32 bytes, as one that a commitment is made of.

@@ -2,7 +2,7 @@
 ghost use Rattle.std.specs.Prelude.{◌≡◌, ◌&&◌, ◌==◌, ℕ};
 ghost use Rattle.std.specs.Int.NonZero.{non_zero_u16_get};
 ghost use Rattle.std.specs.Ordering.{nat_cmp, ordering_then};
-ghost use Rattle.mar_codec.specs.Equal.{TellsApart};
+ghost use Rattle.mar_types.specs.Equal.{TellsApart};
 ghost use Rattle.mar_types.specs.Round.{Round as PlainRound, round_eq};
 
 use crate::coding::CodingConfig;

@@ -3,9 +3,8 @@ use crate::blocks::*;
 use crate::tell::*;
 use mar_block::mocks::ready;
 use mar_block::*;
-use mar_codec::{Digest, Digested, Digestible, Participant, Sha256Digest};
 use mar_key::Subscription;
-use mar_types::{Height, Round};
+use mar_types::{Digest, Digested, Digestible, Height, Participant, Round, Sha256Digest};
 use std::alloc::Global;
 use std::process::Abort;
 

@@ -1,8 +1,7 @@
 //! Certificates and what they are over: what tells them apart, copies of them, and their laws.
 use crate::tell::*;
 use mar_cert::*;
-use mar_codec::{Decode, Encode, EncodeSize, Error, Sha256Digest};
-use mar_types::{Epoch, Round, View};
+use mar_types::{Decode, Encode, EncodeSize, Epoch, Error, Round, Sha256Digest, View};
 use std::alloc::{AllocError, Global};
 use std::process::Abort;
 

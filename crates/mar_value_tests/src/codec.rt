@@ -1,9 +1,9 @@
-//! What no clause says of mar_codec: vectors from outside, and that each call can succeed.
+//! What no clause says of mar_types: vectors from outside, and that each call can succeed.
 ghost use Rattle.std.specs.Prelude.{◌≡◌, ◌≤◌, IfErr, IfOk};
 
 use crate::tell::*;
 use bytes::{Buf, BufMut, BytesMut};
-use mar_codec::*;
+use mar_types::*;
 use std::alloc::Global;
 use std::cell::Cell;
 use std::convert::AsSlice;

@@ -1,8 +1,7 @@
 //! Keys: their order, what is printed of them, and the laws that callers rest on.
 use crate::tell::*;
-use mar_codec::{MaxEncodeSize, Sha256Digest};
 use mar_key::{Key, digest_keys, key_laws, open_key_laws, same_key};
-use mar_types::Height;
+use mar_types::{Height, MaxEncodeSize, Sha256Digest};
 use std::process::Abort;
 
 const fn finalized<D>(height: u64) -> Key<D> {

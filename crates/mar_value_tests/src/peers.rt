@@ -5,9 +5,8 @@ ghost use Rattle.mar_key.specs.Views.{annotation_of, key_of};
 
 use crate::tell::*;
 use bytes::Bytes;
-use mar_codec::{Digest, Sha256Digest};
 use mar_key::{Annotation, Consumer, Delivery, Finalized, Key, Producer};
-use mar_types::Height;
+use mar_types::{Digest, Height, Sha256Digest};
 use std::alloc::AllocError;
 
 // Counts what it is handed, and takes one request.

@@ -1,11 +1,10 @@
 //! Scripts of what a recorder is asked, and what it then tells.
 use crate::tell::*;
-use mar_codec::{Digest, Sha256Digest};
 use mar_key::{
     Ask, Cutoff, Fetch, Judged, Key, OpenRequests, Outcome, Recorder, Request, Resolver, Retain,
     TargetedResolver,
 };
-use mar_types::{Epoch, Height};
+use mar_types::{Digest, Epoch, Height, Sha256Digest};
 use std::alloc::{AllocError, Global};
 use std::process::Abort;
 use std::slice;

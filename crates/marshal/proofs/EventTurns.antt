@@ -1,7 +1,7 @@
 -- What the actor's promise makes of one event, where it tells all that was told and asked.
 use Rattle.std.proofs.Common.{Err, List, Ok, Option, Some, [], ap, refl, subst, sym, ◌+◌, ◌++◌, ◌∙◌, ◌∷◌, ◌≡◌}
 use Rattle.std.specs.Prelude.{Result}
-use Rattle.mar_codec.specs.declared.Sha256Digest.{Sha256Digest}
+use Rattle.mar_types.specs.declared.Sha256Digest.{Sha256Digest}
 use Rattle.mar_types.specs.Epochs.{fixed_epochs}
 use Rattle.mar_block.specs.Sent.{Held}
 use Rattle.mar_key.specs.Hears.{Hears}

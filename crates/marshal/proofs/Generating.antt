@@ -12,7 +12,7 @@ use Rattle.mar_node.specs.Chain.{Chain}
 use Rattle.mar_node.specs.Config.{Config}
 use Rattle.mar_script.specs.Streams.{Takes}
 use Rattle.mar_script.proofs.Streams.{takes_none}
-use Rattle.mar_codec.specs.Varint.{IsNumber}
+use Rattle.mar_types.specs.Varint.{IsNumber}
 use Rattle.std.specs.declared.alloc.Global.{Global}
 use Rattle.mar_script.specs.Lines.{plain_line}
 use Rattle.mar_script.specs.Accounts.{AccountsFor, first_account, luck_after}

@@ -3,7 +3,7 @@ use Rattle.std.proofs.Common.{Bool, IsTrue, List, None, Option, Some, [], arith,
 use Rattle.std.specs.List.{AllByRecursion}
 use Rattle.mar_cert.specs.Block.{Block}
 use Rattle.mar_cert.specs.Finalization.{Finalization}
-use Rattle.mar_codec.specs.declared.Sha256Digest.{Sha256Digest}
+use Rattle.mar_types.specs.declared.Sha256Digest.{Sha256Digest}
 use Rattle.mar_inbox.specs.Views.{query_of}
 use Rattle.mar_inbox.specs.declared.Query.{Query}
 use Rattle.mar_inbox.specs.declared.Query.TheVariants as query

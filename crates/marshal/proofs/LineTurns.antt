@@ -1,7 +1,7 @@
 -- What the program's steps make of a line while a life runs.
 use Rattle.std.proofs.Common.{Bool, IsTrue, List, None, Option, Some, [], ap, append-nil, false, if◌then◌else◌, option_map, refl, subst, sym, true, ℕ, ◌*◌, ◌++◌, ◌+◌, ◌∙◌, ◌∷◌, ◌||◌, ◌≡◌, ◌≤◌}
 use Rattle.std.specs.List.{list_any}
-use Rattle.mar_codec.specs.declared.Sha256Digest.{Sha256Digest}
+use Rattle.mar_types.specs.declared.Sha256Digest.{Sha256Digest}
 use Rattle.mar_cert.specs.Block.{Block}
 use Rattle.mar_cert.specs.Finalization.{Finalization}
 use Rattle.mar_node.specs.Messages.{report_finalization}

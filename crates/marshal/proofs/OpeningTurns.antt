@@ -1,7 +1,7 @@
 -- What the program's openings make of a line where no life runs.
 use Rattle.std.proofs.Common.{Contains, List, None, [], ap, arith, inl, inr, option_map, refl, subst, sym, ℕ, ◌++◌, ◌∷◌, ◌≡◌, ◌⊎◌}
 use Rattle.std.proofs.lemmas.List.Elements.{Contains-append_cases, Contains-append_left, Contains-append_right}
-use Rattle.mar_codec.specs.declared.Sha256Digest.{Sha256Digest}
+use Rattle.mar_types.specs.declared.Sha256Digest.{Sha256Digest}
 use Rattle.mar_cert.specs.Block.{Block}
 use Rattle.mar_key.specs.Processed.{height_in}
 use Rattle.mar_node.specs.Metadata.{Pair, pair_of}

@@ -1,7 +1,7 @@
 -- A line that asks what stands: its event is told under the next answer ticket, and answered at once.
 use Rattle.std.proofs.Common.{List, None, Some, [], ap, arith, false, if◌then◌else◌, not, refl, subst, sym, ℕ, ◌+◌, ◌-◌, ◌<◌, ◌^◌, ◌∙◌, ◌∷◌, ◌≡◌, ◌≤◌, ◌||◌}
 use Rattle.std.proofs.lemmas.Bool.{eq-eqb}
-use Rattle.mar_codec.specs.declared.Sha256Digest.{Sha256Digest}
+use Rattle.mar_types.specs.declared.Sha256Digest.{Sha256Digest}
 use Rattle.mar_block.specs.Sent.{Held}
 use Rattle.mar_inbox.specs.Policy.{drops_closed}
 use Rattle.mar_inbox.specs.Views.{query_of}

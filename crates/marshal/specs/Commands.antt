@@ -1,6 +1,6 @@
 -- What the words of the command line ask for.
 use Rattle.std.specs.Prelude.{List, [], codes, decimal, ℕ, ◌∷◌, ◌≡◌, ◌≤◌, ◌⊎◌}
-use Rattle.mar_codec.specs.Varint.{IsNumber}
+use Rattle.mar_types.specs.Varint.{IsNumber}
 use Rattle.marshal.specs.declared.command.Command.{Command}
 use Rattle.marshal.specs.declared.command.Command.TheVariants as command
 

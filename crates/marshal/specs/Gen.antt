@@ -2,7 +2,7 @@
 -- lines are, and the line that sums it up.
 use Rattle.std.specs.List.{AllByRecursion, count_by, flat_map}
 use Rattle.std.specs.Prelude.{List, None, Option, Some, [], drop, length, map, min, ℕ, ◌++◌, ◌+◌, ◌-◌, ◌<◌, ◌^◌, ◌∷◌, ◌≡◌, ◌≤◌, ◌⊎◌}
-use Rattle.mar_codec.specs.Varint.{IsNumber}
+use Rattle.mar_types.specs.Varint.{IsNumber}
 use Rattle.mar_node.specs.Faults.{from_genesis}
 use Rattle.mar_node.specs.Held.{Remains}
 use Rattle.mar_node.specs.Lives.{IsGoodEnded}

@@ -1,7 +1,7 @@
 -- What one line of a script writes of, by what the program keeps of it.
 use Rattle.std.specs.Prelude.{List, None, Option, Some, [], map, ℕ}
-use Rattle.mar_codec.specs.declared.Sha256.{Sha256}
-use Rattle.mar_codec.specs.declared.Sha256Digest.{Sha256Digest}
+use Rattle.mar_types.specs.declared.Sha256.{Sha256}
+use Rattle.mar_types.specs.declared.Sha256Digest.{Sha256Digest}
 use Rattle.mar_block.specs.declared.EmptyBlock.{EmptyBlock}
 use Rattle.mar_inbox.specs.Answers.{told}
 use Rattle.mar_inbox.specs.Views.{value_of}

@@ -1,7 +1,7 @@
 //! The large run: a script that is made line by line, each line done as `replay` does it.
 ghost use Rattle.std.specs.Prelude.{◌≡◌, ◌≤◌, ℕ, IfOk, List, None, Some, []};
 ghost use Rattle.std.specs.List.{count_by};
-ghost use Rattle.mar_codec.specs.Causes.{Rose};
+ghost use Rattle.mar_types.specs.Causes.{Rose};
 ghost use Rattle.mar_key.specs.Asked.{Asked};
 ghost use Rattle.mar_gen.specs.Output.{IsOwed, blocks_in, node_words, processed_in, summary as summary_of};
 ghost use Rattle.mar_gen.specs.Plan.{IsStepWithin, is_open, plan};
@@ -20,7 +20,7 @@ use crate::replay::{Finished, left_of, turn, write_turn};
 use crate::turn::Page;
 use mar_block::StandardBlocks;
 use mar_cert::MockFinalization;
-use mar_codec::Digestible;
+use mar_types::Digestible;
 use mar_gen::{Made, Owed, Planned, finalization, read_text, summary};
 use mar_script::{Line, MAX_LINES, Settings, Sink, Status, write_text};
 use mar_shelf::Holds;

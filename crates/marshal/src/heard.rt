@@ -7,7 +7,7 @@ ghost use Rattle.marshal.specs.Turn.{made_in, plain_report};
 use mar_actor::{Reporter, Update};
 use mar_block::{EmptyBlock, StandardBlocks};
 use mar_cert::MockFinalization;
-use mar_codec::{Digested, Sha256, Sha256Digest};
+use mar_types::{Digested, Sha256, Sha256Digest};
 use mar_inbox::{AnswerTable, Value};
 use mar_key::Recorder;
 use std::alloc::{AllocError, Global};

@@ -1,6 +1,6 @@
 //! What the program says of itself.
 ghost use Rattle.std.specs.Prelude.{◌≡◌, ◌∷◌, ◌↔◌, ◌⊎◌, [], IsSome, codes, map, string_bytes};
-ghost use Rattle.mar_codec.specs.Causes.{Rose};
+ghost use Rattle.mar_types.specs.Causes.{Rose};
 ghost use Rattle.mar_script.specs.Endings.{IsWritersEnd};
 ghost use Rattle.mar_script.specs.Streams.{Takes, TakesFront};
 

@@ -1,6 +1,6 @@
 //! Replays a script over the stores of a node.
 ghost use Rattle.std.specs.Prelude.{◌≡◌, ◌+◌, ◌++◌, ◌<◌, ℕ, List, Option, Some, [], false, IfErr, IsErrOf, OnOk};
-ghost use Rattle.mar_codec.specs.Causes.{Rose};
+ghost use Rattle.mar_types.specs.Causes.{Rose};
 ghost use Rattle.mar_key.specs.Asked.{Asked};
 ghost use Rattle.mar_node.specs.Held.{Remains};
 ghost use Rattle.mar_script.specs.Endings.{IsWritersEnd};

@@ -1,6 +1,6 @@
 //! What the words of the command line ask for.
 ghost use Rattle.std.specs.Prelude.{◌≡◌, ℕ, List, Some, [], map, string_bytes};
-ghost use Rattle.mar_codec.specs.Causes.{Rose};
+ghost use Rattle.mar_types.specs.Causes.{Rose};
 ghost use Rattle.mar_script.specs.Reading.{EndsByLine, IsFirstOutside, Reads, ReplaysWhereTold};
 ghost use Rattle.mar_script.specs.Run.{IsShownAs};
 ghost use Rattle.mar_script.specs.declared.Why.{Why};

@@ -10,7 +10,7 @@ use crate::play::{Outcome, State};
 use mar_actor::Update;
 use mar_block::{EmptyBlock, StandardBlocks, Variant};
 use mar_cert::MockFinalization;
-use mar_codec::{Digested, Sha256, Sha256Digest};
+use mar_types::{Digested, Sha256, Sha256Digest};
 use mar_script::{
     RangeTexts, push_answers, push_asks, push_block, push_ended, push_fault, push_node,
     push_remark, push_tip,

@@ -4,8 +4,7 @@ ghost use Rattle.mar_types.specs.Round.{round_lt};
 
 use crate::tell::*;
 use bytes::{BufMut, BytesMut};
-use mar_codec::{EncodeSize, Error, Read, ReadExt, Span, Write};
-use mar_types::{Epoch, Epochable, Height, Round, View, Viewable};
+use mar_types::{EncodeSize, Epoch, Epochable, Error, Height, Read, ReadExt, Round, Span, View, Viewable, Write};
 use std::alloc::{AllocError, Global};
 use std::process::Abort;
 

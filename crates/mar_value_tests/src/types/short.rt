@@ -2,14 +2,11 @@
 ghost use Rattle.std.specs.Prelude.{Some, false, length, refl, slice_index, ◌<◌, ◌≡◌};
 ghost use Rattle.hex.specs.Hex.{encode_lower};
 ghost use Rattle.std.proofs.Common.{lit<, lit≤};
-ghost use Rattle.mar_codec.specs.Digest.{IsBytes, IsBytes-prop};
-ghost use Rattle.mar_codec.specs.DigestLemmas.{bytes_unambiguous, same_proof};
+ghost use Rattle.mar_types.specs.Digest.{IsBytes, IsBytes-prop};
+ghost use Rattle.mar_types.specs.DigestLemmas.{bytes_unambiguous, same_proof};
 
 use bytes::{Buf, BufMut};
-use mar_codec::{
-    Digest, EncodeSize, Error, FixedSize, Named, Read, Words, Write, read_array, write_hex,
-};
-use mar_types::FieldDigest;
+use mar_types::{Digest, EncodeSize, Error, FieldDigest, FixedSize, Named, Read, Words, Write, read_array, write_hex};
 use std::alloc::{AllocError, Global};
 use std::convert::AsSlice;
 use std::fmt;

@@ -1,6 +1,6 @@
 use Rattle.std.proofs.Common.{append_assoc, ap, arith, sym, [], ◌%◌, ◌+◌, ◌++◌, ◌/◌, ◌∙◌, ◌∷◌}
-use Rattle.mar_codec.specs.Varint.{varint}
-use Rattle.mar_codec.specs.VarintLemmas.{varint-large, varint-small}
+use Rattle.mar_types.specs.Varint.{varint}
+use Rattle.mar_types.specs.VarintLemmas.{varint-large, varint-small}
 use Rattle.mar_cert.proofs.mock_tags.hash_number.Goals as goal
 
 pub bytes-preserved : goal.bytes-preserved

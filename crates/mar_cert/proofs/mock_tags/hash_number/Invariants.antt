@@ -1,5 +1,5 @@
 use Rattle.std.proofs.Common.{List, ◌++◌, ◌≡◌, ℕ}
-use Rattle.mar_codec.specs.Varint.{IsNumber, varint}
+use Rattle.mar_types.specs.Varint.{IsNumber, varint}
 use Rattle.mar_cert.proofs.mock_tags.hash_number.Given as goal
 
 abbrev pub invariant-bytes : goal.invariant-bytes

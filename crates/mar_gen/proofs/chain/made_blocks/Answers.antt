@@ -1,8 +1,8 @@
 use Rattle.std.proofs.Common.{ap, map, rules, subst, sym, refl, ℕ, ◌++◌, ◌+◌, ◌/◌, ◌^◌, ◌∙◌, ◌∷◌, ◌≡◌, [], List}
 use Rattle.std.proofs.lemmas.List.{map-append}
 use Rattle.mar_block.specs.declared.EmptyBlock.{EmptyBlock}
-use Rattle.mar_codec.specs.declared.Sha256.{Sha256}
-use Rattle.mar_codec.specs.declared.Sha256Digest.{Sha256Digest}
+use Rattle.mar_types.specs.declared.Sha256.{Sha256}
+use Rattle.mar_types.specs.declared.Sha256Digest.{Sha256Digest}
 use Rattle.mar_gen.specs.Chain.{block_of, made_block, made_blocks, plain_block}
 use Rattle.mar_gen.specs.Draws.{next_state, state_after}
 use Rattle.mar_gen.proofs.FirstSteps.{block_first, block_next, blocks_first, blocks_next, state_first, state_next}

@@ -1,5 +1,5 @@
 use Rattle.std.proofs.Common.{ap, sym, ◌∙◌}
-use Rattle.mar_codec.specs.Digest.{IsDigest}
+use Rattle.mar_types.specs.Digest.{IsDigest}
 use Rattle.mar_block.specs.EmptyBlock.{SpellsBlock}
 use Rattle.mar_block.specs.EmptyBlockLemmas.{same_block, spelled_block}
 use Rattle.mar_script.specs.Script.{hex}

@@ -1,6 +1,6 @@
 use Rattle.std.proofs.Common.{List, decimal, map, take, ℕ, ◌≡◌}
 use Rattle.std.specs.List.{AllByRecursion}
-use Rattle.mar_codec.specs.Varint.{IsNumber}
+use Rattle.mar_types.specs.Varint.{IsNumber}
 use Rattle.mar_script.specs.Words.{words_of}
 use Rattle.mar_script.proofs.words.numbers.Given as goal
 

@@ -3,7 +3,7 @@ use Rattle.std.specs.Prelude.{bytes_eq, ◌==◌}
 use Rattle.mar_store.specs.Choices.{chosen, stays}
 use Rattle.std.specs.Ordering.{nat_cmp}
 use Rattle.std.specs.BTreeMap.{get}
-use Rattle.mar_codec.specs.Places.{first_place}
+use Rattle.mar_types.specs.Places.{first_place}
 use Rattle.mar_store.proofs.survey.places_of.Given as goal
 
 abbrev pub decreases-loop-place : goal.decreases-loop-place

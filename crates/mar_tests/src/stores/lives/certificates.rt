@@ -7,10 +7,9 @@ use super::{AtReopening, InLife, KEPT, Life, Nowhere, PRUNED, Row, are, lives_of
 use crate::stores::{Immutable, Prunable, immutable_store, prunable_store};
 use mar_block::{StandardBlocks, Variant};
 use mar_cert::{AsFinalization, CommitsTo, MockCertificate, MockFinalization, Proposal};
-use mar_codec::{EncodeSize, Hasher, Sha256};
 use mar_shelf::{CertificateItem, Certificates};
 use mar_store::Lost;
-use mar_types::{Height, Round, View};
+use mar_types::{EncodeSize, Hasher, Height, Round, Sha256, View};
 use std::alloc::Global;
 use std::process::Abort;
 

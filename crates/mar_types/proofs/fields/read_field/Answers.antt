@@ -1,5 +1,5 @@
 use Rattle.std.proofs.Common.{◌≡◌, ◌∙◌, inl, inr, refl, sym, length}
-use Rattle.mar_codec.specs.CodecLemmas.{no_whole}
+use Rattle.mar_types.specs.CodecLemmas.{no_whole}
 use Rattle.mar_types.proofs.FieldBytes.{clash, takes_whole}
 use Rattle.mar_types.proofs.fields.read_field.Goals as goal
 

@@ -1,7 +1,7 @@
 use Rattle.std.proofs.lemmas.Result.{err_from_is_err_and}
-use Rattle.mar_codec.specs.Codec.{Joined}
-use Rattle.mar_codec.specs.Varint.{IsVarint}
-use Rattle.mar_codec.specs.VarintLemmas.{varint_unambiguous}
+use Rattle.mar_types.specs.Codec.{Joined}
+use Rattle.mar_types.specs.Varint.{IsVarint}
+use Rattle.mar_types.specs.VarintLemmas.{varint_unambiguous}
 use Rattle.mar_cert.proofs.PartsRead.{first_err, second_err}
 use Rattle.mar_block.proofs.BlockSteps.{block_taken}
 use Rattle.mar_block.proofs.empty_block.EmptyBlockRead.read_cfg.Goals as goal

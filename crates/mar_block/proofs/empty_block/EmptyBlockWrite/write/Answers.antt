@@ -1,6 +1,6 @@
 use Rattle.std.proofs.Common.{append_assoc, ◌++◌}
 use Rattle.std.proofs.lemmas.Result.{err_from_is_err_and}
-use Rattle.mar_codec.specs.Varint.{varint}
+use Rattle.mar_types.specs.Varint.{varint}
 use Rattle.mar_cert.proofs.PartsWritten.{goes_on, last_err, starts_with, stops}
 use Rattle.mar_block.proofs.empty_block.EmptyBlockWrite.write.Goals as goal
 

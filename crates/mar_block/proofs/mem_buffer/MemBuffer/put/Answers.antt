@@ -1,7 +1,7 @@
 use Rattle.std.proofs.Common.{ap, length, map, sym, ◌++◌, ◌∙◌, ◌∷◌, ◌≡◌, []}
 use Rattle.std.proofs.lemmas.List.{length-map, map_push}
 use Rattle.std.specs.Prelude.{bytes_eq}
-use Rattle.mar_codec.specs.PlacesLemmas.{noted}
+use Rattle.mar_types.specs.PlacesLemmas.{noted}
 use Rattle.mar_block.proofs.mem_buffer.MemBuffer.put.Goals as goal
 
 pub invariant_of-self-2 : goal.invariant_of-self-2

@@ -1,6 +1,6 @@
 use Rattle.std.proofs.Common.{map, ◌∙◌}
 use Rattle.std.specs.Prelude.{bytes_eq}
-use Rattle.mar_codec.specs.PlacesLemmas.{find_at}
+use Rattle.mar_types.specs.PlacesLemmas.{find_at}
 use Rattle.mar_block.proofs.mem_buffer.MemBufferBuffer.find_by_digest.Goals as goal
 
 pub returns : goal.returns

@@ -1,5 +1,5 @@
 use Rattle.std.proofs.Common.{arith}
-use Rattle.mar_codec.specs.VarintLemmas.{length-varint}
+use Rattle.mar_types.specs.VarintLemmas.{length-varint}
 use Rattle.mar_block.proofs.mocks.BlockEncodeSize.encode_size.Goals as goal
 
 pub overflow_add-numbers : goal.overflow_add-numbers

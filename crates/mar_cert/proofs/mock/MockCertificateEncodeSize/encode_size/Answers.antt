@@ -1,7 +1,7 @@
 use Rattle.std.proofs.Common.{ap, arith, drop, length, length-append, rules, ◌+◌, ◌≡◌}
 use Rattle.std.specs.List.{flat_map}
-use Rattle.mar_codec.specs.Varint.{varint}
-use Rattle.mar_codec.specs.VarintLemmas.{length-varint}
+use Rattle.mar_types.specs.Varint.{varint}
+use Rattle.mar_types.specs.VarintLemmas.{length-varint}
 use Rattle.mar_cert.specs.MockScheme.{signer_bytes}
 use Rattle.mar_cert.specs.MockViews.{plain_signer}
 use Rattle.mar_cert.specs.declared.signer.Signer.{Signer}

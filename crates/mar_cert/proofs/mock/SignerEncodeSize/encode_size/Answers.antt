@@ -1,5 +1,5 @@
 use Rattle.std.proofs.Common.{arith}
-use Rattle.mar_codec.specs.VarintLemmas.{length-varint}
+use Rattle.mar_types.specs.VarintLemmas.{length-varint}
 use Rattle.mar_cert.proofs.mock.SignerEncodeSize.encode_size.Goals as goal
 
 pub overflow_add-result : goal.overflow_add-result

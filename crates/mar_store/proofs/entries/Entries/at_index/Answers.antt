@@ -1,6 +1,6 @@
 use Rattle.std.proofs.Common.{◌∙◌, sym, ap}
 use Rattle.std.specs.Prelude.{option_map, ◌==◌}
-use Rattle.mar_codec.specs.PlacesLemmas.{find_at}
+use Rattle.mar_types.specs.PlacesLemmas.{find_at}
 use Rattle.mar_store.proofs.Stores.{value_there}
 use Rattle.mar_store.proofs.entries.Entries.at_index.Goals as goal
 

@@ -1,6 +1,6 @@
 use Rattle.std.proofs.Common.{◌∙◌, refl}
 use Rattle.std.specs.Prelude.{bytes_eq, ◌==◌}
-use Rattle.mar_codec.specs.PlacesLemmas.{any_at, first_or, second_or}
+use Rattle.mar_types.specs.PlacesLemmas.{any_at, first_or, second_or}
 use Rattle.mar_store.proofs.Stores.{taken_there}
 use Rattle.mar_store.proofs.entries.Entries.holds.Goals as goal
 

@@ -1,6 +1,6 @@
 use Rattle.std.proofs.Common.{◌∙◌, sym, ap}
 use Rattle.std.specs.Prelude.{bytes_eq, option_map}
-use Rattle.mar_codec.specs.PlacesLemmas.{find_at}
+use Rattle.mar_types.specs.PlacesLemmas.{find_at}
 use Rattle.mar_store.proofs.Stores.{name_there}
 use Rattle.mar_store.proofs.entries.Entries.of_key.Goals as goal
 

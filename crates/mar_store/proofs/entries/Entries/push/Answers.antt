@@ -1,6 +1,6 @@
 use Rattle.std.proofs.Common.{ap, arith, refl}
 use Rattle.std.specs.Prelude.{bytes_eq, ◌==◌}
-use Rattle.mar_codec.specs.PlacesLemmas.{noted}
+use Rattle.mar_types.specs.PlacesLemmas.{noted}
 use Rattle.mar_store.proofs.entries.Entries.push.Goals as goal
 
 pub invariant_of-result : goal.invariant_of-result

@@ -1,5 +1,5 @@
 use Rattle.std.proofs.lemmas.Result.{on_err_weaker}
-use Rattle.mar_codec.specs.CodecLemmas.{joined_appends_first, joined_appends_second}
+use Rattle.mar_types.specs.CodecLemmas.{joined_appends_first, joined_appends_second}
 use Rattle.mar_types.proofs.Joins.{on_err}
 use Rattle.mar_types.proofs.codecs.RoundWrite.write.Goals as goal
 

@@ -1,5 +1,5 @@
 use Rattle.std.proofs.Common.{arith}
-use Rattle.mar_codec.specs.VarintLemmas.{length-varint}
+use Rattle.mar_types.specs.VarintLemmas.{length-varint}
 use Rattle.mar_types.proofs.codecs.ViewEncodeSize.encode_size.Goals as goal
 
 pub encode_size-requires : goal.encode_size-requires

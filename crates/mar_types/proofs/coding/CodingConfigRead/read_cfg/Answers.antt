@@ -1,4 +1,4 @@
-use Rattle.mar_codec.specs.CodecLemmas.{joined_takes}
+use Rattle.mar_types.specs.CodecLemmas.{joined_takes}
 use Rattle.mar_types.proofs.coding.CodingConfigRead.read_cfg.Goals as goal
 
 pub returns-clause-ok : goal.returns-clause-ok

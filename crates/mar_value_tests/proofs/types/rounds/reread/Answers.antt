@@ -1,7 +1,7 @@
 use Rattle.std.proofs.Common.{Err, List, Ok, Result, ap, ◌++◌, ◌∷◌, ◌∙◌, ◌≡◌, ℕ, []}
 use Rattle.std.specs.Prelude.{IfOk, MatchResult}
-use Rattle.mar_codec.specs.declared.Error.{Error}
-use Rattle.mar_codec.specs.declared.Error.TheVariants.{Memory}
+use Rattle.mar_types.specs.declared.Error.{Error}
+use Rattle.mar_types.specs.declared.Error.TheVariants.{Memory}
 use Rattle.mar_value_tests.proofs.types.rounds.reread.Goals as goal
 
 -- a value that is spelled as this one is this one

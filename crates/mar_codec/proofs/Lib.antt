@@ -1,2 +1,0 @@
-pub mod VarintSteps
-pub mod Rereads
