@@ -23,11 +23,12 @@ use Rattle.mar_node.specs.Pool.{Pool, Pooled, pool_deferred, pool_finished, pool
 use Rattle.mar_node.specs.Stored.{at_own_height}
 use Rattle.mar_node.specs.Staged.{Staged, has_place, kept_from, staged_at, without_height}
 use Rattle.mar_node.proofs.Pools.{position_found}
-use Rattle.mar_node.specs.Held.{Held}
+use Rattle.mar_node.specs.Held.{Held, MakesSure}
+use Rattle.mar_node.proofs.Growing.{MakesSure-finished}
 use Rattle.mar_node.specs.Writing.{IsLastWrite, IsOrdered, Writing, position_of, total_writes}
 use Rattle.mar_node.specs.declared.Place.{Place}
 use Rattle.mar_node.specs.declared.Place.TheVariants.{Away, Lost, Open}
-use Rattle.mar_shelf.specs.Pooling.{AreHeld, ArePooled, AwaitsSyncs, CertsPooled, staged_where, writes_behind}
+use Rattle.mar_shelf.specs.Pooling.{AreHeld, ArePooled, AwaitsSyncs, CertsPooled, is_taken_in, staged_where, writes_behind}
 
 -- LISTS
 
@@ -268,6 +269,16 @@ put_there true old h v new puts free has = absurd (both (has_height old.held h) 
     both false free has = absurd cc
 put_there false old h v new puts free has = subst (λ xs. value_at xs h ≡ Some v) (sym puts.held) (value_at-append old.held (record { height = h; value = v } ∷ []) h ∙ (ap (λ o. option_or o (value_at (record { height = h; value = v } ∷ []) h)) (missing-from_has_height old.held h free) ∙ value_at-one h v))
 
+-- what was taken in was free before and is held now
+free_before : (was now : Bool) → true ≡ (not was && now) → IsFalse was
+free_before true now is = absurd cc
+free_before false now is = refl
+
+taken_after : (was now : Bool) → true ≡ (not was && now) → IsTrue now
+taken_after true now is = absurd cc
+taken_after false true is = refl
+taken_after false false is = absurd cc
+
 module _ {B : Type 0} {plain : B → Block} {blocks : Kept (At Block)} {bn : ℕ} {bc : ℕ → List (At Block)} {pool : Pool} {staged : List (ℕ × B)} (pooled : ArePooled plain blocks bn bc pool staged) where
   -- a call that changed nothing but which tickets there are
   pub blocks_same : {new : Kept (At Block)} {number : ℕ} {covers : ℕ → List (At Block)} → new ≡ blocks → bn ≤ number → KeepsCovers bn bc covers → covers last_number ≡ new.held → ArePooled plain new number covers pool staged
@@ -281,26 +292,31 @@ module _ {B : Type 0} {plain : B → Block} {blocks : Kept (At Block)} {bn : ℕ
   blocks_read same numbered keeps last = blocks_same same (omega (arith, numbered)) keeps last
 
   -- a block is put, and its write waits
-  pub blocks_put : {ignored : Bool} {b : B} {new : Kept (At Block)} {number : ℕ} {covers : ℕ → List (At Block)} {later : Pool} {kept : Staged B} {was is_there : Bool} → (places : Staged B) → places.blocks ≡ staged → Puts ignored blocks (at_own_height (plain b)) new → bn ≤ number → KeepsCovers bn bc covers → covers last_number ≡ new.held → IsOrdered (writing_of pool) → later ≡ pool_deferred (plain b).height pool
-      → was ≡ has_height blocks.held (plain b).height → is_there ≡ has_height new.held (plain b).height → kept ≡ staged_where (not was && is_there) (plain b).height b places → ArePooled plain new number covers later kept.blocks
-  blocks_put {ignored = ignored} {b = b} {new = new} {number = number} {covers = covers} {later = later} {kept = kept} {was = was} {is_there = is_there} places of_places puts more keeps last ordered deferred before after is = subst (λ p. ArePooled plain new number covers p kept.blocks) (sym deferred) (record {
+  pub blocks_put : {ignored : Bool} {b : B} {new : Kept (At Block)} {number : ℕ} {covers : ℕ → List (At Block)} {later : Pool} → Puts ignored blocks (at_own_height (plain b)) new → bn ≤ number → KeepsCovers bn bc covers → covers last_number ≡ new.held → IsOrdered (writing_of pool) → later ≡ pool_deferred (plain b).height pool → ArePooled plain new number covers later staged
+  blocks_put {ignored = ignored} {b = b} {new = new} {number = number} {covers = covers} puts more keeps last ordered deferred = subst (λ p. ArePooled plain new number covers p staged) (sym deferred) (record {
     waits = AwaitsSyncs-put (λ p. p.blocks) blocks bn bc (pool_deferred (plain b).height pool) (AwaitsSyncs-deferred (λ p. p.blocks) blocks bn bc pool pooled.waits (plain b).height) ignored (plain b).height (plain b) new number covers (record { before = writing_of pool; ordered = ordered; is = refl }) puts more keeps last;
-    of_staged = subst (λ s. AreHeld plain new.held s.blocks) (sym is) (stage was is_there before after);
+    of_staged = AreHeld-kept plain blocks.held new.held staged (held_by_put ignored blocks _ new puts) pooled.of_staged;
   })
+
+  -- and staged where it was taken in
+  pub blocks_staged : {ignored : Bool} (b : B) (old : Kept (At Block)) (places : Staged B) {kept : Staged B} (taken : Bool) → Puts ignored old (at_own_height (plain b)) blocks → taken ≡ is_taken_in (plain b).height old blocks → places.blocks ≡ staged → kept ≡ staged_where taken (plain b).height b places → ArePooled plain blocks bn bc pool kept.blocks
+  blocks_staged {ignored = ignored} b old places taken puts taken_in of_places is = record {
+    waits = pooled.waits;
+    of_staged = subst (λ s. AreHeld plain blocks.held s.blocks) (sym is) (stage taken taken_in);
+  }
     where
-      old_staged : AreHeld plain new.held places.blocks
-      old_staged = subst (AreHeld plain new.held) (sym of_places) (AreHeld-kept plain blocks.held new.held staged (held_by_put ignored blocks _ new puts) pooled.of_staged)
+      old_staged : AreHeld plain blocks.held places.blocks
+      old_staged = subst (AreHeld plain blocks.held) (sym of_places) pooled.of_staged
 
-      stage : (w t : Bool) → w ≡ has_height blocks.held (plain b).height → t ≡ has_height new.held (plain b).height → AreHeld plain new.held (staged_where (not w && t) (plain b).height b places).blocks
-      stage true t before after = old_staged
-      stage false false before after = old_staged
-      stage false true before after = placed (has_place places (plain b).height)
+      there : true ≡ is_taken_in (plain b).height old blocks → value_at blocks.held (plain b).height ≡ Some (plain b)
+      there is_in = put_there ignored old (plain b).height (plain b) blocks puts (free_before (has_height old.held (plain b).height) (has_height blocks.held (plain b).height) is_in) (taken_after (has_height old.held (plain b).height) (has_height blocks.held (plain b).height) is_in)
+
+      stage : (t : Bool) → t ≡ is_taken_in (plain b).height old blocks → AreHeld plain blocks.held (staged_where t (plain b).height b places).blocks
+      stage false is_in = old_staged
+      stage true is_in = placed (has_place places (plain b).height)
         where
-          there : value_at new.held (plain b).height ≡ Some (plain b)
-          there = put_there ignored blocks (plain b).height (plain b) new puts (sym before) (sym after)
-
-          placed : (c : Bool) → AreHeld plain new.held (if c then record places { blocks = insert_entry nat_cmp places.blocks (plain b).height b } else places).blocks
-          placed true = AreHeld-inserted plain new.held (plain b).height b places.blocks there old_staged
+          placed : (c : Bool) → AreHeld plain blocks.held (if c then record places { blocks = insert_entry nat_cmp places.blocks (plain b).height b } else places).blocks
+          placed true = AreHeld-inserted plain blocks.held (plain b).height b places.blocks (there is_in) old_staged
           placed false = old_staged
 
   -- a block is put and synced
@@ -317,18 +333,18 @@ module _ {B : Type 0} {plain : B → Block} {blocks : Kept (At Block)} {bn : ℕ
     of_staged = now.of_staged;
   })
 
-  -- a sync has finished in the blocks alone
-  pub blocks_surer : {covered : List (At Block)} {new : Kept (At Block)} {number : ℕ} {covers : ℕ → List (At Block)} → Finishes covered blocks new → bn ≤ number → KeepsCovers bn bc covers → covers last_number ≡ new.held → ArePooled plain new number covers pool staged
-  blocks_surer {new = new} {number = number} {covers = covers} finishes more keeps last = record {
-    waits = AwaitsSyncs-surer (λ p. p.blocks) blocks bn bc pool pooled.waits new number covers finishes.held finishes.sure more keeps last;
-    of_staged = AreHeld-kept plain blocks.held new.held staged (λ h v is. subst (λ xs. value_at xs h ≡ Some v) (sym finishes.held) is) pooled.of_staged;
+  -- more is sure
+  pub blocks_surer : {new : Kept (At Block)} {number : ℕ} {covers : ℕ → List (At Block)} → MakesSure blocks new → bn ≤ number → KeepsCovers bn bc covers → covers last_number ≡ new.held → ArePooled plain new number covers pool staged
+  blocks_surer {new = new} {number = number} {covers = covers} surer more keeps last = record {
+    waits = AwaitsSyncs-surer (λ p. p.blocks) blocks bn bc pool pooled.waits new number covers surer.held surer.sure more keeps last;
+    of_staged = AreHeld-kept plain blocks.held new.held staged (λ h v is. subst (λ xs. value_at xs h ≡ Some v) (sym surer.held) is) pooled.of_staged;
   }
 
-  -- and in both archives
+  -- a sync has finished in the blocks, and then in the pool
   pub blocks_finished : (ticket : ℕ) {p : Pooled} {new : Kept (At Block)} {number : ℕ} {covers : ℕ → List (At Block)} {later : Pool} → Some p ≡ pooled_at pool.pooled ticket → Finishes (bc p.blocks) blocks new → bn ≤ number → KeepsCovers bn bc covers → covers last_number ≡ new.held → later ≡ pool_finished ticket pool → ArePooled plain new number covers later staged
   blocks_finished ticket {p = p} {new = new} {number = number} {covers = covers} found finishes more keeps last finished = subst (λ q. ArePooled plain new number covers q staged) (sym finished) (record {
     waits = AwaitsSyncs-finished (λ q. q.blocks) blocks bn bc pool pooled.waits ticket p new number covers (sym found) finishes more keeps last;
-    of_staged = (blocks_surer finishes more keeps last).of_staged;
+    of_staged = (blocks_surer (MakesSure-finished _ _ _ finishes) more keeps last).of_staged;
   })
 
   AreHeld-mid : (height : ℕ) (places : Staged B) {mid : Staged B} → places.blocks ≡ staged → mid ≡ kept_from height places → AreHeld plain blocks.held mid.blocks
@@ -351,6 +367,10 @@ module _ {certs : Kept (At Finalization)} {cn : ℕ} {cc : ℕ → List (At Fina
 
   pub certs_read : {new : Kept (At Finalization)} {number : ℕ} {covers : ℕ → List (At Finalization)} → new ≡ certs → number ≡ cn → KeepsCovers cn cc covers → covers last_number ≡ new.held → AwaitsSyncs (λ p. p.certs) new number covers pool
   certs_read same numbered keeps last = certs_same same (omega (arith, numbered)) keeps last
+
+  -- more is sure
+  pub certs_surer : {new : Kept (At Finalization)} {number : ℕ} {covers : ℕ → List (At Finalization)} → MakesSure certs new → cn ≤ number → KeepsCovers cn cc covers → covers last_number ≡ new.held → AwaitsSyncs (λ p. p.certs) new number covers pool
+  certs_surer {new = new} {number = number} {covers = covers} surer more keeps last = AwaitsSyncs-surer (λ p. p.certs) certs cn cc pool waits new number covers surer.held surer.sure more keeps last
 
   -- a finalization is put with the last write
   pub certs_put : {ignored : Bool} {height : ℕ} {value : Finalization} {new : Kept (At Finalization)} {number : ℕ} {covers : ℕ → List (At Finalization)} → IsLastWrite height (writing_of pool) → Puts ignored certs (record { height = height; value = value }) new → cn ≤ number → KeepsCovers cn cc covers → covers last_number ≡ new.held → AwaitsSyncs (λ p. p.certs) new number covers pool

@@ -4,3 +4,4 @@ pub mod MissingHeights
 pub mod GapHeights
 pub mod Awaiting
 pub mod InPlace
+pub mod Placed

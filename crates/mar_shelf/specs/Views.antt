@@ -1,7 +1,9 @@
--- What a contract sees of faults, and of what is stored.
+-- What a contract sees of faults, of what is stored, and of the stores of a life.
 use Rattle.std.specs.Prelude.{ℕ, List}
 use Rattle.mar_cert.specs.Finalization.{Finalization}
 use Rattle.mar_store.specs.Kept.{At}
+use Rattle.mar_node.specs.Held.{Held}
+use Rattle.mar_node.specs.Staged.{Staged}
 use Rattle.mar_node.specs.Faults.{StoreName, block_store, cert_store, meta_store, cache_store, TicketKind, ack_kind, sync_kind, Fault, corrupt, dropped_ack, store_fault, genesis_height, genesis_mismatch, height_limit, ticket_limit, unbacked, want_of_memory}
 use Rattle.mar_shelf.specs.declared.fault.StoreName.{StoreName as StoreNameCode}
 use Rattle.mar_shelf.specs.declared.fault.StoreName.TheVariants as store
@@ -35,3 +37,8 @@ fault_of bytes fault.Memory = want_of_memory
 -- a finalization with the height at which it is stored
 abbrev pub entry_of : {F : Type 0} → (F → Finalization) → ℕ × F → At Finalization
 entry_of plain x = record { height = x.0; value = plain x.1 }
+
+-- The stores of a life, and the blocks that are staged until they are handed over.
+pub record Stock (B : Type 0) : Type 0 where
+  pub held : Held
+  pub staged : Staged B

@@ -17,6 +17,8 @@ ghost use Rattle.mar_node.specs.Pool.{writing_of};
 ghost use Rattle.mar_node.specs.Writing.{IsLastWrite, is_open_sync, with_finished, with_started, with_write};
 ghost use Rattle.mar_cert.specs.Finalization.{finalization_bytes};
 ghost use Rattle.mar_node.specs.Stored.{AreSmall, at_own_height, block_of, is_certified, is_held};
+ghost use Rattle.mar_node.specs.Staged.{Staged, kept_from, without_height};
+ghost use Rattle.mar_shelf.specs.Pooling.{is_taken_in, staged_where};
 ghost use Rattle.mar_shelf.specs.Views.{fault_of, store_name_of};
 
 use crate::fault::{Fault, StoreName};
@@ -71,6 +73,9 @@ pub trait Holds<V: Variant> {
     /// What they hold and may leave, and what each tells of its failures.
     ghost held: { Self → Held };
 
+    /// The blocks that are staged until they are handed over.
+    ghost staged: { Self → Staged V.Block };
+
     /// Opens what a crash left, in the order blocks, certificates, metadata, cache. At most `max_staged` blocks are kept at
     /// hand until they are handed over.
     fn reopen(
@@ -82,6 +87,7 @@ pub trait Holds<V: Variant> {
     where
         Self: Sized,
         ensures ok { IfOk result (λ s. ReopensAs (Self.Ruins.left ruins) luck (held s)) }
+        ensures staged { IfOk result (λ s. staged s ≡ record { blocks = []; min = 0; max = max_staged }) }
         ensures lost { IfErr result (LosesOpening (Self.Ruins.left ruins) nothing_written) }
         ensures usual { IfErr result (λ e. IsUsual e.fault) };
 
@@ -101,6 +107,7 @@ pub trait Holds<V: Variant> {
 
     /// Makes the counted call of a store fail that is so many calls away, 1 being the next. The cache counts none yet.
     fn arm(&mut self, store: StoreName, calls: u64) -> Result<(), AllocError>
+        ensures staged { staged self.new ≡ staged self.old }
         ensures armed { OnOk result (held self.new
             ≡ record (held self.old) { watches = with_armed (store_name_of store) calls (held self.old).watches }) }
         ensures unarmed { OnErr result (held self.new ≡ held self.old) };
@@ -113,12 +120,14 @@ pub trait Holds<V: Variant> {
 
     /// Takes note of a round: the last one witnessed is the later of it and the one before.
     fn witness(&mut self, round: Round)
-        ensures { held self.new ≡ record (held self.old) { witnessed = later_round (held self.old).witnessed (Some round) } };
+        ensures staged { staged self.new ≡ staged self.old }
+        ensures held { held self.new ≡ record (held self.old) { witnessed = later_round (held self.old).witnessed (Some round) } };
 
     /// The processed height, whose block isn't there.
     fn without_block(&mut self, height: Height)
         requires { (held self.old).processed ≡ Some (at_block height) }
-        ensures { held self.new ≡ record (held self.old) { processed = Some (at_absent height) } };
+        ensures staged { staged self.new ≡ staged self.old }
+        ensures held { held self.new ≡ record (held self.old) { processed = Some (at_absent height) } };
 
     /// The greatest height of a held block.
     fn last_block(&self) -> Option<Height>
@@ -151,6 +160,7 @@ pub trait Holds<V: Variant> {
     /// The block to hand over at a height: one that is staged, which is then no longer, or the one that is held. Blocks
     /// staged at or below that height are dropped.
     fn take_block(&mut self, height: Height) -> Result<Option<V::Block>, Fault<V::Commitment>>
+        ensures dropped { OnOk result (staged self.new ≡ without_height height (kept_from height (staged self.old))) }
         ensures found { IfOk result (λ r. option_map V.plain r ≡ value_at (held self.old).blocks.held height) }
         ensures own { IfOk result (λ r. IfSome r (λ b. (V.plain b).height ≡ height)) }
         ensures same { OnOk result (held self.new ≡ record (held self.old) { watches = (held self.new).watches }) }
@@ -160,6 +170,7 @@ pub trait Holds<V: Variant> {
 
     /// The block that is held at a height.
     fn block_at(&mut self, height: Height) -> Result<Option<V::Block>, Fault<V::Commitment>>
+        ensures staged { staged self.new ≡ staged self.old }
         ensures found { IfOk result (λ r. option_map V.plain r ≡ value_at (held self.old).blocks.held height) }
         ensures own { IfOk result (λ r. IfSome r (λ b. (V.plain b).height ≡ height)) }
         ensures same { OnOk result (held self.new ≡ record (held self.old) { watches = (held self.new).watches }) }
@@ -169,6 +180,7 @@ pub trait Holds<V: Variant> {
 
     /// A held block of this digest.
     fn block_of(&mut self, digest: &V::Digest) -> Result<Option<V::Block>, Fault<V::Commitment>>
+        ensures staged { staged self.new ≡ staged self.old }
         ensures found { IfOk result (λ r. option_map V.plain r ≡ block_of (held self.old).blocks.held (V.Digest.bytes digest.now)) }
         ensures same { OnOk result (held self.new ≡ record (held self.old) { watches = (held self.new).watches }) }
         ensures goes_on { GoesOn (fault_of V.Commitment.bytes) (held self.old) nothing_written (held self.new) result }
@@ -180,6 +192,7 @@ pub trait Holds<V: Variant> {
         &mut self,
         height: Height,
     ) -> Result<Option<Self::Finalization>, Fault<V::Commitment>>
+        ensures staged { staged self.new ≡ staged self.old }
         ensures found { IfOk result (λ r. option_map Self.Finalization.plain r ≡ value_at (held self.old).certs.held height) }
         ensures same { OnOk result (held self.new ≡ record (held self.old) { watches = (held self.new).watches }) }
         ensures goes_on { GoesOn (fault_of V.Commitment.bytes) (held self.old) nothing_written (held self.new) result }
@@ -188,6 +201,7 @@ pub trait Holds<V: Variant> {
 
     /// Whether a finalization is held at a height.
     fn has_certificate(&mut self, height: Height) -> Result<bool, Fault<V::Commitment>>
+        ensures staged { staged self.new ≡ staged self.old }
         ensures found { IfOk result (λ r. r ≡ has_height (held self.old).certs.held height) }
         ensures same { OnOk result (held self.new ≡ record (held self.old) { watches = (held self.new).watches }) }
         ensures goes_on { GoesOn (fault_of V.Commitment.bytes) (held self.old) nothing_written (held self.new) result }
@@ -195,9 +209,11 @@ pub trait Holds<V: Variant> {
         ensures usual { IfErr result (λ e. IsUsual (fault_of V.Commitment.bytes e)) };
 
     /// Stores a block above the processed height. The write waits for a sync, below which nothing is handed over, and the
-    /// block is staged where it was taken in.
+    /// block is staged where its height was free and it was taken in.
     fn put_block(&mut self, block: V::Block) -> Result<(), Fault<V::Commitment>>
         requires small { IsSmall (V.plain block).encoded }
+        ensures staged { OnOk result (staged self.new ≡ staged_where (is_taken_in (V.plain block).height (held self.old).blocks (held self.new).blocks)
+            (V.plain block).height block (staged self.old)) }
         ensures ok { OnOk result (Puts (is_held (held self.old).blocks.held (V.plain block)) (held self.old).blocks (at_own_height (V.plain block))
             (held self.new).blocks) }
         ensures same { OnOk result (held self.new ≡ record (held self.old) {
@@ -216,6 +232,7 @@ pub trait Holds<V: Variant> {
     ) -> Result<(), Fault<V::Commitment>>
         requires small { IsSmall (finalization_bytes (Self.Finalization.plain finalization.now)) }
         requires waits { IsLastWrite height (held self.old).writes }
+        ensures staged { staged self.new ≡ staged self.old }
         ensures ok { OnOk result (Puts (is_certified V.inner (held self.old).certs.held height (V.inner (Self.Finalization.plain finalization.now).payload))
             (held self.old).certs (at_height height (Self.Finalization.plain finalization.now)) (held self.new).certs) }
         ensures same { OnOk result (held self.new ≡ record (held self.old) { certs = (held self.new).certs; watches = (held self.new).watches }) }
@@ -227,6 +244,7 @@ pub trait Holds<V: Variant> {
     /// Stores a block and makes it durable at once.
     fn store_block(&mut self, block: &V::Block) -> Result<(), Fault<V::Commitment>>
         requires small { IsSmall (V.plain block.now).encoded }
+        ensures staged { staged self.new ≡ staged self.old }
         ensures ok { OnOk result (StoresValue (is_held (held self.old).blocks.held (V.plain block.now)) (held self.old).blocks
             (at_own_height (V.plain block.now)) (held self.new).blocks) }
         ensures same { OnOk result (held self.new ≡ record (held self.old) { blocks = (held self.new).blocks; watches = (held self.new).watches }) }
@@ -240,6 +258,7 @@ pub trait Holds<V: Variant> {
         finalization: &Self::Finalization,
     ) -> Result<(), Fault<V::Commitment>>
         requires small { IsSmall (finalization_bytes (Self.Finalization.plain finalization.now)) }
+        ensures staged { staged self.new ≡ staged self.old }
         ensures ok { OnOk result (StoresValue (is_certified V.inner (held self.old).certs.held height
             (V.inner (Self.Finalization.plain finalization.now).payload)) (held self.old).certs
             (at_height height (Self.Finalization.plain finalization.now)) (held self.new).certs) }
@@ -252,6 +271,7 @@ pub trait Holds<V: Variant> {
     /// Starts a sync of the blocks and the finalizations that covers all writes, under the next ticket. Where none is left
     /// the life ends.
     fn start_sync(&mut self) -> Result<(), Fault<V::Commitment>>
+        ensures staged { staged self.new ≡ staged self.old }
         ensures ok { OnOk result (held self.new ≡ record (held self.old) { writes = with_started (held self.old).writes; watches = (held self.new).watches }) }
         ensures goes_on { GoesOn (fault_of V.Commitment.bytes) (held self.old) nothing_written (held self.new) result }
         ensures kind { IfErr result (λ e. IsArchiveFault (fault_of V.Commitment.bytes e)
@@ -260,6 +280,7 @@ pub trait Holds<V: Variant> {
     /// Finishes the sync of a ticket, which makes durable what was written before it was started, and says whether it was
     /// open. One that isn't changes nothing, and asks no store.
     fn finish_sync(&mut self, ticket: u64) -> Result<bool, Fault<V::Commitment>>
+        ensures staged { staged self.new ≡ staged self.old }
         ensures was_open { IfOk result (λ r. r ≡ is_open_sync (held self.old).writes.syncs ticket) }
         ensures closed { IfOk result (λ r. r ≡ false → held self.new ≡ held self.old) }
         ensures failed { IfErr result (λ e. is_open_sync (held self.old).writes.syncs ticket ≡ true) }
@@ -278,18 +299,21 @@ pub trait Holds<V: Variant> {
 
     /// The block at this height is processed, which becomes durable with the next sync of the metadata.
     fn set_processed(&mut self, height: Height) -> Result<(), Fault<V::Commitment>>
+        ensures staged { staged self.new ≡ staged self.old }
         ensures ok { OnOk result (held self.new ≡ record (held self.old) { processed = Some (at_block height); watches = (held self.new).watches }) }
         ensures goes_on { GoesOn (fault_of V.Commitment.bytes) (held self.old) nothing_written (held self.new) result }
         ensures usual { IfErr result (λ e. IsUsual (fault_of V.Commitment.bytes e)) };
 
     /// Sets the cutoff, which becomes durable with the next sync of the metadata.
     fn set_cutoff(&mut self, cutoff: &Cutoff) -> Result<(), Fault<V::Commitment>>
+        ensures staged { staged self.new ≡ staged self.old }
         ensures ok { OnOk result (held self.new ≡ record (held self.old) { cutoff = cutoff_of cutoff.now; watches = (held self.new).watches }) }
         ensures goes_on { GoesOn (fault_of V.Commitment.bytes) (held self.old) nothing_written (held self.new) result }
         ensures usual { IfErr result (λ e. IsUsual (fault_of V.Commitment.bytes e)) };
 
     /// Makes the processed height and the cutoff durable together.
     fn sync_metadata(&mut self) -> Result<(), Fault<V::Commitment>>
+        ensures staged { staged self.new ≡ staged self.old }
         ensures ok { OnOk result (held self.new ≡ record (held self.old) {
           pairs = pair_of (held self.old).processed (held self.old).cutoff
               ∷ [];

@@ -10,6 +10,7 @@ mod fault;
 mod gaps;
 mod holds;
 pub mod immutable;
+mod in_place;
 mod item;
 mod no_shelf;
 pub mod prunable;

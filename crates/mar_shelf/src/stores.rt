@@ -5,14 +5,13 @@ ghost use Rattle.mar_node.specs.Held.{ended_of, lost_fault, missed_fault};
 ghost use Rattle.mar_node.specs.Faults.{block_store, cache_store, cert_store, meta_store};
 ghost use Rattle.mar_node.specs.Metadata.{pair_at};
 ghost use Rattle.mar_node.specs.Places.{is_there, kept_at, watch_at};
-ghost use Rattle.mar_node.specs.Pool.{pool_deferred, writing_of};
 ghost use Rattle.mar_store.specs.Changes.{left_of};
-ghost use Rattle.mar_node.specs.Writing.{IsOrdered};
 ghost use Rattle.mar_shelf.specs.Pooling.{staged_where};
 ghost use Rattle.mar_shelf.specs.Views.{fault_of, store_name_of};
 
 use crate::fault::{Fault, StoreName, TicketKind};
 use crate::holds::{Ended, Holds};
+use crate::in_place::{self, lost_by};
 use crate::ruins::Ruins;
 use crate::{Blocks, BlocksRuin, Certificates, CertificatesRuin, Shelf};
 use mar_block::Variant;
@@ -26,8 +25,8 @@ use std::marker::{Model, PhantomData};
 
 /// The stores of a life: blocks, certificates, how far delivery has come, and the cache; with the writes of the first two
 /// that wait for a sync, and the blocks that are staged until they are handed over. A contract sees what each store holds
-/// and may leave, how often it has failed, and the writes; not what is staged, since each such block is held. Where a
-/// change of a store failed, what is left of it stands in its place, and later calls of it leave that and fail.
+/// and may leave, how often it has failed, the writes, and what is staged, each block of which is held. Where a change of
+/// a store failed, what is left of it stands in its place, and later calls of it leave that and fail.
 #[derive(Drop)]
 pub struct Stores<
     V: Variant,
@@ -54,29 +53,32 @@ impl<
     M: Meta,
     H: Shelf,
 > Model for Stores<V, F, FB, FC, M, H> {
-    ghost use Rattle.mar_node.specs.Held.{Held};
     ghost use Rattle.mar_node.specs.Pool.{writing_of};
     ghost use Rattle.mar_node.specs.Places.{is_open, kept_at, watch_at};
     ghost use Rattle.mar_shelf.specs.Pooling.{BlocksPooled, CertsPooled};
+    ghost use Rattle.mar_shelf.specs.Views.{Stock};
     ghost use Rattle.std.specs.Prelude.{◌&&◌};
 
-    ghost Value = { Held };
+    ghost Value = { Stock V.Block };
 
     ghost view = { λ s. record {
-      blocks = kept_at FB.stored FB.Wreck.left s.blocks;
-      certs = kept_at FC.stored FC.Wreck.left s.certs;
-      processed = s.progress.processed;
-      cutoff = s.progress.cutoff;
-      witnessed = s.progress.witnessed;
-      pairs = s.progress.pairs;
-      writes = writing_of s.writes;
-      watches = record {
-        blocks = watch_at FB.watch FB.Wreck.watch s.blocks;
-        certs = watch_at FC.watch FC.Wreck.watch s.certs;
-        meta = s.progress.watch;
-        cache = H.watch s.shelf;
+      held = record {
+        blocks = kept_at FB.stored FB.Wreck.left s.blocks;
+        certs = kept_at FC.stored FC.Wreck.left s.certs;
+        processed = s.progress.processed;
+        cutoff = s.progress.cutoff;
+        witnessed = s.progress.witnessed;
+        pairs = s.progress.pairs;
+        writes = writing_of s.writes;
+        watches = record {
+          blocks = watch_at FB.watch FB.Wreck.watch s.blocks;
+          certs = watch_at FC.watch FC.Wreck.watch s.certs;
+          meta = s.progress.watch;
+          cache = H.watch s.shelf;
+        };
+        intact = is_open s.blocks && (is_open s.certs && s.progress.intact);
       };
-      intact = is_open s.blocks && (is_open s.certs && s.progress.intact);
+      staged = s.staged;
     } };
 
     ghost invariant = { λ s. BlocksPooled V.plain FB.stored FB.number FB.covers s.blocks s.writes s.staged.blocks
@@ -95,7 +97,9 @@ impl<
 
     type Finalization = F;
 
-    ghost held = { λ s. s };
+    ghost held = { λ s. s.held };
+
+    ghost staged = { λ s. s.staged };
 
     fn reopen(
         alloc: Global,
@@ -296,31 +300,16 @@ impl<
     }
 
     fn put_block(&mut self, block: V::Block) -> Result<(), Fault<V::Commitment>> {
+        self.writes.law();
         let height = V::height(&block);
-        let Some(blocks) = self.blocks.take() else {
+        if let Err(_) = self.writes.defer(height) {
             return Err(Fault::Memory);
-        };
-        let was_held = blocks.holds(height);
-        match blocks.put(&V::digest(&block), &block) {
-            Ok(blocks) => {
-                let is_taken = !was_held & blocks.holds(height);
-                match defer(&mut self.writes, &mut self.staged, height, block, is_taken) {
-                    Ok(()) => {
-                        self.blocks = Place::Open(blocks);
-                        Ok(())
-                    }
-                    Err(_) => {
-                        self.blocks = Place::Lost(blocks.wreck());
-                        Err(Fault::Memory)
-                    }
-                }
-            }
-            Err(lost) => {
-                let (fault, wreck) = lost_by(lost, StoreName::Blocks);
-                self.blocks = Place::Lost(wreck);
-                Err(fault)
-            }
         }
+        let is_taken = in_place::put_block::<V, FB>(&mut self.blocks, &block)?;
+        if let Err(_) = stage(&mut self.staged, height, block, is_taken) {
+            return Err(Fault::Memory);
+        }
+        Ok(())
     }
 
     fn put_certificate(
@@ -328,46 +317,12 @@ impl<
         height: Height,
         finalization: &F,
     ) -> Result<(), Fault<V::Commitment>> {
-        let Some(certs) = self.certs.take() else {
-            return Err(Fault::Memory);
-        };
-        let digest = V::commitment_to_inner(finalization.payload());
-        match certs.put(height, &digest, finalization) {
-            Ok(certs) => {
-                self.certs = Place::Open(certs);
-                Ok(())
-            }
-            Err(lost) => {
-                let (fault, wreck) = lost_by(lost, StoreName::Certs);
-                self.certs = Place::Lost(wreck);
-                Err(fault)
-            }
-        }
+        in_place::put_certificate::<V, F, FC>(&mut self.certs, height, finalization)
     }
 
     fn store_block(&mut self, block: &V::Block) -> Result<(), Fault<V::Commitment>> {
-        let Some(blocks) = self.blocks.take() else {
-            return Err(Fault::Memory);
-        };
-        let blocks = match blocks.put(&V::digest(block), block) {
-            Ok(blocks) => blocks,
-            Err(lost) => {
-                let (fault, wreck) = lost_by(lost, StoreName::Blocks);
-                self.blocks = Place::Lost(wreck);
-                return Err(fault);
-            }
-        };
-        match blocks.sync() {
-            Ok(blocks) => {
-                self.blocks = Place::Open(blocks);
-                Ok(())
-            }
-            Err(lost) => {
-                let (fault, wreck) = lost_by(lost, StoreName::Blocks);
-                self.blocks = Place::Lost(wreck);
-                Err(fault)
-            }
-        }
+        in_place::put_block::<V, FB>(&mut self.blocks, block)?;
+        in_place::sync_blocks::<V, FB>(&mut self.blocks)
     }
 
     fn store_certificate(
@@ -375,69 +330,20 @@ impl<
         height: Height,
         finalization: &F,
     ) -> Result<(), Fault<V::Commitment>> {
-        let Some(certs) = self.certs.take() else {
-            return Err(Fault::Memory);
-        };
-        let digest = V::commitment_to_inner(finalization.payload());
-        let certs = match certs.put(height, &digest, finalization) {
-            Ok(certs) => certs,
-            Err(lost) => {
-                let (fault, wreck) = lost_by(lost, StoreName::Certs);
-                self.certs = Place::Lost(wreck);
-                return Err(fault);
-            }
-        };
-        match certs.sync() {
-            Ok(certs) => {
-                self.certs = Place::Open(certs);
-                Ok(())
-            }
-            Err(lost) => {
-                let (fault, wreck) = lost_by(lost, StoreName::Certs);
-                self.certs = Place::Lost(wreck);
-                Err(fault)
-            }
-        }
+        in_place::put_certificate::<V, F, FC>(&mut self.certs, height, finalization)?;
+        in_place::sync_certificates::<V, F, FC>(&mut self.certs)
     }
 
     fn start_sync(&mut self) -> Result<(), Fault<V::Commitment>> {
         if !self.writes.has_ticket() {
             return Err(Fault::TicketLimit(TicketKind::Sync));
         }
-        let Some(blocks) = self.blocks.take() else {
+        let blocks = in_place::start_blocks::<V, FB>(&mut self.blocks)?;
+        let certs = in_place::start_certificates::<V, F, FC>(&mut self.certs)?;
+        if let Err(_) = self.writes.start(blocks, certs) {
             return Err(Fault::Memory);
-        };
-        let blocks_ticket = match blocks.start_sync() {
-            Ok((blocks, ticket)) => {
-                self.blocks = Place::Open(blocks);
-                ticket
-            }
-            Err(lost) => {
-                let (fault, wreck) = lost_by(lost, StoreName::Blocks);
-                self.blocks = Place::Lost(wreck);
-                return Err(fault);
-            }
-        };
-        let Some(certs) = self.certs.take() else {
-            return Err(Fault::Memory);
-        };
-        match certs.start_sync() {
-            Ok((certs, certs_ticket)) => match self.writes.start(blocks_ticket, certs_ticket) {
-                Ok(()) => {
-                    self.certs = Place::Open(certs);
-                    Ok(())
-                }
-                Err(_) => {
-                    self.certs = Place::Lost(certs.wreck());
-                    Err(Fault::Memory)
-                }
-            },
-            Err(lost) => {
-                let (fault, wreck) = lost_by(lost, StoreName::Certs);
-                self.certs = Place::Lost(wreck);
-                Err(fault)
-            }
         }
+        Ok(())
     }
 
     fn finish_sync(&mut self, ticket: u64) -> Result<bool, Fault<V::Commitment>> {
@@ -446,33 +352,11 @@ impl<
             Some(sync) => sync,
             None => return Ok(false),
         };
-        let Some(blocks) = self.blocks.take() else {
-            return Err(Fault::Memory);
-        };
-        match blocks.finish(sync.blocks) {
-            Ok(blocks) => self.blocks = Place::Open(blocks),
-            Err(lost) => {
-                let (fault, wreck) = lost_by(lost, StoreName::Blocks);
-                self.blocks = Place::Lost(wreck);
-                return Err(fault);
-            }
-        }
-        let Some(certs) = self.certs.take() else {
-            return Err(Fault::Memory);
-        };
-        match certs.finish(sync.certs) {
-            Ok(certs) => {
-                self.certs = Place::Open(certs);
-                self.writes.finish(ticket);
-                self.law();
-                Ok(true)
-            }
-            Err(lost) => {
-                let (fault, wreck) = lost_by(lost, StoreName::Certs);
-                self.certs = Place::Lost(wreck);
-                Err(fault)
-            }
-        }
+        in_place::finish_blocks::<V, FB>(&mut self.blocks, sync.blocks)?;
+        in_place::finish_certificates::<V, F, FC>(&mut self.certs, sync.certs)?;
+        self.writes.finish(ticket);
+        self.law();
+        Ok(true)
     }
 
     fn set_processed(&mut self, height: Height) -> Result<(), Fault<V::Commitment>> {
@@ -525,25 +409,20 @@ fn certificates_left<V: Variant, F: CommitsTo<V::Commitment>, FC: Certificates<V
     }
 }
 
-/// Stages a block where it is to be, and defers its write at a height. Where memory runs out the life is to end: the write
-/// isn't deferred then, though the block may be staged.
-fn defer<B: Drop>(
-    writes: &mut Writes,
+/// Stages a block where it is to be.
+fn stage<B: Drop>(
     staged: &mut Staged<B>,
     height: Height,
     block: B,
     is_taken: bool,
 ) -> Result<(), AllocError>
-    ensures writes { OnOk result (writes.new ≡ pool_deferred height writes.old) }
-    ensures same { OnErr result (writes.new ≡ writes.old) }
-    ensures staged { OnOk result (staged.new ≡ staged_where is_taken height block staged.old) }
-    ensures ordered { IsOrdered (writing_of writes.old) }
+    ensures ok { OnOk result (staged.new ≡ staged_where is_taken height block staged.old) }
+    ensures err { OnErr result (staged.new ≡ staged.old) }
 {
-    writes.law();
     if is_taken {
-        staged.insert(height, block)?;
+        return staged.insert(height, block);
     }
-    writes.defer(height)
+    Ok(())
 }
 
 /// The fault by which a read has no answer.
@@ -553,17 +432,6 @@ fn missed_by<C: Named>(store: StoreName, miss: Miss) -> Fault<C>
     match miss {
         Miss::Fault => Fault::StoreFault(store),
         Miss::Memory => Fault::Memory,
-    }
-}
-
-/// The fault by which a store is lost, and what is left of the store.
-fn lost_by<C: Named, W>(lost: Lost<W>, store: StoreName) -> (Fault<C>, W)
-    ensures fault { fault_of C.bytes result.0 ≡ lost_fault (store_name_of store) lost }
-    ensures wreck { result.1 ≡ wreck_of lost }
-{
-    match lost {
-        Lost::Fault(wreck) => (Fault::StoreFault(store), wreck),
-        Lost::Memory(wreck) => (Fault::Memory, wreck),
     }
 }
 

@@ -1,69 +1,71 @@
 use Rattle.std.proofs.Common.{refl, sym}
-use Rattle.mar_node.specs.Faults.{block_store, cert_store, want_of_memory}
+use Rattle.std.proofs.lemmas.Result.{err_from_is_err_and}
 use Rattle.mar_node.specs.Views.{pooled_of}
-use Rattle.mar_node.proofs.Growing.{Grew-surer_blocks, Grew-surer_certs, Grew-writes, MakesSure-finished}
-use Rattle.mar_node.proofs.Passing.{Passes-one, by_lost}
+use Rattle.mar_node.proofs.Growing.{Grew-surer_blocks, Grew-surer_certs, Grew-writes}
 use Rattle.mar_node.proofs.Pools.{nothing_finished, opened_is, writing_finished}
-use Rattle.mar_node.proofs.StoreLosses.{Loses-blocks, Loses-certs, Loses-nothing}
-use Rattle.mar_shelf.proofs.Awaiting.{blocks_finished, blocks_surer, certs_finished, given, same_writes}
+use Rattle.mar_node.proofs.StoreLosses.{Loses-blocks, Loses-certs}
+use Rattle.mar_shelf.proofs.Awaiting.{same_writes}
+use Rattle.mar_shelf.proofs.Placed.{blocks_finished_in, blocks_given_in, blocks_surer_in, certs_finished_in, certs_given_in, certs_left_in, finished_in, nested_in, open_in, still_intact}
 use Rattle.mar_shelf.proofs.stores.StoresHolds.finish_sync.Goals as goal
 
 pub returns-in-None-clause-was_open : goal.returns-in-None-clause-was_open
 returns-in-None-clause-was_open g c = rw (← c.self.view_is) (rw c.in-None.is at (opened_is pooled_of c.args.ticket c.self.inside.writes.pooled c.find.result c.find.ensures))
 
 pub returns-in-None-clause-same : goal.returns-in-None-clause-same
-returns-in-None-clause-same g c = same_writes c.args.self.now _ (rw (← c.self.view_is) (nothing_finished pooled_of c.args.ticket c.self.inside.writes c.find.result c.find.ensures c.in-None.is))
+returns-in-None-clause-same g c = same_writes c.args.self.now.held _ (rw (← c.self.view_is) (nothing_finished pooled_of c.args.ticket c.self.inside.writes c.find.result c.find.ensures c.in-None.is))
 
-pub returns-in_default-clause-failed : goal.returns-in_default-clause-failed
-returns-in_default-clause-failed g c = rw (← c.self.view_is) (sym (rw c.in-Some.is at (opened_is pooled_of c.args.ticket c.self.inside.writes.pooled c.find.result c.find.ensures)))
+pub finish_blocks-requires : goal.finish_blocks-requires
+finish_blocks-requires g c = record { given = blocks_given_in g.V.Variant.plain g.FB.Blocks.stored g.FB.Blocks.number g.FB.Blocks.covers c.self.inside.blocks c.self.inside.writes c.self.inside.staged.blocks c.args.ticket _ c.in-Some.ensures c.self.invariant.0 }
 
-pub finish-requires : goal.finish-requires
-finish-requires g c = record { made = given (λ p. p.blocks) (rw c.in-Some-take.ensures.0 at c.self.invariant.0).waits c.args.ticket _ c.in-Some.ensures }
+pub returns-in_err-finish_blocks-clause-failed : goal.returns-in_err-finish_blocks-clause-failed
+returns-in_err-finish_blocks-clause-failed g c =
+    let p = err_from_is_err_and c.from_residual.result c.from_residual.ensures.1 in
+    rw p.1 (rw (← c.self.view_is) (sym (rw c.in-Some.is at (opened_is pooled_of c.args.ticket c.self.inside.writes.pooled c.find.result c.find.ensures))))
 
-pub returns-in-Err-clause-failed : goal.returns-in-Err-clause-failed
-returns-in-Err-clause-failed g c = rw (← c.self.view_is) (sym (rw c.in-Some.is at (opened_is pooled_of c.args.ticket c.self.inside.writes.pooled c.find.result c.find.ensures)))
+pub returns-in_err-finish_blocks-clause-goes_on : goal.returns-in_err-finish_blocks-clause-goes_on
+returns-in_err-finish_blocks-clause-goes_on g c =
+    let p = err_from_is_err_and c.from_residual.result c.from_residual.ensures.1 in
+    rw (p.1, p.2, ← c.self.view_is) (λ start all grew within. Loses-blocks start all _ grew _ _ _ _ within.blocks c.in_err-finish_blocks.ensures.failed.fails c.in_err-finish_blocks.ensures.failed.cause)
 
-pub returns-in-Err-clause-goes_on : goal.returns-in-Err-clause-goes_on
-returns-in-Err-clause-goes_on g c = rw (← c.self.view_is, c.in-Some-take.ensures.0, c.lost_by-fault.ensures.fault, c.lost_by-fault.ensures.wreck) (λ start all grew within. Loses-blocks start all _ grew _ _ _ _ within.blocks c.in-Err.ensures.done (by_lost g.FB.Blocks.watch g.FB.Wreck.BlocksRuin.watch _ block_store c.in-Err.lost c.in-Err.ensures.watched))
+pub finish_certificates-requires : goal.finish_certificates-requires
+finish_certificates-requires g c = record { given = certs_given_in g.FC.Certificates.stored g.FC.Certificates.number g.FC.Certificates.covers c.self.inside.certs c.self.inside.writes c.args.ticket _ c.in-Some.ensures c.self.invariant.1 }
 
-pub invariant_of-self-in_default-take : goal.invariant_of-self-in_default-take
-invariant_of-self-in_default-take g c = (blocks_surer (rw c.in-Some-take.ensures.0 at c.self.invariant.0) c.in-Ok.ensures.done c.in-Ok.ensures.tickets c.in-Ok.ensures.covers (g.met.FB.Blocks.last c.in-Ok.blocks), rw c.in_default-take.ensures.0 c.self.invariant.1)
-
-pub returns-in_default-take-clause-failed : goal.returns-in_default-take-clause-failed
-returns-in_default-take-clause-failed g c = rw (← c.self.view_is) (sym (rw c.in-Some.is at (opened_is pooled_of c.args.ticket c.self.inside.writes.pooled c.find.result c.find.ensures)))
-
-pub returns-in_default-take-clause-goes_on : goal.returns-in_default-take-clause-goes_on
-returns-in_default-take-clause-goes_on g c = rw (← c.self.view_is, c.in-Some-take.ensures.0, c.in_default-take.ensures.0) (λ start all grew within. Loses-nothing start all _ (Grew-surer_blocks start all _ grew _ _ (g.met.FB.Blocks.nested c.in-Ok.blocks) (MakesSure-finished _ _ _ c.in-Ok.ensures.done) (Passes-one _ _ c.in-Ok.ensures.watched.0 c.in-Ok.ensures.watched.1)) want_of_memory tt)
-
-pub finish-requires-2 : goal.finish-requires-2
-finish-requires-2 g c = record { made = given (λ p. p.certs) (rw c.in-Some-take-2.ensures.0 at c.self.invariant.1) c.args.ticket _ c.in-Some.ensures }
-
-pub invariant_of-self-in-Ok-finish : goal.invariant_of-self-in-Ok-finish
-invariant_of-self-in-Ok-finish g c = (
-  blocks_finished (rw c.in-Some-take.ensures.0 at c.self.invariant.0) c.args.ticket c.in-Some.ensures c.in-Ok.ensures.done c.in-Ok.ensures.tickets c.in-Ok.ensures.covers (g.met.FB.Blocks.last c.in-Ok.blocks) c.finish-in-Ok-finish.ensures,
-  certs_finished (rw c.in-Some-take-2.ensures.0 at c.self.invariant.1) c.args.ticket c.in-Some.ensures c.in-Ok-finish.ensures.done c.in-Ok-finish.ensures.tickets c.in-Ok-finish.ensures.covers (g.met.FC.Certificates.last c.in-Ok-finish.certs) c.finish-in-Ok-finish.ensures,
+pub invariant_of-self-in_err-finish_certificates : goal.invariant_of-self-in_err-finish_certificates
+invariant_of-self-in_err-finish_certificates g c = (
+  blocks_surer_in g.V.Variant.plain g.FB.Blocks.stored g.FB.Blocks.number g.FB.Blocks.covers g.FB.Wreck.BlocksRuin.left _ _ c.self.inside.writes c.self.inside.staged.blocks c.self.invariant.0 c.in_ok-finish_blocks.ensures.stays (finished_in g.FB.Blocks.stored g.FB.Blocks.number g.FB.Blocks.covers g.FB.Wreck.BlocksRuin.left _ _ _ c.in_ok-finish_blocks.ensures.stays c.in_ok-finish_blocks.ensures.done),
+  certs_left_in g.FC.Certificates.stored g.FC.Certificates.number g.FC.Certificates.covers _ _ c.self.inside.writes _ c.in_err-finish_certificates.ensures.left c.self.invariant.1,
 )
 
-pub invariant_of-self-in-Err-finish : goal.invariant_of-self-in-Err-finish
-invariant_of-self-in-Err-finish g c = (blocks_surer (rw c.in-Some-take.ensures.0 at c.self.invariant.0) c.in-Ok.ensures.done c.in-Ok.ensures.tickets c.in-Ok.ensures.covers (g.met.FB.Blocks.last c.in-Ok.blocks), tt)
+pub returns-in_err-finish_certificates-clause-failed : goal.returns-in_err-finish_certificates-clause-failed
+returns-in_err-finish_certificates-clause-failed g c =
+    let p = err_from_is_err_and c.from_residual-in_err-finish_certificates.result c.from_residual-in_err-finish_certificates.ensures.1 in
+    rw p.1 (rw (← c.self.view_is) (sym (rw c.in-Some.is at (opened_is pooled_of c.args.ticket c.self.inside.writes.pooled c.find.result c.find.ensures))))
 
-pub returns-in-Ok-finish-clause-was_open : goal.returns-in-Ok-finish-clause-was_open
-returns-in-Ok-finish-clause-was_open g c = rw (← c.self.view_is) (rw c.in-Some.is at (opened_is pooled_of c.args.ticket c.self.inside.writes.pooled c.find.result c.find.ensures))
+pub returns-in_err-finish_certificates-clause-goes_on : goal.returns-in_err-finish_certificates-clause-goes_on
+returns-in_err-finish_certificates-clause-goes_on g c =
+    let p = err_from_is_err_and c.from_residual-in_err-finish_certificates.result c.from_residual-in_err-finish_certificates.ensures.1 in
+    rw (p.1, p.2, ← c.self.view_is) (λ start all grew within. Loses-certs start all _ (Grew-surer_blocks start all _ grew _ _ (nested_in g.FB.Blocks.stored g.FB.Blocks.number g.FB.Blocks.covers g.FB.Wreck.BlocksRuin.left g.met.FB.Blocks.nested _ _ c.in_ok-finish_blocks.ensures.stays) (finished_in g.FB.Blocks.stored g.FB.Blocks.number g.FB.Blocks.covers g.FB.Wreck.BlocksRuin.left _ _ _ c.in_ok-finish_blocks.ensures.stays c.in_ok-finish_blocks.ensures.done) c.in_ok-finish_blocks.ensures.passed) _ _ _ _ within.certs c.in_err-finish_certificates.ensures.failed.fails c.in_err-finish_certificates.ensures.failed.cause)
 
-pub returns-in-Ok-finish-clause-blocks : goal.returns-in-Ok-finish-clause-blocks
-returns-in-Ok-finish-clause-blocks g c = rw (← c.self.view_is, c.in-Some-take.ensures.0) (MakesSure-finished _ _ _ c.in-Ok.ensures.done)
+pub invariant_of-self-2 : goal.invariant_of-self-2
+invariant_of-self-2 g c = (
+  blocks_finished_in g.V.Variant.plain g.FB.Blocks.stored g.FB.Blocks.number g.FB.Blocks.covers g.FB.Wreck.BlocksRuin.left _ _ c.self.inside.writes c.self.inside.staged.blocks c.self.invariant.0 c.in_ok-finish_blocks.ensures.stays c.args.ticket _ c.in-Some.ensures c.in_ok-finish_blocks.ensures.done c.finish.ensures,
+  certs_finished_in g.FC.Certificates.stored g.FC.Certificates.number g.FC.Certificates.covers g.FC.Wreck.CertificatesRuin.left _ _ c.self.inside.writes c.self.invariant.1 c.in_ok-finish_certificates.ensures.stays c.args.ticket _ c.in-Some.ensures c.in_ok-finish_certificates.ensures.done c.finish.ensures,
+)
 
-pub returns-in-Ok-finish-clause-certs : goal.returns-in-Ok-finish-clause-certs
-returns-in-Ok-finish-clause-certs g c = rw (← c.self.view_is, c.in-Some-take-2.ensures.0) (MakesSure-finished _ _ _ c.in-Ok-finish.ensures.done)
+pub returns-clause-was_open : goal.returns-clause-was_open
+returns-clause-was_open g c = rw (← c.self.view_is) (rw c.in-Some.is at (opened_is pooled_of c.args.ticket c.self.inside.writes.pooled c.find.result c.find.ensures))
 
-pub returns-in-Ok-finish-clause-same : goal.returns-in-Ok-finish-clause-same
-returns-in-Ok-finish-clause-same g c = rw (← c.self.view_is, c.in-Some-take.ensures.0, c.in-Some-take-2.ensures.0) (rw (c.finish-in-Ok-finish.ensures, writing_finished c.args.ticket c.self.inside.writes) refl)
+pub returns-clause-blocks : goal.returns-clause-blocks
+returns-clause-blocks g c = rw (← c.self.view_is) (finished_in g.FB.Blocks.stored g.FB.Blocks.number g.FB.Blocks.covers g.FB.Wreck.BlocksRuin.left _ _ _ c.in_ok-finish_blocks.ensures.stays c.in_ok-finish_blocks.ensures.done)
 
-pub returns-in-Ok-finish-clause-goes_on : goal.returns-in-Ok-finish-clause-goes_on
-returns-in-Ok-finish-clause-goes_on g c = rw (← c.self.view_is, c.in-Some-take.ensures.0, c.in-Some-take-2.ensures.0) (λ start all grew within. Grew-writes start all _ (Grew-surer_certs start all _ (Grew-surer_blocks start all _ grew _ _ (g.met.FB.Blocks.nested c.in-Ok.blocks) (MakesSure-finished _ _ _ c.in-Ok.ensures.done) (Passes-one _ _ c.in-Ok.ensures.watched.0 c.in-Ok.ensures.watched.1)) _ _ (g.met.FC.Certificates.nested c.in-Ok-finish.certs) (MakesSure-finished _ _ _ c.in-Ok-finish.ensures.done) (Passes-one _ _ c.in-Ok-finish.ensures.watched.0 c.in-Ok-finish.ensures.watched.1)) _)
+pub returns-clause-certs : goal.returns-clause-certs
+returns-clause-certs g c = rw (← c.self.view_is) (finished_in g.FC.Certificates.stored g.FC.Certificates.number g.FC.Certificates.covers g.FC.Wreck.CertificatesRuin.left _ _ _ c.in_ok-finish_certificates.ensures.stays c.in_ok-finish_certificates.ensures.done)
 
-pub returns-in-Err-finish-clause-failed : goal.returns-in-Err-finish-clause-failed
-returns-in-Err-finish-clause-failed g c = rw (← c.self.view_is) (sym (rw c.in-Some.is at (opened_is pooled_of c.args.ticket c.self.inside.writes.pooled c.find.result c.find.ensures)))
+pub returns-clause-written : goal.returns-clause-written
+returns-clause-written g c = λ intact. c.law-2.ensures.written (still_intact _ _ _ _ _ (open_in g.FB.Blocks.stored g.FB.Blocks.number g.FB.Blocks.covers _ _ c.in_ok-finish_blocks.ensures.stays) (open_in g.FC.Certificates.stored g.FC.Certificates.number g.FC.Certificates.covers _ _ c.in_ok-finish_certificates.ensures.stays) (rw (← c.self.view_is) at intact))
 
-pub returns-in-Err-finish-clause-goes_on : goal.returns-in-Err-finish-clause-goes_on
-returns-in-Err-finish-clause-goes_on g c = rw (← c.self.view_is, c.in-Some-take.ensures.0, c.in-Some-take-2.ensures.0, c.lost_by-fault-in-Err-finish.ensures.fault, c.lost_by-fault-in-Err-finish.ensures.wreck) (λ start all grew within. Loses-certs start all _ (Grew-surer_blocks start all _ grew _ _ (g.met.FB.Blocks.nested c.in-Ok.blocks) (MakesSure-finished _ _ _ c.in-Ok.ensures.done) (Passes-one _ _ c.in-Ok.ensures.watched.0 c.in-Ok.ensures.watched.1)) _ _ _ _ within.certs c.in-Err-finish.ensures.done (by_lost g.FC.Certificates.watch g.FC.Wreck.CertificatesRuin.watch _ cert_store c.in-Err-finish.lost c.in-Err-finish.ensures.watched))
+pub returns-clause-same : goal.returns-clause-same
+returns-clause-same g c = rw (← c.self.view_is, open_in g.FB.Blocks.stored g.FB.Blocks.number g.FB.Blocks.covers _ _ c.in_ok-finish_blocks.ensures.stays, open_in g.FC.Certificates.stored g.FC.Certificates.number g.FC.Certificates.covers _ _ c.in_ok-finish_certificates.ensures.stays, c.finish.ensures, writing_finished c.args.ticket c.self.inside.writes) refl
+
+pub returns-clause-goes_on : goal.returns-clause-goes_on
+returns-clause-goes_on g c = rw (← c.self.view_is, open_in g.FB.Blocks.stored g.FB.Blocks.number g.FB.Blocks.covers _ _ c.in_ok-finish_blocks.ensures.stays, open_in g.FC.Certificates.stored g.FC.Certificates.number g.FC.Certificates.covers _ _ c.in_ok-finish_certificates.ensures.stays) (λ start all grew within. Grew-writes start all _ (Grew-surer_certs start all _ (Grew-surer_blocks start all _ grew _ _ (nested_in g.FB.Blocks.stored g.FB.Blocks.number g.FB.Blocks.covers g.FB.Wreck.BlocksRuin.left g.met.FB.Blocks.nested _ _ c.in_ok-finish_blocks.ensures.stays) (finished_in g.FB.Blocks.stored g.FB.Blocks.number g.FB.Blocks.covers g.FB.Wreck.BlocksRuin.left _ _ _ c.in_ok-finish_blocks.ensures.stays c.in_ok-finish_blocks.ensures.done) c.in_ok-finish_blocks.ensures.passed) _ _ (nested_in g.FC.Certificates.stored g.FC.Certificates.number g.FC.Certificates.covers g.FC.Wreck.CertificatesRuin.left g.met.FC.Certificates.nested _ _ c.in_ok-finish_certificates.ensures.stays) (finished_in g.FC.Certificates.stored g.FC.Certificates.number g.FC.Certificates.covers g.FC.Wreck.CertificatesRuin.left _ _ _ c.in_ok-finish_certificates.ensures.stays c.in_ok-finish_certificates.ensures.done) c.in_ok-finish_certificates.ensures.passed) _)
