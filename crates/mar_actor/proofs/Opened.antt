@@ -1,24 +1,33 @@
 -- What an opening promises, by what was made of its stores.
-use Rattle.std.proofs.Common.{◌≡◌, ◌⊎◌, ◌∷◌, inl, inr, ℕ, [], None, Some, refl, subst, sym}
+use Rattle.std.proofs.Common.{◌≡◌, ◌⊎◌, ◌∷◌, inl, inr, ℕ, [], None, Some, Result, Ok, Err, IfErr, OnOk, refl, subst, sym}
 use Rattle.mar_types.specs.Epochs.{Epochs}
 use Rattle.mar_cert.specs.Block.{Block}
 use Rattle.mar_node.specs.Chain.{Chain}
 use Rattle.mar_node.specs.Config.{Config}
-use Rattle.mar_node.specs.Faults.{Begin, Fault, from_genesis}
+use Rattle.mar_node.specs.Faults.{Begin, Fault, from_genesis, want_of_memory}
 use Rattle.mar_node.specs.Held.{ArePassed, Ending, Grew, Held, IsEndedBy, IsUsual, Loses, Remains, Remembered, ReopensAs, Sizes, Written, ended_on, first_life, nothing_written, picks_of, written_block}
 use Rattle.mar_node.specs.Lives.{CutsReopening, Finds}
-use Rattle.mar_node.specs.Opening.{BeginsWith, Derives, derived_pair, next_fault}
+use Rattle.mar_node.specs.Opening.{BeginsWith, Derives, IsBeginFault, LosesDeriving, derived_pair, next_fault}
 use Rattle.mar_node.specs.Promise.{Begins, IsLawfulOpening, IsOpeningFault, node_of, none_waiting}
 use Rattle.mar_node.specs.Step.{nothing_made}
 use Rattle.mar_node.specs.Stored.{at_own_height}
 use Rattle.mar_node.proofs.OpeningEvent.{begin_by_value, begins, cut_begun, cut_deriving, cut_early, deriving_cause, deriving_keeps, finds, next_by_value}
 use Rattle.mar_node.proofs.Passing.{ArePassed-then}
-use Rattle.mar_node.proofs.Reopenings.{LosesOpening-then}
+use Rattle.mar_node.proofs.Reopenings.{Grew-opened, LosesOpening-then}
+use Rattle.mar_node.proofs.StoreLosses.{Loses-nothing}
 use Rattle.mar_actor.specs.Opened.{FailsToOpen, OpensAs}
 
 -- WHAT WAS MADE OF THEM
 
 module _ (epochs : Epochs) (old : Remains) (luck : ℕ) (g : Block) where
+  -- a fault on stores that were reopened, before they are settled
+  pub fails_beginning : (first : Held) → ReopensAs old luck first → (e : Ending) → Loses first (written_block (at_own_height g)) e → IsUsual e.fault ⊎ IsBeginFault g first e.fault → FailsToOpen epochs old luck g e
+  fails_beginning first reopens e lost kind = inr (inl (record { first = first; reopens = reopens; lost = lost; kind = kind }))
+
+  -- memory ran out then
+  pub fails_unhoused : (first : Held) → ReopensAs old luck first → FailsToOpen epochs old luck g (ended_on want_of_memory first)
+  fails_unhoused first reopens = fails_beginning first reopens (ended_on want_of_memory first) (Loses-nothing first (written_block (at_own_height g)) first (Grew-opened old luck first (written_block (at_own_height g)) reopens) want_of_memory tt) (inl tt)
+
   module _ (first begun : Held) (reopens : ReopensAs old luck first) (begins : BeginsWith g first begun) (grew : Grew first (written_block (at_own_height g)) begun) where
     pub opens_with : (new : Held) → Derives epochs begun new → ArePassed begun.watches new.watches → OpensAs epochs old luck g new
     opens_with new derives passed = record { first = first; begun = begun; reopens = reopens; begins = begins; grew = grew; derives = derives; passed = passed }
@@ -34,6 +43,16 @@ module _ (epochs : Epochs) (old : Remains) (luck : ℕ) (g : Block) where
       keeps = deriving_keeps epochs begun (ended_on fault now) (loses begun nothing_written same);
       kind = kind;
     }))
+
+    -- what deriving came to
+    module _ {T C : Type 0} (fault : C → Fault) (new : Held) where
+      pub settled_opens : (result : Result T C) → OnOk result (Derives epochs begun new) → OnOk result (ArePassed begun.watches new.watches) → OnOk result (OpensAs epochs old luck g new)
+      settled_opens (Ok x) derives passed = opens_with new derives passed
+      settled_opens (Err c) derives passed = tt
+
+      pub settled_fails : Grew begun nothing_written begun → (result : Result T C) → LosesDeriving fault epochs begun new result → IfErr result (λ e. IsUsual (fault e) ⊎ (next_fault begun ≡ Some (fault e))) → IfErr result (λ e. FailsToOpen epochs old luck g (ended_on (fault e) new))
+      settled_fails same (Ok x) lost kind = tt
+      settled_fails same (Err c) lost kind = fails_deriving same (fault c) new lost kind
 
 -- WHAT IS PROMISED
 

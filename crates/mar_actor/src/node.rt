@@ -36,7 +36,8 @@ use std::marker::{Model, PhantomData};
 /// A node while a life runs: its stores, and what it remembers beside them.
 #[derive(Drop)]
 pub struct Node<V: Variant, S: Holds<V>, P: Drop, E: Epocher> {
-    pub(crate) stores: S,
+    /// On the heap, so that a step, which takes the node and gives it back, moves little.
+    pub(crate) stores: Box<S>,
     pub(crate) life: Life<P, E>,
     pub(crate) of: PhantomData<V>,
 }
@@ -50,9 +51,9 @@ impl<V: Variant, S: Holds<V>, P: Drop, E: Epocher> Model for Node<V, S, P, E> {
 
     ghost Value = { Seen P E };
 
-    ghost view = { λ n. record { held = S.held n.stores; life = n.life } };
+    ghost view = { λ n. record { held = S.held n.stores.value; life = n.life } };
 
-    ghost invariant = { λ n. (S.held n.stores).intact ≡ true };
+    ghost invariant = { λ n. (S.held n.stores.value).intact ≡ true };
 }
 
 impl<V: Variant, S: Holds<V>, P: Drop, E: Epocher> Node<V, S, P, E> {
@@ -112,7 +113,7 @@ impl<V: Variant, S: Holds<V>, P: Drop, E: Epocher> Node<V, S, P, E> {
         ) {
             Ok(()) => Ok(Node { stores, life, of }),
             Err(fault) => {
-                let ruins = stores.wreck();
+                let ruins = Box::into_inner(stores).wreck();
                 Err(Ended { fault, ruins })
             }
         }
@@ -145,7 +146,7 @@ impl<V: Variant, S: Holds<V>, P: Drop, E: Epocher> Node<V, S, P, E> {
         ensures certs { IsNested self.held.certs }
     {
         self.law();
-        self.stores.wreck()
+        Box::into_inner(self.stores).wreck()
     }
 
     /// Whether the application owes an acknowledgement under that ticket.

@@ -1,10 +1,14 @@
-//! What an actor is set to.
-ghost use Rattle.std.specs.Prelude.{◌≡◌};
+//! What an actor is set to, and what a life begins with by it.
+ghost use Rattle.std.specs.Prelude.{◌≡◌, ◌*◌, ◌-◌, ◌^◌, IfOk, min};
 ghost use Rattle.mar_cert.specs.Block.{Block};
 ghost use Rattle.mar_node.specs.Faults.{from_genesis};
-ghost use Rattle.mar_actor.specs.Views.{begin_of};
+ghost use Rattle.mar_node.specs.Held.{first_life};
+ghost use Rattle.mar_actor.specs.Views.{begin_of, sizes_of};
 
+use crate::life::Life;
+use mar_parts::PendingAcks;
 use mar_types::ViewDelta;
+use std::alloc::{AllocError, Global};
 
 /// The sizes that a life keeps beside its window.
 #[derive(Clone, Copy)]
@@ -51,4 +55,34 @@ pub struct Config<P, E, B, C> {
     pub max_repair: usize,
     /// How many blocks may be handed over and not yet acknowledged; at least 1.
     pub max_pending_acks: usize,
+}
+
+/// What a life begins with, before it has stores.
+pub(crate) struct Beginning<P, E, B> {
+    pub(crate) life: Life<P, E>,
+    /// The block at height zero.
+    pub(crate) genesis: B,
+    /// How many blocks the stores may keep at hand until they are handed over.
+    pub(crate) max_staged: usize,
+}
+
+impl<P: Drop, E: Drop, B: Drop, C: Drop> Config<P, E, B, C> {
+    /// What a life begins with. No store is asked for it, so that memory may run out here before anything is opened.
+    pub(crate) fn begin(self, alloc: Global) -> Result<Beginning<P, E, B>, AllocError>
+        ensures life { IfOk result (λ b. b.life ≡ first_life self.provider self.epocher (sizes_of self)) }
+        ensures genesis { (plain : B → Block) → IfOk result (λ b. begin_of plain self.start ≡ from_genesis (plain b.genesis)) }
+        ensures staged { IfOk result (λ b. b.max_staged ≡ min (self.max_pending_acks * 2) (2 ^ 64 - 1)) }
+    {
+        let acks = PendingAcks::new(alloc, self.max_pending_acks)?;
+        let limits = Limits {
+            mailbox_size: self.mailbox_size,
+            max_repair: self.max_repair,
+            view_retention: self.view_retention,
+        };
+        Ok(Beginning {
+            life: Life::new(self.provider, self.epocher, limits, acks),
+            genesis: self.start.genesis(),
+            max_staged: self.max_pending_acks.saturating_mul(2),
+        })
+    }
 }

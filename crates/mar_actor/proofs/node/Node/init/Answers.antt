@@ -16,27 +16,25 @@ returns-in_default-clause-cause g c = (LosesOpening-nothing (g.S.Ruins.StoresRui
 pub returns-in_err-stores-clause-opens : goal.returns-in_err-stores-clause-opens
 returns-in_err-stores-clause-opens g c =
     let p = err_from_is_err_and c.from_residual.result c.from_residual.ensures.1 in
-    rw (p.1, p.2) (λ config chain set asks. failed_cut _ (g.S.Ruins.StoresRuin.left c.args.ruins) _ _ _ (c.genesis-genesis.ensures g.V.Variant.plain) config chain set.epochs_are asks _ c.in_err-stores.ensures.fails)
+    rw (p.1, p.2) (λ config chain set asks. failed_cut _ (g.S.Ruins.StoresRuin.left c.args.ruins) _ _ _ (c.in-Ok.ensures.genesis g.V.Variant.plain) config chain set.epochs_are asks _ c.in_err-stores.ensures.fails)
 
 pub returns-in_err-stores-clause-by_value : goal.returns-in_err-stores-clause-by_value
 returns-in_err-stores-clause-by_value g c =
     let p = err_from_is_err_and c.from_residual.result c.from_residual.ensures.1 in
-    rw (p.1, p.2) (failed_by_value _ (g.S.Ruins.StoresRuin.left c.args.ruins) _ _ _ (c.genesis-genesis.ensures g.V.Variant.plain) _ c.in_err-stores.ensures.fails)
+    rw (p.1, p.2) (failed_by_value _ (g.S.Ruins.StoresRuin.left c.args.ruins) _ _ _ (c.in-Ok.ensures.genesis g.V.Variant.plain) _ c.in_err-stores.ensures.fails)
 
 pub returns-in_err-stores-clause-cause : goal.returns-in_err-stores-clause-cause
 returns-in_err-stores-clause-cause g c =
     let p = err_from_is_err_and c.from_residual.result c.from_residual.ensures.1 in
-    rw (p.1, p.2) (failed_cause _ (g.S.Ruins.StoresRuin.left c.args.ruins) _ _ _ (c.genesis-genesis.ensures g.V.Variant.plain) _ c.in_err-stores.ensures.fails)
+    rw (p.1, p.2) (failed_cause _ (g.S.Ruins.StoresRuin.left c.args.ruins) _ _ _ (c.in-Ok.ensures.genesis g.V.Variant.plain) _ c.in_err-stores.ensures.fails)
 
 pub returns-clause-opens : goal.returns-clause-opens
 returns-clause-opens g c =
-    let life = rw c.in-Ok.ensures at c.new-2.ensures in
-    λ config chain set asks. opened_begins _ (g.S.Ruins.StoresRuin.left c.args.ruins) _ _ _ (c.genesis-genesis.ensures g.V.Variant.plain) c.args.config.provider c.args.config.epocher (sizes_of c.args.config) (g.S.Holds.held c.in_ok-stores.stores) _ c.in_ok-stores.ensures.opens life config set.epochs_are set.capacity chain asks
+    λ config chain set asks. opened_begins _ (g.S.Ruins.StoresRuin.left c.args.ruins) _ _ _ (c.in-Ok.ensures.genesis g.V.Variant.plain) c.args.config.provider c.args.config.epocher (sizes_of c.args.config) (g.S.Holds.held c.in_ok-stores.stores.value) _ c.in_ok-stores.ensures.opens c.in-Ok.ensures.life config set.epochs_are set.capacity chain asks
 
 pub returns-clause-finds : goal.returns-clause-finds
 returns-clause-finds g c =
-    let life = rw c.in-Ok.ensures at c.new-2.ensures in
-    λ config set. opened_finds _ (g.S.Ruins.StoresRuin.left c.args.ruins) _ _ _ (c.genesis-genesis.ensures g.V.Variant.plain) c.args.config.provider c.args.config.epocher (sizes_of c.args.config) (g.S.Holds.held c.in_ok-stores.stores) _ c.in_ok-stores.ensures.opens life config set.epochs_are set.capacity
+    λ config set. opened_finds _ (g.S.Ruins.StoresRuin.left c.args.ruins) _ _ _ (c.in-Ok.ensures.genesis g.V.Variant.plain) c.args.config.provider c.args.config.epocher (sizes_of c.args.config) (g.S.Holds.held c.in_ok-stores.stores.value) _ c.in_ok-stores.ensures.opens c.in-Ok.ensures.life config set.epochs_are set.capacity
 
 pub returns-clause-watches : goal.returns-clause-watches
-returns-clause-watches g c = opened_passed _ (g.S.Ruins.StoresRuin.left c.args.ruins) _ _ _ (c.genesis-genesis.ensures g.V.Variant.plain) _ c.in_ok-stores.ensures.opens
+returns-clause-watches g c = opened_passed _ (g.S.Ruins.StoresRuin.left c.args.ruins) _ _ _ (c.in-Ok.ensures.genesis g.V.Variant.plain) _ c.in_ok-stores.ensures.opens

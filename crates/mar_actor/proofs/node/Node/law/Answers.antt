@@ -1,4 +1,7 @@
+use Rattle.std.proofs.Common.{◌≡◌, subst, sym, true}
 use Rattle.mar_actor.proofs.node.Node.law.Goals as goal
 
 pub returns : goal.returns
-returns g c = rw (← c.self.view_is) (record { blocks = c.law.ensures.blocks c.self.invariant; certs = c.law.ensures.certs c.self.invariant; small = c.law.ensures.small c.self.invariant; written = c.law.ensures.written c.self.invariant })
+returns g c =
+    let intact : (g.S.Holds.held c.deref.result.now).intact ≡ true = subst (λ s. (g.S.Holds.held s).intact ≡ true) (sym c.deref.ensures) c.self.invariant in
+    rw (← c.self.view_is, ← c.deref.ensures) (record { blocks = c.law.ensures.blocks intact; certs = c.law.ensures.certs intact; small = c.law.ensures.small intact; written = c.law.ensures.written intact })
