@@ -30,7 +30,7 @@ use mar_inbox::{AnswerTable, Value};
 use mar_key::Resolver;
 use mar_shelf::{Ended, Fault, Holds, StoreName, Stores};
 use mar_types::Epocher;
-use std::alloc::AllocError;
+use std::alloc::{AllocError, Global};
 use std::marker::{Model, PhantomData};
 
 /// A node while a life runs: its stores, and what it remembers beside them.
@@ -58,7 +58,8 @@ impl<V: Variant, S: Holds<V>, P: Drop, E: Epocher> Model for Node<V, S, P, E> {
 
 impl<V: Variant, S: Holds<V>, P: Drop, E: Epocher> Node<V, S, P, E> {
     /// Takes one event, the first of a life being `Event::Start`. An end of the life says why and hands back what is left.
-    /// On a lawful chain the step is a step of the node, or a cut.
+    /// On a lawful chain the step is a step of the node, or a cut. No rule takes memory of its own yet, nor changes the
+    /// buffer: `_alloc` and the buffer's `&mut` are for those that send and keep what isn't final.
     ///
     /// The fault of a step is `StoreFault` only where that store has failed, `HeightLimit` where a finalized block stands
     /// at the last height and `AckDropped` where the application dropped the oldest acknowledgement, each exactly where
@@ -66,29 +67,31 @@ impl<V: Variant, S: Holds<V>, P: Drop, E: Epocher> Node<V, S, P, E> {
     /// may store is small: at most 1,048,576 bytes each.
     pub fn step<B: Buffer<V>, R: Resolver<V::Commitment>, A: Reporter<V>>(
         self,
+        _alloc: Global,
         event: Event<V::Digest, S::Finalization>,
         answers: &mut AnswerTable<Value<V::Digest, V::Block, S::Finalization>>,
-        buffer: &B,
+        buffer: &mut B,
         resolver: &mut R,
         application: &mut A,
     ) -> Result<Self, Ended<V, S>>
         requires small_event { IsSmallEvent (event_of V.Digest.bytes S.Finalization.plain event) }
-        requires small_buffer { AreSmall (B.blocks buffer.now) }
+        requires small_buffer { AreSmall (B.blocks buffer.old) }
         ensures promise { KeepsPromise (E.epochs self.life.epocher) V.inner self (event_of V.Digest.bytes S.Finalization.plain event ∷ [])
-            (B.blocks buffer.now)
+            (B.blocks buffer.old)
             (heard_with (A.told application.old) (R.told resolver.old) (told (value_of V.Digest.bytes V.plain S.Finalization.plain) answers.old))
             (heard_with (A.told application.new) (R.told resolver.new) (told (value_of V.Digest.bytes V.plain S.Finalization.plain) answers.new))
             result }
         ensures answered { OnOk result (told (value_of V.Digest.bytes V.plain S.Finalization.plain) answers.new
             ≡ told (value_of V.Digest.bytes V.plain S.Finalization.plain) answers.old
-            ++ answers_found V.inner self.held (B.blocks buffer.now) (event_of V.Digest.bytes S.Finalization.plain event)) }
+            ++ answers_found V.inner self.held (B.blocks buffer.old) (event_of V.Digest.bytes S.Finalization.plain event)) }
+        ensures buffer { buffer.new ≡ buffer.old }
         ensures unanswered { OnErr result (answers.new ≡ answers.old) }
         ensures watches { IfOk result (λ n. ArePassed self.held.watches n.held.watches) }
         ensures cause { IfErr result (λ e. IsEndedBy self.held.watches e) }
         ensures idle { (t : ℕ) → event_of V.Digest.bytes S.Finalization.plain event ≡ sync_finished t → is_open_sync self.held.writes.syncs t ≡ false
             → result ≡ Ok self }
-        ensures by_value { EndsWhereDue (due_fault V.inner self (B.blocks buffer.now) (event_of V.Digest.bytes S.Finalization.plain event)) result }
-        ensures tells { TellsInOrder (A.told application.old) (tips_of V.inner self (B.blocks buffer.now) (event_of V.Digest.bytes S.Finalization.plain event))
+        ensures by_value { EndsWhereDue (due_fault V.inner self (B.blocks buffer.old) (event_of V.Digest.bytes S.Finalization.plain event)) result }
+        ensures tells { TellsInOrder (A.told application.old) (tips_of V.inner self (B.blocks buffer.old) (event_of V.Digest.bytes S.Finalization.plain event))
             (A.told application.new) result }
         ensures tickets { IfOk result (λ n. n.life.next_ack ≤ self.life.next_ack + self.life.sizes.window) }
         ensures sync_tickets { IfOk result (λ n. n.held.writes.next_sync ≤ self.held.writes.next_sync + 1) }
@@ -107,7 +110,7 @@ impl<V: Variant, S: Holds<V>, P: Drop, E: Epocher> Node<V, S, P, E> {
             &mut life,
             event,
             answers,
-            buffer,
+            &*buffer,
             resolver,
             application,
         ) {

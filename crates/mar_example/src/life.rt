@@ -18,9 +18,11 @@ use std::num::NonZeroU64;
 /// A node over some stores.
 pub(crate) type Member<S> = Node<StandardBlocks, S, MockProvider, FixedEpocher>;
 
-/// What a node speaks to: those who ask, the blocks that are at hand, the peers, and the service.
+/// What a node speaks to: those who ask, the blocks that are at hand, the peers, and the service; and where memory comes
+/// from.
 #[derive(Drop)]
 pub(crate) struct Around {
+    pub(crate) alloc: Global,
     pub(crate) answers: AnswerTable<Value<Sha256Digest, Block, MockFinalization>>,
     pub(crate) buffer: MemBuffer<StandardBlocks>,
     pub(crate) peers: Recorder<Sha256Digest>,
@@ -60,12 +62,13 @@ pub(crate) fn begun<S: Holds<StandardBlocks, Finalization = MockFinalization>>(
     };
     let (node, _floor) = Member::<S>::init(alloc, left, config(genesis), 0)?;
     let Around {
+        alloc,
         answers,
         buffer,
         peers,
         service,
     } = around;
-    node.step(Event::Start, answers, &*buffer, peers, service)
+    node.step(*alloc, Event::Start, answers, buffer, peers, service)
 }
 
 /// Tells a node that a block is finalized, and then that the sync of this ticket, which the node started for it, has
@@ -81,18 +84,19 @@ pub(crate) fn finalized<S: Holds<StandardBlocks, Finalization = MockFinalization
     ensures { around.new.buffer ≡ around.old.buffer }
 {
     let Around {
+        alloc,
         answers,
         buffer,
         peers,
         service,
     } = around;
     let reported = Event::Message(Message::Finalization(finalization));
-    let node = node.step(reported, answers, &*buffer, peers, service)?;
+    let node = node.step(*alloc, reported, answers, buffer, peers, service)?;
     // where the block isn't at hand it is asked for, and no sync is started
     if !node.awaits_sync(ticket) {
         return Ok(node);
     }
-    node.step(Event::Sync(ticket), answers, &*buffer, peers, service)
+    node.step(*alloc, Event::Sync(ticket), answers, buffer, peers, service)
 }
 
 /// Gives a node the acknowledgement of the block of this ticket.
@@ -105,12 +109,13 @@ pub(crate) fn acknowledged<S: Holds<StandardBlocks, Finalization = MockFinalizat
     ensures { around.new.buffer ≡ around.old.buffer }
 {
     let Around {
+        alloc,
         answers,
         buffer,
         peers,
         service,
     } = around;
-    node.step(Event::Ack(ticket), answers, &*buffer, peers, service)
+    node.step(*alloc, Event::Ack(ticket), answers, buffer, peers, service)
 }
 
 /// Asks a node under a ticket for the newest finalized block, and says its height.
@@ -122,6 +127,7 @@ pub(crate) fn newest<S: Holds<StandardBlocks, Finalization = MockFinalization>>(
     requires small_buffer { AreSmall around.old.buffer.blocks }
 {
     let Around {
+        alloc,
         answers,
         buffer,
         peers,
@@ -131,7 +137,14 @@ pub(crate) fn newest<S: Holds<StandardBlocks, Finalization = MockFinalization>>(
         ticket,
         identifier: Identifier::Latest,
     };
-    let node = node.step(Event::Message(query), answers, &*buffer, peers, service)?;
+    let node = node.step(
+        *alloc,
+        Event::Message(query),
+        answers,
+        buffer,
+        peers,
+        service,
+    )?;
     let height = match answers.poll(ticket) {
         Standing::Value(Value::Info { height, .. }) => Some(height.get()),
         _other => None,

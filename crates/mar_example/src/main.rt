@@ -20,11 +20,11 @@ use crate::service::{Handed, Service};
 use mar_actor::{Ended, Fault, Holds, Ruins, Stores};
 use mar_block::{MemBuffer, StandardBlocks, Variant};
 use mar_cert::{AsFinalization, MockFinalization};
-use mar_types::Sha256Digest;
 use mar_inbox::AnswerTable;
 use mar_key::Recorder;
 use mar_shelf::{BlockItem, Blocks, CertificateItem, Certificates, NoShelf, Shelf, immutable};
 use mar_store::{LuckHalf, MemArchive, MemMeta, Meta};
+use mar_types::Sha256Digest;
 use std::alloc::Global;
 use std::io;
 
@@ -50,6 +50,7 @@ fn around(alloc: Global, first: Block, second: Block, third: Block) -> Option<Ar
     buffer.put(second).ok()?;
     buffer.put(third).ok()?;
     Some(Around {
+        alloc,
         answers: AnswerTable::new(alloc),
         buffer,
         peers: Recorder::new(alloc),

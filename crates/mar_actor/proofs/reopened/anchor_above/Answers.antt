@@ -10,7 +10,7 @@ returns-in_err-_block-clause-goes_on g c =
     rw (p.1, p.2) c.in_err-_block.ensures.goes_on
 
 pub returns-in-Some-clause-goes_on : goal.returns-in-Some-clause-goes_on
-returns-in-Some-clause-goes_on g c = λ start all grew within. rw c.without_block.ensures (Grew-noted start all _ (c.in_ok-_block.ensures.goes_on start all grew within) _ _)
+returns-in-Some-clause-goes_on g c = λ start all grew within. rw c.without_block.ensures.held (Grew-noted start all _ (c.in_ok-_block.ensures.goes_on start all grew within) _ _)
 
 pub returns-in-None-clause-goes_on : goal.returns-in-None-clause-goes_on
 returns-in-None-clause-goes_on g c = λ start all grew within. Loses-nothing start all _ (c.in_ok-_block.ensures.goes_on start all grew within) (unbacked c.args.height) tt
