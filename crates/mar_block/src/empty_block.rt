@@ -8,7 +8,10 @@ use crate::blocks::{Block, BoundedBlock, CertifiableBlock, Heightable};
 use crate::standard::Standard;
 use crate::variant::Variant;
 use bytes::{Buf, BufMut};
-use mar_types::{Digest, Digestible, EncodeSize, Error, FixedSize, Hasher, Height, MaxEncodeSize, Read, Sha256, UInt, Write};
+use mar_types::{
+    Digest, Digestible, EncodeSize, Error, FixedSize, Hasher, Height, MaxEncodeSize, Read, Sha256,
+    UInt, Write,
+};
 use std::alloc::{AllocError, Global};
 use std::convert::AsSlice;
 

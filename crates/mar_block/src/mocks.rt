@@ -6,7 +6,10 @@ ghost use Rattle.mar_block.specs.MockBlockLemmas.{length-mock_bytes, mock_identi
 
 use crate::blocks::{Block as AnyBlock, BoundedBlock, CertifiableBlock, Heightable};
 use bytes::{Buf, BufMut, BytesMut};
-use mar_types::{Digest, Digested, Digestible, EncodeSize, Error, Hasher, Height, MaxEncodeSize, Read, UInt, Write, read_pair, write_pair};
+use mar_types::{
+    Digest, Digested, Digestible, EncodeSize, Error, Hasher, Height, MaxEncodeSize, Read, UInt,
+    Write, read_pair, write_pair,
+};
 use std::alloc::{AllocError, Global};
 
 /// Computes the block's digest, and puts the block beside it.

@@ -9,7 +9,9 @@ ghost use Rattle.mar_cert.specs.Views.{certified_of, final_of, spelling_of};
 use crate::scheme::{Certificate, Scheme, Scoped};
 use crate::subject::Subject;
 use bytes::{Buf, BufMut};
-use mar_types::{Digest, EncodeSize, Epoch, Error, Named, Read, Round, View, Write, read_pair, write_pair};
+use mar_types::{
+    Digest, EncodeSize, Epoch, Error, Named, Read, Round, View, Write, read_pair, write_pair,
+};
 use std::alloc::{AllocError, Global};
 
 /// What is proposed in a round, over the view of its parent's proposal.

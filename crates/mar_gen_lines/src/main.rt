@@ -5,8 +5,8 @@
 ghost use Rattle.mar_gen.specs.Plan.{IsStepWithin};
 
 use bytes::BytesMut;
-use mar_types::{Digestible, Write};
 use mar_gen::{Made, Planned, finalization, number};
+use mar_types::{Digestible, Write};
 use std::alloc::{AllocError, Global};
 use std::io;
 

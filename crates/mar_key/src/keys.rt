@@ -8,7 +8,10 @@ ghost use Rattle.mar_key.specs.SpelledKeys.{RefusesKey, SpellsKey};
 ghost use Rattle.mar_key.specs.Views.{key_of, key_text};
 
 use bytes::{Buf, BufMut};
-use mar_types::{Digest, EncodeSize, Error, Height, MaxEncodeSize, Read, Round, Span, Write, read_byte, write_pair};
+use mar_types::{
+    Digest, EncodeSize, Error, Height, MaxEncodeSize, Read, Round, Span, Write, read_byte,
+    write_pair,
+};
 use std::alloc::{AllocError, Global};
 use std::fmt;
 

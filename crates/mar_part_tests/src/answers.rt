@@ -3,8 +3,8 @@
 use crate::tell::*;
 use mar_block::EmptyBlock;
 use mar_cert::{Finalization, MockCertificate};
-use mar_types::{Digested, Sha256, Sha256Digest};
 use mar_inbox::*;
+use mar_types::{Digested, Sha256, Sha256Digest};
 use std::alloc::Global;
 use std::process::Abort;
 

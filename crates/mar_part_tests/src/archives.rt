@@ -3,8 +3,8 @@ ghost use Rattle.std.specs.Prelude.{◌≤◌, IfOk};
 
 use crate::ranges::are;
 use crate::tell::*;
-use mar_types::{Digest, Hasher, Sha256, Sha256Digest};
 use mar_store::{Archive, ArchiveRuin, Identifier, Item, Lost, LuckHalf, MemArchive, Miss};
+use mar_types::{Digest, Hasher, Sha256, Sha256Digest};
 use std::alloc::{AllocError, Global};
 use std::process::Abort;
 

@@ -4,8 +4,8 @@ ghost use Rattle.std.specs.BTreeMap.{get};
 ghost use Rattle.mar_parts.specs.WaitViews.{name_of, wait_of};
 ghost use Rattle.mar_parts.specs.Waits.{is_promised, joined, open_of, still_open, tickets_for, wait_for};
 
-use mar_types::Digest;
 use mar_key::Subscription;
+use mar_types::Digest;
 use std::alloc::{AllocError, Global};
 use std::collections::BTreeMap;
 use std::marker::Model;

@@ -2,9 +2,9 @@
 ghost use Rattle.std.specs.Prelude.{◌≡◌, bytes_eq, replicate, true};
 ghost use Rattle.mar_types.specs.DigestLemmas.{same_proof};
 
-use mar_types::{Digest, Hasher, Sha256, Sha256Digest};
 use mar_journal::JournalItem;
 use mar_store::Item;
+use mar_types::{Digest, Hasher, Sha256, Sha256Digest};
 use std::alloc::{AllocError, Global};
 use std::convert::AsSlice;
 

@@ -8,8 +8,8 @@ ghost use Rattle.mar_script.specs.Script.{comma_numbers, hex, sentence};
 ghost use Rattle.mar_script.specs.Text.{annotation_words, ask_words, line_of};
 
 use crate::text::{push_hex, push_number, push_round};
-use mar_types::{Encode, Sha256Digest};
 use mar_key::{Annotation, Ask, Cutoff, Fetch, Finalized, Retain};
+use mar_types::{Encode, Sha256Digest};
 use std::alloc::{AllocError, Global};
 
 fn push_finalized(text: &mut String, finalized: Finalized) -> Result<(), AllocError>

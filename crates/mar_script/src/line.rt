@@ -12,9 +12,9 @@ use crate::settings::Settings;
 use crate::words::{ParseError, bytes_of, look_up, number, split_word};
 use mar_block::EmptyBlock;
 use mar_cert::MockFinalization;
-use mar_types::{Decode, Error, Sha256, Sha256Digest};
 use mar_inbox::Query;
 use mar_shelf::StoreName;
+use mar_types::{Decode, Error, Sha256, Sha256Digest};
 use std::alloc::Global;
 
 /// A line of a script behind the first.

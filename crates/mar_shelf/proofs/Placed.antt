@@ -148,7 +148,7 @@ module _ {B S W : Type 0} (plain : B → Block) (stored : S → Kept (At Block))
   pub blocks_stored_in : (left : W → Left (At Block)) (old mid new : Place S W) {ignored : Bool} {x : At Block} (pool : Pool) (staged : List (ℕ × B)) → StaysIn stored number covers old mid → StaysIn stored number covers mid new → Puts ignored (kept_at stored left old) x (kept_at stored left mid) → Syncs (kept_at stored left mid) (kept_at stored left new) → BlocksPooled plain stored number covers old pool staged → BlocksPooled plain stored number covers new pool staged
   blocks_stored_in left old mid new {ignored = ignored} {x = x} pool staged first second puts syncs pooled = in_place stored number covers (λ m n. StaysIn stored number covers old m → Puts ignored (kept_at stored left old) x (kept_at stored left m) → Syncs (kept_at stored left m) (kept_at stored left n) → BlocksPooled plain stored number covers n pool staged)
       (λ m t second first puts syncs. in_place stored number covers (λ o n. Puts ignored (kept_at stored left o) x (kept_at stored left n) → Syncs (kept_at stored left n) (stored t) → StaysIn {W = W} stored number covers n (Open t) → BlocksPooled plain stored number covers o pool staged → BlocksPooled {W = W} plain stored number covers (Open t) pool staged)
-          (λ s n first puts syncs second pooled. blocks_stored pooled puts syncs first.more second.more) old (Open m) first puts syncs second pooled) mid new second first puts syncs
+      (λ s n first puts syncs second pooled. blocks_stored pooled puts syncs first.more second.more) old (Open m) first puts syncs second pooled) mid new second first puts syncs
 
 module _ {S W : Type 0} (stored : S → Kept (At Finalization)) (number : S → ℕ) (covers : S → ℕ → List (At Finalization)) where
   certs_there : (place : Place S W) (pool : Pool) → CertsPooled stored number covers place pool → is_there place ≡ true
@@ -188,4 +188,4 @@ module _ {S W : Type 0} (stored : S → Kept (At Finalization)) (number : S → 
   pub certs_stored_in : (left : W → Left (At Finalization)) (old mid new : Place S W) (pool : Pool) → StaysIn stored number covers old mid → StaysIn stored number covers mid new → Syncs (kept_at stored left mid) (kept_at stored left new) → CertsPooled stored number covers old pool → CertsPooled stored number covers new pool
   certs_stored_in left old mid new pool first second syncs pooled = in_place stored number covers (λ m n. StaysIn stored number covers old m → Syncs (kept_at stored left m) (kept_at stored left n) → CertsPooled stored number covers n pool)
       (λ m t second first syncs. in_place stored number covers (λ o n. Syncs (kept_at stored left n) (stored t) → StaysIn {W = W} stored number covers n (Open t) → CertsPooled stored number covers o pool → CertsPooled {W = W} stored number covers (Open t) pool)
-          (λ s n first syncs second pooled. certs_stored pooled syncs first.more second.more) old (Open m) first syncs second pooled) mid new second first syncs
+      (λ s n first syncs second pooled. certs_stored pooled syncs first.more second.more) old (Open m) first syncs second pooled) mid new second first syncs

@@ -217,7 +217,11 @@ pub fn finish_certificates<V: Variant, F: CommitsTo<V::Commitment>, FC: Certific
 }
 
 /// Puts what is left of a lost store in its place.
-fn lose<S: Drop, W: Drop, C: Named>(place: &mut Place<S, W>, lost: Lost<W>, store: StoreName) -> Fault<C>
+fn lose<S: Drop, W: Drop, C: Named>(
+    place: &mut Place<S, W>,
+    lost: Lost<W>,
+    store: StoreName,
+) -> Fault<C>
     ensures left { place.new ≡ Gone (wreck_of lost) }
     ensures fault { fault_of C.bytes result ≡ lost_fault (store_name_of store) lost }
 {

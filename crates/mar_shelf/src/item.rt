@@ -5,8 +5,8 @@ ghost use Rattle.mar_shelf.specs.Fitting.{fits_at};
 
 use mar_block::Variant;
 use mar_cert::CommitsTo;
-use mar_types::Digest;
 use mar_store::Item;
+use mar_types::Digest;
 use std::alloc::AllocError;
 use std::marker::{Model, PhantomData};
 

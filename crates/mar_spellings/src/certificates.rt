@@ -4,7 +4,9 @@ use mar_cert::{
     MockCertificate, MockFinalization, MockNotarization, MockScheme, Proposal, Scheme, Scoped,
     Subject, verify_certificates,
 };
-use mar_types::{Decode, Digest, Encode, EncodeSize, Epoch, Error, Round, Sha256Digest, read_front};
+use mar_types::{
+    Decode, Digest, Encode, EncodeSize, Epoch, Error, Round, Sha256Digest, read_front,
+};
 use std::alloc::{AllocError, Global};
 
 // No certificate that is told of takes more bytes.

@@ -1,6 +1,8 @@
 //! What mar_types makes of a case.
 use crate::answers::{shown, spelled, told, told_by};
-use mar_types::{Decode, Error, Hasher, Kind, NonEmptyVec, Participant, Reason, Sha256, Sha256Digest, U64, UInt};
+use mar_types::{
+    Decode, Error, Hasher, Kind, NonEmptyVec, Participant, Reason, Sha256, Sha256Digest, U64, UInt,
+};
 use std::alloc::{AllocError, Global};
 
 // The digest of this message so many times, each time in two pieces, through the bound.

@@ -1,6 +1,6 @@
 //! What is made of the bytes of a key.
-use mar_types::{Decode, Encode, EncodeSize, Sha256Digest};
 use mar_key::Key;
+use mar_types::{Decode, Encode, EncodeSize, Sha256Digest};
 use std::alloc::{AllocError, Global};
 
 // The key as both of its texts write it, and the bytes that spell it.

@@ -1,7 +1,10 @@
 //! What mar_types makes of a case.
 use crate::answers::{shown, spelled, told};
 use mar_types::coding::{CodingConfig, CodingScheme, Commitment};
-use mar_types::{Decode, Digestible, Epoch, EpochDelta, Epocher, Error, FixedEpocher, Hasher, Height, HeightDelta, Round, Sha256, Sha256Digest, TermLength, UInt, View, ViewDelta};
+use mar_types::{
+    Decode, Digestible, Epoch, EpochDelta, Epocher, Error, FixedEpocher, Hasher, Height,
+    HeightDelta, Round, Sha256, Sha256Digest, TermLength, UInt, View, ViewDelta,
+};
 use std::alloc::{AllocError, Global};
 use std::num::{NonZeroU32, NonZeroU64};
 

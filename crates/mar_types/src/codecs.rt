@@ -10,8 +10,8 @@ use crate::epochs::Epoch;
 use crate::heights::Height;
 use crate::rounds::Round;
 use crate::views::View;
-use bytes::{Buf, BufMut};
 use crate::{EncodeSize, Error, MaxEncodeSize, Read, Span, U64, UInt, Write};
+use bytes::{Buf, BufMut};
 use std::alloc::{AllocError, Global};
 
 impl Write for Epoch {

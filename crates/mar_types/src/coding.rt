@@ -7,8 +7,8 @@ ghost use Rattle.mar_types.specs.Coding.{RefusesConfig, RefusesShards, SpellsCon
 ghost use Rattle.mar_types.specs.CodingLemmas.{config_unambiguous};
 
 pub use crate::commitments::{COMMITMENT_DIGEST_SIZE, COMMITMENT_SIZE, Commitment};
-use bytes::{Buf, BufMut};
 use crate::{Digest, EncodeSize, Error, FixedSize, Kind, Read, Reason, Write, read_array};
+use bytes::{Buf, BufMut};
 use std::alloc::{AllocError, Global};
 use std::num::NonZeroU16;
 

@@ -10,11 +10,11 @@ ghost use Rattle.mar_types.specs.CodingLemmas.{commitment_unambiguous};
 
 use crate::coding::{CodingConfig, CodingScheme};
 use crate::fields::{FieldDigest, field, field_bytes, put_field, read_field};
-use bytes::{Buf, BufMut};
 use crate::{
     Array, Digest, Digestible, EncodeSize, Error, FixedSize, Hasher, Named, Read, Reason, Span,
     Words, Write, read_array, write_hex,
 };
+use bytes::{Buf, BufMut};
 use std::alloc::{AllocError, Global};
 use std::convert::AsSlice;
 use std::fmt;

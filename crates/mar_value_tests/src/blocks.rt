@@ -6,7 +6,9 @@ use bytes::BytesMut;
 use mar_block::mocks::{Block as MockBlock, ready};
 use mar_block::*;
 use mar_cert::MockScheme;
-use mar_types::{Decode, Digest, Digestible, Hasher, Height, MaxEncodeSize, Sha256, Sha256Digest, UInt};
+use mar_types::{
+    Decode, Digest, Digestible, Hasher, Height, MaxEncodeSize, Sha256, Sha256Digest, UInt,
+};
 use std::alloc::Global;
 use std::process::Abort;
 

@@ -2,7 +2,9 @@
 use mar_block::{empty_blocks_compared, mock_blocks_compared, sent_compared};
 use mar_cert::{MockCertificate, certified_compared, mocks_compared};
 use mar_key::{annotation_laws, floor_laws, request_laws};
-use mar_types::{Sha256, Sha256Digest, configs_compared, equal_by_parts, numbers_compared, refusals_compared};
+use mar_types::{
+    Sha256, Sha256Digest, configs_compared, equal_by_parts, numbers_compared, refusals_compared,
+};
 
 fn values_have_laws() {
     numbers_compared();

@@ -1,6 +1,6 @@
 //! What a test asks of a value. No function here has an `ensures`, so a test that calls one has nothing to carry.
 use bytes::BytesMut;
-use mar_types::{*, Epoch, Round, View};
+use mar_types::{Epoch, Round, View, *};
 use std::alloc::Global;
 use std::cmp::Ordering;
 use std::fmt::{Debug, Display};

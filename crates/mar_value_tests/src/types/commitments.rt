@@ -4,7 +4,10 @@ ghost use Rattle.std.specs.Int.NonZero.{non_zero_u16_get};
 
 use crate::tell::*;
 use mar_types::coding::{self, CodingConfig, CodingScheme};
-use mar_types::{Array, COMMITMENT_DIGEST_SIZE, COMMITMENT_SIZE, Commitment, Digest, Digestible, EncodeSize, FixedSize, Hasher, Sha256, Sha256Digest};
+use mar_types::{
+    Array, COMMITMENT_DIGEST_SIZE, COMMITMENT_SIZE, Commitment, Digest, Digestible, EncodeSize,
+    FixedSize, Hasher, Sha256, Sha256Digest,
+};
 use std::alloc::Global;
 use std::convert::AsSlice;
 use std::num::NonZeroU16;

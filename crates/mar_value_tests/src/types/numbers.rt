@@ -1,6 +1,6 @@
 //! Numbers of epochs, heights and views, and the distances between them.
 use crate::tell::*;
-use mar_types::{*, MaxEncodeSize, U64};
+use mar_types::{MaxEncodeSize, U64, *};
 
 #[test]
 fn heights_stop_at_their_ends(rt: HostRuntime) {

@@ -4,7 +4,9 @@ ghost use Rattle.mar_types.specs.Round.{round_lt};
 
 use crate::tell::*;
 use bytes::{BufMut, BytesMut};
-use mar_types::{EncodeSize, Epoch, Epochable, Error, Height, Read, ReadExt, Round, Span, View, Viewable, Write};
+use mar_types::{
+    EncodeSize, Epoch, Epochable, Error, Height, Read, ReadExt, Round, Span, View, Viewable, Write,
+};
 use std::alloc::{AllocError, Global};
 use std::process::Abort;
 

@@ -6,7 +6,10 @@ ghost use Rattle.mar_types.specs.Digest.{IsBytes, IsBytes-prop};
 ghost use Rattle.mar_types.specs.DigestLemmas.{bytes_unambiguous, same_proof};
 
 use bytes::{Buf, BufMut};
-use mar_types::{Digest, EncodeSize, Error, FieldDigest, FixedSize, Named, Read, Words, Write, read_array, write_hex};
+use mar_types::{
+    Digest, EncodeSize, Error, FieldDigest, FixedSize, Named, Read, Words, Write, read_array,
+    write_hex,
+};
 use std::alloc::{AllocError, Global};
 use std::convert::AsSlice;
 use std::fmt;

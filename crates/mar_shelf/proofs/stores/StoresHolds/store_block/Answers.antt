@@ -11,9 +11,12 @@ returns-in_err-put_block-clause-goes_on g c =
     rw (p.1, p.2, ← c.self.view_is) (λ start all grew within. Loses-blocks start all _ grew _ _ _ _ within.blocks c.in_err-put_block.ensures.failed.fails c.in_err-put_block.ensures.failed.cause)
 
 pub invariant_of-self-2 : goal.invariant_of-self-2
-invariant_of-self-2 g c = (either c.sync_blocks.result (both_done _ _ c.sync_blocks.result c.sync_blocks.ensures.stays c.sync_blocks.ensures.done) c.sync_blocks.ensures.left
+invariant_of-self-2 g c = (
+  either c.sync_blocks.result (both_done _ _ c.sync_blocks.result c.sync_blocks.ensures.stays c.sync_blocks.ensures.done) c.sync_blocks.ensures.left
       (λ ok. blocks_stored_in g.V.Variant.plain g.FB.Blocks.stored g.FB.Blocks.number g.FB.Blocks.covers g.FB.Wreck.BlocksRuin.left _ _ _ c.self.inside.writes c.self.inside.staged.blocks c.in_ok-put_block.ensures.stays ok.0 c.in_ok-put_block.ensures.done ok.1 c.self.invariant.0)
-      (λ gone. blocks_left_after g.V.Variant.plain g.FB.Blocks.stored g.FB.Blocks.number g.FB.Blocks.covers _ _ _ _ _ c.in_ok-put_block.ensures.stays gone), c.self.invariant.1)
+      (λ gone. blocks_left_after g.V.Variant.plain g.FB.Blocks.stored g.FB.Blocks.number g.FB.Blocks.covers _ _ _ _ _ c.in_ok-put_block.ensures.stays gone),
+  c.self.invariant.1,
+)
 
 pub returns-clause-ok : goal.returns-clause-ok
 returns-clause-ok g c = rw (← c.self.view_is) (done_so c.sync_blocks.result c.sync_blocks.ensures.done (λ done. StoresValue-synced _ _ _ _ _ c.in_ok-put_block.ensures.done done))

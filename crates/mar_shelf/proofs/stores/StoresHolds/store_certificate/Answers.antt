@@ -11,9 +11,12 @@ returns-in_err-put_certificate-clause-goes_on g c =
     rw (p.1, p.2, ← c.self.view_is) (λ start all grew within. Loses-certs start all _ grew _ _ _ _ within.certs c.in_err-put_certificate.ensures.failed.fails c.in_err-put_certificate.ensures.failed.cause)
 
 pub invariant_of-self-2 : goal.invariant_of-self-2
-invariant_of-self-2 g c = (c.self.invariant.0, either c.sync_certificates.result (both_done _ _ c.sync_certificates.result c.sync_certificates.ensures.stays c.sync_certificates.ensures.done) c.sync_certificates.ensures.left
+invariant_of-self-2 g c = (
+  c.self.invariant.0,
+  either c.sync_certificates.result (both_done _ _ c.sync_certificates.result c.sync_certificates.ensures.stays c.sync_certificates.ensures.done) c.sync_certificates.ensures.left
       (λ ok. certs_stored_in g.FC.Certificates.stored g.FC.Certificates.number g.FC.Certificates.covers g.FC.Wreck.CertificatesRuin.left _ _ _ c.self.inside.writes c.in_ok-put_certificate.ensures.stays ok.0 ok.1 c.self.invariant.1)
-      (λ gone. certs_left_after g.FC.Certificates.stored g.FC.Certificates.number g.FC.Certificates.covers _ _ _ _ c.in_ok-put_certificate.ensures.stays gone))
+      (λ gone. certs_left_after g.FC.Certificates.stored g.FC.Certificates.number g.FC.Certificates.covers _ _ _ _ c.in_ok-put_certificate.ensures.stays gone),
+)
 
 pub returns-clause-ok : goal.returns-clause-ok
 returns-clause-ok g c = rw (← c.self.view_is) (done_so c.sync_certificates.result c.sync_certificates.ensures.done (λ done. StoresValue-synced _ _ _ _ _ c.in_ok-put_certificate.ensures.done done))
