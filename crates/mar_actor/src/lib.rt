@@ -43,6 +43,8 @@
 //! (`Unbacked`, `Corrupt`). A finalized block that isn't at hand is asked for by its commitment; blocks below it are not
 //! asked for yet.
 //!
+//! An opening takes the memory that the stores stand in while the life runs, and moving a node moves none of them.
+//!
 //! # Limits
 //!
 //! A block or a finalization takes at most 1,048,576 bytes. The last height, 2^64 - 1, can't be stored (`HeightLimit`), and

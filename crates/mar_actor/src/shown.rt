@@ -23,15 +23,17 @@ impl<V: Variant, S: Holds<V>, P: Drop, E: Epocher> Node<V, S, P, E> {
         ensures certs_sure { result.certs_sure.now ≡ ranges (heights self.now.held.certs.sure) }
         ensures writes { writing_of result.writes.now ≡ self.now.held.writes }
     {
+        let stores = self.stores.as_ref();
+        let floor = stores.floor();
         Shown {
-            processed: self.stores.floor().processed(),
+            processed: floor.processed(),
             acks: &self.life.acks,
-            cutoff: self.stores.floor().cutoff(),
-            blocks_held: self.stores.blocks_held(),
-            blocks_sure: self.stores.blocks_sure(),
-            certs_held: self.stores.certificates_held(),
-            certs_sure: self.stores.certificates_sure(),
-            writes: self.stores.writes(),
+            cutoff: floor.cutoff(),
+            blocks_held: stores.blocks_held(),
+            blocks_sure: stores.blocks_sure(),
+            certs_held: stores.certificates_held(),
+            certs_sure: stores.certificates_sure(),
+            writes: stores.writes(),
         }
     }
 }

@@ -1,0 +1,21 @@
+use Rattle.std.proofs.Common.{refl}
+use Rattle.mar_actor.proofs.node.Node.step.Goals as goal
+
+pub returns-in-Ok : goal.returns-in-Ok
+returns-in-Ok g c =
+    let lives = c.in-Ok.ensures.lives in
+    rw (← c.self.view_is, ← c.deref_mut.ensures.value) (record {
+      promise = c.in-Ok.ensures.promise;
+      answered = c.in-Ok.ensures.answered;
+      buffer = refl;
+      unanswered = tt;
+      watches = lives.passed;
+      cause = tt;
+      idle = λ t is closed. let same = c.in-Ok.ensures.idle t is closed in rw (same.1, same.2) refl;
+      by_value = c.in-Ok.ensures.by_value;
+      tells = c.in-Ok.ensures.tells;
+      tickets = lives.tickets;
+      sync_tickets = lives.sync_tickets;
+      runs_out = tt;
+      same_life = (lives.provider, lives.epocher, lives.sizes);
+    })
