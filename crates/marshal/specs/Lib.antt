@@ -1,4 +1,1 @@
-pub mod Turn
-pub mod Playing
-pub mod Gen
 pub mod Commands

@@ -4,7 +4,7 @@ ghost use Rattle.mar_types.specs.Causes.{Rose};
 ghost use Rattle.mar_script.specs.Endings.{IsWritersEnd};
 ghost use Rattle.mar_script.specs.Streams.{Takes, TakesFront};
 
-use crate::command::are_only;
+use mar_replay::are_only;
 use mar_script::{Sink, Status, write_text};
 
 const HELP: &str = "usage: marshal COMMAND

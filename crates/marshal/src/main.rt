@@ -6,19 +6,12 @@ ghost use Rattle.std.specs.Prelude.{◌≡◌, ◌↔◌, map, string_bytes};
 ghost use Rattle.mar_script.specs.Run.{fresh_stores};
 ghost use Rattle.marshal.specs.Commands.{IsCommand};
 
-mod command;
-mod generate;
-mod heard;
 mod help;
-mod play;
-mod replay;
-mod run;
-mod turn;
 
 use crate::help::{show, text_for};
-use crate::run::{ScriptRuins, run};
 use mar_block::StandardBlocks;
 use mar_cert::MockFinalization;
+use mar_replay::{ScriptRuins, run};
 use mar_script::{Input as InputSource, Output, Sink, Status};
 use mar_shelf::prunable::Archive;
 use mar_shelf::{BlockItem, Blocks, CertificateItem, Certificates, NoShelf, Ruins, Shelf};

@@ -1,0 +1,302 @@
+-- What `play` makes of each line.
+use Rattle.std.proofs.Common.{Contains, List, None, Option, [], ap, arith, refl, subst, sym, ℕ, ◌++◌, ◌+◌, ◌<◌, ◌∷◌, ◌≡◌, ◌≤◌, ◌⊎◌, ◌*◌, ◌∙◌}
+use Rattle.std.proofs.lemmas.List.Elements.{Contains-append_left}
+use Rattle.mar_types.specs.declared.Sha256Digest.{Sha256Digest}
+use Rattle.mar_types.specs.Epochs.{fixed_epochs}
+use Rattle.mar_cert.specs.Block.{Block}
+use Rattle.mar_block.specs.Sent.{Held}
+use Rattle.mar_cert.specs.Finalization.{Finalization}
+use Rattle.mar_node.specs.Messages.{report_finalization}
+use Rattle.mar_key.specs.Asked.{asked_after}
+use Rattle.mar_node.specs.Chain.{Chain}
+use Rattle.mar_node.specs.Config.{Config}
+use Rattle.mar_node.specs.Event.{Event, life_started, message_told}
+use Rattle.mar_node.specs.Faults.{Fault, StoreName, from_genesis, ticket_limit}
+use Rattle.mar_node.specs.Held.{ArePassed, FailsBy, IsUsual, Remains, Sizes, Watches, picks_of, remains_of, with_armed}
+use Rattle.mar_node.specs.Lives.{CutsReopening, Finds}
+use Rattle.mar_node.specs.Stored.{AreSmall}
+use Rattle.mar_store.specs.Sizes.{IsSmall}
+use Rattle.mar_store.proofs.Lookups.{AllByRecursion-push}
+use Rattle.mar_node.specs.Promise.{IsGoodUntold, IsLawfulStep, IsOpeningFault, IsSetTo, Waiting, node_of, none_waiting}
+use Rattle.mar_node.specs.Node.{Node}
+use Rattle.mar_node.specs.Step.{Made, Steps, nothing_made}
+use Rattle.mar_node.proofs.Passing.{ArePassed-refl}
+use Rattle.mar_node.proofs.Reaching.{IsGood-beside, Rest-beside}
+use Rattle.mar_shelf.specs.declared.fault.Fault.{Fault as FaultCode}
+use Rattle.mar_shelf.specs.declared.fault.TicketKind.{TicketKind}
+use Rattle.mar_shelf.specs.declared.fault.TicketKind.TheVariants.{Ack, Sync}
+use Rattle.mar_shelf.specs.Views.{kind_of}
+use Rattle.mar_script.specs.Refused.{max_lines}
+use Rattle.mar_script.specs.Accounts.{Account, Calls, CallsEnd, luck_after}
+use Rattle.mar_script.specs.Plays.{IsBetween, IsLawfulLine, Plays, max_window}
+use Rattle.mar_replay.specs.Playing.{AfterEvent, HasLuck, IsNearLast, IsOpenAs, IsPendingAs, IsSetNode, PlaysLine, SeenNode, TakesEvent, account_in, empty_buffer}
+use Rattle.mar_script.specs.Run.{LineDone, OpenDone, StepDone, still_unanswered}
+use Rattle.mar_script.specs.Script.{Line, Settings, buffer_line, config_of, crash_line, fail_line, open_line, tell_line}
+use Rattle.mar_script.specs.Text.{Output, State, running, stopped}
+use Rattle.mar_script.specs.Shown.{plain_fault}
+use Rattle.mar_script.proofs.Accounts.{CallsEnd-then}
+use Rattle.mar_replay.specs.Turn.{fault_in, open_in, output_of, remains_in, state_of, state_with, waiting_with}
+use Rattle.mar_replay.specs.declared.play.Outcome.{Outcome}
+use Rattle.mar_replay.specs.declared.play.Outcome.TheVariants as outcome
+use Rattle.mar_replay.specs.declared.play.Pending.{Pending}
+use Rattle.mar_replay.specs.declared.play.State.{State as StateCode}
+use Rattle.mar_replay.specs.declared.play.State.TheVariants as state
+use Rattle.mar_script.specs.declared.RemarkShown.{RemarkShown}
+use Rattle.mar_replay.proofs.Lasting.{IsPlain, starts, syncs_after, syncs_last, tickets_after, tickets_last}
+use Rattle.mar_replay.proofs.LineTurns.{cut_between, cut_usual, lawful_step, step_between, step_cut, step_done}
+use Rattle.mar_replay.proofs.Replaying.{between_left}
+use Rattle.mar_replay.proofs.OpeningTurns.{lawful_start, opening_cut, opening_done, opening_usual, start_cut, undropped-found}
+
+none_in : (b : Block) → Contains [] b → ⊥
+none_in b has = let lt : has.0 < 0 = has.1 in omega arith
+
+-- the tickets of so many lines last
+never_last : (k : ℕ) (seen : SeenNode) (fault : Fault) → seen.life.next_ack ≤ max_window * k → seen.held.writes.next_sync ≤ k → k ≤ max_lines → seen.life.sizes.window ≤ max_window → IsNearLast seen fault → (kind : TicketKind) → fault ≡ ticket_limit (kind_of kind) → ⊥
+never_last k seen fault acks syncs few narrow near Ack is = tickets_last k seen.life.next_ack seen.life.sizes.window acks few narrow (near.0 is)
+never_last k seen fault acks syncs few narrow near Sync is = syncs_last k seen.held.writes.next_sync syncs few (near.1 is)
+
+-- a state behind one line more
+later_state : (config : Config) (chain : Chain) (k : ℕ) (s : State) → IsBetween config chain k s → IsBetween config chain (k + 1) s
+later_state config chain k (running n) (good, rests, lasting) = (good, rests, record { undropped = lasting.undropped; tickets = omega (arith, lasting.tickets); sync_tickets = omega (arith, lasting.sync_tickets); answer_tickets = omega (arith, lasting.answer_tickets) })
+later_state config chain k (stopped e) between = between
+
+-- what is asked of a state doesn't look at the buffer
+put_between : (config : Config) (chain : Chain) (k : ℕ) (seen : SeenNode) (before after : List Block) (waiting : Waiting) → IsBetween config chain k (running (node_of seen before waiting)) → IsBetween config chain (k + 1) (running (node_of seen after waiting))
+put_between config chain k seen before after waiting (good, rests, lasting) = (
+  IsGood-beside config chain seen before after waiting waiting good.of_chain.asks.requests good,
+  Rest-beside config.window seen before after waiting waiting rests,
+  record { undropped = lasting.undropped; tickets = omega (arith, lasting.tickets); sync_tickets = omega (arith, lasting.sync_tickets); answer_tickets = omega (arith, lasting.answer_tickets) },
+)
+
+-- nothing is pending as a life begins
+abbrev pub first_pending : Pending
+first_pending = record { requests = []; next_answer = 0 }
+
+-- who waits between two lines
+abbrev pub between : Pending → Waiting
+between pending = waiting_with pending.requests pending.next_answer
+
+module _ {H R : Type 0} where
+  abbrev Stopped : Remains → ℕ → StateCode H R
+  Stopped left luck = state.Stopped left luck
+
+  abbrev pub Running : SeenNode → Held → Pending → StateCode H R
+  Running seen buffer pending = state.Running seen buffer pending
+
+  -- nothing changed
+  keeps_open : (s : StateCode H R) → IsOpenAs (open_in s) s
+  keeps_open (state.Running seen buffer pending) = refl
+  keeps_open (state.Stopped left luck) = tt
+
+  -- a line that does nothing, for a reason
+  pub plays_remark : (config : Config) (s : StateCode H R) (l : Line) (r : RemarkShown) → ((chain : Chain) (account : Account) → LineDone config chain account (state_of s) l (output_of nothing_made (outcome.Remark r)) (state_of s))
+      → ((watches : Watches) → Calls watches l None watches) → ((luck : ℕ) → luck_after luck l None ≡ luck) → PlaysLine config s l (output_of nothing_made (outcome.Remark r)) s
+  plays_remark config s l r done calls luck = record {
+    set = λ is. is;
+    small = λ line small. small;
+    calls = calls (remains_in s).watches;
+    lucky = λ before has. subst (λ k. HasLuck k s) (sym (luck before)) has;
+    opened = keeps_open s;
+    plays = λ is before has chain k lawful. record { done = done chain (account_in before s); between = later_state config chain k (state_of s) lawful.between; buffered = λ b has. Contains-append_left _ _ b has; excused = tt };
+  }
+
+  -- a store is made to fail
+  pub plays_fail : (config : Config) (seen new : SeenNode) (buffer : Held) (pending : Pending) (store : StoreName) (calls : ℕ) → new ≡ record seen { held = record seen.held { watches = with_armed store calls seen.held.watches } }
+      → PlaysLine config (Running seen buffer pending) (fail_line store calls) (output_of nothing_made outcome.Done) (Running new buffer pending)
+  plays_fail config seen new buffer pending store calls is = subst (λ (n : SeenNode). PlaysLine config (Running seen buffer pending) (fail_line store calls) (output_of nothing_made outcome.Done) (Running n buffer pending)) (sym is) (record {
+    set = λ set. set;
+    small = λ line small. small;
+    calls = refl;
+    lucky = λ before has. tt;
+    opened = refl;
+    plays = λ set before has chain k lawful. record { done = (refl, refl); between = later_state config chain k (running (node_of seen buffer.blocks (between pending))) lawful.between; buffered = λ b has. Contains-append_left _ _ b has; excused = tt };
+  })
+
+  pub plays_fail_left : (config : Config) (left new : Remains) (luck : ℕ) (store : StoreName) (calls : ℕ) → new.ended ≡ left.ended → new.watches ≡ with_armed store calls left.watches
+      → PlaysLine config (Stopped left luck) (fail_line store calls) (output_of nothing_made outcome.Done) (Stopped new luck)
+  plays_fail_left config left new luck store calls ended armed = record {
+    set = λ set. tt;
+    small = λ line small. tt;
+    calls = armed;
+    lucky = λ before has. has;
+    opened = tt;
+    plays = λ set before has chain k lawful. record {
+      done = (refl, ap stopped ended);
+      between = subst (λ e. IsBetween config chain (k + 1) (stopped e)) (sym ended) lawful.between;
+      buffered = λ b has. absurd (none_in b has);
+      excused = tt;
+    };
+  }
+
+  -- a block is put into the buffer
+  pub plays_put : (config : Config) (seen : SeenNode) (buffer new : Held) (pending : Pending) (b : Block) → new.blocks ≡ buffer.blocks ++ b ∷ [] → PlaysLine config (Running seen buffer pending) (buffer_line b) (output_of nothing_made outcome.Done) (Running seen new pending)
+  plays_put config seen buffer new pending b is = record {
+    set = λ set. set;
+    small = λ line small. subst AreSmall (sym is) (AllByRecursion-push (λ x. IsSmall x.encoded) buffer.blocks b small line);
+    calls = ArePassed-refl seen.held.watches;
+    lucky = λ before has. tt;
+    opened = refl;
+    plays = λ set before has chain k lawful. record {
+      done = (refl, ap (λ bs. running (node_of seen bs (between pending))) is);
+      between = put_between config chain k seen buffer.blocks new.blocks (between pending) lawful.between;
+      buffered = λ x has. subst (λ bs. Contains bs x) is has;
+      excused = tt;
+    };
+  }
+
+  -- a crash ends a life
+  pub plays_crash : (config : Config) (seen : SeenNode) (buffer : Held) (pending : Pending) (luck : ℕ) → PlaysLine config (Running seen buffer pending) (crash_line luck) (output_of nothing_made outcome.Done) (Stopped (remains_of seen.held) luck)
+  plays_crash config seen buffer pending luck = record {
+    set = λ is. tt;
+    small = λ line small. tt;
+    calls = ArePassed-refl seen.held.watches;
+    lucky = λ before has. refl;
+    opened = tt;
+    plays = λ is before has chain k lawful. record { done = (refl, refl); between = between_left config chain k (running (node_of seen buffer.blocks (between pending))) lawful.between; buffered = λ b has. absurd (none_in b has); excused = tt };
+  }
+
+  -- or sets the luck alone, where no life runs
+  pub plays_crash_left : (config : Config) (left : Remains) (before luck : ℕ) → PlaysLine config (Stopped left before) (crash_line luck) (output_of nothing_made outcome.Done) (Stopped left luck)
+  plays_crash_left config left before luck = record {
+    set = λ is. tt;
+    small = λ line small. tt;
+    calls = ArePassed-refl left.watches;
+    lucky = λ was has. refl;
+    opened = tt;
+    plays = λ is was has chain k lawful. record { done = (refl, refl); between = lawful.between; buffered = λ b has. absurd (none_in b has); excused = tt };
+  }
+
+  -- behind an event of the life, whoever waited beside it
+  module _ (seen : SeenNode) (buffer : Held) (pending : Pending) (l : Line) (e : Event) (made : Made) (config : Config) (chain : Chain) (k : ℕ) (waiting : Waiting) (plain : IsPlain e) (set : IsSetNode config seen)
+      (lawful : IsLawfulLine config chain k (running (node_of seen buffer.blocks (between pending))) l) (step : IsLawfulStep config chain (node_of seen buffer.blocks waiting) (e ∷ [])) (few : waiting.next_answer ≤ k + 1) (answered : (n' : Node) → Steps config chain (node_of seen buffer.blocks waiting) (e ∷ []) made n' → still_unanswered made.answers [] waiting.unanswered ≡ [])
+      (account : Account) (line_done : (out : Output) (s : State) → StepDone config chain (node_of seen buffer.blocks waiting) (e ∷ []) [] (λ m. []) out s → LineDone config chain account (running (node_of seen buffer.blocks (between pending))) l out s)
+    where
+      pub after_event : (after : StateCode H R) (o : Outcome) (next : ℕ) → waiting.next_answer ≡ next → AfterEvent config chain seen buffer.blocks waiting e made after o
+          → ((new : SeenNode) (kept : Held) (now : Pending) → after ≡ state.Running new kept now → now.next_answer ≡ next)
+          → Plays config chain k account (running (node_of seen buffer.blocks (between pending))) l (output_of made o) (state_with (asked_after waiting.requests [] made.asks) after)
+      after_event (state.Running new kept now) outcome.Done next is (steps, same, tickets) next_is = record {
+        done = subst (λ t. LineDone config chain account (running (node_of seen buffer.blocks (between pending))) l (output_of made outcome.Done) (running (node_of new kept.blocks (waiting_with (asked_after waiting.requests [] made.asks) t)))) (is ∙ sym (next_is new kept now refl))
+            (line_done _ _ (step_done config chain seen buffer.blocks waiting e made new kept.blocks (answered _ steps) steps));
+        between = subst (λ t. IsBetween config chain (k + 1) (running (node_of new kept.blocks (waiting_with (asked_after waiting.requests [] made.asks) t)))) (is ∙ sym (next_is new kept now refl))
+            (step_between config chain seen buffer.blocks waiting k e plain made new kept.blocks lawful.between.2.undropped steps
+            (tickets_after k seen.life.next_ack new.life.next_ack seen.life.sizes.window lawful.between.2.tickets (subst (λ w. w ≤ max_window) set.window lawful.narrow) tickets.0)
+            (syncs_after k seen.held.writes.next_sync new.held.writes.next_sync lawful.between.2.sync_tickets tickets.1) few);
+        buffered = λ b has. Contains-append_left _ _ b (subst (λ xs. Contains xs b) same has);
+        excused = tt;
+      }
+      after_event (state.Stopped left luck) (outcome.Fault fault) next is (cuts, limit) next_is = record {
+        done = line_done _ _ (step_cut config chain seen buffer.blocks waiting e made fault left.ended cuts);
+        between = cut_between config chain seen buffer.blocks waiting (k + 1) e made (plain_fault fault) left.ended cuts;
+        buffered = λ b has. absurd (none_in b has);
+        excused = cut_usual config chain seen buffer.blocks waiting e plain made fault left.ended step lawful.between.2.undropped cuts
+            (never_last k seen (plain_fault fault) lawful.between.2.tickets lawful.between.2.sync_tickets lawful.few (subst (λ w. w ≤ max_window) set.window lawful.narrow) limit);
+      }
+      after_event (state.Running new kept now) (outcome.Remark r) next is done next_is = absurd done
+      after_event (state.Running new kept now) (outcome.Fault fault) next is done next_is = absurd done
+      after_event (state.Stopped left luck) outcome.Done next is done next_is = absurd done
+      after_event (state.Stopped left luck) (outcome.Remark r) next is done next_is = absurd done
+
+  -- what is pending is as it was given
+  pub pending_next : (before : Pending) (after : StateCode H R) → IsPendingAs before after → (new : SeenNode) (kept : Held) (now : Pending) → after ≡ state.Running new kept now → now.next_answer ≡ before.next_answer
+  pending_next before (state.Running n b p) kept_as new kept now is = ap (λ x. x.next_answer) (sym (inside is) ∙ kept_as)
+    where
+      inside : ◌≡◌ {A = StateCode H R} (state.Running n b p) (state.Running new kept now) → p ≡ now
+      inside same = cc
+  pending_next before (state.Stopped left luck) kept_as new kept now is = absurd (apart is)
+    where
+      apart : ◌≡◌ {A = StateCode H R} (state.Stopped left luck) (state.Running new kept now) → ⊥
+      apart same = cc
+
+  pub opened_as : (before : Pending) (after : StateCode H R) → IsPendingAs before after → IsOpenAs before.requests after
+  opened_as before (state.Running new kept now) kept_as = ap (λ p. p.requests) kept_as
+  opened_as before (state.Stopped left luck) kept_as = tt
+
+  -- a line that is one event of the life
+  pub plays_event : (seen : SeenNode) (buffer : Held) (pending : Pending) (l : Line) (e : Event) (made : Made) (after : StateCode H R) (o : Outcome) → IsPlain e → ((f : Finalization) → e ≡ message_told None (report_finalization f) → l ≡ tell_line (report_finalization f))
+      → ((before now : Watches) (fault : Option Fault) → CallsEnd before fault now → Calls before l fault now)
+      → ((config : Config) (chain : Chain) (account : Account) (waiting : Waiting) (out : Output) (s : State) → StepDone config chain (node_of seen buffer.blocks waiting) (e ∷ []) [] (λ m. []) out s → LineDone config chain account (running (node_of seen buffer.blocks waiting)) l out s)
+      → TakesEvent seen buffer pending e made after o → (config : Config) → PlaysLine config (Running seen buffer pending) l (output_of made o) after
+  plays_event seen buffer pending l e made after o plain same calls line_done takes config = record {
+    set = λ is. takes.set config is;
+    small = λ line small. takes.small small;
+    calls = calls seen.held.watches (remains_in after).watches (fault_in o) takes.calls;
+    lucky = λ before has. takes.lucky before l;
+    opened = opened_as pending after takes.pending_as;
+    plays = λ is before has chain k lawful.
+        let step = lawful_step config chain seen buffer.blocks (between pending) k l e plain lawful same in
+        after_event seen buffer pending l e made config chain k (between pending) plain is lawful step (let low : pending.next_answer ≤ k = lawful.between.2.answer_tickets in omega arith) (λ n' steps. refl) (account_in before (Running seen buffer pending)) (line_done config chain (account_in before (Running seen buffer pending)) (between pending)) after o pending.next_answer refl
+        (takes.done config chain (between pending) is step) (pending_next pending after takes.pending_as);
+  }
+
+  -- an opening that was cut before its start
+  pub plays_unopened : (config : Config) (before left : Remains) (luck : ℕ) (g : Block) (fault : FaultCode Sha256Digest)
+      → ((chain : Chain) (k : ℕ) → IsLawfulLine config chain k (stopped before.ended) (open_line (from_genesis g)) → CutsReopening config chain before.ended (picks_of before luck) (from_genesis g) nothing_made (plain_fault fault) left.ended)
+      → FailsBy before.watches (plain_fault fault) left.watches → IsUsual (plain_fault fault) ⊎ IsOpeningFault before.ended (from_genesis g) (plain_fault fault) → PlaysLine config (Stopped before luck) (open_line (from_genesis g)) (output_of nothing_made (outcome.Fault fault)) (Stopped left 0)
+  plays_unopened config before left luck g fault cuts fails kind = record {
+    set = λ is. tt;
+    small = λ line small. tt;
+    calls = fails;
+    lucky = λ was has. refl;
+    opened = tt;
+    plays = λ is was has chain k lawful. record {
+      done = subst (λ j. OpenDone config chain before.ended (picks_of before j) (from_genesis g) (output_of nothing_made (outcome.Fault fault)) (stopped left.ended)) has (opening_cut config chain before.ended (picks_of before luck) g fault left.ended (cuts chain k lawful));
+      between = ((cuts chain k lawful).leaves.good, (cuts chain k lawful).leaves.some_pair);
+      buffered = λ b has. absurd (none_in b has);
+      excused = opening_usual config chain before.ended (picks_of before luck) g fault k lawful kind;
+    };
+  }
+
+  -- an opening, and the start of its life
+  pub plays_opening : (config : Config) (before : Remains) (luck : ℕ) (g : Block) (seen : SeenNode) (made : Made) (after : StateCode H R) (o : Outcome) → IsSetNode config seen → ArePassed before.watches seen.held.watches
+      → ((chain : Chain) (k : ℕ) → IsLawfulLine config chain k (stopped before.ended) (open_line (from_genesis g)) → Finds config before.ended (picks_of before luck) (from_genesis g) (node_of seen [] none_waiting) × IsGoodUntold config chain (node_of seen [] none_waiting))
+      → TakesEvent seen empty_buffer first_pending (life_started None) made after o → PlaysLine config (Stopped before luck) (open_line (from_genesis g)) (output_of made o) after
+  plays_opening config before luck g seen made after o set passed begins takes = record {
+    set = λ is. takes.set config set;
+    small = λ line small. takes.small tt;
+    calls = CallsEnd-then before.watches seen.held.watches (remains_in after).watches (fault_in o) passed takes.calls;
+    lucky = λ was has. takes.lucky was (open_line (from_genesis g));
+    opened = opened_as first_pending after takes.pending_as;
+    plays = λ is was has chain k lawful.
+        let begun = begins chain k lawful in
+        subst (λ j. Plays config chain k (account_in j (Stopped before luck)) (stopped before.ended) (open_line (from_genesis g)) (output_of made o) (state_with (asked_after [] [] made.asks) after)) has
+        (by after o (pending_next first_pending after takes.pending_as) chain k lawful begun.0 begun.1 (takes.done config chain none_waiting set (lawful_start config chain before.ended (picks_of before luck) g seen begun.0 k lawful begun.1)));
+  }
+    where
+      by : (after : StateCode H R) (o : Outcome) → ((new : SeenNode) (kept : Held) (now : Pending) → after ≡ state.Running new kept now → now.next_answer ≡ 0) → (chain : Chain) (k : ℕ) → IsLawfulLine config chain k (stopped before.ended) (open_line (from_genesis g)) → Finds config before.ended (picks_of before luck) (from_genesis g) (node_of seen [] none_waiting) → IsGoodUntold config chain (node_of seen [] none_waiting) → AfterEvent config chain seen [] none_waiting (life_started None) made after o
+          → Plays config chain k (account_in luck (Stopped before luck)) (stopped before.ended) (open_line (from_genesis g)) (output_of made o) (state_with (asked_after [] [] made.asks) after)
+      by (state.Running new kept now) outcome.Done next_is chain k lawful finds good (steps, same, tickets) =
+          let first = undropped-found config before.ended (picks_of before luck) (from_genesis g) (node_of seen [] none_waiting) finds in
+          record {
+            done = subst (λ t. OpenDone config chain before.ended (picks_of before luck) (from_genesis g) (output_of made outcome.Done) (running (node_of new kept.blocks (waiting_with (asked_after [] [] made.asks) t)))) (sym (next_is new kept now refl))
+                (opening_done config chain before.ended (picks_of before luck) g seen finds made new kept.blocks steps);
+            between = subst (λ t. IsBetween config chain (k + 1) (running (node_of new kept.blocks (waiting_with (asked_after [] [] made.asks) t)))) (sym (next_is new kept now refl))
+                (step_between config chain seen [] none_waiting k (life_started None) starts made new kept.blocks first.0 steps
+                (tickets_after k seen.life.next_ack new.life.next_ack seen.life.sizes.window (omega (arith, first.1)) (subst (λ w. w ≤ max_window) set.window lawful.narrow) tickets.0)
+                (syncs_after k seen.held.writes.next_sync new.held.writes.next_sync (omega (arith, first.2)) tickets.1) (omega arith));
+            buffered = λ b has. absurd (none_in b (subst (λ xs. Contains xs b) same has));
+            excused = tt;
+          }
+      by (state.Stopped left now) (outcome.Fault fault) next_is chain k lawful finds good (cuts, limit) =
+          let first = undropped-found config before.ended (picks_of before luck) (from_genesis g) (node_of seen [] none_waiting) finds in
+          record {
+            done = start_cut config chain before.ended (picks_of before luck) g seen finds made fault left.ended good cuts;
+            between = cut_between config chain seen [] none_waiting (k + 1) (life_started None) made (plain_fault fault) left.ended cuts;
+            buffered = λ b has. absurd (none_in b has);
+            excused = cut_usual config chain seen [] none_waiting (life_started None) starts made fault left.ended (lawful_start config chain before.ended (picks_of before luck) g seen finds k lawful good) first.0 cuts
+                (never_last k seen (plain_fault fault) (omega (arith, first.1)) (omega (arith, first.2)) lawful.few (subst (λ w. w ≤ max_window) set.window lawful.narrow) limit);
+          }
+      by (state.Running new kept old) (outcome.Remark r) next_is chain k lawful finds good done = absurd done
+      by (state.Running new kept old) (outcome.Fault fault) next_is chain k lawful finds good done = absurd done
+      by (state.Stopped left now) outcome.Done next_is chain k lawful finds good done = absurd done
+      by (state.Stopped left now) (outcome.Remark r) next_is chain k lawful finds good done = absurd done
+
+-- the settings are those that the actor was opened with
+pub set_node : (s : Settings) (sizes : Sizes) (length : ℕ) → sizes ≡ record { window = s.window; max_repair = s.max_repair; retention = s.retention; capacity = s.capacity } → length ≡ s.epoch_length → IsSetTo (config_of s) sizes (fixed_epochs length) (λ commitment. commitment)
+set_node s sizes length sizes_are long = record {
+  window = sym (ap (λ z. z.window) sizes_are);
+  max_repair = sym (ap (λ z. z.max_repair) sizes_are);
+  retention = sym (ap (λ z. z.retention) sizes_are);
+  capacity = sym (ap (λ z. z.capacity) sizes_are);
+  epochs_are = sym (ap fixed_epochs long);
+  inner_is = refl;
+}

@@ -1,0 +1,155 @@
+-- What steps make of a line while a life runs.
+use Rattle.std.proofs.Common.{Bool, IsTrue, List, None, Option, Some, [], ap, append-nil, false, if◌then◌else◌, option_map, refl, subst, sym, true, ℕ, ◌*◌, ◌++◌, ◌+◌, ◌∙◌, ◌∷◌, ◌||◌, ◌≡◌, ◌≤◌}
+use Rattle.std.specs.List.{list_any}
+use Rattle.mar_types.specs.declared.Sha256Digest.{Sha256Digest}
+use Rattle.mar_cert.specs.Block.{Block}
+use Rattle.mar_cert.specs.Finalization.{Finalization}
+use Rattle.mar_node.specs.Messages.{report_finalization}
+use Rattle.mar_key.specs.Asked.{asked_after}
+use Rattle.mar_key.specs.Processed.{height_in}
+use Rattle.mar_node.specs.Acks.{is_unmarked}
+use Rattle.mar_node.specs.Chain.{Chain}
+use Rattle.mar_node.specs.Config.{Config}
+use Rattle.mar_node.specs.Event.{Event, ack_given, message_told, sync_finished}
+use Rattle.mar_node.specs.Faults.{Fault, event_fault, is_by_value, ticket_limit}
+use Rattle.mar_node.specs.Held.{IsUsual, Seen}
+use Rattle.mar_node.specs.Lives.{Cuts, CutsEvent}
+use Rattle.mar_node.specs.Node.{Ended, Node}
+use Rattle.mar_node.specs.Promise.{IsGoodFor, IsLawfulStep, ReportsFinalized, RestsBefore, Waiting, asked_since, node_of}
+use Rattle.mar_node.specs.Step.{AdvancesAll, Made, Steps, joined_made}
+use Rattle.mar_node.proofs.Reaching.{IsGood-beside, Rest-beside}
+use Rattle.mar_shelf.specs.declared.fault.Fault.{Fault as FaultCode}
+use Rattle.mar_shelf.specs.declared.fault.Fault.TheVariants as fault
+use Rattle.mar_shelf.specs.declared.fault.TicketKind.{TicketKind}
+use Rattle.mar_shelf.specs.Views.{kind_of}
+use Rattle.mar_script.specs.Accounts.{Account}
+use Rattle.mar_script.specs.Plays.{IsBetween, IsLawfulLine, max_window}
+use Rattle.mar_script.specs.Run.{LineDone, RunningDone, StepDone, still_unanswered}
+use Rattle.mar_node.specs.Writing.{is_open_sync}
+use Rattle.mar_script.specs.Script.{Line, ack_line, sync_line, tell_line}
+use Rattle.mar_script.specs.Text.{Output, State, remark_ignored, running, stopped}
+use Rattle.mar_script.specs.Shown.{plain_fault}
+use Rattle.mar_replay.specs.Turn.{output_of, waiting_with}
+use Rattle.mar_replay.specs.declared.play.Outcome.TheVariants as outcome
+use Rattle.mar_replay.proofs.Lasting.{IsPlain, Undropped, acks, asks_reports, finishes, no_event_fault, queries, reports, starts, undropped-step}
+
+-- CUTS
+
+-- the only event of a step that was cut is the one that was cut
+pub only_cut : (config : Config) (chain : Chain) (n : Node) (e : Event) (made : Made) (fault : Fault) (left : Ended) → Cuts config chain n (e ∷ []) made fault left → CutsEvent config chain n.meta (option_map height_in n.processed) n e made fault left
+only_cut config chain n e made fault left cuts = by cuts.finished cuts.first cuts.mid cuts.event cuts.later cuts.split cuts.advances cuts.made_is cuts.cut
+  where
+    head : (d : Event) (others : List Event) → e ∷ [] ≡ d ∷ others → d ≡ e
+    head d others is = cc
+
+    tail : (d : Event) (xs : List Event) → e ∷ [] ≡ d ∷ xs → [] ≡ xs
+    tail d xs is = cc
+
+    none_behind : (xs others : List Event) (d : Event) → [] ≡ xs ++ d ∷ others → ⊥
+    none_behind [] others d is = absurd cc
+    none_behind (x ∷ xs) others d is = absurd cc
+
+    by : (finished : List Event) (first : Made) (mid : Node) (d : Event) (later : Made) → e ∷ [] ≡ finished ++ d ∷ cuts.others → AdvancesAll config chain n finished first mid → made ≡ joined_made first later → CutsEvent config chain n.meta (option_map height_in n.processed) mid d later fault left
+        → CutsEvent config chain n.meta (option_map height_in n.processed) n e made fault left
+    by [] first mid d later split advances made_is cut =
+        subst (λ m. CutsEvent config chain n.meta (option_map height_in n.processed) n e m fault left) (sym (made_is ∙ ap (λ m. joined_made m later) advances.0))
+        (subst (λ m. CutsEvent config chain n.meta (option_map height_in n.processed) m e later fault left) advances.1
+        (subst (λ x. CutsEvent config chain n.meta (option_map height_in n.processed) mid x later fault left) (head d cuts.others split) cut))
+    by (x ∷ xs) first mid d later split advances made_is cut = absurd (none_behind xs cuts.others d (tail x (xs ++ d ∷ cuts.others) split))
+
+-- a fault that no value calls for, and no want of tickets, is want of memory or a store's
+pub usual : (fault : FaultCode Sha256Digest) → (IsTrue (is_by_value (plain_fault fault)) → ⊥) → ((kind : TicketKind) → plain_fault fault ≡ ticket_limit (kind_of kind) → ⊥) → IsUsual (plain_fault fault)
+usual (fault.StoreFault s) valued limit = tt
+usual (fault.GenesisHeight h) valued limit = absurd (valued refl)
+usual (fault.GenesisMismatch a b) valued limit = absurd (valued refl)
+usual (fault.Corrupt h a b) valued limit = absurd (valued refl)
+usual (fault.Unbacked h) valued limit = absurd (valued refl)
+usual (fault.HeightLimit h) valued limit = absurd (valued refl)
+usual (fault.AckDropped h) valued limit = absurd (valued refl)
+usual (fault.TicketLimit k) valued limit = absurd (limit k refl)
+usual fault.Memory valued limit = tt
+
+-- A STEP
+
+-- behind a line each caller has its answer
+abbrev pub answered_since : Waiting → Made → Waiting
+answered_since waiting made = waiting_with (asked_after waiting.requests [] made.asks) waiting.next_answer
+
+module _ {P E : Type 0} (config : Config) (chain : Chain) (a : Seen P E) (buffer : List Block) (waiting : Waiting) where
+  abbrev node : Node
+  node = node_of a buffer waiting
+
+  -- a step that finished
+  pub step_done : (e : Event) (made : Made) (b : Seen P E) (kept : List Block) → still_unanswered made.answers [] waiting.unanswered ≡ [] → Steps config chain node (e ∷ []) made (node_of b kept (asked_since waiting made.asks)) → StepDone config chain node (e ∷ []) [] (λ m. []) (output_of made outcome.Done) (running (node_of b kept (answered_since waiting made)))
+  step_done e made b kept answered steps = (made, steps, refl, ap (λ xs. output_of (record made { answers = xs }) outcome.Done) (sym (append-nil made.answers)), sym answered)
+
+  pub step_between : (k : ℕ) (e : Event) → IsPlain e → (made : Made) (b : Seen P E) (kept : List Block) → Undropped a.life.out → Steps config chain node (e ∷ []) made (node_of b kept (asked_since waiting made.asks)) → b.life.next_ack ≤ max_window * (k + 1) → b.held.writes.next_sync ≤ k + 1 → waiting.next_answer ≤ k + 1 → IsBetween config chain (k + 1) (running (node_of b kept (answered_since waiting made)))
+  step_between k e plain made b kept undropped steps tickets sync_tickets answer_tickets = (
+    IsGood-beside config chain b kept kept (asked_since waiting made.asks) (answered_since waiting made) steps.good.of_chain.asks.requests steps.good,
+    Rest-beside config.window b kept kept (asked_since waiting made.asks) (answered_since waiting made) steps.rests,
+    record { undropped = undropped-step config chain a buffer waiting e plain made (node_of b kept (asked_since waiting made.asks)) steps undropped; tickets = tickets; sync_tickets = sync_tickets; answer_tickets = answer_tickets },
+  )
+
+  -- a step that was cut
+  pub step_cut : (e : Event) (made : Made) (fault : FaultCode Sha256Digest) (left : Ended) → Cuts config chain node (e ∷ []) made (plain_fault fault) left → StepDone config chain node (e ∷ []) [] (λ m. []) (output_of made (outcome.Fault fault)) (stopped left)
+  step_cut e made fault left cuts = (plain_fault fault, refl, refl, cuts, ([], refl))
+
+  pub cut_between : (k : ℕ) (e : Event) (made : Made) (fault : Fault) (left : Ended) → Cuts config chain node (e ∷ []) made fault left → IsBetween config chain k (stopped left)
+  cut_between k e made fault left cuts = (cuts.cut.leaves.good, cuts.cut.leaves.some_pair)
+
+  pub cut_usual : (e : Event) → IsPlain e → (made : Made) (fault : FaultCode Sha256Digest) (left : Ended) → IsLawfulStep config chain node (e ∷ []) → Undropped a.life.out → Cuts config chain node (e ∷ []) made (plain_fault fault) left → ((kind : TicketKind) → plain_fault fault ≡ ticket_limit (kind_of kind) → ⊥) → IsUsual (plain_fault fault)
+  cut_usual e plain made fault left lawful undropped cuts limit =
+      usual fault (λ by_value. never (event_fault config node e) (plain_fault fault) (no_event_fault config chain a buffer waiting e plain lawful undropped) ((only_cut config chain node e made (plain_fault fault) left cuts).cause by_value)) limit
+    where
+      never : (o : Option Fault) (f : Fault) → o ≡ None → o ≡ Some f → ⊥
+      never o f p q = absurd cc
+
+-- what is asked of a step is what was asked of its line
+pub lawful_step : {P E : Type 0} (config : Config) (chain : Chain) (a : Seen P E) (buffer : List Block) (waiting : Waiting) (k : ℕ) (line : Line) (e : Event) → IsPlain e → IsLawfulLine config chain k (running (node_of a buffer waiting)) line → ((f : Finalization) → e ≡ message_told None (report_finalization f) → line ≡ tell_line (report_finalization f)) → IsLawfulStep config chain (node_of a buffer waiting) (e ∷ [])
+lawful_step config chain a buffer waiting k line e plain lawful same = record { lawful = lawful.lawful; one = lawful.one; reported = (told plain same, tt); good = good plain; rests = rests plain }
+  where
+    told : {d : Event} → IsPlain d → ((f : Finalization) → d ≡ message_told None (report_finalization f) → line ≡ tell_line (report_finalization f)) → ReportsFinalized chain d
+    told starts is = tt
+    told (reports f) is = lawful.reported f (is f refl)
+    told (acks t) is = tt
+    told (finishes t) is = tt
+    told (queries t q) is = asks_reports chain t q
+
+    good : {d : Event} → IsPlain d → IsGoodFor config chain (node_of a buffer waiting) (d ∷ [])
+    good starts = (a.life.tip, lawful.between.0)
+    good (reports f) = lawful.between.0
+    good (acks t) = lawful.between.0
+    good (finishes t) = lawful.between.0
+    good (queries t q) = lawful.between.0
+
+    rests : {d : Event} → IsPlain d → RestsBefore config.window (node_of a buffer waiting) (d ∷ [])
+    rests starts = tt
+    rests (reports f) = lawful.between.1
+    rests (acks t) = lawful.between.1
+    rests (finishes t) = lawful.between.1
+    rests (queries t q) = lawful.between.1
+
+-- THE ACKNOWLEDGEMENT LINE
+
+-- an outstanding ticket is acknowledged
+pub ack_done : {P E : Type 0} (config : Config) (chain : Chain) (account : Account) (a : Seen P E) (buffer : List Block) (waiting : Waiting) (t : ℕ) (out : Output) (after : State) → list_any (is_unmarked t) a.life.out ≡ true → StepDone config chain (node_of a buffer waiting) (ack_given t ∷ []) [] (λ m. []) out after → LineDone config chain account (running (node_of a buffer waiting)) (ack_line t) out after
+ack_done config chain account a buffer waiting t out after owes done = subst (λ (b : Bool). RunningDone config chain (node_of a buffer waiting) (ack_line t) (if b then None else Some remark_ignored) out after) (sym owes) done
+
+-- another isn't
+pub ack_ignored : {P E : Type 0} (config : Config) (chain : Chain) (account : Account) (a : Seen P E) (buffer : List Block) (waiting : Waiting) (t : ℕ) (out : Output) (after : State) → list_any (is_unmarked t) a.life.out ≡ false → RunningDone config chain (node_of a buffer waiting) (ack_line t) (Some remark_ignored) out after → LineDone config chain account (running (node_of a buffer waiting)) (ack_line t) out after
+ack_ignored config chain account a buffer waiting t out after owes done = subst (λ (b : Bool). RunningDone config chain (node_of a buffer waiting) (ack_line t) (if b then None else Some remark_ignored) out after) (sym owes) done
+
+-- THE SYNC LINE
+
+-- whether a sync is open is said by those of the archives alone
+open_alone : (b : Bool) → (b || false) ≡ b
+open_alone true = refl
+open_alone false = refl
+
+-- an open sync finishes
+pub sync_done : {P E : Type 0} (config : Config) (chain : Chain) (account : Account) (a : Seen P E) (buffer : List Block) (waiting : Waiting) (t : ℕ) (out : Output) (after : State) → is_open_sync a.held.writes.syncs t ≡ true → StepDone config chain (node_of a buffer waiting) (sync_finished t ∷ []) [] (λ m. []) out after → LineDone config chain account (running (node_of a buffer waiting)) (sync_line t) out after
+sync_done config chain account a buffer waiting t out after is_open done = subst (λ (b : Bool). RunningDone config chain (node_of a buffer waiting) (sync_line t) (if b then None else Some remark_ignored) out after) (sym (open_alone (is_open_sync a.held.writes.syncs t) ∙ is_open)) done
+
+-- another isn't awaited
+pub sync_ignored : {P E : Type 0} (config : Config) (chain : Chain) (account : Account) (a : Seen P E) (buffer : List Block) (waiting : Waiting) (t : ℕ) (out : Output) (after : State) → is_open_sync a.held.writes.syncs t ≡ false → RunningDone config chain (node_of a buffer waiting) (sync_line t) (Some remark_ignored) out after → LineDone config chain account (running (node_of a buffer waiting)) (sync_line t) out after
+sync_ignored config chain account a buffer waiting t out after closed done = subst (λ (b : Bool). RunningDone config chain (node_of a buffer waiting) (sync_line t) (if b then None else Some remark_ignored) out after) (sym (open_alone (is_open_sync a.held.writes.syncs t) ∙ closed)) done

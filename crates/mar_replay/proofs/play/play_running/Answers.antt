@@ -1,0 +1,26 @@
+use Rattle.std.proofs.Common.{refl}
+use Rattle.mar_script.specs.declared.RemarkShown.TheVariants as remark
+use Rattle.mar_node.proofs.Passing.{ArePassed-refl}
+use Rattle.mar_replay.proofs.LinePlays.{plays_crash, plays_remark}
+use Rattle.mar_replay.proofs.play.play_running.Goals as goal
+
+pub returns-in-OpenGenesis : goal.returns-in-OpenGenesis
+returns-in-OpenGenesis g c = rw (c.requires.silent, c.in-OpenGenesis.is) (λ config. plays_remark config _ _ remark.Running (λ chain account. (refl, refl)) ArePassed-refl (λ luck. refl))
+
+pub returns-in-Fail : goal.returns-in-Fail
+returns-in-Fail g c = rw (c.requires.silent, c.in-Fail.is) c.arm.ensures
+
+pub returns-in-Crash : goal.returns-in-Crash
+returns-in-Crash g c = rw (c.requires.silent, c.in-Crash.is, c.crash.ensures) (λ config. plays_crash config c.args.actor c.args.buffer c.args.pending c.in-Crash.luck)
+
+pub returns-in-Final : goal.returns-in-Final
+returns-in-Final g c = rw c.in-Final.is c.finalize.ensures
+
+pub returns-in-Sync : goal.returns-in-Sync
+returns-in-Sync g c = rw c.in-Sync.is c.finish_sync.ensures
+
+pub returns-in-Ack : goal.returns-in-Ack
+returns-in-Ack g c = rw c.in-Ack.is c.acknowledge.ensures
+
+pub returns-in-Query : goal.returns-in-Query
+returns-in-Query g c = rw c.in-Query.is c.ask.ensures

@@ -1,0 +1,4 @@
+pub mod Turn
+pub mod Playing
+pub mod Gen
+pub mod Commands

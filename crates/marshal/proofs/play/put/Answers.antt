@@ -1,7 +1,0 @@
-use Rattle.std.proofs.Common.{ap}
-use Rattle.mar_script.specs.Lines.{plain_block}
-use Rattle.marshal.proofs.LinePlays.{plays_put}
-use Rattle.marshal.proofs.play.put.Goals as goal
-
-pub returns-in-Ok-put : goal.returns-in-Ok-put
-returns-in-Ok-put g c = λ config. plays_put config c.args.actor c.args.buffer _ c.args.pending (plain_block c.args.block) (rw c.in-Ok.ensures at (ap (λ held. held.blocks) c.in-Ok-put.ensures.ok))
