@@ -28,14 +28,15 @@ pub fn put_block<V: Variant, FB: Blocks<V>>(
     block: &V::Block,
 ) -> Result<bool, Fault<V::Commitment>>
     requires small { IsSmall (V.plain block.now).encoded }
-    ensures taken { IfOk result (λ r. r ≡ is_taken_in (V.plain block.now).height (kept_at FB.stored FB.Wreck.left place.old) (kept_at FB.stored FB.Wreck.left place.new)) }
+    ensures taken { IfOk result (λ r. r ≡ is_taken_in (V.plain block.now).height (kept_at FB.stored FB.Wreck.left place.old)
+        (kept_at FB.stored FB.Wreck.left place.new)) }
     ensures done { OnOk result (Puts (is_held (kept_at FB.stored FB.Wreck.left place.old).held (V.plain block.now)) (kept_at FB.stored FB.Wreck.left place.old)
         (at_own_height (V.plain block.now)) (kept_at FB.stored FB.Wreck.left place.new)) }
     ensures stays { OnOk result (StaysIn FB.stored FB.number FB.covers place.old place.new) }
     ensures passed { OnOk result (Passes (watch_at FB.watch FB.Wreck.watch place.old) (watch_at FB.watch FB.Wreck.watch place.new)) }
     ensures left { OnErr result (IsLeftIn place.old place.new) }
-    ensures failed { IfErr result (λ e. FailsIn block_store FB.stored FB.Wreck.left FB.watch FB.Wreck.watch (at_own_height (V.plain block.now) ∷ []) place.old place.new
-        (fault_of V.Commitment.bytes e)) }
+    ensures failed { IfErr result (λ e. FailsIn block_store FB.stored FB.Wreck.left FB.watch FB.Wreck.watch (at_own_height (V.plain block.now) ∷ [])
+        place.old place.new (fault_of V.Commitment.bytes e)) }
 {
     let height = V::height(block);
     let Some(blocks) = place.take() else {
@@ -60,7 +61,8 @@ pub fn sync_blocks<V: Variant, FB: Blocks<V>>(
     ensures stays { OnOk result (StaysIn FB.stored FB.number FB.covers place.old place.new) }
     ensures passed { OnOk result (Passes (watch_at FB.watch FB.Wreck.watch place.old) (watch_at FB.watch FB.Wreck.watch place.new)) }
     ensures left { OnErr result (IsLeftIn place.old place.new) }
-    ensures failed { IfErr result (λ e. FailsIn block_store FB.stored FB.Wreck.left FB.watch FB.Wreck.watch [] place.old place.new (fault_of V.Commitment.bytes e)) }
+    ensures failed { IfErr result (λ e. FailsIn block_store FB.stored FB.Wreck.left FB.watch FB.Wreck.watch [] place.old place.new
+        (fault_of V.Commitment.bytes e)) }
 {
     let Some(blocks) = place.take() else {
         return Err(Fault::Memory);
@@ -82,7 +84,8 @@ pub fn start_blocks<V: Variant, FB: Blocks<V>>(
     ensures stays { OnOk result (StaysIn FB.stored FB.number FB.covers place.old place.new) }
     ensures passed { OnOk result (Passes (watch_at FB.watch FB.Wreck.watch place.old) (watch_at FB.watch FB.Wreck.watch place.new)) }
     ensures left { OnErr result (IsLeftIn place.old place.new) }
-    ensures failed { IfErr result (λ e. FailsIn block_store FB.stored FB.Wreck.left FB.watch FB.Wreck.watch [] place.old place.new (fault_of V.Commitment.bytes e)) }
+    ensures failed { IfErr result (λ e. FailsIn block_store FB.stored FB.Wreck.left FB.watch FB.Wreck.watch [] place.old place.new
+        (fault_of V.Commitment.bytes e)) }
 {
     let Some(blocks) = place.take() else {
         return Err(Fault::Memory);
@@ -106,7 +109,8 @@ pub fn finish_blocks<V: Variant, FB: Blocks<V>>(
     ensures stays { OnOk result (StaysIn FB.stored FB.number FB.covers place.old place.new) }
     ensures passed { OnOk result (Passes (watch_at FB.watch FB.Wreck.watch place.old) (watch_at FB.watch FB.Wreck.watch place.new)) }
     ensures left { OnErr result (IsLeftIn place.old place.new) }
-    ensures failed { IfErr result (λ e. FailsIn block_store FB.stored FB.Wreck.left FB.watch FB.Wreck.watch [] place.old place.new (fault_of V.Commitment.bytes e)) }
+    ensures failed { IfErr result (λ e. FailsIn block_store FB.stored FB.Wreck.left FB.watch FB.Wreck.watch [] place.old place.new
+        (fault_of V.Commitment.bytes e)) }
 {
     let Some(blocks) = place.take() else {
         return Err(Fault::Memory);
@@ -156,7 +160,8 @@ pub fn sync_certificates<V: Variant, F: CommitsTo<V::Commitment>, FC: Certificat
     ensures stays { OnOk result (StaysIn FC.stored FC.number FC.covers place.old place.new) }
     ensures passed { OnOk result (Passes (watch_at FC.watch FC.Wreck.watch place.old) (watch_at FC.watch FC.Wreck.watch place.new)) }
     ensures left { OnErr result (IsLeftIn place.old place.new) }
-    ensures failed { IfErr result (λ e. FailsIn cert_store FC.stored FC.Wreck.left FC.watch FC.Wreck.watch [] place.old place.new (fault_of V.Commitment.bytes e)) }
+    ensures failed { IfErr result (λ e. FailsIn cert_store FC.stored FC.Wreck.left FC.watch FC.Wreck.watch [] place.old place.new
+        (fault_of V.Commitment.bytes e)) }
 {
     let Some(certs) = place.take() else {
         return Err(Fault::Memory);
@@ -178,7 +183,8 @@ pub fn start_certificates<V: Variant, F: CommitsTo<V::Commitment>, FC: Certifica
     ensures stays { OnOk result (StaysIn FC.stored FC.number FC.covers place.old place.new) }
     ensures passed { OnOk result (Passes (watch_at FC.watch FC.Wreck.watch place.old) (watch_at FC.watch FC.Wreck.watch place.new)) }
     ensures left { OnErr result (IsLeftIn place.old place.new) }
-    ensures failed { IfErr result (λ e. FailsIn cert_store FC.stored FC.Wreck.left FC.watch FC.Wreck.watch [] place.old place.new (fault_of V.Commitment.bytes e)) }
+    ensures failed { IfErr result (λ e. FailsIn cert_store FC.stored FC.Wreck.left FC.watch FC.Wreck.watch [] place.old place.new
+        (fault_of V.Commitment.bytes e)) }
 {
     let Some(certs) = place.take() else {
         return Err(Fault::Memory);
@@ -202,7 +208,8 @@ pub fn finish_certificates<V: Variant, F: CommitsTo<V::Commitment>, FC: Certific
     ensures stays { OnOk result (StaysIn FC.stored FC.number FC.covers place.old place.new) }
     ensures passed { OnOk result (Passes (watch_at FC.watch FC.Wreck.watch place.old) (watch_at FC.watch FC.Wreck.watch place.new)) }
     ensures left { OnErr result (IsLeftIn place.old place.new) }
-    ensures failed { IfErr result (λ e. FailsIn cert_store FC.stored FC.Wreck.left FC.watch FC.Wreck.watch [] place.old place.new (fault_of V.Commitment.bytes e)) }
+    ensures failed { IfErr result (λ e. FailsIn cert_store FC.stored FC.Wreck.left FC.watch FC.Wreck.watch [] place.old place.new
+        (fault_of V.Commitment.bytes e)) }
 {
     let Some(certs) = place.take() else {
         return Err(Fault::Memory);
