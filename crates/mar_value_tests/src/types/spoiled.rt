@@ -4,7 +4,7 @@ ghost use Rattle.std.specs.Prelude.{replicate};
 use crate::tell::*;
 use crate::types::commitments::config;
 use crate::types::short::Short;
-use mar_types::coding::{CodingScheme, CodingScheme};
+use mar_types::coding::CodingScheme;
 use mar_types::{Commitment, Decode, Digestible, Encode, Error, Hasher, Kind, Reason, Sha256};
 use std::alloc::Global;
 use std::convert::AsSlice;
