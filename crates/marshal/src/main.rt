@@ -2,7 +2,10 @@
 #![tactic(auto)]
 
 ghost use Rattle.std.specs.IoError.{error_kind};
-ghost use Rattle.std.specs.Prelude.{◌≡◌, ◌↔◌, map, string_bytes};
+ghost use Rattle.std.specs.Prelude.{◌≡◌, ◌↔◌, ◌∷◌, [], map, string_bytes};
+ghost use Rattle.mar_store.specs.Kept.{reopened_store};
+ghost use Rattle.mar_store.specs.Values.{no_values};
+ghost use Rattle.mar_script.specs.Accounts.{fresh_watches};
 ghost use Rattle.mar_script.specs.Run.{fresh_stores};
 ghost use Rattle.marshal.specs.Commands.{IsCommand};
 
@@ -28,9 +31,6 @@ type BlockStore = Archive<MemArchive<BlockItem<StandardBlocks>>>;
 /// Certificates in memory.
 type CertificateStore = Archive<MemArchive<CertificateItem<StandardBlocks, MockFinalization>>>;
 
-/// What is left of stores in memory.
-type MemoryRuins = ScriptRuins<BlockStore, CertificateStore, MemMeta, NoShelf>;
-
 /// The words of the command line behind the program's name.
 fn words_of(rt: &(impl Env + AllocGlobal)) -> io::Result<Vec<String>> {
     let mut words = Vec::new(rt.alloc());
@@ -40,8 +40,38 @@ fn words_of(rt: &(impl Env + AllocGlobal)) -> io::Result<Vec<String>> {
     Ok(words)
 }
 
-/// Does what the words ask for, over standard input and output.
+/// Does what the words ask for, over standard input and output and stores in memory.
 fn run_words(rt: &(impl AllocGlobal + Input + Print), words: &[String]) -> Status
+    ensures usage { result ≡ Status.Usage ↔ (IsCommand (map string_bytes words.now) → ⊥) }
+{
+    let alloc = rt.alloc();
+    let blocks = BlockStore::new(MemArchive::new(alloc, LuckHalf::Low));
+    let certs = CertificateStore::new(MemArchive::new(alloc, LuckHalf::High));
+    run_over(rt, words, blocks, certs, MemMeta::new(alloc), NoShelf)
+}
+
+/// The same over any stores that are new. Only the call of this function names the types of the stores, since all that a
+/// bound asks for is proved anew wherever it is met at a type with parameters.
+fn run_over<
+    FB: Blocks<StandardBlocks>,
+    FC: Certificates<StandardBlocks, MockFinalization>,
+    M: Meta,
+    H: Shelf,
+>(
+    rt: &(impl AllocGlobal + Input + Print),
+    words: &[String],
+    blocks: FB,
+    certs: FC,
+    meta: M,
+    shelf: H,
+) -> Status
+    requires blocks { FB.stored blocks ≡ reopened_store [] }
+    requires certs { FC.stored certs ≡ reopened_store [] }
+    requires meta { M.left meta ≡ no_values ∷ [] }
+    requires blocks_watch { FB.watch blocks ≡ fresh_watches.blocks }
+    requires certs_watch { FC.watch certs ≡ fresh_watches.certs }
+    requires meta_watch { M.watch meta ≡ fresh_watches.meta }
+    requires shelf_watch { H.watch shelf ≡ fresh_watches.cache }
     ensures usage { result ≡ Status.Usage ↔ (IsCommand (map string_bytes words.now) → ⊥) }
 {
     let alloc = rt.alloc();
@@ -50,7 +80,7 @@ fn run_words(rt: &(impl AllocGlobal + Input + Print), words: &[String]) -> Statu
         return show(&mut sink, text);
     }
     let mut source = InputSource::new(rt.reader());
-    let stores = empty_stores(alloc);
+    let stores = empty_stores(blocks, certs, meta, shelf);
     let status = run(rt, alloc, words, &mut source, &mut sink, stores).status;
     handed_on(&mut sink, status)
 }
@@ -68,15 +98,27 @@ fn handed_on<K: Sink>(sink: &mut K, status: Status) -> Status
     }
 }
 
-/// Stores in memory that hold nothing, and that never failed.
-fn empty_stores(alloc: Global) -> MemoryRuins
+/// What is left of stores that are new: that hold nothing, and that never failed.
+fn empty_stores<
+    FB: Blocks<StandardBlocks>,
+    FC: Certificates<StandardBlocks, MockFinalization>,
+    M: Meta,
+    H: Shelf,
+>(blocks: FB, certs: FC, meta: M, shelf: H) -> ScriptRuins<FB, FC, M, H>
+    requires blocks { FB.stored blocks ≡ reopened_store [] }
+    requires certs { FC.stored certs ≡ reopened_store [] }
+    requires meta { M.left meta ≡ no_values ∷ [] }
+    requires blocks_watch { FB.watch blocks ≡ fresh_watches.blocks }
+    requires certs_watch { FC.watch certs ≡ fresh_watches.certs }
+    requires meta_watch { M.watch meta ≡ fresh_watches.meta }
+    requires shelf_watch { H.watch shelf ≡ fresh_watches.cache }
     ensures { result ≡ fresh_stores }
 {
     Ruins {
-        blocks: Blocks::wreck(BlockStore::new(MemArchive::new(alloc, LuckHalf::Low))),
-        certs: Certificates::wreck(CertificateStore::new(MemArchive::new(alloc, LuckHalf::High))),
-        meta: MemMeta::new(alloc).wreck(),
-        shelf: NoShelf.wreck(),
+        blocks: blocks.wreck(),
+        certs: certs.wreck(),
+        meta: meta.wreck(),
+        shelf: shelf.wreck(),
     }
 }
 
