@@ -1,8 +1,9 @@
 //! A replicated service over marshal. It adds up the timestamps of the finalized blocks, and its total outlives a crash:
 //! what was handed over and not acknowledged is handed over again, and the service passes over what it has.
 //!
-//! `chain` makes what peers and consensus would bring, `service` is the application, and `life` opens a node over the
-//! stores that an earlier life left and gives it events. Here one life ends by a crash, and another goes on from there.
+//! `chain` makes what peers and consensus would bring, `kind` says what its blocks are to a node, `service` is the
+//! application, and `life` opens a node over the stores that an earlier life left and gives it events. Here one life ends by a
+//! crash, and another goes on from there.
 #![tactic(auto)]
 
 ghost use Rattle.std.specs.Prelude.{◌≡◌, IfSome};

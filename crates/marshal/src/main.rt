@@ -19,7 +19,6 @@ use mar_script::{Input as InputSource, Output, Sink, Status};
 use mar_shelf::prunable::Archive;
 use mar_shelf::{BlockItem, Blocks, CertificateItem, Certificates, NoShelf, Ruins, Shelf};
 use mar_store::{LuckHalf, MemArchive, MemMeta, Meta};
-use std::alloc::Global;
 use std::io::ErrorKind;
 use std::process::ExitCode;
 use std::rt::Env;
