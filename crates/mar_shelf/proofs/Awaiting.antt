@@ -28,7 +28,7 @@ use Rattle.mar_node.proofs.Growing.{MakesSure-finished}
 use Rattle.mar_node.specs.Writing.{IsLastWrite, IsOrdered, Writing, position_of, total_writes}
 use Rattle.mar_node.specs.declared.Place.{Place}
 use Rattle.mar_node.specs.declared.Place.TheVariants.{Away, Lost, Open}
-use Rattle.mar_shelf.specs.Pooling.{AreHeld, ArePooled, AwaitsSyncs, CertsPooled, is_taken_in, staged_where, writes_behind}
+use Rattle.mar_shelf.specs.Pooling.{AreHeld, AwaitsSyncs, is_taken_in, staged_where, writes_behind}
 
 -- LISTS
 
@@ -256,7 +256,7 @@ pub same_writes : (h : Held) (w : Writing) → h.writes ≡ w → h ≡ record h
 same_writes h w same = ap (λ v. record h { writes = v }) same
 
 -- what is put stays held at its height, and what was held
-held_by_put : {T : Type 0} (ignored : Bool) (old : Kept (At T)) (x : At T) (new : Kept (At T)) → Puts ignored old x new → KeepsValues old.held new.held
+pub held_by_put : {T : Type 0} (ignored : Bool) (old : Kept (At T)) (x : At T) (new : Kept (At T)) → Puts ignored old x new → KeepsValues old.held new.held
 held_by_put true old x new puts h v is = subst (λ xs. value_at xs h ≡ Some v) (sym puts.held) is
 held_by_put false old x new puts h v is = subst (λ xs. value_at xs h ≡ Some v) (sym puts.held) (value_at-append_found old.held (x ∷ []) h v is)
 
@@ -279,121 +279,33 @@ taken_after true now is = absurd cc
 taken_after false true is = refl
 taken_after false false is = absurd cc
 
-module _ {B : Type 0} {plain : B → Block} {blocks : Kept (At Block)} {bn : ℕ} {bc : ℕ → List (At Block)} {pool : Pool} {staged : List (ℕ × B)} (pooled : ArePooled plain blocks bn bc pool staged) where
-  -- a call that changed nothing but which tickets there are
-  pub blocks_same : {new : Kept (At Block)} {number : ℕ} {covers : ℕ → List (At Block)} → new ≡ blocks → bn ≤ number → KeepsCovers bn bc covers → covers last_number ≡ new.held → ArePooled plain new number covers pool staged
-  blocks_same {new = new} {number = number} {covers = covers} same more keeps last = record {
-    waits = AwaitsSyncs-same (λ p. p.blocks) blocks bn bc pool pooled.waits new number covers same more keeps last;
-    of_staged = AreHeld-kept plain blocks.held new.held staged (λ h v is. subst (λ k. value_at k.held h ≡ Some v) (sym same) is) pooled.of_staged;
-  }
-
-  -- blocks were read, or a call of them was armed
-  pub blocks_read : {new : Kept (At Block)} {number : ℕ} {covers : ℕ → List (At Block)} → new ≡ blocks → number ≡ bn → KeepsCovers bn bc covers → covers last_number ≡ new.held → ArePooled plain new number covers pool staged
-  blocks_read same numbered keeps last = blocks_same same (omega (arith, numbered)) keeps last
-
-  -- a block is put, and its write waits
-  pub blocks_put : {ignored : Bool} {b : B} {new : Kept (At Block)} {number : ℕ} {covers : ℕ → List (At Block)} {later : Pool} → Puts ignored blocks (at_own_height (plain b)) new → bn ≤ number → KeepsCovers bn bc covers → covers last_number ≡ new.held → IsOrdered (writing_of pool) → later ≡ pool_deferred (plain b).height pool → ArePooled plain new number covers later staged
-  blocks_put {ignored = ignored} {b = b} {new = new} {number = number} {covers = covers} puts more keeps last ordered deferred = subst (λ p. ArePooled plain new number covers p staged) (sym deferred) (record {
-    waits = AwaitsSyncs-put (λ p. p.blocks) blocks bn bc (pool_deferred (plain b).height pool) (AwaitsSyncs-deferred (λ p. p.blocks) blocks bn bc pool pooled.waits (plain b).height) ignored (plain b).height (plain b) new number covers (record { before = writing_of pool; ordered = ordered; is = refl }) puts more keeps last;
-    of_staged = AreHeld-kept plain blocks.held new.held staged (held_by_put ignored blocks _ new puts) pooled.of_staged;
-  })
-
-  -- and staged where it was taken in
-  pub blocks_staged : {ignored : Bool} (b : B) (old : Kept (At Block)) (places : Staged B) {kept : Staged B} (taken : Bool) → Puts ignored old (at_own_height (plain b)) blocks → taken ≡ is_taken_in (plain b).height old blocks → places.blocks ≡ staged → kept ≡ staged_where taken (plain b).height b places → ArePooled plain blocks bn bc pool kept.blocks
-  blocks_staged {ignored = ignored} b old places taken puts taken_in of_places is = record {
-    waits = pooled.waits;
-    of_staged = subst (λ s. AreHeld plain blocks.held s.blocks) (sym is) (stage taken taken_in);
-  }
+module _ {B : Type 0} (plain : B → Block) where
+  -- a block is put, and staged where it was taken in
+  pub AreHeld-staged : {ignored : Bool} (b : B) (old new : Kept (At Block)) (places : Staged B) {after : Staged B} (taken : Bool) → Puts ignored old (at_own_height (plain b)) new → taken ≡ is_taken_in (plain b).height old new → after ≡ staged_where taken (plain b).height b places → AreHeld plain new.held places.blocks → AreHeld plain new.held after.blocks
+  AreHeld-staged {ignored = ignored} b old new places taken puts taken_in is all = subst (λ s. AreHeld plain new.held s.blocks) (sym is) (stage taken taken_in)
     where
-      old_staged : AreHeld plain blocks.held places.blocks
-      old_staged = subst (AreHeld plain blocks.held) (sym of_places) pooled.of_staged
+      there : true ≡ is_taken_in (plain b).height old new → value_at new.held (plain b).height ≡ Some (plain b)
+      there is_in = put_there ignored old (plain b).height (plain b) new puts (free_before (has_height old.held (plain b).height) (has_height new.held (plain b).height) is_in) (taken_after (has_height old.held (plain b).height) (has_height new.held (plain b).height) is_in)
 
-      there : true ≡ is_taken_in (plain b).height old blocks → value_at blocks.held (plain b).height ≡ Some (plain b)
-      there is_in = put_there ignored old (plain b).height (plain b) blocks puts (free_before (has_height old.held (plain b).height) (has_height blocks.held (plain b).height) is_in) (taken_after (has_height old.held (plain b).height) (has_height blocks.held (plain b).height) is_in)
-
-      stage : (t : Bool) → t ≡ is_taken_in (plain b).height old blocks → AreHeld plain blocks.held (staged_where t (plain b).height b places).blocks
-      stage false is_in = old_staged
+      stage : (t : Bool) → t ≡ is_taken_in (plain b).height old new → AreHeld plain new.held (staged_where t (plain b).height b places).blocks
+      stage false is_in = all
       stage true is_in = placed (has_place places (plain b).height)
         where
-          placed : (c : Bool) → AreHeld plain blocks.held (if c then record places { blocks = insert_entry nat_cmp places.blocks (plain b).height b } else places).blocks
-          placed true = AreHeld-inserted plain blocks.held (plain b).height b places.blocks (there is_in) old_staged
-          placed false = old_staged
+          placed : (c : Bool) → AreHeld plain new.held (if c then record places { blocks = insert_entry nat_cmp places.blocks (plain b).height b } else places).blocks
+          placed true = AreHeld-inserted plain new.held (plain b).height b places.blocks (there is_in) all
+          placed false = all
 
-  -- a block is put and synced
-  pub blocks_stored : {ignored : Bool} {x : At Block} {mid new : Kept (At Block)} {between number : ℕ} {covers : ℕ → List (At Block)} → Puts ignored blocks x mid → Syncs mid new → bn ≤ between → between ≤ number → ArePooled plain new number covers pool staged
-  blocks_stored {ignored = ignored} {x = x} {mid = mid} {new = new} {number = number} {covers = covers} puts syncs first second = record {
-    waits = AwaitsSyncs-sure (λ p. p.blocks) blocks bn bc pool pooled.waits new number covers (syncs.sure ∙ sym syncs.held) (omega (arith, first, second));
-    of_staged = AreHeld-kept plain blocks.held new.held staged (λ h v is. subst (λ xs. value_at xs h ≡ Some v) (sym syncs.held) (held_by_put ignored blocks x mid puts h v is)) pooled.of_staged;
-  }
+  AreHeld-mid : (held : List (At Block)) (height : ℕ) (places : Staged B) {mid : Staged B} → mid ≡ kept_from height places → AreHeld plain held places.blocks → AreHeld plain held mid.blocks
+  AreHeld-mid held height places kept all = subst (λ s. AreHeld plain held s.blocks) (sym kept) (AreHeld-filtered plain held (λ e. nat_le height e.0) places.blocks all)
 
-  -- a sync of both archives is started
-  pub blocks_started : {new : Kept (At Block)} {number : ℕ} {covers : ℕ → List (At Block)} {later : Pool} {b : ℕ} (c : ℕ) → new ≡ blocks → bn ≤ number → KeepsCovers bn bc covers → covers last_number ≡ new.held → b ≤ number → b ≤ last_number → covers b ≡ blocks.held → later ≡ pool_started b c pool → ArePooled plain new number covers later staged
-  blocks_started {new = new} {number = number} {covers = covers} {later = later} {b = b} c same more keeps last made fits covered started = let now = blocks_same {new = new} same more keeps last in subst (λ p. ArePooled plain new number covers p staged) (sym started) (record {
-    waits = AwaitsSyncs-started (λ p. p.blocks) new number covers pool now.waits b c made fits (covered ∙ sym (ap (λ k. k.held) same));
-    of_staged = now.of_staged;
-  })
-
-  -- more is sure
-  pub blocks_surer : {new : Kept (At Block)} {number : ℕ} {covers : ℕ → List (At Block)} → MakesSure blocks new → bn ≤ number → KeepsCovers bn bc covers → covers last_number ≡ new.held → ArePooled plain new number covers pool staged
-  blocks_surer {new = new} {number = number} {covers = covers} surer more keeps last = record {
-    waits = AwaitsSyncs-surer (λ p. p.blocks) blocks bn bc pool pooled.waits new number covers surer.held surer.sure more keeps last;
-    of_staged = AreHeld-kept plain blocks.held new.held staged (λ h v is. subst (λ xs. value_at xs h ≡ Some v) (sym surer.held) is) pooled.of_staged;
-  }
-
-  -- a sync has finished in the blocks, and then in the pool
-  pub blocks_finished : (ticket : ℕ) {p : Pooled} {new : Kept (At Block)} {number : ℕ} {covers : ℕ → List (At Block)} {later : Pool} → Some p ≡ pooled_at pool.pooled ticket → Finishes (bc p.blocks) blocks new → bn ≤ number → KeepsCovers bn bc covers → covers last_number ≡ new.held → later ≡ pool_finished ticket pool → ArePooled plain new number covers later staged
-  blocks_finished ticket {p = p} {new = new} {number = number} {covers = covers} found finishes more keeps last finished = subst (λ q. ArePooled plain new number covers q staged) (sym finished) (record {
-    waits = AwaitsSyncs-finished (λ q. q.blocks) blocks bn bc pool pooled.waits ticket p new number covers (sym found) finishes more keeps last;
-    of_staged = (blocks_surer (MakesSure-finished _ _ _ finishes) more keeps last).of_staged;
-  })
-
-  AreHeld-mid : (height : ℕ) (places : Staged B) {mid : Staged B} → places.blocks ≡ staged → mid ≡ kept_from height places → AreHeld plain blocks.held mid.blocks
-  AreHeld-mid height places of_places kept = subst (λ s. AreHeld plain blocks.held s.blocks) (sym kept) (AreHeld-filtered plain blocks.held (λ e. nat_le height e.0) places.blocks (subst (AreHeld plain blocks.held) (sym of_places) pooled.of_staged))
-
-  -- a block was taken out of what is staged
-  pub blocks_taken : (height : ℕ) (places : Staged B) {mid later : Staged B} → places.blocks ≡ staged → mid ≡ kept_from height places → later ≡ without_height height mid → ArePooled plain blocks bn bc pool later.blocks
-  blocks_taken height places {mid = mid} {later = later} of_places kept is = record {
-    waits = pooled.waits;
-    of_staged = subst (λ s. AreHeld plain blocks.held s.blocks) (sym is) (AreHeld-removed plain blocks.held (λ k. k == height) mid.blocks (AreHeld-mid height places of_places kept));
-  }
+  -- a block is taken out of what is staged
+  pub AreHeld-taken : (held : List (At Block)) (height : ℕ) (places : Staged B) {mid later : Staged B} → mid ≡ kept_from height places → later ≡ without_height height mid → AreHeld plain held places.blocks → AreHeld plain held later.blocks
+  AreHeld-taken held height places {mid = mid} kept is all = subst (λ s. AreHeld plain held s.blocks) (sym is) (AreHeld-removed plain held (λ k. k == height) mid.blocks (AreHeld-mid held height places kept all))
 
   -- and it is the one that is held
-  pub held_taken : (height : ℕ) (places : Staged B) {mid : Staged B} (b : B) → places.blocks ≡ staged → mid ≡ kept_from height places → Some b ≡ staged_at mid height → Some (plain b) ≡ value_at blocks.held height
-  held_taken height places {mid = mid} b of_places kept found = sym (AreHeld-found plain blocks.held height mid.blocks b (sym found) (AreHeld-mid height places of_places kept))
-
-module _ {certs : Kept (At Finalization)} {cn : ℕ} {cc : ℕ → List (At Finalization)} {pool : Pool} (waits : AwaitsSyncs (λ p. p.certs) certs cn cc pool) where
-  pub certs_same : {new : Kept (At Finalization)} {number : ℕ} {covers : ℕ → List (At Finalization)} → new ≡ certs → cn ≤ number → KeepsCovers cn cc covers → covers last_number ≡ new.held → AwaitsSyncs (λ p. p.certs) new number covers pool
-  certs_same {new = new} {number = number} {covers = covers} same more keeps last = AwaitsSyncs-same (λ p. p.certs) certs cn cc pool waits new number covers same more keeps last
-
-  pub certs_read : {new : Kept (At Finalization)} {number : ℕ} {covers : ℕ → List (At Finalization)} → new ≡ certs → number ≡ cn → KeepsCovers cn cc covers → covers last_number ≡ new.held → AwaitsSyncs (λ p. p.certs) new number covers pool
-  certs_read same numbered keeps last = certs_same same (omega (arith, numbered)) keeps last
-
-  -- more is sure
-  pub certs_surer : {new : Kept (At Finalization)} {number : ℕ} {covers : ℕ → List (At Finalization)} → MakesSure certs new → cn ≤ number → KeepsCovers cn cc covers → covers last_number ≡ new.held → AwaitsSyncs (λ p. p.certs) new number covers pool
-  certs_surer {new = new} {number = number} {covers = covers} surer more keeps last = AwaitsSyncs-surer (λ p. p.certs) certs cn cc pool waits new number covers surer.held surer.sure more keeps last
-
-  -- a finalization is put with the last write
-  pub certs_put : {ignored : Bool} {height : ℕ} {value : Finalization} {new : Kept (At Finalization)} {number : ℕ} {covers : ℕ → List (At Finalization)} → IsLastWrite height (writing_of pool) → Puts ignored certs (record { height = height; value = value }) new → cn ≤ number → KeepsCovers cn cc covers → covers last_number ≡ new.held → AwaitsSyncs (λ p. p.certs) new number covers pool
-  certs_put {ignored = ignored} {height = height} {value = value} {new = new} {number = number} {covers = covers} write puts more keeps last = AwaitsSyncs-put (λ p. p.certs) certs cn cc pool waits ignored height value new number covers write puts more keeps last
-
-  pub certs_stored : {mid new : Kept (At Finalization)} {between number : ℕ} {covers : ℕ → List (At Finalization)} → Syncs mid new → cn ≤ between → between ≤ number → AwaitsSyncs (λ p. p.certs) new number covers pool
-  certs_stored {new = new} {number = number} {covers = covers} syncs first second = AwaitsSyncs-sure (λ p. p.certs) certs cn cc pool waits new number covers (syncs.sure ∙ sym syncs.held) (omega (arith, first, second))
-
-  pub certs_started : {new : Kept (At Finalization)} {number : ℕ} {covers : ℕ → List (At Finalization)} {later : Pool} {c : ℕ} (b : ℕ) → new ≡ certs → cn ≤ number → KeepsCovers cn cc covers → covers last_number ≡ new.held → c ≤ number → c ≤ last_number → covers c ≡ certs.held → later ≡ pool_started b c pool → AwaitsSyncs (λ p. p.certs) new number covers later
-  certs_started {new = new} {number = number} {covers = covers} {c = c} b same more keeps last made fits covered started = subst (AwaitsSyncs (λ p. p.certs) new number covers) (sym started) (AwaitsSyncs-started (λ p. p.certs) new number covers pool (certs_same same more keeps last) b c made fits (covered ∙ sym (ap (λ k. k.held) same)))
-
-  pub certs_finished : (ticket : ℕ) {p : Pooled} {new : Kept (At Finalization)} {number : ℕ} {covers : ℕ → List (At Finalization)} {later : Pool} → Some p ≡ pooled_at pool.pooled ticket → Finishes (cc p.certs) certs new → cn ≤ number → KeepsCovers cn cc covers → covers last_number ≡ new.held → later ≡ pool_finished ticket pool → AwaitsSyncs (λ p. p.certs) new number covers later
-  certs_finished ticket {p = p} {new = new} {number = number} {covers = covers} found finishes more keeps last finished = subst (AwaitsSyncs (λ p. p.certs) new number covers) (sym finished) (AwaitsSyncs-finished (λ q. q.certs) certs cn cc pool waits ticket p new number covers (sym found) finishes more keeps last)
+  pub held_taken : (held : List (At Block)) (height : ℕ) (places : Staged B) {mid : Staged B} (b : B) → mid ≡ kept_from height places → Some b ≡ staged_at mid height → AreHeld plain held places.blocks → Some (plain b) ≡ value_at held height
+  held_taken held height places {mid = mid} b kept found all = sym (AreHeld-found plain held height mid.blocks b (sym found) (AreHeld-mid held height places kept all))
 
 -- the tickets of an open sync were given
 pub given : {T : Type 0} (ticket_of : Pooled → ℕ) {kept : Kept (At T)} {number : ℕ} {covers : ℕ → List (At T)} {pool : Pool} → AwaitsSyncs ticket_of kept number covers pool → (ticket : ℕ) (p : Pooled) → Some p ≡ pooled_at pool.pooled ticket → ticket_of p ≤ number
 given ticket_of {pool = pool} waits ticket p found = (waits.given p (at_contains ticket pool.pooled p (sym found))).0
-
--- a write was deferred, wherever the finalizations are
-pub certs_deferred : {S W : Type 0} (stored : S → Kept (At Finalization)) (number : S → ℕ) (covers : S → ℕ → List (At Finalization)) (place : Place S W) (pool later : Pool) (height : ℕ) → CertsPooled stored number covers place pool → later ≡ pool_deferred height pool → CertsPooled stored number covers place later
-certs_deferred {S = S} {W = W} stored number covers place pool later height pooled deferred = subst (CertsPooled stored number covers place) (sym deferred) (by place pooled)
-  where
-    by : (p : Place S W) → CertsPooled stored number covers p pool → CertsPooled stored number covers p (pool_deferred height pool)
-    by (Open s) waits = AwaitsSyncs-deferred (λ p. p.certs) (stored s) (number s) (covers s) pool waits height
-    by (Lost w) lost = tt
-    by Away away = away

@@ -1,7 +1,5 @@
 -- What calls in place come to: how one of the metadata failed, and what stores that are there keep.
 use Rattle.std.proofs.Common.{◌≡◌, ◌⊎◌, inl, inr, ℕ, List, Bool, true, false, ◌&&◌, Err, refl}
-use Rattle.mar_cert.specs.Block.{Block}
-use Rattle.mar_cert.specs.Finalization.{Finalization}
 use Rattle.mar_store.specs.Changes.{Left}
 use Rattle.mar_store.specs.Kept.{At, Kept}
 use Rattle.mar_store.specs.Watch.{Watch}
@@ -11,11 +9,11 @@ use Rattle.mar_node.specs.Faults.{StoreName, store_fault, want_of_memory}
 use Rattle.mar_node.specs.Held.{Breaks, Passes, missed_fault}
 use Rattle.mar_node.specs.Node.{SureOrWritten}
 use Rattle.mar_node.specs.Places.{HeedsOrIdlesOn, IsCalmOn, is_open, kept_at}
-use Rattle.mar_node.specs.Pool.{Pool}
+use Rattle.mar_node.specs.Pool.{Pool, Pooled}
 use Rattle.mar_node.specs.declared.Place.{Place}
 use Rattle.mar_node.specs.declared.Place.TheVariants.{Away, Lost, Open}
 use Rattle.mar_node.proofs.Passing.{Passes-or_idle, Passes-refl, Passes-same}
-use Rattle.mar_shelf.specs.Pooling.{BlocksPooled, CertsPooled}
+use Rattle.mar_shelf.specs.Pooling.{AwaitsIn}
 
 pub by_calm : (T : Type 0) (before now : Watch) (s : StoreName) (miss : Miss) → IsCalmOn {T = T} before now (Err miss) → (missed_fault s miss ≡ store_fault s) × Breaks before now ⊎ ((missed_fault s miss ≡ want_of_memory) × Passes before now)
 by_calm T before now s Missed (rose, unarmed, same) = inl (refl, record { mid = before; passes = Passes-refl before; strikes = inr (record { rose = rose; unarmed = unarmed; same = same }) })
@@ -41,12 +39,7 @@ second_of true b c both = first_of b c both
 second_of false b c both = absurd cc
 
 -- what is held is sure or waits for a sync
-pub blocks_written : {B S W : Type 0} (plain : B → Block) (stored : S → Kept (At Block)) (number : S → ℕ) (covers : S → ℕ → List (At Block)) (left : W → Left (At Block)) (place : Place S W) (pool : Pool) (staged : List (ℕ × B)) → BlocksPooled plain stored number covers place pool staged → is_open place ≡ true → SureOrWritten (kept_at stored left place) pool.uncovered
-blocks_written plain stored number covers left (Open s) pool staged pooled is = pooled.waits.written
-blocks_written plain stored number covers left (Lost w) pool staged pooled is = absurd cc
-blocks_written plain stored number covers left Away pool staged pooled is = absurd cc
-
-pub certs_written : {S W : Type 0} (stored : S → Kept (At Finalization)) (number : S → ℕ) (covers : S → ℕ → List (At Finalization)) (left : W → Left (At Finalization)) (place : Place S W) (pool : Pool) → CertsPooled stored number covers place pool → is_open place ≡ true → SureOrWritten (kept_at stored left place) pool.uncovered
-certs_written stored number covers left (Open s) pool pooled is = pooled.written
-certs_written stored number covers left (Lost w) pool pooled is = absurd cc
-certs_written stored number covers left Away pool pooled is = absurd cc
+pub written_in : {T S W : Type 0} (ticket_of : Pooled → ℕ) (stored : S → Kept (At T)) (number : S → ℕ) (covers : S → ℕ → List (At T)) (left : W → Left (At T)) (place : Place S W) (pool : Pool) → AwaitsIn ticket_of stored number covers place pool → is_open place ≡ true → SureOrWritten (kept_at stored left place) pool.uncovered
+written_in ticket_of stored number covers left (Open s) pool waits is = waits.written
+written_in ticket_of stored number covers left (Lost w) pool waits is = absurd cc
+written_in ticket_of stored number covers left Away pool waits is = absurd cc

@@ -4,4 +4,7 @@ pub mod MissingHeights
 pub mod GapHeights
 pub mod Awaiting
 pub mod InPlace
+pub mod Answered
 pub mod Placed
+pub mod Both
+pub mod Opened

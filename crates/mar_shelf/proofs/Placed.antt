@@ -1,34 +1,34 @@
 -- What calls of archives in their places come to: what they keep for the open syncs, and what is left where one failed.
-use Rattle.std.proofs.Common.{◌≡◌, ◌⊎◌, inl, inr, ℕ, Some, Ok, Err, Result, List, Bool, true, false, ◌&&◌, refl, sym, ap, subst, ◌≤◌}
-use Rattle.std.proofs.lemmas.List.Elements.{Contains-append_left}
-use Rattle.std.specs.Prelude.{IfErr, MatchResult, OnErr, OnOk}
+use Rattle.std.proofs.Common.{◌≡◌, ◌⊎◌, inl, inr, ⊎_elim, ℕ, Some, Ok, Err, Result, List, [], ◌∷◌, ◌++◌, ◌+◌, length, Bool, true, false, ◌&&◌, if◌then◌else◌, Contains, refl, sym, ◌∙◌, ap, subst, ◌≤◌, append-nil, arith}
+use Rattle.std.proofs.lemmas.List.Elements.{Contains-append_cases, Contains-append_left, Contains-append_right}
+use Rattle.std.specs.List.{AllByRecursion}
+use Rattle.std.specs.Prelude.{IfErr, IfOk, MatchResult, OnErr, OnOk}
 use Rattle.mar_cert.specs.Block.{Block}
-use Rattle.mar_cert.specs.Finalization.{Finalization}
-use Rattle.mar_store.specs.Changes.{IsNested, Left, Puts, Syncs}
-use Rattle.mar_store.specs.Kept.{At, Kept}
+use Rattle.mar_store.specs.Changes.{Finishes, IsNested, KeepsValues, Left, Puts, Syncs}
+use Rattle.mar_store.specs.Kept.{At, Kept, value_at}
 use Rattle.mar_store.specs.Tickets.{last_number}
 use Rattle.mar_store.specs.Watch.{Watch}
-use Rattle.mar_node.specs.Faults.{Fault, StoreName, block_store, cert_store, store_fault, want_of_memory}
-use Rattle.mar_node.specs.Held.{Breaks, IsArchiveFault, IsUsual, MakesSure, Passes}
+use Rattle.mar_node.specs.Faults.{Fault, StoreName, store_fault, want_of_memory}
+use Rattle.mar_node.specs.Held.{IsArchiveFault, IsUsual, MakesSure, Passes}
+use Rattle.mar_node.specs.Moves.{StoresValue}
 use Rattle.mar_node.specs.Places.{is_open, is_there, kept_at, watch_at}
 use Rattle.mar_node.specs.Pool.{Pool, Pooled, pool_deferred, pool_finished, pool_started, pooled_at, writing_of}
-use Rattle.mar_node.specs.Stored.{at_own_height}
 use Rattle.mar_node.specs.Staged.{Staged}
+use Rattle.mar_node.specs.Stored.{at_own_height}
 use Rattle.mar_node.specs.Writing.{IsLastWrite, IsOrdered}
 use Rattle.mar_node.specs.declared.Place.{Place}
 use Rattle.mar_node.specs.declared.Place.TheVariants.{Away, Lost, Open}
-use Rattle.mar_node.proofs.Growing.{MakesSure-finished, MakesSure-same}
-use Rattle.mar_node.proofs.Passing.{Passes-refl}
-use Rattle.mar_node.proofs.StoreLosses.{IsHow}
-use Rattle.mar_shelf.proofs.Awaiting.{blocks_finished, blocks_put, blocks_staged, blocks_started, blocks_stored, blocks_surer, certs_finished, certs_put, certs_started, certs_stored, certs_surer, given}
-use Rattle.mar_shelf.specs.Pooling.{BlocksPooled, CertsPooled, FailsIn, FinishesIn, IsGivenIn, IsLeftIn, StartsIn, StaysIn, is_taken_in, staged_where}
+use Rattle.mar_node.proofs.Growing.{MakesSure-finished, MakesSure-same, MakesSure-synced}
+use Rattle.mar_node.proofs.Passing.{Breaks-then, Passes-refl, Passes-then}
+use Rattle.mar_shelf.proofs.Awaiting.{AreHeld-kept, AreHeld-staged, AwaitsSyncs-deferred, AwaitsSyncs-finished, AwaitsSyncs-put, AwaitsSyncs-same, AwaitsSyncs-started, AwaitsSyncs-sure, AwaitsSyncs-surer, given, held_by_put}
+use Rattle.mar_shelf.specs.Pooling.{AreHeldIn, AwaitsIn, FailsIn, FinishesIn, HoldsIn, IsFaultOf, IsGivenIn, IsLeftIn, IsReadIn, StartsIn, StaysIn, is_taken_in, staged_where}
 
 -- a fault of an archive is one of those that an archive's call has
-pub archive_fault : (s : StoreName) (before now : Watch) (fault : Fault) → IsArchiveFault (store_fault s) → IsHow s before fault now → IsArchiveFault fault
+pub archive_fault : (s : StoreName) (before now : Watch) (fault : Fault) → IsArchiveFault (store_fault s) → IsFaultOf s before fault now → IsArchiveFault fault
 archive_fault s before now fault of_store (inl how) = subst IsArchiveFault (sym how.0) of_store
 archive_fault s before now fault of_store (inr how) = subst IsArchiveFault (sym how.0) tt
 
-pub usual_fault : (s : StoreName) (before now : Watch) (fault : Fault) → IsHow s before fault now → IsUsual fault
+pub usual_fault : (s : StoreName) (before now : Watch) (fault : Fault) → IsFaultOf s before fault now → IsUsual fault
 usual_fault s before now fault (inl how) = subst IsUsual (sym how.0) tt
 usual_fault s before now fault (inr how) = subst IsUsual (sym how.0) tt
 
@@ -44,6 +44,17 @@ fails_alone s stored left watch watch_left put old new same = subst (λ n. Fails
   cause = inr (refl, Passes-refl (watch_at watch watch_left old));
 })
 
+-- a value was put, and then a call failed that was to write nothing
+pub fails_then : {S T W : Type 0} (s : StoreName) (stored : S → Kept (At T)) (left : W → Left (At T)) (watch : S → Watch) (watch_left : W → Watch) {ignored : Bool} (x : At T) (old mid new : Place S W) (fault : Fault) → Puts ignored (kept_at stored left old) x (kept_at stored left mid) → Passes (watch_at watch watch_left old) (watch_at watch watch_left mid) → FailsIn s stored left watch watch_left [] mid new fault → FailsIn s stored left watch watch_left (x ∷ []) old new fault
+fails_then s stored left watch watch_left x old mid new fault puts passed failed = record {
+  fails = record {
+    sure = failed.fails.sure ∙ puts.sure;
+    may_kept = λ y has. failed.fails.may_kept y (puts.may_kept y has);
+    may = λ y has. puts.may y (subst (λ xs. Contains xs y) (append-nil (kept_at stored left mid).may) (failed.fails.may y has));
+  };
+  cause = ⊎_elim (λ how. inl (how.0, Breaks-then _ _ _ passed how.1)) (λ how. inr (how.0, Passes-then _ _ _ passed how.1)) failed.cause;
+}
+
 -- by what a call answered
 pub either : {T E A B C : Type 0} (r : Result T E) → OnOk r A → OnErr r B → (A → C) → (B → C) → C
 either (Ok x) done failed f g = f done
@@ -57,13 +68,66 @@ pub done_so : {T E A B : Type 0} (r : Result T E) → OnOk r A → (A → B) →
 done_so (Ok x) done f = f done
 done_so (Err e) done f = tt
 
+pub left_so : {T E A B : Type 0} (r : Result T E) → OnErr r A → (A → B) → OnErr r B
+left_so (Ok x) left f = tt
+left_so (Err e) left f = f left
+
+pub failed_so : {T E : Type 0} {A B : E → Type 0} (r : Result T E) → IfErr r A → ((e : E) → A e → B e) → IfErr r B
+failed_so (Ok x) failed f = tt
+failed_so (Err e) failed f = f e failed
+
 pub both_done : {T E : Type 0} (A B : Type 0) (r : Result T E) → OnOk r A → OnOk r B → OnOk r (A × B)
 both_done A B (Ok x) a b = (a, b)
 both_done A B (Err e) a b = tt
 
+pub always_done : {T E A : Type 0} (r : Result T E) → A → OnOk r A
+always_done (Ok x) a = a
+always_done (Err e) a = tt
+
+pub found_so : {T E : Type 0} {A B : T → Type 0} (r : Result T E) → IfOk r A → ((x : T) → A x → B x) → IfOk r B
+found_so (Ok x) found f = f x found
+found_so (Err e) found f = tt
+
+pub both_found : {T E : Type 0} (A B : T → Type 0) (r : Result T E) → IfOk r A → IfOk r B → IfOk r (λ x. A x × B x)
+both_found A B (Ok x) a b = (a, b)
+both_found A B (Err e) a b = tt
+
+-- what is true of each answer is true where there is one
+pub each_done : {E : Type 0} (A : Type 0) (r : Result Bool E) → IfOk r (λ b. (b ≡ true → A) × (b ≡ false → A)) → OnOk r A
+each_done A (Ok true) f = f.0 refl
+each_done A (Ok false) f = f.1 refl
+each_done A (Err e) f = tt
+
 -- what was intact is, where both archives are still there
 pub still_intact : (b b' c c' p : Bool) → b' ≡ b → c' ≡ c → (b && (c && p)) ≡ true → (b' && (c' && p)) ≡ true
 still_intact b b' c c' p blocks certs was = rw (blocks, certs) was
+
+-- A value that is stored was put, and then a sync made all sure.
+module _ {T : Type 0} {ignored : Bool} {old : Kept (At T)} {x : At T} {new : Kept (At T)} (stores : StoresValue ignored old x new) where
+  abbrev pub between : Kept (At T)
+  between = record { held = new.held; sure = old.sure; may = old.may ++ x ∷ [] }
+
+  pub stored_puts : Puts ignored old x between
+  stored_puts = record { held = stores.held; sure = refl; may_kept = λ y has. Contains-append_left old.may (x ∷ []) y has; may = λ y has. has }
+
+  -- what was held before is held
+  pub held_by_store : KeepsValues old.held new.held
+  held_by_store = held_by_put ignored old x between stored_puts
+
+  pub stored_nested : IsNested old → IsNested new → IsNested between
+  stored_nested before after = record {
+    once = after.once;
+    sure_once = before.sure_once;
+    sure_held = λ h v is. held_by_put ignored old x between stored_puts h v (before.sure_held h v is);
+    held_may = λ y has. by ignored stores.held y has;
+  }
+    where
+      by : (b : Bool) → new.held ≡ (if b then old.held else old.held ++ x ∷ []) → (y : At T) → Contains new.held y → Contains (old.may ++ x ∷ []) y
+      by true is y has = Contains-append_left old.may (x ∷ []) y (before.held_may y (subst (λ xs. Contains xs y) is has))
+      by false is y has = ⊎_elim (λ at_old. Contains-append_left old.may (x ∷ []) y (before.held_may y at_old)) (λ is_x. Contains-append_right old.may (x ∷ []) y is_x) (Contains-append_cases old.held (x ∷ []) y (subst (λ xs. Contains xs y) is has))
+
+  pub stored_surer : IsNested old → IsNested new → MakesSure between new
+  stored_surer before after = MakesSure-synced between new (stored_nested before after) (record { held = refl; sure = stores.sure; may = stores.may })
 
 module _ {T S W : Type 0} (stored : S → Kept (At T)) (number : S → ℕ) (covers : S → ℕ → List (At T)) where
   -- what is true of a store that is there before and after is true of its place
@@ -75,7 +139,7 @@ module _ {T S W : Type 0} (stored : S → Kept (At T)) (number : S → ℕ) (cov
   in_place P both Away new stays = absurd stays
 
   -- what is true of a store that is lost is true where it was there, or lost before
-  pub at_loss : (P : Place S W → Type 0) → ((w : W) → P (Lost w)) → (old new : Place S W) → (is_there old ≡ true) → IsLeftIn old new → P new
+  at_loss : (P : Place S W → Type 0) → ((w : W) → P (Lost w)) → (old new : Place S W) → (is_there old ≡ true) → IsLeftIn old new → P new
   at_loss P lost (Open s) (Lost w) there left = lost w
   at_loss P lost (Open s) (Open t) there left = absurd left
   at_loss P lost (Open s) Away there left = absurd left
@@ -87,12 +151,36 @@ module _ {T S W : Type 0} (stored : S → Kept (At T)) (number : S → ℕ) (cov
   pub open_in : (old new : Place S W) → StaysIn stored number covers old new → is_open new ≡ is_open old
   open_in old new stays = in_place (λ o n. is_open n ≡ is_open o) (λ s t stays. refl) old new stays
 
-  there_in : (old new : Place S W) → StaysIn stored number covers old new → is_there new ≡ true
-  there_in old new stays = in_place (λ o n. is_there n ≡ true) (λ s t stays. refl) old new stays
+  -- two calls, of which neither took a ticket back
+  pub stays_then : (old mid new : Place S W) → StaysIn stored number covers old mid → StaysIn stored number covers mid new → StaysIn stored number covers old new
+  stays_then (Open s) (Open t) (Open u) first second = record {
+    more = omega (arith, first.more, second.more);
+    keeps = λ k made below. second.keeps k (omega (arith, made, first.more)) below ∙ first.keeps k made below;
+    last = second.last;
+  }
+  stays_then (Open s) (Open t) (Lost w) first second = absurd second
+  stays_then (Open s) (Open t) Away first second = absurd second
+  stays_then (Open s) (Lost w) new first second = absurd first
+  stays_then (Open s) Away new first second = absurd first
+  stays_then (Lost v) mid new first second = absurd first
+  stays_then Away mid new first second = absurd first
+
+  -- one went well, and the other failed
+  pub left_then : (old mid new : Place S W) → StaysIn stored number covers old mid → IsLeftIn mid new → IsLeftIn old new
+  left_then (Open s) (Open t) (Lost w) stays left = tt
+  left_then (Open s) (Open t) (Open u) stays left = absurd left
+  left_then (Open s) (Open t) Away stays left = absurd left
+  left_then (Open s) (Lost w) new stays left = absurd stays
+  left_then (Open s) Away new stays left = absurd stays
+  left_then (Lost v) mid new stays left = absurd stays
+  left_then Away mid new stays left = absurd stays
 
   module _ (left : W → Left (At T)) where
     pub nested_in : ((s : S) → IsNested (stored s)) → (old new : Place S W) → StaysIn stored number covers old new → IsNested (kept_at stored left new)
     nested_in law old new stays = in_place (λ o n. IsNested (kept_at stored left n)) (λ s t stays. law t) old new stays
+
+    pub nested_before : ((s : S) → IsNested (stored s)) → (old new : Place S W) → StaysIn stored number covers old new → IsNested (kept_at stored left old)
+    nested_before law old new stays = in_place (λ o n. IsNested (kept_at stored left o)) (λ s t stays. law s) old new stays
 
     pub same_in : (ticket : ℕ) (old new : Place S W) → StaysIn stored number covers old new → StartsIn stored number covers ticket old new → kept_at stored left new ≡ kept_at stored left old
     same_in ticket old new stays = in_place (λ o n. StartsIn stored number covers ticket o n → kept_at stored left n ≡ kept_at stored left o) (λ s t stays starts. starts.0) old new stays
@@ -103,89 +191,137 @@ module _ {T S W : Type 0} (stored : S → Kept (At T)) (number : S → ℕ) (cov
     pub finished_in : (ticket : ℕ) (old new : Place S W) → StaysIn stored number covers old new → FinishesIn stored covers ticket old new → MakesSure (kept_at stored left old) (kept_at stored left new)
     finished_in ticket old new stays = in_place (λ o n. FinishesIn stored covers ticket o n → MakesSure (kept_at stored left o) (kept_at stored left n)) (λ s t stays finishes. MakesSure-finished (covers s ticket) (stored s) (stored t) finishes) old new stays
 
-module _ {B S W : Type 0} (plain : B → Block) (stored : S → Kept (At Block)) (number : S → ℕ) (covers : S → ℕ → List (At Block)) where
-  blocks_there : (place : Place S W) (pool : Pool) (staged : List (ℕ × B)) → BlocksPooled plain stored number covers place pool staged → is_there place ≡ true
-  blocks_there (Open s) pool staged pooled = refl
-  blocks_there (Lost w) pool staged pooled = refl
-  blocks_there Away pool staged pooled = absurd pooled
+    -- a read changes nothing of what is kept
+    pub read_same : (old new : Place S W) → IsReadIn stored number covers left old new → kept_at stored left new ≡ kept_at stored left old
+    read_same (Open s) (Open t) read = read.0
+    read_same (Open s) (Lost w) read = absurd read
+    read_same (Open s) Away read = absurd read
+    read_same (Lost v) (Lost w) read = ap (λ l. record { held = []; sure = l.sure; may = l.may }) read
+    read_same (Lost v) (Open t) read = absurd read
+    read_same (Lost v) Away read = absurd read
+    read_same Away Away read = refl
+    read_same Away (Open t) read = absurd read
+    read_same Away (Lost w) read = absurd read
 
-  -- of what is lost nothing is to keep
-  pub blocks_left_in : (old new : Place S W) (pool : Pool) (staged : List (ℕ × B)) (later : Pool) (after : List (ℕ × B)) → IsLeftIn old new → BlocksPooled plain stored number covers old pool staged → BlocksPooled plain stored number covers new later after
-  blocks_left_in old new pool staged later after is pooled = at_loss stored number covers (λ n. BlocksPooled plain stored number covers n later after) (λ w. tt) old new (blocks_there old pool staged pooled) is
+    pub read_open : (old new : Place S W) → IsReadIn stored number covers left old new → is_open new ≡ is_open old
+    read_open (Open s) (Open t) read = refl
+    read_open (Open s) (Lost w) read = absurd read
+    read_open (Open s) Away read = absurd read
+    read_open (Lost v) (Lost w) read = refl
+    read_open (Lost v) (Open t) read = absurd read
+    read_open (Lost v) Away read = absurd read
+    read_open Away Away read = refl
+    read_open Away (Open t) read = absurd read
+    read_open Away (Lost w) read = absurd read
 
-  -- nor where the store was there before the call that failed
-  pub blocks_left_after : (old mid new : Place S W) (later : Pool) (after : List (ℕ × B)) → StaysIn stored number covers old mid → IsLeftIn mid new → BlocksPooled plain stored number covers new later after
-  blocks_left_after old mid new later after stays is = at_loss stored number covers (λ n. BlocksPooled plain stored number covers n later after) (λ w. tt) mid new (there_in stored number covers old mid stays) is
+  -- WHAT WAITS FOR A SYNC
 
-  pub blocks_given_in : (place : Place S W) (pool : Pool) (staged : List (ℕ × B)) (ticket : ℕ) (p : Pooled) → Some p ≡ pooled_at pool.pooled ticket → BlocksPooled plain stored number covers place pool staged → IsGivenIn number p.blocks place
-  blocks_given_in (Open s) pool staged ticket p found pooled = given (λ q. q.blocks) pooled.waits ticket p found
-  blocks_given_in (Lost w) pool staged ticket p found pooled = tt
-  blocks_given_in Away pool staged ticket p found pooled = absurd pooled
+  module _ (ticket_of : Pooled → ℕ) where
+    pub waits_there : (place : Place S W) (pool : Pool) → AwaitsIn ticket_of stored number covers place pool → is_there place ≡ true
+    waits_there (Open s) pool waits = refl
+    waits_there (Lost w) pool waits = refl
+    waits_there Away pool waits = absurd waits
 
-  module _ (left : W → Left (At Block)) (old new : Place S W) (pool : Pool) (staged : List (ℕ × B)) (pooled : BlocksPooled plain stored number covers old pool staged) (stays : StaysIn stored number covers old new) where
-    pub blocks_surer_in : MakesSure (kept_at stored left old) (kept_at stored left new) → BlocksPooled plain stored number covers new pool staged
-    blocks_surer_in surer = in_place stored number covers (λ o n. MakesSure (kept_at stored left o) (kept_at stored left n) → BlocksPooled plain stored number covers o pool staged → BlocksPooled plain stored number covers n pool staged)
-        (λ s t stays surer pooled. blocks_surer pooled surer stays.more stays.keeps stays.last) old new stays surer pooled
+    -- of what is lost nothing is to keep
+    pub waits_left : (old new : Place S W) (pool later : Pool) → IsLeftIn old new → AwaitsIn ticket_of stored number covers old pool → AwaitsIn ticket_of stored number covers new later
+    waits_left old new pool later left waits = at_loss (λ n. AwaitsIn ticket_of stored number covers n later) (λ w. tt) old new (waits_there old pool waits) left
 
-    pub blocks_started_in : (b c : ℕ) {later : Pool} → StartsIn stored number covers b old new → b ≤ last_number → later ≡ pool_started b c pool → BlocksPooled plain stored number covers new later staged
-    blocks_started_in b c {later = later} starts fits started = in_place stored number covers (λ o n. StartsIn stored number covers b o n → BlocksPooled plain stored number covers o pool staged → BlocksPooled plain stored number covers n later staged)
-        (λ s t stays starts pooled. blocks_started pooled c starts.0 stays.more stays.keeps stays.last starts.1 fits starts.2 started) old new stays starts pooled
+    pub waits_given : (place : Place S W) (pool : Pool) (ticket : ℕ) (p : Pooled) → Some p ≡ pooled_at pool.pooled ticket → AwaitsIn ticket_of stored number covers place pool → IsGivenIn number (ticket_of p) place
+    waits_given (Open s) pool ticket p found waits = given ticket_of waits ticket p found
+    waits_given (Lost w) pool ticket p found waits = tt
+    waits_given Away pool ticket p found waits = absurd waits
 
-    pub blocks_finished_in : (ticket : ℕ) (p : Pooled) {later : Pool} → Some p ≡ pooled_at pool.pooled ticket → FinishesIn stored covers p.blocks old new → later ≡ pool_finished ticket pool → BlocksPooled plain stored number covers new later staged
-    blocks_finished_in ticket p {later = later} found finishes finished = in_place stored number covers (λ o n. FinishesIn stored covers p.blocks o n → BlocksPooled plain stored number covers o pool staged → BlocksPooled plain stored number covers n later staged)
-        (λ s t stays finishes pooled. blocks_finished pooled ticket found finishes stays.more stays.keeps stays.last finished) old new stays finishes pooled
+    -- one more write
+    pub waits_deferred : (place : Place S W) (pool later : Pool) (height : ℕ) → AwaitsIn ticket_of stored number covers place pool → later ≡ pool_deferred height pool → AwaitsIn ticket_of stored number covers place later
+    waits_deferred place pool later height waits deferred = subst (AwaitsIn ticket_of stored number covers place) (sym deferred) (by place waits)
+      where
+        by : (p : Place S W) → AwaitsIn ticket_of stored number covers p pool → AwaitsIn ticket_of stored number covers p (pool_deferred height pool)
+        by (Open s) waits = AwaitsSyncs-deferred ticket_of (stored s) (number s) (covers s) pool waits height
+        by (Lost w) lost = tt
+        by Away away = away
 
-    pub blocks_put_in : {ignored : Bool} {b : B} {later : Pool} → Puts ignored (kept_at stored left old) (at_own_height (plain b)) (kept_at stored left new) → IsOrdered (writing_of pool) → later ≡ pool_deferred (plain b).height pool → BlocksPooled plain stored number covers new later staged
-    blocks_put_in {ignored = ignored} {b = b} {later = later} puts ordered deferred = in_place stored number covers (λ o n. Puts ignored (kept_at stored left o) (at_own_height (plain b)) (kept_at stored left n) → BlocksPooled plain stored number covers o pool staged → BlocksPooled plain stored number covers n later staged)
-        (λ s t stays puts pooled. blocks_put pooled puts stays.more stays.keeps stays.last ordered deferred) old new stays puts pooled
+    -- the store was read, or a call of it was armed
+    pub waits_read : (left : W → Left (At T)) (old new : Place S W) (pool : Pool) → IsReadIn stored number covers left old new → AwaitsIn ticket_of stored number covers old pool → AwaitsIn ticket_of stored number covers new pool
+    waits_read left (Open s) (Open t) pool read waits = AwaitsSyncs-same ticket_of (stored s) (number s) (covers s) pool waits (stored t) (number t) (covers t) read.0 read.1.more read.1.keeps read.1.last
+    waits_read left (Open s) (Lost w) pool read waits = absurd read
+    waits_read left (Open s) Away pool read waits = absurd read
+    waits_read left (Lost v) (Lost w) pool read waits = tt
+    waits_read left (Lost v) (Open t) pool read waits = absurd read
+    waits_read left (Lost v) Away pool read waits = absurd read
+    waits_read left Away new pool read waits = absurd waits
 
-  pub blocks_staged_in : (left : W → Left (At Block)) (old new : Place S W) {ignored : Bool} (b : B) (pool : Pool) (places : Staged B) {after : Staged B} (taken : Bool) → Puts ignored (kept_at stored left old) (at_own_height (plain b)) (kept_at stored left new) → taken ≡ is_taken_in (plain b).height (kept_at stored left old) (kept_at stored left new) → after ≡ staged_where taken (plain b).height b places → BlocksPooled plain stored number covers new pool places.blocks → BlocksPooled plain stored number covers new pool after.blocks
-  blocks_staged_in left old (Open t) b pool places taken puts is_in staged pooled = blocks_staged pooled b (kept_at stored left old) places taken puts is_in refl staged
-  blocks_staged_in left old (Lost w) b pool places taken puts is_in staged pooled = tt
-  blocks_staged_in left old Away b pool places taken puts is_in staged pooled = absurd pooled
+    module _ (left : W → Left (At T)) (old new : Place S W) (pool : Pool) (waits : AwaitsIn ticket_of stored number covers old pool) (stays : StaysIn stored number covers old new) where
+      pub waits_surer : MakesSure (kept_at stored left old) (kept_at stored left new) → AwaitsIn ticket_of stored number covers new pool
+      waits_surer surer = in_place (λ o n. MakesSure (kept_at stored left o) (kept_at stored left n) → AwaitsIn ticket_of stored number covers o pool → AwaitsIn ticket_of stored number covers n pool)
+          (λ s t stays surer waits. AwaitsSyncs-surer ticket_of (stored s) (number s) (covers s) pool waits (stored t) (number t) (covers t) surer.held surer.sure stays.more stays.keeps stays.last) old new stays surer waits
 
-  -- a block was put, and then a sync made all sure
-  pub blocks_stored_in : (left : W → Left (At Block)) (old mid new : Place S W) {ignored : Bool} {x : At Block} (pool : Pool) (staged : List (ℕ × B)) → StaysIn stored number covers old mid → StaysIn stored number covers mid new → Puts ignored (kept_at stored left old) x (kept_at stored left mid) → Syncs (kept_at stored left mid) (kept_at stored left new) → BlocksPooled plain stored number covers old pool staged → BlocksPooled plain stored number covers new pool staged
-  blocks_stored_in left old mid new {ignored = ignored} {x = x} pool staged first second puts syncs pooled = in_place stored number covers (λ m n. StaysIn stored number covers old m → Puts ignored (kept_at stored left old) x (kept_at stored left m) → Syncs (kept_at stored left m) (kept_at stored left n) → BlocksPooled plain stored number covers n pool staged)
-      (λ m t second first puts syncs. in_place stored number covers (λ o n. Puts ignored (kept_at stored left o) x (kept_at stored left n) → Syncs (kept_at stored left n) (stored t) → StaysIn {W = W} stored number covers n (Open t) → BlocksPooled plain stored number covers o pool staged → BlocksPooled {W = W} plain stored number covers (Open t) pool staged)
-      (λ s n first puts syncs second pooled. blocks_stored pooled puts syncs first.more second.more) old (Open m) first puts syncs second pooled) mid new second first puts syncs
+      pub waits_put : {ignored : Bool} {height : ℕ} {value : T} → Puts ignored (kept_at stored left old) (record { height = height; value = value }) (kept_at stored left new) → IsLastWrite height (writing_of pool) → AwaitsIn ticket_of stored number covers new pool
+      waits_put {ignored = ignored} {height = height} {value = value} puts write = in_place (λ o n. Puts ignored (kept_at stored left o) (record { height = height; value = value }) (kept_at stored left n) → AwaitsIn ticket_of stored number covers o pool → AwaitsIn ticket_of stored number covers n pool)
+          (λ s t stays puts waits. AwaitsSyncs-put ticket_of (stored s) (number s) (covers s) pool waits ignored height value (stored t) (number t) (covers t) write puts stays.more stays.keeps stays.last) old new stays puts waits
 
-module _ {S W : Type 0} (stored : S → Kept (At Finalization)) (number : S → ℕ) (covers : S → ℕ → List (At Finalization)) where
-  certs_there : (place : Place S W) (pool : Pool) → CertsPooled stored number covers place pool → is_there place ≡ true
-  certs_there (Open s) pool pooled = refl
-  certs_there (Lost w) pool pooled = refl
-  certs_there Away pool pooled = absurd pooled
+      -- a value was put, whose write is one more
+      pub waits_written : {ignored : Bool} {height : ℕ} {value : T} {later : Pool} → Puts ignored (kept_at stored left old) (record { height = height; value = value }) (kept_at stored left new) → IsOrdered (writing_of pool) → later ≡ pool_deferred height pool → AwaitsIn ticket_of stored number covers new later
+      waits_written {ignored = ignored} {height = height} {value = value} {later = later} puts ordered deferred = subst (AwaitsIn ticket_of stored number covers new) (sym deferred) (in_place (λ o n. Puts ignored (kept_at stored left o) (record { height = height; value = value }) (kept_at stored left n) → AwaitsIn ticket_of stored number covers o pool → AwaitsIn ticket_of stored number covers n (pool_deferred height pool))
+          (λ s t stays puts waits. AwaitsSyncs-put ticket_of (stored s) (number s) (covers s) (pool_deferred height pool) (AwaitsSyncs-deferred ticket_of (stored s) (number s) (covers s) pool waits height) ignored height value (stored t) (number t) (covers t) (record { before = writing_of pool; ordered = ordered; is = refl }) puts stays.more stays.keeps stays.last) old new stays puts waits)
 
-  pub certs_left_in : (old new : Place S W) (pool later : Pool) → IsLeftIn old new → CertsPooled stored number covers old pool → CertsPooled stored number covers new later
-  certs_left_in old new pool later is pooled = at_loss stored number covers (λ n. CertsPooled stored number covers n later) (λ w. tt) old new (certs_there old pool pooled) is
+      -- a value was put, and then a sync made all sure
+      pub waits_stored : {ignored : Bool} {x : At T} → StoresValue ignored (kept_at stored left old) x (kept_at stored left new) → AwaitsIn ticket_of stored number covers new pool
+      waits_stored {ignored = ignored} {x = x} stores = in_place (λ o n. StoresValue ignored (kept_at stored left o) x (kept_at stored left n) → AwaitsIn ticket_of stored number covers o pool → AwaitsIn ticket_of stored number covers n pool)
+          (λ s t stays stores waits. AwaitsSyncs-sure ticket_of (stored s) (number s) (covers s) pool waits (stored t) (number t) (covers t) stores.sure stays.more) old new stays stores waits
 
-  pub certs_left_after : (old mid new : Place S W) (later : Pool) → StaysIn stored number covers old mid → IsLeftIn mid new → CertsPooled stored number covers new later
-  certs_left_after old mid new later stays is = at_loss stored number covers (λ n. CertsPooled stored number covers n later) (λ w. tt) mid new (there_in stored number covers old mid stays) is
+      -- a sync of both archives was started, with these tickets
+      pub waits_started : (blocks certs ticket : ℕ) {later : Pool} → ticket ≡ ticket_of (record { sync = record { ticket = pool.next_sync; position = pool.covered + length pool.uncovered }; blocks = blocks; certs = certs }) → StartsIn stored number covers ticket old new → ticket ≤ last_number → later ≡ pool_started blocks certs pool → AwaitsIn ticket_of stored number covers new later
+      waits_started blocks certs ticket {later = later} is starts fits started = subst (AwaitsIn ticket_of stored number covers new) (sym started) (in_place (λ o n. StartsIn stored number covers ticket o n → AwaitsIn ticket_of stored number covers o pool → AwaitsIn ticket_of stored number covers n (pool_started blocks certs pool))
+          (λ s t stays starts waits. AwaitsSyncs-started ticket_of (stored t) (number t) (covers t) pool (AwaitsSyncs-same ticket_of (stored s) (number s) (covers s) pool waits (stored t) (number t) (covers t) starts.0 stays.more stays.keeps stays.last) blocks certs (subst (λ k. k ≤ number t) is starts.1) (subst (λ k. k ≤ last_number) is fits) (subst (λ k. covers t k ≡ (stored t).held) is (starts.2 ∙ sym (ap (λ k. k.held) starts.0)))) old new stays starts waits)
 
-  pub certs_given_in : (place : Place S W) (pool : Pool) (ticket : ℕ) (p : Pooled) → Some p ≡ pooled_at pool.pooled ticket → CertsPooled stored number covers place pool → IsGivenIn number p.certs place
-  certs_given_in (Open s) pool ticket p found pooled = given (λ q. q.certs) pooled ticket p found
-  certs_given_in (Lost w) pool ticket p found pooled = tt
-  certs_given_in Away pool ticket p found pooled = absurd pooled
+      -- a sync has finished in the store, and then in the pool
+      pub waits_finished : (ticket : ℕ) (p : Pooled) {later : Pool} → Some p ≡ pooled_at pool.pooled ticket → FinishesIn stored covers (ticket_of p) old new → later ≡ pool_finished ticket pool → AwaitsIn ticket_of stored number covers new later
+      waits_finished ticket p {later = later} found finishes finished = subst (AwaitsIn ticket_of stored number covers new) (sym finished) (in_place (λ o n. FinishesIn stored covers (ticket_of p) o n → AwaitsIn ticket_of stored number covers o pool → AwaitsIn ticket_of stored number covers n (pool_finished ticket pool))
+          (λ s t stays finishes waits. AwaitsSyncs-finished ticket_of (stored s) (number s) (covers s) pool waits ticket p (stored t) (number t) (covers t) (sym found) finishes stays.more stays.keeps stays.last) old new stays finishes waits)
 
-  module _ (left : W → Left (At Finalization)) (old new : Place S W) (pool : Pool) (pooled : CertsPooled stored number covers old pool) (stays : StaysIn stored number covers old new) where
-    pub certs_surer_in : MakesSure (kept_at stored left old) (kept_at stored left new) → CertsPooled stored number covers new pool
-    certs_surer_in surer = in_place stored number covers (λ o n. MakesSure (kept_at stored left o) (kept_at stored left n) → CertsPooled stored number covers o pool → CertsPooled stored number covers n pool)
-        (λ s t stays surer pooled. certs_surer pooled surer stays.more stays.keeps stays.last) old new stays surer pooled
+  -- WHAT IS HELD
 
-    pub certs_started_in : (b c : ℕ) {later : Pool} → StartsIn stored number covers c old new → c ≤ last_number → later ≡ pool_started b c pool → CertsPooled stored number covers new later
-    certs_started_in b c {later = later} starts fits started = in_place stored number covers (λ o n. StartsIn stored number covers c o n → CertsPooled stored number covers o pool → CertsPooled stored number covers n later)
-        (λ s t stays starts pooled. certs_started pooled b starts.0 stays.more stays.keeps stays.last starts.1 fits starts.2 started) old new stays starts pooled
+  -- it stays held in a call that took nothing out
+  pub holds_in : (left : W → Left (At T)) (old new : Place S W) → StaysIn stored number covers old new → KeepsValues (kept_at stored left old).held (kept_at stored left new).held → HoldsIn stored old new
+  holds_in left old new stays keeps = in_place (λ o n. KeepsValues (kept_at stored left o).held (kept_at stored left n).held → HoldsIn stored o n) (λ s t stays keeps. keeps) old new stays keeps
 
-    pub certs_finished_in : (ticket : ℕ) (p : Pooled) {later : Pool} → Some p ≡ pooled_at pool.pooled ticket → FinishesIn stored covers p.certs old new → later ≡ pool_finished ticket pool → CertsPooled stored number covers new later
-    certs_finished_in ticket p {later = later} found finishes finished = in_place stored number covers (λ o n. FinishesIn stored covers p.certs o n → CertsPooled stored number covers o pool → CertsPooled stored number covers n later)
-        (λ s t stays finishes pooled. certs_finished pooled ticket found finishes stays.more stays.keeps stays.last finished) old new stays finishes pooled
+  pub holds_left : (old new : Place S W) → is_there old ≡ true → IsLeftIn old new → HoldsIn stored old new
+  holds_left old new there left = at_loss (λ n. HoldsIn stored old n) (λ w. lost old w) old new there left
+    where
+      lost : (o : Place S W) (w : W) → HoldsIn stored o (Lost w)
+      lost (Open s) w = tt
+      lost (Lost v) w = tt
+      lost Away w = tt
 
-    pub certs_put_in : {ignored : Bool} {height : ℕ} {value : Finalization} → Puts ignored (kept_at stored left old) (record { height = height; value = value }) (kept_at stored left new) → IsLastWrite height (writing_of pool) → CertsPooled stored number covers new pool
-    certs_put_in {ignored = ignored} {height = height} {value = value} puts write = in_place stored number covers (λ o n. Puts ignored (kept_at stored left o) (record { height = height; value = value }) (kept_at stored left n) → CertsPooled stored number covers o pool → CertsPooled stored number covers n pool)
-        (λ s t stays puts pooled. certs_put pooled write puts stays.more stays.keeps stays.last) old new stays puts pooled
+  pub holds_same : (old new : Place S W) → new ≡ old → HoldsIn stored old new
+  holds_same old new same = subst (HoldsIn stored old) (sym same) (refl_in old)
+    where
+      refl_in : (o : Place S W) → HoldsIn stored o o
+      refl_in (Open s) = λ h v is. is
+      refl_in (Lost v) = tt
+      refl_in Away = tt
 
-  -- a finalization was put, and then a sync made all sure
-  pub certs_stored_in : (left : W → Left (At Finalization)) (old mid new : Place S W) (pool : Pool) → StaysIn stored number covers old mid → StaysIn stored number covers mid new → Syncs (kept_at stored left mid) (kept_at stored left new) → CertsPooled stored number covers old pool → CertsPooled stored number covers new pool
-  certs_stored_in left old mid new pool first second syncs pooled = in_place stored number covers (λ m n. StaysIn stored number covers old m → Syncs (kept_at stored left m) (kept_at stored left n) → CertsPooled stored number covers n pool)
-      (λ m t second first syncs. in_place stored number covers (λ o n. Syncs (kept_at stored left n) (stored t) → StaysIn {W = W} stored number covers n (Open t) → CertsPooled stored number covers o pool → CertsPooled {W = W} stored number covers (Open t) pool)
-      (λ s n first syncs second pooled. certs_stored pooled syncs first.more second.more) old (Open m) first syncs second pooled) mid new second first syncs
+-- what is staged is held still
+pub held_in : {B S W : Type 0} (plain : B → Block) (stored : S → Kept (At Block)) (old new : Place S W) (staged : List (ℕ × B)) → HoldsIn stored old new → AreHeldIn plain stored old staged → AreHeldIn plain stored new staged
+held_in plain stored (Open s) (Open t) staged holds held = AreHeld-kept plain (stored s).held (stored t).held staged holds held
+held_in plain stored (Lost v) (Open t) staged holds held = absurd holds
+held_in plain stored Away (Open t) staged holds held = absurd holds
+held_in plain stored old (Lost w) staged holds held = tt
+held_in plain stored old Away staged holds held = tt
+
+pub held_read : {B S W : Type 0} (plain : B → Block) (stored : S → Kept (At Block)) (number : S → ℕ) (covers : S → ℕ → List (At Block)) (left : W → Left (At Block)) (old new : Place S W) (staged : List (ℕ × B)) → IsReadIn stored number covers left old new → AreHeldIn plain stored old staged → AreHeldIn plain stored new staged
+held_read plain stored number covers left (Open s) (Open t) staged read held = subst (λ k. AllByRecursion (λ e. value_at k.held e.0 ≡ Some (plain e.1)) staged) (sym read.0) held
+held_read plain stored number covers left old (Lost w) staged read held = tt
+held_read plain stored number covers left old Away staged read held = tt
+held_read plain stored number covers left (Lost v) (Open t) staged read held = absurd read
+held_read plain stored number covers left Away (Open t) staged read held = absurd read
+
+pub staged_in : {B S W : Type 0} (plain : B → Block) (stored : S → Kept (At Block)) (left : W → Left (At Block)) (old new : Place S W) {ignored : Bool} (b : B) (places : Staged B) {after : Staged B} (taken : Bool) → Puts ignored (kept_at stored left old) (at_own_height (plain b)) (kept_at stored left new) → taken ≡ is_taken_in (plain b).height (kept_at stored left old) (kept_at stored left new) → after ≡ staged_where taken (plain b).height b places → AreHeldIn plain stored new places.blocks → AreHeldIn plain stored new after.blocks
+staged_in plain stored left old (Open t) b places taken puts is_in staged held = AreHeld-staged plain b (kept_at stored left old) (stored t) places taken puts is_in staged held
+staged_in plain stored left old (Lost w) b places taken puts is_in staged held = tt
+staged_in plain stored left old Away b places taken puts is_in staged held = tt
+
+-- a write was deferred, or none was
+pub waits_either : {T S W : Type 0} (stored : S → Kept (At T)) (number : S → ℕ) (covers : S → ℕ → List (At T)) (ticket_of : Pooled → ℕ) (place : Place S W) (pool later : Pool) (height : ℕ) → (later ≡ pool) ⊎ (later ≡ pool_deferred height pool) → AwaitsIn ticket_of stored number covers place pool → AwaitsIn ticket_of stored number covers place later
+waits_either stored number covers ticket_of place pool later height (inl same) waits = subst (AwaitsIn ticket_of stored number covers place) (sym same) waits
+waits_either stored number covers ticket_of place pool later height (inr deferred) waits = waits_deferred stored number covers ticket_of place pool later height waits deferred

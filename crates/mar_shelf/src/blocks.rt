@@ -1,84 +1,40 @@
 //! The store of finalized blocks.
-ghost use Rattle.std.specs.Prelude.{◌≡◌, ◌≤◌, ℕ, Bool, List, [], ◌∷◌, IfErr, IfOk, IfSome, MatchResult, OnErr, OnOk, false, option_map, true};
-ghost use Rattle.mar_store.specs.Watch.{armed, Heeds, HeedsOrNot, HeedsRead, Watch};
+ghost use Rattle.std.specs.Prelude.{◌≡◌, ◌≤◌, [], ◌∷◌, IfErr, IfOk, IfSome, MatchResult, option_map};
+ghost use Rattle.mar_store.specs.Watch.{HeedsOrNot, HeedsRead};
 ghost use Rattle.mar_store.specs.Sizes.{IsSmall};
-ghost use Rattle.mar_store.specs.Luck.{keeps_by, lucky_found};
-ghost use Rattle.mar_store.specs.Kept.{At, Kept, has_height, value_at};
-ghost use Rattle.mar_store.specs.Changes.{Left, Within, Puts, Syncs, Finishes, Prunes, Fails, left_of, IsReopened, IsNested, IsStillOr, heights};
-ghost use Rattle.mar_store.specs.Named.{last_index};
+ghost use Rattle.mar_store.specs.Kept.{has_height, value_at};
+ghost use Rattle.mar_store.specs.Changes.{Puts, Fails, left_of, IsStillOr, heights};
 ghost use Rattle.mar_store.specs.Ranges.{ranges};
-ghost use Rattle.mar_store.specs.Tickets.{KeepsCovers, KeepsCoversFrom, last_number};
+ghost use Rattle.mar_store.specs.Tickets.{KeepsCovers};
 ghost use Rattle.mar_shelf.specs.Gaps.{missing_items, next_start, range_end};
 ghost use Rattle.mar_store.specs.Lost.{wreck_of};
-ghost use Rattle.mar_cert.specs.Block.{Block as PlainBlock};
 ghost use Rattle.mar_node.specs.Stored.{at_own_height, block_of, is_held, AreOwn};
 
 use crate::gaps::{missing_items, next_gap};
+use crate::item::BlockItem;
+use crate::keeps::Keeps;
 use mar_block::Variant;
-use mar_store::{Lost, Miss, RangeSet, SyncTicket};
+use mar_store::{Lost, Miss};
 use mar_types::Height;
 use std::alloc::{AllocError, Global};
 
-/// What is left of a store of blocks.
-pub trait BlocksRuin: Drop {
-    /// What every crash leaves, and all that a crash can leave.
-    ghost left: { Self → Left (At PlainBlock) };
-
-    /// What it tells of its failures.
-    ghost watch: { Self → Watch };
-
-    /// The heights of what every crash leaves.
-    fn sure_ranges(&self) -> &RangeSet
-        ensures { result.now ≡ ranges (heights (left self.now).sure) };
-
-    /// The heights of all that a crash can leave.
-    fn may_ranges(&self) -> &RangeSet
-        ensures { result.now ≡ ranges (heights (left self.now).may) };
-
-    /// Makes the counted call fail that is so many calls away, 1 being the next. Counted are `put`, `sync`,
-    /// `start_sync`, `finish`, `get`, `find`, `prune` and `reopen`. Where nothing can be armed it does nothing.
-    fn arm(&mut self, calls: u64) -> Result<(), AllocError>
-        ensures armed { OnOk result (watch self.new ≡ armed calls (watch self.old)) }
-        ensures unarmed { OnErr result (watch self.new ≡ watch self.old) }
-        ensures left { left self.new ≡ left self.old };
-
-    ghost within: { (w : Self) → Within (left w).sure (left w).may };
-}
-
-/// Finalized blocks by height and by digest. A put is seen at once and durable after the next sync.
-pub trait Blocks<V: Variant>: Drop {
-    type Wreck: BlocksRuin;
-
-    /// What it holds, what is sure, and what a crash can leave.
-    ghost stored: { Self → Kept (At PlainBlock) };
-
-    /// What it tells of its failures.
-    ghost watch: { Self → Watch };
-
-    /// The greatest number that a ticket of this life has.
-    ghost number: { Self → ℕ };
-
-    /// What the ticket of a number makes sure.
-    ghost covers: { Self → ℕ → List (At PlainBlock) };
-
-    /// Whether a prune removes anything.
-    ghost prunes: { Bool };
-
+/// Finalized blocks by height and by digest. `get`, `find` and `put` are counted, as are the calls of `Keeps`.
+pub trait Blocks<V: Variant>: Keeps<BlockItem<V>> {
     /// The block that is held at a height.
     fn get(&mut self, height: Height) -> Result<Option<V::Block>, Miss>
-        ensures found { IfOk result (λ o. option_map V.plain o ≡ value_at (stored self.old).held height) }
-        ensures same { stored self.new ≡ stored self.old }
-        ensures tickets { number self.new ≡ number self.old }
-        ensures covers { KeepsCovers (number self.old) (covers self.old) (covers self.new) }
-        ensures watched { HeedsRead (watch self.old) (watch self.new) result };
+        ensures found { IfOk result (λ o. option_map V.plain o ≡ value_at (Self.stored self.old).held height) }
+        ensures same { Self.stored self.new ≡ Self.stored self.old }
+        ensures tickets { Self.number self.new ≡ Self.number self.old }
+        ensures covers { KeepsCovers (Self.number self.old) (Self.covers self.old) (Self.covers self.new) }
+        ensures watched { HeedsRead (Self.watch self.old) (Self.watch self.new) result };
 
     /// The block that is held under a digest.
     fn find(&mut self, digest: &V::Digest) -> Result<Option<V::Block>, Miss>
-        ensures found { IfOk result (λ o. option_map V.plain o ≡ block_of (stored self.old).held (V.Digest.bytes digest.now)) }
-        ensures same { stored self.new ≡ stored self.old }
-        ensures tickets { number self.new ≡ number self.old }
-        ensures covers { KeepsCovers (number self.old) (covers self.old) (covers self.new) }
-        ensures watched { HeedsRead (watch self.old) (watch self.new) result };
+        ensures found { IfOk result (λ o. option_map V.plain o ≡ block_of (Self.stored self.old).held (V.Digest.bytes digest.now)) }
+        ensures same { Self.stored self.new ≡ Self.stored self.old }
+        ensures tickets { Self.number self.new ≡ Self.number self.old }
+        ensures covers { KeepsCovers (Self.number self.old) (Self.covers self.old) (Self.covers self.new) }
+        ensures watched { HeedsRead (Self.watch self.old) (Self.watch self.new) result };
 
     /// Puts a block under its digest at its height; ignored where one of either is held. Where memory runs out before the
     /// store is asked the call isn't counted.
@@ -88,138 +44,40 @@ pub trait Blocks<V: Variant>: Drop {
         requires named { V.Digest.bytes digest.now ≡ (V.plain block.now).digest }
         requires size { IsSmall (V.plain block.now).encoded }
         ensures done { MatchResult result
-            (λ s. Puts (is_held (stored self).held (V.plain block.now)) (stored self) (at_own_height (V.plain block.now)) (stored s))
-            (λ l. Fails (left_of (stored self)) (at_own_height (V.plain block.now) ∷ []) (Self.Wreck.left (wreck_of l))) }
-        ensures still { IfErr result (λ l. IfSome (watch self).keeps
-            (λ _. IsStillOr (left_of (stored self)) (at_own_height (V.plain block.now)) (Self.Wreck.left (wreck_of l)))) }
-        ensures tickets { IfOk result (λ s. number self ≤ number s) }
-        ensures covers { IfOk result (λ s. KeepsCovers (number self) (covers self) (covers s)) }
-        ensures watched { HeedsOrNot watch Self.Wreck.watch (watch self) result };
-
-    /// Makes all blocks that were put durable.
-    fn sync(self) -> Result<Self, Lost<Self::Wreck>>
-    where
-        Self: Sized,
-        ensures done { MatchResult result
-            (λ s. Syncs (stored self) (stored s))
-            (λ l. Fails (left_of (stored self)) [] (Self.Wreck.left (wreck_of l))) }
-        ensures still { IfErr result (λ l. IfSome (watch self).keeps (λ _. Self.Wreck.left (wreck_of l) ≡ left_of (stored self))) }
-        ensures tickets { IfOk result (λ s. number self ≤ number s) }
-        ensures covers { IfOk result (λ s. KeepsCovers (number self) (covers self) (covers s)) }
-        ensures watched { Heeds watch Self.Wreck.watch (watch self) result };
-
-    /// Starts a sync, which `finish` of its ticket finishes.
-    fn start_sync(self) -> Result<(Self, SyncTicket), Lost<Self::Wreck>>
-    where
-        Self: Sized,
-        ensures done { MatchResult result
-            (λ s. stored s.0 ≡ stored self)
-            (λ l. Fails (left_of (stored self)) [] (Self.Wreck.left (wreck_of l))) }
-        ensures still { IfErr result (λ l. IfSome (watch self).keeps (λ _. Self.Wreck.left (wreck_of l) ≡ left_of (stored self))) }
-        ensures made { IfOk result (λ s. s.1.number ≤ number s.0) }
-        ensures covered { IfOk result (λ s. covers s.0 s.1.number ≡ (stored self).held) }
-        ensures tickets { IfOk result (λ s. number self ≤ number s.0) }
-        ensures covers { IfOk result (λ s. KeepsCovers (number self) (covers self) (covers s.0)) }
-        ensures watched { Heeds (λ s. watch s.0) Self.Wreck.watch (watch self) result };
-
-    /// Makes sure all that was accepted before this ticket was made. A ticket of an earlier life isn't one.
-    fn finish(self, ticket: SyncTicket) -> Result<Self, Lost<Self::Wreck>>
-    where
-        Self: Sized,
-        requires made { ticket.number ≤ number self }
-        ensures done { MatchResult result
-            (λ s. Finishes (covers self ticket.number) (stored self) (stored s))
-            (λ l. Fails (left_of (stored self)) [] (Self.Wreck.left (wreck_of l))) }
-        ensures still { IfErr result (λ l. IfSome (watch self).keeps (λ _. Self.Wreck.left (wreck_of l) ≡ left_of (stored self))) }
-        ensures tickets { IfOk result (λ s. number self ≤ number s) }
-        ensures covers { IfOk result (λ s. KeepsCovers (number self) (covers self) (covers s)) }
-        ensures watched { Heeds watch Self.Wreck.watch (watch self) result };
-
-    /// Removes blocks below a height; some may stay. A store that prunes nothing doesn't count the call.
-    fn prune(self, min: Height) -> Result<Self, Lost<Self::Wreck>>
-    where
-        Self: Sized,
-        ensures done { MatchResult result
-            (λ s. Prunes min (stored self) (stored s))
-            (λ l. Fails (left_of (stored self)) [] (Self.Wreck.left (wreck_of l))) }
-        ensures still { IfErr result (λ l. IfSome (watch self).keeps (λ _. Self.Wreck.left (wreck_of l) ≡ left_of (stored self))) }
-        ensures idle { prunes ≡ false → IfOk result (λ s. stored s ≡ stored self) }
-        ensures unchanged { prunes ≡ false → result ≡ Ok self }
-        ensures tickets { IfOk result (λ s. number self ≤ number s) }
-        ensures covers { IfOk result (λ s. KeepsCoversFrom min (number self) (covers self) (covers s)) }
-        ensures watched { prunes ≡ true → Heeds watch Self.Wreck.watch (watch self) result };
-
-    /// What a crash now leaves.
-    fn wreck(self) -> Self::Wreck
-    where
-        Self: Sized,
-        ensures left { Self.Wreck.left result ≡ left_of (stored self) }
-        ensures watch { Self.Wreck.watch result ≡ watch self };
-
-    /// Opens what a crash left; luck picks among what may be left. A store that tells how it goes by luck finds what is sure
-    /// and, of the rest, what its luck keeps.
-    fn reopen(wreck: Self::Wreck, luck: u64) -> Result<Self, Lost<Self::Wreck>>
-    where
-        Self: Sized,
-        ensures done { MatchResult result
-            (λ s. IsReopened (Self.Wreck.left wreck) (stored s))
-            (λ l. Fails (Self.Wreck.left wreck) [] (Self.Wreck.left (wreck_of l))) }
-        ensures still { IfErr result (λ l. IfSome (Self.Wreck.watch wreck).keeps (λ _. Self.Wreck.left (wreck_of l) ≡ Self.Wreck.left wreck)) }
-        ensures lucky { IfOk result (λ s. IfSome (Self.Wreck.watch wreck).keeps
-            (λ keeps. (stored s).held ≡ lucky_found (keeps_by keeps luck) (Self.Wreck.left wreck))) }
-        ensures watched { Heeds watch Self.Wreck.watch (Self.Wreck.watch wreck) result };
-
-    /// Makes the counted call fail that is so many calls away, 1 being the next. Counted are `put`, `sync`,
-    /// `start_sync`, `finish`, `get`, `find`, `prune` and `reopen`. Where nothing can be armed it does nothing.
-    fn arm(&mut self, calls: u64) -> Result<(), AllocError>
-        ensures armed { OnOk result (watch self.new ≡ armed calls (watch self.old)) }
-        ensures unarmed { OnErr result (watch self.new ≡ watch self.old) }
-        ensures same { stored self.new ≡ stored self.old }
-        ensures tickets { number self.new ≡ number self.old }
-        ensures covers { KeepsCovers (number self.old) (covers self.old) (covers self.new) };
-
-    /// The greatest height that is held.
-    fn last_index(&self) -> Option<Height>
-        ensures { result ≡ last_index (stored self.now).held };
+            (λ s. Puts (is_held (Self.stored self).held (V.plain block.now)) (Self.stored self) (at_own_height (V.plain block.now)) (Self.stored s))
+            (λ l. Fails (left_of (Self.stored self)) (at_own_height (V.plain block.now) ∷ []) (Self.Wreck.left (wreck_of l))) }
+        ensures still { IfErr result (λ l. IfSome (Self.watch self).keeps
+            (λ _. IsStillOr (left_of (Self.stored self)) (at_own_height (V.plain block.now)) (Self.Wreck.left (wreck_of l)))) }
+        ensures tickets { IfOk result (λ s. Self.number self ≤ Self.number s) }
+        ensures covers { IfOk result (λ s. KeepsCovers (Self.number self) (Self.covers self) (Self.covers s)) }
+        ensures watched { HeedsOrNot Self.watch Self.Wreck.watch (Self.watch self) result };
 
     /// The missing heights from `start` on that lie below some held one: the lowest, at most `max`.
-    fn missing_items(
+    final fn missing_items(
         &self,
         alloc: Global,
         start: Height,
         max: usize,
     ) -> Result<Vec<Height>, AllocError>
-        ensures { IfOk result (λ v. v.items ≡ missing_items (ranges (heights (stored self.now).held)) start max) }
+        ensures { IfOk result (λ v. v.items ≡ missing_items (ranges (heights (Self.stored self.now).held)) start max) }
     {
         missing_items(alloc, self.held_ranges().as_slice(), start, max)
     }
 
     /// The end of the range of held heights that holds this one, and the start of the next range after it.
-    fn next_gap(&self, height: Height) -> (Option<Height>, Option<Height>)
-        ensures end { result.0 ≡ range_end (ranges (heights (stored self.now).held)) height }
-        ensures start { result.1 ≡ next_start (ranges (heights (stored self.now).held)) height }
+    final fn next_gap(&self, height: Height) -> (Option<Height>, Option<Height>)
+        ensures end { result.0 ≡ range_end (ranges (heights (Self.stored self.now).held)) height }
+        ensures start { result.1 ≡ next_start (ranges (heights (Self.stored self.now).held)) height }
     {
         next_gap(self.held_ranges().as_slice(), height)
     }
 
     /// Whether a block is held at a height.
-    fn holds(&self, height: Height) -> bool
-        ensures { result ≡ has_height (stored self.now).held height }
+    final fn holds(&self, height: Height) -> bool
+        ensures { result ≡ has_height (Self.stored self.now).held height }
     {
         self.held_ranges().contains(height.get())
     }
 
-    /// The heights of what is held.
-    fn held_ranges(&self) -> &RangeSet
-        ensures { result.now ≡ ranges (heights (stored self.now).held) };
-
-    /// The heights of what every crash leaves.
-    fn sure_ranges(&self) -> &RangeSet
-        ensures { result.now ≡ ranges (heights (stored self.now).sure) };
-
-    ghost nested: { (s : Self) → IsNested (stored s) };
-
-    ghost last: { (s : Self) → covers s last_number ≡ (stored s).held };
-
-    ghost own: { (s : Self) → AreOwn V.inner (stored s).held };
+    ghost own: { (s : Self) → AreOwn V.inner (Self.stored s).held };
 }

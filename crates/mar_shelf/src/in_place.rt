@@ -1,26 +1,169 @@
 //! Calls of archives in their places: each makes one call of the store that is there, and where that failed leaves what
 //! is left of the store in its place.
-ghost use Rattle.std.specs.Prelude.{◌≡◌, ◌∷◌, [], IfErr, IfOk, OnErr, OnOk};
+ghost use Rattle.std.specs.Prelude.{◌≡◌, ◌∷◌, [], IfErr, IfOk, OnErr, OnOk, true};
 ghost use Rattle.mar_cert.specs.Finalization.{finalization_bytes};
-ghost use Rattle.mar_store.specs.Changes.{Puts, Syncs};
+ghost use Rattle.mar_store.specs.Changes.{Puts, Syncs, heights, left_of};
 ghost use Rattle.mar_store.specs.Lost.{wreck_of};
+ghost use Rattle.mar_store.specs.Named.{last_index};
+ghost use Rattle.mar_store.specs.Ranges.{ranges};
 ghost use Rattle.mar_store.specs.Sizes.{IsSmall};
+ghost use Rattle.mar_store.specs.Watch.{armed};
 ghost use Rattle.mar_node.specs.Faults.{block_store, cert_store};
 ghost use Rattle.mar_node.specs.Held.{Passes, lost_fault};
 ghost use Rattle.mar_node.specs.Moves.{at_height};
-ghost use Rattle.mar_node.specs.Places.{kept_at, watch_at};
+ghost use Rattle.mar_node.specs.Places.{is_open, is_there, kept_at, watch_at};
 ghost use Rattle.mar_node.specs.Stored.{at_own_height, is_certified, is_held};
 ghost use Rattle.mar_node.specs.declared.place.Place.TheVariants.{Lost as Gone};
-ghost use Rattle.mar_shelf.specs.Pooling.{FailsIn, FinishesIn, IsGivenIn, IsLeftIn, StartsIn, StaysIn, is_taken_in};
+ghost use Rattle.mar_shelf.specs.Pooling.{FailsIn, FinishesIn, IsAnswer, IsGivenIn, IsLeftIn, IsReadIn, StartsIn, StaysIn, is_taken_in};
 ghost use Rattle.mar_shelf.specs.Views.{fault_of, store_name_of};
 
 use crate::fault::{Fault, StoreName};
+use crate::keeps::{Keeps, KeepsRuin};
 use crate::{Blocks, Certificates};
 use mar_block::Variant;
 use mar_cert::CommitsTo;
 use mar_node::Place;
-use mar_store::{Lost, SyncTicket};
+use mar_store::{Lost, Miss, RangeSet, SyncTicket};
 use mar_types::{Height, Named};
+use std::alloc::AllocError;
+
+/// Makes all values durable that were put.
+pub fn sync<T, S: Keeps<T>, C: Named>(
+    place: &mut Place<S, S::Wreck>,
+    store: StoreName,
+) -> Result<(), Fault<C>>
+    ensures done { OnOk result (Syncs (kept_at S.stored S.Wreck.left place.old) (kept_at S.stored S.Wreck.left place.new)) }
+    ensures stays { OnOk result (StaysIn S.stored S.number S.covers place.old place.new) }
+    ensures passed { OnOk result (Passes (watch_at S.watch S.Wreck.watch place.old) (watch_at S.watch S.Wreck.watch place.new)) }
+    ensures left { OnErr result (IsLeftIn place.old place.new) }
+    ensures failed { IfErr result (λ e. FailsIn (store_name_of store) S.stored S.Wreck.left S.watch S.Wreck.watch [] place.old place.new
+        (fault_of C.bytes e)) }
+{
+    let Some(kept) = place.take() else {
+        return Err(Fault::Memory);
+    };
+    match kept.sync() {
+        Ok(kept) => {
+            *place = Place::Open(kept);
+            Ok(())
+        }
+        Err(lost) => Err(lose(place, lost, store)),
+    }
+}
+
+/// Starts a sync, under a ticket of the store.
+pub fn start<T, S: Keeps<T>, C: Named>(
+    place: &mut Place<S, S::Wreck>,
+    store: StoreName,
+) -> Result<SyncTicket, Fault<C>>
+    ensures done { IfOk result (λ t. StartsIn S.stored S.number S.covers t.number place.old place.new) }
+    ensures stays { OnOk result (StaysIn S.stored S.number S.covers place.old place.new) }
+    ensures passed { OnOk result (Passes (watch_at S.watch S.Wreck.watch place.old) (watch_at S.watch S.Wreck.watch place.new)) }
+    ensures left { OnErr result (IsLeftIn place.old place.new) }
+    ensures failed { IfErr result (λ e. FailsIn (store_name_of store) S.stored S.Wreck.left S.watch S.Wreck.watch [] place.old place.new
+        (fault_of C.bytes e)) }
+{
+    let Some(kept) = place.take() else {
+        return Err(Fault::Memory);
+    };
+    match kept.start_sync() {
+        Ok((kept, ticket)) => {
+            *place = Place::Open(kept);
+            Ok(ticket)
+        }
+        Err(lost) => Err(lose(place, lost, store)),
+    }
+}
+
+/// Finishes the sync of a ticket that the store gave.
+pub fn finish<T, S: Keeps<T>, C: Named>(
+    place: &mut Place<S, S::Wreck>,
+    ticket: SyncTicket,
+    store: StoreName,
+) -> Result<(), Fault<C>>
+    requires given { IsGivenIn S.number ticket.number place.old }
+    ensures done { OnOk result (FinishesIn S.stored S.covers ticket.number place.old place.new) }
+    ensures stays { OnOk result (StaysIn S.stored S.number S.covers place.old place.new) }
+    ensures passed { OnOk result (Passes (watch_at S.watch S.Wreck.watch place.old) (watch_at S.watch S.Wreck.watch place.new)) }
+    ensures left { OnErr result (IsLeftIn place.old place.new) }
+    ensures failed { IfErr result (λ e. FailsIn (store_name_of store) S.stored S.Wreck.left S.watch S.Wreck.watch [] place.old place.new
+        (fault_of C.bytes e)) }
+{
+    let Some(kept) = place.take() else {
+        return Err(Fault::Memory);
+    };
+    match kept.finish(ticket) {
+        Ok(kept) => {
+            *place = Place::Open(kept);
+            Ok(())
+        }
+        Err(lost) => Err(lose(place, lost, store)),
+    }
+}
+
+/// Makes a counted call fail of the store, or of what is left of it.
+pub fn arm<T, S: Keeps<T>>(
+    place: &mut Place<S, S::Wreck>,
+    calls: u64,
+) -> Result<(), AllocError>
+    requires { is_there place.old ≡ true }
+    ensures armed { OnOk result (watch_at S.watch S.Wreck.watch place.new ≡ armed calls (watch_at S.watch S.Wreck.watch place.old)) }
+    ensures unarmed { OnErr result (watch_at S.watch S.Wreck.watch place.new ≡ watch_at S.watch S.Wreck.watch place.old) }
+    ensures read { IsReadIn S.stored S.number S.covers S.Wreck.left place.old place.new }
+{
+    match place {
+        Place::Open(kept) => kept.arm(calls),
+        Place::Lost(wreck) => wreck.arm(calls),
+        Place::Away => unreachable!(),
+    }
+}
+
+/// What a crash now leaves.
+pub fn left<T, S: Keeps<T>>(place: Place<S, S::Wreck>) -> S::Wreck
+    requires { is_there place ≡ true }
+    ensures left { S.Wreck.left result ≡ left_of (kept_at S.stored S.Wreck.left place) }
+    ensures watch { S.Wreck.watch result ≡ watch_at S.watch S.Wreck.watch place }
+{
+    match place {
+        Place::Open(kept) => kept.wreck(),
+        Place::Lost(wreck) => wreck,
+        Place::Away => unreachable!(),
+    }
+}
+
+/// The greatest height that is held.
+pub fn last<T, S: Keeps<T>>(place: &Place<S, S::Wreck>) -> Option<Height>
+    ensures { result ≡ last_index (kept_at S.stored S.Wreck.left place.now).held }
+{
+    match place {
+        Place::Open(kept) => kept.last_index(),
+        _lost => None,
+    }
+}
+
+/// The heights of what is held, where the store is there.
+pub fn held<T, S: Keeps<T>>(place: &Place<S, S::Wreck>) -> &RangeSet
+    requires { is_there place.now ≡ true }
+    ensures { is_open place.now ≡ true → result.now ≡ ranges (heights (kept_at S.stored S.Wreck.left place.now).held) }
+{
+    match place {
+        Place::Open(kept) => kept.held_ranges(),
+        Place::Lost(wreck) => wreck.sure_ranges(),
+        Place::Away => unreachable!(),
+    }
+}
+
+/// The heights of what every crash leaves.
+pub fn sure<T, S: Keeps<T>>(place: &Place<S, S::Wreck>) -> &RangeSet
+    requires { is_there place.now ≡ true }
+    ensures { result.now ≡ ranges (heights (kept_at S.stored S.Wreck.left place.now).sure) }
+{
+    match place {
+        Place::Open(kept) => kept.sure_ranges(),
+        Place::Lost(wreck) => wreck.sure_ranges(),
+        Place::Away => unreachable!(),
+    }
+}
 
 /// Puts a block, and says whether its height was free and now isn't.
 pub fn put_block<V: Variant, FB: Blocks<V>>(
@@ -48,77 +191,6 @@ pub fn put_block<V: Variant, FB: Blocks<V>>(
             let is_taken = !was_held & blocks.holds(height);
             *place = Place::Open(blocks);
             Ok(is_taken)
-        }
-        Err(lost) => Err(lose(place, lost, StoreName::Blocks)),
-    }
-}
-
-/// Makes all blocks durable that were put.
-pub fn sync_blocks<V: Variant, FB: Blocks<V>>(
-    place: &mut Place<FB, FB::Wreck>,
-) -> Result<(), Fault<V::Commitment>>
-    ensures done { OnOk result (Syncs (kept_at FB.stored FB.Wreck.left place.old) (kept_at FB.stored FB.Wreck.left place.new)) }
-    ensures stays { OnOk result (StaysIn FB.stored FB.number FB.covers place.old place.new) }
-    ensures passed { OnOk result (Passes (watch_at FB.watch FB.Wreck.watch place.old) (watch_at FB.watch FB.Wreck.watch place.new)) }
-    ensures left { OnErr result (IsLeftIn place.old place.new) }
-    ensures failed { IfErr result (λ e. FailsIn block_store FB.stored FB.Wreck.left FB.watch FB.Wreck.watch [] place.old place.new
-        (fault_of V.Commitment.bytes e)) }
-{
-    let Some(blocks) = place.take() else {
-        return Err(Fault::Memory);
-    };
-    match blocks.sync() {
-        Ok(blocks) => {
-            *place = Place::Open(blocks);
-            Ok(())
-        }
-        Err(lost) => Err(lose(place, lost, StoreName::Blocks)),
-    }
-}
-
-/// Starts a sync of the blocks, under a ticket of theirs.
-pub fn start_blocks<V: Variant, FB: Blocks<V>>(
-    place: &mut Place<FB, FB::Wreck>,
-) -> Result<SyncTicket, Fault<V::Commitment>>
-    ensures done { IfOk result (λ t. StartsIn FB.stored FB.number FB.covers t.number place.old place.new) }
-    ensures stays { OnOk result (StaysIn FB.stored FB.number FB.covers place.old place.new) }
-    ensures passed { OnOk result (Passes (watch_at FB.watch FB.Wreck.watch place.old) (watch_at FB.watch FB.Wreck.watch place.new)) }
-    ensures left { OnErr result (IsLeftIn place.old place.new) }
-    ensures failed { IfErr result (λ e. FailsIn block_store FB.stored FB.Wreck.left FB.watch FB.Wreck.watch [] place.old place.new
-        (fault_of V.Commitment.bytes e)) }
-{
-    let Some(blocks) = place.take() else {
-        return Err(Fault::Memory);
-    };
-    match blocks.start_sync() {
-        Ok((blocks, ticket)) => {
-            *place = Place::Open(blocks);
-            Ok(ticket)
-        }
-        Err(lost) => Err(lose(place, lost, StoreName::Blocks)),
-    }
-}
-
-/// Finishes the sync of a ticket that the blocks gave.
-pub fn finish_blocks<V: Variant, FB: Blocks<V>>(
-    place: &mut Place<FB, FB::Wreck>,
-    ticket: SyncTicket,
-) -> Result<(), Fault<V::Commitment>>
-    requires given { IsGivenIn FB.number ticket.number place.old }
-    ensures done { OnOk result (FinishesIn FB.stored FB.covers ticket.number place.old place.new) }
-    ensures stays { OnOk result (StaysIn FB.stored FB.number FB.covers place.old place.new) }
-    ensures passed { OnOk result (Passes (watch_at FB.watch FB.Wreck.watch place.old) (watch_at FB.watch FB.Wreck.watch place.new)) }
-    ensures left { OnErr result (IsLeftIn place.old place.new) }
-    ensures failed { IfErr result (λ e. FailsIn block_store FB.stored FB.Wreck.left FB.watch FB.Wreck.watch [] place.old place.new
-        (fault_of V.Commitment.bytes e)) }
-{
-    let Some(blocks) = place.take() else {
-        return Err(Fault::Memory);
-    };
-    match blocks.finish(ticket) {
-        Ok(blocks) => {
-            *place = Place::Open(blocks);
-            Ok(())
         }
         Err(lost) => Err(lose(place, lost, StoreName::Blocks)),
     }
@@ -152,74 +224,14 @@ pub fn put_certificate<V: Variant, F: CommitsTo<V::Commitment>, FC: Certificates
     }
 }
 
-/// Makes all finalizations durable that were put.
-pub fn sync_certificates<V: Variant, F: CommitsTo<V::Commitment>, FC: Certificates<V, F>>(
-    place: &mut Place<FC, FC::Wreck>,
-) -> Result<(), Fault<V::Commitment>>
-    ensures done { OnOk result (Syncs (kept_at FC.stored FC.Wreck.left place.old) (kept_at FC.stored FC.Wreck.left place.new)) }
-    ensures stays { OnOk result (StaysIn FC.stored FC.number FC.covers place.old place.new) }
-    ensures passed { OnOk result (Passes (watch_at FC.watch FC.Wreck.watch place.old) (watch_at FC.watch FC.Wreck.watch place.new)) }
-    ensures left { OnErr result (IsLeftIn place.old place.new) }
-    ensures failed { IfErr result (λ e. FailsIn cert_store FC.stored FC.Wreck.left FC.watch FC.Wreck.watch [] place.old place.new
-        (fault_of V.Commitment.bytes e)) }
+/// The answer of a read, or the fault by which it has none.
+pub fn answered<X, C: Named>(answer: Result<X, Miss>, store: StoreName) -> Result<X, Fault<C>>
+    ensures { IsAnswer (fault_of C.bytes) (store_name_of store) answer result }
 {
-    let Some(certs) = place.take() else {
-        return Err(Fault::Memory);
-    };
-    match certs.sync() {
-        Ok(certs) => {
-            *place = Place::Open(certs);
-            Ok(())
-        }
-        Err(lost) => Err(lose(place, lost, StoreName::Certs)),
-    }
-}
-
-/// Starts a sync of the finalizations, under a ticket of theirs.
-pub fn start_certificates<V: Variant, F: CommitsTo<V::Commitment>, FC: Certificates<V, F>>(
-    place: &mut Place<FC, FC::Wreck>,
-) -> Result<SyncTicket, Fault<V::Commitment>>
-    ensures done { IfOk result (λ t. StartsIn FC.stored FC.number FC.covers t.number place.old place.new) }
-    ensures stays { OnOk result (StaysIn FC.stored FC.number FC.covers place.old place.new) }
-    ensures passed { OnOk result (Passes (watch_at FC.watch FC.Wreck.watch place.old) (watch_at FC.watch FC.Wreck.watch place.new)) }
-    ensures left { OnErr result (IsLeftIn place.old place.new) }
-    ensures failed { IfErr result (λ e. FailsIn cert_store FC.stored FC.Wreck.left FC.watch FC.Wreck.watch [] place.old place.new
-        (fault_of V.Commitment.bytes e)) }
-{
-    let Some(certs) = place.take() else {
-        return Err(Fault::Memory);
-    };
-    match certs.start_sync() {
-        Ok((certs, ticket)) => {
-            *place = Place::Open(certs);
-            Ok(ticket)
-        }
-        Err(lost) => Err(lose(place, lost, StoreName::Certs)),
-    }
-}
-
-/// Finishes the sync of a ticket that the finalizations gave.
-pub fn finish_certificates<V: Variant, F: CommitsTo<V::Commitment>, FC: Certificates<V, F>>(
-    place: &mut Place<FC, FC::Wreck>,
-    ticket: SyncTicket,
-) -> Result<(), Fault<V::Commitment>>
-    requires given { IsGivenIn FC.number ticket.number place.old }
-    ensures done { OnOk result (FinishesIn FC.stored FC.covers ticket.number place.old place.new) }
-    ensures stays { OnOk result (StaysIn FC.stored FC.number FC.covers place.old place.new) }
-    ensures passed { OnOk result (Passes (watch_at FC.watch FC.Wreck.watch place.old) (watch_at FC.watch FC.Wreck.watch place.new)) }
-    ensures left { OnErr result (IsLeftIn place.old place.new) }
-    ensures failed { IfErr result (λ e. FailsIn cert_store FC.stored FC.Wreck.left FC.watch FC.Wreck.watch [] place.old place.new
-        (fault_of V.Commitment.bytes e)) }
-{
-    let Some(certs) = place.take() else {
-        return Err(Fault::Memory);
-    };
-    match certs.finish(ticket) {
-        Ok(certs) => {
-            *place = Place::Open(certs);
-            Ok(())
-        }
-        Err(lost) => Err(lose(place, lost, StoreName::Certs)),
+    match answer {
+        Ok(found) => Ok(found),
+        Err(Miss::Fault) => Err(Fault::StoreFault(store)),
+        Err(Miss::Memory) => Err(Fault::Memory),
     }
 }
 

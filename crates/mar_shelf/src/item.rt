@@ -4,7 +4,7 @@ ghost use Rattle.mar_cert.specs.Finalization.{finalization_bytes};
 ghost use Rattle.mar_shelf.specs.Fitting.{fits_at};
 
 use mar_block::Variant;
-use mar_cert::CommitsTo;
+use mar_cert::{AsFinalization, CommitsTo};
 use mar_store::Item;
 use mar_types::Digest;
 use std::alloc::AllocError;
@@ -64,12 +64,12 @@ where
 
 /// A finalization as an archive keeps it: under the digest of its payload.
 #[derive(Drop)]
-pub struct CertificateItem<V: Variant, F: CommitsTo<V::Commitment>> {
+pub struct CertificateItem<V, F: AsFinalization> {
     finalization: F,
     of: PhantomData<V>,
 }
 
-impl<V: Variant, F: CommitsTo<V::Commitment>> Model for CertificateItem<V, F> {
+impl<V, F: AsFinalization> Model for CertificateItem<V, F> {
     ghost use Rattle.mar_cert.specs.Finalization.{Finalization as PlainFinalization};
 
     ghost Value = { PlainFinalization };
@@ -77,7 +77,7 @@ impl<V: Variant, F: CommitsTo<V::Commitment>> Model for CertificateItem<V, F> {
     ghost view = { λ i. F.plain i.finalization };
 }
 
-impl<V: Variant, F: CommitsTo<V::Commitment>> CertificateItem<V, F> {
+impl<V, F: AsFinalization> CertificateItem<V, F> {
     /// A copy of a finalization.
     pub fn of(finalization: &F) -> Result<Self, AllocError>
         ensures { IfOk result (λ i. i ≡ F.plain finalization.now) }

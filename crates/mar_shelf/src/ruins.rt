@@ -2,7 +2,7 @@
 use crate::fault::StoreName;
 use crate::holds::StoresRuin;
 use crate::shown::ShownRuins;
-use crate::{Blocks, BlocksRuin, Certificates, CertificatesRuin, Shelf};
+use crate::{Blocks, Certificates, KeepsRuin, Shelf};
 use mar_block::Variant;
 use mar_cert::CommitsTo;
 use mar_node::{synced_cutoff, synced_height};

@@ -1,15 +1,15 @@
-use Rattle.mar_shelf.proofs.Awaiting.{blocks_read, certs_read}
+use Rattle.mar_shelf.specs.Pooling.{of_blocks, of_certs}
+use Rattle.mar_shelf.proofs.Placed.{held_read, waits_read, waits_there}
 use Rattle.mar_shelf.proofs.stores.StoresHolds.arm.Goals as goal
-use Rattle.mar_shelf.proofs.stores.StoresHolds.arm.Goals.{in-Lost, in-Lost-certs, in-Open, in-Open-certs}
+
+pub arm-requires : goal.arm-requires
+arm-requires g c = waits_there g.FB.Keeps.stored g.FB.Keeps.number g.FB.Keeps.covers of_blocks c.self.inside.blocks c.self.inside.writes c.self.invariant.0
 
 pub invariant_of-self : goal.invariant_of-self
-invariant_of-self g c = elim c.match-self.branch [
-  | in-Open w ↦ rw w.self-inside-is (blocks_read (rw w.in-Open.is at c.self.invariant.0) w.arm.ensures.same w.arm.ensures.tickets w.arm.ensures.covers (g.met.FB.Blocks.last w.arm.new.self), c.self.invariant.1)
-  | in-Lost w ↦ rw w.self-inside-is (tt, c.self.invariant.1)
-]
+invariant_of-self g c = (waits_read g.FB.Keeps.stored g.FB.Keeps.number g.FB.Keeps.covers of_blocks g.FB.Wreck.KeepsRuin.left _ _ c.self.inside.writes c.arm.ensures.read c.self.invariant.0, held_read g.V.Variant.plain g.FB.Keeps.stored g.FB.Keeps.number g.FB.Keeps.covers g.FB.Wreck.KeepsRuin.left _ _ c.self.inside.staged.blocks c.arm.ensures.read c.self.invariant.1, c.self.invariant.2)
+
+pub arm-requires-in-Certs : goal.arm-requires-in-Certs
+arm-requires-in-Certs g c = waits_there g.FC.Keeps.stored g.FC.Keeps.number g.FC.Keeps.covers of_certs c.self.inside.certs c.self.inside.writes c.self.invariant.2
 
 pub invariant_of-self-in-Certs : goal.invariant_of-self-in-Certs
-invariant_of-self-in-Certs g c = elim c.match-self-2.branch [
-  | in-Open-certs w ↦ rw w.self-inside-is (c.self.invariant.0, certs_read (rw w.in-Open-certs.is at c.self.invariant.1) w.arm-in-Open-certs.ensures.same w.arm-in-Open-certs.ensures.tickets w.arm-in-Open-certs.ensures.covers (g.met.FC.Certificates.last w.arm-in-Open-certs.new.self))
-  | in-Lost-certs w ↦ rw w.self-inside-is (c.self.invariant.0, tt)
-]
+invariant_of-self-in-Certs g c = (c.self.invariant.0, c.self.invariant.1, waits_read g.FC.Keeps.stored g.FC.Keeps.number g.FC.Keeps.covers of_certs g.FC.Wreck.KeepsRuin.left _ _ c.self.inside.writes c.arm-in-Certs.ensures.read c.self.invariant.2)

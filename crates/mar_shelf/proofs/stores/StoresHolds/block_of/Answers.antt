@@ -1,17 +1,27 @@
-use Rattle.std.proofs.Common.{Bool, refl}
+use Rattle.std.proofs.Common.{refl}
 use Rattle.mar_node.specs.Faults.{block_store}
 use Rattle.mar_node.proofs.Growing.{Grew-counted}
-use Rattle.mar_node.proofs.Passing.{Passes-one, by_miss}
 use Rattle.mar_node.proofs.StoreLosses.{Loses-missed}
-use Rattle.mar_shelf.proofs.Awaiting.{blocks_read}
+use Rattle.mar_shelf.specs.Pooling.{of_blocks}
+use Rattle.mar_shelf.proofs.Placed.{always_done, archive_fault, by_answer, failed_so, held_read, read_open, read_same, usual_fault, waits_read}
 use Rattle.mar_shelf.proofs.stores.StoresHolds.block_of.Goals as goal
-use Rattle.mar_shelf.proofs.stores.StoresHolds.block_of.Goals.{in-Err, in-Ok}
 
-pub invariant_of-self-2 : goal.invariant_of-self-2
-invariant_of-self-2 g c = (blocks_read (rw c.in-Open.is at c.self.invariant.0) c.find.ensures.same c.find.ensures.tickets c.find.ensures.covers (g.met.FB.Blocks.last c.find.new.self), c.self.invariant.1)
+pub invariant_of-self : goal.invariant_of-self
+invariant_of-self g c = (waits_read g.FB.Keeps.stored g.FB.Keeps.number g.FB.Keeps.covers of_blocks g.FB.Wreck.KeepsRuin.left _ _ c.self.inside.writes c.of.ensures.read c.self.invariant.0, held_read g.V.Variant.plain g.FB.Keeps.stored g.FB.Keeps.number g.FB.Keeps.covers g.FB.Wreck.KeepsRuin.left _ _ c.self.inside.staged.blocks c.of.ensures.read c.self.invariant.1, c.self.invariant.2)
+
+pub returns-clause-found : goal.returns-clause-found
+returns-clause-found g c = rw (← c.self.view_is) c.of.ensures.found
+
+pub returns-clause-same : goal.returns-clause-same
+returns-clause-same g c = rw (← c.self.view_is, read_same g.FB.Keeps.stored g.FB.Keeps.number g.FB.Keeps.covers g.FB.Wreck.KeepsRuin.left _ _ c.of.ensures.read, read_open g.FB.Keeps.stored g.FB.Keeps.number g.FB.Keeps.covers g.FB.Wreck.KeepsRuin.left _ _ c.of.ensures.read) (always_done c.of.result refl)
 
 pub returns-clause-goes_on : goal.returns-clause-goes_on
-returns-clause-goes_on g c = elim c.match-find.branch [
-  | in-Ok w ↦ rw (w.result-is, ← c.self.view_is, c.in-Open.is) (λ start all grew within. rw c.find.ensures.same (Grew-counted start all _ grew block_store _ (Passes-one _ _ w.in-Ok.ensures.watched.0 w.in-Ok.ensures.watched.1)))
-  | in-Err w ↦ rw (w.result-is, ← c.self.view_is, c.in-Open.is) (λ start all grew within. rw (c.find.ensures.same, w.missed_by.ensures) (Loses-missed start all _ grew block_store _ _ _ refl (by_miss Bool _ _ block_store w.in-Err.miss w.in-Err.ensures.watched)))
-]
+returns-clause-goes_on g c = rw (← c.self.view_is, read_same g.FB.Keeps.stored g.FB.Keeps.number g.FB.Keeps.covers g.FB.Wreck.KeepsRuin.left _ _ c.of.ensures.read, read_open g.FB.Keeps.stored g.FB.Keeps.number g.FB.Keeps.covers g.FB.Wreck.KeepsRuin.left _ _ c.of.ensures.read) (λ start all grew within. by_answer c.of.result c.of.ensures.passed c.of.ensures.failed
+    (λ passed. Grew-counted start all _ grew block_store _ passed)
+    (λ e how. Loses-missed start all _ grew block_store _ _ _ refl how))
+
+pub returns-clause-archive : goal.returns-clause-archive
+returns-clause-archive g c = failed_so c.of.result c.of.ensures.failed (λ e how. archive_fault block_store _ _ _ tt how)
+
+pub returns-clause-usual : goal.returns-clause-usual
+returns-clause-usual g c = failed_so c.of.result c.of.ensures.failed (λ e how. usual_fault block_store _ _ _ how)

@@ -1,71 +1,52 @@
-use Rattle.std.proofs.Common.{refl, sym}
-use Rattle.std.proofs.lemmas.Result.{err_from_is_err_and}
-use Rattle.mar_node.specs.Views.{pooled_of}
-use Rattle.mar_node.proofs.Growing.{Grew-surer_blocks, Grew-surer_certs, Grew-writes}
-use Rattle.mar_node.proofs.Pools.{nothing_finished, opened_is, writing_finished}
-use Rattle.mar_node.proofs.StoreLosses.{Loses-blocks, Loses-certs}
-use Rattle.mar_shelf.proofs.Awaiting.{same_writes}
-use Rattle.mar_shelf.proofs.Placed.{blocks_finished_in, blocks_given_in, blocks_surer_in, certs_finished_in, certs_given_in, certs_left_in, finished_in, nested_in, open_in, still_intact}
+use Rattle.std.proofs.Common.{refl}
+use Rattle.mar_node.proofs.Growing.{Grew-surer_blocks, Grew-surer_certs, Grew-writes, MakesSure-same}
+use Rattle.mar_shelf.specs.Pooling.{of_blocks, of_certs}
+use Rattle.mar_shelf.proofs.Both.{both_archive, both_lose, both_usual}
+use Rattle.mar_shelf.proofs.InPlace.{first_of, second_of, written_in}
+use Rattle.mar_shelf.proofs.Placed.{both_done, both_found, by_answer, done_so, each_done, failed_so, found_so, held_in, still_intact}
 use Rattle.mar_shelf.proofs.stores.StoresHolds.finish_sync.Goals as goal
 
-pub returns-in-None-clause-was_open : goal.returns-in-None-clause-was_open
-returns-in-None-clause-was_open g c = rw (← c.self.view_is) (rw c.in-None.is at (opened_is pooled_of c.args.ticket c.self.inside.writes.pooled c.find.result c.find.ensures))
+pub finish-requires : goal.finish-requires
+finish-requires g c = record { blocks = c.self.invariant.0; certs = c.self.invariant.2 }
 
-pub returns-in-None-clause-same : goal.returns-in-None-clause-same
-returns-in-None-clause-same g c = same_writes c.args.self.now.held _ (rw (← c.self.view_is) (nothing_finished pooled_of c.args.ticket c.self.inside.writes c.find.result c.find.ensures c.in-None.is))
-
-pub finish_blocks-requires : goal.finish_blocks-requires
-finish_blocks-requires g c = record { given = blocks_given_in g.V.Variant.plain g.FB.Blocks.stored g.FB.Blocks.number g.FB.Blocks.covers c.self.inside.blocks c.self.inside.writes c.self.inside.staged.blocks c.args.ticket _ c.in-Some.ensures c.self.invariant.0 }
-
-pub returns-in_err-finish_blocks-clause-failed : goal.returns-in_err-finish_blocks-clause-failed
-returns-in_err-finish_blocks-clause-failed g c =
-    let p = err_from_is_err_and c.from_residual.result c.from_residual.ensures.1 in
-    rw p.1 (rw (← c.self.view_is) (sym (rw c.in-Some.is at (opened_is pooled_of c.args.ticket c.self.inside.writes.pooled c.find.result c.find.ensures))))
-
-pub returns-in_err-finish_blocks-clause-goes_on : goal.returns-in_err-finish_blocks-clause-goes_on
-returns-in_err-finish_blocks-clause-goes_on g c =
-    let p = err_from_is_err_and c.from_residual.result c.from_residual.ensures.1 in
-    rw (p.1, p.2, ← c.self.view_is) (λ start all grew within. Loses-blocks start all _ grew _ _ _ _ within.blocks c.in_err-finish_blocks.ensures.failed.fails c.in_err-finish_blocks.ensures.failed.cause)
-
-pub finish_certificates-requires : goal.finish_certificates-requires
-finish_certificates-requires g c = record { given = certs_given_in g.FC.Certificates.stored g.FC.Certificates.number g.FC.Certificates.covers c.self.inside.certs c.self.inside.writes c.args.ticket _ c.in-Some.ensures c.self.invariant.1 }
-
-pub invariant_of-self-in_err-finish_certificates : goal.invariant_of-self-in_err-finish_certificates
-invariant_of-self-in_err-finish_certificates g c = (
-  blocks_surer_in g.V.Variant.plain g.FB.Blocks.stored g.FB.Blocks.number g.FB.Blocks.covers g.FB.Wreck.BlocksRuin.left _ _ c.self.inside.writes c.self.inside.staged.blocks c.self.invariant.0 c.in_ok-finish_blocks.ensures.stays (finished_in g.FB.Blocks.stored g.FB.Blocks.number g.FB.Blocks.covers g.FB.Wreck.BlocksRuin.left _ _ _ c.in_ok-finish_blocks.ensures.stays c.in_ok-finish_blocks.ensures.done),
-  certs_left_in g.FC.Certificates.stored g.FC.Certificates.number g.FC.Certificates.covers _ _ c.self.inside.writes _ c.in_err-finish_certificates.ensures.left c.self.invariant.1,
-)
-
-pub returns-in_err-finish_certificates-clause-failed : goal.returns-in_err-finish_certificates-clause-failed
-returns-in_err-finish_certificates-clause-failed g c =
-    let p = err_from_is_err_and c.from_residual-in_err-finish_certificates.result c.from_residual-in_err-finish_certificates.ensures.1 in
-    rw p.1 (rw (← c.self.view_is) (sym (rw c.in-Some.is at (opened_is pooled_of c.args.ticket c.self.inside.writes.pooled c.find.result c.find.ensures))))
-
-pub returns-in_err-finish_certificates-clause-goes_on : goal.returns-in_err-finish_certificates-clause-goes_on
-returns-in_err-finish_certificates-clause-goes_on g c =
-    let p = err_from_is_err_and c.from_residual-in_err-finish_certificates.result c.from_residual-in_err-finish_certificates.ensures.1 in
-    rw (p.1, p.2, ← c.self.view_is) (λ start all grew within. Loses-certs start all _ (Grew-surer_blocks start all _ grew _ _ (nested_in g.FB.Blocks.stored g.FB.Blocks.number g.FB.Blocks.covers g.FB.Wreck.BlocksRuin.left g.met.FB.Blocks.nested _ _ c.in_ok-finish_blocks.ensures.stays) (finished_in g.FB.Blocks.stored g.FB.Blocks.number g.FB.Blocks.covers g.FB.Wreck.BlocksRuin.left _ _ _ c.in_ok-finish_blocks.ensures.stays c.in_ok-finish_blocks.ensures.done) c.in_ok-finish_blocks.ensures.passed) _ _ _ _ within.certs c.in_err-finish_certificates.ensures.failed.fails c.in_err-finish_certificates.ensures.failed.cause)
-
-pub invariant_of-self-2 : goal.invariant_of-self-2
-invariant_of-self-2 g c = (
-  blocks_finished_in g.V.Variant.plain g.FB.Blocks.stored g.FB.Blocks.number g.FB.Blocks.covers g.FB.Wreck.BlocksRuin.left _ _ c.self.inside.writes c.self.inside.staged.blocks c.self.invariant.0 c.in_ok-finish_blocks.ensures.stays c.args.ticket _ c.in-Some.ensures c.in_ok-finish_blocks.ensures.done c.finish.ensures,
-  certs_finished_in g.FC.Certificates.stored g.FC.Certificates.number g.FC.Certificates.covers g.FC.Wreck.CertificatesRuin.left _ _ c.self.inside.writes c.self.invariant.1 c.in_ok-finish_certificates.ensures.stays c.args.ticket _ c.in-Some.ensures c.in_ok-finish_certificates.ensures.done c.finish.ensures,
-)
+pub invariant_of-self : goal.invariant_of-self
+invariant_of-self g c = (c.finish.ensures.blocks, held_in g.V.Variant.plain g.FB.Keeps.stored _ _ _ c.finish.ensures.holds c.self.invariant.1, c.finish.ensures.certs)
 
 pub returns-clause-was_open : goal.returns-clause-was_open
-returns-clause-was_open g c = rw (← c.self.view_is) (rw c.in-Some.is at (opened_is pooled_of c.args.ticket c.self.inside.writes.pooled c.find.result c.find.ensures))
+returns-clause-was_open g c = rw (← c.self.view_is) c.finish.ensures.was_open
+
+pub returns-clause-closed : goal.returns-clause-closed
+returns-clause-closed g c = rw (← c.self.view_is) (found_so c.finish.result c.finish.ensures.closed (λ b same is. rw ((same is).0, (same is).1, (same is).2) refl))
+
+pub returns-clause-failed : goal.returns-clause-failed
+returns-clause-failed g c = rw (← c.self.view_is) c.finish.ensures.of_open
 
 pub returns-clause-blocks : goal.returns-clause-blocks
-returns-clause-blocks g c = rw (← c.self.view_is) (finished_in g.FB.Blocks.stored g.FB.Blocks.number g.FB.Blocks.covers g.FB.Wreck.BlocksRuin.left _ _ _ c.in_ok-finish_blocks.ensures.stays c.in_ok-finish_blocks.ensures.done)
+returns-clause-blocks g c = rw (← c.self.view_is) (each_done _ c.finish.result (found_so c.finish.result (both_found _ _ c.finish.result (both_found _ _ c.finish.result c.finish.ensures.surer_blocks c.finish.ensures.surer_certs) c.finish.ensures.closed) (λ b f. (λ is. (f.0.0 is).surer, λ is. MakesSure-same _ _ (rw (f.1 is).0 refl)))))
 
 pub returns-clause-certs : goal.returns-clause-certs
-returns-clause-certs g c = rw (← c.self.view_is) (finished_in g.FC.Certificates.stored g.FC.Certificates.number g.FC.Certificates.covers g.FC.Wreck.CertificatesRuin.left _ _ _ c.in_ok-finish_certificates.ensures.stays c.in_ok-finish_certificates.ensures.done)
+returns-clause-certs g c = rw (← c.self.view_is) (each_done _ c.finish.result (found_so c.finish.result (both_found _ _ c.finish.result (both_found _ _ c.finish.result c.finish.ensures.surer_blocks c.finish.ensures.surer_certs) c.finish.ensures.closed) (λ b f. (λ is. (f.0.1 is).surer, λ is. MakesSure-same _ _ (rw (f.1 is).1 refl)))))
 
 pub returns-clause-written : goal.returns-clause-written
-returns-clause-written g c = λ intact. c.law-2.ensures.written (still_intact _ _ _ _ _ (open_in g.FB.Blocks.stored g.FB.Blocks.number g.FB.Blocks.covers _ _ c.in_ok-finish_blocks.ensures.stays) (open_in g.FC.Certificates.stored g.FC.Certificates.number g.FC.Certificates.covers _ _ c.in_ok-finish_certificates.ensures.stays) (rw (← c.self.view_is) at intact))
+returns-clause-written g c = rw (← c.self.view_is) (λ intact. done_so c.finish.result (both_done _ _ c.finish.result c.finish.ensures.still_blocks c.finish.ensures.still_certs) (λ still. record {
+  blocks = written_in of_blocks g.FB.Keeps.stored g.FB.Keeps.number g.FB.Keeps.covers g.FB.Wreck.KeepsRuin.left _ _ c.finish.ensures.blocks (first_of _ _ (still_intact _ _ _ _ _ still.0 still.1 intact));
+  certs = written_in of_certs g.FC.Keeps.stored g.FC.Keeps.number g.FC.Keeps.covers g.FC.Wreck.KeepsRuin.left _ _ c.finish.ensures.certs (second_of _ _ _ (still_intact _ _ _ _ _ still.0 still.1 intact));
+  ordered = c.finish.ensures.ordered;
+}))
 
 pub returns-clause-same : goal.returns-clause-same
-returns-clause-same g c = rw (← c.self.view_is, open_in g.FB.Blocks.stored g.FB.Blocks.number g.FB.Blocks.covers _ _ c.in_ok-finish_blocks.ensures.stays, open_in g.FC.Certificates.stored g.FC.Certificates.number g.FC.Certificates.covers _ _ c.in_ok-finish_certificates.ensures.stays, c.finish.ensures, writing_finished c.args.ticket c.self.inside.writes) refl
+returns-clause-same g c = rw (← c.self.view_is) (done_so c.finish.result (both_done _ _ c.finish.result (both_done _ _ c.finish.result c.finish.ensures.still_blocks c.finish.ensures.still_certs) c.finish.ensures.finished)
+    (λ ok. rw (ok.0.0, ok.0.1, ok.1) refl))
 
 pub returns-clause-goes_on : goal.returns-clause-goes_on
-returns-clause-goes_on g c = rw (← c.self.view_is, open_in g.FB.Blocks.stored g.FB.Blocks.number g.FB.Blocks.covers _ _ c.in_ok-finish_blocks.ensures.stays, open_in g.FC.Certificates.stored g.FC.Certificates.number g.FC.Certificates.covers _ _ c.in_ok-finish_certificates.ensures.stays) (λ start all grew within. Grew-writes start all _ (Grew-surer_certs start all _ (Grew-surer_blocks start all _ grew _ _ (nested_in g.FB.Blocks.stored g.FB.Blocks.number g.FB.Blocks.covers g.FB.Wreck.BlocksRuin.left g.met.FB.Blocks.nested _ _ c.in_ok-finish_blocks.ensures.stays) (finished_in g.FB.Blocks.stored g.FB.Blocks.number g.FB.Blocks.covers g.FB.Wreck.BlocksRuin.left _ _ _ c.in_ok-finish_blocks.ensures.stays c.in_ok-finish_blocks.ensures.done) c.in_ok-finish_blocks.ensures.passed) _ _ (nested_in g.FC.Certificates.stored g.FC.Certificates.number g.FC.Certificates.covers g.FC.Wreck.CertificatesRuin.left g.met.FC.Certificates.nested _ _ c.in_ok-finish_certificates.ensures.stays) (finished_in g.FC.Certificates.stored g.FC.Certificates.number g.FC.Certificates.covers g.FC.Wreck.CertificatesRuin.left _ _ _ c.in_ok-finish_certificates.ensures.stays c.in_ok-finish_certificates.ensures.done) c.in_ok-finish_certificates.ensures.passed) _)
+returns-clause-goes_on g c = rw (← c.self.view_is) (λ start all grew within. by_answer c.finish.result
+    (each_done _ c.finish.result (found_so c.finish.result (both_found _ _ c.finish.result (both_found _ _ c.finish.result c.finish.ensures.surer_blocks c.finish.ensures.surer_certs) c.finish.ensures.closed) (λ b f. (λ is. rw ((f.0.0 is).still, (f.0.1 is).still) (Grew-writes start all _ (Grew-surer_certs start all _ (Grew-surer_blocks start all _ grew _ _ (f.0.0 is).nested (f.0.0 is).surer (f.0.0 is).passed) _ _ (f.0.1 is).nested (f.0.1 is).surer (f.0.1 is).passed) _), λ is. rw ((f.1 is).0, (f.1 is).1, (f.1 is).2) grew))))
+    c.finish.ensures.failed
+    (λ grew. grew)
+    (λ e fails. both_lose g.FB.Keeps.stored g.FB.Wreck.KeepsRuin.left g.FB.Keeps.watch g.FB.Wreck.KeepsRuin.watch g.FC.Keeps.stored g.FC.Wreck.KeepsRuin.left g.FC.Keeps.watch g.FC.Wreck.KeepsRuin.watch _ _ _ _ _ fails start all grew))
+
+pub returns-clause-archive : goal.returns-clause-archive
+returns-clause-archive g c = failed_so c.finish.result c.finish.ensures.failed (λ e fails. both_archive g.FB.Keeps.stored g.FB.Wreck.KeepsRuin.left g.FB.Keeps.watch g.FB.Wreck.KeepsRuin.watch g.FC.Keeps.stored g.FC.Wreck.KeepsRuin.left g.FC.Keeps.watch g.FC.Wreck.KeepsRuin.watch _ _ _ _ _ fails)
+
+pub returns-clause-usual : goal.returns-clause-usual
+returns-clause-usual g c = failed_so c.finish.result c.finish.ensures.failed (λ e fails. both_usual g.FB.Keeps.stored g.FB.Wreck.KeepsRuin.left g.FB.Keeps.watch g.FB.Wreck.KeepsRuin.watch g.FC.Keeps.stored g.FC.Wreck.KeepsRuin.left g.FC.Keeps.watch g.FC.Wreck.KeepsRuin.watch _ _ _ _ _ fails)

@@ -1,17 +1,27 @@
-use Rattle.std.proofs.Common.{Bool, refl}
+use Rattle.std.proofs.Common.{refl}
 use Rattle.mar_node.specs.Faults.{cert_store}
 use Rattle.mar_node.proofs.Growing.{Grew-counted}
-use Rattle.mar_node.proofs.Passing.{Passes-one, by_miss}
 use Rattle.mar_node.proofs.StoreLosses.{Loses-missed}
-use Rattle.mar_shelf.proofs.Awaiting.{certs_read}
+use Rattle.mar_shelf.specs.Pooling.{of_certs}
+use Rattle.mar_shelf.proofs.Placed.{always_done, archive_fault, by_answer, failed_so, read_open, read_same, usual_fault, waits_read}
 use Rattle.mar_shelf.proofs.stores.StoresHolds.has_certificate.Goals as goal
-use Rattle.mar_shelf.proofs.stores.StoresHolds.has_certificate.Goals.{in-Err, in-Ok}
 
-pub invariant_of-self-2 : goal.invariant_of-self-2
-invariant_of-self-2 g c = (c.self.invariant.0, certs_read (rw c.in-Open.is at c.self.invariant.1) c.has.ensures.same c.has.ensures.tickets c.has.ensures.covers (g.met.FC.Certificates.last c.has.new.self))
+pub invariant_of-self : goal.invariant_of-self
+invariant_of-self g c = (c.self.invariant.0, c.self.invariant.1, waits_read g.FC.Keeps.stored g.FC.Keeps.number g.FC.Keeps.covers of_certs g.FC.Wreck.KeepsRuin.left _ _ c.self.inside.writes c.has.ensures.read c.self.invariant.2)
+
+pub returns-clause-found : goal.returns-clause-found
+returns-clause-found g c = rw (← c.self.view_is) c.has.ensures.found
+
+pub returns-clause-same : goal.returns-clause-same
+returns-clause-same g c = rw (← c.self.view_is, read_same g.FC.Keeps.stored g.FC.Keeps.number g.FC.Keeps.covers g.FC.Wreck.KeepsRuin.left _ _ c.has.ensures.read, read_open g.FC.Keeps.stored g.FC.Keeps.number g.FC.Keeps.covers g.FC.Wreck.KeepsRuin.left _ _ c.has.ensures.read) (always_done c.has.result refl)
 
 pub returns-clause-goes_on : goal.returns-clause-goes_on
-returns-clause-goes_on g c = elim c.match-has.branch [
-  | in-Ok w ↦ rw (w.result-is, ← c.self.view_is, c.in-Open.is) (λ start all grew within. rw c.has.ensures.same (Grew-counted start all _ grew cert_store _ (Passes-one _ _ w.in-Ok.ensures.watched.0 w.in-Ok.ensures.watched.1)))
-  | in-Err w ↦ rw (w.result-is, ← c.self.view_is, c.in-Open.is) (λ start all grew within. rw (c.has.ensures.same, w.missed_by.ensures) (Loses-missed start all _ grew cert_store _ _ _ refl (by_miss Bool _ _ cert_store w.in-Err.miss w.in-Err.ensures.watched)))
-]
+returns-clause-goes_on g c = rw (← c.self.view_is, read_same g.FC.Keeps.stored g.FC.Keeps.number g.FC.Keeps.covers g.FC.Wreck.KeepsRuin.left _ _ c.has.ensures.read, read_open g.FC.Keeps.stored g.FC.Keeps.number g.FC.Keeps.covers g.FC.Wreck.KeepsRuin.left _ _ c.has.ensures.read) (λ start all grew within. by_answer c.has.result c.has.ensures.passed c.has.ensures.failed
+    (λ passed. Grew-counted start all _ grew cert_store _ passed)
+    (λ e how. Loses-missed start all _ grew cert_store _ _ _ refl how))
+
+pub returns-clause-archive : goal.returns-clause-archive
+returns-clause-archive g c = failed_so c.has.result c.has.ensures.failed (λ e how. archive_fault cert_store _ _ _ tt how)
+
+pub returns-clause-usual : goal.returns-clause-usual
+returns-clause-usual g c = failed_so c.has.result c.has.ensures.failed (λ e how. usual_fault cert_store _ _ _ how)

@@ -1,14 +1,21 @@
-use Rattle.std.proofs.Common.{Bool, refl}
+use Rattle.std.proofs.Common.{refl}
 use Rattle.mar_node.specs.Faults.{meta_store}
 use Rattle.mar_node.proofs.Growing.{Grew-set}
 use Rattle.mar_node.proofs.Passing.{Passes-refl}
 use Rattle.mar_node.proofs.StoreLosses.{Loses-meta}
-use Rattle.mar_shelf.proofs.InPlace.{by_calm}
+use Rattle.mar_shelf.specs.Views.{fault_of}
+use Rattle.mar_shelf.proofs.Answered.{answer_calm, answer_done, answer_left, with_left}
+use Rattle.mar_shelf.proofs.Placed.{by_answer, done_so, failed_so, usual_fault}
 use Rattle.mar_shelf.proofs.stores.StoresHolds.set_cutoff.Goals as goal
-use Rattle.mar_shelf.proofs.stores.StoresHolds.set_cutoff.Goals.{in-Err, in-Ok}
+
+pub returns-clause-ok : goal.returns-clause-ok
+returns-clause-ok g c = rw (← c.self.view_is) (done_so c.answered.result (answer_done (fault_of g.V.Commitment.Named.bytes) meta_store _ c.set_cutoff.result c.answered.result c.answered.ensures c.set_cutoff.ensures.ok) (λ is. rw is refl))
 
 pub returns-clause-goes_on : goal.returns-clause-goes_on
-returns-clause-goes_on g c = elim c.match-set_cutoff.branch [
-  | in-Ok w ↦ rw (w.result-is, ← c.self.view_is, w.in-Ok.ensures.ok) (λ start all grew within. Grew-set start all _ grew _ _ _ _ _ refl (Passes-refl _))
-  | in-Err w ↦ rw (w.result-is, ← c.self.view_is, w.missed_by.ensures) (λ start all grew within. Loses-meta start all _ grew _ _ _ _ within.pairs w.in-Err.ensures.lost.1 (by_calm Bool _ _ meta_store w.in-Err.miss w.in-Err.ensures.watched))
-]
+returns-clause-goes_on g c = rw (← c.self.view_is) (λ start all grew within. by_answer c.answered.result (answer_done (fault_of g.V.Commitment.Named.bytes) meta_store _ c.set_cutoff.result c.answered.result c.answered.ensures c.set_cutoff.ensures.ok)
+    (with_left _ _ c.answered.result (answer_left (fault_of g.V.Commitment.Named.bytes) meta_store _ c.set_cutoff.result c.answered.result c.answered.ensures c.set_cutoff.ensures.lost) (answer_calm (fault_of g.V.Commitment.Named.bytes) meta_store _ _ c.set_cutoff.result c.answered.result c.answered.ensures c.set_cutoff.ensures.watched))
+    (λ is. rw is (Grew-set start all _ grew _ _ _ _ _ refl (Passes-refl _)))
+    (λ e lost. Loses-meta start all _ grew _ _ _ _ within.pairs lost.0.1 lost.1))
+
+pub returns-clause-usual : goal.returns-clause-usual
+returns-clause-usual g c = failed_so c.answered.result (answer_calm (fault_of g.V.Commitment.Named.bytes) meta_store _ _ c.set_cutoff.result c.answered.result c.answered.ensures c.set_cutoff.ensures.watched) (λ e how. usual_fault meta_store _ _ _ how)

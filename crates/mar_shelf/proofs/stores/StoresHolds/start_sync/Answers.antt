@@ -1,48 +1,28 @@
-use Rattle.std.proofs.Common.{refl}
-use Rattle.std.proofs.lemmas.List.{map-append}
-use Rattle.std.proofs.lemmas.Result.{err_from_is_err_and}
-use Rattle.mar_node.specs.Faults.{want_of_memory}
+use Rattle.std.proofs.Common.{⊎_elim, inl, inr, refl}
+use Rattle.mar_node.specs.Faults.{sync_kind, ticket_limit}
 use Rattle.mar_node.proofs.Growing.{Grew-surer_blocks, Grew-surer_certs, Grew-writes}
-use Rattle.mar_node.proofs.StoreLosses.{Loses-blocks, Loses-certs, Loses-nothing}
-use Rattle.mar_shelf.proofs.Placed.{blocks_started_in, blocks_surer_in, certs_left_in, certs_started_in, certs_surer_in, nested_in, open_in, same_in, started_in}
+use Rattle.mar_node.proofs.StoreLosses.{Loses-nothing}
+use Rattle.mar_shelf.proofs.Both.{both_archive, both_lose}
+use Rattle.mar_shelf.proofs.Placed.{both_done, by_answer, done_so, failed_so, held_in}
 use Rattle.mar_shelf.proofs.stores.StoresHolds.start_sync.Goals as goal
 
-pub returns-in_err-blocks-clause-goes_on : goal.returns-in_err-blocks-clause-goes_on
-returns-in_err-blocks-clause-goes_on g c =
-    let p = err_from_is_err_and c.from_residual.result c.from_residual.ensures.1 in
-    rw (p.1, p.2, ← c.self.view_is) (λ start all grew within. Loses-blocks start all _ grew _ _ _ _ within.blocks c.in_err-blocks.ensures.failed.fails c.in_err-blocks.ensures.failed.cause)
+pub start-requires : goal.start-requires
+start-requires g c = record { blocks = c.self.invariant.0; certs = c.self.invariant.2 }
 
-pub invariant_of-self-in_err-certs : goal.invariant_of-self-in_err-certs
-invariant_of-self-in_err-certs g c = (
-  blocks_surer_in g.V.Variant.plain g.FB.Blocks.stored g.FB.Blocks.number g.FB.Blocks.covers g.FB.Wreck.BlocksRuin.left _ _ c.self.inside.writes c.self.inside.staged.blocks c.self.invariant.0 c.in_ok-blocks.ensures.stays (started_in g.FB.Blocks.stored g.FB.Blocks.number g.FB.Blocks.covers g.FB.Wreck.BlocksRuin.left _ _ _ c.in_ok-blocks.ensures.stays c.in_ok-blocks.ensures.done),
-  certs_left_in g.FC.Certificates.stored g.FC.Certificates.number g.FC.Certificates.covers _ _ c.self.inside.writes _ c.in_err-certs.ensures.left c.self.invariant.1,
-)
-
-pub returns-in_err-certs-clause-goes_on : goal.returns-in_err-certs-clause-goes_on
-returns-in_err-certs-clause-goes_on g c =
-    let p = err_from_is_err_and c.from_residual-in_err-certs.result c.from_residual-in_err-certs.ensures.1 in
-    rw (p.1, p.2, ← c.self.view_is) (λ start all grew within. Loses-certs start all _ (Grew-surer_blocks start all _ grew _ _ (nested_in g.FB.Blocks.stored g.FB.Blocks.number g.FB.Blocks.covers g.FB.Wreck.BlocksRuin.left g.met.FB.Blocks.nested _ _ c.in_ok-blocks.ensures.stays) (started_in g.FB.Blocks.stored g.FB.Blocks.number g.FB.Blocks.covers g.FB.Wreck.BlocksRuin.left _ _ _ c.in_ok-blocks.ensures.stays c.in_ok-blocks.ensures.done) c.in_ok-blocks.ensures.passed) _ _ _ _ within.certs c.in_err-certs.ensures.failed.fails c.in_err-certs.ensures.failed.cause)
-
-pub invariant_of-self-in-Err : goal.invariant_of-self-in-Err
-invariant_of-self-in-Err g c = rw c.in-Err.ensures.err (
-  blocks_surer_in g.V.Variant.plain g.FB.Blocks.stored g.FB.Blocks.number g.FB.Blocks.covers g.FB.Wreck.BlocksRuin.left _ _ c.self.inside.writes c.self.inside.staged.blocks c.self.invariant.0 c.in_ok-blocks.ensures.stays (started_in g.FB.Blocks.stored g.FB.Blocks.number g.FB.Blocks.covers g.FB.Wreck.BlocksRuin.left _ _ _ c.in_ok-blocks.ensures.stays c.in_ok-blocks.ensures.done),
-  certs_surer_in g.FC.Certificates.stored g.FC.Certificates.number g.FC.Certificates.covers g.FC.Wreck.CertificatesRuin.left _ _ c.self.inside.writes c.self.invariant.1 c.in_ok-certs.ensures.stays (started_in g.FC.Certificates.stored g.FC.Certificates.number g.FC.Certificates.covers g.FC.Wreck.CertificatesRuin.left _ _ _ c.in_ok-certs.ensures.stays c.in_ok-certs.ensures.done),
-)
-
-pub returns-in-Err-clause-goes_on : goal.returns-in-Err-clause-goes_on
-returns-in-Err-clause-goes_on g c = rw (← c.self.view_is) (λ start all grew within. Loses-nothing start all _ (Grew-surer_certs start all _ (Grew-surer_blocks start all _ grew _ _ (nested_in g.FB.Blocks.stored g.FB.Blocks.number g.FB.Blocks.covers g.FB.Wreck.BlocksRuin.left g.met.FB.Blocks.nested _ _ c.in_ok-blocks.ensures.stays) (started_in g.FB.Blocks.stored g.FB.Blocks.number g.FB.Blocks.covers g.FB.Wreck.BlocksRuin.left _ _ _ c.in_ok-blocks.ensures.stays c.in_ok-blocks.ensures.done) c.in_ok-blocks.ensures.passed) _ _ (nested_in g.FC.Certificates.stored g.FC.Certificates.number g.FC.Certificates.covers g.FC.Wreck.CertificatesRuin.left g.met.FC.Certificates.nested _ _ c.in_ok-certs.ensures.stays) (started_in g.FC.Certificates.stored g.FC.Certificates.number g.FC.Certificates.covers g.FC.Wreck.CertificatesRuin.left _ _ _ c.in_ok-certs.ensures.stays c.in_ok-certs.ensures.done) c.in_ok-certs.ensures.passed) want_of_memory tt)
-
-pub invariant_of-self-2 : goal.invariant_of-self-2
-invariant_of-self-2 g c = (
-  blocks_started_in g.V.Variant.plain g.FB.Blocks.stored g.FB.Blocks.number g.FB.Blocks.covers g.FB.Wreck.BlocksRuin.left _ _ c.self.inside.writes c.self.inside.staged.blocks c.self.invariant.0 c.in_ok-blocks.ensures.stays _ _ c.in_ok-blocks.ensures.done c.start.ensures.numbers.0 c.in_default.ensures.ok,
-  certs_started_in g.FC.Certificates.stored g.FC.Certificates.number g.FC.Certificates.covers g.FC.Wreck.CertificatesRuin.left _ _ c.self.inside.writes c.self.invariant.1 c.in_ok-certs.ensures.stays _ _ c.in_ok-certs.ensures.done c.start.ensures.numbers.1 c.in_default.ensures.ok,
-)
+pub invariant_of-self : goal.invariant_of-self
+invariant_of-self g c = (c.start.ensures.blocks, held_in g.V.Variant.plain g.FB.Keeps.stored _ _ _ c.start.ensures.holds c.self.invariant.1, c.start.ensures.certs)
 
 pub returns-clause-ok : goal.returns-clause-ok
-returns-clause-ok g c =
-    let blocks = same_in g.FB.Blocks.stored g.FB.Blocks.number g.FB.Blocks.covers g.FB.Wreck.BlocksRuin.left _ _ _ c.in_ok-blocks.ensures.stays c.in_ok-blocks.ensures.done in
-    let certs = same_in g.FC.Certificates.stored g.FC.Certificates.number g.FC.Certificates.covers g.FC.Wreck.CertificatesRuin.left _ _ _ c.in_ok-certs.ensures.stays c.in_ok-certs.ensures.done in
-    rw (← c.self.view_is, blocks, certs, open_in g.FB.Blocks.stored g.FB.Blocks.number g.FB.Blocks.covers _ _ c.in_ok-blocks.ensures.stays, open_in g.FC.Certificates.stored g.FC.Certificates.number g.FC.Certificates.covers _ _ c.in_ok-certs.ensures.stays, c.in_default.ensures.ok, map-append (λ p. p.sync) c.self.inside.writes.pooled _) refl
+returns-clause-ok g c = rw (← c.self.view_is) (done_so c.start.result (both_done _ _ c.start.result (both_done _ _ c.start.result (both_done _ _ c.start.result c.start.ensures.same_blocks c.start.ensures.same_certs) (both_done _ _ c.start.result c.start.ensures.surer_blocks c.start.ensures.surer_certs)) c.start.ensures.started)
+    (λ ok. rw (ok.0.0.0, ok.0.0.1, ok.0.1.0.still, ok.0.1.1.still, ok.1) refl))
 
 pub returns-clause-goes_on : goal.returns-clause-goes_on
-returns-clause-goes_on g c = rw (← c.self.view_is, open_in g.FB.Blocks.stored g.FB.Blocks.number g.FB.Blocks.covers _ _ c.in_ok-blocks.ensures.stays, open_in g.FC.Certificates.stored g.FC.Certificates.number g.FC.Certificates.covers _ _ c.in_ok-certs.ensures.stays) (λ start all grew within. Grew-writes start all _ (Grew-surer_certs start all _ (Grew-surer_blocks start all _ grew _ _ (nested_in g.FB.Blocks.stored g.FB.Blocks.number g.FB.Blocks.covers g.FB.Wreck.BlocksRuin.left g.met.FB.Blocks.nested _ _ c.in_ok-blocks.ensures.stays) (started_in g.FB.Blocks.stored g.FB.Blocks.number g.FB.Blocks.covers g.FB.Wreck.BlocksRuin.left _ _ _ c.in_ok-blocks.ensures.stays c.in_ok-blocks.ensures.done) c.in_ok-blocks.ensures.passed) _ _ (nested_in g.FC.Certificates.stored g.FC.Certificates.number g.FC.Certificates.covers g.FC.Wreck.CertificatesRuin.left g.met.FC.Certificates.nested _ _ c.in_ok-certs.ensures.stays) (started_in g.FC.Certificates.stored g.FC.Certificates.number g.FC.Certificates.covers g.FC.Wreck.CertificatesRuin.left _ _ _ c.in_ok-certs.ensures.stays c.in_ok-certs.ensures.done) c.in_ok-certs.ensures.passed) _)
+returns-clause-goes_on g c = rw (← c.self.view_is) (λ start all grew within. by_answer c.start.result (both_done _ _ c.start.result c.start.ensures.surer_blocks c.start.ensures.surer_certs) c.start.ensures.failed
+    (λ ok. rw (ok.0.still, ok.1.still) (Grew-writes start all _ (Grew-surer_certs start all _ (Grew-surer_blocks start all _ grew _ _ ok.0.nested ok.0.surer ok.0.passed) _ _ ok.1.nested ok.1.surer ok.1.passed) _))
+    (λ e failed. ⊎_elim
+      (λ fails. both_lose g.FB.Keeps.stored g.FB.Wreck.KeepsRuin.left g.FB.Keeps.watch g.FB.Wreck.KeepsRuin.watch g.FC.Keeps.stored g.FC.Wreck.KeepsRuin.left g.FC.Keeps.watch g.FC.Wreck.KeepsRuin.watch _ _ _ _ _ fails start all grew)
+      (λ none. rw (none.0, none.2, none.3) (Loses-nothing start all _ grew (ticket_limit sync_kind) tt))
+      failed))
+
+pub returns-clause-kind : goal.returns-clause-kind
+returns-clause-kind g c = rw (← c.self.view_is) (failed_so c.start.result c.start.ensures.failed (λ e failed. ⊎_elim (λ fails. inl (both_archive g.FB.Keeps.stored g.FB.Wreck.KeepsRuin.left g.FB.Keeps.watch g.FB.Wreck.KeepsRuin.watch g.FC.Keeps.stored g.FC.Wreck.KeepsRuin.left g.FC.Keeps.watch g.FC.Wreck.KeepsRuin.watch _ _ _ _ _ fails)) (λ none. inr (none.0, none.1)) failed))

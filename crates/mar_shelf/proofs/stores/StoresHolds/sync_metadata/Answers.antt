@@ -1,19 +1,21 @@
-use Rattle.std.proofs.Common.{Bool}
+use Rattle.std.proofs.Common.{refl}
 use Rattle.mar_node.specs.Faults.{meta_store}
-use Rattle.mar_node.proofs.Passing.{ArePassed-store, Passes-or_idle}
+use Rattle.mar_node.proofs.Passing.{ArePassed-store}
 use Rattle.mar_node.proofs.StoreLosses.{Loses-meta}
-use Rattle.mar_shelf.proofs.InPlace.{by_sync}
+use Rattle.mar_shelf.specs.Views.{fault_of}
+use Rattle.mar_shelf.proofs.Answered.{answer_done, answer_idle, answer_left, answer_synced, with_left}
+use Rattle.mar_shelf.proofs.Placed.{done_so, failed_so, usual_fault}
 use Rattle.mar_shelf.proofs.stores.StoresHolds.sync_metadata.Goals as goal
-use Rattle.mar_shelf.proofs.stores.StoresHolds.sync_metadata.Goals.{in-Err, in-Ok}
+
+pub returns-clause-ok : goal.returns-clause-ok
+returns-clause-ok g c = rw (← c.self.view_is) (done_so c.answered.result (answer_done (fault_of g.V.Commitment.Named.bytes) meta_store _ c.sync.result c.answered.result c.answered.ensures c.sync.ensures.ok) (λ is. rw is refl))
 
 pub returns-clause-passed : goal.returns-clause-passed
-returns-clause-passed g c = elim c.match-sync.branch [
-  | in-Ok w ↦ rw (w.result-is, ← c.self.view_is) (ArePassed-store _ meta_store _ (Passes-or_idle _ _ w.in-Ok.ensures.watched))
-  | in-Err w ↦ rw w.result-is tt
-]
+returns-clause-passed g c = rw (← c.self.view_is) (done_so c.answered.result (answer_idle (fault_of g.V.Commitment.Named.bytes) meta_store _ _ c.sync.result c.answered.result c.answered.ensures c.sync.ensures.watched) (λ passed. ArePassed-store _ meta_store _ passed))
 
 pub returns-clause-lost : goal.returns-clause-lost
-returns-clause-lost g c = elim c.match-sync.branch [
-  | in-Ok w ↦ rw w.result-is (λ start all grew within. tt)
-  | in-Err w ↦ rw (w.result-is, ← c.self.view_is, w.missed_by.ensures) (λ start all grew within. Loses-meta start all _ grew _ _ _ _ within.pairs w.in-Err.ensures.lost.1 (by_sync Bool _ _ meta_store w.in-Err.miss w.in-Err.ensures.watched))
-]
+returns-clause-lost g c = rw (← c.self.view_is) (λ start all grew within. failed_so c.answered.result (with_left _ _ c.answered.result (answer_left (fault_of g.V.Commitment.Named.bytes) meta_store _ c.sync.result c.answered.result c.answered.ensures c.sync.ensures.lost) (answer_synced (fault_of g.V.Commitment.Named.bytes) meta_store _ _ c.sync.result c.answered.result c.answered.ensures c.sync.ensures.watched))
+    (λ e lost. Loses-meta start all _ grew _ _ _ _ within.pairs lost.0.1 lost.1))
+
+pub returns-clause-usual : goal.returns-clause-usual
+returns-clause-usual g c = failed_so c.answered.result (answer_synced (fault_of g.V.Commitment.Named.bytes) meta_store _ _ c.sync.result c.answered.result c.answered.ensures c.sync.ensures.watched) (λ e how. usual_fault meta_store _ _ _ how)

@@ -1,33 +1,36 @@
-use Rattle.std.proofs.Common.{Bool, Some, refl}
-use Rattle.mar_node.proofs.FoundBlocks.{own_height}
+use Rattle.std.proofs.Common.{refl}
 use Rattle.mar_node.specs.Faults.{block_store}
 use Rattle.mar_node.proofs.Growing.{Grew-counted}
-use Rattle.mar_node.proofs.Passing.{Passes-one, by_miss}
 use Rattle.mar_node.proofs.StoreLosses.{Loses-missed}
-use Rattle.mar_shelf.proofs.Awaiting.{blocks_read, blocks_taken, held_taken}
+use Rattle.mar_shelf.specs.Pooling.{of_blocks}
+use Rattle.mar_shelf.proofs.Placed.{always_done, archive_fault, by_answer, failed_so, read_open, read_same, usual_fault, waits_read}
 use Rattle.mar_shelf.proofs.stores.StoresHolds.take_block.Goals as goal
-use Rattle.mar_shelf.proofs.stores.StoresHolds.take_block.Goals.{in-Err, in-Ok}
 
-pub invariant_of-self-in-Some : goal.invariant_of-self-in-Some
-invariant_of-self-in-Some g c = (blocks_taken (rw c.in-Open.is at c.self.invariant.0) c.args.height c.self.inside.staged refl c.retain.ensures c.remove.ensures.rest, c.self.invariant.1)
+pub take-requires : goal.take-requires
+take-requires g c = record { held = c.self.invariant.1 }
 
-pub returns-in-Some-clause-found : goal.returns-in-Some-clause-found
-returns-in-Some-clause-found g c = rw (← c.self.view_is, c.in-Open.is) (held_taken (rw c.in-Open.is at c.self.invariant.0) c.args.height c.self.inside.staged c.in-Some.block refl c.retain.ensures c.in-Some.ensures.found)
+pub returns-clause-dropped : goal.returns-clause-dropped
+returns-clause-dropped g c = rw (← c.self.view_is) c.take.ensures.dropped
 
-pub returns-in-Some-clause-own : goal.returns-in-Some-clause-own
-returns-in-Some-clause-own g c = own_height g.V.Variant.plain (Some c.in-Some.block) _ _ (held_taken (rw c.in-Open.is at c.self.invariant.0) c.args.height c.self.inside.staged c.in-Some.block refl c.retain.ensures c.in-Some.ensures.found) (g.met.FB.Blocks.own c.in-Open.blocks).heights
+pub invariant_of-self : goal.invariant_of-self
+invariant_of-self g c = (waits_read g.FB.Keeps.stored g.FB.Keeps.number g.FB.Keeps.covers of_blocks g.FB.Wreck.KeepsRuin.left _ _ c.self.inside.writes c.take.ensures.read c.self.invariant.0, c.take.ensures.held, c.self.invariant.2)
 
-pub invariant_of-self-2 : goal.invariant_of-self-2
-invariant_of-self-2 g c = (blocks_read (blocks_taken (rw c.in-Open.is at c.self.invariant.0) c.args.height c.self.inside.staged refl c.retain.ensures c.remove.ensures.rest) c.get.ensures.same c.get.ensures.tickets c.get.ensures.covers (g.met.FB.Blocks.last c.get.new.self), c.self.invariant.1)
+pub returns-clause-found : goal.returns-clause-found
+returns-clause-found g c = rw (← c.self.view_is) c.take.ensures.found
 
 pub returns-clause-own : goal.returns-clause-own
-returns-clause-own g c = elim c.match-get.branch [
-  | in-Ok w ↦ rw w.result-is (own_height _ _ _ _ w.in-Ok.ensures.found (g.met.FB.Blocks.own c.in-Open.blocks).heights)
-  | in-Err w ↦ rw w.result-is tt
-]
+returns-clause-own g c = c.take.ensures.own
+
+pub returns-clause-same : goal.returns-clause-same
+returns-clause-same g c = rw (← c.self.view_is, read_same g.FB.Keeps.stored g.FB.Keeps.number g.FB.Keeps.covers g.FB.Wreck.KeepsRuin.left _ _ c.take.ensures.read, read_open g.FB.Keeps.stored g.FB.Keeps.number g.FB.Keeps.covers g.FB.Wreck.KeepsRuin.left _ _ c.take.ensures.read) (always_done c.take.result refl)
 
 pub returns-clause-goes_on : goal.returns-clause-goes_on
-returns-clause-goes_on g c = elim c.match-get.branch [
-  | in-Ok w ↦ rw (w.result-is, ← c.self.view_is, c.in-Open.is) (λ start all grew within. rw c.get.ensures.same (Grew-counted start all _ grew block_store _ (Passes-one _ _ w.in-Ok.ensures.watched.0 w.in-Ok.ensures.watched.1)))
-  | in-Err w ↦ rw (w.result-is, ← c.self.view_is, c.in-Open.is) (λ start all grew within. rw (c.get.ensures.same, w.missed_by.ensures) (Loses-missed start all _ grew block_store _ _ _ refl (by_miss Bool _ _ block_store w.in-Err.miss w.in-Err.ensures.watched)))
-]
+returns-clause-goes_on g c = rw (← c.self.view_is, read_same g.FB.Keeps.stored g.FB.Keeps.number g.FB.Keeps.covers g.FB.Wreck.KeepsRuin.left _ _ c.take.ensures.read, read_open g.FB.Keeps.stored g.FB.Keeps.number g.FB.Keeps.covers g.FB.Wreck.KeepsRuin.left _ _ c.take.ensures.read) (λ start all grew within. by_answer c.take.result c.take.ensures.passed c.take.ensures.failed
+    (λ passed. Grew-counted start all _ grew block_store _ passed)
+    (λ e how. Loses-missed start all _ grew block_store _ _ _ refl how))
+
+pub returns-clause-archive : goal.returns-clause-archive
+returns-clause-archive g c = failed_so c.take.result c.take.ensures.failed (λ e how. archive_fault block_store _ _ _ tt how)
+
+pub returns-clause-usual : goal.returns-clause-usual
+returns-clause-usual g c = failed_so c.take.result c.take.ensures.failed (λ e how. usual_fault block_store _ _ _ how)

@@ -1,0 +1,32 @@
+use Rattle.std.proofs.Common.{◌∙◌, ap, inl, inr, refl, subst, sym}
+use Rattle.mar_node.specs.Faults.{cache_store, meta_store}
+use Rattle.mar_node.specs.Held.{Passes}
+use Rattle.mar_node.proofs.Passing.{Passes-one, by_lost}
+use Rattle.mar_shelf.proofs.opening.progress.Goals as goal
+
+pub returns-in-Err-clause-lost : goal.returns-in-Err-clause-lost
+returns-in-Err-clause-lost g c = rw (c.lost_by-fault.ensures.fault, c.lost_by-fault.ensures.wreck) (inl (record { leaves = c.in-Err.ensures.done; cause = by_lost g.M.Meta.watch g.M.Wreck.MetaRuin.watch _ meta_store c.in-Err.lost c.in-Err.ensures.watched }, refl))
+
+pub returns-in-Ok-reopen-clause-pairs : goal.returns-in-Ok-reopen-clause-pairs
+returns-in-Ok-reopen-clause-pairs g c = record {
+  values = g.M.Meta.current c.in-Ok.meta;
+  may = c.in-Ok.ensures.done;
+  now = g.M.Meta.watch c.in-Ok.meta;
+  is = c.new-progress.ensures;
+  passed = Passes-one _ _ c.in-Ok.ensures.watched.0 c.in-Ok.ensures.watched.1;
+  lucky = c.in-Ok.ensures.lucky;
+}
+
+pub returns-in-Ok-reopen-clause-shelf : goal.returns-in-Ok-reopen-clause-shelf
+returns-in-Ok-reopen-clause-shelf g c = Passes-one _ _ c.in-Ok-reopen.ensures.watched.0 c.in-Ok-reopen.ensures.watched.1
+
+pub returns-in-Err-reopen-clause-lost : goal.returns-in-Err-reopen-clause-lost
+returns-in-Err-reopen-clause-lost g c = rw (c.lost_by-fault-in-Err-reopen.ensures.fault, c.lost_by-fault-in-Err-reopen.ensures.wreck) (inr (
+  record {
+    values = g.M.Meta.current c.in-Ok.meta;
+    may = c.in-Ok.ensures.done;
+    is = c.wreck.ensures.left ∙ ap (λ p. p.pairs) c.new-progress.ensures;
+    passed = subst (Passes (g.M.Wreck.MetaRuin.watch c.args.meta)) (sym (c.wreck.ensures.watch ∙ ap (λ p. p.watch) c.new-progress.ensures)) (Passes-one _ _ c.in-Ok.ensures.watched.0 c.in-Ok.ensures.watched.1);
+  },
+  by_lost g.H.Shelf.watch g.H.Wreck.ShelfRuin.watch _ cache_store c.in-Err-reopen.lost c.in-Err-reopen.ensures.watched,
+))
