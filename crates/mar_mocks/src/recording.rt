@@ -11,7 +11,7 @@ ghost use Rattle.mar_mocks.specs.Recorded.{KeepsAll, KeepsPut, KeepsRead};
 ghost use Rattle.mar_node.specs.Stored.{at_own_height, block_of, is_held};
 
 use mar_block::Variant;
-use mar_shelf::{Blocks, BlocksRuin};
+use mar_shelf::{BlockItem, Blocks, Keeps, KeepsRuin};
 use mar_store::{Lost, Miss, RangeSet, SyncTicket};
 use mar_types::Height;
 use std::alloc::{AllocError, Global};
@@ -82,7 +82,7 @@ fn keep_get(recorded: &mut Vec<Op>, height: Option<Height>) -> bool
 }
 
 // What is left of a store that is lost, with what it was asked.
-fn lost_with<W: BlocksRuin>(lost: Lost<W>, recorded: Vec<Op>) -> Lost<RecordingWreck<W>>
+fn lost_with<T, W: KeepsRuin<T>>(lost: Lost<W>, recorded: Vec<Op>) -> Lost<RecordingWreck<W>>
     ensures left { W.left (wreck_of result).inner ≡ W.left (wreck_of lost) }
     ensures heeds { (old : Watch) → LostHeeds W.watch old lost → LostHeeds (λ w. W.watch w.inner) old result }
     ensures put { (old : Watch) → LostOrNot W.watch old lost → LostOrNot (λ w. W.watch w.inner) old result }
@@ -94,7 +94,7 @@ fn lost_with<W: BlocksRuin>(lost: Lost<W>, recorded: Vec<Op>) -> Lost<RecordingW
     }
 }
 
-impl<W: BlocksRuin> BlocksRuin for RecordingWreck<W> {
+impl<T, W: KeepsRuin<T>> KeepsRuin<T> for RecordingWreck<W> {
     ghost left = { λ w. W.left w.inner };
 
     ghost watch = { λ w. W.watch w.inner };
@@ -119,7 +119,7 @@ impl<W: BlocksRuin> BlocksRuin for RecordingWreck<W> {
     }
 }
 
-impl<V: Variant, B: Blocks<V>> Blocks<V> for Recording<B> {
+impl<T, B: Keeps<T>> Keeps<T> for Recording<B> {
     type Wreck = RecordingWreck<B::Wreck>;
 
     ghost stored = { λ s. B.stored s.inner };
@@ -136,6 +136,136 @@ impl<V: Variant, B: Blocks<V>> Blocks<V> for Recording<B> {
 
     ghost last = { λ s. B.last s.inner };
 
+    fn sync(self) -> Result<Self, Lost<RecordingWreck<B::Wreck>>>
+        ensures done { MatchResult result
+            (λ s. Syncs (B.stored self.inner) (B.stored s.inner))
+            (λ l. Fails (left_of (B.stored self.inner)) [] (B.Wreck.left (wreck_of l).inner)) }
+        ensures still { IfErr result (λ l. IfSome (B.watch self.inner).keeps (λ _. B.Wreck.left (wreck_of l).inner ≡ left_of (B.stored self.inner))) }
+        ensures tickets { IfOk result (λ s. B.number self.inner ≤ B.number s.inner) }
+        ensures covers { IfOk result (λ s. KeepsCovers (B.number self.inner) (B.covers self.inner) (B.covers s.inner)) }
+        ensures watched { Heeds (λ s. B.watch s.inner) (λ w. B.Wreck.watch w.inner) (B.watch self.inner) result }
+        ensures recorded { KeepsAll (λ s. s.recorded.items) (λ w. w.recorded.items) self.recorded.items result }
+    {
+        let Recording { inner, recorded } = self;
+        match inner.sync() {
+            Ok(inner) => Ok(Recording { inner, recorded }),
+            Err(lost) => Err(lost_with::<T, B::Wreck>(lost, recorded)),
+        }
+    }
+
+    fn start_sync(self) -> Result<(Self, SyncTicket), Lost<RecordingWreck<B::Wreck>>>
+        ensures done { MatchResult result
+            (λ s. B.stored s.0.inner ≡ B.stored self.inner)
+            (λ l. Fails (left_of (B.stored self.inner)) [] (B.Wreck.left (wreck_of l).inner)) }
+        ensures still { IfErr result (λ l. IfSome (B.watch self.inner).keeps (λ _. B.Wreck.left (wreck_of l).inner ≡ left_of (B.stored self.inner))) }
+        ensures made { IfOk result (λ s. s.1.number ≤ B.number s.0.inner) }
+        ensures covered { IfOk result (λ s. B.covers s.0.inner s.1.number ≡ (B.stored self.inner).held) }
+        ensures tickets { IfOk result (λ s. B.number self.inner ≤ B.number s.0.inner) }
+        ensures covers { IfOk result (λ s. KeepsCovers (B.number self.inner) (B.covers self.inner) (B.covers s.0.inner)) }
+        ensures watched { Heeds (λ s. B.watch s.0.inner) (λ w. B.Wreck.watch w.inner) (B.watch self.inner) result }
+        ensures recorded { KeepsAll (λ s. s.0.recorded.items) (λ w. w.recorded.items) self.recorded.items result }
+    {
+        let Recording { inner, recorded } = self;
+        match inner.start_sync() {
+            Ok((inner, ticket)) => Ok((Recording { inner, recorded }, ticket)),
+            Err(lost) => Err(lost_with::<T, B::Wreck>(lost, recorded)),
+        }
+    }
+
+    fn finish(self, ticket: SyncTicket) -> Result<Self, Lost<RecordingWreck<B::Wreck>>>
+        requires made { ticket.number ≤ B.number self.inner }
+        ensures done { MatchResult result
+            (λ s. Finishes (B.covers self.inner ticket.number) (B.stored self.inner) (B.stored s.inner))
+            (λ l. Fails (left_of (B.stored self.inner)) [] (B.Wreck.left (wreck_of l).inner)) }
+        ensures still { IfErr result (λ l. IfSome (B.watch self.inner).keeps (λ _. B.Wreck.left (wreck_of l).inner ≡ left_of (B.stored self.inner))) }
+        ensures tickets { IfOk result (λ s. B.number self.inner ≤ B.number s.inner) }
+        ensures covers { IfOk result (λ s. KeepsCovers (B.number self.inner) (B.covers self.inner) (B.covers s.inner)) }
+        ensures watched { Heeds (λ s. B.watch s.inner) (λ w. B.Wreck.watch w.inner) (B.watch self.inner) result }
+        ensures recorded { KeepsAll (λ s. s.recorded.items) (λ w. w.recorded.items) self.recorded.items result }
+    {
+        let Recording { inner, recorded } = self;
+        match inner.finish(ticket) {
+            Ok(inner) => Ok(Recording { inner, recorded }),
+            Err(lost) => Err(lost_with::<T, B::Wreck>(lost, recorded)),
+        }
+    }
+
+    fn prune(self, min: Height) -> Result<Self, Lost<RecordingWreck<B::Wreck>>>
+        ensures done { MatchResult result
+            (λ s. Prunes min (B.stored self.inner) (B.stored s.inner))
+            (λ l. Fails (left_of (B.stored self.inner)) [] (B.Wreck.left (wreck_of l).inner)) }
+        ensures still { IfErr result (λ l. IfSome (B.watch self.inner).keeps (λ _. B.Wreck.left (wreck_of l).inner ≡ left_of (B.stored self.inner))) }
+        ensures idle { B.prunes ≡ false → IfOk result (λ s. B.stored s.inner ≡ B.stored self.inner) }
+        ensures unchanged { B.prunes ≡ false → result ≡ Ok self }
+        ensures tickets { IfOk result (λ s. B.number self.inner ≤ B.number s.inner) }
+        ensures covers { IfOk result (λ s. KeepsCoversFrom min (B.number self.inner) (B.covers self.inner) (B.covers s.inner)) }
+        ensures watched { B.prunes ≡ true → Heeds (λ s. B.watch s.inner) (λ w. B.Wreck.watch w.inner) (B.watch self.inner) result }
+        ensures recorded { KeepsAll (λ s. s.recorded.items) (λ w. w.recorded.items) self.recorded.items result }
+    {
+        let Recording { inner, recorded } = self;
+        match inner.prune(min) {
+            Ok(inner) => Ok(Recording { inner, recorded }),
+            Err(lost) => Err(lost_with::<T, B::Wreck>(lost, recorded)),
+        }
+    }
+
+    fn wreck(self) -> RecordingWreck<B::Wreck>
+        ensures left { B.Wreck.left result.inner ≡ left_of (B.stored self.inner) }
+        ensures watch { B.Wreck.watch result.inner ≡ B.watch self.inner }
+        ensures recorded { result.recorded.items ≡ self.recorded.items }
+    {
+        let Recording { inner, recorded } = self;
+        RecordingWreck {
+            inner: inner.wreck(),
+            recorded,
+        }
+    }
+
+    fn reopen(
+        wreck: RecordingWreck<B::Wreck>,
+        luck: u64,
+    ) -> Result<Self, Lost<RecordingWreck<B::Wreck>>>
+        ensures done { MatchResult result
+            (λ s. IsReopened (B.Wreck.left wreck.inner) (B.stored s.inner))
+            (λ l. Fails (B.Wreck.left wreck.inner) [] (B.Wreck.left (wreck_of l).inner)) }
+        ensures still { IfErr result (λ l. IfSome (B.Wreck.watch wreck.inner).keeps (λ _. B.Wreck.left (wreck_of l).inner ≡ B.Wreck.left wreck.inner)) }
+        ensures lucky { IfOk result (λ s. IfSome (B.Wreck.watch wreck.inner).keeps
+            (λ keeps. (B.stored s.inner).held ≡ lucky_found (keeps_by keeps luck) (B.Wreck.left wreck.inner))) }
+        ensures watched { Heeds (λ s. B.watch s.inner) (λ w. B.Wreck.watch w.inner) (B.Wreck.watch wreck.inner) result }
+        ensures recorded { KeepsAll (λ s. s.recorded.items) (λ w. w.recorded.items) wreck.recorded.items result }
+    {
+        let RecordingWreck { inner, recorded } = wreck;
+        match B::reopen(inner, luck) {
+            Ok(inner) => Ok(Recording { inner, recorded }),
+            Err(lost) => Err(lost_with::<T, B::Wreck>(lost, recorded)),
+        }
+    }
+
+    fn arm(&mut self, calls: u64) -> Result<(), AllocError>
+        ensures armed { OnOk result (B.watch self.new.inner ≡ armed calls (B.watch self.old.inner)) }
+        ensures unarmed { OnErr result (B.watch self.new.inner ≡ B.watch self.old.inner) }
+        ensures same { B.stored self.new.inner ≡ B.stored self.old.inner }
+        ensures tickets { B.number self.new.inner ≡ B.number self.old.inner }
+        ensures covers { KeepsCovers (B.number self.old.inner) (B.covers self.old.inner) (B.covers self.new.inner) }
+        ensures recorded { self.new.recorded.items ≡ self.old.recorded.items }
+    {
+        self.inner.arm(calls)
+    }
+
+    fn last_index(&self) -> Option<Height> {
+        self.inner.last_index()
+    }
+
+    fn held_ranges(&self) -> &RangeSet {
+        self.inner.held_ranges()
+    }
+
+    fn sure_ranges(&self) -> &RangeSet {
+        self.inner.sure_ranges()
+    }
+}
+
+impl<V: Variant, B: Blocks<V>> Blocks<V> for Recording<B> {
     ghost own = { λ s. B.own s.inner };
 
     fn get(&mut self, height: Height) -> Result<Option<V::Block>, Miss>
@@ -197,135 +327,7 @@ impl<V: Variant, B: Blocks<V>> Blocks<V> for Recording<B> {
         };
         match inner.put(digest, block) {
             Ok(inner) => Ok(Recording { inner, recorded }),
-            Err(lost) => Err(lost_with(lost, recorded)),
+            Err(lost) => Err(lost_with::<BlockItem<V>, B::Wreck>(lost, recorded)),
         }
-    }
-
-    fn sync(self) -> Result<Self, Lost<RecordingWreck<B::Wreck>>>
-        ensures done { MatchResult result
-            (λ s. Syncs (B.stored self.inner) (B.stored s.inner))
-            (λ l. Fails (left_of (B.stored self.inner)) [] (B.Wreck.left (wreck_of l).inner)) }
-        ensures still { IfErr result (λ l. IfSome (B.watch self.inner).keeps (λ _. B.Wreck.left (wreck_of l).inner ≡ left_of (B.stored self.inner))) }
-        ensures tickets { IfOk result (λ s. B.number self.inner ≤ B.number s.inner) }
-        ensures covers { IfOk result (λ s. KeepsCovers (B.number self.inner) (B.covers self.inner) (B.covers s.inner)) }
-        ensures watched { Heeds (λ s. B.watch s.inner) (λ w. B.Wreck.watch w.inner) (B.watch self.inner) result }
-        ensures recorded { KeepsAll (λ s. s.recorded.items) (λ w. w.recorded.items) self.recorded.items result }
-    {
-        let Recording { inner, recorded } = self;
-        match inner.sync() {
-            Ok(inner) => Ok(Recording { inner, recorded }),
-            Err(lost) => Err(lost_with(lost, recorded)),
-        }
-    }
-
-    fn start_sync(self) -> Result<(Self, SyncTicket), Lost<RecordingWreck<B::Wreck>>>
-        ensures done { MatchResult result
-            (λ s. B.stored s.0.inner ≡ B.stored self.inner)
-            (λ l. Fails (left_of (B.stored self.inner)) [] (B.Wreck.left (wreck_of l).inner)) }
-        ensures still { IfErr result (λ l. IfSome (B.watch self.inner).keeps (λ _. B.Wreck.left (wreck_of l).inner ≡ left_of (B.stored self.inner))) }
-        ensures made { IfOk result (λ s. s.1.number ≤ B.number s.0.inner) }
-        ensures covered { IfOk result (λ s. B.covers s.0.inner s.1.number ≡ (B.stored self.inner).held) }
-        ensures tickets { IfOk result (λ s. B.number self.inner ≤ B.number s.0.inner) }
-        ensures covers { IfOk result (λ s. KeepsCovers (B.number self.inner) (B.covers self.inner) (B.covers s.0.inner)) }
-        ensures watched { Heeds (λ s. B.watch s.0.inner) (λ w. B.Wreck.watch w.inner) (B.watch self.inner) result }
-        ensures recorded { KeepsAll (λ s. s.0.recorded.items) (λ w. w.recorded.items) self.recorded.items result }
-    {
-        let Recording { inner, recorded } = self;
-        match inner.start_sync() {
-            Ok((inner, ticket)) => Ok((Recording { inner, recorded }, ticket)),
-            Err(lost) => Err(lost_with(lost, recorded)),
-        }
-    }
-
-    fn finish(self, ticket: SyncTicket) -> Result<Self, Lost<RecordingWreck<B::Wreck>>>
-        requires made { ticket.number ≤ B.number self.inner }
-        ensures done { MatchResult result
-            (λ s. Finishes (B.covers self.inner ticket.number) (B.stored self.inner) (B.stored s.inner))
-            (λ l. Fails (left_of (B.stored self.inner)) [] (B.Wreck.left (wreck_of l).inner)) }
-        ensures still { IfErr result (λ l. IfSome (B.watch self.inner).keeps (λ _. B.Wreck.left (wreck_of l).inner ≡ left_of (B.stored self.inner))) }
-        ensures tickets { IfOk result (λ s. B.number self.inner ≤ B.number s.inner) }
-        ensures covers { IfOk result (λ s. KeepsCovers (B.number self.inner) (B.covers self.inner) (B.covers s.inner)) }
-        ensures watched { Heeds (λ s. B.watch s.inner) (λ w. B.Wreck.watch w.inner) (B.watch self.inner) result }
-        ensures recorded { KeepsAll (λ s. s.recorded.items) (λ w. w.recorded.items) self.recorded.items result }
-    {
-        let Recording { inner, recorded } = self;
-        match inner.finish(ticket) {
-            Ok(inner) => Ok(Recording { inner, recorded }),
-            Err(lost) => Err(lost_with(lost, recorded)),
-        }
-    }
-
-    fn prune(self, min: Height) -> Result<Self, Lost<RecordingWreck<B::Wreck>>>
-        ensures done { MatchResult result
-            (λ s. Prunes min (B.stored self.inner) (B.stored s.inner))
-            (λ l. Fails (left_of (B.stored self.inner)) [] (B.Wreck.left (wreck_of l).inner)) }
-        ensures still { IfErr result (λ l. IfSome (B.watch self.inner).keeps (λ _. B.Wreck.left (wreck_of l).inner ≡ left_of (B.stored self.inner))) }
-        ensures idle { B.prunes ≡ false → IfOk result (λ s. B.stored s.inner ≡ B.stored self.inner) }
-        ensures unchanged { B.prunes ≡ false → result ≡ Ok self }
-        ensures tickets { IfOk result (λ s. B.number self.inner ≤ B.number s.inner) }
-        ensures covers { IfOk result (λ s. KeepsCoversFrom min (B.number self.inner) (B.covers self.inner) (B.covers s.inner)) }
-        ensures watched { B.prunes ≡ true → Heeds (λ s. B.watch s.inner) (λ w. B.Wreck.watch w.inner) (B.watch self.inner) result }
-        ensures recorded { KeepsAll (λ s. s.recorded.items) (λ w. w.recorded.items) self.recorded.items result }
-    {
-        let Recording { inner, recorded } = self;
-        match inner.prune(min) {
-            Ok(inner) => Ok(Recording { inner, recorded }),
-            Err(lost) => Err(lost_with(lost, recorded)),
-        }
-    }
-
-    fn wreck(self) -> RecordingWreck<B::Wreck>
-        ensures left { B.Wreck.left result.inner ≡ left_of (B.stored self.inner) }
-        ensures watch { B.Wreck.watch result.inner ≡ B.watch self.inner }
-        ensures recorded { result.recorded.items ≡ self.recorded.items }
-    {
-        let Recording { inner, recorded } = self;
-        RecordingWreck {
-            inner: inner.wreck(),
-            recorded,
-        }
-    }
-
-    fn reopen(
-        wreck: RecordingWreck<B::Wreck>,
-        luck: u64,
-    ) -> Result<Self, Lost<RecordingWreck<B::Wreck>>>
-        ensures done { MatchResult result
-            (λ s. IsReopened (B.Wreck.left wreck.inner) (B.stored s.inner))
-            (λ l. Fails (B.Wreck.left wreck.inner) [] (B.Wreck.left (wreck_of l).inner)) }
-        ensures still { IfErr result (λ l. IfSome (B.Wreck.watch wreck.inner).keeps (λ _. B.Wreck.left (wreck_of l).inner ≡ B.Wreck.left wreck.inner)) }
-        ensures lucky { IfOk result (λ s. IfSome (B.Wreck.watch wreck.inner).keeps
-            (λ keeps. (B.stored s.inner).held ≡ lucky_found (keeps_by keeps luck) (B.Wreck.left wreck.inner))) }
-        ensures watched { Heeds (λ s. B.watch s.inner) (λ w. B.Wreck.watch w.inner) (B.Wreck.watch wreck.inner) result }
-        ensures recorded { KeepsAll (λ s. s.recorded.items) (λ w. w.recorded.items) wreck.recorded.items result }
-    {
-        let RecordingWreck { inner, recorded } = wreck;
-        match B::reopen(inner, luck) {
-            Ok(inner) => Ok(Recording { inner, recorded }),
-            Err(lost) => Err(lost_with(lost, recorded)),
-        }
-    }
-
-    fn arm(&mut self, calls: u64) -> Result<(), AllocError>
-        ensures armed { OnOk result (B.watch self.new.inner ≡ armed calls (B.watch self.old.inner)) }
-        ensures unarmed { OnErr result (B.watch self.new.inner ≡ B.watch self.old.inner) }
-        ensures same { B.stored self.new.inner ≡ B.stored self.old.inner }
-        ensures tickets { B.number self.new.inner ≡ B.number self.old.inner }
-        ensures covers { KeepsCovers (B.number self.old.inner) (B.covers self.old.inner) (B.covers self.new.inner) }
-        ensures recorded { self.new.recorded.items ≡ self.old.recorded.items }
-    {
-        self.inner.arm(calls)
-    }
-
-    fn last_index(&self) -> Option<Height> {
-        self.inner.last_index()
-    }
-
-    fn held_ranges(&self) -> &RangeSet {
-        self.inner.held_ranges()
-    }
-
-    fn sure_ranges(&self) -> &RangeSet {
-        self.inner.sure_ranges()
     }
 }

@@ -1,4 +1,4 @@
-use Rattle.mar_mocks.proofs.recording.RecordingBlocks.start_sync.Goals as goal
+use Rattle.mar_mocks.proofs.recording.RecordingKeeps.reopen.Goals as goal
 
 pub returns-in-Err-clause-done : goal.returns-in-Err-clause-done
 returns-in-Err-clause-done g c = rw c.lost_with.ensures.left c.in-Err.ensures.done
