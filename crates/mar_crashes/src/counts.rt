@@ -2,8 +2,7 @@
 //! often what the sync that failed was to make durable.
 use crate::play::{crashed, disk_of, play};
 use crate::script::{Lists, Step};
-use mar_journal::MemDisk;
-use mar_plays::Marks;
+use mar_plays::{Marks, MemDisk};
 use std::alloc::{AllocError, Global};
 
 // Half of them keep the first write since the last sync: the gate, where that is all there is.

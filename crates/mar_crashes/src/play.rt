@@ -1,7 +1,7 @@
 //! Plays a script on an archive, over a disk in memory.
 use crate::script::{Lists, Step};
-use mar_journal::{Disk, MemDisk};
-use mar_plays::{Mark, Marks};
+use mar_journal::Disk;
+use mar_plays::{Mark, Marks, MemDisk};
 use mar_store::Lost;
 use std::alloc::{AllocError, Global};
 

@@ -1,7 +1,6 @@
 //! So many records put in order, a sync behind each so many of them, and then crashes and openings.
 use crate::text::ranges_text;
-use mar_journal::MemDisk;
-use mar_plays::{Mark, Marks};
+use mar_plays::{Mark, Marks, MemDisk};
 use mar_store::Lost;
 use std::alloc::{AllocError, Global};
 

@@ -5,8 +5,7 @@ ghost use Rattle.std.specs.Prelude.{◌≡◌, []};
 use crate::play::{crashed, disk_of};
 use crate::script::Step;
 use crate::text::bytes_text;
-use mar_journal::MemDisk;
-use mar_plays::Store;
+use mar_plays::{MemDisk, Store};
 use mar_store::Lost;
 use std::alloc::{AllocError, Global};
 

@@ -1,15 +1,9 @@
-mod Frames
-mod Crash
-mod Moments
-mod Calls
+pub mod Frames
+pub mod Crash
+pub mod Moments
 mod Appending
-mod MetaSteps
 mod Bytes
-mod Bodies
+pub mod Bodies
 mod Opening
 mod Heads
-mod WritingAll
-mod Replays
-mod ArchiveSteps
-mod Fronts
-mod Marks
+pub mod WritingAll

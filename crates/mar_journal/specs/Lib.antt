@@ -2,14 +2,9 @@ pub mod Disk
 pub mod Format
 pub mod Records
 pub mod Journal
-pub mod Calls
-pub mod CallLemmas
 pub mod Numbers
 pub mod MetaRecords
 pub mod MetaLemmas
-pub mod Watches
-pub mod MetaStore
 pub mod ArchiveRecords
 pub mod ArchiveLemmas
 pub mod Heads
-pub mod ArchiveStore

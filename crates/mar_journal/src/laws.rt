@@ -1,44 +1,12 @@
-//! What files stand for, and how moments add up: laws that callers rest on, each the contract of a function.
-ghost use Rattle.std.specs.Prelude.{◌≡◌, ◌<◌, ◌≤◌, ◌++◌, ℕ, List, length, take};
-ghost use Rattle.std.specs.List.{AllByRecursion};
-ghost use Rattle.mar_store.specs.Changes.{KeepsValues, Within};
-ghost use Rattle.mar_store.specs.Kept.{At};
-ghost use Rattle.mar_store.specs.Values.{Values};
-ghost use Rattle.mar_journal.specs.ArchiveStore.{IsFront, StaysFound};
-ghost use Rattle.mar_journal.specs.Disk.{LeavesOnly};
+//! What files stand for: a law that callers rest on.
+ghost use Rattle.std.specs.Prelude.{◌≡◌, ℕ, List};
 ghost use Rattle.mar_journal.specs.Format.{IsDamaged, Stands};
-ghost use Rattle.mar_journal.specs.MetaStore.{IsMetaFile};
 
-use crate::{Disk, JournalItem, Record};
+use crate::Record;
 
 /// A file stands for one list of records at most, and for none where it is damaged; it is damaged at one place at most.
 pub fn files_have_one_meaning<R: Record>()
     ensures one { (records other : List R) (file : List ℕ) → Stands R.spelled R.valid records file → Stands R.spelled R.valid other file → records ≡ other }
     ensures whole { (records : List R) (at : ℕ) (file : List ℕ) → Stands R.spelled R.valid records file → IsDamaged R.spelled R.valid at file → ⊥ }
     ensures place { (at other : ℕ) (file : List ℕ) → IsDamaged R.spelled R.valid at file → IsDamaged R.spelled R.valid other file → at ≡ other }
-{}
-
-/// How the moments of an archive's calls add up to those of a run of them: of one call and of those behind it a crash leaves
-/// a file in which a reopening finds what is sure all along, and nothing but what may be left at some time.
-pub fn archive_moments_add_up<T: JournalItem, D: Disk>()
-    ensures { (old mid new : D) (sure may less more still all : List (At T))
-        → StaysFound T.name T.spelled T.fits D.moment D.left_since old mid sure may
-        → StaysFound T.name T.spelled T.fits D.moment D.left_since mid new less more
-        → KeepsValues still sure → KeepsValues still less → Within may all → Within more all
-        → StaysFound T.name T.spelled T.fits D.moment D.left_since old new still all }
-{}
-
-/// The same of metadata.
-pub fn metadata_moments_add_up<D: Disk>()
-    ensures { (old mid new : D) (left later all : List Values) → LeavesOnly D.moment D.left_since old mid (IsMetaFile left)
-        → LeavesOnly D.moment D.left_since mid new (IsMetaFile later) → Within left all → Within later all
-        → LeavesOnly D.moment D.left_since old new (IsMetaFile all) }
-{}
-
-/// A ticket that finishes writes the records that waited when it was given out, and no more. Of those before it the marks
-/// are up to its number (`start_sync`: `waiting`), of the puts behind it they are above (`put`: `marked`); and just those up
-/// to its number are written (`finish`: `written`).
-pub fn tickets_write_what_came_before()
-    ensures { (t count : ℕ) (before later : List ℕ) → AllByRecursion (λ n. n ≤ t) before → AllByRecursion (λ n. t < n) later
-        → IsFront t (before ++ later) count → AllByRecursion (λ n. n ≤ t) (take count (before ++ later)) → count ≡ length before }
 {}

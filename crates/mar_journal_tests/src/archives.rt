@@ -1,7 +1,7 @@
 //! Archives that are journals, on disks in memory.
 use crate::crashes::{armed, opened, reopened};
-use mar_journal::{MemDisk, Unopened};
-use mar_plays::{Mark, Marks, OnDisk, Store};
+use mar_journal::Unopened;
+use mar_plays::{Mark, Marks, MemDisk, OnDisk, Store};
 use mar_store::Lost;
 use std::alloc::Global;
 

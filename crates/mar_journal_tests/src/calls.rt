@@ -1,8 +1,7 @@
 //! How often a journal writes, syncs and reads, on a disk in memory. No function here has a clause, so a test that calls one
 //! has nothing to carry.
 use crate::crashes::opened;
-use mar_journal::{DiskCall, MemDisk};
-use mar_plays::{Mark, Marks, OnDisk};
+use mar_plays::{DiskCall, Mark, Marks, MemDisk, OnDisk};
 use std::alloc::Global;
 
 // The disk of a new archive in which so many values were put and then synced once.

@@ -1,8 +1,7 @@
 //! Stores on a disk whose calls fail, and what a crash leaves of them.
 ghost use Rattle.std.specs.Prelude.{◌≡◌, [], IfSome};
 
-use mar_journal::MemDisk;
-use mar_plays::Store;
+use mar_plays::{MemDisk, Store};
 use mar_store::Lost;
 use std::alloc::Global;
 

@@ -1,8 +1,9 @@
 //! An archive on a disk in memory.
 ghost use Rattle.std.specs.Prelude.{◌≤◌, ℕ, [], IfOk};
 
-use crate::{Mark, Store};
-use mar_journal::{JournalArchive, JournalArchiveWreck, MemDisk, Unopened};
+use crate::{Mark, MemDisk, Store};
+use mar_durable::{JournalArchive, JournalArchiveWreck};
+use mar_journal::Unopened;
 use mar_store::{Archive, ArchiveRuin, Identifier, Lost, RangeSet, SyncTicket};
 use std::alloc::Global;
 

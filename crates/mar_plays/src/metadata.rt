@@ -2,8 +2,9 @@
 ghost use Rattle.std.specs.Prelude.{◌≡◌, ◌<◌, [], length, IfOk};
 ghost use Rattle.mar_store.specs.Values.{others_of, with_key};
 
-use crate::Store;
-use mar_journal::{JournalMeta, JournalMetaWreck, MemDisk, Unopened};
+use crate::{MemDisk, Store};
+use mar_durable::{JournalMeta, JournalMetaWreck};
+use mar_journal::Unopened;
 use mar_store::{Lost, Meta, MetaRuin};
 use std::alloc::Global;
 

@@ -1,7 +1,8 @@
 //! A store on a disk in memory.
 ghost use Rattle.std.specs.Prelude.{◌≡◌, [], List, ℕ, IfOk};
 
-use mar_journal::{MemDisk, Unopened};
+use crate::MemDisk;
+use mar_journal::Unopened;
 use mar_store::Lost;
 use std::alloc::Global;
 

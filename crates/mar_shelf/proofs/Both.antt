@@ -45,15 +45,21 @@ module _ {S W R X : Type 0} (stored : S → Kept (At Block)) (left : W → Left 
     writes = writes;
     watches = record { blocks = watch_at watch watch_left old; certs = watch_at watch_2 watch_left_2 old_2; meta = meta; cache = cache };
     intact = intact;
-  }) → Loses start all (record { fault = fault; remains = record {
-    ended = ended_of (left_of (kept_at stored left new)) (left_of (kept_at stored_2 left_2 new_2)) pairs;
-    watches = record { blocks = watch_at watch watch_left new; certs = watch_at watch_2 watch_left_2 new_2; meta = meta; cache = cache };
-  } })
+  }) → Loses start all (record {
+    fault = fault;
+    remains = record {
+      ended = ended_of (left_of (kept_at stored left new)) (left_of (kept_at stored_2 left_2 new_2)) pairs;
+      watches = record { blocks = watch_at watch watch_left new; certs = watch_at watch_2 watch_left_2 new_2; meta = meta; cache = cache };
+    };
+  })
   both_lose start all {pairs = pairs} {meta = meta} {cache = cache} grew = by fails
     where
-      by : FailsBoth stored left watch watch_left stored_2 left_2 watch_2 watch_left_2 old new old_2 new_2 fault → Loses start all (record { fault = fault; remains = record {
-        ended = ended_of (left_of (kept_at stored left new)) (left_of (kept_at stored_2 left_2 new_2)) pairs;
-        watches = record { blocks = watch_at watch watch_left new; certs = watch_at watch_2 watch_left_2 new_2; meta = meta; cache = cache };
-      } })
+      by : FailsBoth stored left watch watch_left stored_2 left_2 watch_2 watch_left_2 old new old_2 new_2 fault → Loses start all (record {
+        fault = fault;
+        remains = record {
+          ended = ended_of (left_of (kept_at stored left new)) (left_of (kept_at stored_2 left_2 new_2)) pairs;
+          watches = record { blocks = watch_at watch watch_left new; certs = watch_at watch_2 watch_left_2 new_2; meta = meta; cache = cache };
+        };
+      })
       by (inl (failed, same)) = rw same (Loses-blocks start all _ grew _ _ fault _ (WithinWritten-nothing all).blocks failed.fails failed.cause)
       by (inr (surer, failed)) = Loses-certs start all _ (Grew-surer_blocks start all _ grew _ _ surer.nested surer.surer surer.passed) _ _ fault _ (WithinWritten-nothing all).certs failed.fails failed.cause

@@ -65,10 +65,7 @@ impl<T: Item, A: Archive<T>, P: Pruning> Keeps<T> for Archived<A, P> {
         Wreck::new(self.archive.wreck())
     }
 
-    fn reopen(
-        wreck: Wreck<T, A::Wreck>,
-        luck: u64,
-    ) -> Result<Self, Lost<Wreck<T, A::Wreck>>> {
+    fn reopen(wreck: Wreck<T, A::Wreck>, luck: u64) -> Result<Self, Lost<Wreck<T, A::Wreck>>> {
         wrapped(A::reopen(wreck.ruin, luck))
     }
 

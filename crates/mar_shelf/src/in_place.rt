@@ -102,10 +102,7 @@ pub fn finish<T, S: Keeps<T>, C: Named>(
 }
 
 /// Makes a counted call fail of the store, or of what is left of it.
-pub fn arm<T, S: Keeps<T>>(
-    place: &mut Place<S, S::Wreck>,
-    calls: u64,
-) -> Result<(), AllocError>
+pub fn arm<T, S: Keeps<T>>(place: &mut Place<S, S::Wreck>, calls: u64) -> Result<(), AllocError>
     requires { is_there place.old ≡ true }
     ensures armed { OnOk result (watch_at S.watch S.Wreck.watch place.new ≡ armed calls (watch_at S.watch S.Wreck.watch place.old)) }
     ensures unarmed { OnErr result (watch_at S.watch S.Wreck.watch place.new ≡ watch_at S.watch S.Wreck.watch place.old) }

@@ -112,7 +112,8 @@ impl<
             CertificateItem<V, F>,
             FC,
             V::Commitment,
-        >(blocks, certs, luck) {
+        >(blocks, certs, luck)
+        {
             Ok(archives) => archives,
             Err(unopened) => {
                 let Unopened {
@@ -252,12 +253,7 @@ impl<
     }
 
     fn put_block(&mut self, block: V::Block) -> Result<(), Fault<V::Commitment>> {
-        blocks_in_place::put::<V, FB>(
-            &mut self.blocks,
-            &mut self.writes,
-            &mut self.staged,
-            block,
-        )
+        blocks_in_place::put::<V, FB>(&mut self.blocks, &mut self.writes, &mut self.staged, block)
     }
 
     fn put_certificate(

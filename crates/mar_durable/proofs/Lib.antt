@@ -1,0 +1,6 @@
+mod Watching
+mod MetaSteps
+mod Replays
+mod ArchiveSteps
+mod Fronts
+mod Marks
