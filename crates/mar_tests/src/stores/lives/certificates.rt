@@ -4,7 +4,7 @@ ghost use Rattle.mar_cert.specs.Finalization.{finalization_bytes};
 ghost use Rattle.mar_store.specs.Sizes.{IsSmall};
 
 use super::{AtReopening, InLife, KEPT, Life, Nowhere, PRUNED, Row, are, lives_of};
-use crate::stores::{Immutable, Prunable, immutable_store, prunable_store};
+use crate::stores::{immutable_store, prunable_store};
 use mar_block::{StandardBlocks, Variant};
 use mar_cert::{AsFinalization, CommitsTo, MockCertificate, MockFinalization, Proposal};
 use mar_shelf::{CertificateItem, Certificates};
@@ -112,20 +112,12 @@ fn is_lived<S: Certificates<StandardBlocks, MockFinalization>>(
 
 type Item = CertificateItem<StandardBlocks, MockFinalization>;
 
-fn kept(alloc: Global) -> Immutable<Item> {
-    immutable_store(alloc)
-}
-
-fn pruned(alloc: Global) -> Prunable<Item> {
-    prunable_store(alloc)
-}
-
 fn is_lived_keeping(alloc: Global, finalizations: &[MockFinalization; 3], life: Life) -> bool {
-    is_lived(kept(alloc), finalizations, life)
+    is_lived(immutable_store::<Item>(alloc), finalizations, life)
 }
 
 fn is_lived_pruning(alloc: Global, finalizations: &[MockFinalization; 3], life: Life) -> bool {
-    is_lived(pruned(alloc), finalizations, life)
+    is_lived(prunable_store::<Item>(alloc), finalizations, life)
 }
 
 fn live_pruning(
