@@ -212,7 +212,8 @@ impl<T: JournalItem, D: Disk> Archive<T> for JournalArchive<T, D> {
         ensures written { IfOk result (λ s. (count : ℕ) × IsFront ticket.number self.log.marks.items count
             × AllByRecursion (λ n. n ≤ ticket.number) (take count self.log.marks.items)
             × (s.log.waiting.items ≡ drop count self.log.waiting.items) × (s.log.marks.items ≡ drop count self.log.marks.items)
-            × ∥ Adds (archive_bytes T.name T.spelled) (IsArchived T.fits T.spelled) D.seen D.may_leave (take count self.log.waiting.items) self.log.disk s.log.disk ∥₁) }
+            × ∥ Adds (archive_bytes T.name T.spelled) (IsArchived T.fits T.spelled) D.seen D.may_leave (take count self.log.waiting.items)
+            self.log.disk s.log.disk ∥₁) }
         ensures idle { AllByRecursion (λ n. ticket.number < n) self.log.marks.items
             → MatchResult result (λ s. s.log.disk ≡ self.log.disk) (λ l. (wreck_of l).disk ≡ self.log.disk) }
         ensures cause { IfErr result (HasFaultCause (λ w. D.faults w.disk) self.alarm.due.items (D.faults self.log.disk)) }
