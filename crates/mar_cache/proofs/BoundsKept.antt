@@ -7,7 +7,7 @@ use Rattle.mar_store.specs.declared.Lost.{Lost}
 use Rattle.mar_store.specs.Changes.{Within}
 use Rattle.mar_store.specs.Values.{LeavesValues, SetsValue, Values}
 use Rattle.mar_cache.specs.Bounds.{Bounds, LeavesBounds, bounds_of}
-use Rattle.mar_cache.proofs.Filtering.{contains_more, contains_none}
+use Rattle.mar_epochs.proofs.Filtering.{contains_more, contains_none}
 
 pub contains_map : {A B : Type 0} (f : A → B) (xs : List A) (x : A) → Contains xs x → Contains (map f xs) (f x)
 contains_map f [] x has = contains_none x has

@@ -1,9 +1,4 @@
 pub mod Exits
-pub mod Filtering
-pub mod Places
-pub mod EpochArchivesChanges
-pub mod Draws
-pub mod Leaving
 pub mod BoundsKept
 pub mod Shelving
 pub mod Thinning
@@ -11,6 +6,4 @@ pub mod Views
 pub mod Plainly
 pub mod Within
 pub mod Watched
-pub mod Spotting
-pub mod Indexing
 pub mod Looking

@@ -6,11 +6,11 @@ use Rattle.mar_types.specs.Round.{Round}
 use Rattle.mar_cert.specs.Block.{Block}
 use Rattle.mar_cert.specs.Finalization.{Finalization, Notarization}
 use Rattle.mar_node.specs.Cached.{Cached, cached_block, finalization_entry, notarization_entry}
-use Rattle.mar_cache.specs.Sections.{earlier_of, first_found, stands_before}
-use Rattle.mar_cache.specs.EpochStates.{EpochStates, IsNewest, held_in}
-use Rattle.mar_cache.specs.Entries.{block_in, cached_of, finalization_in, is_for, is_notarization_at, notarization_in}
-use Rattle.mar_cache.specs.declared.entry.Entry.{Entry}
-use Rattle.mar_cache.specs.declared.entry.Entry.TheVariants.{Certified, Finalization as OfFinalization, Notarization as OfNotarization, Notarized, Verified}
+use Rattle.mar_epochs.specs.Sections.{earlier_of, first_found, stands_before}
+use Rattle.mar_epochs.specs.EpochStates.{EpochStates, IsNewest, held_in}
+use Rattle.mar_epochs.specs.Entries.{block_in, cached_of, finalization_in, is_for, is_notarization_at, notarization_in}
+use Rattle.mar_epochs.specs.declared.Entry.{Entry}
+use Rattle.mar_epochs.specs.declared.Entry.TheVariants.{Certified, Finalization as OfFinalization, Notarization as OfNotarization, Notarized, Verified}
 
 same_found : (p : Cached → Bool) (x y : Cached) → Some x ≡ Some y → p y ≡ true → p x ≡ true
 same_found p x y is passes = ap (λ o. is_passing o) is ∙ passes

@@ -2,12 +2,12 @@
 use Rattle.std.proofs.Common.{List, [], ◌∷◌, None, Some, map, Option}
 use Rattle.mar_node.specs.Cached.{Cached, epoch_of}
 use Rattle.mar_cache.specs.Calls.{IsPut, IsPutAndSynced}
-use Rattle.mar_cache.specs.Sections.{section_of}
+use Rattle.mar_epochs.specs.Sections.{section_of}
 use Rattle.mar_cache.specs.Shelved.{AllChanges, DoesAt, finishes, finishes_second}
-use Rattle.mar_cache.specs.EpochStates.{ChangesEpoch, EpochState, EpochStates, opened, shut, unknown}
-use Rattle.mar_cache.specs.EpochArchives.{Book, ChangesArchives}
-use Rattle.mar_cache.specs.declared.change.Change.{Change}
-use Rattle.mar_cache.specs.declared.change.Change.TheVariants.{Finish, PruneBelow, PruneCertified, Put, Sync}
+use Rattle.mar_epochs.specs.EpochStates.{ChangesEpoch, EpochState, EpochStates, opened, shut, unknown}
+use Rattle.mar_epochs.specs.EpochArchives.{Book, ChangesArchives}
+use Rattle.mar_epochs.specs.declared.Change.{Change}
+use Rattle.mar_epochs.specs.declared.Change.TheVariants.{Finish, PruneBelow, PruneCertified, Put, Sync}
 use Rattle.mar_cache.specs.declared.started.CacheTicket.{CacheTicket}
 use Rattle.mar_cache.specs.declared.started.SectionSync.{SectionSync}
 

@@ -8,14 +8,14 @@ use Rattle.mar_store.specs.Lost.{wreck_of}
 use Rattle.mar_store.specs.declared.Lost.{Lost}
 use Rattle.mar_store.proofs.Lookups.{AllByRecursion-weaker}
 use Rattle.mar_node.specs.Cached.{Cached, same_place}
-use Rattle.mar_cache.specs.EpochArchives.{Book, held_after, is_kept, puts_of}
-use Rattle.mar_cache.specs.declared.section.Section.{Section}
+use Rattle.mar_epochs.specs.EpochArchives.{Book, held_after, is_kept, puts_of}
+use Rattle.mar_epochs.specs.declared.Section.{Section}
 use Rattle.mar_cache.specs.declared.started.Started.TheVariants.{Ready, Ticket}
-use Rattle.mar_cache.specs.EpochStates.{ChangesEpoch, IsTicket, IsNestedEpoch, MightBe, is_opened, KeepsOtherEpochs, LeavesEpoch, LosesEpoch, OpensEpoch, EpochState, EpochStates, left_of_epoch, opened, shut, unknown}
+use Rattle.mar_epochs.specs.EpochStates.{ChangesEpoch, IsTicket, IsNestedEpoch, MightBe, is_opened, KeepsOtherEpochs, LeavesEpoch, LosesEpoch, OpensEpoch, EpochState, EpochStates, left_of_epoch, opened, shut, unknown}
 use Rattle.mar_cache.specs.Shelved.{AllChanges, at_epoch, IsStarted, DoesAt, OpensOrStays, GrowsEpoch, GrowsEpochs, LeavesEpochs}
-use Rattle.mar_cache.specs.declared.change.Change.{Change}
-use Rattle.mar_cache.specs.declared.change.Change.TheVariants.{Finish, PruneBelow, PruneCertified, Put, Sync}
-use Rattle.mar_cache.proofs.Filtering.{contains_more, contains_none}
+use Rattle.mar_epochs.specs.declared.Change.{Change}
+use Rattle.mar_epochs.specs.declared.Change.TheVariants.{Finish, PruneBelow, PruneCertified, Put, Sync}
+use Rattle.mar_epochs.proofs.Filtering.{contains_more, contains_none}
 
 pub filter_contains : {A : Type 0} (test : A → Bool) (xs : List A) (x : A) → Contains xs x → test x ≡ true → Contains (filter test xs) x
 filter_contains test [] x has passes = has

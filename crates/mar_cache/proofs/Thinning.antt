@@ -3,12 +3,12 @@ use Rattle.std.proofs.Common.{◌≡◌, ◌⊎◌, inl, inr, ◌≤◌, ◌<◌
 use Rattle.std.proofs.lemmas.Bool.{cases_eq}
 use Rattle.mar_node.specs.Cached.{Cached}
 use Rattle.mar_node.specs.Cache.{is_certified_below}
-use Rattle.mar_cache.specs.EpochArchives.{held_after, is_kept, puts_of}
-use Rattle.mar_cache.specs.EpochStates.{ChangesEpoch, EpochState, EpochStates, HasSome, KeepsOtherEpochs, held_in, is_opened, opened, shut, unknown}
+use Rattle.mar_epochs.specs.EpochArchives.{held_after, is_kept, puts_of}
+use Rattle.mar_epochs.specs.EpochStates.{ChangesEpoch, EpochState, EpochStates, HasSome, KeepsOtherEpochs, held_in, is_opened, opened, shut, unknown}
 use Rattle.mar_cache.specs.Shelved.{IsClear, KeepsTickets, ThinsEpoch}
-use Rattle.mar_cache.specs.declared.change.Change.{Change}
-use Rattle.mar_cache.specs.declared.change.Change.TheVariants.{PruneCertified}
-use Rattle.mar_cache.proofs.Filtering.{contains_more, contains_none}
+use Rattle.mar_epochs.specs.declared.Change.{Change}
+use Rattle.mar_epochs.specs.declared.Change.TheVariants.{PruneCertified}
+use Rattle.mar_epochs.proofs.Filtering.{contains_more, contains_none}
 use Rattle.mar_cache.proofs.Shelving.{changes_grows, filter_contains, grows_itself, grows_then, index_default}
 
 within_filter : (p : Cached → Bool) (xs : List Cached) (x : Cached) → Contains (filter p xs) x → Contains xs x

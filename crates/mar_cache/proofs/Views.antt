@@ -7,14 +7,14 @@ use Rattle.mar_types.specs.Round.{Round}
 use Rattle.mar_store.specs.Changes.{Within}
 use Rattle.mar_store.specs.Lost.{wreck_of}
 use Rattle.mar_store.specs.declared.Lost.{Lost}
-use Rattle.mar_cache.specs.declared.change.Change.TheVariants.{PruneBelow}
+use Rattle.mar_epochs.specs.declared.Change.TheVariants.{PruneBelow}
 use Rattle.mar_store.proofs.Lookups.{AllByRecursion-weaker}
 use Rattle.mar_node.specs.Cached.{Cached}
 use Rattle.mar_node.specs.Cache.{is_below}
-use Rattle.mar_cache.specs.EpochStates.{ChangesEpoch, DestroysOrNot, EpochState, EpochStates, HasSome, IsBare, IsLeftOrBare, IsNestedEpoch, KeepsOtherEpochs, LeavesEpoch, LosesEpoch, left_of_epoch, opened, shut, unknown}
+use Rattle.mar_epochs.specs.EpochStates.{ChangesEpoch, DestroysOrNot, EpochState, EpochStates, HasSome, IsBare, IsLeftOrBare, IsNestedEpoch, KeepsOtherEpochs, LeavesEpoch, LosesEpoch, left_of_epoch, opened, shut, unknown}
 use Rattle.mar_cache.specs.Shelved.{DropsOlder, LeavesEpochs, is_pruned_by, pruned_bounds}
 use Rattle.mar_cache.specs.Bounds.{Bounds, LeavesBounds}
-use Rattle.mar_cache.proofs.Filtering.{contains_none, or_false_right}
+use Rattle.mar_epochs.proofs.Filtering.{contains_none, or_false_right}
 use Rattle.mar_cache.proofs.Shelving.{index_default, leaves_itself}
 
 -- nothing is left of an epoch, or something

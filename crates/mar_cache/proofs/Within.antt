@@ -13,8 +13,8 @@ use Rattle.mar_store.proofs.Lookups.{AllByRecursion-contains, AllByRecursion-wea
 use Rattle.mar_node.specs.Cached.{Cached}
 use Rattle.mar_cache.specs.Bounds.{Bounds, includes}
 use Rattle.mar_cache.specs.Shelved.{AllLieWithin, DropsOlder, LieWithin, pruned_bounds, raised}
-use Rattle.mar_cache.specs.EpochStates.{ChangesEpoch, DestroysOrNot, EpochState, EpochStates, HasSome, IsBare, IsLeftOrBare, KeepsOtherEpochs, LosesEpoch, MightBe, OpensEpoch, is_opened, left_of_epoch, opened, shut, unknown}
-use Rattle.mar_cache.specs.declared.change.Change.{Change}
+use Rattle.mar_epochs.specs.EpochStates.{ChangesEpoch, DestroysOrNot, EpochState, EpochStates, HasSome, IsBare, IsLeftOrBare, KeepsOtherEpochs, LosesEpoch, MightBe, OpensEpoch, is_opened, left_of_epoch, opened, shut, unknown}
+use Rattle.mar_epochs.specs.declared.Change.{Change}
 
 -- AN EPOCH LIES WITHIN BOUNDS
 

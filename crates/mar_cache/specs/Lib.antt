@@ -1,12 +1,3 @@
-pub mod Sections
-pub mod EpochArchives
-pub mod EntryLogs
-pub mod Props
-pub mod Laws
-pub mod EpochStates
 pub mod Bounds
 pub mod Shelved
-pub mod Entries
 pub mod Calls
-pub mod Spots
-pub mod EntryKeys

@@ -9,15 +9,15 @@ use Rattle.mar_store.specs.declared.Alarm.{Alarm}
 use Rattle.mar_node.specs.Cached.{Cached}
 use Rattle.mar_node.specs.Cache.{is_below}
 use Rattle.mar_cache.specs.Bounds.{Bounds, LeavesBounds, includes}
-use Rattle.mar_cache.specs.EpochStates.{ChangesEpoch, EpochState, EpochStates, HasSome, IsBare, KeepsOtherEpochs, LeavesEpoch, OpensEpoch, held_in, is_known, is_opened, may_in, opened, sure_in}
-use Rattle.mar_cache.specs.declared.change.Change.{Change}
-use Rattle.mar_cache.specs.declared.change.Change.TheVariants.{Finish}
-use Rattle.mar_cache.specs.declared.section.Section.{Section}
+use Rattle.mar_epochs.specs.EpochStates.{ChangesEpoch, EpochState, EpochStates, HasSome, IsBare, KeepsOtherEpochs, LeavesEpoch, OpensEpoch, held_in, is_known, is_opened, may_in, opened, sure_in}
+use Rattle.mar_epochs.specs.declared.Change.{Change}
+use Rattle.mar_epochs.specs.declared.Change.TheVariants.{Finish}
+use Rattle.mar_epochs.specs.declared.Section.{Section}
 use Rattle.mar_cache.specs.declared.started.Started.{Started}
 use Rattle.mar_cache.specs.declared.started.Started.TheVariants.{Ready, Ticket}
 use Rattle.mar_cache.specs.declared.started.CacheTicket.{CacheTicket}
 use Rattle.mar_cache.specs.declared.started.SectionSync.{SectionSync}
-use Rattle.mar_cache.specs.Sections.{is_in}
+use Rattle.mar_epochs.specs.Sections.{is_in}
 
 -- What a shelf has of each epoch, its lowest and highest epoch, what a crash can leave of those two, and what it tells of
 -- its failures.

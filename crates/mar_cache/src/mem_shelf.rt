@@ -1,13 +1,12 @@
 //! A cache in memory.
 ghost use Rattle.std.specs.Prelude.{◌≡◌, ℕ, []};
-ghost use Rattle.mar_cache.specs.EpochStates.{IsBare, state_under};
+ghost use Rattle.mar_epochs.specs.EpochStates.{IsBare, state_under};
 
-use crate::as_entry::KeyedEntry;
-use crate::depot_epochs::DepotEpochs;
-use crate::epoch_archives::{EpochArchives, EpochArchivesDepot};
-use crate::epochs::Epochs;
 use crate::manager::Manager;
-use crate::mem_epoch_archives::{MemEpochArchives, MemEpochArchivesWreck};
+use mar_epochs::{
+    DepotEpochs, EpochArchives, EpochArchivesDepot, Epochs, KeyedEntry, MemEpochArchives,
+    MemEpochArchivesWreck,
+};
 use mar_store::{MemDepot, MemMeta};
 use std::alloc::Global;
 

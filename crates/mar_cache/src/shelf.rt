@@ -8,21 +8,20 @@ ghost use Rattle.mar_node.specs.Cached.{Cached, cached_block, certified_entry, e
 ghost use Rattle.mar_node.specs.Cache.{is_certified_below};
 ghost use Rattle.mar_cache.specs.Bounds.{Bounds, bounds_of, includes};
 ghost use Rattle.mar_cache.specs.Calls.{IsPut, IsPutAndSynced, PutBounds, PutLeaves, Raises};
-ghost use Rattle.mar_cache.specs.Entries.{cached_of, has_digest, is_for, is_notarization_at, is_sought, is_verified_at, sought_block};
-ghost use Rattle.mar_cache.specs.Sections.{first_found, section_of};
+ghost use Rattle.mar_epochs.specs.Entries.{cached_of, has_digest, is_for, is_notarization_at, is_sought, is_verified_at, sought_block};
+ghost use Rattle.mar_epochs.specs.Sections.{first_found, section_of};
 ghost use Rattle.mar_cache.specs.Shelved.{AllChanges, AllLieWithin, IsClear, IsStarted, LeavesEpochs, LieWithin, OpensOrStays, ThinsEpoch, at_epoch, finishes};
 ghost use Rattle.mar_cache.specs.Shelved.{is_pruned_by, nothing_gone, pruned_bounds, shelf_watch};
-ghost use Rattle.mar_cache.specs.EpochStates.{ChangesEpoch, EpochStates, HasSome, IsBare, IsLeftOrBare, IsNewest, KeepsOtherEpochs, MightBe};
-ghost use Rattle.mar_cache.specs.EpochStates.{held_in, is_opened, left_of_epoch};
+ghost use Rattle.mar_epochs.specs.EpochStates.{ChangesEpoch, EpochStates, HasSome, IsBare, IsLeftOrBare, IsNewest, KeepsOtherEpochs, MightBe};
+ghost use Rattle.mar_epochs.specs.EpochStates.{held_in, is_opened, left_of_epoch};
 
-use crate::change::Change;
-use crate::entry::{BlockName, Entry, KeptEntry, Sought, sought_block};
-use crate::epochs::{Epochs, EpochsRuin};
 use crate::manager::{Manager, ManagerWreck};
-use crate::section::Section;
 use crate::started::{CacheTicket, Started};
 use mar_block::Variant;
 use mar_cert::{AsFinalization, CommitsTo};
+use mar_epochs::{
+    BlockName, Change, Entry, Epochs, EpochsRuin, KeptEntry, Section, Sought, sought_block,
+};
 use mar_store::{Lost, Meta, MetaRuin, Miss};
 use mar_types::{Epoch, Height, Round};
 use std::alloc::AllocError;

@@ -1,7 +1,7 @@
 //! Syncs of a cache that were started.
 ghost use Rattle.std.specs.Prelude.{◌≡◌, None, Some};
 
-use crate::section::Section;
+use mar_epochs::Section;
 
 /// A sync of one archive that was started: it covers what that archive held then.
 #[derive(Clone, Copy, Debug, PartialEq, Eq)]

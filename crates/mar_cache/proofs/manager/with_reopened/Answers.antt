@@ -3,7 +3,8 @@ use Rattle.mar_cache.specs.Bounds.{bounds_of}
 use Rattle.mar_store.specs.Watch.{after_call}
 use Rattle.mar_cache.specs.Shelved.{shelf_watch}
 use Rattle.mar_cache.proofs.BoundsKept.{contains_map, within_map}
-use Rattle.mar_cache.proofs.Watched.{and_right, for_memory, lost_calm, none_due, still_armed}
+use Rattle.mar_cache.proofs.Watched.{lost_calm}
+use Rattle.mar_epochs.proofs.Unarmed.{and_right, for_memory, none_due, still_armed}
 use Rattle.mar_cache.proofs.manager.with_reopened.Goals as goal
 
 pub invariant_of-result : goal.invariant_of-result

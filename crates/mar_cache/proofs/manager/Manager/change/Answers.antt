@@ -1,7 +1,8 @@
 use Rattle.std.proofs.Common.{◌∙◌, ◌&&◌, ap, ap₂}
 use Rattle.mar_cache.specs.Bounds.{bounds_of}
 use Rattle.mar_cache.specs.Shelved.{shelf_watch}
-use Rattle.mar_cache.proofs.Watched.{and_left, lost_calm}
+use Rattle.mar_cache.proofs.Watched.{lost_calm}
+use Rattle.mar_epochs.proofs.Unarmed.{and_left}
 use Rattle.mar_cache.proofs.Within.{changed_within, within_changed}
 use Rattle.mar_cache.proofs.manager.Manager.change.Goals as goal
 

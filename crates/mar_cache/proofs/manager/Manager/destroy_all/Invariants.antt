@@ -1,5 +1,5 @@
 use Rattle.std.proofs.Common.{◌≡◌, ◌≤◌, ◌<◌, ◌-◌, ℕ, get_or, length, ◌&&◌}
-use Rattle.mar_cache.specs.EpochStates.{IsBare}
+use Rattle.mar_epochs.specs.EpochStates.{IsBare}
 use Rattle.mar_cache.specs.Shelved.{DropsOlder, shelf_watch}
 use Rattle.mar_cache.proofs.manager.Manager.destroy_all.Given as goal
 

@@ -2,7 +2,8 @@ use Rattle.std.proofs.Common.{◌∙◌, ◌&&◌, ap, ap₂, arith}
 use Rattle.mar_cache.specs.Bounds.{bounds_of}
 use Rattle.mar_cache.specs.Shelved.{shelf_watch}
 use Rattle.mar_cache.proofs.Views.{drop_one, loses_one}
-use Rattle.mar_cache.proofs.Watched.{and_left, lost_calm}
+use Rattle.mar_cache.proofs.Watched.{lost_calm}
+use Rattle.mar_epochs.proofs.Unarmed.{and_left}
 use Rattle.mar_cache.proofs.Within.{destroyed_within, within_dropped}
 use Rattle.mar_cache.proofs.manager.Manager.destroy_below.Goals as goal
 

@@ -1,9 +1,9 @@
 use Rattle.std.proofs.Common.{[], ap, refl, ◌∙◌, ◌&&◌}
 use Rattle.std.proofs.lemmas.Result.{IfErr-weaker, IfOk-weaker}
 use Rattle.mar_cache.specs.Shelved.{at_epoch, nothing_gone, shelf_watch}
-use Rattle.mar_cache.specs.declared.change.Change.TheVariants.{Finish}
+use Rattle.mar_epochs.specs.declared.Change.TheVariants.{Finish}
 use Rattle.mar_cache.proofs.Exits.{err_is, no_ok}
-use Rattle.mar_cache.proofs.Filtering.{contains_none}
+use Rattle.mar_epochs.proofs.Filtering.{contains_none}
 use Rattle.mar_cache.proofs.Shelving.{changes_grows, changes_twice, end_leaves, fallen_leaves, grows_at, loses_leaves}
 use Rattle.mar_cache.proofs.Watched.{heeds_exit, heeds_exit_then, heeds_then}
 use Rattle.mar_cache.proofs.manager.Manager.finish.Goals as goal

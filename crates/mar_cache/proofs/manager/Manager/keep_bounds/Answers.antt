@@ -1,7 +1,8 @@
 use Rattle.std.proofs.Common.{map, ◌∙◌, ◌∷◌, ◌&&◌, [], ap, ap₂, refl, subst, sym}
 use Rattle.mar_cache.specs.Bounds.{bounds_of}
 use Rattle.mar_cache.specs.Shelved.{LieWithin, shelf_watch}
-use Rattle.mar_cache.proofs.Watched.{and_right, calm_armed, calm_memory, lost_calm}
+use Rattle.mar_cache.proofs.Watched.{calm_armed, calm_memory, lost_calm}
+use Rattle.mar_epochs.proofs.Unarmed.{and_right}
 use Rattle.mar_cache.proofs.Within.{still_quiet, written_within}
 use Rattle.mar_cache.proofs.manager.Manager.keep_bounds.Goals as goal
 

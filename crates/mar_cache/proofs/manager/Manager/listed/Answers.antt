@@ -1,7 +1,8 @@
 use Rattle.std.proofs.Common.{◌∙◌, ◌&&◌, ap, ap₂}
 use Rattle.mar_cache.specs.Bounds.{bounds_of}
 use Rattle.mar_cache.specs.Shelved.{shelf_watch}
-use Rattle.mar_cache.proofs.Watched.{and_left, lost_calm}
+use Rattle.mar_cache.proofs.Watched.{lost_calm}
+use Rattle.mar_epochs.proofs.Unarmed.{and_left}
 use Rattle.mar_cache.proofs.Within.{fallen_same, fallen_within, within_same}
 use Rattle.mar_cache.proofs.manager.Manager.listed.Goals as goal
 

@@ -1,7 +1,7 @@
 use Rattle.std.proofs.Common.{◌≡◌, ◌∙◌, ◌&&◌, [], ap, false, subst, sym}
 use Rattle.std.proofs.lemmas.Result.{IfErr-weaker, IfOk-weaker}
 use Rattle.mar_cache.specs.Bounds.{bounds_of, includes}
-use Rattle.mar_cache.specs.EpochStates.{HasSome}
+use Rattle.mar_epochs.specs.EpochStates.{HasSome}
 use Rattle.mar_cache.specs.Shelved.{OpensOrStays, nothing_gone, shelf_watch}
 use Rattle.mar_cache.proofs.Exits.{err_is, no_ok}
 use Rattle.mar_cache.proofs.Shelving.{fallen_leaves, same_leaves}

@@ -1,7 +1,8 @@
 use Rattle.std.proofs.Common.{◌∙◌, ◌&&◌, ap, ap₂, refl, sym}
 use Rattle.mar_cache.specs.Bounds.{bounds_of}
 use Rattle.mar_cache.specs.Shelved.{shelf_watch}
-use Rattle.mar_cache.proofs.Watched.{and_left, lost_calm}
+use Rattle.mar_cache.proofs.Watched.{lost_calm}
+use Rattle.mar_epochs.proofs.Unarmed.{and_left}
 use Rattle.mar_cache.proofs.Within.{loses_within, opens_itself, within_opened}
 use Rattle.mar_cache.proofs.manager.Manager.open.Goals as goal
 

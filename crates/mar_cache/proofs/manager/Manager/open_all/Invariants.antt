@@ -1,6 +1,6 @@
 use Rattle.std.proofs.Common.{◌≡◌, ◌≤◌, ◌<◌, ◌-◌, ℕ, true, false, get_or, length, ◌&&◌}
 use Rattle.mar_cache.specs.Bounds.{bounds_of, includes}
-use Rattle.mar_cache.specs.EpochStates.{is_opened}
+use Rattle.mar_epochs.specs.EpochStates.{is_opened}
 use Rattle.mar_cache.specs.Shelved.{OpensOrStays, shelf_watch}
 use Rattle.mar_cache.proofs.manager.Manager.open_all.Given as goal
 

@@ -1,5 +1,5 @@
 use Rattle.std.proofs.Common.{[], refl}
-use Rattle.mar_cache.specs.EpochStates.{none_gone}
+use Rattle.mar_epochs.specs.EpochStates.{none_gone}
 use Rattle.mar_cache.specs.Shelved.{nothing_gone}
 use Rattle.mar_cache.proofs.Shelving.{end_leaves, grows_itself, opens_now, opens_or}
 use Rattle.mar_cache.proofs.manager.Manager.open_within.Goals as goal

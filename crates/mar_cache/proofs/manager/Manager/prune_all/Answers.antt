@@ -1,8 +1,8 @@
 use Rattle.std.proofs.Common.{[], refl, arith, ◌∙◌}
 use Rattle.std.proofs.lemmas.Result.{err_from_is_err_and}
 use Rattle.mar_node.specs.Cache.{is_certified_below}
-use Rattle.mar_cache.specs.declared.change.Change.TheVariants.{PruneCertified}
-use Rattle.mar_cache.proofs.Filtering.{contains_none}
+use Rattle.mar_epochs.specs.declared.Change.TheVariants.{PruneCertified}
+use Rattle.mar_epochs.proofs.Filtering.{contains_none}
 use Rattle.mar_cache.proofs.Shelving.{grown_leaves, loses_leaves}
 use Rattle.mar_cache.proofs.Thinning.{clear_all, clear_here, clear_more, clear_stays, thins_change, thins_itself, thins_step, test_from_kept}
 use Rattle.mar_cache.proofs.manager.Manager.prune_all.Goals as goal

@@ -1,7 +1,7 @@
 use Rattle.std.proofs.Common.{◌∙◌, ap, map, subst, sym, ◌&&◌}
 use Rattle.std.proofs.lemmas.Result.{IfErr-weaker, IfOk-weaker}
 use Rattle.mar_cache.specs.Bounds.{bounds_of}
-use Rattle.mar_cache.specs.EpochStates.{IsBare}
+use Rattle.mar_epochs.specs.EpochStates.{IsBare}
 use Rattle.mar_cache.specs.Shelved.{DropsOlder, shelf_watch}
 use Rattle.mar_cache.proofs.Exits.{err_is, no_ok}
 use Rattle.mar_cache.proofs.Shelving.{bounds_stay}

@@ -2,9 +2,9 @@ use Rattle.std.proofs.Common.{[], ◌≡◌, ◌∷◌, ◌∙◌, ◌≤◌, �
 use Rattle.std.proofs.lemmas.Result.{IfErr-weaker, IfOk-weaker}
 use Rattle.mar_cache.specs.Bounds.{bounds_of, includes}
 use Rattle.mar_cache.specs.Shelved.{at_epoch, nothing_gone, raised, shelf_watch}
-use Rattle.mar_cache.specs.declared.change.Change.TheVariants.{Put}
+use Rattle.mar_epochs.specs.declared.Change.TheVariants.{Put}
 use Rattle.mar_cache.proofs.Exits.{err_is, no_ok}
-use Rattle.mar_cache.proofs.Filtering.{contains_none}
+use Rattle.mar_epochs.proofs.Filtering.{contains_none}
 use Rattle.mar_cache.proofs.Shelving.{at_own, does_once, end_bounds, end_leaves, fallen_leaves, grows_at, loses_leaves, opens_grows, raised_within}
 use Rattle.mar_cache.proofs.Watched.{calm_exit, calm_exit_then, calm_then}
 use Rattle.mar_cache.proofs.Within.{raised_includes}

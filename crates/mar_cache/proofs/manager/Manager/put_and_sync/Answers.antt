@@ -3,9 +3,9 @@ use Rattle.std.proofs.lemmas.Result.{IfErr-weaker, IfOk-weaker}
 use Rattle.mar_node.specs.Cached.{epoch_of}
 use Rattle.mar_cache.specs.Bounds.{bounds_of}
 use Rattle.mar_cache.specs.Shelved.{at_epoch, nothing_gone, raised, shelf_watch}
-use Rattle.mar_cache.specs.declared.change.Change.TheVariants.{Put}
+use Rattle.mar_epochs.specs.declared.Change.TheVariants.{Put}
 use Rattle.mar_cache.proofs.Exits.{err_is, no_ok, not_above, not_below}
-use Rattle.mar_cache.proofs.Filtering.{contains_none}
+use Rattle.mar_epochs.proofs.Filtering.{contains_none}
 use Rattle.mar_cache.proofs.Shelving.{at_own, bounds_stay, does_grow, does_then, end_bounds, end_leaves, fallen_leaves}
 use Rattle.mar_cache.proofs.Watched.{heeds_exit, heeds_exit_then, heeds_then}
 use Rattle.mar_cache.proofs.manager.Manager.put_and_sync.Goals as goal

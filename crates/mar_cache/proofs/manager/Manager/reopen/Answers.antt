@@ -1,11 +1,12 @@
 use Rattle.std.proofs.Common.{◌≡◌, ◌∙◌, ◌&&◌, Result, ap, ap₂, false, map, refl, subst, sym}
 use Rattle.std.proofs.lemmas.Result.{IfErr-weaker, IfOk-weaker}
 use Rattle.mar_cache.specs.Bounds.{bounds_of}
-use Rattle.mar_cache.specs.EpochStates.{MightBe, is_opened}
+use Rattle.mar_epochs.specs.EpochStates.{MightBe, is_opened}
 use Rattle.mar_cache.specs.Shelved.{shelf_watch}
-use Rattle.mar_cache.proofs.Leaving.{might_stay}
+use Rattle.mar_epochs.proofs.Leaving.{might_stay}
 use Rattle.mar_cache.proofs.Shelving.{reopened_ways}
-use Rattle.mar_cache.proofs.Watched.{and_left, begun, heeds_lost, heeds_then, lost_calm, rung}
+use Rattle.mar_cache.proofs.Watched.{begun, heeds_lost, heeds_then, lost_calm, rung}
+use Rattle.mar_epochs.proofs.Unarmed.{and_left}
 use Rattle.mar_cache.proofs.Within.{kept_within, reopened_within}
 use Rattle.mar_cache.proofs.manager.Manager.reopen.Goals as goal
 

@@ -4,7 +4,7 @@ use Rattle.mar_store.specs.Lost.{wreck_of}
 use Rattle.mar_node.specs.Cached.{epoch_of}
 use Rattle.mar_cache.specs.Bounds.{bounds_of}
 use Rattle.mar_cache.specs.Calls.{IsPut, PutBounds}
-use Rattle.mar_cache.specs.Sections.{section_of}
+use Rattle.mar_epochs.specs.Sections.{section_of}
 use Rattle.mar_cache.specs.Shelved.{IsStarted}
 use Rattle.mar_cache.proofs.Plainly.{put_plain}
 use Rattle.mar_cache.proofs.shelf.ManagerShelf.put_notarized.Goals as goal

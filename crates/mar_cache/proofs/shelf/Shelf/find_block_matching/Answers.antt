@@ -1,5 +1,5 @@
 use Rattle.mar_cache.proofs.Looking.{newest_block}
-use Rattle.mar_cache.specs.Entries.{is_sought}
+use Rattle.mar_epochs.specs.Entries.{is_sought}
 use Rattle.mar_cache.proofs.shelf.Shelf.find_block_matching.Goals as goal
 
 pub returns-in-Ok-Some-clause-found : goal.returns-in-Ok-Some-clause-found

@@ -1,5 +1,5 @@
 use Rattle.mar_cache.proofs.Looking.{block_found}
-use Rattle.mar_cache.specs.Entries.{is_verified_at}
+use Rattle.mar_epochs.specs.Entries.{is_verified_at}
 use Rattle.mar_cache.proofs.shelf.Shelf.get_verified.Goals as goal
 
 pub returns-in-Ok-Some-clause-found : goal.returns-in-Ok-Some-clause-found

@@ -1,7 +1,7 @@
 use Rattle.std.proofs.Common.{◌&&◌}
 use Rattle.mar_node.specs.Cached.{cached_block}
 use Rattle.mar_cache.proofs.Looking.{has_found}
-use Rattle.mar_cache.specs.Entries.{has_digest, is_verified_at}
+use Rattle.mar_epochs.specs.Entries.{has_digest, is_verified_at}
 use Rattle.mar_cache.proofs.shelf.Shelf.has_verified.Goals as goal
 
 pub returns-in-Ok-clause-found : goal.returns-in-Ok-clause-found

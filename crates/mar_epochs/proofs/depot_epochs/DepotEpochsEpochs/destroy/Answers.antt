@@ -1,0 +1,23 @@
+use Rattle.std.proofs.Common.{◌∙◌, ◌&&◌, ap}
+use Rattle.mar_store.specs.Watch.{after_call}
+use Rattle.mar_epochs.proofs.Leaving.{loses_removed}
+use Rattle.mar_epochs.proofs.Unarmed.{and_right, for_memory, none_due, still_armed}
+use Rattle.mar_epochs.proofs.depot_epochs.DepotEpochsEpochs.destroy.Goals as goal
+
+pub returns-in-Err-clause-done : goal.returns-in-Err-clause-done
+returns-in-Err-clause-done g c = rw (c.lost_by.ensures.wreck, c.parts_of-failed.ensures.wreck) (loses_removed _ _ _ c.args.self.slots _ _ _ _ c.in-Err.ensures.done)
+
+pub invariant_of-result-clause-quiet : goal.invariant_of-result-clause-quiet
+invariant_of-result-clause-quiet g c = ap (λ w. w.due) c.in-Ok.ensures.watched.1 ∙ ap after_call c.args.self.quiet
+
+pub returns-in-Ok-clause-calm : goal.returns-in-Ok-clause-calm
+returns-in-Ok-clause-calm g c = ap (λ w. g.A.EpochArchives.unfailing && w.only_armed) c.in-Ok.ensures.watched.1
+
+pub invariant_of-wreck-clause-quiet : goal.invariant_of-wreck-clause-quiet
+invariant_of-wreck-clause-quiet g c = rw c.parts_of-failed.ensures.wreck (none_due g.D.Wreck.DepotRuin.watch (g.D.Depot.watch c.args.self.depot) c.in-Err.lost c.args.self.quiet c.in-Err.ensures.watched)
+
+pub returns-in-Err-clause-calm : goal.returns-in-Err-clause-calm
+returns-in-Err-clause-calm g c = rw (c.lost_by.ensures.wreck, c.parts_of-failed.ensures.wreck) (ap (λ b. g.A.EpochArchives.unfailing && b) (still_armed g.D.Wreck.DepotRuin.watch (g.D.Depot.watch c.args.self.depot) c.in-Err.lost c.in-Err.ensures.watched))
+
+pub returns-in-Err-clause-memory : goal.returns-in-Err-clause-memory
+returns-in-Err-clause-memory g c = λ only. c.lost_by.ensures.fault ∙ c.parts_of-failed.ensures.fault ∙ for_memory g.D.Wreck.DepotRuin.watch (g.D.Depot.watch c.args.self.depot) c.in-Err.lost c.args.self.quiet c.in-Err.ensures.watched (and_right _ _ only)

@@ -1,0 +1,180 @@
+-- What a shelf has of each epoch, and what its calls make of that.
+use Rattle.std.specs.Ordering.{nat_cmp}
+use Rattle.std.specs.BTreeMap.{BTreeMap, get}
+use Rattle.std.specs.Prelude.{Bool, Contains, IsTrue, List, None, Option, Some, [], false, filter, if◌then◌else◌, nat_le, true, ℕ, ⊤, ◌<◌, ◌==◌, ◌≡◌, ◌≢◌, ◌≤◌, ◌⊎◌}
+use Rattle.mar_store.specs.Changes.{Left, left_of}
+use Rattle.mar_store.specs.Names.{Names}
+use Rattle.mar_node.specs.Cached.{Cached}
+use Rattle.mar_epochs.specs.Sections.{first_found, is_in}
+use Rattle.mar_epochs.specs.EpochArchives.{AreNestedArchives, Book, ChangesArchives, FindsArchives, nothing_left}
+use Rattle.mar_epochs.specs.declared.section.Section.{Section}
+use Rattle.mar_epochs.specs.declared.change.Change.{Change}
+use Rattle.mar_epochs.specs.declared.slot.Slot.{Slot}
+use Rattle.mar_epochs.specs.declared.slot.Slot.TheVariants.{Away, Leftover, Standing}
+
+-- An epoch is open, or something is left of it. Of one that a depot has it isn't known what, where that doesn't tell.
+pub data EpochState : Type 0 where
+  opened : Book → EpochState
+  shut : Left Cached → EpochState
+  unknown : EpochState
+
+-- what a shelf has of each epoch
+abbrev pub EpochStates : Type 0
+EpochStates = ℕ → EpochState
+
+-- what a crash leaves of it
+abbrev pub left_of_epoch : EpochState → EpochState
+left_of_epoch (opened b) = shut (left_of b.kept)
+left_of_epoch (shut l) = shut l
+left_of_epoch unknown = unknown
+
+abbrev pub is_opened : EpochState → Bool
+is_opened (opened b) = true
+is_opened _ = false
+
+-- what is sure is held, and what is held may be left
+abbrev pub IsNestedEpoch : EpochState → Type 0
+IsNestedEpoch (opened b) = AreNestedArchives b.kept
+IsNestedEpoch _ = ⊤
+
+-- what is held, what is sure and what may be left of an epoch
+abbrev pub held_in : EpochState → List Cached
+held_in (opened b) = b.kept.held
+held_in _ = []
+
+abbrev pub sure_in : EpochState → List Cached
+sure_in (opened b) = b.kept.sure
+sure_in (shut l) = l.sure
+sure_in unknown = []
+
+abbrev pub may_in : EpochState → List Cached
+may_in (opened b) = b.kept.may
+may_in (shut l) = l.may
+may_in unknown = []
+
+abbrev pub is_known : EpochState → Bool
+is_known unknown = false
+is_known _ = true
+
+-- each epoch but one is as it was
+abbrev pub KeepsOtherEpochs : ℕ → EpochStates → EpochStates → Type 0
+KeepsOtherEpochs e old new = (k : ℕ) → k ≢ e → new k ≡ old k
+
+-- each epoch but one is as a crash leaves it
+abbrev pub LeavesOtherEpochs : ℕ → EpochStates → EpochStates → Type 0
+LeavesOtherEpochs e old left = (k : ℕ) → k ≢ e → left k ≡ left_of_epoch (old k)
+
+-- An epoch is opened on what may be left of it; one that is open stays as it is.
+abbrev pub OpensEpoch : EpochState → EpochState → Type 0
+OpensEpoch (opened b) new = new ≡ opened b
+OpensEpoch (shut l) new = (b : Book) × FindsArchives l b.kept × (new ≡ opened b)
+OpensEpoch unknown new = (b : Book) × (new ≡ opened b)
+
+-- What may be left of an epoch, since some start: what was sure is sure, what was held may be left, and nothing else but
+-- what might be and what was put.
+pub record LeavesEpoch (put : List Cached) (gone : Cached → Bool) (old left : EpochState) : Type 0 where
+  pub sure : (x : Cached) → Contains (sure_in old) x → gone x ≡ false → Contains (sure_in left) x
+  pub held : (x : Cached) → Contains (held_in old) x → gone x ≡ false → Contains (may_in left) x
+  pub may : IsTrue (is_known old) → (x : Cached) → Contains (may_in left) x → Contains (may_in old) x ⊎ Contains put x
+
+-- what passes no test
+abbrev pub none_gone : Cached → Bool
+none_gone x = false
+
+-- What is left where a call failed that opens an epoch or changes it, of which there was this before.
+pub record LosesEpoch (e : ℕ) (was : EpochState) (put : List Cached) (gone : Cached → Bool) (old left : EpochStates) : Type 0 where
+  pub here : LeavesEpoch put gone was (left e)
+  pub others : LeavesOtherEpochs e old left
+
+-- A change of an epoch that is open; of another nothing changes.
+abbrev pub ChangesEpoch : {E : Type 0} → (E → Cached) → Change E → EpochState → EpochState → Type 0
+ChangesEpoch plain change (opened b) new = (c : Book) × ChangesArchives plain change b c × (new ≡ opened c)
+ChangesEpoch plain change old new = new ≡ old
+
+-- nothing is open or left of it, as far as is known
+abbrev pub IsBare : EpochState → Type 0
+IsBare (opened b) = ⊥
+IsBare (shut l) = l ≡ nothing_left
+IsBare unknown = ⊤
+
+-- An epoch that was to be destroyed is left as it was, or nothing is left of it.
+abbrev pub IsLeftOrBare : EpochState → EpochState → Type 0
+IsLeftOrBare old left = (left ≡ left_of_epoch old) ⊎ IsBare left
+
+-- What is left where an epoch could not be destroyed.
+pub record DestroysOrNot (e : ℕ) (old left : EpochStates) : Type 0 where
+  pub here : IsLeftOrBare (old e) (left e)
+  pub others : LeavesOtherEpochs e old left
+
+-- something is open or left of it
+abbrev pub HasSome : EpochState → Type 0
+HasSome (opened b) = ⊤
+HasSome (shut l) = l ≢ nothing_left
+HasSome unknown = ⊥
+
+-- the number of a sync that starts now, where the epoch is open: its ticket covers all that an archive holds
+abbrev pub IsTicket : EpochState → Option ℕ → Type 0
+IsTicket (opened b) (Some n) = (n ≤ b.number) × ((s : Section) → b.covers s n ≡ filter (is_in s) b.kept.held)
+IsTicket (opened b) None = ⊥
+IsTicket _ (Some n) = ⊥
+IsTicket _ None = ⊤
+
+-- what is found in the newest epoch that has what passes
+abbrev pub IsNewest : (Cached → Bool) → EpochStates → Option Cached → Type 0
+IsNewest passes states None = (k : ℕ) → first_found passes (held_in (states k)) ≡ None
+IsNewest passes states (Some x) = (e : ℕ) × (first_found passes (held_in (states e)) ≡ Some x) × ((k : ℕ) → e < k → first_found passes (held_in (states k)) ≡ None)
+
+abbrev pub SameEpochs : EpochStates → EpochStates → Type 0
+SameEpochs old new = (k : ℕ) → new k ≡ old k
+
+-- it is what may be left, in one of the ways in which that may be
+abbrev pub MightBe : List EpochStates → EpochStates → Type 0
+MightBe lefts states = (left : EpochStates) × Contains lefts left × SameEpochs left states
+
+-- an epoch, where it has what is looked for and is newer than another, else that
+abbrev pub newer_of : ℕ → Bool → Option ℕ → Option ℕ
+newer_of e false other = other
+newer_of e true None = Some e
+newer_of e true (Some other) = if nat_le e other then Some other else Some e
+
+-- IN THE CODE
+
+-- what a slot has of an epoch; it is open where the opening that goes on opened it
+abbrev pub state_of_slot : {A W : Type 0} → (A → Book) → (W → Left Cached) → ℕ → Slot A W → EpochState
+state_of_slot book left opening (Standing v o) = if o == opening then opened (book v) else shut (left_of (book v).kept)
+state_of_slot book left opening (Leftover w) = shut (left w)
+state_of_slot book left opening Away = unknown
+
+-- what a depot has under a name
+abbrev pub state_under : {W : Type 0} → Bool → (W → Left Cached) → Option W → EpochState
+state_under false left o = unknown
+state_under true left None = shut nothing_left
+state_under true left (Some w) = shut (left w)
+
+abbrev pub state_at : {A W : Type 0} → (A → Book) → (W → Left Cached) → ℕ → Bool → Option (Slot A W) → Option W → EpochState
+state_at book left opening told (Some slot) name = state_of_slot book left opening slot
+state_at book left opening told None name = state_under told left name
+
+abbrev pub states_of : {A W : Type 0} → (A → Book) → (W → Left Cached) → ℕ → Bool → BTreeMap ℕ (Slot A W) → Names W → EpochStates
+states_of book left opening told slots names k = state_at book left opening told (get nat_cmp slots k) (names k)
+
+-- no slot is of a later opening
+abbrev pub is_upto : {A W : Type 0} → ℕ → Option (Slot A W) → Bool
+is_upto opening (Some (Standing v o)) = nat_le o opening
+is_upto opening _ = true
+
+-- as those of each epoch's archives are nested
+pub nested_states : {A W : Type 0} (book : A → Book) (left : W → Left Cached) (opening : ℕ) (told : Bool) (slots : BTreeMap ℕ (Slot A W)) (names : Names W) → ((v : A) → AreNestedArchives (book v).kept) → (k : ℕ) → IsNestedEpoch (states_of book left opening told slots names k)
+nested_states {A} {W} book left opening told slots names nested k = at_slot (get nat_cmp slots k) told (names k)
+  where
+    by : (v : A) (b : Bool) → IsNestedEpoch (if b then opened (book v) else shut (left_of (book v).kept))
+    by v true = nested v
+    by v false = tt
+
+    at_slot : (slot : Option (Slot A W)) (told : Bool) (name : Option W) → IsNestedEpoch (state_at book left opening told slot name)
+    at_slot (Some (Standing v o)) told' name = by v (o == opening)
+    at_slot (Some (Leftover w)) told' name = tt
+    at_slot (Some Away) told' name = tt
+    at_slot None true None = tt
+    at_slot None true (Some w) = tt
+    at_slot None false name = tt

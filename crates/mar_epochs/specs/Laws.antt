@@ -1,0 +1,29 @@
+-- What logged entries keep holds together: no archive holds two of one place, and what is sure is held.
+use Rattle.std.specs.Prelude.{Bool, Contains, IsTrue, List, [], filter, length, map, suc, zero, ◌==◌, ◌∷◌, ◌≡◌}
+use Rattle.std.proofs.Common.{arith, cond, eqb-true, refl, true, false}
+use Rattle.mar_store.specs.Changes.{Within, left_of}
+use Rattle.mar_node.specs.Cached.{Cached, EachPlaceOnce}
+use Rattle.mar_epochs.specs.EntryLogs.{Logged, entries, kept_in, log_of}
+use Rattle.mar_epochs.specs.declared.logged_entry.LoggedEntry.{LoggedEntry}
+use Rattle.mar_epochs.specs.EpochArchives.{AreNestedArchives, nothing_left}
+
+-- a filtered list has nothing that the list lacks
+pub filter_within : {A B : Type 0} (f : A → B) (p : A → Bool) (xs : List A) → Within (map f (filter p xs)) (map f xs)
+filter_within f p [] y has = has
+filter_within {A} {B} f p (x ∷ xs) y has = by (p x) (filter_within f p xs y) has
+  where
+    more : Contains (map f xs) y → Contains (map f (x ∷ xs)) y
+    more (k, lt, is) = (suc k, omega arith, is)
+
+    by : (b : Bool) → (Contains (map f (filter p xs)) y → Contains (map f xs) y) → Contains (map f (cond b (x ∷ filter p xs) (filter p xs))) y → Contains (map f (x ∷ xs)) y
+    by true rest (zero, lt, is) = (zero, omega arith, is)
+    by true rest (suc k, lt, is) = more (rest (k, omega arith, is))
+    by false rest has' = more (rest has')
+
+pub kept_nested : (fs : List Logged) → EachPlaceOnce (entries fs) → AreNestedArchives (kept_in fs)
+kept_nested fs once = record { once = once; sure_held = filter_within (λ f. f.entry) (λ f. f.is_sure) fs; held_may = λ x has. has }
+
+-- of no entries nothing is left
+pub nothing_logged : {E : Type 0} (plain : E → Cached) (items : List (LoggedEntry E)) → IsTrue (length items == 0) → left_of (kept_in (log_of plain items)) ≡ nothing_left
+nothing_logged plain [] empty = refl
+nothing_logged plain (f ∷ items) empty = absurd (omega (arith, eqb-true (length (f ∷ items)) 0 empty))

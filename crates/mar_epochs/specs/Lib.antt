@@ -1,0 +1,9 @@
+pub mod Sections
+pub mod EpochArchives
+pub mod EntryLogs
+pub mod Props
+pub mod Laws
+pub mod EpochStates
+pub mod Entries
+pub mod Spots
+pub mod EntryKeys

@@ -1,0 +1,258 @@
+//! The entries of a cache, over blocks of a kind and certificates.
+ghost use Rattle.std.specs.Prelude.{◌≡◌};
+ghost use Rattle.mar_types.specs.Round.{round_lt};
+ghost use Rattle.mar_epochs.specs.Entries.{block_in, cached_of, finalization_in, is_sought, notarization_in, sought_block};
+ghost use Rattle.mar_epochs.specs.EntryKeys.{has_key};
+
+use crate::as_entry::{AsEntry, KeyedEntry};
+use crate::entry_key::{EntryKey, block_keys, certificate_keys, key_of, keys_compared};
+use crate::keys::Keys;
+use crate::section::Section;
+use mar_block::Variant;
+use mar_cert::{AsFinalization, CommitsTo};
+use mar_types::{Epoch, Height, Round};
+use std::alloc::AllocError;
+use std::marker::PhantomData;
+
+/// What is put in a cache.
+#[derive(Drop)]
+pub enum Entry<B, N, F> {
+    Finalization(F),
+    /// A block that was verified in a round.
+    Verified(Round, B),
+    /// A block that was notarized in a round.
+    Notarized(Round, B),
+    /// A certified block of an epoch.
+    Certified(Epoch, B),
+    Notarization(N),
+}
+
+/// What is looked for in a cache.
+#[derive(Clone, Copy)]
+pub enum Sought<D, C> {
+    /// The first block that was verified in a round.
+    VerifiedAt(Round),
+    /// The block of a digest that was verified in a round.
+    VerifiedBlock(Round, D),
+    NotarizationAt(Round),
+    /// A finalization of the block of a digest.
+    FinalizationFor(D),
+    BlockOf(D),
+    CommittedTo(C),
+}
+
+/// What names a block that is looked for.
+#[derive(Clone, Copy)]
+pub enum BlockName<D, C> {
+    Digest(D),
+    Commitment(C),
+}
+
+impl<B: Drop, N: Drop, F: Drop> Entry<B, N, F> {
+    /// The block in it.
+    pub fn into_block(self) -> Option<B>
+        ensures { result ≡ block_in self }
+    {
+        match self {
+            Entry::Verified(_, block) | Entry::Notarized(_, block) | Entry::Certified(_, block) => {
+                Some(block)
+            }
+            _ => None,
+        }
+    }
+
+    /// The notarization that it is.
+    pub fn into_notarization(self) -> Option<N>
+        ensures { result ≡ notarization_in self }
+    {
+        match self {
+            Entry::Notarization(notarization) => Some(notarization),
+            _ => None,
+        }
+    }
+
+    /// The finalization that it is.
+    pub fn into_finalization(self) -> Option<F>
+        ensures { result ≡ finalization_in self }
+    {
+        match self {
+            Entry::Finalization(finalization) => Some(finalization),
+            _ => None,
+        }
+    }
+}
+
+/// What is looked for where that is a block of this name.
+pub fn sought_block<D: Copy, C: Copy>(name: BlockName<D, C>) -> Sought<D, C>
+    ensures { result ≡ sought_block name }
+{
+    match name {
+        BlockName::Digest(digest) => Sought::BlockOf(digest),
+        BlockName::Commitment(commitment) => Sought::CommittedTo(commitment),
+    }
+}
+
+/// An entry over blocks of a kind.
+#[derive(Drop)]
+pub struct CacheEntry<V: Variant, N, F> {
+    entry: Entry<V::Block, N, F>,
+    of: PhantomData<V>,
+}
+
+/// What keeps an entry over blocks of a kind.
+pub trait KeptEntry<V: Variant, N: AsFinalization, F: CommitsTo<V::Commitment>>: AsEntry {
+    /// That entry.
+    fn of(entry: Entry<V::Block, N, F>) -> Self
+    where
+        Self: Sized,
+        ensures { Self.plain result ≡ cached_of V.plain N.plain F.plain entry };
+
+    /// What it is.
+    fn into_entry(self) -> Entry<V::Block, N, F>
+    where
+        Self: Sized,
+        ensures { cached_of V.plain N.plain F.plain result ≡ Self.plain self };
+
+    /// What is looked for.
+    fn sought(sought: Sought<V::Digest, V::Commitment>) -> Self::Wanted
+        ensures { Self.wants result ≡ is_sought V.Digest.bytes V.Commitment.bytes V.inner sought };
+}
+
+// Whether the first round is below the second.
+fn is_earlier(first: Round, second: Round) -> bool
+    ensures { result ≡ round_lt first second }
+{
+    let (epoch, other) = (first.epoch().get(), second.epoch().get());
+    epoch < other || (epoch == other && first.view().get() < second.view().get())
+}
+
+impl<V: Variant, N: AsFinalization, F: CommitsTo<V::Commitment>> AsEntry for CacheEntry<V, N, F> {
+    type Wanted = Sought<V::Digest, V::Commitment>;
+
+    ghost plain = { λ e. cached_of V.plain N.plain F.plain e.entry };
+
+    ghost wants = { λ w x. is_sought V.Digest.bytes V.Commitment.bytes V.inner w x };
+
+    fn epoch(&self) -> Epoch {
+        match &self.entry {
+            Entry::Finalization(finalization) => finalization.round().epoch(),
+            Entry::Verified(round, _) | Entry::Notarized(round, _) => round.epoch(),
+            Entry::Certified(epoch, _) => *epoch,
+            Entry::Notarization(notarization) => notarization.round().epoch(),
+        }
+    }
+
+    fn section(&self) -> Section {
+        match &self.entry {
+            Entry::Finalization(_) => Section::Finalizations,
+            Entry::Verified(_, _) => Section::Verified,
+            Entry::Notarized(_, _) => Section::Notarized,
+            Entry::Certified(_, _) => Section::Certified,
+            Entry::Notarization(_) => Section::Notarizations,
+        }
+    }
+
+    fn index(&self) -> u64 {
+        match &self.entry {
+            Entry::Finalization(finalization) => finalization.round().view().get(),
+            Entry::Verified(round, _) | Entry::Notarized(round, _) => round.view().get(),
+            Entry::Certified(_, block) => V::height(block).get(),
+            Entry::Notarization(notarization) => notarization.round().view().get(),
+        }
+    }
+
+    fn is_below(&self, round: Round) -> bool {
+        match &self.entry {
+            Entry::Finalization(finalization) => is_earlier(finalization.round(), round),
+            Entry::Verified(own, _) | Entry::Notarized(own, _) => is_earlier(*own, round),
+            Entry::Certified(epoch, _) => epoch.get() < round.epoch().get(),
+            Entry::Notarization(notarization) => is_earlier(notarization.round(), round),
+        }
+    }
+
+    fn is_certified_below(&self, height: Height) -> bool {
+        match &self.entry {
+            Entry::Certified(_, block) => V::height(block).get() < height.get(),
+            _ => false,
+        }
+    }
+
+    fn try_clone(&self) -> Result<Self, AllocError> {
+        let entry = match &self.entry {
+            Entry::Finalization(finalization) => Entry::Finalization(finalization.try_clone()?),
+            Entry::Verified(round, block) => Entry::Verified(*round, V::try_clone(block)?),
+            Entry::Notarized(round, block) => Entry::Notarized(*round, V::try_clone(block)?),
+            Entry::Certified(epoch, block) => Entry::Certified(*epoch, V::try_clone(block)?),
+            Entry::Notarization(notarization) => Entry::Notarization(notarization.try_clone()?),
+        };
+        Ok(CacheEntry {
+            entry,
+            of: PhantomData,
+        })
+    }
+}
+
+impl<V: Variant, N: AsFinalization, F: CommitsTo<V::Commitment>> KeyedEntry for CacheEntry<V, N, F>
+where
+    V::Digest: Ord,
+    V::Commitment: Ord,
+{
+    type Key = EntryKey<V::Digest, V::Commitment>;
+
+    ghost has = { λ k x. has_key V.Digest.bytes V.Commitment.bytes V.inner k x };
+
+    fn key_of(wanted: &Sought<V::Digest, V::Commitment>) -> EntryKey<V::Digest, V::Commitment> {
+        key_of(*wanted)
+    }
+
+    fn keys(&self) -> Keys<EntryKey<V::Digest, V::Commitment>> {
+        keys_compared::<V::Digest, V::Commitment>();
+        match &self.entry {
+            Entry::Finalization(finalization) => {
+                let place = EntryKey::FinalizationAt(finalization.round());
+                let digest = V::commitment_to_inner(finalization.payload());
+                certificate_keys(place, Some(EntryKey::FinalizationFor(digest)))
+            }
+            Entry::Verified(round, block) => {
+                let digest = V::digest(block);
+                let place = EntryKey::VerifiedBlock(*round, digest);
+                let round = Some(EntryKey::VerifiedAt(*round));
+                block_keys(place, round, digest, V::commitment(block))
+            }
+            Entry::Notarized(round, block) => {
+                let place = EntryKey::NotarizedAt(*round);
+                block_keys(place, None, V::digest(block), V::commitment(block))
+            }
+            Entry::Certified(_, block) => {
+                let digest = V::digest(block);
+                let place = EntryKey::CertifiedBlock(V::height(block), digest);
+                block_keys(place, None, digest, V::commitment(block))
+            }
+            Entry::Notarization(notarization) => {
+                certificate_keys(EntryKey::NotarizationAt(notarization.round()), None)
+            }
+        }
+    }
+}
+
+impl<V: Variant, N: AsFinalization, F: CommitsTo<V::Commitment>> KeptEntry<V, N, F>
+    for CacheEntry<V, N, F> {
+    fn of(entry: Entry<V::Block, N, F>) -> Self
+        ensures { cached_of V.plain N.plain F.plain result.entry ≡ cached_of V.plain N.plain F.plain entry }
+    {
+        CacheEntry {
+            entry,
+            of: PhantomData,
+        }
+    }
+
+    fn into_entry(self) -> Entry<V::Block, N, F> {
+        self.entry
+    }
+
+    fn sought(sought: Sought<V::Digest, V::Commitment>) -> Sought<V::Digest, V::Commitment>
+        ensures { is_sought V.Digest.bytes V.Commitment.bytes V.inner result ≡ is_sought V.Digest.bytes V.Commitment.bytes V.inner sought }
+    {
+        sought
+    }
+}

@@ -1,0 +1,75 @@
+//! The archives that a cache keeps of an epoch, as one store.
+ghost use Rattle.std.specs.Prelude.{◌≡◌, ◌≤◌, Bool, true, IsTrue, List, filter, IfErr, MatchResult, option_map};
+ghost use Rattle.std.specs.Option.{option_copied};
+ghost use Rattle.mar_store.specs.Changes.{Left, left_of};
+ghost use Rattle.mar_store.specs.Lost.{wreck_of};
+ghost use Rattle.mar_node.specs.Cached.{Cached};
+ghost use Rattle.mar_epochs.specs.Sections.{first_found, is_in};
+ghost use Rattle.mar_epochs.specs.EpochArchives.{AreNestedArchives, Book, ChangesArchives, FindsArchives, IsOfMemory, KeepsArchives, LosesArchives, nothing_left};
+
+use crate::as_entry::AsEntry;
+use crate::change::Change;
+use crate::section::Section;
+use mar_store::{Depot, Lost};
+
+/// What is left of the archives of an epoch.
+pub trait EpochArchivesRuin: Drop {
+    // What every crash leaves, and all that a crash can leave.
+    ghost left: { Self → Left Cached };
+}
+
+/// The five archives of an epoch. Each keeps its entries by view or by height; verified and certified blocks several of
+/// one, the others one of each. A put is held at once, and sure after the next sync of its archive. Each put has a number,
+/// which tells which tickets cover it.
+pub trait EpochArchives: Drop {
+    type Entry: AsEntry;
+
+    type Wreck: EpochArchivesRuin;
+
+    // What it holds, what is sure, what a crash can leave, and what its tickets cover.
+    ghost book: { Self → Book };
+
+    // A call fails only where memory runs out.
+    ghost unfailing: { Bool };
+
+    /// The entry that is looked for: that of the earliest archive, there the one at the lowest view or height, and of those
+    /// the one put first.
+    fn find(&self, wanted: &<Self::Entry as AsEntry>::Wanted) -> Option<&Self::Entry>
+        ensures { option_map Self.Entry.plain (option_copied result) ≡ first_found (Self.Entry.wants wanted.now) (book self.now).kept.held };
+
+    /// The number of a sync that starts now: it covers all that an archive holds.
+    fn ticket(&self) -> u64
+        ensures made { result ≤ (book self.now).number }
+        ensures covered { (s : Section) → (book self.now).covers s result ≡ filter (is_in s) (book self.now).kept.held };
+
+    /// Changes what is held or what is sure. A ticket of an earlier life is none.
+    fn change(self, change: Change<Self::Entry>) -> Result<Self, Lost<Self::Wreck>>
+    where
+        Self: Sized,
+        ensures done { MatchResult result
+            (λ s. ChangesArchives Self.Entry.plain change (book self) (book s))
+            (λ l. LosesArchives Self.Entry.plain change (book self).kept (Self.Wreck.left (wreck_of l))) }
+        ensures unfailing { unfailing ≡ true → IfErr result IsOfMemory };
+
+    /// What a crash now leaves.
+    fn wreck(self) -> Self::Wreck
+    where
+        Self: Sized,
+        ensures { Self.Wreck.left result ≡ left_of (book self).kept };
+
+    /// Opens what a crash left; luck picks among what may be left.
+    fn reopen(wreck: Self::Wreck, luck: u64) -> Result<Self, Lost<Self::Wreck>>
+    where
+        Self: Sized,
+        ensures done { MatchResult result
+            (λ s. FindsArchives (Self.Wreck.left wreck) (book s).kept)
+            (λ l. KeepsArchives (Self.Wreck.left wreck) (Self.Wreck.left (wreck_of l))) }
+        ensures unfailing { unfailing ≡ true → IfErr result IsOfMemory };
+
+    ghost nested: { (s : Self) → AreNestedArchives (book s).kept };
+}
+
+/// A depot of what is left of the archives of epochs: of an empty one nothing is left.
+pub trait EpochArchivesDepot<W: EpochArchivesRuin>: Depot<W> {
+    ghost empties: { (w : W) → IsTrue (Self.is_empty w) → W.left w ≡ nothing_left };
+}
