@@ -2,7 +2,6 @@
 use crate::tell::*;
 use mar_parts::{Mark, Oldest, PendingAck, PendingAcks};
 use mar_types::Height;
-use std::alloc::Global;
 use std::process::Abort;
 
 // A call, and what it is to answer.
@@ -22,13 +21,6 @@ enum Call {
     Counts(usize, usize),
 }
 
-// Each call below in a function with no clause, so that what follows has nothing to carry.
-fn enqueue(rt: &impl Abort, acks: &mut PendingAcks, ticket: u64, height: u64) {
-    assert!(rt; acks.has_capacity());
-    assert!(rt; height < u64::MAX);
-    acks.enqueue(ticket, Height::new(height));
-}
-
 // How many there are, and how many there may be.
 fn has_counts(acks: &PendingAcks, len: usize, max: usize) -> bool {
     let is_full = len == max;
@@ -38,48 +30,38 @@ fn has_counts(acks: &PendingAcks, len: usize, max: usize) -> bool {
         & (acks.is_empty() == (len == 0))
 }
 
-fn pops(acks: &mut PendingAcks, oldest: Oldest) -> bool {
-    acks.pop_ready() == oldest
-}
-
-fn answers(rt: &impl Abort, acks: &mut PendingAcks, call: Call) -> bool {
-    match call {
-        Call::Enqueue(ticket, height) => {
-            enqueue(rt, acks, ticket, height);
-            true
+impl Plays<Call> for PendingAcks {
+    fn plays(&mut self, rt: &impl Abort, call: Call) -> bool {
+        match call {
+            Call::Enqueue(ticket, height) => {
+                assert!(rt; self.has_capacity());
+                assert!(rt; height < u64::MAX);
+                self.enqueue(ticket, Height::new(height));
+                true
+            }
+            Call::Give(ticket, found) => self.give(ticket) == found,
+            Call::DropAck(ticket, found) => self.drop_ack(ticket) == found,
+            Call::PopGiven(ticket, height) => {
+                self.pop_ready() == Oldest::Given(ack(ticket, height, Mark::Given))
+            }
+            Call::PopDropped(ticket, height) => {
+                self.pop_ready() == Oldest::Dropped(ack(ticket, height, Mark::Dropped))
+            }
+            Call::PopNothing => self.pop_ready() == Oldest::Unresolved,
+            Call::IsUnmarked(ticket, is_so) => self.is_unmarked(ticket) == is_so,
+            Call::NextHeight(start, height) => {
+                self.next_dispatch_height(Height::new(start)) == Height::new(height)
+            }
+            Call::GetDropped(index, ticket, height) => {
+                self.get(index) == Some(ack(ticket, height, Mark::Dropped))
+            }
+            Call::GetNothing(index) => self.get(index).is_none(),
+            Call::Clear => {
+                self.clear();
+                true
+            }
+            Call::Counts(len, max) => has_counts(self, len, max),
         }
-        Call::Give(ticket, found) => acks.give(ticket) == found,
-        Call::DropAck(ticket, found) => acks.drop_ack(ticket) == found,
-        Call::PopGiven(ticket, height) => pops(
-            acks,
-            Oldest::Given(ack(ticket, height, Mark::Given)),
-        ),
-        Call::PopDropped(ticket, height) => pops(
-            acks,
-            Oldest::Dropped(ack(ticket, height, Mark::Dropped)),
-        ),
-        Call::PopNothing => pops(acks, Oldest::Unresolved),
-        Call::IsUnmarked(ticket, is_so) => acks.is_unmarked(ticket) == is_so,
-        Call::NextHeight(start, height) => {
-            acks.next_dispatch_height(Height::new(start)) == Height::new(height)
-        }
-        Call::GetDropped(index, ticket, height) => {
-            acks.get(index) == Some(ack(ticket, height, Mark::Dropped))
-        }
-        Call::GetNothing(index) => acks.get(index).is_none(),
-        Call::Clear => {
-            acks.clear();
-            true
-        }
-        Call::Counts(len, max) => has_counts(acks, len, max),
-    }
-}
-
-// Makes the calls in turn on a queue of that size.
-fn follow(rt: &impl Abort, alloc: Global, max: usize, calls: &[Call]) {
-    let mut acks = PendingAcks::new(alloc, max).expect(rt, "memory");
-    for (place, call) in calls.iter().enumerate() {
-        holds_at(rt, place, answers(rt, &mut acks, *call));
     }
 }
 
@@ -123,38 +105,6 @@ const IN_ORDER: [Call; 29] = [
     Call::NextHeight(9, 9),
 ];
 
-#[test]
-fn acknowledgements_in_their_order(rt: HostRuntime) {
-    follow(&rt, rt.alloc(), 3, &IN_ORDER);
-}
-
-const TOGETHER: [Call; 19] = [
-    Call::Counts(0, 2),
-    Call::NextHeight(8, 8),
-    Call::Enqueue(0, 8),
-    Call::Counts(1, 2),
-    Call::NextHeight(8, 9),
-    Call::Enqueue(1, 9),
-    Call::Counts(2, 2),
-    Call::NextHeight(8, 10),
-    Call::Give(1, true),
-    Call::PopNothing,
-    Call::Give(0, true),
-    Call::PopGiven(0, 8),
-    Call::PopGiven(1, 9),
-    Call::Enqueue(2, 3),
-    Call::Enqueue(3, 4),
-    Call::Clear,
-    Call::PopNothing,
-    Call::Counts(0, 2),
-    Call::NextHeight(10, 10),
-];
-
-#[test]
-fn acknowledgements_forgotten_together(rt: HostRuntime) {
-    follow(&rt, rt.alloc(), 2, &TOGETHER);
-}
-
 const OF_NONE: [Call; 4] = [
     Call::Counts(0, 0),
     Call::Give(4, false),
@@ -162,31 +112,12 @@ const OF_NONE: [Call; 4] = [
     Call::Counts(0, 0),
 ];
 
-const OF_ONE: [Call; 6] = [
-    Call::Counts(0, 1),
-    Call::Enqueue(4, 6),
-    Call::Counts(1, 1),
-    Call::Give(4, true),
-    Call::PopGiven(4, 6),
-    Call::Counts(0, 1),
-];
-
-const MARKS: [(Mark, u64, bool); 4] = [
-    (Mark::Waiting, 4, true),
-    (Mark::Waiting, 5, false),
-    (Mark::Given, 4, false),
-    (Mark::Dropped, 4, false),
-];
-
-fn are_unmarked(rt: &impl Abort, rows: &[(Mark, u64, bool)]) {
-    for (mark, ticket, is_unmarked) in rows {
-        same(rt, ack(4, 6, *mark).is_unmarked(*ticket), *is_unmarked);
-    }
-}
-
 #[test]
 fn acknowledgements_within_their_window(rt: HostRuntime) {
-    follow(&rt, rt.alloc(), 0, &OF_NONE);
-    follow(&rt, rt.alloc(), 1, &OF_ONE);
-    are_unmarked(&rt, &MARKS);
+    let mut acks = given(&rt, PendingAcks::new(rt.alloc(), 3));
+    play(&rt, &mut acks, &IN_ORDER);
+    let mut acks = given(&rt, PendingAcks::new(rt.alloc(), 0));
+    play(&rt, &mut acks, &OF_NONE);
+    same(&rt, ack(4, 6, Mark::Waiting).is_unmarked(4), true);
+    same(&rt, ack(4, 6, Mark::Given).is_unmarked(4), false);
 }

@@ -1,19 +1,8 @@
 //! Scripts of what comes for tickets, and how each stands. No function here has a clause: a test only says what is to
 //! come out.
 use crate::tell::*;
-use mar_block::EmptyBlock;
-use mar_cert::{Finalization, MockCertificate};
 use mar_inbox::*;
-use mar_types::{Digested, Sha256, Sha256Digest};
-use std::alloc::Global;
 use std::process::Abort;
-
-// What a node answers.
-type NodeValue = Value<
-    Sha256Digest,
-    Digested<EmptyBlock<Sha256>>,
-    Finalization<Sha256Digest, MockCertificate>,
->;
 
 // What came: tickets with their values, none where they were closed.
 type Came = &'static [(u64, Option<u64>)];
@@ -30,46 +19,37 @@ enum Call {
     Takes(Came),
 }
 
-fn is_one(answered: &Answered<u64>, want: (u64, Option<u64>)) -> bool {
-    let value = match answered.answer {
-        Answer::Value(value) => Some(value),
-        Answer::Closed => None,
-    };
-    (answered.ticket == want.0) & (value == want.1)
-}
-
 fn are(answers: &[Answered<u64>], want: Came) -> bool {
     let mut are_so = answers.len() == want.len();
-    for (answered, want) in answers.iter().zip(want.iter()) {
-        are_so = are_so & is_one(answered, *want);
+    for (answered, (ticket, wanted)) in answers.iter().zip(want) {
+        let value = match answered.answer {
+            Answer::Value(value) => Some(value),
+            Answer::Closed => None,
+        };
+        are_so = are_so & (answered.ticket == *ticket) & (value == *wanted);
     }
     are_so
 }
 
-fn answers(rt: &impl Abort, table: &mut AnswerTable<u64>, call: Call) -> bool {
-    match call {
-        Call::Put(ticket, value) => {
-            given(rt, table.put(ticket, value));
-            true
+impl Plays<Call> for AnswerTable<u64> {
+    fn plays(&mut self, rt: &impl Abort, call: Call) -> bool {
+        match call {
+            Call::Put(ticket, value) => {
+                given(rt, self.put(ticket, value));
+                true
+            }
+            Call::Close(ticket) => {
+                given(rt, self.close(ticket));
+                true
+            }
+            Call::Waits(ticket) => matches!(self.poll(ticket), Standing::Waiting),
+            Call::HasValue(ticket, want) => {
+                matches!(self.poll(ticket), Standing::Value(value) if *value == want)
+            }
+            Call::IsClosed(ticket) => matches!(self.poll(ticket), Standing::Closed),
+            Call::Lists(want) => are(self.answers(), want),
+            Call::Takes(want) => are(self.take().as_slice(), want),
         }
-        Call::Close(ticket) => {
-            given(rt, table.close(ticket));
-            true
-        }
-        Call::Waits(ticket) => matches!(table.poll(ticket), Standing::Waiting),
-        Call::HasValue(ticket, want) => {
-            matches!(table.poll(ticket), Standing::Value(value) if *value == want)
-        }
-        Call::IsClosed(ticket) => matches!(table.poll(ticket), Standing::Closed),
-        Call::Lists(want) => are(table.answers(), want),
-        Call::Takes(want) => are(table.take().as_slice(), want),
-    }
-}
-
-fn follow(rt: &impl Abort, alloc: Global, calls: &[Call]) {
-    let mut table = AnswerTable::new(alloc);
-    for (place, call) in calls.iter().enumerate() {
-        holds_at(rt, place, answers(rt, &mut table, *call));
     }
 }
 
@@ -86,11 +66,6 @@ const ANSWERED: [Call; 11] = [
     Call::Lists(&[(7, Some(70)), (3, Some(30)), (7, Some(71))]),
     Call::Waits(u64::MAX),
 ];
-
-#[test]
-fn the_latest_answer_stands(rt: HostRuntime) {
-    follow(&rt, rt.alloc(), &ANSWERED);
-}
 
 const CLOSED: [Call; 10] = [
     Call::Put(2, 20),
@@ -111,11 +86,6 @@ const CLOSED: [Call; 10] = [
     ]),
 ];
 
-#[test]
-fn a_closing_ends_a_wait_alone(rt: HostRuntime) {
-    follow(&rt, rt.alloc(), &CLOSED);
-}
-
 const TAKEN: [Call; 8] = [
     Call::Takes(&[]),
     Call::Put(5, 50),
@@ -128,26 +98,10 @@ const TAKEN: [Call; 8] = [
 ];
 
 #[test]
-fn what_is_taken_is_kept_no_more(rt: HostRuntime) {
-    follow(&rt, rt.alloc(), &TAKEN);
-}
-
-fn put_all(rt: &impl Abort, table: &mut AnswerTable<NodeValue>) {
-    given(rt, table.put(0, Value::None));
-    given(rt, table.put(1, Value::Sync(4)));
-    given(rt, table.put(1, Value::True));
-    given(rt, table.close(2));
-}
-
-#[test]
-fn a_node_answers(rt: HostRuntime) {
-    let mut table = AnswerTable::new(rt.alloc());
-    put_all(&rt, &mut table);
-    holds(&rt, matches!(table.poll(0), Standing::Value(Value::None)));
-    holds(&rt, matches!(table.poll(1), Standing::Value(Value::True)));
-    holds(&rt, matches!(table.poll(2), Standing::Closed));
-    same(&rt, table.answers().len(), 4);
-    same(&rt, table.take().len(), 4);
+fn the_latest_answer_stands(rt: HostRuntime) {
+    play(&rt, &mut AnswerTable::new(rt.alloc()), &ANSWERED);
+    play(&rt, &mut AnswerTable::new(rt.alloc()), &CLOSED);
+    play(&rt, &mut AnswerTable::new(rt.alloc()), &TAKEN);
 }
 
 #[test]

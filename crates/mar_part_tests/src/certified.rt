@@ -1,8 +1,7 @@
 //! Scripts of the commitments that are known as certified, and the epochs that a height closes.
 use crate::tell::*;
 use mar_parts::{Certified, closed_epoch};
-use mar_types::{Epoch, FixedEpocher, Hasher, Height, Sha256, Sha256Digest};
-use std::alloc::Global;
+use mar_types::{FixedEpocher, Hasher, Height, Sha256, Sha256Digest};
 use std::num::NonZeroU64;
 use std::process::Abort;
 
@@ -11,54 +10,45 @@ use std::process::Abort;
 enum Call {
     Insert(u64, u8),
     Contains(u64, u8, bool),
+    // One of ones.
+    ContainsOnes(u64, bool),
     Retain(u64),
 }
 
-// Whether it is found so, by itself and by a test that it passes.
-fn contains(certified: &Certified<Sha256Digest>, height: u64, byte: u8, found: bool) -> bool {
-    let at = Height::new(height);
-    let commitment = Sha256::fill(byte);
-    let matches = certified.contains_matching(at, |known| *known == commitment);
-    (matches == found) & (certified.contains(at, &commitment) == found)
+fn is_ones(commitment: &Sha256Digest) -> bool {
+    *commitment == Sha256::fill(1)
 }
 
-fn answers(rt: &impl Abort, certified: &mut Certified<Sha256Digest>, call: Call) -> bool {
-    match call {
-        Call::Insert(height, byte) => {
-            given(
-                rt,
-                certified.insert(Height::new(height), Sha256::fill(byte)),
-            );
-            true
+impl Plays<Call> for Certified<Sha256Digest> {
+    fn plays(&mut self, rt: &impl Abort, call: Call) -> bool {
+        match call {
+            Call::Insert(height, byte) => {
+                given(rt, self.insert(Height::new(height), Sha256::fill(byte)));
+                true
+            }
+            Call::Contains(height, byte, found) => {
+                self.contains(Height::new(height), &Sha256::fill(byte)) == found
+            }
+            Call::ContainsOnes(height, found) => {
+                self.contains_matching(Height::new(height), is_ones) == found
+            }
+            Call::Retain(height) => {
+                self.retain(Height::new(height));
+                true
+            }
         }
-        Call::Contains(height, byte, found) => contains(certified, height, byte, found),
-        Call::Retain(height) => {
-            certified.retain(Height::new(height));
-            true
-        }
     }
 }
 
-fn follow_each(rt: &impl Abort, alloc: Global, scripts: &[&[Call]]) {
-    for calls in scripts {
-        follow(rt, alloc, calls);
-    }
-}
-
-fn follow(rt: &impl Abort, alloc: Global, calls: &[Call]) {
-    let mut certified = Certified::new(alloc);
-    for (place, call) in calls.iter().enumerate() {
-        holds_at(rt, place, answers(rt, &mut certified, *call));
-    }
-}
-
-const AT_THEIR_HEIGHTS: [Call; 19] = [
+const AT_THEIR_HEIGHTS: [Call; 22] = [
     Call::Insert(5, 1),
     Call::Contains(5, 1, true),
+    Call::ContainsOnes(5, true),
     Call::Insert(6, 3),
     Call::Contains(6, 3, true),
     Call::Insert(7, 2),
     Call::Contains(7, 2, true),
+    Call::ContainsOnes(7, false),
     Call::Contains(6, 1, false),
     Call::Contains(5, 2, false),
     Call::Insert(5, 2),
@@ -72,9 +62,8 @@ const AT_THEIR_HEIGHTS: [Call; 19] = [
     Call::Contains(6, 1, true),
     Call::Insert(0, 1),
     Call::Contains(0, 1, false),
+    Call::ContainsOnes(0, false),
 ];
-
-const AT_ZERO: [Call; 2] = [Call::Insert(0, 1), Call::Contains(0, 1, false)];
 
 const AGAIN: [Call; 13] = [
     Call::Insert(6, 1),
@@ -92,11 +81,10 @@ const AGAIN: [Call; 13] = [
     Call::Contains(0, 1, false),
 ];
 
-const SCRIPTS: [&[Call]; 3] = [&AT_THEIR_HEIGHTS, &AT_ZERO, &AGAIN];
-
 #[test]
 fn commitments_are_known_at_their_heights(rt: HostRuntime) {
-    follow_each(&rt, rt.alloc(), &SCRIPTS);
+    play(&rt, &mut Certified::new(rt.alloc()), &AT_THEIR_HEIGHTS);
+    play(&rt, &mut Certified::new(rt.alloc()), &AGAIN);
 }
 
 const CLOSED: [(u64, Option<u64>); 7] = [
@@ -109,21 +97,15 @@ const CLOSED: [(u64, Option<u64>); 7] = [
     (u64::MAX, None),
 ];
 
-// Whether an epoch is this number, or both are none.
-fn is_epoch(got: Option<Epoch>, want: Option<u64>) -> bool {
-    match (got, want) {
-        (Some(got), Some(want)) => got == Epoch::new(want),
-        (None, None) => true,
-        _ => false,
-    }
-}
-
 // That each height closes its epoch, where eleven heights are an epoch.
 fn close(rt: &impl Abort, rows: &[(u64, Option<u64>)]) {
     let epocher = FixedEpocher::new(NonZeroU64::new(11).expect(rt, "zero"));
     for (height, epoch) in rows {
-        let closed = closed_epoch(&epocher, Height::new(*height));
-        holds(rt, is_epoch(closed, *epoch));
+        let closed = match closed_epoch(&epocher, Height::new(*height)) {
+            Some(closed) => Some(closed.get()),
+            None => None,
+        };
+        same(rt, closed, *epoch);
     }
 }
 

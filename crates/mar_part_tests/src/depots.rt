@@ -38,15 +38,12 @@ enum Call {
 // A depot, or what is left of it.
 type Life<D> = Result<D, Lost<<D as Depot<Counted>>::Wreck>>;
 
-fn close<D: Depot<Counted>>(depot: &mut D, name: u64, count: u64) {
-    depot.close(name, Counted { count });
-}
-
 fn count_on<D: Depot<Counted>>(depot: D, name: u64, count: u64) -> Option<Life<D>> {
     match depot.open(name) {
         Ok((depot, content)) if content.count == count => {
             let mut depot = depot;
-            close(&mut depot, name, count.saturating_add(1));
+            let count = count.saturating_add(1);
+            depot.close(name, Counted { count });
             Some(Ok(depot))
         }
         Ok(_) => None,
@@ -54,34 +51,24 @@ fn count_on<D: Depot<Counted>>(depot: D, name: u64, count: u64) -> Option<Life<D
     }
 }
 
-fn lists<D: Depot<Counted>>(depot: &mut D, want: Result<&[u64], Miss>) -> bool {
-    match depot.list() {
-        Ok(names) => want == Ok(names.as_slice()),
-        Err(miss) => want == Err(miss),
-    }
-}
-
-fn answers<D: Depot<Counted>>(depot: &mut D, call: Call) -> bool {
-    match call {
-        Call::Close(name, count) => {
-            close(depot, name, count);
-            true
-        }
-        Call::List(want) => lists(depot, want),
-        Call::Arm(calls) => depot.arm(calls).is_ok(),
-        _ => false,
-    }
-}
-
 fn of_depot<D: Depot<Counted>>(depot: D, call: Call) -> Option<Life<D>> {
     let mut depot = depot;
-    match call {
-        Call::Count(name, count) => count_on(depot, name, count),
-        Call::Destroy(name) => Some(depot.destroy(name)),
-        Call::Crash => Some(Err(Lost::Fault(depot.wreck()))),
-        _ if answers(&mut depot, call) => Some(Ok(depot)),
-        _ => None,
-    }
+    let is_so = match call {
+        Call::Count(name, count) => return count_on(depot, name, count),
+        Call::Destroy(name) => return Some(depot.destroy(name)),
+        Call::Crash => return Some(Err(Lost::Fault(depot.wreck()))),
+        Call::Close(name, count) => {
+            depot.close(name, Counted { count });
+            true
+        }
+        Call::List(want) => match depot.list() {
+            Ok(names) => want == Ok(names.as_slice()),
+            Err(miss) => want == Err(miss),
+        },
+        Call::Arm(calls) => depot.arm(calls).is_ok(),
+        Call::ArmLeft(_) | Call::Reopen => false,
+    };
+    if is_so { Some(Ok(depot)) } else { None }
 }
 
 fn of_wreck<D: Depot<Counted>>(wreck: D::Wreck, call: Call) -> Option<Life<D>> {
@@ -93,19 +80,16 @@ fn of_wreck<D: Depot<Counted>>(wreck: D::Wreck, call: Call) -> Option<Life<D>> {
     }
 }
 
-fn after<D: Depot<Counted>>(life: Life<D>, call: Call) -> Option<Life<D>> {
-    match life {
-        Ok(depot) => of_depot(depot, call),
-        Err(Lost::Fault(wreck)) => of_wreck(wreck, call),
-        Err(Lost::Memory(_)) => None,
-    }
-}
-
 // The place of the first call that doesn't answer as it is to.
 fn wrong_place<D: Depot<Counted>>(depot: D, calls: &[Call]) -> Option<usize> {
     let mut life = Ok(depot);
     for (place, call) in calls.iter().enumerate() {
-        match after(life, *call) {
+        let next = match life {
+            Ok(depot) => of_depot(depot, *call),
+            Err(Lost::Fault(wreck)) => of_wreck(wreck, *call),
+            Err(Lost::Memory(_wreck)) => None,
+        };
+        match next {
             Some(next) => life = next,
             None => return Some(place),
         }
@@ -113,14 +97,12 @@ fn wrong_place<D: Depot<Counted>>(depot: D, calls: &[Call]) -> Option<usize> {
     None
 }
 
-// The same of a depot in memory with no names.
-fn wrong_in_memory(alloc: Global, calls: &[Call]) -> Option<usize> {
-    let depot: MemDepot<Counted> = MemDepot::new(alloc);
-    wrong_place(depot, calls)
-}
-
+// Makes the calls in turn on a depot in memory that has no names.
 fn follow(rt: &impl Abort, alloc: Global, calls: &[Call]) {
-    none_is_wrong(rt, 0, wrong_in_memory(alloc, calls));
+    let depot: MemDepot<Counted> = MemDepot::new(alloc);
+    if let Some(place) = wrong_place(depot, calls) {
+        holds_at(rt, place, false);
+    }
 }
 
 const NAMES: [Call; 18] = [
@@ -144,11 +126,6 @@ const NAMES: [Call; 18] = [
     Call::List(Ok(&[3, 7])),
 ];
 
-#[test]
-fn a_depot_keeps_its_names(rt: HostRuntime) {
-    follow(&rt, rt.alloc(), &NAMES);
-}
-
 const ARMED: [Call; 12] = [
     Call::Count(3, 0),
     Call::Arm(1),
@@ -166,6 +143,7 @@ const ARMED: [Call; 12] = [
 ];
 
 #[test]
-fn an_armed_call_of_a_depot_fails(rt: HostRuntime) {
+fn a_depot_keeps_its_names(rt: HostRuntime) {
+    follow(&rt, rt.alloc(), &NAMES);
     follow(&rt, rt.alloc(), &ARMED);
 }

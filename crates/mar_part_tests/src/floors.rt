@@ -1,39 +1,17 @@
 //! Floors: which requests they let through, and scripts of what they hold and await.
+use crate::light::{Vote, vote_of};
 use crate::tell::*;
 use mar_block::Subscription;
-use mar_cert::{CommitsTo, MockCertificate, MockFinalization, Proposal};
 use mar_key::{Cutoff, Floor, Processed, Recorder, Request};
 use mar_parts::*;
 use mar_types::{Digest, Epoch, Hasher, Height, Round, Sha256, Sha256Digest, View};
 use std::alloc::{AllocError, Global};
 use std::process::Abort;
 
-type Floors = State<Sha256Digest, MockFinalization>;
-
-type Recording = Recorder<Sha256Digest>;
+type Floors = State<Sha256Digest, Vote>;
 
 fn round(epoch: u64, view: u64) -> Round {
     Round::new(Epoch::new(epoch), View::new(view))
-}
-
-fn floors(processed: Option<Processed>, cutoff: Cutoff) -> Floors {
-    State::new(None, Floor::new(processed, cutoff), Round::zero())
-}
-
-// The floors at height 5 and at view 5 of the first epoch.
-fn low() -> Floors {
-    floors(
-        Some(Processed::Block(Height::new(5))),
-        Cutoff::Round(round(0, 5)),
-    )
-}
-
-// The floors at height 10 and at the end of the first epoch.
-fn high() -> Floors {
-    floors(
-        Some(Processed::Block(Height::new(10))),
-        Cutoff::Epoch(Epoch::zero()),
-    )
 }
 
 #[derive(Clone, Copy)]
@@ -41,125 +19,94 @@ enum Asking {
     Finalized(u64),
     ByHeight(u64),
     Notarized(u64, u64),
+    // Two requests by heights and two by views, of the lower and of the greater number.
+    Several(u64, u64),
+    // By a height, of two peers.
+    Targeted(u64),
 }
 
-fn request(asking: Asking) -> Request<Sha256Digest> {
-    match asking {
+fn fetch(
+    alloc: Global,
+    floors: &Floors,
+    resolver: &mut Recorder<Sha256Digest>,
+    asking: Asking,
+) -> Result<FetchAdmission, AllocError> {
+    let request = match asking {
         Asking::Finalized(height) => Request::finalized(Height::new(height)),
         Asking::ByHeight(height) => {
             Request::finalized_by_height(Sha256Digest::empty(), Height::new(height))
         }
         Asking::Notarized(epoch, view) => Request::notarized(round(epoch, view)),
-    }
+        Asking::Several(lower, greater) => {
+            let requests = [
+                Request::finalized(Height::new(lower)),
+                Request::finalized(Height::new(greater)),
+                Request::notarized(round(0, lower)),
+                Request::notarized(round(0, greater)),
+            ];
+            return floors.fetch_all_if_permitted(alloc, resolver, &requests);
+        }
+        Asking::Targeted(height) => {
+            let request = Request::finalized(Height::new(height));
+            return floors.fetch_targeted_if_permitted(resolver, request, &[1, 2]);
+        }
+    };
+    floors.fetch_if_permitted(resolver, request)
 }
 
-fn is_fetched(rt: &impl Abort, floors: &Floors, resolver: &mut Recording, asking: Asking) -> bool {
-    let admission = floors.fetch_if_permitted(resolver, request(asking));
-    given(rt, admission) == FetchAdmission::Issued
-}
-
-// That each of these is asked or not.
-fn admit(rt: &impl Abort, alloc: Global, floors: &Floors, rows: &[(Asking, bool)]) {
+// That of each of these so many requests are asked.
+fn admit(rt: &impl Abort, alloc: Global, floor: Floor, rows: &[(Asking, usize)]) {
+    let floors: Floors = State::new(None, floor, Round::zero());
     let mut resolver = Recorder::new(alloc);
-    for (asking, issued) in rows {
+    for (place, (asking, count)) in rows.iter().enumerate() {
         let asked = resolver.asks().len();
-        same(rt, is_fetched(rt, floors, &mut resolver, *asking), *issued);
-        same(rt, resolver.asks().len() > asked, *issued);
+        let admission = given(rt, fetch(alloc, &floors, &mut resolver, *asking));
+        let is_issued = admission == FetchAdmission::Issued;
+        let more = resolver.asks().len().saturating_sub(asked);
+        holds_at(rt, place, (is_issued == (*count > 0)) & (more == *count));
     }
 }
 
-const ABOVE_LOW: [(Asking, bool); 5] = [
-    (Asking::Finalized(5), false),
-    (Asking::ByHeight(4), false),
-    (Asking::Notarized(0, 5), false),
-    (Asking::Finalized(6), true),
-    (Asking::Notarized(0, 6), true),
+// Above height 5, and view 5 of the first epoch.
+const ABOVE_LOW: [(Asking, usize); 9] = [
+    (Asking::Finalized(5), 0),
+    (Asking::ByHeight(4), 0),
+    (Asking::Notarized(0, 5), 0),
+    (Asking::Finalized(6), 1),
+    (Asking::Notarized(0, 6), 1),
+    (Asking::Several(5, 6), 2),
+    (Asking::Several(4, 5), 0),
+    (Asking::Targeted(5), 0),
+    (Asking::Targeted(6), 1),
 ];
 
-const ABOVE_HIGH: [(Asking, bool); 4] = [
-    (Asking::Notarized(0, 40), false),
-    (Asking::Notarized(0, u64::MAX), false),
-    (Asking::Notarized(1, 0), true),
-    (Asking::Finalized(11), true),
+// Above height 10, and the first epoch.
+const ABOVE_HIGH: [(Asking, usize); 4] = [
+    (Asking::Notarized(0, 40), 0),
+    (Asking::Notarized(0, u64::MAX), 0),
+    (Asking::Notarized(1, 0), 1),
+    (Asking::Finalized(11), 1),
 ];
 
 #[test]
 fn requests_above_the_floors_are_asked(rt: HostRuntime) {
-    admit(&rt, rt.alloc(), &low(), &ABOVE_LOW);
-    admit(&rt, rt.alloc(), &high(), &ABOVE_HIGH);
-    let none = floors(None, Cutoff::zero());
-    admit(&rt, rt.alloc(), &none, &[(Asking::Finalized(0), true)]);
-}
-
-fn fetch_all(
-    rt: &impl Abort,
-    alloc: Global,
-    resolver: &mut Recording,
-    askings: &[Asking],
-) -> FetchAdmission {
-    let mut requests = Vec::new(alloc);
-    for asking in askings {
-        given(rt, requests.push(request(*asking)));
-    }
-    let admission = low().fetch_all_if_permitted(alloc, resolver, requests.as_slice());
-    given(rt, admission)
-}
-
-fn fetch_of_two(resolver: &mut Recording, height: u64) -> Result<FetchAdmission, AllocError> {
-    low().fetch_targeted_if_permitted(resolver, request(Asking::Finalized(height)), &[1, 2])
-}
-
-const SOME_ABOVE: [Asking; 4] = [
-    Asking::Finalized(5),
-    Asking::Finalized(6),
-    Asking::Notarized(0, 5),
-    Asking::Notarized(0, 6),
-];
-
-const NONE_ABOVE: [Asking; 2] = [Asking::Finalized(5), Asking::Notarized(0, 5)];
-
-#[test]
-fn several_requests_above_the_floors_are_asked(rt: HostRuntime) {
-    let alloc = rt.alloc();
-    let mut resolver = Recorder::new(alloc);
-    let admission = fetch_all(&rt, alloc, &mut resolver, &SOME_ABOVE);
-    same(&rt, admission, FetchAdmission::Issued);
-    same(&rt, resolver.asks().len(), 2);
-    let admission = fetch_all(&rt, alloc, &mut resolver, &NONE_ABOVE);
-    same(&rt, admission, FetchAdmission::Denied);
-    same(&rt, resolver.asks().len(), 2);
-    let admission = given(&rt, fetch_of_two(&mut resolver, 5));
-    same(&rt, admission, FetchAdmission::Denied);
-    same(&rt, resolver.asks().len(), 2);
-    let admission = given(&rt, fetch_of_two(&mut resolver, 6));
-    same(&rt, admission, FetchAdmission::Issued);
-    same(&rt, resolver.asks().len(), 3);
+    let processed = Some(Processed::Block(Height::new(5)));
+    let low = Floor::new(processed, Cutoff::Round(round(0, 5)));
+    admit(&rt, rt.alloc(), low, &ABOVE_LOW);
+    let processed = Some(Processed::Block(Height::new(10)));
+    let high = Floor::new(processed, Cutoff::Epoch(Epoch::zero()));
+    admit(&rt, rt.alloc(), high, &ABOVE_HIGH);
+    let none = Floor::new(None, Cutoff::zero());
+    admit(&rt, rt.alloc(), none, &[(Asking::Finalized(0), 1)]);
 }
 
 // A finalization by its epoch, its view, and the byte of its payload.
 type Plain = (u64, u64, u8);
 
-fn finalization(alloc: Global, plain: Plain) -> MockFinalization {
-    MockFinalization {
-        proposal: Proposal {
-            round: round(plain.0, plain.1),
-            parent: View::zero(),
-            payload: Sha256::fill(plain.2),
-        },
-        certificate: MockCertificate {
-            signers: Vec::new(alloc),
-        },
-    }
-}
-
-fn is_of(finalization: Option<MockFinalization>, plain: Option<Plain>) -> bool {
-    match (finalization, plain) {
-        (Some(finalization), Some((epoch, view, byte))) => {
-            (finalization.round() == round(epoch, view))
-                & (finalization.payload() == Sha256::fill(byte))
-        }
-        (None, None) => true,
-        _ => false,
+fn is_of(finalization: Option<Vote>, plain: Option<Plain>) -> bool {
+    match plain {
+        Some((epoch, view, byte)) => finalization == Some(vote_of(epoch, view, byte)),
+        None => finalization.is_none(),
     }
 }
 
@@ -167,12 +114,15 @@ fn is_of(finalization: Option<MockFinalization>, plain: Option<Plain>) -> bool {
 #[derive(Clone, Copy)]
 enum Call {
     TakeConfigured(Option<Plain>),
+    // The block at this height is absent, and nothing more is cut off.
     RestoredAbsent(u64),
     SetBlock(u64),
     ProcessedHeight(u64),
     SetEpoch(u64),
     CutoffEpoch(u64),
-    Witness(u64, u64, Option<(u64, u64)>),
+    Witness(u64, u64),
+    // One that is no newer.
+    WitnessAgain(u64, u64),
     Witnessed(u64, u64),
     SetPending(Plain, bool),
     BlocksProgress(bool),
@@ -181,37 +131,13 @@ enum Call {
     ClearPending,
 }
 
-fn absent(height: u64) -> Option<Processed> {
-    Some(Processed::Absent(Height::new(height)))
-}
-
-// Whether both say that the block at this height is absent, and that nothing more is cut off.
-fn are_restored(floors: &Floors, height: u64) -> bool {
-    (floors.snapshot() == Floor::new(absent(height), Cutoff::zero()))
-        & (floors.processed() == absent(height))
-}
-
-fn witnesses(floors: &mut Floors, at: Round, before: Option<(u64, u64)>) -> bool {
-    match (floors.witness(at), before) {
-        (Some(noted), Some((epoch, view))) => noted == round(epoch, view),
-        (None, None) => true,
-        _ => false,
-    }
-}
-
-fn set_pending(alloc: Global, floors: &mut Floors, plain: Plain, is_told: bool) {
-    let name = Sha256::fill(plain.2);
-    let told = if is_told {
-        Some(Subscription { name })
-    } else {
-        None
-    };
-    floors.set_pending(finalization(alloc, plain), told);
-}
-
 fn tells(floors: &Floors, call: Call) -> bool {
     match call {
-        Call::RestoredAbsent(height) => are_restored(floors, height),
+        Call::RestoredAbsent(height) => {
+            let absent = Some(Processed::Absent(Height::new(height)));
+            (floors.snapshot() == Floor::new(absent, Cutoff::zero()))
+                & (floors.processed() == absent)
+        }
         Call::ProcessedHeight(height) => floors.processed_height() == Height::new(height),
         Call::CutoffEpoch(epoch) => floors.cutoff() == Cutoff::Epoch(Epoch::new(epoch)),
         Call::Witnessed(epoch, view) => floors.witnessed() == round(epoch, view),
@@ -223,29 +149,39 @@ fn tells(floors: &Floors, call: Call) -> bool {
     }
 }
 
-fn answers(alloc: Global, floors: &mut Floors, call: Call) -> bool {
-    match call {
-        Call::TakeConfigured(plain) => return is_of(floors.take_configured(), plain),
-        Call::Witness(epoch, view, before) => return witnesses(floors, round(epoch, view), before),
-        Call::TakeMatching(byte, plain) => {
-            return is_of(floors.take_matching(Sha256::fill(byte)), plain);
+fn set_pending(floors: &mut Floors, plain: Plain, is_told: bool) {
+    let name = Sha256::fill(plain.2);
+    let told = if is_told {
+        Some(Subscription { name })
+    } else {
+        None
+    };
+    floors.set_pending(vote_of(plain.0, plain.1, plain.2), told);
+}
+
+impl Plays<Call> for Floors {
+    fn plays(&mut self, _rt: &impl Abort, call: Call) -> bool {
+        match call {
+            Call::TakeConfigured(plain) => return is_of(self.take_configured(), plain),
+            Call::TakeMatching(byte, plain) => {
+                return is_of(self.take_matching(Sha256::fill(byte)), plain);
+            }
+            Call::Witness(epoch, view) => {
+                let before = self.witnessed();
+                return self.witness(round(epoch, view)) == Some(before);
+            }
+            Call::WitnessAgain(epoch, view) => return self.witness(round(epoch, view)).is_none(),
+            Call::SetBlock(height) => self.set_processed(Processed::Block(Height::new(height))),
+            Call::SetEpoch(epoch) => self.set_cutoff(Cutoff::Epoch(Epoch::new(epoch))),
+            Call::SetPending(plain, is_told) => set_pending(self, plain, is_told),
+            Call::ClearPending => self.clear_pending(),
+            _ => return tells(self, call),
         }
-        Call::SetBlock(height) => floors.set_processed(Processed::Block(Height::new(height))),
-        Call::SetEpoch(epoch) => floors.set_cutoff(Cutoff::Epoch(Epoch::new(epoch))),
-        Call::SetPending(plain, is_told) => set_pending(alloc, floors, plain, is_told),
-        Call::ClearPending => floors.clear_pending(),
-        _ => return tells(floors, call),
-    }
-    true
-}
-
-fn follow(rt: &impl Abort, alloc: Global, floors: &mut Floors, calls: &[Call]) {
-    for (place, call) in calls.iter().enumerate() {
-        holds_at(rt, place, answers(alloc, floors, *call));
+        true
     }
 }
 
-const AWAITED: [Call; 23] = [
+const AWAITED: [Call; 24] = [
     Call::TakeConfigured(Some((1, 1, 1))),
     Call::TakeConfigured(None),
     Call::RestoredAbsent(4),
@@ -254,8 +190,9 @@ const AWAITED: [Call; 23] = [
     Call::SetEpoch(2),
     Call::ProcessedHeight(6),
     Call::CutoffEpoch(2),
-    Call::Witness(0, 3, None),
-    Call::Witness(1, 0, Some((0, 3))),
+    Call::Witnessed(0, 3),
+    Call::WitnessAgain(0, 3),
+    Call::Witness(1, 0),
     Call::Witnessed(1, 0),
     Call::BlocksProgress(false),
     Call::SetPending((1, 1, 1), true),
@@ -273,8 +210,8 @@ const AWAITED: [Call; 23] = [
 
 #[test]
 fn floors_and_what_is_awaited(rt: HostRuntime) {
-    let floor = Floor::new(absent(4), Cutoff::zero());
-    let first = finalization(rt.alloc(), (1, 1, 1));
-    let mut floors: Floors = State::new(Some(first), floor, round(0, 3));
-    follow(&rt, rt.alloc(), &mut floors, &AWAITED);
+    let absent = Some(Processed::Absent(Height::new(4)));
+    let floor = Floor::new(absent, Cutoff::zero());
+    let mut floors: Floors = State::new(Some(vote_of(1, 1, 1)), floor, round(0, 3));
+    play(&rt, &mut floors, &AWAITED);
 }

@@ -17,9 +17,9 @@ mod dispatch_gate;
 #[cfg(test)]
 mod floors;
 #[cfg(test)]
-mod messages;
+mod light;
 #[cfg(test)]
-mod metadata;
+mod messages;
 #[cfg(test)]
 mod ranges;
 #[cfg(test)]

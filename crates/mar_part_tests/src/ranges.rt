@@ -14,46 +14,40 @@ pub(crate) fn are(ranges: &RangeSet, want: &[(u64, u64)]) -> bool {
     are_so
 }
 
-fn set_of(rt: &impl Abort, alloc: Global, heights: &[u64]) -> RangeSet {
+// Heights in the order in which they are added, and the ranges that they make.
+fn make_ranges(rt: &impl Abort, alloc: Global, heights: &[u64], ranges: &[(u64, u64)]) {
     let mut set = RangeSet::new(alloc);
+    same(rt, set.is_empty(), true);
     for height in heights {
         given(rt, set.insert(*height));
     }
-    set
+    same(rt, set.is_empty(), false);
+    same(rt, are(&set, ranges), true);
+    same(rt, are(&given(rt, set.try_clone()), ranges), true);
 }
 
-// Heights in the order in which they are added, and the ranges that they make.
-type Row = (&'static [u64], &'static [(u64, u64)]);
+const ASCENDING: [u64; 8] = [0, 1, 2, u64::MAX, u64::MAX - 1, 7, 6, 4];
 
-const ROWS: [Row; 3] = [
-    (&[], &[]),
-    (
-        &[5, 3, 4, 9, 0, u64::MAX, 9, 10],
-        &[(0, 0), (3, 5), (9, 10), (u64::MAX, u64::MAX)],
-    ),
-    (
-        &[0, 1, 2, u64::MAX, u64::MAX - 1, 7, 6, 4],
-        &[(0, 2), (4, 4), (6, 7), (u64::MAX - 1, u64::MAX)],
-    ),
-];
-
-fn make_ranges(rt: &impl Abort, alloc: Global, rows: &[Row]) {
-    for (heights, ranges) in rows {
-        let set = set_of(rt, alloc, heights);
-        holds(rt, are(&set, ranges));
-        holds(rt, are(&given(rt, set.try_clone()), ranges));
-        same(rt, set.is_empty(), heights.is_empty());
-    }
-}
+const MIXED: [u64; 8] = [5, 3, 4, 9, 0, u64::MAX, 9, 10];
 
 #[test]
 fn heights_in_any_order(rt: HostRuntime) {
-    make_ranges(&rt, rt.alloc(), &ROWS);
+    let last = (u64::MAX, u64::MAX);
+    make_ranges(&rt, rt.alloc(), &MIXED, &[(0, 0), (3, 5), (9, 10), last]);
+    let last = (u64::MAX - 1, u64::MAX);
+    make_ranges(&rt, rt.alloc(), &ASCENDING, &[(0, 2), (4, 4), (6, 7), last]);
 }
 
 const fn span(from: u64, to: u64) -> HeightSpan {
     HeightSpan { from, to }
 }
+
+const IDENTIFIERS: [Identifier<u64>; 4] = [
+    Identifier::Index(4),
+    Identifier::Index(5),
+    Identifier::Key(4),
+    Identifier::Key(5),
+];
 
 #[test]
 fn values_are_told_apart(rt: HostRuntime) {
@@ -61,12 +55,6 @@ fn values_are_told_apart(rt: HostRuntime) {
     are_apart(&rt, &[LuckHalf::Low, LuckHalf::High]);
     are_apart(&rt, &[Miss::Fault, Miss::Memory]);
     are_apart(&rt, &[span(4, 6), span(5, 6), span(4, 7), span(6, 4)]);
-    let identifiers = [
-        Identifier::Index(4),
-        Identifier::Index(5),
-        Identifier::Key(4u64),
-        Identifier::Key(5),
-    ];
-    are_apart(&rt, &identifiers);
+    are_apart(&rt, &IDENTIFIERS);
     debugs(&rt, rt.alloc(), &Miss::Fault, "Fault");
 }

@@ -2,7 +2,6 @@
 use crate::tell::*;
 use mar_parts::Staged;
 use mar_types::Height;
-use std::alloc::Global;
 use std::process::Abort;
 
 #[derive(Clone, Copy)]
@@ -12,24 +11,19 @@ enum Call {
     Retain(u64),
 }
 
-fn answers(rt: &impl Abort, staged: &mut Staged<u64>, call: Call) -> bool {
-    match call {
-        Call::Insert(height, block) => {
-            given(rt, staged.insert(Height::new(height), block));
-            true
+impl Plays<Call> for Staged<u64> {
+    fn plays(&mut self, rt: &impl Abort, call: Call) -> bool {
+        match call {
+            Call::Insert(height, block) => {
+                given(rt, self.insert(Height::new(height), block));
+                true
+            }
+            Call::Remove(height, block) => self.remove(Height::new(height)) == block,
+            Call::Retain(height) => {
+                self.retain(Height::new(height));
+                true
+            }
         }
-        Call::Remove(height, block) => staged.remove(Height::new(height)) == block,
-        Call::Retain(height) => {
-            staged.retain(Height::new(height));
-            true
-        }
-    }
-}
-
-fn follow(rt: &impl Abort, alloc: Global, calls: &[Call]) {
-    let mut staged = Staged::new(alloc, 2);
-    for (place, call) in calls.iter().enumerate() {
-        holds_at(rt, place, answers(rt, &mut staged, *call));
     }
 }
 
@@ -69,6 +63,6 @@ const RETAINED: [Call; 20] = [
 
 #[test]
 fn staged_blocks_are_the_first_of_their_height(rt: HostRuntime) {
-    follow(&rt, rt.alloc(), &FIRST_OF_THEIR_HEIGHT);
-    follow(&rt, rt.alloc(), &RETAINED);
+    play(&rt, &mut Staged::new(rt.alloc(), 2), &FIRST_OF_THEIR_HEIGHT);
+    play(&rt, &mut Staged::new(rt.alloc(), 2), &RETAINED);
 }

@@ -9,18 +9,22 @@ pub(crate) fn same<T: PartialEq + Drop>(rt: &impl Abort, got: T, want: T) {
     assert!(rt; got == want);
 }
 
-pub(crate) fn holds(rt: &impl Abort, is_so: bool) {
-    assert!(rt; is_so);
-}
-
-// The same of the item at this place.
+// That it is so of the item at this place.
 pub(crate) fn holds_at(rt: &impl Abort, place: usize, is_so: bool) {
     assert!(rt; is_so, "at {place}");
 }
 
-// That no call of the script at this place is the first that doesn't answer as it is to.
-pub(crate) fn none_is_wrong(rt: &impl Abort, place: usize, wrong: Option<usize>) {
-    assert!(rt; wrong.is_none(), "script {place}, call {wrong:?}");
+// What a script calls.
+pub(crate) trait Plays<C> {
+    // Makes a call, and says whether it answers as it is to.
+    fn plays(&mut self, rt: &impl Abort, call: C) -> bool;
+}
+
+// Makes the calls in turn.
+pub(crate) fn play<C: Copy, S: Plays<C>>(rt: &impl Abort, state: &mut S, calls: &[C]) {
+    for (place, call) in calls.iter().enumerate() {
+        holds_at(rt, place, state.plays(rt, *call));
+    }
 }
 
 // The value of a call that is to succeed.
@@ -33,7 +37,7 @@ pub(crate) fn given<T, E: Drop>(rt: &impl Abort, got: Result<T, E>) -> T {
 
 pub(crate) fn debugs<T: Debug>(rt: &impl Abort, alloc: Global, value: &T, want: &str) {
     let text = given(rt, format!(in alloc; "{value:?}"));
-    assert!(rt; text.as_str() == want, "{text}, and not {want}");
+    same(rt, text.as_str(), want);
 }
 
 // Whether a height is this number, or both are none.

@@ -3,7 +3,6 @@ use crate::tell::*;
 use mar_node::Writes;
 use mar_store::SyncTicket;
 use mar_types::Height;
-use std::alloc::Global;
 use std::process::Abort;
 
 // A call, and what it is to answer. A sync has the blocks' ticket 10 and the certificates' 20.
@@ -19,11 +18,6 @@ enum Call {
     IsFinished(u64, bool),
 }
 
-fn start(rt: &impl Abort, writes: &mut Writes) {
-    assert!(rt; writes.has_ticket());
-    given(rt, writes.start(SyncTicket::new(10), SyncTicket::new(20)));
-}
-
 fn covers(writes: &Writes, ticket: u64, position: Option<u64>) -> bool {
     match writes.find(ticket) {
         Some(sync) => {
@@ -34,29 +28,21 @@ fn covers(writes: &Writes, ticket: u64, position: Option<u64>) -> bool {
     }
 }
 
-fn answers(rt: &impl Abort, writes: &mut Writes, call: Call) -> bool {
-    match call {
-        Call::Defer(height) => given(rt, writes.defer(Height::new(height))),
-        Call::Start => start(rt, writes),
-        Call::Finish(ticket) => writes.finish(ticket),
-        Call::Clear => writes.clear(),
-        Call::Barrier(height) => return is_at(writes.barrier(), height),
-        Call::Covers(ticket, position) => return covers(writes, ticket, position),
-        Call::IsFinished(ticket, finished) => return writes.is_finished(ticket) == finished,
-    }
-    true
-}
-
-fn follow_each(rt: &impl Abort, alloc: Global, scripts: &[&[Call]]) {
-    for calls in scripts {
-        follow(rt, alloc, calls);
-    }
-}
-
-fn follow(rt: &impl Abort, alloc: Global, calls: &[Call]) {
-    let mut writes = Writes::new(alloc);
-    for (place, call) in calls.iter().enumerate() {
-        holds_at(rt, place, answers(rt, &mut writes, *call));
+impl Plays<Call> for Writes {
+    fn plays(&mut self, rt: &impl Abort, call: Call) -> bool {
+        match call {
+            Call::Defer(height) => given(rt, self.defer(Height::new(height))),
+            Call::Start => {
+                assert!(rt; self.has_ticket());
+                given(rt, self.start(SyncTicket::new(10), SyncTicket::new(20)));
+            }
+            Call::Finish(ticket) => self.finish(ticket),
+            Call::Clear => self.clear(),
+            Call::Barrier(height) => return is_at(self.barrier(), height),
+            Call::Covers(ticket, position) => return covers(self, ticket, position),
+            Call::IsFinished(ticket, finished) => return self.is_finished(ticket) == finished,
+        }
+        true
     }
 }
 
@@ -118,14 +104,10 @@ const NOTHING_TO_COVER: [Call; 9] = [
     Call::Barrier(None),
 ];
 
-const SCRIPTS: [&[Call]; 4] = [
-    &IN_ORDER,
-    &LATER_SYNC_FIRST,
-    &BLOCKING_SYNC,
-    &NOTHING_TO_COVER,
-];
-
 #[test]
 fn a_write_waits_for_a_sync_that_covers_it(rt: HostRuntime) {
-    follow_each(&rt, rt.alloc(), &SCRIPTS);
+    play(&rt, &mut Writes::new(rt.alloc()), &IN_ORDER);
+    play(&rt, &mut Writes::new(rt.alloc()), &LATER_SYNC_FIRST);
+    play(&rt, &mut Writes::new(rt.alloc()), &BLOCKING_SYNC);
+    play(&rt, &mut Writes::new(rt.alloc()), &NOTHING_TO_COVER);
 }
