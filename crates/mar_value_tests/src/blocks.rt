@@ -1,14 +1,11 @@
-//! Blocks and kinds of blocks: what tells them apart, copies of them, how a kind restores them, and printed text.
+//! Blocks and kinds of blocks: copies of them, how a kind restores them, and printed text.
 ghost use Rattle.std.specs.Prelude.{◌≡◌};
 
 use crate::tell::*;
-use bytes::BytesMut;
 use mar_block::mocks::{Block as MockBlock, ready};
 use mar_block::*;
 use mar_cert::MockScheme;
-use mar_types::{
-    Decode, Digest, Digestible, Hasher, Height, MaxEncodeSize, Sha256, Sha256Digest, UInt,
-};
+use mar_types::{Digest, Digestible, Hasher, Height, MaxEncodeSize, Sha256, Sha256Digest, UInt};
 use std::alloc::Global;
 use std::process::Abort;
 
@@ -38,7 +35,6 @@ fn blocks_without_content(rt: HostRuntime) {
     holds(&rt, Empty::default() == genesis());
     holds(&rt, is_cloned(&rt, &child()));
     child().is_block();
-    Empty::spellings();
     same(&rt, Empty::MAX_ENCODE_SIZE, 52);
     let _ = StandardBlocks::default();
     debugs(&rt, rt.alloc(), &NoBuffer, "NoBuffer");
@@ -52,65 +48,27 @@ fn mock_block(rt: &impl Abort, alloc: Global, row: (u64, u8, u64, u64)) -> Mock 
     given(rt, made)
 }
 
-// What a block's spelling is read as where one bit of this byte is changed.
-fn changed_at(rt: &impl Abort, alloc: Global, block: &Mock, place: usize) -> Mock {
-    let mut bytes = BytesMut::new(alloc);
-    put(rt, &mut bytes, block);
-    if let Some(byte) = bytes.as_mut_slice().get_mut(place) {
-        *byte ^= 1;
-    }
-    given(rt, Mock::decode_cfg(alloc, bytes.as_slice(), &()))
-}
-
-#[test]
-fn each_part_tells_blocks_apart(rt: HostRuntime) {
-    let blocks = [
-        block_upon(Sha256::fill(1), 1, 1),
-        block_upon(Sha256::fill(2), 1, 1),
-        block_upon(Sha256::fill(1), 2, 1),
-        block_upon(Sha256::fill(1), 1, 2),
-    ];
-    are_apart(&rt, &blocks);
-}
-
-// The bytes are the context; the first and the last of the parent; the height; the timestamp; the first and the last of
-// the digest.
-#[test]
-fn each_part_tells_mock_blocks_apart(rt: HostRuntime) {
-    let alloc = rt.alloc();
-    let block = mock_block(&rt, alloc, (1, 1, 1, 1));
-    let blocks = [
-        changed_at(&rt, alloc, &block, 0),
-        changed_at(&rt, alloc, &block, 1),
-        changed_at(&rt, alloc, &block, 32),
-        changed_at(&rt, alloc, &block, 33),
-        changed_at(&rt, alloc, &block, 34),
-        changed_at(&rt, alloc, &block, 35),
-        changed_at(&rt, alloc, &block, 66),
-        block,
-    ];
-    are_apart(&rt, &blocks);
-}
-
 #[test]
 fn mock_blocks_are_copied_and_ready_with_their_digest(rt: HostRuntime) {
     let block = mock_block(&rt, rt.alloc(), (300, 2, 128, 1));
     holds(&rt, is_cloned(&rt, &block));
-    let block = mock_block(&rt, rt.alloc(), (7, 2, 0, 0));
     let ready = given(&rt, ready(rt.alloc(), block));
     same(&rt, ready.digest(), ready.inner().digest());
 }
 
 #[test]
-fn each_part_tells_expected_commitments_apart(rt: HostRuntime) {
-    let (one, two) = (Sha256::fill(1), Sha256::fill(2));
-    let expected = [
-        ExpectedCommitment::Trusted(one),
-        ExpectedCommitment::Trusted(two),
-        ExpectedCommitment::Untrusted(one),
-        ExpectedCommitment::Untrusted(two),
-    ];
-    are_apart(&rt, &expected);
+fn what_is_expected_and_sent_is_compared(rt: HostRuntime) {
+    let expected = ExpectedCommitment::Trusted(1u64);
+    same(&rt, expected, ExpectedCommitment::Trusted(1));
+    same(&rt, sent(), sent());
+}
+
+fn sent() -> Sent<u64> {
+    Sent {
+        round: round(2, 7),
+        block: 1,
+        recipients: Recipients::All,
+    }
 }
 
 // Makes a block of what it shares.

@@ -13,7 +13,7 @@ fn finds<B: Buffer<StandardBlocks>>(rt: &impl Abort, buffer: &B, block: &Block) 
     let name = StandardBlocks::digest(block);
     let by_digest = given(rt, buffer.find_by_digest(&name));
     let by_commitment = given(rt, buffer.find_by_commitment(&name));
-    by_digest.is_some() & by_commitment.is_some()
+    is_block::<StandardBlocks>(by_digest, block) & is_block::<StandardBlocks>(by_commitment, block)
 }
 
 // Whether both kinds of subscriptions to a block are given, each by its name.
@@ -83,8 +83,6 @@ enum Call {
     IsOpen(bool),
     Of(u64, Ask),
     OfNone(u64, Ask),
-    // The heights of the blocks that were handed over to send, in order.
-    Sent(&'static [u64]),
     // The last block was sent in round 7 of epoch 2 to the third peer.
     LastToThird,
     // So many blocks are put, and each is found.
@@ -123,10 +121,9 @@ fn answers(rt: &impl Abort, alloc: Global, buffer: &mut Held, call: Call) -> boo
         Call::OfNone(block, ask) => {
             return is_answered(rt, alloc, &mut NoBuffer, block_of(rt, alloc, block), ask);
         }
-        Call::Sent(heights) => return sent_at(buffer, heights),
         Call::LastToThird => is_last_sent(rt, alloc, buffer, round(2, 7)),
         Call::PutAll(count) => put_all(rt, alloc, buffer, count),
-        Call::FindsAll(count) => find_all(rt, buffer, count),
+        Call::FindsAll(count) => find_all(rt, alloc, buffer, count),
     }
     true
 }
@@ -138,15 +135,6 @@ fn follow(rt: &impl Abort, alloc: Global, calls: &[Call]) {
     }
 }
 
-// Whether the blocks that a buffer was handed to send have these heights, in order.
-fn sent_at(buffer: &Held, heights: &[u64]) -> bool {
-    let mut are_so = buffer.sent().len() == heights.len();
-    for (sent, height) in buffer.sent().iter().zip(heights) {
-        are_so = are_so & (sent.block.inner().height == Height::new(*height));
-    }
-    are_so
-}
-
 // That the last block was sent in this round to the third peer.
 fn is_last_sent(rt: &impl Abort, alloc: Global, buffer: &Held, at: Round) {
     let last = buffer.sent().last().expect(rt, "nothing was sent");
@@ -155,57 +143,40 @@ fn is_last_sent(rt: &impl Abort, alloc: Global, buffer: &Held, at: Round) {
     holds(rt, is_cloned(rt, &last.recipients));
 }
 
-// The height and the digest that the commitment names.
-fn place_of<V: Variant>(block: &V::Block) -> (Height, V::Digest) {
-    let digest = V::commitment_to_inner(V::commitment(block));
-    (V::height(block), digest)
-}
-
-fn is_block(found: Option<Block>, block: &Empty) -> bool {
+// Whether a block that is found stands at this one's height, and has the digest that its commitment names.
+fn is_block<V: Variant>(found: Option<V::Block>, block: &V::Block) -> bool {
     let Some(found) = found else {
         return false;
     };
-    let (height, digest) = place_of::<StandardBlocks>(&found);
-    (*found.inner() == *block) & (height == block.height) & (digest == block.digest())
+    let digest = V::commitment_to_inner(V::commitment(&found));
+    (V::height(&found) == V::height(block)) & (digest == V::digest(block))
 }
 
-// That the block of this height is what is found by each of its names.
-fn is_found_as_put(rt: &impl Abort, buffer: &Held, height: u64) {
-    let block = numbered(height);
-    let name = block.digest();
-    let by_digest = given(rt, buffer.find_by_digest(&name));
-    holds(rt, is_block(by_digest, &block));
-    let by_commitment = given(rt, buffer.find_by_commitment(&name));
-    holds(rt, is_block(by_commitment, &block));
-}
-
-// Puts so many blocks, each of them twice. A block is found from when it is put on, by a buffer in memory alone.
+// Puts so many blocks, each of them twice.
 fn put_all(rt: &impl Abort, alloc: Global, buffer: &mut Held, count: u64) {
     for height in 0..count {
-        let block = block_of(rt, alloc, height);
-        holds(
-            rt,
-            !finds(rt, &*buffer, &block) & !finds(rt, &NoBuffer, &block),
-        );
         given(rt, buffer.put(block_of(rt, alloc, height)));
         given(rt, buffer.put(block_of(rt, alloc, height)));
-        holds(rt, finds(rt, &*buffer, &block));
     }
 }
 
-fn find_all(rt: &impl Abort, buffer: &Held, count: u64) {
+// That the block of each of so many heights is found by both of its names.
+fn find_all(rt: &impl Abort, alloc: Global, buffer: &Held, count: u64) {
     for height in 0..count {
-        is_found_as_put(rt, buffer, height);
+        holds(rt, finds(rt, buffer, &block_of(rt, alloc, height)));
     }
 }
 
-const OPEN: [Call; 6] = [
+const OPEN: [Call; 9] = [
     Call::Of(CHILD, Ask::Subscribes(true)),
     Call::Of(CHILD, Ask::Send(TO_ALL)),
     Call::Of(CHILD, Ask::Send(TO_THIRD)),
     Call::IsOpen(true),
-    Call::Sent(&[1, 1]),
     Call::LastToThird,
+    Call::OfNone(CHILD, Ask::Finds(false)),
+    Call::OfNone(CHILD, Ask::Subscribes(false)),
+    Call::OfNone(CHILD, Ask::Send(TO_ALL)),
+    Call::OfNone(CHILD, Ask::Send(TO_THIRD)),
 ];
 
 #[test]
@@ -213,7 +184,7 @@ fn buffers_tell_and_send(rt: HostRuntime) {
     follow(&rt, rt.alloc(), &OPEN);
 }
 
-const CLOSED: [Call; 17] = [
+const CLOSED: [Call; 16] = [
     Call::Put(GENESIS),
     Call::Of(GENESIS, Ask::Send(TO_ALL)),
     Call::Of(CHILD, Ask::Send(TO_ALL)),
@@ -230,7 +201,6 @@ const CLOSED: [Call; 17] = [
     Call::Of(CHILD, Ask::Subscribes(false)),
     Call::Of(GENESIS, Ask::Subscribes(false)),
     Call::IsOpen(false),
-    Call::Sent(&[0, 1, 1, 0]),
 ];
 
 #[test]
@@ -238,49 +208,9 @@ fn a_closed_buffer_holds_and_sends(rt: HostRuntime) {
     follow(&rt, rt.alloc(), &CLOSED);
 }
 
-const OF_NONE: [Call; 4] = [
-    Call::OfNone(CHILD, Ask::Finds(false)),
-    Call::OfNone(CHILD, Ask::Subscribes(false)),
-    Call::OfNone(CHILD, Ask::Send(TO_ALL)),
-    Call::OfNone(CHILD, Ask::Send(TO_THIRD)),
-];
-
-#[test]
-fn no_buffer_has_a_block(rt: HostRuntime) {
-    follow(&rt, rt.alloc(), &OF_NONE);
-}
-
 const BY_NAME: [Call; 2] = [Call::PutAll(300), Call::FindsAll(300)];
 
 #[test]
 fn blocks_found_by_name(rt: HostRuntime) {
     follow(&rt, rt.alloc(), &BY_NAME);
-}
-
-fn sending(view: u64, block: Empty, recipients: Recipients<Participant>) -> Sent<Empty> {
-    Sent {
-        round: round(2, view),
-        block,
-        recipients,
-    }
-}
-
-#[test]
-fn each_part_tells_sendings_apart(rt: HostRuntime) {
-    let alloc = rt.alloc();
-    let recipients = [
-        Recipients::All,
-        peers_of(&rt, alloc, &[]),
-        peers_of(&rt, alloc, &[3]),
-        peers_of(&rt, alloc, &[4]),
-        peers_of(&rt, alloc, &[3, 4]),
-    ];
-    are_apart(&rt, &recipients);
-    let sendings = [
-        sending(7, child(), Recipients::All),
-        sending(8, child(), Recipients::All),
-        sending(7, genesis(), Recipients::All),
-        sending(7, child(), peers_of(&rt, alloc, &[3])),
-    ];
-    are_apart(&rt, &sendings);
 }

@@ -1,115 +1,9 @@
-//! Certificates and what they are over: what tells them apart, copies of them, and their laws.
+//! Certificates and what they are over: copies of them, and what is read of them.
 use crate::tell::*;
 use mar_cert::*;
 use mar_types::{Decode, Encode, EncodeSize, Epoch, Error, Round, Sha256Digest, View};
 use std::alloc::{AllocError, Global};
 use std::process::Abort;
-
-fn proposed(epoch: u64, view: u64, parent: u64, payload: u8) -> Proposal<Sha256Digest> {
-    Proposal {
-        round: round(epoch, view),
-        parent: View::new(parent),
-        payload: Sha256Digest::from([payload; 32]),
-    }
-}
-
-fn notarizes(payload: u8) -> Subject<Sha256Digest> {
-    Subject::Notarize {
-        proposal: proposed(1, 2, 1, payload),
-    }
-}
-
-fn finalizes(payload: u8) -> Subject<Sha256Digest> {
-    Subject::Finalize {
-        proposal: proposed(1, 2, 1, payload),
-    }
-}
-
-#[test]
-fn each_part_tells_proposals_apart(rt: HostRuntime) {
-    let proposals = [
-        proposed(1, 2, 1, 7),
-        proposed(0, 2, 1, 7),
-        proposed(1, 3, 1, 7),
-        proposed(1, 2, 0, 7),
-        proposed(1, 2, 1, 8),
-    ];
-    are_apart(&rt, &proposals);
-    are_apart(&rt, &[notarizes(7), finalizes(7), notarizes(8)]);
-}
-
-pub(crate) fn signer_of(member: u32, tag: u8) -> Signer {
-    Signer {
-        member,
-        tag: Sha256Digest::from([tag; 32]),
-    }
-}
-
-// A certificate of members, each with the same tag.
-fn signed_by(rt: &impl Abort, alloc: Global, members: &[u32]) -> MockCertificate {
-    let mut signers = Vec::new(alloc);
-    for member in members {
-        given(rt, signers.push(signer_of(*member, 7)));
-    }
-    MockCertificate { signers }
-}
-
-fn notarized(rt: &impl Abort, alloc: Global, payload: u8, members: &[u32]) -> MockNotarization {
-    Notarization {
-        proposal: proposed(1, 2, 1, payload),
-        certificate: signed_by(rt, alloc, members),
-    }
-}
-
-fn finalized(rt: &impl Abort, alloc: Global, payload: u8, members: &[u32]) -> MockFinalization {
-    Finalization {
-        proposal: proposed(1, 2, 1, payload),
-        certificate: signed_by(rt, alloc, members),
-    }
-}
-
-#[test]
-fn each_part_tells_certificates_apart(rt: HostRuntime) {
-    let alloc = rt.alloc();
-    let certificates = [
-        signed_by(&rt, alloc, &[0, 1]),
-        signed_by(&rt, alloc, &[0]),
-        signed_by(&rt, alloc, &[0, 2]),
-        signed_by(&rt, alloc, &[0, 1, 2]),
-    ];
-    are_apart(&rt, &certificates);
-}
-
-#[test]
-fn each_part_tells_notarizations_and_finalizations_apart(rt: HostRuntime) {
-    let alloc = rt.alloc();
-    let notarizations = [
-        notarized(&rt, alloc, 7, &[0, 1]),
-        notarized(&rt, alloc, 8, &[0, 1]),
-        notarized(&rt, alloc, 7, &[0]),
-    ];
-    are_apart(&rt, &notarizations);
-    let finalizations = [
-        finalized(&rt, alloc, 7, &[0, 1]),
-        finalized(&rt, alloc, 8, &[0, 1]),
-        finalized(&rt, alloc, 7, &[0]),
-    ];
-    are_apart(&rt, &finalizations);
-}
-
-#[test]
-fn each_part_tells_reports_apart(rt: HostRuntime) {
-    let alloc = rt.alloc();
-    let reports = [
-        Activity::Notarization(notarized(&rt, alloc, 7, &[0, 1])),
-        Activity::Certification(notarized(&rt, alloc, 7, &[0, 1])),
-        Activity::Notarization(notarized(&rt, alloc, 8, &[0, 1])),
-        Activity::Finalization(finalized(&rt, alloc, 7, &[0, 1])),
-        Activity::Finalization(finalized(&rt, alloc, 7, &[0])),
-        Activity::Other,
-    ];
-    are_apart(&rt, &reports);
-}
 
 // View 1 of epoch 0, over view 0.
 fn first_proposal(rt: &impl Abort) -> Proposal<Sha256Digest> {
@@ -221,6 +115,4 @@ fn laws_of_mock_certificates(rt: HostRuntime) {
     let bytes = given(&rt, made.encode(rt.alloc()));
     let read = given(&rt, read_of_four(rt.alloc(), bytes.as_slice()));
     holds(&rt, read == made);
-    mock_finalizations();
-    mock_verdicts();
 }

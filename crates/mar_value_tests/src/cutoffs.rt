@@ -1,6 +1,6 @@
 //! Cutoffs and floors: what they cover, their order, and what is printed of them.
 use crate::tell::*;
-use mar_key::{Cutoff, Floor, Processed, Retain, cutoff_laws};
+use mar_key::{Cutoff, Floor, Processed, Retain};
 use mar_types::{Epoch, Height};
 
 const fn of_round(epoch: u64, view: u64) -> Cutoff {
@@ -25,7 +25,6 @@ fn cutoffs_are_ordered_by_what_they_cover(rt: HostRuntime) {
     holds(&rt, of_epoch(3).reaches(of_round(3, 7)));
     same(&rt, Cutoff::zero().raised_to(of_epoch(3)), of_epoch(3));
     ascend(&rt, Cutoff::zero(), of_epoch(0));
-    cutoff_laws();
 }
 
 #[test]
@@ -41,10 +40,6 @@ fn texts_of_cutoffs(rt: HostRuntime) {
     let floor = Floor::new(Some(Processed::Block(Height::new(1))), of_epoch(0));
     let text = "Floor { processed: Some(Block(Height(1))), cutoff: Epoch(Epoch(0)) }";
     debugs(&rt, alloc, &floor, text);
-}
-
-fn floor_of(processed: Option<Processed>, view: u64) -> Floor {
-    Floor::new(processed, of_round(1, view))
 }
 
 fn floor() -> Floor {
@@ -64,31 +59,4 @@ fn floors_hold_what_they_are_given(rt: HostRuntime) {
     same(&rt, anchor, Height::new(5));
     let anchor = Processed::Block(Height::new(4)).anchor();
     same(&rt, anchor, Height::new(4));
-}
-
-#[test]
-fn each_part_of_a_floor_or_a_retain_tells(rt: HostRuntime) {
-    let (low, high) = (Height::new(4), Height::new(5));
-    let processed = [
-        Processed::Absent(low),
-        Processed::Block(low),
-        Processed::Block(high),
-        Processed::Absent(high),
-    ];
-    are_apart(&rt, &processed);
-    let floors = [
-        floor_of(Some(Processed::Block(low)), 8),
-        floor_of(None, 8),
-        floor_of(Some(Processed::Absent(low)), 8),
-        floor_of(Some(Processed::Block(low)), 9),
-    ];
-    are_apart(&rt, &floors);
-    let retains = [
-        Retain::AboveHeight(low),
-        Retain::AboveHeight(high),
-        Retain::AboveRound(of_epoch(4)),
-        Retain::AboveRound(of_epoch(5)),
-        Retain::AboveRound(of_round(4, 0)),
-    ];
-    are_apart(&rt, &retains);
 }

@@ -5,9 +5,10 @@ ghost use Rattle.mar_key.specs.Views.{annotation_of, key_of};
 
 use crate::tell::*;
 use bytes::Bytes;
-use mar_key::{Annotation, Consumer, Delivery, Finalized, Key, Producer};
+use mar_key::{Annotation, Consumer, Delivery, Key, Producer};
 use mar_types::{Digest, Height, Sha256Digest};
 use std::alloc::AllocError;
+use std::process::Abort;
 
 // Counts what it is handed, and takes one request.
 #[derive(Drop)]
@@ -16,61 +17,58 @@ struct Counts {
     produced: usize,
 }
 
-impl<D: Digest> Consumer<D> for Counts {
+impl Consumer<Sha256Digest> for Counts {
     ghost queue = { λ _. None };
 
     fn deliver(
         &mut self,
         ticket: u64,
-        delivery: Delivery<D>,
+        delivery: Delivery<Sha256Digest>,
         value: Bytes,
     ) -> Result<(), AllocError>
-        ensures ok { OnOk result (Enqueues None (deliver ticket (key_of D.bytes delivery.key) value
+        ensures ok { OnOk result (Enqueues None (deliver ticket (key_of Sha256Digest.bytes delivery.key) value
             (map annotation_of delivery.annotations.items)) None) }
         ensures err { OnErr result (let nothing : Option PeerQueue = None in nothing ≡ None) }
     {
-        let whole = ticket == 1 && delivery.annotations.len() == 1 && value.len() == 2;
+        let whole = (ticket == 1) & (delivery.annotations.len() == 1) & (value.len() == 2);
         self.delivered = self.delivered.saturating_add(usize::from(whole));
         Ok(())
     }
 }
 
-impl<D: Digest> Producer<D> for Counts {
+impl Producer<Sha256Digest> for Counts {
     ghost queue = { λ _. None };
 
-    fn produce(&mut self, ticket: u64, key: Key<D>) -> Result<bool, AllocError>
-        ensures ok { OnOk result (Enqueues None (produce ticket (key_of D.bytes key)) None) }
+    fn produce(&mut self, ticket: u64, key: Key<Sha256Digest>) -> Result<bool, AllocError>
+        ensures ok { OnOk result (Enqueues None (produce ticket (key_of Sha256Digest.bytes key)) None) }
         ensures taken { IfOk result (λ taken. IfSome None (λ q. taken ≡ peer_room q)) }
         ensures err { OnErr result (let nothing : Option PeerQueue = None in nothing ≡ None) }
     {
-        let taken = ticket == 2 && self.produced == 0;
+        let taken = (ticket == 2) & (self.produced == 0);
         self.produced = self.produced.saturating_add(1);
         Ok(taken)
     }
 }
 
-fn deliver_to<D: Digest, C: Consumer<D>>(
-    consumer: &mut C,
+// That a delivery is taken, and of two requests the first.
+fn are_taken<D: Digest, T: Consumer<D> + Producer<D>>(
+    rt: &impl Abort,
+    taker: &mut T,
     delivery: Delivery<D>,
-    value: Bytes,
-) -> Result<(), AllocError> {
-    consumer.deliver(1, delivery, value)
+    key: Key<D>,
+) {
+    given(
+        rt,
+        taker.deliver(1, delivery, Bytes::from_static(b"\x01\x02")),
+    );
+    holds(rt, given(rt, taker.produce(2, key)));
+    holds(rt, !given(rt, taker.produce(2, key)));
 }
 
-fn ask_of<D: Digest, P: Producer<D>>(producer: &mut P, key: Key<D>) -> Result<bool, AllocError> {
-    producer.produce(2, key)
-}
-
-fn height() -> Height {
-    Height::new(12345)
-}
-
-fn key() -> Key<Sha256Digest> {
-    Key::Finalized { height: height() }
-}
-
-fn by_height() -> Annotation {
-    Annotation::Finalized(Finalized::ByHeight { height: height() })
+const fn key() -> Key<Sha256Digest> {
+    Key::Finalized {
+        height: Height::new(12345),
+    }
 }
 
 #[test]
@@ -79,14 +77,11 @@ fn what_peers_send_and_ask_is_taken(rt: HostRuntime) {
         delivered: 0,
         produced: 0,
     };
-    let annotations = given(&rt, vec![in rt.alloc(); by_height()]);
+    let height = Height::new(12345);
     let delivery = Delivery {
         key: key(),
-        annotations,
+        annotations: given(&rt, vec![in rt.alloc(); Annotation::Certified { height }]),
     };
-    let value = Bytes::from_static(b"\x01\x02");
-    given(&rt, deliver_to(&mut counts, delivery, value));
-    same(&rt, counts.delivered, 1);
-    same(&rt, given(&rt, ask_of(&mut counts, key())), true);
-    same(&rt, given(&rt, ask_of(&mut counts, key())), false);
+    are_taken(&rt, &mut counts, delivery, key());
+    holds(&rt, counts.delivered == 1);
 }

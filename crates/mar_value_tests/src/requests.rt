@@ -1,8 +1,6 @@
-//! Requests and annotations: which floors let them live, how they are told apart, and their order.
+//! Requests and annotations: which floors let them live, their order, and what is printed of them.
 use crate::tell::*;
-use mar_key::{
-    Annotation, Cutoff, Fetch, Finalized, Judged, Key, Outcome, Request, Retain, Subscription,
-};
+use mar_key::{Annotation, Cutoff, Finalized, Request, Retain};
 use mar_types::{Epoch, Height};
 use std::alloc::Global;
 use std::process::Abort;
@@ -84,13 +82,6 @@ fn annotations_are_ordered_by_kind_and_then_by_what_they_hold(rt: HostRuntime) {
     ascend(&rt, by_height(255), by_height(256));
     ascend(&rt, by_height(256), by_round(1, 9));
     ascend(&rt, by_round(1, 9), by_round(2, 0));
-    let height = Height::new(256);
-    let round = round(1, 9);
-    ascend(
-        &rt,
-        Finalized::ByHeight { height },
-        Finalized::ByRound { round },
-    );
 }
 
 fn lives_by_its_height(rt: &impl Abort, request: Request<u64>) {
@@ -119,55 +110,5 @@ fn requests_live_above_their_floors(rt: HostRuntime) {
         "Request { fetch: Fetch { key: Block(9), subscriber: Finalized(ByHeight { height: Height(6) }) } }";
     let request = Request::finalized_by_height(9u64, height);
     debugs(&rt, rt.alloc(), &request, text);
-}
-
-// The first three differ in the annotation alone.
-fn requests() -> [Request<u64>; 5] {
-    let (low, high) = (Height::new(4), Height::new(5));
-    [
-        Request::certified(1, low),
-        Request::untrusted(1, low),
-        Request::certified(1, high),
-        Request::certified(2, low),
-        Request::finalized(low),
-    ]
-}
-
-#[test]
-fn each_part_of_a_request_tells(rt: HostRuntime) {
-    are_apart(&rt, &requests());
-    let [one, two, three, four, five] = requests();
-    let fetches = [
-        Fetch::from(one),
-        Fetch::from(two),
-        Fetch::from(three),
-        Fetch::from(four),
-        Fetch::from(five),
-    ];
-    are_apart(&rt, &fetches);
-}
-
-fn judged_of(ticket: u64, height: u64, outcome: Outcome) -> Judged<u64> {
-    let height = Height::new(height);
-    let key = Key::Finalized { height };
-    Judged {
-        ticket,
-        key,
-        outcome,
-    }
-}
-
-#[test]
-fn each_part_of_a_judgement_tells(rt: HostRuntime) {
-    let judgements = [
-        judged_of(0, 4, Outcome::Complete),
-        judged_of(1, 4, Outcome::Complete),
-        judged_of(0, 5, Outcome::Complete),
-        judged_of(0, 4, Outcome::Ignored),
-    ];
-    are_apart(&rt, &judgements);
-    let outcomes = [Outcome::Complete, Outcome::Invalid, Outcome::Ignored];
-    are_apart(&rt, &outcomes);
-    let subscriptions = [Subscription { name: 1u64 }, Subscription { name: 2 }];
-    are_apart(&rt, &subscriptions);
+    same(&rt, request, Request::finalized_by_height(9u64, height));
 }

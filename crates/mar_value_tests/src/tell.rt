@@ -1,5 +1,4 @@
 //! What a test asks of a value. No function here has an `ensures`, so a test that calls one has nothing to carry.
-use bytes::BytesMut;
 use mar_types::{Epoch, Round, View, *};
 use std::alloc::Global;
 use std::cmp::Ordering;
@@ -50,21 +49,6 @@ pub(crate) fn in_hex(rt: &impl Abort, alloc: Global, bytes: &[u8], want: &str) {
     reads(rt, given(rt, hex::encode(alloc, bytes)).as_str(), want);
 }
 
-pub(crate) fn put<T: Write>(rt: &impl Abort, buf: &mut BytesMut, value: &T) {
-    given(rt, value.write(buf));
-}
-
-// That the next value is this one.
-pub(crate) fn is_next<T: Read<Cfg = ()> + PartialEq>(
-    rt: &impl Abort,
-    alloc: Global,
-    rest: &mut &[u8],
-    want: T,
-) {
-    let read: T = given(rt, T::read(alloc, rest));
-    holds(rt, read == want);
-}
-
 pub(crate) fn hash_of<T: Hash>(value: &T) -> u64 {
     let mut hasher = DefaultHasher::new();
     value.hash(&mut hasher);
@@ -84,22 +68,6 @@ pub(crate) fn ascend<T: Ord + Copy + Hash>(rt: &impl Abort, lesser: T, greater: 
     holds(rt, hash != other);
     same(rt, hash_of(&copy), hash);
     same(rt, hash_of(&copied), other);
-}
-
-// Whether the value equals the one at its place and no other.
-fn is_alone<T: PartialEq>(values: &[T], place: usize, value: &T) -> bool {
-    let mut is_so = true;
-    for (other_place, other) in values.iter().enumerate() {
-        is_so = is_so & ((value == other) == (place == other_place));
-    }
-    is_so
-}
-
-// That each of these values equals itself and no other.
-pub(crate) fn are_apart<T: PartialEq>(rt: &impl Abort, values: &[T]) {
-    for (place, value) in values.iter().enumerate() {
-        holds_at(rt, place, is_alone(values, place, value));
-    }
 }
 
 // A generator that counts, at each byte that it gives or at each call.

