@@ -197,6 +197,3 @@ impl EmptyBlock<Sha256> {
         ensures same { (b c : PlainBlock) → IsBlock b → IsBlock c → b.encoded ≡ c.encoded → b ≡ c }
     {}
 }
-
-/// The kind of blocks that the program uses.
-pub type StandardBlocks = Standard<EmptyBlock<Sha256>>;
