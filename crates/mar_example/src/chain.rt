@@ -3,8 +3,7 @@ ghost use Rattle.std.specs.Prelude.{IfSome};
 ghost use Rattle.mar_cert.specs.Finalization.{finalization_bytes};
 ghost use Rattle.mar_store.specs.Sizes.{IsSmall};
 
-use crate::kind::ServiceBlocks;
-use mar_block::{EmptyBlock, Variant};
+use mar_block::{EmptyBlock, StandardBlocks, Variant};
 use mar_cert::{
     AsFinalization, Finalization, MockCertificate, MockFinalization, Proposal, Signer, Subject,
     mock_tag,
@@ -25,7 +24,7 @@ pub(crate) fn block(
     height: u64,
     timestamp: u64,
 ) -> Option<Block>
-    ensures small { IfSome result (λ b. IsSmall (⟦<ServiceBlocks as Variant>⟧.plain b).encoded) }
+    ensures small { IfSome result (λ b. IsSmall (⟦<StandardBlocks as Variant>⟧.plain b).encoded) }
 {
     let block = EmptyBlock::new(parent, Height::new(height), timestamp);
     let block = Digested::compute(alloc, block).ok()?;
@@ -38,7 +37,7 @@ pub(crate) fn block(
 
 /// The block of height zero.
 pub(crate) fn genesis(alloc: Global) -> Option<Block>
-    ensures small { IfSome result (λ b. IsSmall (⟦<ServiceBlocks as Variant>⟧.plain b).encoded) }
+    ensures small { IfSome result (λ b. IsSmall (⟦<StandardBlocks as Variant>⟧.plain b).encoded) }
 {
     block(alloc, Sha256Digest::empty(), 0, 0)
 }

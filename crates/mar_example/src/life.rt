@@ -5,10 +5,9 @@ ghost use Rattle.mar_node.specs.Stored.{AreSmall};
 ghost use Rattle.mar_store.specs.Sizes.{IsSmall};
 
 use crate::chain::{Block, genesis};
-use crate::kind::ServiceBlocks;
 use crate::service::Service;
 use mar_actor::{Config, Ended, Event, Fault, Holds, Node, Start};
-use mar_block::MemBuffer;
+use mar_block::{MemBuffer, StandardBlocks};
 use mar_cert::{AsFinalization, MockFinalization, MockProvider, MockScheme};
 use mar_inbox::{AnswerTable, Identifier, Message, Standing, Value};
 use mar_key::Recorder;
@@ -17,7 +16,7 @@ use std::alloc::Global;
 use std::num::NonZeroU64;
 
 /// A node over some stores.
-pub(crate) type Member<S> = Node<ServiceBlocks, S, MockProvider, FixedEpocher>;
+pub(crate) type Member<S> = Node<StandardBlocks, S, MockProvider, FixedEpocher>;
 
 /// What a node speaks to: those who ask, the blocks that are at hand, the peers, and the service; and where memory comes
 /// from.
@@ -25,7 +24,7 @@ pub(crate) type Member<S> = Node<ServiceBlocks, S, MockProvider, FixedEpocher>;
 pub(crate) struct Around {
     pub(crate) alloc: Global,
     pub(crate) answers: AnswerTable<Value<Sha256Digest, Block, MockFinalization>>,
-    pub(crate) buffer: MemBuffer<ServiceBlocks>,
+    pub(crate) buffer: MemBuffer<StandardBlocks>,
     pub(crate) peers: Recorder<Sha256Digest>,
     pub(crate) service: Service,
 }
@@ -47,11 +46,11 @@ fn config(genesis: Block) -> Config<MockProvider, FixedEpocher, Block, ()>
 }
 
 /// Opens a node over what is left of its stores, and starts it: what isn't acknowledged is handed over again.
-pub(crate) fn begun<S: Holds<ServiceBlocks, Finalization = MockFinalization>>(
+pub(crate) fn begun<S: Holds<StandardBlocks, Finalization = MockFinalization>>(
     alloc: Global,
     left: S::Ruins,
     around: &mut Around,
-) -> Result<Member<S>, Ended<ServiceBlocks, S>>
+) -> Result<Member<S>, Ended<StandardBlocks, S>>
     requires small_buffer { AreSmall around.old.buffer.blocks }
     ensures { around.new.buffer ≡ around.old.buffer }
 {
@@ -74,12 +73,12 @@ pub(crate) fn begun<S: Holds<ServiceBlocks, Finalization = MockFinalization>>(
 
 /// Tells a node that a block is finalized, and then that the sync of this ticket, which the node started for it, has
 /// finished: the block is durable and is handed over.
-pub(crate) fn finalized<S: Holds<ServiceBlocks, Finalization = MockFinalization>>(
+pub(crate) fn finalized<S: Holds<StandardBlocks, Finalization = MockFinalization>>(
     node: Member<S>,
     finalization: MockFinalization,
     ticket: u64,
     around: &mut Around,
-) -> Result<Member<S>, Ended<ServiceBlocks, S>>
+) -> Result<Member<S>, Ended<StandardBlocks, S>>
     requires small { IsSmall (finalization_bytes (⟦<MockFinalization as AsFinalization>⟧.plain finalization)) }
     requires small_buffer { AreSmall around.old.buffer.blocks }
     ensures { around.new.buffer ≡ around.old.buffer }
@@ -101,11 +100,11 @@ pub(crate) fn finalized<S: Holds<ServiceBlocks, Finalization = MockFinalization>
 }
 
 /// Gives a node the acknowledgement of the block of this ticket.
-pub(crate) fn acknowledged<S: Holds<ServiceBlocks, Finalization = MockFinalization>>(
+pub(crate) fn acknowledged<S: Holds<StandardBlocks, Finalization = MockFinalization>>(
     node: Member<S>,
     ticket: u64,
     around: &mut Around,
-) -> Result<Member<S>, Ended<ServiceBlocks, S>>
+) -> Result<Member<S>, Ended<StandardBlocks, S>>
     requires small_buffer { AreSmall around.old.buffer.blocks }
     ensures { around.new.buffer ≡ around.old.buffer }
 {
@@ -120,11 +119,11 @@ pub(crate) fn acknowledged<S: Holds<ServiceBlocks, Finalization = MockFinalizati
 }
 
 /// Asks a node under a ticket for the newest finalized block, and says its height.
-pub(crate) fn newest<S: Holds<ServiceBlocks, Finalization = MockFinalization>>(
+pub(crate) fn newest<S: Holds<StandardBlocks, Finalization = MockFinalization>>(
     node: Member<S>,
     ticket: u64,
     around: &mut Around,
-) -> Result<(Member<S>, Option<u64>), Ended<ServiceBlocks, S>>
+) -> Result<(Member<S>, Option<u64>), Ended<StandardBlocks, S>>
     requires small_buffer { AreSmall around.old.buffer.blocks }
 {
     let Around {

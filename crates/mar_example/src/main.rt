@@ -1,9 +1,8 @@
 //! A replicated service over marshal. It adds up the timestamps of the finalized blocks, and its total outlives a crash:
 //! what was handed over and not acknowledged is handed over again, and the service passes over what it has.
 //!
-//! `chain` makes what peers and consensus would bring, `kind` says what its blocks are to a node, `service` is the
-//! application, and `life` opens a node over the stores that an earlier life left and gives it events. Here one life ends by a
-//! crash, and another goes on from there.
+//! `chain` makes what peers and consensus would bring, `service` is the application, and `life` opens a node over the
+//! stores that an earlier life left and gives it events. Here one life ends by a crash, and another goes on from there.
 #![tactic(auto)]
 
 ghost use Rattle.std.specs.Prelude.{◌≡◌, IfSome};
@@ -12,16 +11,14 @@ ghost use Rattle.mar_node.specs.Stored.{AreSmall};
 ghost use Rattle.mar_store.specs.Sizes.{IsSmall};
 
 mod chain;
-mod kind;
 mod life;
 mod service;
 
 use crate::chain::{Block, block, finalization, genesis};
-use crate::kind::ServiceBlocks;
 use crate::life::{Around, acknowledged, begun, finalized, newest};
 use crate::service::{Handed, Service};
 use mar_actor::{Ended, Fault, Holds, Ruins, Stores};
-use mar_block::{MemBuffer, Variant};
+use mar_block::{MemBuffer, StandardBlocks, Variant};
 use mar_cert::{AsFinalization, MockFinalization};
 use mar_inbox::AnswerTable;
 use mar_key::Recorder;
@@ -34,18 +31,18 @@ use std::io;
 /// An archive in memory that is never pruned. Stores on a disk would stand here in a service of one's own.
 type Store<T> = immutable::Archive<MemArchive<T>>;
 
-type BlockStore = Store<BlockItem<ServiceBlocks>>;
+type BlockStore = Store<BlockItem<StandardBlocks>>;
 
-type CertificateStore = Store<CertificateItem<ServiceBlocks, MockFinalization>>;
+type CertificateStore = Store<CertificateItem<StandardBlocks, MockFinalization>>;
 
 /// The four stores of a life, of whatever make.
-type StoresOf<FB, FC, M, H> = Stores<ServiceBlocks, MockFinalization, FB, FC, M, H>;
+type StoresOf<FB, FC, M, H> = Stores<StandardBlocks, MockFinalization, FB, FC, M, H>;
 
 // Where these blocks are at hand, though no one knows yet that they are finalized.
 fn around(alloc: Global, first: Block, second: Block, third: Block) -> Option<Around>
-    requires first { IsSmall (⟦<ServiceBlocks as Variant>⟧.plain first).encoded }
-    requires second { IsSmall (⟦<ServiceBlocks as Variant>⟧.plain second).encoded }
-    requires third { IsSmall (⟦<ServiceBlocks as Variant>⟧.plain third).encoded }
+    requires first { IsSmall (⟦<StandardBlocks as Variant>⟧.plain first).encoded }
+    requires second { IsSmall (⟦<StandardBlocks as Variant>⟧.plain second).encoded }
+    requires third { IsSmall (⟦<StandardBlocks as Variant>⟧.plain third).encoded }
     ensures small { IfSome result (λ a. AreSmall a.buffer.blocks) }
 {
     let mut buffer = MemBuffer::new(alloc);
@@ -63,13 +60,13 @@ fn around(alloc: Global, first: Block, second: Block, third: Block) -> Option<Ar
 
 // A life in which blocks 1 and 2 are finalized and handed over. A crash ends it before block 2 is acknowledged. Says beside
 // what is left whether block 2 was durable and owed.
-fn first_life<S: Holds<ServiceBlocks, Finalization = MockFinalization>>(
+fn first_life<S: Holds<StandardBlocks, Finalization = MockFinalization>>(
     alloc: Global,
     nothing: S::Ruins,
     first: MockFinalization,
     second: MockFinalization,
     around: &mut Around,
-) -> Result<(S::Ruins, bool), Ended<ServiceBlocks, S>>
+) -> Result<(S::Ruins, bool), Ended<StandardBlocks, S>>
     requires first { IsSmall (finalization_bytes (⟦<MockFinalization as AsFinalization>⟧.plain first)) }
     requires second { IsSmall (finalization_bytes (⟦<MockFinalization as AsFinalization>⟧.plain second)) }
     requires small_buffer { AreSmall around.old.buffer.blocks }
@@ -86,12 +83,12 @@ fn first_life<S: Holds<ServiceBlocks, Finalization = MockFinalization>>(
 
 // A life over what that one left. Block 2 is handed over again, and block 3 after it. Says beside what is left which height
 // is the newest.
-fn second_life<S: Holds<ServiceBlocks, Finalization = MockFinalization>>(
+fn second_life<S: Holds<StandardBlocks, Finalization = MockFinalization>>(
     alloc: Global,
     left: S::Ruins,
     third: MockFinalization,
     around: &mut Around,
-) -> Result<(S::Ruins, Option<u64>), Ended<ServiceBlocks, S>>
+) -> Result<(S::Ruins, Option<u64>), Ended<StandardBlocks, S>>
     requires third { IsSmall (finalization_bytes (⟦<MockFinalization as AsFinalization>⟧.plain third)) }
     requires small_buffer { AreSmall around.old.buffer.blocks }
 {
@@ -140,11 +137,11 @@ struct Outcome {
 }
 
 // Both lives, and what they leave.
-fn lives<S: Holds<ServiceBlocks, Finalization = MockFinalization>>(
+fn lives<S: Holds<StandardBlocks, Finalization = MockFinalization>>(
     alloc: Global,
     nothing: S::Ruins,
     consensus: Told,
-) -> Result<(Outcome, S::Ruins), Ended<ServiceBlocks, S>>
+) -> Result<(Outcome, S::Ruins), Ended<StandardBlocks, S>>
     requires first { IsSmall (finalization_bytes (⟦<MockFinalization as AsFinalization>⟧.plain consensus.first)) }
     requires second { IsSmall (finalization_bytes (⟦<MockFinalization as AsFinalization>⟧.plain consensus.second)) }
     requires third { IsSmall (finalization_bytes (⟦<MockFinalization as AsFinalization>⟧.plain consensus.third)) }
@@ -170,8 +167,8 @@ fn lives<S: Holds<ServiceBlocks, Finalization = MockFinalization>>(
 
 // The same over stores that hold nothing yet.
 fn lived_over<
-    FB: Blocks<ServiceBlocks>,
-    FC: Certificates<ServiceBlocks, MockFinalization>,
+    FB: Blocks<StandardBlocks>,
+    FC: Certificates<StandardBlocks, MockFinalization>,
     M: Meta,
     H: Shelf,
 >(

@@ -1,7 +1,7 @@
 //! The service: what it makes of the blocks that it is handed.
 use crate::chain::Block;
-use crate::kind::ServiceBlocks;
 use mar_actor::{Reporter, Update};
+use mar_block::StandardBlocks;
 use mar_types::Sha256Digest;
 use std::alloc::{AllocError, Global};
 
@@ -34,7 +34,7 @@ impl Service {
     }
 }
 
-impl Reporter<ServiceBlocks> for Service {
+impl Reporter<StandardBlocks> for Service {
     ghost use Rattle.std.specs.Prelude.{⊤, None, OnErr, OnOk};
 
     // It tells no clause what it was told.
