@@ -1,6 +1,8 @@
 //! A node's life: it is opened over what an earlier one left, and given one event after another.
 ghost use Rattle.std.specs.Prelude.{◌≡◌};
 ghost use Rattle.mar_cert.specs.Finalization.{finalization_bytes};
+ghost use Rattle.mar_actor.specs.Views.{event_of};
+ghost use Rattle.mar_node.specs.Promise.{IsSmallEvent};
 ghost use Rattle.mar_node.specs.Stored.{AreSmall};
 ghost use Rattle.mar_store.specs.Sizes.{IsSmall};
 
@@ -45,6 +47,26 @@ fn config(genesis: Block) -> Config<MockProvider, FixedEpocher, Block, ()>
     }
 }
 
+/// Gives a node one event.
+pub(crate) fn step<S: Holds<StandardBlocks, Finalization = MockFinalization>>(
+    node: Member<S>,
+    event: Event<Sha256Digest, MockFinalization>,
+    around: &mut Around,
+) -> Result<Member<S>, Ended<StandardBlocks, S>>
+    requires small_event { IsSmallEvent (event_of (λ d. d.bytes) ⟦<MockFinalization as AsFinalization>⟧.plain event) }
+    requires small_buffer { AreSmall around.old.buffer.blocks }
+    ensures { around.new.buffer ≡ around.old.buffer }
+{
+    let Around {
+        alloc,
+        answers,
+        buffer,
+        peers,
+        service,
+    } = around;
+    node.step(*alloc, event, answers, buffer, peers, service)
+}
+
 /// Opens a node over what is left of its stores, and starts it: what isn't acknowledged is handed over again.
 pub(crate) fn begun<S: Holds<StandardBlocks, Finalization = MockFinalization>>(
     alloc: Global,
@@ -61,14 +83,7 @@ pub(crate) fn begun<S: Holds<StandardBlocks, Finalization = MockFinalization>>(
         });
     };
     let (node, _floor) = Member::<S>::init(alloc, left, config(genesis), 0)?;
-    let Around {
-        alloc,
-        answers,
-        buffer,
-        peers,
-        service,
-    } = around;
-    node.step(*alloc, Event::Start, answers, buffer, peers, service)
+    step::<S>(node, Event::Start, around)
 }
 
 /// Tells a node that a block is finalized, and then that the sync of this ticket, which the node started for it, has
@@ -83,39 +98,13 @@ pub(crate) fn finalized<S: Holds<StandardBlocks, Finalization = MockFinalization
     requires small_buffer { AreSmall around.old.buffer.blocks }
     ensures { around.new.buffer ≡ around.old.buffer }
 {
-    let Around {
-        alloc,
-        answers,
-        buffer,
-        peers,
-        service,
-    } = around;
     let reported = Event::Message(Message::Finalization(finalization));
-    let node = node.step(*alloc, reported, answers, buffer, peers, service)?;
+    let node = step::<S>(node, reported, around)?;
     // where the block isn't at hand it is asked for, and no sync is started
     if !node.awaits_sync(ticket) {
         return Ok(node);
     }
-    node.step(*alloc, Event::Sync(ticket), answers, buffer, peers, service)
-}
-
-/// Gives a node the acknowledgement of the block of this ticket.
-pub(crate) fn acknowledged<S: Holds<StandardBlocks, Finalization = MockFinalization>>(
-    node: Member<S>,
-    ticket: u64,
-    around: &mut Around,
-) -> Result<Member<S>, Ended<StandardBlocks, S>>
-    requires small_buffer { AreSmall around.old.buffer.blocks }
-    ensures { around.new.buffer ≡ around.old.buffer }
-{
-    let Around {
-        alloc,
-        answers,
-        buffer,
-        peers,
-        service,
-    } = around;
-    node.step(*alloc, Event::Ack(ticket), answers, buffer, peers, service)
+    step::<S>(node, Event::Sync(ticket), around)
 }
 
 /// Asks a node under a ticket for the newest finalized block, and says its height.
@@ -126,26 +115,12 @@ pub(crate) fn newest<S: Holds<StandardBlocks, Finalization = MockFinalization>>(
 ) -> Result<(Member<S>, Option<u64>), Ended<StandardBlocks, S>>
     requires small_buffer { AreSmall around.old.buffer.blocks }
 {
-    let Around {
-        alloc,
-        answers,
-        buffer,
-        peers,
-        service,
-    } = around;
     let query = Message::GetInfo {
         ticket,
         identifier: Identifier::Latest,
     };
-    let node = node.step(
-        *alloc,
-        Event::Message(query),
-        answers,
-        buffer,
-        peers,
-        service,
-    )?;
-    let height = match answers.poll(ticket) {
+    let node = step::<S>(node, Event::Message(query), around)?;
+    let height = match around.answers.poll(ticket) {
         Standing::Value(Value::Info { height, .. }) => Some(height.get()),
         _other => None,
     };

@@ -15,14 +15,15 @@ mod life;
 mod service;
 
 use crate::chain::{Block, block, finalization, genesis};
-use crate::life::{Around, acknowledged, begun, finalized, newest};
+use crate::life::{Around, begun, finalized, newest, step};
 use crate::service::{Handed, Service};
-use mar_actor::{Ended, Fault, Holds, Ruins, Stores};
+use mar_actor::{Ended, Event, Fault, Holds, Ruins, Stores};
+use mar_archives::immutable;
 use mar_block::{MemBuffer, StandardBlocks, Variant};
 use mar_cert::{AsFinalization, MockFinalization};
 use mar_inbox::AnswerTable;
 use mar_key::Recorder;
-use mar_shelf::{BlockItem, Blocks, CertificateItem, Certificates, NoShelf, Shelf, immutable};
+use mar_shelf::{BlockItem, Blocks, CertificateItem, Certificates, NoShelf, Shelf};
 use mar_store::{LuckHalf, MemArchive, MemMeta, Meta};
 use mar_types::Sha256Digest;
 use std::alloc::Global;
@@ -73,9 +74,9 @@ fn first_life<S: Holds<StandardBlocks, Finalization = MockFinalization>>(
     ensures { around.new.buffer ≡ around.old.buffer }
 {
     let node = begun::<S>(alloc, nothing, around)?;
-    let node = acknowledged::<S>(node, 0, around)?;
+    let node = step::<S>(node, Event::Ack(0), around)?;
     let node = finalized::<S>(node, first, 0, around)?;
-    let node = acknowledged::<S>(node, 1, around)?;
+    let node = step::<S>(node, Event::Ack(1), around)?;
     let node = finalized::<S>(node, second, 1, around)?;
     let is_owed = node.finished(1) & node.owes_ack(2);
     Ok((node.wreck(), is_owed))
@@ -93,7 +94,7 @@ fn second_life<S: Holds<StandardBlocks, Finalization = MockFinalization>>(
     requires small_buffer { AreSmall around.old.buffer.blocks }
 {
     let node = begun::<S>(alloc, left, around)?;
-    let node = acknowledged::<S>(node, 0, around)?;
+    let node = step::<S>(node, Event::Ack(0), around)?;
     let node = finalized::<S>(node, third, 0, around)?;
     let (node, height) = newest::<S>(node, 0, around)?;
     Ok((node.wreck(), height))
