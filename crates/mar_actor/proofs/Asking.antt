@@ -1,5 +1,5 @@
--- Queries: what of them no rule of a fault or a tip speaks of, and the block that backs the processed height.
-use Rattle.std.proofs.Common.{◌≡◌, ℕ, ◌<◌, List, [], Option, Some, None, IfNone, IfSome, Result, Ok, Err, IfErr, IfOk, OnErr, MatchResult, option_map, true, refl, sym, ◌∙◌, ap, subst}
+-- Queries, of which no rule of a fault or a tip speaks, and events that are messages.
+use Rattle.std.proofs.Common.{◌≡◌, ℕ, List, [], Option, Some, None, Result, Ok, Err, IfErr, IfOk, OnErr, MatchResult, true, refl, sym, ◌∙◌, ap}
 use Rattle.std.specs.declared.convert.Infallible.{Infallible}
 use Rattle.mar_cert.specs.Block.{Block}
 use Rattle.mar_cert.specs.Finalization.{Finalization}
@@ -7,24 +7,18 @@ use Rattle.mar_inbox.specs.Views.{query_of}
 use Rattle.mar_inbox.specs.declared.message.Message.{Message}
 use Rattle.mar_inbox.specs.declared.query.Query.{Query}
 use Rattle.mar_inbox.specs.declared.query.Query.TheVariants as query
-use Rattle.mar_key.specs.Processed.{Processed, anchor_of}
-use Rattle.mar_node.specs.Answers.{anchor, anchor_value, or_none}
 use Rattle.mar_node.specs.Event.{is_query, message_told}
 use Rattle.mar_node.specs.Faults.{Fault}
 use Rattle.mar_node.specs.Held.{Ending, Grew, IsUsual, Loses, Seen, nothing_written}
 use Rattle.mar_node.specs.Moves.{IsRead, LivesOn}
 use Rattle.mar_node.specs.Step.{Report}
 use Rattle.mar_node.proofs.Lasting.{EndsLife-usual, IsPart-read, LivesOn-part}
-use Rattle.mar_node.proofs.Queries.{none_past}
-use Rattle.mar_store.specs.Kept.{At, value_at}
-use Rattle.mar_store.specs.Named.{last_index}
-use Rattle.mar_actor.specs.Asking.{backed_value}
 use Rattle.mar_actor.specs.Due.{due_fault}
 use Rattle.mar_actor.specs.Told.{tips_of}
 use Rattle.mar_actor.specs.Views.{event_of, told_of}
 use Rattle.mar_actor.specs.declared.event.Event.{Event as EventCode}
 use Rattle.mar_actor.specs.declared.event.Event.TheVariants as event
-use Rattle.mar_actor.specs.declared.query.Told.{Told}
+use Rattle.mar_actor.specs.declared.messages.Told.{Told}
 
 module _ {D : Type 0} (digest : D → List ℕ) (t : ℕ) where
   pub asks : (q : Query D) → is_query (message_told (Some t) (query_of digest q)) ≡ true
@@ -51,30 +45,6 @@ module _ {D : Type 0} (digest : D → List ℕ) (t : ℕ) where
     no_tips query.Processed = refl
     no_tips query.Anchor = refl
     no_tips (query.Verified r) = refl
-
--- the block at the height that backs the processed one
-pub backed : (blocks : List (At Block)) (p : Option Processed) (h : ℕ) (o : Option Block) → option_map anchor_of p ≡ Some h → o ≡ value_at blocks h → or_none (anchor blocks p) ≡ or_none (backed_value p o)
-backed blocks None h o at found = absurd cc
-backed blocks (Some q) h o at found = subst (λ k. or_none (option_map (anchor_value q) (value_at blocks k)) ≡ or_none (backed_value (Some q) o)) (sym (inside at)) (subst (λ b. or_none (option_map (anchor_value q) b) ≡ or_none (backed_value (Some q) o)) found (by o))
-  where
-    inside : ◌≡◌ {A = Option ℕ} (Some (anchor_of q)) (Some h) → anchor_of q ≡ h
-    inside e = cc
-
-    by : (b : Option Block) → or_none (option_map (anchor_value q) b) ≡ or_none (backed_value (Some q) b)
-    by None = refl
-    by (Some b) = refl
-
--- none backs it past the last block
-pub unbacked : (blocks : List (At Block)) (p : Processed) → IfSome (last_index blocks) (λ k. k < anchor_of p) → anchor blocks (Some p) ≡ None
-unbacked blocks p past = ap (option_map (anchor_value p)) (none_past blocks (anchor_of p) past)
-
--- the same of what the stores tell: the processed height, and the last block
-pub unbacked_at : (blocks : List (At Block)) (processed : Option Processed) (p : Processed) (last : Option ℕ) → processed ≡ Some p → last ≡ last_index blocks → IfSome last (λ k. k < anchor_of p) → anchor blocks processed ≡ None
-unbacked_at blocks processed p last is at past = ap (anchor blocks) is ∙ unbacked blocks p (subst (λ o. IfSome o (λ k. k < anchor_of p)) at past)
-
-pub if_none : {T A B : Type 0} (o : Option T) → (A → B) → IfNone o A → IfNone o B
-if_none None then is = then is
-if_none (Some x) then is = tt
 
 -- AN EVENT THAT IS A MESSAGE
 

@@ -27,7 +27,7 @@ use Rattle.mar_actor.specs.Due.{EndsWhereDue, storing_due}
 use Rattle.mar_actor.specs.Noted.{noted_pair}
 use Rattle.mar_actor.specs.Told.{TellsInOrder, finalized_tips}
 use Rattle.mar_actor.proofs.Due.{EndsWhereDue-usual, storing_due-low}
-use Rattle.mar_actor.proofs.Outcomes.{memory-loses, memory-usual, outcome-both, outcome-err, outcome-ok, outcome-on_err, outcome-on_ok}
+use Rattle.mar_node.proofs.Outcomes.{memory-loses, memory-usual, outcome-both, outcome-err, outcome-ok, outcome-on_err, outcome-on_ok}
 use Rattle.mar_actor.proofs.Told.{TellsInOrder-nothing, TellsInOrder-tips, finalized_tips-above, finalized_tips-low}
 
 -- SINCE THE STORES THAT A CALL BEGAN WITH

@@ -10,8 +10,8 @@ use Rattle.mar_node.specs.Faults.{Begin, from_genesis}
 use Rattle.mar_node.specs.Step.{Report, new_tip, handed_over}
 use Rattle.mar_actor.specs.declared.event.Event.{Event as EventCode}
 use Rattle.mar_actor.specs.declared.event.Event.TheVariants as event
-use Rattle.mar_actor.specs.declared.query.Told.{Told}
-use Rattle.mar_actor.specs.declared.query.Told.TheVariants as told
+use Rattle.mar_actor.specs.declared.messages.Told.{Told}
+use Rattle.mar_actor.specs.declared.messages.Told.TheVariants as told
 use Rattle.mar_actor.specs.declared.reporter.Update.{Update}
 use Rattle.mar_actor.specs.declared.reporter.Update.TheVariants as update
 use Rattle.mar_node.specs.Held.{Sizes}

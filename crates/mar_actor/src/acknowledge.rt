@@ -14,18 +14,17 @@ ghost use Rattle.mar_node.specs.Held.{GoesOn, IsUsual, ended_on, nothing_written
 ghost use Rattle.mar_node.specs.Lives.{later_round};
 ghost use Rattle.mar_node.specs.Moves.{Drains, DrainsNext, EndsDropped, EndsOldest, HearsUpTo, LivesOn};
 ghost use Rattle.mar_node.specs.Requests.{raise_asks, retire_asks};
-ghost use Rattle.mar_shelf.specs.Views.{fault_of};
+ghost use Rattle.mar_node.specs.Views.{fault_of};
 ghost use Rattle.mar_actor.specs.Due.{EndsWhereDue, dropping_due};
 ghost use Rattle.mar_actor.specs.Told.{TellsInOrder};
 
 use crate::dispatch::dispatch;
 use crate::life::Life;
-use crate::reads::round_at;
 use crate::reporter::Reporter;
 use mar_block::Variant;
 use mar_key::{Cutoff, Resolver, Retain};
+use mar_node::{Fault, Holds, round_at};
 use mar_parts::{Oldest, closed_epoch};
-use mar_shelf::{Fault, Holds};
 use mar_types::{Epocher, Height, Round};
 
 /// Marks a block as acknowledged. Where the oldest ones are, they are processed together: one sync of the metadata, then

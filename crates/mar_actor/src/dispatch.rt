@@ -6,14 +6,13 @@ ghost use Rattle.mar_key.specs.Processed.{first_unprocessed};
 ghost use Rattle.mar_node.specs.Faults.{ack_kind, last_height, ticket_limit, want_of_memory};
 ghost use Rattle.mar_node.specs.Held.{GoesOn, Held, IsArchiveFault, nothing_written, outcome, seen};
 ghost use Rattle.mar_node.specs.Moves.{Dispatches, IsBarred, IsFree, IsNext, IsStill, StopsHanding, handed_report, next_in, with_handed};
-ghost use Rattle.mar_shelf.specs.Views.{fault_of};
+ghost use Rattle.mar_node.specs.Views.{fault_of};
 ghost use Rattle.mar_node.specs.Step.{HandedBlock, handed_over};
 
 use crate::life::Life;
 use crate::reporter::{Exact, Reporter, Update};
 use mar_block::Variant;
-use mar_node::Writes;
-use mar_shelf::{Fault, Holds, TicketKind};
+use mar_node::{Fault, Holds, TicketKind, Writes};
 use mar_types::Height;
 
 /// Hands over the next blocks until the window is full, a write bars the next block or it isn't held.

@@ -52,17 +52,12 @@
 #![tactic(auto)]
 
 mod acknowledge;
-mod derived;
 mod dispatch;
 mod event;
 mod life;
-mod names;
-mod newest;
+mod messages;
 mod node;
 mod open;
-mod query;
-mod reads;
-mod reopened;
 mod report;
 mod reporter;
 mod settings;
@@ -71,10 +66,9 @@ mod start;
 mod sync;
 
 pub use event::Event;
+pub use mar_node::{Ended, Fault, Holds, ShownRuins, StoreName, StoresRuin, TicketKind};
 pub use mar_parts::Shown;
-pub use mar_shelf::{
-    Ended, Fault, Holds, Ruins, ShownRuins, StoreName, Stores, StoresRuin, TicketKind,
-};
+pub use mar_shelf::{Ruins, Stores};
 pub use node::{Actor, Node};
 pub use reporter::{Exact, Reporter, Update};
 pub use settings::{Config, Start};

@@ -15,7 +15,7 @@ ghost use Rattle.mar_node.specs.Event.{message_told};
 ghost use Rattle.mar_node.specs.Promise.{KeepsPromise, heard_by};
 ghost use Rattle.mar_node.specs.Faults.{want_of_memory};
 ghost use Rattle.mar_node.specs.Held.{ArePassed, GoesOn, IsArchiveFault, IsUsual, LosesSince, nothing_written, outcome, seen, written_both, written_cert, written_pair};
-ghost use Rattle.mar_shelf.specs.Views.{fault_of};
+ghost use Rattle.mar_node.specs.Views.{fault_of};
 ghost use Rattle.mar_node.specs.Moves.{HearsUpTo, LivesOn, PutsAbove, StoresLate, StoresWhere, at_height, found_at_hand, lacks_finalization, late_tips, risen_to, tip_reports, tips_above};
 ghost use Rattle.mar_node.specs.Lives.{later_round};
 ghost use Rattle.mar_node.specs.Requests.{raise_asks, want_asks};
@@ -26,12 +26,12 @@ ghost use Rattle.mar_actor.specs.Told.{TellsInOrder, finalized_tips};
 
 use crate::acknowledge::witness;
 use crate::life::Life;
-use crate::reads::block_at_hand;
 use crate::reporter::{Reporter, Update};
 use mar_block::{Buffer, Variant};
 use mar_cert::{AsFinalization, CommitsTo};
+use mar_inbox::block_at_hand;
 use mar_key::{Request, Resolver};
-use mar_shelf::{Fault, Holds};
+use mar_node::{Fault, Holds};
 use mar_types::{Epocher, Height, Round};
 
 /// Stores a finalized block that is at hand, above the processed height, and starts a sync that covers it. At or below that

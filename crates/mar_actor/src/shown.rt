@@ -7,8 +7,8 @@ ghost use Rattle.mar_store.specs.Ranges.{ranges};
 
 use crate::node::Node;
 use mar_block::Variant;
+use mar_node::Holds;
 use mar_parts::Shown;
-use mar_shelf::Holds;
 use mar_types::Epocher;
 
 impl<V: Variant, S: Holds<V>, P: Drop, E: Epocher> Node<V, S, P, E> {

@@ -9,18 +9,17 @@ ghost use Rattle.mar_node.specs.Held.{GoesOn, IsUsual, nothing_written, outcome,
 ghost use Rattle.mar_node.specs.Moves.{IsRead, LivesOn, newest_tips, with_newest};
 ghost use Rattle.mar_node.specs.Stored.{newest};
 ghost use Rattle.mar_node.specs.Promise.{KeepsPromise, heard_by};
-ghost use Rattle.mar_shelf.specs.Views.{fault_of};
+ghost use Rattle.mar_node.specs.Views.{fault_of};
 ghost use Rattle.mar_actor.specs.Due.{EndsWhereDue};
 ghost use Rattle.mar_actor.specs.Told.{TellsInOrder};
 
 use crate::dispatch::dispatch;
 use crate::life::Life;
-use crate::reads::newest_certificate;
 use crate::report::report_tip;
 use crate::reporter::Reporter;
 use mar_block::Variant;
 use mar_cert::{AsFinalization, CommitsTo};
-use mar_shelf::{Fault, Holds};
+use mar_node::{Fault, Holds, newest_certificate};
 use mar_types::Epocher;
 
 /// Reports the newest stored finalization as the tip, and hands over what may follow.

@@ -8,7 +8,7 @@ ghost use Rattle.mar_node.specs.Held.{outcome, seen};
 ghost use Rattle.mar_node.specs.Moves.{LivesOn};
 ghost use Rattle.mar_node.specs.Promise.{KeepsPromise, heard_by};
 ghost use Rattle.mar_node.specs.Writing.{is_open_sync};
-ghost use Rattle.mar_shelf.specs.Views.{fault_of};
+ghost use Rattle.mar_node.specs.Views.{fault_of};
 ghost use Rattle.mar_actor.specs.Due.{EndsWhereDue};
 ghost use Rattle.mar_actor.specs.Told.{TellsInOrder};
 
@@ -16,7 +16,7 @@ use crate::dispatch::dispatch;
 use crate::life::Life;
 use crate::reporter::Reporter;
 use mar_block::Variant;
-use mar_shelf::{Fault, Holds};
+use mar_node::{Fault, Holds};
 use mar_types::Epocher;
 
 /// Finishes the sync of a ticket, which lets go the writes that it covers, and hands over what may follow. A ticket that

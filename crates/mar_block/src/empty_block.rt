@@ -6,8 +6,8 @@ ghost use Rattle.mar_block.specs.EmptyBlockLemmas.{block_identified, block_unamb
 
 use crate::blocks::{Block, BoundedBlock, CertifiableBlock, Heightable};
 use crate::standard::Standard;
-use crate::variant::Variant;
 use bytes::{Buf, BufMut};
+use mar_cert::Variant;
 use mar_types::{
     Digest, Digestible, EncodeSize, Error, FixedSize, Hasher, Height, MaxEncodeSize, Read, Sha256,
     UInt, Write,

@@ -9,9 +9,9 @@ ghost use Rattle.mar_block.specs.Standard.{HasDigest, HasOtherDigest, made_stand
 
 use crate::blocks::Block;
 use crate::expected::ExpectedCommitment;
-use crate::variant::{Variant, WireVariant};
+use crate::wire_variant::WireVariant;
 use bytes::Buf;
-use mar_cert::Scheme;
+use mar_cert::{Scheme, Variant};
 use mar_types::{Decode, Digested, Error, Height, Kind, Read, Reason};
 use std::alloc::{AllocError, Global};
 use std::marker::PhantomData;

@@ -9,9 +9,9 @@ ghost use Rattle.mar_block.specs.Standard.{HasOtherDigest};
 use crate::empty_block::EmptyBlock;
 use crate::expected::ExpectedCommitment;
 use crate::standard::Standard;
-use crate::variant::{Variant, WireVariant};
+use crate::wire_variant::WireVariant;
 use bytes::Buf;
-use mar_cert::Scheme;
+use mar_cert::{Scheme, Variant};
 use mar_types::{
     Digested, Digestible, Error, Height, Kind, Read, Reason, Sha256, Sha256Digest, Write,
 };

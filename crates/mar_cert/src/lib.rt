@@ -10,6 +10,7 @@ mod notarization;
 mod scheme;
 mod signer;
 mod subject;
+mod variant;
 
 pub use finalization::{AsFinalization, CommitsTo, Finalization, Proposal};
 pub use laws::{certified_compared, mocks_compared};
@@ -20,3 +21,4 @@ pub use notarization::Notarization;
 pub use scheme::{Certificate, Provider, Scheme, Scoped, verify_certificates};
 pub use signer::Signer;
 pub use subject::{Activity, Subject};
+pub use variant::Variant;

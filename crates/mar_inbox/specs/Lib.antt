@@ -1,3 +1,4 @@
 pub mod Answers
 pub mod Policy
 pub mod Views
+pub mod Asking

@@ -41,3 +41,4 @@ pub mod Batches
 pub mod ByHeight
 pub mod Pools
 pub mod Gating
+pub mod Outcomes

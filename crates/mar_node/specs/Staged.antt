@@ -2,7 +2,8 @@
 use Rattle.std.specs.BTreeMap.{insert_entry}
 use Rattle.std.specs.Map.{lookup, remove_entry}
 use Rattle.std.specs.Ordering.{nat_cmp}
-use Rattle.std.specs.Prelude.{Bool, List, Option, filter, if◌then◌else◌, is_some, length, max, nat_le, nat_lt, not, ℕ, ◌&&◌, ◌==◌}
+use Rattle.std.specs.Prelude.{Bool, List, Option, false, filter, if◌then◌else◌, is_some, length, max, nat_le, nat_lt, not, true, ℕ, ◌&&◌, ◌==◌}
+use Rattle.mar_store.specs.Kept.{At, Kept, has_height}
 
 -- What contracts see of what is staged: the blocks by height, the least height that is kept, and the most blocks.
 pub record Staged (B : Type 0) : Type 0 where
@@ -28,3 +29,12 @@ without_height h s = record s { blocks = remove_entry (λ k. k == h) s.blocks }
 -- from now on only heights from this one on are kept, or from a higher one that was set before
 abbrev pub kept_from : {B : Type 0} → ℕ → Staged B → Staged B
 kept_from h s = record s { blocks = filter (λ e. nat_le h e.0) s.blocks; min = max s.min h }
+
+-- with a block staged where it is to be
+abbrev pub staged_where : {B : Type 0} → Bool → ℕ → B → Staged B → Staged B
+staged_where true h b s = with_block h b s
+staged_where false h b s = s
+
+-- a height was free before a put, and now isn't
+abbrev pub is_taken_in : {T : Type 0} → ℕ → Kept (At T) → Kept (At T) → Bool
+is_taken_in h old new = not (has_height old.held h) && has_height new.held h

@@ -10,7 +10,7 @@ use Rattle.mar_node.specs.Held.{ArePassed, Ending, FailsBy, Remains}
 use Rattle.mar_node.specs.Lives.{Cuts}
 use Rattle.mar_node.specs.Promise.{Heard, HearsMade, IsSetTo, KeepsPromise, asked_since, heard_with, node_of}
 use Rattle.mar_node.specs.Step.{Made, Steps, nothing_made}
-use Rattle.mar_shelf.specs.declared.fault.Fault.{Fault as FaultCode}
+use Rattle.mar_node.specs.declared.fault.Fault.{Fault as FaultCode}
 use Rattle.mar_replay.specs.Playing.{GivesFew, IsNearLast, SeenNode, TakesEvent}
 use Rattle.mar_script.specs.Shown.{plain_fault}
 use Rattle.mar_replay.specs.declared.play.Outcome.TheVariants as outcome

@@ -22,10 +22,10 @@ use Rattle.mar_node.specs.Node.{Node}
 use Rattle.mar_node.specs.Step.{Made, Steps, nothing_made}
 use Rattle.mar_node.proofs.Passing.{ArePassed-refl}
 use Rattle.mar_node.proofs.Reaching.{IsGood-beside, Rest-beside}
-use Rattle.mar_shelf.specs.declared.fault.Fault.{Fault as FaultCode}
-use Rattle.mar_shelf.specs.declared.fault.TicketKind.{TicketKind}
-use Rattle.mar_shelf.specs.declared.fault.TicketKind.TheVariants.{Ack, Sync}
-use Rattle.mar_shelf.specs.Views.{kind_of}
+use Rattle.mar_node.specs.declared.fault.Fault.{Fault as FaultCode}
+use Rattle.mar_node.specs.declared.fault.TicketKind.{TicketKind}
+use Rattle.mar_node.specs.declared.fault.TicketKind.TheVariants.{Ack, Sync}
+use Rattle.mar_node.specs.Views.{kind_of}
 use Rattle.mar_script.specs.Refused.{max_lines}
 use Rattle.mar_script.specs.Accounts.{Account, Calls, CallsEnd, luck_after}
 use Rattle.mar_script.specs.Plays.{IsBetween, IsLawfulLine, Plays, max_window}

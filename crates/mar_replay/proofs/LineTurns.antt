@@ -18,10 +18,10 @@ use Rattle.mar_node.specs.Node.{Ended, Node}
 use Rattle.mar_node.specs.Promise.{IsGoodFor, IsLawfulStep, ReportsFinalized, RestsBefore, Waiting, asked_since, node_of}
 use Rattle.mar_node.specs.Step.{AdvancesAll, Made, Steps, joined_made}
 use Rattle.mar_node.proofs.Reaching.{IsGood-beside, Rest-beside}
-use Rattle.mar_shelf.specs.declared.fault.Fault.{Fault as FaultCode}
-use Rattle.mar_shelf.specs.declared.fault.Fault.TheVariants as fault
-use Rattle.mar_shelf.specs.declared.fault.TicketKind.{TicketKind}
-use Rattle.mar_shelf.specs.Views.{kind_of}
+use Rattle.mar_node.specs.declared.fault.Fault.{Fault as FaultCode}
+use Rattle.mar_node.specs.declared.fault.Fault.TheVariants as fault
+use Rattle.mar_node.specs.declared.fault.TicketKind.{TicketKind}
+use Rattle.mar_node.specs.Views.{kind_of}
 use Rattle.mar_script.specs.Accounts.{Account}
 use Rattle.mar_script.specs.Plays.{IsBetween, IsLawfulLine, max_window}
 use Rattle.mar_script.specs.Run.{LineDone, RunningDone, StepDone, still_unanswered}

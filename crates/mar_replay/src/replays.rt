@@ -19,11 +19,11 @@ use crate::play::{Left, Outcome, State, play};
 use crate::turn::{Page, push_turn};
 use mar_block::StandardBlocks;
 use mar_cert::MockFinalization;
+use mar_node::Holds;
 use mar_script::{
     Line, MAX_LINES, ScriptReader, Settings, Sink, Source, Status, Why, first_line, next_line,
     write_text,
 };
-use mar_shelf::Holds;
 use std::alloc::Global;
 
 /// How a run ended, and what is left of the stores that it was given.

@@ -10,11 +10,11 @@ use crate::play::{Outcome, State};
 use mar_actor::Update;
 use mar_block::{EmptyBlock, StandardBlocks, Variant};
 use mar_cert::MockFinalization;
+use mar_node::{Holds, StoresRuin};
 use mar_script::{
     RangeTexts, push_answers, push_asks, push_block, push_ended, push_fault, push_node,
     push_remark, push_tip,
 };
-use mar_shelf::{Holds, StoresRuin};
 use mar_types::{Digested, Sha256, Sha256Digest};
 use std::alloc::{AllocError, Global};
 use std::convert::AsSlice;

@@ -21,8 +21,8 @@ use Rattle.mar_block.specs.declared.EmptyBlock.{EmptyBlock}
 use Rattle.mar_inbox.specs.Views.{query_of}
 use Rattle.mar_node.specs.Messages.{get_anchor, get_block, get_finalization, get_info, get_processed, get_verified, report_finalization}
 use Rattle.mar_node.specs.Faults.{StoreName, from_genesis}
-use Rattle.mar_shelf.specs.Views.{store_name_of}
-use Rattle.mar_shelf.specs.declared.StoreName.{StoreName as StoreNameCode}
+use Rattle.mar_node.specs.Views.{store_name_of}
+use Rattle.mar_node.specs.declared.StoreName.{StoreName as StoreNameCode}
 use Rattle.mar_script.specs.Script.{HasValues, IsBuilt, IsIdentifier, Line, ack_line, buffer_line, crash_line, fail_line, hex, identifier_text, line_bytes, open_line, store_name, sync_line, tell_line}
 use Rattle.mar_script.specs.Words.{Yields}
 use Rattle.mar_script.specs.declared.line.Line.{Line as LineCode}

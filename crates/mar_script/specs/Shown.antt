@@ -7,8 +7,8 @@ use Rattle.mar_node.specs.Faults.{Fault}
 use Rattle.mar_node.specs.Node.{OpenSync}
 use Rattle.mar_store.specs.Ranges.{Range}
 use Rattle.mar_types.specs.declared.Sha256Digest.{Sha256Digest}
-use Rattle.mar_shelf.specs.Views.{fault_of}
-use Rattle.mar_shelf.specs.declared.Fault.{Fault as FaultCode}
+use Rattle.mar_node.specs.Views.{fault_of}
+use Rattle.mar_node.specs.declared.Fault.{Fault as FaultCode}
 use Rattle.mar_script.specs.Script.{comma_numbers}
 use Rattle.mar_script.specs.Text.{Remark, comma_list, cutoff_text, or_dash, outstanding_text, processed_text, range_text, remark_ignored, remark_running, remark_stopped, sync_text}
 use Rattle.mar_script.specs.declared.text.RemarkShown.{RemarkShown}

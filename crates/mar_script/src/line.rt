@@ -13,7 +13,7 @@ use crate::words::{ParseError, bytes_of, look_up, number, split_word};
 use mar_block::EmptyBlock;
 use mar_cert::MockFinalization;
 use mar_inbox::Query;
-use mar_shelf::StoreName;
+use mar_node::StoreName;
 use mar_types::{Decode, Error, Sha256, Sha256Digest};
 use std::alloc::Global;
 

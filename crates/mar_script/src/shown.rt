@@ -12,9 +12,8 @@ ghost use Rattle.mar_script.specs.Shown.{ended_shown_words, ranges_shown, shown_
 use crate::range_text::RangeText;
 use crate::text::{push_cutoff, push_number};
 use mar_key::{Cutoff, Processed};
-use mar_node::{OpenSync, Writes};
+use mar_node::{OpenSync, ShownRuins, Writes};
 use mar_parts::{Mark, PendingAck, PendingAcks, Shown};
-use mar_shelf::ShownRuins;
 use mar_store::RangeSet;
 use mar_types::Height;
 use std::alloc::{AllocError, Global};

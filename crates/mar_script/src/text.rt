@@ -5,12 +5,12 @@ ghost use Rattle.mar_key.specs.Views.{cutoff_of};
 ghost use Rattle.mar_types.specs.Round.{Round};
 ghost use Rattle.mar_script.specs.Script.{hex, store_name};
 ghost use Rattle.mar_script.specs.Text.{cutoff_text, fault_words, kind_name, line_of, remark_words, report_words, round_text};
-ghost use Rattle.mar_shelf.specs.Views.{kind_of, store_name_of};
+ghost use Rattle.mar_node.specs.Views.{kind_of, store_name_of};
 ghost use Rattle.mar_script.specs.Shown.{plain_fault, remark_of};
 
 use itoa::Buffer;
 use mar_key::Cutoff;
-use mar_shelf::{Fault, StoreName, TicketKind};
+use mar_node::{Fault, StoreName, TicketKind};
 use mar_types::{Height, Round, Sha256Digest};
 use std::alloc::{AllocError, Global};
 use std::convert::AsSlice;

@@ -21,14 +21,14 @@ use Rattle.mar_store.specs.Tickets.{KeepsCovers, last_number}
 use Rattle.mar_store.proofs.Lookups.{AllByRecursion-contains, has_height-from_value, has_height-push_cases, missing-from_has_height, value-from_has_height, value_at-append, value_at-append_found, value_at-one}
 use Rattle.mar_node.specs.Pool.{Pool, Pooled, pool_deferred, pool_finished, pool_started, pooled_at, syncs_of, writing_of}
 use Rattle.mar_node.specs.Stored.{at_own_height}
-use Rattle.mar_node.specs.Staged.{Staged, has_place, kept_from, staged_at, without_height}
+use Rattle.mar_node.specs.Staged.{Staged, has_place, is_taken_in, kept_from, staged_at, staged_where, without_height}
 use Rattle.mar_node.proofs.Pools.{position_found}
 use Rattle.mar_node.specs.Held.{Held, MakesSure}
 use Rattle.mar_node.proofs.Growing.{MakesSure-finished}
 use Rattle.mar_node.specs.Writing.{IsLastWrite, IsOrdered, Writing, position_of, total_writes}
 use Rattle.mar_node.specs.declared.Place.{Place}
 use Rattle.mar_node.specs.declared.Place.TheVariants.{Away, Lost, Open}
-use Rattle.mar_shelf.specs.Pooling.{AreHeld, AwaitsSyncs, is_taken_in, staged_where, writes_behind}
+use Rattle.mar_shelf.specs.Pooling.{AreHeld, AwaitsSyncs, writes_behind}
 
 -- LISTS
 

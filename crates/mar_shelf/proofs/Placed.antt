@@ -13,7 +13,7 @@ use Rattle.mar_node.specs.Held.{IsArchiveFault, IsUsual, MakesSure, Passes}
 use Rattle.mar_node.specs.Moves.{StoresValue}
 use Rattle.mar_node.specs.Places.{is_open, is_there, kept_at, watch_at}
 use Rattle.mar_node.specs.Pool.{Pool, Pooled, pool_deferred, pool_finished, pool_started, pooled_at, writing_of}
-use Rattle.mar_node.specs.Staged.{Staged}
+use Rattle.mar_node.specs.Staged.{Staged, is_taken_in, staged_where}
 use Rattle.mar_node.specs.Stored.{at_own_height}
 use Rattle.mar_node.specs.Writing.{IsLastWrite, IsOrdered}
 use Rattle.mar_node.specs.declared.Place.{Place}
@@ -21,7 +21,7 @@ use Rattle.mar_node.specs.declared.Place.TheVariants.{Away, Lost, Open}
 use Rattle.mar_node.proofs.Growing.{MakesSure-finished, MakesSure-same, MakesSure-synced}
 use Rattle.mar_node.proofs.Passing.{Breaks-then, Passes-refl, Passes-then}
 use Rattle.mar_shelf.proofs.Awaiting.{AreHeld-kept, AreHeld-staged, AwaitsSyncs-deferred, AwaitsSyncs-finished, AwaitsSyncs-put, AwaitsSyncs-same, AwaitsSyncs-started, AwaitsSyncs-sure, AwaitsSyncs-surer, given, held_by_put}
-use Rattle.mar_shelf.specs.Pooling.{AreHeldIn, AwaitsIn, FailsIn, FinishesIn, HoldsIn, IsFaultOf, IsGivenIn, IsLeftIn, IsReadIn, StartsIn, StaysIn, is_taken_in, staged_where}
+use Rattle.mar_shelf.specs.Pooling.{AreHeldIn, AwaitsIn, FailsIn, FinishesIn, HoldsIn, IsFaultOf, IsGivenIn, IsLeftIn, IsReadIn, StartsIn, StaysIn}
 
 -- a fault of an archive is one of those that an archive's call has
 pub archive_fault : (s : StoreName) (before now : Watch) (fault : Fault) → IsArchiveFault (store_fault s) → IsFaultOf s before fault now → IsArchiveFault fault

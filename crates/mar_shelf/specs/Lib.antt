@@ -1,4 +1,3 @@
-pub mod Gaps
 pub mod Fitting
 pub mod Views
 pub mod Pooling

@@ -1,6 +1,6 @@
 -- What the archives and what is staged keep, for the writes that wait and the syncs that are open.
 use Rattle.std.specs.List.{AllByRecursion}
-use Rattle.std.specs.Prelude.{Bool, Contains, Err, IfSome, IsTrue, List, Ok, Result, Some, [], drop, false, map, not, true, ℕ, ⊤, ◌&&◌, ◌-◌, ◌≡◌, ◌≤◌, ◌⊎◌, ◌∷◌}
+use Rattle.std.specs.Prelude.{Contains, Err, IfSome, IsTrue, List, Ok, Result, Some, [], drop, map, ℕ, ⊤, ◌-◌, ◌≡◌, ◌≤◌, ◌⊎◌, ◌∷◌}
 use Rattle.mar_cert.specs.Block.{Block}
 use Rattle.mar_store.specs.Changes.{Fails, Finishes, IsNested, IsReopened, KeepsValues, Left, left_of}
 use Rattle.mar_store.specs.Kept.{At, Kept, has_height, value_at}
@@ -15,7 +15,6 @@ use Rattle.mar_node.specs.Metadata.{pair_at}
 use Rattle.mar_node.specs.Node.{SureOrWritten}
 use Rattle.mar_node.specs.Places.{is_open, kept_at, watch_at}
 use Rattle.mar_node.specs.Pool.{Pool, Pooled}
-use Rattle.mar_node.specs.Staged.{Staged, with_block}
 use Rattle.mar_node.specs.declared.Place.{Place}
 use Rattle.mar_node.specs.declared.Place.TheVariants.{Away, Lost, Open}
 
@@ -58,15 +57,6 @@ abbrev pub HoldsIn : {S T W : Type 0} → (S → Kept (At T)) → Place S W → 
 HoldsIn stored (Open s) (Open t) = KeepsValues (stored s).held (stored t).held
 HoldsIn stored old (Open t) = ⊥
 HoldsIn stored old new = ⊤
-
--- with a block staged where it is to be
-abbrev pub staged_where : {B : Type 0} → Bool → ℕ → B → Staged B → Staged B
-staged_where true h b s = with_block h b s
-staged_where false h b s = s
-
--- a height was free before a put, and now isn't
-abbrev pub is_taken_in : {T : Type 0} → ℕ → Kept (At T) → Kept (At T) → Bool
-is_taken_in h old new = not (has_height old.held h) && has_height new.held h
 
 -- CALLS OF A STORE IN ITS PLACE
 

@@ -6,15 +6,14 @@ ghost use Rattle.mar_store.specs.Kept.{has_height, value_at};
 ghost use Rattle.mar_store.specs.Changes.{Puts, Fails, left_of, IsStillOr, heights};
 ghost use Rattle.mar_store.specs.Ranges.{ranges};
 ghost use Rattle.mar_store.specs.Tickets.{KeepsCovers};
-ghost use Rattle.mar_shelf.specs.Gaps.{missing_items, next_start, range_end};
+ghost use Rattle.mar_store.specs.Gaps.{missing_items, next_start, range_end};
 ghost use Rattle.mar_store.specs.Lost.{wreck_of};
 ghost use Rattle.mar_node.specs.Stored.{at_own_height, block_of, is_held, AreOwn};
 
-use crate::gaps::{missing_items, next_gap};
 use crate::item::BlockItem;
 use crate::keeps::Keeps;
 use mar_block::Variant;
-use mar_store::{Lost, Miss};
+use mar_store::{Lost, Miss, missing_items, next_gap};
 use mar_types::Height;
 use std::alloc::{AllocError, Global};
 

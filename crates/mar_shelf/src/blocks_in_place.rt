@@ -8,17 +8,16 @@ ghost use Rattle.mar_node.specs.Held.{Passes};
 ghost use Rattle.mar_node.specs.Moves.{StoresValue};
 ghost use Rattle.mar_node.specs.Places.{is_open, kept_at, watch_at};
 ghost use Rattle.mar_node.specs.Pool.{pool_deferred};
-ghost use Rattle.mar_node.specs.Staged.{kept_from, without_height};
+ghost use Rattle.mar_node.specs.Staged.{is_taken_in, kept_from, staged_where, without_height};
 ghost use Rattle.mar_node.specs.Stored.{at_own_height, block_of, is_held};
-ghost use Rattle.mar_shelf.specs.Pooling.{AreHeldIn, AwaitsIn, FailsIn, IsFaultOf, IsLeftIn, IsReadIn, StaysIn, is_taken_in, of_blocks, staged_where};
-ghost use Rattle.mar_shelf.specs.Views.{fault_of};
+ghost use Rattle.mar_shelf.specs.Pooling.{AreHeldIn, AwaitsIn, FailsIn, IsFaultOf, IsLeftIn, IsReadIn, StaysIn, of_blocks};
+ghost use Rattle.mar_node.specs.Views.{fault_of};
 
 use crate::Blocks;
-use crate::fault::{Fault, StoreName};
 use crate::in_place::{answered, put_block, sync};
 use crate::item::BlockItem;
 use mar_block::Variant;
-use mar_node::{Place, Staged, Writes};
+use mar_node::{Fault, Place, Staged, StoreName, Writes};
 use mar_types::Height;
 use std::alloc::AllocError;
 

@@ -7,17 +7,16 @@ ghost use Rattle.mar_store.specs.Changes.{Puts, Fails, left_of, IsStillOr, heigh
 ghost use Rattle.mar_store.specs.Ranges.{ranges};
 ghost use Rattle.mar_store.specs.Spans.{ranges_of};
 ghost use Rattle.mar_store.specs.Tickets.{KeepsCovers};
-ghost use Rattle.mar_shelf.specs.Gaps.{ranges_from};
+ghost use Rattle.mar_store.specs.Gaps.{ranges_from};
 ghost use Rattle.mar_store.specs.Lost.{wreck_of};
 ghost use Rattle.mar_cert.specs.Finalization.{finalization_bytes};
 ghost use Rattle.mar_node.specs.Stored.{is_certified};
 
-use crate::gaps::ranges_from;
 use crate::item::CertificateItem;
 use crate::keeps::Keeps;
 use mar_block::Variant;
 use mar_cert::AsFinalization;
-use mar_store::{HeightSpan, Lost, Miss};
+use mar_store::{HeightSpan, Lost, Miss, ranges_from};
 use mar_types::Height;
 
 /// Finalizations by the height of their block. `get`, `has` and `put` are counted, as are the calls of `Keeps`.

@@ -9,15 +9,14 @@ ghost use Rattle.mar_node.specs.Moves.{StoresValue, at_height};
 ghost use Rattle.mar_node.specs.Places.{kept_at, watch_at};
 ghost use Rattle.mar_node.specs.Stored.{is_certified};
 ghost use Rattle.mar_shelf.specs.Pooling.{FailsIn, IsFaultOf, IsLeftIn, IsReadIn, StaysIn};
-ghost use Rattle.mar_shelf.specs.Views.{fault_of};
+ghost use Rattle.mar_node.specs.Views.{fault_of};
 
 use crate::Certificates;
-use crate::fault::{Fault, StoreName};
 use crate::in_place::{answered, put_certificate, sync};
 use crate::item::CertificateItem;
 use mar_block::Variant;
 use mar_cert::CommitsTo;
-use mar_node::Place;
+use mar_node::{Fault, Place, StoreName};
 use mar_types::Height;
 
 /// Puts the finalization of a height and makes it durable at once.

@@ -3,14 +3,13 @@ ghost use Rattle.std.specs.Prelude.{◌≡◌, ◌⊎◌, IfErr, IfOk, map};
 ghost use Rattle.mar_node.specs.Faults.{block_store, cache_store, cert_store, meta_store};
 ghost use Rattle.mar_node.specs.Held.{Passes};
 ghost use Rattle.mar_shelf.specs.Pooling.{Closes, ClosesPairs, IsFaultOf, Opens, OpensPairs, Unopens, UnopensPairs};
-ghost use Rattle.mar_shelf.specs.Views.{fault_of};
+ghost use Rattle.mar_node.specs.Views.{fault_of};
 
 use crate::Shelf;
-use crate::fault::{Fault, StoreName};
 use crate::in_place::lost_by;
 use crate::keeps::Keeps;
 use mar_cert::CommitsTo;
-use mar_node::Progress;
+use mar_node::{Fault, Progress, StoreName};
 use mar_store::Meta;
 use mar_types::Named;
 

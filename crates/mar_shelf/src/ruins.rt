@@ -1,11 +1,8 @@
 //! What is left where no life runs.
-use crate::fault::StoreName;
-use crate::holds::StoresRuin;
-use crate::shown::ShownRuins;
 use crate::{Blocks, Certificates, KeepsRuin, Shelf};
 use mar_block::Variant;
 use mar_cert::CommitsTo;
-use mar_node::{synced_cutoff, synced_height};
+use mar_node::{ShownRuins, StoreName, StoresRuin, synced_cutoff, synced_height};
 use mar_store::{Meta, MetaRuin};
 use std::alloc::AllocError;
 use std::marker::Model;

@@ -1,6 +1,4 @@
 //! The four stores of a life.
-use crate::fault::{Fault, StoreName};
-use crate::holds::{Ended, Holds};
 use crate::in_place::{self, answered};
 use crate::item::{BlockItem, CertificateItem};
 use crate::opening::{self, Unopened};
@@ -9,7 +7,7 @@ use crate::{Blocks, Certificates, Shelf, blocks_in_place, certificates_in_place,
 use mar_block::Variant;
 use mar_cert::CommitsTo;
 use mar_key::Cutoff;
-use mar_node::{Place, Progress, Staged, State, Writes};
+use mar_node::{Ended, Fault, Holds, Place, Progress, Staged, State, StoreName, Writes};
 use mar_store::{Meta, RangeSet};
 use mar_types::{Height, Round};
 use std::alloc::{AllocError, Global};

@@ -5,12 +5,11 @@ ghost use Rattle.mar_node.specs.Places.{is_open, kept_at};
 ghost use Rattle.mar_node.specs.Pool.{syncs_of, writing_of};
 ghost use Rattle.mar_node.specs.Writing.{IsOrdered, is_open_sync, with_finished, with_started};
 ghost use Rattle.mar_shelf.specs.Pooling.{AwaitsIn, FailsBoth, HoldsIn, SurerIn, of_blocks, of_certs};
-ghost use Rattle.mar_shelf.specs.Views.{fault_of};
+ghost use Rattle.mar_node.specs.Views.{fault_of};
 
-use crate::fault::{Fault, StoreName, TicketKind};
 use crate::in_place;
 use crate::keeps::Keeps;
-use mar_node::{Place, Writes};
+use mar_node::{Fault, Place, StoreName, TicketKind, Writes};
 use mar_types::Named;
 
 /// Starts a sync of both archives that covers all writes, under the next ticket.

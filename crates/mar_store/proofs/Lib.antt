@@ -14,3 +14,6 @@ pub mod Stores
 pub mod Finishing
 pub mod LastEnd
 pub mod ChangedKeys
+pub mod Missing
+pub mod GapHeights
+pub mod MissingHeights

@@ -17,3 +17,4 @@ pub mod Names
 pub mod Sizes
 pub mod Alarms
 pub mod Choices
+pub mod Gaps

@@ -3,9 +3,10 @@ ghost use Rattle.std.specs.Prelude.{◌≤◌, IfOk};
 
 use crate::tell::*;
 use lives::{Life, lived};
+use mar_archives::{immutable, prunable};
 use mar_block::{EmptyBlock, StandardBlocks, Variant};
 use mar_mocks::Recording;
-use mar_shelf::{BlockItem, Blocks, NoShelf, Shelf, immutable, prunable};
+use mar_shelf::{BlockItem, Blocks, NoShelf, Shelf};
 use mar_store::{Archive, Item, Lost, LuckHalf, MemArchive};
 use mar_types::{Digest, Digested, EncodeSize, Height, Sha256, Sha256Digest};
 use std::alloc::{AllocError, Global};

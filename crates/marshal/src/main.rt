@@ -12,11 +12,11 @@ ghost use Rattle.marshal.specs.Commands.{IsCommand};
 mod help;
 
 use crate::help::{show, text_for};
+use mar_archives::prunable::Archive;
 use mar_block::StandardBlocks;
 use mar_cert::MockFinalization;
 use mar_replay::{ScriptRuins, run};
 use mar_script::{Input as InputSource, Output, Sink, Status};
-use mar_shelf::prunable::Archive;
 use mar_shelf::{BlockItem, Blocks, CertificateItem, Certificates, NoShelf, Ruins, Shelf};
 use mar_store::{LuckHalf, MemArchive, MemMeta, Meta};
 use std::io::ErrorKind;

@@ -7,12 +7,12 @@ use Rattle.mar_node.specs.Writing.{is_open_sync}
 use Rattle.mar_node.proofs.Growing.{Grew-refl, WithinWritten-refl}
 use Rattle.mar_node.proofs.Heard.{KeepsPromise-beside, unanswered-err, unanswered-ok}
 use Rattle.mar_node.proofs.Queries.{promise-asked}
-use Rattle.mar_shelf.specs.Views.{fault_of}
+use Rattle.mar_node.specs.Views.{fault_of}
 use Rattle.mar_actor.specs.Due.{EndsWhereDue}
 use Rattle.mar_actor.specs.Told.{TellsInOrder}
 use Rattle.mar_actor.proofs.Asking.{asks, event_is, lives_asked, no_tips, none_due, on_err}
 use Rattle.mar_actor.proofs.Due.{EndsWhereDue-usual}
-use Rattle.mar_actor.proofs.Outcomes.{outcome-both, outcome-err, outcome-on_err, outcome-on_ok, outcome-read}
+use Rattle.mar_node.proofs.Outcomes.{outcome-both, outcome-err, outcome-on_err, outcome-on_ok, outcome-read}
 use Rattle.mar_actor.proofs.Told.{TellsInOrder-nothing}
 use Rattle.mar_actor.proofs.node.take.Goals as goal
 

@@ -5,7 +5,7 @@ use Rattle.mar_node.proofs.EventPromises.{promise-unread}
 use Rattle.mar_node.proofs.FoundBlocks.{found_small}
 use Rattle.mar_node.proofs.Handing.{Hears-nothing}
 use Rattle.mar_node.proofs.Lasting.{EndsLife-usual, LivesOn-then}
-use Rattle.mar_shelf.specs.Views.{fault_of}
+use Rattle.mar_node.specs.Views.{fault_of}
 use Rattle.mar_actor.specs.Due.{EndsWhereDue, storing_due}
 use Rattle.mar_actor.proofs.Due.{usual-due}
 use Rattle.mar_actor.proofs.Reported.{above-tells, absent-due, absent-lives, absent-promise, absent-tells, grown, lost, low-due, low-tells, read-part}

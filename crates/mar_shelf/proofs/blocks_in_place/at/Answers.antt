@@ -1,6 +1,6 @@
 use Rattle.mar_node.specs.Faults.{block_store}
 use Rattle.mar_node.proofs.FoundBlocks.{own_height}
-use Rattle.mar_shelf.specs.Views.{fault_of}
+use Rattle.mar_node.specs.Views.{fault_of}
 use Rattle.mar_shelf.proofs.Answered.{answer_failed, answer_passed, answer_so}
 use Rattle.mar_shelf.proofs.blocks_in_place.at.Goals as goal
 

@@ -1,5 +1,5 @@
 use Rattle.mar_node.specs.Faults.{block_store}
-use Rattle.mar_shelf.specs.Views.{fault_of}
+use Rattle.mar_node.specs.Views.{fault_of}
 use Rattle.mar_shelf.proofs.Answered.{answer_failed, answer_passed}
 use Rattle.mar_shelf.proofs.blocks_in_place.of.Goals as goal
 

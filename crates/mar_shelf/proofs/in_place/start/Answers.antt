@@ -1,5 +1,5 @@
 use Rattle.mar_node.proofs.Passing.{Passes-one, by_lost}
-use Rattle.mar_shelf.specs.Views.{store_name_of}
+use Rattle.mar_node.specs.Views.{store_name_of}
 use Rattle.mar_shelf.proofs.in_place.start.Goals as goal
 
 pub returns-in-Ok-clause-passed : goal.returns-in-Ok-clause-passed

@@ -4,7 +4,7 @@ use Rattle.mar_node.specs.Faults.{want_of_memory}
 use Rattle.mar_actor.specs.Views.{sizes_of}
 use Rattle.mar_node.proofs.OpeningEvent.{cut_early}
 use Rattle.mar_node.proofs.Reopenings.{LosesOpening-nothing}
-use Rattle.mar_actor.proofs.Opened.{failed_by_value, failed_cause, failed_cut, opened_begins, opened_finds, opened_passed}
+use Rattle.mar_opening.proofs.Opened.{failed_by_value, failed_cause, failed_cut, opened_begins, opened_finds, opened_passed}
 use Rattle.mar_actor.proofs.node.Node.init.Goals as goal
 
 pub returns-in_default-clause-opens : goal.returns-in_default-clause-opens

@@ -3,7 +3,7 @@ use Rattle.mar_node.specs.Faults.{meta_store}
 use Rattle.mar_node.proofs.Growing.{Grew-set}
 use Rattle.mar_node.proofs.Passing.{Passes-refl}
 use Rattle.mar_node.proofs.StoreLosses.{Loses-meta}
-use Rattle.mar_shelf.specs.Views.{fault_of}
+use Rattle.mar_node.specs.Views.{fault_of}
 use Rattle.mar_shelf.proofs.Answered.{answer_calm, answer_done, answer_left, with_left}
 use Rattle.mar_shelf.proofs.Placed.{by_answer, done_so, failed_so, usual_fault}
 use Rattle.mar_shelf.proofs.stores.StoresHolds.set_processed.Goals as goal

@@ -2,7 +2,7 @@ use Rattle.std.proofs.Common.{refl}
 use Rattle.mar_node.specs.Faults.{meta_store}
 use Rattle.mar_node.proofs.Passing.{ArePassed-store}
 use Rattle.mar_node.proofs.StoreLosses.{Loses-meta}
-use Rattle.mar_shelf.specs.Views.{fault_of}
+use Rattle.mar_node.specs.Views.{fault_of}
 use Rattle.mar_shelf.proofs.Answered.{answer_done, answer_idle, answer_left, answer_synced, with_left}
 use Rattle.mar_shelf.proofs.Placed.{done_so, failed_so, usual_fault}
 use Rattle.mar_shelf.proofs.stores.StoresHolds.sync_metadata.Goals as goal

@@ -1,4 +1,0 @@
-use Rattle.mar_actor.proofs.query.block_for.Goals as goal
-
-pub returns-in-Some-clause-goes_on : goal.returns-in-Some-clause-goes_on
-returns-in-Some-clause-goes_on g c = λ start all grew within. c.block_at_hand.ensures.goes_on start all (c.in-Ok.ensures.goes_on start all grew within) within

@@ -1,0 +1,48 @@
+//! The block that is at hand. A read that fails ends the life.
+ghost use Rattle.std.specs.Prelude.{◌≡◌, IfErr, IfOk, OnOk, option_map};
+ghost use Rattle.mar_node.specs.Held.{GoesOn, IsUsual, nothing_written};
+ghost use Rattle.mar_node.specs.Moves.{found_at_hand, of_commitment};
+ghost use Rattle.mar_node.specs.Views.{fault_of};
+
+use mar_block::Buffer;
+use mar_cert::Variant;
+use mar_node::{Fault, Holds, is_same};
+
+/// The block of a commitment, from the buffer or from the store.
+pub fn block_at_hand<V: Variant, S: Holds<V>, B: Buffer<V>>(
+    stores: &mut S,
+    commitment: V::Commitment,
+    buffer: &B,
+) -> Result<Option<V::Block>, Fault<V::Commitment>>
+    ensures same { OnOk result (S.held stores.new ≡ record (S.held stores.old) { watches = (S.held stores.new).watches }) }
+    ensures found { IfOk result (λ r. option_map V.plain r ≡ found_at_hand V.inner (B.blocks buffer.now) (S.held stores.old).blocks.held
+        (V.Commitment.bytes commitment)) }
+    ensures goes_on { GoesOn (fault_of V.Commitment.bytes) (S.held stores.old) nothing_written (S.held stores.new) result }
+    ensures usual { IfErr result (λ e. IsUsual (fault_of V.Commitment.bytes e)) }
+{
+    match buffer.find_by_commitment(&commitment) {
+        Ok(Some(block)) => Ok(Some(block)),
+        Ok(None) => {
+            let digest = V::commitment_to_inner(commitment);
+            let block = stores.block_of(&digest)?;
+            Ok(of_commitment::<V>(block, commitment))
+        }
+        Err(_) => Err(Fault::Memory),
+    }
+}
+
+/// The block, where it has this commitment.
+fn of_commitment<V: Variant>(block: Option<V::Block>, commitment: V::Commitment) -> Option<V::Block>
+    ensures { option_map V.plain result ≡ of_commitment (V.Commitment.bytes commitment) (option_map V.plain block) }
+{
+    match block {
+        None => None,
+        Some(block) => {
+            if is_same(V::commitment(&block), commitment) {
+                Some(block)
+            } else {
+                None
+            }
+        }
+    }
+}

@@ -1,0 +1,90 @@
+-- What an opening promises, by what was made of its stores.
+use Rattle.std.proofs.Common.{◌≡◌, ◌⊎◌, ◌∷◌, inl, inr, ℕ, [], None, Some, Result, Ok, Err, IfErr, OnOk, refl, subst, sym}
+use Rattle.mar_types.specs.Epochs.{Epochs}
+use Rattle.mar_cert.specs.Block.{Block}
+use Rattle.mar_node.specs.Chain.{Chain}
+use Rattle.mar_node.specs.Config.{Config}
+use Rattle.mar_node.specs.Faults.{Begin, Fault, from_genesis, want_of_memory}
+use Rattle.mar_node.specs.Held.{ArePassed, Ending, Grew, Held, IsEndedBy, IsUsual, Loses, Remains, Remembered, ReopensAs, Sizes, Written, ended_on, first_life, nothing_written, picks_of, written_block}
+use Rattle.mar_node.specs.Lives.{CutsReopening, Finds}
+use Rattle.mar_node.specs.Opening.{BeginsWith, Derives, IsBeginFault, LosesDeriving, derived_pair, next_fault}
+use Rattle.mar_node.specs.Promise.{Begins, IsLawfulOpening, IsOpeningFault, node_of, none_waiting}
+use Rattle.mar_node.specs.Step.{nothing_made}
+use Rattle.mar_node.specs.Stored.{at_own_height}
+use Rattle.mar_node.proofs.OpeningEvent.{begin_by_value, begins, cut_begun, cut_deriving, cut_early, deriving_cause, deriving_keeps, finds, next_by_value}
+use Rattle.mar_node.proofs.Passing.{ArePassed-then}
+use Rattle.mar_node.proofs.Reopenings.{Grew-opened, LosesOpening-then}
+use Rattle.mar_node.proofs.StoreLosses.{Loses-nothing}
+use Rattle.mar_opening.specs.Opened.{FailsToOpen, OpensAs}
+
+-- WHAT WAS MADE OF THEM
+
+module _ (epochs : Epochs) (old : Remains) (luck : ℕ) (g : Block) where
+  -- a fault on stores that were reopened, before they are settled
+  pub fails_beginning : (first : Held) → ReopensAs old luck first → (e : Ending) → Loses first (written_block (at_own_height g)) e → IsUsual e.fault ⊎ IsBeginFault g first e.fault → FailsToOpen epochs old luck g e
+  fails_beginning first reopens e lost kind = inr (inl (record { first = first; reopens = reopens; lost = lost; kind = kind }))
+
+  -- memory ran out then
+  pub fails_unhoused : (first : Held) → ReopensAs old luck first → FailsToOpen epochs old luck g (ended_on want_of_memory first)
+  fails_unhoused first reopens = fails_beginning first reopens (ended_on want_of_memory first) (Loses-nothing first (written_block (at_own_height g)) first (Grew-opened old luck first (written_block (at_own_height g)) reopens) want_of_memory tt) (inl tt)
+
+  module _ (first begun : Held) (reopens : ReopensAs old luck first) (begins : BeginsWith g first begun) (grew : Grew first (written_block (at_own_height g)) begun) where
+    pub opens_with : (new : Held) → Derives epochs begun new → ArePassed begun.watches new.watches → OpensAs epochs old luck g new
+    opens_with new derives passed = record { first = first; begun = begun; reopens = reopens; begins = begins; grew = grew; derives = derives; passed = passed }
+
+    pub fails_deriving : Grew begun nothing_written begun → (fault : Fault) (now : Held) → ((start : Held) (all : Written) → Grew start all begun → Loses start all (ended_on fault now) ⊎ (next_fault begun ≡ None) × Loses start (record all { pairs = derived_pair epochs begun ∷ all.pairs }) (ended_on fault now)) → IsUsual fault ⊎ (next_fault begun ≡ Some fault) → FailsToOpen epochs old luck g (ended_on fault now)
+    fails_deriving same fault now loses kind = inr (inr (record {
+      first = first;
+      begun = begun;
+      reopens = reopens;
+      begins = begins;
+      grew = grew;
+      lost = loses first (written_block (at_own_height g)) grew;
+      keeps = deriving_keeps epochs begun (ended_on fault now) (loses begun nothing_written same);
+      kind = kind;
+    }))
+
+    -- what deriving came to
+    module _ {T C : Type 0} (fault : C → Fault) (new : Held) where
+      pub settled_opens : (result : Result T C) → OnOk result (Derives epochs begun new) → OnOk result (ArePassed begun.watches new.watches) → OnOk result (OpensAs epochs old luck g new)
+      settled_opens (Ok x) derives passed = opens_with new derives passed
+      settled_opens (Err c) derives passed = tt
+
+      pub settled_fails : Grew begun nothing_written begun → (result : Result T C) → LosesDeriving fault epochs begun new result → IfErr result (λ e. IsUsual (fault e) ⊎ (next_fault begun ≡ Some (fault e))) → IfErr result (λ e. FailsToOpen epochs old luck g (ended_on (fault e) new))
+      settled_fails same (Ok x) lost kind = tt
+      settled_fails same (Err c) lost kind = fails_deriving same (fault c) new lost kind
+
+-- WHAT IS PROMISED
+
+module _ (epochs : Epochs) (old : Remains) (luck : ℕ) (begin : Begin) (g : Block) (is : begin ≡ from_genesis g) where
+  -- AN END
+
+  pub failed_cause : (e : Ending) → FailsToOpen epochs old luck g e → IsEndedBy old.watches e
+  failed_cause e (inl early) = early.lost.cause
+  failed_cause e (inr (inl fails)) = (LosesOpening-then old luck fails.first (written_block (at_own_height g)) e refl refl fails.reopens fails.lost).cause
+  failed_cause e (inr (inr fails)) = deriving_cause old luck fails.first _ _ _ e fails.reopens fails.lost
+
+  pub failed_by_value : (e : Ending) → FailsToOpen epochs old luck g e → IsUsual e.fault ⊎ IsOpeningFault old.ended begin e.fault
+  failed_by_value e (inl early) = inl early.usual
+  failed_by_value e (inr (inl fails)) = begin_by_value old begin luck fails.first fails.reopens g is e.fault fails.kind
+  failed_by_value e (inr (inr fails)) = next_by_value old begin luck fails.first fails.reopens g is fails.begun fails.begins e.fault fails.kind
+
+  pub failed_cut : (config : Config) (chain : Chain) → config.epochs ≡ epochs → IsLawfulOpening config chain old.ended begin → (e : Ending) → FailsToOpen epochs old luck g e → CutsReopening config chain old.ended (picks_of old luck) begin nothing_made e.fault e.remains.ended
+  failed_cut config chain same asks e (inl early) = cut_early config chain old luck begin e asks early.lost (inl early.usual)
+  failed_cut config chain same asks e (inr (inl fails)) = cut_begun config chain old luck begin fails.first fails.reopens g is e asks fails.lost fails.kind
+  failed_cut config chain same asks e (inr (inr fails)) = cut_deriving config chain old luck begin fails.first fails.reopens g is fails.begun fails.begins fails.grew epochs same e asks fails.lost fails.keeps fails.kind
+
+  -- A LIFE
+
+  pub opened_passed : (new : Held) → OpensAs epochs old luck g new → ArePassed old.watches new.watches
+  opened_passed new opens = ArePassed-then old.watches opens.first.watches new.watches opens.reopens.passed (ArePassed-then opens.first.watches opens.begun.watches new.watches opens.grew.passed opens.passed)
+
+  module _ {P E : Type 0} (provider : P) (epocher : E) (sizes : Sizes) (new : Held) (life : Remembered P E) (opens : OpensAs epochs old luck g new) (life_is : life ≡ first_life provider epocher sizes) (config : Config) (same : config.epochs ≡ epochs) (capacity : config.capacity ≡ sizes.capacity) where
+    derives : Derives config.epochs opens.begun new
+    derives = subst (λ es. Derives es opens.begun new) (sym same) opens.derives
+
+    pub opened_begins : (chain : Chain) → IsLawfulOpening config chain old.ended begin → Begins config chain old.ended (picks_of old luck) begin (node_of (record { held = new; life = life }) [] none_waiting)
+    opened_begins chain asks = begins config chain old luck begin opens.first opens.reopens g is opens.begun opens.begins opens.grew provider epocher sizes new life asks capacity derives life_is
+
+    pub opened_finds : Finds config old.ended (picks_of old luck) begin (node_of (record { held = new; life = life }) [] none_waiting)
+    opened_finds = finds old begin luck opens.first opens.reopens g is opens.begun opens.begins config provider epocher sizes new life opens.grew capacity derives life_is
