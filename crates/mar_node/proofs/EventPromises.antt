@@ -20,7 +20,7 @@ use Rattle.mar_node.specs.Lives.{is_dropped_ack, is_refused_floor}
 use Rattle.mar_node.specs.Moves.{FinishesSync, HearsFront, HearsUpTo, IsRead, IsStarted, PutsAbove, at_height, found_at_hand, tip_after, tip_reports}
 use Rattle.mar_node.specs.Requests.{own_asks, want_asks}
 use Rattle.mar_node.specs.Node.{AreBlocksOf, AreFinalizationsOf, IsGood, Rest, at_hand}
-use Rattle.mar_node.specs.Writing.{total_writes}
+use Rattle.mar_writes.specs.Writing.{total_writes}
 use Rattle.mar_node.specs.Promise.{CutsStep, IsLawfulStep, IsSetTo, KeepsPromise, Waiting, heard_by, made_of, node_of}
 use Rattle.mar_node.specs.Step.{AreTipsOf, Report, TipsFrom}
 use Rattle.mar_node.proofs.Cutting.{Cuts-before, MayBeLeft, never, only_one, usual_not_by_value, usual_not_dropped}

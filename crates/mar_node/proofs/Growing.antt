@@ -13,7 +13,7 @@ use Rattle.mar_store.proofs.Lookups.{Contains-from_value}
 use Rattle.mar_node.specs.Metadata.{Pair}
 use Rattle.mar_node.specs.Faults.{StoreName, block_store, cert_store, meta_store}
 use Rattle.mar_node.specs.Held.{ArePassed, Grew, Held, LeavesPairsSince, LeavesStore, MakesSure, Passes, WithinWritten, Written, nothing_written, watch_of, written_block, written_both, written_cert, written_pair}
-use Rattle.mar_node.specs.Writing.{Writing}
+use Rattle.mar_writes.specs.Writing.{Writing}
 use Rattle.mar_node.proofs.Passing.{ArePassed-refl, ArePassed-store, ArePassed-then, with_watch}
 
 -- ONE STORE

@@ -12,7 +12,7 @@ use Rattle.mar_node.specs.Faults.{Fault, TicketKind, ack_kind, dropped_ack, sync
 use Rattle.mar_node.specs.Held.{ArePassed, Ending, Grew, IsArchiveFault, IsEndedBy, IsUsual, Loses, Seen, Watches, Written, nothing_written}
 use Rattle.mar_node.specs.Moves.{Drains, EndsDropped, EndsLife, FinishesSync, HasRoom, IsLastTicket, IsRead, IsStarted, LivesOn, RaisesTo, PutsAbove, RunsOut, StoresLate}
 use Rattle.mar_node.specs.Step.{HandedBlock, Report}
-use Rattle.mar_node.specs.Writing.{Writing}
+use Rattle.mar_writes.specs.Writing.{Writing}
 use Rattle.mar_node.proofs.Cutting.{usual_from_archive}
 use Rattle.mar_node.proofs.Handing.{Ran}
 use Rattle.mar_node.proofs.Passing.{ArePassed-then, FailsBy-then}

@@ -1,3 +1,4 @@
+pub use Rattle.mar_writes.proofs.Pools
 pub mod OutstandingLemmas
 pub mod FloorSafety
 pub mod Soundness
@@ -37,8 +38,4 @@ pub mod Keys
 pub mod Pairs
 pub mod GoodOpenings
 pub mod Permitted
-pub mod Batches
-pub mod ByHeight
-pub mod Pools
-pub mod Gating
 pub mod Outcomes

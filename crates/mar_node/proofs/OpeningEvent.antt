@@ -22,7 +22,7 @@ use Rattle.mar_node.specs.Lives.{BackedBy, CutsReopening, Finds, IsGoodEnded, Is
 use Rattle.mar_node.specs.Moves.{StoresValue, newest_tip}
 use Rattle.mar_node.specs.Stored.{newest}
 use Rattle.mar_node.specs.Node.{AreBlocksOf, AreCachedOf, BlocksAgree, Ended, FloorSafe, IsGood, IsGoodInHeights, Node, empty_inbox, empty_peers}
-use Rattle.mar_node.specs.Writing.{Writing, no_writes}
+use Rattle.mar_writes.specs.Writing.{Writing, no_writes}
 use Rattle.mar_node.specs.Opening.{BeginsWith, Derives, Enters, IsBeginFault, derived_cutoff, derived_pair, is_begun, next_fault, pair_in}
 use Rattle.mar_node.specs.Step.{nothing_made}
 use Rattle.mar_node.specs.Promise.{Begins, IsLawfulOpening, IsOpeningFault, node_of, none_waiting}

@@ -21,7 +21,7 @@ use Rattle.mar_node.specs.Lives.{is_dropped_ack, is_refused_floor, later_round, 
 use Rattle.mar_node.specs.Moves.{Drains, EndsDropped, HearsFront, RaisesTo, StoresLate, at_height, found_at_hand, lacks_finalization, late_tips}
 use Rattle.mar_node.specs.Node.{AreFinalizationsOf, Rest, at_hand, block_missing, floor_awaited, window_full, write_uncovered}
 use Rattle.mar_node.specs.Promise.{CutsStep, IsGoodUntold, IsLawfulStep, IsSetTo, KeepsPromise, Waiting, heard_by, made_of, node_of}
-use Rattle.mar_node.specs.Writing.{total_writes}
+use Rattle.mar_writes.specs.Writing.{total_writes}
 use Rattle.mar_node.specs.Requests.{own_asks, raise_asks, retire_asks}
 use Rattle.mar_node.specs.Step.{IsFront, Report}
 use Rattle.mar_node.proofs.AckEvent as ack

@@ -18,7 +18,7 @@ use Rattle.mar_node.specs.Lives.{Cuts, NotBelow, Reached, is_dropped_ack, is_ref
 use Rattle.mar_node.specs.Moves.{IsLastTicket, IsStarted, IsStill, StopsHanding, handed_report, next_in, with_handed}
 use Rattle.mar_node.specs.Step.{HeldFrom}
 use Rattle.mar_node.specs.Node.{AreBlocksOf, Ended, IsGood, Node, Rest}
-use Rattle.mar_node.specs.Writing.{total_writes}
+use Rattle.mar_writes.specs.Writing.{total_writes}
 use Rattle.mar_node.specs.Promise.{FinishesStep, IsGoodUntold, IsLawfulStep, StepsOrCuts, Waiting, asked_since, heard_by, made_of, node_of}
 use Rattle.mar_node.specs.Requests.{own_asks}
 use Rattle.mar_node.specs.Sound.{IsSafePair}

@@ -21,7 +21,7 @@ use Rattle.mar_node.specs.Held.{Seen}
 use Rattle.mar_node.specs.Moves.{AreNextHeld, HasRoom, IsBelowWrites, IsStarted, IsStill, handed_report, next_in, with_handed}
 use Rattle.mar_node.specs.Node.{AreBlocksOf, AreFinalizationsOf, AreHonest, IsGood, Node, Rest, block_missing, empty_inbox, empty_peers, floor_awaited, window_full, write_count, write_uncovered}
 use Rattle.mar_node.specs.Promise.{ReportsFinalized, Waiting, asked_since, made_of, node_of}
-use Rattle.mar_node.specs.Writing.{total_writes}
+use Rattle.mar_writes.specs.Writing.{total_writes}
 use Rattle.mar_node.specs.Requests.{own_asks}
 use Rattle.mar_node.specs.Step.{AdvancesBy, AreHandedOf, AreTipsOf, CertificatesFrom, HandedBlock, HandedFrom, HandsOver, IsBlockFrom, IsCertFrom, IsStored, IsStoredLate, KeepsFrom, Report, Steps, TipsFrom, Writes, handed_blocks, handed_over, new_tip, outstanding_of}
 use Rattle.mar_node.proofs.Growing.{Grown}

@@ -14,13 +14,13 @@ use Rattle.mar_store.proofs.Lookups.{value_at-from_contains}
 use Rattle.mar_node.specs.Metadata.{LeavesPairs, Pair, first_pair, lucky_pair, pair_at}
 use Rattle.mar_node.proofs.Pairs.{leaves_pairs, lucky_pair_of}
 use Rattle.mar_node.specs.Faults.{Fault, block_store, cache_store, cert_store, meta_store}
-use Rattle.mar_node.specs.Writing.{no_writes}
+use Rattle.mar_writes.specs.Writing.{no_writes}
 use Rattle.mar_node.specs.Held.{ArePassed, Ending, Grew, Held, IsNoStores, LeavesUnopened, Loses, LosesOpening, Passes, Progress, Remains, ReopensAs, Watches, Written, blocks_left, certs_left, ended_of, nothing_written, progress_of}
 use Rattle.mar_node.proofs.Cutting.{only_one, some_from_first}
 use Rattle.mar_node.proofs.Growing.{Grew-refl, within_all}
 use Rattle.mar_node.proofs.Passing.{ArePassed-store, ArePassed-then, FailsBy-nothing, FailsBy-store, FailsBy-then}
 use Rattle.mar_node.proofs.StoreLosses.{IsHow}
-use Rattle.mar_node.specs.Writing.{no_writes}
+use Rattle.mar_writes.specs.Writing.{no_writes}
 
 LeavesUnopened-same : {T : Type 0} (old : Left (At T)) (put : List (At T)) → LeavesUnopened old put old
 LeavesUnopened-same old put = record { sure = λ h v is. is; may = λ x has. Contains-append_left old.may put x has }

@@ -13,7 +13,7 @@ use Rattle.mar_node.specs.Moves.{IsRead, LivesOn, newest_tips, with_newest}
 use Rattle.mar_node.specs.Stored.{newest}
 use Rattle.mar_node.specs.Node.{IsGood}
 use Rattle.mar_node.specs.Promise.{AreOne, IsGoodUntold, KeepsPromise, Waiting, heard_by, node_of}
-use Rattle.mar_node.specs.Writing.{total_writes}
+use Rattle.mar_writes.specs.Writing.{total_writes}
 use Rattle.mar_node.specs.Step.{Report}
 use Rattle.mar_node.proofs.EventPromises.{quiet_cut}
 use Rattle.mar_node.proofs.Growing.{Grown-same}

@@ -7,7 +7,7 @@ use Rattle.mar_store.specs.Changes.{Puts, Syncs}
 use Rattle.mar_node.specs.Stored.{at_own_height, is_certified, is_held}
 use Rattle.mar_node.specs.Held.{Watches, Ending, Held, Seen}
 use Rattle.mar_node.specs.Moves.{PutsAbove, StoresValue, at_height, tip_after}
-use Rattle.mar_node.specs.Writing.{with_write}
+use Rattle.mar_writes.specs.Writing.{with_write}
 
 -- a put and then a sync
 pub StoresValue-synced : {T : Type 0} (ignored : Bool) (old mid : Kept (At T)) (x : At T) (new : Kept (At T)) → Puts ignored old x mid → Syncs mid new → StoresValue ignored old x new

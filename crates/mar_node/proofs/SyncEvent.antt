@@ -17,7 +17,7 @@ use Rattle.mar_node.specs.Moves.{FinishesSync}
 use Rattle.mar_node.specs.Node.{AreBlocksOf, AreFinalizationsOf, ConsecutiveFrom, FloorSafe, HasAnchor, IsGood}
 use Rattle.mar_node.specs.Promise.{Waiting, node_of}
 use Rattle.mar_node.specs.Step.{KeepsFrom, Writes}
-use Rattle.mar_node.specs.Writing.{IsOrdered, position_of, total_writes, with_finished, without_sync}
+use Rattle.mar_writes.specs.Writing.{IsOrdered, position_of, total_writes, with_finished, without_sync}
 use Rattle.mar_node.proofs.Cutting.{keeps_heights}
 use Rattle.mar_node.proofs.FinalizationEvent.{nested_heights}
 use Rattle.mar_node.proofs.FloorSafety.{FloorSafe-still}

@@ -6,7 +6,7 @@ use Rattle.std.proofs.lemmas.List.{length-drop}
 use Rattle.std.proofs.lemmas.List.Elements.{Contains-append_right}
 use Rattle.mar_node.specs.Node.{Node, OpenSync, write_count}
 use Rattle.mar_node.specs.Step.{with_sync}
-use Rattle.mar_node.specs.Writing.{IsOrdered, Writing, is_open_sync, position_of, total_writes, with_finished, without_sync}
+use Rattle.mar_writes.specs.Writing.{IsOrdered, Writing, is_open_sync, position_of, total_writes, with_finished, without_sync}
 
 -- NO TICKET
 

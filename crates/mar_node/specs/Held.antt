@@ -20,7 +20,7 @@ use Rattle.mar_node.specs.Metadata.{Pair, first_pair, lucky_pair}
 use Rattle.mar_node.specs.Faults.{Fault, store_fault, want_of_memory, StoreName, block_store, cert_store, meta_store, cache_store}
 use Rattle.mar_node.specs.Lives.{IsPicked, Picks, round_zero}
 use Rattle.mar_node.specs.Node.{Ended, SureOrWritten}
-use Rattle.mar_node.specs.Writing.{IsOrdered, Writing, no_writes}
+use Rattle.mar_writes.specs.Writing.{IsOrdered, Writing, no_writes}
 
 -- what each store tells of its failures
 pub record Watches : Type 0 where

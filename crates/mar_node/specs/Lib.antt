@@ -1,13 +1,13 @@
+pub use Rattle.mar_writes.specs.Writing
+pub use Rattle.mar_writes.specs.Pool
+pub use Rattle.mar_writes.specs.Gate
+pub use Rattle.mar_writes.specs.Gated
 pub mod Chain
 pub mod Config
 pub mod Node
-pub mod Writing
-pub mod Pool
 pub mod Places
-pub mod Gate
 pub mod Staged
 pub mod Views
-pub mod Gated
 pub mod Event
 pub mod Cache
 pub mod Faults

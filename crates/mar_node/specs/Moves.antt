@@ -18,7 +18,7 @@ use Rattle.mar_node.specs.Faults.{ack_kind, dropped_ack, last_height, sync_kind,
 use Rattle.mar_node.specs.Lives.{later_round}
 use Rattle.mar_node.specs.Step.{HandedBlock, HeldFrom, IsFront, Report, handed_over, new_tip, outstanding_of}
 use Rattle.mar_node.specs.Held.{ArePassed, AreWritten, Ending, Grew, Held, IsArchiveFault, IsEndedBy, Loses, MakesSure, Seen, Watches, nothing_written}
-use Rattle.mar_node.specs.Writing.{with_finished, with_started, with_write}
+use Rattle.mar_writes.specs.Writing.{with_finished, with_started, with_write}
 
 -- HANDING OVER
 

@@ -17,16 +17,12 @@ use Rattle.mar_node.specs.Acks.{Outstanding}
 use Rattle.mar_node.specs.Cached.{Cached, cached_block, cached_finalization}
 use Rattle.mar_node.specs.Metadata.{Pair, pair_of}
 use Rattle.mar_node.specs.Stored.{values_of}
+pub use Rattle.mar_writes.specs.Writing.{OpenSync}
 
 -- a floor whose block is not at hand
 pub record Awaited : Type 0 where
   pub round : Round
   pub commitment : List ℕ
-
--- a started sync of both finalized archives, and how many writes there were then
-pub record OpenSync : Type 0 where
-  pub ticket : ℕ
-  pub position : ℕ
 
 -- an open sync of cache archives, the entries that it covers, and the answer ticket that waits for it
 pub record CacheSync : Type 0 where

@@ -11,7 +11,7 @@ use Rattle.mar_key.specs.Keys.{Call}
 use Rattle.mar_node.specs.Config.{Config}
 use Rattle.mar_node.specs.Acks.{Outstanding, mark_waiting}
 use Rattle.mar_node.specs.Node.{IsGood, Node, OpenSync, Rest, write_count}
-use Rattle.mar_node.specs.Writing.{position_of, without_sync}
+use Rattle.mar_writes.specs.Writing.{position_of, without_sync}
 use Rattle.mar_node.specs.Cached.{cached_block, cached_finalization}
 use Rattle.mar_node.specs.Event.{Effect, Event, Storing, applies_floor, awaited_after, awaits_floor, block_buffered, blocks_from, brought_block, certs_from, cutoff_after, effect_of, finalization_for, is_above, is_query, kept_blocks, no_floor, own_writes, processed_after, storing_of, sync_finished, told_finalization}
 use Rattle.mar_node.specs.Cache.{HasNoCache, entries_with_puts, started_syncs}

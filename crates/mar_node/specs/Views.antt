@@ -1,20 +1,15 @@
--- What a contract sees of open syncs, of faults, and of what is stored.
+-- What a contract sees of faults and of what is stored, and of open syncs.
 use Rattle.std.specs.Prelude.{List, ℕ}
 use Rattle.mar_cert.specs.Finalization.{Finalization}
 use Rattle.mar_store.specs.Kept.{At}
 use Rattle.mar_node.specs.Faults.{Fault, StoreName, TicketKind, ack_kind, block_store, cache_store, cert_store, corrupt, dropped_ack, genesis_height, genesis_mismatch, height_limit, meta_store, store_fault, sync_kind, ticket_limit, unbacked, want_of_memory}
-use Rattle.mar_node.specs.Pool.{Pooled}
 use Rattle.mar_node.specs.declared.fault.Fault.{Fault as FaultCode}
 use Rattle.mar_node.specs.declared.fault.Fault.TheVariants as fault
 use Rattle.mar_node.specs.declared.fault.StoreName.{StoreName as StoreNameCode}
 use Rattle.mar_node.specs.declared.fault.StoreName.TheVariants as store
 use Rattle.mar_node.specs.declared.fault.TicketKind.{TicketKind as TicketKindCode}
 use Rattle.mar_node.specs.declared.fault.TicketKind.TheVariants as kind
-use Rattle.mar_node.specs.declared.writes.OpenSync.{OpenSync}
-
--- without the gate's batches
-abbrev pub pooled_of : OpenSync → Pooled
-pooled_of s = record { sync = record { ticket = s.ticket; position = s.position }; blocks = s.blocks.number; certs = s.certs.number }
+pub use Rattle.mar_writes.specs.Views.{pooled_of}
 
 abbrev pub store_name_of : StoreNameCode → StoreName
 store_name_of store.Blocks = block_store

@@ -1,0 +1,4 @@
+pub mod Batches
+pub mod Pools
+pub mod Gating
+pub mod ByHeight
