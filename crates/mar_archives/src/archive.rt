@@ -12,11 +12,9 @@ pub trait Pruning {
 }
 
 /// Nothing is pruned.
-#[derive(Clone, Copy, Debug, PartialEq, Eq)]
 pub struct Immutable;
 
 /// What a caller prunes is pruned.
-#[derive(Clone, Copy, Debug, PartialEq, Eq)]
 pub struct Prunable;
 
 impl Pruning for Immutable {
@@ -44,19 +42,6 @@ impl<A, P> Model for Archived<A, P> {
     ghost view = { λ s. s.archive };
 }
 
-/// What is left of a store over an archive of items of the kind `T`. A contract sees what is left of the archive.
-#[derive(Drop)]
-pub struct Wreck<T, W> {
-    pub(crate) ruin: W,
-    pub(crate) of: PhantomData<T>,
-}
-
-impl<T, W> Model for Wreck<T, W> {
-    ghost Value = { W };
-
-    ghost view = { λ w. w.ruin };
-}
-
 impl<A, P> Archived<A, P> {
     /// The store over an archive.
     pub fn new(archive: A) -> Self
@@ -69,48 +54,24 @@ impl<A, P> Archived<A, P> {
     }
 }
 
-impl<T, W> Wreck<T, W> {
-    /// What is left of the store, by what is left of its archive.
-    pub fn new(ruin: W) -> Self
-        ensures { result ≡ ruin }
-    {
-        Wreck {
-            ruin,
-            of: PhantomData,
-        }
-    }
-}
-
 /// The store where its archive went on, and what is left where that is lost.
-pub(crate) fn wrapped<T, W, A, P>(
-    done: Result<A, Lost<W>>,
-) -> Result<Archived<A, P>, Lost<Wreck<T, W>>>
+pub(crate) fn wrapped<A, W, P>(done: Result<A, Lost<W>>) -> Result<Archived<A, P>, Lost<W>>
     ensures { result ≡ done }
 {
     match done {
         Ok(archive) => Ok(Archived::new(archive)),
-        Err(lost) => Err(wrecked(lost)),
+        Err(lost) => Err(lost),
     }
 }
 
 /// The same of a call that makes a ticket.
-pub(crate) fn wrapped_with_ticket<T, W, A, P>(
+pub(crate) fn wrapped_with_ticket<A, W, P>(
     done: Result<(A, SyncTicket), Lost<W>>,
-) -> Result<(Archived<A, P>, SyncTicket), Lost<Wreck<T, W>>>
+) -> Result<(Archived<A, P>, SyncTicket), Lost<W>>
     ensures { result ≡ done }
 {
     match done {
         Ok((archive, ticket)) => Ok((Archived::new(archive), ticket)),
-        Err(lost) => Err(wrecked(lost)),
-    }
-}
-
-/// What is left of a store, by what is left of its archive.
-pub(crate) fn wrecked<T, W>(lost: Lost<W>) -> Lost<Wreck<T, W>>
-    ensures { result ≡ lost }
-{
-    match lost {
-        Lost::Fault(ruin) => Lost::Fault(Wreck::new(ruin)),
-        Lost::Memory(ruin) => Lost::Memory(Wreck::new(ruin)),
+        Err(lost) => Err(lost),
     }
 }

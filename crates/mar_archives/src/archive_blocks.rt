@@ -3,15 +3,15 @@ ghost use Rattle.std.specs.Prelude.{◌≡◌, option_map};
 ghost use Rattle.std.specs.Result.{result_map_both};
 ghost use Rattle.mar_shelf.specs.Fitting.{own_blocks};
 
-use crate::archive::{Archived, Pruning, Wreck, wrapped};
+use crate::archive::{Archived, Pruning, wrapped};
 use mar_block::Variant;
 use mar_shelf::{BlockItem, Blocks};
-use mar_store::{Archive, Identifier, Lost, Miss};
-use mar_types::{Digest, Height};
+use mar_store::{Archive, Identifier, ItemKey, Lost, Miss};
+use mar_types::Height;
 
 impl<V: Variant, A: Archive<BlockItem<V>>, P: Pruning> Blocks<V> for Archived<A, P>
 where
-    V::Digest: Digest,
+    V::Digest: ItemKey,
 {
     ghost own = { λ s. own_blocks V.inner (A.stored s).held (A.fitting s) };
 
@@ -27,10 +27,10 @@ where
         self,
         _digest: &V::Digest,
         block: &V::Block,
-    ) -> Result<Self, Lost<Wreck<BlockItem<V>, A::Wreck>>> {
+    ) -> Result<Self, Lost<A::Wreck>> {
         match BlockItem::of(block) {
             Ok(item) => wrapped(self.archive.put(V::height(block).get(), item)),
-            Err(_) => Err(Lost::Memory(Wreck::new(self.archive.wreck()))),
+            Err(_) => Err(Lost::Memory(self.archive.wreck())),
         }
     }
 }

@@ -2,12 +2,12 @@
 ghost use Rattle.std.specs.Prelude.{◌≡◌, option_map};
 ghost use Rattle.std.specs.Result.{result_map_both};
 
-use crate::archive::{Archived, Pruning, Wreck, wrapped};
+use crate::archive::{Archived, Pruning, wrapped};
 use mar_block::Variant;
 use mar_cert::{AsFinalization, CommitsTo};
 use mar_shelf::{CertificateItem, Certificates};
-use mar_store::{Archive, Identifier, Lost, Miss};
-use mar_types::{Digest, Height};
+use mar_store::{Archive, Identifier, ItemKey, Lost, Miss};
+use mar_types::Height;
 
 impl<
     V: Variant,
@@ -16,7 +16,7 @@ impl<
     P: Pruning,
 > Certificates<V, F> for Archived<A, P>
 where
-    V::Digest: Digest,
+    V::Digest: ItemKey,
 {
     fn get(&mut self, height: Height) -> Result<Option<F>, Miss> {
         finalization_found::<V, F>(self.archive.get(Identifier::Index(height.get())))
@@ -31,10 +31,10 @@ where
         height: Height,
         _digest: &V::Digest,
         finalization: &F,
-    ) -> Result<Self, Lost<Wreck<CertificateItem<V, F>, A::Wreck>>> {
+    ) -> Result<Self, Lost<A::Wreck>> {
         match CertificateItem::of(finalization) {
             Ok(item) => wrapped(self.archive.put(height.get(), item)),
-            Err(_) => Err(Lost::Memory(Wreck::new(self.archive.wreck()))),
+            Err(_) => Err(Lost::Memory(self.archive.wreck())),
         }
     }
 }

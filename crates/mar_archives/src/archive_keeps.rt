@@ -1,32 +1,12 @@
 //! What all stores over archives have in common.
-use crate::archive::{Archived, Pruning, Wreck, wrapped, wrapped_with_ticket};
-use mar_shelf::{Keeps, KeepsRuin};
-use mar_store::{Archive, ArchiveRuin, Item, Lost, RangeSet, SyncTicket};
+use crate::archive::{Archived, Pruning, wrapped, wrapped_with_ticket};
+use mar_shelf::Keeps;
+use mar_store::{Archive, Item, Lost, RangeSet, SyncTicket};
 use mar_types::Height;
 use std::alloc::AllocError;
 
-impl<T: Item, W: ArchiveRuin<T>> KeepsRuin<T> for Wreck<T, W> {
-    ghost left = { λ w. W.left w };
-
-    ghost watch = { λ w. W.watch w };
-
-    ghost within = { λ w. W.within w };
-
-    fn sure_ranges(&self) -> &RangeSet {
-        self.ruin.sure_ranges()
-    }
-
-    fn may_ranges(&self) -> &RangeSet {
-        self.ruin.may_ranges()
-    }
-
-    fn arm(&mut self, calls: u64) -> Result<(), AllocError> {
-        self.ruin.arm(calls)
-    }
-}
-
 impl<T: Item, A: Archive<T>, P: Pruning> Keeps<T> for Archived<A, P> {
-    type Wreck = Wreck<T, A::Wreck>;
+    type Wreck = A::Wreck;
 
     ghost stored = { λ s. A.stored s };
 
@@ -42,31 +22,31 @@ impl<T: Item, A: Archive<T>, P: Pruning> Keeps<T> for Archived<A, P> {
 
     ghost last = { λ s. A.last s };
 
-    fn sync(self) -> Result<Self, Lost<Wreck<T, A::Wreck>>> {
+    fn sync(self) -> Result<Self, Lost<A::Wreck>> {
         wrapped(self.archive.sync())
     }
 
-    fn start_sync(self) -> Result<(Self, SyncTicket), Lost<Wreck<T, A::Wreck>>> {
+    fn start_sync(self) -> Result<(Self, SyncTicket), Lost<A::Wreck>> {
         wrapped_with_ticket(self.archive.start_sync())
     }
 
-    fn finish(self, ticket: SyncTicket) -> Result<Self, Lost<Wreck<T, A::Wreck>>> {
+    fn finish(self, ticket: SyncTicket) -> Result<Self, Lost<A::Wreck>> {
         wrapped(self.archive.finish(ticket))
     }
 
-    fn prune(self, min: Height) -> Result<Self, Lost<Wreck<T, A::Wreck>>> {
+    fn prune(self, min: Height) -> Result<Self, Lost<A::Wreck>> {
         if !P::PRUNES {
             return Ok(self);
         }
         wrapped(self.archive.prune(min.get()))
     }
 
-    fn wreck(self) -> Wreck<T, A::Wreck> {
-        Wreck::new(self.archive.wreck())
+    fn wreck(self) -> A::Wreck {
+        self.archive.wreck()
     }
 
-    fn reopen(wreck: Wreck<T, A::Wreck>, luck: u64) -> Result<Self, Lost<Wreck<T, A::Wreck>>> {
-        wrapped(A::reopen(wreck.ruin, luck))
+    fn reopen(wreck: A::Wreck, luck: u64) -> Result<Self, Lost<A::Wreck>> {
+        wrapped(A::reopen(wreck, luck))
     }
 
     fn arm(&mut self, calls: u64) -> Result<(), AllocError> {

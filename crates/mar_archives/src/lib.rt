@@ -8,4 +8,4 @@ mod archive_keeps;
 pub mod immutable;
 pub mod prunable;
 
-pub use archive::{Archived, Immutable, Prunable, Pruning, Wreck};
+pub use archive::{Archived, Immutable, Prunable, Pruning};

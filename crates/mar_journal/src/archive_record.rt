@@ -6,7 +6,7 @@ ghost use Rattle.mar_journal.specs.Heads.{HasNoHead, HasNoPut, HeadStandsFirst, 
 
 use crate::numbers::{read_number, write_number};
 use crate::{JournalItem, Record};
-use mar_types::Digest;
+use mar_store::ItemKey;
 use std::alloc::{AllocError, Global};
 use std::convert::AsSlice;
 
@@ -50,14 +50,14 @@ fn read_head(alloc: Global, key_size: usize, bytes: &[u8]) -> Option<Head>
 }
 
 // Appends the bytes of a key.
-fn push_key<K: Digest>(key: &K, out: &mut Vec<u8>) -> Result<(), AllocError>
+fn push_key<K: ItemKey>(key: &K, out: &mut Vec<u8>) -> Result<(), AllocError>
     ensures { OnOk result (out.new.items ≡ out.old.items ++ K.bytes key.now) }
 {
     out.extend_from_slice(key.as_slice())
 }
 
 // Whether these are the bytes of a key.
-fn is_key<K: Digest>(key: &K, bytes: &[u8]) -> bool
+fn is_key<K: ItemKey>(key: &K, bytes: &[u8]) -> bool
     ensures { result ≡ bytes_eq (K.bytes key.now) bytes.now }
 {
     key.as_slice() == bytes

@@ -11,13 +11,13 @@ ghost use Rattle.mar_mocks.specs.Recorded.{KeepsAll, KeepsPut, KeepsRead};
 ghost use Rattle.mar_node.specs.Stored.{at_own_height, block_of, is_held};
 
 use mar_block::Variant;
-use mar_shelf::{BlockItem, Blocks, Keeps, KeepsRuin};
-use mar_store::{Lost, Miss, RangeSet, SyncTicket};
+use mar_shelf::{BlockItem, Blocks, Keeps};
+use mar_store::{ArchiveRuin, Lost, Miss, RangeSet, SyncTicket};
 use mar_types::Height;
 use std::alloc::{AllocError, Global};
 
 /// What a store of blocks was asked.
-#[derive(Clone, Copy, Debug, PartialEq, Eq)]
+#[derive(Debug, Drop)]
 pub enum Op {
     /// To put the block of this height.
     Put(Height),
@@ -82,7 +82,7 @@ fn keep_get(recorded: &mut Vec<Op>, height: Option<Height>) -> bool
 }
 
 // What is left of a store that is lost, with what it was asked.
-fn lost_with<T, W: KeepsRuin<T>>(lost: Lost<W>, recorded: Vec<Op>) -> Lost<RecordingWreck<W>>
+fn lost_with<T, W: ArchiveRuin<T>>(lost: Lost<W>, recorded: Vec<Op>) -> Lost<RecordingWreck<W>>
     ensures left { W.left (wreck_of result).inner ≡ W.left (wreck_of lost) }
     ensures heeds { (old : Watch) → LostHeeds W.watch old lost → LostHeeds (λ w. W.watch w.inner) old result }
     ensures put { (old : Watch) → LostOrNot W.watch old lost → LostOrNot (λ w. W.watch w.inner) old result }
@@ -94,7 +94,7 @@ fn lost_with<T, W: KeepsRuin<T>>(lost: Lost<W>, recorded: Vec<Op>) -> Lost<Recor
     }
 }
 
-impl<T, W: KeepsRuin<T>> KeepsRuin<T> for RecordingWreck<W> {
+impl<T, W: ArchiveRuin<T>> ArchiveRuin<T> for RecordingWreck<W> {
     ghost left = { λ w. W.left w.inner };
 
     ghost watch = { λ w. W.watch w.inner };

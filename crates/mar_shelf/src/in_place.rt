@@ -18,12 +18,12 @@ ghost use Rattle.mar_node.specs.Staged.{is_taken_in};
 ghost use Rattle.mar_shelf.specs.Pooling.{FailsIn, FinishesIn, IsAnswer, IsGivenIn, IsLeftIn, IsReadIn, StartsIn, StaysIn};
 ghost use Rattle.mar_node.specs.Views.{fault_of, store_name_of};
 
-use crate::keeps::{Keeps, KeepsRuin};
+use crate::keeps::Keeps;
 use crate::{Blocks, Certificates};
 use mar_block::Variant;
 use mar_cert::CommitsTo;
 use mar_node::{Fault, Place, StoreName};
-use mar_store::{Lost, Miss, RangeSet, SyncTicket};
+use mar_store::{ArchiveRuin, Lost, Miss, RangeSet, SyncTicket};
 use mar_types::{Height, Named};
 use std::alloc::AllocError;
 

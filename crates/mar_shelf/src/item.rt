@@ -5,8 +5,7 @@ ghost use Rattle.mar_shelf.specs.Fitting.{fits_at};
 
 use mar_block::Variant;
 use mar_cert::{AsFinalization, CommitsTo};
-use mar_store::Item;
-use mar_types::Digest;
+use mar_store::{Item, ItemKey};
 use std::alloc::AllocError;
 use std::marker::{Model, PhantomData};
 
@@ -43,7 +42,7 @@ impl<V: Variant> BlockItem<V> {
 
 impl<V: Variant> Item for BlockItem<V>
 where
-    V::Digest: Digest,
+    V::Digest: ItemKey,
 {
     type Key = V::Digest;
 
@@ -99,7 +98,7 @@ impl<V, F: AsFinalization> CertificateItem<V, F> {
 
 impl<V: Variant, F: CommitsTo<V::Commitment>> Item for CertificateItem<V, F>
 where
-    V::Digest: Digest,
+    V::Digest: ItemKey,
 {
     type Key = V::Digest;
 

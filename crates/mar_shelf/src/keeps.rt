@@ -3,47 +3,21 @@ ghost use Rattle.std.specs.Prelude.{◌≡◌, ◌≤◌, ℕ, Bool, List, [], I
 ghost use Rattle.mar_store.specs.Watch.{armed, Heeds, Watch};
 ghost use Rattle.mar_store.specs.Luck.{keeps_by, lucky_found};
 ghost use Rattle.mar_store.specs.Kept.{At, Kept};
-ghost use Rattle.mar_store.specs.Changes.{Left, Within, Syncs, Finishes, Prunes, Fails, left_of, IsReopened, IsNested, heights};
+ghost use Rattle.mar_store.specs.Changes.{Syncs, Finishes, Prunes, Fails, left_of, IsReopened, IsNested, heights};
 ghost use Rattle.mar_store.specs.Named.{last_index};
 ghost use Rattle.mar_store.specs.Ranges.{ranges};
 ghost use Rattle.mar_store.specs.Tickets.{KeepsCovers, KeepsCoversFrom, last_number};
 ghost use Rattle.mar_store.specs.Lost.{wreck_of};
 
-use mar_store::{Lost, RangeSet, SyncTicket};
+use mar_store::{ArchiveRuin, Lost, RangeSet, SyncTicket};
 use mar_types::Height;
 use std::alloc::AllocError;
-
-/// What is left of a store of values that are seen as those of the type `T`.
-pub trait KeepsRuin<T>: Drop {
-    /// What every crash leaves, and all that a crash can leave.
-    ghost left: { Self → Left (At T) };
-
-    /// What it tells of its failures.
-    ghost watch: { Self → Watch };
-
-    /// The heights of what every crash leaves.
-    fn sure_ranges(&self) -> &RangeSet
-        ensures { result.now ≡ ranges (heights (left self.now).sure) };
-
-    /// The heights of all that a crash can leave.
-    fn may_ranges(&self) -> &RangeSet
-        ensures { result.now ≡ ranges (heights (left self.now).may) };
-
-    /// Makes the counted call fail that is so many calls away, 1 being the next. Where nothing can be armed it does
-    /// nothing.
-    fn arm(&mut self, calls: u64) -> Result<(), AllocError>
-        ensures armed { OnOk result (watch self.new ≡ armed calls (watch self.old)) }
-        ensures unarmed { OnErr result (watch self.new ≡ watch self.old) }
-        ensures left { left self.new ≡ left self.old };
-
-    ghost within: { (w : Self) → Within (left w).sure (left w).may };
-}
 
 /// Values by height, which contracts see as those of the type `T`: one for each height. A put is seen at once and durable
 /// after the next sync. Counted are the calls that put a value or look for one, `sync`, `start_sync`, `finish`, `prune` and
 /// `reopen`.
 pub trait Keeps<T>: Drop {
-    type Wreck: KeepsRuin<T>;
+    type Wreck: ArchiveRuin<T>;
 
     /// What it holds, what is sure, and what a crash can leave.
     ghost stored: { Self → Kept (At T) };

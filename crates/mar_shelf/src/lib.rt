@@ -18,7 +18,7 @@ mod syncs;
 pub use blocks::Blocks;
 pub use certificates::Certificates;
 pub use item::{BlockItem, CertificateItem};
-pub use keeps::{Keeps, KeepsRuin};
+pub use keeps::Keeps;
 pub use no_shelf::NoShelf;
 pub use ruins::Ruins;
 pub use shelf::{Shelf, ShelfRuin};

@@ -5,7 +5,7 @@ use crate::{Shelf, ShelfRuin};
 use mar_store::Lost;
 
 /// A shelf that holds nothing and never fails, and what is left of it.
-#[derive(Clone, Copy, Debug, PartialEq, Eq)]
+#[derive(Debug, Drop)]
 pub struct NoShelf;
 
 impl ShelfRuin for NoShelf {

@@ -1,9 +1,9 @@
 //! What is left where no life runs.
-use crate::{Blocks, Certificates, KeepsRuin, Shelf};
+use crate::{Blocks, Certificates, Shelf};
 use mar_block::Variant;
 use mar_cert::CommitsTo;
 use mar_node::{ShownRuins, StoreName, StoresRuin, synced_cutoff, synced_height};
-use mar_store::{Meta, MetaRuin};
+use mar_store::{ArchiveRuin, Meta, MetaRuin};
 use std::alloc::AllocError;
 use std::marker::Model;
 

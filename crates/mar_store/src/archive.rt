@@ -14,7 +14,7 @@ use crate::{Identifier, Item, Lost, Miss, RangeSet, SyncTicket};
 use std::alloc::AllocError;
 
 /// What is left of an archive.
-pub trait ArchiveRuin<T: Item>: Drop {
+pub trait ArchiveRuin<T>: Drop {
     // What every crash leaves, and all that a crash can leave.
     ghost left: { Self → Left (At T) };
 

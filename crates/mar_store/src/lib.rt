@@ -29,7 +29,7 @@ pub use entries::Entries;
 pub use entry::Entry;
 pub use gaps::{gap_laws, missing_items, next_gap, ranges_from};
 pub use identifier::Identifier;
-pub use item::{Item, MAX_VALUE_SIZE};
+pub use item::{Item, ItemKey, MAX_VALUE_SIZE};
 pub use lost::{Lost, Miss};
 pub use luck::{LuckHalf, is_lucky};
 pub use mar_ticket::SyncTicket;

@@ -294,7 +294,7 @@ impl<T: Item> Pile<T> {
 }
 
 // Takes out the entries that don't stay; the others keep their order.
-fn take_out<T: Item>(items: &mut Vec<Entry<T>>, choice: Choice)
+fn take_out<T: Drop>(items: &mut Vec<Entry<T>>, choice: Choice)
     ensures { items.new.items ≡ chosen (stays choice) 0 items.old.items }
 {
     let mut kept = 0;
@@ -317,7 +317,7 @@ const fn covers(ticket: u64, number: u64) -> bool
 }
 
 // Puts an entry at the end, and its index into the ranges: both or neither.
-fn push_both<T: Item>(
+fn push_both<T: Drop>(
     items: &mut Vec<Entry<T>>,
     held: &mut RangeSet,
     entry: Entry<T>,

@@ -4,18 +4,18 @@ ghost use Rattle.std.specs.Ordering.{nat_cmp};
 ghost use Rattle.std.specs.BTreeMap.{get};
 ghost use Rattle.mar_types.specs.Places.{or_place};
 
-use mar_types::Digest;
+use crate::ItemKey;
 use std::alloc::{AllocError, Global};
 use std::collections::BTreeMap;
 
 /// The first place of each index and of each key.
 #[derive(Drop)]
-pub struct EntryPlaces<K: Digest> {
+pub struct EntryPlaces<K: ItemKey> {
     by_index: BTreeMap<u64, usize>,
     by_key: BTreeMap<K, usize>,
 }
 
-impl<K: Digest> EntryPlaces<K> {
+impl<K: ItemKey> EntryPlaces<K> {
     pub fn new(alloc: Global) -> Self
         ensures indexes { (h : ℕ) → get nat_cmp result.by_index h ≡ None }
         ensures keys { (k : K) → get K.cmp result.by_key k ≡ None }

@@ -4,7 +4,6 @@ ghost use Rattle.mar_store.specs.Changes.{heights};
 ghost use Rattle.mar_store.specs.Entries.{seen};
 ghost use Rattle.mar_store.specs.Ranges.{in_ranges, last_end, with_height};
 
-use crate::Item;
 use crate::entry::Entry;
 use crate::spans::{has_height, last_of, place_of, widen, widen_by};
 use std::alloc::{AllocError, Global};
@@ -95,7 +94,7 @@ impl RangeSet {
     }
 
     /// Adds the indexes of entries: all of them, or none where memory runs out.
-    pub(crate) fn insert_all<T: Item>(&mut self, entries: &[Entry<T>]) -> Result<(), AllocError>
+    pub(crate) fn insert_all<T>(&mut self, entries: &[Entry<T>]) -> Result<(), AllocError>
         ensures ok { OnOk result (self.new ≡ fold (λ rs h. with_height h rs) self.old (heights (map seen entries.now))) }
         ensures err { OnErr result (self.new ≡ self.old) }
     {

@@ -5,8 +5,8 @@ ghost use Rattle.mar_store.specs.Entries.{seen};
 ghost use Rattle.mar_store.specs.Ranges.{in_ranges, last_end, with_height};
 ghost use Rattle.mar_store.specs.Spans.{ranges_of, AscendFrom, AreOrdered, IsReached, IsAlone, IsFollowed, BeginsAfter};
 
+use crate::HeightSpan;
 use crate::entry::Entry;
-use crate::{HeightSpan, Item};
 use std::alloc::AllocError;
 
 // Whether the span ends two or more below the height.
@@ -66,10 +66,7 @@ pub fn has_height(spans: &[HeightSpan], height: u64) -> bool
 }
 
 /// Adds the indexes of entries: all of them, or none where memory runs out. Room is made before the first.
-pub fn widen_by<T: Item>(
-    spans: &mut Vec<HeightSpan>,
-    entries: &[Entry<T>],
-) -> Result<(), AllocError>
+pub fn widen_by<T>(spans: &mut Vec<HeightSpan>, entries: &[Entry<T>]) -> Result<(), AllocError>
     requires { AscendFrom 0 (ranges_of spans.old.items) }
     ensures ok { OnOk result (ranges_of spans.new.items
         ≡ fold (λ rs h. with_height h rs) (ranges_of spans.old.items) (heights (map seen entries.now))) }

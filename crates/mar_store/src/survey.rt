@@ -15,7 +15,7 @@ use crate::{Item, RangeSet};
 use std::alloc::{AllocError, Global};
 
 /// The ranges of the indexes of the entries that stay.
-pub fn ranges_of<T: Item>(
+pub fn ranges_of<T>(
     alloc: Global,
     items: &[Entry<T>],
     choice: Choice,
@@ -33,7 +33,7 @@ pub fn ranges_of<T: Item>(
 }
 
 /// How many entries stay.
-pub fn count_of<T: Item>(items: &[Entry<T>], choice: Choice) -> usize
+pub fn count_of<T>(items: &[Entry<T>], choice: Choice) -> usize
     ensures { result ≡ length (chosen (stays choice) 0 items.now) }
 {
     let mut count = 0;

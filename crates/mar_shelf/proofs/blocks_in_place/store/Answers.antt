@@ -17,4 +17,4 @@ pub returns-clause-left : goal.returns-clause-left
 returns-clause-left g c = left_so c.sync.result c.sync.ensures.left (λ left. left_then g.FB.Keeps.stored g.FB.Keeps.number g.FB.Keeps.covers _ _ _ c.in_ok-put_block.ensures.stays left)
 
 pub returns-clause-failed : goal.returns-clause-failed
-returns-clause-failed g c = failed_so c.sync.result c.sync.ensures.failed (λ e failed. fails_then block_store g.FB.Keeps.stored g.FB.Wreck.KeepsRuin.left g.FB.Keeps.watch g.FB.Wreck.KeepsRuin.watch _ _ _ _ _ c.in_ok-put_block.ensures.done c.in_ok-put_block.ensures.passed failed)
+returns-clause-failed g c = failed_so c.sync.result c.sync.ensures.failed (λ e failed. fails_then block_store g.FB.Keeps.stored g.FB.Wreck.ArchiveRuin.left g.FB.Keeps.watch g.FB.Wreck.ArchiveRuin.watch _ _ _ _ _ c.in_ok-put_block.ensures.done c.in_ok-put_block.ensures.passed failed)

@@ -17,4 +17,4 @@ pub returns-clause-left : goal.returns-clause-left
 returns-clause-left g c = left_so c.sync.result c.sync.ensures.left (λ left. left_then g.FC.Keeps.stored g.FC.Keeps.number g.FC.Keeps.covers _ _ _ c.in_ok-put_certificate.ensures.stays left)
 
 pub returns-clause-failed : goal.returns-clause-failed
-returns-clause-failed g c = failed_so c.sync.result c.sync.ensures.failed (λ e failed. fails_then cert_store g.FC.Keeps.stored g.FC.Wreck.KeepsRuin.left g.FC.Keeps.watch g.FC.Wreck.KeepsRuin.watch _ _ _ _ _ c.in_ok-put_certificate.ensures.done c.in_ok-put_certificate.ensures.passed failed)
+returns-clause-failed g c = failed_so c.sync.result c.sync.ensures.failed (λ e failed. fails_then cert_store g.FC.Keeps.stored g.FC.Wreck.ArchiveRuin.left g.FC.Keeps.watch g.FC.Wreck.ArchiveRuin.watch _ _ _ _ _ c.in_ok-put_certificate.ensures.done c.in_ok-put_certificate.ensures.passed failed)

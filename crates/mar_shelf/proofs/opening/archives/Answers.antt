@@ -4,7 +4,7 @@ use Rattle.mar_node.proofs.Passing.{Passes-one, by_lost}
 use Rattle.mar_shelf.proofs.opening.archives.Goals as goal
 
 pub returns-in-Err-clause-lost : goal.returns-in-Err-clause-lost
-returns-in-Err-clause-lost g c = rw (c.lost_by-fault.ensures.fault, c.lost_by-fault.ensures.wreck) (inl (record { fails = c.in-Err.ensures.done; cause = by_lost g.S.Keeps.watch g.S.Wreck.KeepsRuin.watch _ block_store c.in-Err.lost c.in-Err.ensures.watched }, refl))
+returns-in-Err-clause-lost g c = rw (c.lost_by-fault.ensures.fault, c.lost_by-fault.ensures.wreck) (inl (record { fails = c.in-Err.ensures.done; cause = by_lost g.S.Keeps.watch g.S.Wreck.ArchiveRuin.watch _ block_store c.in-Err.lost c.in-Err.ensures.watched }, refl))
 
 pub returns-in-Ok-reopen-clause-blocks : goal.returns-in-Ok-reopen-clause-blocks
 returns-in-Ok-reopen-clause-blocks g c = record { found = c.in-Ok.ensures.done; passed = Passes-one _ _ c.in-Ok.ensures.watched.0 c.in-Ok.ensures.watched.1; lucky = c.in-Ok.ensures.lucky }
@@ -20,5 +20,5 @@ returns-in-Err-reopen-clause-lost g c = rw (c.lost_by-fault-in-Err-reopen.ensure
     is = c.wreck.ensures.left;
     passed = rw c.wreck.ensures.watch (Passes-one _ _ c.in-Ok.ensures.watched.0 c.in-Ok.ensures.watched.1);
   },
-  record { fails = c.in-Err-reopen.ensures.done; cause = by_lost g.R.Keeps.watch g.R.Wreck.KeepsRuin.watch _ cert_store c.in-Err-reopen.lost c.in-Err-reopen.ensures.watched },
+  record { fails = c.in-Err-reopen.ensures.done; cause = by_lost g.R.Keeps.watch g.R.Wreck.ArchiveRuin.watch _ cert_store c.in-Err-reopen.lost c.in-Err-reopen.ensures.watched },
 ))

@@ -24,7 +24,7 @@ pub finish-requires-2 : goal.finish-requires-2
 finish-requires-2 g c = record { given = waits_given g.R.Keeps.stored g.R.Keeps.number g.R.Keeps.covers of_certs c.args.certs.now c.args.writes.now c.args.ticket _ c.in-Some.ensures c.requires.certs }
 
 pub returns-in_err-finish-2-clause-blocks : goal.returns-in_err-finish-2-clause-blocks
-returns-in_err-finish-2-clause-blocks g c = waits_surer g.S.Keeps.stored g.S.Keeps.number g.S.Keeps.covers of_blocks g.S.Wreck.KeepsRuin.left _ _ c.args.writes.now c.requires.blocks c.in_ok-finish.ensures.stays (finished_in g.S.Keeps.stored g.S.Keeps.number g.S.Keeps.covers g.S.Wreck.KeepsRuin.left _ _ _ c.in_ok-finish.ensures.stays c.in_ok-finish.ensures.done)
+returns-in_err-finish-2-clause-blocks g c = waits_surer g.S.Keeps.stored g.S.Keeps.number g.S.Keeps.covers of_blocks g.S.Wreck.ArchiveRuin.left _ _ c.args.writes.now c.requires.blocks c.in_ok-finish.ensures.stays (finished_in g.S.Keeps.stored g.S.Keeps.number g.S.Keeps.covers g.S.Wreck.ArchiveRuin.left _ _ _ c.in_ok-finish.ensures.stays c.in_ok-finish.ensures.done)
 
 pub returns-in_err-finish-2-clause-of_open : goal.returns-in_err-finish-2-clause-of_open
 returns-in_err-finish-2-clause-of_open g c =
@@ -36,8 +36,8 @@ returns-in_err-finish-2-clause-failed g c =
     let p = err_from_is_err_and c.from_residual-in_err-finish-2.result c.from_residual-in_err-finish-2.ensures.1 in
     rw (p.1, p.2) (inr (
       record {
-        surer = finished_in g.S.Keeps.stored g.S.Keeps.number g.S.Keeps.covers g.S.Wreck.KeepsRuin.left _ _ _ c.in_ok-finish.ensures.stays c.in_ok-finish.ensures.done;
-        nested = nested_in g.S.Keeps.stored g.S.Keeps.number g.S.Keeps.covers g.S.Wreck.KeepsRuin.left g.met.S.Keeps.nested _ _ c.in_ok-finish.ensures.stays;
+        surer = finished_in g.S.Keeps.stored g.S.Keeps.number g.S.Keeps.covers g.S.Wreck.ArchiveRuin.left _ _ _ c.in_ok-finish.ensures.stays c.in_ok-finish.ensures.done;
+        nested = nested_in g.S.Keeps.stored g.S.Keeps.number g.S.Keeps.covers g.S.Wreck.ArchiveRuin.left g.met.S.Keeps.nested _ _ c.in_ok-finish.ensures.stays;
         still = open_in g.S.Keeps.stored g.S.Keeps.number g.S.Keeps.covers _ _ c.in_ok-finish.ensures.stays;
         passed = c.in_ok-finish.ensures.passed;
       },
@@ -45,10 +45,10 @@ returns-in_err-finish-2-clause-failed g c =
     ))
 
 pub returns-clause-blocks : goal.returns-clause-blocks
-returns-clause-blocks g c = waits_finished g.S.Keeps.stored g.S.Keeps.number g.S.Keeps.covers of_blocks g.S.Wreck.KeepsRuin.left _ _ c.args.writes.now c.requires.blocks c.in_ok-finish.ensures.stays c.args.ticket _ c.in-Some.ensures c.in_ok-finish.ensures.done c.finish-3.ensures
+returns-clause-blocks g c = waits_finished g.S.Keeps.stored g.S.Keeps.number g.S.Keeps.covers of_blocks g.S.Wreck.ArchiveRuin.left _ _ c.args.writes.now c.requires.blocks c.in_ok-finish.ensures.stays c.args.ticket _ c.in-Some.ensures c.in_ok-finish.ensures.done c.finish-3.ensures
 
 pub returns-clause-certs : goal.returns-clause-certs
-returns-clause-certs g c = waits_finished g.R.Keeps.stored g.R.Keeps.number g.R.Keeps.covers of_certs g.R.Wreck.KeepsRuin.left _ _ c.args.writes.now c.requires.certs c.in_ok-finish-2.ensures.stays c.args.ticket _ c.in-Some.ensures c.in_ok-finish-2.ensures.done c.finish-3.ensures
+returns-clause-certs g c = waits_finished g.R.Keeps.stored g.R.Keeps.number g.R.Keeps.covers of_certs g.R.Wreck.ArchiveRuin.left _ _ c.args.writes.now c.requires.certs c.in_ok-finish-2.ensures.stays c.args.ticket _ c.in-Some.ensures c.in_ok-finish-2.ensures.done c.finish-3.ensures
 
 pub returns-clause-was_open : goal.returns-clause-was_open
 returns-clause-was_open g c = rw c.in-Some.is at (opened_is pooled_of c.args.ticket c.args.writes.now.pooled c.find.result c.find.ensures)
@@ -58,16 +58,16 @@ returns-clause-finished g c = rw c.finish-3.ensures (writing_finished c.args.tic
 
 pub returns-clause-surer_blocks : goal.returns-clause-surer_blocks
 returns-clause-surer_blocks g c = λ is. record {
-  surer = finished_in g.S.Keeps.stored g.S.Keeps.number g.S.Keeps.covers g.S.Wreck.KeepsRuin.left _ _ _ c.in_ok-finish.ensures.stays c.in_ok-finish.ensures.done;
-  nested = nested_in g.S.Keeps.stored g.S.Keeps.number g.S.Keeps.covers g.S.Wreck.KeepsRuin.left g.met.S.Keeps.nested _ _ c.in_ok-finish.ensures.stays;
+  surer = finished_in g.S.Keeps.stored g.S.Keeps.number g.S.Keeps.covers g.S.Wreck.ArchiveRuin.left _ _ _ c.in_ok-finish.ensures.stays c.in_ok-finish.ensures.done;
+  nested = nested_in g.S.Keeps.stored g.S.Keeps.number g.S.Keeps.covers g.S.Wreck.ArchiveRuin.left g.met.S.Keeps.nested _ _ c.in_ok-finish.ensures.stays;
   still = open_in g.S.Keeps.stored g.S.Keeps.number g.S.Keeps.covers _ _ c.in_ok-finish.ensures.stays;
   passed = c.in_ok-finish.ensures.passed;
 }
 
 pub returns-clause-surer_certs : goal.returns-clause-surer_certs
 returns-clause-surer_certs g c = λ is. record {
-  surer = finished_in g.R.Keeps.stored g.R.Keeps.number g.R.Keeps.covers g.R.Wreck.KeepsRuin.left _ _ _ c.in_ok-finish-2.ensures.stays c.in_ok-finish-2.ensures.done;
-  nested = nested_in g.R.Keeps.stored g.R.Keeps.number g.R.Keeps.covers g.R.Wreck.KeepsRuin.left g.met.R.Keeps.nested _ _ c.in_ok-finish-2.ensures.stays;
+  surer = finished_in g.R.Keeps.stored g.R.Keeps.number g.R.Keeps.covers g.R.Wreck.ArchiveRuin.left _ _ _ c.in_ok-finish-2.ensures.stays c.in_ok-finish-2.ensures.done;
+  nested = nested_in g.R.Keeps.stored g.R.Keeps.number g.R.Keeps.covers g.R.Wreck.ArchiveRuin.left g.met.R.Keeps.nested _ _ c.in_ok-finish-2.ensures.stays;
   still = open_in g.R.Keeps.stored g.R.Keeps.number g.R.Keeps.covers _ _ c.in_ok-finish-2.ensures.stays;
   passed = c.in_ok-finish-2.ensures.passed;
 }

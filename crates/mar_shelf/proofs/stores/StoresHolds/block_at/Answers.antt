@@ -7,7 +7,10 @@ use Rattle.mar_shelf.proofs.Placed.{always_done, archive_fault, by_answer, faile
 use Rattle.mar_shelf.proofs.stores.StoresHolds.block_at.Goals as goal
 
 pub invariant_of-self : goal.invariant_of-self
-invariant_of-self g c = (waits_read g.FB.Keeps.stored g.FB.Keeps.number g.FB.Keeps.covers of_blocks g.FB.Wreck.KeepsRuin.left _ _ c.self.inside.writes c.at.ensures.read c.self.invariant.0, held_read g.V.Variant.plain g.FB.Keeps.stored g.FB.Keeps.number g.FB.Keeps.covers g.FB.Wreck.KeepsRuin.left _ _ c.self.inside.staged.blocks c.at.ensures.read c.self.invariant.1, c.self.invariant.2)
+invariant_of-self g c = (waits_read g.FB.Keeps.stored g.FB.Keeps.number g.FB.Keeps.covers of_blocks g.FB.Wreck.ArchiveRuin.left _ _ c.self.inside.writes c.at.ensures.read c.self.invariant.0, held_read g.V.Variant.plain g.FB.Keeps.stored g.FB.Keeps.number g.FB.Keeps.covers g.FB.Wreck.ArchiveRuin.left _ _ c.self.inside.staged.blocks c.at.ensures.read c.self.invariant.1, c.self.invariant.2)
+
+pub returns-clause-staged : goal.returns-clause-staged
+returns-clause-staged g c = rw (← c.self.view_is) refl
 
 pub returns-clause-found : goal.returns-clause-found
 returns-clause-found g c = rw (← c.self.view_is) c.at.ensures.found
@@ -16,10 +19,10 @@ pub returns-clause-own : goal.returns-clause-own
 returns-clause-own g c = c.at.ensures.own
 
 pub returns-clause-same : goal.returns-clause-same
-returns-clause-same g c = rw (← c.self.view_is, read_same g.FB.Keeps.stored g.FB.Keeps.number g.FB.Keeps.covers g.FB.Wreck.KeepsRuin.left _ _ c.at.ensures.read, read_open g.FB.Keeps.stored g.FB.Keeps.number g.FB.Keeps.covers g.FB.Wreck.KeepsRuin.left _ _ c.at.ensures.read) (always_done c.at.result refl)
+returns-clause-same g c = rw (← c.self.view_is, read_same g.FB.Keeps.stored g.FB.Keeps.number g.FB.Keeps.covers g.FB.Wreck.ArchiveRuin.left _ _ c.at.ensures.read, read_open g.FB.Keeps.stored g.FB.Keeps.number g.FB.Keeps.covers g.FB.Wreck.ArchiveRuin.left _ _ c.at.ensures.read) (always_done c.at.result refl)
 
 pub returns-clause-goes_on : goal.returns-clause-goes_on
-returns-clause-goes_on g c = rw (← c.self.view_is, read_same g.FB.Keeps.stored g.FB.Keeps.number g.FB.Keeps.covers g.FB.Wreck.KeepsRuin.left _ _ c.at.ensures.read, read_open g.FB.Keeps.stored g.FB.Keeps.number g.FB.Keeps.covers g.FB.Wreck.KeepsRuin.left _ _ c.at.ensures.read) (λ start all grew within. by_answer c.at.result c.at.ensures.passed c.at.ensures.failed
+returns-clause-goes_on g c = rw (← c.self.view_is, read_same g.FB.Keeps.stored g.FB.Keeps.number g.FB.Keeps.covers g.FB.Wreck.ArchiveRuin.left _ _ c.at.ensures.read, read_open g.FB.Keeps.stored g.FB.Keeps.number g.FB.Keeps.covers g.FB.Wreck.ArchiveRuin.left _ _ c.at.ensures.read) (λ start all grew within. by_answer c.at.result c.at.ensures.passed c.at.ensures.failed
     (λ passed. Grew-counted start all _ grew block_store _ passed)
     (λ e how. Loses-missed start all _ grew block_store _ _ _ refl how))
 

@@ -12,6 +12,9 @@ finish-requires g c = record { blocks = c.self.invariant.0; certs = c.self.invar
 pub invariant_of-self : goal.invariant_of-self
 invariant_of-self g c = (c.finish.ensures.blocks, held_in g.V.Variant.plain g.FB.Keeps.stored _ _ _ c.finish.ensures.holds c.self.invariant.1, c.finish.ensures.certs)
 
+pub returns-clause-staged : goal.returns-clause-staged
+returns-clause-staged g c = rw (← c.self.view_is) refl
+
 pub returns-clause-was_open : goal.returns-clause-was_open
 returns-clause-was_open g c = rw (← c.self.view_is) c.finish.ensures.was_open
 
@@ -29,8 +32,8 @@ returns-clause-certs g c = rw (← c.self.view_is) (each_done _ c.finish.result 
 
 pub returns-clause-written : goal.returns-clause-written
 returns-clause-written g c = rw (← c.self.view_is) (λ intact. done_so c.finish.result (both_done _ _ c.finish.result c.finish.ensures.still_blocks c.finish.ensures.still_certs) (λ still. record {
-  blocks = written_in of_blocks g.FB.Keeps.stored g.FB.Keeps.number g.FB.Keeps.covers g.FB.Wreck.KeepsRuin.left _ _ c.finish.ensures.blocks (first_of _ _ (still_intact _ _ _ _ _ still.0 still.1 intact));
-  certs = written_in of_certs g.FC.Keeps.stored g.FC.Keeps.number g.FC.Keeps.covers g.FC.Wreck.KeepsRuin.left _ _ c.finish.ensures.certs (second_of _ _ _ (still_intact _ _ _ _ _ still.0 still.1 intact));
+  blocks = written_in of_blocks g.FB.Keeps.stored g.FB.Keeps.number g.FB.Keeps.covers g.FB.Wreck.ArchiveRuin.left _ _ c.finish.ensures.blocks (first_of _ _ (still_intact _ _ _ _ _ still.0 still.1 intact));
+  certs = written_in of_certs g.FC.Keeps.stored g.FC.Keeps.number g.FC.Keeps.covers g.FC.Wreck.ArchiveRuin.left _ _ c.finish.ensures.certs (second_of _ _ _ (still_intact _ _ _ _ _ still.0 still.1 intact));
   ordered = c.finish.ensures.ordered;
 }))
 
@@ -43,10 +46,10 @@ returns-clause-goes_on g c = rw (← c.self.view_is) (λ start all grew within. 
     (each_done _ c.finish.result (found_so c.finish.result (both_found _ _ c.finish.result (both_found _ _ c.finish.result c.finish.ensures.surer_blocks c.finish.ensures.surer_certs) c.finish.ensures.closed) (λ b f. (λ is. rw ((f.0.0 is).still, (f.0.1 is).still) (Grew-writes start all _ (Grew-surer_certs start all _ (Grew-surer_blocks start all _ grew _ _ (f.0.0 is).nested (f.0.0 is).surer (f.0.0 is).passed) _ _ (f.0.1 is).nested (f.0.1 is).surer (f.0.1 is).passed) _), λ is. rw ((f.1 is).0, (f.1 is).1, (f.1 is).2) grew))))
     c.finish.ensures.failed
     (λ grew. grew)
-    (λ e fails. both_lose g.FB.Keeps.stored g.FB.Wreck.KeepsRuin.left g.FB.Keeps.watch g.FB.Wreck.KeepsRuin.watch g.FC.Keeps.stored g.FC.Wreck.KeepsRuin.left g.FC.Keeps.watch g.FC.Wreck.KeepsRuin.watch _ _ _ _ _ fails start all grew))
+    (λ e fails. both_lose g.FB.Keeps.stored g.FB.Wreck.ArchiveRuin.left g.FB.Keeps.watch g.FB.Wreck.ArchiveRuin.watch g.FC.Keeps.stored g.FC.Wreck.ArchiveRuin.left g.FC.Keeps.watch g.FC.Wreck.ArchiveRuin.watch _ _ _ _ _ fails start all grew))
 
 pub returns-clause-archive : goal.returns-clause-archive
-returns-clause-archive g c = failed_so c.finish.result c.finish.ensures.failed (λ e fails. both_archive g.FB.Keeps.stored g.FB.Wreck.KeepsRuin.left g.FB.Keeps.watch g.FB.Wreck.KeepsRuin.watch g.FC.Keeps.stored g.FC.Wreck.KeepsRuin.left g.FC.Keeps.watch g.FC.Wreck.KeepsRuin.watch _ _ _ _ _ fails)
+returns-clause-archive g c = failed_so c.finish.result c.finish.ensures.failed (λ e fails. both_archive g.FB.Keeps.stored g.FB.Wreck.ArchiveRuin.left g.FB.Keeps.watch g.FB.Wreck.ArchiveRuin.watch g.FC.Keeps.stored g.FC.Wreck.ArchiveRuin.left g.FC.Keeps.watch g.FC.Wreck.ArchiveRuin.watch _ _ _ _ _ fails)
 
 pub returns-clause-usual : goal.returns-clause-usual
-returns-clause-usual g c = failed_so c.finish.result c.finish.ensures.failed (λ e fails. both_usual g.FB.Keeps.stored g.FB.Wreck.KeepsRuin.left g.FB.Keeps.watch g.FB.Wreck.KeepsRuin.watch g.FC.Keeps.stored g.FC.Wreck.KeepsRuin.left g.FC.Keeps.watch g.FC.Wreck.KeepsRuin.watch _ _ _ _ _ fails)
+returns-clause-usual g c = failed_so c.finish.result c.finish.ensures.failed (λ e fails. both_usual g.FB.Keeps.stored g.FB.Wreck.ArchiveRuin.left g.FB.Keeps.watch g.FB.Wreck.ArchiveRuin.watch g.FC.Keeps.stored g.FC.Wreck.ArchiveRuin.left g.FC.Keeps.watch g.FC.Wreck.ArchiveRuin.watch _ _ _ _ _ fails)

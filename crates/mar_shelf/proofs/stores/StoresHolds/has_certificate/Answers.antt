@@ -7,16 +7,19 @@ use Rattle.mar_shelf.proofs.Placed.{always_done, archive_fault, by_answer, faile
 use Rattle.mar_shelf.proofs.stores.StoresHolds.has_certificate.Goals as goal
 
 pub invariant_of-self : goal.invariant_of-self
-invariant_of-self g c = (c.self.invariant.0, c.self.invariant.1, waits_read g.FC.Keeps.stored g.FC.Keeps.number g.FC.Keeps.covers of_certs g.FC.Wreck.KeepsRuin.left _ _ c.self.inside.writes c.has.ensures.read c.self.invariant.2)
+invariant_of-self g c = (c.self.invariant.0, c.self.invariant.1, waits_read g.FC.Keeps.stored g.FC.Keeps.number g.FC.Keeps.covers of_certs g.FC.Wreck.ArchiveRuin.left _ _ c.self.inside.writes c.has.ensures.read c.self.invariant.2)
+
+pub returns-clause-staged : goal.returns-clause-staged
+returns-clause-staged g c = rw (← c.self.view_is) refl
 
 pub returns-clause-found : goal.returns-clause-found
 returns-clause-found g c = rw (← c.self.view_is) c.has.ensures.found
 
 pub returns-clause-same : goal.returns-clause-same
-returns-clause-same g c = rw (← c.self.view_is, read_same g.FC.Keeps.stored g.FC.Keeps.number g.FC.Keeps.covers g.FC.Wreck.KeepsRuin.left _ _ c.has.ensures.read, read_open g.FC.Keeps.stored g.FC.Keeps.number g.FC.Keeps.covers g.FC.Wreck.KeepsRuin.left _ _ c.has.ensures.read) (always_done c.has.result refl)
+returns-clause-same g c = rw (← c.self.view_is, read_same g.FC.Keeps.stored g.FC.Keeps.number g.FC.Keeps.covers g.FC.Wreck.ArchiveRuin.left _ _ c.has.ensures.read, read_open g.FC.Keeps.stored g.FC.Keeps.number g.FC.Keeps.covers g.FC.Wreck.ArchiveRuin.left _ _ c.has.ensures.read) (always_done c.has.result refl)
 
 pub returns-clause-goes_on : goal.returns-clause-goes_on
-returns-clause-goes_on g c = rw (← c.self.view_is, read_same g.FC.Keeps.stored g.FC.Keeps.number g.FC.Keeps.covers g.FC.Wreck.KeepsRuin.left _ _ c.has.ensures.read, read_open g.FC.Keeps.stored g.FC.Keeps.number g.FC.Keeps.covers g.FC.Wreck.KeepsRuin.left _ _ c.has.ensures.read) (λ start all grew within. by_answer c.has.result c.has.ensures.passed c.has.ensures.failed
+returns-clause-goes_on g c = rw (← c.self.view_is, read_same g.FC.Keeps.stored g.FC.Keeps.number g.FC.Keeps.covers g.FC.Wreck.ArchiveRuin.left _ _ c.has.ensures.read, read_open g.FC.Keeps.stored g.FC.Keeps.number g.FC.Keeps.covers g.FC.Wreck.ArchiveRuin.left _ _ c.has.ensures.read) (λ start all grew within. by_answer c.has.result c.has.ensures.passed c.has.ensures.failed
     (λ passed. Grew-counted start all _ grew cert_store _ passed)
     (λ e how. Loses-missed start all _ grew cert_store _ _ _ refl how))
 

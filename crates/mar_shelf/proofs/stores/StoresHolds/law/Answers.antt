@@ -7,17 +7,17 @@ use Rattle.mar_shelf.proofs.InPlace.{first_of, kept_open, second_of, written_in}
 use Rattle.mar_shelf.proofs.stores.StoresHolds.law.Goals as goal
 
 pub returns-clause-blocks : goal.returns-clause-blocks
-returns-clause-blocks g c = rw (← c.self.view_is) (λ intact. kept_open g.FB.Keeps.stored g.FB.Wreck.KeepsRuin.left c.self.inside.blocks IsNested g.met.FB.Keeps.nested (first_of _ _ intact))
+returns-clause-blocks g c = rw (← c.self.view_is) (λ intact. kept_open g.FB.Keeps.stored g.FB.Wreck.ArchiveRuin.left c.self.inside.blocks IsNested g.met.FB.Keeps.nested (first_of _ _ intact))
 
 pub returns-clause-certs : goal.returns-clause-certs
-returns-clause-certs g c = rw (← c.self.view_is) (λ intact. kept_open g.FC.Keeps.stored g.FC.Wreck.KeepsRuin.left c.self.inside.certs IsNested g.met.FC.Keeps.nested (second_of _ _ _ intact))
+returns-clause-certs g c = rw (← c.self.view_is) (λ intact. kept_open g.FC.Keeps.stored g.FC.Wreck.ArchiveRuin.left c.self.inside.certs IsNested g.met.FC.Keeps.nested (second_of _ _ _ intact))
 
 pub returns-clause-small : goal.returns-clause-small
-returns-clause-small g c = rw (← c.self.view_is) (λ intact. kept_open g.FB.Keeps.stored g.FB.Wreck.KeepsRuin.left c.self.inside.blocks (λ k. AreSmall (map (λ x. x.value) k.held)) (λ s. are_small _ (g.met.FB.Blocks.own s).small) (first_of _ _ intact))
+returns-clause-small g c = rw (← c.self.view_is) (λ intact. kept_open g.FB.Keeps.stored g.FB.Wreck.ArchiveRuin.left c.self.inside.blocks (λ k. AreSmall (map (λ x. x.value) k.held)) (λ s. are_small _ (g.met.FB.Blocks.own s).small) (first_of _ _ intact))
 
 pub returns-clause-written : goal.returns-clause-written
 returns-clause-written g c = rw (← c.self.view_is) (λ intact. record {
-  blocks = written_in of_blocks g.FB.Keeps.stored g.FB.Keeps.number g.FB.Keeps.covers g.FB.Wreck.KeepsRuin.left c.self.inside.blocks _ c.self.invariant.0 (first_of _ _ intact);
-  certs = written_in of_certs g.FC.Keeps.stored g.FC.Keeps.number g.FC.Keeps.covers g.FC.Wreck.KeepsRuin.left c.self.inside.certs _ c.self.invariant.2 (second_of _ _ _ intact);
+  blocks = written_in of_blocks g.FB.Keeps.stored g.FB.Keeps.number g.FB.Keeps.covers g.FB.Wreck.ArchiveRuin.left c.self.inside.blocks _ c.self.invariant.0 (first_of _ _ intact);
+  certs = written_in of_certs g.FC.Keeps.stored g.FC.Keeps.number g.FC.Keeps.covers g.FC.Wreck.ArchiveRuin.left c.self.inside.certs _ c.self.invariant.2 (second_of _ _ _ intact);
   ordered = c.law.ensures;
 })

@@ -11,9 +11,12 @@ invariant_of-self g c = (
   c.self.invariant.0,
   c.self.invariant.1,
   either c.put_certificate.result (both_done _ _ c.put_certificate.result c.put_certificate.ensures.stays c.put_certificate.ensures.done) c.put_certificate.ensures.left
-      (λ ok. waits_put g.FC.Keeps.stored g.FC.Keeps.number g.FC.Keeps.covers of_certs g.FC.Wreck.KeepsRuin.left _ _ c.self.inside.writes c.self.invariant.2 ok.0 ok.1 (rw (← c.self.view_is) at c.requires.waits))
+      (λ ok. waits_put g.FC.Keeps.stored g.FC.Keeps.number g.FC.Keeps.covers of_certs g.FC.Wreck.ArchiveRuin.left _ _ c.self.inside.writes c.self.invariant.2 ok.0 ok.1 (rw (← c.self.view_is) at c.requires.waits))
       (λ gone. waits_left g.FC.Keeps.stored g.FC.Keeps.number g.FC.Keeps.covers of_certs _ _ c.self.inside.writes _ gone c.self.invariant.2),
 )
+
+pub returns-clause-staged : goal.returns-clause-staged
+returns-clause-staged g c = rw (← c.self.view_is) refl
 
 pub returns-clause-ok : goal.returns-clause-ok
 returns-clause-ok g c = rw (← c.self.view_is) c.put_certificate.ensures.done

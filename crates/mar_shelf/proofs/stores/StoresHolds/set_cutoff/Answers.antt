@@ -8,6 +8,12 @@ use Rattle.mar_shelf.proofs.Answered.{answer_calm, answer_done, answer_left, wit
 use Rattle.mar_shelf.proofs.Placed.{by_answer, done_so, failed_so, usual_fault}
 use Rattle.mar_shelf.proofs.stores.StoresHolds.set_cutoff.Goals as goal
 
+pub invariant_of-self : goal.invariant_of-self
+invariant_of-self g c = c.self.invariant
+
+pub returns-clause-staged : goal.returns-clause-staged
+returns-clause-staged g c = rw (← c.self.view_is) refl
+
 pub returns-clause-ok : goal.returns-clause-ok
 returns-clause-ok g c = rw (← c.self.view_is) (done_so c.answered.result (answer_done (fault_of g.V.Commitment.Named.bytes) meta_store _ c.set_cutoff.result c.answered.result c.answered.ensures c.set_cutoff.ensures.ok) (λ is. rw is refl))
 

@@ -13,7 +13,7 @@ pub returns-clause-dropped : goal.returns-clause-dropped
 returns-clause-dropped g c = rw (← c.self.view_is) c.take.ensures.dropped
 
 pub invariant_of-self : goal.invariant_of-self
-invariant_of-self g c = (waits_read g.FB.Keeps.stored g.FB.Keeps.number g.FB.Keeps.covers of_blocks g.FB.Wreck.KeepsRuin.left _ _ c.self.inside.writes c.take.ensures.read c.self.invariant.0, c.take.ensures.held, c.self.invariant.2)
+invariant_of-self g c = (waits_read g.FB.Keeps.stored g.FB.Keeps.number g.FB.Keeps.covers of_blocks g.FB.Wreck.ArchiveRuin.left _ _ c.self.inside.writes c.take.ensures.read c.self.invariant.0, c.take.ensures.held, c.self.invariant.2)
 
 pub returns-clause-found : goal.returns-clause-found
 returns-clause-found g c = rw (← c.self.view_is) c.take.ensures.found
@@ -22,10 +22,10 @@ pub returns-clause-own : goal.returns-clause-own
 returns-clause-own g c = c.take.ensures.own
 
 pub returns-clause-same : goal.returns-clause-same
-returns-clause-same g c = rw (← c.self.view_is, read_same g.FB.Keeps.stored g.FB.Keeps.number g.FB.Keeps.covers g.FB.Wreck.KeepsRuin.left _ _ c.take.ensures.read, read_open g.FB.Keeps.stored g.FB.Keeps.number g.FB.Keeps.covers g.FB.Wreck.KeepsRuin.left _ _ c.take.ensures.read) (always_done c.take.result refl)
+returns-clause-same g c = rw (← c.self.view_is, read_same g.FB.Keeps.stored g.FB.Keeps.number g.FB.Keeps.covers g.FB.Wreck.ArchiveRuin.left _ _ c.take.ensures.read, read_open g.FB.Keeps.stored g.FB.Keeps.number g.FB.Keeps.covers g.FB.Wreck.ArchiveRuin.left _ _ c.take.ensures.read) (always_done c.take.result refl)
 
 pub returns-clause-goes_on : goal.returns-clause-goes_on
-returns-clause-goes_on g c = rw (← c.self.view_is, read_same g.FB.Keeps.stored g.FB.Keeps.number g.FB.Keeps.covers g.FB.Wreck.KeepsRuin.left _ _ c.take.ensures.read, read_open g.FB.Keeps.stored g.FB.Keeps.number g.FB.Keeps.covers g.FB.Wreck.KeepsRuin.left _ _ c.take.ensures.read) (λ start all grew within. by_answer c.take.result c.take.ensures.passed c.take.ensures.failed
+returns-clause-goes_on g c = rw (← c.self.view_is, read_same g.FB.Keeps.stored g.FB.Keeps.number g.FB.Keeps.covers g.FB.Wreck.ArchiveRuin.left _ _ c.take.ensures.read, read_open g.FB.Keeps.stored g.FB.Keeps.number g.FB.Keeps.covers g.FB.Wreck.ArchiveRuin.left _ _ c.take.ensures.read) (λ start all grew within. by_answer c.take.result c.take.ensures.passed c.take.ensures.failed
     (λ passed. Grew-counted start all _ grew block_store _ passed)
     (λ e how. Loses-missed start all _ grew block_store _ _ _ refl how))
 
