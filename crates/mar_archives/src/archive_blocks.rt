@@ -23,11 +23,7 @@ where
         block_found(self.archive.get(Identifier::Key(*digest)))
     }
 
-    fn put(
-        self,
-        _digest: &V::Digest,
-        block: &V::Block,
-    ) -> Result<Self, Lost<A::Wreck>> {
+    fn put(self, _digest: &V::Digest, block: &V::Block) -> Result<Self, Lost<A::Wreck>> {
         match BlockItem::of(block) {
             Ok(item) => wrapped(self.archive.put(V::height(block).get(), item)),
             Err(_) => Err(Lost::Memory(self.archive.wreck())),
