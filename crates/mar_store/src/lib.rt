@@ -32,7 +32,7 @@ pub use identifier::Identifier;
 pub use item::{Item, ItemKey, MAX_VALUE_SIZE};
 pub use lost::{Lost, Miss};
 pub use luck::{LuckHalf, is_lucky};
-pub use mar_ticket::SyncTicket;
+pub use mar_types::SyncTicket;
 pub use mem_archive::{MemArchive, MemArchiveWreck};
 pub use mem_depot::{MemDepot, MemDepotWreck};
 pub use mem_meta::{MemMeta, MemMetaWreck};

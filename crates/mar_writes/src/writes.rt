@@ -7,8 +7,7 @@ ghost use Rattle.mar_writes.specs.Views.{pooled_of};
 ghost use Rattle.mar_writes.specs.Writing.{IsOrdered, is_open_sync, total_writes};
 
 use crate::gate::DispatchGate;
-use mar_ticket::SyncTicket;
-use mar_types::Height;
+use mar_types::{Height, SyncTicket};
 use std::alloc::{AllocError, Global};
 use std::collections::VecDeque;
 use std::marker::Model;
