@@ -1,5 +1,8 @@
 //! Why a life ended.
+ghost use Rattle.std.specs.Prelude.{◌≡◌};
+
 use mar_types::Height;
+use std::alloc::AllocError;
 
 /// The stores of a node.
 #[derive(Clone, Copy, Debug, PartialEq, Eq)]
@@ -24,7 +27,7 @@ pub enum TicketKind {
 }
 
 /// Why a life ended, with commitments of the kind `C`.
-#[derive(Clone, Copy, Debug, PartialEq, Eq)]
+#[derive(Copy, Debug, PartialEq, Eq)]
 pub enum Fault<C> {
     /// A call of this store failed.
     StoreFault(StoreName),
@@ -45,4 +48,14 @@ pub enum Fault<C> {
     TicketLimit(TicketKind),
     /// Memory ran out.
     Memory,
+}
+
+impl<C: Copy> Clone for Fault<C> {
+    ghost is_clone = { λ fault copy. copy ≡ fault };
+
+    ghost is_infallible = { λ _. Unit {0} };
+
+    fn clone(&self) -> Result<Self, AllocError> {
+        Ok(*self)
+    }
 }
