@@ -1,4 +1,4 @@
-//! Tests of the crates of plain values, outside them: vectors from outside, printed text, and each public call once.
+//! Tests of the crates of plain values, outside them: printed text, and each public call that no program makes.
 #![tactic(auto)]
 
 #[cfg(test)]
@@ -10,20 +10,20 @@ mod certificates;
 #[cfg(test)]
 mod codec;
 #[cfg(test)]
-mod cutoffs;
+mod commitments;
 #[cfg(test)]
-mod keys;
+mod epochs;
+#[cfg(test)]
+mod floors;
 #[cfg(test)]
 mod laws;
 #[cfg(test)]
-mod peers;
+mod numbers;
 #[cfg(test)]
-mod recorder;
+mod peers;
 #[cfg(test)]
 mod requests;
 #[cfg(test)]
-mod schemes;
-#[cfg(test)]
 mod tell;
 #[cfg(test)]
-mod types;
+mod terms;

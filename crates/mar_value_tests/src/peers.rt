@@ -1,16 +1,15 @@
-//! Who takes what peers send and what they ask for, through the bounds alone.
+//! A type that takes what peers send and what they ask for.
 ghost use Rattle.std.specs.Prelude.{IfOk, IfSome, None, OnErr, OnOk, Option, map, ◌≡◌};
 ghost use Rattle.mar_key.specs.PeerQueue.{Enqueues, PeerQueue, deliver, peer_room, produce};
 ghost use Rattle.mar_key.specs.Views.{annotation_of, key_of};
 
 use crate::tell::*;
 use bytes::Bytes;
-use mar_key::{Annotation, Consumer, Delivery, Key, Producer};
-use mar_types::{Digest, Height, Sha256Digest};
+use mar_key::{Consumer, Delivery, Key, Producer};
+use mar_types::{Height, Sha256Digest};
 use std::alloc::AllocError;
-use std::process::Abort;
 
-// Counts what it is handed, and takes one request.
+// Counts what it is handed.
 #[derive(Drop)]
 struct Counts {
     delivered: usize,
@@ -30,7 +29,7 @@ impl Consumer<Sha256Digest> for Counts {
             (map annotation_of delivery.annotations.items)) None) }
         ensures err { OnErr result (let nothing : Option PeerQueue = None in nothing ≡ None) }
     {
-        let whole = (ticket == 1) & (delivery.annotations.len() == 1) & (value.len() == 2);
+        let whole = (ticket == 1) & (value.len() == 2) & delivery.annotations.is_empty();
         self.delivered = self.delivered.saturating_add(usize::from(whole));
         Ok(())
     }
@@ -44,25 +43,9 @@ impl Producer<Sha256Digest> for Counts {
         ensures taken { IfOk result (λ taken. IfSome None (λ q. taken ≡ peer_room q)) }
         ensures err { OnErr result (let nothing : Option PeerQueue = None in nothing ≡ None) }
     {
-        let taken = (ticket == 2) & (self.produced == 0);
         self.produced = self.produced.saturating_add(1);
-        Ok(taken)
+        Ok(ticket == 2)
     }
-}
-
-// That a delivery is taken, and of two requests the first.
-fn are_taken<D: Digest, T: Consumer<D> + Producer<D>>(
-    rt: &impl Abort,
-    taker: &mut T,
-    delivery: Delivery<D>,
-    key: Key<D>,
-) {
-    given(
-        rt,
-        taker.deliver(1, delivery, Bytes::from_static(b"\x01\x02")),
-    );
-    holds(rt, given(rt, taker.produce(2, key)));
-    holds(rt, !given(rt, taker.produce(2, key)));
 }
 
 const fn key() -> Key<Sha256Digest> {
@@ -77,11 +60,14 @@ fn what_peers_send_and_ask_is_taken(rt: HostRuntime) {
         delivered: 0,
         produced: 0,
     };
-    let height = Height::new(12345);
     let delivery = Delivery {
         key: key(),
-        annotations: given(&rt, vec![in rt.alloc(); Annotation::Certified { height }]),
+        annotations: Vec::new(rt.alloc()),
     };
-    are_taken(&rt, &mut counts, delivery, key());
-    holds(&rt, counts.delivered == 1);
+    given(
+        &rt,
+        counts.deliver(1, delivery, Bytes::from_static(b"\x01\x02")),
+    );
+    holds(&rt, given(&rt, counts.produce(2, key())));
+    holds(&rt, (counts.delivered == 1) & (counts.produced == 1));
 }
