@@ -1,4 +1,4 @@
-//! Tests that cross crates: the texts of scripts, and the stores one by one.
+//! Tests that cross crates: what no script reaches of its texts, and the stores over archives.
 #![tactic(auto)]
 
 #[cfg(test)]
