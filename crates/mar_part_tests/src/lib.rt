@@ -1,36 +1,18 @@
-//! Tests of stores, of the parts of a node, and of what callers tell it and are answered, as scripts of calls and tables
-//! of cases.
+//! Tests of the calls of stores, of the parts of a node and of what callers are answered which no script of the program
+//! reaches.
 #![tactic(auto)]
 
 #[cfg(test)]
-mod acknowledgements;
-#[cfg(test)]
-mod answers;
-#[cfg(test)]
-mod archives;
-#[cfg(test)]
-mod certified;
-#[cfg(test)]
-mod depots;
-#[cfg(test)]
-mod dispatch_gate;
-#[cfg(test)]
 mod floors;
+#[cfg(test)]
+mod inbox;
 #[cfg(test)]
 mod light;
 #[cfg(test)]
-mod messages;
+mod parts;
 #[cfg(test)]
-mod ranges;
-#[cfg(test)]
-mod staged_blocks;
-#[cfg(test)]
-mod streams;
+mod stores;
 #[cfg(test)]
 mod subscriptions;
 #[cfg(test)]
 mod tell;
-#[cfg(test)]
-mod told_apart;
-#[cfg(test)]
-mod waiting_writes;

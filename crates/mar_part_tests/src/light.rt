@@ -61,16 +61,16 @@ impl Variant for Plates {
 }
 
 // A finalization.
-#[derive(Clone, Copy, PartialEq, Drop)]
+#[derive(Clone, Copy, Drop)]
 pub struct Vote {
     pub round: Round,
     pub payload: Sha256Digest,
 }
 
-// Of this epoch and view, for a payload of this byte throughout.
-pub(crate) fn vote_of(epoch: u64, view: u64, byte: u8) -> Vote {
+// Of this view of the first epoch, for a payload of this byte throughout.
+pub(crate) fn vote_of(view: u64, byte: u8) -> Vote {
     Vote {
-        round: Round::new(Epoch::new(epoch), View::new(view)),
+        round: Round::new(Epoch::zero(), View::new(view)),
         payload: Sha256::fill(byte),
     }
 }

@@ -2,27 +2,23 @@
 use crate::light::{Plate, Plates};
 use crate::tell::*;
 use mar_block::{Buffer, Recipients, Subscription};
-use mar_parts::*;
+use mar_parts::{Key, Subscriptions};
 use mar_types::{Hasher, Height, Participant, Round, Sha256, Sha256Digest};
 use std::alloc::{AllocError, Global};
 use std::cell::Cell;
 use std::process::Abort;
 
-type Name = Key<Sha256Digest, Sha256Digest>;
-
-// A buffer that has nothing, counts how often it is asked to tell of a block, and keeps the last name. It promises to
-// tell of each block, or of none.
+// A buffer that has nothing, and counts how often it is asked to tell of a block: by its digest as one, by its commitment
+// as ten. It promises to tell of each block, or of none.
 #[derive(Drop)]
 struct Counting {
     promises: bool,
     asked: Cell<u64>,
-    last: Cell<Option<Name>>,
 }
 
 impl Counting {
-    fn count(&self, name: Name) {
-        self.asked.set(self.asked.get().saturating_add(1));
-        self.last.set(Some(name));
+    fn count(&self, more: u64) {
+        self.asked.set(self.asked.get().saturating_add(more));
     }
 }
 
@@ -44,7 +40,7 @@ impl Buffer<Plates> for Counting {
     }
 
     fn subscribe_by_digest(&self, digest: &Sha256Digest) -> Option<Subscription<Sha256Digest>> {
-        self.count(Key::Digest(*digest));
+        self.count(1);
         if !self.promises {
             return None;
         }
@@ -55,7 +51,7 @@ impl Buffer<Plates> for Counting {
         &self,
         commitment: &Sha256Digest,
     ) -> Option<Subscription<Sha256Digest>> {
-        self.count(Key::Commitment(*commitment));
+        self.count(10);
         if !self.promises {
             return None;
         }
@@ -73,18 +69,15 @@ impl Buffer<Plates> for Counting {
 }
 
 // What names a block, which has one byte throughout.
-#[derive(Clone, Copy)]
-enum Named {
-    Digest(u8),
-    Commitment(u8),
-}
+type Named = Key<u8, u8>;
 
 // A call, and what it is to answer.
 #[derive(Clone, Copy)]
 enum Call {
-    // A ticket, and how often the buffer was asked then.
+    // A ticket, and what the buffer was asked by then.
     Insert(Named, u64, u64),
     IsSubscribed(Named, bool),
+    // The tickets that wait for the digest of that byte, and for the commitment.
     Notify(u8, &'static [u64], &'static [u64]),
     Remove(Named, &'static [u64]),
     RetainOpen(&'static [u64]),
@@ -92,16 +85,11 @@ enum Call {
 
 type Waits = Subscriptions<Plates>;
 
-fn name_of(named: Named) -> Name {
+fn name_of(named: Named) -> Key<Sha256Digest, Sha256Digest> {
     match named {
-        Named::Digest(byte) => Key::Digest(Sha256::fill(byte)),
-        Named::Commitment(byte) => Key::Commitment(Sha256::fill(byte)),
+        Key::Digest(byte) => Key::Digest(Sha256::fill(byte)),
+        Key::Commitment(byte) => Key::Commitment(Sha256::fill(byte)),
     }
-}
-
-fn inserts(rt: &impl Abort, waits: &mut Waits, name: Name, ticket: u64, buffer: &Counting) -> bool {
-    given(rt, waits.insert(name, ticket, buffer));
-    (buffer.last.get() == Some(name)) & (waits.is_subscribed(&name) == buffer.promises)
 }
 
 fn notifies(waits: &mut Waits, byte: u8, digests: &[u64], commitments: &[u64]) -> bool {
@@ -116,7 +104,8 @@ fn notifies(waits: &mut Waits, byte: u8, digests: &[u64], commitments: &[u64]) -
 fn answers(rt: &impl Abort, waits: &mut Waits, buffer: &Counting, call: Call) -> bool {
     match call {
         Call::Insert(named, ticket, asked) => {
-            inserts(rt, waits, name_of(named), ticket, buffer) & (buffer.asked.get() == asked)
+            given(rt, waits.insert(name_of(named), ticket, buffer));
+            buffer.asked.get() == asked
         }
         Call::IsSubscribed(named, is_so) => waits.is_subscribed(&name_of(named)) == is_so,
         Call::Notify(byte, digests, commitments) => notifies(waits, byte, digests, commitments),
@@ -133,56 +122,39 @@ fn follow(rt: &impl Abort, alloc: Global, promises: bool, calls: &[Call]) {
     let buffer = Counting {
         promises,
         asked: Cell::new(0),
-        last: Cell::new(None),
     };
     let mut waits = Subscriptions::new(alloc);
-    for (place, call) in calls.iter().enumerate() {
-        holds_at(rt, place, answers(rt, &mut waits, &buffer, *call));
+    for call in calls {
+        holds(rt, answers(rt, &mut waits, &buffer, *call));
     }
 }
 
 const PROMISED: [Call; 10] = [
-    Call::Insert(Named::Digest(1), 4, 1),
-    Call::Insert(Named::Digest(1), 2, 1),
-    Call::Insert(Named::Commitment(1), 3, 2),
-    Call::Insert(Named::Commitment(1), 5, 2),
-    Call::Insert(Named::Digest(2), 7, 3),
-    Call::Notify(1, &[4, 2], &[3, 5]),
-    Call::IsSubscribed(Named::Digest(1), false),
-    Call::IsSubscribed(Named::Commitment(1), false),
-    Call::Notify(1, &[], &[]),
+    Call::Insert(Key::Digest(1), 4, 1),
+    Call::Insert(Key::Digest(1), 2, 1),
+    Call::Insert(Key::Commitment(1), 3, 11),
+    Call::Insert(Key::Commitment(1), 5, 11),
+    Call::Insert(Key::Digest(2), 7, 12),
+    Call::RetainOpen(&[2, 3]),
+    Call::IsSubscribed(Key::Commitment(1), true),
+    Call::Notify(1, &[4], &[5]),
+    Call::IsSubscribed(Key::Digest(1), false),
     Call::Notify(2, &[7], &[]),
 ];
 
-const CLOSED: [Call; 7] = [
-    Call::Insert(Named::Digest(1), 0, 1),
-    Call::Insert(Named::Digest(1), 1, 1),
-    Call::Insert(Named::Commitment(1), 2, 2),
-    Call::RetainOpen(&[0, 2]),
-    Call::IsSubscribed(Named::Digest(1), true),
-    Call::IsSubscribed(Named::Commitment(1), false),
-    Call::Notify(1, &[1], &[]),
-];
-
 // One ticket waits under one key as often as it is put there.
-const UNPROMISED: [Call; 12] = [
-    Call::Insert(Named::Digest(1), 4, 1),
-    Call::Insert(Named::Digest(1), 4, 1),
-    Call::Insert(Named::Commitment(1), 5, 2),
-    Call::Insert(Named::Commitment(1), 4, 2),
-    Call::IsSubscribed(Named::Commitment(1), false),
-    Call::Notify(1, &[4, 4], &[5, 4]),
-    Call::Insert(Named::Digest(1), 6, 3),
-    Call::Insert(Named::Commitment(1), 6, 4),
-    Call::Remove(Named::Commitment(1), &[6]),
-    Call::Remove(Named::Digest(1), &[6]),
-    Call::Notify(1, &[], &[]),
-    Call::Remove(Named::Digest(1), &[]),
+const UNPROMISED: [Call; 7] = [
+    Call::Insert(Key::Digest(1), 4, 1),
+    Call::Insert(Key::Digest(1), 4, 1),
+    Call::Insert(Key::Commitment(1), 4, 11),
+    Call::IsSubscribed(Key::Commitment(1), false),
+    Call::Remove(Key::Digest(1), &[4, 4]),
+    Call::Insert(Key::Digest(1), 6, 12),
+    Call::Notify(1, &[6], &[4]),
 ];
 
 #[test]
 fn a_buffer_is_asked_once_a_key(rt: HostRuntime) {
     follow(&rt, rt.alloc(), true, &PROMISED);
-    follow(&rt, rt.alloc(), true, &CLOSED);
     follow(&rt, rt.alloc(), false, &UNPROMISED);
 }
