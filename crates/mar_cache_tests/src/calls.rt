@@ -1,33 +1,11 @@
-//! The calls of a cache, and what each is to answer. A function here has no clause, so a script that calls it has nothing to
-//! carry; each calls one function of the library. They are of any cache, which
-//! `Maker` makes: that a cache in memory is let go costs much to prove, since its type is made of many.
+//! The calls of any cache, each with ample memory. No function here has a clause, and each makes few calls, so that what
+//! calls it has nothing to carry. Where a call has no answer the cache is gone.
 use crate::light::{Light, Name, Plate, Vote};
-use mar_cache::{BlockName, CacheTicket, Entry, Shelf, ShelfRuin, Sought, Started};
-use mar_store::{Lost, Miss};
+use mar_cache::{BlockName, Shelf, ShelfRuin, Sought, Started};
+use mar_store::Lost;
 use mar_types::{Epoch, Height, Round, View};
-use std::alloc::Global;
 
-type Held = Entry<Plate, Vote, Vote>;
-
-/// A cache, what is left of it, or one that answered something else than it was to.
-#[derive(Drop)]
-pub enum Life<C: Shelf<Light, Vote, Vote>> {
-    Open(C),
-    Left(C::Wreck),
-    Wrong,
-}
-
-/// What a look-up that goes by a digest is to find: an archive's letter, the epoch, and the view or the height.
-pub type Place = (char, u64, u64);
-
-/// What makes caches that hold nothing.
-pub trait Maker {
-    type Cache: Shelf<Light, Vote, Vote>;
-
-    fn empty(alloc: Global) -> Self::Cache;
-}
-
-pub(crate) fn round(epoch: u64, view: u64) -> Round {
+fn round(epoch: u64, view: u64) -> Round {
     Round::new(Epoch::new(epoch), View::new(view))
 }
 
@@ -35,7 +13,7 @@ fn name_at(height: u8) -> Name {
     Plate::at(height).name
 }
 
-// A certificate over the block at a height.
+// A certificate of a round, over the block at a height.
 fn vote(at: Round, height: u8) -> Vote {
     Vote {
         round: at,
@@ -43,326 +21,131 @@ fn vote(at: Round, height: u8) -> Vote {
     }
 }
 
-fn changed<C: Shelf<Light, Vote, Vote>>(answer: Result<C, Lost<C::Wreck>>) -> Life<C> {
-    match answer {
-        Ok(cache) => Life::Open(cache),
-        Err(Lost::Fault(wreck)) => Life::Left(wreck),
-        Err(Lost::Memory(_)) => Life::Wrong,
-    }
+// Puts what isn't sure: a verified block at height 1, a notarization of view 2, and a notarized block at height 3.
+fn put<C: Shelf<Light, Vote, Vote>>(cache: C) -> Option<C> {
+    let (cache, _) = cache.put_verified(round(0, 1), Plate::at(1)).ok()?;
+    let (cache, _) = cache.put_notarization(vote(round(0, 2), 2)).ok()?;
+    let (cache, _) = cache.put_notarized(round(0, 3), Plate::at(3)).ok()?;
+    Some(cache)
 }
 
-// The same of a call that may start a sync, whose ticket is kept.
-fn started<C: Shelf<Light, Vote, Vote>>(
-    answer: Result<(C, Started), Lost<C::Wreck>>,
-    starts: bool,
-    last: &mut Option<CacheTicket>,
-) -> Life<C> {
-    match answer {
-        Ok((cache, Started::Ticket(ticket))) if starts => {
-            *last = Some(ticket);
-            Life::Open(cache)
-        }
-        Ok((cache, Started::Ready)) if !starts => Life::Open(cache),
-        Err(Lost::Fault(wreck)) => Life::Left(wreck),
-        _ => Life::Wrong,
-    }
-}
-
-pub(crate) fn put_verified<C: Shelf<Light, Vote, Vote>>(
-    cache: C,
-    at: Round,
-    height: u8,
-    starts: bool,
-    last: &mut Option<CacheTicket>,
-) -> Life<C> {
-    let block = Plate::at(height);
-    let answer = cache.put_verified(at, block);
-    started(answer, starts, last)
-}
-
-pub(crate) fn put_notarized<C: Shelf<Light, Vote, Vote>>(
-    cache: C,
-    at: Round,
-    height: u8,
-    starts: bool,
-    last: &mut Option<CacheTicket>,
-) -> Life<C> {
-    let block = Plate::at(height);
-    let answer = cache.put_notarized(at, block);
-    started(answer, starts, last)
-}
-
-pub(crate) fn put_notarization<C: Shelf<Light, Vote, Vote>>(
-    cache: C,
-    at: Round,
-    height: u8,
-    starts: bool,
-    last: &mut Option<CacheTicket>,
-) -> Life<C> {
-    let over = vote(at, height);
-    let answer = cache.put_notarization(over);
-    started(answer, starts, last)
-}
-
-pub(crate) fn put_certified<C: Shelf<Light, Vote, Vote>>(
-    cache: C,
-    epoch: u64,
-    height: u8,
-) -> Life<C> {
-    let block = Plate::at(height);
-    let epoch = Epoch::new(epoch);
-    changed(cache.put_certified(epoch, block))
-}
-
-pub(crate) fn put_finalization<C: Shelf<Light, Vote, Vote>>(
-    cache: C,
-    at: Round,
-    height: u8,
-) -> Life<C> {
-    let over = vote(at, height);
-    changed(cache.put_finalization(over))
-}
-
-pub(crate) fn start_sync_verified<C: Shelf<Light, Vote, Vote>>(
-    cache: C,
-    epoch: u64,
-    starts: bool,
-    last: &mut Option<CacheTicket>,
-) -> Life<C> {
-    let epoch = Epoch::new(epoch);
-    let answer = cache.start_sync_verified(epoch);
-    started(answer, starts, last)
-}
-
-pub(crate) fn start_sync_notarizations<C: Shelf<Light, Vote, Vote>>(
-    cache: C,
-    epoch: u64,
-    starts: bool,
-    last: &mut Option<CacheTicket>,
-) -> Life<C> {
-    let epoch = Epoch::new(epoch);
-    let answer = cache.start_sync_notarizations(epoch);
-    started(answer, starts, last)
-}
-
-/// Starts a sync of the notarizations of an epoch, as one with the last sync that started.
-pub(crate) fn join_notarizations<C: Shelf<Light, Vote, Vote>>(
-    cache: C,
-    epoch: u64,
-    last: &mut Option<CacheTicket>,
-) -> Life<C> {
-    let first = *last;
-    let life = start_sync_notarizations(cache, epoch, true, last);
-    *last = joined(first, *last);
-    life
-}
-
-// Two syncs of archives of one epoch as one.
-fn joined(first: Option<CacheTicket>, other: Option<CacheTicket>) -> Option<CacheTicket> {
+// Makes sure the verified blocks and the notarizations, as one.
+fn synced<C: Shelf<Light, Vote, Vote>>(cache: C) -> Option<C> {
+    let (cache, first) = cache.start_sync_verified(Epoch::zero()).ok()?;
+    let (cache, other) = cache.start_sync_notarizations(Epoch::zero()).ok()?;
     match (first, other) {
-        (Some(first), Some(other)) if first.epoch == other.epoch && first.second.is_none() => {
-            Some(first.join(other))
-        }
+        (Started::Ticket(first), Started::Ticket(other))
+            if first.epoch == other.epoch && first.second.is_none() => cache
+            .finish(first.join(other))
+            .ok(),
         _ => None,
     }
 }
 
-pub(crate) fn finish<C: Shelf<Light, Vote, Vote>>(cache: C, last: Option<CacheTicket>) -> Life<C> {
-    match last {
-        Some(ticket) => changed(cache.finish(ticket)),
-        None => Life::Wrong,
+// Puts what is sure at once: a certified block at height 4, and a finalization of view 5.
+fn put_sure<C: Shelf<Light, Vote, Vote>>(cache: C) -> Option<C> {
+    let cache = cache.put_certified(Epoch::zero(), Plate::at(4)).ok()?;
+    cache.put_finalization(vote(round(0, 5), 5)).ok()
+}
+
+// What a crash leaves by a luck, all of whose epochs are open.
+fn reopened<C: Shelf<Light, Vote, Vote>>(cache: C, luck: u64) -> Option<C> {
+    let cache = C::reopen(cache.wreck(), luck).ok()?;
+    cache.load_persisted_epochs().ok()
+}
+
+// Without the certified blocks below height 5, and without the first epoch.
+fn pruned<C: Shelf<Light, Vote, Vote>>(cache: C) -> Option<C> {
+    let mut cache = cache.prune_by_height(Height::new(5)).ok()?;
+    if has(&mut cache, 4) {
+        return None;
+    }
+    cache.prune_by_view(round(1, 0)).ok()
+}
+
+// Whether there is a block of that height.
+fn has<C: Shelf<Light, Vote, Vote>>(cache: &mut C, height: u8) -> bool {
+    let name = BlockName::Digest(name_at(height));
+    matches!(cache.find_block_matching(name), Ok(Some(_)))
+}
+
+// Whether the block of a height was verified in a round.
+fn has_verified<C: Shelf<Light, Vote, Vote>>(cache: &mut C, at: Round, height: u8) -> bool {
+    matches!(cache.has_verified(at, name_at(height)), Ok(true))
+}
+
+// Whether what is sure is found, and nothing else.
+fn finds_what_is_sure<C: Shelf<Light, Vote, Vote>>(cache: &mut C) -> bool {
+    let is_first = has_verified(cache, round(0, 1), 1);
+    let verified =
+        matches!(cache.get_verified(round(0, 1)), Ok(Some(block)) if block.height.get() == 1);
+    let notarized =
+        matches!(cache.get_notarization(round(0, 2)), Ok(Some(over)) if over.payload == name_at(2));
+    let is_final =
+        matches!(cache.get_finalization_for(name_at(5)), Ok(Some(over)) if over.round.view().get() == 5);
+    let is_lost = matches!(cache.search(Sought::CommittedTo(name_at(3))), Ok(None));
+    is_first & verified & notarized & is_final & is_lost
+}
+
+// Whether each call has its answer, in the first epoch, which is then pruned.
+fn lives<C: Shelf<Light, Vote, Vote>>(cache: C) -> Option<C> {
+    let cache = put_sure(synced(put(cache)?)?)?;
+    let mut cache = reopened(cache, 0)?;
+    let is_found = finds_what_is_sure(&mut cache) & has(&mut cache, 4);
+    let mut cache = pruned(cache)?;
+    if is_found & !has(&mut cache, 1) {
+        Some(cache)
+    } else {
+        None
     }
 }
 
-pub(crate) fn prune_by_view<C: Shelf<Light, Vote, Vote>>(cache: C, at: Round) -> Life<C> {
-    changed(cache.prune_by_view(at))
-}
-
-pub(crate) fn prune_by_height<C: Shelf<Light, Vote, Vote>>(cache: C, height: u64) -> Life<C> {
-    let height = Height::new(height);
-    changed(cache.prune_by_height(height))
-}
-
-pub(crate) fn load_persisted_epochs<C: Shelf<Light, Vote, Vote>>(cache: C) -> Life<C> {
-    changed(cache.load_persisted_epochs())
-}
-
-pub(crate) fn crash<C: Shelf<Light, Vote, Vote>>(cache: C) -> Life<C> {
-    Life::Left(cache.wreck())
-}
-
-pub(crate) fn reopen<C: Shelf<Light, Vote, Vote>>(wreck: C::Wreck, luck: u64) -> Life<C> {
-    changed(C::reopen(wreck, luck))
-}
-
-/// Arms what is left of a cache.
-pub(crate) fn arm_left<C: Shelf<Light, Vote, Vote>>(wreck: C::Wreck, calls: u64) -> Life<C> {
-    let mut wreck = wreck;
-    match wreck.arm(calls) {
-        Ok(()) => Life::Left(wreck),
-        Err(_) => Life::Wrong,
-    }
-}
-
-pub(crate) fn arm<C: Shelf<Light, Vote, Vote>>(cache: C, calls: u64) -> Life<C> {
+// Whether just the calls fail that are armed, of a cache and of what is left of it.
+fn fails_where_armed<C: Shelf<Light, Vote, Vote>>(cache: C) -> Option<bool> {
     let mut cache = cache;
-    match cache.arm(calls) {
-        Ok(()) => Life::Open(cache),
-        Err(_) => Life::Wrong,
-    }
-}
-
-// A cache that found what it was to; where the look-up failed, what a crash leaves.
-fn looked<C: Shelf<Light, Vote, Vote>>(cache: C, found: Result<bool, Miss>) -> Life<C> {
-    match found {
-        Ok(true) => Life::Open(cache),
-        Err(Miss::Fault) => crash(cache),
-        _ => Life::Wrong,
-    }
-}
-
-fn search<C: Shelf<Light, Vote, Vote>>(
-    cache: &mut C,
-    sought: Sought<Name, Name>,
-) -> Result<Option<Held>, Miss> {
-    cache.search(sought)
-}
-
-// Where an entry stands.
-fn place_of(entry: &Held) -> Place {
-    match entry {
-        Entry::Verified(at, _) => ('v', at.epoch().get(), at.view().get()),
-        Entry::Notarized(at, _) => ('n', at.epoch().get(), at.view().get()),
-        Entry::Certified(epoch, block) => ('c', epoch.get(), block.height.get()),
-        Entry::Notarization(over) => ('o', over.round.epoch().get(), over.round.view().get()),
-        Entry::Finalization(over) => ('f', over.round.epoch().get(), over.round.view().get()),
-    }
-}
-
-// Whether what was found stands there.
-fn stands(found: Result<Option<Held>, Miss>, want: Option<Place>) -> Result<bool, Miss> {
-    match (found, want) {
-        (Err(miss), _) => Err(miss),
-        (Ok(Some(entry)), Some(place)) => Ok(place_of(&entry) == place),
-        (Ok(None), None) => Ok(true),
-        _ => Ok(false),
-    }
-}
-
-// Whether what was found is the block of that height.
-fn is_block(found: Result<Option<Plate>, Miss>, want: Option<u8>) -> Result<bool, Miss> {
-    match (found, want) {
-        (Err(miss), _) => Err(miss),
-        (Ok(Some(block)), Some(height)) => Ok(block.name == name_at(height)),
-        (Ok(None), None) => Ok(true),
-        _ => Ok(false),
-    }
-}
-
-// Whether what was found is a certificate of that round.
-fn is_of(found: Result<Option<Vote>, Miss>, want: Option<Round>) -> Result<bool, Miss> {
-    match (found, want) {
-        (Err(miss), _) => Err(miss),
-        (Ok(Some(over)), Some(at)) => Ok(over.round == at),
-        (Ok(None), None) => Ok(true),
-        _ => Ok(false),
-    }
-}
-
-/// The verified block of a round: its height.
-pub(crate) fn get_verified<C: Shelf<Light, Vote, Vote>>(
-    cache: C,
-    at: Round,
-    want: Option<u8>,
-) -> Life<C> {
-    let mut cache = cache;
-    let found = cache.get_verified(at);
-    looked(cache, is_block(found, want))
-}
-
-pub(crate) fn has_verified<C: Shelf<Light, Vote, Vote>>(
-    cache: C,
-    at: Round,
-    height: u8,
-    is_there: bool,
-) -> Life<C> {
-    let mut cache = cache;
-    let found = match cache.has_verified(at, name_at(height)) {
-        Ok(has) => Ok(has == is_there),
-        Err(miss) => Err(miss),
+    cache.arm(1).ok()?;
+    let mut wreck = match cache.put_finalization(vote(round(1, 1), 1)) {
+        Err(Lost::Fault(wreck)) => wreck,
+        _ => return None,
     };
-    looked(cache, found)
+    wreck.arm(1).ok()?;
+    match C::reopen(wreck, 0) {
+        Err(Lost::Fault(wreck)) => Some(C::reopen(wreck, 0).is_ok()),
+        _ => None,
+    }
 }
 
-pub(crate) fn get_notarization<C: Shelf<Light, Vote, Vote>>(
-    cache: C,
-    at: Round,
-    is_there: bool,
-) -> Life<C> {
+// So many blocks aren't sure.
+const UNSURE: u8 = 34;
+
+fn with_blocks<C: Shelf<Light, Vote, Vote>>(cache: C) -> Option<C> {
     let mut cache = cache;
-    let found = cache.get_notarization(at);
-    let want = if is_there { Some(at) } else { None };
-    looked(cache, is_of(found, want))
+    for view in 0..UNSURE {
+        let (next, _) = cache
+            .put_verified(round(1, u64::from(view)), Plate::at(view))
+            .ok()?;
+        cache = next;
+    }
+    Some(cache)
 }
 
-/// The finalization of the block of a height: its round.
-pub(crate) fn get_finalization_for<C: Shelf<Light, Vote, Vote>>(
-    cache: C,
-    height: u8,
-    want: Option<Round>,
-) -> Life<C> {
-    let mut cache = cache;
-    let found = cache.get_finalization_for(name_at(height));
-    looked(cache, is_of(found, want))
+// Of so many blocks that aren't sure, a luck keeps block k just where its bit k mod 32 is set.
+const LUCK: u64 = 0xFFFF_FFFE_8000_0005;
+
+fn keeps_by_its_bits<C: Shelf<Light, Vote, Vote>>(cache: &mut C) -> bool {
+    let mut is_so = true;
+    for view in 0..UNSURE {
+        let is_kept = LUCK >> (view % 32) & 1 == 1;
+        let is_there = has_verified(cache, round(1, u64::from(view)), view);
+        is_so = is_so & (is_there == is_kept);
+    }
+    is_so
 }
 
-/// Whether there is a block of that name, which is a height's.
-pub(crate) fn find_block<C: Shelf<Light, Vote, Vote>>(
-    cache: C,
-    name: BlockName<Name, Name>,
-    want: Option<u8>,
-) -> Life<C> {
-    let mut cache = cache;
-    let found = cache.find_block_matching(name);
-    looked(cache, is_block(found, want))
-}
-
-pub(crate) fn find_by_digest<C: Shelf<Light, Vote, Vote>>(
-    cache: C,
-    height: u8,
-    is_there: bool,
-) -> Life<C> {
-    let want = if is_there { Some(height) } else { None };
-    find_block(cache, BlockName::Digest(name_at(height)), want)
-}
-
-pub(crate) fn find_by_commitment<C: Shelf<Light, Vote, Vote>>(
-    cache: C,
-    height: u8,
-    is_there: bool,
-) -> Life<C> {
-    let want = if is_there { Some(height) } else { None };
-    find_block(cache, BlockName::Commitment(name_at(height)), want)
-}
-
-/// The block of a height, by its digest: where it stands.
-pub(crate) fn place_by_digest<C: Shelf<Light, Vote, Vote>>(
-    cache: C,
-    height: u8,
-    want: Option<Place>,
-) -> Life<C> {
-    let mut cache = cache;
-    let found = search(&mut cache, Sought::BlockOf(name_at(height)));
-    looked(cache, stands(found, want))
-}
-
-/// The same by its commitment.
-pub(crate) fn place_by_commitment<C: Shelf<Light, Vote, Vote>>(
-    cache: C,
-    height: u8,
-    want: Option<Place>,
-) -> Life<C> {
-    let mut cache = cache;
-    let found = search(&mut cache, Sought::CommittedTo(name_at(height)));
-    looked(cache, stands(found, want))
+/// Whether a cache that holds nothing answers as it is to.
+pub(crate) fn answers<C: Shelf<Light, Vote, Vote>>(cache: C) -> Option<bool> {
+    let cache = with_blocks(lives(cache)?)?;
+    let mut cache = reopened(cache, LUCK)?;
+    let are_kept = keeps_by_its_bits(&mut cache);
+    Some(are_kept & fails_where_armed(cache)?)
 }

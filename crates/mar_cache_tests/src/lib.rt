@@ -1,15 +1,9 @@
-//! Tests of the cache of epochs, as scripts of its calls.
+//! Tests of the cache of epochs: each of its calls over a cache in memory, and what a luck keeps of it.
 #![tactic(auto)]
 
 #[cfg(test)]
 mod calls;
 #[cfg(test)]
-mod failures;
-#[cfg(test)]
 mod light;
 #[cfg(test)]
-mod luck;
-#[cfg(test)]
 mod memory;
-#[cfg(test)]
-mod scripts;

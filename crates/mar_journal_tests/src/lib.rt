@@ -1,11 +1,5 @@
-//! Tests of journals: bytes, damage, crashes, failing calls, and how often the disk is called.
+//! Tests of how a journal is opened: where bytes are damaged, and how often the disk is read.
 #![tactic(auto)]
 
 #[cfg(test)]
-mod archives;
-#[cfg(test)]
-mod calls;
-#[cfg(test)]
-mod crashes;
-#[cfg(test)]
-mod metadata;
+mod openings;
