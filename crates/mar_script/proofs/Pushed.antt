@@ -1,9 +1,11 @@
 -- What was appended in parts, and the lines that show a node.
-use Rattle.std.proofs.Common.{List, None, Option, Some, [], ap, append_assoc, refl, sym, ℕ, ◌++◌, ◌∙◌, ◌∷◌, ◌≡◌}
-use Rattle.std.specs.Prelude.{codes, decimal}
+use Rattle.std.proofs.Common.{List, None, Option, Some, [], ap, append_assoc, map, refl, sym, ℕ, ◌++◌, ◌∙◌, ◌∷◌, ◌≡◌}
+use Rattle.std.specs.List.{flat_map, join_with_byte}
+use Rattle.std.specs.Prelude.{codes}
+use Rattle.std.proofs.lemmas.List.{append-nil}
 use Rattle.mar_key.specs.Keys.{Annotation, certified_at, finalized_by_height, finalized_by_round, for_notarization, untrusted_at}
-use Rattle.mar_script.specs.Script.{comma_numbers, sentence}
-use Rattle.mar_script.specs.Text.{annotation_words, line_of, round_text, target_words}
+use Rattle.mar_script.specs.Script.{sentence}
+use Rattle.mar_script.specs.Text.{annotation_words, line_of, target_words}
 
 three : (old a b c : List ℕ) → ((old ++ a) ++ b) ++ c ≡ old ++ (a ++ (b ++ c))
 three old a b c = simp append_assoc
@@ -57,23 +59,26 @@ ended_line p c bs bm fs fm =
     ∙ front4 (codes "node end p=") p (codes " c=") c ((32 ∷ (codes "bs=" ++ bs)) ++ ((32 ∷ (codes "bm=" ++ bm)) ++ ((32 ∷ (codes "fs=" ++ fs)) ++ ((32 ∷ (codes "fm=" ++ fm)) ++ codes "\n"))))
     )
 
--- what stands behind a request's annotation
-abbrev pub target_end : Option (List ℕ) → List ℕ
-target_end None = codes "\n"
-target_end (Some peers) = codes " to " ++ (comma_numbers peers ++ codes "\n")
+-- a first word and others, each of these with a space before it
+spaced : {S : Type 0} (f : S → List ℕ) (x : List ℕ) (xs : List S) → join_with_byte 32 (x ∷ map f xs) ≡ x ++ flat_map (λ s. 32 ∷ f s) xs
+spaced f x [] = sym (append-nil x)
+spaced f x (y ∷ ys) = ap (λ l. x ++ 32 ∷ l) (spaced f (f y) ys)
 
-request_words : (h w v : List ℕ) (ts : List (List ℕ)) (rest : List ℕ) → ended_by (v ∷ ts) ≡ v ++ rest → line_of (codes "fetch" ∷ h ∷ w ∷ v ∷ ts) ≡ (codes "fetch " ++ (h ++ (codes " " ++ (w ++ (32 ∷ v))))) ++ rest
-request_words h w v ts rest e =
-    line_end (codes "fetch" ∷ h ∷ w ∷ v ∷ ts) ∙ ap (λ l. codes "fetch " ++ (h ++ (codes " " ++ (w ++ (32 ∷ l))))) e
-    ∙ sym (front4 (codes "fetch ") h (codes " ") (w ++ (32 ∷ v)) rest ∙ ap (λ l. codes "fetch " ++ (h ++ (codes " " ++ l))) (append_assoc w (32 ∷ v) rest))
+-- a first word, others and the line's end, appended one after another
+pub in_line : {S : Type 0} (f : S → List ℕ) (old m1 m2 new x : List ℕ) (xs : List S) → m1 ≡ old ++ x → m2 ≡ m1 ++ flat_map (λ s. 32 ∷ f s) xs → new ≡ m2 ++ 10 ∷ [] → new ≡ old ++ line_of (x ∷ map f xs)
+in_line f old m1 m2 new x xs p q r =
+    r ∙ ap (λ l. l ++ 10 ∷ []) (q ∙ ap (λ l. l ++ flat_map (λ s. 32 ∷ f s) xs) p ∙ append_assoc old x (flat_map (λ s. 32 ∷ f s) xs) ∙ ap (λ l. old ++ l) (sym (spaced f x xs)))
+    ∙ append_assoc old (join_with_byte 32 (x ∷ map f xs)) (10 ∷ [])
 
-targeted_words : (h w v : List ℕ) (targets : Option (List ℕ)) → line_of (codes "fetch" ∷ h ∷ w ∷ v ∷ target_words targets) ≡ (codes "fetch " ++ (h ++ (codes " " ++ (w ++ (32 ∷ v))))) ++ target_end targets
-targeted_words h w v None = request_words h w v [] (codes "\n") refl
-targeted_words h w v (Some peers) = request_words h w v (codes "to" ∷ comma_numbers peers ∷ []) (codes " to " ++ (comma_numbers peers ++ codes "\n")) refl
-
-pub request_line : (h : List ℕ) (a : Annotation) (targets : Option (List ℕ)) → line_of (codes "fetch" ∷ h ∷ (annotation_words a ++ target_words targets)) ≡ (codes "fetch " ++ (h ++ (codes " " ++ sentence (annotation_words a)))) ++ target_end targets
-request_line h (for_notarization r) targets = targeted_words h (codes "not") (codes "r" ++ round_text r) targets
-request_line h (untrusted_at n) targets = targeted_words h (codes "unt") (codes "h" ++ decimal n) targets
-request_line h (certified_at n) targets = targeted_words h (codes "cer") (codes "h" ++ decimal n) targets
-request_line h (finalized_by_height n) targets = targeted_words h (codes "fin") (codes "h" ++ decimal n) targets
-request_line h (finalized_by_round r) targets = targeted_words h (codes "fin") (codes "r" ++ round_text r) targets
+-- the two words of an annotation in one
+pub request_line : (h : List ℕ) (a : Annotation) (targets : Option (List ℕ)) → line_of (codes "fetch" ∷ h ∷ sentence (annotation_words a) ∷ target_words targets) ≡ line_of (codes "fetch" ∷ h ∷ (annotation_words a ++ target_words targets))
+request_line h (for_notarization r) None = refl
+request_line h (for_notarization r) (Some peers) = refl
+request_line h (untrusted_at n) None = refl
+request_line h (untrusted_at n) (Some peers) = refl
+request_line h (certified_at n) None = refl
+request_line h (certified_at n) (Some peers) = refl
+request_line h (finalized_by_height n) None = refl
+request_line h (finalized_by_height n) (Some peers) = refl
+request_line h (finalized_by_round r) None = refl
+request_line h (finalized_by_round r) (Some peers) = refl

@@ -8,6 +8,7 @@ pub mod Streams
 pub mod Words
 pub mod Status
 pub mod Shown
+pub mod OutputWords
 pub mod Endings
 pub mod Lines
 pub mod Reading

@@ -5,7 +5,6 @@ ghost use Rattle.mar_store.specs.Spans.{ranges_of};
 ghost use Rattle.mar_script.specs.SpanTexts.{sizes_of, span_text, spans_text};
 ghost use Rattle.mar_script.specs.Shown.{ranges_shown};
 
-use crate::text::push_number;
 use mar_store::HeightSpan;
 use std::alloc::{AllocError, Global};
 use std::marker::Model;
@@ -84,14 +83,14 @@ impl RangeText {
         }
     }
 
-    /// Appends the text of the ranges.
-    pub fn push_to(&self, text: &mut String) -> Result<(), AllocError>
-        ensures { OnOk result (string_bytes text.new ≡ string_bytes text.old ++ ranges_shown self.now) }
+    /// The text of the ranges.
+    pub fn shown(&self) -> &str
+        ensures { result.now ≡ ranges_shown self.now }
     {
         if self.spans.as_slice().is_empty() {
-            return text.push_str("-");
+            return "-";
         }
-        text.push_str(self.text.as_str().split_at(1).1)
+        self.text.as_str().split_at(1).1
     }
 }
 
@@ -232,8 +231,6 @@ fn push_each(
 fn push_span(text: &mut String, span: HeightSpan) -> Result<(), AllocError>
     ensures { OnOk result (string_bytes text.new ≡ string_bytes text.old ++ span_text span) }
 {
-    text.push_str(",")?;
-    push_number(text, span.from)?;
-    text.push_str("-")?;
-    push_number(text, span.to)
+    let (from, to) = (span.from, span.to);
+    write!(text, ",{from}-{to}")
 }

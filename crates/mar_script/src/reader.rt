@@ -18,7 +18,7 @@ const MAX_LINE: usize = 65_536;
 const PIECE: usize = 8_192;
 
 /// Why there is no next line.
-#[derive(Clone, Copy, Debug, PartialEq, Eq)]
+#[derive(Clone, Copy, PartialEq)]
 pub enum LineError {
     /// The input ends inside a line.
     Unended,

@@ -1,22 +1,19 @@
 //! The lines of the output.
 ghost use Rattle.std.specs.Prelude.{◌≡◌, ◌++◌, ◌∷◌, [], OnOk, codes, decimal, string_bytes};
 ghost use Rattle.mar_node.specs.Step.{new_tip};
-ghost use Rattle.mar_key.specs.Views.{cutoff_of};
-ghost use Rattle.mar_types.specs.Round.{Round};
 ghost use Rattle.mar_script.specs.Script.{hex, store_name};
-ghost use Rattle.mar_script.specs.Text.{cutoff_text, fault_words, kind_name, line_of, remark_words, report_words, round_text};
+ghost use Rattle.mar_script.specs.Text.{fault_words, kind_name, line_of, remark_words, report_words};
 ghost use Rattle.mar_node.specs.Views.{kind_of, store_name_of};
 ghost use Rattle.mar_script.specs.Shown.{plain_fault, remark_of};
 
-use itoa::Buffer;
-use mar_key::Cutoff;
+use crate::word::{Word, push_line};
 use mar_node::{Fault, StoreName, TicketKind};
 use mar_types::{Height, Round, Sha256Digest};
 use std::alloc::{AllocError, Global};
 use std::convert::AsSlice;
 
 /// Why a line did nothing.
-#[derive(Clone, Copy, Debug, PartialEq, Eq)]
+#[derive(Clone, Copy)]
 pub enum RemarkShown {
     /// The ticket isn't open or outstanding.
     Ignored,
@@ -24,47 +21,6 @@ pub enum RemarkShown {
     Stopped,
     /// A life runs already.
     Running,
-}
-
-/// Appends a number.
-pub fn push_number(text: &mut String, number: u64) -> Result<(), AllocError>
-    ensures { OnOk result (string_bytes text.new ≡ string_bytes text.old ++ decimal number) }
-{
-    let mut buffer = Buffer::new();
-    text.push_str(buffer.format(number))
-}
-
-/// Appends bytes in lower-case hexadecimal, or `-` for none.
-pub fn push_hex(alloc: Global, text: &mut String, bytes: &[u8]) -> Result<(), AllocError>
-    ensures { OnOk result (string_bytes text.new ≡ string_bytes text.old ++ hex bytes.now) }
-{
-    if bytes.is_empty() {
-        return text.push_str("-");
-    }
-    let spelled = hex::encode(alloc, bytes)?;
-    text.push_str(spelled.as_str())
-}
-
-/// Appends a round: its epoch, a dot and its view.
-pub fn push_round(text: &mut String, round: Round) -> Result<(), AllocError>
-    ensures { OnOk result (string_bytes text.new ≡ string_bytes text.old ++ round_text round) }
-{
-    push_number(text, round.epoch().get())?;
-    text.push_str(".")?;
-    push_number(text, round.view().get())
-}
-
-/// Appends a cutoff: its round, or its epoch with a star.
-pub fn push_cutoff(text: &mut String, cutoff: Cutoff) -> Result<(), AllocError>
-    ensures { OnOk result (string_bytes text.new ≡ string_bytes text.old ++ cutoff_text (cutoff_of cutoff)) }
-{
-    match cutoff {
-        Cutoff::Round(round) => push_round(text, round),
-        Cutoff::Epoch(epoch) => {
-            push_number(text, epoch.get())?;
-            text.push_str(".*")
-        }
-    }
 }
 
 /// Appends the line of a new tip.
@@ -77,13 +33,12 @@ pub fn push_tip(
 ) -> Result<(), AllocError>
     ensures { OnOk result (string_bytes text.new ≡ string_bytes text.old ++ line_of (report_words (new_tip round height digest.now))) }
 {
-    text.push_str("tip ")?;
-    push_round(text, round)?;
-    text.push_str(" ")?;
-    push_number(text, height.get())?;
-    text.push_str(" ")?;
-    push_hex(alloc, text, digest)?;
-    text.push_str("\n")
+    let words = [
+        Word::Round(round),
+        Word::Number(height.get()),
+        Word::Hex(digest),
+    ];
+    push_line(alloc, text, "tip", &words)
 }
 
 /// Appends the line of a block that was handed over under this ticket.
@@ -96,13 +51,12 @@ pub fn push_block(
 ) -> Result<(), AllocError>
     ensures { OnOk result (string_bytes text.new ≡ string_bytes text.old ++ line_of (codes "block" ∷ decimal ticket ∷ decimal height ∷ hex digest.now ∷ [])) }
 {
-    text.push_str("block ")?;
-    push_number(text, ticket)?;
-    text.push_str(" ")?;
-    push_number(text, height.get())?;
-    text.push_str(" ")?;
-    push_hex(alloc, text, digest)?;
-    text.push_str("\n")
+    let words = [
+        Word::Number(ticket),
+        Word::Number(height.get()),
+        Word::Hex(digest),
+    ];
+    push_line(alloc, text, "block", &words)
 }
 
 /// Appends why a line did nothing.
@@ -136,20 +90,66 @@ fn kind_text(kind: TicketKind) -> &'static str
     }
 }
 
-// Appends two commitments, each with a space before it, and the line's end.
-fn push_commitments(
+// Appends a fault that a height tells.
+fn push_fault_at(
     alloc: Global,
     text: &mut String,
-    first: Sha256Digest,
-    second: Sha256Digest,
+    name: &'static str,
+    height: Height,
 ) -> Result<(), AllocError>
-    ensures { OnOk result (string_bytes text.new ≡ string_bytes text.old ++ (32 ∷ (hex first.bytes ++ (32 ∷ (hex second.bytes ++ (10 ∷ [])))))) }
+    ensures { OnOk result (string_bytes text.new ≡ string_bytes text.old ++ line_of (codes "fault" ∷ name.now ∷ decimal height ∷ [])) }
 {
-    text.push_str(" ")?;
-    push_hex(alloc, text, first.as_slice())?;
-    text.push_str(" ")?;
-    push_hex(alloc, text, second.as_slice())?;
-    text.push_str("\n")
+    let words = [Word::Plain(name), Word::Number(height.get())];
+    push_line(alloc, text, "fault", &words)
+}
+
+// Appends a fault that two letters tell.
+fn push_fault_named(
+    alloc: Global,
+    text: &mut String,
+    name: &'static str,
+    of: &'static str,
+) -> Result<(), AllocError>
+    ensures { OnOk result (string_bytes text.new ≡ string_bytes text.old ++ line_of (codes "fault" ∷ name.now ∷ of.now ∷ [])) }
+{
+    let words = [Word::Plain(name), Word::Plain(of)];
+    push_line(alloc, text, "fault", &words)
+}
+
+fn push_mismatch<'a>(
+    alloc: Global,
+    text: &mut String,
+    configured: &'a [u8],
+    stored: &'a [u8],
+) -> Result<(), AllocError>
+    ensures { OnOk result (string_bytes text.new ≡ string_bytes text.old
+        ++ line_of (codes "fault" ∷ codes "GenesisMismatch" ∷ hex configured.now ∷ hex stored.now ∷ [])) }
+{
+    let words = [
+        Word::Plain("GenesisMismatch"),
+        Word::Hex(configured),
+        Word::Hex(stored),
+    ];
+    push_line(alloc, text, "fault", &words)
+}
+
+fn push_corrupt<'a>(
+    alloc: Global,
+    text: &mut String,
+    height: Height,
+    block: &'a [u8],
+    payload: &'a [u8],
+) -> Result<(), AllocError>
+    ensures { OnOk result (string_bytes text.new ≡ string_bytes text.old
+        ++ line_of (codes "fault" ∷ codes "Corrupt" ∷ decimal height ∷ hex block.now ∷ hex payload.now ∷ [])) }
+{
+    let words = [
+        Word::Plain("Corrupt"),
+        Word::Number(height.get()),
+        Word::Hex(block),
+        Word::Hex(payload),
+    ];
+    push_line(alloc, text, "fault", &words)
 }
 
 /// Appends why a life ended.
@@ -161,26 +161,22 @@ pub fn push_fault(
     ensures { OnOk result (string_bytes text.new ≡ string_bytes text.old ++ line_of (codes "fault" ∷ fault_words (plain_fault fault))) }
 {
     match fault {
-        Fault::StoreFault(store) => {
-            let name = store_text(store);
-            writeln!(text, "fault StoreFault {name}")
-        }
-        Fault::GenesisHeight(height) => writeln!(text, "fault GenesisHeight {height}"),
+        Fault::StoreFault(store) => push_fault_named(alloc, text, "StoreFault", store_text(store)),
+        Fault::GenesisHeight(height) => push_fault_at(alloc, text, "GenesisHeight", height),
         Fault::GenesisMismatch(configured, stored) => {
-            text.push_str("fault GenesisMismatch")?;
-            push_commitments(alloc, text, configured, stored)
+            push_mismatch(alloc, text, configured.as_slice(), stored.as_slice())
         }
-        Fault::Corrupt(height, block, payload) => {
-            write!(text, "fault Corrupt {height}")?;
-            push_commitments(alloc, text, block, payload)
-        }
-        Fault::Unbacked(height) => writeln!(text, "fault Unbacked {height}"),
-        Fault::HeightLimit(height) => writeln!(text, "fault HeightLimit {height}"),
-        Fault::AckDropped(height) => writeln!(text, "fault AckDropped {height}"),
-        Fault::TicketLimit(kind) => {
-            let name = kind_text(kind);
-            writeln!(text, "fault TicketLimit {name}")
-        }
+        Fault::Corrupt(height, block, payload) => push_corrupt(
+            alloc,
+            text,
+            height,
+            block.as_slice(),
+            payload.as_slice(),
+        ),
+        Fault::Unbacked(height) => push_fault_at(alloc, text, "Unbacked", height),
+        Fault::HeightLimit(height) => push_fault_at(alloc, text, "HeightLimit", height),
+        Fault::AckDropped(height) => push_fault_at(alloc, text, "AckDropped", height),
+        Fault::TicketLimit(kind) => push_fault_named(alloc, text, "TicketLimit", kind_text(kind)),
         Fault::Memory => text.push_str("fault Memory\n"),
     }
 }

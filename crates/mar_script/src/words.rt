@@ -13,7 +13,7 @@ use std::alloc::{AllocError, Global};
 use std::str;
 
 /// Why bytes aren't read as a line.
-#[derive(Clone, Copy, Debug, PartialEq, Eq)]
+#[derive(Clone, Copy)]
 pub enum ParseError {
     /// They are outside the grammar.
     Grammar,

@@ -138,8 +138,9 @@ fn main(rt: HostRuntime) -> ExitCode {
         Ok(words) => run_words(&rt, &words),
         Err(error) => untold(&error),
     };
-    if status != Status::Ok {
+    let code = status.exit_code();
+    if code != 0 {
         let _ = eprintln!(rt; "{status}");
     }
-    ExitCode::from(status.exit_code())
+    ExitCode::from(code)
 }

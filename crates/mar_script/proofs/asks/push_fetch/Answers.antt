@@ -1,7 +1,15 @@
-use Rattle.std.proofs.Common.{None}
+use Rattle.std.proofs.Common.{None, [], ap, rules, string_bytes, ◌++◌, ◌∙◌, ◌∷◌, ◌≡◌}
+use Rattle.std.specs.Prelude.{codes}
+use Rattle.mar_key.specs.Keys.{key_bytes}
+use Rattle.mar_key.specs.Views.{annotation_of, key_of}
+use Rattle.mar_script.specs.Script.{hex, sentence}
+use Rattle.mar_script.specs.Text.{annotation_words, line_of}
 use Rattle.mar_script.proofs.Pushed.{request_line}
-use Rattle.mar_script.proofs.Sentences.{in_two}
 use Rattle.mar_script.proofs.asks.push_fetch.Goals as goal
 
 pub returns : goal.returns
-returns c = in_two _ _ _ _ _ _ c.in_ok-push_str.ensures.bytes c.in_ok-push_request.ensures (request_line _ _ None)
+returns c =
+    let key : c.as_slice.result.now ≡ key_bytes (key_of (λ d. d.bytes) c.args.fetch.now.key) = search rules in
+    c.in_ok-push_line.ensures
+    ∙ ap (λ k. string_bytes c.args.text.now ++ line_of (codes "fetch" ∷ hex k ∷ sentence (annotation_words (annotation_of c.args.fetch.now.subscriber)) ∷ [])) key
+    ∙ ap (λ l. string_bytes c.args.text.now ++ l) (request_line _ _ None)

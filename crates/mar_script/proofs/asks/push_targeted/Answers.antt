@@ -1,8 +1,13 @@
-use Rattle.std.proofs.Common.{Some, ap, string_bytes, sym, ◌++◌, ◌∙◌}
-use Rattle.mar_script.proofs.Pushed.{in_four, request_line}
+use Rattle.std.proofs.Common.{Some, ap, rules, string_bytes, ◌++◌, ◌∙◌, ◌∷◌, ◌≡◌}
+use Rattle.std.specs.Prelude.{codes}
+use Rattle.mar_key.specs.Keys.{key_bytes}
+use Rattle.mar_key.specs.Views.{annotation_of, key_of}
+use Rattle.mar_script.specs.Script.{hex}
+use Rattle.mar_script.specs.Text.{annotation_words, line_of, target_words}
 use Rattle.mar_script.proofs.asks.push_targeted.Goals as goal
 
 pub returns : goal.returns
 returns c =
-    in_four _ _ _ _ _ _ _ _ _ c.in_ok-push_request.ensures c.in_ok-push_str.ensures.bytes c.in_ok-push_peers.ensures c.in_ok-push_str-2.ensures.bytes
-    ∙ ap (λ l. string_bytes c.args.text.now ++ l) (sym (request_line _ _ (Some c.args.peers.now)))
+    let key : c.as_slice.result.now ≡ key_bytes (key_of (λ d. d.bytes) c.args.fetch.now.key) = search rules in
+    c.in_ok-push_to_peers.ensures
+    ∙ ap (λ k. string_bytes c.args.text.now ++ line_of (codes "fetch" ∷ hex k ∷ (annotation_words (annotation_of c.args.fetch.now.subscriber) ++ target_words (Some c.args.peers.now)))) key

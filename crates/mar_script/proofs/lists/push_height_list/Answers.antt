@@ -1,7 +1,7 @@
 use Rattle.std.proofs.Common.{ap, string_bytes, ◌++◌, ◌∙◌}
 use Rattle.std.specs.Fmt.{decimal}
 use Rattle.mar_script.proofs.Sentences.{in_two, not_empty, numbers_shown}
-use Rattle.mar_script.proofs.shown.push_height_list.Goals as goal
+use Rattle.mar_script.proofs.lists.push_height_list.Goals as goal
 
 pub returns : goal.returns
 returns c =

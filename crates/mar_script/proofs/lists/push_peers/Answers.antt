@@ -1,5 +1,5 @@
 use Rattle.mar_script.proofs.Sentences.{first_again, in_two, not_empty, numbers_shown}
-use Rattle.mar_script.proofs.asks.push_peers.Goals as goal
+use Rattle.mar_script.proofs.lists.push_peers.Goals as goal
 
 pub returns : goal.returns
 returns c =

@@ -1,5 +1,5 @@
 use Rattle.mar_script.proofs.Sentences.{in_two, not_empty, numbers_in_parts}
-use Rattle.mar_script.proofs.shown.push_both.Goals as goal
+use Rattle.mar_script.proofs.lists.push_heights.Goals as goal
 
 pub returns : goal.returns
 returns c =

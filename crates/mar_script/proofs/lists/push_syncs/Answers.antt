@@ -1,5 +1,5 @@
 use Rattle.mar_script.proofs.Sentences.{first_again, in_two, not_empty, syncs_shown}
-use Rattle.mar_script.proofs.shown.push_sync_list.Goals as goal
+use Rattle.mar_script.proofs.lists.push_syncs.Goals as goal
 
 pub returns : goal.returns
 returns c =

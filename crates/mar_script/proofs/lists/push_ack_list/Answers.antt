@@ -1,7 +1,7 @@
 use Rattle.mar_parts.specs.Views.{outstanding_of}
 use Rattle.mar_script.specs.Text.{outstanding_text}
 use Rattle.mar_script.proofs.Sentences.{in_two, not_empty, shown_list}
-use Rattle.mar_script.proofs.shown.push_ack_list.Goals as goal
+use Rattle.mar_script.proofs.lists.push_ack_list.Goals as goal
 
 pub returns : goal.returns
 returns c =
