@@ -1,5 +1,6 @@
 -- What one line of a script writes of, by what a run keeps of it.
-use Rattle.std.specs.Prelude.{List, None, Option, Some, [], map, ℕ}
+use Rattle.std.specs.List.{flat_map}
+use Rattle.std.specs.Prelude.{List, None, Option, Some, [], codes, map, option_map, ℕ, ◌++◌, ◌∷◌}
 use Rattle.mar_types.specs.declared.Sha256.{Sha256}
 use Rattle.mar_types.specs.declared.Sha256Digest.{Sha256Digest}
 use Rattle.mar_block.specs.declared.EmptyBlock.{EmptyBlock}
@@ -14,7 +15,7 @@ use Rattle.mar_actor.specs.Views.{report_of}
 use Rattle.mar_actor.specs.declared.Update.{Update}
 use Rattle.mar_script.specs.Lines.{plain_block, plain_finalization}
 use Rattle.mar_script.specs.Shown.{plain_fault, remark_of}
-use Rattle.mar_script.specs.Text.{Output, Remark, State, line_of, report_words, running, stopped}
+use Rattle.mar_script.specs.Text.{Output, Remark, State, answer_words, ask_words, fault_words, line_of, remark_words, report_words, running, some_words, stopped}
 use Rattle.mar_replay.specs.declared.heard.Heard.{Heard}
 use Rattle.mar_replay.specs.declared.play.Outcome.{Outcome}
 use Rattle.mar_replay.specs.declared.play.Outcome.TheVariants as outcome
@@ -45,6 +46,21 @@ made_in heard = record {
   sends = [];
   answers = told (value_of (λ digest. digest.bytes) plain_block plain_finalization) heard.answers;
 }
+
+-- what is written of what was made, but for the reports
+abbrev pub asks_text : Made → List ℕ
+asks_text made = flat_map (λ a. line_of (ask_words a)) made.asks
+
+abbrev pub answers_text : Made → List ℕ
+answers_text made = flat_map (λ a. line_of (answer_words a)) made.answers
+
+-- the remark or the fault of a line
+abbrev pub outcome_text : Outcome → List ℕ
+outcome_text o = some_words (option_map remark_words (remark_in o)) ++ some_words (option_map (λ f. codes "fault" ∷ fault_words f) (fault_in o))
+
+-- what a line writes, but for the node
+abbrev pub heard_text : Heard → Outcome → List ℕ
+heard_text heard o = flat_map report_text heard.told.updates.items ++ (asks_text (made_in heard) ++ (answers_text (made_in heard) ++ outcome_text o))
 
 -- what a line writes of, but for the node
 abbrev pub output_of : Made → Outcome → Output

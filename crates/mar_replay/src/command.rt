@@ -5,7 +5,7 @@ ghost use Rattle.mar_replay.specs.Commands.{AsksGen, IsAsked};
 use mar_gen::number;
 
 /// What a run is asked to do.
-#[derive(Clone, Copy, Debug, PartialEq, Eq)]
+#[derive(Clone, Copy)]
 pub enum Command {
     /// Read a script and write its output.
     Replay,

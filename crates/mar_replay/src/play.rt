@@ -82,7 +82,7 @@ impl<H: Holds<StandardBlocks, Finalization = MockFinalization>> State<H> {
 }
 
 /// What a line did, beside what the node told and asked.
-#[derive(Clone, Copy, Debug, PartialEq, Eq)]
+#[derive(Clone, Copy)]
 pub enum Outcome {
     /// The line was done.
     Done,

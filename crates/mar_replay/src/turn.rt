@@ -1,9 +1,9 @@
 //! The text of one line of a script.
-ghost use Rattle.std.specs.Prelude.{◌≡◌, ◌++◌, ◌∷◌, [], List, OnOk, codes, option_map, string_bytes};
+ghost use Rattle.std.specs.Prelude.{◌≡◌, ◌++◌, [], List, OnOk, string_bytes};
 ghost use Rattle.std.specs.List.{flat_map};
 ghost use Rattle.mar_key.specs.Asked.{Asked};
-ghost use Rattle.mar_script.specs.Text.{fault_words, line_of, output_text, remark_words, some_words, state_words};
-ghost use Rattle.mar_replay.specs.Turn.{fault_in, made_in, output_of, remark_in, report_text, state_with};
+ghost use Rattle.mar_script.specs.Text.{line_of, output_text, state_words};
+ghost use Rattle.mar_replay.specs.Turn.{heard_text, made_in, outcome_text, output_of, report_text, state_with};
 
 use crate::heard::Heard;
 use crate::play::{Outcome, State};
@@ -51,11 +51,24 @@ pub fn push_turn<H: Holds<StandardBlocks, Finalization = MockFinalization>>(
     ensures { OnOk result ((asked : List Asked) → string_bytes text.new ≡ string_bytes text.old
         ++ output_text (output_of (made_in heard.now) outcome) (state_with asked state.now)) }
 {
+    push_made(alloc, text, heard, outcome)?;
+    push_state(alloc, text, ranges, state)
+}
+
+// Appends what a line made, but for what there is now.
+fn push_made(
+    alloc: Global,
+    text: &mut String,
+    heard: &Heard,
+    outcome: Outcome,
+) -> Result<(), AllocError>
+    ensures { OnOk result (string_bytes text.new ≡ string_bytes text.old ++ heard_text heard.now outcome) }
+{
     push_updates(alloc, text, &heard.told.updates)?;
     push_asks(alloc, text, heard.asked.asks())?;
     push_answers(alloc, text, heard.answers.answers())?;
     push_outcome(alloc, text, outcome)?;
-    push_state(alloc, text, ranges, state)
+    Ok(())
 }
 
 fn push_updates(
@@ -93,8 +106,7 @@ fn push_update(
 }
 
 fn push_outcome(alloc: Global, text: &mut String, outcome: Outcome) -> Result<(), AllocError>
-    ensures { OnOk result (string_bytes text.new ≡ string_bytes text.old ++ (some_words (option_map remark_words (remark_in outcome))
-        ++ some_words (option_map (λ f. codes "fault" ∷ fault_words f) (fault_in outcome)))) }
+    ensures { OnOk result (string_bytes text.new ≡ string_bytes text.old ++ outcome_text outcome) }
 {
     match outcome {
         Outcome::Done => Ok(()),
