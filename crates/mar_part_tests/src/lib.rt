@@ -1,15 +1,23 @@
-//! Tests of the calls of stores, of the parts of a node and of what callers are answered which no script of the program
-//! reaches.
+//! Tests of the parts of a node in worked cases, and of the calls of stores and of what callers are answered which no script
+//! of the program reaches.
 #![tactic(auto)]
 
 #[cfg(test)]
+mod acknowledgements;
+#[cfg(test)]
+mod certified;
+#[cfg(test)]
 mod floors;
+#[cfg(test)]
+mod gate;
 #[cfg(test)]
 mod inbox;
 #[cfg(test)]
 mod light;
 #[cfg(test)]
 mod parts;
+#[cfg(test)]
+mod staged_blocks;
 #[cfg(test)]
 mod stores;
 #[cfg(test)]

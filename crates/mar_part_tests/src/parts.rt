@@ -1,11 +1,16 @@
 //! Parts of a node: what the program doesn't call, and how they are compared and show themselves.
 use crate::tell::*;
+use mar_key::Cutoff;
 use mar_node::Writes;
 use mar_parts::*;
 use mar_store::{MemMeta, Meta, Miss};
-use mar_types::{Hasher, Height, Sha256, Sha256Digest};
+use mar_types::{Epoch, Height, Round, View};
 use std::alloc::{AllocError, Global};
 use std::process::Abort;
+
+fn round(epoch: u64, view: u64) -> Round {
+    Round::new(Epoch::new(epoch), View::new(view))
+}
 
 const fn ack(ticket: u64, mark: Mark) -> PendingAck {
     PendingAck {
@@ -13,31 +18,6 @@ const fn ack(ticket: u64, mark: Mark) -> PendingAck {
         height: Height::new(2),
         mark,
     }
-}
-
-// Whether an acknowledgement is dropped, and all are cleared.
-fn drops(acks: &mut PendingAcks) -> bool {
-    if !acks.has_capacity() {
-        return false;
-    }
-    acks.enqueue(3, Height::new(2));
-    let is_dropped = acks.drop_ack(3) & !acks.drop_ack(4);
-    let is_oldest = acks.pop_ready() == Oldest::Dropped(ack(3, Mark::Dropped));
-    acks.clear();
-    is_dropped & is_oldest & acks.is_empty()
-}
-
-fn is_ones(commitment: &Sha256Digest) -> bool {
-    *commitment == Sha256::fill(1)
-}
-
-// Whether a commitment is known at its height up to the time that this is given up.
-fn is_known(rt: &impl Abort, known: &mut Certified<Sha256Digest>) -> bool {
-    let (height, ones) = (Height::new(5), Sha256::fill(1));
-    given(rt, known.insert(height, ones));
-    let is_there = known.contains(height, &ones) & known.contains_matching(height, is_ones);
-    known.retain(Height::new(6));
-    is_there & !known.contains(height, &ones)
 }
 
 // Whether writes that are cleared hold nothing back.
@@ -48,24 +28,35 @@ fn clears(rt: &impl Abort, writes: &mut Writes) -> bool {
     is_barred & writes.barrier().is_none()
 }
 
-// Whether a stream begins at zero, and keeps the processed height under its key.
-fn has_its_key(rt: &impl Abort, alloc: Global) -> bool {
+// Whether a cutoff comes back from the store with the processed height, once it was synced.
+fn comes_back(rt: &impl Abort, stream: Stream<MemMeta>, cutoff: Cutoff) -> (Stream<MemMeta>, bool) {
+    let stream = given(rt, stream.set_cutoff(cutoff));
+    let stream = given(rt, stream.sync());
+    let stream = Stream::new(given(rt, MemMeta::reopen(stream.wreck(), 0)));
+    let is_back = is_at(stream.processed_height(), Some(8)) & (stream.cutoff() == cutoff);
+    (stream, is_back)
+}
+
+// Whether a stream begins at zero, and keeps what is synced, the processed height under its key.
+fn lasts(rt: &impl Abort, alloc: Global) -> bool {
     let stream = Stream::new(MemMeta::new(alloc));
     assert!(rt; stream.processed_height() == None);
-    let begins = stream.is_synced() & (stream.next_height() == Height::zero());
-    let stream = given(rt, stream.acknowledge(Height::new(9)));
-    let stream = given(rt, stream.sync());
+    let begins = stream.is_synced()
+        & (stream.next_height() == Height::zero())
+        & (stream.cutoff() == Cutoff::zero());
+    let stream = given(rt, stream.acknowledge(Height::new(8)));
+    let (round, later) = (round(2, 40), round(3, 5));
+    let (stream, first) = comes_back(rt, stream, Cutoff::Round(round));
+    let (stream, second) = comes_back(rt, stream, Cutoff::Epoch(round.epoch()));
+    let (stream, third) = comes_back(rt, stream, Cutoff::Round(later));
     let meta = given(rt, MemMeta::reopen(stream.wreck(), 0));
-    begins & (meta.get(0xFF) == Some(9))
+    begins & first & second & third & (meta.get(0xFF) == Some(8))
 }
 
 #[test]
 fn parts_that_the_program_does_not_call(rt: HostRuntime) {
-    let mut acks = given(&rt, PendingAcks::new(rt.alloc(), 3));
-    holds(&rt, drops(&mut acks));
-    holds(&rt, is_known(&rt, &mut Certified::new(rt.alloc())));
     holds(&rt, clears(&rt, &mut Writes::new(rt.alloc())));
-    holds(&rt, has_its_key(&rt, rt.alloc()));
+    holds(&rt, lasts(&rt, rt.alloc()));
 }
 
 fn of_nobody(alloc: Global) -> Served {

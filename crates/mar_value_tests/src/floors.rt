@@ -13,6 +13,12 @@ fn cutoffs_cover_rounds(rt: HostRuntime) {
     holds(&rt, raised.covers(round(3, 7)));
     let inner = Cutoff::Round(round(3, 7));
     holds(&rt, of_epoch(3).reaches(inner));
+    holds(&rt, Cutoff::Round(round(3, u64::MAX)) < of_epoch(3));
+    holds(&rt, of_epoch(3) < Cutoff::Round(round(4, 0)));
+    holds(
+        &rt,
+        Cutoff::zero().covers(round(0, 0)) & !Cutoff::zero().covers(round(0, 1)),
+    );
 }
 
 #[test]
