@@ -91,32 +91,43 @@ fn keeps_all<A: Archive<BlockItem<StandardBlocks>>>(alloc: Global, archive: A) -
     reopened(alloc, store, 2).is_some()
 }
 
-// What a store that prunes was asked, in its own words.
+// What a store was asked, in its own words.
+fn text_of_ops<B>(alloc: Global, store: &Recording<B>) -> Option<String> {
+    let ops = store.ops();
+    format!(in alloc; "{ops:?}").ok()
+}
+
+// What a store that prunes was asked.
 fn text_of_asked<A: Archive<BlockItem<StandardBlocks>>>(
     alloc: Global,
     archive: A,
 ) -> Option<String> {
     let store = Recording::new(alloc, prunable::Archive::new(archive));
-    let store = reopened(alloc, store, 1)?;
-    let ops = store.ops();
-    format!(in alloc; "{ops:?}").ok()
+    match reopened(alloc, store, 1) {
+        Some(store) => text_of_ops(alloc, &store),
+        None => None,
+    }
 }
 
 const ASKED: &str = "[Put(Height(1)), Put(Height(4)), Get(None), Get(Some(Height(1)))]";
 
-// Only this function names the archive: a proof of a call at it costs more than one by its bound.
+// Only the functions here name the archive: a proof of a call at it costs more than one by its bound.
 fn archive(alloc: Global) -> MemArchive<BlockItem<StandardBlocks>> {
     MemArchive::new(alloc, LuckHalf::Low)
 }
 
-fn text_of_prunable(alloc: Global) -> Option<String> {
-    text_of_asked(alloc, archive(alloc))
+// What the store that prunes was asked, where the other one keeps all.
+fn text_of_both(alloc: Global) -> Option<String> {
+    if keeps_all(alloc, archive(alloc)) {
+        text_of_asked(alloc, archive(alloc))
+    } else {
+        None
+    }
 }
 
 #[test]
 fn stores_of_blocks(rt: HostRuntime) {
-    holds(&rt, keeps_all(rt.alloc(), archive(rt.alloc())));
-    let text = given(&rt, text_of_prunable(rt.alloc()).ok_or("no text"));
+    let text = given(&rt, text_of_both(rt.alloc()).ok_or("no text"));
     holds(&rt, text.as_str() == ASKED);
 }
 
