@@ -238,7 +238,7 @@ fn run_made<H: Holds<StandardBlocks, Finalization = MockFinalization>>(
     if let Err(_status) = wrote {
         return (left_of(state), None);
     }
-    let (state, tally) = made_lines(alloc, made, state, latest, page);
+    let (state, tally) = made_lines(alloc, made, state, latest, &mut page);
     (left_of(state), tally)
 }
 
@@ -249,7 +249,7 @@ fn made_lines<H: Holds<StandardBlocks, Finalization = MockFinalization>>(
     made: &Made,
     state: State<H>,
     latest: Latest,
-    page: Page,
+    page: &mut Page,
 ) -> (State<H>, Option<Tally>)
     requires set { IsSetAs (config_of gen_settings) state }
     requires small { HasSmallBlocks state }
@@ -259,7 +259,6 @@ fn made_lines<H: Holds<StandardBlocks, Finalization = MockFinalization>>(
 {
     let mut state = state;
     let mut latest = latest;
-    let mut page = page;
     let mut place: usize = 0;
     let mut delivered: u64 = 0;
     'lines: for _number in 2..MAX_LINES + 1 {
@@ -280,7 +279,7 @@ fn made_lines<H: Holds<StandardBlocks, Finalization = MockFinalization>>(
         };
         place = after;
         latest.text.clear();
-        let (next, written) = turn(alloc, settings(), state, line, &mut latest, &mut page, true);
+        let (next, written) = turn(alloc, settings(), state, line, &mut latest, page, true);
         state = next;
         if let Err(_status) = written {
             return (state, None);

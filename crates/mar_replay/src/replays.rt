@@ -67,7 +67,7 @@ pub fn replay<S: Source, K: Sink, H: Holds<StandardBlocks, Finalization = MockFi
         let stores = left_of(state);
         return Finished { status, stores };
     }
-    let (state, status) = later_lines(alloc, settings, &mut reader, source, sink, page, state);
+    let (state, status) = later_lines(alloc, settings, &mut reader, source, sink, &mut page, state);
     Finished {
         status,
         stores: left_of(state),
@@ -94,7 +94,7 @@ fn later_lines<S: Source, K: Sink, H: Holds<StandardBlocks, Finalization = MockF
     reader: &mut ScriptReader,
     source: &mut S,
     sink: &mut K,
-    page: Page,
+    page: &mut Page,
     state: State<H>,
 ) -> (State<H>, Status)
     requires settings { IsSettings settings }
@@ -114,7 +114,6 @@ fn later_lines<S: Source, K: Sink, H: Holds<StandardBlocks, Finalization = MockF
         → ReplaysWhereTold start (S.left source.new) sunk (K.written sink.new) result.1 before (remains_in result.0) }
 {
     let mut state = state;
-    let mut page = page;
     'lines: for number in 2..MAX_LINES + 2 {
         let line = match next_line(alloc, settings, reader, source, number) {
             Ok(Some(line)) => line,
@@ -122,7 +121,7 @@ fn later_lines<S: Source, K: Sink, H: Holds<StandardBlocks, Finalization = MockF
             Err(status) => return (state, status),
         };
         let more = reader.has_line();
-        let (next, written) = turn(alloc, settings, state, line, sink, &mut page, more);
+        let (next, written) = turn(alloc, settings, state, line, sink, page, more);
         state = next;
         if let Err(status) = written {
             return (state, status);
