@@ -1,5 +1,6 @@
 pub mod Asking
 pub mod Due
+pub mod Nexts
 pub mod Raised
 pub mod Told
 pub mod Reported

@@ -24,7 +24,7 @@ use Rattle.mar_node.proofs.Passing.{ArePassed-refl}
 use Rattle.mar_node.proofs.ProgressPromises.{promise-noted}
 use Rattle.mar_node.proofs.StoreLosses.{Loses-nothing}
 use Rattle.mar_actor.specs.Due.{EndsWhereDue, storing_due}
-use Rattle.mar_actor.specs.Noted.{noted_pair}
+use Rattle.mar_rules.specs.Noted.{noted_pair}
 use Rattle.mar_actor.specs.Told.{TellsInOrder, finalized_tips}
 use Rattle.mar_actor.proofs.Due.{EndsWhereDue-usual, storing_due-low}
 use Rattle.mar_node.proofs.Outcomes.{memory-loses, memory-usual, outcome-both, outcome-err, outcome-ok, outcome-on_err, outcome-on_ok}

@@ -1,19 +1,13 @@
 //! Acknowledgements, and what they let go.
-ghost use Rattle.std.specs.Prelude.{◌≡◌, ◌⊎◌, ◌∷◌, [], IfErr, IfOk, List, OnOk, Some, option_map, option_to_list, true};
-ghost use Rattle.mar_key.specs.Keys.{above_height, above_round, retain};
-ghost use Rattle.mar_types.specs.Epochs.{closed_epoch};
-ghost use Rattle.mar_key.specs.Cutoff.{at_epoch, at_round, cutoff_le, greatest_of};
-ghost use Rattle.mar_key.specs.Processed.{at_block};
-ghost use Rattle.mar_key.specs.Views.{cutoff_of};
+ghost use Rattle.std.specs.Prelude.{◌≡◌, ◌⊎◌, ◌∷◌, [], IfErr, IfOk, List, option_to_list, true};
 ghost use Rattle.mar_node.specs.Acks.{given_front, given_oldest, mark_given, with_mark};
 ghost use Rattle.mar_store.specs.Changes.{IsNested};
 ghost use Rattle.mar_cert.specs.Block.{Block};
-ghost use Rattle.mar_node.specs.Event.{ack_given, closed_at, retired, round_at};
+ghost use Rattle.mar_node.specs.Event.{ack_given};
 ghost use Rattle.mar_node.specs.Promise.{KeepsPromise, heard_by};
 ghost use Rattle.mar_node.specs.Held.{GoesOn, IsUsual, ended_on, nothing_written, outcome, seen};
-ghost use Rattle.mar_node.specs.Lives.{later_round};
 ghost use Rattle.mar_node.specs.Moves.{Drains, DrainsNext, EndsDropped, EndsOldest, HearsUpTo, LivesOn};
-ghost use Rattle.mar_node.specs.Requests.{raise_asks, retire_asks};
+ghost use Rattle.mar_node.specs.Requests.{retire_asks};
 ghost use Rattle.mar_node.specs.Views.{fault_of};
 ghost use Rattle.mar_actor.specs.Due.{EndsWhereDue, dropping_due};
 ghost use Rattle.mar_actor.specs.Told.{TellsInOrder};
@@ -22,10 +16,11 @@ use crate::dispatch::dispatch;
 use crate::life::Life;
 use crate::reporter::Reporter;
 use mar_block::Variant;
-use mar_key::{Cutoff, Resolver, Retain};
-use mar_node::{Fault, Holds, round_at};
-use mar_parts::{Oldest, closed_epoch};
-use mar_types::{Epocher, Height, Round};
+use mar_key::Resolver;
+use mar_node::{Fault, Holds};
+use mar_parts::Oldest;
+use mar_rules::process;
+use mar_types::Epocher;
 
 /// Marks a block as acknowledged. Where the oldest ones are, they are processed together: one sync of the metadata, then
 /// the next blocks are handed over.
@@ -123,104 +118,4 @@ where
     };
     process::<V, S, E, R>(stores, &life.epocher, height, resolver)?;
     Ok(true)
-}
-
-/// Sets the processed height: requests at or below it are let go, and the cutoff rises to the round that finalized it
-/// and over the epochs that end there.
-fn process<V: Variant, S: Holds<V>, E: Epocher, R: Resolver<V::Commitment>>(
-    stores: &mut S,
-    epocher: &E,
-    height: Height,
-    resolver: &mut R,
-) -> Result<(), Fault<V::Commitment>>
-    ensures ok { OnOk result (S.held stores.new ≡ record (S.held stores.old) {
-      processed = Some (at_block height);
-      cutoff = greatest_of (S.held stores.old).cutoff
-          (retired (E.epochs epocher.now) (S.held stores.old).certs.held height);
-      witnessed = later_round (S.held stores.old).witnessed
-          (round_at (S.held stores.old).certs.held height);
-      watches = (S.held stores.new).watches;
-    }) }
-    ensures asks { HearsUpTo (R.told resolver.old) (retain (above_height height)
-        ∷ raise_asks (S.held stores.old).cutoff (retired (E.epochs epocher.now) (S.held stores.old).certs.held height)) (R.told resolver.new) result }
-    ensures goes_on { GoesOn (fault_of V.Commitment.bytes) (S.held stores.old) nothing_written (S.held stores.new) result }
-    ensures usual { IfErr result (λ e. IsUsual (fault_of V.Commitment.bytes e)) }
-{
-    if resolver.retain(Retain::AboveHeight(height)).is_err() {
-        return Err(Fault::Memory);
-    }
-    stores.set_processed(height)?;
-    let round = round_at::<V, S>(stores, height)?;
-    witness::<V, S, R>(stores, round, resolver)?;
-    close_epochs::<V, S, E, R>(stores, epocher, height, resolver)
-}
-
-/// Takes note of a finalized round, if there is one: the cutoff rises to it.
-pub(crate) fn witness<V: Variant, S: Holds<V>, R: Resolver<V::Commitment>>(
-    stores: &mut S,
-    round: Option<Round>,
-    resolver: &mut R,
-) -> Result<(), Fault<V::Commitment>>
-    ensures ok { OnOk result (S.held stores.new ≡ record (S.held stores.old) {
-      cutoff = greatest_of (S.held stores.old).cutoff (option_to_list (option_map at_round round));
-      witnessed = later_round (S.held stores.old).witnessed round;
-      watches = (S.held stores.new).watches;
-    }) }
-    ensures asks { HearsUpTo (R.told resolver.old) (raise_asks (S.held stores.old).cutoff (option_to_list (option_map at_round round)))
-        (R.told resolver.new) result }
-    ensures goes_on { GoesOn (fault_of V.Commitment.bytes) (S.held stores.old) nothing_written (S.held stores.new) result }
-    ensures usual { IfErr result (λ e. IsUsual (fault_of V.Commitment.bytes e)) }
-{
-    match round {
-        Some(round) => {
-            stores.witness(round);
-            raise::<V, S, R>(stores, &Cutoff::Round(round), resolver)
-        }
-        None => Ok(()),
-    }
-}
-
-/// Raises the cutoff over the epochs that end at or below a height.
-fn close_epochs<V: Variant, S: Holds<V>, E: Epocher, R: Resolver<V::Commitment>>(
-    stores: &mut S,
-    epocher: &E,
-    height: Height,
-    resolver: &mut R,
-) -> Result<(), Fault<V::Commitment>>
-    ensures ok { OnOk result (S.held stores.new ≡ record (S.held stores.old) {
-      cutoff = greatest_of (S.held stores.old).cutoff (closed_at (E.epochs epocher.now) height);
-      watches = (S.held stores.new).watches;
-    }) }
-    ensures asks { HearsUpTo (R.told resolver.old) (raise_asks (S.held stores.old).cutoff (closed_at (E.epochs epocher.now) height)) (R.told resolver.new)
-        result }
-    ensures goes_on { GoesOn (fault_of V.Commitment.bytes) (S.held stores.old) nothing_written (S.held stores.new) result }
-    ensures usual { IfErr result (λ e. IsUsual (fault_of V.Commitment.bytes e)) }
-{
-    match closed_epoch(epocher, height) {
-        Some(epoch) => raise::<V, S, R>(stores, &Cutoff::Epoch(epoch), resolver),
-        None => Ok(()),
-    }
-}
-
-/// Raises the cutoff to this one where it is above: requests of the rounds that it covers are let go.
-fn raise<V: Variant, S: Holds<V>, R: Resolver<V::Commitment>>(
-    stores: &mut S,
-    cutoff: &Cutoff,
-    resolver: &mut R,
-) -> Result<(), Fault<V::Commitment>>
-    ensures ok { OnOk result (S.held stores.new ≡ record (S.held stores.old) {
-      cutoff = greatest_of (S.held stores.old).cutoff (cutoff_of cutoff.now ∷ []);
-      watches = (S.held stores.new).watches;
-    }) }
-    ensures asks { HearsUpTo (R.told resolver.old) (raise_asks (S.held stores.old).cutoff (cutoff_of cutoff.now ∷ [])) (R.told resolver.new) result }
-    ensures goes_on { GoesOn (fault_of V.Commitment.bytes) (S.held stores.old) nothing_written (S.held stores.new) result }
-    ensures usual { IfErr result (λ e. IsUsual (fault_of V.Commitment.bytes e)) }
-{
-    if stores.floor().cutoff().reaches(*cutoff) {
-        return Ok(());
-    }
-    if resolver.retain(Retain::AboveRound(*cutoff)).is_err() {
-        return Err(Fault::Memory);
-    }
-    stores.set_cutoff(cutoff)
 }

@@ -1,18 +1,18 @@
 //! Handing blocks over in height order.
-ghost use Rattle.std.specs.List.{AllByRecursion};
-ghost use Rattle.std.specs.Prelude.{◌≡◌, ◌<◌, ◌≤◌, ◌-◌, ◌^◌, ◌⊎◌, ◌∷◌, [], ℕ, Contains, IfErr, IfNone, IfOk, IfSome, List, MatchResult, OnErr, OnOk, false, length, map, true};
+ghost use Rattle.std.specs.Prelude.{◌≡◌, ◌<◌, ◌≤◌, ◌-◌, ◌^◌, ◌⊎◌, ◌∷◌, [], IfErr, IfNone, IfOk, IfSome, List, MatchResult, OnErr, OnOk, length, map, true};
 ghost use Rattle.mar_key.specs.Hears.{Hears};
 ghost use Rattle.mar_key.specs.Processed.{first_unprocessed};
 ghost use Rattle.mar_node.specs.Faults.{ack_kind, last_height, ticket_limit, want_of_memory};
 ghost use Rattle.mar_node.specs.Held.{GoesOn, Held, IsArchiveFault, nothing_written, outcome, seen};
-ghost use Rattle.mar_node.specs.Moves.{Dispatches, IsBarred, IsFree, IsNext, IsStill, StopsHanding, handed_report, next_in, with_handed};
+ghost use Rattle.mar_node.specs.Moves.{Dispatches, IsNext, IsStill, StopsHanding, handed_report, next_in, with_handed};
 ghost use Rattle.mar_node.specs.Views.{fault_of};
 ghost use Rattle.mar_node.specs.Step.{HandedBlock, handed_over};
 
 use crate::life::Life;
 use crate::reporter::{Exact, Reporter, Update};
 use mar_block::Variant;
-use mar_node::{Fault, Holds, TicketKind, Writes};
+use mar_node::{Fault, Holds, TicketKind};
+use mar_rules::take_ready;
 use mar_types::Height;
 
 /// Hands over the next blocks until the window is full, a write bars the next block or it isn't held.
@@ -57,26 +57,20 @@ fn next_block<V: Variant, S: Holds<V>, P, E>(
 {
     match next_height::<V, S, P, E>(stores, life) {
         None => Ok(None),
-        Some(height) => stores.take_block(height),
+        Some(height) => take_ready::<V, S>(stores, height),
     }
 }
 
-/// The height of the next block, where there is room for one, it is below the last height and no write bars it.
+/// The height of the next block, where there is room for one.
 fn next_height<V: Variant, S: Holds<V>, P, E>(stores: &S, life: &Life<P, E>) -> Option<Height>
-    ensures found { IfSome result (λ h. (length life.now.out < life.now.sizes.window) × (h ≡ next_in (seen (S.held stores.now) life.now))
-        × (h < last_height) × IsFree (seen (S.held stores.now) life.now) h) }
-    ensures none { IfNone result ((life.now.sizes.window ≤ length life.now.out) ⊎ IsBarred (seen (S.held stores.now) life.now)
-        ⊎ (last_height ≤ next_in (seen (S.held stores.now) life.now)) ⊎ (2 ^ 64 ≤ first_unprocessed (S.held stores.now).processed)) }
+    ensures found { IfSome result (λ h. (length life.now.out < life.now.sizes.window) × (h ≡ next_in (seen (S.held stores.now) life.now))) }
+    ensures none { IfNone result ((life.now.sizes.window ≤ length life.now.out) ⊎ (2 ^ 64 ≤ first_unprocessed (S.held stores.now).processed)) }
 {
     if !life.acks.has_capacity() {
         return None;
     }
     let first = stores.floor().first_unprocessed()?;
-    let next = life.acks.next_dispatch_height(first);
-    if next.get() == u64::MAX || is_barred(stores.writes(), next) {
-        return None;
-    }
-    Some(next)
+    Some(life.acks.next_dispatch_height(first))
 }
 
 /// Hands over a block under a new ticket.
@@ -108,15 +102,4 @@ fn hand_over<V: Variant, P, E, A: Reporter<V>>(
     life.acks.enqueue(ticket, height);
     life.next_ack = ticket + 1;
     Ok(())
-}
-
-/// Whether a write at or below this height isn't covered by a finished sync.
-fn is_barred(writes: &Writes, height: Height) -> bool
-    ensures barred { result ≡ true → (k : ℕ) × Contains writes.now.uncovered k × (k ≤ height) }
-    ensures free { result ≡ false → AllByRecursion (λ k. height < k) writes.now.uncovered }
-{
-    match writes.barrier() {
-        None => false,
-        Some(barrier) => barrier <= height,
-    }
 }

@@ -4,7 +4,7 @@ use mar_inbox::Message;
 use std::convert::Infallible;
 
 /// What an actor steps on, with digests and finalizations of the kinds `D` and `F`.
-#[derive(Debug, Drop)]
+#[derive(Drop)]
 pub enum Event<D, F> {
     /// The life begins: the first step after an opening, which tells the newest tip and hands over what is stored.
     Start,

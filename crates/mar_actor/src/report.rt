@@ -1,37 +1,32 @@
 //! Finalizations that consensus reports.
-ghost use Rattle.std.specs.Prelude.{◌≡◌, ◌≤◌, ◌+◌, ◌&&◌, ◌∷◌, [], IfErr, IfOk, List, None, OnErr, OnOk, Option, Some, false, map, nat_lt, not, option_map, true};
+ghost use Rattle.std.specs.Prelude.{◌≡◌, ◌∷◌, [], IfErr, List, None, OnErr, OnOk, Option, Some, false, map, nat_lt, true};
 ghost use Rattle.mar_cert.specs.Block.{Block};
 ghost use Rattle.mar_node.specs.Messages.{report_finalization};
-ghost use Rattle.mar_key.specs.Cutoff.{at_round, greatest_of};
 ghost use Rattle.mar_key.specs.Hears.{Hears};
 ghost use Rattle.mar_key.specs.Keys.{Call};
 ghost use Rattle.mar_key.specs.Processed.{height_of};
 ghost use Rattle.mar_store.specs.Changes.{IsNested, Puts};
-ghost use Rattle.mar_store.specs.Kept.{has_height};
 ghost use Rattle.mar_store.specs.Sizes.{IsSmall};
 ghost use Rattle.mar_cert.specs.Finalization.{finalization_bytes};
-ghost use Rattle.mar_node.specs.Stored.{AreSmall, at_own_height, is_certified, is_held};
+ghost use Rattle.mar_node.specs.Stored.{AreSmall, at_own_height};
 ghost use Rattle.mar_node.specs.Event.{message_told};
 ghost use Rattle.mar_node.specs.Promise.{KeepsPromise, heard_by};
 ghost use Rattle.mar_node.specs.Faults.{want_of_memory};
-ghost use Rattle.mar_node.specs.Held.{ArePassed, GoesOn, IsArchiveFault, IsUsual, LosesSince, nothing_written, outcome, seen, written_both, written_cert, written_pair};
+ghost use Rattle.mar_node.specs.Held.{GoesOn, IsArchiveFault, IsUsual, outcome, seen, written_both, written_cert};
 ghost use Rattle.mar_node.specs.Views.{fault_of};
-ghost use Rattle.mar_node.specs.Moves.{HearsUpTo, LivesOn, PutsAbove, StoresLate, StoresWhere, at_height, found_at_hand, lacks_finalization, late_tips, risen_to, tip_reports, tips_above};
-ghost use Rattle.mar_node.specs.Lives.{later_round};
-ghost use Rattle.mar_node.specs.Requests.{raise_asks, want_asks};
-ghost use Rattle.mar_node.specs.Writing.{IsOrdered, with_write};
+ghost use Rattle.mar_node.specs.Moves.{LivesOn, PutsAbove, StoresLate, at_height, found_at_hand, lacks_finalization, late_tips, risen_to, tip_reports, tips_above};
+ghost use Rattle.mar_node.specs.Writing.{IsOrdered};
 ghost use Rattle.mar_actor.specs.Due.{EndsWhereDue, storing_due};
-ghost use Rattle.mar_actor.specs.Noted.{noted_pair};
 ghost use Rattle.mar_actor.specs.Told.{TellsInOrder, finalized_tips};
 
-use crate::acknowledge::witness;
 use crate::life::Life;
 use crate::reporter::{Reporter, Update};
 use mar_block::{Buffer, Variant};
 use mar_cert::{AsFinalization, CommitsTo};
 use mar_inbox::block_at_hand;
-use mar_key::{Request, Resolver};
+use mar_key::Resolver;
 use mar_node::{Fault, Holds};
+use mar_rules::{is_above, note_round, put, put_late, request};
 use mar_types::{Epocher, Height, Round};
 
 /// Stores a finalized block that is at hand, above the processed height, and starts a sync that covers it. At or below that
@@ -72,29 +67,12 @@ where
     match block_at_hand::<V, S, B>(stores, finalization.payload(), buffer)? {
         None => request::<V, S, R>(stores, finalization, resolver),
         Some(block) => {
-            if stores.floor().is_above(V::height(&block)) {
+            if is_above::<V, S>(stores, &block) {
                 store_above::<V, S, P, E, A>(stores, life, finalization, block, application)
             } else {
                 note::<V, S, P, E, R, A>(stores, life, finalization, &block, resolver, application)
             }
         }
-    }
-}
-
-/// Requests the block of a finalization by commitment and round, unless the cutoff covers the round.
-fn request<V: Variant, S: Holds<V>, R: Resolver<V::Commitment>>(
-    stores: &S,
-    finalization: &S::Finalization,
-    resolver: &mut R,
-) -> Result<(), Fault<V::Commitment>>
-    ensures asks { HearsUpTo (R.told resolver.old) (want_asks (S.held stores.now).cutoff (S.Finalization.plain finalization.now).round
-        (S.Finalization.plain finalization.now).payload) (R.told resolver.new) result }
-    ensures memory { IfErr result (λ e. fault_of V.Commitment.bytes e ≡ want_of_memory) }
-{
-    let request = Request::finalized_by_round(finalization.payload(), finalization.round());
-    match stores.floor().fetch_if_permitted(resolver, request) {
-        Ok(_admission) => Ok(()),
-        Err(_) => Err(Fault::Memory),
     }
 }
 
@@ -228,30 +206,6 @@ where
     store_late::<V, S, P, E, A>(stores, life, finalization, block, application)
 }
 
-/// Witnesses a finalized round, to which the cutoff rises, and makes the processed height and the cutoff durable.
-fn note_round<V: Variant, S: Holds<V>, R: Resolver<V::Commitment>>(
-    stores: &mut S,
-    round: Round,
-    resolver: &mut R,
-) -> Result<(), Fault<V::Commitment>>
-    requires intact { (S.held stores.old).intact ≡ true }
-    ensures ok { OnOk result (S.held stores.new ≡ record (S.held stores.old) {
-      cutoff = greatest_of (S.held stores.old).cutoff (at_round round ∷ []);
-      witnessed = later_round (S.held stores.old).witnessed (Some round);
-      pairs = noted_pair (S.held stores.old) round ∷ [];
-      watches = (S.held stores.new).watches;
-    }) }
-    ensures passed { OnOk result (ArePassed (S.held stores.old).watches (S.held stores.new).watches) }
-    ensures asks { HearsUpTo (R.told resolver.old) (raise_asks (S.held stores.old).cutoff (at_round round ∷ [])) (R.told resolver.new) result }
-    ensures lost { LosesSince (fault_of V.Commitment.bytes) (S.held stores.old) (written_pair (noted_pair (S.held stores.old) round)) (S.held stores.new)
-        result }
-    ensures usual { IfErr result (λ e. IsUsual (fault_of V.Commitment.bytes e)) }
-{
-    stores.law();
-    witness::<V, S, R>(stores, Some(round), resolver)?;
-    stores.sync_metadata()
-}
-
 /// Stores the missing finalization of a held block, makes it durable, and reports the block where it is the newest.
 fn store_late<V: Variant, S: Holds<V>, P, E, A: Reporter<V>>(
     stores: &mut S,
@@ -277,77 +231,4 @@ fn store_late<V: Variant, S: Holds<V>, P, E, A: Reporter<V>>(
     let height = V::height(block);
     let digest = V::digest(block);
     report_tip::<V, P, E, A>(life, finalization.round(), height, digest, application)
-}
-
-/// Puts a block and its finalization.
-fn put<V: Variant, S: Holds<V>>(
-    stores: &mut S,
-    finalization: &S::Finalization,
-    block: V::Block,
-) -> Result<(), Fault<V::Commitment>>
-    requires small { IsSmall (finalization_bytes (S.Finalization.plain finalization.now)) }
-    requires small_block { IsSmall (V.plain block).encoded }
-    requires ordered { IsOrdered (S.held stores.old).writes }
-    ensures blocks { OnOk result (Puts (is_held (S.held stores.old).blocks.held (V.plain block)) (S.held stores.old).blocks
-        (at_own_height (V.plain block)) (S.held stores.new).blocks) }
-    ensures certs { OnOk result (Puts (is_certified V.inner (S.held stores.old).certs.held (V.plain block).height
-        (V.inner (S.Finalization.plain finalization.now).payload)) (S.held stores.old).certs (at_height (V.plain block).height
-        (S.Finalization.plain finalization.now)) (S.held stores.new).certs) }
-    ensures same { OnOk result (S.held stores.new ≡ record (S.held stores.old) {
-      blocks = (S.held stores.new).blocks;
-      certs = (S.held stores.new).certs;
-      writes = with_write (V.plain block).height (S.held stores.old).writes;
-      watches = (S.held stores.new).watches;
-    }) }
-    ensures goes_on { GoesOn (fault_of V.Commitment.bytes) (S.held stores.old) (written_both (at_own_height (V.plain block))
-        (at_height (V.plain block).height (S.Finalization.plain finalization.now))) (S.held stores.new) result }
-    ensures usual { IfErr result (λ e. IsUsual (fault_of V.Commitment.bytes e)) }
-{
-    let height = V::height(&block);
-    stores.put_block(block)?;
-    stores.put_certificate(height, finalization)
-}
-
-/// Stores the finalization of a held block where it is missing, makes it durable, and says whether it was missing.
-fn put_late<V: Variant, S: Holds<V>>(
-    stores: &mut S,
-    finalization: &S::Finalization,
-    block: &V::Block,
-) -> Result<bool, Fault<V::Commitment>>
-    requires small { IsSmall (finalization_bytes (S.Finalization.plain finalization.now)) }
-    ensures lacked { IfOk result (λ r. r ≡ lacks_finalization (S.held stores.old) (V.plain block.now)) }
-    ensures certs { IfOk result (λ r. StoresWhere r (is_certified V.inner (S.held stores.old).certs.held (V.plain block.now).height
-        (V.inner (S.Finalization.plain finalization.now).payload)) (S.held stores.old).certs (at_height (V.plain block.now).height
-        (S.Finalization.plain finalization.now)) (S.held stores.new).certs) }
-    ensures same { OnOk result (S.held stores.new ≡ record (S.held stores.old) { certs = (S.held stores.new).certs; watches = (S.held stores.new).watches }) }
-    ensures archive { IfErr result (λ e. IsArchiveFault (fault_of V.Commitment.bytes e)) }
-    ensures goes_on { GoesOn (fault_of V.Commitment.bytes) (S.held stores.old) (written_cert (at_height (V.plain block.now).height
-        (S.Finalization.plain finalization.now))) (S.held stores.new) result }
-    ensures usual { IfErr result (λ e. IsUsual (fault_of V.Commitment.bytes e)) }
-{
-    let height = V::height(block);
-    let is_lacking = lacks_finalization::<V, S>(stores, height)?;
-    if !is_lacking {
-        return Ok(false);
-    }
-    stores.store_certificate(height, finalization)?;
-    Ok(true)
-}
-
-/// Whether a block is held at a height and no finalization is.
-fn lacks_finalization<V: Variant, S: Holds<V>>(
-    stores: &mut S,
-    height: Height,
-) -> Result<bool, Fault<V::Commitment>>
-    ensures same { OnOk result (S.held stores.new ≡ record (S.held stores.old) { watches = (S.held stores.new).watches }) }
-    ensures value { IfOk result (λ r. r ≡ (has_height (S.held stores.old).blocks.held height && not (has_height (S.held stores.old).certs.held height))) }
-    ensures goes_on { GoesOn (fault_of V.Commitment.bytes) (S.held stores.old) nothing_written (S.held stores.new) result }
-    ensures archive { IfErr result (λ e. IsArchiveFault (fault_of V.Commitment.bytes e)) }
-    ensures usual { IfErr result (λ e. IsUsual (fault_of V.Commitment.bytes e)) }
-{
-    if stores.block_at(height)?.is_none() {
-        return Ok(false);
-    }
-    let has_certificate = stores.has_certificate(height)?;
-    Ok(!has_certificate)
 }

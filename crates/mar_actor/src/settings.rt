@@ -19,7 +19,7 @@ pub(crate) struct Limits {
 }
 
 /// What a chain begins from, with blocks of the kind `B`.
-#[derive(Debug, Drop)]
+#[derive(Drop)]
 pub enum Start<B> {
     /// The block at height zero.
     Genesis(B),

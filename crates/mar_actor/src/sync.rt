@@ -17,6 +17,7 @@ use crate::life::Life;
 use crate::reporter::Reporter;
 use mar_block::Variant;
 use mar_node::{Fault, Holds};
+use mar_rules::let_go;
 use mar_types::Epocher;
 
 /// Finishes the sync of a ticket, which lets go the writes that it covers, and hands over what may follow. A ticket that
@@ -45,10 +46,8 @@ where
     ensures tells { TellsInOrder (A.told application.old) [] (A.told application.new)
         (outcome (fault_of V.Commitment.bytes) (seen (S.held stores.new) life.new) result) }
 {
-    stores.law();
-    if !stores.finish_sync(ticket)? {
+    if !let_go::<V, S>(stores, ticket)? {
         return Ok(());
     }
-    stores.law();
     dispatch::<V, S, P, E, A>(stores, life, application)
 }

@@ -9,7 +9,7 @@ use std::marker::Model;
 use std::mem;
 
 /// What comes for a ticket.
-#[derive(Debug, Drop)]
+#[derive(Drop)]
 pub enum Answer<V> {
     /// This is what its holder is answered.
     Value(V),
@@ -18,14 +18,14 @@ pub enum Answer<V> {
 }
 
 /// What came for a ticket.
-#[derive(Debug, Drop)]
+#[derive(Drop)]
 pub struct Answered<V> {
     pub ticket: u64,
     pub answer: Answer<V>,
 }
 
 /// How a ticket stands.
-#[derive(Debug, Drop)]
+#[derive(Drop)]
 pub enum Standing<'a, V> {
     /// Neither an answer nor a closing has come.
     Waiting,

@@ -2,7 +2,7 @@
 use mar_types::Height;
 
 /// Which block a caller asks for, with digests of the kind `D`.
-#[derive(Clone, Copy, Debug)]
+#[derive(Clone, Copy)]
 pub enum Identifier<D> {
     /// The finalized block at this height.
     Height(Height),

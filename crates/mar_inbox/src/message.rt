@@ -13,7 +13,7 @@ use mar_types::{Height, Participant, Round};
 
 /// What a caller tells the actor or asks of it, with digests, blocks, notarizations and finalizations of the kinds `D`,
 /// `B`, `N` and `F`. A message that is answered has a ticket, under which its answer comes.
-#[derive(Debug, Drop)]
+#[derive(Drop)]
 pub enum Message<D, B, N, F> {
     /// Asks for height and digest of a finalized block.
     GetInfo {

@@ -9,7 +9,7 @@ use crate::message::Message;
 use mar_types::{Height, Round};
 
 /// What a caller asks, without its ticket, with digests of the kind `D`.
-#[derive(Clone, Copy, Debug)]
+#[derive(Clone, Copy)]
 pub enum Query<D> {
     /// Height and digest of a finalized block.
     Info(Identifier<D>),

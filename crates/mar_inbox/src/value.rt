@@ -3,7 +3,7 @@ use mar_key::Processed;
 use mar_types::Height;
 
 /// What a caller is answered, with digests, blocks and finalizations of the kinds `D`, `B` and `F`.
-#[derive(Debug, Drop)]
+#[derive(Drop)]
 pub enum Value<D, B, F> {
     /// What was asked for isn't there.
     None,

@@ -5,7 +5,7 @@ use Rattle.mar_node.proofs.Handing.{Hears-nothing}
 use Rattle.mar_node.proofs.Lasting.{EndsLife-usual}
 use Rattle.mar_node.proofs.ProgressPromises.{promise-unsynced}
 use Rattle.mar_node.specs.Views.{fault_of}
-use Rattle.mar_actor.specs.Noted.{noted_pair}
+use Rattle.mar_rules.specs.Noted.{noted_pair}
 use Rattle.mar_actor.proofs.Due.{usual-due}
 use Rattle.mar_actor.proofs.Reported.{lost, noted-due, noted-lives, noted-promise, noted-tells}
 use Rattle.mar_actor.proofs.Told.{TellsInOrder-ended}

@@ -48,7 +48,7 @@ returns-then-is_above g c =
     let a = seen held life in
     let same = c.in_ok-block_at_hand.ensures.same in
     let found = rw (c.in-Some.is, c.payload.ensures) at c.in_ok-block_at_hand.ensures.found in
-    let above = rw (c.floor.ensures.processed, same, c.height.ensures) at (sym c.is_above.ensures ∙ c.if-is_above.true) in
+    let above = rw same at (sym c.is_above.ensures ∙ c.if-is_above.true) in
     let result = outcome (fault_of g.V.Commitment.Named.bytes) (seen (g.S.Holds.held c.store_above.new.stores) c.store_above.new.life) c.store_above.result in
     let promise = rw same at c.store_above.ensures.promise in
     record {
@@ -65,7 +65,7 @@ returns-else-is_above g c =
     let a = seen held life in
     let same = c.in_ok-block_at_hand.ensures.same in
     let found = rw (c.in-Some.is, c.payload.ensures) at c.in_ok-block_at_hand.ensures.found in
-    let low = rw (c.floor.ensures.processed, same, c.height.ensures) at (sym c.is_above.ensures ∙ c.if-is_above.false) in
+    let low = rw same at (sym c.is_above.ensures ∙ c.if-is_above.false) in
     let result = outcome (fault_of g.V.Commitment.Named.bytes) (seen (g.S.Holds.held c.note.new.stores) c.note.new.life) c.note.result in
     let promise = rw same at c.note.ensures.promise in
     record {

@@ -1,0 +1,73 @@
+//! What may be handed over: the block of a height, and what a finished sync lets go. A call that fails ends the life.
+ghost use Rattle.std.specs.List.{AllByRecursion};
+ghost use Rattle.std.specs.Prelude.{◌≡◌, ◌<◌, ◌≤◌, ◌⊎◌, ℕ, Contains, IfErr, IfNone, IfOk, IfSome, OnOk, false, true};
+ghost use Rattle.mar_node.specs.Faults.{last_height};
+ghost use Rattle.mar_node.specs.Held.{AreWritten, GoesOn, IsArchiveFault, IsUsual, MakesSure, nothing_written};
+ghost use Rattle.mar_node.specs.Views.{fault_of};
+ghost use Rattle.mar_node.specs.Writing.{is_open_sync, with_finished};
+ghost use Rattle.mar_rules.specs.Next.{IsReady, IsUnready};
+ghost use Rattle.mar_store.specs.Changes.{IsNested};
+
+use mar_cert::Variant;
+use mar_node::{Fault, Holds, Writes};
+use mar_types::Height;
+
+/// Takes the block of a height, where it is below the last height, no write bars it and it is held.
+pub fn take_ready<V: Variant, S: Holds<V>>(
+    stores: &mut S,
+    height: Height,
+) -> Result<Option<V::Block>, Fault<V::Commitment>>
+    ensures same { OnOk result (S.held stores.new ≡ record (S.held stores.old) { watches = (S.held stores.new).watches }) }
+    ensures ready { IfOk result (λ r. IfSome r (λ b. IsReady (S.held stores.old) height (V.plain b))) }
+    ensures unready { IfOk result (λ r. IfNone r (IsUnready (S.held stores.old) height)) }
+    ensures goes_on { GoesOn (fault_of V.Commitment.bytes) (S.held stores.old) nothing_written (S.held stores.new) result }
+    ensures archive { IfErr result (λ e. IsArchiveFault (fault_of V.Commitment.bytes e)) }
+{
+    if is_barred(stores.writes(), height) {
+        return Ok(None);
+    }
+    stores.take_block(height)
+}
+
+/// Whether nothing may be handed over at a height: a write at or below it isn't covered by a finished sync, or it is the
+/// last height.
+fn is_barred(writes: &Writes, height: Height) -> bool
+    ensures barred { result ≡ true → ((k : ℕ) × Contains writes.now.uncovered k × (k ≤ height)) ⊎ (last_height ≤ height) }
+    ensures free { result ≡ false → (height < last_height) × AllByRecursion (λ k. height < k) writes.now.uncovered }
+{
+    match writes.barrier() {
+        None => height.get() == u64::MAX,
+        Some(barrier) => barrier <= height || height.get() == u64::MAX,
+    }
+}
+
+/// Finishes the sync of a ticket, and says whether it lets anything go: the writes that it covers. A ticket that isn't open
+/// lets nothing go, and changes nothing.
+pub fn let_go<V: Variant, S: Holds<V>>(
+    stores: &mut S,
+    ticket: u64,
+) -> Result<bool, Fault<V::Commitment>>
+    requires intact { (S.held stores.old).intact ≡ true }
+    ensures was_open { IfOk result (λ r. r ≡ is_open_sync (S.held stores.old).writes.syncs ticket) }
+    ensures closed { IfOk result (λ r. r ≡ false → S.held stores.new ≡ S.held stores.old) }
+    ensures failed { IfErr result (λ e. is_open_sync (S.held stores.old).writes.syncs ticket ≡ true) }
+    ensures blocks { OnOk result (MakesSure (S.held stores.old).blocks (S.held stores.new).blocks) }
+    ensures certs { OnOk result (MakesSure (S.held stores.old).certs (S.held stores.new).certs) }
+    ensures same { OnOk result (S.held stores.new ≡ record (S.held stores.old) {
+      blocks = (S.held stores.new).blocks;
+      certs = (S.held stores.new).certs;
+      writes = with_finished ticket (S.held stores.old).writes;
+      watches = (S.held stores.new).watches;
+    }) }
+    ensures written_before { AreWritten (S.held stores.old) }
+    ensures written { OnOk result (AreWritten (S.held stores.new)) }
+    ensures nested_blocks { OnOk result (IsNested (S.held stores.new).blocks) }
+    ensures nested_certs { OnOk result (IsNested (S.held stores.new).certs) }
+    ensures goes_on { GoesOn (fault_of V.Commitment.bytes) (S.held stores.old) nothing_written (S.held stores.new) result }
+    ensures usual { IfErr result (λ e. IsUsual (fault_of V.Commitment.bytes e)) }
+{
+    stores.law();
+    let was_open = stores.finish_sync(ticket)?;
+    stores.law();
+    Ok(was_open)
+}

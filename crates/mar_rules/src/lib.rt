@@ -1,0 +1,11 @@
+//! The rules of a node that need its stores and its resolver alone: how a finalized block is stored or asked for, how the
+//! processed height and the cutoff rise, and what may be handed over.
+#![tactic(auto)]
+
+mod handing;
+mod raising;
+mod storing;
+
+pub use handing::{let_go, take_ready};
+pub use raising::{note_round, process};
+pub use storing::{is_above, put, put_late, request};

@@ -1,0 +1,116 @@
+//! How a finalized block and its finalization are stored, or asked for. A call that fails ends the life.
+ghost use Rattle.std.specs.Prelude.{◌≡◌, ◌&&◌, IfErr, IfOk, OnOk, nat_lt, not};
+ghost use Rattle.mar_cert.specs.Finalization.{finalization_bytes};
+ghost use Rattle.mar_key.specs.Processed.{height_of};
+ghost use Rattle.mar_node.specs.Faults.{want_of_memory};
+ghost use Rattle.mar_node.specs.Held.{GoesOn, IsArchiveFault, IsUsual, nothing_written, written_both, written_cert};
+ghost use Rattle.mar_node.specs.Moves.{HearsUpTo, StoresWhere, at_height, lacks_finalization};
+ghost use Rattle.mar_node.specs.Requests.{want_asks};
+ghost use Rattle.mar_node.specs.Stored.{at_own_height, is_certified, is_held};
+ghost use Rattle.mar_node.specs.Views.{fault_of};
+ghost use Rattle.mar_node.specs.Writing.{IsOrdered, with_write};
+ghost use Rattle.mar_store.specs.Changes.{Puts};
+ghost use Rattle.mar_store.specs.Kept.{has_height};
+ghost use Rattle.mar_store.specs.Sizes.{IsSmall};
+
+use mar_cert::{AsFinalization, CommitsTo, Variant};
+use mar_key::{Request, Resolver};
+use mar_node::{Fault, Holds};
+use mar_types::Height;
+
+/// Requests the block of a finalization by commitment and round, unless the cutoff covers the round.
+pub fn request<V: Variant, S: Holds<V>, R: Resolver<V::Commitment>>(
+    stores: &S,
+    finalization: &S::Finalization,
+    resolver: &mut R,
+) -> Result<(), Fault<V::Commitment>>
+    ensures asks { HearsUpTo (R.told resolver.old) (want_asks (S.held stores.now).cutoff (S.Finalization.plain finalization.now).round
+        (S.Finalization.plain finalization.now).payload) (R.told resolver.new) result }
+    ensures memory { IfErr result (λ e. fault_of V.Commitment.bytes e ≡ want_of_memory) }
+{
+    let request = Request::finalized_by_round(finalization.payload(), finalization.round());
+    match stores.floor().fetch_if_permitted(resolver, request) {
+        Ok(_admission) => Ok(()),
+        Err(_) => Err(Fault::Memory),
+    }
+}
+
+/// Whether a block is above the processed height, so that it is stored. At or below it the round alone is noted.
+pub fn is_above<V: Variant, S: Holds<V>>(stores: &S, block: &V::Block) -> bool
+    ensures { result ≡ nat_lt (height_of (S.held stores.now).processed) (V.plain block.now).height }
+{
+    stores.floor().is_above(V::height(block))
+}
+
+/// Puts a block and its finalization.
+pub fn put<V: Variant, S: Holds<V>>(
+    stores: &mut S,
+    finalization: &S::Finalization,
+    block: V::Block,
+) -> Result<(), Fault<V::Commitment>>
+    requires small { IsSmall (finalization_bytes (S.Finalization.plain finalization.now)) }
+    requires small_block { IsSmall (V.plain block).encoded }
+    requires ordered { IsOrdered (S.held stores.old).writes }
+    ensures blocks { OnOk result (Puts (is_held (S.held stores.old).blocks.held (V.plain block)) (S.held stores.old).blocks
+        (at_own_height (V.plain block)) (S.held stores.new).blocks) }
+    ensures certs { OnOk result (Puts (is_certified V.inner (S.held stores.old).certs.held (V.plain block).height
+        (V.inner (S.Finalization.plain finalization.now).payload)) (S.held stores.old).certs (at_height (V.plain block).height
+        (S.Finalization.plain finalization.now)) (S.held stores.new).certs) }
+    ensures same { OnOk result (S.held stores.new ≡ record (S.held stores.old) {
+      blocks = (S.held stores.new).blocks;
+      certs = (S.held stores.new).certs;
+      writes = with_write (V.plain block).height (S.held stores.old).writes;
+      watches = (S.held stores.new).watches;
+    }) }
+    ensures goes_on { GoesOn (fault_of V.Commitment.bytes) (S.held stores.old) (written_both (at_own_height (V.plain block))
+        (at_height (V.plain block).height (S.Finalization.plain finalization.now))) (S.held stores.new) result }
+    ensures usual { IfErr result (λ e. IsUsual (fault_of V.Commitment.bytes e)) }
+{
+    let height = V::height(&block);
+    stores.put_block(block)?;
+    stores.put_certificate(height, finalization)
+}
+
+/// Stores the finalization of a held block where it is missing, makes it durable, and says whether it was missing.
+pub fn put_late<V: Variant, S: Holds<V>>(
+    stores: &mut S,
+    finalization: &S::Finalization,
+    block: &V::Block,
+) -> Result<bool, Fault<V::Commitment>>
+    requires small { IsSmall (finalization_bytes (S.Finalization.plain finalization.now)) }
+    ensures lacked { IfOk result (λ r. r ≡ lacks_finalization (S.held stores.old) (V.plain block.now)) }
+    ensures certs { IfOk result (λ r. StoresWhere r (is_certified V.inner (S.held stores.old).certs.held (V.plain block.now).height
+        (V.inner (S.Finalization.plain finalization.now).payload)) (S.held stores.old).certs (at_height (V.plain block.now).height
+        (S.Finalization.plain finalization.now)) (S.held stores.new).certs) }
+    ensures same { OnOk result (S.held stores.new ≡ record (S.held stores.old) { certs = (S.held stores.new).certs; watches = (S.held stores.new).watches }) }
+    ensures archive { IfErr result (λ e. IsArchiveFault (fault_of V.Commitment.bytes e)) }
+    ensures goes_on { GoesOn (fault_of V.Commitment.bytes) (S.held stores.old) (written_cert (at_height (V.plain block.now).height
+        (S.Finalization.plain finalization.now))) (S.held stores.new) result }
+    ensures usual { IfErr result (λ e. IsUsual (fault_of V.Commitment.bytes e)) }
+{
+    let height = V::height(block);
+    let is_lacking = lacks_finalization::<V, S>(stores, height)?;
+    if !is_lacking {
+        return Ok(false);
+    }
+    stores.store_certificate(height, finalization)?;
+    Ok(true)
+}
+
+/// Whether a block is held at a height and no finalization is.
+fn lacks_finalization<V: Variant, S: Holds<V>>(
+    stores: &mut S,
+    height: Height,
+) -> Result<bool, Fault<V::Commitment>>
+    ensures same { OnOk result (S.held stores.new ≡ record (S.held stores.old) { watches = (S.held stores.new).watches }) }
+    ensures value { IfOk result (λ r. r ≡ (has_height (S.held stores.old).blocks.held height && not (has_height (S.held stores.old).certs.held height))) }
+    ensures goes_on { GoesOn (fault_of V.Commitment.bytes) (S.held stores.old) nothing_written (S.held stores.new) result }
+    ensures archive { IfErr result (λ e. IsArchiveFault (fault_of V.Commitment.bytes e)) }
+    ensures usual { IfErr result (λ e. IsUsual (fault_of V.Commitment.bytes e)) }
+{
+    if stores.block_at(height)?.is_none() {
+        return Ok(false);
+    }
+    let has_certificate = stores.has_certificate(height)?;
+    Ok(!has_certificate)
+}
