@@ -31,7 +31,7 @@ impl Exact {
 }
 
 /// What the application is told, with digests of the kind `D` and blocks of the kind `B`.
-#[derive(Drop)]
+#[derive(Debug, Drop)]
 pub enum Update<D, B> {
     /// The newest finalized block that is known: the round that finalized it, its height and its digest.
     Tip(Round, Height, D),

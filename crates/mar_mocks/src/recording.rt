@@ -17,7 +17,7 @@ use mar_types::Height;
 use std::alloc::{AllocError, Global};
 
 /// What a store of blocks was asked.
-#[derive(Debug, Drop)]
+#[derive(Clone, Copy, Debug, PartialEq, Eq)]
 pub enum Op {
     /// To put the block of this height.
     Put(Height),

@@ -1,8 +1,8 @@
-//! What comes for tickets, and how it shows itself.
+//! What comes for tickets, and by what callers ask.
 use crate::tell::*;
 use mar_inbox::*;
 use mar_types::Height;
-use std::alloc::{AllocError, Global};
+use std::alloc::Global;
 use std::process::Abort;
 
 // Whether an answer and a closing stand up to the time that they are taken.
@@ -23,26 +23,15 @@ fn has_ticket(message: Plain, want: Option<u64>) -> bool {
     message.ticket() == want
 }
 
-// What is asked and answered, as it shows itself.
-fn shown(alloc: Global) -> Result<String, AllocError> {
+// Whether heights, digests and the identifiers of stores are asked by as what they are.
+fn are_identified() -> bool {
     let by_height: Identifier<u64> = Height::new(7).into();
     let by_digest: Identifier<u64> = (&5u64).into();
     let by_key: Identifier<u64> = mar_store::Identifier::Key(6).into();
-    let message: Plain = Message::GetInfo {
-        ticket: 4,
-        identifier: by_key,
-    };
-    let answered: Answered<u64> = Answered {
-        ticket: 1,
-        answer: Answer::Closed,
-    };
-    let standing = Standing::Value(&5u64);
-    let value: Value<u64, u64, u64> = Value::Sync(2);
-    format!(in alloc; "{by_height:?} {by_digest:?} {message:?} {answered:?} {standing:?} {value:?}")
+    matches!(by_height, Identifier::Height(height) if height.get() == 7)
+        & matches!(by_digest, Identifier::Digest(digest) if digest == 5)
+        & matches!(by_key, Identifier::Digest(digest) if digest == 6)
 }
-
-const SHOWN: &str =
-    "Height(Height(7)) Digest(5) GetInfo { ticket: 4, identifier: Digest(6) } Answered { ticket: 1, answer: Closed } Value(5) Sync(2)";
 
 #[test]
 fn what_comes_for_tickets(rt: HostRuntime) {
@@ -52,6 +41,5 @@ fn what_comes_for_tickets(rt: HostRuntime) {
         has_ticket(Message::GetProcessed { ticket: 4 }, Some(4)),
     );
     holds(&rt, has_ticket(Message::Notarization(1), None));
-    let text = given(&rt, shown(rt.alloc()));
-    holds(&rt, text.as_str() == SHOWN);
+    holds(&rt, are_identified());
 }

@@ -6,7 +6,7 @@ use std::fmt;
 
 /// Why a line is refused. Of several reasons the first is told in this order: one line too many, too long, no end, no
 /// `config`, outside the grammar.
-#[derive(Clone, Copy)]
+#[derive(Clone, Copy, Debug, PartialEq, Eq)]
 pub enum Why {
     /// The script is empty, or the first word of its first line isn't `config`.
     NoConfig,
@@ -38,7 +38,7 @@ impl fmt::Display for Why {
 }
 
 /// How a run ended.
-#[derive(Clone, Copy)]
+#[derive(Clone, Copy, Debug, PartialEq, Eq)]
 pub enum Status {
     /// The input was read to its end.
     Ok,
