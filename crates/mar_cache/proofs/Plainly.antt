@@ -4,7 +4,7 @@ use Rattle.mar_node.specs.Cached.{Cached, epoch_of}
 use Rattle.mar_cache.specs.Calls.{IsPut, IsPutAndSynced}
 use Rattle.mar_epochs.specs.Sections.{section_of}
 use Rattle.mar_cache.specs.Shelved.{AllChanges, DoesAt, finishes, finishes_second}
-use Rattle.mar_epochs.specs.EpochStates.{ChangesEpoch, EpochState, EpochStates, opened, shut, unknown}
+use Rattle.mar_epochs.specs.EpochStates.{ChangesEpoch, EpochState, EpochStates, opened, shut}
 use Rattle.mar_epochs.specs.EpochArchives.{Book, ChangesArchives}
 use Rattle.mar_epochs.specs.declared.Change.{Change}
 use Rattle.mar_epochs.specs.declared.Change.TheVariants.{Finish, PruneBelow, PruneCertified, Put, Sync}
@@ -29,7 +29,6 @@ module _ {E : Type 0} (plain : E → Cached) where
   state_plain : (change : Change E) (old new : EpochState) → ChangesEpoch plain change old new → ChangesEpoch (λ y. y) (plain_change change) old new
   state_plain change (opened b) new d = (d.0, archives_plain change b d.0 d.1, d.2)
   state_plain change (shut l) new d = d
-  state_plain change unknown new d = d
 
   all_plain : (changes : List (Change E)) (old new : EpochState) → AllChanges plain changes old new → AllChanges (λ y. y) (map plain_change changes) old new
   all_plain [] old new d = d

@@ -11,7 +11,7 @@ use Rattle.mar_node.specs.Cached.{Cached, same_place}
 use Rattle.mar_epochs.specs.EpochArchives.{Book, held_after, is_kept, puts_of}
 use Rattle.mar_epochs.specs.declared.Section.{Section}
 use Rattle.mar_cache.specs.declared.started.Started.TheVariants.{Ready, Ticket}
-use Rattle.mar_epochs.specs.EpochStates.{ChangesEpoch, IsTicket, IsNestedEpoch, MightBe, is_opened, KeepsOtherEpochs, LeavesEpoch, LosesEpoch, OpensEpoch, EpochState, EpochStates, left_of_epoch, opened, shut, unknown}
+use Rattle.mar_epochs.specs.EpochStates.{ChangesEpoch, IsTicket, IsNestedEpoch, MightBe, is_opened, KeepsOtherEpochs, LeavesEpoch, LosesEpoch, OpensEpoch, EpochState, EpochStates, left_of_epoch, opened, shut}
 use Rattle.mar_cache.specs.Shelved.{AllChanges, at_epoch, IsStarted, DoesAt, OpensOrStays, GrowsEpoch, GrowsEpochs, LeavesEpochs}
 use Rattle.mar_epochs.specs.declared.Change.{Change}
 use Rattle.mar_epochs.specs.declared.Change.TheVariants.{Finish, PruneBelow, PruneCertified, Put, Sync}
@@ -51,9 +51,8 @@ raised_within false old r left is x has = Contains-append_right old (r ∷ []) x
 -- A CRASH, AND A CALL THAT FAILED
 
 pub leaves_itself : (put : List Cached) (gone : Cached → Bool) (t : EpochState) → IsNestedEpoch t → LeavesEpoch put gone t (left_of_epoch t)
-leaves_itself put gone (opened b) nested = record { sure = λ x has stays. has; held = λ x has stays. nested.held_may x has; may = λ known x has. inl has }
-leaves_itself put gone (shut l) nested = record { sure = λ x has stays. has; held = λ x has stays. contains_none x has; may = λ known x has. inl has }
-leaves_itself put gone unknown nested = record { sure = λ x has stays. has; held = λ x has stays. contains_none x has; may = λ known x has. inl has }
+leaves_itself put gone (opened b) nested = record { sure = λ x has stays. has; held = λ x has stays. nested.held_may x has; may = λ x has. inl has }
+leaves_itself put gone (shut l) nested = record { sure = λ x has stays. has; held = λ x has stays. contains_none x has; may = λ x has. inl has }
 
 module _ (put : ℕ → List Cached) (gone : ℕ → Cached → Bool) (old : EpochStates) (nested : (k : ℕ) → IsNestedEpoch (old k)) where
   pub fallen_leaves : (ways : List EpochStates) → AllByRecursion (λ left. (k : ℕ) → left k ≡ left_of_epoch (old k)) ways → AllByRecursion (LeavesEpochs put gone old) ways
@@ -66,7 +65,7 @@ module _ (put : ℕ → List Cached) (gone : ℕ → Cached → Bool) (old : Epo
       by left lost k (inl same) = subst (λ j. LeavesEpoch (put j) (gone j) (old j) (left j)) (sym same) (record {
         sure = λ x has stays. lost.here.sure x has (fewer x stays);
         held = λ x has stays. lost.here.held x has (fewer x stays);
-        may = λ known x has. elim (lost.here.may known x has) [ inl before ↦ inl before | inr new ↦ inr (wider x new) ];
+        may = λ x has. elim (lost.here.may x has) [ inl before ↦ inl before | inr new ↦ inr (wider x new) ];
       })
       by left lost k (inr other) = subst (LeavesEpoch (put k) (gone k) (old k)) (sym (lost.others k other)) (leaves_itself (put k) (gone k) (old k) (nested k))
 
@@ -78,33 +77,29 @@ same_leaves ways put gone old new (Err l) same all = AllByRecursion-weaker _ _ (
 -- CALLS THAT WENT WELL
 
 pub grows_itself : (put : List Cached) (gone : Cached → Bool) (t : EpochState) → GrowsEpoch put gone t t
-grows_itself put gone t = record { sure = λ x has stays. has; held = λ x has stays. has; may = λ known x has. inl has; known = λ known. known }
+grows_itself put gone t = record { sure = λ x has stays. has; held = λ x has stays. has; may = λ x has. inl has }
 
 pub opens_grows : (put : List Cached) (gone : Cached → Bool) (t u : EpochState) → OpensEpoch t u → GrowsEpoch put gone t u
 opens_grows put gone (opened b) u is = subst (GrowsEpoch put gone (opened b)) (sym is) (grows_itself put gone (opened b))
 opens_grows put gone (shut l) u (b, found, is) = subst (GrowsEpoch put gone (shut l)) (sym is) (subst (λ kept. GrowsEpoch put gone (shut l) (opened (record b { kept = kept }))) (sym found.is) (record {
   sure = λ x has stays. found.reopens.with_sure x has;
   held = λ x has stays. contains_none x has;
-  may = λ known x has. inl (found.reopens.within_may x has);
-  known = λ known. refl;
+  may = λ x has. inl (found.reopens.within_may x has);
 }))
-opens_grows put gone unknown u (b, is) = record { sure = λ x has stays. contains_none x has; held = λ x has stays. contains_none x has; may = λ known x has. absurd cc; known = λ known. absurd cc }
 
 pub changes_grows : {E : Type 0} (plain : E → Cached) (change : Change E) (put : List Cached) (gone : Cached → Bool) (t u : EpochState) → Within (puts_of plain change) put → ((x : Cached) → gone x ≡ false → IsTrue (is_kept change x)) → ChangesEpoch plain change t u → GrowsEpoch put gone t u
 changes_grows plain change put gone (opened b) u wider fewer (c, does, is) = subst (GrowsEpoch put gone (opened b)) (sym is) (record {
   sure = λ x has stays. does.sure x has (fewer x stays);
   held = λ x has stays. subst (λ ys. Contains ys x) (sym does.held) (held_kept plain change b.kept.held x has (fewer x stays));
-  may = λ known x has. elim (Contains-append_cases b.kept.may (puts_of plain change) x (does.may x has)) [ inl before ↦ inl before | inr new ↦ inr (wider x new) ];
-  known = λ known. refl;
+  may = λ x has. elim (Contains-append_cases b.kept.may (puts_of plain change) x (does.may x has)) [ inl before ↦ inl before | inr new ↦ inr (wider x new) ];
 })
 changes_grows plain change put gone (shut l) u wider fewer is = subst (GrowsEpoch put gone (shut l)) (sym is) (grows_itself put gone (shut l))
-changes_grows plain change put gone unknown u wider fewer is = subst (GrowsEpoch put gone unknown) (sym is) (grows_itself put gone unknown)
 
 grows_leaves : (put : List Cached) (gone : Cached → Bool) (t u x : EpochState) → GrowsEpoch put gone t u → LeavesEpoch put gone u x → LeavesEpoch put gone t x
 grows_leaves put gone t u x grows leaves = record {
   sure = λ y has stays. leaves.sure y (grows.sure y has stays) stays;
   held = λ y has stays. leaves.held y (grows.held y has stays) stays;
-  may = λ known y has. elim (leaves.may (grows.known known) y has) [ inl before ↦ grows.may known y before | inr new ↦ inr new ];
+  may = λ y has. elim (leaves.may y has) [ inl before ↦ grows.may y before | inr new ↦ inr new ];
 }
 
 -- a call that failed after others went well
@@ -122,8 +117,7 @@ pub grows_then : (put : List Cached) (gone : Cached → Bool) (t u v : EpochStat
 grows_then put gone t u v first second = record {
   sure = λ x has stays. second.sure x (first.sure x has stays) stays;
   held = λ x has stays. second.held x (first.held x has stays) stays;
-  may = λ known x has. elim (second.may (first.known known) x has) [ inl before ↦ first.may known x before | inr new ↦ inr new ];
-  known = λ known. second.known (first.known known);
+  may = λ x has. elim (second.may x has) [ inl before ↦ first.may x before | inr new ↦ inr new ];
 }
 
 -- an epoch was opened and changed
@@ -174,7 +168,6 @@ stays_grow put gone t u (inr opens) = opens_grows put gone t u opens
 is_open_then : (t u : EpochState) → OpensEpoch t u → (b : Book) × (u ≡ opened b)
 is_open_then (opened b) u is = (b, is)
 is_open_then (shut l) u (b, found, is) = (b, is)
-is_open_then unknown u (b, is) = (b, is)
 
 pub stays_then : (t u v : EpochState) → OpensOrStays t u → OpensOrStays u v → OpensOrStays t v
 stays_then t u v first (inl same) = subst (OpensOrStays t) (sym same) first
@@ -195,7 +188,6 @@ opened_one : (t u : EpochState) → OpensOrStays t u → is_opened t ≡ true �
 opened_one t u (inl same) is = ap is_opened same ∙ is
 opened_one (opened b) u (inr opens) is = ap is_opened opens
 opened_one (shut l) u (inr opens) is = absurd cc
-opened_one unknown u (inr opens) is = absurd cc
 
 pub opened_stays : (e : ℕ) (mid new : EpochStates) → OpensOrStays (mid e) (new e) → KeepsOtherEpochs e mid new → (k : ℕ) → is_opened (mid k) ≡ true → is_opened (new k) ≡ true
 opened_stays e mid new here others k is = by (cases_eq k e)
@@ -238,19 +230,16 @@ reopened_ways before ways states (way, has, same) closed all = AllByRecursion-we
     shut_same : (t : EpochState) → is_opened t ≡ false → left_of_epoch t ≡ t
     shut_same (opened b) is = absurd cc
     shut_same (shut l) is = refl
-    shut_same unknown is = refl
 
 -- WHAT A START OF A SYNC ANSWERS
 
 pub started_none : (t : EpochState) (e : ℕ) (s : Section) → IsTicket t None → IsStarted t e s Ready
 started_none (opened b) e s is = is
 started_none (shut l) e s is = tt
-started_none unknown e s is = tt
 
 pub started_some : (t : EpochState) (e : ℕ) (s : Section) (n : ℕ) → IsTicket t (Some n) → IsStarted t e s (Ticket (record { epoch = e; first = record { section = s; number = n }; second = None }))
 started_some (opened b) e s n is = (refl, refl, is.0, is.1 s, refl)
 started_some (shut l) e s n is = absurd is
-started_some unknown e s n is = absurd is
 
 -- AN EPOCH THAT LIES WITHIN THE BOUNDS
 
@@ -261,7 +250,6 @@ opens_or states e old Q (Err l) done = tt
 opens_open : (t new : EpochState) → OpensEpoch t new → is_opened new ≡ true
 opens_open (opened b) new is = ap is_opened is
 opens_open (shut l) new is = ap is_opened is.2
-opens_open unknown new is = ap is_opened is.1
 
 pub opens_now : {S L : Type 0} (states : S → EpochStates) (e : ℕ) (old : EpochStates) (Q : L → Type 0) (r : Result S L) → MatchResult r (λ s. OpensEpoch (old e) (states s e) × KeepsOtherEpochs e old (states s)) Q → IfOk r (λ s. is_opened (states s e) ≡ true)
 opens_now states e old Q (Ok s) done = opens_open (old e) (states s e) done.0

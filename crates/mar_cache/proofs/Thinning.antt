@@ -4,7 +4,7 @@ use Rattle.std.proofs.lemmas.Bool.{cases_eq}
 use Rattle.mar_node.specs.Cached.{Cached}
 use Rattle.mar_node.specs.Cache.{is_certified_below}
 use Rattle.mar_epochs.specs.EpochArchives.{held_after, is_kept, puts_of}
-use Rattle.mar_epochs.specs.EpochStates.{ChangesEpoch, EpochState, EpochStates, HasSome, KeepsOtherEpochs, held_in, is_opened, opened, shut, unknown}
+use Rattle.mar_epochs.specs.EpochStates.{ChangesEpoch, EpochState, EpochStates, HasSome, KeepsOtherEpochs, held_in, is_opened, opened, shut}
 use Rattle.mar_cache.specs.Shelved.{IsClear, KeepsTickets, ThinsEpoch}
 use Rattle.mar_epochs.specs.declared.Change.{Change}
 use Rattle.mar_epochs.specs.declared.Change.TheVariants.{PruneCertified}
@@ -40,16 +40,12 @@ kept_from_test false is = refl
 tickets_itself : (test : Cached → Bool) (t : EpochState) → KeepsTickets test t t
 tickets_itself test (opened b) = (omega arith, λ s t below less x has stays. has)
 tickets_itself test (shut l) = tt
-tickets_itself test unknown = tt
 
 tickets_then : (test : Cached → Bool) (t u v : EpochState) → KeepsTickets test t u → KeepsTickets test u v → KeepsTickets test t v
 tickets_then test (opened b) (opened c) (opened d) first second = (omega (arith, first.0, second.0), λ s t below less x has stays. second.1 s t (omega (arith, below, first.0)) less x (first.1 s t below less x has stays) stays)
 tickets_then test (opened b) (opened c) (shut l) first second = absurd second
-tickets_then test (opened b) (opened c) unknown first second = absurd second
 tickets_then test (opened b) (shut l) v first second = absurd first
-tickets_then test (opened b) unknown v first second = absurd first
 tickets_then test (shut l) u v first second = tt
-tickets_then test unknown u v first second = tt
 
 pub thins_itself : (test : Cached → Bool) (t : EpochState) → ThinsEpoch test t t
 thins_itself test t = record { grows = grows_itself [] test t; within = λ x has. has; opened = refl; tickets = tickets_itself test t }
@@ -69,7 +65,6 @@ thins_change plain change test (opened b) u no_puts kept held_is (c, does, is) =
     from : (xs : List Cached) (x : Cached) → Contains (filter (λ y. not (test y)) xs) x → Contains xs x
     from xs x has = within_filter (λ y. not (test y)) xs x has
 thins_change plain change test (shut l) u no_puts kept held_is is = subst (ThinsEpoch test (shut l)) (sym is) (thins_itself test (shut l))
-thins_change plain change test unknown u no_puts kept held_is is = subst (ThinsEpoch test unknown) (sym is) (thins_itself test unknown)
 
 pub thins_step : (test : Cached → Bool) (e : ℕ) (old mid new : EpochStates) → ((k : ℕ) → ThinsEpoch test (old k) (mid k)) → ThinsEpoch test (mid e) (new e) → KeepsOtherEpochs e mid new → (k : ℕ) → ThinsEpoch test (old k) (new k)
 thins_step test e old mid new before here others k = by (cases_eq k e)
@@ -92,7 +87,6 @@ not_true false is = refl
 pub clear_here : {E : Type 0} (plain : E → Cached) (height : ℕ) (t u : EpochState) → ChangesEpoch plain (PruneCertified height) t u → IsClear (is_certified_below height) u
 clear_here plain height (opened b) u (c, does, is) = subst (IsClear (is_certified_below height)) (sym is) (λ x has. not_true (is_certified_below height x) (passes_filter (λ y. not (is_certified_below height y)) b.kept.held x (subst (λ ys. Contains ys x) does.held has)))
 clear_here plain height (shut l) u is = subst (IsClear (is_certified_below height)) (sym is) (λ x has. contains_none x has)
-clear_here plain height unknown u is = subst (IsClear (is_certified_below height)) (sym is) (λ x has. contains_none x has)
 
 pub clear_more : (test : Cached → Bool) (states : EpochStates) (es : List ℕ) (place : ℕ) → ((j : ℕ) → j < place → IsClear test (states (get_or es j 0))) → IsClear test (states (get_or es place 0)) → (j : ℕ) → j < place + 1 → IsClear test (states (get_or es j 0))
 clear_more test states es place before here j less = by (cases_eq j place)
@@ -111,12 +105,10 @@ clear_each test old mid new same thins clear k = by (old k) refl
     closed : (t : EpochState) → is_opened t ≡ false → IsClear test t
     closed (opened b) is = absurd cc
     closed (shut l) is = λ x has. contains_none x has
-    closed unknown is = λ x has. contains_none x has
 
     by : (t : EpochState) → old k ≡ t → IsClear test (new k)
     by (opened b) is = clear k (subst HasSome (sym is) tt)
     by (shut l) is = closed (new k) ((thins k).opened ∙ ap is_opened (same k ∙ is))
-    by unknown is = closed (new k) ((thins k).opened ∙ ap is_opened (same k ∙ is))
 
 pub clear_if : {S L : Type 0} (test : Cached → Bool) (states : S → EpochStates) (old mid : EpochStates) (es : List ℕ) (r : Result S L) → ((k : ℕ) → mid k ≡ old k) → IfOk r (λ s. (k : ℕ) → ThinsEpoch test (mid k) (states s k)) → ((k : ℕ) → Contains es k → IfOk r (λ s. IsClear test (states s k))) → ((k : ℕ) → HasSome (old k) → Contains es k) → IfOk r (λ s. (k : ℕ) → IsClear test (states s k))
 clear_if test states old mid es (Ok s) same thins clear found = clear_each test old mid (states s) same thins (λ k some. clear k (found k some))

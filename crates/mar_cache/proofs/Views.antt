@@ -11,7 +11,7 @@ use Rattle.mar_epochs.specs.declared.Change.TheVariants.{PruneBelow}
 use Rattle.mar_store.proofs.Lookups.{AllByRecursion-weaker}
 use Rattle.mar_node.specs.Cached.{Cached}
 use Rattle.mar_node.specs.Cache.{is_below}
-use Rattle.mar_epochs.specs.EpochStates.{ChangesEpoch, DestroysOrNot, EpochState, EpochStates, HasSome, IsBare, IsLeftOrBare, IsNestedEpoch, KeepsOtherEpochs, LeavesEpoch, LosesEpoch, left_of_epoch, opened, shut, unknown}
+use Rattle.mar_epochs.specs.EpochStates.{ChangesEpoch, DestroysOrNot, EpochState, EpochStates, HasSome, IsBare, IsLeftOrBare, IsNestedEpoch, KeepsOtherEpochs, LeavesEpoch, LosesEpoch, left_of_epoch, opened, shut}
 use Rattle.mar_cache.specs.Shelved.{DropsOlder, LeavesEpochs, is_pruned_by, pruned_bounds}
 use Rattle.mar_cache.specs.Bounds.{Bounds, LeavesBounds}
 use Rattle.mar_epochs.proofs.Filtering.{contains_none, or_false_right}
@@ -20,7 +20,6 @@ use Rattle.mar_cache.proofs.Shelving.{index_default, leaves_itself}
 -- nothing is left of an epoch, or something
 pub bare_or_some : (t : EpochState) → IsBare t ⊎ HasSome t
 bare_or_some (opened b) = inr tt
-bare_or_some unknown = inl tt
 bare_or_some (shut l) = by l.sure refl l.may refl
   where
     by : (sure : List Cached) → l.sure ≡ sure → (may : List Cached) → l.may ≡ may → IsBare (shut l) ⊎ HasSome (shut l)
@@ -58,7 +57,6 @@ still_bare below u v drops k bare = elim (drops k) [ inl same ↦ subst IsBare (
 bare_left : (t : EpochState) → IsBare t → IsBare (left_of_epoch t)
 bare_left (opened b) bare = absurd bare
 bare_left (shut l) bare = bare
-bare_left unknown bare = tt
 
 drops_left : (below : ℕ) (t u : EpochStates) → DropsOlder below t u → DropsOlder below (λ k. left_of_epoch (t k)) (λ k. left_of_epoch (u k))
 drops_left below t u drops k = elim (drops k) [ inl same ↦ inl (ap left_of_epoch same) | inr gone ↦ inr (gone.0, bare_left (u k) gone.1) ]
@@ -126,12 +124,7 @@ module _ (r : Round) (old : EpochStates) (nested : (k : ℕ) → IsNestedEpoch (
   bare_leaves k (shut l) less bare = record {
     sure = λ x has stays. absurd (let clash : false ≡ true = sym stays ∙ older_gone k less x in cc);
     held = λ x has stays. absurd (let clash : false ≡ true = sym stays ∙ older_gone k less x in cc);
-    may = λ known x has. absurd (contains_none x (subst (λ m. Contains m.may x) bare has));
-  }
-  bare_leaves k unknown less bare = record {
-    sure = λ x has stays. absurd (let clash : false ≡ true = sym stays ∙ older_gone k less x in cc);
-    held = λ x has stays. absurd (let clash : false ≡ true = sym stays ∙ older_gone k less x in cc);
-    may = λ known x has. absurd (contains_none x has);
+    may = λ x has. absurd (contains_none x (subst (λ m. Contains m.may x) bare has));
   }
 
   left_or_gone : (left : EpochStates) (k : ℕ) → (left k ≡ left_of_epoch (old k)) ⊎ ((k < r.epoch) × IsBare (left k)) → LeavesEpoch [] (is_pruned_by r k) (old k) (left k)

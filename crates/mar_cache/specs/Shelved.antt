@@ -1,15 +1,15 @@
 -- A shelf as plain data, and what its calls make of it.
-use Rattle.std.specs.Prelude.{Bool, Contains, IsTrue, List, None, Option, Some, [], false, filter, if◌then◌else◌, max, nat_le, nat_lt, true, ℕ, ⊤, ◌&&◌, ◌<◌, ◌==◌, ◌||◌, ◌∷◌, ◌≡◌, ◌≤◌, ◌⊎◌}
+use Rattle.std.specs.Prelude.{Bool, Contains, List, None, Option, Some, [], false, filter, if◌then◌else◌, max, nat_le, nat_lt, true, ℕ, ⊤, ◌&&◌, ◌<◌, ◌==◌, ◌||◌, ◌∷◌, ◌≡◌, ◌≤◌, ◌⊎◌}
 use Rattle.std.specs.List.{AllByRecursion}
 use Rattle.mar_types.specs.Round.{Round}
 use Rattle.mar_store.specs.Changes.{Within}
 use Rattle.mar_store.specs.Tickets.{last_number}
 use Rattle.mar_store.specs.Watch.{Watch}
 use Rattle.mar_store.specs.declared.Alarm.{Alarm}
-use Rattle.mar_node.specs.Cached.{Cached}
+use Rattle.mar_node.specs.Cached.{Cached, epoch_of}
 use Rattle.mar_node.specs.Cache.{is_below}
 use Rattle.mar_cache.specs.Bounds.{Bounds, LeavesBounds, includes}
-use Rattle.mar_epochs.specs.EpochStates.{ChangesEpoch, EpochState, EpochStates, HasSome, IsBare, KeepsOtherEpochs, LeavesEpoch, OpensEpoch, held_in, is_known, is_opened, may_in, opened, sure_in}
+use Rattle.mar_epochs.specs.EpochStates.{ChangesEpoch, EpochState, EpochStates, HasSome, IsBare, KeepsOtherEpochs, LeavesEpoch, OpensEpoch, held_in, is_opened, may_in, opened, sure_in}
 use Rattle.mar_epochs.specs.declared.Change.{Change}
 use Rattle.mar_epochs.specs.declared.Change.TheVariants.{Finish}
 use Rattle.mar_epochs.specs.declared.Section.{Section}
@@ -38,9 +38,21 @@ pub record Fallen : Type 0 where
 abbrev pub shelf_watch : Alarm → Bool → Watch
 shelf_watch alarm calm = record { faults = alarm.faults; due = alarm.due.items; armable = true; only_armed = calm; keeps = None }
 
--- each epoch of which something is open or left lies from the lowest to the highest
+-- each of these entries is of that epoch
+abbrev pub AreOf : ℕ → List Cached → Type 0
+AreOf k xs = (x : Cached) → Contains xs x → epoch_of x ≡ k
+
+-- What there is of an epoch: where something is open or left, it lies from the lowest to the highest; and each entry that is
+-- held, is sure or may be left there is of that epoch.
+pub record LiesWithin (b : Bounds) (k : ℕ) (t : EpochState) : Type 0 where
+  pub inside : HasSome t → includes b k ≡ true
+  pub held : AreOf k (held_in t)
+  pub sure : AreOf k (sure_in t)
+  pub may : AreOf k (may_in t)
+
+-- the same of each epoch
 abbrev pub LieWithin : EpochStates → Bounds → Type 0
-LieWithin states b = (k : ℕ) → HasSome (states k) → includes b k ≡ true
+LieWithin states b = (k : ℕ) → LiesWithin b k (states k)
 
 -- the same in each way in which epochs may be left, with each of the bounds that may be left
 abbrev pub AllLieWithin : List EpochStates → List Bounds → Type 0
@@ -67,8 +79,7 @@ pub record LosesShelf (put : ℕ → List Cached) (gone : ℕ → Cached → Boo
 pub record GrowsEpoch (put : List Cached) (gone : Cached → Bool) (old new : EpochState) : Type 0 where
   pub sure : (x : Cached) → Contains (sure_in old) x → gone x ≡ false → Contains (sure_in new) x
   pub held : (x : Cached) → Contains (held_in old) x → gone x ≡ false → Contains (held_in new) x
-  pub may : IsTrue (is_known old) → (x : Cached) → Contains (may_in new) x → Contains (may_in old) x ⊎ Contains put x
-  pub known : IsTrue (is_known old) → IsTrue (is_known new)
+  pub may : (x : Cached) → Contains (may_in new) x → Contains (may_in old) x ⊎ Contains put x
 
 -- the bounds with an epoch: the highest rises to it
 abbrev pub raised : ℕ → Bounds → Bounds

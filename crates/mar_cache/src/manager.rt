@@ -44,7 +44,7 @@ pub struct ManagerWreck<S: Epochs, M: Meta> {
 
 impl<S: Epochs, M: Meta> Manager<S, M> {
     /// The cache over epochs and a store whose changes are durable, and of which no call is armed. What there is of
-    /// epochs lies from the lowest to the highest that the store keeps.
+    /// epochs lies from the lowest to the highest that the store keeps, and each entry is of the epoch where it stands.
     pub fn new(alloc: Global, epochs: S, meta: M) -> Self
         requires unchanged { M.changed meta ≡ [] }
         requires quiet { (M.watch meta).due ≡ [] }
@@ -57,20 +57,6 @@ impl<S: Epochs, M: Meta> Manager<S, M> {
             epochs,
             meta,
             alarm: Alarm::new(alloc),
-        }
-    }
-
-    // What a crash now leaves.
-    fn fallen(self) -> ManagerWreck<S, M>
-        ensures ways { AllByRecursion (λ left. (k : ℕ) → left k ≡ left_of_epoch (S.states self.epochs k)) (S.Wreck.left result.epochs) }
-        ensures bounds { M.Wreck.left result.meta ≡ M.left self.meta }
-        ensures watch { shelf_watch result.alarm (S.Wreck.calm result.epochs && (M.Wreck.watch result.meta).only_armed)
-            ≡ shelf_watch self.alarm (S.calm self.epochs && (M.watch self.meta).only_armed) }
-    {
-        ManagerWreck {
-            epochs: self.epochs.wreck(),
-            meta: self.meta.wreck(),
-            alarm: self.alarm,
         }
     }
 
@@ -97,7 +83,7 @@ impl<S: Epochs, M: Meta> Manager<S, M> {
             alarm,
         };
         if rings {
-            return Err(Lost::Fault(manager.fallen()));
+            return Err(Lost::Fault(manager.wreck()));
         }
         Ok(manager)
     }
@@ -184,8 +170,9 @@ impl<S: Epochs, M: Meta> Manager<S, M> {
         }
     }
 
-    // Changes an epoch, where it is open.
+    // Changes an epoch, where it is open. What is put is of that epoch.
     fn change(self, epoch: u64, change: Change<S::Entry>) -> Result<Self, Lost<ManagerWreck<S, M>>>
+        requires own { AllByRecursion (λ x. epoch_of x ≡ epoch) (puts_of S.Entry.plain change) }
         ensures done { MatchResult result
             (λ m. ChangesEpoch S.Entry.plain change (S.states self.epochs epoch) (S.states m.epochs epoch)
             × KeepsOtherEpochs epoch (S.states self.epochs) (S.states m.epochs))
@@ -634,7 +621,11 @@ impl<S: Epochs, M: Meta> Manager<S, M> {
         ensures watch { shelf_watch result.alarm (S.Wreck.calm result.epochs && (M.Wreck.watch result.meta).only_armed)
             ≡ shelf_watch self.alarm (S.calm self.epochs && (M.watch self.meta).only_armed) }
     {
-        self.fallen()
+        ManagerWreck {
+            epochs: self.epochs.wreck(),
+            meta: self.meta.wreck(),
+            alarm: self.alarm,
+        }
     }
 
     /// Takes up what a crash left; no epoch is open. Luck picks among what may be left, now and where an epoch is opened.

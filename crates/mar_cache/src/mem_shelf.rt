@@ -27,7 +27,7 @@ fn shelf_over<A: EpochArchives, D: EpochArchivesDepot<A::Wreck>>(
     depot: D,
 ) -> Manager<DepotEpochs<A, D>, MemMeta>
     requires quiet { (D.watch depot).due ≡ [] }
-    requires bare { (k : ℕ) → IsBare (state_under D.told A.Wreck.left (D.names depot k)) }
+    requires bare { (k : ℕ) → IsBare (state_under A.Wreck.left (D.names depot k)) }
     ensures { (k : ℕ) → IsBare (⟦<DepotEpochs<A, D> as Epochs>⟧.states result.epochs k) }
 {
     let epochs = DepotEpochs::new(alloc, depot);

@@ -61,8 +61,43 @@ pub trait Shelf<V: Variant, N: AsFinalization, F: CommitsTo<V::Commitment>>: Dro
     /// What it tells of its failures.
     ghost watch: { Self → Watch };
 
+    /// Keeps an entry, and starts a sync of its archive. Nothing is done where its epoch is below the lowest.
+    fn put_and_start(
+        self,
+        entry: Entry<V::Block, N, F>,
+    ) -> Result<(Self, Started), Lost<Self::Wreck>>
+    where
+        Self: Sized,
+        ensures ready { epoch_of (cached_of V.plain N.plain F.plain entry) < (bounds self).lowest
+            → IfOk result (λ r. (r.1 ≡ Started.Ready) × (states r.0 ≡ states self) × (bounds r.0 ≡ bounds self)
+            × (left r.0 ≡ left self)) }
+        ensures done { (bounds self).lowest ≤ epoch_of (cached_of V.plain N.plain F.plain entry)
+            → IfOk result (λ r. IsPut (cached_of V.plain N.plain F.plain entry) (states self) (states r.0)
+            × IsStarted (states r.0 (epoch_of (cached_of V.plain N.plain F.plain entry))) (epoch_of (cached_of V.plain N.plain F.plain entry))
+            (section_of (cached_of V.plain N.plain F.plain entry)) r.1) }
+        ensures raises { (bounds self).lowest ≤ epoch_of (cached_of V.plain N.plain F.plain entry)
+            → IfOk result (λ r. Raises (epoch_of (cached_of V.plain N.plain F.plain entry)) (bounds self) (left self) (bounds r.0) (left r.0)) }
+        ensures ways { IfErr result (λ l. PutLeaves (cached_of V.plain N.plain F.plain entry) (states self) (Self.Wreck.ways (wreck_of l))) }
+        ensures bounds { IfErr result (λ l. PutBounds (cached_of V.plain N.plain F.plain entry) (bounds self) (left self) (Self.Wreck.bounds (wreck_of l))) }
+        ensures watched { Heeds (λ r. watch r.0) Self.Wreck.watch (watch self) result };
+
+    /// Keeps an entry, and makes it sure. Nothing is done where its epoch is below the lowest.
+    fn put_and_sync(self, entry: Entry<V::Block, N, F>) -> Result<Self, Lost<Self::Wreck>>
+    where
+        Self: Sized,
+        ensures ready { epoch_of (cached_of V.plain N.plain F.plain entry) < (bounds self).lowest
+            → IfOk result (λ s. (states s ≡ states self) × (bounds s ≡ bounds self)
+            × (left s ≡ left self)) }
+        ensures done { (bounds self).lowest ≤ epoch_of (cached_of V.plain N.plain F.plain entry)
+            → IfOk result (λ s. IsPutAndSynced (cached_of V.plain N.plain F.plain entry) (states self) (states s)) }
+        ensures raises { (bounds self).lowest ≤ epoch_of (cached_of V.plain N.plain F.plain entry)
+            → IfOk result (λ s. Raises (epoch_of (cached_of V.plain N.plain F.plain entry)) (bounds self) (left self) (bounds s) (left s)) }
+        ensures ways { IfErr result (λ l. PutLeaves (cached_of V.plain N.plain F.plain entry) (states self) (Self.Wreck.ways (wreck_of l))) }
+        ensures bounds { IfErr result (λ l. PutBounds (cached_of V.plain N.plain F.plain entry) (bounds self) (left self) (Self.Wreck.bounds (wreck_of l))) }
+        ensures watched { Heeds (λ s. watch s) Self.Wreck.watch (watch self) result };
+
     /// Keeps a block that was verified in a round, and starts a sync. Nothing is done where the epoch is below the lowest.
-    fn put_verified(
+    final fn put_verified(
         self,
         round: Round,
         block: V::Block,
@@ -80,10 +115,13 @@ pub trait Shelf<V: Variant, N: AsFinalization, F: CommitsTo<V::Commitment>>: Dro
             → IfOk result (λ r. Raises (epoch_of (verified_entry round (V.plain block))) (bounds self) (left self) (bounds r.0) (left r.0)) }
         ensures ways { IfErr result (λ l. PutLeaves (verified_entry round (V.plain block)) (states self) (Self.Wreck.ways (wreck_of l))) }
         ensures bounds { IfErr result (λ l. PutBounds (verified_entry round (V.plain block)) (bounds self) (left self) (Self.Wreck.bounds (wreck_of l))) }
-        ensures watched { Heeds (λ r. watch r.0) Self.Wreck.watch (watch self) result };
+        ensures watched { Heeds (λ r. watch r.0) Self.Wreck.watch (watch self) result }
+    {
+        self.put_and_start(Entry::Verified(round, block))
+    }
 
     /// Keeps a block that was notarized in a round, and starts a sync. Nothing is done where the epoch is below the lowest.
-    fn put_notarized(
+    final fn put_notarized(
         self,
         round: Round,
         block: V::Block,
@@ -101,10 +139,13 @@ pub trait Shelf<V: Variant, N: AsFinalization, F: CommitsTo<V::Commitment>>: Dro
             → IfOk result (λ r. Raises (epoch_of (notarized_entry round (V.plain block))) (bounds self) (left self) (bounds r.0) (left r.0)) }
         ensures ways { IfErr result (λ l. PutLeaves (notarized_entry round (V.plain block)) (states self) (Self.Wreck.ways (wreck_of l))) }
         ensures bounds { IfErr result (λ l. PutBounds (notarized_entry round (V.plain block)) (bounds self) (left self) (Self.Wreck.bounds (wreck_of l))) }
-        ensures watched { Heeds (λ r. watch r.0) Self.Wreck.watch (watch self) result };
+        ensures watched { Heeds (λ r. watch r.0) Self.Wreck.watch (watch self) result }
+    {
+        self.put_and_start(Entry::Notarized(round, block))
+    }
 
     /// Keeps a notarization, and starts a sync. Nothing is done where the epoch is below the lowest.
-    fn put_notarization(self, notarization: N) -> Result<(Self, Started), Lost<Self::Wreck>>
+    final fn put_notarization(self, notarization: N) -> Result<(Self, Started), Lost<Self::Wreck>>
     where
         Self: Sized,
         ensures ready { epoch_of (notarization_entry (N.plain notarization)) < (bounds self).lowest
@@ -118,10 +159,13 @@ pub trait Shelf<V: Variant, N: AsFinalization, F: CommitsTo<V::Commitment>>: Dro
             → IfOk result (λ r. Raises (epoch_of (notarization_entry (N.plain notarization))) (bounds self) (left self) (bounds r.0) (left r.0)) }
         ensures ways { IfErr result (λ l. PutLeaves (notarization_entry (N.plain notarization)) (states self) (Self.Wreck.ways (wreck_of l))) }
         ensures bounds { IfErr result (λ l. PutBounds (notarization_entry (N.plain notarization)) (bounds self) (left self) (Self.Wreck.bounds (wreck_of l))) }
-        ensures watched { Heeds (λ r. watch r.0) Self.Wreck.watch (watch self) result };
+        ensures watched { Heeds (λ r. watch r.0) Self.Wreck.watch (watch self) result }
+    {
+        self.put_and_start(Entry::Notarization(notarization))
+    }
 
     /// Keeps a certified block of an epoch, and makes it sure. Nothing is done where the epoch is below the lowest.
-    fn put_certified(self, epoch: Epoch, block: V::Block) -> Result<Self, Lost<Self::Wreck>>
+    final fn put_certified(self, epoch: Epoch, block: V::Block) -> Result<Self, Lost<Self::Wreck>>
     where
         Self: Sized,
         ensures ready { epoch_of (certified_entry epoch (V.plain block)) < (bounds self).lowest
@@ -133,10 +177,13 @@ pub trait Shelf<V: Variant, N: AsFinalization, F: CommitsTo<V::Commitment>>: Dro
             → IfOk result (λ s. Raises (epoch_of (certified_entry epoch (V.plain block))) (bounds self) (left self) (bounds s) (left s)) }
         ensures ways { IfErr result (λ l. PutLeaves (certified_entry epoch (V.plain block)) (states self) (Self.Wreck.ways (wreck_of l))) }
         ensures bounds { IfErr result (λ l. PutBounds (certified_entry epoch (V.plain block)) (bounds self) (left self) (Self.Wreck.bounds (wreck_of l))) }
-        ensures watched { Heeds (λ s. watch s) Self.Wreck.watch (watch self) result };
+        ensures watched { Heeds (λ s. watch s) Self.Wreck.watch (watch self) result }
+    {
+        self.put_and_sync(Entry::Certified(epoch, block))
+    }
 
     /// Keeps a finalization, and makes it sure. Nothing is done where the epoch is below the lowest.
-    fn put_finalization(self, finalization: F) -> Result<Self, Lost<Self::Wreck>>
+    final fn put_finalization(self, finalization: F) -> Result<Self, Lost<Self::Wreck>>
     where
         Self: Sized,
         ensures ready { epoch_of (finalization_entry (F.plain finalization)) < (bounds self).lowest
@@ -148,27 +195,53 @@ pub trait Shelf<V: Variant, N: AsFinalization, F: CommitsTo<V::Commitment>>: Dro
             → IfOk result (λ s. Raises (epoch_of (finalization_entry (F.plain finalization))) (bounds self) (left self) (bounds s) (left s)) }
         ensures ways { IfErr result (λ l. PutLeaves (finalization_entry (F.plain finalization)) (states self) (Self.Wreck.ways (wreck_of l))) }
         ensures bounds { IfErr result (λ l. PutBounds (finalization_entry (F.plain finalization)) (bounds self) (left self) (Self.Wreck.bounds (wreck_of l))) }
-        ensures watched { Heeds (λ s. watch s) Self.Wreck.watch (watch self) result };
+        ensures watched { Heeds (λ s. watch s) Self.Wreck.watch (watch self) result }
+    {
+        self.put_and_sync(Entry::Finalization(finalization))
+    }
+
+    /// Starts a sync of an archive of an epoch, where that is open.
+    fn start_sync(
+        self,
+        epoch: Epoch,
+        section: Section,
+    ) -> Result<(Self, Started), Lost<Self::Wreck>>
+    where
+        Self: Sized,
+        ensures same { IfOk result (λ r. (states r.0 ≡ states self) × (bounds r.0 ≡ bounds self) × (left r.0 ≡ left self)) }
+        ensures started { IfOk result (λ r. IsStarted (states self epoch) epoch section r.1) }
+        ensures ways { IfErr result (λ l. AllByRecursion (LeavesEpochs (at_epoch epoch []) nothing_gone (states self)) (Self.Wreck.ways (wreck_of l))) }
+        ensures bounds { IfErr result (λ l. Self.Wreck.bounds (wreck_of l) ≡ left self) }
+        ensures watched { Heeds (λ r. watch r.0) Self.Wreck.watch (watch self) result };
 
     /// Starts a sync of the verified blocks of an epoch, where that is open.
-    fn start_sync_verified(self, epoch: Epoch) -> Result<(Self, Started), Lost<Self::Wreck>>
+    final fn start_sync_verified(self, epoch: Epoch) -> Result<(Self, Started), Lost<Self::Wreck>>
     where
         Self: Sized,
         ensures same { IfOk result (λ r. (states r.0 ≡ states self) × (bounds r.0 ≡ bounds self) × (left r.0 ≡ left self)) }
         ensures started { IfOk result (λ r. IsStarted (states self epoch) epoch Section.Verified r.1) }
         ensures ways { IfErr result (λ l. AllByRecursion (LeavesEpochs (at_epoch epoch []) nothing_gone (states self)) (Self.Wreck.ways (wreck_of l))) }
         ensures bounds { IfErr result (λ l. Self.Wreck.bounds (wreck_of l) ≡ left self) }
-        ensures watched { Heeds (λ r. watch r.0) Self.Wreck.watch (watch self) result };
+        ensures watched { Heeds (λ r. watch r.0) Self.Wreck.watch (watch self) result }
+    {
+        self.start_sync(epoch, Section::Verified)
+    }
 
     /// Starts a sync of the notarizations of an epoch, where that is open.
-    fn start_sync_notarizations(self, epoch: Epoch) -> Result<(Self, Started), Lost<Self::Wreck>>
+    final fn start_sync_notarizations(
+        self,
+        epoch: Epoch,
+    ) -> Result<(Self, Started), Lost<Self::Wreck>>
     where
         Self: Sized,
         ensures same { IfOk result (λ r. (states r.0 ≡ states self) × (bounds r.0 ≡ bounds self) × (left r.0 ≡ left self)) }
         ensures started { IfOk result (λ r. IsStarted (states self epoch) epoch Section.Notarizations r.1) }
         ensures ways { IfErr result (λ l. AllByRecursion (LeavesEpochs (at_epoch epoch []) nothing_gone (states self)) (Self.Wreck.ways (wreck_of l))) }
         ensures bounds { IfErr result (λ l. Self.Wreck.bounds (wreck_of l) ≡ left self) }
-        ensures watched { Heeds (λ r. watch r.0) Self.Wreck.watch (watch self) result };
+        ensures watched { Heeds (λ r. watch r.0) Self.Wreck.watch (watch self) result }
+    {
+        self.start_sync(epoch, Section::Notarizations)
+    }
 
     /// What is looked for in an epoch, where that is open: the verified block of a round, the one of a digest there, the
     /// notarization of a round.
@@ -377,53 +450,55 @@ where
 
     ghost durable = { λ m. m.durable };
 
-    fn put_verified(
+    fn put_and_start(
         self,
-        round: Round,
-        block: V::Block,
-    ) -> Result<(Self, Started), Lost<ManagerWreck<S, M>>> {
-        self.put_and_start(S::Entry::of(Entry::Verified(round, block)))
+        entry: Entry<V::Block, N, F>,
+    ) -> Result<(Self, Started), Lost<ManagerWreck<S, M>>>
+        ensures ready { epoch_of (cached_of V.plain N.plain F.plain entry) < (bounds_of (M.current self.meta)).lowest
+            → IfOk result (λ r. (r.1 ≡ Started.Ready) × (S.states r.0.epochs ≡ S.states self.epochs)
+            × (bounds_of (M.current r.0.meta) ≡ bounds_of (M.current self.meta)) × (map bounds_of (M.left r.0.meta) ≡ map bounds_of (M.left self.meta))) }
+        ensures done { (bounds_of (M.current self.meta)).lowest ≤ epoch_of (cached_of V.plain N.plain F.plain entry)
+            → IfOk result (λ r. IsPut (cached_of V.plain N.plain F.plain entry) (S.states self.epochs) (S.states r.0.epochs)
+            × IsStarted (S.states r.0.epochs (epoch_of (cached_of V.plain N.plain F.plain entry))) (epoch_of (cached_of V.plain N.plain F.plain entry))
+            (section_of (cached_of V.plain N.plain F.plain entry)) r.1) }
+        ensures raises { (bounds_of (M.current self.meta)).lowest ≤ epoch_of (cached_of V.plain N.plain F.plain entry)
+            → IfOk result (λ r. Raises (epoch_of (cached_of V.plain N.plain F.plain entry)) (bounds_of (M.current self.meta)) (map bounds_of (M.left self.meta))
+            (bounds_of (M.current r.0.meta)) (map bounds_of (M.left r.0.meta))) }
+        ensures ways { IfErr result (λ l. PutLeaves (cached_of V.plain N.plain F.plain entry) (S.states self.epochs) (S.Wreck.left (wreck_of l).epochs)) }
+        ensures bounds { IfErr result (λ l. PutBounds (cached_of V.plain N.plain F.plain entry) (bounds_of (M.current self.meta)) (map bounds_of (M.left self.meta))
+            (map bounds_of (M.Wreck.left (wreck_of l).meta))) }
+        ensures watched { Heeds (λ r. shelf_watch r.0.alarm (S.calm r.0.epochs && (M.watch r.0.meta).only_armed))
+            (λ w. shelf_watch w.alarm (S.Wreck.calm w.epochs && (M.Wreck.watch w.meta).only_armed))
+            (shelf_watch self.alarm (S.calm self.epochs && (M.watch self.meta).only_armed)) result }
+    {
+        Manager::put_and_start(self, S::Entry::of(entry))
     }
 
-    fn put_notarized(
-        self,
-        round: Round,
-        block: V::Block,
-    ) -> Result<(Self, Started), Lost<ManagerWreck<S, M>>> {
-        self.put_and_start(S::Entry::of(Entry::Notarized(round, block)))
+    fn put_and_sync(self, entry: Entry<V::Block, N, F>) -> Result<Self, Lost<ManagerWreck<S, M>>>
+        ensures ready { epoch_of (cached_of V.plain N.plain F.plain entry) < (bounds_of (M.current self.meta)).lowest
+            → IfOk result (λ r. (S.states r.epochs ≡ S.states self.epochs)
+            × (bounds_of (M.current r.meta) ≡ bounds_of (M.current self.meta)) × (map bounds_of (M.left r.meta) ≡ map bounds_of (M.left self.meta))) }
+        ensures done { (bounds_of (M.current self.meta)).lowest ≤ epoch_of (cached_of V.plain N.plain F.plain entry)
+            → IfOk result (λ r. IsPutAndSynced (cached_of V.plain N.plain F.plain entry) (S.states self.epochs) (S.states r.epochs)) }
+        ensures raises { (bounds_of (M.current self.meta)).lowest ≤ epoch_of (cached_of V.plain N.plain F.plain entry)
+            → IfOk result (λ r. Raises (epoch_of (cached_of V.plain N.plain F.plain entry)) (bounds_of (M.current self.meta)) (map bounds_of (M.left self.meta))
+            (bounds_of (M.current r.meta)) (map bounds_of (M.left r.meta))) }
+        ensures ways { IfErr result (λ l. PutLeaves (cached_of V.plain N.plain F.plain entry) (S.states self.epochs) (S.Wreck.left (wreck_of l).epochs)) }
+        ensures bounds { IfErr result (λ l. PutBounds (cached_of V.plain N.plain F.plain entry) (bounds_of (M.current self.meta)) (map bounds_of (M.left self.meta))
+            (map bounds_of (M.Wreck.left (wreck_of l).meta))) }
+        ensures watched { Heeds (λ r. shelf_watch r.alarm (S.calm r.epochs && (M.watch r.meta).only_armed))
+            (λ w. shelf_watch w.alarm (S.Wreck.calm w.epochs && (M.Wreck.watch w.meta).only_armed))
+            (shelf_watch self.alarm (S.calm self.epochs && (M.watch self.meta).only_armed)) result }
+    {
+        Manager::put_and_sync(self, S::Entry::of(entry))
     }
 
-    fn put_notarization(
-        self,
-        notarization: N,
-    ) -> Result<(Self, Started), Lost<ManagerWreck<S, M>>> {
-        self.put_and_start(S::Entry::of(Entry::Notarization(notarization)))
-    }
-
-    fn put_certified(
+    fn start_sync(
         self,
         epoch: Epoch,
-        block: V::Block,
-    ) -> Result<Self, Lost<ManagerWreck<S, M>>> {
-        self.put_and_sync(S::Entry::of(Entry::Certified(epoch, block)))
-    }
-
-    fn put_finalization(self, finalization: F) -> Result<Self, Lost<ManagerWreck<S, M>>> {
-        self.put_and_sync(S::Entry::of(Entry::Finalization(finalization)))
-    }
-
-    fn start_sync_verified(
-        self,
-        epoch: Epoch,
+        section: Section,
     ) -> Result<(Self, Started), Lost<ManagerWreck<S, M>>> {
-        self.start(epoch.get(), Section::Verified)
-    }
-
-    fn start_sync_notarizations(
-        self,
-        epoch: Epoch,
-    ) -> Result<(Self, Started), Lost<ManagerWreck<S, M>>> {
-        self.start(epoch.get(), Section::Notarizations)
+        self.start(epoch.get(), section)
     }
 
     fn get(

@@ -4,14 +4,14 @@ ghost use Rattle.std.specs.Prelude.{◌≡◌, None, Some};
 use mar_epochs::Section;
 
 /// A sync of one archive that was started: it covers what that archive held then.
-#[derive(Clone, Copy, Debug, PartialEq, Eq)]
+#[derive(Clone, Copy)]
 pub struct SectionSync {
     pub section: Section,
     pub number: u64,
 }
 
 /// A sync of one archive of an epoch that was started, or of two.
-#[derive(Clone, Copy, Debug, PartialEq, Eq)]
+#[derive(Clone, Copy)]
 pub struct CacheTicket {
     pub epoch: u64,
     pub first: SectionSync,
@@ -19,7 +19,7 @@ pub struct CacheTicket {
 }
 
 /// What a call that starts a sync answers.
-#[derive(Clone, Copy, Debug, PartialEq, Eq)]
+#[derive(Clone, Copy)]
 pub enum Started {
     /// There is nothing to wait for: the cache doesn't keep that epoch.
     Ready,

@@ -1,5 +1,5 @@
 -- What is left of epochs where a call fails, and what a reopening takes up.
-use Rattle.std.proofs.Common.{◌≡◌, ◌≢◌, ◌⊎◌, inl, inr, ◌==◌, ◌<◌, ◌+◌, ℕ, zero, suc, List, [], ◌∷◌, ◌++◌, Bool, true, false, not, IsTrue, Option, Some, None, is_some, Contains, cond, refl, ap, sym, ◌∙◌, subst, map, length, option_map, nat_le, Result, Ok, Err, MatchResult, MatchOption, IsSome, ◌↔◌, arith}
+use Rattle.std.proofs.Common.{◌≡◌, ◌≢◌, ◌⊎◌, inl, inr, ◌==◌, ◌<◌, ◌+◌, ℕ, zero, suc, List, [], ◌∷◌, ◌++◌, Bool, true, false, not, IsTrue, Option, Some, None, is_some, Contains, cond, refl, ap, sym, ◌∙◌, subst, map, length, option_map, nat_le, Result, Ok, Err, IfErr, MatchResult, MatchOption, IsSome, ◌↔◌, arith}
 use Rattle.std.specs.Prelude.{IsSomeAnd, if◌then◌else◌}
 use Rattle.std.specs.Bool.{OnTrue}
 use Rattle.std.specs.Ordering.{nat_cmp}
@@ -18,11 +18,11 @@ use Rattle.std.proofs.lemmas.List.Elements.{Contains-append_cases, Contains-appe
 use Rattle.mar_store.specs.Changes.{Left, Within, left_of}
 use Rattle.mar_store.specs.Lost.{wreck_of}
 use Rattle.mar_store.specs.declared.Lost.{Lost}
-use Rattle.mar_store.specs.Names.{IsDestroyedOrNot, IsOpenedOrNot, Names, Opens}
+use Rattle.mar_store.specs.Names.{IsDestroyedOrNot, IsOpenedOrNot, Names, Opens, SetsName}
 use Rattle.mar_store.proofs.Lookups.{AllByRecursion-contains, AllByRecursion-from_contains, AllByRecursion-push, AllByRecursion-weaker}
 use Rattle.mar_node.specs.Cached.{Cached}
-use Rattle.mar_epochs.specs.EpochArchives.{Book, KeepsArchives, LosesArchives, is_kept, nothing_left, puts_of}
-use Rattle.mar_epochs.specs.EpochStates.{DestroysOrNot, EpochState, EpochStates, HasSome, IsBare, IsLeftOrBare, KeepsOtherEpochs, LeavesEpoch, LosesEpoch, MightBe, OpensEpoch, held_in, is_opened, is_upto, left_of_epoch, newer_of, none_gone, opened, shut, state_at, state_of_slot, state_under, states_of, unknown}
+use Rattle.mar_epochs.specs.EpochArchives.{Book, ChangesArchives, FindsArchives, IsOfMemory, KeepsArchives, LosesArchives, is_kept, nothing_left, puts_of}
+use Rattle.mar_epochs.specs.EpochStates.{ChangesEpoch, DestroysOrNot, EpochState, EpochStates, HasSome, IsBare, IsLeftOrBare, KeepsOtherEpochs, LeavesEpoch, LeavesOtherEpochs, LosesEpoch, MightBe, OpensEpoch, PutsBack, held_in, is_opened, is_upto, left_of_epoch, newer_of, none_gone, opened, shut, state_at, state_of_slot, state_under, states_of}
 use Rattle.mar_epochs.specs.declared.change.Change.{Change}
 use Rattle.mar_epochs.specs.declared.slot.Slot.{Slot}
 use Rattle.mar_epochs.specs.declared.slot.Slot.TheVariants.{Away, Leftover, Standing}
@@ -50,7 +50,7 @@ pub leaves_lost : {E : Type 0} (plain : E → Cached) (change : Change E) (b : B
 leaves_lost plain change b l lost = record {
   sure = λ x has stays. lost.sure x has (kept_from_not (is_kept change x) stays);
   held = λ x has stays. lost.held x has (kept_from_not (is_kept change x) stays);
-  may = λ known x has. Contains-append_cases b.kept.may (puts_of plain change) x (lost.may x has);
+  may = λ x has. Contains-append_cases b.kept.may (puts_of plain change) x (lost.may x has);
 }
 
 -- a reopening of archives that failed
@@ -58,7 +58,7 @@ pub leaves_kept : (l r : Left Cached) → KeepsArchives l r → LeavesEpoch [] n
 leaves_kept l r kept = record {
   sure = λ x has stays. kept.sure x has;
   held = λ x has stays. contains_none x has;
-  may = λ known x has. inl (kept.may x has);
+  may = λ x has. inl (kept.may x has);
 }
 
 -- where one epoch changed and then all was left as a crash leaves it
@@ -71,66 +71,63 @@ loses_left e was now put gone old mid lefts here others leaves all = AllByRecurs
 pub might_stay : (lefts : List EpochStates) → AllByRecursion (MightBe lefts) lefts
 might_stay lefts = AllByRecursion-from_contains (MightBe lefts) lefts (λ x has. (x, has, λ k. refl))
 
+-- what is said of a depot that tells what stands under its names holds of one
+pub as_told : {P : Type 0} (told : Bool) → told ≡ true → OnTrue told P → P
+as_told true is clause = clause
+as_told false is clause = absurd cc
+
+left_under : {W : Type 0} (left : W → Left Cached) (o : Option W) → state_under left o ≡ left_of_epoch (state_under left o)
+left_under left None = refl
+left_under left (Some w) = refl
+
 module _ {A W : Type 0} (book : A → Book) (left : W → Left Cached) (opening : ℕ) where
-  pub untold_same : (slot : Option (Slot A W)) (n m : Option W) → state_at book left opening false slot n ≡ state_at book left opening false slot m
-  untold_same (Some s) n m = refl
-  untold_same None n m = refl
-
   -- each way in which a depot may be left
-  abbrev pub left_ways : Bool → BTreeMap ℕ (Slot A W) → List (Names W) → List EpochStates
-  left_ways told slots ways = map (λ names k. left_of_epoch (states_of book left opening told slots names k)) ways
+  abbrev pub left_ways : BTreeMap ℕ (Slot A W) → List (Names W) → List EpochStates
+  left_ways slots ways = map (λ names k. left_of_epoch (states_of book left opening slots names k)) ways
 
-  pub wreck_left : (told : Bool) (slots : BTreeMap ℕ (Slot A W)) (names : Names W) (ways : List (Names W)) → OnTrue told (ways ≡ names ∷ []) → AllByRecursion (λ l. (k : ℕ) → l k ≡ left_of_epoch (states_of book left opening told slots names k)) (left_ways told slots ways)
-  wreck_left true slots names ways is = rw is ((λ k. refl), tt)
-  wreck_left false slots names ways is = all_map _ _ ways (λ ns k. ap left_of_epoch (untold_same (get nat_cmp slots k) (ns k) (names k)))
+  pub wreck_left : (slots : BTreeMap ℕ (Slot A W)) (names : Names W) (ways : List (Names W)) → ways ≡ names ∷ [] → AllByRecursion (λ l. (k : ℕ) → l k ≡ left_of_epoch (states_of book left opening slots names k)) (left_ways slots ways)
+  wreck_left slots names ways is = rw is ((λ k. refl), tt)
 
   -- what an exchange leaves at the epoch and elsewhere
-  pub exchanged_here : (told : Bool) (old new : BTreeMap ℕ (Slot A W)) (names : Names W) (e : ℕ) (slot : Slot A W) → ((k : ℕ) → get nat_cmp new k ≡ (if k == e then option_map (λ _. slot) (get nat_cmp old k) else get nat_cmp old k)) → is_some (get nat_cmp old e) ≡ true → states_of book left opening told new names e ≡ state_of_slot book left opening slot
-  exchanged_here told old new names e slot put there = ap (λ s. state_at book left opening told s (names e)) (put e ∙ ap (λ b. cond b (option_map (λ _. slot) (get nat_cmp old e)) (get nat_cmp old e)) (eq-eqb e e refl) ∙ some (get nat_cmp old e) there)
+  pub exchanged_here : (old new : BTreeMap ℕ (Slot A W)) (names : Names W) (e : ℕ) (slot : Slot A W) → ((k : ℕ) → get nat_cmp new k ≡ (if k == e then option_map (λ _. slot) (get nat_cmp old k) else get nat_cmp old k)) → is_some (get nat_cmp old e) ≡ true → states_of book left opening new names e ≡ state_of_slot book left opening (names e) slot
+  exchanged_here old new names e slot put there = ap (λ s. state_at book left opening s (names e)) (put e ∙ ap (λ b. cond b (option_map (λ _. slot) (get nat_cmp old e)) (get nat_cmp old e)) (eq-eqb e e refl) ∙ some (get nat_cmp old e) there)
     where
       some : (o : Option (Slot A W)) → is_some o ≡ true → option_map (λ _. slot) o ≡ Some slot
       some (Some s) is = refl
       some None is = absurd cc
 
-  pub exchanged_others : (told : Bool) (old new : BTreeMap ℕ (Slot A W)) (names : Names W) (e : ℕ) (slot : Slot A W) → ((k : ℕ) → get nat_cmp new k ≡ (if k == e then option_map (λ _. slot) (get nat_cmp old k) else get nat_cmp old k)) → (k : ℕ) → k ≢ e → states_of book left opening told new names k ≡ states_of book left opening told old names k
-  exchanged_others told old new names e slot put k other = ap (λ s. state_at book left opening told s (names k)) (put k ∙ ap (λ b. cond b (option_map (λ _. slot) (get nat_cmp old k)) (get nat_cmp old k)) (ne_eqb k e other))
+  pub exchanged_others : (old new : BTreeMap ℕ (Slot A W)) (names : Names W) (e : ℕ) (slot : Slot A W) → ((k : ℕ) → get nat_cmp new k ≡ (if k == e then option_map (λ _. slot) (get nat_cmp old k) else get nat_cmp old k)) → (k : ℕ) → k ≢ e → states_of book left opening new names k ≡ states_of book left opening old names k
+  exchanged_others old new names e slot put k other = ap (λ s. state_at book left opening s (names k)) (put k ∙ ap (λ b. cond b (option_map (λ _. slot) (get nat_cmp old k)) (get nat_cmp old k)) (ne_eqb k e other))
 
   -- what was open before is what is left, in the next opening
-  later : (told : Bool) (slot : Option (Slot A W)) (name : Option W) → is_upto opening slot ≡ true → state_at book left (opening + 1) told slot name ≡ left_of_epoch (state_at book left opening told slot name)
-  later told (Some (Standing v o)) name upto = ap (λ b. cond b (opened (book v)) (shut (left_of (book v).kept))) (ne_eqb o (opening + 1) (λ same. omega (arith, same, leb-true o opening upto))) ∙ by (o == opening)
+  later : (slot : Option (Slot A W)) (name : Option W) → is_upto opening slot ≡ true → state_at book left (opening + 1) slot name ≡ left_of_epoch (state_at book left opening slot name)
+  later (Some (Standing v o)) name upto = ap (λ b. cond b (opened (book v)) (shut (left_of (book v).kept))) (ne_eqb o (opening + 1) (λ same. omega (arith, same, leb-true o opening upto))) ∙ by (o == opening)
     where
       by : (b : Bool) → shut (left_of (book v).kept) ≡ left_of_epoch (cond b (opened (book v)) (shut (left_of (book v).kept)))
       by true = refl
       by false = refl
-  later told (Some (Leftover w)) name upto = refl
-  later told (Some Away) name upto = refl
-  later true None None upto = refl
-  later true None (Some w) upto = refl
-  later false None name upto = refl
+  later (Some (Leftover w)) name upto = refl
+  later (Some Away) name upto = left_under left name
+  later None name upto = left_under left name
 
-  pub reopens_told : (slots : BTreeMap ℕ (Slot A W)) (names : Names W) (ways : List (Names W)) (told : Bool) → 0 < length ways → OnTrue told (Contains ways names) → ((k : ℕ) → is_upto opening (get nat_cmp slots k) ≡ true) → MightBe (left_ways told slots ways) (states_of book left (opening + 1) told slots names)
-  reopens_told slots names ways true some is upto = ((λ k. left_of_epoch (states_of book left opening true slots names k)), contains_map (λ ns k. left_of_epoch (states_of book left opening true slots ns k)) ways names is, λ k. later true (get nat_cmp slots k) (names k) (upto k))
-  reopens_told slots names [] false some is upto = absurd (omega arith)
-  reopens_told slots names (way ∷ ways) false some is upto = ((λ k. left_of_epoch (states_of book left opening false slots way k)), contains_here _ _, λ k. later false (get nat_cmp slots k) (names k) (upto k) ∙ ap left_of_epoch (untold_same (get nat_cmp slots k) (names k) (way k)))
+  pub reopens_as_left : (slots : BTreeMap ℕ (Slot A W)) (names : Names W) (ways : List (Names W)) → Contains ways names → ((k : ℕ) → is_upto opening (get nat_cmp slots k) ≡ true) → MightBe (left_ways slots ways) (states_of book left (opening + 1) slots names)
+  reopens_as_left slots names ways is upto = ((λ k. left_of_epoch (states_of book left opening slots names k)), contains_map (λ ns k. left_of_epoch (states_of book left opening slots ns k)) ways names is, λ k. later (get nat_cmp slots k) (names k) (upto k))
 
-  pub reopen_fails : (slots : BTreeMap ℕ (Slot A W)) (ways lefts : List (Names W)) (told : Bool) → 0 < length ways → OnTrue told (Within lefts ways × Within ways lefts) → AllByRecursion (MightBe (left_ways told slots ways)) (left_ways told slots lefts)
-  reopen_fails slots ways lefts true some within = all_mapped _ (Contains lefts) _ lefts (λ ns has. ((λ k. left_of_epoch (states_of book left opening true slots ns k)), contains_map (λ ms k. left_of_epoch (states_of book left opening true slots ms k)) ways ns (within.0 ns has), λ k. refl)) (AllByRecursion-from_contains (Contains lefts) lefts (λ x has. has))
-  reopen_fails slots [] lefts false some within = absurd (omega arith)
-  reopen_fails slots (way ∷ ways) lefts false some within = all_map _ _ lefts (λ ns. ((λ k. left_of_epoch (states_of book left opening false slots way k)), contains_here _ _, λ k. ap left_of_epoch (untold_same (get nat_cmp slots k) (ns k) (way k))))
+  pub reopen_fails : (slots : BTreeMap ℕ (Slot A W)) (ways lefts : List (Names W)) → Within lefts ways → AllByRecursion (MightBe (left_ways slots ways)) (left_ways slots lefts)
+  reopen_fails slots ways lefts within = all_mapped _ (Contains lefts) _ lefts (λ ns has. ((λ k. left_of_epoch (states_of book left opening slots ns k)), contains_map (λ ms k. left_of_epoch (states_of book left opening slots ms k)) ways ns (within ns has), λ k. refl)) (AllByRecursion-from_contains (Contains lefts) lefts (λ x has. has))
 
   -- AN OPENING OF A NAME THAT FAILED
 
-  leaves_under : (told : Bool) (o : Option W) → LeavesEpoch [] none_gone (state_under told left o) (left_of_epoch (state_under told left o))
-  leaves_under true None = record { sure = λ x has stays. has; held = λ x has stays. contains_none x has; may = λ known x has. inl has }
-  leaves_under true (Some w) = record { sure = λ x has stays. has; held = λ x has stays. contains_none x has; may = λ known x has. inl has }
-  leaves_under false o = record { sure = λ x has stays. has; held = λ x has stays. contains_none x has; may = λ known x has. inl has }
+  leaves_under : (o : Option W) → LeavesEpoch [] none_gone (state_under left o) (left_of_epoch (state_under left o))
+  leaves_under None = record { sure = λ x has stays. has; held = λ x has stays. contains_none x has; may = λ x has. inl has }
+  leaves_under (Some w) = record { sure = λ x has stays. has; held = λ x has stays. contains_none x has; may = λ x has. inl has }
 
   module _ (is_empty : W → Bool) (empties : (w : W) → IsTrue (is_empty w) → left w ≡ nothing_left) (slots removed : BTreeMap ℕ (Slot A W)) (e : ℕ) (gone_here : get nat_cmp removed e ≡ None) (others : (k : ℕ) → k ≢ e → get nat_cmp removed k ≡ get nat_cmp slots k) (names : Names W) where
     -- an empty one that was added under a name leaves nothing, as no name
-    same_under : (ns : Names W) → IsOpenedOrNot is_empty names e ns → (o : Option W) → o ≡ ns e → (p : Option W) → p ≡ names e → state_under true left o ≡ state_under true left p
-    same_under ns (inl keeps) o o_is p p_is = ap (state_under true left) (o_is ∙ keeps e ∙ sym p_is)
-    same_under ns (inr adds) None o_is p p_is = ap (state_under true left) (sym (p_is ∙ adds.lacked))
-    same_under ns (inr adds) (Some w) o_is p p_is = ap shut (empties w (stands_empty (ns e) (sym o_is) adds.stands)) ∙ ap (state_under true left) (sym (p_is ∙ adds.lacked))
+    same_under : (ns : Names W) → IsOpenedOrNot is_empty names e ns → (o : Option W) → o ≡ ns e → (p : Option W) → p ≡ names e → state_under left o ≡ state_under left p
+    same_under ns (inl keeps) o o_is p p_is = ap (state_under left) (o_is ∙ keeps e ∙ sym p_is)
+    same_under ns (inr adds) None o_is p p_is = ap (state_under left) (sym (p_is ∙ adds.lacked))
+    same_under ns (inr adds) (Some w) o_is p p_is = ap shut (empties w (stands_empty (ns e) (sym o_is) adds.stands)) ∙ ap (state_under left) (sym (p_is ∙ adds.lacked))
       where
         stands_empty : (o : Option W) → o ≡ Some w → IsSomeAnd o (λ content. IsTrue (is_empty content)) → IsTrue (is_empty w)
         stands_empty (Some v) is empty = subst (λ u. IsTrue (is_empty u)) (inside is) empty
@@ -139,86 +136,90 @@ module _ {A W : Type 0} (book : A → Book) (left : W → Left Cached) (opening 
             inside e' = cc
         stands_empty None is empty = absurd empty
 
-    pub loses_name : (told : Bool) (ways : List (Names W)) → OnTrue told (AllByRecursion (IsOpenedOrNot is_empty names e) ways) → AllByRecursion (LosesEpoch e (state_under told left (names e)) [] none_gone (states_of book left opening told slots names)) (left_ways told removed ways)
-    loses_name true ways all = all_mapped _ (IsOpenedOrNot is_empty names e) _ ways (λ ns way. record {
-      here = subst (LeavesEpoch [] none_gone (state_under true left (names e))) (sym (ap (λ s. left_of_epoch (state_at book left opening true s (ns e))) gone_here ∙ ap left_of_epoch (same_under ns way (ns e) refl (names e) refl))) (leaves_under true (names e));
-      others = λ k other. ap (λ s. left_of_epoch (state_at book left opening true s (ns k))) (others k other) ∙ ap (λ n. left_of_epoch (state_at book left opening true (get nat_cmp slots k) n)) (elsewhere ns way k other);
+    pub loses_name : (ways : List (Names W)) → AllByRecursion (IsOpenedOrNot is_empty names e) ways → AllByRecursion (LosesEpoch e (state_under left (names e)) [] none_gone (states_of book left opening slots names)) (left_ways removed ways)
+    loses_name ways all = all_mapped _ (IsOpenedOrNot is_empty names e) _ ways (λ ns way. record {
+      here = subst (LeavesEpoch [] none_gone (state_under left (names e))) (sym (ap (λ s. left_of_epoch (state_at book left opening s (ns e))) gone_here ∙ ap left_of_epoch (same_under ns way (ns e) refl (names e) refl))) (leaves_under (names e));
+      others = λ k other. ap (λ s. left_of_epoch (state_at book left opening s (ns k))) (others k other) ∙ ap (λ n. left_of_epoch (state_at book left opening (get nat_cmp slots k) n)) (elsewhere ns way k other);
     }) all
       where
         elsewhere : (ns : Names W) → IsOpenedOrNot is_empty names e ns → (k : ℕ) → k ≢ e → ns k ≡ names k
         elsewhere ns (inl keeps) k other = keeps k
         elsewhere ns (inr adds) k other = adds.others k other
-    loses_name false ways all = all_map _ _ ways (λ ns. record {
-      here = subst (LeavesEpoch [] none_gone unknown) (sym (ap (λ s. left_of_epoch (state_at book left opening false s (ns e))) gone_here)) (leaves_under false (names e));
-      others = λ k other. ap (λ s. left_of_epoch (state_at book left opening false s (ns k))) (others k other) ∙ ap left_of_epoch (untold_same (get nat_cmp slots k) (ns k) (names k));
-    })
 
-  -- A REMOVAL THAT FAILED
+  -- A REMOVAL
 
-  pub loses_removed : (slots : BTreeMap ℕ (Slot A W)) (e : ℕ) (names : Names W) (told : Bool) (ways : List (Names W)) → OnTrue told (AllByRecursion (IsDestroyedOrNot names e) ways) → AllByRecursion (DestroysOrNot e (states_of book left opening told slots names)) (left_ways told slots ways)
-  loses_removed slots e names true ways all = all_mapped _ (IsDestroyedOrNot names e) _ ways (λ ns way. record {
+  pub removed : (slots kept : BTreeMap ℕ (Slot A W)) (e : ℕ) (names names' : Names W) → get nat_cmp kept e ≡ None → ((k : ℕ) → k ≢ e → get nat_cmp kept k ≡ get nat_cmp slots k) → SetsName names e None names' → IsBare (states_of book left opening kept names' e) × KeepsOtherEpochs e (states_of book left opening slots names) (states_of book left opening kept names')
+  removed slots kept e names names' gone others sets = (
+    subst IsBare (sym (ap (λ s. state_at book left opening s (names' e)) gone ∙ ap (state_under left) (sets e ∙ ap (λ b. cond b None (names e)) (eq-eqb e e refl)))) refl,
+    λ k other. ap (λ s. state_at book left opening s (names' k)) (others k other) ∙ ap (state_at book left opening (get nat_cmp slots k)) (sets k ∙ ap (λ b. cond b None (names k)) (ne_eqb k e other)),
+  )
+
+  pub loses_removed : (slots : BTreeMap ℕ (Slot A W)) (e : ℕ) (names : Names W) (ways : List (Names W)) → AllByRecursion (IsDestroyedOrNot names e) ways → AllByRecursion (DestroysOrNot e (states_of book left opening slots names)) (left_ways slots ways)
+  loses_removed slots e names ways all = all_mapped _ (IsDestroyedOrNot names e) _ ways (λ ns way. record {
     here = at_name (get nat_cmp slots e) ns way;
-    others = λ k other. ap (λ n. left_of_epoch (state_at book left opening true (get nat_cmp slots k) n)) (elsewhere ns way k other);
+    others = λ k other. ap (λ n. left_of_epoch (state_at book left opening (get nat_cmp slots k) n)) (elsewhere ns way k other);
   }) all
     where
       elsewhere : (ns : Names W) → IsDestroyedOrNot names e ns → (k : ℕ) → k ≢ e → ns k ≡ names k
       elsewhere ns (inl keeps) k other = keeps k
       elsewhere ns (inr sets) k other = sets k ∙ ap (λ b. cond b None (names k)) (ne_eqb k e other)
 
-      at_name : (slot : Option (Slot A W)) (ns : Names W) → IsDestroyedOrNot names e ns → IsLeftOrBare (state_at book left opening true slot (names e)) (left_of_epoch (state_at book left opening true slot (ns e)))
-      at_name (Some s) ns way = inl refl
-      at_name None ns (inl keeps) = inl (ap (λ o. left_of_epoch (state_under true left o)) (keeps e))
-      at_name None ns (inr sets) = inr (subst (λ o. IsBare (left_of_epoch (state_under true left o))) (sym (sets e ∙ ap (λ b. cond b None (names e)) (eq-eqb e e refl))) refl)
-  loses_removed slots e names false ways all = all_map _ _ ways (λ ns. record {
-    here = inl (ap left_of_epoch (untold_same (get nat_cmp slots e) (ns e) (names e)));
-    others = λ k other. ap left_of_epoch (untold_same (get nat_cmp slots k) (ns k) (names k));
-  })
+      under : (ns : Names W) → IsDestroyedOrNot names e ns → IsLeftOrBare (state_under left (names e)) (left_of_epoch (state_under left (ns e)))
+      under ns (inl keeps) = inl (ap (λ o. left_of_epoch (state_under left o)) (keeps e))
+      under ns (inr sets) = inr (subst (λ o. IsBare (left_of_epoch (state_under left o))) (sym (sets e ∙ ap (λ b. cond b None (names e)) (eq-eqb e e refl))) refl)
+
+      at_name : (slot : Option (Slot A W)) (ns : Names W) → IsDestroyedOrNot names e ns → IsLeftOrBare (state_at book left opening slot (names e)) (left_of_epoch (state_at book left opening slot (ns e)))
+      at_name (Some (Standing v o)) ns way = inl refl
+      at_name (Some (Leftover w)) ns way = inl refl
+      at_name (Some Away) ns way = under ns way
+      at_name None ns way = under ns way
 
 -- OPENINGS AND CHANGES
 
--- where the slot of an epoch was exchanged, and then all was left as a crash leaves it
-pub loses_exchanged : {A W : Type 0} (book : A → Book) (left : W → Left Cached) (told : Bool) (opening now : ℕ) (old new : BTreeMap ℕ (Slot A W)) (names names' : Names W) (e : ℕ) (slot : Slot A W) (was : EpochState) (put : List Cached) (gone : Cached → Bool) (lefts : List EpochStates)
-    → now ≡ opening → names' ≡ names → ((k : ℕ) → get nat_cmp new k ≡ (if k == e then option_map (λ _. slot) (get nat_cmp old k) else get nat_cmp old k)) → is_some (get nat_cmp old e) ≡ true
-    → LeavesEpoch put gone was (left_of_epoch (state_of_slot book left opening slot)) → AllByRecursion (λ l. (k : ℕ) → l k ≡ left_of_epoch (states_of book left now told new names' k)) lefts → AllByRecursion (LosesEpoch e was put gone (states_of book left opening told old names)) lefts
-loses_exchanged book left told opening now old new names names' e slot was put gone lefts same same_names exchanged there leaves all =
-    loses_left e was (state_of_slot book left opening slot) put gone (states_of book left opening told old names) (states_of book left opening told new names) lefts
-    (exchanged_here book left opening told old new names e slot exchanged there)
-    (exchanged_others book left opening told old new names e slot exchanged)
-    leaves
-    (subst (λ o. AllByRecursion (λ l. (k : ℕ) → l k ≡ left_of_epoch (states_of book left o told new names k)) lefts) same (subst (λ ns. AllByRecursion (λ l. (k : ℕ) → l k ≡ left_of_epoch (states_of book left now told new ns k)) lefts) same_names all))
+module _ {A W S L : Type 0} (book : A → Book) (left : W → Left Cached) (states : S → EpochStates) (lefts : L → List EpochStates) (e : ℕ) (old : EpochStates) where
+  -- a change of archives, which were put back
+  pub changes_back : {E : Type 0} (plain : E → Cached) (change : Change E) (b : Book) (answer : Result A (Lost W)) (r : Result S (Lost L)) → PutsBack book left states lefts e old answer r
+      → MatchResult answer (λ v. ChangesArchives plain change b (book v)) (λ l. LosesArchives plain change b.kept (left (wreck_of l)))
+      → MatchResult r (λ s. ChangesEpoch plain change (opened b) (states s e) × KeepsOtherEpochs e old (states s)) (λ l. AllByRecursion (LosesEpoch e (opened b) (puts_of plain change) (λ x. not (is_kept change x)) old) (lefts (wreck_of l)))
+  changes_back plain change b (Ok v) (Ok s) back done = ((book v, done, back.0), back.1)
+  changes_back plain change b (Ok v) (Err m) back done = absurd back
+  changes_back plain change b (Err l) (Ok s) back done = absurd back
+  changes_back plain change b (Err l) (Err m) back done = AllByRecursion-weaker _ _ (λ x is. record { here = subst (LeavesEpoch (puts_of plain change) (λ y. not (is_kept change y)) (opened b)) (sym is.0) (leaves_lost plain change b (left (wreck_of l)) done); others = is.1 }) (lefts (wreck_of m)) back.1
 
--- An opening that began on another view of the same.
-pub opens_from : {S L : Type 0} (states : S → EpochStates) (lefts : L → List EpochStates) (e : ℕ) (t u : EpochState) (old mid : EpochStates) (r : Result S (Lost L))
-    → ((new : EpochState) → OpensEpoch t new → OpensEpoch u new) → ((x : EpochState) → LeavesEpoch [] none_gone t x → LeavesEpoch [] none_gone u x) → ((k : ℕ) → k ≢ e → mid k ≡ old k)
-    → MatchResult r (λ s. OpensEpoch t (states s e) × KeepsOtherEpochs e mid (states s)) (λ l. AllByRecursion (LosesEpoch e t [] none_gone mid) (lefts (wreck_of l)))
-    → MatchResult r (λ s. OpensEpoch u (states s e) × KeepsOtherEpochs e old (states s)) (λ l. AllByRecursion (LosesEpoch e u [] none_gone old) (lefts (wreck_of l)))
-opens_from states lefts e t u old mid (Ok s) opens leaves same done = (opens (states s e) done.0, λ k other. done.1 k other ∙ same k other)
-opens_from states lefts e t u old mid (Err l) opens leaves same done = AllByRecursion-weaker _ _ (λ x lost. record { here = leaves (x e) lost.here; others = λ k other. lost.others k other ∙ ap left_of_epoch (same k other) }) (lefts (wreck_of l)) done
+  -- an opening of archives
+  pub opens_back : (l : Left Cached) (answer : Result A (Lost W)) (r : Result S (Lost L)) → PutsBack book left states lefts e old answer r
+      → MatchResult answer (λ v. FindsArchives l (book v).kept) (λ w. KeepsArchives l (left (wreck_of w)))
+      → MatchResult r (λ s. OpensEpoch (shut l) (states s e) × KeepsOtherEpochs e old (states s)) (λ m. AllByRecursion (LosesEpoch e (shut l) [] none_gone old) (lefts (wreck_of m)))
+  opens_back l (Ok v) (Ok s) back done = ((book v, done, back.0), back.1)
+  opens_back l (Ok v) (Err m) back done = absurd back
+  opens_back l (Err w) (Ok s) back done = absurd back
+  opens_back l (Err w) (Err m) back done = AllByRecursion-weaker _ _ (λ x is. record { here = subst (LeavesEpoch [] none_gone (shut l)) (sym is.0) (leaves_kept l (left (wreck_of w)) done); others = is.1 }) (lefts (wreck_of m)) back.1
 
+  pub memory_back : (answer : Result A (Lost W)) (r : Result S (Lost L)) → PutsBack book left states lefts e old answer r → IfErr answer IsOfMemory → IfErr r IsOfMemory
+  memory_back (Ok v) (Ok s) back of = tt
+  memory_back (Ok v) (Err m) back of = absurd back
+  memory_back (Err l) (Ok s) back of = tt
+  memory_back (Err l) (Err m) back of = back.0 ∙ of
+
+-- what a depot handed out is what it had under the name
 module _ {W : Type 0} (left : W → Left Cached) (is_empty : W → Bool) (empties : (w : W) → IsTrue (is_empty w) → left w ≡ nothing_left) (names : Names W) (e : ℕ) (ruin : W) (names' : Names W) where
-  handed_is : (o : Option W) → MatchOption o (IsTrue (is_empty ruin)) (λ content. ruin ≡ content) → shut (left ruin) ≡ state_under true left o
-  handed_is None empty = ap shut (empties ruin empty)
-  handed_is (Some w) is = ap (λ v. shut (left v)) is
+  pub handed_is : Opens is_empty names e ruin names' → state_under left (names e) ≡ shut (left ruin)
+  handed_is opens = by (names e) opens.handed
+    where
+      by : (o : Option W) → MatchOption o (IsTrue (is_empty ruin)) (λ content. ruin ≡ content) → state_under left o ≡ shut (left ruin)
+      by None empty = ap shut (sym (empties ruin empty))
+      by (Some w) is = ap (λ v. shut (left v)) (sym is)
 
-  pub opens_handed : (told : Bool) → OnTrue told (Opens is_empty names e ruin names') → (new : EpochState) → OpensEpoch (shut (left ruin)) new → OpensEpoch (state_under told left (names e)) new
-  opens_handed true is new done = subst (λ t. OpensEpoch t new) (handed_is (names e) is.handed) done
-  opens_handed false is new done = (done.0, done.2)
-
-  pub leaves_handed : (told : Bool) → OnTrue told (Opens is_empty names e ruin names') → (x : EpochState) → LeavesEpoch [] none_gone (shut (left ruin)) x → LeavesEpoch [] none_gone (state_under told left (names e)) x
-  leaves_handed true is x lost = subst (λ t. LeavesEpoch [] none_gone t x) (handed_is (names e) is.handed) lost
-  leaves_handed false is x lost = record { sure = λ y has stays. contains_none y has; held = λ y has stays. contains_none y has; may = λ known y has. absurd cc }
-
-  pub others_handed : {A : Type 0} (book : A → Book) (opening : ℕ) (slots : BTreeMap ℕ (Slot A W)) (told : Bool) → OnTrue told (Opens is_empty names e ruin names') → (k : ℕ) → k ≢ e → states_of book left opening told slots names' k ≡ states_of book left opening told slots names k
-  others_handed book opening slots true is k other = ap (λ n. state_at book left opening true (get nat_cmp slots k) n) (is.others k other)
-  others_handed book opening slots false is k other = untold_same book left opening (get nat_cmp slots k) (names' k) (names k)
+  pub others_handed : {A : Type 0} (book : A → Book) (opening : ℕ) (slots : BTreeMap ℕ (Slot A W)) → Opens is_empty names e ruin names' → (k : ℕ) → k ≢ e → states_of book left opening slots names' k ≡ states_of book left opening slots names k
+  others_handed book opening slots is k other = ap (λ n. state_at book left opening (get nat_cmp slots k) n) (is.others k other)
 
 -- an epoch that had no slot, where none could be made for it
-pub loses_unslotted : {A W : Type 0} (book : A → Book) (left : W → Left Cached) (told : Bool) (opening : ℕ) (old new : BTreeMap ℕ (Slot A W)) (names : Names W) (e : ℕ) (lefts : List EpochStates) → ((k : ℕ) → get nat_cmp new k ≡ get nat_cmp old k) → get nat_cmp old e ≡ None
-    → AllByRecursion (λ l. (k : ℕ) → l k ≡ left_of_epoch (states_of book left opening told new names k)) lefts → AllByRecursion (LosesEpoch e (state_under told left (names e)) [] none_gone (states_of book left opening told old names)) lefts
-loses_unslotted book left told opening old new names e lefts same none all =
-    loses_left e _ (state_under told left (names e)) [] none_gone _ (states_of book left opening told new names) lefts
-    (ap (λ s. state_at book left opening told s (names e)) (same e ∙ none)) (λ k other. ap (λ s. state_at book left opening told s (names k)) (same k))
-    (leaves_under book left opening told (names e)) all
+pub loses_unslotted : {A W : Type 0} (book : A → Book) (left : W → Left Cached) (opening : ℕ) (old new : BTreeMap ℕ (Slot A W)) (names : Names W) (e : ℕ) (lefts : List EpochStates) → ((k : ℕ) → get nat_cmp new k ≡ get nat_cmp old k) → get nat_cmp old e ≡ None
+    → AllByRecursion (λ l. (k : ℕ) → l k ≡ left_of_epoch (states_of book left opening new names k)) lefts → AllByRecursion (LosesEpoch e (state_under left (names e)) [] none_gone (states_of book left opening old names)) lefts
+loses_unslotted book left opening old new names e lefts same none all =
+    loses_left e _ (state_under left (names e)) [] none_gone _ (states_of book left opening new names) lefts
+    (ap (λ s. state_at book left opening s (names e)) (same e ∙ none)) (λ k other. ap (λ s. state_at book left opening s (names k)) (same k))
+    (leaves_under book left opening (names e)) all
 
 -- WALKS OVER EPOCHS
 
@@ -256,41 +257,43 @@ pub same_view : {S L : Type 0} (R : EpochState → EpochState → Type 0) (put :
 same_view R put gone states lefts e t u old mid (Ok s) is same done = (subst (λ v. R v (states s e)) (sym is) done.0, λ k other. done.1 k other ∙ same k other)
 same_view R put gone states lefts e t u old mid (Err l) is same done = AllByRecursion-weaker _ _ (λ x lost. record { here = subst (λ v. LeavesEpoch put gone v (x e)) (sym is) lost.here; others = λ k other. lost.others k other ∙ ap left_of_epoch (same k other) }) (lefts (wreck_of l)) done
 
--- an epoch that is away, of which a depot has something
-pub opens_away : {W : Type 0} (told : Bool) (left : W → Left Cached) (o : Option W) (new : EpochState) → OpensEpoch (state_under told left o) new → OpensEpoch unknown new
-opens_away true left None new done = (done.0, done.2)
-opens_away true left (Some w) new done = (done.0, done.2)
-opens_away false left o new done = done
-
-pub leaves_away : (t x : EpochState) → LeavesEpoch [] none_gone t x → LeavesEpoch [] none_gone unknown x
-leaves_away t x lost = record { sure = λ y has stays. contains_none y has; held = λ y has stays. contains_none y has; may = λ known y has. absurd cc }
-
-module _ {A W : Type 0} (book : A → Book) (left : W → Left Cached) (told : Bool) (opening : ℕ) where
+module _ {A W : Type 0} (book : A → Book) (left : W → Left Cached) (opening : ℕ) where
   pub exchanged_elsewhere : (now : ℕ) (old new : BTreeMap ℕ (Slot A W)) (names names' : Names W) (e : ℕ) (slot : Slot A W) → now ≡ opening → names' ≡ names → ((k : ℕ) → get nat_cmp new k ≡ (if k == e then option_map (λ _. slot) (get nat_cmp old k) else get nat_cmp old k))
-      → (k : ℕ) → k ≢ e → states_of book left now told new names' k ≡ states_of book left opening told old names k
-  exchanged_elsewhere now old new names names' e slot same same_names exchanged k other = rw (same, same_names) (exchanged_others book left opening told old new names e slot exchanged k other)
+      → (k : ℕ) → k ≢ e → states_of book left now new names' k ≡ states_of book left opening old names k
+  exchanged_elsewhere now old new names names' e slot same same_names exchanged k other = rw (same, same_names) (exchanged_others book left opening old new names e slot exchanged k other)
 
   -- where archives came to stand in the slot of an epoch
   pub stands_here : (now : ℕ) (old new : BTreeMap ℕ (Slot A W)) (names names' : Names W) (e : ℕ) (v : A) → now ≡ opening → names' ≡ names → ((k : ℕ) → get nat_cmp new k ≡ (if k == e then option_map (λ _. Standing v opening) (get nat_cmp old k) else get nat_cmp old k))
-      → is_some (get nat_cmp old e) ≡ true → states_of book left now told new names' e ≡ opened (book v)
-  stands_here now old new names names' e v same same_names exchanged there = rw (same, same_names) (exchanged_here book left opening told old new names e (Standing v opening) exchanged there ∙ ap (λ b. cond b (opened (book v)) (shut (left_of (book v).kept))) (eq-eqb opening opening refl))
+      → is_some (get nat_cmp old e) ≡ true → states_of book left now new names' e ≡ opened (book v)
+  stands_here now old new names names' e v same same_names exchanged there = rw (same, same_names) (exchanged_here book left opening old new names e (Standing v opening) exchanged there ∙ ap (λ b. cond b (opened (book v)) (shut (left_of (book v).kept))) (eq-eqb opening opening refl))
 
-  pub standing_open : (v : A) (o : ℕ) (slot : Option (Slot A W)) (name : Option W) → slot ≡ Some (Standing v o) → o ≡ opening → state_at book left opening told slot name ≡ opened (book v)
-  standing_open v o slot name is same = ap (λ s. state_at book left opening told s name) is ∙ ap (λ b. cond b (opened (book v)) (shut (left_of (book v).kept))) (eq-eqb o opening same)
+  -- or what is left of them
+  pub left_here : (now : ℕ) (old new : BTreeMap ℕ (Slot A W)) (names names' : Names W) (e : ℕ) (w : W) (lefts : List EpochStates) → now ≡ opening → names' ≡ names → ((k : ℕ) → get nat_cmp new k ≡ (if k == e then option_map (λ _. Leftover w) (get nat_cmp old k) else get nat_cmp old k)) → is_some (get nat_cmp old e) ≡ true
+      → AllByRecursion (λ x. (k : ℕ) → x k ≡ left_of_epoch (states_of book left now new names' k)) lefts → AllByRecursion (λ x. (x e ≡ shut (left w)) × LeavesOtherEpochs e (states_of book left opening old names) x) lefts
+  left_here now old new names names' e w lefts same same_names exchanged there all = AllByRecursion-weaker _ _ (λ x is. (
+    is e ∙ ap left_of_epoch here,
+    λ k other. is k ∙ ap left_of_epoch (exchanged_elsewhere now old new names names' e (Leftover w) same same_names exchanged k other),
+  )) lefts all
+    where
+      here : states_of book left now new names' e ≡ shut (left w)
+      here = rw (same, same_names) (exchanged_here book left opening old new names e (Leftover w) exchanged there)
+
+  pub standing_open : (v : A) (o : ℕ) (slot : Option (Slot A W)) (name : Option W) → slot ≡ Some (Standing v o) → o ≡ opening → state_at book left opening slot name ≡ opened (book v)
+  standing_open v o slot name is same = ap (λ s. state_at book left opening s name) is ∙ ap (λ b. cond b (opened (book v)) (shut (left_of (book v).kept))) (eq-eqb o opening same)
 
   -- it is open, so no clause speaks of one that isn't
-  pub standing_not_shut : (v : A) (o : ℕ) (slot : Option (Slot A W)) (name : Option W) → slot ≡ Some (Standing v o) → o ≡ opening → is_opened (state_at book left opening told slot name) ≡ false → ⊥
+  pub standing_not_shut : (v : A) (o : ℕ) (slot : Option (Slot A W)) (name : Option W) → slot ≡ Some (Standing v o) → o ≡ opening → is_opened (state_at book left opening slot name) ≡ false → ⊥
   standing_not_shut v o slot name is same closed = let clash : true ≡ false = sym (ap is_opened (standing_open v o slot name is same)) ∙ closed in cc
 
-  pub standing_shut : (v : A) (o : ℕ) (slot : Option (Slot A W)) (name : Option W) → slot ≡ Some (Standing v o) → is_opened (state_at book left opening told slot name) ≡ false → state_at book left opening told slot name ≡ shut (left_of (book v).kept)
-  standing_shut v o slot name is closed = ap (λ s. state_at book left opening told s name) is ∙ by (o == opening) (ap is_opened (ap (λ s. state_at book left opening told s name) (sym is)) ∙ closed)
+  pub standing_shut : (v : A) (o : ℕ) (slot : Option (Slot A W)) (name : Option W) → slot ≡ Some (Standing v o) → is_opened (state_at book left opening slot name) ≡ false → state_at book left opening slot name ≡ shut (left_of (book v).kept)
+  standing_shut v o slot name is closed = ap (λ s. state_at book left opening s name) is ∙ by (o == opening) (ap is_opened (ap (λ s. state_at book left opening s name) (sym is)) ∙ closed)
     where
       by : (b : Bool) → is_opened (cond b (opened (book v)) (shut (left_of (book v).kept))) ≡ false → cond b (opened (book v)) (shut (left_of (book v).kept)) ≡ shut (left_of (book v).kept)
       by true closed' = absurd cc
       by false closed' = refl
 
-  pub slot_is : (slot slot' : Option (Slot A W)) (name : Option W) → slot ≡ slot' → state_at book left opening told slot name ≡ state_at book left opening told slot' name
-  slot_is slot slot' name is = ap (λ s. state_at book left opening told s name) is
+  pub slot_is : (slot slot' : Option (Slot A W)) (name : Option W) → slot ≡ slot' → state_at book left opening slot name ≡ state_at book left opening slot' name
+  slot_is slot slot' name is = ap (λ s. state_at book left opening s name) is
 
 -- another key than that one
 pub not_at : (e k : ℕ) → k ≢ e → is_at (nat_cmp e) k ≡ false
@@ -318,20 +321,19 @@ module _ {A W : Type 0} (book : A → Book) (left : W → Left Cached) (opening 
       by (Some s) is = inl (has_key k (ap is_some is))
       by None is = inr (λ there. both_ways false refl (sym (ap is_some is) ∙ (btree_map_contains_key_iff nat_cmp_total exact_unsigned slots k).1 there))
 
-  pub unslotted : (told : Bool) (k : ℕ) → (Contains (keys slots) k → ⊥) → held_in (states_of book left opening told slots names k) ≡ []
-  unslotted told k lacks = by told (get nat_cmp slots k) refl (names k)
+  -- what a depot alone has isn't open
+  pub unslotted : (k : ℕ) → (Contains (keys slots) k → ⊥) → held_in (states_of book left opening slots names k) ≡ []
+  unslotted k lacks = by (get nat_cmp slots k) refl (names k)
     where
-      by : (told : Bool) (o : Option (Slot A W)) → get nat_cmp slots k ≡ o → (n : Option W) → held_in (state_at book left opening told o n) ≡ []
-      by told' (Some s) is n = absurd (lacks (has_key k (ap is_some is)))
-      by true None is None = refl
-      by true None is (Some w) = refl
-      by false None is n = refl
+      by : (o : Option (Slot A W)) → get nat_cmp slots k ≡ o → (n : Option W) → held_in (state_at book left opening o n) ≡ []
+      by (Some s) is n = absurd (lacks (has_key k (ap is_some is)))
+      by None is None = refl
+      by None is (Some w) = refl
 
-  pub epochs_found : (told : Bool) (list epochs : List ℕ) → OnTrue told ((n : ℕ) → IsSome (names n) ↔ Contains list n) → epochs ≡ list ++ keys slots → (k : ℕ) → HasSome (states_of book left opening told slots names k) → Contains epochs k
-  epochs_found told list epochs listed are k some = subst (λ es. Contains es k) (sym are) (by told (get nat_cmp slots k) refl (names k) refl listed some)
+  pub epochs_found : (list epochs : List ℕ) → ((n : ℕ) → IsSome (names n) ↔ Contains list n) → epochs ≡ list ++ keys slots → (k : ℕ) → HasSome (states_of book left opening slots names k) → Contains epochs k
+  epochs_found list epochs listed are k some = subst (λ es. Contains es k) (sym are) (by (get nat_cmp slots k) refl (names k) refl some)
     where
-      by : (told : Bool) (o : Option (Slot A W)) → get nat_cmp slots k ≡ o → (n : Option W) → names k ≡ n → OnTrue told ((m : ℕ) → IsSome (names m) ↔ Contains list m) → HasSome (state_at book left opening told o n) → Contains (list ++ keys slots) k
-      by told' (Some s) is n name listed' some' = Contains-append_right list (keys slots) k (has_key k (ap is_some is))
-      by true None is (Some w) name listed' some' = Contains-append_left list (keys slots) k ((listed' k).0 (ap is_some name))
-      by true None is None name listed' some' = absurd (some' refl)
-      by false None is n name listed' some' = absurd some'
+      by : (o : Option (Slot A W)) → get nat_cmp slots k ≡ o → (n : Option W) → names k ≡ n → HasSome (state_at book left opening o n) → Contains (list ++ keys slots) k
+      by (Some s) is n name some' = Contains-append_right list (keys slots) k (has_key k (ap is_some is))
+      by None is (Some w) name some' = Contains-append_left list (keys slots) k ((listed k).0 (ap is_some name))
+      by None is None name some' = absurd (some' refl)

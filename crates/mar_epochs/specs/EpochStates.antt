@@ -1,22 +1,25 @@
 -- What a shelf has of each epoch, and what its calls make of that.
+use Rattle.std.specs.List.{AllByRecursion}
 use Rattle.std.specs.Ordering.{nat_cmp}
 use Rattle.std.specs.BTreeMap.{BTreeMap, get}
-use Rattle.std.specs.Prelude.{Bool, Contains, IsTrue, List, None, Option, Some, [], false, filter, if◌then◌else◌, nat_le, true, ℕ, ⊤, ◌<◌, ◌==◌, ◌≡◌, ◌≢◌, ◌≤◌, ◌⊎◌}
-use Rattle.mar_store.specs.Changes.{Left, left_of}
+use Rattle.std.specs.Prelude.{Bool, Contains, Err, List, None, Ok, Option, Result, Some, [], false, filter, if◌then◌else◌, map, nat_le, suc, true, zero, ℕ, ⊤, ◌<◌, ◌==◌, ◌∷◌, ◌≡◌, ◌≢◌, ◌≤◌, ◌⊎◌}
+use Rattle.std.proofs.Common.{arith, subst}
+use Rattle.mar_store.specs.Changes.{Left, Within, left_of}
+use Rattle.mar_store.specs.Lost.{wreck_of}
+use Rattle.mar_store.specs.declared.Lost.{Lost}
 use Rattle.mar_store.specs.Names.{Names}
 use Rattle.mar_node.specs.Cached.{Cached}
 use Rattle.mar_epochs.specs.Sections.{first_found, is_in}
-use Rattle.mar_epochs.specs.EpochArchives.{AreNestedArchives, Book, ChangesArchives, FindsArchives, nothing_left}
+use Rattle.mar_epochs.specs.EpochArchives.{AreNestedArchives, Book, ChangesArchives, FindsArchives, is_fault, nothing_left}
 use Rattle.mar_epochs.specs.declared.section.Section.{Section}
 use Rattle.mar_epochs.specs.declared.change.Change.{Change}
 use Rattle.mar_epochs.specs.declared.slot.Slot.{Slot}
 use Rattle.mar_epochs.specs.declared.slot.Slot.TheVariants.{Away, Leftover, Standing}
 
--- An epoch is open, or something is left of it. Of one that a depot has it isn't known what, where that doesn't tell.
+-- An epoch is open, or this is left of it, which may be nothing.
 pub data EpochState : Type 0 where
   opened : Book → EpochState
   shut : Left Cached → EpochState
-  unknown : EpochState
 
 -- what a shelf has of each epoch
 abbrev pub EpochStates : Type 0
@@ -26,16 +29,15 @@ EpochStates = ℕ → EpochState
 abbrev pub left_of_epoch : EpochState → EpochState
 left_of_epoch (opened b) = shut (left_of b.kept)
 left_of_epoch (shut l) = shut l
-left_of_epoch unknown = unknown
 
 abbrev pub is_opened : EpochState → Bool
 is_opened (opened b) = true
 is_opened _ = false
 
--- what is sure is held, and what is held may be left
+-- what is sure is held, where the epoch is open, and what is held or sure may be left
 abbrev pub IsNestedEpoch : EpochState → Type 0
 IsNestedEpoch (opened b) = AreNestedArchives b.kept
-IsNestedEpoch _ = ⊤
+IsNestedEpoch (shut l) = Within l.sure l.may
 
 -- what is held, what is sure and what may be left of an epoch
 abbrev pub held_in : EpochState → List Cached
@@ -45,16 +47,10 @@ held_in _ = []
 abbrev pub sure_in : EpochState → List Cached
 sure_in (opened b) = b.kept.sure
 sure_in (shut l) = l.sure
-sure_in unknown = []
 
 abbrev pub may_in : EpochState → List Cached
 may_in (opened b) = b.kept.may
 may_in (shut l) = l.may
-may_in unknown = []
-
-abbrev pub is_known : EpochState → Bool
-is_known unknown = false
-is_known _ = true
 
 -- each epoch but one is as it was
 abbrev pub KeepsOtherEpochs : ℕ → EpochStates → EpochStates → Type 0
@@ -68,14 +64,13 @@ LeavesOtherEpochs e old left = (k : ℕ) → k ≢ e → left k ≡ left_of_epoc
 abbrev pub OpensEpoch : EpochState → EpochState → Type 0
 OpensEpoch (opened b) new = new ≡ opened b
 OpensEpoch (shut l) new = (b : Book) × FindsArchives l b.kept × (new ≡ opened b)
-OpensEpoch unknown new = (b : Book) × (new ≡ opened b)
 
 -- What may be left of an epoch, since some start: what was sure is sure, what was held may be left, and nothing else but
 -- what might be and what was put.
 pub record LeavesEpoch (put : List Cached) (gone : Cached → Bool) (old left : EpochState) : Type 0 where
   pub sure : (x : Cached) → Contains (sure_in old) x → gone x ≡ false → Contains (sure_in left) x
   pub held : (x : Cached) → Contains (held_in old) x → gone x ≡ false → Contains (may_in left) x
-  pub may : IsTrue (is_known old) → (x : Cached) → Contains (may_in left) x → Contains (may_in old) x ⊎ Contains put x
+  pub may : (x : Cached) → Contains (may_in left) x → Contains (may_in old) x ⊎ Contains put x
 
 -- what passes no test
 abbrev pub none_gone : Cached → Bool
@@ -91,11 +86,10 @@ abbrev pub ChangesEpoch : {E : Type 0} → (E → Cached) → Change E → Epoch
 ChangesEpoch plain change (opened b) new = (c : Book) × ChangesArchives plain change b c × (new ≡ opened c)
 ChangesEpoch plain change old new = new ≡ old
 
--- nothing is open or left of it, as far as is known
+-- nothing is open or left of it
 abbrev pub IsBare : EpochState → Type 0
 IsBare (opened b) = ⊥
 IsBare (shut l) = l ≡ nothing_left
-IsBare unknown = ⊤
 
 -- An epoch that was to be destroyed is left as it was, or nothing is left of it.
 abbrev pub IsLeftOrBare : EpochState → EpochState → Type 0
@@ -110,7 +104,6 @@ pub record DestroysOrNot (e : ℕ) (old left : EpochStates) : Type 0 where
 abbrev pub HasSome : EpochState → Type 0
 HasSome (opened b) = ⊤
 HasSome (shut l) = l ≢ nothing_left
-HasSome unknown = ⊥
 
 -- the number of a sync that starts now, where the epoch is open: its ticket covers all that an archive holds
 abbrev pub IsTicket : EpochState → Option ℕ → Type 0
@@ -139,42 +132,61 @@ newer_of e true (Some other) = if nat_le e other then Some other else Some e
 
 -- IN THE CODE
 
--- what a slot has of an epoch; it is open where the opening that goes on opened it
-abbrev pub state_of_slot : {A W : Type 0} → (A → Book) → (W → Left Cached) → ℕ → Slot A W → EpochState
-state_of_slot book left opening (Standing v o) = if o == opening then opened (book v) else shut (left_of (book v).kept)
-state_of_slot book left opening (Leftover w) = shut (left w)
-state_of_slot book left opening Away = unknown
-
 -- what a depot has under a name
-abbrev pub state_under : {W : Type 0} → Bool → (W → Left Cached) → Option W → EpochState
-state_under false left o = unknown
-state_under true left None = shut nothing_left
-state_under true left (Some w) = shut (left w)
+abbrev pub state_under : {W : Type 0} → (W → Left Cached) → Option W → EpochState
+state_under left None = shut nothing_left
+state_under left (Some w) = shut (left w)
 
-abbrev pub state_at : {A W : Type 0} → (A → Book) → (W → Left Cached) → ℕ → Bool → Option (Slot A W) → Option W → EpochState
-state_at book left opening told (Some slot) name = state_of_slot book left opening slot
-state_at book left opening told None name = state_under told left name
+-- What a slot has of an epoch, of which a depot has this under its name. It is open where the opening that goes on opened it.
+abbrev pub state_of_slot : {A W : Type 0} → (A → Book) → (W → Left Cached) → ℕ → Option W → Slot A W → EpochState
+state_of_slot book left opening name (Standing v o) = if o == opening then opened (book v) else shut (left_of (book v).kept)
+state_of_slot book left opening name (Leftover w) = shut (left w)
+state_of_slot book left opening name Away = state_under left name
 
-abbrev pub states_of : {A W : Type 0} → (A → Book) → (W → Left Cached) → ℕ → Bool → BTreeMap ℕ (Slot A W) → Names W → EpochStates
-states_of book left opening told slots names k = state_at book left opening told (get nat_cmp slots k) (names k)
+abbrev pub state_at : {A W : Type 0} → (A → Book) → (W → Left Cached) → ℕ → Option (Slot A W) → Option W → EpochState
+state_at book left opening (Some slot) name = state_of_slot book left opening name slot
+state_at book left opening None name = state_under left name
+
+abbrev pub states_of : {A W : Type 0} → (A → Book) → (W → Left Cached) → ℕ → BTreeMap ℕ (Slot A W) → Names W → EpochStates
+states_of book left opening slots names k = state_at book left opening (get nat_cmp slots k) (names k)
+
+-- Archives stand in the slot of their epoch as a call of them answered: open, or as what is left of them.
+abbrev pub PutsBack : {A W S L : Type 0} → (A → Book) → (W → Left Cached) → (S → EpochStates) → (L → List EpochStates) → ℕ → EpochStates → Result A (Lost W) → Result S (Lost L) → Type 0
+PutsBack book left states lefts e old (Ok v) (Ok s) = (states s e ≡ opened (book v)) × KeepsOtherEpochs e old (states s)
+PutsBack book left states lefts e old (Ok v) (Err m) = ⊥
+PutsBack book left states lefts e old (Err l) (Ok s) = ⊥
+PutsBack book left states lefts e old (Err l) (Err m) = (is_fault m ≡ is_fault l) × AllByRecursion (λ x. (x e ≡ shut (left (wreck_of l))) × LeavesOtherEpochs e old x) (lefts (wreck_of m))
 
 -- no slot is of a later opening
 abbrev pub is_upto : {A W : Type 0} → ℕ → Option (Slot A W) → Bool
 is_upto opening (Some (Standing v o)) = nat_le o opening
 is_upto opening _ = true
 
--- as those of each epoch's archives are nested
-pub nested_states : {A W : Type 0} (book : A → Book) (left : W → Left Cached) (opening : ℕ) (told : Bool) (slots : BTreeMap ℕ (Slot A W)) (names : Names W) → ((v : A) → AreNestedArchives (book v).kept) → (k : ℕ) → IsNestedEpoch (states_of book left opening told slots names k)
-nested_states {A} {W} book left opening told slots names nested k = at_slot (get nat_cmp slots k) told (names k)
-  where
-    by : (v : A) (b : Bool) → IsNestedEpoch (if b then opened (book v) else shut (left_of (book v).kept))
-    by v true = nested v
-    by v false = tt
+-- as those of each epoch's archives are nested, and what is left of them
+module _ {A W : Type 0} (book : A → Book) (left : W → Left Cached) (nested : (v : A) → AreNestedArchives (book v).kept) (nested_left : (w : W) → Within (left w).sure (left w).may) (opening : ℕ) (slots : BTreeMap ℕ (Slot A W)) where
+  pub nested_states : (names : Names W) (k : ℕ) → IsNestedEpoch (states_of book left opening slots names k)
+  nested_states names k = at_slot (get nat_cmp slots k) (names k)
+    where
+      by : (v : A) (b : Bool) → IsNestedEpoch (if b then opened (book v) else shut (left_of (book v).kept))
+      by v true = nested v
+      by v false = λ x has. (nested v).held_may x ((nested v).sure_held x has)
 
-    at_slot : (slot : Option (Slot A W)) (told : Bool) (name : Option W) → IsNestedEpoch (state_at book left opening told slot name)
-    at_slot (Some (Standing v o)) told' name = by v (o == opening)
-    at_slot (Some (Leftover w)) told' name = tt
-    at_slot (Some Away) told' name = tt
-    at_slot None true None = tt
-    at_slot None true (Some w) = tt
-    at_slot None false name = tt
+      under : (name : Option W) → IsNestedEpoch (state_under left name)
+      under None = λ x has. has
+      under (Some w) = nested_left w
+
+      at_slot : (slot : Option (Slot A W)) (name : Option W) → IsNestedEpoch (state_at book left opening slot name)
+      at_slot (Some (Standing v o)) name = by v (o == opening)
+      at_slot (Some (Leftover w)) name = nested_left w
+      at_slot (Some Away) name = under name
+      at_slot None name = under name
+
+  -- the same after a crash, whatever a depot is left with
+  pub nested_ways : (ways : List (Names W)) (states : EpochStates) → Contains (map (λ names k. left_of_epoch (states_of book left opening slots names k)) ways) states → (k : ℕ) → IsNestedEpoch (states k)
+  nested_ways [] states (n, less, is) k = absurd (omega (arith, less))
+  nested_ways (names ∷ ways) states (zero, less, is) k = subst (λ t. IsNestedEpoch (t k)) is (after (states_of book left opening slots names k) (nested_states names k))
+    where
+      after : (t : EpochState) → IsNestedEpoch t → IsNestedEpoch (left_of_epoch t)
+      after (opened b) both = λ x has. both.held_may x (both.sure_held x has)
+      after (shut l) both = both
+  nested_ways (names ∷ ways) states (suc n, less, is) k = nested_ways ways states (n, omega (arith, less), is) k

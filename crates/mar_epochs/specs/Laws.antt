@@ -23,6 +23,10 @@ filter_within {A} {B} f p (x ∷ xs) y has = by (p x) (filter_within f p xs y) h
 pub kept_nested : (fs : List Logged) → EachPlaceOnce (entries fs) → AreNestedArchives (kept_in fs)
 kept_nested fs once = record { once = once; sure_held = filter_within (λ f. f.entry) (λ f. f.is_sure) fs; held_may = λ x has. has }
 
+-- what is sure may be left
+pub left_nested : (fs : List Logged) → Within (kept_in fs).sure (kept_in fs).may
+left_nested fs = filter_within (λ f. f.entry) (λ f. f.is_sure) fs
+
 -- of no entries nothing is left
 pub nothing_logged : {E : Type 0} (plain : E → Cached) (items : List (LoggedEntry E)) → IsTrue (length items == 0) → left_of (kept_in (log_of plain items)) ≡ nothing_left
 nothing_logged plain [] empty = refl

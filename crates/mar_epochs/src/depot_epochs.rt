@@ -1,5 +1,5 @@
 //! The epochs of a cache over a depot.
-ghost use Rattle.std.specs.Prelude.{◌≡◌, ◌<◌, ◌==◌, ◌&&◌, ℕ, [], None, Some, IfErr, IfOk, MatchOption, MatchResult, false, if◌then◌else◌, is_some, map, not, option_map, true};
+ghost use Rattle.std.specs.Prelude.{◌≡◌, ◌<◌, ◌==◌, ◌&&◌, ℕ, [], None, Option, Some, IfErr, IfOk, MatchOption, MatchResult, false, if◌then◌else◌, is_some, map, not, option_map, true};
 ghost use Rattle.std.specs.Option.{option_copied};
 ghost use Rattle.std.specs.List.{AllByRecursion};
 ghost use Rattle.std.specs.Ordering.{nat_cmp};
@@ -7,7 +7,7 @@ ghost use Rattle.std.specs.BTreeMap.{get};
 ghost use Rattle.mar_store.specs.Lost.{wreck_of};
 ghost use Rattle.mar_epochs.specs.Sections.{first_found};
 ghost use Rattle.mar_epochs.specs.EpochArchives.{IsOfMemory, is_kept, puts_of};
-ghost use Rattle.mar_epochs.specs.EpochStates.{ChangesEpoch, KeepsOtherEpochs, LosesEpoch, OpensEpoch, held_in, is_opened, is_upto, left_of_epoch, nested_states, newer_of, none_gone, opened, shut, state_of_slot, state_under, states_of};
+ghost use Rattle.mar_epochs.specs.EpochStates.{ChangesEpoch, KeepsOtherEpochs, LosesEpoch, OpensEpoch, PutsBack, held_in, is_opened, is_upto, left_of_epoch, nested_states, nested_ways, newer_of, none_gone, opened, shut, state_of_slot, state_under, states_of};
 
 use crate::as_entry::AsEntry;
 use crate::change::Change;
@@ -45,7 +45,7 @@ pub struct DepotEpochsWreck<A: EpochArchives, D: EpochArchivesDepot<A::Wreck>> {
 }
 
 impl<A: EpochArchives, D: EpochArchivesDepot<A::Wreck>> EpochsRuin for DepotEpochsWreck<A, D> {
-    ghost left = { λ w. map (λ names k. left_of_epoch (states_of A.book A.Wreck.left w.opening D.told w.slots names k)) (D.Wreck.left w.depot) };
+    ghost left = { λ w. map (λ names k. left_of_epoch (states_of A.book A.Wreck.left w.opening w.slots names k)) (D.Wreck.left w.depot) };
 
     ghost calm = { λ w. A.unfailing && (D.Wreck.watch w.depot).only_armed };
 }
@@ -54,7 +54,7 @@ impl<A: EpochArchives, D: EpochArchivesDepot<A::Wreck>> DepotEpochs<A, D> {
     /// The epochs over a depot, of which no call is armed.
     pub fn new(alloc: Global, depot: D) -> Self
         requires quiet { (D.watch depot).due ≡ [] }
-        ensures states { (k : ℕ) → ⟦<DepotEpochs<A, D> as Epochs>⟧.states result k ≡ state_under D.told A.Wreck.left (D.names depot k) }
+        ensures states { (k : ℕ) → ⟦<DepotEpochs<A, D> as Epochs>⟧.states result k ≡ state_under A.Wreck.left (D.names depot k) }
         ensures calm { ⟦<DepotEpochs<A, D> as Epochs>⟧.calm result ≡ (A.unfailing && (D.watch depot).only_armed) }
     {
         DepotEpochs {
@@ -121,25 +121,20 @@ impl<A: EpochArchives, D: EpochArchivesDepot<A::Wreck>> DepotEpochs<A, D> {
         newest
     }
 
-    // Changes archives that are away.
-    fn change_archives(
+    // Puts archives back as a call of them answered, or what is left of them. The epoch has a slot.
+    fn put_back(
         self,
         epoch: u64,
-        archives: A,
-        change: Change<A::Entry>,
+        answer: Result<A, Lost<A::Wreck>>,
     ) -> Result<Self, Lost<DepotEpochsWreck<A, D>>>
         requires there { is_some (get nat_cmp self.slots epoch) ≡ true }
-        ensures done { MatchResult result
-            (λ s. ChangesEpoch A.Entry.plain change (opened (A.book archives)) (⟦<DepotEpochs<A, D> as Epochs>⟧.states s epoch)
-            × KeepsOtherEpochs epoch (⟦<DepotEpochs<A, D> as Epochs>⟧.states self) (⟦<DepotEpochs<A, D> as Epochs>⟧.states s))
-            (λ l. AllByRecursion (LosesEpoch epoch (opened (A.book archives)) (puts_of A.Entry.plain change) (λ x. not (is_kept change x))
-            (⟦<DepotEpochs<A, D> as Epochs>⟧.states self)) (⟦<DepotEpochsWreck<A, D> as EpochsRuin>⟧.left (wreck_of l))) }
+        ensures done { PutsBack A.book A.Wreck.left ⟦<DepotEpochs<A, D> as Epochs>⟧.states ⟦<DepotEpochsWreck<A, D> as EpochsRuin>⟧.left epoch
+            (⟦<DepotEpochs<A, D> as Epochs>⟧.states self) answer result }
         ensures calm { MatchResult result
             (λ s. ⟦<DepotEpochs<A, D> as Epochs>⟧.calm s ≡ ⟦<DepotEpochs<A, D> as Epochs>⟧.calm self)
             (λ l. ⟦<DepotEpochsWreck<A, D> as EpochsRuin>⟧.calm (wreck_of l) ≡ ⟦<DepotEpochs<A, D> as Epochs>⟧.calm self) }
-        ensures memory { ⟦<DepotEpochs<A, D> as Epochs>⟧.calm self ≡ true → IfErr result IsOfMemory }
     {
-        match archives.change(change) {
+        match answer {
             Ok(archives) => {
                 let slot = Slot::Standing(archives, self.opening);
                 let (epochs, _) = self.exchange(epoch, slot);
@@ -166,27 +161,17 @@ impl<A: EpochArchives, D: EpochArchivesDepot<A::Wreck>> DepotEpochs<A, D> {
             (λ l. ⟦<DepotEpochsWreck<A, D> as EpochsRuin>⟧.calm (wreck_of l) ≡ ⟦<DepotEpochs<A, D> as Epochs>⟧.calm self) }
         ensures memory { ⟦<DepotEpochs<A, D> as Epochs>⟧.calm self ≡ true → IfErr result IsOfMemory }
     {
-        match A::reopen(ruin, self.luck) {
-            Ok(archives) => {
-                let slot = Slot::Standing(archives, self.opening);
-                let (epochs, _) = self.exchange(epoch, slot);
-                Ok(epochs)
-            }
-            Err(lost) => {
-                let (failed, left) = parts_of(lost);
-                let (epochs, _) = self.exchange(epoch, Slot::Leftover(left));
-                Err(lost_by(failed, epochs.wreck()))
-            }
-        }
+        let answer = A::reopen(ruin, self.luck);
+        self.put_back(epoch, answer)
     }
 
     // Opens what the depot has of an epoch, whose archives are away.
     fn open_name(self, epoch: u64) -> Result<Self, Lost<DepotEpochsWreck<A, D>>>
         requires there { is_some (get nat_cmp self.slots epoch) ≡ true }
         ensures done { MatchResult result
-            (λ s. OpensEpoch (state_under D.told A.Wreck.left (D.names self.depot epoch)) (⟦<DepotEpochs<A, D> as Epochs>⟧.states s epoch)
+            (λ s. OpensEpoch (state_under A.Wreck.left (D.names self.depot epoch)) (⟦<DepotEpochs<A, D> as Epochs>⟧.states s epoch)
             × KeepsOtherEpochs epoch (⟦<DepotEpochs<A, D> as Epochs>⟧.states self) (⟦<DepotEpochs<A, D> as Epochs>⟧.states s))
-            (λ l. AllByRecursion (LosesEpoch epoch (state_under D.told A.Wreck.left (D.names self.depot epoch)) [] none_gone
+            (λ l. AllByRecursion (LosesEpoch epoch (state_under A.Wreck.left (D.names self.depot epoch)) [] none_gone
             (⟦<DepotEpochs<A, D> as Epochs>⟧.states self)) (⟦<DepotEpochsWreck<A, D> as EpochsRuin>⟧.left (wreck_of l))) }
         ensures calm { MatchResult result
             (λ s. ⟦<DepotEpochs<A, D> as Epochs>⟧.calm s ≡ ⟦<DepotEpochs<A, D> as Epochs>⟧.calm self)
@@ -229,9 +214,9 @@ impl<A: EpochArchives, D: EpochArchivesDepot<A::Wreck>> DepotEpochs<A, D> {
     fn open_anew(self, epoch: u64) -> Result<Self, Lost<DepotEpochsWreck<A, D>>>
         requires none { get nat_cmp self.slots epoch ≡ None }
         ensures done { MatchResult result
-            (λ s. OpensEpoch (state_under D.told A.Wreck.left (D.names self.depot epoch)) (⟦<DepotEpochs<A, D> as Epochs>⟧.states s epoch)
+            (λ s. OpensEpoch (state_under A.Wreck.left (D.names self.depot epoch)) (⟦<DepotEpochs<A, D> as Epochs>⟧.states s epoch)
             × KeepsOtherEpochs epoch (⟦<DepotEpochs<A, D> as Epochs>⟧.states self) (⟦<DepotEpochs<A, D> as Epochs>⟧.states s))
-            (λ l. AllByRecursion (LosesEpoch epoch (state_under D.told A.Wreck.left (D.names self.depot epoch)) [] none_gone
+            (λ l. AllByRecursion (LosesEpoch epoch (state_under A.Wreck.left (D.names self.depot epoch)) [] none_gone
             (⟦<DepotEpochs<A, D> as Epochs>⟧.states self)) (⟦<DepotEpochsWreck<A, D> as EpochsRuin>⟧.left (wreck_of l))) }
         ensures calm { MatchResult result
             (λ s. ⟦<DepotEpochs<A, D> as Epochs>⟧.calm s ≡ ⟦<DepotEpochs<A, D> as Epochs>⟧.calm self)
@@ -275,11 +260,13 @@ impl<A: EpochArchives, D: EpochArchivesDepot<A::Wreck>> Epochs for DepotEpochs<A
 
     type Wreck = DepotEpochsWreck<A, D>;
 
-    ghost states = { λ s. states_of A.book A.Wreck.left s.opening D.told s.slots (D.names s.depot) };
+    ghost states = { λ s. states_of A.book A.Wreck.left s.opening s.slots (D.names s.depot) };
 
     ghost calm = { λ s. A.unfailing && (D.watch s.depot).only_armed };
 
-    ghost nested = { λ s k. nested_states A.book A.Wreck.left s.opening D.told s.slots (D.names s.depot) A.nested k };
+    ghost nested = { λ s. nested_states A.book A.Wreck.left A.nested A.nested_left s.opening s.slots (D.names s.depot) };
+
+    ghost nested_left = { λ w. nested_ways A.book A.Wreck.left A.nested A.nested_left w.opening w.slots (D.Wreck.left w.depot) };
 
     fn is_open(&self, epoch: u64) -> bool {
         self.archives(epoch).is_some()
@@ -336,7 +323,8 @@ impl<A: EpochArchives, D: EpochArchivesDepot<A::Wreck>> Epochs for DepotEpochs<A
         match slot {
             None => Ok(epochs),
             Some(Slot::Standing(archives, opening)) if opening == epochs.opening => {
-                epochs.change_archives(epoch, archives, change)
+                let answer = archives.change(change);
+                epochs.put_back(epoch, answer)
             }
             Some(slot) => {
                 let (epochs, _) = epochs.exchange(epoch, slot);
@@ -438,8 +426,8 @@ impl<A: EpochArchives, D: EpochArchivesDepot<A::Wreck>> Epochs for DepotEpochs<A
 
 // The archives of a slot that the opening that goes on opened.
 fn archives_of<A: EpochArchives>(slot: &Slot<A, A::Wreck>, opening: u64) -> Option<&A>
-    ensures { MatchOption (option_copied result) (is_opened (state_of_slot A.book A.Wreck.left opening slot.now) ≡ false)
-        (λ v. state_of_slot A.book A.Wreck.left opening slot.now ≡ opened (A.book v)) }
+    ensures { (name : Option A.Wreck) → MatchOption (option_copied result) (is_opened (state_of_slot A.book A.Wreck.left opening name slot.now) ≡ false)
+        (λ v. state_of_slot A.book A.Wreck.left opening name slot.now ≡ opened (A.book v)) }
 {
     match slot {
         Slot::Standing(archives, own) => {

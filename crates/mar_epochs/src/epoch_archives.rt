@@ -1,7 +1,7 @@
 //! The archives that a cache keeps of an epoch, as one store.
 ghost use Rattle.std.specs.Prelude.{◌≡◌, ◌≤◌, Bool, true, IsTrue, List, filter, IfErr, MatchResult, option_map};
 ghost use Rattle.std.specs.Option.{option_copied};
-ghost use Rattle.mar_store.specs.Changes.{Left, left_of};
+ghost use Rattle.mar_store.specs.Changes.{Left, Within, left_of};
 ghost use Rattle.mar_store.specs.Lost.{wreck_of};
 ghost use Rattle.mar_node.specs.Cached.{Cached};
 ghost use Rattle.mar_epochs.specs.Sections.{first_found, is_in};
@@ -67,9 +67,14 @@ pub trait EpochArchives: Drop {
         ensures unfailing { unfailing ≡ true → IfErr result IsOfMemory };
 
     ghost nested: { (s : Self) → AreNestedArchives (book s).kept };
+
+    ghost nested_left: { (w : Self.Wreck) → Within (Self.Wreck.left w).sure (Self.Wreck.left w).may };
 }
 
-/// A depot of what is left of the archives of epochs: of an empty one nothing is left.
+/// A depot of what is left of the archives of epochs, which tells what stands under its names: of an empty one nothing is
+/// left.
 pub trait EpochArchivesDepot<W: EpochArchivesRuin>: Depot<W> {
+    ghost tells: { Self.told ≡ true };
+
     ghost empties: { (w : W) → IsTrue (Self.is_empty w) → W.left w ≡ nothing_left };
 }

@@ -108,4 +108,6 @@ pub trait Epochs: Drop {
         ensures memory { Self.Wreck.calm wreck ≡ true → IfErr result IsOfMemory };
 
     ghost nested: { (s : Self) (k : ℕ) → IsNestedEpoch (states s k) };
+
+    ghost nested_left: { (w : Self.Wreck) (left : EpochStates) → Contains (Self.Wreck.left w) left → (k : ℕ) → IsNestedEpoch (left k) };
 }

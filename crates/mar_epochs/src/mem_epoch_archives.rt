@@ -1,5 +1,5 @@
 //! The archives of an epoch in memory.
-ghost use Rattle.std.specs.Prelude.{◌≡◌, ◌++◌, ◌==◌, ◌∷◌, ◌≤◌, [], false, true, filter, if◌then◌else◌, length, map, IfErr, IfOk, MatchResult};
+ghost use Rattle.std.specs.Prelude.{◌≡◌, ◌++◌, ◌==◌, ◌∷◌, ◌≤◌, [], false, true, filter, if◌then◌else◌, length, map, refl, IfErr, IfOk, MatchResult};
 ghost use Rattle.std.specs.List.{list_any};
 ghost use Rattle.std.specs.BTreeMap.{get};
 ghost use Rattle.mar_store.specs.Changes.{left_of};
@@ -8,7 +8,7 @@ ghost use Rattle.mar_node.specs.Cached.{same_place};
 ghost use Rattle.mar_epochs.specs.EntryLogs.{book_of, drawn_in_all, entries, kept_in, log_of, with_mark};
 ghost use Rattle.mar_epochs.specs.Spots.{spot_found};
 ghost use Rattle.mar_epochs.specs.EpochArchives.{ChangesArchives, IsOfMemory, LosesArchives};
-ghost use Rattle.mar_epochs.specs.Laws.{kept_nested, nothing_logged};
+ghost use Rattle.mar_epochs.specs.Laws.{kept_nested, left_nested, nothing_logged};
 
 use crate::as_entry::KeyedEntry;
 use crate::change::Change;
@@ -125,6 +125,8 @@ impl<E: KeyedEntry> EpochArchives for MemEpochArchives<E> {
 
     ghost nested = { λ s. kept_nested (log_of E.plain s.log.items.items) s.log.once };
 
+    ghost nested_left = { λ w. left_nested (log_of E.plain w.log.items.items) };
+
     fn find(&self, wanted: &E::Wanted) -> Option<&E> {
         match self.index.spot_of(&E::key_of(wanted)) {
             Some(spot) => self.log.entry_at(spot.place),
@@ -181,5 +183,7 @@ impl<E: KeyedEntry> EpochArchives for MemEpochArchives<E> {
 
 impl<E: KeyedEntry> EpochArchivesDepot<MemEpochArchivesWreck<E>>
     for MemDepot<MemEpochArchivesWreck<E>> {
+    ghost tells = { refl };
+
     ghost empties = { λ w empty. nothing_logged E.plain w.log.items.items empty };
 }

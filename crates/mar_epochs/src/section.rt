@@ -3,7 +3,7 @@ ghost use Rattle.std.specs.Prelude.{◌≡◌};
 ghost use Rattle.mar_epochs.specs.Sections.{rank};
 
 /// One of the five archives that a cache keeps of an epoch, in the order in which they are searched.
-#[derive(Clone, Copy, Debug, PartialEq, Eq)]
+#[derive(Clone, Copy)]
 pub enum Section {
     /// Verified blocks by view, several of one.
     Verified,

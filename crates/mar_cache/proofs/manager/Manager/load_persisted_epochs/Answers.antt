@@ -38,7 +38,7 @@ returns g c = record {
   opened = λ k some.
       let found = (rw (← c.deref.ensures.value) at c.in_ok-manager-2.ensures.found) in
       let there : HasSome (g.S.Epochs.states c.in_ok-manager.manager.epochs k) = subst (λ s. HasSome (g.S.Epochs.states s k)) (sym c.in_ok-manager.ensures.epochs) some in
-      c.open_all.ensures.opened k (c.in_ok-manager-2.manager.within k (subst HasSome (sym (c.in_ok-manager-2.ensures.same.0 k)) there)) (found k there);
+      c.open_all.ensures.opened k ((c.in_ok-manager-2.manager.within k).inside (subst HasSome (sym (c.in_ok-manager-2.ensures.same.0 k)) there)) (found k there);
   stays = λ k outside.
       let meta = c.in_ok-manager-2.ensures.same.1 ∙ c.in_ok-manager.ensures.meta in
       IfOk-weaker c.open_all.result _ _ (λ m same. same ∙ c.in_ok-manager-2.ensures.same.0 k ∙ ap (λ s. g.S.Epochs.states s k) c.in_ok-manager.ensures.epochs) (c.open_all.ensures.stays k (subst (λ t. includes (bounds_of (g.M.Meta.current t)) k ≡ false) (sym meta) outside));

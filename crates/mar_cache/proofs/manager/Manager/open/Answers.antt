@@ -1,4 +1,5 @@
-use Rattle.std.proofs.Common.{◌∙◌, ◌&&◌, ap, ap₂, refl, sym}
+use Rattle.std.proofs.Common.{[], ◌∙◌, ◌&&◌, ap, ap₂, refl, sym}
+use Rattle.mar_store.specs.Lost.{wreck_of}
 use Rattle.mar_cache.specs.Bounds.{bounds_of}
 use Rattle.mar_cache.specs.Shelved.{shelf_watch}
 use Rattle.mar_cache.proofs.Watched.{lost_calm}
@@ -19,14 +20,14 @@ invariant_of-result g c =
       unchanged = old.unchanged;
       quiet = old.quiet;
       durable = old.durable;
-      within = within_opened (g.S.Epochs.states old.epochs) (g.S.Epochs.states c.in-Ok.epochs) (bounds_of (g.M.Meta.current old.meta)) c.args.epoch c.requires.inside c.in-Ok.ensures.done.1 old.within;
+      within = within_opened (g.S.Epochs.states old.epochs) (g.S.Epochs.states c.in-Ok.epochs) (bounds_of (g.M.Meta.current old.meta)) c.args.epoch c.requires.inside c.in-Ok.ensures.done.0 c.in-Ok.ensures.done.1 old.within;
     }
 
 pub lost_epochs-requires-clause-quiet : goal.lost_epochs-requires-clause-quiet
 lost_epochs-requires-clause-quiet g c = c.args.self.quiet
 
 pub lost_epochs-requires-clause-within : goal.lost_epochs-requires-clause-within
-lost_epochs-requires-clause-within g c = loses_within (g.S.Epochs.states c.args.self.epochs) _ c.args.epoch _ _ _ (bounds_of (g.M.Meta.current c.args.self.meta)) _ c.in-Err.ensures.done c.requires.inside c.args.self.durable c.args.self.within
+lost_epochs-requires-clause-within g c = loses_within (g.S.Epochs.states c.args.self.epochs) _ c.args.epoch [] _ (bounds_of (g.M.Meta.current c.args.self.meta)) _ (g.met.S.Epochs.nested_left (wreck_of c.in-Err.lost)) c.in-Err.ensures.done tt c.requires.inside c.args.self.durable c.args.self.within
 
 pub returns-in-Ok-clause-done : goal.returns-in-Ok-clause-done
 returns-in-Ok-clause-done g c = c.in-Ok.ensures.done

@@ -10,8 +10,8 @@ pub returns-in-Ok-clause-done : goal.returns-in-Ok-clause-done
 returns-in-Ok-clause-done g c =
     let old = c.args.self in
     let e = c.args.epoch in
-    same_view OpensEpoch [] none_gone (λ s. states_of g.A.EpochArchives.book g.A.Wreck.EpochArchivesRuin.left s.opening g.D.Depot.told s.slots (g.D.Depot.names s.depot)) (λ w. left_ways g.A.EpochArchives.book g.A.Wreck.EpochArchivesRuin.left w.opening g.D.Depot.told w.slots (g.D.Wreck.DepotRuin.left w.depot)) e (state_under g.D.Depot.told g.A.Wreck.EpochArchivesRuin.left (g.D.Depot.names old.depot e)) (state_under g.D.Depot.told g.A.Wreck.EpochArchivesRuin.left (g.D.Depot.names old.depot e)) (states_of g.A.EpochArchives.book g.A.Wreck.EpochArchivesRuin.left old.opening g.D.Depot.told old.slots (g.D.Depot.names old.depot)) (states_of g.A.EpochArchives.book g.A.Wreck.EpochArchivesRuin.left old.opening g.D.Depot.told c.insert.new.self (g.D.Depot.names old.depot)) c.open_name.result
-    refl (λ k other. ap (λ s. state_at g.A.EpochArchives.book g.A.Wreck.EpochArchivesRuin.left old.opening g.D.Depot.told s (g.D.Depot.names old.depot k)) (c.in-Ok.ensures.updates.2 k (not_at e k other))) c.open_name.ensures.done
+    same_view OpensEpoch [] none_gone (λ s. states_of g.A.EpochArchives.book g.A.Wreck.EpochArchivesRuin.left s.opening s.slots (g.D.Depot.names s.depot)) (λ w. left_ways g.A.EpochArchives.book g.A.Wreck.EpochArchivesRuin.left w.opening w.slots (g.D.Wreck.DepotRuin.left w.depot)) e (state_under g.A.Wreck.EpochArchivesRuin.left (g.D.Depot.names old.depot e)) (state_under g.A.Wreck.EpochArchivesRuin.left (g.D.Depot.names old.depot e)) (states_of g.A.EpochArchives.book g.A.Wreck.EpochArchivesRuin.left old.opening old.slots (g.D.Depot.names old.depot)) (states_of g.A.EpochArchives.book g.A.Wreck.EpochArchivesRuin.left old.opening c.insert.new.self (g.D.Depot.names old.depot)) c.open_name.result
+    refl (λ k other. ap (λ s. state_at g.A.EpochArchives.book g.A.Wreck.EpochArchivesRuin.left old.opening s (g.D.Depot.names old.depot k)) (c.in-Ok.ensures.updates.2 k (not_at e k other))) c.open_name.ensures.done
 
 pub returns-clause-done : goal.returns-clause-done
-returns-clause-done g c = loses_unslotted g.A.EpochArchives.book g.A.Wreck.EpochArchivesRuin.left g.D.Depot.told c.args.self.opening c.args.self.slots c.insert.new.self (g.D.Depot.names c.args.self.depot) c.args.epoch _ (λ k. ap (lookup (is_at (nat_cmp k))) c.in-Err.ensures.err) c.requires.none c.wreck.ensures.left
+returns-clause-done g c = loses_unslotted g.A.EpochArchives.book g.A.Wreck.EpochArchivesRuin.left c.args.self.opening c.args.self.slots c.insert.new.self (g.D.Depot.names c.args.self.depot) c.args.epoch _ (λ k. ap (lookup (is_at (nat_cmp k))) c.in-Err.ensures.err) c.requires.none c.wreck.ensures.left

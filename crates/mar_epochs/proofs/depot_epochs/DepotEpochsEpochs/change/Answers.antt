@@ -1,7 +1,8 @@
 use Rattle.std.proofs.Common.{ap, sym, Some, ◌∙◌}
 use Rattle.mar_epochs.specs.declared.slot.Slot.TheVariants.{Away}
 use Rattle.mar_epochs.specs.EpochStates.{ChangesEpoch, opened, states_of}
-use Rattle.mar_epochs.proofs.Leaving.{exchanged_elsewhere, left_ways, same_view, standing_not_shut, standing_open}
+use Rattle.mar_epochs.proofs.Leaving.{changes_back, exchanged_elsewhere, left_ways, memory_back, same_view, standing_not_shut, standing_open}
+use Rattle.mar_epochs.proofs.Unarmed.{and_left}
 use Rattle.mar_epochs.proofs.depot_epochs.DepotEpochsEpochs.change.Goals as goal
 
 pub returns-in-Some-Standing-clause-done : goal.returns-in-Some-Standing-clause-done
@@ -10,12 +11,15 @@ returns-in-Some-Standing-clause-done g c =
     let new = c.exchange-epochs.result.0 in
     let step = c.exchange-epochs.ensures in
     let e = c.args.epoch in
-    same_view (ChangesEpoch g.A.Entry.AsEntry.plain c.args.change) _ _ (λ s. states_of g.A.EpochArchives.book g.A.Wreck.EpochArchivesRuin.left s.opening g.D.Depot.told s.slots (g.D.Depot.names s.depot)) (λ w. left_ways g.A.EpochArchives.book g.A.Wreck.EpochArchivesRuin.left w.opening g.D.Depot.told w.slots (g.D.Wreck.DepotRuin.left w.depot)) e (opened (g.A.EpochArchives.book c.in-Some-Standing.archives)) ((states_of g.A.EpochArchives.book g.A.Wreck.EpochArchivesRuin.left old.opening g.D.Depot.told old.slots (g.D.Depot.names old.depot)) e) (states_of g.A.EpochArchives.book g.A.Wreck.EpochArchivesRuin.left old.opening g.D.Depot.told old.slots (g.D.Depot.names old.depot)) (states_of g.A.EpochArchives.book g.A.Wreck.EpochArchivesRuin.left new.opening g.D.Depot.told new.slots (g.D.Depot.names new.depot)) c.change_archives.result
-    (standing_open g.A.EpochArchives.book g.A.Wreck.EpochArchivesRuin.left g.D.Depot.told old.opening c.in-Some-Standing.archives c.in-Some-Standing.opening _ _ (sym step.taken ∙ c.in-Some-Standing.is ∙ ap (λ s. Some s) c.in-Some-Standing.field-0-is) (c.if-opening-epochs.true ∙ step.opening))
-    (exchanged_elsewhere g.A.EpochArchives.book g.A.Wreck.EpochArchivesRuin.left g.D.Depot.told old.opening new.opening old.slots new.slots (g.D.Depot.names old.depot) (g.D.Depot.names new.depot) e Away step.opening (ap g.D.Depot.names step.depot) step.slots) c.change_archives.ensures.done
+    same_view (ChangesEpoch g.A.Entry.AsEntry.plain c.args.change) _ _ (λ s. states_of g.A.EpochArchives.book g.A.Wreck.EpochArchivesRuin.left s.opening s.slots (g.D.Depot.names s.depot)) (λ w. left_ways g.A.EpochArchives.book g.A.Wreck.EpochArchivesRuin.left w.opening w.slots (g.D.Wreck.DepotRuin.left w.depot)) e (opened (g.A.EpochArchives.book c.in-Some-Standing.archives)) ((states_of g.A.EpochArchives.book g.A.Wreck.EpochArchivesRuin.left old.opening old.slots (g.D.Depot.names old.depot)) e) (states_of g.A.EpochArchives.book g.A.Wreck.EpochArchivesRuin.left old.opening old.slots (g.D.Depot.names old.depot)) (states_of g.A.EpochArchives.book g.A.Wreck.EpochArchivesRuin.left new.opening new.slots (g.D.Depot.names new.depot)) c.put_back.result
+    (standing_open g.A.EpochArchives.book g.A.Wreck.EpochArchivesRuin.left old.opening c.in-Some-Standing.archives c.in-Some-Standing.opening _ _ (sym step.taken ∙ c.in-Some-Standing.is ∙ ap (λ s. Some s) c.in-Some-Standing.field-0-is) (c.if-opening-epochs.true ∙ step.opening))
+    (exchanged_elsewhere g.A.EpochArchives.book g.A.Wreck.EpochArchivesRuin.left old.opening new.opening old.slots new.slots (g.D.Depot.names old.depot) (g.D.Depot.names new.depot) e Away step.opening (ap g.D.Depot.names step.depot) step.slots) (changes_back g.A.EpochArchives.book g.A.Wreck.EpochArchivesRuin.left (λ s. states_of g.A.EpochArchives.book g.A.Wreck.EpochArchivesRuin.left s.opening s.slots (g.D.Depot.names s.depot)) (λ w. left_ways g.A.EpochArchives.book g.A.Wreck.EpochArchivesRuin.left w.opening w.slots (g.D.Wreck.DepotRuin.left w.depot)) e _ g.A.Entry.AsEntry.plain c.args.change (g.A.EpochArchives.book c.in-Some-Standing.archives) c.change-answer.result c.put_back.result c.put_back.ensures.done c.change-answer.ensures.done)
 
 pub returns-in-Some-Standing-clause-shut : goal.returns-in-Some-Standing-clause-shut
 returns-in-Some-Standing-clause-shut g c =
     let old = c.args.self in
     let step = c.exchange-epochs.ensures in
-    λ closed. absurd (standing_not_shut g.A.EpochArchives.book g.A.Wreck.EpochArchivesRuin.left g.D.Depot.told old.opening c.in-Some-Standing.archives c.in-Some-Standing.opening _ (g.D.Depot.names old.depot c.args.epoch) (sym step.taken ∙ c.in-Some-Standing.is ∙ ap (λ s. Some s) c.in-Some-Standing.field-0-is) (c.if-opening-epochs.true ∙ step.opening) closed)
+    λ closed. absurd (standing_not_shut g.A.EpochArchives.book g.A.Wreck.EpochArchivesRuin.left old.opening c.in-Some-Standing.archives c.in-Some-Standing.opening _ (g.D.Depot.names old.depot c.args.epoch) (sym step.taken ∙ c.in-Some-Standing.is ∙ ap (λ s. Some s) c.in-Some-Standing.field-0-is) (c.if-opening-epochs.true ∙ step.opening) closed)
+
+pub returns-in-Some-Standing-clause-memory : goal.returns-in-Some-Standing-clause-memory
+returns-in-Some-Standing-clause-memory g c = λ only. memory_back g.A.EpochArchives.book g.A.Wreck.EpochArchivesRuin.left (λ s. states_of g.A.EpochArchives.book g.A.Wreck.EpochArchivesRuin.left s.opening s.slots (g.D.Depot.names s.depot)) (λ w. left_ways g.A.EpochArchives.book g.A.Wreck.EpochArchivesRuin.left w.opening w.slots (g.D.Wreck.DepotRuin.left w.depot)) c.args.epoch _ c.change-answer.result c.put_back.result c.put_back.ensures.done (c.change-answer.ensures.unfailing (and_left _ _ only))

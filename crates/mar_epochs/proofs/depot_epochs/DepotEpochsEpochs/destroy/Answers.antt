@@ -1,11 +1,14 @@
 use Rattle.std.proofs.Common.{◌∙◌, ◌&&◌, ap}
 use Rattle.mar_store.specs.Watch.{after_call}
-use Rattle.mar_epochs.proofs.Leaving.{loses_removed}
+use Rattle.mar_epochs.proofs.Leaving.{as_told, loses_removed, not_at, removed}
 use Rattle.mar_epochs.proofs.Unarmed.{and_right, for_memory, none_due, still_armed}
 use Rattle.mar_epochs.proofs.depot_epochs.DepotEpochsEpochs.destroy.Goals as goal
 
+pub returns-in-Ok-clause-done : goal.returns-in-Ok-clause-done
+returns-in-Ok-clause-done g c = removed g.A.EpochArchives.book g.A.Wreck.EpochArchivesRuin.left c.args.self.opening c.args.self.slots c.remove.new.self c.args.epoch _ _ c.remove.ensures.updates.1 (λ k other. c.remove.ensures.updates.2 k (not_at c.args.epoch k other)) (as_told g.D.Depot.told g.met.D.EpochArchivesDepot.tells c.in-Ok.ensures.done)
+
 pub returns-in-Err-clause-done : goal.returns-in-Err-clause-done
-returns-in-Err-clause-done g c = rw (c.lost_by.ensures.wreck, c.parts_of-failed.ensures.wreck) (loses_removed _ _ _ c.args.self.slots _ _ _ _ c.in-Err.ensures.done)
+returns-in-Err-clause-done g c = rw (c.lost_by.ensures.wreck, c.parts_of-failed.ensures.wreck) (loses_removed _ _ _ c.args.self.slots _ _ _ (as_told g.D.Depot.told g.met.D.EpochArchivesDepot.tells c.in-Err.ensures.done))
 
 pub invariant_of-result-clause-quiet : goal.invariant_of-result-clause-quiet
 invariant_of-result-clause-quiet g c = ap (λ w. w.due) c.in-Ok.ensures.watched.1 ∙ ap after_call c.args.self.quiet

@@ -1,7 +1,7 @@
-use Rattle.std.proofs.Common.{ap, refl, sym, Some, ◌∙◌, []}
+use Rattle.std.proofs.Common.{ap, sym, Some, ◌∙◌, []}
 use Rattle.mar_epochs.specs.declared.slot.Slot.TheVariants.{Away}
-use Rattle.mar_epochs.specs.EpochStates.{OpensEpoch, none_gone, shut, state_under, states_of, unknown}
-use Rattle.mar_epochs.proofs.Leaving.{exchanged_elsewhere, leaves_away, left_ways, opens_away, opens_from, same_view, slot_is, standing_shut}
+use Rattle.mar_epochs.specs.EpochStates.{OpensEpoch, none_gone, shut, state_under, states_of}
+use Rattle.mar_epochs.proofs.Leaving.{exchanged_elsewhere, left_ways, same_view, slot_is, standing_shut}
 use Rattle.mar_epochs.proofs.depot_epochs.DepotEpochsEpochs.open.Goals as goal
 
 pub returns-in-None-clause-done : goal.returns-in-None-clause-done
@@ -10,9 +10,9 @@ returns-in-None-clause-done g c =
     let new = c.exchange-epochs.result.0 in
     let step = c.exchange-epochs.ensures in
     let e = c.args.epoch in
-    same_view OpensEpoch [] none_gone (λ s. states_of g.A.EpochArchives.book g.A.Wreck.EpochArchivesRuin.left s.opening g.D.Depot.told s.slots (g.D.Depot.names s.depot)) (λ w. left_ways g.A.EpochArchives.book g.A.Wreck.EpochArchivesRuin.left w.opening g.D.Depot.told w.slots (g.D.Wreck.DepotRuin.left w.depot)) e (state_under g.D.Depot.told g.A.Wreck.EpochArchivesRuin.left (g.D.Depot.names new.depot e)) ((states_of g.A.EpochArchives.book g.A.Wreck.EpochArchivesRuin.left old.opening g.D.Depot.told old.slots (g.D.Depot.names old.depot)) e) (states_of g.A.EpochArchives.book g.A.Wreck.EpochArchivesRuin.left old.opening g.D.Depot.told old.slots (g.D.Depot.names old.depot)) (states_of g.A.EpochArchives.book g.A.Wreck.EpochArchivesRuin.left new.opening g.D.Depot.told new.slots (g.D.Depot.names new.depot)) c.open_anew.result
-    (slot_is g.A.EpochArchives.book g.A.Wreck.EpochArchivesRuin.left g.D.Depot.told old.opening _ _ (g.D.Depot.names old.depot e) (sym step.taken ∙ c.in-None.is) ∙ ap (λ d. state_under g.D.Depot.told g.A.Wreck.EpochArchivesRuin.left (g.D.Depot.names d e)) (sym step.depot))
-    (exchanged_elsewhere g.A.EpochArchives.book g.A.Wreck.EpochArchivesRuin.left g.D.Depot.told old.opening new.opening old.slots new.slots (g.D.Depot.names old.depot) (g.D.Depot.names new.depot) e Away step.opening (ap g.D.Depot.names step.depot) step.slots) c.open_anew.ensures.done
+    same_view OpensEpoch [] none_gone (λ s. states_of g.A.EpochArchives.book g.A.Wreck.EpochArchivesRuin.left s.opening s.slots (g.D.Depot.names s.depot)) (λ w. left_ways g.A.EpochArchives.book g.A.Wreck.EpochArchivesRuin.left w.opening w.slots (g.D.Wreck.DepotRuin.left w.depot)) e (state_under g.A.Wreck.EpochArchivesRuin.left (g.D.Depot.names new.depot e)) ((states_of g.A.EpochArchives.book g.A.Wreck.EpochArchivesRuin.left old.opening old.slots (g.D.Depot.names old.depot)) e) (states_of g.A.EpochArchives.book g.A.Wreck.EpochArchivesRuin.left old.opening old.slots (g.D.Depot.names old.depot)) (states_of g.A.EpochArchives.book g.A.Wreck.EpochArchivesRuin.left new.opening new.slots (g.D.Depot.names new.depot)) c.open_anew.result
+    (slot_is g.A.EpochArchives.book g.A.Wreck.EpochArchivesRuin.left old.opening _ _ (g.D.Depot.names old.depot e) (sym step.taken ∙ c.in-None.is) ∙ ap (λ d. state_under g.A.Wreck.EpochArchivesRuin.left (g.D.Depot.names d e)) (sym step.depot))
+    (exchanged_elsewhere g.A.EpochArchives.book g.A.Wreck.EpochArchivesRuin.left old.opening new.opening old.slots new.slots (g.D.Depot.names old.depot) (g.D.Depot.names new.depot) e Away step.opening (ap g.D.Depot.names step.depot) step.slots) c.open_anew.ensures.done
 
 pub returns-in-Some-Leftover-clause-done : goal.returns-in-Some-Leftover-clause-done
 returns-in-Some-Leftover-clause-done g c =
@@ -20,9 +20,9 @@ returns-in-Some-Leftover-clause-done g c =
     let new = c.exchange-epochs.result.0 in
     let step = c.exchange-epochs.ensures in
     let e = c.args.epoch in
-    same_view OpensEpoch [] none_gone (λ s. states_of g.A.EpochArchives.book g.A.Wreck.EpochArchivesRuin.left s.opening g.D.Depot.told s.slots (g.D.Depot.names s.depot)) (λ w. left_ways g.A.EpochArchives.book g.A.Wreck.EpochArchivesRuin.left w.opening g.D.Depot.told w.slots (g.D.Wreck.DepotRuin.left w.depot)) e (shut (g.A.Wreck.EpochArchivesRuin.left c.in-Some-Leftover.ruin)) ((states_of g.A.EpochArchives.book g.A.Wreck.EpochArchivesRuin.left old.opening g.D.Depot.told old.slots (g.D.Depot.names old.depot)) e) (states_of g.A.EpochArchives.book g.A.Wreck.EpochArchivesRuin.left old.opening g.D.Depot.told old.slots (g.D.Depot.names old.depot)) (states_of g.A.EpochArchives.book g.A.Wreck.EpochArchivesRuin.left new.opening g.D.Depot.told new.slots (g.D.Depot.names new.depot)) c.open_ruin.result
-    (slot_is g.A.EpochArchives.book g.A.Wreck.EpochArchivesRuin.left g.D.Depot.told old.opening _ _ (g.D.Depot.names old.depot e) (sym step.taken ∙ c.in-Some-Leftover.is ∙ ap (λ s. Some s) c.in-Some-Leftover.field-0-is))
-    (exchanged_elsewhere g.A.EpochArchives.book g.A.Wreck.EpochArchivesRuin.left g.D.Depot.told old.opening new.opening old.slots new.slots (g.D.Depot.names old.depot) (g.D.Depot.names new.depot) e Away step.opening (ap g.D.Depot.names step.depot) step.slots) c.open_ruin.ensures.done
+    same_view OpensEpoch [] none_gone (λ s. states_of g.A.EpochArchives.book g.A.Wreck.EpochArchivesRuin.left s.opening s.slots (g.D.Depot.names s.depot)) (λ w. left_ways g.A.EpochArchives.book g.A.Wreck.EpochArchivesRuin.left w.opening w.slots (g.D.Wreck.DepotRuin.left w.depot)) e (shut (g.A.Wreck.EpochArchivesRuin.left c.in-Some-Leftover.ruin)) ((states_of g.A.EpochArchives.book g.A.Wreck.EpochArchivesRuin.left old.opening old.slots (g.D.Depot.names old.depot)) e) (states_of g.A.EpochArchives.book g.A.Wreck.EpochArchivesRuin.left old.opening old.slots (g.D.Depot.names old.depot)) (states_of g.A.EpochArchives.book g.A.Wreck.EpochArchivesRuin.left new.opening new.slots (g.D.Depot.names new.depot)) c.open_ruin.result
+    (slot_is g.A.EpochArchives.book g.A.Wreck.EpochArchivesRuin.left old.opening _ _ (g.D.Depot.names old.depot e) (sym step.taken ∙ c.in-Some-Leftover.is ∙ ap (λ s. Some s) c.in-Some-Leftover.field-0-is))
+    (exchanged_elsewhere g.A.EpochArchives.book g.A.Wreck.EpochArchivesRuin.left old.opening new.opening old.slots new.slots (g.D.Depot.names old.depot) (g.D.Depot.names new.depot) e Away step.opening (ap g.D.Depot.names step.depot) step.slots) c.open_ruin.ensures.done
 
 pub returns-in-Some-Standing-clause-done : goal.returns-in-Some-Standing-clause-done
 returns-in-Some-Standing-clause-done g c =
@@ -30,9 +30,9 @@ returns-in-Some-Standing-clause-done g c =
     let new = c.exchange-epochs.result.0 in
     let step = c.exchange-epochs.ensures in
     let e = c.args.epoch in
-    same_view OpensEpoch [] none_gone (λ s. states_of g.A.EpochArchives.book g.A.Wreck.EpochArchivesRuin.left s.opening g.D.Depot.told s.slots (g.D.Depot.names s.depot)) (λ w. left_ways g.A.EpochArchives.book g.A.Wreck.EpochArchivesRuin.left w.opening g.D.Depot.told w.slots (g.D.Wreck.DepotRuin.left w.depot)) e (shut (g.A.Wreck.EpochArchivesRuin.left c.wreck.result)) ((states_of g.A.EpochArchives.book g.A.Wreck.EpochArchivesRuin.left old.opening g.D.Depot.told old.slots (g.D.Depot.names old.depot)) e) (states_of g.A.EpochArchives.book g.A.Wreck.EpochArchivesRuin.left old.opening g.D.Depot.told old.slots (g.D.Depot.names old.depot)) (states_of g.A.EpochArchives.book g.A.Wreck.EpochArchivesRuin.left new.opening g.D.Depot.told new.slots (g.D.Depot.names new.depot)) c.open_ruin-in-Some-Standing.result
-    (standing_shut g.A.EpochArchives.book g.A.Wreck.EpochArchivesRuin.left g.D.Depot.told old.opening c.in-Some-Standing.archives _ _ (g.D.Depot.names old.depot e) (sym step.taken ∙ c.in-Some-Standing.is ∙ ap (λ s. Some s) c.in-Some-Standing.field-0-is) c.requires.shut ∙ ap (λ l. shut l) (sym c.wreck.ensures))
-    (exchanged_elsewhere g.A.EpochArchives.book g.A.Wreck.EpochArchivesRuin.left g.D.Depot.told old.opening new.opening old.slots new.slots (g.D.Depot.names old.depot) (g.D.Depot.names new.depot) e Away step.opening (ap g.D.Depot.names step.depot) step.slots) c.open_ruin-in-Some-Standing.ensures.done
+    same_view OpensEpoch [] none_gone (λ s. states_of g.A.EpochArchives.book g.A.Wreck.EpochArchivesRuin.left s.opening s.slots (g.D.Depot.names s.depot)) (λ w. left_ways g.A.EpochArchives.book g.A.Wreck.EpochArchivesRuin.left w.opening w.slots (g.D.Wreck.DepotRuin.left w.depot)) e (shut (g.A.Wreck.EpochArchivesRuin.left c.wreck.result)) ((states_of g.A.EpochArchives.book g.A.Wreck.EpochArchivesRuin.left old.opening old.slots (g.D.Depot.names old.depot)) e) (states_of g.A.EpochArchives.book g.A.Wreck.EpochArchivesRuin.left old.opening old.slots (g.D.Depot.names old.depot)) (states_of g.A.EpochArchives.book g.A.Wreck.EpochArchivesRuin.left new.opening new.slots (g.D.Depot.names new.depot)) c.open_ruin-in-Some-Standing.result
+    (standing_shut g.A.EpochArchives.book g.A.Wreck.EpochArchivesRuin.left old.opening c.in-Some-Standing.archives _ _ (g.D.Depot.names old.depot e) (sym step.taken ∙ c.in-Some-Standing.is ∙ ap (λ s. Some s) c.in-Some-Standing.field-0-is) c.requires.shut ∙ ap (λ l. shut l) (sym c.wreck.ensures))
+    (exchanged_elsewhere g.A.EpochArchives.book g.A.Wreck.EpochArchivesRuin.left old.opening new.opening old.slots new.slots (g.D.Depot.names old.depot) (g.D.Depot.names new.depot) e Away step.opening (ap g.D.Depot.names step.depot) step.slots) c.open_ruin-in-Some-Standing.ensures.done
 
 pub returns-in-Some-Away-clause-done : goal.returns-in-Some-Away-clause-done
 returns-in-Some-Away-clause-done g c =
@@ -40,6 +40,6 @@ returns-in-Some-Away-clause-done g c =
     let new = c.exchange-epochs.result.0 in
     let step = c.exchange-epochs.ensures in
     let e = c.args.epoch in
-    same_view OpensEpoch [] none_gone (λ s. states_of g.A.EpochArchives.book g.A.Wreck.EpochArchivesRuin.left s.opening g.D.Depot.told s.slots (g.D.Depot.names s.depot)) (λ w. left_ways g.A.EpochArchives.book g.A.Wreck.EpochArchivesRuin.left w.opening g.D.Depot.told w.slots (g.D.Wreck.DepotRuin.left w.depot)) e unknown ((states_of g.A.EpochArchives.book g.A.Wreck.EpochArchivesRuin.left old.opening g.D.Depot.told old.slots (g.D.Depot.names old.depot)) e) (states_of g.A.EpochArchives.book g.A.Wreck.EpochArchivesRuin.left old.opening g.D.Depot.told old.slots (g.D.Depot.names old.depot)) (states_of g.A.EpochArchives.book g.A.Wreck.EpochArchivesRuin.left old.opening g.D.Depot.told old.slots (g.D.Depot.names old.depot)) c.open_name.result
-    (slot_is g.A.EpochArchives.book g.A.Wreck.EpochArchivesRuin.left g.D.Depot.told old.opening _ _ (g.D.Depot.names old.depot e) (sym step.taken ∙ c.in-Some-Away.is ∙ ap (λ s. Some s) c.in-Some-Away.field-0-is)) (λ k other. refl)
-    (opens_from (λ s. states_of g.A.EpochArchives.book g.A.Wreck.EpochArchivesRuin.left s.opening g.D.Depot.told s.slots (g.D.Depot.names s.depot)) (λ w. left_ways g.A.EpochArchives.book g.A.Wreck.EpochArchivesRuin.left w.opening g.D.Depot.told w.slots (g.D.Wreck.DepotRuin.left w.depot)) e (state_under g.D.Depot.told g.A.Wreck.EpochArchivesRuin.left (g.D.Depot.names new.depot e)) unknown (states_of g.A.EpochArchives.book g.A.Wreck.EpochArchivesRuin.left old.opening g.D.Depot.told old.slots (g.D.Depot.names old.depot)) (states_of g.A.EpochArchives.book g.A.Wreck.EpochArchivesRuin.left new.opening g.D.Depot.told new.slots (g.D.Depot.names new.depot)) c.open_name.result (opens_away g.D.Depot.told g.A.Wreck.EpochArchivesRuin.left (g.D.Depot.names new.depot e)) (leaves_away (state_under g.D.Depot.told g.A.Wreck.EpochArchivesRuin.left (g.D.Depot.names new.depot e))) (exchanged_elsewhere g.A.EpochArchives.book g.A.Wreck.EpochArchivesRuin.left g.D.Depot.told old.opening new.opening old.slots new.slots (g.D.Depot.names old.depot) (g.D.Depot.names new.depot) e Away step.opening (ap g.D.Depot.names step.depot) step.slots) c.open_name.ensures.done)
+    same_view OpensEpoch [] none_gone (λ s. states_of g.A.EpochArchives.book g.A.Wreck.EpochArchivesRuin.left s.opening s.slots (g.D.Depot.names s.depot)) (λ w. left_ways g.A.EpochArchives.book g.A.Wreck.EpochArchivesRuin.left w.opening w.slots (g.D.Wreck.DepotRuin.left w.depot)) e (state_under g.A.Wreck.EpochArchivesRuin.left (g.D.Depot.names new.depot e)) ((states_of g.A.EpochArchives.book g.A.Wreck.EpochArchivesRuin.left old.opening old.slots (g.D.Depot.names old.depot)) e) (states_of g.A.EpochArchives.book g.A.Wreck.EpochArchivesRuin.left old.opening old.slots (g.D.Depot.names old.depot)) (states_of g.A.EpochArchives.book g.A.Wreck.EpochArchivesRuin.left new.opening new.slots (g.D.Depot.names new.depot)) c.open_name.result
+    (slot_is g.A.EpochArchives.book g.A.Wreck.EpochArchivesRuin.left old.opening _ _ (g.D.Depot.names old.depot e) (sym step.taken ∙ c.in-Some-Away.is ∙ ap (λ s. Some s) c.in-Some-Away.field-0-is) ∙ ap (λ d. state_under g.A.Wreck.EpochArchivesRuin.left (g.D.Depot.names d e)) (sym step.depot))
+    (exchanged_elsewhere g.A.EpochArchives.book g.A.Wreck.EpochArchivesRuin.left old.opening new.opening old.slots new.slots (g.D.Depot.names old.depot) (g.D.Depot.names new.depot) e Away step.opening (ap g.D.Depot.names step.depot) step.slots) c.open_name.ensures.done

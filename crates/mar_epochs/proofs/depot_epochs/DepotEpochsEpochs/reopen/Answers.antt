@@ -1,11 +1,11 @@
-use Rattle.mar_epochs.proofs.Leaving.{might_stay, reopen_fails, reopens_told}
+use Rattle.mar_epochs.proofs.Leaving.{as_told, might_stay, reopen_fails, reopens_as_left}
 use Rattle.mar_epochs.proofs.depot_epochs.DepotEpochsEpochs.reopen.Goals as goal
 
 pub returns-in-Ok-clause-done : goal.returns-in-Ok-clause-done
-returns-in-Ok-clause-done g c = reopens_told _ _ c.args.wreck.opening c.args.wreck.slots _ _ _ (g.met.D.Wreck.DepotRuin.some c.args.wreck.depot) c.in-Ok.ensures.done c.args.wreck.upto
+returns-in-Ok-clause-done g c = reopens_as_left _ _ c.args.wreck.opening c.args.wreck.slots _ _ (as_told g.D.Depot.told g.met.D.EpochArchivesDepot.tells c.in-Ok.ensures.done) c.args.wreck.upto
 
 pub returns-in-Err-clause-done : goal.returns-in-Err-clause-done
-returns-in-Err-clause-done g c = rw (c.lost_by.ensures.wreck, c.parts_of-failed.ensures.wreck) (reopen_fails _ _ c.args.wreck.opening c.args.wreck.slots _ _ _ (g.met.D.Wreck.DepotRuin.some c.args.wreck.depot) c.in-Err.ensures.done)
+returns-in-Err-clause-done g c = rw (c.lost_by.ensures.wreck, c.parts_of-failed.ensures.wreck) (reopen_fails _ _ c.args.wreck.opening c.args.wreck.slots _ _ (as_told g.D.Depot.told g.met.D.EpochArchivesDepot.tells c.in-Err.ensures.done).0)
 
 pub returns-then-opening-clause-done : goal.returns-then-opening-clause-done
 returns-then-opening-clause-done g c = might_stay _

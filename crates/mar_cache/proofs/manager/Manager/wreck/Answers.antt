@@ -1,7 +1,7 @@
 use Rattle.std.proofs.Common.{◌∙◌, ap, map}
 use Rattle.mar_cache.specs.Bounds.{bounds_of}
 use Rattle.mar_cache.proofs.Within.{fallen_within}
-use Rattle.mar_cache.proofs.manager.Manager.fallen.Goals as goal
+use Rattle.mar_cache.proofs.manager.Manager.wreck.Goals as goal
 
 pub invariant_of-result : goal.invariant_of-result
 invariant_of-result g c =

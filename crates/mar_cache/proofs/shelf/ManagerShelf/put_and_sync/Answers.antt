@@ -5,7 +5,7 @@ use Rattle.mar_node.specs.Cached.{epoch_of}
 use Rattle.mar_cache.specs.Bounds.{bounds_of}
 use Rattle.mar_cache.specs.Calls.{IsPutAndSynced, PutBounds}
 use Rattle.mar_cache.proofs.Plainly.{sync_plain}
-use Rattle.mar_cache.proofs.shelf.ManagerShelf.put_finalization.Goals as goal
+use Rattle.mar_cache.proofs.shelf.ManagerShelf.put_and_sync.Goals as goal
 
 pub returns-clause-done : goal.returns-clause-done
 returns-clause-done g c =

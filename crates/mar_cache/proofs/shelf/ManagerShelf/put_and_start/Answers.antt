@@ -7,7 +7,7 @@ use Rattle.mar_cache.specs.Calls.{IsPut, PutBounds}
 use Rattle.mar_epochs.specs.Sections.{section_of}
 use Rattle.mar_cache.specs.Shelved.{IsStarted}
 use Rattle.mar_cache.proofs.Plainly.{put_plain}
-use Rattle.mar_cache.proofs.shelf.ManagerShelf.put_verified.Goals as goal
+use Rattle.mar_cache.proofs.shelf.ManagerShelf.put_and_start.Goals as goal
 
 pub returns-clause-done : goal.returns-clause-done
 returns-clause-done g c =
