@@ -7,3 +7,12 @@ pub mod Plainly
 pub mod Within
 pub mod Watched
 pub mod Looking
+pub mod EpochLists
+pub mod ListPuts
+pub mod ListPrunes
+pub mod ListFinds
+pub mod TellsEntries
+pub mod StatePuts
+pub mod StateLosses
+pub mod StateLoads
+pub mod EventSteps

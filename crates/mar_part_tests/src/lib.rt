@@ -5,6 +5,12 @@
 #[cfg(test)]
 mod acknowledgements;
 #[cfg(test)]
+mod cache_calls;
+#[cfg(test)]
+mod cache_light;
+#[cfg(test)]
+mod cache_memory;
+#[cfg(test)]
 mod certified;
 #[cfg(test)]
 mod floors;
@@ -12,6 +18,8 @@ mod floors;
 mod gate;
 #[cfg(test)]
 mod inbox;
+#[cfg(test)]
+mod journal_openings;
 #[cfg(test)]
 mod light;
 #[cfg(test)]

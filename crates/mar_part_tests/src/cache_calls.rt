@@ -1,6 +1,6 @@
 //! The calls of any cache, each with ample memory. No function here has a clause, and each makes few calls, so that what
 //! calls it has nothing to carry. Where a call has no answer the cache is gone.
-use crate::light::{Light, Name, Plate, Vote};
+use crate::cache_light::{Light, Name, Plate, Vote};
 use mar_cache::{BlockName, Shelf, ShelfRuin, Sought, Started};
 use mar_store::Lost;
 use mar_types::{Epoch, Height, Round, View};

@@ -1,7 +1,7 @@
 //! The calls over a cache in memory. What it is made of is put in step by step, since its type is made of many: to prove
 //! that the whole of it is a cache at once costs too much.
-use crate::calls::answers;
-use crate::light::{Light, Vote};
+use crate::cache_calls::answers;
+use crate::cache_light::{Light, Vote};
 use mar_cache::{CacheEntry, Epochs, KeptEntry, KeyedEntry, Manager, empty_shelf};
 use mar_store::Meta;
 use std::alloc::Global;
