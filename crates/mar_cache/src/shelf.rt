@@ -462,11 +462,11 @@ where
             × IsStarted (S.states r.0.epochs (epoch_of (cached_of V.plain N.plain F.plain entry))) (epoch_of (cached_of V.plain N.plain F.plain entry))
             (section_of (cached_of V.plain N.plain F.plain entry)) r.1) }
         ensures raises { (bounds_of (M.current self.meta)).lowest ≤ epoch_of (cached_of V.plain N.plain F.plain entry)
-            → IfOk result (λ r. Raises (epoch_of (cached_of V.plain N.plain F.plain entry)) (bounds_of (M.current self.meta)) (map bounds_of (M.left self.meta))
-            (bounds_of (M.current r.0.meta)) (map bounds_of (M.left r.0.meta))) }
+            → IfOk result (λ r. Raises (epoch_of (cached_of V.plain N.plain F.plain entry)) (bounds_of (M.current self.meta))
+            (map bounds_of (M.left self.meta)) (bounds_of (M.current r.0.meta)) (map bounds_of (M.left r.0.meta))) }
         ensures ways { IfErr result (λ l. PutLeaves (cached_of V.plain N.plain F.plain entry) (S.states self.epochs) (S.Wreck.left (wreck_of l).epochs)) }
-        ensures bounds { IfErr result (λ l. PutBounds (cached_of V.plain N.plain F.plain entry) (bounds_of (M.current self.meta)) (map bounds_of (M.left self.meta))
-            (map bounds_of (M.Wreck.left (wreck_of l).meta))) }
+        ensures bounds { IfErr result (λ l. PutBounds (cached_of V.plain N.plain F.plain entry) (bounds_of (M.current self.meta))
+            (map bounds_of (M.left self.meta)) (map bounds_of (M.Wreck.left (wreck_of l).meta))) }
         ensures watched { Heeds (λ r. shelf_watch r.0.alarm (S.calm r.0.epochs && (M.watch r.0.meta).only_armed))
             (λ w. shelf_watch w.alarm (S.Wreck.calm w.epochs && (M.Wreck.watch w.meta).only_armed))
             (shelf_watch self.alarm (S.calm self.epochs && (M.watch self.meta).only_armed)) result }
@@ -481,11 +481,11 @@ where
         ensures done { (bounds_of (M.current self.meta)).lowest ≤ epoch_of (cached_of V.plain N.plain F.plain entry)
             → IfOk result (λ r. IsPutAndSynced (cached_of V.plain N.plain F.plain entry) (S.states self.epochs) (S.states r.epochs)) }
         ensures raises { (bounds_of (M.current self.meta)).lowest ≤ epoch_of (cached_of V.plain N.plain F.plain entry)
-            → IfOk result (λ r. Raises (epoch_of (cached_of V.plain N.plain F.plain entry)) (bounds_of (M.current self.meta)) (map bounds_of (M.left self.meta))
-            (bounds_of (M.current r.meta)) (map bounds_of (M.left r.meta))) }
+            → IfOk result (λ r. Raises (epoch_of (cached_of V.plain N.plain F.plain entry)) (bounds_of (M.current self.meta))
+            (map bounds_of (M.left self.meta)) (bounds_of (M.current r.meta)) (map bounds_of (M.left r.meta))) }
         ensures ways { IfErr result (λ l. PutLeaves (cached_of V.plain N.plain F.plain entry) (S.states self.epochs) (S.Wreck.left (wreck_of l).epochs)) }
-        ensures bounds { IfErr result (λ l. PutBounds (cached_of V.plain N.plain F.plain entry) (bounds_of (M.current self.meta)) (map bounds_of (M.left self.meta))
-            (map bounds_of (M.Wreck.left (wreck_of l).meta))) }
+        ensures bounds { IfErr result (λ l. PutBounds (cached_of V.plain N.plain F.plain entry) (bounds_of (M.current self.meta))
+            (map bounds_of (M.left self.meta)) (map bounds_of (M.Wreck.left (wreck_of l).meta))) }
         ensures watched { Heeds (λ r. shelf_watch r.alarm (S.calm r.epochs && (M.watch r.meta).only_armed))
             (λ w. shelf_watch w.alarm (S.Wreck.calm w.epochs && (M.Wreck.watch w.meta).only_armed))
             (shelf_watch self.alarm (S.calm self.epochs && (M.watch self.meta).only_armed)) result }
