@@ -71,7 +71,7 @@ fn what_is_asked_of_peers_is_open(rt: HostRuntime) {
 }
 
 // Whether a floor denies a request.
-fn goes(floor: Retain, request: Request<u64>) -> bool {
+fn goes(floor: &Retain, request: Request<u64>) -> bool {
     floor.denies(&Fetch::from(request).subscriber)
 }
 
@@ -79,17 +79,17 @@ fn goes(floor: Retain, request: Request<u64>) -> bool {
 fn floors_deny_what_they_reach(rt: HostRuntime) {
     let (last, next) = (Height::new(100), Height::new(101));
     let height = Retain::AboveHeight(last);
-    holds(&rt, goes(height, Request::finalized(last)));
-    holds(&rt, goes(height, Request::untrusted(9, last)));
-    holds(&rt, !goes(height, Request::finalized(next)));
-    holds(&rt, !goes(height, Request::untrusted(9, next)));
-    holds(&rt, !goes(height, Request::notarized(round(1, 10))));
+    holds(&rt, goes(&height, Request::finalized(last)));
+    holds(&rt, goes(&height, Request::untrusted(9, last)));
+    holds(&rt, !goes(&height, Request::finalized(next)));
+    holds(&rt, !goes(&height, Request::untrusted(9, next)));
+    holds(&rt, !goes(&height, Request::notarized(round(1, 10))));
     let cutoff = Retain::AboveRound(Cutoff::Round(round(1, 10)));
-    holds(&rt, goes(cutoff, Request::notarized(round(1, 10))));
-    holds(&rt, !goes(cutoff, Request::notarized(round(1, 11))));
+    holds(&rt, goes(&cutoff, Request::notarized(round(1, 10))));
+    holds(&rt, !goes(&cutoff, Request::notarized(round(1, 11))));
     let epoch = Retain::AboveRound(Cutoff::Epoch(Epoch::new(1)));
-    holds(&rt, goes(epoch, Request::notarized(round(1, u64::MAX))));
-    holds(&rt, !goes(epoch, Request::notarized(round(2, 0))));
+    holds(&rt, goes(&epoch, Request::notarized(round(1, u64::MAX))));
+    holds(&rt, !goes(&epoch, Request::notarized(round(2, 0))));
 }
 
 const fn finalized(height: u64) -> Key<u64> {
