@@ -6,7 +6,7 @@ use mar_archives::{immutable, prunable};
 use mar_block::{EmptyBlock, StandardBlocks, Variant};
 use mar_mocks::Recording;
 use mar_shelf::{BlockItem, Blocks, NoShelf, Shelf};
-use mar_store::{Archive, Lost, LuckHalf, MemArchive, RangeSet};
+use mar_store::{Archive, ArchiveRuin, Lost, LuckHalf, MemArchive, RangeSet};
 use mar_types::{Digested, EncodeSize, Hasher, Height, Sha256};
 use std::alloc::{AllocError, Global};
 
