@@ -32,7 +32,10 @@ fn clears(rt: &impl Abort, writes: &mut Writes) -> bool {
 fn comes_back(rt: &impl Abort, stream: Stream<MemMeta>, cutoff: Cutoff) -> (Stream<MemMeta>, bool) {
     let stream = given(rt, stream.set_cutoff(cutoff));
     let stream = given(rt, stream.sync());
-    let stream = Stream::new(given(rt, MemMeta::reopen(stream.wreck(), 0)));
+    let stream = match MemMeta::reopen(stream.wreck(), 0) {
+        Ok(meta) => Stream::new(meta),
+        Err(_) => panic!(rt; "an error"),
+    };
     let is_back = is_at(stream.processed_height(), Some(8)) & (stream.cutoff() == cutoff);
     (stream, is_back)
 }
