@@ -1,23 +1,12 @@
 -- Lists by epoch as one list: what is in it, and what a test finds there.
-use Rattle.std.proofs.Common.{◌≡◌, ◌≢◌, ◌⊎◌, inl, inr, ◌≤◌, ◌<◌, ℕ, zero, suc, List, [], ◌∷◌, ◌++◌, Bool, true, false, Contains, Option, Some, None, cond, refl, ap, ap₂, sym, subst, filter, arith, ◌∙◌}
+use Rattle.std.proofs.Common.{◌≡◌, ◌≢◌, inl, inr, ◌≤◌, ◌<◌, ℕ, zero, suc, List, [], ◌++◌, Bool, Option, refl, ap, ap₂, sym, filter, arith, ◌∙◌}
 use Rattle.std.specs.List.{filter_map}
 use Rattle.std.proofs.lemmas.Bool.{cases_eq}
 use Rattle.std.proofs.lemmas.List.{append-nil}
-use Rattle.std.proofs.lemmas.List.Elements.{Contains-append_cases, Contains-append_left, Contains-append_right, filter-append, filter_map-append}
+use Rattle.std.proofs.lemmas.List.Elements.{filter-append, filter_map-append}
 use Rattle.mar_cache.specs.AsOne.{up_to}
 
 module _ {T : Type 0} (lists : ℕ → List T) where
-  pub in_up_to : (h k : ℕ) (x : T) → k ≤ h → Contains (lists k) x → Contains (up_to lists h) x
-  in_up_to zero k x within has = let none : k ≡ zero = omega (arith, within) in subst (λ j. Contains (lists j) x) none has
-  in_up_to (suc h) k x within has = elim (cases_eq k (suc h)) [
-    | inl same ↦ Contains-append_right (up_to lists h) (lists (suc h)) x (subst (λ j. Contains (lists j) x) same has)
-    | inr other ↦ Contains-append_left (up_to lists h) (lists (suc h)) x (in_up_to h k x (omega (arith, within, other)) has)
-  ]
-
-  pub of_up_to : (h : ℕ) (x : T) → Contains (up_to lists h) x → (k : ℕ) × (k ≤ h) × Contains (lists k) x
-  of_up_to zero x has = (zero, omega arith, has)
-  of_up_to (suc h) x has = elim (Contains-append_cases (up_to lists h) (lists (suc h)) x has) [ inl before ↦ let (k, within, found) = of_up_to h x before in (k, omega (arith, within), found) | inr here ↦ (suc h, omega arith, here) ]
-
   -- nothing stands in later epochs
   pub up_to_more : (h j : ℕ) → h ≤ j → ((k : ℕ) → h < k → lists k ≡ []) → up_to lists j ≡ up_to lists h
   up_to_more h zero within none = ap (up_to lists) (let e : zero ≡ h = omega (arith, within) in e)

@@ -1,8 +1,8 @@
 -- An event that puts one entry and prunes by rounds advances the cache as its definition says.
-use Rattle.std.proofs.Common.{◌≡◌, ◌≢◌, ◌⊎◌, inl, inr, ◌≤◌, ◌<◌, ◌==◌, ◌&&◌, ◌||◌, nat_lt, not, ℕ, zero, suc, List, [], ◌∷◌, ◌++◌, Bool, true, false, IsTrue, Contains, Option, Some, None, cond, filter, refl, ap, ap₂, sym, subst, arith, ◌∙◌}
+use Rattle.std.proofs.Common.{◌≡◌, ◌≢◌, ◌⊎◌, inl, inr, ◌<◌, ◌==◌, ◌&&◌, ◌||◌, not, zero, suc, List, [], ◌∷◌, ◌++◌, Bool, true, false, IsTrue, Contains, Some, cond, refl, ap, ap₂, sym, subst, arith, ◌∙◌}
 use Rattle.std.specs.Prelude.{fold}
 use Rattle.std.specs.List.{filter_map, list_any}
-use Rattle.std.proofs.lemmas.Bool.{eq-eqb, eqb-true}
+use Rattle.std.proofs.lemmas.Bool.{eq-eqb}
 use Rattle.std.proofs.lemmas.List.Elements.{Contains-append_cases, Contains-append_left, Contains-append_right, filter_map-append}
 use Rattle.std.proofs.lemmas.List.{append-nil}
 use Rattle.mar_types.specs.Round.{Round, round_eq, round_lt}
@@ -13,7 +13,7 @@ use Rattle.mar_node.specs.Cache.{AdvancesCache, certified_from, entries_put, fin
 use Rattle.mar_node.specs.Config.{Config}
 use Rattle.mar_node.specs.Event.{Effect, Event}
 use Rattle.mar_node.specs.Node.{Node}
-use Rattle.mar_cache.specs.AllEntries.{FirstsStay, PrunesEntries, PutsEntry, is_in_place, with_own_entry}
+use Rattle.mar_node.specs.AllEntries.{FirstsStay, PrunesEntries, is_in_place, with_own_entry}
 use Rattle.mar_cache.specs.Steps.{KeepsBeside, PrunesByAll, PutsNone, PutsOne, is_certified}
 use Rattle.mar_cache.proofs.StateLosses.{filtered}
 use Rattle.mar_cache.proofs.ListPrunes.{firsts_stay}

@@ -6,7 +6,6 @@ pub mod Views
 pub mod Plainly
 pub mod Within
 pub mod Watched
-pub mod Looking
 pub mod EpochLists
 pub mod ListPuts
 pub mod ListPrunes
@@ -16,3 +15,6 @@ pub mod StatePuts
 pub mod StateLosses
 pub mod StateLoads
 pub mod EventSteps
+pub mod Ticketing
+pub mod AllEpochs
+pub mod CacheSteps

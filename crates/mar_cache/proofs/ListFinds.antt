@@ -1,10 +1,11 @@
 -- What a search finds in the newest epoch that has it, seen over all epochs.
-use Rattle.std.proofs.Common.{◌≡◌, ◌≢◌, ◌⊎◌, inl, inr, ◌≤◌, ◌<◌, ◌==◌, ◌&&◌, ◌||◌, nat_lt, ℕ, zero, suc, List, [], ◌∷◌, ◌++◌, Bool, true, false, Contains, Option, Some, None, cond, refl, ap, ap₂, sym, subst, arith, ◌∙◌}
-use Rattle.std.proofs.lemmas.Bool.{cases_eq, eq-eqb, le-ltb, lt-ltb}
+use Rattle.std.proofs.Common.{◌≡◌, ◌⊎◌, inl, inr, ◌≤◌, ◌<◌, ◌==◌, ◌&&◌, ◌||◌, nat_lt, ℕ, zero, suc, List, [], ◌∷◌, ◌++◌, Bool, true, false, Contains, Option, Some, None, cond, refl, ap, ap₂, sym, subst, arith, ◌∙◌}
+use Rattle.std.proofs.lemmas.Bool.{cases_eq, lt-ltb}
 use Rattle.mar_node.specs.Cached.{Cached, epoch_of}
+use Rattle.mar_node.specs.Sections.{stands_before}
 use Rattle.mar_cache.specs.AsOne.{up_to}
-use Rattle.mar_cache.specs.AllEntries.{archive_rank, is_sooner, place_of, sooner_of, soonest}
-use Rattle.mar_cache.proofs.EpochLists.{of_up_to}
+use Rattle.mar_node.specs.AllEntries.{is_sooner, sooner_of, soonest}
+use Rattle.mar_cache.specs.Nested.{of_up_to}
 
 or_true : (a b : Bool) → a ≡ true → (a || b) ≡ true
 or_true true b is = refl
@@ -12,7 +13,7 @@ or_true false b is = absurd cc
 
 -- what stands in a newer epoch is sooner
 newer_sooner : (x y : Cached) → epoch_of y < epoch_of x → is_sooner x y ≡ true
-newer_sooner x y less = or_true (nat_lt (epoch_of y) (epoch_of x)) (epoch_of x == epoch_of y && (nat_lt (archive_rank x) (archive_rank y) || (archive_rank x == archive_rank y && nat_lt (place_of x) (place_of y)))) (lt-ltb (epoch_of y) (epoch_of x) less)
+newer_sooner x y less = or_true (nat_lt (epoch_of y) (epoch_of x)) (epoch_of x == epoch_of y && stands_before x y) (lt-ltb (epoch_of y) (epoch_of x) less)
 
 -- what is found is one of these
 pub soonest_in : (passes : Cached → Bool) (xs : List Cached) (y : Cached) → soonest passes xs ≡ Some y → Contains xs y

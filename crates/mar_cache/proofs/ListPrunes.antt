@@ -1,13 +1,13 @@
 -- A prune by view, seen over all epochs.
-use Rattle.std.proofs.Common.{◌≡◌, ◌≢◌, ◌⊎◌, inl, inr, ◌≤◌, ◌<◌, ◌==◌, ◌&&◌, ◌||◌, nat_lt, not, ℕ, zero, suc, List, [], ◌∷◌, ◌++◌, Bool, true, false, Contains, Option, Some, None, cond, refl, ap, ap₂, sym, subst, filter, arith, ◌∙◌}
+use Rattle.std.proofs.Common.{◌≡◌, ◌≢◌, inl, inr, ◌<◌, ◌==◌, ◌&&◌, ◌||◌, nat_lt, not, ℕ, zero, suc, List, [], ◌∷◌, Bool, true, false, Contains, Option, Some, None, cond, refl, ap, ap₂, sym, subst, filter, arith, ◌∙◌}
 use Rattle.std.specs.List.{cons_option, filter_map}
 use Rattle.std.proofs.lemmas.Bool.{cases_lt, eqb-true, le-ltb, lt-ltb, ne_eqb}
 use Rattle.mar_types.specs.Round.{Round, round_eq, round_lt}
 use Rattle.mar_cert.specs.Block.{Block}
 use Rattle.mar_node.specs.Cached.{Cached, certified_entry, epoch_of, finalization_entry, notarization_entry, notarized_entry, verified_entry}
-use Rattle.mar_node.specs.Cache.{first_of, first_verified, is_below, verified_in}
+use Rattle.mar_node.specs.Cache.{first_of, is_below, verified_in}
 use Rattle.mar_cache.specs.AsOne.{up_to}
-use Rattle.mar_cache.specs.AllEntries.{FirstsStay}
+use Rattle.mar_node.specs.AllEntries.{FirstsStay}
 use Rattle.mar_cache.proofs.EpochLists.{filter_up_to, up_to_same}
 
 -- WHAT A ROUND PRUNES

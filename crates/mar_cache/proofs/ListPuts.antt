@@ -1,19 +1,18 @@
 -- A put in one epoch, seen over all epochs.
-use Rattle.std.proofs.Common.{◌≡◌, ◌≢◌, ◌⊎◌, inl, inr, ◌≤◌, ◌<◌, ◌==◌, ◌&&◌, ◌||◌, nat_le, ℕ, zero, suc, List, [], ◌∷◌, ◌++◌, Bool, true, false, IsTrue, Contains, Option, Some, None, cond, refl, ap, ap₂, sym, subst, filter, arith, ◌∙◌}
+use Rattle.std.proofs.Common.{◌≡◌, ◌≢◌, ◌⊎◌, inl, inr, ◌≤◌, ◌<◌, ◌==◌, ◌&&◌, ◌||◌, nat_le, ℕ, zero, suc, List, [], ◌∷◌, ◌++◌, Bool, true, false, Contains, Some, None, cond, refl, ap, ap₂, sym, subst, arith, ◌∙◌}
 use Rattle.std.specs.List.{cons_option, filter_map, list_any}
-use Rattle.std.proofs.lemmas.Bool.{cases_eq, eq-eqb, eqb-true, leb-false, leb-true, ne_eqb}
+use Rattle.std.proofs.lemmas.Bool.{cases_eq, eq-eqb, leb-false, leb-true, ne_eqb}
 use Rattle.std.proofs.lemmas.List.{append-nil}
 use Rattle.std.proofs.lemmas.List.Elements.{Contains-append_cases, Contains-append_left, Contains-append_right, filter_map-append}
 use Rattle.std.proofs.lemmas.List.Folds.{list_any-append}
-use Rattle.mar_types.specs.Round.{Round, round_eq}
+use Rattle.mar_types.specs.Round.{Round}
 use Rattle.mar_cert.specs.Block.{Block}
-use Rattle.mar_cert.specs.Finalization.{Finalization, Notarization}
-use Rattle.mar_store.specs.Changes.{Within}
 use Rattle.mar_node.specs.Cached.{Cached, certified_entry, epoch_of, finalization_entry, notarization_entry, notarized_entry, same_place, verified_entry, with_entry}
 use Rattle.mar_node.specs.Cache.{first_of, first_verified, verified_in}
 use Rattle.mar_cache.specs.AsOne.{up_to}
-use Rattle.mar_cache.specs.AllEntries.{is_in_place, with_own_entry}
-use Rattle.mar_cache.proofs.EpochLists.{filter_map_up_to, in_up_to, of_up_to, only_in, up_to_none}
+use Rattle.mar_node.specs.AllEntries.{is_in_place, with_own_entry}
+use Rattle.mar_cache.specs.Nested.{in_up_to, of_up_to}
+use Rattle.mar_cache.proofs.EpochLists.{filter_map_up_to, only_in, up_to_none}
 
 pub and_false_left : (a b : Bool) → a ≡ false → (a && b) ≡ false
 and_false_left false b is = refl

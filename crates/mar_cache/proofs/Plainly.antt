@@ -2,14 +2,14 @@
 use Rattle.std.proofs.Common.{List, [], ◌∷◌, None, Some, map, Option}
 use Rattle.mar_node.specs.Cached.{Cached, epoch_of}
 use Rattle.mar_cache.specs.Calls.{IsPut, IsPutAndSynced}
-use Rattle.mar_epochs.specs.Sections.{section_of}
+use Rattle.mar_node.specs.Sections.{section_of}
 use Rattle.mar_cache.specs.Shelved.{AllChanges, DoesAt, finishes, finishes_second}
 use Rattle.mar_epochs.specs.EpochStates.{ChangesEpoch, EpochState, EpochStates, opened, shut}
 use Rattle.mar_epochs.specs.EpochArchives.{Book, ChangesArchives}
 use Rattle.mar_epochs.specs.declared.Change.{Change}
 use Rattle.mar_epochs.specs.declared.Change.TheVariants.{Finish, PruneBelow, PruneCertified, Put, Sync}
-use Rattle.mar_cache.specs.declared.started.CacheTicket.{CacheTicket}
-use Rattle.mar_cache.specs.declared.started.SectionSync.{SectionSync}
+use Rattle.mar_node.specs.declared.CacheTicket.{CacheTicket}
+use Rattle.mar_node.specs.declared.SectionSync.{SectionSync}
 
 module _ {E : Type 0} (plain : E → Cached) where
   abbrev pub plain_change : Change E → Change Cached
@@ -20,11 +20,11 @@ module _ {E : Type 0} (plain : E → Cached) where
   plain_change (PruneCertified h) = PruneCertified h
 
   archives_plain : (change : Change E) (old new : Book) → ChangesArchives plain change old new → ChangesArchives (λ y. y) (plain_change change) old new
-  archives_plain (Put x) old new d = record { held = d.held; sure = d.sure; made_sure = d.made_sure; only = d.only; may = d.may; number = d.number; covers = d.covers }
-  archives_plain (Sync s) old new d = record { held = d.held; sure = d.sure; made_sure = d.made_sure; only = d.only; may = d.may; number = d.number; covers = d.covers }
-  archives_plain (Finish s t) old new d = record { held = d.held; sure = d.sure; made_sure = d.made_sure; only = d.only; may = d.may; number = d.number; covers = d.covers }
-  archives_plain (PruneBelow r) old new d = record { held = d.held; sure = d.sure; made_sure = d.made_sure; only = d.only; may = d.may; number = d.number; covers = d.covers }
-  archives_plain (PruneCertified h) old new d = record { held = d.held; sure = d.sure; made_sure = d.made_sure; only = d.only; may = d.may; number = d.number; covers = d.covers }
+  archives_plain (Put x) old new d = record { held = d.held; sure = d.sure; made_sure = d.made_sure; only = d.only; may = d.may; number = d.number; covers = d.covers; last = d.last }
+  archives_plain (Sync s) old new d = record { held = d.held; sure = d.sure; made_sure = d.made_sure; only = d.only; may = d.may; number = d.number; covers = d.covers; last = d.last }
+  archives_plain (Finish s t) old new d = record { held = d.held; sure = d.sure; made_sure = d.made_sure; only = d.only; may = d.may; number = d.number; covers = d.covers; last = d.last }
+  archives_plain (PruneBelow r) old new d = record { held = d.held; sure = d.sure; made_sure = d.made_sure; only = d.only; may = d.may; number = d.number; covers = d.covers; last = d.last }
+  archives_plain (PruneCertified h) old new d = record { held = d.held; sure = d.sure; made_sure = d.made_sure; only = d.only; may = d.may; number = d.number; covers = d.covers; last = d.last }
 
   state_plain : (change : Change E) (old new : EpochState) → ChangesEpoch plain change old new → ChangesEpoch (λ y. y) (plain_change change) old new
   state_plain change (opened b) new d = (d.0, archives_plain change b d.0 d.1, d.2)

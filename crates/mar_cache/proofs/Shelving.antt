@@ -9,8 +9,8 @@ use Rattle.mar_store.specs.declared.Lost.{Lost}
 use Rattle.mar_store.proofs.Lookups.{AllByRecursion-weaker}
 use Rattle.mar_node.specs.Cached.{Cached, same_place}
 use Rattle.mar_epochs.specs.EpochArchives.{Book, held_after, is_kept, puts_of}
-use Rattle.mar_epochs.specs.declared.Section.{Section}
-use Rattle.mar_cache.specs.declared.started.Started.TheVariants.{Ready, Ticket}
+use Rattle.mar_node.specs.declared.Section.{Section}
+use Rattle.mar_node.specs.declared.Started.TheVariants.{Ready, Ticket}
 use Rattle.mar_epochs.specs.EpochStates.{ChangesEpoch, IsTicket, IsNestedEpoch, MightBe, is_opened, KeepsOtherEpochs, LeavesEpoch, LosesEpoch, OpensEpoch, EpochState, EpochStates, left_of_epoch, opened, shut}
 use Rattle.mar_cache.specs.Shelved.{AllChanges, at_epoch, IsStarted, DoesAt, OpensOrStays, GrowsEpoch, GrowsEpochs, LeavesEpochs}
 use Rattle.mar_epochs.specs.declared.Change.{Change}
@@ -28,7 +28,7 @@ filter_contains {A} test (y ∷ ys) x has passes = by (test y) refl has (λ has'
     by false is (suc k, lt, e) rest = rest (k, omega arith, e)
 
 -- what is held and isn't pruned is held after a change
-held_kept : {E : Type 0} (plain : E → Cached) (change : Change E) (held : List Cached) (x : Cached) → Contains held x → IsTrue (is_kept change x) → Contains (held_after plain change held) x
+pub held_kept : {E : Type 0} (plain : E → Cached) (change : Change E) (held : List Cached) (x : Cached) → Contains held x → IsTrue (is_kept change x) → Contains (held_after plain change held) x
 held_kept plain (Put entry) held x has kept = by (list_any (same_place (plain entry)) held)
   where
     by : (b : Bool) → Contains (cond b held (held ++ plain entry ∷ [])) x

@@ -1,22 +1,19 @@
 -- What a start takes up of what a crash left, seen over all epochs.
-use Rattle.std.proofs.Common.{◌≡◌, ◌≢◌, ◌⊎◌, inl, inr, ◌≤◌, ◌<◌, ◌==◌, ◌&&◌, ◌||◌, ℕ, zero, suc, List, [], ◌∷◌, ◌++◌, Bool, true, false, IsFalse, Contains, refl, ap, ap₂, sym, subst, arith, ◌∙◌}
+use Rattle.std.proofs.Common.{◌≡◌, ◌≢◌, ◌⊎◌, inl, inr, ◌==◌, ◌&&◌, ◌||◌, ℕ, zero, suc, List, [], ◌∷◌, ◌++◌, Bool, true, false, IsFalse, Contains, refl, ap, ap₂, sym, subst, arith, ◌∙◌}
 use Rattle.std.specs.List.{list_any}
-use Rattle.std.proofs.lemmas.Bool.{cases_eq, eq-eqb, ne_eqb}
-use Rattle.std.proofs.lemmas.List.Elements.{Contains-append_cases}
+use Rattle.std.proofs.lemmas.Bool.{ne_eqb}
 use Rattle.std.proofs.lemmas.List.Folds.{list_any-append}
 use Rattle.mar_store.specs.Changes.{Left, Within}
-use Rattle.mar_store.specs.Kept.{reopened_store}
 use Rattle.mar_node.specs.Cached.{Cached, EachPlaceOnce, epoch_of, same_place}
 use Rattle.mar_epochs.specs.EpochArchives.{nothing_left}
 use Rattle.mar_cache.specs.Bounds.{Bounds}
 use Rattle.mar_cache.specs.AsOne.{IsLoaded, kept_of, up_to}
-use Rattle.mar_cache.specs.AllEntries.{EachOnce, LoadsEntries, is_in_place}
+use Rattle.mar_node.specs.AllEntries.{EachOnce, LoadsEntries, is_in_place}
 use Rattle.mar_epochs.specs.EpochStates.{EpochState, EpochStates, HasSome, IsBare, IsNestedEpoch, OpensEpoch, held_in, is_opened, may_in, opened, shut, sure_in}
 use Rattle.mar_cache.specs.Laws.{LoadsAll}
 use Rattle.mar_cache.specs.Shelved.{LieWithin}
-use Rattle.mar_cache.proofs.EpochLists.{in_up_to, of_up_to}
+use Rattle.mar_cache.specs.Nested.{of_up_to, within_up_to}
 use Rattle.mar_cache.proofs.ListPuts.{and_false_left, contains_none, none_passes}
-use Rattle.mar_cache.proofs.StatePuts.{within_up_to}
 
 -- what is taken up of one epoch
 pub record LoadsHere (t n : EpochState) : Type 0 where

@@ -1,31 +1,29 @@
 -- What a prune by view makes of a shelf, what a search finds there, and what is left where a call failed, seen over all epochs.
-use Rattle.std.proofs.Common.{◌≡◌, ◌≢◌, ◌⊎◌, inl, inr, ◌≤◌, ◌<◌, ◌==◌, ◌&&◌, ◌||◌, nat_le, nat_lt, not, ℕ, zero, suc, List, [], ◌∷◌, ◌++◌, Bool, true, false, Contains, Option, Some, None, cond, filter, length, max, refl, ap, ap₂, sym, subst, arith, ◌∙◌}
-use Rattle.std.specs.Prelude.{if◌then◌else◌}
+use Rattle.std.proofs.Common.{◌≡◌, inl, inr, ◌≤◌, ◌<◌, ◌==◌, ◌&&◌, ◌||◌, nat_le, not, ℕ, zero, suc, List, [], ◌∷◌, Bool, true, false, Contains, Option, Some, None, cond, filter, length, max, refl, ap, ap₂, sym, subst, arith, ◌∙◌}
 use Rattle.std.specs.List.{AllByRecursion, list_any}
 use Rattle.std.proofs.lemmas.Bool.{cases_eq, cases_lt, eq-eqb, le-ltb, ne_eqb}
 use Rattle.std.proofs.lemmas.List.Elements.{Contains-append_cases, Contains-append_left, Contains-append_right}
 use Rattle.mar_types.specs.Round.{Round, round_lt}
-use Rattle.mar_store.specs.Changes.{Left, Within}
+use Rattle.mar_store.specs.Changes.{Within}
 use Rattle.mar_store.proofs.Lookups.{AllByRecursion-contains}
-use Rattle.mar_node.specs.Cached.{Cached, certified_entry, epoch_of, finalization_entry, notarization_entry, notarized_entry, verified_entry}
+use Rattle.mar_node.specs.Cached.{Cached, epoch_of}
 use Rattle.mar_node.specs.Cache.{is_below}
-use Rattle.mar_epochs.specs.EpochArchives.{ChangesArchives}
-use Rattle.mar_epochs.specs.Sections.{earlier_of, first_found, index_of, is_in, rank, section_of, stands_before}
-use Rattle.mar_epochs.specs.declared.Change.{Change}
-use Rattle.mar_epochs.specs.declared.Section.{Section}
+use Rattle.mar_node.specs.Sections.{earlier_of, first_found, is_in, stands_before}
+use Rattle.mar_node.specs.declared.Section.{Section}
 use Rattle.mar_epochs.specs.declared.Change.TheVariants.{PruneBelow}
 use Rattle.mar_cache.specs.Bounds.{Bounds}
 use Rattle.mar_cache.specs.AsOne.{IsLoaded, greatest_highest, kept_of, may_of_some, sure_of_all, up_to}
-use Rattle.mar_cache.specs.AllEntries.{FirstsStay, LeavesEntries, PrunesEntries, archive_rank, is_sooner, place_of, sooner_of, soonest}
-use Rattle.mar_epochs.specs.EpochStates.{ChangesEpoch, EpochState, EpochStates, HasSome, IsBare, IsNewest, LeavesEpoch, held_in, is_opened, may_in, opened, shut, sure_in}
+use Rattle.mar_node.specs.AllEntries.{FirstsStay, LeavesEntries, PrunesEntries, is_sooner, sooner_of, soonest}
+use Rattle.mar_epochs.specs.EpochStates.{ChangesEpoch, EpochState, EpochStates, HasSome, IsBare, IsNewest, held_in, is_opened, may_in, opened, shut, sure_in}
 use Rattle.mar_cache.specs.Laws.{PrunesByView}
 use Rattle.mar_cache.specs.SameEntries.{same_entry}
 use Rattle.mar_cache.specs.Shelved.{AllLieWithin, LeavesEpochs, LieWithin, pruned_bounds}
-use Rattle.mar_cache.proofs.EpochLists.{filter_up_to, in_up_to, of_up_to, only_in}
+use Rattle.mar_cache.specs.Nested.{in_up_to, may_some, of_up_to}
+use Rattle.mar_cache.proofs.EpochLists.{filter_up_to, only_in}
 use Rattle.mar_cache.proofs.ListPrunes.{filter_none, firsts_stay, older_below, prunes_all}
 use Rattle.mar_cache.proofs.ListPuts.{contains_none}
 use Rattle.mar_cache.proofs.ListFinds.{soonest_in, soonest_newest, soonest_none}
-use Rattle.mar_cache.proofs.StatePuts.{beyond, filter_passed, held_more, held_some, may_more, may_some, sure_more, sure_some, to_highest}
+use Rattle.mar_cache.proofs.StatePuts.{beyond, filter_passed, held_more, held_some, may_more, sure_more, sure_some, to_highest}
 use Rattle.mar_cache.proofs.TellsEntries.{entries_same, entry_refl}
 
 -- A PRUNE BY VIEW
@@ -107,25 +105,9 @@ module _ (r : Round) (old new : EpochStates) (b : Bounds) (lie : LieWithin old b
 
 -- WHAT A SEARCH FINDS
 
-ranked : (x : Cached) → rank (section_of x) ≡ archive_rank x
-ranked (finalization_entry f) = refl
-ranked (verified_entry r b) = refl
-ranked (notarized_entry r b) = refl
-ranked (certified_entry e b) = refl
-ranked (notarization_entry n) = refl
-
-indexed : (x : Cached) → index_of x ≡ place_of x
-indexed (finalization_entry f) = refl
-indexed (verified_entry r b) = refl
-indexed (notarized_entry r b) = refl
-indexed (certified_entry e b) = refl
-indexed (notarization_entry n) = refl
-
 -- in one epoch
 before_sooner : (x y : Cached) → epoch_of x ≡ epoch_of y → stands_before x y ≡ is_sooner x y
-before_sooner x y same = ap₂ (λ a b. nat_lt a b || (a == b && nat_lt (index_of x) (index_of y))) (ranked x) (ranked y)
-    ∙ ap₂ (λ a b. nat_lt (archive_rank x) (archive_rank y) || (archive_rank x == archive_rank y && nat_lt a b)) (indexed x) (indexed y)
-    ∙ sym (ap₂ (λ p q. p || (q && (nat_lt (archive_rank x) (archive_rank y) || (archive_rank x == archive_rank y && nat_lt (place_of x) (place_of y))))) (le-ltb (epoch_of y) (epoch_of x) (omega (arith, same))) (eq-eqb (epoch_of x) (epoch_of y) same))
+before_sooner x y same = sym (ap₂ (λ p q. p || (q && stands_before x y)) (le-ltb (epoch_of y) (epoch_of x) (omega (arith, same))) (eq-eqb (epoch_of x) (epoch_of y) same))
 
 first_soonest : (passes : Cached → Bool) (e : ℕ) (xs : List Cached) → ((x : Cached) → Contains xs x → epoch_of x ≡ e) → first_found passes xs ≡ soonest passes xs
 first_soonest passes e [] own = refl
@@ -187,51 +169,51 @@ of_all (w ∷ other ∷ ways) h y has way (suc k, lt, is) = let (found, passes) 
 
 pub in_some : (ways : List EpochStates) (h : ℕ) (y : Cached) (way : EpochStates) → Contains ways way → Contains (up_to (λ k. may_in (way k)) h) y → Contains (may_of_some ways h) y
 in_some [] h y way among has = contains_none way among
-in_some (w ∷ ways) h y way (zero, lt, is) has = Contains-append_left (up_to (λ k. may_in (w k)) h) (may_of_some ways h) y (subst (λ v. Contains (up_to (λ k. may_in (v k)) h) y) (sym is) has)
-in_some (w ∷ ways) h y way (suc k, lt, is) has = Contains-append_right (up_to (λ k. may_in (w k)) h) (may_of_some ways h) y (in_some ways h y way (k, omega (arith, lt), is) has)
+in_some (w ∷ []) h y way (zero, lt, is) has = subst (λ v. Contains (up_to (λ k. may_in (v k)) h) y) (sym is) has
+in_some (w ∷ []) h y way (suc k, lt, is) has = absurd (omega (arith, lt))
+in_some (w ∷ other ∷ ways) h y way (zero, lt, is) has = Contains-append_left (up_to (λ k. may_in (w k)) h) (may_of_some (other ∷ ways) h) y (subst (λ v. Contains (up_to (λ k. may_in (v k)) h) y) (sym is) has)
+in_some (w ∷ other ∷ ways) h y way (suc k, lt, is) has = Contains-append_right (up_to (λ k. may_in (w k)) h) (may_of_some (other ∷ ways) h) y (in_some (other ∷ ways) h y way (k, omega (arith, lt), is) has)
 
 pub of_some : (ways : List EpochStates) (h : ℕ) (y : Cached) → Contains (may_of_some ways h) y → (way : EpochStates) × Contains ways way × Contains (up_to (λ k. may_in (way k)) h) y
 of_some [] h y has = contains_none y has
-of_some (w ∷ ways) h y has = elim (Contains-append_cases (up_to (λ k. may_in (w k)) h) (may_of_some ways h) y has) [
+of_some (w ∷ []) h y has = (w, (zero, omega arith, refl), has)
+of_some (w ∷ other ∷ ways) h y has = elim (Contains-append_cases (up_to (λ k. may_in (w k)) h) (may_of_some (other ∷ ways) h) y has) [
   | inl here ↦ (w, (zero, omega arith, refl), here)
-  | inr later ↦ let (way, among, found) = of_some ways h y later in let (k, lt, is) = among in (way, (suc k, omega (arith, lt), is), found)
+  | inr later ↦ let (way, among, found) = of_some (other ∷ ways) h y later in let (k, lt, is) = among in (way, (suc k, omega (arith, lt), is), found)
 ]
+
+pub up_to_greatest : (bounds : List Bounds) (c : Bounds) → Contains bounds c → c.highest ≤ greatest_highest bounds
+up_to_greatest [] c has = contains_none c has
+up_to_greatest (d ∷ bounds) c (zero, lt, is) = let same = ap (λ x. x.highest) is in omega (arith, same)
+up_to_greatest (d ∷ bounds) c (suc k, lt, is) = let rest = up_to_greatest bounds c (k, omega (arith, lt), is) in omega (arith, rest)
+
+pub one_of_some : {T : Type 0} (xs : List T) → 0 < length xs → (x : T) × Contains xs x
+one_of_some [] none = absurd (omega (arith, none))
+one_of_some (x ∷ xs) is = (x, (zero, omega arith, refl))
+
+-- where something may be left of an epoch
+pub reaches : (ways : List EpochStates) (lefts : List Bounds) → AllLieWithin ways lefts → 0 < length lefts → (way : EpochStates) → Contains ways way → (k : ℕ) → HasSome (way k) → k ≤ greatest_highest lefts
+reaches ways lefts within some_bounds way among k has =
+    let (c, one) = one_of_some lefts some_bounds in
+    let top = to_highest c k ((within way among c one k).inside has) in
+    let greatest = up_to_greatest lefts c one in
+    omega (arith, top, greatest)
 
 -- what is left where a call failed
 module _ (put : ℕ → List Cached) (gone : ℕ → Cached → Bool) (all : List Cached) (lets : Cached → Bool) (old : EpochStates) (b : Bounds) (lie : LieWithin old b) (ways : List EpochStates) (lefts : List Bounds)
-    (within : AllLieWithin ways lefts) (some : 0 < length ways) (some_bounds : 0 < length lefts) (puts : (k : ℕ) → Within (put k) all) (fewer : (k : ℕ) (y : Cached) → lets y ≡ false → gone k y ≡ false) (leaves : AllByRecursion (LeavesEpochs put gone old) ways) where
+    (within : AllLieWithin ways lefts) (some : 0 < length ways) (some_bounds : 0 < length lefts) (puts : (k : ℕ) → Within (put k) all) (fewer : (k : ℕ) (y : Cached) → epoch_of y ≡ k → lets y ≡ false → gone k y ≡ false) (leaves : AllByRecursion (LeavesEpochs put gone old) ways) where
   of_way : (way : EpochStates) → Contains ways way → LeavesEpochs put gone old way
   of_way way among = AllByRecursion-contains (LeavesEpochs put gone old) ways way leaves among
 
-  up_to_greatest : (bounds : List Bounds) (c : Bounds) → Contains bounds c → c.highest ≤ greatest_highest bounds
-  up_to_greatest [] c has = contains_none c has
-  up_to_greatest (d ∷ bounds) c (zero, lt, is) = let same = ap (λ x. x.highest) is in omega (arith, same)
-  up_to_greatest (d ∷ bounds) c (suc k, lt, is) = let rest = up_to_greatest bounds c (k, omega (arith, lt), is) in omega (arith, rest)
-
-  one_bounds : (bounds : List Bounds) → 0 < length bounds → (c : Bounds) × Contains bounds c
-  one_bounds [] none = absurd (omega (arith, none))
-  one_bounds (c ∷ bounds) is = (c, (zero, omega arith, refl))
-
-  reaches : (way : EpochStates) → Contains ways way → (k : ℕ) → HasSome (way k) → k ≤ greatest_highest lefts
-  reaches way among k has =
-      let (c, one) = one_bounds lefts some_bounds in
-      let top = to_highest c k ((within way among c one k).inside has) in
-      let greatest = up_to_greatest lefts c one in
-      omega (arith, top, greatest)
-
   pub leaves_flat : LeavesEntries all lets (kept_of old b.highest) (sure_of_all ways (greatest_highest lefts)) (may_of_some ways (greatest_highest lefts))
   leaves_flat = record {
-    stays = λ y has stays. let (k, under, found) = of_up_to (λ k. sure_in (old k)) b.highest y has in in_all ways (greatest_highest lefts) y some (λ way among. let here = (of_way way among k).sure y found (fewer k y stays) in in_up_to (λ k. sure_in (way k)) (greatest_highest lefts) k y (reaches way among k (sure_some (way k) y here)) here);
-    held = λ y has stays. let (k, under, found) = of_up_to (λ k. held_in (old k)) b.highest y has in let (way, among) = one_way ways some in let here = (of_way way among k).held y found (fewer k y stays) in in_some ways (greatest_highest lefts) y way among (in_up_to (λ k. may_in (way k)) (greatest_highest lefts) k y (reaches way among k (may_some (way k) y here)) here);
+    stays = λ y has stays. let (k, under, found) = of_up_to (λ k. sure_in (old k)) b.highest y has in in_all ways (greatest_highest lefts) y some (λ way among. let here = (of_way way among k).sure y found (fewer k y ((lie k).sure y found) stays) in in_up_to (λ k. sure_in (way k)) (greatest_highest lefts) k y (reaches ways lefts within some_bounds way among k (sure_some (way k) y here)) here);
+    held = λ y has stays. let (k, under, found) = of_up_to (λ k. held_in (old k)) b.highest y has in let (way, among) = one_of_some ways some in let here = (of_way way among k).held y found (fewer k y ((lie k).held y found) stays) in in_some ways (greatest_highest lefts) y way among (in_up_to (λ k. may_in (way k)) (greatest_highest lefts) k y (reaches ways lefts within some_bounds way among k (may_some (way k) y here)) here);
     within = λ y has. let (way, among, there) = of_some ways (greatest_highest lefts) y has in let (k, under, found) = of_up_to (λ k. may_in (way k)) (greatest_highest lefts) y there in elim ((of_way way among k).may y found) [
       | inl before ↦ Contains-append_left _ all y (subst (λ ys. Contains ys y) (may_more old b lie (max k b.highest) (omega arith)) (in_up_to (λ k. may_in (old k)) (max k b.highest) k y (omega arith) before))
       | inr new ↦ Contains-append_right _ all y (puts k y new)
     ];
   }
-    where
-      one_way : (ws : List EpochStates) → 0 < length ws → (w : EpochStates) × Contains ws w
-      one_way [] none = absurd (omega (arith, none))
-      one_way (w ∷ ws) is = (w, (zero, omega arith, refl))
 
 -- a prune by view, as a law
 pub prunes_all_epochs : (r : Round) (old new : EpochStates) (b : Bounds) → LieWithin old b → LieWithin new (pruned_bounds r b) → IsLoaded old → PrunesByView r old new
@@ -240,12 +222,30 @@ prunes_all_epochs r old new b lie lie_new loaded prunes =
     let flat = prunes_flat r old new b lie lie_new loaded prunes.own prunes.newer prunes.older in
     (flat, subst (FirstsStay (kept_of old b.highest).held) (sym flat.held) (firsts_stay (λ x. not (is_below r x)) (λ s. not (round_lt s r)) (λ c s. refl) (kept_of old b.highest).held))
 
--- what one archive of an epoch holds
-pub held_of_archive : (e : ℕ) (s : Section) (states : EpochStates) (b : Bounds) → LieWithin states b → filter (λ x. epoch_of x == e && is_in s x) (kept_of states b.highest).held ≡ filter (is_in s) (held_in (states e))
-held_of_archive e s states b lie = ap (filter (λ x. epoch_of x == e && is_in s x)) (sym (held_more states b lie (max b.highest e) (omega arith))) ∙ filter_up_to (λ x. epoch_of x == e && is_in s x) (λ k. held_in (states k)) (max b.highest e)
-    ∙ only_in (λ k. filter (λ x. epoch_of x == e && is_in s x) (held_in (states k))) e (max b.highest e) (omega arith) (λ k other. filter_none (λ x. epoch_of x == e && is_in s x) (held_in (states k)) (λ x has. ap (λ c. c && is_in s x) (ne_eqb (epoch_of x) e (λ same. other (sym ((lie k).held x has) ∙ same)))))
+-- what an epoch holds of what passes
+pub held_passing : (e : ℕ) (p : Cached → Bool) (states : EpochStates) (b : Bounds) → LieWithin states b → filter (λ x. epoch_of x == e && p x) (kept_of states b.highest).held ≡ filter p (held_in (states e))
+held_passing e p states b lie = ap (filter (λ x. epoch_of x == e && p x)) (sym (held_more states b lie (max b.highest e) (omega arith))) ∙ filter_up_to (λ x. epoch_of x == e && p x) (λ k. held_in (states k)) (max b.highest e)
+    ∙ only_in (λ k. filter (λ x. epoch_of x == e && p x) (held_in (states k))) e (max b.highest e) (omega arith) (λ k other. filter_none (λ x. epoch_of x == e && p x) (held_in (states k)) (λ x has. ap (λ c. c && p x) (ne_eqb (epoch_of x) e (λ same. other (sym ((lie k).held x has) ∙ same)))))
     ∙ alike (held_in (states e)) (lie e).held
   where
-    alike : (xs : List Cached) → ((x : Cached) → Contains xs x → epoch_of x ≡ e) → filter (λ x. epoch_of x == e && is_in s x) xs ≡ filter (is_in s) xs
+    alike : (xs : List Cached) → ((x : Cached) → Contains xs x → epoch_of x ≡ e) → filter (λ x. epoch_of x == e && p x) xs ≡ filter p xs
     alike [] own = refl
-    alike (x ∷ xs) own = ap (λ c. cond (c && is_in s x) (x ∷ filter (λ y. epoch_of y == e && is_in s y) xs) (filter (λ y. epoch_of y == e && is_in s y) xs)) (eq-eqb (epoch_of x) e (own x (zero, omega arith, refl))) ∙ ap (λ ys. cond (is_in s x) (x ∷ ys) ys) (alike xs (λ y (k, lt, is). own y (suc k, omega (arith, lt), is)))
+    alike (x ∷ xs) own = ap (λ c. cond (c && p x) (x ∷ filter (λ y. epoch_of y == e && p y) xs) (filter (λ y. epoch_of y == e && p y) xs)) (eq-eqb (epoch_of x) e (own x (zero, omega arith, refl))) ∙ ap (λ ys. cond (p x) (x ∷ ys) ys) (alike xs (λ y (k, lt, is). own y (suc k, omega (arith, lt), is)))
+
+-- what one archive of an epoch holds
+pub held_of_archive : (e : ℕ) (s : Section) (states : EpochStates) (b : Bounds) → LieWithin states b → filter (λ x. epoch_of x == e && is_in s x) (kept_of states b.highest).held ≡ filter (is_in s) (held_in (states e))
+held_of_archive e s states b lie = held_passing e (is_in s) states b lie
+
+-- of those that pass the soonest is the soonest of the list without the others
+soonest_filter : (p : Cached → Bool) (xs : List Cached) → soonest p xs ≡ soonest (λ y. true) (filter p xs)
+soonest_filter p [] = refl
+soonest_filter p (x ∷ xs) = by (p x) (soonest_filter p xs)
+  where
+    by : (c : Bool) → soonest p xs ≡ soonest (λ y. true) (filter p xs) → cond c (sooner_of x (soonest p xs)) (soonest p xs) ≡ soonest (λ y. true) (cond c (x ∷ filter p xs) (filter p xs))
+    by true rest = ap (sooner_of x) rest
+    by false rest = rest
+
+-- what a look-up finds in an epoch
+pub found_soonest : (e : ℕ) (p : Cached → Bool) (states : EpochStates) (b : Bounds) → LieWithin states b → first_found p (held_in (states e)) ≡ soonest (λ x. epoch_of x == e && p x) (kept_of states b.highest).held
+found_soonest e p states b lie = first_soonest p e (held_in (states e)) (lie e).held ∙ soonest_filter p (held_in (states e))
+    ∙ ap (soonest (λ y. true)) (sym (held_passing e p states b lie)) ∙ sym (soonest_filter (λ x. epoch_of x == e && p x) (kept_of states b.highest).held)

@@ -1,24 +1,23 @@
 -- What calls make of single epochs, seen over all of them.
-use Rattle.std.proofs.Common.{◌≡◌, ◌≢◌, ◌⊎◌, inl, inr, ◌≤◌, ◌<◌, ◌&&◌, nat_le, ℕ, zero, suc, List, [], ◌∷◌, ◌++◌, Bool, true, false, IsTrue, Contains, cond, filter, max, refl, ap, sym, subst, arith, ◌∙◌}
+use Rattle.std.proofs.Common.{◌≡◌, ◌⊎◌, inl, inr, ◌≤◌, ◌<◌, ◌&&◌, nat_le, ℕ, zero, suc, List, [], ◌∷◌, ◌++◌, Bool, true, false, Contains, cond, filter, refl, ap, sym, subst, arith, ◌∙◌}
 use Rattle.std.proofs.lemmas.Bool.{cases_eq, eqb-true, leb-true}
 use Rattle.std.proofs.lemmas.List.Elements.{Contains-append_cases, Contains-append_left, Contains-append_right}
-use Rattle.mar_store.specs.Changes.{Left, Within}
-use Rattle.mar_store.specs.Kept.{Kept, reopened_store}
-use Rattle.mar_types.specs.Round.{Round}
+use Rattle.mar_store.specs.Changes.{Within}
+use Rattle.mar_store.specs.Kept.{reopened_store}
 use Rattle.mar_node.specs.Cached.{Cached, certified_entry, epoch_of, finalization_entry, notarization_entry, notarized_entry, verified_entry, with_entry}
 use Rattle.mar_node.specs.Cache.{first_verified, same_archive}
-use Rattle.mar_epochs.specs.EpochArchives.{Book, ChangesArchives, nothing_left}
-use Rattle.mar_epochs.specs.Sections.{is_in, section_of}
-use Rattle.mar_epochs.specs.declared.Change.{Change}
-use Rattle.mar_epochs.specs.declared.Section.{Section}
+use Rattle.mar_epochs.specs.EpochArchives.{Book, nothing_left}
+use Rattle.mar_node.specs.Sections.{is_in, section_of}
+use Rattle.mar_node.specs.declared.Section.{Section}
 use Rattle.mar_epochs.specs.declared.Change.TheVariants.{Put, Sync}
 use Rattle.mar_cache.specs.Bounds.{Bounds, includes}
 use Rattle.mar_cache.specs.AsOne.{IsLoaded, kept_of, up_to}
-use Rattle.mar_cache.specs.AllEntries.{PutsEntry, PutsEntryNow, with_own_entry}
+use Rattle.mar_node.specs.AllEntries.{PutsEntry, PutsEntryNow, with_own_entry}
 use Rattle.mar_epochs.specs.EpochStates.{ChangesEpoch, EpochState, EpochStates, HasSome, IsBare, KeepsOtherEpochs, OpensEpoch, held_in, is_opened, may_in, opened, shut, sure_in}
 use Rattle.mar_cache.specs.Shelved.{DoesAt, LieWithin, raised}
-use Rattle.mar_cache.proofs.EpochLists.{in_up_to, of_up_to, up_to_more}
-use Rattle.mar_cache.proofs.ListPuts.{contains_none, one_of, puts_firsts, puts_held, puts_only}
+use Rattle.mar_cache.specs.Nested.{in_up_to, may_some, of_up_to, within_up_to}
+use Rattle.mar_cache.proofs.EpochLists.{up_to_more}
+use Rattle.mar_cache.proofs.ListPuts.{contains_none, puts_firsts, puts_held, puts_only}
 
 -- NOTHING BEYOND THE HIGHEST
 
@@ -33,10 +32,6 @@ held_some (shut l) x has = absurd (contains_none x has)
 pub sure_some : (t : EpochState) (x : Cached) → Contains (sure_in t) x → HasSome t
 sure_some (opened b) x has = tt
 sure_some (shut l) x has = λ bare. contains_none x (subst (λ m. Contains m.sure x) bare has)
-
-pub may_some : (t : EpochState) (x : Cached) → Contains (may_in t) x → HasSome t
-may_some (opened b) x has = tt
-may_some (shut l) x has = λ bare. contains_none x (subst (λ m. Contains m.may x) bare has)
 
 pub to_highest : (b : Bounds) (k : ℕ) → includes b k ≡ true → k ≤ b.highest
 to_highest b k is = leb-true k b.highest (right (nat_le b.lowest k) (nat_le k b.highest) is)
@@ -57,10 +52,6 @@ module _ (states : EpochStates) (b : Bounds) (lie : LieWithin states b) where
 
   pub may_more : (j : ℕ) → b.highest ≤ j → up_to (λ k. may_in (states k)) j ≡ up_to (λ k. may_in (states k)) b.highest
   may_more j within = up_to_more (λ k. may_in (states k)) b.highest j within (λ k over. nothing_in (may_in (states k)) (λ x has. beyond k over (may_some (states k) x has)))
-
--- lists by epoch, each within another
-pub within_up_to : {T : Type 0} (f g : ℕ → List T) (h : ℕ) → ((k : ℕ) → k ≤ h → Within (f k) (g k)) → Within (up_to f h) (up_to g h)
-within_up_to f g h each x has = let (k, within, found) = of_up_to f h x has in in_up_to g h k x within (each k within x found)
 
 -- A PUT
 

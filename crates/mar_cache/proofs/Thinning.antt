@@ -48,16 +48,26 @@ tickets_then test (opened b) (shut l) v first second = absurd first
 tickets_then test (shut l) u v first second = tt
 
 pub thins_itself : (test : Cached → Bool) (t : EpochState) → ThinsEpoch test t t
-thins_itself test t = record { grows = grows_itself [] test t; within = λ x has. has; opened = refl; tickets = tickets_itself test t }
+thins_itself test t = record { grows = grows_itself [] test t; within = λ x has. has; rest = refl; opened = refl; tickets = tickets_itself test t }
 
 thins_then : (test : Cached → Bool) (t u v : EpochState) → ThinsEpoch test t u → ThinsEpoch test u v → ThinsEpoch test t v
-thins_then test t u v first second = record { grows = grows_then [] test t u v first.grows second.grows; within = λ x has. first.within x (second.within x has); opened = second.opened ∙ first.opened; tickets = tickets_then test t u v first.tickets second.tickets }
+thins_then test t u v first second = record { grows = grows_then [] test t u v first.grows second.grows; within = λ x has. first.within x (second.within x has); rest = second.rest ∙ first.rest; opened = second.opened ∙ first.opened; tickets = tickets_then test t u v first.tickets second.tickets }
+
+-- what passes passes again
+filter_again : (p : Cached → Bool) (xs : List Cached) → filter p (filter p xs) ≡ filter p xs
+filter_again p [] = refl
+filter_again p (x ∷ xs) = by (p x) refl (filter_again p xs)
+  where
+    by : (c : Bool) → p x ≡ c → filter p (filter p xs) ≡ filter p xs → filter p (cond c (x ∷ filter p xs) (filter p xs)) ≡ cond c (x ∷ filter p xs) (filter p xs)
+    by true is rest = ap (λ c. cond c (x ∷ filter p (filter p xs)) (filter p (filter p xs))) is ∙ ap (λ ys. x ∷ ys) rest
+    by false is rest = rest
 
 -- one prune of an epoch
 pub thins_change : {E : Type 0} (plain : E → Cached) (change : Change E) (test : Cached → Bool) (t u : EpochState) → puts_of plain change ≡ [] → ((x : Cached) → is_kept change x ≡ not (test x)) → ((held : List Cached) → held_after plain change held ≡ filter (λ x. not (test x)) held) → ChangesEpoch plain change t u → ThinsEpoch test t u
 thins_change plain change test (opened b) u no_puts kept held_is (c, does, is) = subst (ThinsEpoch test (opened b)) (sym is) (record {
   grows = changes_grows plain change [] test (opened b) (opened c) (λ x has. subst (λ ys. Contains ys x) no_puts has) (λ x stays. kept x ∙ kept_from_test (test x) stays) (c, does, refl);
   within = λ x has. from b.kept.held x (subst (λ ys. Contains ys x) (does.held ∙ held_is b.kept.held) has);
+  rest = ap (filter (λ x. not (test x))) (does.held ∙ held_is b.kept.held) ∙ filter_again (λ x. not (test x)) b.kept.held;
   opened = refl;
   tickets = (does.number, λ s t below less x has stays. subst (λ ys. Contains ys x) (sym (does.covers s t below less)) (filter_contains (is_kept change) (b.covers s t) x has (kept x ∙ kept_from_test (test x) stays)));
 })

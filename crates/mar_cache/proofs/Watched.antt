@@ -1,5 +1,5 @@
 -- What a cache tells of its failures where the stores below it failed.
-use Rattle.std.proofs.Common.{sym, subst, ◌≡◌, ◌+◌, ◌-◌, ◌^◌, ℕ, List, Bool, true, false, Ok, Err, Result, cond, min, refl, ap, ap₂, arith, ◌∙◌}
+use Rattle.std.proofs.Common.{sym, subst, ◌≡◌, ◌+◌, ◌-◌, ◌^◌, ℕ, Bool, true, false, Ok, Err, Result, cond, min, refl, ap, ap₂, arith, ◌∙◌}
 use Rattle.std.specs.Result.{IsErrAnd}
 use Rattle.mar_store.specs.Lost.{wreck_of}
 use Rattle.mar_store.specs.Watch.{Heeds, IsCalm, LostHeeds, Strikes, counted, Watch, after_call, is_due}

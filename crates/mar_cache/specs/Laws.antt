@@ -1,6 +1,6 @@
 -- What calls that change single epochs make of all entries together, as laws.
 use Rattle.std.specs.List.{AllByRecursion}
-use Rattle.std.specs.Prelude.{Bool, Contains, List, Option, [], false, true, filter, length, ℕ, ◌&&◌, ◌<◌, ◌==◌, ◌≡◌, ◌⊎◌}
+use Rattle.std.specs.Prelude.{Bool, List, Option, [], false, true, filter, length, ℕ, ◌&&◌, ◌<◌, ◌==◌, ◌≡◌}
 use Rattle.mar_types.specs.Round.{Round}
 use Rattle.mar_store.specs.Changes.{Within}
 use Rattle.mar_node.specs.Cached.{Cached, epoch_of}
@@ -9,10 +9,10 @@ use Rattle.mar_node.specs.Config.{Config}
 use Rattle.mar_node.specs.Event.{Effect, Event}
 use Rattle.mar_node.specs.Node.{Node}
 use Rattle.mar_epochs.specs.EpochStates.{ChangesEpoch, EpochStates, HasSome, IsBare, IsNestedEpoch, IsNewest, held_in, is_opened}
-use Rattle.mar_epochs.specs.Sections.{is_in}
+use Rattle.mar_node.specs.Sections.{is_in}
 use Rattle.mar_epochs.specs.declared.Change.TheVariants.{PruneBelow}
-use Rattle.mar_epochs.specs.declared.Section.{Section}
-use Rattle.mar_cache.specs.AllEntries.{FirstsStay, LeavesEntries, LoadsEntries, PrunesEntries, PutsEntry, PutsEntryNow, soonest}
+use Rattle.mar_node.specs.declared.Section.{Section}
+use Rattle.mar_node.specs.AllEntries.{FirstsStay, LeavesEntries, LoadsEntries, PrunesEntries, PutsEntry, PutsEntryNow, soonest}
 use Rattle.mar_cache.specs.AsOne.{IsLoaded, greatest_highest, kept_of, may_of_some, sure_of_all}
 use Rattle.mar_cache.specs.Bounds.{Bounds}
 use Rattle.mar_cache.specs.Calls.{IsPut, IsPutAndSynced}
@@ -61,7 +61,7 @@ LoadsOverAll = (old new : EpochStates) (b : Bounds) → LieWithin new b → ((k 
 abbrev pub LeavesOverAll : Type 0
 LeavesOverAll =
     (put : ℕ → List Cached) (gone : ℕ → Cached → Bool) (all : List Cached) (lets : Cached → Bool) (old : EpochStates) (b : Bounds) (ways : List EpochStates) (lefts : List Bounds)
-    → LieWithin old b → AllLieWithin ways lefts → 0 < length ways → 0 < length lefts → ((k : ℕ) → Within (put k) all) → ((k : ℕ) (y : Cached) → lets y ≡ false → gone k y ≡ false) → AllByRecursion (LeavesEpochs put gone old) ways
+    → LieWithin old b → AllLieWithin ways lefts → 0 < length ways → 0 < length lefts → ((k : ℕ) → Within (put k) all) → ((k : ℕ) (y : Cached) → epoch_of y ≡ k → lets y ≡ false → gone k y ≡ false) → AllByRecursion (LeavesEpochs put gone old) ways
     → LeavesEntries all lets (kept_of old b.highest) (sure_of_all ways (greatest_highest lefts)) (may_of_some ways (greatest_highest lefts))
 
 -- an event that puts one entry, prunes by the rounds that it witnesses and finishes no ticket advances the cache as the

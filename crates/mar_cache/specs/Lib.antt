@@ -2,7 +2,8 @@ pub mod Bounds
 pub mod Shelved
 pub mod Calls
 pub mod SameEntries
-pub mod AllEntries
 pub mod AsOne
+pub mod Stages
+pub mod Nested
 pub mod Steps
 pub mod Laws

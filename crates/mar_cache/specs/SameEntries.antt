@@ -1,6 +1,6 @@
 -- Whether two entries of a cache are the same.
-use Rattle.std.specs.Prelude.{Bool, bytes_eq, false, ℕ, ◌&&◌, ◌==◌}
-use Rattle.mar_types.specs.Round.{Round, round_eq}
+use Rattle.std.specs.Prelude.{Bool, bytes_eq, false, ◌&&◌, ◌==◌}
+use Rattle.mar_types.specs.Round.{round_eq}
 use Rattle.mar_cert.specs.Block.{Block}
 use Rattle.mar_cert.specs.Finalization.{Finalization}
 use Rattle.mar_node.specs.Cached.{Cached, certified_entry, finalization_entry, notarization_entry, notarized_entry, verified_entry}

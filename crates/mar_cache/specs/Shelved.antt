@@ -1,6 +1,5 @@
--- A shelf as plain data, and what its calls make of it.
-use Rattle.std.specs.Prelude.{Bool, Contains, List, None, Option, Some, [], false, filter, if◌then◌else◌, max, nat_le, nat_lt, true, ℕ, ⊤, ◌&&◌, ◌<◌, ◌==◌, ◌||◌, ◌∷◌, ◌≡◌, ◌≤◌, ◌⊎◌}
-use Rattle.std.specs.List.{AllByRecursion}
+-- The epochs of a cache as plain data, and what its calls make of them.
+use Rattle.std.specs.Prelude.{Bool, Contains, List, None, Option, Some, [], false, filter, if◌then◌else◌, max, nat_le, nat_lt, not, true, ℕ, ⊤, ◌&&◌, ◌<◌, ◌==◌, ◌||◌, ◌∷◌, ◌≡◌, ◌≢◌, ◌≤◌, ◌⊎◌}
 use Rattle.mar_types.specs.Round.{Round}
 use Rattle.mar_store.specs.Changes.{Within}
 use Rattle.mar_store.specs.Tickets.{last_number}
@@ -8,31 +7,16 @@ use Rattle.mar_store.specs.Watch.{Watch}
 use Rattle.mar_store.specs.declared.Alarm.{Alarm}
 use Rattle.mar_node.specs.Cached.{Cached, epoch_of}
 use Rattle.mar_node.specs.Cache.{is_below}
-use Rattle.mar_cache.specs.Bounds.{Bounds, LeavesBounds, includes}
+use Rattle.mar_cache.specs.Bounds.{Bounds, includes}
 use Rattle.mar_epochs.specs.EpochStates.{ChangesEpoch, EpochState, EpochStates, HasSome, IsBare, KeepsOtherEpochs, LeavesEpoch, OpensEpoch, held_in, is_opened, may_in, opened, sure_in}
 use Rattle.mar_epochs.specs.declared.Change.{Change}
 use Rattle.mar_epochs.specs.declared.Change.TheVariants.{Finish}
-use Rattle.mar_epochs.specs.declared.Section.{Section}
-use Rattle.mar_cache.specs.declared.started.Started.{Started}
-use Rattle.mar_cache.specs.declared.started.Started.TheVariants.{Ready, Ticket}
-use Rattle.mar_cache.specs.declared.started.CacheTicket.{CacheTicket}
-use Rattle.mar_cache.specs.declared.started.SectionSync.{SectionSync}
-use Rattle.mar_epochs.specs.Sections.{is_in}
-
--- What a shelf has of each epoch, its lowest and highest epoch, what a crash can leave of those two, and what it tells of
--- its failures.
-pub record Shelved : Type 0 where
-  pub states : EpochStates
-  pub bounds : Bounds
-  pub bounds_left : List Bounds
-  pub watch : Watch
-
--- What is left of a shelf: the ways in which epochs may be left, what may be left of the bounds, and what it tells of its
--- failures.
-pub record Fallen : Type 0 where
-  pub ways : List EpochStates
-  pub bounds_left : List Bounds
-  pub watch : Watch
+use Rattle.mar_node.specs.declared.Section.{Section}
+use Rattle.mar_node.specs.declared.Started.{Started}
+use Rattle.mar_node.specs.declared.Started.TheVariants.{Ready, Ticket}
+use Rattle.mar_node.specs.declared.CacheTicket.{CacheTicket}
+use Rattle.mar_node.specs.declared.SectionSync.{SectionSync}
+use Rattle.mar_node.specs.Sections.{is_in}
 
 -- what an alarm tells; other calls than armed ones fail unless the stores below are calm
 abbrev pub shelf_watch : Alarm → Bool → Watch
@@ -69,11 +53,6 @@ LeavesEpochs put gone old left = (k : ℕ) → LeavesEpoch (put k) (gone k) (old
 abbrev pub nothing_gone : ℕ → Cached → Bool
 nothing_gone k x = false
 
--- A call that failed: what is left of each epoch, and of the bounds.
-pub record LosesShelf (put : ℕ → List Cached) (gone : ℕ → Cached → Bool) (more : List Bounds) (old : Shelved) (left : Fallen) : Type 0 where
-  pub states : AllByRecursion (LeavesEpochs put gone old.states) left.ways
-  pub bounds : LeavesBounds old.bounds_left more left.bounds_left
-
 -- What there is of an epoch after calls that went well: what was sure is sure, what was held is held, and nothing else may
 -- be left but what might be and what was put.
 pub record GrowsEpoch (put : List Cached) (gone : Cached → Bool) (old new : EpochState) : Type 0 where
@@ -84,11 +63,6 @@ pub record GrowsEpoch (put : List Cached) (gone : Cached → Bool) (old new : Ep
 -- the bounds with an epoch: the highest rises to it
 abbrev pub raised : ℕ → Bounds → Bounds
 raised e b = record b { highest = max b.highest e }
-
--- Where an epoch is above the highest, that rises to it, and is durable.
-pub record RaisesBounds (e : ℕ) (old new : Shelved) : Type 0 where
-  pub bounds : new.bounds ≡ raised e old.bounds
-  pub left : new.bounds_left ≡ (if nat_le e old.bounds.highest then old.bounds_left else raised e old.bounds ∷ [])
 
 abbrev pub GrowsEpochs : (ℕ → List Cached) → (ℕ → Cached → Bool) → EpochStates → EpochStates → Type 0
 GrowsEpochs put gone old new = (k : ℕ) → GrowsEpoch (put k) (gone k) (old k) (new k)
@@ -126,7 +100,7 @@ OpensOrStays old new = (new ≡ old) ⊎ OpensEpoch old new
 
 -- What tickets cover stays, unless a prune covers it.
 abbrev pub KeepsTickets : (Cached → Bool) → EpochState → EpochState → Type 0
-KeepsTickets test (opened b) (opened c) = (b.number ≤ c.number) × ((s : Section) (t : ℕ) → t ≤ b.number → t < last_number → (x : Cached) → Contains (b.covers s t) x → test x ≡ false → Contains (c.covers s t) x)
+KeepsTickets test (opened b) (opened c) = (b.number ≤ c.number) × ((s : Section) (t : ℕ) → t ≤ b.number → t ≢ last_number → (x : Cached) → Contains (b.covers s t) x → test x ≡ false → Contains (c.covers s t) x)
 KeepsTickets test (opened b) _ = ⊥
 KeepsTickets test _ new = ⊤
 
@@ -134,6 +108,7 @@ KeepsTickets test _ new = ⊤
 pub record ThinsEpoch (test : Cached → Bool) (old new : EpochState) : Type 0 where
   pub grows : GrowsEpoch [] test old new
   pub within : Within (held_in new) (held_in old)
+  pub rest : filter (λ x. not (test x)) (held_in new) ≡ filter (λ x. not (test x)) (held_in old)
   pub opened : is_opened new ≡ is_opened old
   pub tickets : KeepsTickets test old new
 

@@ -8,7 +8,7 @@ use Rattle.mar_node.specs.Cache.{answer_ticket, certified_from, entries_put, fin
 use Rattle.mar_node.specs.Config.{Config}
 use Rattle.mar_node.specs.Event.{Effect, Event}
 use Rattle.mar_node.specs.Node.{Node}
-use Rattle.mar_cache.specs.AllEntries.{PrunesEntries, PutsEntry}
+use Rattle.mar_node.specs.AllEntries.{PrunesEntries, PutsEntry}
 
 abbrev pub is_certified : Cached → Bool
 is_certified (certified_entry e b) = true

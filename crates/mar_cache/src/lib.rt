@@ -2,21 +2,21 @@
 #![tactic(auto)]
 
 mod bounds;
+mod epoch_cache;
 mod laws;
 mod losses;
 mod manager;
 mod mem_shelf;
-mod shelf;
-mod started;
+mod stage;
 
+pub use epoch_cache::EpochCache;
 pub use laws::{
     advances_by_none, advances_by_one, finds_over_all, holds_over_all, leaves_over_all,
     loads_over_all, prunes_over_all, puts_now_over_all, puts_over_all,
 };
 pub use manager::{Manager, ManagerWreck};
-pub use mar_epochs::{
-    BlockName, CacheEntry, Entry, Epochs, EpochsRuin, KeptEntry, KeyedEntry, Section, Sought,
+pub use mar_epochs::{CacheEntry, Epochs, EpochsRuin, KeptEntry, KeyedEntry};
+pub use mar_node::{
+    BlockName, Cache, CacheTicket, Entry, Section, SectionSync, Shelf, ShelfRuin, Sought, Started,
 };
 pub use mem_shelf::{MemEpochs, empty_shelf};
-pub use shelf::{Shelf, ShelfRuin};
-pub use started::{CacheTicket, SectionSync, Started};

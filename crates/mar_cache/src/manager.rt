@@ -1,12 +1,12 @@
 //! The epoch cache over epochs and a metadata store.
-ghost use Rattle.std.specs.Prelude.{◌≡◌, ◌&&◌, ◌+◌, ◌-◌, ◌<◌, ◌≤◌, ◌^◌, ◌++◌, ◌⊎◌, ◌∷◌, ℕ, [], option_map, true, false, Contains, OnErr, OnOk, IfErr, IfOk, MatchResult, if◌then◌else◌, map, min, nat_le, not};
+ghost use Rattle.std.specs.Prelude.{◌≡◌, ◌&&◌, ◌+◌, ◌-◌, ◌<◌, ◌≤◌, ◌^◌, ◌++◌, ◌⊎◌, ◌∷◌, ℕ, [], option_map, true, false, Contains, OnErr, OnOk, IfErr, IfOk, MatchResult, if◌then◌else◌, length, map, min, nat_le, not};
 ghost use Rattle.std.specs.List.{AllByRecursion};
 ghost use Rattle.mar_store.specs.Changes.{Within};
 ghost use Rattle.mar_store.specs.Lost.{wreck_of};
 ghost use Rattle.mar_store.specs.Watch.{Heeds, HeedsRead, IsCalm, armed};
 ghost use Rattle.mar_node.specs.Cached.{epoch_of};
 ghost use Rattle.mar_node.specs.Cache.{is_certified_below};
-ghost use Rattle.mar_epochs.specs.Sections.{first_found, section_of};
+ghost use Rattle.mar_node.specs.Sections.{first_found, section_of};
 ghost use Rattle.mar_cache.specs.Bounds.{Bounds, LeavesBounds, bounds_of, includes};
 ghost use Rattle.mar_epochs.specs.EpochStates.{ChangesEpoch, KeepsOtherEpochs, HasSome, IsBare, IsLeftOrBare, IsNewest, LosesEpoch, MightBe, OpensEpoch, SameEpochs, held_in, is_opened, left_of_epoch, none_gone};
 ghost use Rattle.mar_epochs.specs.EpochArchives.{is_fault, is_kept, puts_of};
@@ -14,8 +14,8 @@ ghost use Rattle.mar_cache.specs.Shelved.{AllChanges, AllLieWithin, DoesAt, Drop
 
 use crate::bounds::{highest, includes, lowest, write_bounds};
 use crate::losses::{alarm_after, lost_for};
-use crate::started::{CacheTicket, SectionSync, Started};
-use mar_epochs::{AsEntry, Change, Epochs, EpochsRuin, Section, copied, lost_by, parts_of};
+use mar_epochs::{AsEntry, Change, Epochs, EpochsRuin, copied, lost_by, parts_of};
+use mar_node::{CacheTicket, Section, SectionSync, Started};
 use mar_store::{Alarm, Lost, Meta, MetaRuin, Miss};
 use mar_types::{Height, Round};
 use std::alloc::{AllocError, Global};
@@ -52,6 +52,7 @@ impl<S: Epochs, M: Meta> Manager<S, M> {
         requires within { LieWithin (S.states epochs) (bounds_of (M.current meta)) }
         ensures epochs { result.epochs ≡ epochs }
         ensures meta { result.meta ≡ meta }
+        ensures alarm { (result.alarm.due.items ≡ []) × (result.alarm.faults ≡ 0) }
     {
         Manager {
             epochs,
@@ -617,6 +618,7 @@ impl<S: Epochs, M: Meta> Manager<S, M> {
     /// What a crash now leaves.
     pub fn wreck(self) -> ManagerWreck<S, M>
         ensures ways { AllByRecursion (λ left. (k : ℕ) → left k ≡ left_of_epoch (S.states self.epochs k)) (S.Wreck.left result.epochs) }
+        ensures one { length (S.Wreck.left result.epochs) ≡ 1 }
         ensures bounds { M.Wreck.left result.meta ≡ M.left self.meta }
         ensures watch { shelf_watch result.alarm (S.Wreck.calm result.epochs && (M.Wreck.watch result.meta).only_armed)
             ≡ shelf_watch self.alarm (S.calm self.epochs && (M.watch self.meta).only_armed) }
@@ -670,6 +672,8 @@ impl<S: Epochs, M: Meta> Manager<S, M> {
     pub fn arm(&mut self, calls: u64) -> Result<(), AllocError>
         ensures armed { OnOk result (shelf_watch self.new.alarm (S.calm self.new.epochs && (M.watch self.new.meta).only_armed)
             ≡ armed calls (shelf_watch self.old.alarm (S.calm self.old.epochs && (M.watch self.old.meta).only_armed))) }
+        ensures unarmed { OnErr result (shelf_watch self.new.alarm (S.calm self.new.epochs && (M.watch self.new.meta).only_armed)
+            ≡ shelf_watch self.old.alarm (S.calm self.old.epochs && (M.watch self.old.meta).only_armed)) }
         ensures epochs { self.new.epochs ≡ self.old.epochs }
         ensures meta { self.new.meta ≡ self.old.meta }
     {

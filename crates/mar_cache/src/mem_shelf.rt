@@ -1,21 +1,29 @@
 //! A cache in memory.
-ghost use Rattle.std.specs.Prelude.{◌≡◌, ℕ, []};
+ghost use Rattle.std.specs.Prelude.{◌&&◌, ◌≡◌, ℕ, [], None, true};
+ghost use Rattle.mar_store.specs.Alarms.{fresh_watch};
 ghost use Rattle.mar_epochs.specs.EpochStates.{IsBare, state_under};
+ghost use Rattle.mar_cache.specs.Shelved.{shelf_watch};
+ghost use Rattle.mar_cache.specs.Stages.{is_loaded};
 
+use crate::epoch_cache::EpochCache;
 use crate::manager::Manager;
 use mar_epochs::{
     DepotEpochs, EpochArchives, EpochArchivesDepot, Epochs, KeyedEntry, MemEpochArchives,
     MemEpochArchivesWreck,
 };
-use mar_store::{MemDepot, MemMeta};
+use mar_store::{MemDepot, MemMeta, Meta};
 use std::alloc::Global;
 
 /// The epochs of a cache in memory.
 pub type MemEpochs<E> = DepotEpochs<MemEpochArchives<E>, MemDepot<MemEpochArchivesWreck<E>>>;
 
 /// A cache in memory that holds nothing; its lowest and its highest epoch are 0.
-pub fn empty_shelf<E: KeyedEntry>(alloc: Global) -> Manager<MemEpochs<E>, MemMeta>
-    ensures { (k : ℕ) → IsBare (⟦<DepotEpochs<MemEpochArchives<E>, MemDepot<MemEpochArchivesWreck<E>>> as Epochs>⟧.states result.epochs k) }
+pub fn empty_shelf<E: KeyedEntry>(alloc: Global) -> EpochCache<MemEpochs<E>, MemMeta>
+    ensures bare { (k : ℕ) → IsBare (⟦<DepotEpochs<MemEpochArchives<E>, MemDepot<MemEpochArchivesWreck<E>>> as Epochs>⟧.states result.manager.epochs k) }
+    ensures loaded { is_loaded result.stage ≡ true }
+    ensures watch { shelf_watch result.manager.alarm
+        (⟦<DepotEpochs<MemEpochArchives<E>, MemDepot<MemEpochArchivesWreck<E>>> as Epochs>⟧.calm result.manager.epochs
+        && (⟦<MemMeta as Meta>⟧.watch result.manager.meta).only_armed) ≡ fresh_watch None }
 {
     let depot = MemDepot::new(alloc);
     shelf_over(alloc, depot)
@@ -25,12 +33,17 @@ pub fn empty_shelf<E: KeyedEntry>(alloc: Global) -> Manager<MemEpochs<E>, MemMet
 fn shelf_over<A: EpochArchives, D: EpochArchivesDepot<A::Wreck>>(
     alloc: Global,
     depot: D,
-) -> Manager<DepotEpochs<A, D>, MemMeta>
+) -> EpochCache<DepotEpochs<A, D>, MemMeta>
     requires quiet { (D.watch depot).due ≡ [] }
+    requires calm { (A.unfailing && (D.watch depot).only_armed) ≡ true }
     requires bare { (k : ℕ) → IsBare (state_under A.Wreck.left (D.names depot k)) }
-    ensures { (k : ℕ) → IsBare (⟦<DepotEpochs<A, D> as Epochs>⟧.states result.epochs k) }
+    ensures bare { (k : ℕ) → IsBare (⟦<DepotEpochs<A, D> as Epochs>⟧.states result.manager.epochs k) }
+    ensures loaded { is_loaded result.stage ≡ true }
+    ensures watch { shelf_watch result.manager.alarm (⟦<DepotEpochs<A, D> as Epochs>⟧.calm result.manager.epochs
+        && (⟦<MemMeta as Meta>⟧.watch result.manager.meta).only_armed) ≡ fresh_watch None }
 {
     let epochs = DepotEpochs::new(alloc, depot);
     let meta = MemMeta::new(alloc);
-    Manager::new(alloc, epochs, meta)
+    let manager = Manager::new(alloc, epochs, meta);
+    EpochCache::new(manager)
 }

@@ -10,14 +10,14 @@ use Rattle.mar_store.specs.Luck.{is_lucky}
 use Rattle.mar_store.specs.Tickets.{last_number}
 use Rattle.mar_store.proofs.Lookups.{AllByRecursion-push, AllByRecursion-weaker}
 use Rattle.mar_node.specs.Cached.{Cached, EachPlaceOnce, same_place}
-use Rattle.mar_epochs.specs.Sections.{is_in}
+use Rattle.mar_node.specs.Sections.{is_in}
 use Rattle.mar_epochs.specs.EntryLogs.{AreNumbered, Logged, book_of, covered_in, drawn, drawn_in_all, entries, is_covered, is_drawn, is_numbered, kept_in, sure_entries, with_draw, with_mark, count_next}
 use Rattle.mar_epochs.specs.EpochArchives.{ChangesArchives, FindsArchives, KeepsCovered, LosesArchives, held_after, is_kept, newly_sure}
-use Rattle.mar_epochs.specs.declared.section.Section.{Section}
-use Rattle.mar_epochs.specs.declared.section.Section.TheVariants.{Certified, Finalizations, Notarizations, Notarized, Verified}
+use Rattle.mar_node.specs.declared.Section.{Section}
+use Rattle.mar_node.specs.declared.Section.TheVariants.{Certified, Finalizations, Notarizations, Notarized, Verified}
 use Rattle.mar_epochs.specs.declared.change.Change.{Change}
 use Rattle.mar_epochs.specs.declared.change.Change.TheVariants.{Put}
-use Rattle.mar_epochs.specs.Laws.{filter_within}
+use Rattle.mar_epochs.specs.Laws.{covers_last, filter_within}
 use Rattle.mar_epochs.proofs.Filtering.{contains_more, contains_none, filter_agree, filter_all, filter_both, filter_either, filter_more, filter_twice, or_left, or_right}
 use Rattle.mar_epochs.proofs.Places.{filter_places, push_place}
 
@@ -59,10 +59,10 @@ not_or true b is other = absurd cc
 not_or false b is other = other
 
 -- what is put after a ticket was made isn't covered by it
-uncovered : (n : ℕ) (x : Cached) (s : Section) (t : ℕ) → t ≤ n → t < last_number → is_covered s t (logged n x) ≡ false
-uncovered n x s t below less = not_and (is_in s x) (nat_lt n t || t == last_number) (not_or (nat_lt n t) (t == last_number) (le-ltb n t below) (ne_eqb t last_number (λ same. omega (arith, less, same))))
+uncovered : (n : ℕ) (x : Cached) (s : Section) (t : ℕ) → t ≤ n → t ≢ last_number → is_covered s t (logged n x) ≡ false
+uncovered n x s t below less = not_and (is_in s x) (nat_lt n t || t == last_number) (not_or (nat_lt n t) (t == last_number) (le-ltb n t below) (ne_eqb t last_number less))
 
-covered_push : (fs : List Logged) (n : ℕ) (x : Cached) (s : Section) (t : ℕ) → t ≤ n → t < last_number → covered_in (fs ++ logged n x ∷ []) s t ≡ covered_in fs s t
+covered_push : (fs : List Logged) (n : ℕ) (x : Cached) (s : Section) (t : ℕ) → t ≤ n → t ≢ last_number → covered_in (fs ++ logged n x ∷ []) s t ≡ covered_in fs s t
 covered_push fs n x s t below less =
     ap entries (filter-append (is_covered s t) fs (logged n x ∷ []) ∙ ap (λ b. filter (is_covered s t) fs ++ cond b (logged n x ∷ []) []) (uncovered n x s t below less) ∙ append-nil (filter (is_covered s t) fs))
 
@@ -84,6 +84,7 @@ module _ {E : Type 0} (plain : E → Cached) (entry : E) (fs new : List Logged) 
     may = λ y has. Contains-append_left (entries fs) (plain entry ∷ []) y (subst (λ ys. Contains ys y) (ap entries is) has);
     number = up;
     covers = put_covered entry (plain entry) fs new n (is ∙ sym (ap (λ b. cond b fs (fs ++ logged n (plain entry) ∷ [])) taken));
+    last = covers_last new;
   }
 
   put_behind : new ≡ fs ++ logged n (plain entry) ∷ [] → list_any (same_place (plain entry)) (entries fs) ≡ false → ChangesArchives plain (Put entry) (book_of n fs) (book_of m new)
@@ -95,6 +96,7 @@ module _ {E : Type 0} (plain : E → Cached) (entry : E) (fs new : List Logged) 
     may = λ y has. subst (λ ys. Contains ys y) all has;
     number = up;
     covers = put_covered entry (plain entry) fs new n (is ∙ sym (ap (λ b. cond b fs (fs ++ logged n (plain entry) ∷ [])) free));
+    last = covers_last new;
   }
     where
       all : entries new ≡ entries fs ++ plain entry ∷ []
@@ -154,18 +156,11 @@ module _ {E : Type 0} (plain : E → Cached) (change : Change E) (s : Section) (
     may = λ y has. Contains-append_left (entries fs) _ y (subst (λ ys. Contains ys y) same_entries has);
     number = omega arith;
     covers = marks_covered change s n number fs new is keeps;
+    last = covers_last new;
   }
 
 pub mark_once : (s : Section) (n : ℕ) (fs new : List Logged) → new ≡ map (with_mark s n) fs → EachPlaceOnce (entries fs) → EachPlaceOnce (entries new)
 mark_once s n fs new is once = subst EachPlaceOnce (sym (ap entries is ∙ entries_marked s n fs)) once
-
--- the last number covers all that an archive holds
-pub covers_all : (fs : List Logged) (s : Section) → covered_in fs s last_number ≡ filter (is_in s) (entries fs)
-covers_all fs s = ap entries (filter_agree (is_covered s last_number) (λ f. is_in s f.entry) (λ f. all (is_in s f.entry) (nat_lt f.number last_number)) fs) ∙ sym (filter-map (is_in s) (λ f. f.entry) fs)
-  where
-    all : (a b : Bool) → (a && (b || last_number == last_number)) ≡ a
-    all true b = or_right b (last_number == last_number) refl
-    all false b = refl
 
 -- A PRUNE
 
@@ -185,6 +180,7 @@ module _ {E : Type 0} (plain : E → Cached) (change : Change E) (number : ℕ) 
     may = λ y has. Contains-append_left (entries fs) _ y (filter_within (λ f. f.entry) (λ f. is_kept change f.entry) fs y (subst (λ ys. Contains ys y) (ap entries is) has));
     number = omega arith;
     covers = prunes_covered change number fs new is;
+    last = covers_last new;
   }
 
   held_left : (y : Cached) → Contains (entries fs) y → is_kept change y ≡ true → Contains (entries new) y

@@ -88,6 +88,9 @@ module _ {A W : Type 0} (book : A → Book) (left : W → Left Cached) (opening 
   pub wreck_left : (slots : BTreeMap ℕ (Slot A W)) (names : Names W) (ways : List (Names W)) → ways ≡ names ∷ [] → AllByRecursion (λ l. (k : ℕ) → l k ≡ left_of_epoch (states_of book left opening slots names k)) (left_ways slots ways)
   wreck_left slots names ways is = rw is ((λ k. refl), tt)
 
+  pub one_way : (slots : BTreeMap ℕ (Slot A W)) (names : Names W) (ways : List (Names W)) → ways ≡ names ∷ [] → length (left_ways slots ways) ≡ 1
+  one_way slots names ways is = rw is refl
+
   -- what an exchange leaves at the epoch and elsewhere
   pub exchanged_here : (old new : BTreeMap ℕ (Slot A W)) (names : Names W) (e : ℕ) (slot : Slot A W) → ((k : ℕ) → get nat_cmp new k ≡ (if k == e then option_map (λ _. slot) (get nat_cmp old k) else get nat_cmp old k)) → is_some (get nat_cmp old e) ≡ true → states_of book left opening new names e ≡ state_of_slot book left opening (names e) slot
   exchanged_here old new names e slot put there = ap (λ s. state_at book left opening s (names e)) (put e ∙ ap (λ b. cond b (option_map (λ _. slot) (get nat_cmp old e)) (get nat_cmp old e)) (eq-eqb e e refl) ∙ some (get nat_cmp old e) there)

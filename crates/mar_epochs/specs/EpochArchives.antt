@@ -1,5 +1,5 @@
 -- What a change of an epoch's archives makes of what they hold, what is sure and what a crash can leave.
-use Rattle.std.specs.Prelude.{Bool, Contains, IsTrue, List, [], filter, false, not, true, ℕ, ◌++◌, ◌<◌, ◌∷◌, ◌≡◌, ◌≤◌, ◌⊎◌}
+use Rattle.std.specs.Prelude.{Bool, Contains, IsTrue, List, [], filter, false, not, true, ℕ, ◌++◌, ◌∷◌, ◌≡◌, ◌≢◌, ◌≤◌, ◌⊎◌}
 use Rattle.mar_store.specs.Kept.{Kept, reopened_store}
 use Rattle.mar_store.specs.Changes.{Left, Within}
 use Rattle.mar_store.specs.Tickets.{last_number}
@@ -7,8 +7,8 @@ use Rattle.mar_store.specs.declared.Lost.{Lost}
 use Rattle.mar_store.specs.declared.Lost.TheVariants.{Fault, Memory}
 use Rattle.mar_node.specs.Cached.{CacheReopens, Cached, EachPlaceOnce, with_entry}
 use Rattle.mar_node.specs.Cache.{is_below, is_certified_below}
-use Rattle.mar_epochs.specs.Sections.{is_in}
-use Rattle.mar_epochs.specs.declared.section.Section.{Section}
+use Rattle.mar_node.specs.Sections.{is_in}
+use Rattle.mar_node.specs.declared.Section.{Section}
 use Rattle.mar_epochs.specs.declared.change.Change.{Change}
 use Rattle.mar_epochs.specs.declared.change.Change.TheVariants.{Finish, PruneBelow, PruneCertified, Put, Sync}
 
@@ -42,9 +42,13 @@ pub record Book : Type 0 where
   pub number : ℕ
   pub covers : Section → ℕ → List Cached
 
+-- the last number covers all that an archive holds
+abbrev pub CoversAllLast : Book → Type 0
+CoversAllLast book = (s : Section) → book.covers s last_number ≡ filter (is_in s) book.kept.held
+
 -- What each ticket covers stays, unless a prune covers it.
 abbrev pub KeepsCovered : {E : Type 0} → Change E → ℕ → (Section → ℕ → List Cached) → (Section → ℕ → List Cached) → Type 0
-KeepsCovered change number old new = (s : Section) (t : ℕ) → t ≤ number → t < last_number → new s t ≡ filter (is_kept change) (old s t)
+KeepsCovered change number old new = (s : Section) (t : ℕ) → t ≤ number → t ≢ last_number → new s t ≡ filter (is_kept change) (old s t)
 
 -- A change that went well. What was sure is sure, unless a prune covers it, and what a sync covers; nothing else is.
 pub record ChangesArchives {E : Type 0} (plain : E → Cached) (change : Change E) (old new : Book) : Type 0 where
@@ -55,6 +59,7 @@ pub record ChangesArchives {E : Type 0} (plain : E → Cached) (change : Change 
   pub may : Within new.kept.may (old.kept.may ++ puts_of plain change)
   pub number : old.number ≤ new.number
   pub covers : KeepsCovered change old.number old.covers new.covers
+  pub last : CoversAllLast new
 
 -- A change that failed: what was sure is sure, and nothing may be left but what might be, and what was to be put. A prune
 -- may have let go what it covers.
@@ -77,11 +82,14 @@ pub record KeepsArchives (old left : Left Cached) : Type 0 where
   pub kept : Within old.may left.may
   pub may : Within left.may old.may
 
--- No archive holds two entries of one place; what is sure is held, and what is held may be left.
-pub record AreNestedArchives (kept : Kept Cached) : Type 0 where
-  pub once : EachPlaceOnce kept.held
-  pub sure_held : Within kept.sure kept.held
-  pub held_may : Within kept.held kept.may
+-- No archive holds two entries of one place; what is sure is held, and what is held may be left. What tickets cover is held,
+-- and the last number covers all that an archive holds.
+pub record AreNestedArchives (book : Book) : Type 0 where
+  pub once : EachPlaceOnce book.kept.held
+  pub sure_held : Within book.kept.sure book.kept.held
+  pub held_may : Within book.kept.held book.kept.may
+  pub covered : (s : Section) (t : ℕ) → Within (book.covers s t) book.kept.held
+  pub last : CoversAllLast book
 
 -- whether a store failed, or memory ran out
 abbrev pub is_fault : {W : Type 0} → Lost W → Bool

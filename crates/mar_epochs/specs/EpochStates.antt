@@ -2,16 +2,16 @@
 use Rattle.std.specs.List.{AllByRecursion}
 use Rattle.std.specs.Ordering.{nat_cmp}
 use Rattle.std.specs.BTreeMap.{BTreeMap, get}
-use Rattle.std.specs.Prelude.{Bool, Contains, Err, List, None, Ok, Option, Result, Some, [], false, filter, if◌then◌else◌, map, nat_le, suc, true, zero, ℕ, ⊤, ◌<◌, ◌==◌, ◌∷◌, ◌≡◌, ◌≢◌, ◌≤◌, ◌⊎◌}
+use Rattle.std.specs.Prelude.{Bool, Contains, Err, List, None, Ok, Option, Result, Some, [], false, filter, if◌then◌else◌, length, map, nat_le, suc, true, zero, ℕ, ⊤, ◌<◌, ◌==◌, ◌∷◌, ◌≡◌, ◌≢◌, ◌≤◌, ◌⊎◌}
 use Rattle.std.proofs.Common.{arith, subst}
 use Rattle.mar_store.specs.Changes.{Left, Within, left_of}
 use Rattle.mar_store.specs.Lost.{wreck_of}
 use Rattle.mar_store.specs.declared.Lost.{Lost}
 use Rattle.mar_store.specs.Names.{Names}
 use Rattle.mar_node.specs.Cached.{Cached}
-use Rattle.mar_epochs.specs.Sections.{first_found, is_in}
+use Rattle.mar_node.specs.Sections.{first_found, is_in}
 use Rattle.mar_epochs.specs.EpochArchives.{AreNestedArchives, Book, ChangesArchives, FindsArchives, is_fault, nothing_left}
-use Rattle.mar_epochs.specs.declared.section.Section.{Section}
+use Rattle.mar_node.specs.declared.Section.{Section}
 use Rattle.mar_epochs.specs.declared.change.Change.{Change}
 use Rattle.mar_epochs.specs.declared.slot.Slot.{Slot}
 use Rattle.mar_epochs.specs.declared.slot.Slot.TheVariants.{Away, Leftover, Standing}
@@ -36,7 +36,7 @@ is_opened _ = false
 
 -- what is sure is held, where the epoch is open, and what is held or sure may be left
 abbrev pub IsNestedEpoch : EpochState → Type 0
-IsNestedEpoch (opened b) = AreNestedArchives b.kept
+IsNestedEpoch (opened b) = AreNestedArchives b
 IsNestedEpoch (shut l) = Within l.sure l.may
 
 -- what is held, what is sure and what may be left of an epoch
@@ -157,13 +157,18 @@ PutsBack book left states lefts e old (Ok v) (Err m) = ⊥
 PutsBack book left states lefts e old (Err l) (Ok s) = ⊥
 PutsBack book left states lefts e old (Err l) (Err m) = (is_fault m ≡ is_fault l) × AllByRecursion (λ x. (x e ≡ shut (left (wreck_of l))) × LeavesOtherEpochs e old x) (lefts (wreck_of m))
 
+-- of some ways in which names may be left there are some
+pub some_ways : {A B : Type 0} (f : A → B) (ways : List A) → 0 < length ways → 0 < length (map f ways)
+some_ways f [] some = some
+some_ways f (way ∷ ways) some = omega arith
+
 -- no slot is of a later opening
 abbrev pub is_upto : {A W : Type 0} → ℕ → Option (Slot A W) → Bool
 is_upto opening (Some (Standing v o)) = nat_le o opening
 is_upto opening _ = true
 
 -- as those of each epoch's archives are nested, and what is left of them
-module _ {A W : Type 0} (book : A → Book) (left : W → Left Cached) (nested : (v : A) → AreNestedArchives (book v).kept) (nested_left : (w : W) → Within (left w).sure (left w).may) (opening : ℕ) (slots : BTreeMap ℕ (Slot A W)) where
+module _ {A W : Type 0} (book : A → Book) (left : W → Left Cached) (nested : (v : A) → AreNestedArchives (book v)) (nested_left : (w : W) → Within (left w).sure (left w).may) (opening : ℕ) (slots : BTreeMap ℕ (Slot A W)) where
   pub nested_states : (names : Names W) (k : ℕ) → IsNestedEpoch (states_of book left opening slots names k)
   nested_states names k = at_slot (get nat_cmp slots k) (names k)
     where

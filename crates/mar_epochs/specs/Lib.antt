@@ -1,9 +1,7 @@
-pub mod Sections
 pub mod EpochArchives
 pub mod EntryLogs
 pub mod Props
 pub mod Laws
 pub mod EpochStates
-pub mod Entries
 pub mod Spots
 pub mod EntryKeys

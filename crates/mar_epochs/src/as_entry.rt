@@ -4,11 +4,11 @@ ghost use Rattle.std.specs.Option.{option_copied};
 ghost use Rattle.std.specs.Ordering.{eq_by_cmp};
 ghost use Rattle.mar_node.specs.Cached.{Cached, epoch_of, same_place};
 ghost use Rattle.mar_node.specs.Cache.{is_below, is_certified_below};
-ghost use Rattle.mar_epochs.specs.Sections.{index_of, section_of};
+ghost use Rattle.mar_node.specs.Sections.{index_of, section_of};
 ghost use Rattle.mar_epochs.specs.Spots.{is_among};
 
 use crate::keys::Keys;
-use crate::section::Section;
+use mar_node::Section;
 use mar_store::Miss;
 use mar_types::{Epoch, Height, Round};
 use std::alloc::AllocError;

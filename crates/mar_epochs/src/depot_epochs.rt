@@ -5,9 +5,9 @@ ghost use Rattle.std.specs.List.{AllByRecursion};
 ghost use Rattle.std.specs.Ordering.{nat_cmp};
 ghost use Rattle.std.specs.BTreeMap.{get};
 ghost use Rattle.mar_store.specs.Lost.{wreck_of};
-ghost use Rattle.mar_epochs.specs.Sections.{first_found};
+ghost use Rattle.mar_node.specs.Sections.{first_found};
 ghost use Rattle.mar_epochs.specs.EpochArchives.{IsOfMemory, is_kept, puts_of};
-ghost use Rattle.mar_epochs.specs.EpochStates.{ChangesEpoch, KeepsOtherEpochs, LosesEpoch, OpensEpoch, PutsBack, held_in, is_opened, is_upto, left_of_epoch, nested_states, nested_ways, newer_of, none_gone, opened, shut, state_of_slot, state_under, states_of};
+ghost use Rattle.mar_epochs.specs.EpochStates.{ChangesEpoch, KeepsOtherEpochs, LosesEpoch, OpensEpoch, PutsBack, held_in, is_opened, is_upto, left_of_epoch, nested_states, nested_ways, newer_of, none_gone, opened, shut, some_ways, state_of_slot, state_under, states_of};
 
 use crate::as_entry::AsEntry;
 use crate::change::Change;
@@ -267,6 +267,9 @@ impl<A: EpochArchives, D: EpochArchivesDepot<A::Wreck>> Epochs for DepotEpochs<A
     ghost nested = { λ s. nested_states A.book A.Wreck.left A.nested A.nested_left s.opening s.slots (D.names s.depot) };
 
     ghost nested_left = { λ w. nested_ways A.book A.Wreck.left A.nested A.nested_left w.opening w.slots (D.Wreck.left w.depot) };
+
+    ghost some_left = { λ w. some_ways (λ names k. left_of_epoch (states_of A.book A.Wreck.left w.opening w.slots names k)) (D.Wreck.left w.depot)
+        (D.Wreck.some w.depot) };
 
     fn is_open(&self, epoch: u64) -> bool {
         self.archives(epoch).is_some()

@@ -1,96 +1,18 @@
-//! The entries of a cache, over blocks of a kind and certificates.
+//! What keeps the entries of a cache, over blocks of a kind and certificates.
 ghost use Rattle.std.specs.Prelude.{◌≡◌};
 ghost use Rattle.mar_types.specs.Round.{round_lt};
-ghost use Rattle.mar_epochs.specs.Entries.{block_in, cached_of, finalization_in, is_sought, notarization_in, sought_block};
+ghost use Rattle.mar_node.specs.Entries.{cached_of, is_sought};
 ghost use Rattle.mar_epochs.specs.EntryKeys.{has_key};
 
 use crate::as_entry::{AsEntry, KeyedEntry};
 use crate::entry_key::{EntryKey, block_keys, certificate_keys, key_of, keys_compared};
 use crate::keys::Keys;
-use crate::section::Section;
 use mar_block::Variant;
 use mar_cert::{AsFinalization, CommitsTo};
+use mar_node::{Entry, Section, Sought};
 use mar_types::{Epoch, Height, Round};
 use std::alloc::AllocError;
 use std::marker::PhantomData;
-
-/// What is put in a cache.
-#[derive(Drop)]
-pub enum Entry<B, N, F> {
-    Finalization(F),
-    /// A block that was verified in a round.
-    Verified(Round, B),
-    /// A block that was notarized in a round.
-    Notarized(Round, B),
-    /// A certified block of an epoch.
-    Certified(Epoch, B),
-    Notarization(N),
-}
-
-/// What is looked for in a cache.
-#[derive(Clone, Copy)]
-pub enum Sought<D, C> {
-    /// The first block that was verified in a round.
-    VerifiedAt(Round),
-    /// The block of a digest that was verified in a round.
-    VerifiedBlock(Round, D),
-    NotarizationAt(Round),
-    /// A finalization of the block of a digest.
-    FinalizationFor(D),
-    BlockOf(D),
-    CommittedTo(C),
-}
-
-/// What names a block that is looked for.
-#[derive(Clone, Copy)]
-pub enum BlockName<D, C> {
-    Digest(D),
-    Commitment(C),
-}
-
-impl<B: Drop, N: Drop, F: Drop> Entry<B, N, F> {
-    /// The block in it.
-    pub fn into_block(self) -> Option<B>
-        ensures { result ≡ block_in self }
-    {
-        match self {
-            Entry::Verified(_, block) | Entry::Notarized(_, block) | Entry::Certified(_, block) => {
-                Some(block)
-            }
-            _ => None,
-        }
-    }
-
-    /// The notarization that it is.
-    pub fn into_notarization(self) -> Option<N>
-        ensures { result ≡ notarization_in self }
-    {
-        match self {
-            Entry::Notarization(notarization) => Some(notarization),
-            _ => None,
-        }
-    }
-
-    /// The finalization that it is.
-    pub fn into_finalization(self) -> Option<F>
-        ensures { result ≡ finalization_in self }
-    {
-        match self {
-            Entry::Finalization(finalization) => Some(finalization),
-            _ => None,
-        }
-    }
-}
-
-/// What is looked for where that is a block of this name.
-pub fn sought_block<D: Copy, C: Copy>(name: BlockName<D, C>) -> Sought<D, C>
-    ensures { result ≡ sought_block name }
-{
-    match name {
-        BlockName::Digest(digest) => Sought::BlockOf(digest),
-        BlockName::Commitment(commitment) => Sought::CommittedTo(commitment),
-    }
-}
 
 /// An entry over blocks of a kind.
 #[derive(Drop)]
@@ -100,18 +22,20 @@ pub struct CacheEntry<V: Variant, N, F> {
 }
 
 /// What keeps an entry over blocks of a kind.
-pub trait KeptEntry<V: Variant, N: AsFinalization, F: CommitsTo<V::Commitment>>: AsEntry {
+pub trait KeptEntry<V: Variant, F: CommitsTo<V::Commitment>>: AsEntry {
+    type Notarization: AsFinalization;
+
     /// That entry.
-    fn of(entry: Entry<V::Block, N, F>) -> Self
+    fn of(entry: Entry<V::Block, Self::Notarization, F>) -> Self
     where
         Self: Sized,
-        ensures { Self.plain result ≡ cached_of V.plain N.plain F.plain entry };
+        ensures { Self.plain result ≡ cached_of V.plain Self.Notarization.plain F.plain entry };
 
     /// What it is.
-    fn into_entry(self) -> Entry<V::Block, N, F>
+    fn into_entry(self) -> Entry<V::Block, Self::Notarization, F>
     where
         Self: Sized,
-        ensures { cached_of V.plain N.plain F.plain result ≡ Self.plain self };
+        ensures { cached_of V.plain Self.Notarization.plain F.plain result ≡ Self.plain self };
 
     /// What is looked for.
     fn sought(sought: Sought<V::Digest, V::Commitment>) -> Self::Wanted
@@ -235,8 +159,10 @@ where
     }
 }
 
-impl<V: Variant, N: AsFinalization, F: CommitsTo<V::Commitment>> KeptEntry<V, N, F>
+impl<V: Variant, N: AsFinalization, F: CommitsTo<V::Commitment>> KeptEntry<V, F>
     for CacheEntry<V, N, F> {
+    type Notarization = N;
+
     fn of(entry: Entry<V::Block, N, F>) -> Self
         ensures { cached_of V.plain N.plain F.plain result.entry ≡ cached_of V.plain N.plain F.plain entry }
     {

@@ -10,7 +10,7 @@ ghost use Rattle.mar_epochs.specs.Props.{AreNumbered-prop, EachPlaceOnce-prop};
 
 use crate::as_entry::AsEntry;
 use crate::logged_entry::{LoggedEntry, copies_of, mark, settle, take_below, take_certified};
-use crate::section::Section;
+use mar_node::Section;
 use mar_types::{Height, Round};
 use std::alloc::{AllocError, Global};
 

@@ -4,12 +4,12 @@ ghost use Rattle.std.specs.Option.{option_copied};
 ghost use Rattle.mar_store.specs.Changes.{Left, Within, left_of};
 ghost use Rattle.mar_store.specs.Lost.{wreck_of};
 ghost use Rattle.mar_node.specs.Cached.{Cached};
-ghost use Rattle.mar_epochs.specs.Sections.{first_found, is_in};
+ghost use Rattle.mar_node.specs.Sections.{first_found, is_in};
 ghost use Rattle.mar_epochs.specs.EpochArchives.{AreNestedArchives, Book, ChangesArchives, FindsArchives, IsOfMemory, KeepsArchives, LosesArchives, nothing_left};
 
 use crate::as_entry::AsEntry;
 use crate::change::Change;
-use crate::section::Section;
+use mar_node::Section;
 use mar_store::{Depot, Lost};
 
 /// What is left of the archives of an epoch.
@@ -66,7 +66,7 @@ pub trait EpochArchives: Drop {
             (λ l. KeepsArchives (Self.Wreck.left wreck) (Self.Wreck.left (wreck_of l))) }
         ensures unfailing { unfailing ≡ true → IfErr result IsOfMemory };
 
-    ghost nested: { (s : Self) → AreNestedArchives (book s).kept };
+    ghost nested: { (s : Self) → AreNestedArchives (book s) };
 
     ghost nested_left: { (w : Self.Wreck) → Within (Self.Wreck.left w).sure (Self.Wreck.left w).may };
 }

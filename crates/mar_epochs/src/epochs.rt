@@ -1,9 +1,9 @@
 //! The epochs of a cache.
-ghost use Rattle.std.specs.Prelude.{◌≡◌, ℕ, Bool, Contains, IfErr, IfOk, List, MatchResult, [], false, not, true, option_map};
+ghost use Rattle.std.specs.Prelude.{◌≡◌, ◌<◌, ℕ, Bool, Contains, IfErr, IfOk, List, MatchResult, [], false, length, not, true, option_map};
 ghost use Rattle.std.specs.Option.{option_copied};
 ghost use Rattle.std.specs.List.{AllByRecursion};
 ghost use Rattle.mar_store.specs.Lost.{wreck_of};
-ghost use Rattle.mar_epochs.specs.Sections.{first_found};
+ghost use Rattle.mar_node.specs.Sections.{first_found};
 ghost use Rattle.mar_epochs.specs.EpochArchives.{IsOfMemory, is_kept, puts_of};
 ghost use Rattle.mar_epochs.specs.EpochStates.{ChangesEpoch, DestroysOrNot, EpochStates, HasSome, IsBare, IsNestedEpoch, IsNewest, IsTicket, KeepsOtherEpochs, LosesEpoch, MightBe, OpensEpoch, SameEpochs, held_in, is_opened, left_of_epoch, none_gone};
 
@@ -94,6 +94,7 @@ pub trait Epochs: Drop {
     where
         Self: Sized,
         ensures left { AllByRecursion (λ left. (k : ℕ) → left k ≡ left_of_epoch (states self k)) (Self.Wreck.left result) }
+        ensures one { length (Self.Wreck.left result) ≡ 1 }
         ensures calm { Self.Wreck.calm result ≡ calm self };
 
     /// Takes up what a crash left; no epoch is open. Luck picks among what may be left, now and where an epoch is opened.
@@ -110,4 +111,6 @@ pub trait Epochs: Drop {
     ghost nested: { (s : Self) (k : ℕ) → IsNestedEpoch (states s k) };
 
     ghost nested_left: { (w : Self.Wreck) (left : EpochStates) → Contains (Self.Wreck.left w) left → (k : ℕ) → IsNestedEpoch (left k) };
+
+    ghost some_left: { (w : Self.Wreck) → 0 < length (Self.Wreck.left w) };
 }

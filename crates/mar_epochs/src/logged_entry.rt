@@ -8,7 +8,7 @@ ghost use Rattle.mar_epochs.specs.Spots.{sooner, spot_at, spot_found};
 
 use crate::as_entry::{AsEntry, KeyedEntry};
 use crate::index::{Index, Spot};
-use crate::section::Section;
+use mar_node::Section;
 use mar_store::is_lucky;
 use mar_types::{Height, Round};
 use std::alloc::{AllocError, Global};

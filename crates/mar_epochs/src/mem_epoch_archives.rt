@@ -16,7 +16,7 @@ use crate::entry_log::EntryLog;
 use crate::epoch_archives::{EpochArchives, EpochArchivesDepot, EpochArchivesRuin};
 use crate::index::Index;
 use crate::logged_entry::{index_of, note};
-use crate::section::Section;
+use mar_node::Section;
 use mar_store::{EmptyStore, Lost, LuckHalf, MemDepot};
 use std::alloc::{AllocError, Global};
 
@@ -123,7 +123,7 @@ impl<E: KeyedEntry> EpochArchives for MemEpochArchives<E> {
 
     ghost unfailing = { true };
 
-    ghost nested = { λ s. kept_nested (log_of E.plain s.log.items.items) s.log.once };
+    ghost nested = { λ s. kept_nested s.log.accepted (log_of E.plain s.log.items.items) s.log.once };
 
     ghost nested_left = { λ w. left_nested (log_of E.plain w.log.items.items) };
 

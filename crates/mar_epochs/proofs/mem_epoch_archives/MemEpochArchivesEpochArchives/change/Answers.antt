@@ -1,7 +1,8 @@
 use Rattle.std.proofs.Common.{refl, sym}
 use Rattle.mar_epochs.specs.EntryLogs.{log_of}
 use Rattle.mar_epochs.specs.declared.change.Change.TheVariants.{Sync}
-use Rattle.mar_epochs.proofs.EpochArchivesChanges.{covers_all, loses_pruned, loses_same, marks, prunes, puts}
+use Rattle.mar_epochs.specs.Laws.{covers_last}
+use Rattle.mar_epochs.proofs.EpochArchivesChanges.{loses_pruned, loses_same, marks, prunes, puts}
 use Rattle.mar_epochs.proofs.mem_epoch_archives.MemEpochArchivesEpochArchives.change.Goals as goal
 
 pub returns-in-Ok-clause-done : goal.returns-in-Ok-clause-done
@@ -11,7 +12,7 @@ pub returns-in-Put-clause-done : goal.returns-in-Put-clause-done
 returns-in-Put-clause-done g c = rw (c.in-Put.is) (loses_same g.E.AsEntry.plain _ _ _ c.in-Err.ensures.err)
 
 pub returns-in-Sync-clause-done : goal.returns-in-Sync-clause-done
-returns-in-Sync-clause-done g c = rw (c.in-Sync.is, c.marked.ensures.accepted) (marks g.E.AsEntry.plain (Sync c.in-Sync.section) c.in-Sync.section _ _ _ _ c.marked.ensures.log (λ held. refl) (sym (covers_all (log_of g.E.AsEntry.plain c.args.self.log.items.items) c.in-Sync.section)) (λ x. refl))
+returns-in-Sync-clause-done g c = rw (c.in-Sync.is, c.marked.ensures.accepted) (marks g.E.AsEntry.plain (Sync c.in-Sync.section) c.in-Sync.section _ _ _ _ c.marked.ensures.log (λ held. refl) (sym (covers_last (log_of g.E.AsEntry.plain c.args.self.log.items.items) c.in-Sync.section)) (λ x. refl))
 
 pub returns-in-Finish-clause-done : goal.returns-in-Finish-clause-done
 returns-in-Finish-clause-done g c = rw (c.in-Finish.is, c.marked-in-Finish.ensures.accepted) (marks g.E.AsEntry.plain _ c.in-Finish.section c.in-Finish.number _ _ _ c.marked-in-Finish.ensures.log (λ held. refl) refl (λ x. refl))

@@ -1,0 +1,70 @@
+use Rattle.std.proofs.Common.{◌<◌, ◌≡◌, ◌≤◌, [], ◌∷◌, ap, map, subst, sym, ◌∙◌}
+use Rattle.mar_store.specs.Lost.{wreck_of}
+use Rattle.mar_node.specs.CacheCalls.{GoesOn, LosesCache, PutsAndStarts, none_goes}
+use Rattle.mar_epochs.specs.EpochStates.{some_ways}
+use Rattle.mar_cache.specs.Bounds.{bounds_of}
+use Rattle.mar_node.specs.Cached.{epoch_of}
+use Rattle.mar_node.specs.Sections.{section_of}
+use Rattle.mar_node.specs.declared.Started.TheVariants.{Ready}
+use Rattle.mar_epochs.specs.declared.Change.TheVariants.{Put}
+use Rattle.mar_cache.specs.AsOne.{covers_of, kept_of, left_of_ways, lowests_of}
+use Rattle.mar_cache.specs.Calls.{IsPut}
+use Rattle.mar_cache.specs.Shelved.{IsStarted, at_epoch, nothing_gone, raised}
+use Rattle.mar_cache.specs.Stages.{IsAtStage, is_loaded}
+use Rattle.mar_cache.proofs.AllEpochs.{raised_lowests}
+use Rattle.mar_cache.proofs.CacheSteps.{at_epoch_within, one_put, put_goes_on, put_lowest, puts_and_starts, staged_start, still_loaded}
+use Rattle.mar_cache.proofs.Plainly.{put_plain}
+use Rattle.mar_cache.proofs.StateLosses.{leaves_flat}
+use Rattle.mar_cache.proofs.epoch_cache.EpochCacheShelf.put_and_start.Goals as goal
+
+pub invariant_of-cache : goal.invariant_of-cache
+invariant_of-cache g c =
+    let states = g.S.Epochs.states in
+    let plain = g.S.Entry.AsEntry.plain in
+    let old = c.args.self.manager in
+    let new = c.in-Ok.manager in
+    let b = bounds_of (g.M.Meta.current old.meta) in
+    let d = bounds_of (g.M.Meta.current new.meta) in
+    let x = plain c.of.result in
+    record { staged = subst (λ s. IsAtStage s (states new.epochs)) (sym c.after_put.ensures) (staged_start x (states old.epochs) (states new.epochs) b d old.within new.within (g.met.S.Epochs.nested old.epochs) (g.met.S.Epochs.nested new.epochs) c.args.self.stage c.args.self.staged (λ less. ap states (c.in-Ok.ensures.ready less).1) (λ low. put_plain plain c.of.result _ _ (c.in-Ok.ensures.done low).0)) }
+
+pub returns-in-Ok : goal.returns-in-Ok
+returns-in-Ok g c =
+    let states = g.S.Epochs.states in
+    let plain = g.S.Entry.AsEntry.plain in
+    let old = c.args.self.manager in
+    let new = c.in-Ok.manager in
+    let b = bounds_of (g.M.Meta.current old.meta) in
+    let d = bounds_of (g.M.Meta.current new.meta) in
+    let x = plain c.of.result in
+    let stage = c.args.self.stage in
+    let ready : epoch_of x < b.lowest → (c.in-Ok.started ≡ Ready) × (states new.epochs ≡ states old.epochs) × (d ≡ b) = λ less. let r = c.in-Ok.ensures.ready less in (r.0, ap states r.1, ap (λ m. bounds_of (g.M.Meta.current m)) r.2) in
+    let done : b.lowest ≤ epoch_of x → IsPut x (states old.epochs) (states new.epochs) × IsStarted (states new.epochs (epoch_of x)) (epoch_of x) (section_of x) c.in-Ok.started = λ low. let r = c.in-Ok.ensures.done low in (put_plain plain c.of.result _ _ r.0, r.1) in
+    let raises : b.lowest ≤ epoch_of x → d ≡ raised (epoch_of x) b = λ low. (c.in-Ok.ensures.raises low).0 in
+    record {
+      puts = subst (λ y. PutsAndStarts y b.lowest (is_loaded stage) (kept_of (states old.epochs) b.highest) (kept_of (states new.epochs) d.highest) (covers_of (states new.epochs)) c.in-Ok.started) c.of.ensures (puts_and_starts x (states old.epochs) (states new.epochs) b d old.within new.within (g.met.S.Epochs.nested old.epochs) (g.met.S.Epochs.nested new.epochs) stage c.in-Ok.started c.args.self.staged ready done raises);
+      goes_on = subst (λ y. GoesOn (y ∷ []) none_goes (kept_of (states old.epochs) b.highest) (kept_of (states new.epochs) d.highest) (covers_of (states old.epochs)) (covers_of (states new.epochs))) c.of.ensures (put_goes_on x (states old.epochs) (states new.epochs) b d old.within new.within (g.met.S.Epochs.nested old.epochs) (g.met.S.Epochs.nested new.epochs) (Put x ∷ []) (one_put x (states old.epochs) (states new.epochs) b d old.within new.within (g.met.S.Epochs.nested old.epochs) (g.met.S.Epochs.nested new.epochs)) (λ less. let (none, same, bounds) = ready less in (same, bounds)) (λ low. (done low).0));
+      stays = (put_lowest x (states old.epochs) (states new.epochs) b d old.within new.within (g.met.S.Epochs.nested old.epochs) (g.met.S.Epochs.nested new.epochs) (λ less. (ready less).2) raises, ap is_loaded c.after_put.ensures ∙ still_loaded stage);
+      lost = tt;
+      watched = c.in-Ok.ensures.watched;
+    }
+
+pub returns-in-Err : goal.returns-in-Err
+returns-in-Err g c =
+    let states = g.S.Epochs.states in
+    let old = c.args.self.manager in
+    let left = wreck_of c.in-Err.lost in
+    let some = g.met.S.Epochs.some_left left.epochs in
+    let some_bounds = some_ways bounds_of (g.M.Wreck.MetaRuin.left left.meta) (g.met.M.Wreck.MetaRuin.some left.meta) in
+    let b = bounds_of (g.M.Meta.current old.meta) in
+    let x = g.S.Entry.AsEntry.plain c.of.result in
+    record {
+      puts = tt;
+      goes_on = tt;
+      stays = tt;
+      lost = subst (λ y. LosesCache (y ∷ []) none_goes (kept_of (states old.epochs) b.highest) (b.lowest ∷ []) (left_of_ways (g.S.Wreck.EpochsRuin.left left.epochs) (map bounds_of (g.M.Wreck.MetaRuin.left left.meta))) (lowests_of (map bounds_of (g.M.Wreck.MetaRuin.left left.meta)))) c.of.ensures (record {
+        leaves = leaves_flat (at_epoch (epoch_of x) (x ∷ [])) nothing_gone (x ∷ []) none_goes (states old.epochs) b old.within (g.S.Wreck.EpochsRuin.left left.epochs) (map bounds_of (g.M.Wreck.MetaRuin.left left.meta)) left.within some some_bounds (at_epoch_within (epoch_of x) (x ∷ [])) (λ k y own stays. stays) c.in-Err.ensures.ways;
+        lowests = raised_lowests (epoch_of x) b (map bounds_of (g.M.Meta.left old.meta)) (map bounds_of (g.M.Wreck.MetaRuin.left left.meta)) old.durable c.in-Err.ensures.bounds;
+      });
+      watched = c.in-Err.ensures.watched;
+    }
