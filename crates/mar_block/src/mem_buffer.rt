@@ -10,6 +10,7 @@ use mar_key::Subscription;
 use mar_types::{Digest, Participant, Round};
 use std::alloc::{AllocError, Global};
 use std::marker::Model;
+use std::mem;
 
 /// Keeps the blocks that are put, in order, and the first place of each digest and of each commitment. It tells of the
 /// blocks that come until it is closed, and keeps what it was handed to send. A contract sees the blocks as plain data.
@@ -85,6 +86,14 @@ where
         ensures { result ≡ self.now.is_open }
     {
         self.is_open
+    }
+
+    /// Gives what it was handed to send, in order, and keeps none of it.
+    pub fn take_sent(&mut self, alloc: Global) -> Vec<Sent<V::Block>>
+        ensures taken { map (sending V.plain) result.items ≡ self.old.sent }
+        ensures left { self.new ≡ record self.old { sent = [] } }
+    {
+        mem::replace(&mut self.sent, Vec::new(alloc))
     }
 
     /// What it was handed to send, in order.

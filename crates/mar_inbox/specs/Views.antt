@@ -1,14 +1,15 @@
 -- Messages and values as the definitions see them.
-use Rattle.std.specs.Prelude.{List, None, Option, ℕ}
+use Rattle.std.specs.Prelude.{List, None, Option, map, option_map, ℕ}
 use Rattle.std.specs.Prelude.{Some as Given}
 use Rattle.mar_cert.specs.Block.{Block}
 use Rattle.mar_cert.specs.Finalization.{Finalization, Notarization, finalization_bytes}
 use Rattle.mar_key.specs.Views.{processed_of}
+use Rattle.mar_block.specs.Sent.{Sending}
 use Rattle.mar_block.specs.declared.recipients.Recipients.{Recipients}
 use Rattle.mar_block.specs.declared.recipients.Recipients.TheVariants.{All, Some}
 use Rattle.mar_store.specs.declared.identifier.Identifier.{Identifier as StoreIdentifier}
 use Rattle.mar_store.specs.declared.identifier.Identifier.TheVariants.{Index, Key}
-use Rattle.mar_node.specs.Answers.{Value as PlainValue, anchor_value, bytes_value, info_value, no_value, processed_value, sync_value, true_value}
+use Rattle.mar_node.specs.Answers.{Sent, Value as PlainValue, anchor_value, bytes_value, info_value, no_value, processed_value, sync_value, true_value}
 use Rattle.mar_node.specs.Messages.{Identifier as PlainIdentifier, Message as PlainMessage, Peers, all_peers, certify, get_anchor, get_block, get_finalization, get_info, get_processed, get_verified, latest, of_digest, of_height, prepared, proposed, report_certification, report_finalization, report_notarization, some_peers, verified}
 use Rattle.mar_inbox.specs.declared.identifier.Identifier.{Identifier}
 use Rattle.mar_inbox.specs.declared.identifier.Identifier.TheVariants as identifier
@@ -33,6 +34,19 @@ identifier_of digest identifier.Latest = latest
 abbrev pub peers_of : Recipients ℕ → Peers
 peers_of All = all_peers
 peers_of (Some peers) = some_peers peers.items
+
+-- the peers that are named, or each where none are
+abbrev pub peers_named : Option (List ℕ) → Peers
+peers_named None = all_peers
+peers_named (Given peers) = some_peers peers
+
+-- a block that a buffer was handed to send, by its digest
+abbrev pub sent_of : Sending → Sent
+sent_of s = record { round = s.round; digest = s.block.digest; peers = peers_named s.peers }
+
+-- what a buffer was handed to send, where it tells that
+abbrev pub sent_by : Option (List Sending) → Option (List Sent)
+sent_by sent = option_map (map sent_of) sent
 
 -- a message, by what digests are as bytes, and blocks and certificates as plain data
 abbrev pub message_of : {D B N F : Type 0} → (D → List ℕ) → (B → Block) → (N → Notarization) → (F → Finalization) → Message D B N F → PlainMessage

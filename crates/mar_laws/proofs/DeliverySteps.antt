@@ -196,8 +196,8 @@ module _ (chain : Chain) (at0 : IsBlockAt chain 0 b0) (at1 : IsBlockAt chain 1 b
       certs = [];
       certs_may = record { with_sure = λ h v e. e; within_may = λ h v e. absurd cc; once = tt };
       picked = record { blocks_are = refl; certs_are = refl; pair_is = refl };
-      cache = [];
-      cache_may = record { with_sure = λ x e. e; within_may = λ x e. e; once = tt };
+      cache = record { sure = []; may = [] };
+      cache_may = record { with_sure = λ x e. e; within_may = λ x e. e; sure_may = λ x e. e };
       lowest = 0;
       lowests = [];
       lowests_were = λ k there. there;

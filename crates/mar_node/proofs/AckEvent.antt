@@ -213,13 +213,16 @@ module _ {P E : Type 0} (config : Config) (chain : Chain) (lawful : IsLawful con
     are_tips = tt;
     tips_rise = refl;
     tips_chain = tt;
+    cache = refl;
+    lowest = refl;
+    lowests = refl;
     witnessed = witnessed-is;
     stored = tt;
     stored_late = tt;
     no_query = refl;
     no_fault = dropped_first-none (after_given given.life.out) not_dropped;
     sends = refl;
-    answers = refl;
+    answers = λ lowest. refl;
     subscriptions = refl;
     certified = λ tip. refl;
     no_syncs = λ n'. refl;

@@ -1,6 +1,7 @@
 -- What a failed call leaves is a cut of the step: before any block was handed over, and while blocks are.
-use Rattle.std.proofs.Common.{◌≡◌, ◌⊎◌, inl, inr, ⊎_elim, ℕ, zero, suc, ◌+◌, ◌<◌, ◌≤◌, List, [], ◌∷◌, ◌++◌, length, map, Bool, true, false, Option, Some, None, option_map, IsTrue, Contains, refl, sym, ◌∙◌, ap, subst, arith, le_refl}
-use Rattle.std.proofs.lemmas.List.Elements.{Contains-append_cases, Contains-append_right}
+use Rattle.std.specs.List.{list_any}
+use Rattle.std.proofs.Common.{append-nil, ◌≡◌, ◌⊎◌, inl, inr, ⊎_elim, ℕ, zero, suc, ◌+◌, ◌<◌, ◌≤◌, List, [], ◌∷◌, ◌++◌, length, map, Bool, true, false, Option, Some, None, option_map, IsTrue, Contains, refl, sym, ◌∙◌, ap, subst, arith, le_refl}
+use Rattle.std.proofs.lemmas.List.Elements.{Contains-append_cases, Contains-append_left, Contains-append_right}
 use Rattle.mar_cert.specs.Block.{Block}
 use Rattle.mar_cert.specs.Finalization.{Finalization}
 use Rattle.mar_key.specs.Keys.{Call}
@@ -13,16 +14,20 @@ use Rattle.mar_node.specs.Chain.{Chain, Finalizes, IsBlockAt}
 use Rattle.mar_node.specs.Config.{Config}
 use Rattle.mar_node.specs.Event.{Event, brought_block, cutoff_after, effect_of, no_floor, processed_after, told_finalization}
 use Rattle.mar_node.specs.Faults.{Fault, corrupt, damaged, dropped_ack, event_fault, floor_epoch_unavailable, floor_invalid, floor_parent_mismatch, genesis_height, genesis_mismatch, height_limit, is_by_value, meta_store, next_after, store_fault, sync_kind, ticket_limit, unbacked, want_of_memory}
-use Rattle.mar_node.specs.Held.{Ending, IsArchiveFault, IsUsual, LeavesStore, Loses, Seen, Written, blocks_left, certs_left, ended_of}
+use Rattle.mar_node.specs.Cache.{is_below, witnessing_of}
+use Rattle.mar_node.specs.Cached.{Cached, cached_block, cached_finalization}
+use Rattle.mar_node.specs.Held.{Ending, IsArchiveFault, IsUsual, LeavesCache, LeavesStore, Loses, Seen, Written, blocks_left, cache_left, certs_left}
 use Rattle.mar_node.specs.Lives.{Cuts, CutsBy, IsGoodEnded, NotBelow, Reached, is_dropped_ack, is_refused_floor, reached_after, reached_before}
-use Rattle.mar_node.specs.Node.{AreBlocksOf, AreCachedOf, AreFinalizationsOf, BlocksAgree, Ended, IsGood, Node}
+use Rattle.mar_node.specs.Node.{Agrees, AreBlocksOf, AreFinalizationsOf, Ended, IsFinalized, IsGood, Node}
 use Rattle.mar_node.specs.Answers.{answers_of, sends_of}
 use Rattle.mar_node.specs.Promise.{Waiting, made_of, node_of}
 use Rattle.mar_node.specs.Requests.{own_asks}
-use Rattle.mar_node.specs.Sound.{IsSafePair}
+use Rattle.mar_node.specs.Sound.{IsSafePair, IsSound}
 use Rattle.mar_node.specs.Step.{AreHandedOf, AreTipsOf, HandedFrom, IsFront, Report, TipsFrom, handed_blocks, handed_over, new_tip, nothing_made}
 use Rattle.mar_node.proofs.Reaching.{AreTips, block_from, cert_from}
-use Rattle.mar_node.proofs.Soundness.{IsFrom, IsGoodEnded-from_sound, IsSound-from_good, IsSound-untold}
+use Rattle.mar_node.proofs.Filtered.{all_found_within}
+use Rattle.mar_node.proofs.Growing.{LeavesCache-unwritten}
+use Rattle.mar_node.proofs.Soundness.{IsFrom, IsGoodEnded-from_sound, IsSound-from_good, IsSound-untold, may_cached_blocks_of, may_cached_of}
 
 -- WHAT IS LEFT
 
@@ -42,7 +47,7 @@ pub record LeavesArchives (chain : Chain) (n : Node) (e : Event) (left : Ended) 
   pub of_certs : AreFinalizationsOf chain put_certs
   pub own_blocks : (x : At Block) → Contains put_blocks x → brought_block n e ≡ Some x.value
   pub own_certs : (x : At Finalization) → Contains put_certs x → told_finalization n e ≡ Some x.value
-  pub no_cache : left ≡ ended_of (blocks_left left) (certs_left left) left.meta
+  pub cache : LeavesCache (record { sure = n.cache.sure; may = n.cache.may }) n.lowests [] [] (cache_left left) left.lowests
 
 -- what was held stands among what may be left, and what is sure too
 held_may_heights : {T : Type 0} (start : Kept (At T)) (put : List (At T)) (left : Left (At T)) → LeavesStore start 0 put left → (h : ℕ) → 0 ≤ h → IsTrue (has_height start.held h) → IsTrue (has_height left.may h)
@@ -112,11 +117,18 @@ module _ {P E : Type 0} (config : Config) (chain : Chain) (a : Seen P E) (e : Ev
       cut = subst (λ fx. CutsBy config chain a.held.pairs (option_map height_in a.held.processed) n e fx (made_of reports asks) fault left) (sym no_effect) unfloored;
     }
       where
-        no_lowests : left.lowests ≡ []
-        no_lowests = ap (λ l. l.lowests) leaves.no_cache
+        sure_cached : (x : Cached) → Contains a.held.cache.sure x → Contains left.cache_sure x
+        sure_cached x has = unpruned (leaves.cache.sure x has)
+          where
+            unpruned : Contains left.cache_sure x ⊎ IsTrue (list_any (λ p. is_below p x) []) → Contains left.cache_sure x
+            unpruned (inl there) = there
+            unpruned (inr pruned) = absurd cc
 
-        no_cached : left.cache_may ≡ []
-        no_cached = ap (λ l. l.cache_may) leaves.no_cache
+        may_cached : (x : Cached) → Contains left.cache_may x → Contains a.held.cache.may x
+        may_cached x has = subst (λ xs. Contains xs x) (append-nil a.held.cache.may) (leaves.cache.may x has)
+
+        sound : IsSound chain n
+        sound = IsSound-untold chain n tip_before (IsSound-from_good config chain (record n { tip = tip_before }) good)
 
         allowed : (p : Pair) → (own ≡ p) ⊎ ((after ≡ p) × IsSafePair chain left.blocks_sure p × NotBelow (option_map height_in a.held.processed) p.processed) → Contains (a.held.pairs ++ own ∷ after ∷ []) p
         allowed p (inl is) = subst (Contains (a.held.pairs ++ own ∷ after ∷ [])) is (Contains-append_right a.held.pairs (own ∷ after ∷ []) own (0, omega arith, refl))
@@ -141,8 +153,9 @@ module _ {P E : Type 0} (config : Config) (chain : Chain) (a : Seen P E) (e : Ev
         may_certs = AllByRecursion-within (λ x. Finalizes chain x.height x.value.round x.value.payload) left.certs_may (a.held.certs.may ++ leaves.put_certs) leaves.certs.may (AllByRecursion-append (λ x. Finalizes chain x.height x.value.round x.value.payload) a.held.certs.may leaves.put_certs good.of_chain.stores.may_certs leaves.of_certs)
 
         good_left : IsGoodEnded chain left
-        good_left = IsGoodEnded-from_sound chain n 0 left (IsSound-untold chain n tip_before (IsSound-from_good config chain (record n { tip = tip_before }) good)) may_blocks may_certs
-            (subst (λ xs. AreCachedOf chain xs) (sym no_cached) tt) (subst (λ xs. BlocksAgree chain xs) (sym no_cached) tt)
+        good_left = IsGoodEnded-from_sound chain n 0 left sound may_blocks may_certs
+            (all_found_within cached_finalization (λ f. IsFinalized chain f.round f.payload) left.cache_may a.held.cache.may may_cached (may_cached_of chain n sound))
+            (all_found_within cached_block (Agrees chain) left.cache_may a.held.cache.may may_cached (may_cached_blocks_of chain n sound))
             (λ h low has. keeps_heights a.held.blocks.sure left.blocks_sure (keeps_sure a.held.blocks leaves.put_blocks (blocks_left left) leaves.blocks) h has)
             (AllByRecursion-from_contains (λ p. (Contains a.held.pairs p × IsFrom 0 p.processed) ⊎ IsSafePair chain left.blocks_sure p) left.meta (λ p has. of_node p (pairs p has)))
 
@@ -158,8 +171,8 @@ module _ {P E : Type 0} (config : Config) (chain : Chain) (a : Seen P E) (e : Ev
           leaves = record {
             sure_blocks = λ h b is low. leaves.blocks.sure h b (omega arith) is;
             sure_certs = λ h f is low. leaves.certs.sure h f (omega arith) is;
-            sure_cache = λ x has. absurd (let lt : has.0 < 0 = has.1 in omega arith);
-            lowests = λ k has. absurd (let none = subst (λ ks. Contains ks k) no_lowests has in let lt : none.0 < 0 = none.1 in omega arith);
+            sure_cache = λ x has. inl (sure_cached x has);
+            lowests = λ k has. Contains-append_left a.held.lowests (map (λ p. p.epoch) (witnessing_of config n e no_floor).prunes) k (subst (λ ks. Contains ks k) (append-nil a.held.lowests) (leaves.cache.lowest k has));
             some_pair = some;
             pairs = AllByRecursion-from_contains (Contains (a.held.pairs ++ own ∷ after ∷ [])) left.meta (λ p has. allowed p (pairs p has));
             good = good_left;
@@ -183,8 +196,8 @@ module _ {P E : Type 0} (config : Config) (chain : Chain) (a : Seen P E) (e : Ev
         }
 
     -- A call failed before any block was handed over; `written` has the pairs that a failed sync was to write.
-    pub Cuts-before : (tips : List Report) (asks : List Call) (tip : ℕ) (written : Written) (left : Ending) → AreTips tips → TipsFrom a.life.tip tips tip → AreTipsOf chain tips → written.blocks_from ≡ 0 → written.certs_from ≡ 0 → AreBlocksOf chain written.blocks → AreFinalizationsOf chain written.certs → ((x : At Block) → Contains written.blocks x → brought_block n e ≡ Some x.value) → ((x : At Finalization) → Contains written.certs x → told_finalization n e ≡ Some x.value) → Loses a.held written left → ((p : Pair) → Contains written.pairs p → MayBeLeft left.remains.ended.blocks_sure p) → (IsTrue (is_by_value left.fault) → event_fault config n e ≡ Some left.fault) → (IsTrue (is_refused_floor e left.fault) → ⊥) → (IsTrue (is_dropped_ack left.fault) → left.remains.ended.meta ≡ a.held.pairs) → IsFront asks (own_asks config n e no_floor) → Cuts config chain n (e ∷ []) (made_of tips asks) left.fault left.remains.ended
-    Cuts-before tips asks tip written left only tips_rise tips_chain no_prune no_cert_prune of_blocks of_certs own_blocks own_certs lost new cause refused unsynced front =
+    pub Cuts-before : (tips : List Report) (asks : List Call) (tip : ℕ) (written : Written) (left : Ending) → AreTips tips → TipsFrom a.life.tip tips tip → AreTipsOf chain tips → written.blocks_from ≡ 0 → written.certs_from ≡ 0 → written.cached ≡ [] → written.prunes ≡ [] → AreBlocksOf chain written.blocks → AreFinalizationsOf chain written.certs → ((x : At Block) → Contains written.blocks x → brought_block n e ≡ Some x.value) → ((x : At Finalization) → Contains written.certs x → told_finalization n e ≡ Some x.value) → Loses a.held written left → ((p : Pair) → Contains written.pairs p → MayBeLeft left.remains.ended.blocks_sure p) → (IsTrue (is_by_value left.fault) → event_fault config n e ≡ Some left.fault) → (IsTrue (is_refused_floor e left.fault) → ⊥) → (IsTrue (is_dropped_ack left.fault) → left.remains.ended.meta ≡ a.held.pairs) → IsFront asks (own_asks config n e no_floor) → Cuts config chain n (e ∷ []) (made_of tips asks) left.fault left.remains.ended
+    Cuts-before tips asks tip written left only tips_rise tips_chain no_prune no_cert_prune none_put none_pruned of_blocks of_certs own_blocks own_certs lost new cause refused unsynced front =
         Cuts-left tips asks tip (reached_before n e) left.fault left.remains.ended tips_rise tips_chain (inl refl)
         (subst (λ xs. HandedFrom left.remains.ended.blocks_sure a.life.next_ack (next_after (option_map height_in a.held.processed) + length (reached_before n e).out) xs) (sym none) tt)
         (subst (λ xs. AreHandedOf chain left.remains.ended.blocks_sure xs) (sym none) tt)
@@ -208,7 +221,7 @@ module _ {P E : Type 0} (config : Config) (chain : Chain) (a : Seen P E) (e : Ev
           of_certs = of_certs;
           own_blocks = own_blocks;
           own_certs = own_certs;
-          no_cache = lost.leaves.no_cache;
+          cache = LeavesCache-unwritten a.held.cache a.held.lowests written.cached written.prunes (cache_left left.remains.ended) left.remains.ended.lowests none_put none_pruned lost.leaves.cache;
         }
 
         first : first_pair left.remains.ended.meta ≡ Some own

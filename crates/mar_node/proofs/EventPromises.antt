@@ -43,18 +43,18 @@ module _ {P E : Type 0} (epochs : Epochs) (inner : List ℕ → List ℕ) (parti
   partition_of config is = subst IsPartition (sym is) partition
 
   -- a call that failed once these tips were told
-  pub told_cut : (config : Config) (chain : Chain) (waiting : Waiting) (e : Event) (step : IsLawfulStep config chain (node_of a buffer waiting) (e ∷ [])) (no_effect : effect_of config (node_of a buffer waiting) e ≡ no_floor) → ((fault : Fault) → is_refused_floor e fault ≡ false) → (tips : List Report) (tip : ℕ) → AreTips tips → TipsFrom a.life.tip tips tip → AreTipsOf chain tips → (told told' : Option (List Report)) (heard heard' : Option (List Call)) (written : Written) (x : Ending) → Hears told tips told' → HearsFront heard (own_asks config (node_of a buffer waiting) e no_floor) heard' → written.blocks_from ≡ 0 → written.certs_from ≡ 0 → AreBlocksOf chain written.blocks → AreFinalizationsOf chain written.certs → ((y : At Block) → Contains written.blocks y → brought_block (node_of a buffer waiting) e ≡ Some y.value) → ((y : At Finalization) → Contains written.certs y → told_finalization (node_of a buffer waiting) e ≡ Some y.value) → Loses a.held written x → ((p : Pair) → Contains written.pairs p → MayBeLeft config chain a e buffer waiting x.remains.ended.blocks_sure p) → is_by_value x.fault ≡ false → is_dropped_ack x.fault ≡ false → CutsStep config chain (node_of a buffer waiting) (e ∷ []) (heard_by told heard) (heard_by told' heard') x
-  told_cut config chain waiting e step no_effect unrefused tips tip are_tips rise of_chain told told' heard heard' written x tips_heard (asks, front, asks_heard) no_prune no_cert_prune of_blocks of_certs own_blocks own_certs lost may no_value not_dropped = record {
+  pub told_cut : (config : Config) (chain : Chain) (waiting : Waiting) (e : Event) (step : IsLawfulStep config chain (node_of a buffer waiting) (e ∷ [])) (no_effect : effect_of config (node_of a buffer waiting) e ≡ no_floor) → ((fault : Fault) → is_refused_floor e fault ≡ false) → (tips : List Report) (tip : ℕ) → AreTips tips → TipsFrom a.life.tip tips tip → AreTipsOf chain tips → (told told' : Option (List Report)) (heard heard' : Option (List Call)) (written : Written) (x : Ending) → Hears told tips told' → HearsFront heard (own_asks config (node_of a buffer waiting) e no_floor) heard' → written.blocks_from ≡ 0 → written.certs_from ≡ 0 → written.cached ≡ [] → written.prunes ≡ [] → AreBlocksOf chain written.blocks → AreFinalizationsOf chain written.certs → ((y : At Block) → Contains written.blocks y → brought_block (node_of a buffer waiting) e ≡ Some y.value) → ((y : At Finalization) → Contains written.certs y → told_finalization (node_of a buffer waiting) e ≡ Some y.value) → Loses a.held written x → ((p : Pair) → Contains written.pairs p → MayBeLeft config chain a e buffer waiting x.remains.ended.blocks_sure p) → is_by_value x.fault ≡ false → is_dropped_ack x.fault ≡ false → CutsStep config chain (node_of a buffer waiting) (e ∷ []) (heard_by told heard) (heard_by told' heard') x
+  told_cut config chain waiting e step no_effect unrefused tips tip are_tips rise of_chain told told' heard heard' written x tips_heard (asks, front, asks_heard) no_prune no_cert_prune none_put none_pruned of_blocks of_certs own_blocks own_certs lost may no_value not_dropped = record {
     made = made_of tips asks;
-    heard = record { reports = tips_heard; asks = asks_heard; answers = refl; no_more = refl };
-    cuts = Cuts-before config chain a e buffer waiting (untold config chain (node_of a buffer waiting) e step.good).0 (untold config chain (node_of a buffer waiting) e step.good).1 no_effect tips asks tip written x are_tips rise of_chain no_prune no_cert_prune of_blocks of_certs own_blocks own_certs lost may
+    heard = record { reports = tips_heard; asks = asks_heard; sends = refl; answers = refl };
+    cuts = Cuts-before config chain a e buffer waiting (untold config chain (node_of a buffer waiting) e step.good).0 (untold config chain (node_of a buffer waiting) e step.good).1 no_effect tips asks tip written x are_tips rise of_chain no_prune no_cert_prune none_put none_pruned of_blocks of_certs own_blocks own_certs lost may
         (λ is. absurd (never (is_by_value x.fault) no_value is)) (never (is_refused_floor e x.fault) (unrefused x.fault)) (λ is. absurd (never (is_dropped_ack x.fault) not_dropped is)) front;
   }
 
   -- a call that failed before anything was told
-  pub quiet_cut : (config : Config) (chain : Chain) (waiting : Waiting) (e : Event) (step : IsLawfulStep config chain (node_of a buffer waiting) (e ∷ [])) (no_effect : effect_of config (node_of a buffer waiting) e ≡ no_floor) → ((fault : Fault) → is_refused_floor e fault ≡ false) → (told told' : Option (List Report)) (heard heard' : Option (List Call)) (written : Written) (x : Ending) → Hears told [] told' → HearsFront heard (own_asks config (node_of a buffer waiting) e no_floor) heard' → written.blocks_from ≡ 0 → written.certs_from ≡ 0 → AreBlocksOf chain written.blocks → AreFinalizationsOf chain written.certs → ((y : At Block) → Contains written.blocks y → brought_block (node_of a buffer waiting) e ≡ Some y.value) → ((y : At Finalization) → Contains written.certs y → told_finalization (node_of a buffer waiting) e ≡ Some y.value) → Loses a.held written x → ((p : Pair) → Contains written.pairs p → MayBeLeft config chain a e buffer waiting x.remains.ended.blocks_sure p) → IsUsual x.fault → CutsStep config chain (node_of a buffer waiting) (e ∷ []) (heard_by told heard) (heard_by told' heard') x
-  quiet_cut config chain waiting e step no_effect unrefused told told' heard heard' written x silent asks no_prune no_cert_prune of_blocks of_certs own_blocks own_certs lost may usual =
-      told_cut config chain waiting e step no_effect unrefused [] a.life.tip tt refl tt told told' heard heard' written x silent asks no_prune no_cert_prune of_blocks of_certs own_blocks own_certs lost may (usual_not_by_value x.fault usual) (usual_not_dropped x.fault usual)
+  pub quiet_cut : (config : Config) (chain : Chain) (waiting : Waiting) (e : Event) (step : IsLawfulStep config chain (node_of a buffer waiting) (e ∷ [])) (no_effect : effect_of config (node_of a buffer waiting) e ≡ no_floor) → ((fault : Fault) → is_refused_floor e fault ≡ false) → (told told' : Option (List Report)) (heard heard' : Option (List Call)) (written : Written) (x : Ending) → Hears told [] told' → HearsFront heard (own_asks config (node_of a buffer waiting) e no_floor) heard' → written.blocks_from ≡ 0 → written.certs_from ≡ 0 → written.cached ≡ [] → written.prunes ≡ [] → AreBlocksOf chain written.blocks → AreFinalizationsOf chain written.certs → ((y : At Block) → Contains written.blocks y → brought_block (node_of a buffer waiting) e ≡ Some y.value) → ((y : At Finalization) → Contains written.certs y → told_finalization (node_of a buffer waiting) e ≡ Some y.value) → Loses a.held written x → ((p : Pair) → Contains written.pairs p → MayBeLeft config chain a e buffer waiting x.remains.ended.blocks_sure p) → IsUsual x.fault → CutsStep config chain (node_of a buffer waiting) (e ∷ []) (heard_by told heard) (heard_by told' heard') x
+  quiet_cut config chain waiting e step no_effect unrefused told told' heard heard' written x silent asks no_prune no_cert_prune none_put none_pruned of_blocks of_certs own_blocks own_certs lost may usual =
+      told_cut config chain waiting e step no_effect unrefused [] a.life.tip tt refl tt told told' heard heard' written x silent asks no_prune no_cert_prune none_put none_pruned of_blocks of_certs own_blocks own_certs lost may (usual_not_by_value x.fault usual) (usual_not_dropped x.fault usual)
 
   -- A SYNC
 
@@ -77,7 +77,7 @@ module _ {P E : Type 0} (epochs : Epochs) (inner : List ℕ → List ℕ) (parti
     -- one that could not be finished
     pub promise-unfinished : (told : Option (List Report)) (heard : Option (List Call)) (x : Ending) → Loses a.held nothing_written x → IsUsual x.fault → KeepsPromise epochs inner a (sync_finished t ∷ []) buffer (heard_by told heard) (heard_by told heard) (Err x)
     promise-unfinished told heard x lost usual config chain waiting set step =
-        quiet_cut config chain waiting (sync_finished t) step refl (λ fault. refl) told told heard heard nothing_written x (Hears-nothing told) (HearsFront-nothing heard _ heard (Hears-nothing heard)) refl refl tt tt (λ y has. nothing_put y has) (λ y has. nothing_put y has) lost (λ p has. nothing_put p has) usual
+        quiet_cut config chain waiting (sync_finished t) step refl (λ fault. refl) told told heard heard nothing_written x (Hears-nothing told) (HearsFront-nothing heard _ heard (Hears-nothing heard)) refl refl refl refl tt tt (λ y has. nothing_put y has) (λ y has. nothing_put y has) lost (λ p has. nothing_put p has) usual
 
   -- FINALIZATIONS
 
@@ -90,7 +90,7 @@ module _ {P E : Type 0} (epochs : Epochs) (inner : List ℕ → List ℕ) (parti
     hand config chain waiting set step o found = sym (found-is config.inner chain a buffer waiting f.payload step.one step.good.of_chain.stores.held_blocks) ∙ (ap (λ i. found_at_hand i buffer a.held.blocks.held f.payload) set.inner_is ∙ found)
 
     pub promise-unread : (told : Option (List Report)) (heard : Option (List Call)) (x : Ending) → Loses a.held nothing_written x → IsUsual x.fault → KeepsPromise epochs inner a (reported ∷ []) buffer (heard_by told heard) (heard_by told heard) (Err x)
-    promise-unread told heard x lost usual config chain waiting set step = quiet_cut config chain waiting reported step refl (λ fault. refl) told told heard heard nothing_written x (Hears-nothing told) (HearsFront-nothing heard _ heard (Hears-nothing heard)) refl refl tt tt (λ y has. nothing_put y has) (λ y has. nothing_put y has) lost (λ p has. nothing_put p has) usual
+    promise-unread told heard x lost usual config chain waiting set step = quiet_cut config chain waiting reported step refl (λ fault. refl) told told heard heard nothing_written x (Hears-nothing told) (HearsFront-nothing heard _ heard (Hears-nothing heard)) refl refl refl refl tt tt (λ y has. nothing_put y has) (λ y has. nothing_put y has) lost (λ p has. nothing_put p has) usual
 
     pub promise-absent : (told : Option (List Report)) (heard heard' : Option (List Call)) (node : Seen P E) (result : Result (Seen P E) Ending) → IsNested a.held.blocks → IsNested a.held.certs → found_at_hand inner buffer a.held.blocks.held f.payload ≡ None → HearsUpTo heard (want_asks a.held.cutoff f.round f.payload) heard' result → IsRead a node → IfOk result (λ new. new ≡ node) → MatchResult result (λ new. Grew a.held nothing_written new.held) (Loses a.held nothing_written) → IfErr result (λ x. IsUsual x.fault) → KeepsPromise epochs inner a (reported ∷ []) buffer (heard_by told heard) (heard_by told heard') result
     promise-absent told heard heard' node (Ok new) nested certs_nested found asks read is goes usual config chain waiting set step =
@@ -104,7 +104,7 @@ module _ {P E : Type 0} (epochs : Epochs) (inner : List ℕ → List ℕ) (parti
     promise-absent told heard heard' node (Err x) nested certs_nested found asks read is goes usual config chain waiting set step =
         quiet_cut config chain waiting reported step refl (λ fault. refl) told told heard heard' nothing_written x (Hears-nothing told)
         (subst (λ cs. HearsFront heard cs heard') (final.asks-absent config chain a f buffer waiting step.lawful step.one step.good step.reported.0 (hand config chain waiting set step None found)) asks)
-        refl refl tt tt (λ y has. nothing_put y has) (λ y has. nothing_put y has) goes (λ p has. nothing_put p has) usual
+        refl refl refl refl tt tt (λ y has. nothing_put y has) (λ y has. nothing_put y has) goes (λ p has. nothing_put p has) usual
 
     module _ (b : Block) (found : found_at_hand inner buffer a.held.blocks.held f.payload ≡ Some b) where
       pub of_block : (config : Config) (chain : Chain) (waiting : Waiting) (set : IsSetTo config a.life.sizes epochs inner) (step : IsLawfulStep config chain (node_of a buffer waiting) (reported ∷ [])) → AreBlocksOf chain (at_own_height b ∷ [])
@@ -118,13 +118,13 @@ module _ {P E : Type 0} (epochs : Epochs) (inner : List ℕ → List ℕ) (parti
       promise-limit config chain waiting set step last = absurd (final.not_last config chain a f buffer waiting step.lawful step.one step.good step.reported.0 b (hand config chain waiting set step (Some b) found) last)
 
       pub promise-unstored : (told told' : Option (List Report)) (heard : Option (List Call)) (x : Ending) → Hears told [] told' → Loses a.held (written_both (at_own_height b) (at_height b.height f)) x → IsUsual x.fault → KeepsPromise epochs inner a (reported ∷ []) buffer (heard_by told heard) (heard_by told' heard) (Err x)
-      promise-unstored told told' heard x silent lost usual config chain waiting set step = quiet_cut config chain waiting reported step refl (λ fault. refl) told told' heard heard (written_both (at_own_height b) (at_height b.height f)) x silent (HearsFront-nothing heard _ heard (Hears-nothing heard)) refl refl (of_block config chain waiting set step) (of_cert config chain waiting set step) (λ y has. hand config chain waiting set step (Some b) found ∙ ap (λ (z : At Block). Some z.value) (only_one (at_own_height b) y has)) (λ y has. ap (λ (z : At Finalization). Some z.value) (only_one (at_height b.height f) y has)) lost (λ p has. nothing_put p has) usual
+      promise-unstored told told' heard x silent lost usual config chain waiting set step = quiet_cut config chain waiting reported step refl (λ fault. refl) told told' heard heard (written_both (at_own_height b) (at_height b.height f)) x silent (HearsFront-nothing heard _ heard (Hears-nothing heard)) refl refl refl refl (of_block config chain waiting set step) (of_cert config chain waiting set step) (λ y has. hand config chain waiting set step (Some b) found ∙ ap (λ (z : At Block). Some z.value) (only_one (at_own_height b) y has)) (λ y has. ap (λ (z : At Finalization). Some z.value) (only_one (at_height b.height f) y has)) lost (λ p has. nothing_put p has) usual
 
       -- no sync of what was put could be started
       pub promise-unstarted : (told told' : Option (List Report)) (heard : Option (List Call)) (x : Ending) → Hears told (tip_reports a.life.tip f b) told' → Loses a.held (written_both (at_own_height b) (at_height b.height f)) x → is_by_value x.fault ≡ false → is_dropped_ack x.fault ≡ false → KeepsPromise epochs inner a (reported ∷ []) buffer (heard_by told heard) (heard_by told' heard) (Err x)
       promise-unstarted told told' heard x tips lost no_value not_dropped config chain waiting set step =
           told_cut config chain waiting reported step refl (λ fault. refl) (tip_reports a.life.tip f b) (tip_after a.life.tip b) (tip_reports-tips a.life.tip f b) (tip_reports-rise a.life.tip f b)
-          (final.tips_told config chain a f buffer waiting step.lawful step.one step.good step.reported.0 b (hand config chain waiting set step (Some b) found)) told told' heard heard (written_both (at_own_height b) (at_height b.height f)) x tips (HearsFront-nothing heard _ heard (Hears-nothing heard)) refl refl
+          (final.tips_told config chain a f buffer waiting step.lawful step.one step.good step.reported.0 b (hand config chain waiting set step (Some b) found)) told told' heard heard (written_both (at_own_height b) (at_height b.height f)) x tips (HearsFront-nothing heard _ heard (Hears-nothing heard)) refl refl refl refl
           (of_block config chain waiting set step) (of_cert config chain waiting set step) (λ y has. hand config chain waiting set step (Some b) found ∙ ap (λ (z : At Block). Some z.value) (only_one (at_own_height b) y has)) (λ y has. ap (λ (z : At Finalization). Some z.value) (only_one (at_height b.height f) y has)) lost (λ p has. nothing_put p has) no_value not_dropped
 
       pub promise-stored : (m new : Seen P E) (told told' : Option (List Report)) (heard : Option (List Call)) → IsNested new.held.blocks → IsNested new.held.certs → AreWritten new.held → nat_lt (height_of a.held.processed) b.height ≡ true → PutsAbove inner a f b m → IsStarted m new → Grew a.held (written_both (at_own_height b) (at_height b.height f)) m.held → Hears told (tip_reports a.life.tip f b) told' → KeepsPromise epochs inner a (reported ∷ []) buffer (heard_by told heard) (heard_by told' heard) (Ok new)

@@ -15,7 +15,7 @@ use Rattle.mar_store.specs.Changes.{IsNested, KeepsValues, left_of}
 use Rattle.mar_store.proofs.Lookups.{AllByRecursion-contains, AllByRecursion-from_contains, AllByRecursion-weaker, Contains-from_value, has_height-from_contains, value-from_has_height, value_at-append}
 use Rattle.mar_node.specs.Metadata.{Pair, pair_of}
 use Rattle.mar_node.specs.Stored.{at_own_height, block_of, is_certified, is_held, values_of}
-use Rattle.mar_node.specs.Cached.{cached_finalization}
+use Rattle.mar_node.specs.Cached.{cached_finalization, unloaded}
 use Rattle.mar_node.specs.Answers.{served_answers, unserved_subscriptions}
 use Rattle.mar_node.specs.Cache.{Witnessing, prunes_by, with_witness, witnessing_of}
 use Rattle.mar_node.specs.Chain.{Chain, Finalizes, IsBlockAt, IsFinal, IsLawful, commitment_at}
@@ -25,7 +25,7 @@ use Rattle.mar_node.specs.Faults.{height_limit, last_height, storing_fault}
 use Rattle.mar_node.specs.Held.{AreWritten, Seen}
 use Rattle.mar_node.specs.Lives.{later_round}
 use Rattle.mar_node.specs.Moves.{IsRead, IsStarted, PutsAbove, RaisesTo, StoresLate, StoresValue, StoresWhere, at_height, lacks_finalization, late_tip, late_tips, tip_after, tip_reports}
-use Rattle.mar_node.specs.Node.{Agrees, AreBlocksOf, AreFinalizationsOf, AreNestedHeights, ConsecutiveFrom, FloorSafe, HasAnchor, IsFinalized, IsGood, Node, OpenSync, Rest, SureOrWritten, at_hand, block_missing, floor_awaited, window_full, write_uncovered}
+use Rattle.mar_node.specs.Node.{Agrees, AreBlocksOf, AreFinalizationsOf, AreNestedHeights, ConsecutiveFrom, FloorSafe, HasAnchor, IsCacheOf, IsFinalized, IsGood, Node, OpenSync, Rest, SureOrWritten, at_hand, block_missing, floor_awaited, window_full, write_uncovered}
 use Rattle.mar_writes.specs.Writing.{total_writes}
 use Rattle.mar_node.specs.Promise.{AreOne, Waiting, node_of}
 use Rattle.mar_node.specs.Requests.{own_asks, raise_asks, reported_asks, want_asks}
@@ -283,13 +283,16 @@ module _ {P E : Type 0} (config : Config) (chain : Chain) (a : Seen P E) (f : Fi
       are_tips = tt;
       tips_rise = refl;
       tips_chain = tt;
+      cache = refl;
+      lowest = refl;
+      lowests = refl;
       witnessed = sym (witnessed_by [] met);
       stored = subst (λ s. IfSome s (IsStored n)) (sym stores) tt;
       stored_late = subst (λ s. IfSome s (IsStoredLate n no_floor n)) (sym stores) tt;
       no_query = refl;
       no_fault = ap (λ s. storing_fault n s no_floor) stores;
       sends = refl;
-      answers = ap (λ xs. xs ++ []) (serves_none (at_hand n f.payload));
+      answers = λ lowest. ap (λ xs. xs ++ []) (serves_none (at_hand n f.payload));
       subscriptions = ap (λ xs. xs ++ []) (leaves_none (at_hand n f.payload));
       certified = λ tip. refl;
       no_syncs = λ n'. refl;
@@ -355,8 +358,8 @@ module _ {P E : Type 0} (config : Config) (chain : Chain) (a : Seen P E) (f : Fi
     -- MORE IS HELD
 
     -- the node stays good as more is held and sure, with the same blocks outstanding
-    IsGood-grown : (m : Seen P E) → AreNestedHeights m.held.blocks → AreNestedHeights m.held.certs → m.life.out ≡ a.life.out → m.held.processed ≡ a.held.processed → m.held.pairs ≡ pair_of m.held.processed m.held.cutoff ∷ [] → SureOrWritten m.held.blocks m.held.writes.uncovered → SureOrWritten m.held.certs m.held.writes.uncovered → (0 < length m.held.writes.uncovered → Contains (map (λ s. s.position) m.held.writes.syncs) (total_writes m.held.writes)) → KeepsHeightsFrom 0 a.held.blocks.sure m.held.blocks.sure → AreBlocksOf chain m.held.blocks.held → AreBlocksOf chain m.held.blocks.may → AreFinalizationsOf chain m.held.certs.held → AreFinalizationsOf chain m.held.certs.may → FloorSafe (option_map height_in a.held.processed) m.held.cutoff m.held.blocks.sure chain → AllByRecursion (λ x. x.height ≤ m.life.tip) m.held.certs.held → IsGood config chain (node_of m buffer waiting)
-    IsGood-grown m nested_blocks nested_certs out processed own sure_blocks sure_certs sync_open stays held_blocks may_blocks held_certs may_certs safe below_tip = record {
+    IsGood-grown : (m : Seen P E) → AreNestedHeights m.held.blocks → AreNestedHeights m.held.certs → m.life.out ≡ a.life.out → m.held.processed ≡ a.held.processed → m.held.cache ≡ a.held.cache → m.held.pairs ≡ pair_of m.held.processed m.held.cutoff ∷ [] → SureOrWritten m.held.blocks m.held.writes.uncovered → SureOrWritten m.held.certs m.held.writes.uncovered → (0 < length m.held.writes.uncovered → Contains (map (λ s. s.position) m.held.writes.syncs) (total_writes m.held.writes)) → KeepsHeightsFrom 0 a.held.blocks.sure m.held.blocks.sure → AreBlocksOf chain m.held.blocks.held → AreBlocksOf chain m.held.blocks.may → AreFinalizationsOf chain m.held.certs.held → AreFinalizationsOf chain m.held.certs.may → FloorSafe (option_map height_in a.held.processed) m.held.cutoff m.held.blocks.sure chain → AllByRecursion (λ x. x.height ≤ m.life.tip) m.held.certs.held → IsGood config chain (node_of m buffer waiting)
+    IsGood-grown m nested_blocks nested_certs out processed cache own sure_blocks sure_certs sync_open stays held_blocks may_blocks held_certs may_certs safe below_tip = record {
       heights = record {
         stores = record {
           nested_blocks = nested_blocks;
@@ -381,7 +384,7 @@ module _ {P E : Type 0} (config : Config) (chain : Chain) (a : Seen P E) (f : Fi
           held_certs = held_certs;
           may_certs = may_certs;
         };
-        cache = record { finalizations = tt; blocks = tt };
+        cache = subst (λ c. IsCacheOf chain (unloaded c)) (sym cache) good.of_chain.cache;
         asks = record { requests = good.of_chain.asks.requests; ready = tt; overflow = tt };
         awaits = tt;
         not_at_hand = tt;
@@ -448,7 +451,7 @@ module _ {P E : Type 0} (config : Config) (chain : Chain) (a : Seen P E) (f : Fi
     -- once its sync is started, the node is good
     pub IsGood-stored : (b : Block) (m new : Seen P E) → IsNested new.held.blocks → IsNested new.held.certs → AreWritten new.held → at_hand n f.payload ≡ Some b → PutsAbove config.inner a f b m → IsStarted m new → IsGood config chain (node_of new buffer waiting)
     IsGood-stored b m new blocks_nested certs_nested written is puts started =
-        IsGood-grown new (nested_heights new.held.blocks blocks_nested) (nested_heights new.held.certs certs_nested) (ap (λ s. s.life.out) started ∙ ap (λ s. s.life.out) puts.same) processed own written.blocks written.certs sync_open stays
+        IsGood-grown new (nested_heights new.held.blocks blocks_nested) (nested_heights new.held.certs certs_nested) (ap (λ s. s.life.out) started ∙ ap (λ s. s.life.out) puts.same) processed (ap (λ s. s.held.cache) started ∙ ap (λ s. s.held.cache) puts.same) own written.blocks written.certs sync_open stays
         (subst (λ k. AreBlocksOf chain k.held) (sym blocks) (all_held (λ x. IsBlockAt chain x.height x.value) _ _ _ _ puts.blocks.held good.of_chain.stores.held_blocks (block-final b is).1))
         (subst (λ k. AreBlocksOf chain k.may) (sym blocks) (all_may (λ x. IsBlockAt chain x.height x.value) _ _ _ _ puts.blocks good.of_chain.stores.may_blocks (block-final b is).1))
         (subst (λ k. AreFinalizationsOf chain k.held) (sym certs) (all_held (λ x. Finalizes chain x.height x.value.round x.value.payload) _ _ _ _ puts.certs.held good.of_chain.stores.held_certs (finalizes b is)))
@@ -520,13 +523,16 @@ module _ {P E : Type 0} (config : Config) (chain : Chain) (a : Seen P E) (f : Fi
       are_tips = tip_reports-tips a.life.tip f b;
       tips_rise = subst (TipsFrom a.life.tip (tip_reports a.life.tip f b)) (sym (ap (λ s. s.life.tip) puts.same)) (tip_reports-rise a.life.tip f b);
       tips_chain = tip_reports-chain chain a.life.tip f b (block-final b is).0 (block-final b is).1;
+      cache = ap (λ s. s.held.cache) puts.same;
+      lowest = ap (λ s. s.held.lowest) puts.same;
+      lowests = ap (λ s. s.held.lowests) puts.same;
       witnessed = ap (λ s. s.held.witnessed) puts.same ∙ sym (witnessed_by [] met);
       stored = subst (λ s. IfSome s (IsStored (node_of m buffer waiting))) (sym storing) stored;
       stored_late = subst (λ s. IfSome s (IsStoredLate n no_floor (node_of m buffer waiting))) (sym storing) (λ with low held. absurd (let high : height_of a.held.processed < b.height = above_from (height_of a.held.processed) b.height above in omega arith));
       no_query = refl;
       no_fault = ap (λ s. storing_fault n s no_floor) storing ∙ ap (λ (c : Bool). if c then Some (height_limit b.height) else None) (no_limit (nat_lt (height_of a.held.processed) b.height) b.height (not_last b is));
       sends = refl;
-      answers = ap (λ xs. xs ++ []) (serves_none (at_hand n f.payload));
+      answers = λ lowest. ap (λ xs. xs ++ []) (serves_none (at_hand n f.payload));
       subscriptions = ap (λ xs. xs ++ []) (leaves_none (at_hand n f.payload));
       certified = λ tip. refl;
       no_syncs = λ n'. refl;
@@ -588,7 +594,7 @@ module _ {P E : Type 0} (config : Config) (chain : Chain) (a : Seen P E) (f : Fi
     -- the node that it leaves is good, where the tip reaches what was put
     IsGood-late : IsPartition config.epochs → (b : Block) (m : Seen P E) → Grown a.held.certs (at_height b.height f ∷ []) m.held.certs → at_hand n f.payload ≡ Some b → IsFalse (nat_lt (height_of a.held.processed) b.height) → a.life.tip ≤ m.life.tip → (IsTrue (lacks_finalization a.held b) → b.height ≤ m.life.tip) → IsNoted m → PutsLate b m.held.certs → IsGood config chain (node_of m buffer waiting)
     IsGood-late partition b m grown is low rises below_tip same certs =
-        IsGood-grown m (subst AreNestedHeights (sym blocks) good.heights.stores.nested_blocks) (nested_due _ _ _ _ _ _ certs grown good.heights.stores.nested_certs) (ap (λ s. s.life.out) same) (ap (λ s. s.held.processed) same) own
+        IsGood-grown m (subst AreNestedHeights (sym blocks) good.heights.stores.nested_blocks) (nested_due _ _ _ _ _ _ certs grown good.heights.stores.nested_certs) (ap (λ s. s.life.out) same) (ap (λ s. s.held.processed) same) (ap (λ s. s.held.cache) same) own
         (subst (λ k. SureOrWritten k m.held.writes.uncovered) (sym blocks) (subst (λ w. SureOrWritten a.held.blocks w.uncovered) (sym writes) good.heights.stores.sure_blocks))
         (sure_due _ _ _ _ _ m.held.writes.uncovered certs (subst (λ w. SureOrWritten a.held.certs w.uncovered) (sym writes) good.heights.stores.sure_certs))
         (subst (λ w. 0 < length w.uncovered → Contains (map (λ s. s.position) w.syncs) (total_writes w)) (sym writes) good.heights.sync_open)
@@ -635,13 +641,16 @@ module _ {P E : Type 0} (config : Config) (chain : Chain) (a : Seen P E) (f : Fi
       are_tips = only;
       tips_rise = rise;
       tips_chain = of_chain;
+      cache = ap (λ s. s.held.cache) same;
+      lowest = ap (λ s. s.held.lowest) same;
+      lowests = ap (λ s. s.held.lowests) same;
       witnessed = ap (λ s. s.held.witnessed) same ∙ (last_witnessed config.retention a.held.witnessed f.round ∙ sym (witnessed_by (f.round ∷ []) met));
       stored = subst (λ s. IfSome s (IsStored (node_of m buffer waiting))) (sym storing) stored;
       stored_late = subst (λ s. IfSome s (IsStoredLate n no_floor (node_of m buffer waiting))) (sym storing) (λ with at_most has. due_height _ (has_height a.held.blocks.held b.height) a.held.certs (at_height b.height f) m.held.certs (λ ignored. cert_there b is ignored) certs has);
       no_query = refl;
       no_fault = ap (λ s. storing_fault n s no_floor) storing ∙ ap (λ (c : Bool). if c && b.height == last_height then Some (height_limit b.height) else None) low;
       sends = refl;
-      answers = ap (λ xs. xs ++ []) (serves_none (at_hand n f.payload));
+      answers = λ lowest. ap (λ xs. xs ++ []) (serves_none (at_hand n f.payload));
       subscriptions = ap (λ xs. xs ++ []) (leaves_none (at_hand n f.payload));
       certified = λ tip. refl;
       no_syncs = λ n'. refl;

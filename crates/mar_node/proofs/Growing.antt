@@ -1,5 +1,5 @@
 -- What calls one after another leave, since some start: what was sure and held, and no more than was written.
-use Rattle.std.proofs.Common.{◌≡◌, ⊎_elim, ℕ, ◌<◌, ◌≤◌, Option, Some, List, [], ◌∷◌, ◌++◌, Bool, true, false, Contains, refl, sym, subst, arith, append-nil}
+use Rattle.std.proofs.Common.{◌≡◌, inl, map, ⊎_elim, ℕ, ◌<◌, ◌≤◌, Option, Some, List, [], ◌∷◌, ◌++◌, Bool, true, false, Contains, refl, sym, subst, arith, append-nil}
 use Rattle.std.proofs.lemmas.List.Elements.{Contains-append_cases, Contains-append_left, Contains-append_right}
 use Rattle.mar_types.specs.Round.{Round}
 use Rattle.mar_key.specs.Cutoff.{Cutoff}
@@ -10,9 +10,10 @@ use Rattle.mar_store.specs.Kept.{At, Kept, value_at}
 use Rattle.mar_store.specs.Changes.{Fails, Finishes, IsNested, Left, Puts, Syncs, Within, left_of}
 use Rattle.mar_store.specs.Watch.{Watch}
 use Rattle.mar_store.proofs.Lookups.{Contains-from_value}
+use Rattle.mar_node.specs.Cached.{Cached}
 use Rattle.mar_node.specs.Metadata.{Pair}
 use Rattle.mar_node.specs.Faults.{StoreName, block_store, cert_store, meta_store}
-use Rattle.mar_node.specs.Held.{ArePassed, Grew, Held, LeavesPairsSince, LeavesStore, MakesSure, Passes, WithinWritten, Written, nothing_written, watch_of, written_block, written_both, written_cert, written_pair}
+use Rattle.mar_node.specs.Held.{ArePassed, Grew, Held, LeavesCache, LeavesPairsSince, LeavesStore, MakesSure, Passes, WithinWritten, Written, nothing_written, watch_of, written_block, written_both, written_cert, written_pair}
 use Rattle.mar_writes.specs.Writing.{Writing}
 use Rattle.mar_node.proofs.Passing.{ArePassed-refl, ArePassed-store, ArePassed-then, with_watch}
 
@@ -88,13 +89,24 @@ LeavesStore-then start put now left grown leaves = record {
 pub LeavesPairsSince-refl : (start written : List Pair) → LeavesPairsSince start written start
 LeavesPairsSince-refl start written = record { first = refl; kept = λ p has. has; within = λ p has. Contains-append_left start written p has }
 
+pub LeavesCache-refl : (cache : Left Cached) (lowests : List ℕ) (put : List Cached) (prunes : List Round) → LeavesCache cache lowests put prunes cache lowests
+LeavesCache-refl cache lowests put prunes = record {
+  sure = λ x has. inl has;
+  may = λ x has. Contains-append_left cache.may put x has;
+  lowest = λ k has. Contains-append_left lowests (map (λ p. p.epoch) prunes) k has;
+}
+
+-- where nothing was put in the cache, nor pruned
+pub LeavesCache-unwritten : (start : Left Cached) (started : List ℕ) (put : List Cached) (prunes : List Round) (left : Left Cached) (lowests : List ℕ) → put ≡ [] → prunes ≡ [] → LeavesCache start started put prunes left lowests → LeavesCache start started [] [] left lowests
+LeavesCache-unwritten start started put prunes left lowests none_put none_pruned leaves = subst (λ xs. LeavesCache start started xs [] left lowests) none_put (subst (λ ps. LeavesCache start started put ps left lowests) none_pruned leaves)
+
 pub Grew-refl : (old : Held) (written : Written) → IsNested old.blocks → IsNested old.certs → Grew old written old
 Grew-refl old written blocks certs = record {
   leaves = record {
     blocks = LeavesStore-refl old.blocks written.blocks_from written.blocks blocks;
     certs = LeavesStore-refl old.certs written.certs_from written.certs certs;
     pairs = LeavesPairsSince-refl old.pairs written.pairs;
-    no_cache = refl;
+    cache = LeavesCache-refl old.cache old.lowests written.cached written.prunes;
   };
   blocks = λ x low has. has;
   certs = λ x low has. has;
@@ -107,13 +119,13 @@ module _ (start : Held) (all : Written) (old : Held) (grew : Grew start all old)
   Grew-passed new same passed = subst (Grew start all) (sym same) (record { leaves = grew.leaves; blocks = grew.blocks; certs = grew.certs; passed = ArePassed-then start.watches old.watches new.watches grew.passed passed })
 
   -- what is in memory alone changed
-  pub Grew-beside : (new : Held) → new.blocks ≡ old.blocks → new.certs ≡ old.certs → new.pairs ≡ old.pairs → ArePassed old.watches new.watches → Grew start all new
-  Grew-beside new blocks certs pairs passed = record {
+  pub Grew-beside : (new : Held) → new.blocks ≡ old.blocks → new.certs ≡ old.certs → new.pairs ≡ old.pairs → new.cache ≡ old.cache → new.lowests ≡ old.lowests → ArePassed old.watches new.watches → Grew start all new
+  Grew-beside new blocks certs pairs cache lowests passed = record {
     leaves = record {
       blocks = subst (λ k. LeavesStore start.blocks all.blocks_from all.blocks (left_of k)) (sym blocks) grew.leaves.blocks;
       certs = subst (λ k. LeavesStore start.certs all.certs_from all.certs (left_of k)) (sym certs) grew.leaves.certs;
       pairs = subst (LeavesPairsSince start.pairs all.pairs) (sym pairs) grew.leaves.pairs;
-      no_cache = refl;
+      cache = subst (λ k. LeavesCache start.cache start.lowests all.cached all.prunes k new.lowests) (sym cache) (subst (LeavesCache start.cache start.lowests all.cached all.prunes old.cache) (sym lowests) grew.leaves.cache);
     };
     blocks = λ x low has. subst (λ k. Contains k.held x) (sym blocks) (grew.blocks x low has);
     certs = λ x low has. subst (λ k. Contains k.held x) (sym certs) (grew.certs x low has);
@@ -130,7 +142,7 @@ module _ (start : Held) (all : Written) (old : Held) (grew : Grew start all old)
 
   -- the metadata's values were set in memory
   pub Grew-set : (processed : Option Processed) (cutoff : Cutoff) (witnessed : Round) (pairs : List Pair) (w : Watch) → pairs ≡ old.pairs → Passes old.watches.meta w → Grew start all (record old { processed = processed; cutoff = cutoff; witnessed = witnessed; pairs = pairs; watches = record old.watches { meta = w } })
-  Grew-set processed cutoff witnessed pairs w same passes = Grew-beside (record old { processed = processed; cutoff = cutoff; witnessed = witnessed; pairs = pairs; watches = record old.watches { meta = w } }) refl refl same (ArePassed-store old.watches meta_store w passes)
+  Grew-set processed cutoff witnessed pairs w same passes = Grew-beside (record old { processed = processed; cutoff = cutoff; witnessed = witnessed; pairs = pairs; watches = record old.watches { meta = w } }) refl refl same refl refl (ArePassed-store old.watches meta_store w passes)
 
   pub Grew-put_block : (ignored : Bool) (x : At Block) (blocks : Kept (At Block)) (w : Watch) → Within (x ∷ []) all.blocks → Puts ignored old.blocks x blocks → Passes old.watches.blocks w → Grew start all (record old { blocks = blocks; watches = record old.watches { blocks = w } })
   Grew-put_block ignored x blocks w within puts passes = record {
@@ -138,7 +150,7 @@ module _ (start : Held) (all : Written) (old : Held) (grew : Grew start all old)
       blocks = LeavesStore-put start.blocks all.blocks_from all.blocks ignored old.blocks x blocks grew.leaves.blocks within puts;
       certs = grew.leaves.certs;
       pairs = grew.leaves.pairs;
-      no_cache = refl;
+      cache = grew.leaves.cache;
     };
     blocks = λ y low has. held_put ignored old.blocks x blocks puts y (grew.blocks y low has);
     certs = grew.certs;
@@ -151,7 +163,7 @@ module _ (start : Held) (all : Written) (old : Held) (grew : Grew start all old)
       blocks = grew.leaves.blocks;
       certs = LeavesStore-put start.certs all.certs_from all.certs ignored old.certs x certs grew.leaves.certs within puts;
       pairs = grew.leaves.pairs;
-      no_cache = refl;
+      cache = grew.leaves.cache;
     };
     blocks = grew.blocks;
     certs = λ y low has. held_put ignored old.certs x certs puts y (grew.certs y low has);
@@ -164,7 +176,7 @@ module _ (start : Held) (all : Written) (old : Held) (grew : Grew start all old)
       blocks = LeavesStore-surer start.blocks all.blocks_from all.blocks old.blocks blocks grew.leaves.blocks grew.blocks nested surer;
       certs = grew.leaves.certs;
       pairs = grew.leaves.pairs;
-      no_cache = refl;
+      cache = grew.leaves.cache;
     };
     blocks = λ y low has. subst (λ xs. Contains xs y) (sym surer.held) (grew.blocks y low has);
     certs = grew.certs;
@@ -177,7 +189,7 @@ module _ (start : Held) (all : Written) (old : Held) (grew : Grew start all old)
       blocks = grew.leaves.blocks;
       certs = LeavesStore-surer start.certs all.certs_from all.certs old.certs certs grew.leaves.certs grew.certs nested surer;
       pairs = grew.leaves.pairs;
-      no_cache = refl;
+      cache = grew.leaves.cache;
     };
     blocks = grew.blocks;
     certs = λ y low has. subst (λ xs. Contains xs y) (sym surer.held) (grew.certs y low has);
@@ -197,23 +209,23 @@ Grown-certs start now written none grew = record { leaves = subst (λ k. LeavesS
 
 -- all that this wrote is written
 pub WithinWritten-refl : (w : Written) → WithinWritten w w
-WithinWritten-refl w = record { blocks = λ x has. has; certs = λ x has. has; pairs = λ x has. has; blocks_from = omega arith; certs_from = omega arith }
+WithinWritten-refl w = record { blocks = λ x has. has; certs = λ x has. has; cached = λ x has. has; prunes = λ x has. has; pairs = λ x has. has; blocks_from = omega arith; certs_from = omega arith }
 
 pub WithinWritten-nothing : (w : Written) → WithinWritten nothing_written w
-WithinWritten-nothing w = record { blocks = Within-none w.blocks; certs = Within-none w.certs; pairs = Within-none w.pairs; blocks_from = omega arith; certs_from = omega arith }
+WithinWritten-nothing w = record { blocks = Within-none w.blocks; certs = Within-none w.certs; cached = Within-none w.cached; prunes = Within-none w.prunes; pairs = Within-none w.pairs; blocks_from = omega arith; certs_from = omega arith }
   where
     Within-none : {T : Type 0} (xs : List T) → Within [] xs
     Within-none xs x has = absurd (let lt : has.0 < 0 = has.1 in omega arith)
 
 pub WithinWritten-block : (x : At Block) (y : At Finalization) (all : Written) → WithinWritten (written_both x y) all → WithinWritten (written_block x) all
-WithinWritten-block x y all within = let none = WithinWritten-nothing all in record { blocks = within.blocks; certs = none.certs; pairs = none.pairs; blocks_from = none.blocks_from; certs_from = none.certs_from }
+WithinWritten-block x y all within = let none = WithinWritten-nothing all in record { blocks = within.blocks; certs = none.certs; cached = none.cached; prunes = none.prunes; pairs = none.pairs; blocks_from = none.blocks_from; certs_from = none.certs_from }
 
 pub WithinWritten-cert : (x : At Block) (y : At Finalization) (all : Written) → WithinWritten (written_both x y) all → WithinWritten (written_cert y) all
-WithinWritten-cert x y all within = let none = WithinWritten-nothing all in record { blocks = none.blocks; certs = within.certs; pairs = none.pairs; blocks_from = none.blocks_from; certs_from = none.certs_from }
+WithinWritten-cert x y all within = let none = WithinWritten-nothing all in record { blocks = none.blocks; certs = within.certs; cached = none.cached; prunes = none.prunes; pairs = none.pairs; blocks_from = none.blocks_from; certs_from = none.certs_from }
 
 -- the pair joins what is written
 pub WithinWritten-pair : (p : Pair) (all : Written) → WithinWritten (written_pair p) (record all { pairs = p ∷ all.pairs })
-WithinWritten-pair p all = let none = WithinWritten-nothing all in record { blocks = none.blocks; certs = none.certs; pairs = Contains-append_left (p ∷ []) all.pairs; blocks_from = none.blocks_from; certs_from = none.certs_from }
+WithinWritten-pair p all = let none = WithinWritten-nothing all in record { blocks = none.blocks; certs = none.certs; cached = none.cached; prunes = none.prunes; pairs = Contains-append_left (p ∷ []) all.pairs; blocks_from = none.blocks_from; certs_from = none.certs_from }
 
 pub Grew-wider : (start : Held) (all : Written) (p : Pair) (now : Held) → Grew start all now → Grew start (record all { pairs = p ∷ all.pairs }) now
 Grew-wider start all p now grew = record {
@@ -221,7 +233,7 @@ Grew-wider start all p now grew = record {
     blocks = grew.leaves.blocks;
     certs = grew.leaves.certs;
     pairs = record { first = grew.leaves.pairs.first; kept = grew.leaves.pairs.kept; within = λ q has. ⊎_elim (λ before. Contains-append_left start.pairs (p ∷ all.pairs) q before) (λ new. Contains-append_right start.pairs (p ∷ all.pairs) q (Contains-append_right (p ∷ []) all.pairs q new)) (Contains-append_cases start.pairs all.pairs q (grew.leaves.pairs.within q has)) };
-    no_cache = grew.leaves.no_cache;
+    cache = grew.leaves.cache;
   };
   blocks = grew.blocks;
   certs = grew.certs;

@@ -1,6 +1,7 @@
 pub use Rattle.mar_writes.proofs.Pools
 pub mod OutstandingLemmas
 pub mod FloorSafety
+pub mod Filtered
 pub mod Soundness
 pub mod Openings
 pub mod PairsAfter
@@ -27,7 +28,9 @@ pub mod FinalizationEvent
 pub mod Promises
 pub mod Heard
 pub mod EventPromises
+pub mod Idle
 pub mod Queries
+pub mod Sending
 pub mod ProgressPromises
 pub mod Lasting
 pub mod Reopenings
@@ -39,3 +42,4 @@ pub mod Pairs
 pub mod GoodOpenings
 pub mod Permitted
 pub mod Outcomes
+pub mod Looking

@@ -14,6 +14,7 @@ use Rattle.mar_store.specs.Changes.{KeepsValues}
 use Rattle.mar_store.proofs.Lookups.{AllByRecursion-append, AllByRecursion-contains, AllByRecursion-from_contains, AllByRecursion-within, EachHeightOnce-push, missing-from_has_height, value_at-append, value_at-from_contains, value_at-one_other}
 use Rattle.mar_node.specs.Stored.{at_own_height, block_of, is_held}
 use Rattle.mar_node.specs.Metadata.{Pair, pair_of}
+use Rattle.mar_node.specs.Cached.{cached_block, cached_finalization, unloaded}
 use Rattle.mar_node.specs.Chain.{Chain, Finalizes, IsBlockAt}
 use Rattle.mar_node.specs.Config.{Config}
 use Rattle.mar_node.specs.Faults.{Begin, Fault, anchor_fault, from_genesis, genesis_fault, genesis_height, is_by_value, next_after, opening_fault, stored_mismatch, successor_fault, unbacked, with_genesis}
@@ -21,13 +22,14 @@ use Rattle.mar_node.specs.Held.{Ending, Grew, Held, IsEndedBy, IsUsual, Loses, L
 use Rattle.mar_node.specs.Lives.{BackedBy, CutsReopening, Finds, IsGoodEnded, IsSettled, OpeningPair, SameAt, opened_cutoff, opened_node, opened_witnessed, processed_at}
 use Rattle.mar_node.specs.Moves.{StoresValue, newest_tip}
 use Rattle.mar_node.specs.Stored.{newest}
-use Rattle.mar_node.specs.Node.{AreBlocksOf, AreCachedOf, BlocksAgree, Ended, FloorSafe, IsGood, IsGoodInHeights, Node, empty_inbox, empty_peers}
+use Rattle.mar_node.specs.Node.{Agrees, AreBlocksOf, Ended, FloorSafe, IsFinalized, IsGood, IsGoodInHeights, Node, empty_inbox, empty_peers}
 use Rattle.mar_writes.specs.Writing.{Writing, no_writes}
 use Rattle.mar_node.specs.Opening.{BeginsWith, Derives, Enters, IsBeginFault, derived_cutoff, derived_pair, is_begun, next_fault, pair_in}
 use Rattle.mar_node.specs.Step.{nothing_made}
 use Rattle.mar_node.specs.Promise.{Begins, IsLawfulOpening, IsOpeningFault, node_of, none_waiting}
 use Rattle.mar_node.specs.Sound.{IsSafePair, IsSound}
 use Rattle.mar_node.proofs.Cutting.{keeps_heights, never, only_one, usual_not_by_value}
+use Rattle.mar_node.proofs.Filtered.{all_found_within}
 use Rattle.mar_node.proofs.Openings.{IsGoodInHeights-opened, IsSound-opened, processed_at-height}
 use Rattle.mar_node.proofs.Passing.{FailsBy-then}
 use Rattle.mar_node.proofs.Reopenings.{LosesOpening-then}
@@ -219,10 +221,7 @@ module _ (old : Remains) (luck : ℕ) (first : Held) (reopens : ReopensAs old lu
         settled = settled_by s.blocks zero_is (is_begun processed first.blocks.held) begins.enters entered grew.leaves.blocks.sure_may
 
         abbrev opened : Node
-        opened = opened_node config s.blocks first.certs.held [] 0 [] (pair_in first)
-
-        no_entry : {T X : Type 0} (xs : List X) (x : X) → xs ≡ [] → Contains xs x → T
-        no_entry xs x is has = absurd (let empty = subst (λ ys. Contains ys x) is has in let lt : empty.0 < 0 = empty.1 in omega arith)
+        opened = opened_node config s.blocks first.certs.held first.cache first.lowest first.lowests (pair_in first)
 
         Finds-opened : Finds config old.ended (picks_of old luck) begin opened
         Finds-opened = record {
@@ -233,12 +232,12 @@ module _ (old : Remains) (luck : ℕ) (first : Held) (reopens : ReopensAs old lu
           certs = first.certs.held;
           certs_may = certs_may;
           picked = record { blocks_are = reopens.picked.blocks_are; certs_are = reopens.picked.certs_are; pair_is = subst (λ p. IfSome (picks_of old luck).pair (λ picked. Some p ≡ picked)) (sym found_pair) reopens.picked.pair_is };
-          cache = [];
-          cache_may = record { with_sure = λ x has. no_entry old.ended.cache_sure x (ap (λ l. l.cache_sure) reopens.no_cache) has; within_may = λ x has. no_entry [] x refl has; once = tt };
-          lowest = 0;
-          lowests = [];
-          lowests_were = λ k has. no_entry [] k refl has;
-          lowest_was = (zero, omega arith, refl);
+          cache = first.cache;
+          cache_may = reopens.cache;
+          lowest = first.lowest;
+          lowests = first.lowests;
+          lowests_were = reopens.lowests;
+          lowest_was = reopens.lowest;
           blocks = s.blocks;
           settled = settled;
           entered = entered;
@@ -263,8 +262,11 @@ module _ (old : Remains) (luck : ℕ) (first : Held) (reopens : ReopensAs old lu
           life = first_life provider epocher sizes
 
           -- a node of these values
-          abbrev of_values : Option Processed → Cutoff → List Pair → Round → Kept (At Finalization) → ℕ → Writing → Node
-          of_values p c pairs witnessed certs k w = record opened {
+          abbrev of_values : Held → Option Processed → Cutoff → List Pair → Round → Kept (At Finalization) → ℕ → Writing → Node
+          of_values h p c pairs witnessed certs k w = record opened {
+            cache = unloaded h.cache;
+            lowest = h.lowest;
+            lowests = h.lowests;
             processed = p;
             cutoff = c;
             meta = pairs;
@@ -278,9 +280,9 @@ module _ (old : Remains) (luck : ℕ) (first : Held) (reopens : ReopensAs old lu
             next_sync = w.next_sync;
           }
 
-          same_values : (p p' : Option Processed) (c c' : Cutoff) (m m' : List Pair) (w w' : Round) (f f' : Kept (At Finalization)) (k k' : ℕ) (ws ws' : Writing) → p ≡ p' → c ≡ c' → m ≡ m' → w ≡ w' → f ≡ f' → k ≡ k' → ws ≡ ws' → of_values p c m w f k ws ≡ of_values p' c' m' w' f' k' ws'
-          same_values p p' c c' m m' w w' f f' k k' ws ws' ep ec em ew ef ek es =
-              ap (λ x. of_values x c m w f k ws) ep ∙ (ap (λ x. of_values p' x m w f k ws) ec ∙ (ap (λ x. of_values p' c' x w f k ws) em ∙ (ap (λ x. of_values p' c' m' x f k ws) ew ∙ (ap (λ x. of_values p' c' m' w' x k ws) ef ∙ (ap (λ x. of_values p' c' m' w' f' x ws) ek ∙ ap (λ x. of_values p' c' m' w' f' k' x) es)))))
+          same_values : (h h' : Held) (p p' : Option Processed) (c c' : Cutoff) (m m' : List Pair) (w w' : Round) (f f' : Kept (At Finalization)) (k k' : ℕ) (ws ws' : Writing) → h ≡ h' → p ≡ p' → c ≡ c' → m ≡ m' → w ≡ w' → f ≡ f' → k ≡ k' → ws ≡ ws' → of_values h p c m w f k ws ≡ of_values h' p' c' m' w' f' k' ws'
+          same_values h h' p p' c c' m m' w w' f f' k k' ws ws' eh ep ec em ew ef ek es =
+              ap (λ x. of_values x p c m w f k ws) eh ∙ (ap (λ x. of_values h' x c m w f k ws) ep ∙ (ap (λ x. of_values h' p' x m w f k ws) ec ∙ (ap (λ x. of_values h' p' c' x w f k ws) em ∙ (ap (λ x. of_values h' p' c' m' x f k ws) ew ∙ (ap (λ x. of_values h' p' c' m' w' x k ws) ef ∙ (ap (λ x. of_values h' p' c' m' w' f' x ws) ek ∙ ap (λ x. of_values h' p' c' m' w' f' k' x) es))))))
 
           writes_are : s.writes ≡ no_writes
           writes_are = ap (λ x. x.writes) begins.same ∙ reopens.writes
@@ -291,8 +293,8 @@ module _ (old : Remains) (luck : ℕ) (first : Held) (reopens : ReopensAs old lu
           begins_is : node_of (record { held = new; life = life }) [] none_waiting ≡ opened
           begins_is =
               ap (λ h. node_of (record { held = h; life = life }) [] none_waiting) derives.same
-              ∙ same_values s.processed _ (derived_cutoff config.epochs s) _ (derived_pair config.epochs s ∷ []) _ (opened_witnessed s.blocks.held s.certs.held (pair_in s)) _ s.certs _ sizes.capacity _ s.writes _
-              processed_is cutoff_is (ap (λ p. p ∷ []) derived_is) witnessed_is (certs_same ∙ first_certs) (sym capacity) writes_are
+              ∙ same_values s _ s.processed _ (derived_cutoff config.epochs s) _ (derived_pair config.epochs s ∷ []) _ (opened_witnessed s.blocks.held s.certs.held (pair_in s)) _ s.certs _ sizes.capacity _ s.writes _
+              begins.same processed_is cutoff_is (ap (λ p. p ∷ []) derived_is) witnessed_is (certs_same ∙ first_certs) (sym capacity) writes_are
 
           pub Finds-begun : Finds config old.ended (picks_of old luck) begin (node_of (record { held = new; life = life }) [] none_waiting)
           Finds-begun = subst (Finds config old.ended (picks_of old luck) begin) (sym begins_is) Finds-opened
@@ -347,15 +349,6 @@ module _ (config : Config) (chain : Chain) (old : Remains) (luck : ℕ) (begin :
     abbrev left : Ended
     left = e.remains.ended
 
-    no_cached : left.cache_may ≡ []
-    no_cached = ap (λ l. l.cache_may) lost.no_cache
-
-    no_lowests : left.lowests ≡ []
-    no_lowests = ap (λ l. l.lowests) lost.no_cache
-
-    had_none : old.ended.cache_sure ≡ []
-    had_none = ap (λ l. l.cache_sure) lost.had_no_cache
-
     safe_old : (p : Pair) → Contains old.ended.meta p → IsSafePair chain left.blocks_sure p
     safe_old p has = safe_left chain old.ended.blocks_sure left.blocks_sure p lost.blocks.sure (record {
       backed = AllByRecursion-contains (λ q. BackedBy old.ended.blocks_sure q.processed) old.ended.meta p asks.good.backed has;
@@ -372,8 +365,8 @@ module _ (config : Config) (chain : Chain) (old : Remains) (luck : ℕ) (begin :
     good_left = record {
       may_blocks = AllByRecursion-within (λ x. IsBlockAt chain x.height x.value) left.blocks_may (old.ended.blocks_may ++ written.blocks) lost.blocks.may (AllByRecursion-append (λ x. IsBlockAt chain x.height x.value) old.ended.blocks_may written.blocks asks.good.may_blocks of_chain);
       may_certs = AllByRecursion-within (λ x. Finalizes chain x.height x.value.round x.value.payload) left.certs_may old.ended.certs_may certs_within asks.good.may_certs;
-      may_cached = subst (λ xs. AreCachedOf chain xs) (sym no_cached) tt;
-      may_cached_blocks = subst (λ xs. BlocksAgree chain xs) (sym no_cached) tt;
+      may_cached = all_found_within cached_finalization (λ f. IsFinalized chain f.round f.payload) left.cache_may old.ended.cache_may lost.cache.may asks.good.may_cached;
+      may_cached_blocks = all_found_within cached_block (Agrees chain) left.cache_may old.ended.cache_may lost.cache.may asks.good.may_cached_blocks;
       backed = AllByRecursion-from_contains (λ p. BackedBy left.blocks_sure p.processed) left.meta (λ p has. (safe p has).backed);
       floor_safe = AllByRecursion-from_contains (λ p. FloorSafe p.processed p.cutoff left.blocks_sure chain) left.meta (λ p has. (safe p has).floor_safe);
     }
@@ -384,8 +377,8 @@ module _ (config : Config) (chain : Chain) (old : Remains) (luck : ℕ) (begin :
       leaves = record {
         sure_blocks = λ h b is low. lost.blocks.sure h b is;
         sure_certs = λ h f is low. lost.certs.sure h f is;
-        sure_cache = λ x has. absurd (let none = subst (λ xs. Contains xs x) had_none has in let lt : none.0 < 0 = none.1 in omega arith);
-        lowests = λ k has. absurd (let none = subst (λ ks. Contains ks k) no_lowests has in let lt : none.0 < 0 = none.1 in omega arith);
+        sure_cache = λ x has. inl (lost.cache.sure x has);
+        lowests = lost.cache.lowest;
         some_pair = lost.some_pair asks.some_pair;
         pairs = AllByRecursion-from_contains (λ p. Contains old.ended.meta p ⊎ OpeningPair config old.ended (picks_of old luck) begin p) left.meta (λ p has. ⊎_elim (λ there. inl there) (λ new. inr (may p new).0) (Contains-append_cases old.ended.meta written.pairs p (lost.pairs p has)));
         good = good_left;
@@ -449,7 +442,7 @@ module _ (config : Config) (chain : Chain) (old : Remains) (luck : ℕ) (begin :
     -- block 0 may have been written
     pub cut_begun : (e : Ending) → IsLawfulOpening config chain old.ended begin → Loses first (written_block (at_own_height g)) e → IsUsual e.fault ⊎ IsBeginFault g first e.fault → CutsReopening config chain old.ended (picks_of old luck) begin nothing_made e.fault e.remains.ended
     cut_begun e asks lost kind =
-        CutsReopening-lost config chain old luck begin asks (written_block (at_own_height g)) e (LosesOpening-then old luck first (written_block (at_own_height g)) e refl refl reopens lost) genesis_own (genesis_of config chain old.ended g (subst (IsLawfulOpening config chain old.ended) is asks)) refl (λ p has. no_pair p has)
+        CutsReopening-lost config chain old luck begin asks (written_block (at_own_height g)) e (LosesOpening-then old luck first (written_block (at_own_height g)) e refl refl refl refl reopens lost) genesis_own (genesis_of config chain old.ended g (subst (IsLawfulOpening config chain old.ended) is asks)) refl (λ p has. no_pair p has)
         (begin_by_value old begin luck first reopens g is e.fault kind)
 
     module _ (s : Held) (begins_with : BeginsWith g first s) (grew : Grew first (written_block (at_own_height g)) s) where
@@ -467,8 +460,8 @@ module _ (config : Config) (chain : Chain) (old : Remains) (luck : ℕ) (begin :
           kind_is = next_by_value old begin luck first reopens g is s begins_with e.fault kind
 
           by : Loses first (written_block (at_own_height g)) e ⊎ (next_fault s ≡ None) × Loses first (with_derived config.epochs) e → CutsReopening config chain old.ended (picks_of old luck) begin nothing_made e.fault e.remains.ended
-          by (inl lost) = CutsReopening-lost config chain old luck begin asks (written_block (at_own_height g)) e (LosesOpening-then old luck first (written_block (at_own_height g)) e refl refl reopens lost) genesis_own (genesis_of config chain old.ended g own) refl (λ p has. no_pair p has) kind_is
-          by (inr (none, lost)) = CutsReopening-lost config chain old luck begin asks (with_derived config.epochs) e (LosesOpening-then old luck first (with_derived config.epochs) e refl refl reopens lost) genesis_own (genesis_of config chain old.ended g own) refl may kind_is
+          by (inl lost) = CutsReopening-lost config chain old luck begin asks (written_block (at_own_height g)) e (LosesOpening-then old luck first (written_block (at_own_height g)) e refl refl refl refl reopens lost) genesis_own (genesis_of config chain old.ended g own) refl (λ p has. no_pair p has) kind_is
+          by (inr (none, lost)) = CutsReopening-lost config chain old luck begin asks (with_derived config.epochs) e (LosesOpening-then old luck first (with_derived config.epochs) e refl refl refl refl reopens lost) genesis_own (genesis_of config chain old.ended g own) refl may kind_is
             where
               may : (p : Pair) → Contains (derived_pair config.epochs s ∷ []) p → OpeningPair config old.ended (picks_of old luck) begin p × IsSafePair chain e.remains.ended.blocks_sure p
               may p has = (

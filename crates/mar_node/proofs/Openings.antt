@@ -1,7 +1,6 @@
 -- What an opening finds on good stores: blocks and certificates of the chain, a backed height, a safe cutoff.
-use Rattle.std.proofs.Common.{◌≡◌, ◌⊎◌, inl, inr, ⊎_elim, ℕ, zero, suc, ◌+◌, ◌≤◌, ◌==◌, ◌||◌, nat_lt, Bool, false, true, List, [], ◌∷◌, ◌++◌, Option, Some, None, is_some, option_map, option_to_list, if◌then◌else◌, IsTrue, Contains, refl, sym, ◌∙◌, ap, subst, arith, eqb-true, le_refl}
-use Rattle.std.specs.List.{AllByRecursion, cons_option, filter_map}
-use Rattle.std.proofs.lemmas.List.Elements.{Contains-append_cases}
+use Rattle.std.proofs.Common.{◌≡◌, ◌⊎◌, inl, inr, ℕ, ◌+◌, ◌≤◌, ◌==◌, ◌||◌, nat_lt, Bool, false, true, List, [], ◌∷◌, ◌++◌, Option, Some, None, is_some, option_map, option_to_list, if◌then◌else◌, IsTrue, Contains, refl, sym, ◌∙◌, ap, subst, arith, eqb-true, le_refl}
+use Rattle.std.specs.List.{AllByRecursion}
 use Rattle.mar_types.specs.Round.{Round}
 use Rattle.mar_types.specs.Epochs.{IsPartition, closed_epoch}
 use Rattle.mar_cert.specs.Block.{Block}
@@ -20,37 +19,8 @@ use Rattle.mar_node.specs.Faults.{Begin, from_floor, from_genesis, next_after, w
 use Rattle.mar_node.specs.Node.{Agrees, AreBlocksOf, AreCachedOf, AreFinalizationsOf, BlocksAgree, Ended, FloorSafe, HasAnchor, IsFinalized, IsGoodInHeights, Node}
 use Rattle.mar_node.specs.Lives.{BackedBy, Finds, IsGoodEnded, Picks, closed_epoch_at, opened_cutoff, processed_at, processed_round, successor_round}
 use Rattle.mar_node.specs.Sound.{IsSafePair, IsSound}
+use Rattle.mar_node.proofs.Filtered.{all_found_within}
 use Rattle.mar_node.proofs.FloorSafety.{CoversUpto, CoversUpto-at_round, CoversUpto-closed_at, CoversUpto-from_safe, CoversUpto-greatest_of, CoversUpto-more, FloorSafe-at_next, FloorSafe-from_upto, FloorSafe-greatest_of, FloorSafe-still}
-
--- WHAT STANDS IN A FILTERED LIST
-
-pub all_found_of : {T U : Type 0} (f : T → Option U) (P : U → Type 0) (xs : List T) (x : T) (y : U) → AllByRecursion P (filter_map f xs) → Contains xs x → f x ≡ Some y → P y
-all_found_of f P [] x y all (k, lt, e) is = absurd (omega arith)
-all_found_of {U = U} f P (z ∷ xs) x y all (zero, lt, e) is = head (f z) (ap f e ∙ is) all
-  where
-    inside : (a b : U) → ◌≡◌ {A = Option U} (Some a) (Some b) → a ≡ b
-    inside a b p = cc
-
-    head : (o : Option U) → o ≡ Some y → AllByRecursion P (cons_option o (filter_map f xs)) → P y
-    head None p a = absurd cc
-    head (Some u) p a = subst P (inside u y p) a.0
-all_found_of {U = U} f P (z ∷ xs) x y all (suc k, lt, e) is = all_found_of f P xs x y (tail (f z) all) (k, omega arith, e) is
-  where
-    tail : (o : Option U) → AllByRecursion P (cons_option o (filter_map f xs)) → AllByRecursion P (filter_map f xs)
-    tail None a = a
-    tail (Some u) a = a.1
-
-pub all_found_from : {T U : Type 0} (f : T → Option U) (P : U → Type 0) (xs : List T) → ((x : T) (y : U) → Contains xs x → f x ≡ Some y → P y) → AllByRecursion P (filter_map f xs)
-all_found_from f P [] each = tt
-all_found_from {U = U} f P (x ∷ xs) each = by (f x) refl (all_found_from f P xs (λ y z has. each y z (suc has.0, omega arith, has.2)))
-  where
-    by : (o : Option U) → f x ≡ o → AllByRecursion P (filter_map f xs) → AllByRecursion P (cons_option o (filter_map f xs))
-    by None is others = others
-    by (Some u) is others = (each x u (zero, omega arith, refl) is, others)
-
--- what holds of each that is found in a list holds of each that is found in lists within it
-pub all_found_within : {T U : Type 0} (f : T → Option U) (P : U → Type 0) (xs ys : List T) → ((x : T) → Contains xs x → Contains ys x) → AllByRecursion P (filter_map f ys) → AllByRecursion P (filter_map f xs)
-all_found_within f P xs ys within all = all_found_from f P xs (λ x y has is. all_found_of f P ys x y all (within x has) is)
 
 -- REOPENED LISTS
 
@@ -216,11 +186,11 @@ module _ (config : Config) (chain : Chain) (lawful : IsLawful config.epochs chai
   opened_safe = FloorSafe-opened config chain lawful partition finds.blocks.held finds.certs finds.pair (opened_certs config chain e picks begin n finds good)
       (FloorSafe-still chain finds.pair.processed finds.pair.cutoff e.blocks_sure finds.blocks.held (λ has. opened_heights config chain e picks begin n finds _ has) safe_before)
 
-  cached_found : AreCachedOf chain (finds.cache ++ finds.cache)
-  cached_found = all_found_within cached_finalization (λ f. IsFinalized chain f.round f.payload) (finds.cache ++ finds.cache) e.cache_may (λ x has. finds.cache_may.within_may x (⊎_elim (λ h. h) (λ h. h) (Contains-append_cases finds.cache finds.cache x has))) good.may_cached
+  cached_found : AreCachedOf chain finds.cache.may
+  cached_found = all_found_within cached_finalization (λ f. IsFinalized chain f.round f.payload) finds.cache.may e.cache_may finds.cache_may.within_may good.may_cached
 
-  cached_blocks_found : BlocksAgree chain (finds.cache ++ finds.cache)
-  cached_blocks_found = all_found_within cached_block (Agrees chain) (finds.cache ++ finds.cache) e.cache_may (λ x has. finds.cache_may.within_may x (⊎_elim (λ h. h) (λ h. h) (Contains-append_cases finds.cache finds.cache x has))) good.may_cached_blocks
+  cached_blocks_found : BlocksAgree chain finds.cache.may
+  cached_blocks_found = all_found_within cached_block (Agrees chain) finds.cache.may e.cache_may finds.cache_may.within_may good.may_cached_blocks
 
   -- before its Start step the node is sound
   pub IsSound-opened : ((g : Block) → begin ≡ from_genesis g → IsBlockAt chain 0 g) → IsSound chain n

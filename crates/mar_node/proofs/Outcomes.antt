@@ -1,5 +1,5 @@
 -- What a call in place came to, as the outcome of a life.
-use Rattle.std.proofs.Common.{◌≡◌, Result, Ok, Err, IfErr, IfOk, MatchResult, OnErr, OnOk, ap, subst, sym}
+use Rattle.std.proofs.Common.{◌≡◌, Result, Ok, Err, IfErr, IfOk, MatchResult, OnErr, OnOk, ap, refl, subst, sym}
 use Rattle.mar_node.specs.Faults.{Fault, want_of_memory}
 use Rattle.mar_node.specs.Held.{ArePassed, Ending, Grew, Held, IsNoStores, IsUsual, Loses, Remembered, Seen, Watches, Written, ended_on, outcome, seen}
 use Rattle.mar_node.specs.Moves.{IsRead}
@@ -68,6 +68,11 @@ module _ {T C : Type 0} (fault : C → Fault) (result : Result T C) where
         by : (r : Result T C) → OnErr r A → OnErr (outcome fault now r) A
         by (Ok x) said = tt
         by (Err e) said = said
+
+-- stores that were not asked are as they were
+pub outcome-unasked : {P E T C : Type 0} (fault : C → Fault) (a : Seen P E) (result : Result T C) → IfOk (outcome fault a result) (IsRead a)
+outcome-unasked fault a (Ok x) = refl
+outcome-unasked fault a (Err c) = tt
 
 -- the same life over stores that were read
 pub outcome-read : {P E T C : Type 0} (fault : C → Fault) (life : Remembered P E) (old new : Held) (result : Result T C) → OnOk result (new ≡ record old { watches = new.watches }) → IfOk (outcome fault (seen new life) result) (IsRead (seen old life))

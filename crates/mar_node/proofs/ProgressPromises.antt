@@ -16,7 +16,7 @@ use Rattle.mar_node.specs.Chain.{Chain}
 use Rattle.mar_node.specs.Config.{Config}
 use Rattle.mar_node.specs.Event.{Event, ack_given, cutoff_after, effect_of, message_told, no_floor, processed_after, told_finalization}
 use Rattle.mar_node.specs.Faults.{Fault, dropped_ack, dropped_first, is_by_value}
-use Rattle.mar_node.specs.Held.{Ending, Grew, Held, IsArchiveFault, IsUsual, LeavesStore, Loses, Seen, blocks_left, certs_left, nothing_written, written_cert, written_pair}
+use Rattle.mar_node.specs.Held.{Ending, Grew, Held, IsArchiveFault, IsUsual, LeavesCache, LeavesStore, Loses, Seen, blocks_left, cache_left, certs_left, nothing_written, written_cert, written_pair}
 use Rattle.mar_node.specs.Lives.{is_dropped_ack, is_refused_floor, later_round, reached_before}
 use Rattle.mar_node.specs.Moves.{Drains, EndsDropped, HearsFront, RaisesTo, StoresLate, at_height, found_at_hand, lacks_finalization, late_tips}
 use Rattle.mar_node.specs.Node.{AreFinalizationsOf, Rest, at_hand, block_missing, floor_awaited, window_full, write_uncovered}
@@ -61,10 +61,10 @@ dropped_first-some (x ∷ out) o is = by x.mark refl is
 
 module _ {P E : Type 0} (epochs : Epochs) (inner : List ℕ → List ℕ) (partition : IsPartition epochs) (a : Seen P E) (buffer : List Block) where
   -- a call of an archive failed once the metadata held the event's pair, and nothing had been told
-  synced_cut : (config : Config) (chain : Chain) (waiting : Waiting) (e : Event) (step : IsLawfulStep config chain (node_of a buffer waiting) (e ∷ [])) (no_effect : effect_of config (node_of a buffer waiting) e ≡ no_floor) → ((fault : Fault) → is_refused_floor e fault ≡ false) → (told told' : Option (List Report)) (heard heard' : Option (List Call)) (now : Held) (own : Pair) (y : At Finalization) (x : Ending) → Hears told [] told' → Hears heard (own_asks config (node_of a buffer waiting) e no_floor) heard' → now.blocks ≡ a.held.blocks → now.certs ≡ a.held.certs → now.pairs ≡ own ∷ [] → own ≡ pair_of (processed_after (node_of a buffer waiting) e no_floor) (cutoff_after config (node_of a buffer waiting) e no_floor) → AreFinalizationsOf chain (y ∷ []) → told_finalization (node_of a buffer waiting) e ≡ Some y.value → Loses now (written_cert y) x → ((sure : List (At Block)) → KeepsValues a.held.blocks.sure sure → (p : Pair) → Contains (own ∷ []) p → MayBeLeft config chain a e buffer waiting sure p) → IsArchiveFault x.fault → CutsStep config chain (node_of a buffer waiting) (e ∷ []) (heard_by told heard) (heard_by told' heard') x
-  synced_cut config chain waiting e step no_effect unrefused told told' heard heard' now own y x silent asks same_blocks same_certs pairs own_is of_cert told_is lost may of_archive = record {
+  synced_cut : (config : Config) (chain : Chain) (waiting : Waiting) (e : Event) (step : IsLawfulStep config chain (node_of a buffer waiting) (e ∷ [])) (no_effect : effect_of config (node_of a buffer waiting) e ≡ no_floor) → ((fault : Fault) → is_refused_floor e fault ≡ false) → (told told' : Option (List Report)) (heard heard' : Option (List Call)) (now : Held) (own : Pair) (y : At Finalization) (x : Ending) → Hears told [] told' → Hears heard (own_asks config (node_of a buffer waiting) e no_floor) heard' → now.blocks ≡ a.held.blocks → now.certs ≡ a.held.certs → now.cache ≡ a.held.cache → now.lowests ≡ a.held.lowests → now.pairs ≡ own ∷ [] → own ≡ pair_of (processed_after (node_of a buffer waiting) e no_floor) (cutoff_after config (node_of a buffer waiting) e no_floor) → AreFinalizationsOf chain (y ∷ []) → told_finalization (node_of a buffer waiting) e ≡ Some y.value → Loses now (written_cert y) x → ((sure : List (At Block)) → KeepsValues a.held.blocks.sure sure → (p : Pair) → Contains (own ∷ []) p → MayBeLeft config chain a e buffer waiting sure p) → IsArchiveFault x.fault → CutsStep config chain (node_of a buffer waiting) (e ∷ []) (heard_by told heard) (heard_by told' heard') x
+  synced_cut config chain waiting e step no_effect unrefused told told' heard heard' now own y x silent asks same_blocks same_certs same_cache same_lowests pairs own_is of_cert told_is lost may of_archive = record {
     made = made_of [] (own_asks config (node_of a buffer waiting) e no_floor);
-    heard = record { reports = silent; asks = asks; answers = refl; no_more = refl };
+    heard = record { reports = silent; asks = asks; sends = refl; answers = refl };
     cuts = Cuts-left config chain a e buffer waiting before.0 before.1 no_effect [] (own_asks config (node_of a buffer waiting) e no_floor) a.life.tip (reached_before (node_of a buffer waiting) e) x.fault x.remains.ended refl tt (inl refl) tt tt leaves
         (some_from_first x.remains.ended.meta own (lost.leaves.pairs.first ∙ ap first_pair pairs))
         (inr ((λ is. absurd (subst IsArchiveFault is of_archive)), lost.leaves.pairs.first ∙ (ap first_pair pairs ∙ ap Some own_is)))
@@ -92,7 +92,7 @@ module _ {P E : Type 0} (epochs : Epochs) (inner : List ℕ → List ℕ) (parti
         of_certs = of_cert;
         own_blocks = λ z has. nothing_put z has;
         own_certs = λ z has. told_is ∙ ap (λ (u : At Finalization). Some u.value) (only_one y z has);
-        no_cache = lost.leaves.no_cache;
+        cache = subst (λ l. LeavesCache a.held.cache l [] [] (cache_left x.remains.ended) x.remains.ended.lowests) same_lowests (subst (λ c. LeavesCache c now.lowests [] [] (cache_left x.remains.ended) x.remains.ended.lowests) same_cache lost.leaves.cache);
       }
 
   -- LATE FINALIZATIONS
@@ -112,13 +112,13 @@ module _ {P E : Type 0} (epochs : Epochs) (inner : List ℕ → List ℕ) (parti
     promise-unraised told heard heard' x front lost usual config chain waiting set step =
         event.quiet_cut epochs inner partition a buffer config chain waiting (message_told None (report_finalization f)) step refl (λ fault. refl) told told heard heard' nothing_written x (Hears-nothing told)
         (subst (λ cs. HearsFront heard cs heard') (final.asks-late config chain a f buffer waiting step.lawful step.one step.good step.reported.0 b (hand config chain waiting set step) low) front)
-        refl refl tt tt (λ z has. nothing_put z has) (λ z has. nothing_put z has) lost (λ q has. nothing_put q has) usual
+        refl refl refl refl tt tt (λ z has. nothing_put z has) (λ z has. nothing_put z has) lost (λ q has. nothing_put q has) usual
 
     -- the raised cutoff's own sync failed
     pub promise-unsynced : (told : Option (List Report)) (heard heard' : Option (List Call)) (p : Pair) (x : Ending) → p ≡ noted → HearsFront heard (raise_asks a.held.cutoff (at_round f.round ∷ [])) heard' → Loses a.held (written_pair p) x → IsUsual x.fault → KeepsPromise epochs inner a (message_told None (report_finalization f) ∷ []) buffer (heard_by told heard) (heard_by told heard') (Err x)
     promise-unsynced told heard heard' p x is front lost usual config chain waiting set step =
         event.quiet_cut epochs inner partition a buffer config chain waiting (message_told None (report_finalization f)) step refl (λ fault. refl) told told heard heard' (written_pair p) x (Hears-nothing told)
-        (subst (λ cs. HearsFront heard cs heard') (final.asks-late config chain a f buffer waiting step.lawful step.one step.good step.reported.0 b (hand config chain waiting set step) low) front) refl refl tt tt (λ z has. nothing_put z has) (λ z has. nothing_put z has) lost
+        (subst (λ cs. HearsFront heard cs heard') (final.asks-late config chain a f buffer waiting step.lawful step.one step.good step.reported.0 b (hand config chain waiting set step) low) front) refl refl refl refl tt tt (λ z has. nothing_put z has) (λ z has. nothing_put z has) lost
         (λ q has. may config chain waiting set step x.remains.ended.blocks_sure (λ h v at. lost.leaves.blocks.sure h v (omega arith) at) q (subst (λ r. Contains (r ∷ []) q) is has)) usual
 
     module _ (w s : Seen P E) (raised : RaisesTo a (at_round f.round ∷ []) (later_round a.held.witnessed (Some f.round)) w) (synced : s ≡ record w { held = record w.held { pairs = pair_of w.held.processed w.held.cutoff ∷ []; watches = s.held.watches } }) where
@@ -129,7 +129,7 @@ module _ {P E : Type 0} (epochs : Epochs) (inner : List ℕ → List ℕ) (parti
       promise-unstored_late told told' heard heard' x silent asks lost of_archive config chain waiting set step =
           synced_cut config chain waiting (message_told None (report_finalization f)) step refl (λ fault. refl) told told' heard heard' s.held noted (at_height b.height f) x silent
           (subst (λ cs. Hears heard cs heard') (final.asks-late config chain a f buffer waiting step.lawful step.one step.good step.reported.0 b (hand config chain waiting set step) low) asks)
-          (ap (λ k. k.held.blocks) synced ∙ ap (λ k. k.held.blocks) raised.same) (ap (λ k. k.held.certs) synced ∙ ap (λ k. k.held.certs) raised.same) pairs_are
+          (ap (λ k. k.held.blocks) synced ∙ ap (λ k. k.held.blocks) raised.same) (ap (λ k. k.held.certs) synced ∙ ap (λ k. k.held.certs) raised.same) (ap (λ k. k.held.cache) synced ∙ ap (λ k. k.held.cache) raised.same) (ap (λ k. k.held.lowests) synced ∙ ap (λ k. k.held.lowests) raised.same) pairs_are
           (final.pair_late-is config chain a f buffer waiting step.lawful step.one step.good step.reported.0 b (hand config chain waiting set step) low)
           (event.of_cert epochs inner partition a buffer f b found config chain waiting set step) refl lost (may config chain waiting set step) of_archive
 
@@ -196,11 +196,11 @@ module _ {P E : Type 0} (epochs : Epochs) (inner : List ℕ → List ℕ) (parti
     promise-undrained told heard heard' x nested certs_nested asks lost (inl usual) config chain waiting set step =
         event.quiet_cut epochs inner partition a buffer config chain waiting (ack_given t) step refl (λ fault. refl) told told heard heard' nothing_written x (Hears-nothing told)
         (subst (λ cs. HearsFront heard cs heard') (asks_are config chain waiting set step nested certs_nested) asks)
-        refl refl tt tt (λ z has. nothing_put z has) (λ z has. nothing_put z has) lost (λ p has. nothing_put p has) usual
+        refl refl refl refl tt tt (λ z has. nothing_put z has) (λ z has. nothing_put z has) lost (λ p has. nothing_put p has) usual
     promise-undrained told heard heard' x nested certs_nested (asks, front, asks_heard) lost (inr ends) config chain waiting set step = record {
       made = made_of [] asks;
-      heard = record { reports = Hears-nothing told; asks = asks_heard; answers = refl; no_more = refl };
-      cuts = Cuts-before config chain a (ack_given t) buffer waiting a.life.tip step.good refl [] asks a.life.tip nothing_written x tt refl tt refl refl tt tt (λ z has. nothing_put z has) (λ z has. nothing_put z has) lost (λ p has. nothing_put p has)
+      heard = record { reports = Hears-nothing told; asks = asks_heard; sends = refl; answers = refl };
+      cuts = Cuts-before config chain a (ack_given t) buffer waiting a.life.tip step.good refl [] asks a.life.tip nothing_written x tt refl tt refl refl refl refl tt tt (λ z has. nothing_put z has) (λ z has. nothing_put z has) lost (λ p has. nothing_put p has)
           (λ is. dropped_first-some (after_given given.life.out) ends.oldest ends.dropped ∙ ap Some (sym ends.fault)) (never (is_refused_floor (ack_given t) x.fault) refl) (λ is. ends.unsynced)
           (subst (λ cs. IsFront asks cs) (asks_are config chain waiting set step nested certs_nested) front);
     }
@@ -219,7 +219,7 @@ module _ {P E : Type 0} (epochs : Epochs) (inner : List ℕ → List ℕ) (parti
       pub promise-ack_unsynced : (told : Option (List Report)) (heard heard' : Option (List Call)) (x : Ending) → IsNested a.held.blocks → IsNested a.held.certs → Hears heard (retire_asks epochs a.held.certs.held a.held.cutoff (given_front given.life.out)) heard' → Loses a.held (written_pair (pair_of d.held.processed d.held.cutoff)) x → IsUsual x.fault → KeepsPromise epochs inner a (ack_given t ∷ []) buffer (heard_by told heard) (heard_by told heard') (Err x)
       promise-ack_unsynced told heard heard' x nested certs_nested asks lost usual config chain waiting set step =
           event.quiet_cut epochs inner partition a buffer config chain waiting (ack_given t) step refl (λ fault. refl) told told heard heard' (written_pair (pair_of d.held.processed d.held.cutoff)) x (Hears-nothing told)
-          (HearsFront-whole heard _ heard' (subst (λ cs. Hears heard cs heard') (asks_are config chain waiting set step nested certs_nested) asks)) refl refl tt tt (λ z has. nothing_put z has) (λ z has. nothing_put z has) lost
+          (HearsFront-whole heard _ heard' (subst (λ cs. Hears heard cs heard') (asks_are config chain waiting set step nested certs_nested) asks)) refl refl refl refl tt tt (λ z has. nothing_put z has) (λ z has. nothing_put z has) lost
           (λ p has. ack.MayBeLeft-drained config chain step.lawful (event.partition_of epochs inner partition a buffer config set.epochs_are) a t buffer waiting nested certs_nested step.good is_drained d (of_config config set.epochs_are) x.remains.ended.blocks_sure (λ h v at. lost.leaves.blocks.sure h v (omega arith) at) p has) usual
 
       pub promise-acked : (told told' : Option (List Report)) (heard heard' : Option (List Call)) (m : Seen P E) (result : Result (Seen P E) Ending) → IsNested a.held.blocks → IsNested a.held.certs → m ≡ record d { held = record d.held { pairs = pair_of d.held.processed d.held.cutoff ∷ []; watches = m.held.watches } } → Hears heard (retire_asks epochs a.held.certs.held a.held.cutoff (given_front given.life.out)) heard' → Ran m told told' result → KeepsPromise epochs inner a (ack_given t ∷ []) buffer (heard_by told heard) (heard_by told' heard') result

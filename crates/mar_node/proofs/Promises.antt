@@ -13,7 +13,7 @@ use Rattle.mar_node.specs.Chain.{Chain, IsBlockAt}
 use Rattle.mar_node.specs.Config.{Config}
 use Rattle.mar_node.specs.Event.{Event, cutoff_after, no_floor, processed_after, undrained_blocks}
 use Rattle.mar_node.specs.Faults.{Fault, ack_kind, is_by_value, meta_store, next_after, store_fault, ticket_limit}
-use Rattle.mar_node.specs.Held.{Ending, IsArchiveFault, LeavesStore, Seen, blocks_left, certs_left}
+use Rattle.mar_node.specs.Held.{Ending, IsArchiveFault, LeavesCache, LeavesStore, Seen, blocks_left, cache_left, certs_left}
 use Rattle.mar_node.specs.Lives.{Cuts, NotBelow, Reached, is_dropped_ack, is_refused_floor, reached_after}
 use Rattle.mar_node.specs.Moves.{IsLastTicket, IsStarted, IsStill, StopsHanding, handed_report, next_in, with_handed}
 use Rattle.mar_node.specs.Step.{HeldFrom}
@@ -75,7 +75,7 @@ module _ {P E : Type 0} (config : Config) (chain : Chain) (a m : Seen P E) (e : 
         of_certs = reach.of_certs;
         own_blocks = reach.own_blocks;
         own_certs = reach.own_certs;
-        no_cache = stops.lost.leaves.no_cache;
+        cache = subst (λ l. LeavesCache a.held.cache l [] [] (cache_left left) left.lowests) reach.lowests (subst (λ c. LeavesCache c m.held.lowests [] [] (cache_left left) left.lowests) reach.cache stops.lost.leaves.cache);
       }
 
       kept : KeepsValues m.held.blocks.sure left.blocks_sure
@@ -145,7 +145,7 @@ module _ {P E : Type 0} (config : Config) (chain : Chain) (a m : Seen P E) (e : 
     pub dispatched : (told told1 told' : Option (List Report)) (heard heard' : Option (List Call)) (result : Result (Seen P E) Ending) → Hears told tips told1 → Ran m told1 told' result → Hears heard (own_asks config n e no_floor) heard' → StepsOrCuts config chain n (e ∷ []) (heard_by told heard) (heard_by told' heard') result
     dispatched told told1 told' heard heard' (Ok d) tips_heard (handed, handed_heard, ran) asks_heard = record {
       made = made_of (tips ++ map handed_report handed) (own_asks config n e no_floor);
-      heard = record { reports = Hears-then told told1 told' tips (map handed_report handed) tips_heard handed_heard; asks = asks_heard; answers = refl; no_more = refl };
+      heard = record { reports = Hears-then told told1 told' tips (map handed_report handed) tips_heard handed_heard; asks = asks_heard; sends = refl; answers = refl };
       steps = subst (λ s. Steps config chain n (e ∷ []) (made_of (tips ++ map handed_report handed) (own_asks config n e no_floor)) (node_of s buffer (asked_since waiting (own_asks config n e no_floor)))) (sym ran.same)
           (Steps-reached config chain a m e buffer waiting tips handed step.reported.0 good_before.1.of_chain.asks.requests reach (HandsSure-next config chain m buffer waiting handed good sure_held ran.next ran.below_barrier) unwritten handed_good
           (Rest-still config chain (with_handed m handed) buffer waiting step.lawful window handed_good (subst IsStill ran.same ran.still)));
@@ -155,7 +155,7 @@ module _ {P E : Type 0} (config : Config) (chain : Chain) (a m : Seen P E) (e : 
         handed_good = IsGood-handed config chain m buffer waiting handed window good ran.next ran.below_barrier ran.room
     dispatched told told1 told' heard heard' (Err x) tips_heard (handed, handed_heard, stops) asks_heard = record {
       made = made_of (tips ++ map handed_report handed) (own_asks config n e no_floor);
-      heard = record { reports = Hears-then told told1 told' tips (map handed_report handed) tips_heard handed_heard; asks = asks_heard; answers = refl; no_more = refl };
+      heard = record { reports = Hears-then told told1 told' tips (map handed_report handed) tips_heard handed_heard; asks = asks_heard; sends = refl; answers = refl };
       cuts = Cuts-handing handed x stops;
     }
 
@@ -163,7 +163,7 @@ module _ {P E : Type 0} (config : Config) (chain : Chain) (a m : Seen P E) (e : 
     pub undispatched : (told told' : Option (List Report)) (heard heard' : Option (List Call)) → Hears told tips told' → Hears heard (own_asks config n e no_floor) heard' → Rest config.window (node_of m buffer waiting) → FinishesStep config chain n (e ∷ []) (heard_by told heard) (heard_by told' heard') m
     undispatched told told' heard heard' tips_heard asks_heard rests = record {
       made = made_of tips (own_asks config n e no_floor);
-      heard = record { reports = tips_heard; asks = asks_heard; answers = refl; no_more = refl };
+      heard = record { reports = tips_heard; asks = asks_heard; sends = refl; answers = refl };
       steps = subst (λ rs. Steps config chain n (e ∷ []) (made_of rs (own_asks config n e no_floor)) (node_of m buffer (asked_since waiting (own_asks config n e no_floor)))) (append-nil tips)
           (subst (λ s. Steps config chain n (e ∷ []) (made_of (tips ++ []) (own_asks config n e no_floor)) (node_of s buffer (asked_since waiting (own_asks config n e no_floor)))) (with_handed-none m)
           (Steps-reached config chain a m e buffer waiting tips [] step.reported.0 good_before.1.of_chain.asks.requests reach (HandsSure-none chain m) unwritten (subst (λ s. IsGood config chain (node_of s buffer waiting)) (sym (with_handed-none m)) good) (subst (λ s. Rest config.window (node_of s buffer waiting)) (sym (with_handed-none m)) rests)));
@@ -174,7 +174,7 @@ module _ {P E : Type 0} (config : Config) (chain : Chain) (a m : Seen P E) (e : 
   pub started : (new : Seen P E) → IsStarted m new → total_writes a.held.writes < total_writes m.held.writes → 0 < length m.held.writes.uncovered → IsGood config chain (node_of new buffer waiting) → Rest config.window (node_of new buffer waiting) → (told told' : Option (List Report)) (heard heard' : Option (List Call)) → Hears told tips told' → Hears heard (own_asks config (node_of a buffer waiting) e no_floor) heard' → FinishesStep config chain (node_of a buffer waiting) (e ∷ []) (heard_by told heard) (heard_by told' heard') new
   started new is written some good rests told told' heard heard' tips_heard asks_heard = record {
     made = made_of tips (own_asks config (node_of a buffer waiting) e no_floor);
-    heard = record { reports = tips_heard; asks = asks_heard; answers = refl; no_more = refl };
+    heard = record { reports = tips_heard; asks = asks_heard; sends = refl; answers = refl };
     steps = subst (λ rs. Steps config chain (node_of a buffer waiting) (e ∷ []) (made_of rs (own_asks config (node_of a buffer waiting) e no_floor)) (node_of new buffer (asked_since waiting (own_asks config (node_of a buffer waiting) e no_floor)))) (append-nil tips)
         (Steps-started config chain a m e buffer waiting tips [] step.reported.0 (untold config chain (node_of a buffer waiting) e step.good).1.of_chain.asks.requests reach (HandsSure-none chain m) new (subst (λ s. IsStarted s new) (sym (with_handed-none m)) is) written some good rests);
   }

@@ -8,7 +8,7 @@ use Rattle.mar_key.specs.Keys.{Call, above_height, above_round, retain}
 use Rattle.mar_key.proofs.CutoffOrder.{cutoff_le-total}
 use Rattle.mar_key.specs.Processed.{Processed}
 use Rattle.mar_types.specs.Epochs.{Epochs}
-use Rattle.mar_node.specs.Held.{Watches, Ending, Seen}
+use Rattle.mar_node.specs.Held.{Watches, Seen}
 use Rattle.mar_node.specs.Event.{closed_at, retired, round_at}
 use Rattle.mar_node.specs.Moves.{HearsFront, HearsUpTo, IsRead, RaisesTo}
 use Rattle.mar_node.specs.Requests.{raise_asks}

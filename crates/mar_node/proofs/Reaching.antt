@@ -13,7 +13,7 @@ use Rattle.mar_store.proofs.Lookups.{AllByRecursion-append, AllByRecursion-value
 use Rattle.mar_node.specs.Answers.{answers_of, certified_after, is_known, sends_of, subscriptions_after}
 use Rattle.mar_node.specs.Cache.{started_syncs, witnessing_of}
 use Rattle.mar_node.specs.Chain.{Chain, IsBlockAt, IsLawful}
-use Rattle.mar_node.specs.Cached.{cached_block, cached_finalization}
+use Rattle.mar_node.specs.Cached.{cached_block, cached_finalization, unloaded}
 use Rattle.mar_node.specs.Config.{Config}
 use Rattle.mar_node.specs.Event.{Event, acked_to, blocks_from, brought_block, certs_from, cutoff_after, drained_blocks, effect_of, is_query, no_floor, storing_of, told_finalization, undrained_blocks}
 use Rattle.mar_node.specs.Faults.{event_fault, last_height}
@@ -163,13 +163,16 @@ pub record Reaches {P E : Type 0} (config : Config) (chain : Chain) (a : Seen P 
   pub are_tips : AreTips tips
   pub tips_rise : TipsFrom a.life.tip tips m.life.tip
   pub tips_chain : AreTipsOf chain tips
+  pub cache : m.held.cache ≡ a.held.cache
+  pub lowest : m.held.lowest ≡ a.held.lowest
+  pub lowests : m.held.lowests ≡ a.held.lowests
   pub witnessed : m.held.witnessed ≡ (witnessing_of config (node_of a buffer waiting) e no_floor).last
   pub stored : IfSome (storing_of (node_of a buffer waiting) e) (IsStored (node_of m buffer waiting))
   pub stored_late : IfSome (storing_of (node_of a buffer waiting) e) (IsStoredLate (node_of a buffer waiting) no_floor (node_of m buffer waiting))
   pub no_query : is_query e ≡ false
   pub no_fault : event_fault config (node_of a buffer waiting) e ≡ None
   pub sends : sends_of (node_of a buffer waiting) e ≡ []
-  pub answers : answers_of config (node_of a buffer waiting) 0 e no_floor ≡ []
+  pub answers : (lowest : ℕ) → answers_of config (node_of a buffer waiting) lowest e no_floor ≡ []
   pub subscriptions : subscriptions_after (node_of a buffer waiting) e no_floor ≡ []
   pub certified : (tip : ℕ) → certified_after (node_of a buffer waiting) e no_floor tip ≡ []
   pub no_syncs : (n' : Node) → started_syncs (node_of a buffer waiting) n' e ≡ []
@@ -305,7 +308,7 @@ module _ {P E : Type 0} (config : Config) (chain : Chain) (a m : Seen P E) (e : 
       tips = tips_before_handed a.life.tip m.life.tip tips handed reach.are_tips reach.tips_rise;
       tips_chain = tips_of_both chain tips handed reach.are_tips reach.tips_chain;
       awaited = refl;
-      cache = record { cache = refl; lowest = refl; lowests = refl; cache_syncs = refl; witnessed = reach.witnessed };
+      cache = record { cache = ap unloaded reach.cache; lowest = reach.lowest; lowests = reach.lowests; cache_syncs = refl; witnessed = reach.witnessed };
       stored = IfSome-more (IsStored (node_of m buffer waiting)) (IsStored n') (λ s is. record { block = is.block; certificate = is.certificate }) (storing_of n e) reach.stored;
       stored_late = IfSome-more (IsStoredLate n no_floor (node_of m buffer waiting)) (IsStoredLate n no_floor n') (λ s is. is) (storing_of n e) reach.stored_late;
       floor_stored = tt;
@@ -314,7 +317,7 @@ module _ {P E : Type 0} (config : Config) (chain : Chain) (a m : Seen P E) (e : 
       beside = record {
         asks = refl;
         sends = sym reach.sends;
-        answers = sym reach.answers;
+        answers = sym (reach.answers m.held.lowest);
         subscriptions = sym reach.subscriptions;
         certified = λ h c. ap (λ xs. is_known xs h c) (sym (reach.certified m.life.tip));
         next_sync = reach.next_sync ∙ sym (ap (λ xs. a.held.writes.next_sync + length xs) (reach.no_syncs n') ∙ plus_none a.held.writes.next_sync);

@@ -71,13 +71,16 @@ module _ {P E : Type 0} (config : Config) (chain : Chain) (a : Seen P E) (buffer
     are_tips = newest_tips-tips config.inner a.life.tip (newest a.held.certs.held);
     tips_rise = newest_tips-rise config.inner a.life.tip (newest a.held.certs.held);
     tips_chain = newest_tips-chain config.inner chain buffer one a.life.tip a.held.certs.held untold.1.of_chain.stores.held_certs;
+    cache = refl;
+    lowest = refl;
+    lowests = refl;
     witnessed = refl;
     stored = tt;
     stored_late = tt;
     no_query = refl;
     no_fault = refl;
     sends = refl;
-    answers = refl;
+    answers = λ lowest. refl;
     subscriptions = refl;
     certified = λ tip. refl;
     no_syncs = λ n'. refl;
@@ -94,7 +97,7 @@ module _ {P E : Type 0} (epochs : Epochs) (inner : List ℕ → List ℕ) (parti
   -- nothing could be told
   pub promise-untold : (told told' : Option (List Report)) (heard : Option (List Call)) (x : Ending) → Hears told [] told' → Loses a.held nothing_written x → IsUsual x.fault → KeepsPromise epochs inner a (life_started None ∷ []) buffer (heard_by told heard) (heard_by told' heard) (Err x)
   promise-untold told told' heard x silent lost usual config chain waiting set step =
-      quiet_cut epochs inner partition a buffer config chain waiting (life_started None) step refl (λ fault. refl) told told' heard heard nothing_written x silent (HearsFront-nothing heard _ heard (Hears-nothing heard)) refl refl tt tt (λ y has. nothing_put y has) (λ y has. nothing_put y has) lost (λ p has. nothing_put p has) usual
+      quiet_cut epochs inner partition a buffer config chain waiting (life_started None) step refl (λ fault. refl) told told' heard heard nothing_written x silent (HearsFront-nothing heard _ heard (Hears-nothing heard)) refl refl refl refl tt tt (λ y has. nothing_put y has) (λ y has. nothing_put y has) lost (λ p has. nothing_put p has) usual
 
   pub promise-start : (told told1 told' : Option (List Report)) (heard : Option (List Call)) (m : Seen P E) (result : Result (Seen P E) Ending) → IsNested a.held.blocks → IsNested a.held.certs → IsRead (with_newest a) m → Hears told (newest_tips inner a.life.tip (newest a.held.certs.held)) told1 → Ran m told1 told' result → KeepsPromise epochs inner a (life_started None ∷ []) buffer (heard_by told heard) (heard_by told' heard) result
   promise-start told told1 told' heard m result nested certs_nested same tips ran config chain waiting set step =

@@ -17,29 +17,29 @@ IsHow s before fault now = (fault ≡ store_fault s) × Breaks before now ⊎ ((
 
 module _ (start : Held) (all : Written) (old : Held) (grew : Grew start all old) where
   -- what is left where a call of the blocks failed
-  pub Loses-blocks : (more : List (At Block)) (left : Left (At Block)) (fault : Fault) (w : Watch) → Within more all.blocks → Fails (left_of old.blocks) more left → IsHow block_store old.watches.blocks fault w → Loses start all (record { fault = fault; remains = record { ended = ended_of left (left_of old.certs) old.pairs; watches = record old.watches { blocks = w } } })
+  pub Loses-blocks : (more : List (At Block)) (left : Left (At Block)) (fault : Fault) (w : Watch) → Within more all.blocks → Fails (left_of old.blocks) more left → IsHow block_store old.watches.blocks fault w → Loses start all (record { fault = fault; remains = record { ended = ended_of left (left_of old.certs) old.cache old.lowests old.pairs; watches = record old.watches { blocks = w } } })
   Loses-blocks more left fault w within fails how = record {
     leaves = record {
       blocks = LeavesStore-failed start.blocks all.blocks_from all.blocks more (left_of old.blocks) left grew.leaves.blocks within fails;
       certs = grew.leaves.certs;
       pairs = grew.leaves.pairs;
-      no_cache = refl;
+      cache = grew.leaves.cache;
     };
     cause = FailsBy-then start.watches old.watches _ _ grew.passed (FailsBy-store old.watches block_store w _ _ refl how);
   }
 
-  pub Loses-certs : (more : List (At Finalization)) (left : Left (At Finalization)) (fault : Fault) (w : Watch) → Within more all.certs → Fails (left_of old.certs) more left → IsHow cert_store old.watches.certs fault w → Loses start all (record { fault = fault; remains = record { ended = ended_of (left_of old.blocks) left old.pairs; watches = record old.watches { certs = w } } })
+  pub Loses-certs : (more : List (At Finalization)) (left : Left (At Finalization)) (fault : Fault) (w : Watch) → Within more all.certs → Fails (left_of old.certs) more left → IsHow cert_store old.watches.certs fault w → Loses start all (record { fault = fault; remains = record { ended = ended_of (left_of old.blocks) left old.cache old.lowests old.pairs; watches = record old.watches { certs = w } } })
   Loses-certs more left fault w within fails how = record {
     leaves = record {
       blocks = grew.leaves.blocks;
       certs = LeavesStore-failed start.certs all.certs_from all.certs more (left_of old.certs) left grew.leaves.certs within fails;
       pairs = grew.leaves.pairs;
-      no_cache = refl;
+      cache = grew.leaves.cache;
     };
     cause = FailsBy-then start.watches old.watches _ _ grew.passed (FailsBy-store old.watches cert_store w _ _ refl how);
   }
 
-  pub Loses-meta : (more left : List Pair) (fault : Fault) (w : Watch) → Within more all.pairs → LeavesPairs old.pairs more left → IsHow meta_store old.watches.meta fault w → Loses start all (record { fault = fault; remains = record { ended = ended_of (left_of old.blocks) (left_of old.certs) left; watches = record old.watches { meta = w } } })
+  pub Loses-meta : (more left : List Pair) (fault : Fault) (w : Watch) → Within more all.pairs → LeavesPairs old.pairs more left → IsHow meta_store old.watches.meta fault w → Loses start all (record { fault = fault; remains = record { ended = ended_of (left_of old.blocks) (left_of old.certs) old.cache old.lowests left; watches = record old.watches { meta = w } } })
   Loses-meta more left fault w within fails how = record {
     leaves = record {
       blocks = grew.leaves.blocks;
@@ -49,7 +49,7 @@ module _ (start : Held) (all : Written) (old : Held) (grew : Grew start all old)
         kept = λ p has. fails.kept p (grew.leaves.pairs.kept p has);
         within = λ p has. within_all old.pairs more all.pairs start.pairs grew.leaves.pairs.within within p (fails.within p has);
       };
-      no_cache = refl;
+      cache = grew.leaves.cache;
     };
     cause = FailsBy-then start.watches old.watches _ _ grew.passed (FailsBy-store old.watches meta_store w _ _ refl how);
   }

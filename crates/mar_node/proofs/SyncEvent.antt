@@ -14,7 +14,8 @@ use Rattle.mar_node.specs.Event.{no_floor, sync_finished}
 use Rattle.mar_node.specs.Held.{MakesSure, Seen}
 use Rattle.mar_node.specs.Metadata.{pair_of}
 use Rattle.mar_node.specs.Moves.{FinishesSync}
-use Rattle.mar_node.specs.Node.{AreBlocksOf, AreFinalizationsOf, ConsecutiveFrom, FloorSafe, HasAnchor, IsGood}
+use Rattle.mar_node.specs.Cached.{unloaded}
+use Rattle.mar_node.specs.Node.{AreBlocksOf, AreFinalizationsOf, ConsecutiveFrom, FloorSafe, HasAnchor, IsCacheOf, IsGood}
 use Rattle.mar_node.specs.Promise.{Waiting, node_of}
 use Rattle.mar_node.specs.Step.{KeepsFrom, Writes}
 use Rattle.mar_writes.specs.Writing.{IsOrdered, position_of, total_writes, with_finished, without_sync}
@@ -75,13 +76,16 @@ module _ {P E : Type 0} (config : Config) (chain : Chain) (a m : Seen P E) (t : 
     are_tips = tt;
     tips_rise = ap (λ s. s.life.tip) finishes.same;
     tips_chain = tt;
+    cache = ap (λ s. s.held.cache) finishes.same;
+    lowest = ap (λ s. s.held.lowest) finishes.same;
+    lowests = ap (λ s. s.held.lowests) finishes.same;
     witnessed = ap (λ s. s.held.witnessed) finishes.same;
     stored = tt;
     stored_late = tt;
     no_query = refl;
     no_fault = refl;
     sends = refl;
-    answers = refl;
+    answers = λ lowest. refl;
     subscriptions = refl;
     certified = λ tip. refl;
     no_syncs = λ n'. refl;
@@ -132,7 +136,7 @@ module _ {P E : Type 0} (config : Config) (chain : Chain) (a m : Seen P E) (t : 
         held_certs = subst (AreFinalizationsOf chain) (sym finishes.certs.held) good.of_chain.stores.held_certs;
         may_certs = AllByRecursion-within (λ x. Finalizes chain x.height x.value.round x.value.payload) m.held.certs.may a.held.certs.may finishes.certs.may good.of_chain.stores.may_certs;
       };
-      cache = good.of_chain.cache;
+      cache = subst (IsCacheOf chain) (sym (ap (λ s. unloaded s.held.cache) finishes.same)) good.of_chain.cache;
       asks = record { requests = good.of_chain.asks.requests; ready = tt; overflow = tt };
       awaits = tt;
       not_at_hand = tt;

@@ -4,6 +4,8 @@ use Rattle.std.specs.Prelude.{Bool, Contains, IsFalse, List, None, Option, Some,
 use Rattle.mar_types.specs.Round.{Round, round_eq}
 use Rattle.mar_cert.specs.Block.{Block}
 use Rattle.mar_cert.specs.Finalization.{Finalization, Notarization}
+use Rattle.mar_store.specs.Changes.{Left, Within}
+use Rattle.mar_store.specs.Kept.{Kept}
 
 -- One put of the epoch cache: a finalization, a verified block, a notarized one, a notarization by
 -- round; a certified block by its epoch and its own height.
@@ -52,6 +54,16 @@ with_entry held x = if list_any (same_place x) held then held else held ++ x ∷
 abbrev pub EachPlaceOnce : List Cached → Type 0
 EachPlaceOnce [] = ⊤
 EachPlaceOnce (x ∷ xs) = IsFalse (list_any (same_place x) xs) × EachPlaceOnce xs
+
+-- What waits of a cache that was reopened and isn't taken up: what was sure is sure, and what may be left might be.
+pub record IsUnloaded (sure may : List Cached) (cache : Left Cached) : Type 0 where
+  pub with_sure : Within sure cache.sure
+  pub within_may : Within cache.may may
+  pub sure_may : Within cache.sure cache.may
+
+-- nothing of it is held
+abbrev pub unloaded : Left Cached → Kept Cached
+unloaded left = record { held = []; sure = left.sure; may = left.may }
 
 -- m is what a reopening may find
 pub record CacheReopens (sure may m : List Cached) : Type 0 where

@@ -1,5 +1,6 @@
 -- What a life keeps: its stores, and what it remembers beside them; what is left of the stores.
-use Rattle.std.specs.Prelude.{Bool, Contains, Err, IfErr, List, MatchResult, Ok, Option, Result, Some, [], false, length, option_map, suc, true, zero, ℕ, ⊤, ◌++◌, ◌<◌, ◌∷◌, ◌≡◌, ◌≤◌, ◌⊎◌}
+use Rattle.std.specs.List.{list_any}
+use Rattle.std.specs.Prelude.{Bool, Contains, Err, IfErr, IsTrue, List, MatchResult, Ok, Option, Result, Some, [], false, length, map, option_map, suc, true, zero, ℕ, ⊤, ◌++◌, ◌<◌, ◌∷◌, ◌≡◌, ◌≤◌, ◌⊎◌}
 use Rattle.mar_types.specs.Causes.{Rose}
 use Rattle.mar_types.specs.Round.{Round}
 use Rattle.mar_cert.specs.Finalization.{Finalization}
@@ -15,7 +16,8 @@ use Rattle.mar_store.specs.declared.Miss.{Miss}
 use Rattle.mar_store.specs.declared.Miss.TheVariants.{Fault as Missed, Memory as NoRoom}
 use Rattle.mar_cert.specs.Block.{Block}
 use Rattle.mar_node.specs.Acks.{Outstanding}
-use Rattle.mar_node.specs.Cached.{Cached}
+use Rattle.mar_node.specs.Cache.{is_below}
+use Rattle.mar_node.specs.Cached.{Cached, IsUnloaded}
 use Rattle.mar_node.specs.Metadata.{Pair, first_pair, lucky_pair}
 use Rattle.mar_node.specs.Faults.{Fault, store_fault, want_of_memory, StoreName, block_store, cert_store, meta_store, cache_store}
 use Rattle.mar_node.specs.Lives.{IsPicked, Picks, round_zero}
@@ -88,7 +90,7 @@ abbrev pub progress_of : Pair → Watch → Progress
 progress_of p watch = record { processed = option_map at_block p.processed; cutoff = p.cutoff; witnessed = round_zero; pairs = p ∷ []; watch = watch; intact = true }
 
 -- The stores of a life, with the processed height, the cutoff, the last witnessed round, the pairs that a crash can leave
--- of the first two, and the writes that wait for a sync.
+-- of the first two, the cache, and the writes that wait for a sync.
 pub record Held : Type 0 where
   pub blocks : Kept (At Block)
   pub certs : Kept (At Finalization)
@@ -96,6 +98,9 @@ pub record Held : Type 0 where
   pub cutoff : Cutoff
   pub witnessed : Round
   pub pairs : List Pair
+  pub cache : Left Cached  -- what a crash left of it waits: nothing is held
+  pub lowest : ℕ  -- the lowest epoch of the cache
+  pub lowests : List ℕ  -- those that a crash may leave
   pub writes : Writing
   pub watches : Watches
   pub intact : Bool  -- no call that changes a store has failed: where one has, nothing is said of what is held
@@ -157,28 +162,31 @@ pub record Ending : Type 0 where
   pub fault : Fault
   pub remains : Remains
 
--- what is left of two archives and the metadata, with no cache
-abbrev pub ended_of : Left (At Block) → Left (At Finalization) → List Pair → Ended
-ended_of blocks certs pairs = record {
+-- what is left of two archives, of the cache and its lowest epoch, and of the metadata
+abbrev pub ended_of : Left (At Block) → Left (At Finalization) → Left Cached → List ℕ → List Pair → Ended
+ended_of blocks certs cache lowests pairs = record {
   blocks_sure = blocks.sure;
   blocks_may = blocks.may;
   certs_sure = certs.sure;
   certs_may = certs.may;
-  cache_sure = [];
-  cache_may = [];
-  lowests = [];
+  cache_sure = cache.sure;
+  cache_may = cache.may;
+  lowests = lowests;
   meta = pairs;
 }
 
 -- what a crash between two store calls leaves
 abbrev pub remains_of : Held → Remains
-remains_of h = record { ended = ended_of (left_of h.blocks) (left_of h.certs) h.pairs; watches = h.watches }
+remains_of h = record { ended = ended_of (left_of h.blocks) (left_of h.certs) h.cache h.lowests h.pairs; watches = h.watches }
 
 abbrev pub blocks_left : Ended → Left (At Block)
 blocks_left e = record { sure = e.blocks_sure; may = e.blocks_may }
 
 abbrev pub certs_left : Ended → Left (At Finalization)
 certs_left e = record { sure = e.certs_sure; may = e.certs_may }
+
+abbrev pub cache_left : Ended → Left Cached
+cache_left e = record { sure = e.cache_sure; may = e.cache_may }
 
 -- A store's fault comes exactly where a call of that store failed since; of the others none did.
 pub record FailsBy (before : Watches) (fault : Fault) (now : Watches) : Type 0 where
@@ -191,18 +199,19 @@ IsEndedBy before e = FailsBy before e.fault e.remains.watches
 
 -- SINCE A START
 
--- What was written since a start: what was put, the pairs that the metadata's sync was given, and the heights below which
--- was pruned.
+-- What was written since a start: what was put, the rounds below which the cache was pruned, the pairs that the metadata's
+-- sync was given, and the heights below which was pruned.
 pub record Written : Type 0 where
   pub blocks : List (At Block)
   pub certs : List (At Finalization)
   pub cached : List Cached
+  pub prunes : List Round
   pub pairs : List Pair
   pub blocks_from : ℕ
   pub certs_from : ℕ
 
 abbrev pub nothing_written : Written
-nothing_written = record { blocks = []; certs = []; cached = []; pairs = []; blocks_from = 0; certs_from = 0 }
+nothing_written = record { blocks = []; certs = []; cached = []; prunes = []; pairs = []; blocks_from = 0; certs_from = 0 }
 
 abbrev pub written_block : At Block → Written
 written_block x = record nothing_written { blocks = x ∷ [] }
@@ -220,6 +229,8 @@ written_pair p = record nothing_written { pairs = p ∷ [] }
 pub record WithinWritten (some all : Written) : Type 0 where
   pub blocks : Within some.blocks all.blocks
   pub certs : Within some.certs all.certs
+  pub cached : Within some.cached all.cached
+  pub prunes : Within some.prunes all.prunes
   pub pairs : Within some.pairs all.pairs
   pub blocks_from : some.blocks_from ≤ all.blocks_from
   pub certs_from : some.certs_from ≤ all.certs_from
@@ -238,12 +249,19 @@ pub record LeavesStore {T : Type 0} (start : Kept (At T)) (bound : ℕ) (put : L
   pub may : Within left.may (start.may ++ put)
   pub sure_may : (h : ℕ) (v : T) → value_at left.sure h ≡ Some v → Contains left.may (record { height = h; value = v })
 
+-- What is left of the cache: what was sure is sure unless it was pruned, what may be left might be before or was put, and
+-- the lowest epoch is one that it might be, or a prune's.
+pub record LeavesCache (start : Left Cached) (started : List ℕ) (put : List Cached) (prunes : List Round) (left : Left Cached) (lowests : List ℕ) : Type 0 where
+  pub sure : (x : Cached) → Contains start.sure x → Contains left.sure x ⊎ IsTrue (list_any (λ p. is_below p x) prunes)
+  pub may : Within left.may (start.may ++ put)
+  pub lowest : Within lowests (started ++ map (λ p. p.epoch) prunes)
+
 -- What is left of all stores, since a start: with what was written, and no more.
 pub record LeavesMore (start : Held) (written : Written) (now : Ended) : Type 0 where
   pub blocks : LeavesStore start.blocks written.blocks_from written.blocks (blocks_left now)
   pub certs : LeavesStore start.certs written.certs_from written.certs (certs_left now)
   pub pairs : LeavesPairsSince start.pairs written.pairs now.meta
-  pub no_cache : now ≡ ended_of (blocks_left now) (certs_left now) now.meta
+  pub cache : LeavesCache start.cache start.lowests written.cached written.prunes (cache_left now) now.lowests
 
 -- The calls since a start went well; what was held at or above the bound of a prune is held.
 pub record Grew (start : Held) (written : Written) (now : Held) : Type 0 where
@@ -300,13 +318,21 @@ pub record ReopensAs (old : Remains) (luck : ℕ) (new : Held) : Type 0 where
   pub writes : new.writes ≡ no_writes
   pub passed : ArePassed old.watches new.watches
   pub intact : new.intact ≡ true
-  pub no_cache : old.ended ≡ ended_of (blocks_left old.ended) (certs_left old.ended) old.ended.meta
+  pub cache : IsUnloaded old.ended.cache_sure old.ended.cache_may new.cache
+  pub lowest : Contains (0 ∷ new.lowests) new.lowest
+  pub lowests : Within new.lowests old.ended.lowests
 
 -- What is left of a store that was opened, or was to be: what was sure is sure, and nothing may be left but what might
 -- before, and what was put.
 pub record LeavesUnopened {T : Type 0} (old : Left (At T)) (put : List (At T)) (left : Left (At T)) : Type 0 where
   pub sure : KeepsValues old.sure left.sure
   pub may : Within left.may (old.may ++ put)
+
+-- The same of the cache, of which nothing is put before a life begins.
+pub record LeavesUnloaded (old now : Left Cached) (old_lowests lowests : List ℕ) : Type 0 where
+  pub sure : Within old.sure now.sure
+  pub may : Within now.may old.may
+  pub lowest : Within lowests old_lowests
 
 -- What an opening that failed leaves.
 pub record LosesOpening (old : Remains) (written : Written) (e : Ending) : Type 0 where
@@ -315,8 +341,7 @@ pub record LosesOpening (old : Remains) (written : Written) (e : Ending) : Type 
   pub some_pair : 0 < length old.ended.meta → 0 < length e.remains.ended.meta
   pub first_pair : (p : Pair) → first_pair e.remains.ended.meta ≡ Some p → Contains old.ended.meta p
   pub pairs : Within e.remains.ended.meta (old.ended.meta ++ written.pairs)
-  pub had_no_cache : old.ended ≡ ended_of (blocks_left old.ended) (certs_left old.ended) old.ended.meta
-  pub no_cache : e.remains.ended ≡ ended_of (blocks_left e.remains.ended) (certs_left e.remains.ended) e.remains.ended.meta
+  pub cache : LeavesUnloaded (cache_left old.ended) (cache_left e.remains.ended) old.ended.lowests e.remains.ended.lowests
   pub cause : IsEndedBy old.watches e
 
 -- a store's fault, or want of memory

@@ -25,6 +25,10 @@ pub mod Opening
 pub mod Newest
 pub mod Messages
 pub mod Cached
+pub mod Sections
+pub mod Entries
+pub mod AllEntries
+pub mod CacheCalls
 pub mod Stored
 pub mod Acks
 pub mod Metadata

@@ -8,13 +8,13 @@ use Rattle.mar_key.specs.Cutoff.{Cutoff, at_epoch, at_round, greatest_of}
 use Rattle.mar_key.specs.Processed.{Processed, at_absent, at_block, height_in}
 use Rattle.mar_types.specs.Epochs.{Epochs, closed_epoch}
 use Rattle.mar_node.specs.Chain.{Chain}
-use Rattle.mar_store.specs.Changes.{Within}
+use Rattle.mar_store.specs.Changes.{Left, Within}
 use Rattle.mar_store.specs.Kept.{At, EachHeightOnce, Kept, Reopens, has_height, newest_upto, reopened_store, value_at}
 use Rattle.mar_node.specs.Messages.{set_floor}
 use Rattle.mar_node.specs.Config.{Config}
 use Rattle.mar_node.specs.Node.{AreBlocksOf, AreCachedOf, AreFinalizationsOf, BlocksAgree, Ended, FloorSafe, Node, empty_inbox, empty_peers, left_by}
 use Rattle.mar_node.specs.Acks.{Outstanding}
-use Rattle.mar_node.specs.Cached.{CacheReopens, Cached, epoch_of}
+use Rattle.mar_node.specs.Cached.{Cached, IsUnloaded, epoch_of, unloaded}
 use Rattle.mar_node.specs.Metadata.{Pair, first_pair, pair_of}
 use Rattle.mar_node.specs.Event.{Effect, Event, blocks_from, certs_from, cutoff_after, effect_of, kept_blocks, life_started, marked_blocks, message_told, processed_after}
 use Rattle.mar_node.specs.Cache.{is_pruned, witnessing_of}
@@ -81,7 +81,7 @@ opened_witnessed blocks certs pair =
     later_round (later_round round_zero (processed_round certs pair.processed)) (successor_round blocks certs (next_after pair.processed))
 
 -- a node that begins a life on these stores
-abbrev pub opened_node : Config → Kept (At Block) → List (At Finalization) → List Cached → ℕ → List ℕ → Pair → Node
+abbrev pub opened_node : Config → Kept (At Block) → List (At Finalization) → Left Cached → ℕ → List ℕ → Pair → Node
 opened_node config blocks certs cache lowest lowests pair =
     let cutoff = opened_cutoff config.epochs blocks.held certs pair in
     let processed = option_map (processed_at blocks.held) pair.processed in
@@ -98,7 +98,7 @@ opened_node config blocks certs cache lowest lowests pair =
       syncs = [];
       tip = 0;
       buffer = [];
-      cache = reopened_store cache;
+      cache = unloaded cache;
       lowest = lowest;
       lowests = lowests;
       cache_syncs = [];
@@ -141,7 +141,7 @@ pub record IsPicked (picks : Picks) (blocks : List (At Block)) (certs : List (At
 abbrev pub no_picks : Picks
 no_picks = record { blocks = None; certs = None; pair = None }
 
--- What an opening finds: each list reopened, one pair of the metadata, block 0 entered, no fault.
+-- What an opening finds: each list reopened, but for the cache, which is taken up later, one pair of the metadata, block 0 entered, no fault.
 pub record Finds (config : Config) (e : Ended) (picks : Picks) (begin : Begin) (n : Node) : Type 0 where
   pub pair : Pair
   pub pair_may : Contains e.meta pair
@@ -150,8 +150,8 @@ pub record Finds (config : Config) (e : Ended) (picks : Picks) (begin : Begin) (
   pub certs : List (At Finalization)
   pub certs_may : Reopens e.certs_sure e.certs_may certs
   pub picked : IsPicked picks found certs pair
-  pub cache : List Cached
-  pub cache_may : CacheReopens e.cache_sure e.cache_may cache
+  pub cache : Left Cached
+  pub cache_may : IsUnloaded e.cache_sure e.cache_may cache
   pub lowest : ℕ
   pub lowests : List ℕ
   pub lowests_were : (k : ℕ) → Contains lowests k → Contains e.lowests k

@@ -9,9 +9,9 @@ use Rattle.mar_key.specs.Asked.{Asked, asked_after}
 use Rattle.mar_key.specs.Hears.{Hears}
 use Rattle.mar_key.specs.Keys.{Call}
 use Rattle.mar_key.specs.PeerQueue.{PeerQueue}
-use Rattle.mar_store.specs.Kept.{At, Kept, Reopens, reopened_store}
-use Rattle.mar_node.specs.Answers.{TicketAnswer}
-use Rattle.mar_node.specs.Cached.{Cached}
+use Rattle.mar_store.specs.Kept.{At, Reopens}
+use Rattle.mar_node.specs.Answers.{Sent, TicketAnswer}
+use Rattle.mar_node.specs.Cached.{unloaded}
 use Rattle.mar_node.specs.Messages.{Inbox, report_finalization}
 use Rattle.mar_node.specs.Metadata.{Pair}
 use Rattle.mar_node.specs.Chain.{Chain, IsBlockAt, IsLawful}
@@ -23,12 +23,10 @@ use Rattle.mar_node.specs.Lives.{Cuts, CutsReopening, Finds, IsGoodEnded, Picks}
 use Rattle.mar_node.specs.Node.{Awaited, CacheSync, CertifiedCommitment, Ended, IsFinalized, IsGood, Node, Rest, Subscription, empty_inbox, empty_peers}
 use Rattle.mar_node.specs.Step.{Made, Report, Steps, nothing_made}
 
--- What stands around the stores and the window of a life: an awaited floor, the cache, the queues, and callers that wait.
+-- What stands around the stores and the window of a life: an awaited floor, the syncs of the cache, the queues, and callers
+-- that wait.
 pub record Around : Type 0 where
   pub awaited : Option Awaited
-  pub cache : Kept Cached
-  pub lowest : ℕ
-  pub lowests : List ℕ
   pub cache_syncs : List CacheSync
   pub peers : PeerQueue
   pub inbox : Inbox
@@ -40,9 +38,6 @@ pub record Around : Type 0 where
 abbrev pub nothing_around : ℕ → Around
 nothing_around capacity = record {
   awaited = None;
-  cache = reopened_store [];
-  lowest = 0;
-  lowests = [];
   cache_syncs = [];
   peers = empty_peers capacity;
   inbox = empty_inbox capacity;
@@ -84,9 +79,9 @@ node_around around a buffer waiting = record {
   syncs = a.held.writes.syncs;
   tip = a.life.tip;
   buffer = buffer;
-  cache = around.cache;
-  lowest = around.lowest;
-  lowests = around.lowests;
+  cache = unloaded a.held.cache;
+  lowest = a.held.lowest;
+  lowests = a.held.lowests;
   cache_syncs = around.cache_syncs;
   asked = waiting.requests;
   peers = around.peers;
@@ -150,25 +145,27 @@ pub record IsLawfulStep (config : Config) (chain : Chain) (n : Node) (events : L
 abbrev pub made_of : List Report → List Call → Made
 made_of reports asks = record { reports = reports; asks = asks; sends = []; answers = [] }
 
--- what those around a life have heard so far: the application and the resolver, where they tell that, and those who ask
+-- what those around a life have heard so far: the application, the resolver and the buffer, which sends, where they tell
+-- that, and those who ask
 pub record Heard : Type 0 where
   pub reports : Option (List Report)
   pub asks : Option (List Call)
+  pub sends : Option (List Sent)
   pub answers : List TicketAnswer
 
-abbrev pub heard_with : Option (List Report) → Option (List Call) → List TicketAnswer → Heard
-heard_with reports asks answers = record { reports = reports; asks = asks; answers = answers }
+abbrev pub heard_with : Option (List Report) → Option (List Call) → Option (List Sent) → List TicketAnswer → Heard
+heard_with reports asks sends answers = record { reports = reports; asks = asks; sends = sends; answers = answers }
 
--- nobody was answered
+-- nothing was sent and nobody answered
 abbrev pub heard_by : Option (List Report) → Option (List Call) → Heard
-heard_by reports asks = heard_with reports asks []
+heard_by reports asks = heard_with reports asks (Some []) []
 
--- What they heard between the two is what was made; so far nothing is sent.
+-- What they heard between the two is what was made.
 pub record HearsMade (before : Heard) (made : Made) (after : Heard) : Type 0 where
   pub reports : Hears before.reports made.reports after.reports
   pub asks : Hears before.asks made.asks after.asks
+  pub sends : Hears before.sends made.sends after.sends
   pub answers : after.answers ≡ before.answers ++ made.answers
-  pub no_more : made.sends ≡ []
 
 -- A step that finished: what was heard is what it made, and what is open with the resolver follows from that.
 pub record FinishesStep {P E : Type 0} (config : Config) (chain : Chain) (n : Node) (events : List Event) (before after : Heard) (new : Seen P E) : Type 0 where

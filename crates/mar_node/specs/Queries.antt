@@ -2,7 +2,6 @@
 use Rattle.std.specs.Option.{option_or}
 use Rattle.std.specs.Prelude.{List, None, Option, Some, [], bytes_eq, find, map, option_and_then, option_map, option_to_list, ℕ}
 use Rattle.mar_cert.specs.Block.{Block}
-use Rattle.mar_cert.specs.Finalization.{Finalization}
 use Rattle.mar_store.specs.Kept.{value_at}
 use Rattle.mar_node.specs.Answers.{TicketAnswer, Value, anchor, bytes_of, finalization_value, info, no_value, or_none, processed_value, to}
 use Rattle.mar_node.specs.Event.{Event, message_told}

@@ -8,7 +8,7 @@ ghost use Rattle.mar_store.specs.Named.{last_index};
 ghost use Rattle.mar_store.specs.Ranges.{ranges};
 ghost use Rattle.mar_store.specs.Sizes.{IsSmall};
 ghost use Rattle.mar_node.specs.Held.{ArePassed, AreWritten, GoesOn, Held, IsArchiveFault, IsUsual, LosesOpening, LosesSince, MakesSure, Remains, ReopensAs};
-ghost use Rattle.mar_node.specs.Held.{blocks_left, certs_left, ended_of, nothing_written, remains_of, with_armed, written_block, written_cert, written_pair};
+ghost use Rattle.mar_node.specs.Held.{nothing_written, remains_of, with_armed, written_block, written_cert, written_pair};
 ghost use Rattle.mar_node.specs.Lives.{later_round};
 ghost use Rattle.mar_node.specs.Metadata.{first_pair, pair_of};
 ghost use Rattle.mar_node.specs.Faults.{sync_kind, ticket_limit};
@@ -35,11 +35,6 @@ use std::marker::Model;
 pub trait StoresRuin {
     /// What is left of them, and what each tells of its failures.
     ghost left: { Self → Remains };
-
-    /// There is nothing of a cache yet. The call does nothing: it is a law.
-    fn law(&self)
-        ensures no_cache { (left self.now).ended
-            ≡ ended_of (blocks_left (left self.now).ended) (certs_left (left self.now).ended) (left self.now).ended.meta };
 
     /// Makes the counted call of a store fail that is so many calls away, 1 being the next. The cache counts none yet.
     fn arm(&mut self, store: StoreName, calls: u64) -> Result<(), AllocError>

@@ -1,8 +1,11 @@
 //! The node as data: what it holds, what each event makes of it, and what its lives are; with the state of its floors and the
-//! stream that keeps them. The writes that wait for a sync, their gate and what is staged stand below, and are handed on here.
+//! stream that keeps them, and what a node asks of its cache. The writes that wait for a sync, their gate and what is staged
+//! stand below, and are handed on here.
 #![tactic(auto)]
 
+mod cache;
 mod closed;
+mod entry;
 mod fault;
 mod floor;
 mod holds;
@@ -10,11 +13,16 @@ mod names;
 mod place;
 mod progress;
 mod reads;
+mod section;
+mod shelf;
 mod shown;
+mod started;
 mod stream;
 mod upto;
 
+pub use cache::{Cache, ShelfRuin};
 pub use closed::closed_epoch;
+pub use entry::{BlockName, Entry, Sought, sought_block};
 pub use fault::{Fault, StoreName, TicketKind};
 pub use floor::{FetchAdmission, State};
 pub use holds::{Ended, Holds, StoresRuin};
@@ -23,6 +31,9 @@ pub use names::is_same;
 pub use place::{Place, parts_of};
 pub use progress::Progress;
 pub use reads::{newest_certificate, round_at};
+pub use section::Section;
+pub use shelf::Shelf;
 pub use shown::ShownRuins;
+pub use started::{CacheTicket, SectionSync, Started};
 pub use stream::{Stream, synced_cutoff, synced_height};
 pub use upto::last_upto;

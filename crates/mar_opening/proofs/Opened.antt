@@ -61,7 +61,7 @@ module _ (epochs : Epochs) (old : Remains) (luck : ℕ) (begin : Begin) (g : Blo
 
   pub failed_cause : (e : Ending) → FailsToOpen epochs old luck g e → IsEndedBy old.watches e
   failed_cause e (inl early) = early.lost.cause
-  failed_cause e (inr (inl fails)) = (LosesOpening-then old luck fails.first (written_block (at_own_height g)) e refl refl fails.reopens fails.lost).cause
+  failed_cause e (inr (inl fails)) = (LosesOpening-then old luck fails.first (written_block (at_own_height g)) e refl refl refl refl fails.reopens fails.lost).cause
   failed_cause e (inr (inr fails)) = deriving_cause old luck fails.first _ _ _ e fails.reopens fails.lost
 
   pub failed_by_value : (e : Ending) → FailsToOpen epochs old luck g e → IsUsual e.fault ⊎ IsOpeningFault old.ended begin e.fault
