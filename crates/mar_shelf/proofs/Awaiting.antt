@@ -14,20 +14,16 @@ use Rattle.std.specs.Ordering.{match_ordering, nat_cmp}
 use Rattle.std.specs.Prelude.{nat_le}
 use Rattle.std.specs.declared.cmp.Ordering.TheVariants.{Equal, Greater, Less}
 use Rattle.mar_cert.specs.Block.{Block}
-use Rattle.mar_cert.specs.Finalization.{Finalization}
 use Rattle.mar_store.specs.Kept.{At, Kept, has_height, value_at}
-use Rattle.mar_store.specs.Changes.{Finishes, KeepsValues, Puts, Syncs}
+use Rattle.mar_store.specs.Changes.{Finishes, KeepsValues, Puts}
 use Rattle.mar_store.specs.Tickets.{KeepsCovers, last_number}
 use Rattle.mar_store.proofs.Lookups.{AllByRecursion-contains, has_height-from_value, has_height-push_cases, missing-from_has_height, value-from_has_height, value_at-append, value_at-append_found, value_at-one}
 use Rattle.mar_node.specs.Pool.{Pool, Pooled, pool_deferred, pool_finished, pool_started, pooled_at, syncs_of, writing_of}
 use Rattle.mar_node.specs.Stored.{at_own_height}
 use Rattle.mar_node.specs.Staged.{Staged, has_place, is_taken_in, kept_from, staged_at, staged_where, without_height}
 use Rattle.mar_node.proofs.Pools.{position_found}
-use Rattle.mar_node.specs.Held.{Held, MakesSure}
-use Rattle.mar_node.proofs.Growing.{MakesSure-finished}
-use Rattle.mar_node.specs.Writing.{IsLastWrite, IsOrdered, Writing, position_of, total_writes}
-use Rattle.mar_node.specs.declared.Place.{Place}
-use Rattle.mar_node.specs.declared.Place.TheVariants.{Away, Lost, Open}
+use Rattle.mar_node.specs.Held.{Held}
+use Rattle.mar_node.specs.Writing.{IsLastWrite, Writing, position_of, total_writes}
 use Rattle.mar_shelf.specs.Pooling.{AreHeld, AwaitsSyncs, writes_behind}
 
 -- LISTS

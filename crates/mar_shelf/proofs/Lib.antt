@@ -4,3 +4,5 @@ pub mod Answered
 pub mod Placed
 pub mod Both
 pub mod Opened
+pub mod Reading
+pub mod Changed

@@ -4,7 +4,7 @@ use Rattle.std.proofs.lemmas.List.Elements.{Contains-append_cases, Contains-appe
 use Rattle.std.specs.List.{AllByRecursion}
 use Rattle.std.specs.Prelude.{IfErr, IfOk, MatchResult, OnErr, OnOk}
 use Rattle.mar_cert.specs.Block.{Block}
-use Rattle.mar_store.specs.Changes.{Finishes, IsNested, KeepsValues, Left, Puts, Syncs}
+use Rattle.mar_store.specs.Changes.{IsNested, KeepsValues, Left, Puts}
 use Rattle.mar_store.specs.Kept.{At, Kept, value_at}
 use Rattle.mar_store.specs.Tickets.{last_number}
 use Rattle.mar_store.specs.Watch.{Watch}
@@ -21,7 +21,7 @@ use Rattle.mar_node.specs.declared.Place.TheVariants.{Away, Lost, Open}
 use Rattle.mar_node.proofs.Growing.{MakesSure-finished, MakesSure-same, MakesSure-synced}
 use Rattle.mar_node.proofs.Passing.{Breaks-then, Passes-refl, Passes-then}
 use Rattle.mar_shelf.proofs.Awaiting.{AreHeld-kept, AreHeld-staged, AwaitsSyncs-deferred, AwaitsSyncs-finished, AwaitsSyncs-put, AwaitsSyncs-same, AwaitsSyncs-started, AwaitsSyncs-sure, AwaitsSyncs-surer, given, held_by_put}
-use Rattle.mar_shelf.specs.Pooling.{AreHeldIn, AwaitsIn, FailsIn, FinishesIn, HoldsIn, IsFaultOf, IsGivenIn, IsLeftIn, IsReadIn, StartsIn, StaysIn}
+use Rattle.mar_shelf.specs.Pooling.{AreHeldIn, AwaitsIn, FailsIn, FinishesIn, HoldsIn, IsFaultOf, IsGivenIn, IsLeftIn, IsReadIn, StartsIn, StaysIn, SurerIn}
 
 -- a fault of an archive is one of those that an archive's call has
 pub archive_fault : (s : StoreName) (before now : Watch) (fault : Fault) → IsArchiveFault (store_fault s) → IsFaultOf s before fault now → IsArchiveFault fault
@@ -44,6 +44,13 @@ fails_alone s stored left watch watch_left put old new same = subst (λ n. Fails
   cause = inr (refl, Passes-refl (watch_at watch watch_left old));
 })
 
+-- nothing changed of what is kept, and memory ran out
+pub fails_same : {S T W : Type 0} (s : StoreName) (stored : S → Kept (At T)) (left : W → Left (At T)) (watch : S → Watch) (watch_left : W → Watch) (put : List (At T)) (old new : Place S W) → kept_at stored left new ≡ kept_at stored left old → Passes (watch_at watch watch_left old) (watch_at watch watch_left new) → FailsIn s stored left watch watch_left put old new want_of_memory
+fails_same s stored left watch watch_left put old new same passed = record {
+  fails = rw same (record { sure = refl; may_kept = λ x has. has; may = λ x has. Contains-append_left _ put x has });
+  cause = inr (refl, passed);
+}
+
 -- a value was put, and then a call failed that was to write nothing
 pub fails_then : {S T W : Type 0} (s : StoreName) (stored : S → Kept (At T)) (left : W → Left (At T)) (watch : S → Watch) (watch_left : W → Watch) {ignored : Bool} (x : At T) (old mid new : Place S W) (fault : Fault) → Puts ignored (kept_at stored left old) x (kept_at stored left mid) → Passes (watch_at watch watch_left old) (watch_at watch watch_left mid) → FailsIn s stored left watch watch_left [] mid new fault → FailsIn s stored left watch watch_left (x ∷ []) old new fault
 fails_then s stored left watch watch_left x old mid new fault puts passed failed = record {
@@ -54,6 +61,10 @@ fails_then s stored left watch watch_left x old mid new fault puts passed failed
   };
   cause = ⊎_elim (λ how. inl (how.0, Breaks-then _ _ _ passed how.1)) (λ how. inr (how.0, Passes-then _ _ _ passed how.1)) failed.cause;
 }
+
+-- a value was put, and then memory ran out
+pub fails_behind : {S T W : Type 0} (s : StoreName) (stored : S → Kept (At T)) (left : W → Left (At T)) (watch : S → Watch) (watch_left : W → Watch) {ignored : Bool} (x : At T) (old new : Place S W) → Puts ignored (kept_at stored left old) x (kept_at stored left new) → Passes (watch_at watch watch_left old) (watch_at watch watch_left new) → FailsIn s stored left watch watch_left (x ∷ []) old new want_of_memory
+fails_behind s stored left watch watch_left x old new puts passed = record { fails = record { sure = puts.sure; may_kept = puts.may_kept; may = puts.may }; cause = inr (refl, passed) }
 
 -- by what a call answered
 pub either : {T E A B C : Type 0} (r : Result T E) → OnOk r A → OnErr r B → (A → C) → (B → C) → C
@@ -191,6 +202,14 @@ module _ {T S W : Type 0} (stored : S → Kept (At T)) (number : S → ℕ) (cov
     pub finished_in : (ticket : ℕ) (old new : Place S W) → StaysIn stored number covers old new → FinishesIn stored covers ticket old new → MakesSure (kept_at stored left old) (kept_at stored left new)
     finished_in ticket old new stays = in_place (λ o n. FinishesIn stored covers ticket o n → MakesSure (kept_at stored left o) (kept_at stored left n)) (λ s t stays finishes. MakesSure-finished (covers s ticket) (stored s) (stored t) finishes) old new stays
 
+    -- such a sync of a store that keeps what every store keeps
+    module _ (watch : S → Watch) (watch_left : W → Watch) (law : (s : S) → IsNested (stored s)) (ticket : ℕ) (old new : Place S W) (stays : StaysIn stored number covers old new) (passed : Passes (watch_at watch watch_left old) (watch_at watch watch_left new)) where
+      pub started_surer : StartsIn stored number covers ticket old new → SurerIn stored left watch watch_left old new
+      started_surer starts = record { surer = started_in ticket old new stays starts; nested = nested_in law old new stays; still = open_in old new stays; passed = passed }
+
+      pub finished_surer : FinishesIn stored covers ticket old new → SurerIn stored left watch watch_left old new
+      finished_surer finishes = record { surer = finished_in ticket old new stays finishes; nested = nested_in law old new stays; still = open_in old new stays; passed = passed }
+
     -- a read changes nothing of what is kept
     pub read_same : (old new : Place S W) → IsReadIn stored number covers left old new → kept_at stored left new ≡ kept_at stored left old
     read_same (Open s) (Open t) read = read.0
@@ -279,11 +298,24 @@ module _ {T S W : Type 0} (stored : S → Kept (At T)) (number : S → ℕ) (cov
       waits_finished ticket p {later = later} found finishes finished = subst (AwaitsIn ticket_of stored number covers new) (sym finished) (in_place (λ o n. FinishesIn stored covers (ticket_of p) o n → AwaitsIn ticket_of stored number covers o pool → AwaitsIn ticket_of stored number covers n (pool_finished ticket pool))
           (λ s t stays finishes waits. AwaitsSyncs-finished ticket_of (stored s) (number s) (covers s) pool waits ticket p (stored t) (number t) (covers t) (sym found) finishes stays.more stays.keeps stays.last) old new stays finishes waits)
 
+    -- a value was put, or the call failed
+    module _ {X C : Type 0} (r : Result X C) (left : W → Left (At T)) (old new : Place S W) (pool : Pool) (waits : AwaitsIn ticket_of stored number covers old pool) (stays : OnOk r (StaysIn stored number covers old new)) (gone : OnErr r (IsLeftIn old new)) where
+      pub waits_put_so : (ignored : Bool) {height : ℕ} (value : T) → OnOk r (Puts ignored (kept_at stored left old) (record { height = height; value = value }) (kept_at stored left new)) → IsLastWrite height (writing_of pool) → AwaitsIn ticket_of stored number covers new pool
+      waits_put_so ignored value puts write = either r (both_done _ _ r stays puts) gone (λ ok. waits_put left old new pool waits ok.0 ok.1 write) (λ lost. waits_left old new pool pool lost waits)
+
+      -- and made durable at once
+      pub waits_stored_so : (ignored : Bool) (x : At T) → OnOk r (StoresValue ignored (kept_at stored left old) x (kept_at stored left new)) → AwaitsIn ticket_of stored number covers new pool
+      waits_stored_so ignored x stores = either r (both_done _ _ r stays stores) gone (λ ok. waits_stored left old new pool waits ok.0 ok.1) (λ lost. waits_left old new pool pool lost waits)
+
   -- WHAT IS HELD
 
   -- it stays held in a call that took nothing out
   pub holds_in : (left : W → Left (At T)) (old new : Place S W) → StaysIn stored number covers old new → KeepsValues (kept_at stored left old).held (kept_at stored left new).held → HoldsIn stored old new
   holds_in left old new stays keeps = in_place (λ o n. KeepsValues (kept_at stored left o).held (kept_at stored left n).held → HoldsIn stored o n) (λ s t stays keeps. keeps) old new stays keeps
+
+  -- and where a sync made more sure
+  pub holds_surer : (left : W → Left (At T)) (old new : Place S W) → StaysIn stored number covers old new → MakesSure (kept_at stored left old) (kept_at stored left new) → HoldsIn stored old new
+  holds_surer left old new stays surer = holds_in left old new stays (subst (KeepsValues (kept_at stored left old).held) (sym surer.held) (λ h v is. is))
 
   pub holds_left : (old new : Place S W) → is_there old ≡ true → IsLeftIn old new → HoldsIn stored old new
   holds_left old new there left = at_loss (λ n. HoldsIn stored old n) (λ w. lost old w) old new there left
@@ -308,6 +340,9 @@ held_in plain stored (Lost v) (Open t) staged holds held = absurd holds
 held_in plain stored Away (Open t) staged holds held = absurd holds
 held_in plain stored old (Lost w) staged holds held = tt
 held_in plain stored old Away staged holds held = tt
+
+pub held_stored : {B S W X C : Type 0} (plain : B → Block) (stored : S → Kept (At Block)) (number : S → ℕ) (covers : S → ℕ → List (At Block)) (r : Result X C) (left : W → Left (At Block)) (old new : Place S W) (staged : List (ℕ × B)) (ignored : Bool) (x : At Block) → is_there old ≡ true → OnOk r (StaysIn stored number covers old new) → OnErr r (IsLeftIn old new) → OnOk r (StoresValue ignored (kept_at stored left old) x (kept_at stored left new)) → AreHeldIn plain stored old staged → AreHeldIn plain stored new staged
+held_stored plain stored number covers r left old new staged ignored x there stays gone stores held = held_in plain stored old new staged (either r (both_done _ _ r stays stores) gone (λ ok. holds_in stored number covers left old new ok.0 (held_by_store ok.1)) (λ lost. holds_left stored number covers old new there lost)) held
 
 pub held_read : {B S W : Type 0} (plain : B → Block) (stored : S → Kept (At Block)) (number : S → ℕ) (covers : S → ℕ → List (At Block)) (left : W → Left (At Block)) (old new : Place S W) (staged : List (ℕ × B)) → IsReadIn stored number covers left old new → AreHeldIn plain stored old staged → AreHeldIn plain stored new staged
 held_read plain stored number covers left (Open s) (Open t) staged read held = subst (λ k. AllByRecursion (λ e. value_at k.held e.0 ≡ Some (plain e.1)) staged) (sym read.0) held

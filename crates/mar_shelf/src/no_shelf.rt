@@ -1,4 +1,5 @@
 //! A shelf that holds nothing.
+ghost use Rattle.std.specs.Prelude.{◌∷◌, []};
 ghost use Rattle.mar_store.specs.Watch.{unfailing};
 
 use crate::{Shelf, ShelfRuin};
@@ -9,11 +10,19 @@ use mar_store::Lost;
 pub struct NoShelf;
 
 impl ShelfRuin for NoShelf {
+    ghost left = { λ _. record { sure = []; may = [] } };
+
+    ghost lowests = { λ _. 0 ∷ [] };
+
     ghost watch = { λ _. unfailing };
 }
 
 impl Shelf for NoShelf {
     type Wreck = NoShelf;
+
+    ghost left = { λ _. record { sure = []; may = [] } };
+
+    ghost lowest = { λ _. 0 };
 
     ghost watch = { λ _. unfailing };
 

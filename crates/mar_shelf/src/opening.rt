@@ -1,8 +1,7 @@
 //! What a crash left of stores is opened, two at a time.
 ghost use Rattle.std.specs.Prelude.{◌≡◌, ◌⊎◌, IfErr, IfOk, map};
-ghost use Rattle.mar_node.specs.Faults.{block_store, cache_store, cert_store, meta_store};
-ghost use Rattle.mar_node.specs.Held.{Passes};
-ghost use Rattle.mar_shelf.specs.Pooling.{Closes, ClosesPairs, IsFaultOf, Opens, OpensPairs, Unopens, UnopensPairs};
+ghost use Rattle.mar_node.specs.Faults.{block_store, cert_store};
+ghost use Rattle.mar_shelf.specs.Pooling.{Closes, ClosesPairs, Opens, OpensPairs, OpensShelf, Unopens, UnopensPairs, UnopensShelf};
 ghost use Rattle.mar_node.specs.Views.{fault_of};
 
 use crate::Shelf;
@@ -66,10 +65,10 @@ pub fn progress<M: Meta, H: Shelf, C: Named, F: CommitsTo<C>>(
     luck: u64,
 ) -> Result<(Progress<M, C, F>, H), Unopened<C, M::Wreck, H::Wreck>>
     ensures pairs { IfOk result (λ p. OpensPairs (M.Wreck.left meta) (M.Wreck.watch meta) luck p.0) }
-    ensures shelf { IfOk result (λ p. Passes (H.Wreck.watch shelf) (H.watch p.1)) }
+    ensures shelf { IfOk result (λ p. OpensShelf H.left H.lowest H.Wreck.left H.Wreck.lowests H.watch H.Wreck.watch shelf p.1) }
     ensures lost { IfErr result (λ e. UnopensPairs M.Wreck.left M.Wreck.watch meta e.first (fault_of C.bytes e.fault) × (e.second ≡ shelf)
         ⊎ ClosesPairs M.Wreck.left M.Wreck.watch meta e.first
-        × IsFaultOf cache_store (H.Wreck.watch shelf) (fault_of C.bytes e.fault) (H.Wreck.watch e.second)) }
+        × UnopensShelf H.Wreck.left H.Wreck.lowests H.Wreck.watch shelf e.second (fault_of C.bytes e.fault)) }
 {
     let progress = match M::reopen(meta, luck) {
         Ok(meta) => Progress::new(meta),

@@ -42,7 +42,8 @@ impl<
     ghost Value = { Remains };
 
     ghost view = { λ r. record {
-      ended = ended_of (FB.Wreck.left r.blocks) (FC.Wreck.left r.certs) (map pair_at (M.Wreck.left r.meta));
+      ended = ended_of (FB.Wreck.left r.blocks) (FC.Wreck.left r.certs) (H.Wreck.left r.shelf) (H.Wreck.lowests r.shelf)
+          (map pair_at (M.Wreck.left r.meta));
       watches = record { blocks = FB.Wreck.watch r.blocks; certs = FC.Wreck.watch r.certs; meta = M.Wreck.watch r.meta; cache = H.Wreck.watch r.shelf };
     } };
 }
@@ -56,10 +57,6 @@ impl<
     H: Shelf,
 > StoresRuin for Ruins<V, F, FB, FC, M, H> {
     ghost left = { λ r. r };
-
-    fn law(&self) {
-        let _blocks = &self.blocks;
-    }
 
     fn arm(&mut self, store: StoreName, calls: u64) -> Result<(), AllocError> {
         match store {

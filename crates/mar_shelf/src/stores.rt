@@ -47,7 +47,7 @@ impl<
     ghost use Rattle.mar_node.specs.Places.{is_open, kept_at, watch_at};
     ghost use Rattle.mar_shelf.specs.Pooling.{AreHeldIn, AwaitsIn, of_blocks, of_certs};
     ghost use Rattle.mar_shelf.specs.Views.{Stock};
-    ghost use Rattle.std.specs.Prelude.{◌&&◌};
+    ghost use Rattle.std.specs.Prelude.{◌&&◌, ◌∷◌, []};
 
     ghost Value = { Stock V.Block };
 
@@ -59,6 +59,9 @@ impl<
         cutoff = s.progress.cutoff;
         witnessed = s.progress.witnessed;
         pairs = s.progress.pairs;
+        cache = H.left s.shelf;
+        lowest = H.lowest s.shelf;
+        lowests = H.lowest s.shelf ∷ [];
         writes = writing_of s.writes;
         watches = record {
           blocks = watch_at FB.watch FB.Wreck.watch s.blocks;

@@ -18,7 +18,7 @@ returns-in-Ok-reopen-clause-pairs g c = record {
 }
 
 pub returns-in-Ok-reopen-clause-shelf : goal.returns-in-Ok-reopen-clause-shelf
-returns-in-Ok-reopen-clause-shelf g c = Passes-one _ _ c.in-Ok-reopen.ensures.watched.0 c.in-Ok-reopen.ensures.watched.1
+returns-in-Ok-reopen-clause-shelf g c = record { waits = c.in-Ok-reopen.ensures.waits; lowest_was = c.in-Ok-reopen.ensures.lowest; passed = Passes-one _ _ c.in-Ok-reopen.ensures.watched.0 c.in-Ok-reopen.ensures.watched.1 }
 
 pub returns-in-Err-reopen-clause-lost : goal.returns-in-Err-reopen-clause-lost
 returns-in-Err-reopen-clause-lost g c = rw (c.lost_by-fault-in-Err-reopen.ensures.fault, c.lost_by-fault-in-Err-reopen.ensures.wreck) (inr (
@@ -28,5 +28,5 @@ returns-in-Err-reopen-clause-lost g c = rw (c.lost_by-fault-in-Err-reopen.ensure
     is = c.wreck.ensures.left ∙ ap (λ p. p.pairs) c.new-progress.ensures;
     passed = subst (Passes (g.M.Wreck.MetaRuin.watch c.args.meta)) (sym (c.wreck.ensures.watch ∙ ap (λ p. p.watch) c.new-progress.ensures)) (Passes-one _ _ c.in-Ok.ensures.watched.0 c.in-Ok.ensures.watched.1);
   },
-  by_lost g.H.Shelf.watch g.H.Wreck.ShelfRuin.watch _ cache_store c.in-Err-reopen.lost c.in-Err-reopen.ensures.watched,
+  record { leaves = c.in-Err-reopen.ensures.lost; cause = by_lost g.H.Shelf.watch g.H.Wreck.ShelfRuin.watch _ cache_store c.in-Err-reopen.lost c.in-Err-reopen.ensures.watched },
 ))

@@ -1,9 +1,9 @@
 use Rattle.std.proofs.Common.{refl}
 use Rattle.mar_node.specs.Faults.{block_store}
-use Rattle.mar_node.proofs.Growing.{Grew-counted}
-use Rattle.mar_node.proofs.StoreLosses.{Loses-missed}
+use Rattle.mar_node.specs.Views.{fault_of}
 use Rattle.mar_shelf.specs.Pooling.{of_blocks}
-use Rattle.mar_shelf.proofs.Placed.{always_done, archive_fault, by_answer, failed_so, held_read, read_open, read_same, usual_fault, waits_read}
+use Rattle.mar_shelf.proofs.Placed.{always_done, archive_fault, failed_so, held_read, usual_fault, waits_read}
+use Rattle.mar_shelf.proofs.Reading.{blocks_read, read_goes_on}
 use Rattle.mar_shelf.proofs.stores.StoresHolds.block_of.Goals as goal
 
 pub invariant_of-self : goal.invariant_of-self
@@ -16,12 +16,10 @@ pub returns-clause-found : goal.returns-clause-found
 returns-clause-found g c = rw (← c.self.view_is) c.of.ensures.found
 
 pub returns-clause-same : goal.returns-clause-same
-returns-clause-same g c = rw (← c.self.view_is, read_same g.FB.Keeps.stored g.FB.Keeps.number g.FB.Keeps.covers g.FB.Wreck.ArchiveRuin.left _ _ c.of.ensures.read, read_open g.FB.Keeps.stored g.FB.Keeps.number g.FB.Keeps.covers g.FB.Wreck.ArchiveRuin.left _ _ c.of.ensures.read) (always_done c.of.result refl)
+returns-clause-same g c = rw (← c.self.view_is) (always_done c.of.result (blocks_read g.FB.Keeps.stored g.FB.Keeps.number g.FB.Keeps.covers g.FB.Wreck.ArchiveRuin.left _ _ _ c.of.ensures.read))
 
 pub returns-clause-goes_on : goal.returns-clause-goes_on
-returns-clause-goes_on g c = rw (← c.self.view_is, read_same g.FB.Keeps.stored g.FB.Keeps.number g.FB.Keeps.covers g.FB.Wreck.ArchiveRuin.left _ _ c.of.ensures.read, read_open g.FB.Keeps.stored g.FB.Keeps.number g.FB.Keeps.covers g.FB.Wreck.ArchiveRuin.left _ _ c.of.ensures.read) (λ start all grew within. by_answer c.of.result c.of.ensures.passed c.of.ensures.failed
-    (λ passed. Grew-counted start all _ grew block_store _ passed)
-    (λ e how. Loses-missed start all _ grew block_store _ _ _ refl how))
+returns-clause-goes_on g c = rw (← c.self.view_is) (read_goes_on (fault_of g.V.Commitment.Named.bytes) block_store _ _ _ c.of.result (blocks_read g.FB.Keeps.stored g.FB.Keeps.number g.FB.Keeps.covers g.FB.Wreck.ArchiveRuin.left _ _ _ c.of.ensures.read) c.of.ensures.passed c.of.ensures.failed)
 
 pub returns-clause-archive : goal.returns-clause-archive
 returns-clause-archive g c = failed_so c.of.result c.of.ensures.failed (λ e how. archive_fault block_store _ _ _ tt how)

@@ -1,9 +1,9 @@
 use Rattle.std.proofs.Common.{refl}
 use Rattle.mar_node.specs.Faults.{cert_store}
-use Rattle.mar_node.proofs.Growing.{Grew-counted}
-use Rattle.mar_node.proofs.StoreLosses.{Loses-missed}
+use Rattle.mar_node.specs.Views.{fault_of}
 use Rattle.mar_shelf.specs.Pooling.{of_certs}
-use Rattle.mar_shelf.proofs.Placed.{always_done, archive_fault, by_answer, failed_so, read_open, read_same, usual_fault, waits_read}
+use Rattle.mar_shelf.proofs.Placed.{always_done, archive_fault, failed_so, usual_fault, waits_read}
+use Rattle.mar_shelf.proofs.Reading.{certs_read, read_goes_on}
 use Rattle.mar_shelf.proofs.stores.StoresHolds.has_certificate.Goals as goal
 
 pub invariant_of-self : goal.invariant_of-self
@@ -16,12 +16,10 @@ pub returns-clause-found : goal.returns-clause-found
 returns-clause-found g c = rw (← c.self.view_is) c.has.ensures.found
 
 pub returns-clause-same : goal.returns-clause-same
-returns-clause-same g c = rw (← c.self.view_is, read_same g.FC.Keeps.stored g.FC.Keeps.number g.FC.Keeps.covers g.FC.Wreck.ArchiveRuin.left _ _ c.has.ensures.read, read_open g.FC.Keeps.stored g.FC.Keeps.number g.FC.Keeps.covers g.FC.Wreck.ArchiveRuin.left _ _ c.has.ensures.read) (always_done c.has.result refl)
+returns-clause-same g c = rw (← c.self.view_is) (always_done c.has.result (certs_read g.FC.Keeps.stored g.FC.Keeps.number g.FC.Keeps.covers g.FC.Wreck.ArchiveRuin.left _ _ _ _ c.has.ensures.read))
 
 pub returns-clause-goes_on : goal.returns-clause-goes_on
-returns-clause-goes_on g c = rw (← c.self.view_is, read_same g.FC.Keeps.stored g.FC.Keeps.number g.FC.Keeps.covers g.FC.Wreck.ArchiveRuin.left _ _ c.has.ensures.read, read_open g.FC.Keeps.stored g.FC.Keeps.number g.FC.Keeps.covers g.FC.Wreck.ArchiveRuin.left _ _ c.has.ensures.read) (λ start all grew within. by_answer c.has.result c.has.ensures.passed c.has.ensures.failed
-    (λ passed. Grew-counted start all _ grew cert_store _ passed)
-    (λ e how. Loses-missed start all _ grew cert_store _ _ _ refl how))
+returns-clause-goes_on g c = rw (← c.self.view_is) (read_goes_on (fault_of g.V.Commitment.Named.bytes) cert_store _ _ _ c.has.result (certs_read g.FC.Keeps.stored g.FC.Keeps.number g.FC.Keeps.covers g.FC.Wreck.ArchiveRuin.left _ _ _ _ c.has.ensures.read) c.has.ensures.passed c.has.ensures.failed)
 
 pub returns-clause-archive : goal.returns-clause-archive
 returns-clause-archive g c = failed_so c.has.result c.has.ensures.failed (λ e how. archive_fault cert_store _ _ _ tt how)

@@ -1,18 +1,17 @@
 use Rattle.std.proofs.Common.{refl}
 use Rattle.mar_node.specs.Faults.{cert_store}
-use Rattle.mar_node.proofs.Growing.{Grew-put_cert}
-use Rattle.mar_node.proofs.StoreLosses.{Loses-certs}
+use Rattle.mar_node.specs.Views.{fault_of}
 use Rattle.mar_shelf.specs.Pooling.{of_certs}
-use Rattle.mar_shelf.proofs.Placed.{archive_fault, both_done, by_answer, done_so, either, failed_so, open_in, usual_fault, waits_left, waits_put}
+use Rattle.mar_shelf.proofs.Changed.{put_cert_goes_on}
+use Rattle.mar_shelf.proofs.Placed.{archive_fault, done_so, failed_so, open_in, usual_fault, waits_put_so}
+use Rattle.mar_shelf.proofs.Reading.{certs_still}
 use Rattle.mar_shelf.proofs.stores.StoresHolds.put_certificate.Goals as goal
 
 pub invariant_of-self : goal.invariant_of-self
 invariant_of-self g c = (
   c.self.invariant.0,
   c.self.invariant.1,
-  either c.put_certificate.result (both_done _ _ c.put_certificate.result c.put_certificate.ensures.stays c.put_certificate.ensures.done) c.put_certificate.ensures.left
-      (λ ok. waits_put g.FC.Keeps.stored g.FC.Keeps.number g.FC.Keeps.covers of_certs g.FC.Wreck.ArchiveRuin.left _ _ c.self.inside.writes c.self.invariant.2 ok.0 ok.1 (rw (← c.self.view_is) at c.requires.waits))
-      (λ gone. waits_left g.FC.Keeps.stored g.FC.Keeps.number g.FC.Keeps.covers of_certs _ _ c.self.inside.writes _ gone c.self.invariant.2),
+  waits_put_so g.FC.Keeps.stored g.FC.Keeps.number g.FC.Keeps.covers of_certs c.put_certificate.result g.FC.Wreck.ArchiveRuin.left _ _ c.self.inside.writes c.self.invariant.2 c.put_certificate.ensures.stays c.put_certificate.ensures.left _ _ c.put_certificate.ensures.done (rw (← c.self.view_is) at c.requires.waits),
 )
 
 pub returns-clause-staged : goal.returns-clause-staged
@@ -22,13 +21,10 @@ pub returns-clause-ok : goal.returns-clause-ok
 returns-clause-ok g c = rw (← c.self.view_is) c.put_certificate.ensures.done
 
 pub returns-clause-same : goal.returns-clause-same
-returns-clause-same g c = rw (← c.self.view_is) (done_so c.put_certificate.result c.put_certificate.ensures.stays (λ stays. rw (open_in g.FC.Keeps.stored g.FC.Keeps.number g.FC.Keeps.covers _ _ stays) refl))
+returns-clause-same g c = rw (← c.self.view_is) (done_so c.put_certificate.result c.put_certificate.ensures.stays (λ stays. certs_still _ _ (open_in g.FC.Keeps.stored g.FC.Keeps.number g.FC.Keeps.covers _ _ stays)))
 
 pub returns-clause-goes_on : goal.returns-clause-goes_on
-returns-clause-goes_on g c = rw (← c.self.view_is) (λ start all grew within. by_answer c.put_certificate.result
-    (both_done _ _ c.put_certificate.result (both_done _ _ c.put_certificate.result c.put_certificate.ensures.stays c.put_certificate.ensures.done) c.put_certificate.ensures.passed) c.put_certificate.ensures.failed
-    (λ ok. rw (open_in g.FC.Keeps.stored g.FC.Keeps.number g.FC.Keeps.covers _ _ ok.0.0) (Grew-put_cert start all _ grew _ _ _ _ within.certs ok.0.1 ok.1))
-    (λ e failed. Loses-certs start all _ grew _ _ _ _ within.certs failed.fails failed.cause))
+returns-clause-goes_on g c = rw (← c.self.view_is) (put_cert_goes_on (fault_of g.V.Commitment.Named.bytes) c.put_certificate.result _ _ g.FC.Keeps.stored g.FC.Wreck.ArchiveRuin.left g.FC.Keeps.watch g.FC.Wreck.ArchiveRuin.watch _ _ _ _ c.put_certificate.ensures.passed c.put_certificate.ensures.failed c.put_certificate.ensures.done)
 
 pub returns-clause-archive : goal.returns-clause-archive
 returns-clause-archive g c = failed_so c.put_certificate.result c.put_certificate.ensures.failed (λ e failed. archive_fault cert_store _ _ _ tt failed.cause)

@@ -1,13 +1,9 @@
 use Rattle.std.proofs.Common.{⊎_elim, inl, inr, refl}
-use Rattle.mar_node.specs.Faults.{sync_kind, ticket_limit}
-use Rattle.mar_node.proofs.Growing.{Grew-surer_blocks, Grew-surer_certs, Grew-writes}
-use Rattle.mar_node.proofs.StoreLosses.{Loses-nothing}
-use Rattle.mar_shelf.proofs.Both.{both_archive, both_lose}
-use Rattle.mar_shelf.proofs.Placed.{both_done, by_answer, done_so, failed_so, held_in}
+use Rattle.mar_shelf.proofs.Placed.{both_done, done_so, failed_so, held_in}
+use Rattle.mar_node.specs.Views.{fault_of}
+use Rattle.mar_shelf.proofs.Both.{both_archive, start_goes_on}
+use Rattle.mar_shelf.proofs.Reading.{both_same}
 use Rattle.mar_shelf.proofs.stores.StoresHolds.start_sync.Goals as goal
-
-pub start-requires : goal.start-requires
-start-requires g c = record { blocks = c.self.invariant.0; certs = c.self.invariant.2 }
 
 pub invariant_of-self : goal.invariant_of-self
 invariant_of-self g c = (c.start.ensures.blocks, held_in g.V.Variant.plain g.FB.Keeps.stored _ _ _ c.start.ensures.holds c.self.invariant.1, c.start.ensures.certs)
@@ -17,15 +13,10 @@ returns-clause-staged g c = rw (← c.self.view_is) refl
 
 pub returns-clause-ok : goal.returns-clause-ok
 returns-clause-ok g c = rw (← c.self.view_is) (done_so c.start.result (both_done _ _ c.start.result (both_done _ _ c.start.result (both_done _ _ c.start.result c.start.ensures.same_blocks c.start.ensures.same_certs) (both_done _ _ c.start.result c.start.ensures.surer_blocks c.start.ensures.surer_certs)) c.start.ensures.started)
-    (λ ok. rw (ok.0.0.0, ok.0.0.1, ok.0.1.0.still, ok.0.1.1.still, ok.1) refl))
+    (λ ok. both_same _ ok.0.0.0 ok.0.0.1 ok.0.1.0.still ok.0.1.1.still ok.1))
 
 pub returns-clause-goes_on : goal.returns-clause-goes_on
-returns-clause-goes_on g c = rw (← c.self.view_is) (λ start all grew within. by_answer c.start.result (both_done _ _ c.start.result c.start.ensures.surer_blocks c.start.ensures.surer_certs) c.start.ensures.failed
-    (λ ok. rw (ok.0.still, ok.1.still) (Grew-writes start all _ (Grew-surer_certs start all _ (Grew-surer_blocks start all _ grew _ _ ok.0.nested ok.0.surer ok.0.passed) _ _ ok.1.nested ok.1.surer ok.1.passed) _))
-    (λ e failed. ⊎_elim
-    (λ fails. both_lose g.FB.Keeps.stored g.FB.Wreck.ArchiveRuin.left g.FB.Keeps.watch g.FB.Wreck.ArchiveRuin.watch g.FC.Keeps.stored g.FC.Wreck.ArchiveRuin.left g.FC.Keeps.watch g.FC.Wreck.ArchiveRuin.watch _ _ _ _ _ fails start all grew)
-    (λ none. rw (none.0, none.2, none.3) (Loses-nothing start all _ grew (ticket_limit sync_kind) tt))
-    failed))
+returns-clause-goes_on g c = rw (← c.self.view_is) (start_goes_on g.FB.Keeps.stored g.FB.Wreck.ArchiveRuin.left g.FB.Keeps.watch g.FB.Wreck.ArchiveRuin.watch g.FC.Keeps.stored g.FC.Wreck.ArchiveRuin.left g.FC.Keeps.watch g.FC.Wreck.ArchiveRuin.watch _ _ _ _ _ _ _ (fault_of g.V.Commitment.Named.bytes) c.start.result c.start.ensures.surer_blocks c.start.ensures.surer_certs c.start.ensures.failed)
 
 pub returns-clause-kind : goal.returns-clause-kind
 returns-clause-kind g c = rw (← c.self.view_is) (failed_so c.start.result c.start.ensures.failed (λ e failed. ⊎_elim (λ fails. inl (both_archive g.FB.Keeps.stored g.FB.Wreck.ArchiveRuin.left g.FB.Keeps.watch g.FB.Wreck.ArchiveRuin.watch g.FC.Keeps.stored g.FC.Wreck.ArchiveRuin.left g.FC.Keeps.watch g.FC.Wreck.ArchiveRuin.watch _ _ _ _ _ fails)) (λ none. inr (none.0, none.1)) failed))

@@ -1,13 +1,9 @@
-use Rattle.std.proofs.Common.{refl}
 use Rattle.mar_node.specs.Faults.{block_store}
-use Rattle.mar_node.proofs.Growing.{Grew-counted}
-use Rattle.mar_node.proofs.StoreLosses.{Loses-missed}
+use Rattle.mar_node.specs.Views.{fault_of}
 use Rattle.mar_shelf.specs.Pooling.{of_blocks}
-use Rattle.mar_shelf.proofs.Placed.{always_done, archive_fault, by_answer, failed_so, read_open, read_same, usual_fault, waits_read}
+use Rattle.mar_shelf.proofs.Placed.{always_done, archive_fault, failed_so, usual_fault, waits_read}
+use Rattle.mar_shelf.proofs.Reading.{blocks_read, read_goes_on}
 use Rattle.mar_shelf.proofs.stores.StoresHolds.take_block.Goals as goal
-
-pub take-requires : goal.take-requires
-take-requires g c = record { held = c.self.invariant.1 }
 
 pub returns-clause-dropped : goal.returns-clause-dropped
 returns-clause-dropped g c = rw (← c.self.view_is) c.take.ensures.dropped
@@ -22,12 +18,10 @@ pub returns-clause-own : goal.returns-clause-own
 returns-clause-own g c = c.take.ensures.own
 
 pub returns-clause-same : goal.returns-clause-same
-returns-clause-same g c = rw (← c.self.view_is, read_same g.FB.Keeps.stored g.FB.Keeps.number g.FB.Keeps.covers g.FB.Wreck.ArchiveRuin.left _ _ c.take.ensures.read, read_open g.FB.Keeps.stored g.FB.Keeps.number g.FB.Keeps.covers g.FB.Wreck.ArchiveRuin.left _ _ c.take.ensures.read) (always_done c.take.result refl)
+returns-clause-same g c = rw (← c.self.view_is) (always_done c.take.result (blocks_read g.FB.Keeps.stored g.FB.Keeps.number g.FB.Keeps.covers g.FB.Wreck.ArchiveRuin.left _ _ _ c.take.ensures.read))
 
 pub returns-clause-goes_on : goal.returns-clause-goes_on
-returns-clause-goes_on g c = rw (← c.self.view_is, read_same g.FB.Keeps.stored g.FB.Keeps.number g.FB.Keeps.covers g.FB.Wreck.ArchiveRuin.left _ _ c.take.ensures.read, read_open g.FB.Keeps.stored g.FB.Keeps.number g.FB.Keeps.covers g.FB.Wreck.ArchiveRuin.left _ _ c.take.ensures.read) (λ start all grew within. by_answer c.take.result c.take.ensures.passed c.take.ensures.failed
-    (λ passed. Grew-counted start all _ grew block_store _ passed)
-    (λ e how. Loses-missed start all _ grew block_store _ _ _ refl how))
+returns-clause-goes_on g c = rw (← c.self.view_is) (read_goes_on (fault_of g.V.Commitment.Named.bytes) block_store _ _ _ c.take.result (blocks_read g.FB.Keeps.stored g.FB.Keeps.number g.FB.Keeps.covers g.FB.Wreck.ArchiveRuin.left _ _ _ c.take.ensures.read) c.take.ensures.passed c.take.ensures.failed)
 
 pub returns-clause-archive : goal.returns-clause-archive
 returns-clause-archive g c = failed_so c.take.result c.take.ensures.failed (λ e how. archive_fault block_store _ _ _ tt how)

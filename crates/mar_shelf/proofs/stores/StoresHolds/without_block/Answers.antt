@@ -1,9 +1,6 @@
 use Rattle.std.proofs.Common.{refl}
 use Rattle.mar_shelf.proofs.stores.StoresHolds.without_block.Goals as goal
 
-pub without_block-requires : goal.without_block-requires
-without_block-requires g c = rw (← c.self.view_is) at c.requires
-
 pub invariant_of-self : goal.invariant_of-self
 invariant_of-self g c = c.self.invariant
 
