@@ -3,7 +3,7 @@ use Rattle.std.proofs.Common.{◌≡◌, ℕ, List, [], Option, Some, None, Resu
 use Rattle.std.specs.declared.convert.Infallible.{Infallible}
 use Rattle.mar_cert.specs.Block.{Block}
 use Rattle.mar_cert.specs.Finalization.{Finalization}
-use Rattle.mar_inbox.specs.Views.{query_of}
+use Rattle.mar_inbox.specs.Views.{message_of, query_of, ticket_of}
 use Rattle.mar_inbox.specs.declared.message.Message.{Message}
 use Rattle.mar_inbox.specs.declared.query.Query.{Query}
 use Rattle.mar_inbox.specs.declared.query.Query.TheVariants as query
@@ -15,7 +15,7 @@ use Rattle.mar_node.specs.Step.{Report}
 use Rattle.mar_node.proofs.Lasting.{EndsLife-usual, IsPart-read, LivesOn-part}
 use Rattle.mar_actor.specs.Due.{due_fault}
 use Rattle.mar_actor.specs.Told.{tips_of}
-use Rattle.mar_actor.specs.Views.{event_of, told_of}
+use Rattle.mar_actor.specs.Views.{event_of, no_block, no_notarization, told_of}
 use Rattle.mar_actor.specs.declared.event.Event.{Event as EventCode}
 use Rattle.mar_actor.specs.declared.event.Event.TheVariants as event
 use Rattle.mar_actor.specs.declared.messages.Told.{Told}
@@ -49,8 +49,8 @@ module _ {D : Type 0} (digest : D → List ℕ) (t : ℕ) where
 -- AN EVENT THAT IS A MESSAGE
 
 -- what its sender tells or asks is the event
-pub event_is : {D F : Type 0} (digest : D → List ℕ) (plain : F → Finalization) (e : EventCode D F) (m : Message D Infallible Infallible F) (r x : Told D F) → e ≡ event.Message m → told_of digest plain r ≡ event_of digest plain (event.Message m) → r ≡ x → event_of digest plain e ≡ told_of digest plain x
-event_is digest plain e m r x is told same = ap (event_of digest plain) is ∙ (sym told ∙ ap (told_of digest plain) same)
+pub event_is : {D B F : Type 0} (digest : D → List ℕ) (block : B → Block) (plain : F → Finalization) (e : EventCode D B F) (m : Message D Infallible Infallible F) (r x : Told D F) → e ≡ event.Message m → told_of digest plain r ≡ message_told (ticket_of m) (message_of digest no_block no_notarization plain m) → r ≡ x → event_of digest block plain e ≡ told_of digest plain x
+event_is digest block plain e m r x is told same = ap (event_of digest block plain) is ∙ (sym told ∙ ap (told_of digest plain) same)
 
 -- answering reads, and may find no memory
 pub lives_asked : {P E : Type 0} (a : Seen P E) (result : Result (Seen P E) Ending) → IfOk result (IsRead a) → MatchResult result (λ new. Grew a.held nothing_written new.held) (Loses a.held nothing_written) → IfErr result (λ x. IsUsual x.fault) → LivesOn a result

@@ -4,3 +4,4 @@ pub mod Nexts
 pub mod Raised
 pub mod Told
 pub mod Reported
+pub mod Sent

@@ -1,10 +1,12 @@
 -- What a contract sees of the actor's types.
-use Rattle.std.specs.Prelude.{ℕ, List, None, Some}
+use Rattle.std.specs.Prelude.{ℕ, List, None, Some, [], ◌∷◌}
 use Rattle.std.specs.declared.convert.Infallible.{Infallible}
 use Rattle.mar_cert.specs.Block.{Block}
 use Rattle.mar_cert.specs.Finalization.{Finalization, Notarization}
-use Rattle.mar_inbox.specs.Views.{message_of, query_of, ticket_of}
-use Rattle.mar_node.specs.Messages.{report_finalization}
+use Rattle.mar_block.specs.Recipients.{named}
+use Rattle.mar_block.specs.Sent.{Sending}
+use Rattle.mar_inbox.specs.Views.{message_of, peers_of, query_of, ticket_of}
+use Rattle.mar_node.specs.Messages.{prepared, report_finalization}
 use Rattle.mar_node.specs.Event.{Event, life_started, message_told, sync_finished, ack_given}
 use Rattle.mar_node.specs.Faults.{Begin, from_genesis}
 use Rattle.mar_node.specs.Step.{Report, new_tip, handed_over}
@@ -20,19 +22,25 @@ use Rattle.mar_actor.specs.declared.settings.Limits.{Limits}
 use Rattle.mar_actor.specs.declared.settings.Start.{Start}
 use Rattle.mar_actor.specs.declared.settings.Start.TheVariants as start
 
--- no caller brings a block or a notarization yet
+-- no message brings a block or a notarization yet
 abbrev pub no_block : Infallible → Block
 no_block never = elim never [ ]
 
 abbrev pub no_notarization : Infallible → Notarization
 no_notarization never = elim never [ ]
 
--- an event, by what a digest is as bytes and a finalization as plain data
-abbrev pub event_of : {D F : Type 0} → (D → List ℕ) → (F → Finalization) → EventCode D F → Event
-event_of digest plain event.Start = life_started None
-event_of digest plain (event.Message m) = message_told (ticket_of m) (message_of digest no_block no_notarization plain m)
-event_of digest plain (event.Sync t) = sync_finished t
-event_of digest plain (event.Ack t) = ack_given t
+-- an event, by what a digest is as bytes, and a block and a finalization as plain data
+abbrev pub event_of : {D B F : Type 0} → (D → List ℕ) → (B → Block) → (F → Finalization) → EventCode D B F → Event
+event_of digest block plain event.Start = life_started None
+event_of digest block plain (event.Message m) = message_told (ticket_of m) (message_of digest no_block no_notarization plain m)
+event_of digest block plain (event.Prepared r peers b) = message_told None (prepared r (peers_of peers) (block b))
+event_of digest block plain (event.Sync t) = sync_finished t
+event_of digest block plain (event.Ack t) = ack_given t
+
+-- what an event has the buffer send, in order
+abbrev pub sendings_of : {D B F : Type 0} → (B → Block) → EventCode D B F → List Sending
+sendings_of block (event.Prepared r peers b) = record { round = r; block = block b; peers = named peers } ∷ []
+sendings_of block _ = []
 
 -- what a caller tells, or asks under a ticket
 abbrev pub told_of : {D F : Type 0} → (D → List ℕ) → (F → Finalization) → Told D F → Event

@@ -13,6 +13,8 @@
 //! - **Tips come first.** The application is told of the newest finalized block as soon as that is known (`Update::Tip`),
 //!   though blocks below it may be missing. Tips only rise within a life.
 //! - **Answers.** A query is answered in its own step, from what stands, and changes nothing.
+//! - **Sends.** A prepared block is handed to the buffer, which sends it, once and in its own step; nothing is stored and
+//!   nobody answered.
 //! - **An end says why.** A step that can't go on hands back what is left of the stores, and its fault names the store that
 //!   failed or the value that it could not take. Whatever was durable is still there, and the next opening goes on from it.
 //!
@@ -60,6 +62,7 @@ mod node;
 mod open;
 mod report;
 mod reporter;
+mod send;
 mod settings;
 mod shown;
 mod start;

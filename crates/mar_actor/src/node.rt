@@ -2,12 +2,13 @@
 ghost use Rattle.std.specs.Prelude.{◌≡◌, ◌≤◌, ◌+◌, ◌&&◌, ◌∷◌, ◌++◌, [], ℕ, IfErr, IfOk, Ok, OnErr, OnOk, false, map, nat_lt, not, true};
 ghost use Rattle.std.specs.List.{list_any};
 ghost use Rattle.mar_store.specs.Changes.{IsNested};
+ghost use Rattle.mar_block.specs.Sent.{Sends};
 ghost use Rattle.mar_node.specs.Acks.{is_unmarked};
 ghost use Rattle.mar_node.specs.Event.{sync_finished};
 ghost use Rattle.mar_node.specs.Held.{ArePassed, AreWritten, IsEndedBy, outcome, remains_of, seen, with_armed};
 ghost use Rattle.mar_node.specs.Moves.{LivesOn, RunsOut};
 ghost use Rattle.mar_inbox.specs.Answers.{told};
-ghost use Rattle.mar_inbox.specs.Views.{value_of};
+ghost use Rattle.mar_inbox.specs.Views.{sent_by, value_of};
 ghost use Rattle.mar_node.specs.Promise.{IsSmallEvent, KeepsPromise, heard_with};
 ghost use Rattle.mar_node.specs.Queries.{answers_found};
 ghost use Rattle.mar_node.specs.Stored.{AreSmall};
@@ -15,7 +16,7 @@ ghost use Rattle.mar_node.specs.Writing.{IsOrdered, is_open_sync};
 ghost use Rattle.mar_node.specs.Views.{fault_of, store_name_of};
 ghost use Rattle.mar_actor.specs.Due.{EndsWhereDue, due_fault};
 ghost use Rattle.mar_actor.specs.Told.{TellsInOrder, tips_of};
-ghost use Rattle.mar_actor.specs.Views.{event_of};
+ghost use Rattle.mar_actor.specs.Views.{event_of, sendings_of};
 
 use crate::acknowledge::acknowledge;
 use crate::event::Event;
@@ -23,6 +24,7 @@ use crate::life::Life;
 use crate::messages::{Told, told_by};
 use crate::report::report_finalization;
 use crate::reporter::Reporter;
+use crate::send::send;
 use crate::start::start;
 use crate::sync::finish_sync;
 use mar_block::{Buffer, Variant};
@@ -59,8 +61,8 @@ impl<V: Variant, S: Holds<V>, P: Drop, E: Epocher> Model for Node<V, S, P, E> {
 
 impl<V: Variant, S: Holds<V>, P: Drop, E: Epocher> Node<V, S, P, E> {
     /// Takes one event, the first of a life being `Event::Start`. An end of the life says why and hands back what is left.
-    /// On a lawful chain the step is a step of the node, or a cut. No rule takes memory of its own yet, nor changes the
-    /// buffer: `_alloc` and the buffer's `&mut` are for those that send and keep what isn't final.
+    /// On a lawful chain the step is a step of the node, or a cut. No rule takes memory of its own yet: `_alloc` is for
+    /// those that keep what isn't final. The buffer keeps its blocks: of a prepared one alone anything is sent.
     ///
     /// The fault of a step is `StoreFault` only where that store has failed, `HeightLimit` where a finalized block stands
     /// at the last height and `AckDropped` where the application dropped the oldest acknowledgement, each exactly where
@@ -69,30 +71,37 @@ impl<V: Variant, S: Holds<V>, P: Drop, E: Epocher> Node<V, S, P, E> {
     pub fn step<B: Buffer<V>, R: Resolver<V::Commitment>, A: Reporter<V>>(
         self,
         _alloc: Global,
-        event: Event<V::Digest, S::Finalization>,
+        event: Event<V::Digest, V::Block, S::Finalization>,
         answers: &mut AnswerTable<Value<V::Digest, V::Block, S::Finalization>>,
         buffer: &mut B,
         resolver: &mut R,
         application: &mut A,
     ) -> Result<Self, Ended<V, S>>
-        requires small_event { IsSmallEvent (event_of V.Digest.bytes S.Finalization.plain event) }
+        requires small_event { IsSmallEvent (event_of V.Digest.bytes V.plain S.Finalization.plain event) }
         requires small_buffer { AreSmall (B.blocks buffer.old) }
-        ensures promise { KeepsPromise (E.epochs self.life.epocher) V.inner self (event_of V.Digest.bytes S.Finalization.plain event ∷ [])
+        ensures promise { KeepsPromise (E.epochs self.life.epocher) V.inner self (event_of V.Digest.bytes V.plain S.Finalization.plain event ∷ [])
             (B.blocks buffer.old)
-            (heard_with (A.told application.old) (R.told resolver.old) (told (value_of V.Digest.bytes V.plain S.Finalization.plain) answers.old))
-            (heard_with (A.told application.new) (R.told resolver.new) (told (value_of V.Digest.bytes V.plain S.Finalization.plain) answers.new))
+            (heard_with (A.told application.old) (R.told resolver.old) (sent_by (B.sent buffer.old))
+            (told (value_of V.Digest.bytes V.plain S.Finalization.plain) answers.old))
+            (heard_with (A.told application.new) (R.told resolver.new) (sent_by (B.sent buffer.new))
+            (told (value_of V.Digest.bytes V.plain S.Finalization.plain) answers.new))
             result }
         ensures answered { OnOk result (told (value_of V.Digest.bytes V.plain S.Finalization.plain) answers.new
             ≡ told (value_of V.Digest.bytes V.plain S.Finalization.plain) answers.old
-            ++ answers_found V.inner self.held (B.blocks buffer.old) (event_of V.Digest.bytes S.Finalization.plain event)) }
-        ensures buffer { buffer.new ≡ buffer.old }
+            ++ answers_found V.inner self.held (B.blocks buffer.old) (event_of V.Digest.bytes V.plain S.Finalization.plain event)) }
+        ensures sends { OnOk result (Sends (B.sent buffer.old) (sendings_of V.plain event) (B.sent buffer.new)) }
+        ensures unsent { OnErr result (Sends (B.sent buffer.old) [] (B.sent buffer.new)) }
+        ensures blocks { B.blocks buffer.new ≡ B.blocks buffer.old }
+        ensures notifies { B.notifies buffer.new ≡ B.notifies buffer.old }
+        ensures buffer { sendings_of V.plain event ≡ [] → buffer.new ≡ buffer.old }
         ensures unanswered { OnErr result (answers.new ≡ answers.old) }
         ensures watches { IfOk result (λ n. ArePassed self.held.watches n.held.watches) }
         ensures cause { IfErr result (λ e. IsEndedBy self.held.watches e) }
-        ensures idle { (t : ℕ) → event_of V.Digest.bytes S.Finalization.plain event ≡ sync_finished t → is_open_sync self.held.writes.syncs t ≡ false
-            → result ≡ Ok self }
-        ensures by_value { EndsWhereDue (due_fault V.inner self (B.blocks buffer.old) (event_of V.Digest.bytes S.Finalization.plain event)) result }
-        ensures tells { TellsInOrder (A.told application.old) (tips_of V.inner self (B.blocks buffer.old) (event_of V.Digest.bytes S.Finalization.plain event))
+        ensures idle { (t : ℕ) → event_of V.Digest.bytes V.plain S.Finalization.plain event ≡ sync_finished t
+            → is_open_sync self.held.writes.syncs t ≡ false → result ≡ Ok self }
+        ensures by_value { EndsWhereDue (due_fault V.inner self (B.blocks buffer.old) (event_of V.Digest.bytes V.plain S.Finalization.plain event)) result }
+        ensures tells { TellsInOrder (A.told application.old)
+            (tips_of V.inner self (B.blocks buffer.old) (event_of V.Digest.bytes V.plain S.Finalization.plain event))
             (A.told application.new) result }
         ensures tickets { IfOk result (λ n. n.life.next_ack ≤ self.life.next_ack + self.life.sizes.window) }
         ensures sync_tickets { IfOk result (λ n. n.held.writes.next_sync ≤ self.held.writes.next_sync + 1) }
@@ -111,7 +120,7 @@ impl<V: Variant, S: Holds<V>, P: Drop, E: Epocher> Node<V, S, P, E> {
             &mut life,
             event,
             answers,
-            &*buffer,
+            buffer,
             resolver,
             application,
         ) {
@@ -179,9 +188,9 @@ impl<V: Variant, S: Holds<V>, P: Drop, E: Epocher> Node<V, S, P, E> {
 fn take<V, S, P, E, B, R, A>(
     stores: &mut S,
     life: &mut Life<P, E>,
-    event: Event<V::Digest, S::Finalization>,
+    event: Event<V::Digest, V::Block, S::Finalization>,
     answers: &mut AnswerTable<Value<V::Digest, V::Block, S::Finalization>>,
-    buffer: &B,
+    buffer: &mut B,
     resolver: &mut R,
     application: &mut A,
 ) -> Result<(), Fault<V::Commitment>>
@@ -197,24 +206,31 @@ where
     requires certs { IsNested (S.held stores.old).certs }
     requires small { AreSmall (map (λ x. x.value) (S.held stores.old).blocks.held) }
     requires ordered { IsOrdered (S.held stores.old).writes }
-    requires small_event { IsSmallEvent (event_of V.Digest.bytes S.Finalization.plain event) }
-    requires small_buffer { AreSmall (B.blocks buffer.now) }
+    requires small_event { IsSmallEvent (event_of V.Digest.bytes V.plain S.Finalization.plain event) }
+    requires small_buffer { AreSmall (B.blocks buffer.old) }
     ensures promise { KeepsPromise (E.epochs life.old.epocher) V.inner (seen (S.held stores.old) life.old)
-        (event_of V.Digest.bytes S.Finalization.plain event ∷ []) (B.blocks buffer.now)
-        (heard_with (A.told application.old) (R.told resolver.old) (told (value_of V.Digest.bytes V.plain S.Finalization.plain) answers.old))
-        (heard_with (A.told application.new) (R.told resolver.new) (told (value_of V.Digest.bytes V.plain S.Finalization.plain) answers.new))
+        (event_of V.Digest.bytes V.plain S.Finalization.plain event ∷ []) (B.blocks buffer.old)
+        (heard_with (A.told application.old) (R.told resolver.old) (sent_by (B.sent buffer.old))
+        (told (value_of V.Digest.bytes V.plain S.Finalization.plain) answers.old))
+        (heard_with (A.told application.new) (R.told resolver.new) (sent_by (B.sent buffer.new))
+        (told (value_of V.Digest.bytes V.plain S.Finalization.plain) answers.new))
         (outcome (fault_of V.Commitment.bytes) (seen (S.held stores.new) life.new) result) }
     ensures answered { OnOk result (told (value_of V.Digest.bytes V.plain S.Finalization.plain) answers.new
         ≡ told (value_of V.Digest.bytes V.plain S.Finalization.plain) answers.old
-        ++ answers_found V.inner (S.held stores.old) (B.blocks buffer.now) (event_of V.Digest.bytes S.Finalization.plain event)) }
+        ++ answers_found V.inner (S.held stores.old) (B.blocks buffer.old) (event_of V.Digest.bytes V.plain S.Finalization.plain event)) }
     ensures unanswered { OnErr result (answers.new ≡ answers.old) }
+    ensures sends { OnOk result (Sends (B.sent buffer.old) (sendings_of V.plain event) (B.sent buffer.new)) }
+    ensures unsent { OnErr result (Sends (B.sent buffer.old) [] (B.sent buffer.new)) }
+    ensures blocks { B.blocks buffer.new ≡ B.blocks buffer.old }
+    ensures notifies { B.notifies buffer.new ≡ B.notifies buffer.old }
+    ensures buffer { sendings_of V.plain event ≡ [] → buffer.new ≡ buffer.old }
     ensures lives { LivesOn (seen (S.held stores.old) life.old) (outcome (fault_of V.Commitment.bytes) (seen (S.held stores.new) life.new) result) }
-    ensures idle { (t : ℕ) → event_of V.Digest.bytes S.Finalization.plain event ≡ sync_finished t → is_open_sync (S.held stores.old).writes.syncs t ≡ false
-        → (result ≡ Ok tt) × (S.held stores.new ≡ S.held stores.old) × (life.new ≡ life.old) }
-    ensures by_value { EndsWhereDue (due_fault V.inner (seen (S.held stores.old) life.old) (B.blocks buffer.now)
-        (event_of V.Digest.bytes S.Finalization.plain event)) (outcome (fault_of V.Commitment.bytes) (seen (S.held stores.new) life.new) result) }
-    ensures tells { TellsInOrder (A.told application.old) (tips_of V.inner (seen (S.held stores.old) life.old) (B.blocks buffer.now)
-        (event_of V.Digest.bytes S.Finalization.plain event)) (A.told application.new)
+    ensures idle { (t : ℕ) → event_of V.Digest.bytes V.plain S.Finalization.plain event ≡ sync_finished t
+        → is_open_sync (S.held stores.old).writes.syncs t ≡ false → (result ≡ Ok tt) × (S.held stores.new ≡ S.held stores.old) × (life.new ≡ life.old) }
+    ensures by_value { EndsWhereDue (due_fault V.inner (seen (S.held stores.old) life.old) (B.blocks buffer.old)
+        (event_of V.Digest.bytes V.plain S.Finalization.plain event)) (outcome (fault_of V.Commitment.bytes) (seen (S.held stores.new) life.new) result) }
+    ensures tells { TellsInOrder (A.told application.old) (tips_of V.inner (seen (S.held stores.old) life.old) (B.blocks buffer.old)
+        (event_of V.Digest.bytes V.plain S.Finalization.plain event)) (A.told application.new)
         (outcome (fault_of V.Commitment.bytes) (seen (S.held stores.new) life.new) result) }
 {
     match event {
@@ -224,12 +240,19 @@ where
                 stores,
                 life,
                 &finalization,
-                buffer,
+                &*buffer,
                 resolver,
                 application,
             ),
-            Told::Asked(ticket, query) => answer::<V, S, B>(stores, ticket, query, buffer, answers),
+            Told::Asked(ticket, query) => {
+                answer::<V, S, B>(stores, ticket, query, &*buffer, answers)
+            }
         },
+        Event::Prepared {
+            round,
+            recipients,
+            block,
+        } => send::<V, B>(buffer, round, block, recipients),
         Event::Sync(ticket) => finish_sync::<V, S, P, E, A>(stores, life, ticket, application),
         Event::Ack(ticket) => {
             acknowledge::<V, S, P, E, R, A>(stores, life, ticket, resolver, application)

@@ -8,7 +8,7 @@ use crate::node::Node;
 use crate::settings::{Beginning, Config};
 use mar_block::Variant;
 use mar_key::Floor;
-use mar_node::{Ended, Fault, Holds, StoresRuin};
+use mar_node::{Ended, Fault, Holds};
 use mar_opening::open_stores;
 use mar_types::Epocher;
 use std::alloc::Global;
@@ -44,7 +44,6 @@ impl<V: Variant, S: Holds<V>, P: Drop, E: Epocher> Node<V, S, P, E> {
             (begin_of V.plain config.start) r.0) }
         ensures floor { IfOk result (λ r. r.1 ≡ record { processed = r.0.held.processed; cutoff = r.0.held.cutoff }) }
     {
-        ruins.law();
         let epocher = config.epocher;
         let Ok(beginning) = config.begin(alloc) else {
             return Err(Ended {

@@ -7,7 +7,8 @@ use Rattle.mar_types.specs.declared.Sha256Digest.{Sha256Digest}
 use Rattle.mar_inbox.specs.Views.{query_of}
 use Rattle.mar_inbox.specs.declared.Query.{Query}
 use Rattle.mar_inbox.specs.declared.Query.TheVariants as query
-use Rattle.mar_node.specs.Messages.{report_finalization}
+use Rattle.mar_types.specs.Round.{Round}
+use Rattle.mar_node.specs.Messages.{Peers, prepared, report_finalization}
 use Rattle.mar_key.specs.Processed.{height_of}
 use Rattle.mar_node.specs.Acks.{Mark, Outstanding, after_given, is_given, is_unmarked, mark_dropped, mark_given, mark_waiting, with_mark}
 use Rattle.mar_store.proofs.Lookups.{AllByRecursion-append}
@@ -105,13 +106,14 @@ asks_reports chain t query.Processed = tt
 asks_reports chain t query.Anchor = tt
 asks_reports chain t (query.Verified r) = tt
 
--- a start, a reported finalization, an acknowledgement, a sync that finished, a query
+-- a start, a reported finalization, an acknowledgement, a sync that finished, a query, a prepared block
 pub data IsPlain : Event → Type 0 where
   starts : IsPlain (life_started None)
   reports : (f : Finalization) → IsPlain (message_told None (report_finalization f))
   acks : (t : ℕ) → IsPlain (ack_given t)
   finishes : (t : ℕ) → IsPlain (sync_finished t)
   queries : (t : ℕ) (q : Query Sha256Digest) → IsPlain (asked_event t q)
+  prepares : (r : Round) (peers : Peers) (b : Block) → IsPlain (message_told None (prepared r peers b))
 
 not_at_limit : (above : Bool) (h : ℕ) → (h ≡ 2 ^ 64 - 1 → ⊥) → (if above && h == last_height then Some (height_limit h) else None) ≡ None
 not_at_limit false h not_last = refl
@@ -132,6 +134,7 @@ module _ {P E : Type 0} (config : Config) (chain : Chain) (a : Seen P E) (buffer
       (undropped-kept node (ack_given t) made steps.unticketed steps.advances.hands (undropped-after (with_mark t mark_given a.life.out) (undropped-marked t a.life.out undropped))))
   undropped-step e (finishes t) made n' steps undropped = subst (λ m. Undropped m.out) (sym steps.ticket) (undropped-with_sync (write_count node) steps.unticketed (undropped-kept node (sync_finished t) made steps.unticketed steps.advances.hands undropped))
   undropped-step e (queries t q) made n' steps undropped = subst (λ m. Undropped m.out) (sym steps.ticket) (undropped-with_sync (write_count node) steps.unticketed (subst (λ m. Undropped m.out) (sym (steps.advances.query (asks_query t q))) undropped))
+  undropped-step e (prepares r peers b) made n' steps undropped = subst (λ m. Undropped m.out) (sym steps.ticket) (undropped-with_sync (write_count node) steps.unticketed (undropped-kept node (message_told None (prepared r peers b)) made steps.unticketed steps.advances.hands undropped))
 
   query_fault : (t : ℕ) (q : Query Sha256Digest) → event_fault config node (asked_event t q) ≡ None
   query_fault t (query.Info id) = refl
@@ -145,6 +148,7 @@ module _ {P E : Type 0} (config : Config) (chain : Chain) (a : Seen P E) (buffer
   no_event_fault e starts lawful undropped = refl
   no_event_fault e (finishes t) lawful undropped = refl
   no_event_fault e (queries t q) lawful undropped = query_fault t q
+  no_event_fault e (prepares r peers b) lawful undropped = refl
   no_event_fault e (reports f) lawful undropped = by (at_hand node f.payload) refl
     where
       by : (o : Option Block) → at_hand node f.payload ≡ o → storing_fault node (option_map (λ m. record { height = m.block.height; with_certificate = true }) (option_map (λ b. met_of b f) o)) no_floor ≡ None

@@ -31,7 +31,7 @@ use Rattle.mar_script.specs.Text.{Output, State, remark_ignored, running, stoppe
 use Rattle.mar_script.specs.Shown.{plain_fault}
 use Rattle.mar_replay.specs.Turn.{output_of, waiting_with}
 use Rattle.mar_replay.specs.declared.play.Outcome.TheVariants as outcome
-use Rattle.mar_replay.proofs.Lasting.{IsPlain, Undropped, acks, asks_reports, finishes, no_event_fault, queries, reports, starts, undropped-step}
+use Rattle.mar_replay.proofs.Lasting.{IsPlain, Undropped, acks, asks_reports, finishes, no_event_fault, prepares, queries, reports, starts, undropped-step}
 
 -- CUTS
 
@@ -114,6 +114,7 @@ lawful_step config chain a buffer waiting k line e plain lawful same = record { 
     told (acks t) is = tt
     told (finishes t) is = tt
     told (queries t q) is = asks_reports chain t q
+    told (prepares r peers b) is = tt
 
     good : {d : Event} → IsPlain d → IsGoodFor config chain (node_of a buffer waiting) (d ∷ [])
     good starts = (a.life.tip, lawful.between.0)
@@ -121,6 +122,7 @@ lawful_step config chain a buffer waiting k line e plain lawful same = record { 
     good (acks t) = lawful.between.0
     good (finishes t) = lawful.between.0
     good (queries t q) = lawful.between.0
+    good (prepares r peers b) = lawful.between.0
 
     rests : {d : Event} → IsPlain d → RestsBefore config.window (node_of a buffer waiting) (d ∷ [])
     rests starts = tt
@@ -128,6 +130,7 @@ lawful_step config chain a buffer waiting k line e plain lawful same = record { 
     rests (acks t) = lawful.between.1
     rests (finishes t) = lawful.between.1
     rests (queries t q) = lawful.between.1
+    rests (prepares r peers b) = lawful.between.1
 
 -- THE ACKNOWLEDGEMENT LINE
 

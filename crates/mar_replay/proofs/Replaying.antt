@@ -15,7 +15,7 @@ use Rattle.mar_node.specs.Held.{Remains, Watches}
 use Rattle.mar_node.specs.Lives.{IsGoodEnded}
 use Rattle.mar_node.specs.Node.{Agrees, Ended, IsFinalized, left_by}
 use Rattle.mar_node.specs.Cached.{cached_block, cached_finalization}
-use Rattle.mar_node.proofs.Openings.{all_found_within}
+use Rattle.mar_node.proofs.Filtered.{all_found_within}
 use Rattle.mar_node.proofs.Soundness.{IsFrom, IsGoodEnded-from_sound, IsSound-from_good}
 use Rattle.mar_script.specs.Accounts.{Account, AccountsFor, first_account}
 use Rattle.mar_script.specs.Plays.{IsBetween, IsLawfulLine, Plays, buffer_in, max_window}

@@ -15,7 +15,7 @@ use Rattle.mar_node.specs.Acks.{Outstanding}
 use Rattle.mar_store.specs.Ranges.{Range, ranges}
 use Rattle.mar_script.specs.Shown.{ended_shown_words, shown_words}
 use Rattle.mar_script.specs.Text.{State, cutoff_text, ended_words, fault_words, line_of, or_dash, output_text, pair_words, ranges_text, remark_words, report_words, some_words, state_words}
-use Rattle.mar_replay.specs.Turn.{answers_text, asks_text, fault_in, heard_text, made_in, outcome_text, output_of, plain_report, remark_in, report_text}
+use Rattle.mar_replay.specs.Turn.{answers_text, asks_text, fault_in, heard_text, made_in, outcome_text, output_of, plain_report, remark_in, report_text, sends_text}
 use Rattle.mar_replay.specs.declared.heard.Heard.{Heard}
 use Rattle.mar_replay.specs.declared.play.Outcome.{Outcome}
 
@@ -43,30 +43,30 @@ pub line_shown : {T E : Type 0} (r : Result T E) (new old : List ℕ) (words : L
 line_shown (Ok v) new old words shown appended is = λ asked. appended ∙ ap (λ ws. old ++ line_of ws) (is asked)
 line_shown (Err e) new old words shown appended is = appended
 
-in_parts : (a b c rem fault node : List ℕ) → a ++ b ++ [] ++ c ++ [] ++ rem ++ fault ++ node ≡ a ++ (b ++ (c ++ ((rem ++ fault) ++ node)))
-in_parts a b c rem fault node = simp (append_assoc, append-nil)
+in_parts : (a b c d rem fault node : List ℕ) → a ++ b ++ c ++ d ++ [] ++ rem ++ fault ++ node ≡ a ++ (b ++ (c ++ (d ++ ((rem ++ fault) ++ node))))
+in_parts a b c d rem fault node = simp (append_assoc, append-nil)
 
-turn_text : (heard : Heard) (o : Outcome) (after : State) → output_text (output_of (made_in heard) o) after ≡ flat_map report_text heard.told.updates.items ++ (asks_text (made_in heard) ++ (answers_text (made_in heard) ++ (outcome_text o ++ line_of (state_words after))))
+turn_text : (heard : Heard) (o : Outcome) (after : State) → output_text (output_of (made_in heard) o) after ≡ flat_map report_text heard.told.updates.items ++ (asks_text (made_in heard) ++ (sends_text (made_in heard) ++ (answers_text (made_in heard) ++ (outcome_text o ++ line_of (state_words after)))))
 unfolding output_text
 turn_text heard o after =
-    in_parts (flat_map (λ r. line_of (report_words r)) (map plain_report heard.told.updates.items)) (asks_text (made_in heard)) (answers_text (made_in heard)) (some_words (option_map remark_words (remark_in o)))
+    in_parts (flat_map (λ r. line_of (report_words r)) (map plain_report heard.told.updates.items)) (asks_text (made_in heard)) (sends_text (made_in heard)) (answers_text (made_in heard)) (some_words (option_map remark_words (remark_in o)))
     (some_words (option_map (λ f. codes "fault" ∷ fault_words f) (fault_in o))) (line_of (state_words after))
-    ∙ ap (λ l. l ++ (asks_text (made_in heard) ++ (answers_text (made_in heard) ++ (outcome_text o ++ line_of (state_words after))))) (flat_map-map (λ r. line_of (report_words r)) plain_report heard.told.updates.items)
+    ∙ ap (λ l. l ++ (asks_text (made_in heard) ++ (sends_text (made_in heard) ++ (answers_text (made_in heard) ++ (outcome_text o ++ line_of (state_words after)))))) (flat_map-map (λ r. line_of (report_words r)) plain_report heard.told.updates.items)
 
--- what was appended in four parts
-pub in_four : (old m1 m2 m3 new a b c d : List ℕ) → m1 ≡ old ++ a → m2 ≡ m1 ++ b → m3 ≡ m2 ++ c → new ≡ m3 ++ d → new ≡ old ++ (a ++ (b ++ (c ++ d)))
-in_four old m1 m2 m3 new a b c d p q r s = s ∙ (ap (λ xs. xs ++ d) (r ∙ ap (λ xs. xs ++ c) (q ∙ ap (λ xs. xs ++ b) p)) ∙ all)
+-- what was appended in five parts
+pub in_five : (old m1 m2 m3 m4 new a b c d e : List ℕ) → m1 ≡ old ++ a → m2 ≡ m1 ++ b → m3 ≡ m2 ++ c → m4 ≡ m3 ++ d → new ≡ m4 ++ e → new ≡ old ++ (a ++ (b ++ (c ++ (d ++ e))))
+in_five old m1 m2 m3 m4 new a b c d e p q r s t = t ∙ (ap (λ xs. xs ++ e) (s ∙ ap (λ xs. xs ++ d) (r ∙ ap (λ xs. xs ++ c) (q ∙ ap (λ xs. xs ++ b) p))) ∙ all)
   where
-    all : (((old ++ a) ++ b) ++ c) ++ d ≡ old ++ (a ++ (b ++ (c ++ d)))
+    all : ((((old ++ a) ++ b) ++ c) ++ d) ++ e ≡ old ++ (a ++ (b ++ (c ++ (d ++ e))))
     all = simp (append_assoc)
 
-behind_four : (a b c d e : List ℕ) → (a ++ (b ++ (c ++ d))) ++ e ≡ a ++ (b ++ (c ++ (d ++ e)))
-behind_four a b c d e = simp (append_assoc)
+behind_five : (a b c d e f : List ℕ) → (a ++ (b ++ (c ++ (d ++ e)))) ++ f ≡ a ++ (b ++ (c ++ (d ++ (e ++ f))))
+behind_five a b c d e f = simp (append_assoc)
 
 with_node : (old mid new : List ℕ) (heard : Heard) (o : Outcome) (after : State) → mid ≡ old ++ heard_text heard o → new ≡ mid ++ line_of (state_words after) → new ≡ old ++ output_text (output_of (made_in heard) o) after
 with_node old mid new heard o after made appended =
     appended ∙ ap (λ l. l ++ line_of (state_words after)) made ∙ append_assoc old (heard_text heard o) (line_of (state_words after))
-    ∙ ap (λ l. old ++ l) (behind_four (flat_map report_text heard.told.updates.items) (asks_text (made_in heard)) (answers_text (made_in heard)) (outcome_text o) (line_of (state_words after)) ∙ sym (turn_text heard o after))
+    ∙ ap (λ l. old ++ l) (behind_five (flat_map report_text heard.told.updates.items) (asks_text (made_in heard)) (sends_text (made_in heard)) (answers_text (made_in heard)) (outcome_text o) (line_of (state_words after)) ∙ sym (turn_text heard o after))
 
 -- what was made and what there is now are a line's text
 pub turn_shown : {T E : Type 0} (r : Result T E) (old mid new : List ℕ) (heard : Heard) (o : Outcome) (shown : List Asked → State) → mid ≡ old ++ heard_text heard o → OnOk r ((asked : List Asked) → new ≡ mid ++ line_of (state_words (shown asked)))

@@ -13,9 +13,9 @@ use Rattle.mar_node.specs.Promise.{Waiting, node_of}
 use Rattle.mar_node.specs.Step.{Made, Report}
 use Rattle.mar_actor.specs.Views.{report_of}
 use Rattle.mar_actor.specs.declared.Update.{Update}
-use Rattle.mar_script.specs.Lines.{plain_block, plain_finalization}
+use Rattle.mar_script.specs.Lines.{plain_block, plain_finalization, plain_sent}
 use Rattle.mar_script.specs.Shown.{plain_fault, remark_of}
-use Rattle.mar_script.specs.Text.{Output, Remark, State, answer_words, ask_words, fault_words, line_of, remark_words, report_words, running, some_words, stopped}
+use Rattle.mar_script.specs.Text.{Output, Remark, State, answer_words, ask_words, fault_words, line_of, remark_words, report_words, running, sent_words, some_words, stopped}
 use Rattle.mar_replay.specs.declared.heard.Heard.{Heard}
 use Rattle.mar_replay.specs.declared.play.Outcome.{Outcome}
 use Rattle.mar_replay.specs.declared.play.Outcome.TheVariants as outcome
@@ -43,13 +43,16 @@ abbrev pub made_in : Heard → Made
 made_in heard = record {
   reports = map plain_report heard.told.updates.items;
   asks = heard.asked;
-  sends = [];
+  sends = map plain_sent heard.sent.items;
   answers = told (value_of (λ digest. digest.bytes) plain_block plain_finalization) heard.answers;
 }
 
 -- what is written of what was made, but for the reports
 abbrev pub asks_text : Made → List ℕ
 asks_text made = flat_map (λ a. line_of (ask_words a)) made.asks
+
+abbrev pub sends_text : Made → List ℕ
+sends_text made = flat_map (λ s. line_of (sent_words s)) made.sends
 
 abbrev pub answers_text : Made → List ℕ
 answers_text made = flat_map (λ a. line_of (answer_words a)) made.answers
@@ -60,7 +63,7 @@ outcome_text o = some_words (option_map remark_words (remark_in o)) ++ some_word
 
 -- what a line writes, but for the node
 abbrev pub heard_text : Heard → Outcome → List ℕ
-heard_text heard o = flat_map report_text heard.told.updates.items ++ (asks_text (made_in heard) ++ (answers_text (made_in heard) ++ outcome_text o))
+heard_text heard o = flat_map report_text heard.told.updates.items ++ (asks_text (made_in heard) ++ (sends_text (made_in heard) ++ (answers_text (made_in heard) ++ outcome_text o)))
 
 -- what a line writes of, but for the node
 abbrev pub output_of : Made → Outcome → Output

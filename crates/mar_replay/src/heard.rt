@@ -1,11 +1,11 @@
-//! What a node tells the application, asks of its peers and answers callers while one line is done.
+//! What a node tells the application, asks of its peers, sends and answers callers while one line is done.
 ghost use Rattle.std.specs.Prelude.{◌≡◌, ◌∷◌, [], OnErr, OnOk, Some, map};
 ghost use Rattle.mar_key.specs.Hears.{Hears};
 ghost use Rattle.mar_node.specs.Step.{nothing_made};
 ghost use Rattle.mar_replay.specs.Turn.{made_in, plain_report};
 
 use mar_actor::{Reporter, Update};
-use mar_block::{EmptyBlock, StandardBlocks};
+use mar_block::{EmptyBlock, Sent, StandardBlocks};
 use mar_cert::MockFinalization;
 use mar_inbox::{AnswerTable, Value};
 use mar_key::Recorder;
@@ -18,16 +18,18 @@ pub struct Told {
     pub updates: Vec<Update<Sha256Digest, Digested<EmptyBlock<Sha256>>>>,
 }
 
-/// What a node told, asked and answered while one line was done.
+/// What a node told, asked, sent and answered while one line was done.
 #[derive(Drop)]
 pub struct Heard {
     pub told: Told,
     pub asked: Recorder<Sha256Digest>,
+    /// Taken out of the buffer as the line is done, so that no line looks at what earlier ones sent.
+    pub sent: Vec<Sent<Digested<EmptyBlock<Sha256>>>>,
     pub answers: AnswerTable<Value<Sha256Digest, Digested<EmptyBlock<Sha256>>, MockFinalization>>,
 }
 
 impl Heard {
-    /// Of a line that has told, asked and answered nothing yet.
+    /// Of a line that has told, asked, sent and answered nothing yet.
     pub fn new(alloc: Global) -> Self
         ensures { made_in result ≡ nothing_made }
     {
@@ -36,6 +38,7 @@ impl Heard {
                 updates: Vec::new(alloc),
             },
             asked: Recorder::new(alloc),
+            sent: Vec::new(alloc),
             answers: AnswerTable::new(alloc),
         }
     }

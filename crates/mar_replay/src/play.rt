@@ -2,7 +2,7 @@
 ghost use Rattle.std.specs.Prelude.{◌≡◌, ◌↔◌, [], IsTrue, List, Ok, OnErr, OnOk, Some, map};
 ghost use Rattle.mar_key.specs.Asked.{Asked, asked_after};
 ghost use Rattle.mar_key.specs.Recorded.{ask_of};
-ghost use Rattle.mar_node.specs.Messages.{report_finalization};
+ghost use Rattle.mar_node.specs.Messages.{prepared, report_finalization};
 ghost use Rattle.mar_node.specs.Config.{Config as PlainConfig};
 ghost use Rattle.mar_node.specs.Faults.{from_genesis, want_of_memory};
 ghost use Rattle.mar_node.specs.Held.{remains_of};
@@ -18,12 +18,12 @@ ghost use Rattle.mar_script.specs.Lines.{plain_block, plain_finalization, plain_
 ghost use Rattle.mar_replay.specs.Playing.{HasSmallBlocks, PlaysLine, PlaysOrNot, TakesEvent};
 ghost use Rattle.mar_script.specs.Shown.{plain_fault};
 ghost use Rattle.mar_script.specs.Script.{IsSettings, ack_line, buffer_line, config_of, fail_line, open_line, sync_line, tell_line};
-ghost use Rattle.mar_inbox.specs.Views.{query_of};
+ghost use Rattle.mar_inbox.specs.Views.{peers_of, query_of};
 ghost use Rattle.mar_replay.specs.Turn.{fault_in, made_in, open_in, output_of, with_open};
 
 use crate::heard::Heard;
 use mar_actor::{Config, Ended, Event, Fault, Node, Start, StoreName};
-use mar_block::{EmptyBlock, MemBuffer, StandardBlocks};
+use mar_block::{EmptyBlock, MemBuffer, Sent, StandardBlocks};
 use mar_cert::{MockFinalization, MockProvider, MockScheme};
 use mar_inbox::{Message, Query};
 use mar_key::{Ask, OpenRequests};
@@ -81,7 +81,7 @@ impl<H: Holds<StandardBlocks, Finalization = MockFinalization>> State<H> {
     }
 }
 
-/// What a line did, beside what the node told and asked.
+/// What a line did, beside what the node told, asked, sent and answered.
 #[derive(Clone, Copy)]
 pub enum Outcome {
     /// The line was done.
@@ -149,6 +149,7 @@ fn play_stopped<H: Holds<StandardBlocks, Finalization = MockFinalization>>(
         Line::Sync(_ticket) => pass(left, luck),
         Line::Ack(_ticket) => pass(left, luck),
         Line::Query(_query) => pass(left, luck),
+        Line::Prepared(_sending) => pass(left, luck),
     }
 }
 
@@ -204,6 +205,7 @@ fn play_running<H: Holds<StandardBlocks, Finalization = MockFinalization>>(
         Line::Sync(ticket) => finish_sync(alloc, actor, buffer, pending, ticket, heard),
         Line::Ack(ticket) => acknowledge(alloc, actor, buffer, pending, ticket, heard),
         Line::Query(query) => ask(alloc, actor, buffer, pending, query, heard),
+        Line::Prepared(sending) => prepare(alloc, actor, buffer, pending, sending, heard),
         Line::Fail(store, calls) => arm(actor, buffer, pending, store, calls),
         Line::Crash(luck) => (crash(actor, buffer, pending, luck), Ok(Outcome::Done)),
     }
@@ -327,6 +329,34 @@ fn ask<H: Holds<StandardBlocks, Finalization = MockFinalization>>(
     (state, Ok(outcome))
 }
 
+// Sends a block ahead of its proposal.
+fn prepare<H: Holds<StandardBlocks, Finalization = MockFinalization>>(
+    alloc: Global,
+    actor: ScriptNode<H>,
+    buffer: MemBuffer<StandardBlocks>,
+    pending: Pending,
+    sending: Sent<EmptyBlock<Sha256>>,
+    heard: &mut Heard,
+) -> (State<H>, Result<Outcome, AllocError>)
+    requires small { AreSmall buffer.blocks }
+    requires silent { made_in heard.old ≡ nothing_made }
+    ensures { (config : PlainConfig) → PlaysOrNot config (State.Running actor buffer pending)
+        (tell_line (prepared sending.round (peers_of sending.recipients) (plain_block sending.block)))
+        (made_in heard.new) result.0 result.1 }
+{
+    let block = match Digested::compute(alloc, sending.block) {
+        Ok(block) => block,
+        Err(error) => return (State::Running(actor, buffer, pending), Err(error)),
+    };
+    let event = Event::Prepared {
+        round: sending.round,
+        recipients: sending.recipients,
+        block,
+    };
+    let (state, outcome) = step(alloc, actor, buffer, pending, event, heard);
+    (state, Ok(outcome))
+}
+
 // Lets the sync of this ticket finish, where the node awaits it.
 fn finish_sync<H: Holds<StandardBlocks, Finalization = MockFinalization>>(
     alloc: Global,
@@ -354,15 +384,17 @@ fn step<H: Holds<StandardBlocks, Finalization = MockFinalization>>(
     actor: ScriptNode<H>,
     buffer: MemBuffer<StandardBlocks>,
     pending: Pending,
-    event: Event<Sha256Digest, MockFinalization>,
+    event: Event<Sha256Digest, Digested<EmptyBlock<Sha256>>, MockFinalization>,
     heard: &mut Heard,
 ) -> (State<H>, Outcome)
-    requires small_event { IsSmallEvent (event_of (λ digest. digest.bytes) plain_finalization event) }
+    requires small_event { IsSmallEvent (event_of (λ digest. digest.bytes) plain_block plain_finalization event) }
     requires small { AreSmall buffer.blocks }
     requires silent { made_in heard.old ≡ nothing_made }
-    ensures { TakesEvent actor buffer pending (event_of (λ digest. digest.bytes) plain_finalization event) (made_in heard.new) result.0 result.1 }
+    ensures { TakesEvent actor buffer pending (event_of (λ digest. digest.bytes) plain_block plain_finalization event) (made_in heard.new) result.0 result.1 }
 {
     let mut buffer = buffer;
+    // What earlier lines sent was told with them.
+    let _earlier = buffer.take_sent(alloc);
     match actor.step(
         alloc,
         event,
@@ -371,7 +403,10 @@ fn step<H: Holds<StandardBlocks, Finalization = MockFinalization>>(
         &mut heard.asked,
         &mut heard.told,
     ) {
-        Ok(actor) => (State::Running(actor, buffer, pending), Outcome::Done),
+        Ok(actor) => {
+            heard.sent = buffer.take_sent(alloc);
+            (State::Running(actor, buffer, pending), Outcome::Done)
+        }
         Err(ended) => {
             let (fault, left) = parts_of(ended);
             (State::Stopped(left, 0), Outcome::Fault(fault))

@@ -13,7 +13,7 @@ use mar_cert::MockFinalization;
 use mar_node::{Holds, StoresRuin};
 use mar_script::{
     RangeTexts, push_answers, push_asks, push_block, push_ended, push_fault, push_node,
-    push_remark, push_tip,
+    push_remark, push_sends, push_tip,
 };
 use mar_types::{Digested, Sha256, Sha256Digest};
 use std::alloc::{AllocError, Global};
@@ -38,8 +38,8 @@ impl Page {
     }
 }
 
-/// Appends what a line made: what the application was told, what was asked, what callers were answered, a remark or a fault,
-/// and what there is now.
+/// Appends what a line made: what the application was told, what was asked, what was sent, what callers were answered, a
+/// remark or a fault, and what there is now.
 pub fn push_turn<H: Holds<StandardBlocks, Finalization = MockFinalization>>(
     alloc: Global,
     text: &mut String,
@@ -66,6 +66,7 @@ fn push_made(
 {
     push_updates(alloc, text, &heard.told.updates)?;
     push_asks(alloc, text, heard.asked.asks())?;
+    push_sends(alloc, text, &heard.sent)?;
     push_answers(alloc, text, heard.answers.answers())?;
     push_outcome(alloc, text, outcome)?;
     Ok(())

@@ -42,7 +42,7 @@ no_sentence bytes word rest is e =
 abbrev pub is_inked : List ℕ → Bool
 is_inked word = list_all (λ b. nat_lt 32 b) word
 
-inked : (word : List ℕ) → is_inked word ≡ true → All IsInk word
+pub inked : (word : List ℕ) → is_inked word ≡ true → All IsInk word
 inked [] test = All-nil IsInk
 inked (b ∷ word) test =
     let parts = and_parts (nat_lt 32 b) (is_inked word) test in

@@ -9,6 +9,8 @@ pub mod QueryWords
 pub mod ReadBytes
 pub mod FirstWords
 pub mod LineKinds
+pub mod PeerWords
+pub mod PreparedWords
 pub mod LineEnds
 pub mod ReadSteps
 pub mod FirstOutside

@@ -9,14 +9,15 @@ use Rattle.std.proofs.lemmas.List.Elements.{All-append, All-cons, All-contains, 
 use Rattle.hex.specs.Hex.{IsBytes, encode_lower, encode_with, hex_digit_value, lower_digits}
 use Rattle.hex.proofs.HexLemmas.{IsDigits-lower_digits}
 use Rattle.mar_types.specs.Varint.{IsNumber}
-use Rattle.mar_node.specs.Messages.{Identifier, get_anchor, get_block, get_finalization, get_info, get_processed, get_verified, latest, of_digest, of_height, report_finalization}
+use Rattle.mar_node.specs.Messages.{Identifier, get_anchor, get_block, get_finalization, get_info, get_processed, get_verified, latest, of_digest, of_height, prepared, report_finalization}
 use Rattle.mar_node.specs.Faults.{StoreName, block_store, cache_store, cert_store, from_genesis, meta_store}
 use Rattle.mar_cert.specs.Finalization.{finalization_bytes}
 use Rattle.mar_script.specs.Run.{IsConfigBytes, IsLineBytes}
-use Rattle.mar_script.specs.Script.{HasValues, IsBuilt, IsIdentifier, IsLine, IsSettings, Line, Settings, ack_line, buffer_line, crash_line, fail_line, hex, identifier_text, line_bytes, line_words, open_line, sentence, settings_bytes, settings_words, store_name, sync_line, tell_line}
+use Rattle.mar_script.specs.Script.{HasValues, IsBuilt, IsIdentifier, IsLine, IsSettings, Line, Settings, ack_line, buffer_line, crash_line, fail_line, hex, identifier_text, line_bytes, line_words, open_line, peers_text, sentence, settings_bytes, settings_words, store_name, sync_line, tell_line}
 use Rattle.mar_script.specs.Refused.{IsUnended}
 use Rattle.mar_script.specs.Words.{numbers_of}
 use Rattle.mar_script.proofs.FirstWords.{heads}
+use Rattle.mar_script.proofs.PreparedWords.{peers_ink}
 use Rattle.mar_script.proofs.ReadBytes.{block_is_bytes, digest_is_bytes, finalization_is_bytes}
 use Rattle.mar_script.proofs.Sentences.{IsInk, digits_are_ink, settings_numbers}
 
@@ -102,6 +103,8 @@ words_inner n (tell_line (get_finalization h)) wide built values = (by_test (cod
 words_inner n (tell_line get_processed) wide built values = (by_test (codes "processed") refl, tt)
 words_inner n (tell_line get_anchor) wide built values = (by_test (codes "anchor") refl, tt)
 words_inner n (tell_line (get_verified r)) wide built values = (by_test (codes "getverified") refl, (decimal_inner r.epoch values.0, (decimal_inner r.view values.1, tt)))
+words_inner n (tell_line (prepared r peers b)) wide built values =
+    (by_test (codes "prepared") refl, (decimal_inner r.epoch values.0.0, (decimal_inner r.view values.0.1, (All-weaker IsInk IsInner (λ b ink is. omega (arith, ink)) (peers_text peers) (peers_ink peers values.1), (hex_inner b.encoded (block_is_bytes b values.2), tt)))))
 words_inner n (sync_line t) wide built values = (by_test (codes "sync") refl, (decimal_inner t values, tt))
 words_inner n (ack_line t) wide built values = (by_test (codes "ack") refl, (decimal_inner t values, tt))
 words_inner n (fail_line store k) wide built values = (by_test (codes "fail") refl, (store_inner store, (decimal_inner k values.1, tt)))

@@ -21,12 +21,9 @@ same_digest word xs ys p q is same =
     let two : decode_of word ≡ Ok ys = decodes word ys (digest_is_bytes ys q) (omega (arith, q.0)) same in
     cc (one, two)
 
-decimal_word : (n : ℕ) → IsNumber n → IsWord (decimal n)
+pub decimal_word : (n : ℕ) → IsNumber n → IsWord (decimal n)
 decimal_word n fits = λ has. omega (arith, All-contains IsInk (decimal n) 32 (digits_are_ink n fits) has)
 
 -- two words spell one round
 pub round_words : (words epoch view : List ℕ) (r : Round) → words ≡ epoch ++ 32 ∷ view → IsWord epoch → IsRound r → words ≡ decimal r.epoch ++ 32 ∷ decimal r.view → (epoch ≡ decimal r.epoch) × (view ≡ decimal r.view)
 round_words words epoch view r is word fits same = one_split epoch (decimal r.epoch) view (decimal r.view) word (decimal_word r.epoch fits.0) (sym is ∙ same)
-
-pub same_round : (x r : Round) (epoch view : ℕ) → x ≡ record { epoch = epoch; view = view } → epoch ≡ r.epoch → view ≡ r.view → x ≡ r
-same_round x r epoch view is p q = is ∙ ap (λ e. record { epoch = e; view = view }) p ∙ ap (λ v. record { epoch = r.epoch; view = v }) q

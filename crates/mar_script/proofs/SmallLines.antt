@@ -4,7 +4,7 @@ use Rattle.std.specs.Prelude.{codes}
 use Rattle.hex.specs.Hex.{encode_lower, encode_with}
 use Rattle.mar_cert.specs.Finalization.{finalization_bytes}
 use Rattle.mar_store.specs.Sizes.{IsSmall}
-use Rattle.mar_node.specs.Messages.{get_anchor, get_block, get_finalization, get_info, get_processed, get_verified, report_finalization}
+use Rattle.mar_node.specs.Messages.{get_anchor, get_block, get_finalization, get_info, get_processed, get_verified, prepared, report_finalization}
 use Rattle.mar_node.specs.Faults.{from_genesis}
 use Rattle.mar_script.specs.Plays.{IsSmallLine}
 use Rattle.mar_script.specs.Script.{IsLine, Line, ack_line, buffer_line, crash_line, fail_line, hex, line_bytes, open_line, sync_line, tell_line}
@@ -36,6 +36,7 @@ small_line n (tell_line (get_finalization h)) is = tt
 small_line n (tell_line get_processed) is = tt
 small_line n (tell_line get_anchor) is = tt
 small_line n (tell_line (get_verified r)) is = tt
+small_line n (tell_line (prepared r peers b)) is = tt
 small_line n (ack_line t) is = tt
 small_line n (sync_line t) is = tt
 small_line n (fail_line store k) is = tt

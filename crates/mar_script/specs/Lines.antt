@@ -4,7 +4,7 @@ use Rattle.std.specs.Option.{option_map}
 use Rattle.std.specs.Prelude.{Contains, IfOk, List, Option, Result, [], codes, decimal, map, ℕ, ◌++◌, ◌∷◌, ◌≡◌, ◌≤◌}
 use Rattle.std.specs.Str.{bytes_eq}
 use Rattle.sha2.specs.Sha256.{sha256}
-use Rattle.mar_types.specs.Round.{IsRound}
+use Rattle.mar_types.specs.Round.{IsRound, Round}
 use Rattle.mar_types.specs.Varint.{IsNumber}
 use Rattle.mar_types.specs.declared.Sha256.{Sha256}
 use Rattle.mar_types.specs.declared.Sha256Digest.{Sha256Digest}
@@ -18,12 +18,15 @@ use Rattle.mar_cert.specs.declared.MockCertificate.{MockCertificate}
 use Rattle.mar_cert.specs.Block.{Block, IsBlock}
 use Rattle.mar_block.specs.EmptyBlock.{block_bytes, block_message, standard_block}
 use Rattle.mar_block.specs.declared.EmptyBlock.{EmptyBlock}
-use Rattle.mar_inbox.specs.Views.{query_of}
-use Rattle.mar_node.specs.Messages.{get_anchor, get_block, get_finalization, get_info, get_processed, get_verified, report_finalization}
+use Rattle.mar_block.specs.Sent.{sending}
+use Rattle.mar_block.specs.declared.recipients.Sent.{Sent as SentCode}
+use Rattle.mar_inbox.specs.Views.{peers_of, query_of, sent_of}
+use Rattle.mar_node.specs.Answers.{Sent}
+use Rattle.mar_node.specs.Messages.{Peers, get_anchor, get_block, get_finalization, get_info, get_processed, get_verified, prepared, report_finalization}
 use Rattle.mar_node.specs.Faults.{StoreName, from_genesis}
 use Rattle.mar_node.specs.Views.{store_name_of}
 use Rattle.mar_node.specs.declared.StoreName.{StoreName as StoreNameCode}
-use Rattle.mar_script.specs.Script.{HasValues, IsBuilt, IsIdentifier, Line, ack_line, buffer_line, crash_line, fail_line, hex, identifier_text, line_bytes, open_line, store_name, sync_line, tell_line}
+use Rattle.mar_script.specs.Script.{HasValues, IsBuilt, IsIdentifier, IsPeers, Line, ack_line, buffer_line, crash_line, fail_line, hex, identifier_text, line_bytes, open_line, peers_text, store_name, sync_line, tell_line}
 use Rattle.mar_script.specs.Words.{Yields}
 use Rattle.mar_script.specs.declared.line.Line.{Line as LineCode}
 use Rattle.mar_script.specs.declared.line.Line.TheVariants as line
@@ -39,11 +42,16 @@ plain_block b =
 abbrev pub plain_finalization : FinalizationCode Sha256Digest MockCertificate → Finalization
 plain_finalization f = final_of (λ digest. digest.bytes) (λ c. certificate_bytes (plain_signers c)) f
 
+-- a block that was sent
+abbrev pub plain_sent : SentCode (EmptyBlock Sha256 Sha256Digest) → Sent
+plain_sent s = sent_of (sending plain_block s)
+
 abbrev pub plain_line : LineCode → Line
 plain_line (line.OpenGenesis b) = open_line (from_genesis (plain_block b))
 plain_line (line.Buffer b) = buffer_line (plain_block b)
 plain_line (line.Final f) = tell_line (report_finalization (plain_finalization f))
 plain_line (line.Query q) = tell_line (query_of (λ digest. digest.bytes) q)
+plain_line (line.Prepared s) = tell_line (prepared s.round (peers_of s.recipients) (plain_block s.block))
 plain_line (line.Sync t) = sync_line t
 plain_line (line.Ack t) = ack_line t
 plain_line (line.Fail store calls) = fail_line (store_name_of store) calls
@@ -81,10 +89,15 @@ first_word kind.Info = codes "info"
 first_word kind.Block = codes "block"
 first_word kind.Finalization = codes "finalization"
 first_word kind.Verified = codes "getverified"
+first_word kind.Prepared = codes "prepared"
 first_word kind.Sync = codes "sync"
 first_word kind.Ack = codes "ack"
 first_word kind.Fail = codes "fail"
 first_word kind.Crash = codes "crash"
+
+-- the words of a prepared block behind the first
+abbrev pub prepared_text : Round × Peers × Block → List ℕ
+prepared_text v = decimal v.0.epoch ++ 32 ∷ (decimal v.0.view ++ 32 ∷ (peers_text v.1 ++ 32 ∷ hex v.2.encoded))
 
 -- The line is made of a value that these bytes spell.
 pub record MadeOf {V : Type 0} (make : V → Line) (IsValue : V → Type 0) (text : V → List ℕ) (bytes : List ℕ) (line : Line) : Type 0 where
@@ -102,6 +115,7 @@ Behind n kind.Info = MadeOf (λ i. tell_line (get_info i)) IsIdentifier identifi
 Behind n kind.Block = MadeOf (λ i. tell_line (get_block i)) IsIdentifier identifier_text
 Behind n kind.Finalization = MadeOf (λ h. tell_line (get_finalization h)) IsNumber decimal
 Behind n kind.Verified = MadeOf (λ r. tell_line (get_verified r)) IsRound (λ r. decimal r.epoch ++ 32 ∷ decimal r.view)
+Behind n kind.Prepared = MadeOf {V = Round × Peers × Block} (λ v. tell_line (prepared v.0 v.1 v.2)) (λ v. IsRound v.0 × IsPeers v.1 × IsBlock v.2) prepared_text
 Behind n kind.Sync = MadeOf sync_line IsNumber decimal
 Behind n kind.Ack = MadeOf ack_line IsNumber decimal
 Behind n kind.Fail = MadeOf {V = StoreName × ℕ} (λ v. fail_line v.0 v.1) (λ v. (1 ≤ v.1) × IsNumber v.1) (λ v. store_name v.0 ++ 32 ∷ decimal v.1)

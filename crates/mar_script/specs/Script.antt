@@ -229,6 +229,7 @@ IsBuiltMessage (get_finalization h) = ⊤
 IsBuiltMessage get_processed = ⊤
 IsBuiltMessage get_anchor = ⊤
 IsBuiltMessage (get_verified r) = ⊤
+IsBuiltMessage (prepared r peers b) = ⊤
 IsBuiltMessage _ = ⊥
 
 -- a line that is read

@@ -14,6 +14,10 @@ IsCommand words = (words ≡ codes "replay" ∷ []) ⊎ (words ≡ codes "--help
 abbrev pub words_in : List ℕ → List (List ℕ)
 words_in line = slice_split (λ b. b == 32) line
 
+-- and at each comma
+abbrev pub parts_in : List ℕ → List (List ℕ)
+parts_in word = slice_split (λ b. b == 44) word
+
 abbrev pub words_of : List (Bor (List ℕ)) → List (List ℕ)
 words_of words = map (λ word. word.now) words
 

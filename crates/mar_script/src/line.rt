@@ -7,10 +7,11 @@ ghost use Rattle.mar_script.specs.Lines.{Behind, IsLone, Parses, Spells, kinds, 
 ghost use Rattle.mar_script.specs.Script.{IsSettings, Line as PlainLine, hex};
 ghost use Rattle.mar_script.specs.Words.{Yields};
 
-use crate::query_line::{height, identifier, round};
+use crate::peers::recipients;
+use crate::query_line::{height, identifier, round, round_of};
 use crate::settings::Settings;
 use crate::words::{ParseError, bytes_of, look_up, number, split_word};
-use mar_block::EmptyBlock;
+use mar_block::{EmptyBlock, Sent};
 use mar_cert::MockFinalization;
 use mar_inbox::Query;
 use mar_node::StoreName;
@@ -28,6 +29,8 @@ pub enum Line {
     Final(MockFinalization),
     /// Asks what stands, under the next answer ticket.
     Query(Query<Sha256Digest>),
+    /// A block was built ahead of its proposal: it is to be sent so.
+    Prepared(Sent<EmptyBlock<Sha256>>),
     /// The sync of this ticket finishes.
     Sync(u64),
     /// The block of this ticket is acknowledged.
@@ -48,6 +51,7 @@ enum Kind {
     Block,
     Finalization,
     Verified,
+    Prepared,
     Sync,
     Ack,
     Fail,
@@ -55,7 +59,7 @@ enum Kind {
 }
 
 // The first word of each kind of line.
-const KINDS: [(&[u8], Kind); 11] = [
+const KINDS: [(&[u8], Kind); 12] = [
     (b"open", Kind::Open),
     (b"buffer", Kind::Buffer),
     (b"final", Kind::Final),
@@ -63,6 +67,7 @@ const KINDS: [(&[u8], Kind); 11] = [
     (b"block", Kind::Block),
     (b"finalization", Kind::Finalization),
     (b"getverified", Kind::Verified),
+    (b"prepared", Kind::Prepared),
     (b"sync", Kind::Sync),
     (b"ack", Kind::Ack),
     (b"fail", Kind::Fail),
@@ -131,6 +136,7 @@ fn parse_kind(alloc: Global, members: u32, kind: Kind, rest: &[u8]) -> Result<Li
         Kind::Block => identifier(rest).map(Query::Block).map(Line::Query),
         Kind::Finalization => height(rest).map(Query::Finalization).map(Line::Query),
         Kind::Verified => round(rest).map(Query::Verified).map(Line::Query),
+        Kind::Prepared => prepared(alloc, rest),
         Kind::Sync => number(rest).map(Line::Sync),
         Kind::Ack => number(rest).map(Line::Ack),
         Kind::Fail => fail(rest),
@@ -168,6 +174,37 @@ fn fail(words: &[u8]) -> Result<Line, ParseError>
             }
             Ok(Line::Fail(store, calls))
         }
+        Err(error) => Err(error),
+    }
+}
+
+// The line `prepared` with these words.
+fn prepared(alloc: Global, words: &[u8]) -> Result<Line, ParseError>
+    ensures { (n : ℕ) → Parses (Behind n Kind.Prepared words.now) result }
+{
+    let Some((epoch, rest)) = split_word(words) else {
+        return Err(ParseError::Grammar);
+    };
+    let Some((view, rest)) = split_word(rest) else {
+        return Err(ParseError::Grammar);
+    };
+    let Some((peers, rest)) = split_word(rest) else {
+        return Err(ParseError::Grammar);
+    };
+    let round = match round_of(epoch, view) {
+        Ok(round) => round,
+        Err(error) => return Err(error),
+    };
+    let recipients = match recipients(alloc, peers) {
+        Ok(recipients) => recipients,
+        Err(error) => return Err(error),
+    };
+    match block_of(alloc, rest) {
+        Ok(block) => Ok(Line::Prepared(Sent {
+            round,
+            block,
+            recipients,
+        })),
         Err(error) => Err(error),
     }
 }

@@ -4,13 +4,15 @@ ghost use Rattle.std.specs.List.{flat_map};
 ghost use Rattle.mar_node.specs.Pool.{syncs_of};
 ghost use Rattle.mar_node.specs.Views.{pooled_of};
 ghost use Rattle.mar_parts.specs.Views.{mark_of, outstanding_of};
-ghost use Rattle.mar_script.specs.Script.{comma_numbers};
+ghost use Rattle.mar_inbox.specs.Views.{peers_of};
+ghost use Rattle.mar_script.specs.Script.{comma_numbers, peers_text};
 ghost use Rattle.mar_script.specs.Text.{comma_list, mark_text, outstanding_text, sync_text};
 
 use crate::pieces::push_number;
+use mar_block::Recipients;
 use mar_node::OpenSync;
 use mar_parts::{Mark, PendingAck};
-use mar_types::Height;
+use mar_types::{Height, Participant};
 use std::alloc::AllocError;
 
 // Peers, each with a comma before it.
@@ -34,6 +36,41 @@ pub fn push_peers(text: &mut String, peers: &[u32]) -> Result<(), AllocError>
     write!(text, "{first}")?;
     push_more_peers(text, peers.split_at(1).1)?;
     Ok(())
+}
+
+// Members, each with a comma before it.
+fn push_more_members(text: &mut String, members: &[Participant]) -> Result<(), AllocError>
+    ensures { OnOk result (string_bytes text.new ≡ string_bytes text.old ++ flat_map (λ m. 44 ∷ decimal m) members.now) }
+{
+    for member in members {
+        text.push_str(",")?;
+        push_number(text, member.get() as u64)?;
+    }
+    Ok(())
+}
+
+fn push_members(text: &mut String, members: &[Participant]) -> Result<(), AllocError>
+    ensures { OnOk result (string_bytes text.new ≡ string_bytes text.old ++ comma_numbers members.now) }
+{
+    if members.is_empty() {
+        return text.push_str("-");
+    }
+    push_number(text, members[0].get() as u64)?;
+    push_more_members(text, members.split_at(1).1)?;
+    Ok(())
+}
+
+/// Appends to whom something is sent: `all`, or members.
+pub fn push_recipients(
+    text: &mut String,
+    recipients: &Recipients<Participant>,
+) -> Result<(), AllocError>
+    ensures { OnOk result (string_bytes text.new ≡ string_bytes text.old ++ peers_text (peers_of recipients.now)) }
+{
+    match recipients {
+        Recipients::All => text.push_str("all"),
+        Recipients::Some(members) => push_members(text, members),
+    }
 }
 
 // Heights, each with a comma before it.

@@ -60,6 +60,15 @@ pub fn round(words: &[u8]) -> Result<Round, ParseError>
     let Some((epoch, view)) = split_word(words) else {
         return Err(ParseError::Grammar);
     };
+    round_of(epoch, view)
+}
+
+/// The round of the epoch and the view that these words spell.
+pub fn round_of(epoch: &[u8], view: &[u8]) -> Result<Round, ParseError>
+    ensures is_round { IfOk result IsRound }
+    ensures found { IfOk result (λ r. (epoch.now ≡ decimal r.epoch) × (view.now ≡ decimal r.view)) }
+    ensures only { (r : PlainRound) → IsRound r → epoch.now ≡ decimal r.epoch → view.now ≡ decimal r.view → Yields (λ found. found ≡ r) result }
+{
     match number(epoch) {
         Ok(epoch) => match number(view) {
             Ok(view) => Ok(Round::new(Epoch::new(epoch), View::new(view))),

@@ -4,10 +4,11 @@ ghost use Rattle.std.specs.List.{flat_map};
 ghost use Rattle.mar_script.specs.OutputWords.{word_text};
 ghost use Rattle.mar_script.specs.Text.{line_of};
 
-use crate::lists::push_peers;
+use crate::lists::{push_peers, push_recipients};
 use crate::pieces::{push_annotation, push_hex, push_number, push_round, push_some_processed};
+use mar_block::Recipients;
 use mar_key::{Annotation, Processed};
-use mar_types::Round;
+use mar_types::{Participant, Round};
 use std::alloc::{AllocError, Global};
 
 /// A word of a line of the output.
@@ -27,6 +28,8 @@ pub enum Word<'a> {
     Processed(Processed),
     /// Peers, with a comma between, or `-` for none.
     Peers(&'a [u32]),
+    /// To whom something is sent: `all`, or peers as those.
+    Recipients(&'a Recipients<Participant>),
 }
 
 fn push_word(alloc: Global, text: &mut String, word: &Word<'_>) -> Result<(), AllocError>
@@ -40,6 +43,7 @@ fn push_word(alloc: Global, text: &mut String, word: &Word<'_>) -> Result<(), Al
         Word::Subscriber(annotation) => push_annotation(text, *annotation),
         Word::Processed(processed) => push_some_processed(text, *processed),
         Word::Peers(peers) => push_peers(text, peers),
+        Word::Recipients(recipients) => push_recipients(text, recipients),
     }
 }
 

@@ -6,7 +6,7 @@ ghost use Rattle.mar_types.specs.Varint.{IsNumber};
 ghost use Rattle.mar_script.specs.Lines.{IsWord, named};
 ghost use Rattle.mar_script.specs.Refused.{HasFirstWord};
 ghost use Rattle.mar_script.specs.Script.{hex};
-ghost use Rattle.mar_script.specs.Words.{Yields, words_in, words_of};
+ghost use Rattle.mar_script.specs.Words.{Yields, parts_in, words_in, words_of};
 
 use itoa::Buffer;
 use std::alloc::{AllocError, Global};
@@ -84,6 +84,13 @@ pub fn split_words<'a>(alloc: Global, line: &'a [u8]) -> Result<Vec<&'a [u8]>, A
     ensures { IfOk result (λ words. words_of words.items ≡ words_in line.now) }
 {
     line.split(|byte| *byte == b' ').collect(alloc)
+}
+
+/// The parts of a word, with a comma between.
+pub fn split_parts<'a>(alloc: Global, word: &'a [u8]) -> Result<Vec<&'a [u8]>, AllocError>
+    ensures { IfOk result (λ parts. words_of parts.items ≡ parts_in word.now) }
+{
+    word.split(|byte| *byte == b',').collect(alloc)
 }
 
 /// The number that a word spells.

@@ -30,6 +30,8 @@ the lines of a script behind its settings, `config` and eight numbers:
   processed           asks for the processed height
   anchor              asks for it and the block that backs it
   getverified E V     asks for the block that was first verified in the round of epoch E and view V
+  prepared E V PEERS HEX
+                      sends a block in the round of epoch E and view V to PEERS: all, -, or members with commas between
   fail STORE N        the Nth counted call of this store from here on fails: blocks, certs or meta (cache has none yet)
   crash N             ends the life; of what a crash may leave, the next opening finds what N picks
 

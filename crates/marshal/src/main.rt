@@ -70,6 +70,8 @@ fn run_over<
     requires blocks_watch { FB.watch blocks ≡ fresh_watches.blocks }
     requires certs_watch { FC.watch certs ≡ fresh_watches.certs }
     requires meta_watch { M.watch meta ≡ fresh_watches.meta }
+    requires shelf { H.left shelf ≡ record { sure = []; may = [] } }
+    requires shelf_lowest { H.lowest shelf ≡ 0 }
     requires shelf_watch { H.watch shelf ≡ fresh_watches.cache }
     ensures usage { result ≡ Status.Usage ↔ (IsCommand (map string_bytes words.now) → ⊥) }
 {
@@ -110,8 +112,10 @@ fn empty_stores<
     requires blocks_watch { FB.watch blocks ≡ fresh_watches.blocks }
     requires certs_watch { FC.watch certs ≡ fresh_watches.certs }
     requires meta_watch { M.watch meta ≡ fresh_watches.meta }
+    requires shelf { H.left shelf ≡ record { sure = []; may = [] } }
+    requires shelf_lowest { H.lowest shelf ≡ 0 }
     requires shelf_watch { H.watch shelf ≡ fresh_watches.cache }
-    ensures { result ≡ fresh_stores }
+    ensures { result ≡ record fresh_stores { ended = record fresh_stores.ended { lowests = 0 ∷ [] } } }
 {
     Ruins {
         blocks: blocks.wreck(),

@@ -24,3 +24,6 @@ returns-in-Ack g c = rw c.in-Ack.is c.acknowledge.ensures
 
 pub returns-in-Query : goal.returns-in-Query
 returns-in-Query g c = rw c.in-Query.is c.ask.ensures
+
+pub returns-in-Prepared : goal.returns-in-Prepared
+returns-in-Prepared g c = rw c.in-Prepared.is c.prepare.ensures

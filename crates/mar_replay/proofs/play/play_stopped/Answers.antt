@@ -24,3 +24,6 @@ returns-in-Ack g c = rw (c.requires.silent, c.in-Ack.is, c.pass-in-Ack.ensures.s
 
 pub returns-in-Query : goal.returns-in-Query
 returns-in-Query g c = rw (c.requires.silent, c.in-Query.is, c.pass-in-Query.ensures.state, c.pass-in-Query.ensures.outcome) (plays_remark _ _ _ remark.Stopped (λ chain account. (refl, refl)) ArePassed-refl (λ luck. refl))
+
+pub returns-in-Prepared : goal.returns-in-Prepared
+returns-in-Prepared g c = rw (c.requires.silent, c.in-Prepared.is, c.pass-in-Prepared.ensures.state, c.pass-in-Prepared.ensures.outcome) (plays_remark _ _ _ remark.Stopped (λ chain account. (refl, refl)) ArePassed-refl (λ luck. refl))

@@ -39,3 +39,6 @@ returns-in-Fail c = rw c.in-Fail.is (c.fail.ensures c.args.members)
 
 pub returns-in-Crash : goal.returns-in-Crash
 returns-in-Crash c = rw c.in-Crash.is (line_of _ _ _ _ (λ (t : ℕ). t) line.Crash c.number-in-Crash.result _ (λ t. refl) c.number-in-Crash.ensures.fits c.number-in-Crash.ensures.found c.number-in-Crash.ensures.only c.map-in-Crash.ensures.cases)
+
+pub returns-in-Prepared : goal.returns-in-Prepared
+returns-in-Prepared c = rw c.in-Prepared.is (c.prepared.ensures c.args.members)

@@ -8,10 +8,10 @@ use Rattle.mar_opening.proofs.Opened.{failed_by_value, failed_cause, failed_cut,
 use Rattle.mar_actor.proofs.node.Node.init.Goals as goal
 
 pub returns-in_default-clause-opens : goal.returns-in_default-clause-opens
-returns-in_default-clause-opens g c = λ config chain set asks. cut_early config chain (g.S.Ruins.StoresRuin.left c.args.ruins) _ _ _ asks (LosesOpening-nothing (g.S.Ruins.StoresRuin.left c.args.ruins) want_of_memory tt c.law.ensures.no_cache) (inl tt)
+returns-in_default-clause-opens g c = λ config chain set asks. cut_early config chain (g.S.Ruins.StoresRuin.left c.args.ruins) _ _ _ asks (LosesOpening-nothing (g.S.Ruins.StoresRuin.left c.args.ruins) want_of_memory tt) (inl tt)
 
 pub returns-in_default-clause-cause : goal.returns-in_default-clause-cause
-returns-in_default-clause-cause g c = (LosesOpening-nothing (g.S.Ruins.StoresRuin.left c.args.ruins) want_of_memory tt c.law.ensures.no_cache).cause
+returns-in_default-clause-cause g c = (LosesOpening-nothing (g.S.Ruins.StoresRuin.left c.args.ruins) want_of_memory tt).cause
 
 pub returns-in_err-stores-clause-opens : goal.returns-in_err-stores-clause-opens
 returns-in_err-stores-clause-opens g c =

@@ -7,7 +7,11 @@ returns-in-Ok g c =
     rw (← c.self.view_is, ← c.deref_mut.ensures.value) (record {
       promise = c.in-Ok.ensures.promise;
       answered = c.in-Ok.ensures.answered;
-      buffer = refl;
+      sends = c.in-Ok.ensures.sends;
+      unsent = tt;
+      blocks = c.in-Ok.ensures.blocks;
+      notifies = c.in-Ok.ensures.notifies;
+      buffer = c.in-Ok.ensures.buffer;
       unanswered = tt;
       watches = lives.passed;
       cause = tt;

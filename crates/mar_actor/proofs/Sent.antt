@@ -1,0 +1,45 @@
+-- What a buffer was handed to send, as the definitions see it.
+use Rattle.std.proofs.Common.{◌≡◌, ℕ, List, [], ◌∷◌, map, Option, Some, None, Result, Ok, Err, OnErr, OnOk, refl, ◌∙◌, ap, subst}
+use Rattle.std.proofs.lemmas.List.{map-append}
+use Rattle.mar_types.specs.Round.{Round}
+use Rattle.mar_cert.specs.Block.{Block}
+use Rattle.mar_block.specs.Recipients.{named}
+use Rattle.mar_block.specs.Sent.{Sending, Sends}
+use Rattle.mar_block.specs.declared.recipients.Recipients.{Recipients}
+use Rattle.mar_block.specs.declared.recipients.Recipients.TheVariants.{All, Some as Given}
+use Rattle.mar_inbox.specs.Views.{peers_named, peers_of, sent_by, sent_of}
+use Rattle.mar_key.specs.Hears.{Hears}
+use Rattle.mar_node.proofs.Handing.{Hears-nothing}
+
+-- more was sent
+pub hears_sent : (old new : Option (List Sending)) (more : List Sending) → Sends old more new → Hears (sent_by old) (map sent_of more) (sent_by new)
+hears_sent None new more sends = tt
+hears_sent (Some sent) new more sends = ap sent_by sends ∙ ap Some (map-append sent_of sent more)
+
+peers_are : (peers : Recipients ℕ) → peers_named (named peers) ≡ peers_of peers
+peers_are All = refl
+peers_are (Given peers) = refl
+
+-- one block was
+pub hears_block : {A E : Type 0} (old new : Option (List Sending)) (r : Round) (peers : Recipients ℕ) (b : Block) (result : Result A E) → OnOk result (Sends old (record { round = r; block = b; peers = named peers } ∷ []) new) → OnOk result (Hears (sent_by old) (record { round = r; digest = b.digest; peers = peers_of peers } ∷ []) (sent_by new))
+hears_block old new r peers b (Ok x) sends =
+    subst (λ p. Hears (sent_by old) (record { round = r; digest = b.digest; peers = p } ∷ []) (sent_by new)) (peers_are peers) (hears_sent old new (record { round = r; block = b; peers = named peers } ∷ []) sends)
+hears_block old new r peers b (Err e) sends = tt
+
+-- nothing was
+pub hears_none : {A E : Type 0} (old new : Option (List Sending)) (result : Result A E) → OnErr result (Sends old [] new) → OnErr result (Hears (sent_by old) [] (sent_by new))
+hears_none old new (Ok x) sends = tt
+hears_none old new (Err e) sends = hears_sent old new [] sends
+
+-- a buffer that stays as it is was handed nothing
+pub sends_nothing : (sent : Option (List Sending)) → Sends sent [] sent
+sends_nothing None = tt
+sends_nothing (Some sent) = Hears-nothing (Some sent)
+
+pub unsent-ok : {A E : Type 0} (sent : Option (List Sending)) (result : Result A E) → OnOk result (Sends sent [] sent)
+unsent-ok sent (Ok x) = sends_nothing sent
+unsent-ok sent (Err e) = tt
+
+pub unsent-err : {A E : Type 0} (sent : Option (List Sending)) (result : Result A E) → OnErr result (Sends sent [] sent)
+unsent-err sent (Ok x) = tt
+unsent-err sent (Err e) = sends_nothing sent
