@@ -9,7 +9,7 @@ ghost use Rattle.mar_store.specs.Sizes.{IsSmall};
 use crate::chain::{Block, genesis};
 use crate::service::Service;
 use mar_actor::{Config, Ended, Event, Fault, Holds, Node, Start};
-use mar_block::{MemBuffer, StandardBlocks};
+use mar_block::{MemBuffer, StandardBlocks, Variant};
 use mar_cert::{AsFinalization, MockFinalization, MockProvider, MockScheme};
 use mar_inbox::{AnswerTable, Identifier, Message, Standing, Value};
 use mar_key::Recorder;
@@ -50,12 +50,13 @@ fn config(genesis: Block) -> Config<MockProvider, FixedEpocher, Block, ()>
 /// Gives a node one event.
 pub(crate) fn step<S: Holds<StandardBlocks, Finalization = MockFinalization>>(
     node: Member<S>,
-    event: Event<Sha256Digest, MockFinalization>,
+    event: Event<Sha256Digest, Block, MockFinalization>,
     around: &mut Around,
 ) -> Result<Member<S>, Ended<StandardBlocks, S>>
-    requires small_event { IsSmallEvent (event_of (λ d. d.bytes) ⟦<MockFinalization as AsFinalization>⟧.plain event) }
+    requires small_event { IsSmallEvent (event_of (λ d. d.bytes) ⟦<StandardBlocks as Variant>⟧.plain
+        ⟦<MockFinalization as AsFinalization>⟧.plain event) }
     requires small_buffer { AreSmall around.old.buffer.blocks }
-    ensures { around.new.buffer ≡ around.old.buffer }
+    ensures { around.new.buffer.blocks ≡ around.old.buffer.blocks }
 {
     let Around {
         alloc,
@@ -74,7 +75,7 @@ pub(crate) fn begun<S: Holds<StandardBlocks, Finalization = MockFinalization>>(
     around: &mut Around,
 ) -> Result<Member<S>, Ended<StandardBlocks, S>>
     requires small_buffer { AreSmall around.old.buffer.blocks }
-    ensures { around.new.buffer ≡ around.old.buffer }
+    ensures { around.new.buffer.blocks ≡ around.old.buffer.blocks }
 {
     let Some(genesis) = genesis(alloc) else {
         return Err(Ended {
@@ -96,14 +97,11 @@ pub(crate) fn finalized<S: Holds<StandardBlocks, Finalization = MockFinalization
 ) -> Result<Member<S>, Ended<StandardBlocks, S>>
     requires small { IsSmall (finalization_bytes (⟦<MockFinalization as AsFinalization>⟧.plain finalization)) }
     requires small_buffer { AreSmall around.old.buffer.blocks }
-    ensures { around.new.buffer ≡ around.old.buffer }
+    ensures { around.new.buffer.blocks ≡ around.old.buffer.blocks }
 {
     let reported = Event::Message(Message::Finalization(finalization));
     let node = step::<S>(node, reported, around)?;
-    // where the block isn't at hand it is asked for, and no sync is started
-    if !node.awaits_sync(ticket) {
-        return Ok(node);
-    }
+    // where the block isn't at hand it is asked for, and no sync is started: a ticket that isn't open is ignored
     step::<S>(node, Event::Sync(ticket), around)
 }
 

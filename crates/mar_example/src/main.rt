@@ -24,17 +24,15 @@ use mar_cert::{AsFinalization, MockFinalization};
 use mar_inbox::AnswerTable;
 use mar_key::Recorder;
 use mar_shelf::{BlockItem, Blocks, CertificateItem, Certificates, NoShelf, Shelf};
-use mar_store::{LuckHalf, MemArchive, MemMeta, Meta};
+use mar_store::{Archive, LuckHalf, MemArchive, MemMeta, Meta};
 use mar_types::Sha256Digest;
 use std::alloc::Global;
 use std::io;
 
-/// An archive in memory that is never pruned. Stores on a disk would stand here in a service of one's own.
-type Store<T> = immutable::Archive<MemArchive<T>>;
-
-type BlockStore = Store<BlockItem<StandardBlocks>>;
-
-type CertificateStore = Store<CertificateItem<StandardBlocks, MockFinalization>>;
+/// Certificates in memory that are never pruned. Stores on a disk would stand here in a service of one's own.
+type CertificateStore = immutable::Archive<
+    MemArchive<CertificateItem<StandardBlocks, MockFinalization>>,
+>;
 
 /// The four stores of a life, of whatever make.
 type StoresOf<FB, FC, M, H> = Stores<StandardBlocks, MockFinalization, FB, FC, M, H>;
@@ -71,7 +69,7 @@ fn first_life<S: Holds<StandardBlocks, Finalization = MockFinalization>>(
     requires first { IsSmall (finalization_bytes (⟦<MockFinalization as AsFinalization>⟧.plain first)) }
     requires second { IsSmall (finalization_bytes (⟦<MockFinalization as AsFinalization>⟧.plain second)) }
     requires small_buffer { AreSmall around.old.buffer.blocks }
-    ensures { around.new.buffer ≡ around.old.buffer }
+    ensures { around.new.buffer.blocks ≡ around.old.buffer.blocks }
 {
     let node = begun::<S>(alloc, nothing, around)?;
     let node = step::<S>(node, Event::Ack(0), around)?;
@@ -197,6 +195,38 @@ fn lived_over<
     }
 }
 
+// The same with all stores but that of the blocks in memory. What is made of many types is put in step by step: a bound that
+// such a type meets is proved anew in each function that names it, and all of them at once cost most.
+fn lived_over_blocks<FB: Blocks<StandardBlocks>>(
+    alloc: Global,
+    blocks: FB,
+    consensus: Told,
+) -> Result<Outcome, Fault<Sha256Digest>>
+    requires first { IsSmall (finalization_bytes (⟦<MockFinalization as AsFinalization>⟧.plain consensus.first)) }
+    requires second { IsSmall (finalization_bytes (⟦<MockFinalization as AsFinalization>⟧.plain consensus.second)) }
+    requires third { IsSmall (finalization_bytes (⟦<MockFinalization as AsFinalization>⟧.plain consensus.third)) }
+    requires around { AreSmall consensus.around.buffer.blocks }
+{
+    let certs: CertificateStore = immutable::Archive::new(MemArchive::new(alloc, LuckHalf::High));
+    let meta = MemMeta::new(alloc);
+    lived_over(alloc, blocks, certs, meta, NoShelf, consensus)
+}
+
+// The same over an archive of blocks from which nothing is pruned.
+fn lived_over_archive<A: Archive<BlockItem<StandardBlocks>>>(
+    alloc: Global,
+    archive: A,
+    consensus: Told,
+) -> Result<Outcome, Fault<Sha256Digest>>
+    requires first { IsSmall (finalization_bytes (⟦<MockFinalization as AsFinalization>⟧.plain consensus.first)) }
+    requires second { IsSmall (finalization_bytes (⟦<MockFinalization as AsFinalization>⟧.plain consensus.second)) }
+    requires third { IsSmall (finalization_bytes (⟦<MockFinalization as AsFinalization>⟧.plain consensus.third)) }
+    requires around { AreSmall consensus.around.buffer.blocks }
+{
+    let blocks: immutable::Archive<A> = immutable::Archive::new(archive);
+    lived_over_blocks(alloc, blocks, consensus)
+}
+
 // The same over the library's stores in memory.
 fn lived_in_memory(alloc: Global, consensus: Told) -> Result<Outcome, Fault<Sha256Digest>>
     requires first { IsSmall (finalization_bytes (⟦<MockFinalization as AsFinalization>⟧.plain consensus.first)) }
@@ -204,10 +234,8 @@ fn lived_in_memory(alloc: Global, consensus: Told) -> Result<Outcome, Fault<Sha2
     requires third { IsSmall (finalization_bytes (⟦<MockFinalization as AsFinalization>⟧.plain consensus.third)) }
     requires around { AreSmall consensus.around.buffer.blocks }
 {
-    let blocks: BlockStore = immutable::Archive::new(MemArchive::new(alloc, LuckHalf::Low));
-    let certs: CertificateStore = immutable::Archive::new(MemArchive::new(alloc, LuckHalf::High));
-    let meta = MemMeta::new(alloc);
-    lived_over(alloc, blocks, certs, meta, NoShelf, consensus)
+    let archive = MemArchive::new(alloc, LuckHalf::Low);
+    lived_over_archive(alloc, archive, consensus)
 }
 
 // What the service was handed, a line for each block.
