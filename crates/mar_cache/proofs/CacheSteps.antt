@@ -1,11 +1,11 @@
 -- What puts, prunes and openings make of a cache that is seen as one list of entries.
-use Rattle.std.proofs.Common.{◌≡◌, ◌⊎◌, inl, inr, ◌≤◌, ◌<◌, ◌==◌, ◌&&◌, ◌||◌, nat_lt, not, ℕ, zero, suc, List, [], ◌∷◌, Bool, true, false, IsTrue, Contains, Option, None, cond, filter, length, max, refl, ap, ap₂, sym, subst, arith, ◌∙◌}
+use Rattle.std.proofs.Common.{◌≡◌, ◌⊎◌, inl, inr, ◌≤◌, ◌<◌, ◌==◌, ◌&&◌, ◌||◌, nat_lt, not, ℕ, zero, suc, List, [], ◌∷◌, Bool, true, false, IsTrue, Contains, Option, cond, filter, length, max, refl, ap, ap₂, sym, subst, arith, ◌∙◌}
 use Rattle.std.specs.List.{AllByRecursion}
 use Rattle.std.proofs.lemmas.Bool.{cases_eq, cases_lt, eq-eqb, le-ltb, lt-ltb}
 use Rattle.mar_types.specs.Round.{Round}
 use Rattle.mar_store.specs.Changes.{Left, Within, left_of}
 use Rattle.mar_store.specs.Alarms.{fresh_watch}
-use Rattle.mar_store.specs.Watch.{Watch}
+use Rattle.mar_store.specs.Watch.{Follows, Watch}
 use Rattle.mar_store.specs.declared.Alarm.{Alarm}
 use Rattle.mar_store.proofs.Lookups.{AllByRecursion-contains}
 use Rattle.mar_node.specs.AllEntries.{FirstsStay, LoadsEntries, PrunesEntries, PutsEntry, PutsEntryNow, soonest}
@@ -380,8 +380,8 @@ pub height_staged : (stage : Stage) (height : ℕ) (old new : EpochStates) → I
 height_staged stage height old new staged thins = staged_as stage old new staged (λ k. shut_thinned (is_certified_below height) (old k) (new k) (thins k))
 
 -- what a cache tells of which nothing was called yet
-pub fresh_shelf : (alarm : Alarm) (calm only : Bool) → alarm.due.items ≡ [] → alarm.faults ≡ 0 → calm ≡ true → only ≡ true → shelf_watch alarm (calm && only) ≡ fresh_watch None
-fresh_shelf alarm calm only due faults is_calm is_only = ap₂ {C = Watch} (λ f d. record { faults = f; due = d; armable = true; only_armed = calm && only; keeps = None }) faults due ∙ ap₂ {C = Watch} (λ p q. record { faults = 0; due = []; armable = true; only_armed = p && q; keeps = None }) is_calm is_only
+pub fresh_shelf : (keeps : Option Follows) (alarm : Alarm) (calm only : Bool) → alarm.due.items ≡ [] → alarm.faults ≡ 0 → calm ≡ true → only ≡ true → shelf_watch keeps alarm (calm && only) ≡ fresh_watch keeps
+fresh_shelf keeps alarm calm only due faults is_calm is_only = ap₂ {C = Watch} (λ f d. record { faults = f; due = d; armable = true; only_armed = calm && only; keeps = keeps }) faults due ∙ ap₂ {C = Watch} (λ p q. record { faults = 0; due = []; armable = true; only_armed = p && q; keeps = keeps }) is_calm is_only
 
 -- LOOK-UPS
 

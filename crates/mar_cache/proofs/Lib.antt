@@ -14,6 +14,7 @@ pub mod TellsEntries
 pub mod StatePuts
 pub mod StateLosses
 pub mod StateLoads
+pub mod LuckyLoads
 pub mod EventSteps
 pub mod Ticketing
 pub mod AllEpochs

@@ -1,8 +1,8 @@
 -- What a cache tells of its failures where the stores below it failed.
-use Rattle.std.proofs.Common.{sym, subst, ◌≡◌, ◌+◌, ◌-◌, ◌^◌, ℕ, Bool, true, false, Ok, Err, Result, cond, min, refl, ap, ap₂, arith, ◌∙◌}
+use Rattle.std.proofs.Common.{sym, subst, ◌≡◌, ◌+◌, ◌-◌, ◌^◌, ℕ, Bool, true, false, Option, Ok, Err, Result, cond, min, refl, ap, ap₂, arith, ◌∙◌}
 use Rattle.std.specs.Result.{IsErrAnd}
 use Rattle.mar_store.specs.Lost.{wreck_of}
-use Rattle.mar_store.specs.Watch.{Heeds, IsCalm, LostHeeds, Strikes, counted, Watch, after_call, is_due}
+use Rattle.mar_store.specs.Watch.{Follows, Heeds, IsCalm, LostHeeds, Strikes, counted, Watch, after_call, is_due}
 use Rattle.mar_store.specs.declared.Alarm.{Alarm}
 use Rattle.mar_store.specs.declared.Lost.{Lost}
 use Rattle.mar_store.specs.declared.Lost.TheVariants.{Fault, Memory}
@@ -26,29 +26,29 @@ IsCalmLost left old l = IsCalm {S = Watch} (λ s. s) left old (Err l)
 -- A CACHE WHOSE EPOCHS FAILED
 
 -- a fault is counted where the epochs failed, and where only armed calls fail they fail for memory alone
-pub lost_calm : {W : Type 0} (alarm_of : W → Alarm) (calm_of : W → Bool) (alarm : Alarm) (calm failed : Bool) (r : Lost W) → is_fault r ≡ failed → (alarm_of (wreck_of r)).due.items ≡ alarm.due.items
-    → (alarm_of (wreck_of r)).faults ≡ cond failed (min (alarm.faults + 1) (2 ^ 64 - 1)) alarm.faults → calm_of (wreck_of r) ≡ calm → (calm ≡ true → failed ≡ false) → IsCalmLost (λ w. shelf_watch (alarm_of w) (calm_of w)) (shelf_watch alarm calm) r
-lost_calm alarm_of calm_of alarm calm true (Fault w) is due faults same memory = (omega (arith, faults), λ only. absurd (let clash : true ≡ false = memory only in cc), ap₂ (λ d c. record { faults = (alarm_of w).faults; due = d; armable = true; only_armed = c; keeps = (shelf_watch alarm calm).keeps }) due same)
-lost_calm alarm_of calm_of alarm calm false (Memory w) is due faults same memory = ap₂ (λ f d. record { faults = f; due = d; armable = true; only_armed = calm_of w; keeps = (shelf_watch alarm calm).keeps }) faults due ∙ ap (shelf_watch alarm) same
-lost_calm alarm_of calm_of alarm calm false (Fault w) is due faults same memory = absurd cc
-lost_calm alarm_of calm_of alarm calm true (Memory w) is due faults same memory = absurd cc
+pub lost_calm : {W : Type 0} (keeps : Option Follows) (alarm_of : W → Alarm) (calm_of : W → Bool) (alarm : Alarm) (calm failed : Bool) (r : Lost W) → is_fault r ≡ failed → (alarm_of (wreck_of r)).due.items ≡ alarm.due.items
+    → (alarm_of (wreck_of r)).faults ≡ cond failed (min (alarm.faults + 1) (2 ^ 64 - 1)) alarm.faults → calm_of (wreck_of r) ≡ calm → (calm ≡ true → failed ≡ false) → IsCalmLost (λ w. shelf_watch keeps (alarm_of w) (calm_of w)) (shelf_watch keeps alarm calm) r
+lost_calm keeps alarm_of calm_of alarm calm true (Fault w) is due faults same memory = (omega (arith, faults), λ only. absurd (let clash : true ≡ false = memory only in cc), ap₂ (λ d c. record { faults = (alarm_of w).faults; due = d; armable = true; only_armed = c; keeps = keeps }) due same)
+lost_calm keeps alarm_of calm_of alarm calm false (Memory w) is due faults same memory = ap₂ (λ f d. record { faults = f; due = d; armable = true; only_armed = calm_of w; keeps = keeps }) faults due ∙ ap (shelf_watch keeps alarm) same
+lost_calm keeps alarm_of calm_of alarm calm false (Fault w) is due faults same memory = absurd cc
+lost_calm keeps alarm_of calm_of alarm calm true (Memory w) is due faults same memory = absurd cc
 
 -- A CALL THAT IS COUNTED
 
 -- it was armed
-pub rung : (old new : Alarm) (rings calm : Bool) → rings ≡ true → rings ≡ is_due old.due.items → new.due.items ≡ after_call old.due.items → new.faults ≡ cond rings (min (old.faults + 1) (2 ^ 64 - 1)) old.faults → Strikes (shelf_watch old calm) (shelf_watch new calm)
-rung old new true calm is rings due faults = record {
+pub rung : (keeps : Option Follows) (old new : Alarm) (rings calm : Bool) → rings ≡ true → rings ≡ is_due old.due.items → new.due.items ≡ after_call old.due.items → new.faults ≡ cond rings (min (old.faults + 1) (2 ^ 64 - 1)) old.faults → Strikes (shelf_watch keeps old calm) (shelf_watch keeps new calm)
+rung keeps old new true calm is rings due faults = record {
   rose = omega (arith, faults);
   armed = λ only. sym rings;
-  same = ap (λ d. record { faults = new.faults; due = d; armable = true; only_armed = calm; keeps = (shelf_watch old calm).keeps }) due;
+  same = ap (λ d. record { faults = new.faults; due = d; armable = true; only_armed = calm; keeps = keeps }) due;
 }
-rung old new false calm is rings due faults = absurd cc
+rung keeps old new false calm is rings due faults = absurd cc
 
 -- it wasn't, and goes on
-pub begun : (old new : Alarm) (rings calm calm' : Bool) → rings ≡ false → rings ≡ is_due old.due.items → new.due.items ≡ after_call old.due.items → new.faults ≡ cond rings (min (old.faults + 1) (2 ^ 64 - 1)) old.faults → calm' ≡ calm
-    → (is_due (shelf_watch old calm).due ≡ false) × (shelf_watch new calm' ≡ counted (shelf_watch old calm))
-begun old new true calm calm' is rings due faults same = absurd cc
-begun old new false calm calm' is rings due faults same = (sym rings, ap₂ (λ f d. record { faults = f; due = d; armable = true; only_armed = calm'; keeps = (shelf_watch old calm).keeps }) faults due ∙ ap (λ c. counted (shelf_watch old c)) same)
+pub begun : (keeps : Option Follows) (old new : Alarm) (rings calm calm' : Bool) → rings ≡ false → rings ≡ is_due old.due.items → new.due.items ≡ after_call old.due.items → new.faults ≡ cond rings (min (old.faults + 1) (2 ^ 64 - 1)) old.faults → calm' ≡ calm
+    → (is_due (shelf_watch keeps old calm).due ≡ false) × (shelf_watch keeps new calm' ≡ counted (shelf_watch keeps old calm))
+begun keeps old new true calm calm' is rings due faults same = absurd cc
+begun keeps old new false calm calm' is rings due faults same = (sym rings, ap₂ (λ f d. record { faults = f; due = d; armable = true; only_armed = calm'; keeps = keeps }) faults due ∙ ap (λ c. counted (shelf_watch keeps old c)) same)
 
 -- A CALL THAT WAS COUNTED, AND WENT ON
 

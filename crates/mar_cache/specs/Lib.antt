@@ -4,6 +4,8 @@ pub mod Calls
 pub mod SameEntries
 pub mod AsOne
 pub mod Stages
+pub mod Finds
 pub mod Nested
+pub mod SmallKept
 pub mod Steps
 pub mod Laws

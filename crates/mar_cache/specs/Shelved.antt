@@ -3,7 +3,7 @@ use Rattle.std.specs.Prelude.{Bool, Contains, List, None, Option, Some, [], fals
 use Rattle.mar_types.specs.Round.{Round}
 use Rattle.mar_store.specs.Changes.{Within}
 use Rattle.mar_store.specs.Tickets.{last_number}
-use Rattle.mar_store.specs.Watch.{Watch}
+use Rattle.mar_store.specs.Watch.{Follows, Watch}
 use Rattle.mar_store.specs.declared.Alarm.{Alarm}
 use Rattle.mar_node.specs.Cached.{Cached, epoch_of}
 use Rattle.mar_node.specs.Cache.{is_below}
@@ -19,8 +19,8 @@ use Rattle.mar_node.specs.declared.SectionSync.{SectionSync}
 use Rattle.mar_node.specs.Sections.{is_in}
 
 -- what an alarm tells; other calls than armed ones fail unless the stores below are calm
-abbrev pub shelf_watch : Alarm → Bool → Watch
-shelf_watch alarm calm = record { faults = alarm.faults; due = alarm.due.items; armable = true; only_armed = calm; keeps = None }
+abbrev pub shelf_watch : Option Follows → Alarm → Bool → Watch
+shelf_watch keeps alarm calm = record { faults = alarm.faults; due = alarm.due.items; armable = true; only_armed = calm; keeps = keeps }
 
 -- each of these entries is of that epoch
 abbrev pub AreOf : ℕ → List Cached → Type 0

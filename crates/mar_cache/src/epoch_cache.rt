@@ -6,11 +6,14 @@ ghost use Rattle.mar_node.specs.AllEntries.{soonest};
 ghost use Rattle.mar_node.specs.CacheCalls.{GoesOn, LosesCache, PutsAndStarts, PutsAndSyncs, none_goes};
 ghost use Rattle.mar_node.specs.Cached.{epoch_of};
 ghost use Rattle.mar_node.specs.Entries.{cached_of, is_sought};
+ghost use Rattle.mar_node.specs.SmallEntries.{IsSmallEntry};
 ghost use Rattle.mar_epochs.specs.EpochStates.{IsBare};
-ghost use Rattle.mar_cache.specs.AsOne.{covers_of, kept_of, left_of_ways, lowests_of};
+ghost use Rattle.mar_cache.specs.AsOne.{covers_of, greatest_highest, kept_of, left_of_ways, lowests_of};
 ghost use Rattle.mar_cache.specs.Bounds.{bounds_of};
+ghost use Rattle.mar_cache.specs.Finds.{finds_of};
 ghost use Rattle.mar_cache.specs.Nested.{nested_cache, nested_left};
 ghost use Rattle.mar_cache.specs.Shelved.{shelf_watch};
+ghost use Rattle.mar_cache.specs.SmallKept.{small_kept, small_left};
 ghost use Rattle.mar_cache.specs.Stages.{IsAtStage, is_fresh, is_loaded};
 
 use crate::manager::{Manager, ManagerWreck};
@@ -50,9 +53,11 @@ impl<S: Epochs, M: Meta> ShelfRuin for ManagerWreck<S, M> {
 
     ghost lowests = { λ w. lowests_of (map bounds_of (M.Wreck.left w.meta)) };
 
-    ghost watch = { λ w. shelf_watch w.alarm (S.Wreck.calm w.epochs && (M.Wreck.watch w.meta).only_armed) };
+    ghost watch = { λ w. shelf_watch S.keeps w.alarm (S.Wreck.calm w.epochs && (M.Wreck.watch w.meta).only_armed) };
 
     ghost within = { λ w. nested_left (S.Wreck.left w.epochs) _ (S.nested_left w.epochs) };
+
+    ghost small = { λ w. small_left (S.Wreck.left w.epochs) (greatest_highest (map bounds_of (M.Wreck.left w.meta))) (S.small_left w.epochs) };
 
     fn arm(&mut self, calls: u64) -> Result<(), AllocError> {
         ManagerWreck::arm(self, calls)
@@ -70,12 +75,16 @@ impl<S: Epochs, M: Meta> Cache for EpochCache<S, M> {
 
     ghost fresh = { λ m. is_fresh m.stage };
 
+    ghost finds = { λ m. finds_of (S.picks m.manager.epochs) (S.states m.manager.epochs) (bounds_of (M.current m.manager.meta)).highest };
+
     ghost covers = { λ m. covers_of (S.states m.manager.epochs) };
 
-    ghost watch = { λ m. shelf_watch m.manager.alarm (S.calm m.manager.epochs && (M.watch m.manager.meta).only_armed) };
+    ghost watch = { λ m. shelf_watch S.keeps m.manager.alarm (S.calm m.manager.epochs && (M.watch m.manager.meta).only_armed) };
 
     ghost nested = { λ m. nested_cache (S.states m.manager.epochs) (bounds_of (M.current m.manager.meta)) m.stage m.manager.within
         (S.nested m.manager.epochs) m.staged };
+
+    ghost small = { λ m. small_kept (S.states m.manager.epochs) (bounds_of (M.current m.manager.meta)).highest (S.small m.manager.epochs) };
 
     ghost joins = { λ m e p q. refl };
 
@@ -157,6 +166,7 @@ where
         self,
         entry: Entry<V::Block, <S::Entry as KeptEntry<V, F>>::Notarization, F>,
     ) -> Result<(Self, Started), Lost<ManagerWreck<S, M>>>
+        requires small { IsSmallEntry (cached_of V.plain S.Entry.Notarization.plain F.plain entry) }
         ensures puts { IfOk result (λ r. PutsAndStarts (cached_of V.plain S.Entry.Notarization.plain F.plain entry)
             (bounds_of (M.current self.manager.meta)).lowest (is_loaded self.stage)
             (kept_of (S.states self.manager.epochs) (bounds_of (M.current self.manager.meta)).highest)
@@ -172,9 +182,9 @@ where
             (kept_of (S.states self.manager.epochs) (bounds_of (M.current self.manager.meta)).highest) ((bounds_of (M.current self.manager.meta)).lowest ∷ [])
             (left_of_ways (S.Wreck.left (wreck_of l).epochs) (map bounds_of (M.Wreck.left (wreck_of l).meta)))
             (lowests_of (map bounds_of (M.Wreck.left (wreck_of l).meta)))) }
-        ensures watched { Heeds (λ r. shelf_watch r.0.manager.alarm (S.calm r.0.manager.epochs && (M.watch r.0.manager.meta).only_armed))
-            (λ w. shelf_watch w.alarm (S.Wreck.calm w.epochs && (M.Wreck.watch w.meta).only_armed))
-            (shelf_watch self.manager.alarm (S.calm self.manager.epochs && (M.watch self.manager.meta).only_armed)) result }
+        ensures watched { Heeds (λ r. shelf_watch S.keeps r.0.manager.alarm (S.calm r.0.manager.epochs && (M.watch r.0.manager.meta).only_armed))
+            (λ w. shelf_watch S.keeps w.alarm (S.Wreck.calm w.epochs && (M.Wreck.watch w.meta).only_armed))
+            (shelf_watch S.keeps self.manager.alarm (S.calm self.manager.epochs && (M.watch self.manager.meta).only_armed)) result }
     {
         let EpochCache { manager, stage } = self;
         match manager.put_and_start(S::Entry::of(entry)) {
@@ -193,6 +203,7 @@ where
         self,
         entry: Entry<V::Block, <S::Entry as KeptEntry<V, F>>::Notarization, F>,
     ) -> Result<Self, Lost<ManagerWreck<S, M>>>
+        requires small { IsSmallEntry (cached_of V.plain S.Entry.Notarization.plain F.plain entry) }
         ensures puts { IfOk result (λ r. PutsAndSyncs (cached_of V.plain S.Entry.Notarization.plain F.plain entry)
             (bounds_of (M.current self.manager.meta)).lowest (is_loaded self.stage)
             (kept_of (S.states self.manager.epochs) (bounds_of (M.current self.manager.meta)).highest)
@@ -207,9 +218,9 @@ where
             (kept_of (S.states self.manager.epochs) (bounds_of (M.current self.manager.meta)).highest) ((bounds_of (M.current self.manager.meta)).lowest ∷ [])
             (left_of_ways (S.Wreck.left (wreck_of l).epochs) (map bounds_of (M.Wreck.left (wreck_of l).meta)))
             (lowests_of (map bounds_of (M.Wreck.left (wreck_of l).meta)))) }
-        ensures watched { Heeds (λ r. shelf_watch r.manager.alarm (S.calm r.manager.epochs && (M.watch r.manager.meta).only_armed))
-            (λ w. shelf_watch w.alarm (S.Wreck.calm w.epochs && (M.Wreck.watch w.meta).only_armed))
-            (shelf_watch self.manager.alarm (S.calm self.manager.epochs && (M.watch self.manager.meta).only_armed)) result }
+        ensures watched { Heeds (λ r. shelf_watch S.keeps r.manager.alarm (S.calm r.manager.epochs && (M.watch r.manager.meta).only_armed))
+            (λ w. shelf_watch S.keeps w.alarm (S.Wreck.calm w.epochs && (M.Wreck.watch w.meta).only_armed))
+            (shelf_watch S.keeps self.manager.alarm (S.calm self.manager.epochs && (M.watch self.manager.meta).only_armed)) result }
     {
         let EpochCache { manager, stage } = self;
         match manager.put_and_sync(S::Entry::of(entry)) {
@@ -233,9 +244,11 @@ where
             ≡ (kept_of (S.states self.old.manager.epochs) (bounds_of (M.current self.old.manager.meta)).highest))
             × ((bounds_of (M.current self.new.manager.meta)).lowest ≡ (bounds_of (M.current self.old.manager.meta)).lowest)
             × (is_loaded self.new.stage ≡ is_loaded self.old.stage) × (is_fresh self.new.stage ≡ is_fresh self.old.stage)
+            × (finds_of (S.picks self.new.manager.epochs) (S.states self.new.manager.epochs) (bounds_of (M.current self.new.manager.meta)).highest
+            ≡ finds_of (S.picks self.old.manager.epochs) (S.states self.old.manager.epochs) (bounds_of (M.current self.old.manager.meta)).highest)
             × ((covers_of (S.states self.new.manager.epochs)) ≡ (covers_of (S.states self.old.manager.epochs))) }
-        ensures watched { HeedsRead (shelf_watch self.old.manager.alarm (S.calm self.old.manager.epochs && (M.watch self.old.manager.meta).only_armed))
-            (shelf_watch self.new.manager.alarm (S.calm self.new.manager.epochs && (M.watch self.new.manager.meta).only_armed)) result }
+        ensures watched { HeedsRead (shelf_watch S.keeps self.old.manager.alarm (S.calm self.old.manager.epochs && (M.watch self.old.manager.meta).only_armed))
+            (shelf_watch S.keeps self.new.manager.alarm (S.calm self.new.manager.epochs && (M.watch self.new.manager.meta).only_armed)) result }
     {
         let wanted = S::Entry::sought(sought);
         match self.manager.find_in(epoch.get(), &wanted) {
@@ -256,9 +269,11 @@ where
             ≡ (kept_of (S.states self.old.manager.epochs) (bounds_of (M.current self.old.manager.meta)).highest))
             × ((bounds_of (M.current self.new.manager.meta)).lowest ≡ (bounds_of (M.current self.old.manager.meta)).lowest)
             × (is_loaded self.new.stage ≡ is_loaded self.old.stage) × (is_fresh self.new.stage ≡ is_fresh self.old.stage)
+            × (finds_of (S.picks self.new.manager.epochs) (S.states self.new.manager.epochs) (bounds_of (M.current self.new.manager.meta)).highest
+            ≡ finds_of (S.picks self.old.manager.epochs) (S.states self.old.manager.epochs) (bounds_of (M.current self.old.manager.meta)).highest)
             × ((covers_of (S.states self.new.manager.epochs)) ≡ (covers_of (S.states self.old.manager.epochs))) }
-        ensures watched { HeedsRead (shelf_watch self.old.manager.alarm (S.calm self.old.manager.epochs && (M.watch self.old.manager.meta).only_armed))
-            (shelf_watch self.new.manager.alarm (S.calm self.new.manager.epochs && (M.watch self.new.manager.meta).only_armed)) result }
+        ensures watched { HeedsRead (shelf_watch S.keeps self.old.manager.alarm (S.calm self.old.manager.epochs && (M.watch self.old.manager.meta).only_armed))
+            (shelf_watch S.keeps self.new.manager.alarm (S.calm self.new.manager.epochs && (M.watch self.new.manager.meta).only_armed)) result }
     {
         let wanted = S::Entry::sought(sought);
         match self.manager.find(&wanted) {

@@ -9,6 +9,7 @@ ghost use Rattle.mar_node.specs.Cache.{is_certified_below};
 ghost use Rattle.mar_node.specs.Sections.{first_found, section_of};
 ghost use Rattle.mar_cache.specs.Bounds.{Bounds, LeavesBounds, bounds_of, includes};
 ghost use Rattle.mar_epochs.specs.EpochStates.{ChangesEpoch, KeepsOtherEpochs, HasSome, IsBare, IsLeftOrBare, IsNewest, LosesEpoch, MightBe, OpensEpoch, SameEpochs, held_in, is_opened, left_of_epoch, none_gone};
+ghost use Rattle.mar_epochs.specs.Picks.{PicksEpoch, picks_by};
 ghost use Rattle.mar_epochs.specs.EpochArchives.{is_fault, is_kept, puts_of};
 ghost use Rattle.mar_cache.specs.Shelved.{AllChanges, AllLieWithin, DoesAt, DropsOlder, IsStarted, LeavesEpochs, LieWithin, IsClear, OpensOrStays, ThinsEpoch, at_epoch, finishes, is_pruned_by, nothing_gone, pruned_bounds, raised, shelf_watch};
 
@@ -68,9 +69,9 @@ impl<S: Epochs, M: Meta> Manager<S, M> {
         ensures ways { IfErr result (λ l. AllByRecursion (λ left. (k : ℕ) → left k ≡ left_of_epoch (S.states self.epochs k))
             (S.Wreck.left (wreck_of l).epochs)) }
         ensures bounds { IfErr result (λ l. M.Wreck.left (wreck_of l).meta ≡ M.left self.meta) }
-        ensures watched { Heeds (λ m. shelf_watch m.alarm (S.calm m.epochs && (M.watch m.meta).only_armed))
-            (λ w. shelf_watch w.alarm (S.Wreck.calm w.epochs && (M.Wreck.watch w.meta).only_armed))
-            (shelf_watch self.alarm (S.calm self.epochs && (M.watch self.meta).only_armed)) result }
+        ensures watched { Heeds (λ m. shelf_watch S.keeps m.alarm (S.calm m.epochs && (M.watch m.meta).only_armed))
+            (λ w. shelf_watch S.keeps w.alarm (S.Wreck.calm w.epochs && (M.Wreck.watch w.meta).only_armed))
+            (shelf_watch S.keeps self.alarm (S.calm self.epochs && (M.watch self.meta).only_armed)) result }
     {
         let Manager {
             epochs,
@@ -100,9 +101,9 @@ impl<S: Epochs, M: Meta> Manager<S, M> {
             (map bounds_of (M.Wreck.left (wreck_of l).meta))) }
         ensures ways { IfErr result (λ l. AllByRecursion (λ left. (k : ℕ) → left k ≡ left_of_epoch (S.states self.epochs k))
             (S.Wreck.left (wreck_of l).epochs)) }
-        ensures watched { IsCalm (λ m. shelf_watch m.alarm (S.calm m.epochs && (M.watch m.meta).only_armed))
-            (λ w. shelf_watch w.alarm (S.Wreck.calm w.epochs && (M.Wreck.watch w.meta).only_armed))
-            (shelf_watch self.alarm (S.calm self.epochs && (M.watch self.meta).only_armed)) result }
+        ensures watched { IsCalm (λ m. shelf_watch S.keeps m.alarm (S.calm m.epochs && (M.watch m.meta).only_armed))
+            (λ w. shelf_watch S.keeps w.alarm (S.Wreck.calm w.epochs && (M.Wreck.watch w.meta).only_armed))
+            (shelf_watch S.keeps self.alarm (S.calm self.epochs && (M.watch self.meta).only_armed)) result }
     {
         let Manager {
             epochs,
@@ -130,9 +131,9 @@ impl<S: Epochs, M: Meta> Manager<S, M> {
             (S.Wreck.left (wreck_of l).epochs)) }
         ensures bounds { IfErr result (λ l. LeavesBounds (map bounds_of (M.left self.meta)) (raised epoch (bounds_of (M.current self.meta)) ∷ [])
             (map bounds_of (M.Wreck.left (wreck_of l).meta))) }
-        ensures watched { IsCalm (λ m. shelf_watch m.alarm (S.calm m.epochs && (M.watch m.meta).only_armed))
-            (λ w. shelf_watch w.alarm (S.Wreck.calm w.epochs && (M.Wreck.watch w.meta).only_armed))
-            (shelf_watch self.alarm (S.calm self.epochs && (M.watch self.meta).only_armed)) result }
+        ensures watched { IsCalm (λ m. shelf_watch S.keeps m.alarm (S.calm m.epochs && (M.watch m.meta).only_armed))
+            (λ w. shelf_watch S.keeps w.alarm (S.Wreck.calm w.epochs && (M.Wreck.watch w.meta).only_armed))
+            (shelf_watch S.keeps self.alarm (S.calm self.epochs && (M.watch self.meta).only_armed)) result }
     {
         let (low, high) = (lowest(&self.meta), highest(&self.meta));
         if epoch <= high {
@@ -147,11 +148,13 @@ impl<S: Epochs, M: Meta> Manager<S, M> {
         ensures done { MatchResult result
             (λ m. OpensEpoch (S.states self.epochs epoch) (S.states m.epochs epoch) × KeepsOtherEpochs epoch (S.states self.epochs) (S.states m.epochs))
             (λ l. AllByRecursion (LosesEpoch epoch (S.states self.epochs epoch) [] none_gone (S.states self.epochs)) (S.Wreck.left (wreck_of l).epochs)) }
+        ensures picked { IfOk result (λ m. PicksEpoch (S.picks self.epochs) (S.states self.epochs epoch) (S.states m.epochs epoch)
+            × (S.picks m.epochs ≡ S.picks self.epochs)) }
         ensures meta { IfOk result (λ m. m.meta ≡ self.meta) }
         ensures bounds { IfErr result (λ l. M.Wreck.left (wreck_of l).meta ≡ M.left self.meta) }
-        ensures watched { IsCalm (λ m. shelf_watch m.alarm (S.calm m.epochs && (M.watch m.meta).only_armed))
-            (λ w. shelf_watch w.alarm (S.Wreck.calm w.epochs && (M.Wreck.watch w.meta).only_armed))
-            (shelf_watch self.alarm (S.calm self.epochs && (M.watch self.meta).only_armed)) result }
+        ensures watched { IsCalm (λ m. shelf_watch S.keeps m.alarm (S.calm m.epochs && (M.watch m.meta).only_armed))
+            (λ w. shelf_watch S.keeps w.alarm (S.Wreck.calm w.epochs && (M.Wreck.watch w.meta).only_armed))
+            (shelf_watch S.keeps self.alarm (S.calm self.epochs && (M.watch self.meta).only_armed)) result }
     {
         if self.epochs.is_open(epoch) {
             return Ok(self);
@@ -181,9 +184,9 @@ impl<S: Epochs, M: Meta> Manager<S, M> {
             (S.states self.epochs)) (S.Wreck.left (wreck_of l).epochs)) }
         ensures meta { IfOk result (λ m. m.meta ≡ self.meta) }
         ensures bounds { IfErr result (λ l. M.Wreck.left (wreck_of l).meta ≡ M.left self.meta) }
-        ensures watched { IsCalm (λ m. shelf_watch m.alarm (S.calm m.epochs && (M.watch m.meta).only_armed))
-            (λ w. shelf_watch w.alarm (S.Wreck.calm w.epochs && (M.Wreck.watch w.meta).only_armed))
-            (shelf_watch self.alarm (S.calm self.epochs && (M.watch self.meta).only_armed)) result }
+        ensures watched { IsCalm (λ m. shelf_watch S.keeps m.alarm (S.calm m.epochs && (M.watch m.meta).only_armed))
+            (λ w. shelf_watch S.keeps w.alarm (S.Wreck.calm w.epochs && (M.Wreck.watch w.meta).only_armed))
+            (shelf_watch S.keeps self.alarm (S.calm self.epochs && (M.watch self.meta).only_armed)) result }
     {
         let Manager {
             epochs,
@@ -214,9 +217,9 @@ impl<S: Epochs, M: Meta> Manager<S, M> {
             (S.Wreck.left (wreck_of l).epochs)) }
         ensures bounds { IfErr result (λ l. Within (map bounds_of (M.Wreck.left (wreck_of l).meta))
             (map bounds_of (M.left self.meta) ++ raised (epoch_of (S.Entry.plain entry)) (bounds_of (M.current self.meta)) ∷ [])) }
-        ensures watched { IsCalm (λ m. shelf_watch m.alarm (S.calm m.epochs && (M.watch m.meta).only_armed))
-            (λ w. shelf_watch w.alarm (S.Wreck.calm w.epochs && (M.Wreck.watch w.meta).only_armed))
-            (shelf_watch self.alarm (S.calm self.epochs && (M.watch self.meta).only_armed)) result }
+        ensures watched { IsCalm (λ m. shelf_watch S.keeps m.alarm (S.calm m.epochs && (M.watch m.meta).only_armed))
+            (λ w. shelf_watch S.keeps w.alarm (S.Wreck.calm w.epochs && (M.Wreck.watch w.meta).only_armed))
+            (shelf_watch S.keeps self.alarm (S.calm self.epochs && (M.watch self.meta).only_armed)) result }
     {
         let epoch = entry.epoch().get();
         let manager = self.raise(epoch)?;
@@ -255,9 +258,9 @@ impl<S: Epochs, M: Meta> Manager<S, M> {
             (S.Wreck.left (wreck_of l).epochs)) }
         ensures bounds { IfErr result (λ l. Within (map bounds_of (M.Wreck.left (wreck_of l).meta))
             (map bounds_of (M.left self.meta) ++ raised (epoch_of (S.Entry.plain entry)) (bounds_of (M.current self.meta)) ∷ [])) }
-        ensures watched { Heeds (λ r. shelf_watch r.0.alarm (S.calm r.0.epochs && (M.watch r.0.meta).only_armed))
-            (λ w. shelf_watch w.alarm (S.Wreck.calm w.epochs && (M.Wreck.watch w.meta).only_armed))
-            (shelf_watch self.alarm (S.calm self.epochs && (M.watch self.meta).only_armed)) result }
+        ensures watched { Heeds (λ r. shelf_watch S.keeps r.0.alarm (S.calm r.0.epochs && (M.watch r.0.meta).only_armed))
+            (λ w. shelf_watch S.keeps w.alarm (S.Wreck.calm w.epochs && (M.Wreck.watch w.meta).only_armed))
+            (shelf_watch S.keeps self.alarm (S.calm self.epochs && (M.watch self.meta).only_armed)) result }
     {
         let manager = self.begin()?;
         let (epoch, section) = (entry.epoch().get(), entry.section());
@@ -286,9 +289,9 @@ impl<S: Epochs, M: Meta> Manager<S, M> {
             (S.Wreck.left (wreck_of l).epochs)) }
         ensures bounds { IfErr result (λ l. Within (map bounds_of (M.Wreck.left (wreck_of l).meta))
             (map bounds_of (M.left self.meta) ++ raised (epoch_of (S.Entry.plain entry)) (bounds_of (M.current self.meta)) ∷ [])) }
-        ensures watched { Heeds (λ m. shelf_watch m.alarm (S.calm m.epochs && (M.watch m.meta).only_armed))
-            (λ w. shelf_watch w.alarm (S.Wreck.calm w.epochs && (M.Wreck.watch w.meta).only_armed))
-            (shelf_watch self.alarm (S.calm self.epochs && (M.watch self.meta).only_armed)) result }
+        ensures watched { Heeds (λ m. shelf_watch S.keeps m.alarm (S.calm m.epochs && (M.watch m.meta).only_armed))
+            (λ w. shelf_watch S.keeps w.alarm (S.Wreck.calm w.epochs && (M.Wreck.watch w.meta).only_armed))
+            (shelf_watch S.keeps self.alarm (S.calm self.epochs && (M.watch self.meta).only_armed)) result }
     {
         let manager = self.begin()?;
         let (epoch, section) = (entry.epoch().get(), entry.section());
@@ -310,9 +313,9 @@ impl<S: Epochs, M: Meta> Manager<S, M> {
         ensures ways { IfErr result (λ l. AllByRecursion (LeavesEpochs (at_epoch epoch []) nothing_gone (S.states self.epochs))
             (S.Wreck.left (wreck_of l).epochs)) }
         ensures bounds { IfErr result (λ l. M.Wreck.left (wreck_of l).meta ≡ M.left self.meta) }
-        ensures watched { Heeds (λ r. shelf_watch r.0.alarm (S.calm r.0.epochs && (M.watch r.0.meta).only_armed))
-            (λ w. shelf_watch w.alarm (S.Wreck.calm w.epochs && (M.Wreck.watch w.meta).only_armed))
-            (shelf_watch self.alarm (S.calm self.epochs && (M.watch self.meta).only_armed)) result }
+        ensures watched { Heeds (λ r. shelf_watch S.keeps r.0.alarm (S.calm r.0.epochs && (M.watch r.0.meta).only_armed))
+            (λ w. shelf_watch S.keeps w.alarm (S.Wreck.calm w.epochs && (M.Wreck.watch w.meta).only_armed))
+            (shelf_watch S.keeps self.alarm (S.calm self.epochs && (M.watch self.meta).only_armed)) result }
     {
         let manager = self.begin()?;
         let started = manager.started(epoch, section);
@@ -327,9 +330,9 @@ impl<S: Epochs, M: Meta> Manager<S, M> {
         ensures ways { IfErr result (λ l. AllByRecursion (LeavesEpochs (at_epoch ticket.epoch []) nothing_gone (S.states self.epochs))
             (S.Wreck.left (wreck_of l).epochs)) }
         ensures bounds { IfErr result (λ l. M.Wreck.left (wreck_of l).meta ≡ M.left self.meta) }
-        ensures watched { Heeds (λ m. shelf_watch m.alarm (S.calm m.epochs && (M.watch m.meta).only_armed))
-            (λ w. shelf_watch w.alarm (S.Wreck.calm w.epochs && (M.Wreck.watch w.meta).only_armed))
-            (shelf_watch self.alarm (S.calm self.epochs && (M.watch self.meta).only_armed)) result }
+        ensures watched { Heeds (λ m. shelf_watch S.keeps m.alarm (S.calm m.epochs && (M.watch m.meta).only_armed))
+            (λ w. shelf_watch S.keeps w.alarm (S.Wreck.calm w.epochs && (M.Wreck.watch w.meta).only_armed))
+            (shelf_watch S.keeps self.alarm (S.calm self.epochs && (M.watch self.meta).only_armed)) result }
     {
         let manager = self.begin()?;
         let CacheTicket {
@@ -353,8 +356,8 @@ impl<S: Epochs, M: Meta> Manager<S, M> {
         ensures found { IfOk result (λ o. option_map S.Entry.plain o ≡ first_found (S.Entry.wants wanted.now) (held_in (S.states self.old.epochs epoch))) }
         ensures epochs { self.new.epochs ≡ self.old.epochs }
         ensures meta { self.new.meta ≡ self.old.meta }
-        ensures watched { HeedsRead (shelf_watch self.old.alarm (S.calm self.old.epochs && (M.watch self.old.meta).only_armed))
-            (shelf_watch self.new.alarm (S.calm self.new.epochs && (M.watch self.new.meta).only_armed)) result }
+        ensures watched { HeedsRead (shelf_watch S.keeps self.old.alarm (S.calm self.old.epochs && (M.watch self.old.meta).only_armed))
+            (shelf_watch S.keeps self.new.alarm (S.calm self.new.epochs && (M.watch self.new.meta).only_armed)) result }
     {
         if self.alarm.rings() {
             return Err(Miss::Fault);
@@ -367,8 +370,8 @@ impl<S: Epochs, M: Meta> Manager<S, M> {
         ensures found { IfOk result (λ o. IsNewest (S.Entry.wants wanted.now) (S.states self.old.epochs) (option_map S.Entry.plain o)) }
         ensures epochs { self.new.epochs ≡ self.old.epochs }
         ensures meta { self.new.meta ≡ self.old.meta }
-        ensures watched { HeedsRead (shelf_watch self.old.alarm (S.calm self.old.epochs && (M.watch self.old.meta).only_armed))
-            (shelf_watch self.new.alarm (S.calm self.new.epochs && (M.watch self.new.meta).only_armed)) result }
+        ensures watched { HeedsRead (shelf_watch S.keeps self.old.alarm (S.calm self.old.epochs && (M.watch self.old.meta).only_armed))
+            (shelf_watch S.keeps self.new.alarm (S.calm self.new.epochs && (M.watch self.new.meta).only_armed)) result }
     {
         if self.alarm.rings() {
             return Err(Miss::Fault);
@@ -380,12 +383,13 @@ impl<S: Epochs, M: Meta> Manager<S, M> {
     fn listed(self) -> Result<(Self, Vec<u64>), Lost<ManagerWreck<S, M>>>
         ensures found { IfOk result (λ r. (k : ℕ) → HasSome (S.states self.epochs k) → Contains r.1.items k) }
         ensures same { IfOk result (λ r. SameEpochs (S.states self.epochs) (S.states r.0.epochs) × (r.0.meta ≡ self.meta)) }
+        ensures picks { IfOk result (λ r. S.picks r.0.epochs ≡ S.picks self.epochs) }
         ensures ways { IfErr result (λ l. AllByRecursion (λ left. (k : ℕ) → left k ≡ left_of_epoch (S.states self.epochs k))
             (S.Wreck.left (wreck_of l).epochs)) }
         ensures bounds { IfErr result (λ l. M.Wreck.left (wreck_of l).meta ≡ M.left self.meta) }
-        ensures watched { IsCalm (λ r. shelf_watch r.0.alarm (S.calm r.0.epochs && (M.watch r.0.meta).only_armed))
-            (λ w. shelf_watch w.alarm (S.Wreck.calm w.epochs && (M.Wreck.watch w.meta).only_armed))
-            (shelf_watch self.alarm (S.calm self.epochs && (M.watch self.meta).only_armed)) result }
+        ensures watched { IsCalm (λ r. shelf_watch S.keeps r.0.alarm (S.calm r.0.epochs && (M.watch r.0.meta).only_armed))
+            (λ w. shelf_watch S.keeps w.alarm (S.Wreck.calm w.epochs && (M.Wreck.watch w.meta).only_armed))
+            (shelf_watch S.keeps self.alarm (S.calm self.epochs && (M.watch self.meta).only_armed)) result }
     {
         let Manager {
             mut epochs,
@@ -413,13 +417,15 @@ impl<S: Epochs, M: Meta> Manager<S, M> {
         ensures done { IfOk result (λ m. OpensOrStays (S.states self.epochs epoch) (S.states m.epochs epoch)
             × KeepsOtherEpochs epoch (S.states self.epochs) (S.states m.epochs)) }
         ensures opened { includes (bounds_of (M.current self.meta)) epoch ≡ true → IfOk result (λ m. is_opened (S.states m.epochs epoch) ≡ true) }
+        ensures picked { IfOk result (λ m. PicksEpoch (S.picks self.epochs) (S.states self.epochs epoch) (S.states m.epochs epoch)
+            × (S.picks m.epochs ≡ S.picks self.epochs)) }
         ensures stays { includes (bounds_of (M.current self.meta)) epoch ≡ false → IfOk result (λ m. m.epochs ≡ self.epochs) }
         ensures meta { IfOk result (λ m. m.meta ≡ self.meta) }
         ensures ways { IfErr result (λ l. AllByRecursion (LeavesEpochs (λ k. []) nothing_gone (S.states self.epochs)) (S.Wreck.left (wreck_of l).epochs)) }
         ensures bounds { IfErr result (λ l. M.Wreck.left (wreck_of l).meta ≡ M.left self.meta) }
-        ensures watched { IsCalm (λ m. shelf_watch m.alarm (S.calm m.epochs && (M.watch m.meta).only_armed))
-            (λ w. shelf_watch w.alarm (S.Wreck.calm w.epochs && (M.Wreck.watch w.meta).only_armed))
-            (shelf_watch self.alarm (S.calm self.epochs && (M.watch self.meta).only_armed)) result }
+        ensures watched { IsCalm (λ m. shelf_watch S.keeps m.alarm (S.calm m.epochs && (M.watch m.meta).only_armed))
+            (λ w. shelf_watch S.keeps w.alarm (S.Wreck.calm w.epochs && (M.Wreck.watch w.meta).only_armed))
+            (shelf_watch S.keeps self.alarm (S.calm self.epochs && (M.watch self.meta).only_armed)) result }
     {
         if !includes(&self.meta, epoch) {
             return Ok(self);
@@ -431,13 +437,14 @@ impl<S: Epochs, M: Meta> Manager<S, M> {
     pub fn load_persisted_epochs(self) -> Result<Self, Lost<ManagerWreck<S, M>>>
         ensures done { IfOk result (λ m. (k : ℕ) → OpensOrStays (S.states self.epochs k) (S.states m.epochs k)) }
         ensures opened { (k : ℕ) → HasSome (S.states self.epochs k) → IfOk result (λ m. is_opened (S.states m.epochs k) ≡ true) }
+        ensures picked { IfOk result (λ m. (k : ℕ) → PicksEpoch (S.picks self.epochs) (S.states self.epochs k) (S.states m.epochs k)) }
         ensures stays { (k : ℕ) → includes (bounds_of (M.current self.meta)) k ≡ false → IfOk result (λ m. S.states m.epochs k ≡ S.states self.epochs k) }
         ensures meta { IfOk result (λ m. m.meta ≡ self.meta) }
         ensures ways { IfErr result (λ l. AllByRecursion (LeavesEpochs (λ k. []) nothing_gone (S.states self.epochs)) (S.Wreck.left (wreck_of l).epochs)) }
         ensures bounds { IfErr result (λ l. M.Wreck.left (wreck_of l).meta ≡ M.left self.meta) }
-        ensures watched { Heeds (λ m. shelf_watch m.alarm (S.calm m.epochs && (M.watch m.meta).only_armed))
-            (λ w. shelf_watch w.alarm (S.Wreck.calm w.epochs && (M.Wreck.watch w.meta).only_armed))
-            (shelf_watch self.alarm (S.calm self.epochs && (M.watch self.meta).only_armed)) result }
+        ensures watched { Heeds (λ m. shelf_watch S.keeps m.alarm (S.calm m.epochs && (M.watch m.meta).only_armed))
+            (λ w. shelf_watch S.keeps w.alarm (S.Wreck.calm w.epochs && (M.Wreck.watch w.meta).only_armed))
+            (shelf_watch S.keeps self.alarm (S.calm self.epochs && (M.watch self.meta).only_armed)) result }
     {
         let manager = self.begin()?;
         let (manager, listed) = manager.listed()?;
@@ -449,13 +456,14 @@ impl<S: Epochs, M: Meta> Manager<S, M> {
         ensures done { IfOk result (λ m. (k : ℕ) → OpensOrStays (S.states self.epochs k) (S.states m.epochs k)) }
         ensures opened { (k : ℕ) → includes (bounds_of (M.current self.meta)) k ≡ true → Contains listed.now k
             → IfOk result (λ m. is_opened (S.states m.epochs k) ≡ true) }
+        ensures picked { IfOk result (λ m. (k : ℕ) → PicksEpoch (S.picks self.epochs) (S.states self.epochs k) (S.states m.epochs k)) }
         ensures stays { (k : ℕ) → includes (bounds_of (M.current self.meta)) k ≡ false → IfOk result (λ m. S.states m.epochs k ≡ S.states self.epochs k) }
         ensures meta { IfOk result (λ m. m.meta ≡ self.meta) }
         ensures ways { IfErr result (λ l. AllByRecursion (LeavesEpochs (λ k. []) nothing_gone (S.states self.epochs)) (S.Wreck.left (wreck_of l).epochs)) }
         ensures bounds { IfErr result (λ l. M.Wreck.left (wreck_of l).meta ≡ M.left self.meta) }
-        ensures watched { IsCalm (λ m. shelf_watch m.alarm (S.calm m.epochs && (M.watch m.meta).only_armed))
-            (λ w. shelf_watch w.alarm (S.Wreck.calm w.epochs && (M.Wreck.watch w.meta).only_armed))
-            (shelf_watch self.alarm (S.calm self.epochs && (M.watch self.meta).only_armed)) result }
+        ensures watched { IsCalm (λ m. shelf_watch S.keeps m.alarm (S.calm m.epochs && (M.watch m.meta).only_armed))
+            (λ w. shelf_watch S.keeps w.alarm (S.Wreck.calm w.epochs && (M.Wreck.watch w.meta).only_armed))
+            (shelf_watch S.keeps self.alarm (S.calm self.epochs && (M.watch self.meta).only_armed)) result }
     {
         let mut manager = self;
         let mut place = 0;
@@ -474,9 +482,9 @@ impl<S: Epochs, M: Meta> Manager<S, M> {
         ensures ways { IfErr result (λ l. AllByRecursion (LeavesEpochs (λ k. []) (λ k. is_certified_below height) (S.states self.epochs))
             (S.Wreck.left (wreck_of l).epochs)) }
         ensures bounds { IfErr result (λ l. M.Wreck.left (wreck_of l).meta ≡ M.left self.meta) }
-        ensures watched { Heeds (λ m. shelf_watch m.alarm (S.calm m.epochs && (M.watch m.meta).only_armed))
-            (λ w. shelf_watch w.alarm (S.Wreck.calm w.epochs && (M.Wreck.watch w.meta).only_armed))
-            (shelf_watch self.alarm (S.calm self.epochs && (M.watch self.meta).only_armed)) result }
+        ensures watched { Heeds (λ m. shelf_watch S.keeps m.alarm (S.calm m.epochs && (M.watch m.meta).only_armed))
+            (λ w. shelf_watch S.keeps w.alarm (S.Wreck.calm w.epochs && (M.Wreck.watch w.meta).only_armed))
+            (shelf_watch S.keeps self.alarm (S.calm self.epochs && (M.watch self.meta).only_armed)) result }
     {
         let manager = self.begin()?;
         let (manager, listed) = manager.listed()?;
@@ -491,9 +499,9 @@ impl<S: Epochs, M: Meta> Manager<S, M> {
         ensures ways { IfErr result (λ l. AllByRecursion (LeavesEpochs (λ k. []) (λ k. is_certified_below height) (S.states self.epochs))
             (S.Wreck.left (wreck_of l).epochs)) }
         ensures bounds { IfErr result (λ l. M.Wreck.left (wreck_of l).meta ≡ M.left self.meta) }
-        ensures watched { IsCalm (λ m. shelf_watch m.alarm (S.calm m.epochs && (M.watch m.meta).only_armed))
-            (λ w. shelf_watch w.alarm (S.Wreck.calm w.epochs && (M.Wreck.watch w.meta).only_armed))
-            (shelf_watch self.alarm (S.calm self.epochs && (M.watch self.meta).only_armed)) result }
+        ensures watched { IsCalm (λ m. shelf_watch S.keeps m.alarm (S.calm m.epochs && (M.watch m.meta).only_armed))
+            (λ w. shelf_watch S.keeps w.alarm (S.Wreck.calm w.epochs && (M.Wreck.watch w.meta).only_armed))
+            (shelf_watch S.keeps self.alarm (S.calm self.epochs && (M.watch self.meta).only_armed)) result }
     {
         let mut manager = self;
         let mut place = 0;
@@ -518,9 +526,9 @@ impl<S: Epochs, M: Meta> Manager<S, M> {
             (S.Wreck.left (wreck_of l).epochs)) }
         ensures bounds { IfErr result (λ l. Within (map bounds_of (M.Wreck.left (wreck_of l).meta))
             (map bounds_of (M.left self.meta) ++ pruned_bounds round (bounds_of (M.current self.meta)) ∷ [])) }
-        ensures watched { Heeds (λ m. shelf_watch m.alarm (S.calm m.epochs && (M.watch m.meta).only_armed))
-            (λ w. shelf_watch w.alarm (S.Wreck.calm w.epochs && (M.Wreck.watch w.meta).only_armed))
-            (shelf_watch self.alarm (S.calm self.epochs && (M.watch self.meta).only_armed)) result }
+        ensures watched { Heeds (λ m. shelf_watch S.keeps m.alarm (S.calm m.epochs && (M.watch m.meta).only_armed))
+            (λ w. shelf_watch S.keeps w.alarm (S.Wreck.calm w.epochs && (M.Wreck.watch w.meta).only_armed))
+            (shelf_watch S.keeps self.alarm (S.calm self.epochs && (M.watch self.meta).only_armed)) result }
     {
         let manager = self.begin()?;
         let epoch = round.epoch().get();
@@ -536,9 +544,9 @@ impl<S: Epochs, M: Meta> Manager<S, M> {
         ensures bare { IfOk result (λ m. (k : ℕ) → k < below → IsBare (S.states m.epochs k)) }
         ensures meta { IfOk result (λ m. m.meta ≡ self.meta) }
         ensures bounds { IfErr result (λ l. M.Wreck.left (wreck_of l).meta ≡ M.left self.meta) }
-        ensures watched { IsCalm (λ m. shelf_watch m.alarm (S.calm m.epochs && (M.watch m.meta).only_armed))
-            (λ w. shelf_watch w.alarm (S.Wreck.calm w.epochs && (M.Wreck.watch w.meta).only_armed))
-            (shelf_watch self.alarm (S.calm self.epochs && (M.watch self.meta).only_armed)) result }
+        ensures watched { IsCalm (λ m. shelf_watch S.keeps m.alarm (S.calm m.epochs && (M.watch m.meta).only_armed))
+            (λ w. shelf_watch S.keeps w.alarm (S.Wreck.calm w.epochs && (M.Wreck.watch w.meta).only_armed))
+            (shelf_watch S.keeps self.alarm (S.calm self.epochs && (M.watch self.meta).only_armed)) result }
     {
         let (manager, listed) = self.listed()?;
         manager.destroy_all(&listed, below)
@@ -551,9 +559,9 @@ impl<S: Epochs, M: Meta> Manager<S, M> {
         ensures bare { epoch < below → IfOk result (λ m. IsBare (S.states m.epochs epoch)) }
         ensures meta { IfOk result (λ m. m.meta ≡ self.meta) }
         ensures bounds { IfErr result (λ l. M.Wreck.left (wreck_of l).meta ≡ M.left self.meta) }
-        ensures watched { IsCalm (λ m. shelf_watch m.alarm (S.calm m.epochs && (M.watch m.meta).only_armed))
-            (λ w. shelf_watch w.alarm (S.Wreck.calm w.epochs && (M.Wreck.watch w.meta).only_armed))
-            (shelf_watch self.alarm (S.calm self.epochs && (M.watch self.meta).only_armed)) result }
+        ensures watched { IsCalm (λ m. shelf_watch S.keeps m.alarm (S.calm m.epochs && (M.watch m.meta).only_armed))
+            (λ w. shelf_watch S.keeps w.alarm (S.Wreck.calm w.epochs && (M.Wreck.watch w.meta).only_armed))
+            (shelf_watch S.keeps self.alarm (S.calm self.epochs && (M.watch self.meta).only_armed)) result }
     {
         if epoch >= below {
             return Ok(self);
@@ -580,9 +588,9 @@ impl<S: Epochs, M: Meta> Manager<S, M> {
         ensures bare { (k : ℕ) → Contains listed.now k → k < below → IfOk result (λ m. IsBare (S.states m.epochs k)) }
         ensures meta { IfOk result (λ m. m.meta ≡ self.meta) }
         ensures bounds { IfErr result (λ l. M.Wreck.left (wreck_of l).meta ≡ M.left self.meta) }
-        ensures watched { IsCalm (λ m. shelf_watch m.alarm (S.calm m.epochs && (M.watch m.meta).only_armed))
-            (λ w. shelf_watch w.alarm (S.Wreck.calm w.epochs && (M.Wreck.watch w.meta).only_armed))
-            (shelf_watch self.alarm (S.calm self.epochs && (M.watch self.meta).only_armed)) result }
+        ensures watched { IsCalm (λ m. shelf_watch S.keeps m.alarm (S.calm m.epochs && (M.watch m.meta).only_armed))
+            (λ w. shelf_watch S.keeps w.alarm (S.Wreck.calm w.epochs && (M.Wreck.watch w.meta).only_armed))
+            (shelf_watch S.keeps self.alarm (S.calm self.epochs && (M.watch self.meta).only_armed)) result }
     {
         let mut manager = self;
         let mut place = 0;
@@ -603,9 +611,9 @@ impl<S: Epochs, M: Meta> Manager<S, M> {
             (S.Wreck.left (wreck_of l).epochs)) }
         ensures bounds { IfErr result (λ l. Within (map bounds_of (M.Wreck.left (wreck_of l).meta))
             (map bounds_of (M.left self.meta) ++ pruned_bounds round (bounds_of (M.current self.meta)) ∷ [])) }
-        ensures watched { IsCalm (λ m. shelf_watch m.alarm (S.calm m.epochs && (M.watch m.meta).only_armed))
-            (λ w. shelf_watch w.alarm (S.Wreck.calm w.epochs && (M.Wreck.watch w.meta).only_armed))
-            (shelf_watch self.alarm (S.calm self.epochs && (M.watch self.meta).only_armed)) result }
+        ensures watched { IsCalm (λ m. shelf_watch S.keeps m.alarm (S.calm m.epochs && (M.watch m.meta).only_armed))
+            (λ w. shelf_watch S.keeps w.alarm (S.Wreck.calm w.epochs && (M.Wreck.watch w.meta).only_armed))
+            (shelf_watch S.keeps self.alarm (S.calm self.epochs && (M.watch self.meta).only_armed)) result }
     {
         let epoch = round.epoch().get();
         let (low, high) = (lowest(&self.meta), highest(&self.meta));
@@ -620,8 +628,8 @@ impl<S: Epochs, M: Meta> Manager<S, M> {
         ensures ways { AllByRecursion (λ left. (k : ℕ) → left k ≡ left_of_epoch (S.states self.epochs k)) (S.Wreck.left result.epochs) }
         ensures one { length (S.Wreck.left result.epochs) ≡ 1 }
         ensures bounds { M.Wreck.left result.meta ≡ M.left self.meta }
-        ensures watch { shelf_watch result.alarm (S.Wreck.calm result.epochs && (M.Wreck.watch result.meta).only_armed)
-            ≡ shelf_watch self.alarm (S.calm self.epochs && (M.watch self.meta).only_armed) }
+        ensures watch { shelf_watch S.keeps result.alarm (S.Wreck.calm result.epochs && (M.Wreck.watch result.meta).only_armed)
+            ≡ shelf_watch S.keeps self.alarm (S.calm self.epochs && (M.watch self.meta).only_armed) }
     {
         ManagerWreck {
             epochs: self.epochs.wreck(),
@@ -634,12 +642,13 @@ impl<S: Epochs, M: Meta> Manager<S, M> {
     pub fn reopen(wreck: ManagerWreck<S, M>, luck: u64) -> Result<Self, Lost<ManagerWreck<S, M>>>
         ensures states { IfOk result (λ m. MightBe (S.Wreck.left wreck.epochs) (S.states m.epochs)) }
         ensures shut { IfOk result (λ m. (k : ℕ) → is_opened (S.states m.epochs k) ≡ false) }
+        ensures picks { IfOk result (λ m. S.picks m.epochs ≡ picks_by S.keeps luck) }
         ensures bounds { IfOk result (λ m. Contains (M.Wreck.left wreck.meta) (M.current m.meta) × (M.left m.meta ≡ M.current m.meta ∷ [])) }
         ensures ways { IfErr result (λ l. AllByRecursion (MightBe (S.Wreck.left wreck.epochs)) (S.Wreck.left (wreck_of l).epochs)) }
         ensures left { IfErr result (λ l. Within (M.Wreck.left (wreck_of l).meta) (M.Wreck.left wreck.meta)) }
-        ensures watched { Heeds (λ m. shelf_watch m.alarm (S.calm m.epochs && (M.watch m.meta).only_armed))
-            (λ w. shelf_watch w.alarm (S.Wreck.calm w.epochs && (M.Wreck.watch w.meta).only_armed))
-            (shelf_watch wreck.alarm (S.Wreck.calm wreck.epochs && (M.Wreck.watch wreck.meta).only_armed)) result }
+        ensures watched { Heeds (λ m. shelf_watch S.keeps m.alarm (S.calm m.epochs && (M.watch m.meta).only_armed))
+            (λ w. shelf_watch S.keeps w.alarm (S.Wreck.calm w.epochs && (M.Wreck.watch w.meta).only_armed))
+            (shelf_watch S.keeps wreck.alarm (S.Wreck.calm wreck.epochs && (M.Wreck.watch wreck.meta).only_armed)) result }
     {
         let ManagerWreck {
             epochs,
@@ -670,10 +679,10 @@ impl<S: Epochs, M: Meta> Manager<S, M> {
     /// Makes the counted call fail that is so many calls away, 1 being the next. Each public call is counted, but for
     /// `wreck` and this one.
     pub fn arm(&mut self, calls: u64) -> Result<(), AllocError>
-        ensures armed { OnOk result (shelf_watch self.new.alarm (S.calm self.new.epochs && (M.watch self.new.meta).only_armed)
-            ≡ armed calls (shelf_watch self.old.alarm (S.calm self.old.epochs && (M.watch self.old.meta).only_armed))) }
-        ensures unarmed { OnErr result (shelf_watch self.new.alarm (S.calm self.new.epochs && (M.watch self.new.meta).only_armed)
-            ≡ shelf_watch self.old.alarm (S.calm self.old.epochs && (M.watch self.old.meta).only_armed)) }
+        ensures armed { OnOk result (shelf_watch S.keeps self.new.alarm (S.calm self.new.epochs && (M.watch self.new.meta).only_armed)
+            ≡ armed calls (shelf_watch S.keeps self.old.alarm (S.calm self.old.epochs && (M.watch self.old.meta).only_armed))) }
+        ensures unarmed { OnErr result (shelf_watch S.keeps self.new.alarm (S.calm self.new.epochs && (M.watch self.new.meta).only_armed)
+            ≡ shelf_watch S.keeps self.old.alarm (S.calm self.old.epochs && (M.watch self.old.meta).only_armed)) }
         ensures epochs { self.new.epochs ≡ self.old.epochs }
         ensures meta { self.new.meta ≡ self.old.meta }
     {
@@ -684,10 +693,10 @@ impl<S: Epochs, M: Meta> Manager<S, M> {
 impl<S: Epochs, M: Meta> ManagerWreck<S, M> {
     /// Makes the counted call fail that is so many calls away, 1 being the next, which is the reopening.
     pub fn arm(&mut self, calls: u64) -> Result<(), AllocError>
-        ensures armed { OnOk result (shelf_watch self.new.alarm (S.Wreck.calm self.new.epochs && (M.Wreck.watch self.new.meta).only_armed)
-            ≡ armed calls (shelf_watch self.old.alarm (S.Wreck.calm self.old.epochs && (M.Wreck.watch self.old.meta).only_armed))) }
-        ensures unarmed { OnErr result (shelf_watch self.new.alarm (S.Wreck.calm self.new.epochs && (M.Wreck.watch self.new.meta).only_armed)
-            ≡ shelf_watch self.old.alarm (S.Wreck.calm self.old.epochs && (M.Wreck.watch self.old.meta).only_armed)) }
+        ensures armed { OnOk result (shelf_watch S.keeps self.new.alarm (S.Wreck.calm self.new.epochs && (M.Wreck.watch self.new.meta).only_armed)
+            ≡ armed calls (shelf_watch S.keeps self.old.alarm (S.Wreck.calm self.old.epochs && (M.Wreck.watch self.old.meta).only_armed))) }
+        ensures unarmed { OnErr result (shelf_watch S.keeps self.new.alarm (S.Wreck.calm self.new.epochs && (M.Wreck.watch self.new.meta).only_armed)
+            ≡ shelf_watch S.keeps self.old.alarm (S.Wreck.calm self.old.epochs && (M.Wreck.watch self.old.meta).only_armed)) }
         ensures epochs { self.new.epochs ≡ self.old.epochs }
         ensures meta { self.new.meta ≡ self.old.meta }
     {
@@ -756,9 +765,9 @@ fn with_reopened<S: Epochs, M: Meta>(
     ensures bounds { IfOk result (λ m. Contains (M.Wreck.left meta) (M.current m.meta) × (M.left m.meta ≡ M.current m.meta ∷ [])) }
     ensures ways { IfErr result (λ l. AllByRecursion (λ left. (k : ℕ) → left k ≡ left_of_epoch (S.states epochs k)) (S.Wreck.left (wreck_of l).epochs)) }
     ensures left { IfErr result (λ l. Within (M.Wreck.left (wreck_of l).meta) (M.Wreck.left meta)) }
-    ensures watched { IsCalm (λ m. shelf_watch m.alarm (S.calm m.epochs && (M.watch m.meta).only_armed))
-        (λ w. shelf_watch w.alarm (S.Wreck.calm w.epochs && (M.Wreck.watch w.meta).only_armed))
-        (shelf_watch alarm (S.calm epochs && (M.Wreck.watch meta).only_armed)) result }
+    ensures watched { IsCalm (λ m. shelf_watch S.keeps m.alarm (S.calm m.epochs && (M.watch m.meta).only_armed))
+        (λ w. shelf_watch S.keeps w.alarm (S.Wreck.calm w.epochs && (M.Wreck.watch w.meta).only_armed))
+        (shelf_watch S.keeps alarm (S.calm epochs && (M.Wreck.watch meta).only_armed)) result }
 {
     match M::reopen(meta, luck) {
         Ok(meta) => Ok(Manager {

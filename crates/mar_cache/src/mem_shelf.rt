@@ -1,7 +1,10 @@
 //! A cache in memory.
-ghost use Rattle.std.specs.Prelude.{◌&&◌, ◌≡◌, ℕ, [], None, true};
+ghost use Rattle.std.specs.Prelude.{◌&&◌, ◌≡◌, ℕ, [], Some, true};
 ghost use Rattle.mar_store.specs.Alarms.{fresh_watch};
+ghost use Rattle.mar_store.specs.Watch.{by_half};
 ghost use Rattle.mar_epochs.specs.EpochStates.{IsBare, state_under};
+ghost use Rattle.mar_cache.specs.AsOne.{kept_of};
+ghost use Rattle.mar_cache.specs.Bounds.{bounds_of};
 ghost use Rattle.mar_cache.specs.Shelved.{shelf_watch};
 ghost use Rattle.mar_cache.specs.Stages.{is_loaded};
 
@@ -11,7 +14,7 @@ use mar_epochs::{
     DepotEpochs, EpochArchives, EpochArchivesDepot, Epochs, KeyedEntry, MemEpochArchives,
     MemEpochArchivesWreck,
 };
-use mar_store::{MemDepot, MemMeta, Meta};
+use mar_store::{LuckHalf, MemDepot, MemMeta, Meta};
 use std::alloc::Global;
 
 /// The epochs of a cache in memory.
@@ -20,10 +23,13 @@ pub type MemEpochs<E> = DepotEpochs<MemEpochArchives<E>, MemDepot<MemEpochArchiv
 /// A cache in memory that holds nothing; its lowest and its highest epoch are 0.
 pub fn empty_shelf<E: KeyedEntry>(alloc: Global) -> EpochCache<MemEpochs<E>, MemMeta>
     ensures bare { (k : ℕ) → IsBare (⟦<DepotEpochs<MemEpochArchives<E>, MemDepot<MemEpochArchivesWreck<E>>> as Epochs>⟧.states result.manager.epochs k) }
+    ensures kept { kept_of (⟦<DepotEpochs<MemEpochArchives<E>, MemDepot<MemEpochArchivesWreck<E>>> as Epochs>⟧.states result.manager.epochs)
+        (bounds_of (⟦<MemMeta as Meta>⟧.current result.manager.meta)).highest ≡ record { held = []; sure = []; may = [] } }
+    ensures lowest { (bounds_of (⟦<MemMeta as Meta>⟧.current result.manager.meta)).lowest ≡ 0 }
     ensures loaded { is_loaded result.stage ≡ true }
-    ensures watch { shelf_watch result.manager.alarm
+    ensures watch { shelf_watch ⟦<DepotEpochs<MemEpochArchives<E>, MemDepot<MemEpochArchivesWreck<E>>> as Epochs>⟧.keeps result.manager.alarm
         (⟦<DepotEpochs<MemEpochArchives<E>, MemDepot<MemEpochArchivesWreck<E>>> as Epochs>⟧.calm result.manager.epochs
-        && (⟦<MemMeta as Meta>⟧.watch result.manager.meta).only_armed) ≡ fresh_watch None }
+        && (⟦<MemMeta as Meta>⟧.watch result.manager.meta).only_armed) ≡ fresh_watch (Some (by_half LuckHalf.Low)) }
 {
     let depot = MemDepot::new(alloc);
     shelf_over(alloc, depot)
@@ -38,9 +44,12 @@ fn shelf_over<A: EpochArchives, D: EpochArchivesDepot<A::Wreck>>(
     requires calm { (A.unfailing && (D.watch depot).only_armed) ≡ true }
     requires bare { (k : ℕ) → IsBare (state_under A.Wreck.left (D.names depot k)) }
     ensures bare { (k : ℕ) → IsBare (⟦<DepotEpochs<A, D> as Epochs>⟧.states result.manager.epochs k) }
+    ensures kept { kept_of (⟦<DepotEpochs<A, D> as Epochs>⟧.states result.manager.epochs)
+        (bounds_of (⟦<MemMeta as Meta>⟧.current result.manager.meta)).highest ≡ record { held = []; sure = []; may = [] } }
+    ensures lowest { (bounds_of (⟦<MemMeta as Meta>⟧.current result.manager.meta)).lowest ≡ 0 }
     ensures loaded { is_loaded result.stage ≡ true }
-    ensures watch { shelf_watch result.manager.alarm (⟦<DepotEpochs<A, D> as Epochs>⟧.calm result.manager.epochs
-        && (⟦<MemMeta as Meta>⟧.watch result.manager.meta).only_armed) ≡ fresh_watch None }
+    ensures watch { shelf_watch ⟦<DepotEpochs<A, D> as Epochs>⟧.keeps result.manager.alarm (⟦<DepotEpochs<A, D> as Epochs>⟧.calm result.manager.epochs
+        && (⟦<MemMeta as Meta>⟧.watch result.manager.meta).only_armed) ≡ fresh_watch ⟦<DepotEpochs<A, D> as Epochs>⟧.keeps }
 {
     let epochs = DepotEpochs::new(alloc, depot);
     let meta = MemMeta::new(alloc);

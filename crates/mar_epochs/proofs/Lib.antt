@@ -2,6 +2,8 @@ pub mod Filtering
 pub mod Places
 pub mod EpochArchivesChanges
 pub mod Draws
+pub mod LuckyDraws
+pub mod Picking
 pub mod Leaving
 pub mod Unarmed
 pub mod Spotting

@@ -3,5 +3,7 @@ pub mod EntryLogs
 pub mod Props
 pub mod Laws
 pub mod EpochStates
+pub mod SmallStates
+pub mod Picks
 pub mod Spots
 pub mod EntryKeys

@@ -4,6 +4,7 @@ ghost use Rattle.std.specs.Option.{option_copied};
 ghost use Rattle.std.specs.Ordering.{eq_by_cmp};
 ghost use Rattle.mar_node.specs.Cached.{Cached, epoch_of, same_place};
 ghost use Rattle.mar_node.specs.Cache.{is_below, is_certified_below};
+ghost use Rattle.mar_node.specs.SmallEntries.{IsSmallEntry};
 ghost use Rattle.mar_node.specs.Sections.{index_of, section_of};
 ghost use Rattle.mar_epochs.specs.Spots.{is_among};
 
@@ -13,7 +14,7 @@ use mar_store::Miss;
 use mar_types::{Epoch, Height, Round};
 use std::alloc::AllocError;
 
-/// One entry of a cache.
+/// One entry of a cache, small enough for a store.
 pub trait AsEntry: Drop {
     /// What an entry is looked for by.
     type Wanted: Drop;
@@ -49,6 +50,8 @@ pub trait AsEntry: Drop {
     where
         Self: Sized,
         ensures { IfOk result (λ e. plain e ≡ plain self.now) };
+
+    ghost small: { (e : Self) → IsSmallEntry (plain e) };
 }
 
 /// An entry that is found by keys, which have an order.

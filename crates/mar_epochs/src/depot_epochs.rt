@@ -8,6 +8,8 @@ ghost use Rattle.mar_store.specs.Lost.{wreck_of};
 ghost use Rattle.mar_node.specs.Sections.{first_found};
 ghost use Rattle.mar_epochs.specs.EpochArchives.{IsOfMemory, is_kept, puts_of};
 ghost use Rattle.mar_epochs.specs.EpochStates.{ChangesEpoch, KeepsOtherEpochs, LosesEpoch, OpensEpoch, PutsBack, held_in, is_opened, is_upto, left_of_epoch, nested_states, nested_ways, newer_of, none_gone, opened, shut, some_ways, state_of_slot, state_under, states_of};
+ghost use Rattle.mar_epochs.specs.SmallStates.{small_states, small_ways};
+ghost use Rattle.mar_epochs.specs.Picks.{PicksEpoch, follows_if, one_certain, picks_by};
 
 use crate::as_entry::AsEntry;
 use crate::change::Change;
@@ -76,6 +78,7 @@ impl<A: EpochArchives, D: EpochArchivesDepot<A::Wreck>> DepotEpochs<A, D> {
             ≡ (if k == epoch then option_map (λ _. slot) (get nat_cmp self.slots k) else get nat_cmp self.slots k) }
         ensures depot { result.0.depot ≡ self.depot }
         ensures opening { result.0.opening ≡ self.opening }
+        ensures luck { result.0.luck ≡ self.luck }
     {
         let DepotEpochs {
             depot,
@@ -133,6 +136,7 @@ impl<A: EpochArchives, D: EpochArchivesDepot<A::Wreck>> DepotEpochs<A, D> {
         ensures calm { MatchResult result
             (λ s. ⟦<DepotEpochs<A, D> as Epochs>⟧.calm s ≡ ⟦<DepotEpochs<A, D> as Epochs>⟧.calm self)
             (λ l. ⟦<DepotEpochsWreck<A, D> as EpochsRuin>⟧.calm (wreck_of l) ≡ ⟦<DepotEpochs<A, D> as Epochs>⟧.calm self) }
+        ensures luck { IfOk result (λ s. s.luck ≡ self.luck) }
     {
         match answer {
             Ok(archives) => {
@@ -156,6 +160,8 @@ impl<A: EpochArchives, D: EpochArchivesDepot<A::Wreck>> DepotEpochs<A, D> {
             × KeepsOtherEpochs epoch (⟦<DepotEpochs<A, D> as Epochs>⟧.states self) (⟦<DepotEpochs<A, D> as Epochs>⟧.states s))
             (λ l. AllByRecursion (LosesEpoch epoch (shut (A.Wreck.left ruin)) [] none_gone (⟦<DepotEpochs<A, D> as Epochs>⟧.states self))
             (⟦<DepotEpochsWreck<A, D> as EpochsRuin>⟧.left (wreck_of l))) }
+        ensures picked { IfOk result (λ s. PicksEpoch (⟦<DepotEpochs<A, D> as Epochs>⟧.picks self) (shut (A.Wreck.left ruin))
+            (⟦<DepotEpochs<A, D> as Epochs>⟧.states s epoch) × (s.luck ≡ self.luck)) }
         ensures calm { MatchResult result
             (λ s. ⟦<DepotEpochs<A, D> as Epochs>⟧.calm s ≡ ⟦<DepotEpochs<A, D> as Epochs>⟧.calm self)
             (λ l. ⟦<DepotEpochsWreck<A, D> as EpochsRuin>⟧.calm (wreck_of l) ≡ ⟦<DepotEpochs<A, D> as Epochs>⟧.calm self) }
@@ -173,6 +179,8 @@ impl<A: EpochArchives, D: EpochArchivesDepot<A::Wreck>> DepotEpochs<A, D> {
             × KeepsOtherEpochs epoch (⟦<DepotEpochs<A, D> as Epochs>⟧.states self) (⟦<DepotEpochs<A, D> as Epochs>⟧.states s))
             (λ l. AllByRecursion (LosesEpoch epoch (state_under A.Wreck.left (D.names self.depot epoch)) [] none_gone
             (⟦<DepotEpochs<A, D> as Epochs>⟧.states self)) (⟦<DepotEpochsWreck<A, D> as EpochsRuin>⟧.left (wreck_of l))) }
+        ensures picked { IfOk result (λ s. PicksEpoch (⟦<DepotEpochs<A, D> as Epochs>⟧.picks self) (state_under A.Wreck.left (D.names self.depot epoch))
+            (⟦<DepotEpochs<A, D> as Epochs>⟧.states s epoch) × (s.luck ≡ self.luck)) }
         ensures calm { MatchResult result
             (λ s. ⟦<DepotEpochs<A, D> as Epochs>⟧.calm s ≡ ⟦<DepotEpochs<A, D> as Epochs>⟧.calm self)
             (λ l. ⟦<DepotEpochsWreck<A, D> as EpochsRuin>⟧.calm (wreck_of l) ≡ ⟦<DepotEpochs<A, D> as Epochs>⟧.calm self) }
@@ -218,6 +226,8 @@ impl<A: EpochArchives, D: EpochArchivesDepot<A::Wreck>> DepotEpochs<A, D> {
             × KeepsOtherEpochs epoch (⟦<DepotEpochs<A, D> as Epochs>⟧.states self) (⟦<DepotEpochs<A, D> as Epochs>⟧.states s))
             (λ l. AllByRecursion (LosesEpoch epoch (state_under A.Wreck.left (D.names self.depot epoch)) [] none_gone
             (⟦<DepotEpochs<A, D> as Epochs>⟧.states self)) (⟦<DepotEpochsWreck<A, D> as EpochsRuin>⟧.left (wreck_of l))) }
+        ensures picked { IfOk result (λ s. PicksEpoch (⟦<DepotEpochs<A, D> as Epochs>⟧.picks self) (state_under A.Wreck.left (D.names self.depot epoch))
+            (⟦<DepotEpochs<A, D> as Epochs>⟧.states s epoch) × (s.luck ≡ self.luck)) }
         ensures calm { MatchResult result
             (λ s. ⟦<DepotEpochs<A, D> as Epochs>⟧.calm s ≡ ⟦<DepotEpochs<A, D> as Epochs>⟧.calm self)
             (λ l. ⟦<DepotEpochsWreck<A, D> as EpochsRuin>⟧.calm (wreck_of l) ≡ ⟦<DepotEpochs<A, D> as Epochs>⟧.calm self) }
@@ -264,12 +274,23 @@ impl<A: EpochArchives, D: EpochArchivesDepot<A::Wreck>> Epochs for DepotEpochs<A
 
     ghost calm = { λ s. A.unfailing && (D.watch s.depot).only_armed };
 
+    ghost keeps = { follows_if D.is_certain A.keeps };
+
+    ghost picks = { λ s. picks_by (follows_if D.is_certain A.keeps) s.luck };
+
     ghost nested = { λ s. nested_states A.book A.Wreck.left A.nested A.nested_left s.opening s.slots (D.names s.depot) };
 
     ghost nested_left = { λ w. nested_ways A.book A.Wreck.left A.nested A.nested_left w.opening w.slots (D.Wreck.left w.depot) };
 
     ghost some_left = { λ w. some_ways (λ names k. left_of_epoch (states_of A.book A.Wreck.left w.opening w.slots names k)) (D.Wreck.left w.depot)
         (D.Wreck.some w.depot) };
+
+    ghost small = { λ s. small_states A.book A.Wreck.left A.small A.small_left s.opening s.slots (D.names s.depot) };
+
+    ghost small_left = { λ w. small_ways A.book A.Wreck.left A.small A.small_left w.opening w.slots (D.Wreck.left w.depot) };
+
+    ghost one_left = { λ w. one_certain (λ names k. left_of_epoch (states_of A.book A.Wreck.left w.opening w.slots names k)) (D.Wreck.left w.depot)
+        D.is_certain A.keeps (D.one_way w.depot) };
 
     fn is_open(&self, epoch: u64) -> bool {
         self.archives(epoch).is_some()

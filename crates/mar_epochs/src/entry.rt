@@ -2,7 +2,9 @@
 ghost use Rattle.std.specs.Prelude.{◌≡◌};
 ghost use Rattle.mar_types.specs.Round.{round_lt};
 ghost use Rattle.mar_node.specs.Entries.{cached_of, is_sought};
+ghost use Rattle.mar_node.specs.SmallEntries.{IsSmallEntry};
 ghost use Rattle.mar_epochs.specs.EntryKeys.{has_key};
+ghost use Rattle.mar_epochs.specs.SmallStates.{IsSmallEntry-prop};
 
 use crate::as_entry::{AsEntry, KeyedEntry};
 use crate::entry_key::{EntryKey, block_keys, certificate_keys, key_of, keys_compared};
@@ -14,11 +16,12 @@ use mar_types::{Epoch, Height, Round};
 use std::alloc::AllocError;
 use std::marker::PhantomData;
 
-/// An entry over blocks of a kind.
+/// An entry over blocks of a kind, small enough for a store.
 #[derive(Drop)]
-pub struct CacheEntry<V: Variant, N, F> {
+pub struct CacheEntry<V: Variant, N: AsFinalization, F: CommitsTo<V::Commitment>> {
     entry: Entry<V::Block, N, F>,
     of: PhantomData<V>,
+    pub ghost small: { IsSmallEntry (cached_of V.plain N.plain F.plain entry) } by { IsSmallEntry-prop (cached_of V.plain N.plain F.plain entry) },
 }
 
 /// What keeps an entry over blocks of a kind.
@@ -29,6 +32,7 @@ pub trait KeptEntry<V: Variant, F: CommitsTo<V::Commitment>>: AsEntry {
     fn of(entry: Entry<V::Block, Self::Notarization, F>) -> Self
     where
         Self: Sized,
+        requires small { IsSmallEntry (cached_of V.plain Self.Notarization.plain F.plain entry) }
         ensures { Self.plain result ≡ cached_of V.plain Self.Notarization.plain F.plain entry };
 
     /// What it is.
@@ -56,6 +60,8 @@ impl<V: Variant, N: AsFinalization, F: CommitsTo<V::Commitment>> AsEntry for Cac
     ghost plain = { λ e. cached_of V.plain N.plain F.plain e.entry };
 
     ghost wants = { λ w x. is_sought V.Digest.bytes V.Commitment.bytes V.inner w x };
+
+    ghost small = { λ e. e.small };
 
     fn epoch(&self) -> Epoch {
         match &self.entry {
@@ -164,6 +170,7 @@ impl<V: Variant, N: AsFinalization, F: CommitsTo<V::Commitment>> KeptEntry<V, F>
     type Notarization = N;
 
     fn of(entry: Entry<V::Block, N, F>) -> Self
+        requires small { IsSmallEntry (cached_of V.plain N.plain F.plain entry) }
         ensures { cached_of V.plain N.plain F.plain result.entry ≡ cached_of V.plain N.plain F.plain entry }
     {
         CacheEntry {

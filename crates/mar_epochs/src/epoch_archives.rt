@@ -1,11 +1,14 @@
 //! The archives that a cache keeps of an epoch, as one store.
-ghost use Rattle.std.specs.Prelude.{◌≡◌, ◌≤◌, Bool, true, IsTrue, List, filter, IfErr, MatchResult, option_map};
+ghost use Rattle.std.specs.Prelude.{◌≡◌, ◌≤◌, Bool, Option, true, IsTrue, List, filter, length, IfErr, IfOk, MatchResult, option_map};
 ghost use Rattle.std.specs.Option.{option_copied};
 ghost use Rattle.mar_store.specs.Changes.{Left, Within, left_of};
 ghost use Rattle.mar_store.specs.Lost.{wreck_of};
+ghost use Rattle.mar_store.specs.Watch.{Follows};
 ghost use Rattle.mar_node.specs.Cached.{Cached};
 ghost use Rattle.mar_node.specs.Sections.{first_found, is_in};
+ghost use Rattle.mar_node.specs.SmallEntries.{AreSmallEntries};
 ghost use Rattle.mar_epochs.specs.EpochArchives.{AreNestedArchives, Book, ChangesArchives, FindsArchives, IsOfMemory, KeepsArchives, LosesArchives, nothing_left};
+ghost use Rattle.mar_epochs.specs.Picks.{PicksHeld, picks_by};
 
 use crate::as_entry::AsEntry;
 use crate::change::Change;
@@ -32,6 +35,9 @@ pub trait EpochArchives: Drop {
     // A call fails only where memory runs out.
     ghost unfailing: { Bool };
 
+    // How a reopening goes by luck, where it does.
+    ghost keeps: { Option Follows };
+
     /// The entry that is looked for: that of the earliest archive, there the one at the lowest view or height, and of those
     /// the one put first.
     fn find(&self, wanted: &<Self::Entry as AsEntry>::Wanted) -> Option<&Self::Entry>
@@ -57,24 +63,34 @@ pub trait EpochArchives: Drop {
         Self: Sized,
         ensures { Self.Wreck.left result ≡ left_of (book self).kept };
 
-    /// Opens what a crash left; luck picks among what may be left.
+    /// Opens what a crash left; luck picks among what may be left: of each archive the entries whose numbers it keeps.
     fn reopen(wreck: Self::Wreck, luck: u64) -> Result<Self, Lost<Self::Wreck>>
     where
         Self: Sized,
         ensures done { MatchResult result
             (λ s. FindsArchives (Self.Wreck.left wreck) (book s).kept)
             (λ l. KeepsArchives (Self.Wreck.left wreck) (Self.Wreck.left (wreck_of l))) }
+        ensures picked { IfOk result (λ s. PicksHeld (picks_by keeps luck) (Self.Wreck.left wreck) (book s).kept.held) }
         ensures unfailing { unfailing ≡ true → IfErr result IsOfMemory };
 
     ghost nested: { (s : Self) → AreNestedArchives (book s) };
 
     ghost nested_left: { (w : Self.Wreck) → Within (Self.Wreck.left w).sure (Self.Wreck.left w).may };
+
+    ghost small: { (s : Self) → AreSmallEntries (book s).kept.may };
+
+    ghost small_left: { (w : Self.Wreck) → AreSmallEntries (Self.Wreck.left w).may };
 }
 
 /// A depot of what is left of the archives of epochs, which tells what stands under its names: of an empty one nothing is
 /// left.
 pub trait EpochArchivesDepot<W: EpochArchivesRuin>: Depot<W> {
+    // A crash leaves its names in one way.
+    ghost is_certain: { Bool };
+
     ghost tells: { Self.told ≡ true };
 
     ghost empties: { (w : W) → IsTrue (Self.is_empty w) → W.left w ≡ nothing_left };
+
+    ghost one_way: { (w : Self.Wreck) → is_certain ≡ true → length (Self.Wreck.left w) ≡ 1 };
 }

@@ -1,11 +1,14 @@
 //! The epochs of a cache.
-ghost use Rattle.std.specs.Prelude.{◌≡◌, ◌<◌, ℕ, Bool, Contains, IfErr, IfOk, List, MatchResult, [], false, length, not, true, option_map};
+ghost use Rattle.std.specs.Prelude.{◌≡◌, ◌<◌, ℕ, Bool, Contains, IfErr, IfOk, List, MatchResult, Option, [], false, is_some, length, not, true, option_map};
 ghost use Rattle.std.specs.Option.{option_copied};
 ghost use Rattle.std.specs.List.{AllByRecursion};
 ghost use Rattle.mar_store.specs.Lost.{wreck_of};
+ghost use Rattle.mar_store.specs.Watch.{Follows};
 ghost use Rattle.mar_node.specs.Sections.{first_found};
 ghost use Rattle.mar_epochs.specs.EpochArchives.{IsOfMemory, is_kept, puts_of};
 ghost use Rattle.mar_epochs.specs.EpochStates.{ChangesEpoch, DestroysOrNot, EpochStates, HasSome, IsBare, IsNestedEpoch, IsNewest, IsTicket, KeepsOtherEpochs, LosesEpoch, MightBe, OpensEpoch, SameEpochs, held_in, is_opened, left_of_epoch, none_gone};
+ghost use Rattle.mar_epochs.specs.SmallStates.{AreSmallEpochs};
+ghost use Rattle.mar_epochs.specs.Picks.{PicksEpoch, picks_by};
 
 use crate::as_entry::AsEntry;
 use crate::change::Change;
@@ -33,6 +36,12 @@ pub trait Epochs: Drop {
     // It fails only where memory runs out.
     ghost calm: { Self → Bool };
 
+    // How it goes by luck, where it does.
+    ghost keeps: { Option Follows };
+
+    // The numbers that the luck of its last reopening keeps, where it goes by luck.
+    ghost picks: { Self → Option (ℕ → Bool) };
+
     /// Whether an epoch is open.
     fn is_open(&self, epoch: u64) -> bool
         ensures { result ≡ is_opened (states self.now epoch) };
@@ -57,6 +66,7 @@ pub trait Epochs: Drop {
         ensures done { MatchResult result
             (λ s. OpensEpoch (states self epoch) (states s epoch) × KeepsOtherEpochs epoch (states self) (states s))
             (λ l. AllByRecursion (LosesEpoch epoch (states self epoch) [] none_gone (states self)) (Self.Wreck.left (wreck_of l))) }
+        ensures picked { IfOk result (λ s. PicksEpoch (picks self) (states self epoch) (states s epoch) × (picks s ≡ picks self)) }
         ensures calm { MatchResult result (λ s. calm s ≡ calm self) (λ l. Self.Wreck.calm (wreck_of l) ≡ calm self) }
         ensures memory { calm self ≡ true → IfErr result IsOfMemory };
 
@@ -86,6 +96,7 @@ pub trait Epochs: Drop {
     fn list(&mut self) -> Result<Vec<u64>, Miss>
         ensures found { IfOk result (λ es. (k : ℕ) → HasSome (states self.old k) → Contains es.items k) }
         ensures same { SameEpochs (states self.old) (states self.new) }
+        ensures picks { picks self.new ≡ picks self.old }
         ensures calm { calm self.new ≡ calm self.old }
         ensures memory { calm self.old ≡ true → IfErr result (λ m. m ≡ Miss.Memory) };
 
@@ -105,6 +116,7 @@ pub trait Epochs: Drop {
             (λ s. MightBe (Self.Wreck.left wreck) (states s))
             (λ l. AllByRecursion (MightBe (Self.Wreck.left wreck)) (Self.Wreck.left (wreck_of l))) }
         ensures shut { IfOk result (λ s. (k : ℕ) → is_opened (states s k) ≡ false) }
+        ensures picks { IfOk result (λ s. picks s ≡ picks_by keeps luck) }
         ensures calm { MatchResult result (λ s. calm s ≡ Self.Wreck.calm wreck) (λ l. Self.Wreck.calm (wreck_of l) ≡ Self.Wreck.calm wreck) }
         ensures memory { Self.Wreck.calm wreck ≡ true → IfErr result IsOfMemory };
 
@@ -113,4 +125,10 @@ pub trait Epochs: Drop {
     ghost nested_left: { (w : Self.Wreck) (left : EpochStates) → Contains (Self.Wreck.left w) left → (k : ℕ) → IsNestedEpoch (left k) };
 
     ghost some_left: { (w : Self.Wreck) → 0 < length (Self.Wreck.left w) };
+
+    ghost small: { (s : Self) → AreSmallEpochs (states s) };
+
+    ghost small_left: { (w : Self.Wreck) (left : EpochStates) → Contains (Self.Wreck.left w) left → AreSmallEpochs left };
+
+    ghost one_left: { (w : Self.Wreck) → is_some keeps ≡ true → length (Self.Wreck.left w) ≡ 1 };
 }

@@ -1,14 +1,17 @@
 //! The archives of an epoch in memory.
-ghost use Rattle.std.specs.Prelude.{◌≡◌, ◌++◌, ◌==◌, ◌∷◌, ◌≤◌, [], false, true, filter, if◌then◌else◌, length, map, refl, IfErr, IfOk, MatchResult};
+ghost use Rattle.std.specs.Prelude.{◌≡◌, ◌++◌, ◌==◌, ◌∷◌, ◌≤◌, [], false, true, filter, if◌then◌else◌, length, map, refl, IfErr, IfOk, MatchResult, Some};
 ghost use Rattle.std.specs.List.{list_any};
 ghost use Rattle.std.specs.BTreeMap.{get};
 ghost use Rattle.mar_store.specs.Changes.{left_of};
 ghost use Rattle.mar_store.specs.Lost.{wreck_of};
+ghost use Rattle.mar_store.specs.Watch.{by_half};
+ghost use Rattle.mar_store.specs.declared.LuckHalf.TheVariants.{Low};
 ghost use Rattle.mar_node.specs.Cached.{same_place};
 ghost use Rattle.mar_epochs.specs.EntryLogs.{book_of, drawn_in_all, entries, kept_in, log_of, with_mark};
 ghost use Rattle.mar_epochs.specs.Spots.{spot_found};
 ghost use Rattle.mar_epochs.specs.EpochArchives.{ChangesArchives, IsOfMemory, LosesArchives};
 ghost use Rattle.mar_epochs.specs.Laws.{kept_nested, left_nested, nothing_logged};
+ghost use Rattle.mar_epochs.specs.SmallStates.{small_log};
 
 use crate::as_entry::KeyedEntry;
 use crate::change::Change;
@@ -123,9 +126,15 @@ impl<E: KeyedEntry> EpochArchives for MemEpochArchives<E> {
 
     ghost unfailing = { true };
 
+    ghost keeps = { Some (by_half Low) };
+
     ghost nested = { λ s. kept_nested s.log.accepted (log_of E.plain s.log.items.items) s.log.once };
 
     ghost nested_left = { λ w. left_nested (log_of E.plain w.log.items.items) };
+
+    ghost small = { λ s. small_log E.plain E.small s.log.items.items };
+
+    ghost small_left = { λ w. small_log E.plain E.small w.log.items.items };
 
     fn find(&self, wanted: &E::Wanted) -> Option<&E> {
         match self.index.spot_of(&E::key_of(wanted)) {
@@ -183,7 +192,11 @@ impl<E: KeyedEntry> EpochArchives for MemEpochArchives<E> {
 
 impl<E: KeyedEntry> EpochArchivesDepot<MemEpochArchivesWreck<E>>
     for MemDepot<MemEpochArchivesWreck<E>> {
+    ghost is_certain = { true };
+
     ghost tells = { refl };
 
     ghost empties = { λ w empty. nothing_logged E.plain w.log.items.items empty };
+
+    ghost one_way = { λ w is. refl };
 }

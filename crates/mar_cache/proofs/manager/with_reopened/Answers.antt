@@ -21,7 +21,7 @@ returns-in-Ok g c = record {
   bounds = (c.in-Ok.ensures.done, c.in-Ok.ensures.synced);
   ways = tt;
   left = tt;
-  watched = ap (λ w. shelf_watch c.args.alarm (g.S.Epochs.calm c.args.epochs && w.only_armed)) c.in-Ok.ensures.watched.1;
+  watched = ap (λ w. shelf_watch g.S.Epochs.keeps c.args.alarm (g.S.Epochs.calm c.args.epochs && w.only_armed)) c.in-Ok.ensures.watched.1;
 }
 
 pub lost_meta-requires : goal.lost_meta-requires
@@ -39,6 +39,6 @@ returns-in-Err g c =
       bounds = tt;
       ways = lost.ways;
       left = rw lost.meta (λ x has. subst (λ ys. Contains ys x) (append-nil _) (c.in-Err.ensures.done.within x has));
-      watched = lost_calm (λ w. w.alarm) (λ w. g.S.Wreck.EpochsRuin.calm w.epochs && (g.M.Wreck.MetaRuin.watch w.meta).only_armed) c.args.alarm _ _ c.lost_meta.result lost.fault lost.due lost.faults
+      watched = lost_calm g.S.Epochs.keeps (λ w. w.alarm) (λ w. g.S.Wreck.EpochsRuin.calm w.epochs && (g.M.Wreck.MetaRuin.watch w.meta).only_armed) c.args.alarm _ _ c.lost_meta.result lost.fault lost.due lost.faults
           (ap₂ (λ a b. a && b) lost.calm (ap (λ m. (g.M.Wreck.MetaRuin.watch m).only_armed) lost.meta ∙ still_armed g.M.Wreck.MetaRuin.watch watch c.in-Err.lost c.in-Err.ensures.watched)) (λ only. for_memory g.M.Wreck.MetaRuin.watch watch c.in-Err.lost c.requires.quiet c.in-Err.ensures.watched (and_right _ _ only));
     }

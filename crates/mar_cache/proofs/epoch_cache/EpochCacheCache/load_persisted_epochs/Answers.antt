@@ -6,6 +6,7 @@ use Rattle.mar_cache.specs.Bounds.{bounds_of}
 use Rattle.mar_cache.specs.Shelved.{nothing_gone}
 use Rattle.mar_cache.proofs.AllEpochs.{loses_as}
 use Rattle.mar_cache.proofs.CacheSteps.{load_done, staged_loaded}
+use Rattle.mar_cache.proofs.LuckyLoads.{load_found}
 use Rattle.mar_cache.proofs.epoch_cache.EpochCacheCache.load_persisted_epochs.Goals as goal
 
 pub invariant_of-result : goal.invariant_of-result
@@ -20,7 +21,8 @@ returns-in-Ok g c =
     let d = bounds_of (g.M.Meta.current new.meta) in
     let bounds = ap (λ m. bounds_of (g.M.Meta.current m)) c.in-Ok.ensures.meta in
     let both = load_done (states old.epochs) (states new.epochs) b d old.within new.within (g.met.S.Epochs.nested old.epochs) (g.met.S.Epochs.nested new.epochs) bounds c.args.self.stage c.args.self.staged c.in-Ok.ensures.done c.in-Ok.ensures.opened in
-    record { done = both.0; goes_on = both.1; stays = (ap (λ e. e.lowest) bounds, refl); lost = tt; watched = c.in-Ok.ensures.watched }
+    let found = load_found (g.S.Epochs.picks old.epochs) c.args.self.stage (states old.epochs) (states new.epochs) b d old.within bounds c.args.self.staged c.in-Ok.ensures.opened c.in-Ok.ensures.picked in
+    record { done = both.0; found = found; goes_on = both.1; stays = (ap (λ e. e.lowest) bounds, refl); lost = tt; watched = c.in-Ok.ensures.watched }
 
 pub returns-in-Err : goal.returns-in-Err
 returns-in-Err g c =
@@ -29,4 +31,4 @@ returns-in-Err g c =
     let left = wreck_of c.in-Err.lost in
     let some = g.met.S.Epochs.some_left left.epochs in
     let some_bounds = some_ways bounds_of (g.M.Wreck.MetaRuin.left left.meta) (g.met.M.Wreck.MetaRuin.some left.meta) in
-    record { done = λ is. tt; goes_on = tt; stays = tt; lost = loses_as nothing_gone none_goes (λ k. []) (states old.epochs) (bounds_of (g.M.Meta.current old.meta)) (g.S.Wreck.EpochsRuin.left left.epochs) (map bounds_of (g.M.Wreck.MetaRuin.left left.meta)) old.within left.within some some_bounds (λ k y has. has) (λ k y own stays. stays) c.in-Err.ensures.ways (ap (map bounds_of) c.in-Err.ensures.bounds ∙ old.durable); watched = c.in-Err.ensures.watched }
+    record { done = λ is. tt; found = λ is. tt; goes_on = tt; stays = tt; lost = loses_as nothing_gone none_goes (λ k. []) (states old.epochs) (bounds_of (g.M.Meta.current old.meta)) (g.S.Wreck.EpochsRuin.left left.epochs) (map bounds_of (g.M.Wreck.MetaRuin.left left.meta)) old.within left.within some some_bounds (λ k y has. has) (λ k y own stays. stays) c.in-Err.ensures.ways (ap (map bounds_of) c.in-Err.ensures.bounds ∙ old.durable); watched = c.in-Err.ensures.watched }

@@ -24,7 +24,7 @@ pub lost_epochs-requires-clause-within : goal.lost_epochs-requires-clause-within
 lost_epochs-requires-clause-within g c = changed_within (g.S.Epochs.states c.args.self.epochs) _ c.args.epoch _ _ (bounds_of (g.M.Meta.current c.args.self.meta)) _ (g.met.S.Epochs.nested_left (wreck_of c.in-Err.lost)) c.in-Err.ensures.done c.requires.own c.in-Err.ensures.shut c.args.self.durable c.args.self.within
 
 pub returns-in-Ok-clause-watched : goal.returns-in-Ok-clause-watched
-returns-in-Ok-clause-watched g c = ap (λ k. shelf_watch c.args.self.alarm (k && (g.M.Meta.watch c.args.self.meta).only_armed)) c.in-Ok.ensures.calm
+returns-in-Ok-clause-watched g c = ap (λ k. shelf_watch g.S.Epochs.keeps c.args.self.alarm (k && (g.M.Meta.watch c.args.self.meta).only_armed)) c.in-Ok.ensures.calm
 
 pub returns-in-Err-clause-done : goal.returns-in-Err-clause-done
 returns-in-Err-clause-done g c = rw c.lost_epochs.ensures.ways c.in-Err.ensures.done
@@ -33,5 +33,5 @@ pub returns-in-Err-clause-bounds : goal.returns-in-Err-clause-bounds
 returns-in-Err-clause-bounds g c = c.lost_epochs.ensures.bounds
 
 pub returns-in-Err-clause-watched : goal.returns-in-Err-clause-watched
-returns-in-Err-clause-watched g c = lost_calm (λ w. w.alarm) (λ w. g.S.Wreck.EpochsRuin.calm w.epochs && (g.M.Wreck.MetaRuin.watch w.meta).only_armed) c.args.self.alarm _ _ c.lost_epochs.result c.lost_epochs.ensures.fault c.lost_epochs.ensures.due c.lost_epochs.ensures.faults
+returns-in-Err-clause-watched g c = lost_calm g.S.Epochs.keeps (λ w. w.alarm) (λ w. g.S.Wreck.EpochsRuin.calm w.epochs && (g.M.Wreck.MetaRuin.watch w.meta).only_armed) c.args.self.alarm _ _ c.lost_epochs.result c.lost_epochs.ensures.fault c.lost_epochs.ensures.due c.lost_epochs.ensures.faults
     (ap₂ (λ a b. a && b) (ap g.S.Wreck.EpochsRuin.calm c.lost_epochs.ensures.ways ∙ c.in-Err.ensures.calm) (ap (λ x. x.only_armed) c.lost_epochs.ensures.watch)) (λ only. c.in-Err.ensures.memory (and_left _ _ only))

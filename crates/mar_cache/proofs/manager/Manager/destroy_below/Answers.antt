@@ -27,7 +27,7 @@ pub returns-in-Ok-clause-bare : goal.returns-in-Ok-clause-bare
 returns-in-Ok-clause-bare g c = λ less. c.in-Ok.ensures.done.0
 
 pub returns-in-Ok-clause-watched : goal.returns-in-Ok-clause-watched
-returns-in-Ok-clause-watched g c = ap (λ k. shelf_watch c.args.self.alarm (k && (g.M.Meta.watch c.args.self.meta).only_armed)) c.in-Ok.ensures.calm
+returns-in-Ok-clause-watched g c = ap (λ k. shelf_watch g.S.Epochs.keeps c.args.self.alarm (k && (g.M.Meta.watch c.args.self.meta).only_armed)) c.in-Ok.ensures.calm
 
 pub returns-in-Err-clause-done : goal.returns-in-Err-clause-done
 returns-in-Err-clause-done g c = rw c.lost_epochs.ensures.ways (loses_one c.args.epoch c.args.below _ _ (omega arith) c.in-Err.ensures.done)
@@ -36,7 +36,7 @@ pub returns-in-Err-clause-bounds : goal.returns-in-Err-clause-bounds
 returns-in-Err-clause-bounds g c = c.lost_epochs.ensures.bounds
 
 pub returns-in-Err-clause-watched : goal.returns-in-Err-clause-watched
-returns-in-Err-clause-watched g c = lost_calm (λ w. w.alarm) (λ w. g.S.Wreck.EpochsRuin.calm w.epochs && (g.M.Wreck.MetaRuin.watch w.meta).only_armed) c.args.self.alarm _ _ c.lost_epochs.result c.lost_epochs.ensures.fault c.lost_epochs.ensures.due c.lost_epochs.ensures.faults
+returns-in-Err-clause-watched g c = lost_calm g.S.Epochs.keeps (λ w. w.alarm) (λ w. g.S.Wreck.EpochsRuin.calm w.epochs && (g.M.Wreck.MetaRuin.watch w.meta).only_armed) c.args.self.alarm _ _ c.lost_epochs.result c.lost_epochs.ensures.fault c.lost_epochs.ensures.due c.lost_epochs.ensures.faults
     (ap₂ (λ a b. a && b) (ap g.S.Wreck.EpochsRuin.calm c.lost_epochs.ensures.ways ∙ c.in-Err.ensures.calm) (ap (λ x. x.only_armed) c.lost_epochs.ensures.watch)) (λ only. c.in-Err.ensures.memory (and_left _ _ only))
 
 pub returns-in-Ok-clause-done : goal.returns-in-Ok-clause-done

@@ -26,5 +26,5 @@ returns g c =
       bare = bare_if (λ m. g.S.Epochs.states m.epochs) _ c.args.below old mid c.deref.result.now c.destroy_all.result same.0 c.destroy_all.ensures.done c.destroy_all.ensures.bare found;
       meta = IfOk-weaker c.destroy_all.result _ _ (λ m is. is ∙ same.1) c.destroy_all.ensures.meta;
       bounds = IfErr-weaker c.destroy_all.result _ _ (λ l is. is ∙ ap g.M.Meta.left same.1) c.destroy_all.ensures.bounds;
-      watched = calm_then (λ m. shelf_watch m.alarm (g.S.Epochs.calm m.epochs && (g.M.Meta.watch m.meta).only_armed)) (λ w. shelf_watch w.alarm (g.S.Wreck.EpochsRuin.calm w.epochs && (g.M.Wreck.MetaRuin.watch w.meta).only_armed)) (shelf_watch c.args.self.alarm (g.S.Epochs.calm c.args.self.epochs && (g.M.Meta.watch c.args.self.meta).only_armed)) _ c.destroy_all.result c.in_ok-manager.ensures.watched c.destroy_all.ensures.watched;
+      watched = calm_then (λ m. shelf_watch g.S.Epochs.keeps m.alarm (g.S.Epochs.calm m.epochs && (g.M.Meta.watch m.meta).only_armed)) (λ w. shelf_watch g.S.Epochs.keeps w.alarm (g.S.Wreck.EpochsRuin.calm w.epochs && (g.M.Wreck.MetaRuin.watch w.meta).only_armed)) (shelf_watch g.S.Epochs.keeps c.args.self.alarm (g.S.Epochs.calm c.args.self.epochs && (g.M.Meta.watch c.args.self.meta).only_armed)) _ c.destroy_all.result c.in_ok-manager.ensures.watched c.destroy_all.ensures.watched;
     }

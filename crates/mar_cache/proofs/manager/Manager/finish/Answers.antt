@@ -26,7 +26,7 @@ returns-in_err-manager-2 g c = record {
       let m = c.in_ok-manager.manager in
       err_is c.from_residual-in_err-manager-2.result _ _ c.from_residual-in_err-manager-2.ensures.1 (rw (← c.in_ok-manager.ensures.epochs) (loses_leaves (at_epoch e []) nothing_gone (g.S.Epochs.states m.epochs) (g.met.S.Epochs.nested m.epochs) e [] _ _ (λ x has. contains_none x has) (λ x stays. refl) c.in_err-manager-2.ensures.done));
   bounds = err_is c.from_residual-in_err-manager-2.result _ _ c.from_residual-in_err-manager-2.ensures.1 (c.in_err-manager-2.ensures.bounds ∙ ap g.M.Meta.left c.in_ok-manager.ensures.meta);
-  watched = heeds_exit_then _ _ (shelf_watch c.args.self.alarm (g.S.Epochs.calm c.args.self.epochs && (g.M.Meta.watch c.args.self.meta).only_armed)) _ c.from_residual-in_err-manager-2.result _ c.from_residual-in_err-manager-2.ensures.1 c.in_ok-manager.ensures.watched.0 (c.in_ok-manager.ensures.watched.1) c.in_err-manager-2.ensures.watched;
+  watched = heeds_exit_then _ _ (shelf_watch g.S.Epochs.keeps c.args.self.alarm (g.S.Epochs.calm c.args.self.epochs && (g.M.Meta.watch c.args.self.meta).only_armed)) _ c.from_residual-in_err-manager-2.result _ c.from_residual-in_err-manager-2.ensures.1 c.in_ok-manager.ensures.watched.0 (c.in_ok-manager.ensures.watched.1) c.in_err-manager-2.ensures.watched;
 }
 
 pub returns-in-None : goal.returns-in-None
@@ -55,5 +55,5 @@ returns-in-Some g c = record {
       (grows_at put nothing_gone e (g.S.Epochs.states m.epochs) (g.S.Epochs.states n.epochs) (changes_grows g.S.Entry.AsEntry.plain (Finish c.args.ticket.first.section c.args.ticket.first.number) (put e) (nothing_gone e) _ _ (λ x has. contains_none x has) (λ x stays. refl) c.in_ok-manager-2.ensures.done.0) c.in_ok-manager-2.ensures.done.1)
       c.change-in-Some.ensures.done);
   bounds = IfErr-weaker c.change-in-Some.result _ _ (λ l same. same ∙ ap g.M.Meta.left (c.in_ok-manager-2.ensures.meta ∙ c.in_ok-manager.ensures.meta)) c.change-in-Some.ensures.bounds;
-  watched = heeds_then (λ m. shelf_watch m.alarm (g.S.Epochs.calm m.epochs && (g.M.Meta.watch m.meta).only_armed)) (λ w. shelf_watch w.alarm (g.S.Wreck.EpochsRuin.calm w.epochs && (g.M.Wreck.MetaRuin.watch w.meta).only_armed)) (shelf_watch c.args.self.alarm (g.S.Epochs.calm c.args.self.epochs && (g.M.Meta.watch c.args.self.meta).only_armed)) _ c.change-in-Some.result c.in_ok-manager.ensures.watched.0 (c.in_ok-manager-2.ensures.watched ∙ c.in_ok-manager.ensures.watched.1) c.change-in-Some.ensures.watched;
+  watched = heeds_then (λ m. shelf_watch g.S.Epochs.keeps m.alarm (g.S.Epochs.calm m.epochs && (g.M.Meta.watch m.meta).only_armed)) (λ w. shelf_watch g.S.Epochs.keeps w.alarm (g.S.Wreck.EpochsRuin.calm w.epochs && (g.M.Wreck.MetaRuin.watch w.meta).only_armed)) (shelf_watch g.S.Epochs.keeps c.args.self.alarm (g.S.Epochs.calm c.args.self.epochs && (g.M.Meta.watch c.args.self.meta).only_armed)) _ c.change-in-Some.result c.in_ok-manager.ensures.watched.0 (c.in_ok-manager-2.ensures.watched ∙ c.in_ok-manager.ensures.watched.1) c.change-in-Some.ensures.watched;
 }

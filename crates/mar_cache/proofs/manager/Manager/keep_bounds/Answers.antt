@@ -22,7 +22,7 @@ returns-in-Ok g c = record {
   epochs = refl;
   done = (c.in-Ok.ensures.done.0, ap (map bounds_of) c.in-Ok.ensures.done.1 ∙ ap (λ b. b ∷ []) c.in-Ok.ensures.done.0);
   ways = tt;
-  watched = ap (λ w. shelf_watch c.args.self.alarm (g.S.Epochs.calm c.args.self.epochs && w.only_armed)) c.in-Ok.ensures.watched;
+  watched = ap (λ w. shelf_watch g.S.Epochs.keeps c.args.self.alarm (g.S.Epochs.calm c.args.self.epochs && w.only_armed)) c.in-Ok.ensures.watched;
 }
 
 pub lost_meta-requires : goal.lost_meta-requires
@@ -41,6 +41,6 @@ returns-in-Err g c =
       epochs = tt;
       done = rw lost.meta c.in-Err.ensures.done;
       ways = lost.ways;
-      watched = lost_calm (λ w. w.alarm) (λ w. g.S.Wreck.EpochsRuin.calm w.epochs && (g.M.Wreck.MetaRuin.watch w.meta).only_armed) c.args.self.alarm _ _ c.lost_meta.result lost.fault lost.due lost.faults
+      watched = lost_calm g.S.Epochs.keeps (λ w. w.alarm) (λ w. g.S.Wreck.EpochsRuin.calm w.epochs && (g.M.Wreck.MetaRuin.watch w.meta).only_armed) c.args.self.alarm _ _ c.lost_meta.result lost.fault lost.due lost.faults
           (ap₂ (λ a b. a && b) lost.calm (ap (λ m. (g.M.Wreck.MetaRuin.watch m).only_armed) lost.meta ∙ calm_armed g.M.Meta.watch g.M.Wreck.MetaRuin.watch watch c.in-Err.lost c.in-Err.ensures.watched)) (λ only. calm_memory g.M.Meta.watch g.M.Wreck.MetaRuin.watch watch c.in-Err.lost c.in-Err.ensures.watched (and_right _ _ only));
     }

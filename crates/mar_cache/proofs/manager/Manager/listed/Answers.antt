@@ -18,7 +18,7 @@ pub lost_epochs-requires-clause-within : goal.lost_epochs-requires-clause-within
 lost_epochs-requires-clause-within g c = rw c.lost_for-lost.ensures.wreck (fallen_within (g.S.Epochs.states c.args.self.epochs) _ (bounds_of (g.M.Meta.current c.args.self.meta)) _ (fallen_same (g.S.Epochs.states c.args.self.epochs) _ _ c.list.ensures.same c.wreck.ensures.left) c.args.self.durable c.args.self.within)
 
 pub returns-in-Ok-clause-watched : goal.returns-in-Ok-clause-watched
-returns-in-Ok-clause-watched g c = ap (λ k. shelf_watch c.args.self.alarm (k && (g.M.Meta.watch c.args.self.meta).only_armed)) c.list.ensures.calm
+returns-in-Ok-clause-watched g c = ap (λ k. shelf_watch g.S.Epochs.keeps c.args.self.alarm (k && (g.M.Meta.watch c.args.self.meta).only_armed)) c.list.ensures.calm
 
 pub returns-in-Err-clause-ways : goal.returns-in-Err-clause-ways
 returns-in-Err-clause-ways g c = rw (c.lost_epochs.ensures.ways, c.lost_for-lost.ensures.wreck) (fallen_same (g.S.Epochs.states c.args.self.epochs) _ _ c.list.ensures.same c.wreck.ensures.left)
@@ -27,5 +27,8 @@ pub returns-in-Err-clause-bounds : goal.returns-in-Err-clause-bounds
 returns-in-Err-clause-bounds g c = c.lost_epochs.ensures.bounds
 
 pub returns-in-Err-clause-watched : goal.returns-in-Err-clause-watched
-returns-in-Err-clause-watched g c = lost_calm (λ w. w.alarm) (λ w. g.S.Wreck.EpochsRuin.calm w.epochs && (g.M.Wreck.MetaRuin.watch w.meta).only_armed) c.args.self.alarm _ _ c.lost_epochs.result c.lost_epochs.ensures.fault c.lost_epochs.ensures.due c.lost_epochs.ensures.faults
+returns-in-Err-clause-watched g c = lost_calm g.S.Epochs.keeps (λ w. w.alarm) (λ w. g.S.Wreck.EpochsRuin.calm w.epochs && (g.M.Wreck.MetaRuin.watch w.meta).only_armed) c.args.self.alarm _ _ c.lost_epochs.result c.lost_epochs.ensures.fault c.lost_epochs.ensures.due c.lost_epochs.ensures.faults
     (ap₂ (λ a b. a && b) (ap g.S.Wreck.EpochsRuin.calm (c.lost_epochs.ensures.ways ∙ c.lost_for-lost.ensures.wreck) ∙ c.wreck.ensures.calm ∙ c.list.ensures.calm) (ap (λ x. x.only_armed) c.lost_epochs.ensures.watch)) (λ only. c.lost_for-lost.ensures.memory (c.in-Err.ensures.memory (and_left _ _ only)))
+
+pub returns-in-Ok-clause-picks : goal.returns-in-Ok-clause-picks
+returns-in-Ok-clause-picks g c = c.list.ensures.picks

@@ -2,6 +2,7 @@ use Rattle.std.proofs.Common.{[], ◌∙◌, ◌&&◌, ap, ap₂, refl, sym}
 use Rattle.mar_store.specs.Lost.{wreck_of}
 use Rattle.mar_cache.specs.Bounds.{bounds_of}
 use Rattle.mar_cache.specs.Shelved.{shelf_watch}
+use Rattle.mar_cache.proofs.LuckyLoads.{picks_itself}
 use Rattle.mar_cache.proofs.Watched.{lost_calm}
 use Rattle.mar_epochs.proofs.Unarmed.{and_left}
 use Rattle.mar_cache.proofs.Within.{loses_within, opens_itself, within_opened}
@@ -33,7 +34,7 @@ pub returns-in-Ok-clause-done : goal.returns-in-Ok-clause-done
 returns-in-Ok-clause-done g c = c.in-Ok.ensures.done
 
 pub returns-in-Ok-clause-watched : goal.returns-in-Ok-clause-watched
-returns-in-Ok-clause-watched g c = ap (λ k. shelf_watch c.args.self.alarm (k && (g.M.Meta.watch c.args.self.meta).only_armed)) c.in-Ok.ensures.calm
+returns-in-Ok-clause-watched g c = ap (λ k. shelf_watch g.S.Epochs.keeps c.args.self.alarm (k && (g.M.Meta.watch c.args.self.meta).only_armed)) c.in-Ok.ensures.calm
 
 pub returns-in-Err-clause-done : goal.returns-in-Err-clause-done
 returns-in-Err-clause-done g c = rw c.lost_epochs.ensures.ways c.in-Err.ensures.done
@@ -42,5 +43,11 @@ pub returns-in-Err-clause-bounds : goal.returns-in-Err-clause-bounds
 returns-in-Err-clause-bounds g c = c.lost_epochs.ensures.bounds
 
 pub returns-in-Err-clause-watched : goal.returns-in-Err-clause-watched
-returns-in-Err-clause-watched g c = lost_calm (λ w. w.alarm) (λ w. g.S.Wreck.EpochsRuin.calm w.epochs && (g.M.Wreck.MetaRuin.watch w.meta).only_armed) c.args.self.alarm _ _ c.lost_epochs.result c.lost_epochs.ensures.fault c.lost_epochs.ensures.due c.lost_epochs.ensures.faults
+returns-in-Err-clause-watched g c = lost_calm g.S.Epochs.keeps (λ w. w.alarm) (λ w. g.S.Wreck.EpochsRuin.calm w.epochs && (g.M.Wreck.MetaRuin.watch w.meta).only_armed) c.args.self.alarm _ _ c.lost_epochs.result c.lost_epochs.ensures.fault c.lost_epochs.ensures.due c.lost_epochs.ensures.faults
     (ap₂ (λ a b. a && b) (ap g.S.Wreck.EpochsRuin.calm c.lost_epochs.ensures.ways ∙ c.in-Err.ensures.calm) (ap (λ x. x.only_armed) c.lost_epochs.ensures.watch)) (λ only. c.in-Err.ensures.memory (and_left _ _ only))
+
+pub returns-then-is_open-clause-picked : goal.returns-then-is_open-clause-picked
+returns-then-is_open-clause-picked g c = (picks_itself (g.S.Epochs.picks c.args.self.epochs) (g.S.Epochs.states c.args.self.epochs c.args.epoch), refl)
+
+pub returns-in-Ok-clause-picked : goal.returns-in-Ok-clause-picked
+returns-in-Ok-clause-picked g c = c.in-Ok.ensures.picked

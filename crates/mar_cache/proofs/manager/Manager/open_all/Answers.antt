@@ -2,6 +2,7 @@ use Rattle.std.proofs.Common.{[], ap, arith, ◌∙◌}
 use Rattle.std.proofs.lemmas.Result.{err_from_is_err_and}
 use Rattle.mar_cache.specs.Bounds.{bounds_of, includes}
 use Rattle.mar_cache.specs.Shelved.{nothing_gone}
+use Rattle.mar_cache.proofs.LuckyLoads.{step_picks}
 use Rattle.mar_cache.proofs.Shelving.{grown_leaves, opened_all, opened_more, opened_stays, outside_stays, stays_grow, step_stays}
 use Rattle.mar_cache.proofs.manager.Manager.open_all.Goals as goal
 
@@ -21,6 +22,8 @@ loop-place-preserved g c =
       stays = step_stays _ (g.S.Epochs.states c.args.self.epochs) (g.S.Epochs.states now.epochs) (g.S.Epochs.states next.epochs) c.loop-place.invariant.stays step.done.0 step.done.1;
       opened = opened_more (g.S.Epochs.states next.epochs) c.args.listed.now c.loop-place.place (includes b) (λ j less passes. opened_stays _ (g.S.Epochs.states now.epochs) (g.S.Epochs.states next.epochs) step.done.0 step.done.1 _ (c.loop-place.invariant.opened j less passes)) (rw c.loop-place.invariant.meta at step.opened);
       outside = outside_stays (includes b) _ (g.S.Epochs.states c.args.self.epochs) (g.S.Epochs.states now.epochs) (g.S.Epochs.states next.epochs) c.loop-place.invariant.outside (λ fails k. ap (λ s. g.S.Epochs.states s k) ((rw c.loop-place.invariant.meta at step.stays) fails)) step.done.1;
+      picked = step_picks _ (g.S.Epochs.picks c.args.self.epochs) (g.S.Epochs.picks now.epochs) (g.S.Epochs.states c.args.self.epochs) (g.S.Epochs.states now.epochs) (g.S.Epochs.states next.epochs) c.loop-place.invariant.picks c.loop-place.invariant.stays c.loop-place.invariant.picked step.done.0 step.picked.0 step.done.1;
+      picks = step.picked.1 ∙ c.loop-place.invariant.picks;
       meta = step.meta ∙ c.loop-place.invariant.meta;
       watch = step.watched ∙ c.loop-place.invariant.watch;
     }

@@ -12,3 +12,6 @@ returns-clause-done g c = opens_or (λ m. g.S.Epochs.states m.epochs) c.args.epo
 
 pub returns-clause-opened : goal.returns-clause-opened
 returns-clause-opened g c = λ inside. opens_now (λ m. g.S.Epochs.states m.epochs) c.args.epoch (g.S.Epochs.states c.args.self.epochs) _ c.open.result c.open.ensures.done
+
+pub returns-clause-picked : goal.returns-clause-picked
+returns-clause-picked g c = c.open.ensures.picked

@@ -27,7 +27,7 @@ returns-in_err-manager-2 g c = record {
       let m = c.in_ok-manager.manager in
       err_is c.from_residual-in_err-manager-2.result _ _ c.from_residual-in_err-manager-2.ensures.1 (rw (← c.in_ok-manager.ensures.epochs) (fallen_leaves (λ k. []) (λ k. is_certified_below c.args.height) (g.S.Epochs.states m.epochs) (g.met.S.Epochs.nested m.epochs) _ c.in_err-manager-2.ensures.ways));
   bounds = err_is c.from_residual-in_err-manager-2.result _ _ c.from_residual-in_err-manager-2.ensures.1 (c.in_err-manager-2.ensures.bounds ∙ ap g.M.Meta.left c.in_ok-manager.ensures.meta);
-  watched = heeds_exit_then _ _ (shelf_watch c.args.self.alarm (g.S.Epochs.calm c.args.self.epochs && (g.M.Meta.watch c.args.self.meta).only_armed)) _ c.from_residual-in_err-manager-2.result _ c.from_residual-in_err-manager-2.ensures.1 c.in_ok-manager.ensures.watched.0 (c.in_ok-manager.ensures.watched.1) c.in_err-manager-2.ensures.watched;
+  watched = heeds_exit_then _ _ (shelf_watch g.S.Epochs.keeps c.args.self.alarm (g.S.Epochs.calm c.args.self.epochs && (g.M.Meta.watch c.args.self.meta).only_armed)) _ c.from_residual-in_err-manager-2.result _ c.from_residual-in_err-manager-2.ensures.1 c.in_ok-manager.ensures.watched.0 (c.in_ok-manager.ensures.watched.1) c.in_err-manager-2.ensures.watched;
 }
 
 pub returns : goal.returns
@@ -40,5 +40,5 @@ returns g c = record {
       let n = c.in_ok-manager-2.manager.epochs in
       rw (← c.in_ok-manager.ensures.epochs) (same_leaves (λ w. g.S.Wreck.EpochsRuin.left w.epochs) (λ k. []) (λ k. is_certified_below c.args.height) (g.S.Epochs.states m) (g.S.Epochs.states n) c.prune_all.result c.in_ok-manager-2.ensures.same.0 c.prune_all.ensures.ways);
   bounds = IfErr-weaker c.prune_all.result _ _ (λ l same. same ∙ ap g.M.Meta.left (c.in_ok-manager-2.ensures.same.1 ∙ c.in_ok-manager.ensures.meta)) c.prune_all.ensures.bounds;
-  watched = heeds_then (λ m. shelf_watch m.alarm (g.S.Epochs.calm m.epochs && (g.M.Meta.watch m.meta).only_armed)) (λ w. shelf_watch w.alarm (g.S.Wreck.EpochsRuin.calm w.epochs && (g.M.Wreck.MetaRuin.watch w.meta).only_armed)) (shelf_watch c.args.self.alarm (g.S.Epochs.calm c.args.self.epochs && (g.M.Meta.watch c.args.self.meta).only_armed)) _ c.prune_all.result c.in_ok-manager.ensures.watched.0 (c.in_ok-manager-2.ensures.watched ∙ c.in_ok-manager.ensures.watched.1) c.prune_all.ensures.watched;
+  watched = heeds_then (λ m. shelf_watch g.S.Epochs.keeps m.alarm (g.S.Epochs.calm m.epochs && (g.M.Meta.watch m.meta).only_armed)) (λ w. shelf_watch g.S.Epochs.keeps w.alarm (g.S.Wreck.EpochsRuin.calm w.epochs && (g.M.Wreck.MetaRuin.watch w.meta).only_armed)) (shelf_watch g.S.Epochs.keeps c.args.self.alarm (g.S.Epochs.calm c.args.self.epochs && (g.M.Meta.watch c.args.self.meta).only_armed)) _ c.prune_all.result c.in_ok-manager.ensures.watched.0 (c.in_ok-manager-2.ensures.watched ∙ c.in_ok-manager.ensures.watched.1) c.prune_all.ensures.watched;
 }

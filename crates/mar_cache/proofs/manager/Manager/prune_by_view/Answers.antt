@@ -36,7 +36,7 @@ returns-in_err-manager-2 g c =
       ways = err_is c.from_residual-in_err-manager-2.result _ _ c.from_residual-in_err-manager-2.ensures.1 (view_leaves c.args.round old (g.met.S.Epochs.nested c.args.self.epochs) _ left);
       dropped = err_is c.from_residual-in_err-manager-2.result _ _ c.from_residual-in_err-manager-2.ensures.1 (view_drops c.args.round old (g.met.S.Epochs.nested c.args.self.epochs) _ left);
       bounds = err_is c.from_residual-in_err-manager-2.result _ _ c.from_residual-in_err-manager-2.ensures.1 (rw (c.in_err-manager-2.ensures.bounds, ← c.in_ok-manager.ensures.meta) (bounds_stay (map bounds_of (g.M.Meta.left c.in_ok-manager.manager.meta)) _));
-      watched = heeds_exit_then _ _ (shelf_watch c.args.self.alarm (g.S.Epochs.calm c.args.self.epochs && (g.M.Meta.watch c.args.self.meta).only_armed)) _ c.from_residual-in_err-manager-2.result _ c.from_residual-in_err-manager-2.ensures.1 c.in_ok-manager.ensures.watched.0 c.in_ok-manager.ensures.watched.1 c.in_err-manager-2.ensures.watched;
+      watched = heeds_exit_then _ _ (shelf_watch g.S.Epochs.keeps c.args.self.alarm (g.S.Epochs.calm c.args.self.epochs && (g.M.Meta.watch c.args.self.meta).only_armed)) _ c.from_residual-in_err-manager-2.result _ c.from_residual-in_err-manager-2.ensures.1 c.in_ok-manager.ensures.watched.0 c.in_ok-manager.ensures.watched.1 c.in_err-manager-2.ensures.watched;
     }
 
 pub returns-in_err-manager-3 : goal.returns-in_err-manager-3
@@ -54,7 +54,7 @@ returns-in_err-manager-3 g c =
       ways = err_is c.from_residual-in_err-manager-3.result _ _ c.from_residual-in_err-manager-3.ensures.1 (view_leaves c.args.round old (g.met.S.Epochs.nested c.args.self.epochs) _ left);
       dropped = err_is c.from_residual-in_err-manager-3.result _ _ c.from_residual-in_err-manager-3.ensures.1 (view_drops c.args.round old (g.met.S.Epochs.nested c.args.self.epochs) _ left);
       bounds = err_is c.from_residual-in_err-manager-3.result _ _ c.from_residual-in_err-manager-3.ensures.1 (rw (← c.in_ok-manager.ensures.meta, ← c.in_ok-manager-2.ensures.meta) c.in_err-manager-3.ensures.bounds);
-      watched = heeds_exit_then _ _ (shelf_watch c.args.self.alarm (g.S.Epochs.calm c.args.self.epochs && (g.M.Meta.watch c.args.self.meta).only_armed)) _ c.from_residual-in_err-manager-3.result _ c.from_residual-in_err-manager-3.ensures.1 c.in_ok-manager.ensures.watched.0 (c.in_ok-manager-2.ensures.watched ∙ c.in_ok-manager.ensures.watched.1) c.in_err-manager-3.ensures.watched;
+      watched = heeds_exit_then _ _ (shelf_watch g.S.Epochs.keeps c.args.self.alarm (g.S.Epochs.calm c.args.self.epochs && (g.M.Meta.watch c.args.self.meta).only_armed)) _ c.from_residual-in_err-manager-3.result _ c.from_residual-in_err-manager-3.ensures.1 c.in_ok-manager.ensures.watched.0 (c.in_ok-manager-2.ensures.watched ∙ c.in_ok-manager.ensures.watched.1) c.in_err-manager-3.ensures.watched;
     }
 
 pub raise_lowest-requires : goal.raise_lowest-requires
@@ -82,5 +82,5 @@ returns g c =
       ways = view_ways plain c.args.round old mid nested drops (λ s. g.S.Epochs.states s.epochs) (λ w. g.S.Wreck.EpochsRuin.left w.epochs) c.change.result done;
       dropped = view_dropped plain c.args.round old mid nested drops (λ s. g.S.Epochs.states s.epochs) (λ w. g.S.Wreck.EpochsRuin.left w.epochs) c.change.result done;
       bounds = rw (← c.in_ok-manager.ensures.meta, ← c.in_ok-manager-2.ensures.meta) (IfErr-weaker c.change.result _ _ (λ l stays. pruned_left (map bounds_of (g.M.Meta.left d.meta)) (bounds_of (g.M.Meta.current f.meta)) _ _ (ap (map bounds_of) stays ∙ f.durable) c.in_ok-manager-3.ensures.raises) c.change.ensures.bounds);
-      watched = heeds_then (λ s. shelf_watch s.alarm (g.S.Epochs.calm s.epochs && (g.M.Meta.watch s.meta).only_armed)) (λ w. shelf_watch w.alarm (g.S.Wreck.EpochsRuin.calm w.epochs && (g.M.Wreck.MetaRuin.watch w.meta).only_armed)) (shelf_watch c.args.self.alarm (g.S.Epochs.calm c.args.self.epochs && (g.M.Meta.watch c.args.self.meta).only_armed)) _ c.change.result c.in_ok-manager.ensures.watched.0 (c.in_ok-manager-3.ensures.watched ∙ c.in_ok-manager-2.ensures.watched ∙ c.in_ok-manager.ensures.watched.1) c.change.ensures.watched;
+      watched = heeds_then (λ s. shelf_watch g.S.Epochs.keeps s.alarm (g.S.Epochs.calm s.epochs && (g.M.Meta.watch s.meta).only_armed)) (λ w. shelf_watch g.S.Epochs.keeps w.alarm (g.S.Wreck.EpochsRuin.calm w.epochs && (g.M.Wreck.MetaRuin.watch w.meta).only_armed)) (shelf_watch g.S.Epochs.keeps c.args.self.alarm (g.S.Epochs.calm c.args.self.epochs && (g.M.Meta.watch c.args.self.meta).only_armed)) _ c.change.result c.in_ok-manager.ensures.watched.0 (c.in_ok-manager-3.ensures.watched ∙ c.in_ok-manager-2.ensures.watched ∙ c.in_ok-manager.ensures.watched.1) c.change.ensures.watched;
     }

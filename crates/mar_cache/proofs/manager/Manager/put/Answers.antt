@@ -38,7 +38,7 @@ returns-in_err-manager-2 g c = record {
   bounds =
       let e = c.get-epoch.result in
       err_is c.from_residual-in_err-manager-2.result _ _ c.from_residual-in_err-manager-2.ensures.1 (rw (c.in_err-manager-2.ensures.bounds, ← (c.get-epoch.ensures.value ∙ c.epoch.ensures)) (raised_within _ (map bounds_of (g.M.Meta.left c.args.self.meta)) (raised e (bounds_of (g.M.Meta.current c.args.self.meta))) _ c.in_ok-manager.ensures.raises.1));
-  watched = calm_exit_then _ _ (shelf_watch c.args.self.alarm (g.S.Epochs.calm c.args.self.epochs && (g.M.Meta.watch c.args.self.meta).only_armed)) _ c.from_residual-in_err-manager-2.result _ c.from_residual-in_err-manager-2.ensures.1 c.in_ok-manager.ensures.watched c.in_err-manager-2.ensures.watched;
+  watched = calm_exit_then _ _ (shelf_watch g.S.Epochs.keeps c.args.self.alarm (g.S.Epochs.calm c.args.self.epochs && (g.M.Meta.watch c.args.self.meta).only_armed)) _ c.from_residual-in_err-manager-2.result _ c.from_residual-in_err-manager-2.ensures.1 c.in_ok-manager.ensures.watched c.in_err-manager-2.ensures.watched;
 }
 
 pub returns : goal.returns
@@ -60,7 +60,7 @@ returns g c = record {
   bounds =
       let e = c.get-epoch.result in
       rw (← (c.get-epoch.ensures.value ∙ c.epoch.ensures)) (end_bounds (λ w. map bounds_of (g.M.Wreck.MetaRuin.left w.meta)) _ (map bounds_of (g.M.Meta.left c.args.self.meta)) (raised e (bounds_of (g.M.Meta.current c.args.self.meta))) (map bounds_of (g.M.Meta.left c.in_ok-manager.manager.meta)) c.change.result c.in_ok-manager.ensures.raises.1 (IfErr-weaker c.change.result _ _ (λ l is. ap (map bounds_of) (is ∙ ap g.M.Meta.left c.in_ok-manager-2.ensures.meta)) c.change.ensures.bounds));
-  watched = calm_then (λ m. shelf_watch m.alarm (g.S.Epochs.calm m.epochs && (g.M.Meta.watch m.meta).only_armed)) (λ w. shelf_watch w.alarm (g.S.Wreck.EpochsRuin.calm w.epochs && (g.M.Wreck.MetaRuin.watch w.meta).only_armed)) (shelf_watch c.args.self.alarm (g.S.Epochs.calm c.args.self.epochs && (g.M.Meta.watch c.args.self.meta).only_armed)) _ c.change.result (c.in_ok-manager-2.ensures.watched ∙ c.in_ok-manager.ensures.watched) c.change.ensures.watched;
+  watched = calm_then (λ m. shelf_watch g.S.Epochs.keeps m.alarm (g.S.Epochs.calm m.epochs && (g.M.Meta.watch m.meta).only_armed)) (λ w. shelf_watch g.S.Epochs.keeps w.alarm (g.S.Wreck.EpochsRuin.calm w.epochs && (g.M.Wreck.MetaRuin.watch w.meta).only_armed)) (shelf_watch g.S.Epochs.keeps c.args.self.alarm (g.S.Epochs.calm c.args.self.epochs && (g.M.Meta.watch c.args.self.meta).only_armed)) _ c.change.result (c.in_ok-manager-2.ensures.watched ∙ c.in_ok-manager.ensures.watched) c.change.ensures.watched;
 }
 
 pub change-requires : goal.change-requires

@@ -34,7 +34,7 @@ returns-in_err-manager-2 g c = record {
   raises = λ above. no_ok c.from_residual-in_err-manager-2.result _ _ c.from_residual-in_err-manager-2.ensures.1;
   ways = err_is c.from_residual-in_err-manager-2.result _ _ c.from_residual-in_err-manager-2.ensures.1 (rw (← c.in_ok-manager.ensures.epochs) c.in_err-manager-2.ensures.ways);
   bounds = err_is c.from_residual-in_err-manager-2.result _ _ c.from_residual-in_err-manager-2.ensures.1 (rw (← c.in_ok-manager.ensures.meta) c.in_err-manager-2.ensures.bounds);
-  watched = heeds_exit_then _ _ (shelf_watch c.args.self.alarm (g.S.Epochs.calm c.args.self.epochs && (g.M.Meta.watch c.args.self.meta).only_armed)) _ c.from_residual-in_err-manager-2.result _ c.from_residual-in_err-manager-2.ensures.1 c.in_ok-manager.ensures.watched.0 c.in_ok-manager.ensures.watched.1 c.in_err-manager-2.ensures.watched;
+  watched = heeds_exit_then _ _ (shelf_watch g.S.Epochs.keeps c.args.self.alarm (g.S.Epochs.calm c.args.self.epochs && (g.M.Meta.watch c.args.self.meta).only_armed)) _ c.from_residual-in_err-manager-2.result _ c.from_residual-in_err-manager-2.ensures.1 c.in_ok-manager.ensures.watched.0 c.in_ok-manager.ensures.watched.1 c.in_err-manager-2.ensures.watched;
 }
 
 pub returns : goal.returns

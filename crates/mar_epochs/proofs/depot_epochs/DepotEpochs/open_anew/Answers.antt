@@ -15,3 +15,6 @@ returns-in-Ok-clause-done g c =
 
 pub returns-clause-done : goal.returns-clause-done
 returns-clause-done g c = loses_unslotted g.A.EpochArchives.book g.A.Wreck.EpochArchivesRuin.left c.args.self.opening c.args.self.slots c.insert.new.self (g.D.Depot.names c.args.self.depot) c.args.epoch _ (λ k. ap (lookup (is_at (nat_cmp k))) c.in-Err.ensures.err) c.requires.none c.wreck.ensures.left
+
+pub returns-in-Ok-clause-picked : goal.returns-in-Ok-clause-picked
+returns-in-Ok-clause-picked g c = c.open_name.ensures.picked

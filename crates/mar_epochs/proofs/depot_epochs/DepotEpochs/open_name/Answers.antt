@@ -1,6 +1,8 @@
 use Rattle.std.proofs.Common.{[]}
 use Rattle.mar_epochs.specs.EpochStates.{OpensEpoch, none_gone, shut, state_under, states_of}
 use Rattle.mar_epochs.proofs.Leaving.{as_told, handed_is, left_ways, loses_name, not_at, others_handed, same_view}
+use Rattle.mar_epochs.proofs.Picking.{picks_same}
+use Rattle.mar_epochs.specs.Picks.{follows_if, picks_by}
 use Rattle.mar_epochs.proofs.depot_epochs.DepotEpochs.open_name.Goals as goal
 
 pub returns-in-Ok-clause-done : goal.returns-in-Ok-clause-done
@@ -19,3 +21,12 @@ pub returns-in-Err-clause-done : goal.returns-in-Err-clause-done
 returns-in-Err-clause-done g c =
     let old = c.args.self in
     rw (c.lost_by.ensures.wreck, c.parts_of-failed.ensures.wreck) (loses_name g.A.EpochArchives.book g.A.Wreck.EpochArchivesRuin.left old.opening g.D.Depot.is_empty g.met.D.EpochArchivesDepot.empties old.slots c.remove.new.self c.args.epoch c.remove.ensures.updates.1 (λ k other. c.remove.ensures.updates.2 k (not_at c.args.epoch k other)) (g.D.Depot.names old.depot) _ (as_told g.D.Depot.told g.met.D.EpochArchivesDepot.tells c.in-Err.ensures.done))
+
+pub returns-in-Ok-clause-picked : goal.returns-in-Ok-clause-picked
+returns-in-Ok-clause-picked g c =
+    let old = c.args.self in
+    let left = g.A.Wreck.EpochArchivesRuin.left in
+    let names = g.D.Depot.names old.depot in
+    let handed = as_told g.D.Depot.told g.met.D.EpochArchivesDepot.tells c.in-Ok.ensures.done in
+    picks_same (λ s. states_of g.A.EpochArchives.book left s.opening s.slots (g.D.Depot.names s.depot)) (λ s. s.luck) (picks_by (follows_if g.D.EpochArchivesDepot.is_certain g.A.EpochArchives.keeps) old.luck) old.luck c.args.epoch (shut (left c.in-Ok.ruin)) (state_under left (names c.args.epoch)) c.open_ruin.result
+    (handed_is left g.D.Depot.is_empty g.met.D.EpochArchivesDepot.empties names c.args.epoch c.in-Ok.ruin (g.D.Depot.names c.in-Ok.depot) handed) c.open_ruin.ensures.picked
