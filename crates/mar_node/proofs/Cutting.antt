@@ -7,7 +7,7 @@ use Rattle.mar_cert.specs.Finalization.{Finalization}
 use Rattle.mar_key.specs.Keys.{Call}
 use Rattle.mar_key.specs.Processed.{height_in}
 use Rattle.mar_store.specs.Kept.{At, Kept, has_height, value_at}
-use Rattle.mar_store.specs.Changes.{KeepsValues, Left}
+use Rattle.mar_store.specs.Changes.{KeepsValues, Left, left_of}
 use Rattle.mar_store.proofs.Lookups.{AllByRecursion-append, AllByRecursion-from_contains, AllByRecursion-within, Contains-from_value, has_height-from_contains, has_height-from_value, value-from_has_height}
 use Rattle.mar_node.specs.Metadata.{Pair, first_pair, pair_of}
 use Rattle.mar_node.specs.Chain.{Chain, Finalizes, IsBlockAt}
@@ -47,7 +47,7 @@ pub record LeavesArchives (chain : Chain) (n : Node) (e : Event) (left : Ended) 
   pub of_certs : AreFinalizationsOf chain put_certs
   pub own_blocks : (x : At Block) → Contains put_blocks x → brought_block n e ≡ Some x.value
   pub own_certs : (x : At Finalization) → Contains put_certs x → told_finalization n e ≡ Some x.value
-  pub cache : LeavesCache (record { sure = n.cache.sure; may = n.cache.may }) n.lowests [] [] (cache_left left) left.lowests
+  pub cache : LeavesCache (left_of n.cache) n.lowests [] [] (cache_left left) left.lowests
 
 -- what was held stands among what may be left, and what is sure too
 held_may_heights : {T : Type 0} (start : Kept (At T)) (put : List (At T)) (left : Left (At T)) → LeavesStore start 0 put left → (h : ℕ) → 0 ≤ h → IsTrue (has_height start.held h) → IsTrue (has_height left.may h)
@@ -117,15 +117,15 @@ module _ {P E : Type 0} (config : Config) (chain : Chain) (a : Seen P E) (e : Ev
       cut = subst (λ fx. CutsBy config chain a.held.pairs (option_map height_in a.held.processed) n e fx (made_of reports asks) fault left) (sym no_effect) unfloored;
     }
       where
-        sure_cached : (x : Cached) → Contains a.held.cache.sure x → Contains left.cache_sure x
+        sure_cached : (x : Cached) → Contains a.held.cache.kept.sure x → Contains left.cache_sure x
         sure_cached x has = unpruned (leaves.cache.sure x has)
           where
             unpruned : Contains left.cache_sure x ⊎ IsTrue (list_any (λ p. is_below p x) []) → Contains left.cache_sure x
             unpruned (inl there) = there
             unpruned (inr pruned) = absurd cc
 
-        may_cached : (x : Cached) → Contains left.cache_may x → Contains a.held.cache.may x
-        may_cached x has = subst (λ xs. Contains xs x) (append-nil a.held.cache.may) (leaves.cache.may x has)
+        may_cached : (x : Cached) → Contains left.cache_may x → Contains a.held.cache.kept.may x
+        may_cached x has = subst (λ xs. Contains xs x) (append-nil a.held.cache.kept.may) (leaves.cache.may x has)
 
         sound : IsSound chain n
         sound = IsSound-untold chain n tip_before (IsSound-from_good config chain (record n { tip = tip_before }) good)
@@ -154,8 +154,8 @@ module _ {P E : Type 0} (config : Config) (chain : Chain) (a : Seen P E) (e : Ev
 
         good_left : IsGoodEnded chain left
         good_left = IsGoodEnded-from_sound chain n 0 left sound may_blocks may_certs
-            (all_found_within cached_finalization (λ f. IsFinalized chain f.round f.payload) left.cache_may a.held.cache.may may_cached (may_cached_of chain n sound))
-            (all_found_within cached_block (Agrees chain) left.cache_may a.held.cache.may may_cached (may_cached_blocks_of chain n sound))
+            (all_found_within cached_finalization (λ f. IsFinalized chain f.round f.payload) left.cache_may a.held.cache.kept.may may_cached (may_cached_of chain n sound))
+            (all_found_within cached_block (Agrees chain) left.cache_may a.held.cache.kept.may may_cached (may_cached_blocks_of chain n sound))
             (λ h low has. keeps_heights a.held.blocks.sure left.blocks_sure (keeps_sure a.held.blocks leaves.put_blocks (blocks_left left) leaves.blocks) h has)
             (AllByRecursion-from_contains (λ p. (Contains a.held.pairs p × IsFrom 0 p.processed) ⊎ IsSafePair chain left.blocks_sure p) left.meta (λ p has. of_node p (pairs p has)))
 
@@ -184,6 +184,7 @@ module _ {P E : Type 0} (config : Config) (chain : Chain) (a : Seen P E) (e : Ev
             certs = λ x has. cert_from n e a.held.certs.may leaves.put_certs leaves.own_certs x (leaves.certs.may x has);
             sure_blocks = sure_may_heights a.held.blocks leaves.put_blocks (blocks_left left) leaves.blocks;
             sure_certs = sure_may_heights a.held.certs leaves.put_certs (certs_left left) leaves.certs;
+            cached = may_cached;
           };
           asks = front;
           sends = (sends_of n e, refl);
@@ -221,7 +222,7 @@ module _ {P E : Type 0} (config : Config) (chain : Chain) (a : Seen P E) (e : Ev
           of_certs = of_certs;
           own_blocks = own_blocks;
           own_certs = own_certs;
-          cache = LeavesCache-unwritten a.held.cache a.held.lowests written.cached written.prunes (cache_left left.remains.ended) left.remains.ended.lowests none_put none_pruned lost.leaves.cache;
+          cache = LeavesCache-unwritten (left_of a.held.cache.kept) a.held.lowests written.cached written.prunes (cache_left left.remains.ended) left.remains.ended.lowests none_put none_pruned lost.leaves.cache;
         }
 
         first : first_pair left.remains.ended.meta ≡ Some own

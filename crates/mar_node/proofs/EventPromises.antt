@@ -21,7 +21,7 @@ use Rattle.mar_node.specs.Moves.{FinishesSync, HearsFront, HearsUpTo, IsRead, Is
 use Rattle.mar_node.specs.Requests.{own_asks, want_asks}
 use Rattle.mar_node.specs.Node.{AreBlocksOf, AreFinalizationsOf, IsGood, Rest, at_hand}
 use Rattle.mar_writes.specs.Writing.{total_writes}
-use Rattle.mar_node.specs.Promise.{CutsStep, IsLawfulStep, IsSetTo, KeepsPromise, Waiting, heard_by, made_of, node_of}
+use Rattle.mar_node.specs.Promise.{CutsStep, IsLawfulStep, IsSetTo, KeepsStep, Waiting, heard_by, made_of, node_of}
 use Rattle.mar_node.specs.Step.{AreTipsOf, Report, TipsFrom}
 use Rattle.mar_node.proofs.Cutting.{Cuts-before, MayBeLeft, never, only_one, usual_not_by_value, usual_not_dropped}
 use Rattle.mar_node.proofs.FinalizationEvent as final
@@ -60,14 +60,14 @@ module _ {P E : Type 0} (epochs : Epochs) (inner : List ℕ → List ℕ) (parti
 
   module _ (t : ℕ) where
     -- a sync that finished: more may be handed over
-    pub promise-finished : (told told' : Option (List Report)) (heard : Option (List Call)) (m : Seen P E) (result : Result (Seen P E) Ending) → IsNested a.held.blocks → IsNested a.held.certs → AreWritten a.held → IsNested m.held.blocks → IsNested m.held.certs → FinishesSync t a m → Ran m told told' result → KeepsPromise epochs inner a (sync_finished t ∷ []) buffer (heard_by told heard) (heard_by told' heard) result
+    pub promise-finished : (told told' : Option (List Report)) (heard : Option (List Call)) (m : Seen P E) (result : Result (Seen P E) Ending) → IsNested a.held.blocks → IsNested a.held.certs → AreWritten a.held → IsNested m.held.blocks → IsNested m.held.certs → FinishesSync t a m → Ran m told told' result → KeepsStep epochs inner a (sync_finished t ∷ []) buffer (heard_by told heard) (heard_by told' heard) result
     promise-finished told told' heard m result nested certs_nested written new_nested new_certs finishes ran config chain waiting set step =
         dispatched config chain a m (sync_finished t) buffer waiting [] (set.window ∙ sym (ap (λ s. s.life.sizes.window) finishes.same)) step (λ fault. refl)
         (sync.Reaches-finished config chain a m t buffer waiting nested certs_nested finishes new_nested new_certs) (sync.IsGood-finished config chain a m t buffer waiting nested certs_nested finishes written.ordered new_nested new_certs step.good)
         (sync.total-same config chain a m t buffer waiting nested certs_nested finishes written.ordered) new_nested.sure_held told told told' heard heard result (Hears-nothing told) ran (Hears-nothing heard)
 
     -- one that isn't open: nothing changes
-    pub promise-closed : (told : Option (List Report)) (heard : Option (List Call)) (m : Seen P E) → IsNested a.held.blocks → IsNested a.held.certs → AreWritten a.held → IsNested m.held.blocks → IsNested m.held.certs → FinishesSync t a m → m ≡ a → KeepsPromise epochs inner a (sync_finished t ∷ []) buffer (heard_by told heard) (heard_by told heard) (Ok m)
+    pub promise-closed : (told : Option (List Report)) (heard : Option (List Call)) (m : Seen P E) → IsNested a.held.blocks → IsNested a.held.certs → AreWritten a.held → IsNested m.held.blocks → IsNested m.held.certs → FinishesSync t a m → m ≡ a → KeepsStep epochs inner a (sync_finished t ∷ []) buffer (heard_by told heard) (heard_by told heard) (Ok m)
     promise-closed told heard m nested certs_nested written new_nested new_certs finishes same config chain waiting set step =
         undispatched config chain a m (sync_finished t) buffer waiting [] (set.window ∙ sym (ap (λ s. s.life.sizes.window) finishes.same)) step (λ fault. refl)
         (sync.Reaches-finished config chain a m t buffer waiting nested certs_nested finishes new_nested new_certs) (sync.IsGood-finished config chain a m t buffer waiting nested certs_nested finishes written.ordered new_nested new_certs step.good)
@@ -75,7 +75,7 @@ module _ {P E : Type 0} (epochs : Epochs) (inner : List ℕ → List ℕ) (parti
         (subst (λ s. Rest config.window (node_of s buffer waiting)) (sym same) step.rests)
 
     -- one that could not be finished
-    pub promise-unfinished : (told : Option (List Report)) (heard : Option (List Call)) (x : Ending) → Loses a.held nothing_written x → IsUsual x.fault → KeepsPromise epochs inner a (sync_finished t ∷ []) buffer (heard_by told heard) (heard_by told heard) (Err x)
+    pub promise-unfinished : (told : Option (List Report)) (heard : Option (List Call)) (x : Ending) → Loses a.held nothing_written x → IsUsual x.fault → KeepsStep epochs inner a (sync_finished t ∷ []) buffer (heard_by told heard) (heard_by told heard) (Err x)
     promise-unfinished told heard x lost usual config chain waiting set step =
         quiet_cut config chain waiting (sync_finished t) step refl (λ fault. refl) told told heard heard nothing_written x (Hears-nothing told) (HearsFront-nothing heard _ heard (Hears-nothing heard)) refl refl refl refl tt tt (λ y has. nothing_put y has) (λ y has. nothing_put y has) lost (λ p has. nothing_put p has) usual
 
@@ -86,13 +86,13 @@ module _ {P E : Type 0} (epochs : Epochs) (inner : List ℕ → List ℕ) (parti
     reported = message_told None (report_finalization f)
 
     -- what the actor found is what is at hand
-    pub hand : (config : Config) (chain : Chain) (waiting : Waiting) → IsSetTo config a.life.sizes epochs inner → IsLawfulStep config chain (node_of a buffer waiting) (reported ∷ []) → (o : Option Block) → found_at_hand inner buffer a.held.blocks.held f.payload ≡ o → at_hand (node_of a buffer waiting) f.payload ≡ o
-    hand config chain waiting set step o found = sym (found-is config.inner chain a buffer waiting f.payload step.one step.good.of_chain.stores.held_blocks) ∙ (ap (λ i. found_at_hand i buffer a.held.blocks.held f.payload) set.inner_is ∙ found)
+    pub hand : (config : Config) (chain : Chain) (waiting : Waiting) → IsSetTo config a.life.sizes epochs inner → IsLawfulStep config chain (node_of a buffer waiting) (reported ∷ []) → (o : Option Block) → found_at_hand inner buffer a.held.cache.kept.held a.held.blocks.held f.payload ≡ o → at_hand (node_of a buffer waiting) f.payload ≡ o
+    hand config chain waiting set step o found = sym (found-is config.inner chain a buffer waiting f.payload step.one step.good.of_chain.stores.held_blocks) ∙ (ap (λ i. found_at_hand i buffer a.held.cache.kept.held a.held.blocks.held f.payload) set.inner_is ∙ found)
 
-    pub promise-unread : (told : Option (List Report)) (heard : Option (List Call)) (x : Ending) → Loses a.held nothing_written x → IsUsual x.fault → KeepsPromise epochs inner a (reported ∷ []) buffer (heard_by told heard) (heard_by told heard) (Err x)
+    pub promise-unread : (told : Option (List Report)) (heard : Option (List Call)) (x : Ending) → Loses a.held nothing_written x → IsUsual x.fault → KeepsStep epochs inner a (reported ∷ []) buffer (heard_by told heard) (heard_by told heard) (Err x)
     promise-unread told heard x lost usual config chain waiting set step = quiet_cut config chain waiting reported step refl (λ fault. refl) told told heard heard nothing_written x (Hears-nothing told) (HearsFront-nothing heard _ heard (Hears-nothing heard)) refl refl refl refl tt tt (λ y has. nothing_put y has) (λ y has. nothing_put y has) lost (λ p has. nothing_put p has) usual
 
-    pub promise-absent : (told : Option (List Report)) (heard heard' : Option (List Call)) (node : Seen P E) (result : Result (Seen P E) Ending) → IsNested a.held.blocks → IsNested a.held.certs → found_at_hand inner buffer a.held.blocks.held f.payload ≡ None → HearsUpTo heard (want_asks a.held.cutoff f.round f.payload) heard' result → IsRead a node → IfOk result (λ new. new ≡ node) → MatchResult result (λ new. Grew a.held nothing_written new.held) (Loses a.held nothing_written) → IfErr result (λ x. IsUsual x.fault) → KeepsPromise epochs inner a (reported ∷ []) buffer (heard_by told heard) (heard_by told heard') result
+    pub promise-absent : (told : Option (List Report)) (heard heard' : Option (List Call)) (node : Seen P E) (result : Result (Seen P E) Ending) → IsNested a.held.blocks → IsNested a.held.certs → found_at_hand inner buffer a.held.cache.kept.held a.held.blocks.held f.payload ≡ None → HearsUpTo heard (want_asks a.held.cutoff f.round f.payload) heard' result → IsRead a node → IfOk result (λ new. new ≡ node) → MatchResult result (λ new. Grew a.held nothing_written new.held) (Loses a.held nothing_written) → IfErr result (λ x. IsUsual x.fault) → KeepsStep epochs inner a (reported ∷ []) buffer (heard_by told heard) (heard_by told heard') result
     promise-absent told heard heard' node (Ok new) nested certs_nested found asks read is goes usual config chain waiting set step =
         let same : IsRead a new = subst (IsRead a) (sym is) read in
         let none = hand config chain waiting set step None found in
@@ -106,7 +106,7 @@ module _ {P E : Type 0} (epochs : Epochs) (inner : List ℕ → List ℕ) (parti
         (subst (λ cs. HearsFront heard cs heard') (final.asks-absent config chain a f buffer waiting step.lawful step.one step.good step.reported.0 (hand config chain waiting set step None found)) asks)
         refl refl refl refl tt tt (λ y has. nothing_put y has) (λ y has. nothing_put y has) goes (λ p has. nothing_put p has) usual
 
-    module _ (b : Block) (found : found_at_hand inner buffer a.held.blocks.held f.payload ≡ Some b) where
+    module _ (b : Block) (found : found_at_hand inner buffer a.held.cache.kept.held a.held.blocks.held f.payload ≡ Some b) where
       pub of_block : (config : Config) (chain : Chain) (waiting : Waiting) (set : IsSetTo config a.life.sizes epochs inner) (step : IsLawfulStep config chain (node_of a buffer waiting) (reported ∷ [])) → AreBlocksOf chain (at_own_height b ∷ [])
       of_block config chain waiting set step = ((final.block-final config chain a f buffer waiting step.lawful step.one step.good step.reported.0 b (hand config chain waiting set step (Some b) found)).1, tt)
 
@@ -117,17 +117,17 @@ module _ {P E : Type 0} (epochs : Epochs) (inner : List ℕ → List ℕ) (parti
       pub promise-limit : {T : Type 0} (config : Config) (chain : Chain) (waiting : Waiting) → IsSetTo config a.life.sizes epochs inner → IsLawfulStep config chain (node_of a buffer waiting) (reported ∷ []) → b.height ≡ 2 ^ 64 - 1 → T
       promise-limit config chain waiting set step last = absurd (final.not_last config chain a f buffer waiting step.lawful step.one step.good step.reported.0 b (hand config chain waiting set step (Some b) found) last)
 
-      pub promise-unstored : (told told' : Option (List Report)) (heard : Option (List Call)) (x : Ending) → Hears told [] told' → Loses a.held (written_both (at_own_height b) (at_height b.height f)) x → IsUsual x.fault → KeepsPromise epochs inner a (reported ∷ []) buffer (heard_by told heard) (heard_by told' heard) (Err x)
+      pub promise-unstored : (told told' : Option (List Report)) (heard : Option (List Call)) (x : Ending) → Hears told [] told' → Loses a.held (written_both (at_own_height b) (at_height b.height f)) x → IsUsual x.fault → KeepsStep epochs inner a (reported ∷ []) buffer (heard_by told heard) (heard_by told' heard) (Err x)
       promise-unstored told told' heard x silent lost usual config chain waiting set step = quiet_cut config chain waiting reported step refl (λ fault. refl) told told' heard heard (written_both (at_own_height b) (at_height b.height f)) x silent (HearsFront-nothing heard _ heard (Hears-nothing heard)) refl refl refl refl (of_block config chain waiting set step) (of_cert config chain waiting set step) (λ y has. hand config chain waiting set step (Some b) found ∙ ap (λ (z : At Block). Some z.value) (only_one (at_own_height b) y has)) (λ y has. ap (λ (z : At Finalization). Some z.value) (only_one (at_height b.height f) y has)) lost (λ p has. nothing_put p has) usual
 
       -- no sync of what was put could be started
-      pub promise-unstarted : (told told' : Option (List Report)) (heard : Option (List Call)) (x : Ending) → Hears told (tip_reports a.life.tip f b) told' → Loses a.held (written_both (at_own_height b) (at_height b.height f)) x → is_by_value x.fault ≡ false → is_dropped_ack x.fault ≡ false → KeepsPromise epochs inner a (reported ∷ []) buffer (heard_by told heard) (heard_by told' heard) (Err x)
+      pub promise-unstarted : (told told' : Option (List Report)) (heard : Option (List Call)) (x : Ending) → Hears told (tip_reports a.life.tip f b) told' → Loses a.held (written_both (at_own_height b) (at_height b.height f)) x → is_by_value x.fault ≡ false → is_dropped_ack x.fault ≡ false → KeepsStep epochs inner a (reported ∷ []) buffer (heard_by told heard) (heard_by told' heard) (Err x)
       promise-unstarted told told' heard x tips lost no_value not_dropped config chain waiting set step =
           told_cut config chain waiting reported step refl (λ fault. refl) (tip_reports a.life.tip f b) (tip_after a.life.tip b) (tip_reports-tips a.life.tip f b) (tip_reports-rise a.life.tip f b)
           (final.tips_told config chain a f buffer waiting step.lawful step.one step.good step.reported.0 b (hand config chain waiting set step (Some b) found)) told told' heard heard (written_both (at_own_height b) (at_height b.height f)) x tips (HearsFront-nothing heard _ heard (Hears-nothing heard)) refl refl refl refl
           (of_block config chain waiting set step) (of_cert config chain waiting set step) (λ y has. hand config chain waiting set step (Some b) found ∙ ap (λ (z : At Block). Some z.value) (only_one (at_own_height b) y has)) (λ y has. ap (λ (z : At Finalization). Some z.value) (only_one (at_height b.height f) y has)) lost (λ p has. nothing_put p has) no_value not_dropped
 
-      pub promise-stored : (m new : Seen P E) (told told' : Option (List Report)) (heard : Option (List Call)) → IsNested new.held.blocks → IsNested new.held.certs → AreWritten new.held → nat_lt (height_of a.held.processed) b.height ≡ true → PutsAbove inner a f b m → IsStarted m new → Grew a.held (written_both (at_own_height b) (at_height b.height f)) m.held → Hears told (tip_reports a.life.tip f b) told' → KeepsPromise epochs inner a (reported ∷ []) buffer (heard_by told heard) (heard_by told' heard) (Ok new)
+      pub promise-stored : (m new : Seen P E) (told told' : Option (List Report)) (heard : Option (List Call)) → IsNested new.held.blocks → IsNested new.held.certs → AreWritten new.held → nat_lt (height_of a.held.processed) b.height ≡ true → PutsAbove inner a f b m → IsStarted m new → Grew a.held (written_both (at_own_height b) (at_height b.height f)) m.held → Hears told (tip_reports a.life.tip f b) told' → KeepsStep epochs inner a (reported ∷ []) buffer (heard_by told heard) (heard_by told' heard) (Ok new)
       promise-stored m new told told' heard nested certs_nested written above puts_as is_started grew tips config chain waiting set step =
           let is = hand config chain waiting set step (Some b) found in
           let puts : PutsAbove config.inner a f b m = subst (λ i. PutsAbove i a f b m) (sym set.inner_is) puts_as in

@@ -12,10 +12,10 @@ use Rattle.mar_key.specs.Cutoff.{Cutoff, at_round, greatest_of}
 use Rattle.mar_key.specs.Processed.{first_unprocessed, height_in, height_of}
 use Rattle.mar_store.specs.Kept.{At, Kept, has_height, value_at}
 use Rattle.mar_store.specs.Changes.{IsNested, KeepsValues, left_of}
-use Rattle.mar_store.proofs.Lookups.{AllByRecursion-contains, AllByRecursion-from_contains, AllByRecursion-weaker, Contains-from_value, has_height-from_contains, value-from_has_height, value_at-append}
+use Rattle.mar_store.proofs.Lookups.{AllByRecursion-contains, AllByRecursion-weaker, Contains-from_value, has_height-from_contains, value-from_has_height, value_at-append}
 use Rattle.mar_node.specs.Metadata.{Pair, pair_of}
-use Rattle.mar_node.specs.Stored.{at_own_height, block_of, is_certified, is_held, values_of}
-use Rattle.mar_node.specs.Cached.{cached_finalization, unloaded}
+use Rattle.mar_node.specs.Stored.{at_own_height, block_of, is_certified, is_held}
+use Rattle.mar_node.specs.Cached.{cached_finalization}
 use Rattle.mar_node.specs.Answers.{served_answers, unserved_subscriptions}
 use Rattle.mar_node.specs.Cache.{Witnessing, prunes_by, with_witness, witnessing_of}
 use Rattle.mar_node.specs.Chain.{Chain, Finalizes, IsBlockAt, IsFinal, IsLawful, commitment_at}
@@ -27,14 +27,14 @@ use Rattle.mar_node.specs.Lives.{later_round}
 use Rattle.mar_node.specs.Moves.{IsRead, IsStarted, PutsAbove, RaisesTo, StoresLate, StoresValue, StoresWhere, at_height, lacks_finalization, late_tip, late_tips, tip_after, tip_reports}
 use Rattle.mar_node.specs.Node.{Agrees, AreBlocksOf, AreFinalizationsOf, AreNestedHeights, ConsecutiveFrom, FloorSafe, HasAnchor, IsCacheOf, IsFinalized, IsGood, Node, OpenSync, Rest, SureOrWritten, at_hand, block_missing, floor_awaited, window_full, write_uncovered}
 use Rattle.mar_writes.specs.Writing.{total_writes}
-use Rattle.mar_node.specs.Promise.{AreOne, Waiting, node_of}
+use Rattle.mar_node.specs.Promise.{AreOne, Waiting, node_of, known_blocks}
 use Rattle.mar_node.specs.Requests.{own_asks, raise_asks, reported_asks, want_asks}
 use Rattle.mar_node.specs.Sound.{IsSafePair}
 use Rattle.mar_node.specs.Step.{AreTipsOf, CertificatesFrom, IsCertFrom, IsStored, IsStoredLate, KeepsFrom, Report, TipsFrom, Writes, is_repaired}
 use Rattle.mar_node.proofs.AtHand.{at_hand-all, at_hand-commitment, block_of_final, bytes_same}
 use Rattle.mar_node.proofs.Cutting.{MayBeLeft, keeps_heights, only_one, sure_may_heights}
 use Rattle.mar_node.proofs.FloorSafety.{FloorSafe-still, KeepsHeightsFrom, MeetsFinal}
-use Rattle.mar_node.proofs.FoundBlocks.{Contains-slice_get, values_in_chain}
+use Rattle.mar_node.proofs.FoundBlocks.{Contains-slice_get, buffer_known, cached_known, chain_known, values_known}
 use Rattle.mar_node.proofs.PairsAfter.{HasAnchor-kept, IsSafePair-after}
 use Rattle.mar_node.proofs.Growing.{Grown, Grown-same}
 use Rattle.mar_node.proofs.PlainEvents.{Certificates-same, KeepsFrom-same, Writes-same, nothing_put}
@@ -196,7 +196,7 @@ noted_certs inner a w s m cutoffs r f b raised synced stores =
 -- A BLOCK AT HAND
 
 module _ {P E : Type 0} (config : Config) (chain : Chain) (a : Seen P E) (f : Finalization) (buffer : List Block) (waiting : Waiting)
-    (lawful : IsLawful config.epochs chain) (one : AreOne config.inner (chain.blocks ++ buffer))
+    (lawful : IsLawful config.epochs chain) (one : AreOne config.inner (known_blocks chain (node_of a buffer waiting)))
     (good : IsGood config chain (node_of a buffer waiting)) (final : IsFinalized chain f.round f.payload)
   where
     abbrev pub n : Node
@@ -207,22 +207,21 @@ module _ {P E : Type 0} (config : Config) (chain : Chain) (a : Seen P E) (f : Fi
 
     -- the blocks of which no two share a digest
     abbrev pub known : List Block
-    known = chain.blocks ++ buffer
+    known = known_blocks chain n
 
-    -- a block at hand is the buffer's or the chain's
+    -- a block at hand is the buffer's, a cached one or the chain's
     at_hand-known : (b : Block) → at_hand n f.payload ≡ Some b → Contains known b
     at_hand-known b is =
-        at_hand-all (Contains known) n f.payload b
-        (AllByRecursion-from_contains (Contains known) buffer (λ x has. Contains-append_right chain.blocks buffer x has)) tt
-        (AllByRecursion-weaker (Contains chain.blocks) (Contains known) (λ x has. Contains-append_left chain.blocks buffer x has) (values_of a.held.blocks.held) (values_in_chain chain a.held.blocks.held good.of_chain.stores.held_blocks)) is
+        at_hand-all (Contains known) n f.payload b (buffer_known config.inner chain a buffer waiting) (cached_known config.inner chain a buffer waiting)
+        (values_known config.inner chain a buffer waiting good.of_chain.stores.held_blocks) is
 
     -- and so is each block of the chain
-    chain_known : (h : ℕ) (c : Block) → IsBlockAt chain h c → Contains known c
-    chain_known h c at = Contains-append_left chain.blocks buffer c (Contains-slice_get chain.blocks h c at)
+    block_known : (h : ℕ) (c : Block) → IsBlockAt chain h c → Contains known c
+    block_known h c at = chain_known config.inner chain a buffer waiting c (Contains-slice_get chain.blocks h c at)
 
     -- blocks of one commitment are one
     known_agrees : (b : Block) → Contains known b → Agrees chain b
-    known_agrees b there h c at same = one.one c b (chain_known h c at) there (sym (one.names c (chain_known h c at)) ∙ (ap config.inner same ∙ one.names b there))
+    known_agrees b there h c at same = one.one c b (block_known h c at) there (sym (one.names c (block_known h c at)) ∙ (ap config.inner same ∙ one.names b there))
 
     -- a reported block that is at hand is the finalized one
     pub block-final : (b : Block) → at_hand n f.payload ≡ Some b → IsFinal chain f.round b.height × IsBlockAt chain b.height b
@@ -322,7 +321,7 @@ module _ {P E : Type 0} (config : Config) (chain : Chain) (a : Seen P E) (f : Fi
     block_there b is ignored = by (either_test (has_height a.held.blocks.held b.height) (is_some (block_of a.held.blocks.held b.digest)) ignored)
       where
         same : (x : At Block) → Contains a.held.blocks.held x → bytes_eq x.value.digest b.digest ≡ true → x.height ≡ b.height
-        same x has digest = sym (lawful.heights x.height x.value at) ∙ ap (λ c. c.height) (one_block b x.value is (chain_known x.height x.value at) (bytes_same x.value.digest b.digest digest))
+        same x has digest = sym (lawful.heights x.height x.value at) ∙ ap (λ c. c.height) (one_block b x.value is (block_known x.height x.value at) (bytes_same x.value.digest b.digest digest))
           where
             at : IsBlockAt chain x.height x.value
             at = AllByRecursion-contains (λ y. IsBlockAt chain y.height y.value) a.held.blocks.held x good.of_chain.stores.held_blocks has
@@ -346,7 +345,7 @@ module _ {P E : Type 0} (config : Config) (chain : Chain) (a : Seen P E) (f : Fi
 
             of_block : (o : Option Block) → slice_get chain.blocks x.height ≡ o → option_map (λ c. c.commitment) o ≡ Some x.value.payload → x.height ≡ b.height
             of_block None at named = absurd cc
-            of_block (Some c) at named = sym (lawful.heights x.height c at) ∙ ap (λ d. d.height) (one_block b c is (chain_known x.height c at) (sym (one.names c (chain_known x.height c at)) ∙ (ap config.inner (inside named) ∙ (bytes_same (config.inner x.value.payload) (config.inner f.payload) digest ∙ digest_is))))
+            of_block (Some c) at named = sym (lawful.heights x.height c at) ∙ ap (λ d. d.height) (one_block b c is (block_known x.height c at) (sym (one.names c (block_known x.height c at)) ∙ (ap config.inner (inside named) ∙ (bytes_same (config.inner x.value.payload) (config.inner f.payload) digest ∙ digest_is))))
               where
                 inside : ◌≡◌ {A = Option (List ℕ)} (Some c.commitment) (Some x.value.payload) → c.commitment ≡ x.value.payload
                 inside p = cc
@@ -384,7 +383,7 @@ module _ {P E : Type 0} (config : Config) (chain : Chain) (a : Seen P E) (f : Fi
           held_certs = held_certs;
           may_certs = may_certs;
         };
-        cache = subst (λ c. IsCacheOf chain (unloaded c)) (sym cache) good.of_chain.cache;
+        cache = subst (λ c. IsCacheOf chain c.kept) (sym cache) good.of_chain.cache;
         asks = record { requests = good.of_chain.asks.requests; ready = tt; overflow = tt };
         awaits = tt;
         not_at_hand = tt;

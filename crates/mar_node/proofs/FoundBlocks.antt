@@ -1,20 +1,26 @@
--- A look-up by digest, and then by commitment, finds the block at hand, where a digest names one block.
-use Rattle.std.proofs.Common.{◌≡◌, ℕ, zero, suc, List, [], ◌∷◌, ◌++◌, Bool, true, false, if◌then◌else◌, Option, Some, None, option_map, IfSome, Contains, bytes_eq, find, map, slice_get, refl, sym, ◌∙◌, ap, subst, arith, append-nil}
+-- Look-ups in the buffer, the cache and by digest among the held blocks find the block at hand, where a digest names one block.
+use Rattle.std.proofs.Common.{◌≡◌, ℕ, zero, suc, List, [], ◌∷◌, ◌++◌, Bool, true, false, if◌then◌else◌, Option, Some, None, option_map, IfSome, Contains, bytes_eq, find, map, slice_get, refl, sym, ◌∙◌, ap, ap₂, subst, arith}
 use Rattle.std.specs.Option.{option_or}
-use Rattle.std.specs.List.{AllByRecursion}
-use Rattle.std.proofs.lemmas.List.Elements.{Contains-append_left}
+use Rattle.std.specs.List.{AllByRecursion, filter_map}
+use Rattle.std.proofs.lemmas.List.Elements.{Contains-append_left, Contains-append_right}
 use Rattle.std.proofs.lemmas.Slice.Eq.{bytes_eq-Decides}
 use Rattle.mar_cert.specs.Block.{Block}
 use Rattle.mar_store.specs.Kept.{At, value_at}
-use Rattle.mar_store.proofs.Lookups.{AllByRecursion-value_at}
+use Rattle.mar_store.proofs.Lookups.{AllByRecursion-from_contains, AllByRecursion-value_at, AllByRecursion-weaker}
 use Rattle.mar_store.specs.Sizes.{IsSmall}
+use Rattle.mar_node.specs.SmallEntries.{AreSmallEntries}
 use Rattle.mar_node.specs.Stored.{AreSmall, block_of, values_of}
 use Rattle.mar_node.specs.Chain.{Chain}
 use Rattle.mar_node.specs.Held.{Seen}
-use Rattle.mar_node.specs.Moves.{found_at_hand, of_commitment}
+use Rattle.mar_node.specs.Cached.{Cached, cached_block}
+use Rattle.mar_node.specs.Entries.{has_commitment}
+use Rattle.mar_node.specs.Moves.{cached_by_commitment, found_at_hand, of_commitment}
 use Rattle.mar_node.specs.Node.{AreBlocksOf, at_hand}
-use Rattle.mar_node.specs.Promise.{AreOne, Waiting, node_of}
+use Rattle.mar_node.specs.Promise.{AreOne, Waiting, known_blocks, node_of}
 use Rattle.mar_node.proofs.AtHand.{AllByRecursion-find, bytes_same}
+use Rattle.mar_node.proofs.CachedBlocks.{by_commitment-is}
+use Rattle.mar_node.proofs.Filtered.{all_found_within}
+use Rattle.mar_node.proofs.SmallFound.{small_block}
 
 -- what stands at a height stands at its own height
 pub own_height : {T : Type 0} (plain : T → Block) (o : Option T) (held : List (At Block)) (h : ℕ) → option_map plain o ≡ value_at held h → AllByRecursion (λ x. x.value.height ≡ x.height) held → IfSome o (λ b. (plain b).height ≡ h)
@@ -51,16 +57,17 @@ values_in_chain chain [] blocks = tt
 values_in_chain chain (x ∷ held) blocks = (Contains-slice_get chain.blocks x.height x.value blocks.0, values_in_chain chain held blocks.1)
 
 -- what is found at hand is small
-pub found_small : (inner : List ℕ → List ℕ) (buffer : List Block) (held : List (At Block)) (commitment : List ℕ) (b : Block) → AreSmall buffer → AreSmall (map (λ x. x.value) held) → found_at_hand inner buffer held commitment ≡ Some b → IsSmall b.encoded
-found_small inner buffer held commitment b small_buffer small_held found = by (find (λ x. bytes_eq x.commitment commitment) buffer) refl (block_of held (inner commitment)) refl found
+pub found_small : (inner : List ℕ → List ℕ) (buffer : List Block) (cached : List Cached) (held : List (At Block)) (commitment : List ℕ) (b : Block) → AreSmall buffer → AreSmallEntries cached → AreSmall (map (λ x. x.value) held) → found_at_hand inner buffer cached held commitment ≡ Some b → IsSmall b.encoded
+found_small inner buffer cached held commitment b small_buffer small_cached small_held found = by (find (λ x. bytes_eq x.commitment commitment) buffer) refl (cached_by_commitment commitment cached) refl (block_of held (inner commitment)) refl found
   where
     inside : (x : Block) → ◌≡◌ {A = Option Block} (Some x) (Some b) → x ≡ b
     inside x is = cc
 
-    by : (o : Option Block) → find (λ x. bytes_eq x.commitment commitment) buffer ≡ o → (h : Option Block) → block_of held (inner commitment) ≡ h → option_or o (of_commitment commitment h) ≡ Some b → IsSmall b.encoded
-    by (Some x) first h stored is = subst (λ y. IsSmall y.encoded) (inside x is) (AllByRecursion-find (λ y. IsSmall y.encoded) (λ y. bytes_eq y.commitment commitment) buffer x small_buffer first)
-    by None first None stored is = absurd cc
-    by None first (Some x) stored is = of_stored (bytes_eq x.commitment commitment) is
+    by : (o : Option Block) → find (λ x. bytes_eq x.commitment commitment) buffer ≡ o → (k : Option Block) → cached_by_commitment commitment cached ≡ k → (h : Option Block) → block_of held (inner commitment) ≡ h → option_or o (option_or k (of_commitment commitment h)) ≡ Some b → IsSmall b.encoded
+    by (Some x) first k kept h stored is = subst (λ y. IsSmall y.encoded) (inside x is) (AllByRecursion-find (λ y. IsSmall y.encoded) (λ y. bytes_eq y.commitment commitment) buffer x small_buffer first)
+    by None first (Some x) kept h stored is = subst (λ y. IsSmall y.encoded) (inside x is) (small_block (λ y. has_commitment commitment (cached_block y)) cached x small_cached kept)
+    by None first None kept None stored is = absurd cc
+    by None first None kept (Some x) stored is = of_stored (bytes_eq x.commitment commitment) is
       where
         of_stored : (c : Bool) → (if c then Some x else None) ≡ Some b → IsSmall b.encoded
         of_stored true same = subst (λ y. IsSmall y.encoded) (inside x same) (AllByRecursion-find (λ y. IsSmall y.encoded) (λ y. bytes_eq y.digest (inner commitment)) (values_of held) x small_held stored)
@@ -98,13 +105,39 @@ module _ (inner : List ℕ → List ℕ) (all : List Block) (one : AreOne inner 
       by false is true named rest none = none is (bytes_same x.digest (inner commitment) named) xs inside.1 ∙ sym (own false is)
       by false is false unnamed rest none = rest
 
--- what the actor finds is the block at hand
-pub found-is : {P E : Type 0} (inner : List ℕ → List ℕ) (chain : Chain) (a : Seen P E) (buffer : List Block) (waiting : Waiting) (commitment : List ℕ) → AreOne inner (chain.blocks ++ buffer) → AreBlocksOf chain a.held.blocks.held → found_at_hand inner buffer a.held.blocks.held commitment ≡ at_hand (node_of a buffer waiting) commitment
-found-is inner chain a buffer waiting commitment one blocks =
-    sym (ap (λ xs. find (λ b. bytes_eq b.commitment commitment) (xs ++ values_of a.held.blocks.held)) (append-nil buffer)
-    ∙ find-append (λ b. bytes_eq b.commitment commitment) buffer (values_of a.held.blocks.held)
-    ∙ ap (λ o. option_or (find (λ b. bytes_eq b.commitment commitment) buffer) o) (by_digest inner (chain.blocks ++ buffer) one commitment (values_of a.held.blocks.held) (in_both (values_of a.held.blocks.held) (values_in_chain chain a.held.blocks.held blocks))))
-  where
-    in_both : (xs : List Block) → AllByRecursion (Contains chain.blocks) xs → AllByRecursion (Contains (chain.blocks ++ buffer)) xs
-    in_both [] all = tt
-    in_both (x ∷ xs) all = (Contains-append_left chain.blocks buffer x all.0, in_both xs all.1)
+or_assoc : {T : Type 0} (a b c : Option T) → option_or (option_or a b) c ≡ option_or a (option_or b c)
+or_assoc None b c = refl
+or_assoc (Some x) b c = refl
+
+-- what is found in one of three lists, one after the other
+pub find-three : {T : Type 0} (test : T → Bool) (xs ys zs : List T) → find test (xs ++ ys ++ zs) ≡ option_or (find test xs) (option_or (find test ys) (find test zs))
+find-three test xs ys zs =
+    find-append test (xs ++ ys) zs ∙ (ap (λ o. option_or o (find test zs)) (find-append test xs ys) ∙ or_assoc (find test xs) (find test ys) (find test zs))
+
+module _ {P E : Type 0} (inner : List ℕ → List ℕ) (chain : Chain) (a : Seen P E) (buffer : List Block) (waiting : Waiting) where
+  abbrev known : List Block
+  known = known_blocks chain (node_of a buffer waiting)
+
+  abbrev beside : List Block
+  beside = buffer ++ filter_map cached_block (a.held.cache.kept.held ++ a.held.cache.kept.may)
+
+  -- the buffer's blocks, the chain's and the cached ones are known
+  pub buffer_known : AllByRecursion (Contains known) buffer
+  buffer_known = AllByRecursion-from_contains (Contains known) buffer (λ x has. Contains-append_right chain.blocks beside x (Contains-append_left buffer (filter_map cached_block (a.held.cache.kept.held ++ a.held.cache.kept.may)) x has))
+
+  pub chain_known : (x : Block) → Contains chain.blocks x → Contains known x
+  chain_known x has = Contains-append_left chain.blocks beside x has
+
+  pub cached_known : AllByRecursion (Contains known) (filter_map cached_block a.held.cache.kept.held)
+  cached_known =
+      all_found_within cached_block (Contains known) a.held.cache.kept.held (a.held.cache.kept.held ++ a.held.cache.kept.may) (λ x has. Contains-append_left a.held.cache.kept.held a.held.cache.kept.may x has)
+      (AllByRecursion-from_contains (Contains known) (filter_map cached_block (a.held.cache.kept.held ++ a.held.cache.kept.may)) (λ x has. Contains-append_right chain.blocks beside x (Contains-append_right buffer (filter_map cached_block (a.held.cache.kept.held ++ a.held.cache.kept.may)) x has)))
+
+  pub values_known : AreBlocksOf chain a.held.blocks.held → AllByRecursion (Contains known) (values_of a.held.blocks.held)
+  values_known blocks = AllByRecursion-weaker (Contains chain.blocks) (Contains known) chain_known (values_of a.held.blocks.held) (values_in_chain chain a.held.blocks.held blocks)
+
+  -- what the actor finds is the block at hand
+  pub found-is : (commitment : List ℕ) → AreOne inner known → AreBlocksOf chain a.held.blocks.held → found_at_hand inner buffer a.held.cache.kept.held a.held.blocks.held commitment ≡ at_hand (node_of a buffer waiting) commitment
+  found-is commitment one blocks =
+      ap₂ (λ c h. option_or (find (λ b. bytes_eq b.commitment commitment) buffer) (option_or c h)) (by_commitment-is inner known one commitment a.held.cache.kept.held cached_known) (sym (by_digest inner known one commitment (values_of a.held.blocks.held) (values_known blocks)))
+      ∙ sym (find-three (λ b. bytes_eq b.commitment commitment) buffer (filter_map cached_block a.held.cache.kept.held) (values_of a.held.blocks.held))

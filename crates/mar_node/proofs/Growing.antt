@@ -1,5 +1,5 @@
 -- What calls one after another leave, since some start: what was sure and held, and no more than was written.
-use Rattle.std.proofs.Common.{◌≡◌, inl, map, ⊎_elim, ℕ, ◌<◌, ◌≤◌, Option, Some, List, [], ◌∷◌, ◌++◌, Bool, true, false, Contains, refl, sym, subst, arith, append-nil}
+use Rattle.std.proofs.Common.{◌≡◌, inl, inr, map, ⊎_elim, ℕ, ◌<◌, ◌≤◌, Option, Some, List, [], ◌∷◌, ◌++◌, Bool, true, false, Contains, refl, sym, subst, arith, append-nil}
 use Rattle.std.proofs.lemmas.List.Elements.{Contains-append_cases, Contains-append_left, Contains-append_right}
 use Rattle.mar_types.specs.Round.{Round}
 use Rattle.mar_key.specs.Cutoff.{Cutoff}
@@ -12,10 +12,12 @@ use Rattle.mar_store.specs.Watch.{Watch}
 use Rattle.mar_store.proofs.Lookups.{Contains-from_value}
 use Rattle.mar_node.specs.Cached.{Cached}
 use Rattle.mar_node.specs.Metadata.{Pair}
-use Rattle.mar_node.specs.Faults.{StoreName, block_store, cert_store, meta_store}
-use Rattle.mar_node.specs.Held.{ArePassed, Grew, Held, LeavesCache, LeavesPairsSince, LeavesStore, MakesSure, Passes, WithinWritten, Written, nothing_written, watch_of, written_block, written_both, written_cert, written_pair}
+use Rattle.mar_node.specs.Faults.{StoreName, block_store, cert_store, meta_store, cache_store}
+use Rattle.mar_node.specs.Held.{ArePassed, Grew, Held, LeavesCache, LeavesPairsSince, LeavesStore, MakesSure, Passes, WithinWritten, Written, nothing_written, watch_of, written_block, written_both, written_cert, written_pair, HeldCache}
 use Rattle.mar_writes.specs.Writing.{Writing}
 use Rattle.mar_node.proofs.Passing.{ArePassed-refl, ArePassed-store, ArePassed-then, with_watch}
+use Rattle.mar_node.specs.AllEntries.{LeavesEntries}
+use Rattle.mar_node.specs.CacheCalls.{none_goes}
 
 -- ONE STORE
 
@@ -100,13 +102,29 @@ LeavesCache-refl cache lowests put prunes = record {
 pub LeavesCache-unwritten : (start : Left Cached) (started : List ℕ) (put : List Cached) (prunes : List Round) (left : Left Cached) (lowests : List ℕ) → put ≡ [] → prunes ≡ [] → LeavesCache start started put prunes left lowests → LeavesCache start started [] [] left lowests
 LeavesCache-unwritten start started put prunes left lowests none_put none_pruned leaves = subst (λ xs. LeavesCache start started xs [] left lowests) none_put (subst (λ ps. LeavesCache start started put ps left lowests) none_pruned leaves)
 
+-- where all that was sure then is sure, and no more may be left
+pub LeavesCache-then : (start : Left Cached) (started : List ℕ) (put : List Cached) (prunes : List Round) (mid left : Left Cached) (between lowests : List ℕ) → Within mid.sure left.sure → Within left.may mid.may → Within lowests between → LeavesCache start started put prunes mid between → LeavesCache start started put prunes left lowests
+LeavesCache-then start started put prunes mid left between lowests sure may fewer leaves = record {
+  sure = λ x has. ⊎_elim (λ stays. inl (sure x stays)) (λ goes. inr goes) (leaves.sure x has);
+  may = λ x has. leaves.may x (may x has);
+  lowest = λ k has. leaves.lowest k (fewer k has);
+}
+
+-- no more may be left where nothing was put
+within_nothing : (may old : List Cached) → Within may (old ++ []) → Within may old
+within_nothing may old within x has = subst (λ xs. Contains xs x) (append-nil old) (within x has)
+
+-- what a change of the cache leaves that puts and prunes nothing
+pub LeavesCache-entries : (start : Left Cached) (started : List ℕ) (put : List Cached) (prunes : List Round) (old : Kept Cached) (left : Left Cached) (between lowests : List ℕ) → LeavesEntries [] none_goes old left.sure left.may → Within lowests between → LeavesCache start started put prunes (left_of old) between → LeavesCache start started put prunes left lowests
+LeavesCache-entries start started put prunes old left between lowests entries fewer leaves = LeavesCache-then start started put prunes (left_of old) left between lowests (λ x has. entries.stays x has refl) (within_nothing left.may old.may entries.within) fewer leaves
+
 pub Grew-refl : (old : Held) (written : Written) → IsNested old.blocks → IsNested old.certs → Grew old written old
 Grew-refl old written blocks certs = record {
   leaves = record {
     blocks = LeavesStore-refl old.blocks written.blocks_from written.blocks blocks;
     certs = LeavesStore-refl old.certs written.certs_from written.certs certs;
     pairs = LeavesPairsSince-refl old.pairs written.pairs;
-    cache = LeavesCache-refl old.cache old.lowests written.cached written.prunes;
+    cache = LeavesCache-refl (left_of old.cache.kept) old.lowests written.cached written.prunes;
   };
   blocks = λ x low has. has;
   certs = λ x low has. has;
@@ -125,7 +143,7 @@ module _ (start : Held) (all : Written) (old : Held) (grew : Grew start all old)
       blocks = subst (λ k. LeavesStore start.blocks all.blocks_from all.blocks (left_of k)) (sym blocks) grew.leaves.blocks;
       certs = subst (λ k. LeavesStore start.certs all.certs_from all.certs (left_of k)) (sym certs) grew.leaves.certs;
       pairs = subst (LeavesPairsSince start.pairs all.pairs) (sym pairs) grew.leaves.pairs;
-      cache = subst (λ k. LeavesCache start.cache start.lowests all.cached all.prunes k new.lowests) (sym cache) (subst (LeavesCache start.cache start.lowests all.cached all.prunes old.cache) (sym lowests) grew.leaves.cache);
+      cache = subst (λ k. LeavesCache (left_of start.cache.kept) start.lowests all.cached all.prunes (left_of k.kept) new.lowests) (sym cache) (subst (LeavesCache (left_of start.cache.kept) start.lowests all.cached all.prunes (left_of old.cache.kept)) (sym lowests) grew.leaves.cache);
     };
     blocks = λ x low has. subst (λ k. Contains k.held x) (sym blocks) (grew.blocks x low has);
     certs = λ x low has. subst (λ k. Contains k.held x) (sym certs) (grew.certs x low has);
@@ -194,6 +212,20 @@ module _ (start : Held) (all : Written) (old : Held) (grew : Grew start all old)
     blocks = grew.blocks;
     certs = λ y low has. subst (λ xs. Contains xs y) (sym surer.held) (grew.certs y low has);
     passed = ArePassed-then start.watches old.watches (record old.watches { certs = w }) grew.passed (ArePassed-store old.watches cert_store w passes);
+  }
+
+  -- what was left of the cache was taken up
+  pub Grew-loaded : (cache : HeldCache) (w : Watch) → LeavesEntries [] none_goes old.cache.kept cache.kept.sure cache.kept.may → Passes old.watches.cache w → Grew start all (record old { cache = cache; watches = record old.watches { cache = w } })
+  Grew-loaded cache w entries passes = record {
+    leaves = record {
+      blocks = grew.leaves.blocks;
+      certs = grew.leaves.certs;
+      pairs = grew.leaves.pairs;
+      cache = LeavesCache-entries (left_of start.cache.kept) start.lowests all.cached all.prunes old.cache.kept (left_of cache.kept) old.lowests old.lowests entries (λ k has. has) grew.leaves.cache;
+    };
+    blocks = grew.blocks;
+    certs = grew.certs;
+    passed = ArePassed-then start.watches old.watches (record old.watches { cache = w }) grew.passed (ArePassed-store old.watches cache_store w passes);
   }
 
   -- writes were taken in, or covered

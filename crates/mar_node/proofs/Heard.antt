@@ -7,7 +7,7 @@ use Rattle.mar_key.specs.Keys.{Call}
 use Rattle.mar_node.specs.Answers.{Sent, TicketAnswer}
 use Rattle.mar_node.specs.Event.{Event}
 use Rattle.mar_node.specs.Held.{Ending, Seen}
-use Rattle.mar_node.specs.Promise.{HearsMade, KeepsPromise, heard_by, heard_with}
+use Rattle.mar_node.specs.Promise.{HearsMade, KeepsStart, KeepsStep, heard_by, heard_with}
 use Rattle.mar_node.specs.Step.{Made, Report}
 
 -- who heard nothing was told nothing
@@ -27,13 +27,21 @@ module _ (reports reports' : Option (List Report)) (asks asks' : Option (List Ca
     answers = sym (ap (λ xs. answers ++ xs) (sym heard.answers) ∙ append-nil answers);
   }
 
-  pub KeepsPromise-beside : {P E : Type 0} (epochs : Epochs) (inner : List ℕ → List ℕ) (old : Seen P E) (events : List Event) (buffer : List Block) (result : Result (Seen P E) Ending) → KeepsPromise epochs inner old events buffer (heard_by reports asks) (heard_by reports' asks') result → KeepsPromise epochs inner old events buffer (heard_with reports asks sends answers) (heard_with reports' asks' sends' answers) result
-  KeepsPromise-beside epochs inner old events buffer (Ok new) keeps config chain waiting set step =
+  pub KeepsStep-beside : {P E : Type 0} (epochs : Epochs) (inner : List ℕ → List ℕ) (old : Seen P E) (events : List Event) (buffer : List Block) (result : Result (Seen P E) Ending) → KeepsStep epochs inner old events buffer (heard_by reports asks) (heard_by reports' asks') result → KeepsStep epochs inner old events buffer (heard_with reports asks sends answers) (heard_with reports' asks' sends' answers) result
+  KeepsStep-beside epochs inner old events buffer (Ok new) keeps config chain waiting set step =
       let finishes = keeps config chain waiting set step in
       record { made = finishes.made; heard = HearsMade-beside finishes.made finishes.heard; steps = finishes.steps }
-  KeepsPromise-beside epochs inner old events buffer (Err e) keeps config chain waiting set step =
+  KeepsStep-beside epochs inner old events buffer (Err e) keeps config chain waiting set step =
       let cut = keeps config chain waiting set step in
       record { made = cut.made; heard = HearsMade-beside cut.made cut.heard; cuts = cut.cuts }
+
+  pub KeepsStart-beside : {P E : Type 0} (epochs : Epochs) (inner : List ℕ → List ℕ) (old : Seen P E) (events : List Event) (buffer : List Block) (result : Result (Seen P E) Ending) → KeepsStart epochs inner old events buffer (heard_by reports asks) (heard_by reports' asks') result → KeepsStart epochs inner old events buffer (heard_with reports asks sends answers) (heard_with reports' asks' sends' answers) result
+  KeepsStart-beside epochs inner old events buffer (Ok new) keeps fresh config chain waiting set step =
+      let start = keeps fresh config chain waiting set step in
+      record { begun = start.begun; takes = start.takes; finishes = record { made = start.finishes.made; heard = HearsMade-beside start.finishes.made start.finishes.heard; steps = start.finishes.steps } }
+  KeepsStart-beside epochs inner old events buffer (Err e) keeps fresh config chain waiting set step =
+      let start = keeps fresh config chain waiting set step in
+      record { begun = start.begun; takes = start.takes; cuts = record { made = start.cuts.made; heard = HearsMade-beside start.cuts.made start.cuts.heard; cuts = start.cuts.cuts } }
 
 -- where nobody is answered, all answers stand
 pub unanswered-ok : {T A B : Type 0} (xs : List T) (result : Result A B) → OnOk result (xs ≡ xs ++ [])

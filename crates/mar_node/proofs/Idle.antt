@@ -13,7 +13,7 @@ use Rattle.mar_node.specs.Faults.{Fault, event_fault}
 use Rattle.mar_node.specs.Held.{Ending, IsUsual, Loses, Seen, nothing_written}
 use Rattle.mar_node.specs.Lives.{is_refused_floor}
 use Rattle.mar_node.specs.Node.{IsGood, Node, OpenSync, Rest, write_count}
-use Rattle.mar_node.specs.Promise.{KeepsPromise, Waiting, heard_by, node_of}
+use Rattle.mar_node.specs.Promise.{KeepsStep, Waiting, heard_by, node_of}
 use Rattle.mar_node.specs.Requests.{own_asks}
 use Rattle.mar_node.specs.Step.{AdvancesBy, IsStored, IsStoredLate, Made, Report, Steps, finished_position, without_finished}
 use Rattle.mar_node.proofs.EventPromises.{quiet_cut}
@@ -102,7 +102,7 @@ module _ {P E : Type 0} (config : Config) (chain : Chain) (a : Seen P E) (buffer
   }
 
 -- cut, it changed nothing
-pub promise-cut : {P E : Type 0} (epochs : Epochs) (inner : List ℕ → List ℕ) (partition : IsPartition epochs) (a : Seen P E) (buffer : List Block) (e : Event) → ((config : Config) (waiting : Waiting) → IsIdle config (node_of a buffer waiting) e) → (told : Option (List Report)) (heard : Option (List Call)) (x : Ending) → Loses a.held nothing_written x → IsUsual x.fault → KeepsPromise epochs inner a (e ∷ []) buffer (heard_by told heard) (heard_by told heard) (Err x)
+pub promise-cut : {P E : Type 0} (epochs : Epochs) (inner : List ℕ → List ℕ) (partition : IsPartition epochs) (a : Seen P E) (buffer : List Block) (e : Event) → ((config : Config) (waiting : Waiting) → IsIdle config (node_of a buffer waiting) e) → (told : Option (List Report)) (heard : Option (List Call)) (x : Ending) → Loses a.held nothing_written x → IsUsual x.fault → KeepsStep epochs inner a (e ∷ []) buffer (heard_by told heard) (heard_by told heard) (Err x)
 promise-cut epochs inner partition a buffer e idle told heard x lost usual config chain waiting set step =
     let quiet = idle config waiting in
     quiet_cut epochs inner partition a buffer config chain waiting e step quiet.effect quiet.unrefused told told heard heard nothing_written x (Hears-nothing told) (HearsFront-nothing heard _ heard (Hears-nothing heard)) refl refl refl refl tt tt (λ y has. nothing_put y has) (λ y has. nothing_put y has) lost (λ p has. nothing_put p has) usual

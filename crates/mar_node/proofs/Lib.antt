@@ -6,6 +6,7 @@ pub mod Soundness
 pub mod Openings
 pub mod PairsAfter
 pub mod AtHand
+pub mod CachedBlocks
 pub mod HonestAsks
 pub mod SyncTickets
 pub mod StoreLosses
@@ -21,6 +22,7 @@ pub mod SyncEvent
 pub mod Tips
 pub mod StartEvent
 pub mod FoundBlocks
+pub mod SmallFound
 pub mod Cutting
 pub mod AckEvent
 pub mod StoredValues

@@ -1,8 +1,8 @@
 -- What a look-up finds passes its test, so it is of the kind that is looked for.
-use Rattle.std.proofs.Common.{◌≡◌, ◌∙◌, ◌||◌, ◌&&◌, ◌==◌, ℕ, List, [], ◌∷◌, Bool, true, false, Option, Some, None, is_some, cond, refl, sym, ap, subst}
+use Rattle.std.proofs.Common.{◌≡◌, ◌∙◌, ◌||◌, ◌&&◌, ◌==◌, ℕ, List, [], ◌∷◌, Bool, true, false, Option, Some, None, is_some, cond, refl, sym, ap}
 use Rattle.std.specs.Prelude.{option_and_then, option_map}
 use Rattle.std.specs.List.{list_any}
-use Rattle.mar_types.specs.Round.{Round, round_eq}
+use Rattle.mar_types.specs.Round.{Round}
 use Rattle.mar_cert.specs.Block.{Block}
 use Rattle.mar_cert.specs.Finalization.{Finalization, Notarization}
 use Rattle.mar_node.specs.AllEntries.{is_sooner, sooner_of, soonest}
@@ -18,7 +18,7 @@ same_found p x y is passes = ap (λ o. is_passing o) is ∙ passes
     is_passing None = false
     is_passing (Some z) = p z
 
-passes_found : (p : Cached → Bool) (xs : List Cached) (x : Cached) → Some x ≡ soonest p xs → p x ≡ true
+pub passes_found : (p : Cached → Bool) (xs : List Cached) (x : Cached) → Some x ≡ soonest p xs → p x ≡ true
 passes_found p [] x is = absurd cc
 passes_found p (y ∷ ys) x is = by (p y) refl (soonest p ys) (passes_found p ys) is
   where

@@ -1,5 +1,5 @@
 -- An opening: a node that begins, or a cut before its start.
-use Rattle.std.proofs.Common.{◌≡◌, ◌⊎◌, inl, inr, ⊎_elim, ℕ, zero, ◌+◌, ◌<◌, ◌==◌, ◌||◌, List, [], ◌∷◌, ◌++◌, if◌then◌else◌, nat_lt, Bool, true, false, Option, Some, None, IfSome, is_some, option_map, IsTrue, Contains, refl, sym, ◌∙◌, ap, ap₂, subst, arith, append-nil, eqb-true}
+use Rattle.std.proofs.Common.{◌≡◌, ◌⊎◌, inl, inr, ⊎_elim, ℕ, ◌+◌, ◌<◌, ◌==◌, ◌||◌, List, [], ◌∷◌, ◌++◌, if◌then◌else◌, nat_lt, Bool, true, false, Option, Some, None, IfSome, is_some, option_map, IsTrue, Contains, refl, sym, ◌∙◌, ap, ap₂, subst, arith, append-nil, eqb-true}
 use Rattle.std.specs.Option.{option_or}
 use Rattle.std.proofs.lemmas.Bool.{eqb-false}
 use Rattle.std.proofs.lemmas.List.Elements.{Contains-append_cases}
@@ -10,11 +10,11 @@ use Rattle.mar_cert.specs.Finalization.{Finalization}
 use Rattle.mar_key.specs.Cutoff.{Cutoff}
 use Rattle.mar_key.specs.Processed.{Processed, at_block, height_in}
 use Rattle.mar_store.specs.Kept.{At, Kept, Reopens, has_height, reopened_store, value_at}
-use Rattle.mar_store.specs.Changes.{KeepsValues}
+use Rattle.mar_store.specs.Changes.{KeepsValues, left_of}
 use Rattle.mar_store.proofs.Lookups.{AllByRecursion-append, AllByRecursion-contains, AllByRecursion-from_contains, AllByRecursion-within, EachHeightOnce-push, missing-from_has_height, value_at-append, value_at-from_contains, value_at-one_other}
 use Rattle.mar_node.specs.Stored.{at_own_height, block_of, is_held}
 use Rattle.mar_node.specs.Metadata.{Pair, pair_of}
-use Rattle.mar_node.specs.Cached.{cached_block, cached_finalization, unloaded}
+use Rattle.mar_node.specs.Cached.{cached_block, cached_finalization, Cached}
 use Rattle.mar_node.specs.Chain.{Chain, Finalizes, IsBlockAt}
 use Rattle.mar_node.specs.Config.{Config}
 use Rattle.mar_node.specs.Faults.{Begin, Fault, anchor_fault, from_genesis, genesis_fault, genesis_height, is_by_value, next_after, opening_fault, stored_mismatch, successor_fault, unbacked, with_genesis}
@@ -221,7 +221,7 @@ module _ (old : Remains) (luck : ℕ) (first : Held) (reopens : ReopensAs old lu
         settled = settled_by s.blocks zero_is (is_begun processed first.blocks.held) begins.enters entered grew.leaves.blocks.sure_may
 
         abbrev opened : Node
-        opened = opened_node config s.blocks first.certs.held first.cache first.lowest first.lowests (pair_in first)
+        opened = opened_node config s.blocks first.certs.held (left_of first.cache.kept) first.lowest first.lowests (pair_in first)
 
         Finds-opened : Finds config old.ended (picks_of old luck) begin opened
         Finds-opened = record {
@@ -232,7 +232,7 @@ module _ (old : Remains) (luck : ℕ) (first : Held) (reopens : ReopensAs old lu
           certs = first.certs.held;
           certs_may = certs_may;
           picked = record { blocks_are = reopens.picked.blocks_are; certs_are = reopens.picked.certs_are; pair_is = subst (λ p. IfSome (picks_of old luck).pair (λ picked. Some p ≡ picked)) (sym found_pair) reopens.picked.pair_is };
-          cache = first.cache;
+          cache = left_of first.cache.kept;
           cache_may = reopens.cache;
           lowest = first.lowest;
           lowests = first.lowests;
@@ -264,7 +264,7 @@ module _ (old : Remains) (luck : ℕ) (first : Held) (reopens : ReopensAs old lu
           -- a node of these values
           abbrev of_values : Held → Option Processed → Cutoff → List Pair → Round → Kept (At Finalization) → ℕ → Writing → Node
           of_values h p c pairs witnessed certs k w = record opened {
-            cache = unloaded h.cache;
+            cache = h.cache.kept;
             lowest = h.lowest;
             lowests = h.lowests;
             processed = p;
@@ -295,6 +295,7 @@ module _ (old : Remains) (luck : ℕ) (first : Held) (reopens : ReopensAs old lu
               ap (λ h. node_of (record { held = h; life = life }) [] none_waiting) derives.same
               ∙ same_values s _ s.processed _ (derived_cutoff config.epochs s) _ (derived_pair config.epochs s ∷ []) _ (opened_witnessed s.blocks.held s.certs.held (pair_in s)) _ s.certs _ sizes.capacity _ s.writes _
               begins.same processed_is cutoff_is (ap (λ p. p ∷ []) derived_is) witnessed_is (certs_same ∙ first_certs) (sym capacity) writes_are
+              ∙ ap (λ (xs : List Cached). record opened { cache = record first.cache.kept { held = xs } }) reopens.unheld
 
           pub Finds-begun : Finds config old.ended (picks_of old luck) begin (node_of (record { held = new; life = life }) [] none_waiting)
           Finds-begun = subst (Finds config old.ended (picks_of old luck) begin) (sym begins_is) Finds-opened
@@ -386,6 +387,7 @@ module _ (config : Config) (chain : Chain) (old : Remains) (luck : ℕ) (begin :
       first_pair = lost.first_pair;
       may_blocks = λ x has. ⊎_elim (λ there. inl there) (λ new. inr (own x new)) (Contains-append_cases old.ended.blocks_may written.blocks x (lost.blocks.may x has));
       may_certs = certs_within;
+      may_cached = lost.cache.may;
       cause = λ is. by is kind;
     }
       where

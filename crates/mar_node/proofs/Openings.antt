@@ -1,5 +1,5 @@
 -- What an opening finds on good stores: blocks and certificates of the chain, a backed height, a safe cutoff.
-use Rattle.std.proofs.Common.{◌≡◌, ◌⊎◌, inl, inr, ℕ, ◌+◌, ◌≤◌, ◌==◌, ◌||◌, nat_lt, Bool, false, true, List, [], ◌∷◌, ◌++◌, Option, Some, None, is_some, option_map, option_to_list, if◌then◌else◌, IsTrue, Contains, refl, sym, ◌∙◌, ap, subst, arith, eqb-true, le_refl}
+use Rattle.std.proofs.Common.{◌≡◌, ◌⊎◌, inl, inr, ℕ, ◌+◌, ◌≤◌, ◌==◌, ◌||◌, nat_lt, Bool, false, true, List, [], ◌∷◌, ◌++◌, Option, Some, None, is_some, option_map, option_to_list, if◌then◌else◌, IsTrue, refl, sym, ◌∙◌, ap, subst, arith, eqb-true, le_refl}
 use Rattle.std.specs.List.{AllByRecursion}
 use Rattle.mar_types.specs.Round.{Round}
 use Rattle.mar_types.specs.Epochs.{IsPartition, closed_epoch}

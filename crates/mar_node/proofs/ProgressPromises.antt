@@ -9,7 +9,7 @@ use Rattle.mar_key.specs.Hears.{Hears}
 use Rattle.mar_key.specs.Keys.{Call}
 use Rattle.mar_key.specs.Processed.{first_unprocessed, height_of}
 use Rattle.mar_store.specs.Kept.{At, value_at}
-use Rattle.mar_store.specs.Changes.{IsNested, KeepsValues}
+use Rattle.mar_store.specs.Changes.{IsNested, KeepsValues, left_of}
 use Rattle.mar_node.specs.Acks.{Mark, Outstanding, after_given, dropped_oldest, given_front, is_dropped, mark_dropped, mark_given, mark_waiting, with_mark}
 use Rattle.mar_node.specs.Metadata.{Pair, first_pair, pair_of}
 use Rattle.mar_node.specs.Chain.{Chain}
@@ -20,7 +20,7 @@ use Rattle.mar_node.specs.Held.{Ending, Grew, Held, IsArchiveFault, IsUsual, Lea
 use Rattle.mar_node.specs.Lives.{is_dropped_ack, is_refused_floor, later_round, reached_before}
 use Rattle.mar_node.specs.Moves.{Drains, EndsDropped, HearsFront, RaisesTo, StoresLate, at_height, found_at_hand, lacks_finalization, late_tips}
 use Rattle.mar_node.specs.Node.{AreFinalizationsOf, Rest, at_hand, block_missing, floor_awaited, window_full, write_uncovered}
-use Rattle.mar_node.specs.Promise.{CutsStep, IsGoodUntold, IsLawfulStep, IsSetTo, KeepsPromise, Waiting, heard_by, made_of, node_of}
+use Rattle.mar_node.specs.Promise.{CutsStep, IsGoodUntold, IsLawfulStep, IsSetTo, KeepsStep, Waiting, heard_by, made_of, node_of}
 use Rattle.mar_writes.specs.Writing.{total_writes}
 use Rattle.mar_node.specs.Requests.{own_asks, raise_asks, retire_asks}
 use Rattle.mar_node.specs.Step.{IsFront, Report}
@@ -92,12 +92,12 @@ module _ {P E : Type 0} (epochs : Epochs) (inner : List ℕ → List ℕ) (parti
         of_certs = of_cert;
         own_blocks = λ z has. nothing_put z has;
         own_certs = λ z has. told_is ∙ ap (λ (u : At Finalization). Some u.value) (only_one y z has);
-        cache = subst (λ l. LeavesCache a.held.cache l [] [] (cache_left x.remains.ended) x.remains.ended.lowests) same_lowests (subst (λ c. LeavesCache c now.lowests [] [] (cache_left x.remains.ended) x.remains.ended.lowests) same_cache lost.leaves.cache);
+        cache = subst (λ l. LeavesCache (left_of a.held.cache.kept) l [] [] (cache_left x.remains.ended) x.remains.ended.lowests) same_lowests (subst (λ c. LeavesCache (left_of c.kept) now.lowests [] [] (cache_left x.remains.ended) x.remains.ended.lowests) same_cache lost.leaves.cache);
       }
 
   -- LATE FINALIZATIONS
 
-  module _ (f : Finalization) (b : Block) (found : found_at_hand inner buffer a.held.blocks.held f.payload ≡ Some b) (low : nat_lt (height_of a.held.processed) b.height ≡ false) where
+  module _ (f : Finalization) (b : Block) (found : found_at_hand inner buffer a.held.cache.kept.held a.held.blocks.held f.payload ≡ Some b) (low : nat_lt (height_of a.held.processed) b.height ≡ false) where
     abbrev pub noted : Pair
     noted = pair_of a.held.processed (greatest_of a.held.cutoff (at_round f.round ∷ []))
 
@@ -108,14 +108,14 @@ module _ {P E : Type 0} (epochs : Epochs) (inner : List ℕ → List ℕ) (parti
     may config chain waiting set step sure keeps p has = final.pair_late-left config chain a f buffer waiting step.lawful step.one step.good step.reported.0 (event.partition_of epochs inner partition a buffer config set.epochs_are) b (hand config chain waiting set step) low sure keeps p has
 
     -- raising the cutoff ended the life
-    pub promise-unraised : (told : Option (List Report)) (heard heard' : Option (List Call)) (x : Ending) → HearsFront heard (raise_asks a.held.cutoff (at_round f.round ∷ [])) heard' → Loses a.held nothing_written x → IsUsual x.fault → KeepsPromise epochs inner a (message_told None (report_finalization f) ∷ []) buffer (heard_by told heard) (heard_by told heard') (Err x)
+    pub promise-unraised : (told : Option (List Report)) (heard heard' : Option (List Call)) (x : Ending) → HearsFront heard (raise_asks a.held.cutoff (at_round f.round ∷ [])) heard' → Loses a.held nothing_written x → IsUsual x.fault → KeepsStep epochs inner a (message_told None (report_finalization f) ∷ []) buffer (heard_by told heard) (heard_by told heard') (Err x)
     promise-unraised told heard heard' x front lost usual config chain waiting set step =
         event.quiet_cut epochs inner partition a buffer config chain waiting (message_told None (report_finalization f)) step refl (λ fault. refl) told told heard heard' nothing_written x (Hears-nothing told)
         (subst (λ cs. HearsFront heard cs heard') (final.asks-late config chain a f buffer waiting step.lawful step.one step.good step.reported.0 b (hand config chain waiting set step) low) front)
         refl refl refl refl tt tt (λ z has. nothing_put z has) (λ z has. nothing_put z has) lost (λ q has. nothing_put q has) usual
 
     -- the raised cutoff's own sync failed
-    pub promise-unsynced : (told : Option (List Report)) (heard heard' : Option (List Call)) (p : Pair) (x : Ending) → p ≡ noted → HearsFront heard (raise_asks a.held.cutoff (at_round f.round ∷ [])) heard' → Loses a.held (written_pair p) x → IsUsual x.fault → KeepsPromise epochs inner a (message_told None (report_finalization f) ∷ []) buffer (heard_by told heard) (heard_by told heard') (Err x)
+    pub promise-unsynced : (told : Option (List Report)) (heard heard' : Option (List Call)) (p : Pair) (x : Ending) → p ≡ noted → HearsFront heard (raise_asks a.held.cutoff (at_round f.round ∷ [])) heard' → Loses a.held (written_pair p) x → IsUsual x.fault → KeepsStep epochs inner a (message_told None (report_finalization f) ∷ []) buffer (heard_by told heard) (heard_by told heard') (Err x)
     promise-unsynced told heard heard' p x is front lost usual config chain waiting set step =
         event.quiet_cut epochs inner partition a buffer config chain waiting (message_told None (report_finalization f)) step refl (λ fault. refl) told told heard heard' (written_pair p) x (Hears-nothing told)
         (subst (λ cs. HearsFront heard cs heard') (final.asks-late config chain a f buffer waiting step.lawful step.one step.good step.reported.0 b (hand config chain waiting set step) low) front) refl refl refl refl tt tt (λ z has. nothing_put z has) (λ z has. nothing_put z has) lost
@@ -125,7 +125,7 @@ module _ {P E : Type 0} (epochs : Epochs) (inner : List ℕ → List ℕ) (parti
       pairs_are : s.held.pairs ≡ noted ∷ []
       pairs_are = ap (λ k. k.held.pairs) synced ∙ ap (λ k. pair_of k.held.processed k.held.cutoff ∷ []) raised.same
 
-      pub promise-unstored_late : (told told' : Option (List Report)) (heard heard' : Option (List Call)) (x : Ending) → Hears told [] told' → Hears heard (raise_asks a.held.cutoff (at_round f.round ∷ [])) heard' → Loses s.held (written_cert (at_height b.height f)) x → IsArchiveFault x.fault → KeepsPromise epochs inner a (message_told None (report_finalization f) ∷ []) buffer (heard_by told heard) (heard_by told' heard') (Err x)
+      pub promise-unstored_late : (told told' : Option (List Report)) (heard heard' : Option (List Call)) (x : Ending) → Hears told [] told' → Hears heard (raise_asks a.held.cutoff (at_round f.round ∷ [])) heard' → Loses s.held (written_cert (at_height b.height f)) x → IsArchiveFault x.fault → KeepsStep epochs inner a (message_told None (report_finalization f) ∷ []) buffer (heard_by told heard) (heard_by told' heard') (Err x)
       promise-unstored_late told told' heard heard' x silent asks lost of_archive config chain waiting set step =
           synced_cut config chain waiting (message_told None (report_finalization f)) step refl (λ fault. refl) told told' heard heard' s.held noted (at_height b.height f) x silent
           (subst (λ cs. Hears heard cs heard') (final.asks-late config chain a f buffer waiting step.lawful step.one step.good step.reported.0 b (hand config chain waiting set step) low) asks)
@@ -145,7 +145,7 @@ module _ {P E : Type 0} (epochs : Epochs) (inner : List ℕ → List ℕ) (parti
       certs_same : s.held.certs ≡ a.held.certs
       certs_same = ap (λ k. k.held.certs) synced ∙ ap (λ k. k.held.certs) raised.same
 
-      pub promise-late : (told told' : Option (List Report)) (heard heard' : Option (List Call)) (m : Seen P E) → IsNested a.held.blocks → IsNested a.held.certs → StoresLate inner s f b m → Grew s.held (written_cert (at_height b.height f)) m.held → Hears told (late_tips (lacks_finalization s.held b) s.life.tip f b) told' → Hears heard (raise_asks a.held.cutoff (at_round f.round ∷ [])) heard' → KeepsPromise epochs inner a (message_told None (report_finalization f) ∷ []) buffer (heard_by told heard) (heard_by told' heard') (Ok m)
+      pub promise-late : (told told' : Option (List Report)) (heard heard' : Option (List Call)) (m : Seen P E) → IsNested a.held.blocks → IsNested a.held.certs → StoresLate inner s f b m → Grew s.held (written_cert (at_height b.height f)) m.held → Hears told (late_tips (lacks_finalization s.held b) s.life.tip f b) told' → Hears heard (raise_asks a.held.cutoff (at_round f.round ∷ [])) heard' → KeepsStep epochs inner a (message_told None (report_finalization f) ∷ []) buffer (heard_by told heard) (heard_by told' heard') (Ok m)
       promise-late told told' heard heard' m nested certs_nested stores grew tips asks config chain waiting set step =
           undispatched config chain a m (message_told None (report_finalization f)) buffer waiting (late_tips (lacks_finalization a.held b) a.life.tip f b) (set.window ∙ sym sizes) step (λ fault. refl)
           (final.Reaches-late config chain a f buffer waiting step.lawful step.one step.good step.reported.0 (event.partition_of epochs inner partition a buffer config set.epochs_are) b w s m nested certs_nested (subst (λ k. Grown k (at_height b.height f ∷ []) m.held.certs) certs_same (Grown-certs s.held m.held (written_cert (at_height b.height f)) refl grew)) (hand config chain waiting set step) low raised synced stores_as)
@@ -176,7 +176,7 @@ module _ {P E : Type 0} (epochs : Epochs) (inner : List ℕ → List ℕ) (parti
           processed = ap (λ k. k.held.processed) stores.same ∙ (ap (λ k. k.held.processed) synced ∙ ap (λ k. k.held.processed) raised.same)
 
       -- however the late put ends
-      pub promise-noted : (told told' : Option (List Report)) (heard heard' : Option (List Call)) (result : Result (Seen P E) Ending) → IsNested a.held.blocks → IsNested a.held.certs → OnOk result (Hears told (late_tips (lacks_finalization s.held b) s.life.tip f b) told') → OnErr result (Hears told [] told') → IfOk result (λ m. StoresLate inner s f b m) → MatchResult result (λ m. Grew s.held (written_cert (at_height b.height f)) m.held) (Loses s.held (written_cert (at_height b.height f))) → IfErr result (λ x. IsArchiveFault x.fault) → Hears heard (raise_asks a.held.cutoff (at_round f.round ∷ [])) heard' → KeepsPromise epochs inner a (message_told None (report_finalization f) ∷ []) buffer (heard_by told heard) (heard_by told' heard') result
+      pub promise-noted : (told told' : Option (List Report)) (heard heard' : Option (List Call)) (result : Result (Seen P E) Ending) → IsNested a.held.blocks → IsNested a.held.certs → OnOk result (Hears told (late_tips (lacks_finalization s.held b) s.life.tip f b) told') → OnErr result (Hears told [] told') → IfOk result (λ m. StoresLate inner s f b m) → MatchResult result (λ m. Grew s.held (written_cert (at_height b.height f)) m.held) (Loses s.held (written_cert (at_height b.height f))) → IfErr result (λ x. IsArchiveFault x.fault) → Hears heard (raise_asks a.held.cutoff (at_round f.round ∷ [])) heard' → KeepsStep epochs inner a (message_told None (report_finalization f) ∷ []) buffer (heard_by told heard) (heard_by told' heard') result
       promise-noted told told' heard heard' (Ok m) nested certs_nested tips silent stores grew of_archive asks = promise-late told told' heard heard' m nested certs_nested stores grew tips asks
       promise-noted told told' heard heard' (Err x) nested certs_nested tips silent stores lost of_archive asks = promise-unstored_late told told' heard heard' x silent asks lost of_archive
 
@@ -192,7 +192,7 @@ module _ {P E : Type 0} (epochs : Epochs) (inner : List ℕ → List ℕ) (parti
         subst (λ es. retire_asks es a.held.certs.held a.held.cutoff (given_front given.life.out) ≡ own_asks config (node_of a buffer waiting) (ack_given t) no_floor) set.epochs_are
         (ack.asks-drained config chain step.lawful (event.partition_of epochs inner partition a buffer config set.epochs_are) a t buffer waiting nested certs_nested step.good)
 
-    pub promise-undrained : (told : Option (List Report)) (heard heard' : Option (List Call)) (x : Ending) → IsNested a.held.blocks → IsNested a.held.certs → HearsFront heard (retire_asks epochs a.held.certs.held a.held.cutoff (given_front given.life.out)) heard' → Loses a.held nothing_written x → IsUsual x.fault ⊎ EndsDropped given x → KeepsPromise epochs inner a (ack_given t ∷ []) buffer (heard_by told heard) (heard_by told heard') (Err x)
+    pub promise-undrained : (told : Option (List Report)) (heard heard' : Option (List Call)) (x : Ending) → IsNested a.held.blocks → IsNested a.held.certs → HearsFront heard (retire_asks epochs a.held.certs.held a.held.cutoff (given_front given.life.out)) heard' → Loses a.held nothing_written x → IsUsual x.fault ⊎ EndsDropped given x → KeepsStep epochs inner a (ack_given t ∷ []) buffer (heard_by told heard) (heard_by told heard') (Err x)
     promise-undrained told heard heard' x nested certs_nested asks lost (inl usual) config chain waiting set step =
         event.quiet_cut epochs inner partition a buffer config chain waiting (ack_given t) step refl (λ fault. refl) told told heard heard' nothing_written x (Hears-nothing told)
         (subst (λ cs. HearsFront heard cs heard') (asks_are config chain waiting set step nested certs_nested) asks)
@@ -216,13 +216,13 @@ module _ {P E : Type 0} (epochs : Epochs) (inner : List ℕ → List ℕ) (parti
       window_same = ap (λ k. k.life.sizes.window) drains.same
 
       -- the sync of the processed height failed
-      pub promise-ack_unsynced : (told : Option (List Report)) (heard heard' : Option (List Call)) (x : Ending) → IsNested a.held.blocks → IsNested a.held.certs → Hears heard (retire_asks epochs a.held.certs.held a.held.cutoff (given_front given.life.out)) heard' → Loses a.held (written_pair (pair_of d.held.processed d.held.cutoff)) x → IsUsual x.fault → KeepsPromise epochs inner a (ack_given t ∷ []) buffer (heard_by told heard) (heard_by told heard') (Err x)
+      pub promise-ack_unsynced : (told : Option (List Report)) (heard heard' : Option (List Call)) (x : Ending) → IsNested a.held.blocks → IsNested a.held.certs → Hears heard (retire_asks epochs a.held.certs.held a.held.cutoff (given_front given.life.out)) heard' → Loses a.held (written_pair (pair_of d.held.processed d.held.cutoff)) x → IsUsual x.fault → KeepsStep epochs inner a (ack_given t ∷ []) buffer (heard_by told heard) (heard_by told heard') (Err x)
       promise-ack_unsynced told heard heard' x nested certs_nested asks lost usual config chain waiting set step =
           event.quiet_cut epochs inner partition a buffer config chain waiting (ack_given t) step refl (λ fault. refl) told told heard heard' (written_pair (pair_of d.held.processed d.held.cutoff)) x (Hears-nothing told)
           (HearsFront-whole heard _ heard' (subst (λ cs. Hears heard cs heard') (asks_are config chain waiting set step nested certs_nested) asks)) refl refl refl refl tt tt (λ z has. nothing_put z has) (λ z has. nothing_put z has) lost
           (λ p has. ack.MayBeLeft-drained config chain step.lawful (event.partition_of epochs inner partition a buffer config set.epochs_are) a t buffer waiting nested certs_nested step.good is_drained d (of_config config set.epochs_are) x.remains.ended.blocks_sure (λ h v at. lost.leaves.blocks.sure h v (omega arith) at) p has) usual
 
-      pub promise-acked : (told told' : Option (List Report)) (heard heard' : Option (List Call)) (m : Seen P E) (result : Result (Seen P E) Ending) → IsNested a.held.blocks → IsNested a.held.certs → m ≡ record d { held = record d.held { pairs = pair_of d.held.processed d.held.cutoff ∷ []; watches = m.held.watches } } → Hears heard (retire_asks epochs a.held.certs.held a.held.cutoff (given_front given.life.out)) heard' → Ran m told told' result → KeepsPromise epochs inner a (ack_given t ∷ []) buffer (heard_by told heard) (heard_by told' heard') result
+      pub promise-acked : (told told' : Option (List Report)) (heard heard' : Option (List Call)) (m : Seen P E) (result : Result (Seen P E) Ending) → IsNested a.held.blocks → IsNested a.held.certs → m ≡ record d { held = record d.held { pairs = pair_of d.held.processed d.held.cutoff ∷ []; watches = m.held.watches } } → Hears heard (retire_asks epochs a.held.certs.held a.held.cutoff (given_front given.life.out)) heard' → Ran m told told' result → KeepsStep epochs inner a (ack_given t ∷ []) buffer (heard_by told heard) (heard_by told' heard') result
       promise-acked told told' heard heard' m result nested certs_nested synced asks ran config chain waiting set step =
           dispatched config chain a m (ack_given t) buffer waiting [] (set.window ∙ sym (ap (λ k. k.life.sizes.window) synced ∙ window_same)) step (λ fault. refl)
           (ack.Reaches-ack config chain step.lawful (event.partition_of epochs inner partition a buffer config set.epochs_are) a t buffer waiting nested certs_nested step.good is_drained d (of_config config set.epochs_are) m synced)
@@ -235,7 +235,7 @@ module _ {P E : Type 0} (epochs : Epochs) (inner : List ℕ → List ℕ) (parti
           blocks : m.held.blocks ≡ a.held.blocks
           blocks = ap (λ k. k.held.blocks) synced ∙ blocks_drained
 
-    pub promise-not_drained : (told : Option (List Report)) (heard heard' : Option (List Call)) (d : Seen P E) (is_drained : Bool) → is_drained ≡ false → Drains epochs given is_drained d → IsNested a.held.blocks → IsNested a.held.certs → Hears heard (retire_asks epochs a.held.certs.held a.held.cutoff (given_front given.life.out)) heard' → KeepsPromise epochs inner a (ack_given t ∷ []) buffer (heard_by told heard) (heard_by told heard') (Ok d)
+    pub promise-not_drained : (told : Option (List Report)) (heard heard' : Option (List Call)) (d : Seen P E) (is_drained : Bool) → is_drained ≡ false → Drains epochs given is_drained d → IsNested a.held.blocks → IsNested a.held.certs → Hears heard (retire_asks epochs a.held.certs.held a.held.cutoff (given_front given.life.out)) heard' → KeepsStep epochs inner a (ack_given t ∷ []) buffer (heard_by told heard) (heard_by told heard') (Ok d)
     promise-not_drained told heard heard' d is_drained not_drained any nested certs_nested asks config chain waiting set step =
         undispatched config chain a d (ack_given t) buffer waiting [] (set.window ∙ sym (ap (λ k. k.life.sizes.window) any.same)) step (λ fault. refl)
         (ack.Reaches-undrained config chain step.lawful (event.partition_of epochs inner partition a buffer config set.epochs_are) a t buffer waiting nested certs_nested step.good d drains)

@@ -6,7 +6,7 @@ use Rattle.mar_key.specs.Hears.{Hears}
 use Rattle.mar_key.specs.Keys.{Call}
 use Rattle.mar_key.specs.Processed.{first_unprocessed, height_in}
 use Rattle.mar_store.specs.Kept.{At, has_height, value_at}
-use Rattle.mar_store.specs.Changes.{KeepsValues}
+use Rattle.mar_store.specs.Changes.{KeepsValues, left_of}
 use Rattle.mar_store.proofs.Lookups.{AllByRecursion-value_at, has_height-from_value}
 use Rattle.mar_node.specs.Metadata.{Pair, first_pair, pair_of}
 use Rattle.mar_node.specs.Chain.{Chain, IsBlockAt}
@@ -75,7 +75,7 @@ module _ {P E : Type 0} (config : Config) (chain : Chain) (a m : Seen P E) (e : 
         of_certs = reach.of_certs;
         own_blocks = reach.own_blocks;
         own_certs = reach.own_certs;
-        cache = subst (λ l. LeavesCache a.held.cache l [] [] (cache_left left) left.lowests) reach.lowests (subst (λ c. LeavesCache c m.held.lowests [] [] (cache_left left) left.lowests) reach.cache stops.lost.leaves.cache);
+        cache = subst (λ l. LeavesCache (left_of a.held.cache.kept) l [] [] (cache_left left) left.lowests) reach.lowests (subst (λ c. LeavesCache (left_of c.kept) m.held.lowests [] [] (cache_left left) left.lowests) reach.cache stops.lost.leaves.cache);
       }
 
       kept : KeepsValues m.held.blocks.sure left.blocks_sure

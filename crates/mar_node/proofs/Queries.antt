@@ -1,5 +1,7 @@
 -- Queries: events that are answered from what stands, and change nothing.
-use Rattle.std.proofs.Common.{◌≡◌, ℕ, List, [], ◌∷◌, ◌++◌, true, Option, Some, None, option_to_list, IfSome, Result, Ok, Err, IfErr, IfOk, OnErr, OnOk, MatchResult, ◌<◌, ◌≤◌, bytes_eq, find, map, refl, sym, ◌∙◌, ap, subst, arith, append-nil}
+use Rattle.std.proofs.Common.{◌≡◌, ℕ, List, [], ◌∷◌, ◌++◌, true, Option, Some, None, option_to_list, IfSome, Result, Ok, Err, IfErr, IfOk, OnErr, OnOk, MatchResult, ◌<◌, ◌≤◌, bytes_eq, find, map, refl, sym, ◌∙◌, ap, subst, arith}
+use Rattle.std.specs.List.{filter_map}
+use Rattle.std.specs.Option.{option_or}
 use Rattle.std.specs.Prelude.{option_and_then}
 use Rattle.mar_types.specs.Epochs.{Epochs, IsPartition}
 use Rattle.mar_cert.specs.Block.{Block}
@@ -9,6 +11,7 @@ use Rattle.mar_store.specs.Kept.{At, value_at}
 use Rattle.mar_store.specs.Named.{last_index}
 use Rattle.mar_store.proofs.Lookups.{AllByRecursion-value_at}
 use Rattle.mar_node.specs.Answers.{Sent, TicketAnswer, answers_of, block_for, bytes_of, query_value, sends_of, to}
+use Rattle.mar_node.specs.Cached.{cached_block}
 use Rattle.mar_node.specs.Chain.{Chain}
 use Rattle.mar_node.specs.Config.{Config}
 use Rattle.mar_node.specs.Event.{Event, is_query, message_told, no_floor}
@@ -16,26 +19,29 @@ use Rattle.mar_node.specs.Held.{Ending, Grew, IsUsual, Loses, Seen, nothing_writ
 use Rattle.mar_node.specs.Messages.{Identifier, Message, certify, close_ticket, forward, get_anchor, get_block, get_finalization, get_info, get_processed, get_verified, hint_finalized, hint_notarized, latest, of_digest, of_height, prepared, proposed, prune_below, report_certification, report_finalization, report_notarization, set_floor, subscribe_commitment, subscribe_digest, verified}
 use Rattle.mar_node.specs.Moves.{IsRead, found_at_hand}
 use Rattle.mar_node.specs.Node.{AreBlocksOf, Node, at_hand}
-use Rattle.mar_node.specs.Promise.{AreOne, KeepsPromise, Waiting, heard_with, node_of}
+use Rattle.mar_node.specs.Promise.{AreOne, KeepsStep, Waiting, heard_with, known_blocks, node_of}
 use Rattle.mar_node.specs.Queries.{answers_found, block_found, value_found}
 use Rattle.mar_node.specs.Step.{Report, Steps}
-use Rattle.mar_node.specs.Stored.{newest, values_of}
-use Rattle.mar_node.proofs.FoundBlocks.{find-append, found-is}
+use Rattle.mar_node.specs.Stored.{block_of, newest, values_of}
+use Rattle.mar_node.proofs.CachedBlocks.{by_digest-is, verified_first}
+use Rattle.mar_node.proofs.FoundBlocks.{cached_known, find-three, found-is}
 use Rattle.mar_node.proofs.Handing.{Hears-nothing}
-use Rattle.mar_node.proofs.Heard.{KeepsPromise-beside}
+use Rattle.mar_node.proofs.Heard.{KeepsStep-beside}
 use Rattle.mar_node.proofs.Idle.{IsIdle, promise-cut, sent_and_answered, steps}
 use Rattle.mar_node.proofs.Tips.{below_last}
 
 -- WHAT IS FOUND
 
-module _ {P E : Type 0} (config : Config) (chain : Chain) (a : Seen P E) (buffer : List Block) (waiting : Waiting) (one : AreOne config.inner (chain.blocks ++ buffer)) (blocks : AreBlocksOf chain a.held.blocks.held) where
-  latest_found : (o : Option (At Finalization)) → option_and_then (λ x. found_at_hand config.inner buffer a.held.blocks.held x.value.payload) o ≡ option_and_then (λ x. at_hand (node_of a buffer waiting) x.value.payload) o
+module _ {P E : Type 0} (config : Config) (chain : Chain) (a : Seen P E) (buffer : List Block) (waiting : Waiting) (one : AreOne config.inner (known_blocks chain (node_of a buffer waiting))) (blocks : AreBlocksOf chain a.held.blocks.held) where
+  latest_found : (o : Option (At Finalization)) → option_and_then (λ x. found_at_hand config.inner buffer a.held.cache.kept.held a.held.blocks.held x.value.payload) o ≡ option_and_then (λ x. at_hand (node_of a buffer waiting) x.value.payload) o
   latest_found None = refl
   latest_found (Some x) = found-is config.inner chain a buffer waiting x.value.payload one blocks
 
   block_found-is : (id : Identifier) → block_found config.inner a.held buffer id ≡ block_for (node_of a buffer waiting) id
   block_found-is (of_height h) = refl
-  block_found-is (of_digest d) = sym (ap (λ xs. find (λ b. bytes_eq b.digest d) (xs ++ values_of a.held.blocks.held)) (append-nil buffer) ∙ find-append (λ b. bytes_eq b.digest d) buffer (values_of a.held.blocks.held))
+  block_found-is (of_digest d) =
+      ap (λ c. option_or (find (λ b. bytes_eq b.digest d) buffer) (option_or c (block_of a.held.blocks.held d))) (by_digest-is config.inner (known_blocks chain (node_of a buffer waiting)) one d a.held.cache.kept.held (cached_known config.inner chain a buffer waiting))
+      ∙ sym (find-three (λ b. bytes_eq b.digest d) buffer (filter_map cached_block a.held.cache.kept.held) (values_of a.held.blocks.held))
   block_found-is latest = latest_found (newest a.held.certs.held)
 
   -- what a query is answered on a lawful chain is what is found
@@ -45,7 +51,7 @@ module _ {P E : Type 0} (config : Config) (chain : Chain) (a : Seen P E) (buffer
   value_found-is t (get_finalization h) is = refl
   value_found-is t get_processed is = refl
   value_found-is t get_anchor is = refl
-  value_found-is t (get_verified r) is = refl
+  value_found-is t (get_verified r) is = ap (λ b. Some (bytes_of b)) (verified_first r a.held.cache.kept.held)
   value_found-is t (report_finalization f) is = absurd cc
   value_found-is t (report_notarization f) is = absurd cc
   value_found-is t (report_certification f) is = absurd cc
@@ -93,7 +99,7 @@ module _ {P E : Type 0} (config : Config) (a : Seen P E) (buffer : List Block) (
   idle (close_ticket k) is = absurd cc
 
   -- its answer is what is found
-  answers_found-is : (chain : Chain) → AreOne config.inner (chain.blocks ++ buffer) → AreBlocksOf chain a.held.blocks.held → (m : Message) → is_query (message_told (Some t) m) ≡ true → answers_found config.inner a.held buffer (message_told (Some t) m) ≡ answers_of config n n.lowest (message_told (Some t) m) no_floor
+  answers_found-is : (chain : Chain) → AreOne config.inner (known_blocks chain (node_of a buffer waiting)) → AreBlocksOf chain a.held.blocks.held → (m : Message) → is_query (message_told (Some t) m) ≡ true → answers_found config.inner a.held buffer (message_told (Some t) m) ≡ answers_of config n n.lowest (message_told (Some t) m) no_floor
   answers_found-is chain one blocks m is = ap (λ o. map (to t) (option_to_list o)) (value_found-is config chain a buffer waiting one blocks (Some t) m is) ∙ own m is
     where
       own : (m : Message) → is_query (message_told (Some t) m) ≡ true → map (to t) (option_to_list (query_value config n m)) ≡ answers_of config n n.lowest (message_told (Some t) m) no_floor
@@ -126,7 +132,7 @@ module _ {P E : Type 0} (epochs : Epochs) (inner : List ℕ → List ℕ) (parti
   e = message_told (Some t) m
 
   -- a query that is answered leaves what it read
-  pub promise-answered : (told : Option (List Report)) (heard : Option (List Call)) (sends : Option (List Sent)) (before after : List TicketAnswer) (new : Seen P E) → IsRead a new → after ≡ before ++ answers_found inner a.held buffer e → KeepsPromise epochs inner a (e ∷ []) buffer (heard_with told heard sends before) (heard_with told heard sends after) (Ok new)
+  pub promise-answered : (told : Option (List Report)) (heard : Option (List Call)) (sends : Option (List Sent)) (before after : List TicketAnswer) (new : Seen P E) → IsRead a new → after ≡ before ++ answers_found inner a.held buffer e → KeepsStep epochs inner a (e ∷ []) buffer (heard_with told heard sends before) (heard_with told heard sends after) (Ok new)
   promise-answered told heard sends before after new read answered config chain waiting set step = record {
     made = sent_and_answered [] answers;
     heard = record { reports = Hears-nothing told; asks = Hears-nothing heard; sends = Hears-nothing sends; answers = answered };
@@ -143,11 +149,11 @@ module _ {P E : Type 0} (epochs : Epochs) (inner : List ℕ → List ℕ) (parti
       are = ap (λ i. answers_found i a.held buffer e) (sym set.inner_is) ∙ answers_found-is config a buffer waiting t chain step.one step.good.of_chain.stores.held_blocks m query
 
   -- a query
-  pub promise-asked : (told : Option (List Report)) (heard : Option (List Call)) (sends : Option (List Sent)) (before after : List TicketAnswer) (result : Result (Seen P E) Ending) → IfOk result (IsRead a) → OnOk result (after ≡ before ++ answers_found inner a.held buffer e) → OnErr result (after ≡ before) → MatchResult result (λ new. Grew a.held nothing_written new.held) (Loses a.held nothing_written) → IfErr result (λ x. IsUsual x.fault) → KeepsPromise epochs inner a (e ∷ []) buffer (heard_with told heard sends before) (heard_with told heard sends after) result
+  pub promise-asked : (told : Option (List Report)) (heard : Option (List Call)) (sends : Option (List Sent)) (before after : List TicketAnswer) (result : Result (Seen P E) Ending) → IfOk result (IsRead a) → OnOk result (after ≡ before ++ answers_found inner a.held buffer e) → OnErr result (after ≡ before) → MatchResult result (λ new. Grew a.held nothing_written new.held) (Loses a.held nothing_written) → IfErr result (λ x. IsUsual x.fault) → KeepsStep epochs inner a (e ∷ []) buffer (heard_with told heard sends before) (heard_with told heard sends after) result
   promise-asked told heard sends before after (Ok new) read answered unanswered goes usual = promise-answered told heard sends before after new read answered
   promise-asked told heard sends before after (Err x) read answered unanswered goes usual =
-      subst (λ answers. KeepsPromise epochs inner a (e ∷ []) buffer (heard_with told heard sends before) (heard_with told heard sends answers) (Err x)) (sym unanswered)
-      (KeepsPromise-beside told told heard heard sends sends (Hears-nothing sends) before epochs inner a (e ∷ []) buffer (Err x) (promise-cut epochs inner partition a buffer e (λ config waiting. (idle config a buffer waiting t m query).0) told heard x goes usual))
+      subst (λ answers. KeepsStep epochs inner a (e ∷ []) buffer (heard_with told heard sends before) (heard_with told heard sends answers) (Err x)) (sym unanswered)
+      (KeepsStep-beside told told heard heard sends sends (Hears-nothing sends) before epochs inner a (e ∷ []) buffer (Err x) (promise-cut epochs inner partition a buffer e (λ config waiting. (idle config a buffer waiting t m query).0) told heard x goes usual))
 
 -- THE BLOCK THAT BACKS THE PROCESSED HEIGHT
 

@@ -13,7 +13,7 @@ use Rattle.mar_store.proofs.Lookups.{AllByRecursion-append, AllByRecursion-value
 use Rattle.mar_node.specs.Answers.{answers_of, certified_after, is_known, sends_of, subscriptions_after}
 use Rattle.mar_node.specs.Cache.{started_syncs, witnessing_of}
 use Rattle.mar_node.specs.Chain.{Chain, IsBlockAt, IsLawful}
-use Rattle.mar_node.specs.Cached.{cached_block, cached_finalization, unloaded}
+use Rattle.mar_node.specs.Cached.{cached_block, cached_finalization}
 use Rattle.mar_node.specs.Config.{Config}
 use Rattle.mar_node.specs.Event.{Event, acked_to, blocks_from, brought_block, certs_from, cutoff_after, drained_blocks, effect_of, is_query, no_floor, storing_of, told_finalization, undrained_blocks}
 use Rattle.mar_node.specs.Faults.{event_fault, last_height}
@@ -308,7 +308,7 @@ module _ {P E : Type 0} (config : Config) (chain : Chain) (a m : Seen P E) (e : 
       tips = tips_before_handed a.life.tip m.life.tip tips handed reach.are_tips reach.tips_rise;
       tips_chain = tips_of_both chain tips handed reach.are_tips reach.tips_chain;
       awaited = refl;
-      cache = record { cache = ap unloaded reach.cache; lowest = reach.lowest; lowests = reach.lowests; cache_syncs = refl; witnessed = reach.witnessed };
+      cache = record { cache = ap (λ c. c.kept) reach.cache; lowest = reach.lowest; lowests = reach.lowests; cache_syncs = refl; witnessed = reach.witnessed };
       stored = IfSome-more (IsStored (node_of m buffer waiting)) (IsStored n') (λ s is. record { block = is.block; certificate = is.certificate }) (storing_of n e) reach.stored;
       stored_late = IfSome-more (IsStoredLate n no_floor (node_of m buffer waiting)) (IsStoredLate n no_floor n') (λ s is. is) (storing_of n e) reach.stored_late;
       floor_stored = tt;

@@ -1,6 +1,6 @@
 -- Stores that are reopened, and a call of an opening that failed.
 use Rattle.std.specs.List.{list_any}
-use Rattle.std.proofs.Common.{◌≡◌, ◌⊎◌, inl, inr, IsTrue, append-nil, ⊎_elim, ℕ, zero, ◌<◌, Option, None, Some, IfSome, option_map, List, [], ◌∷◌, ◌++◌, length, map, Contains, refl, sym, ◌∙◌, ap, subst, arith}
+use Rattle.std.proofs.Common.{◌≡◌, ◌⊎◌, inl, inr, IsTrue, append-nil, ⊎_elim, ℕ, zero, ◌<◌, Option, None, Some, IfSome, option_map, List, [], ◌∷◌, ◌++◌, length, map, Contains, refl, sym, ◌∙◌, ap, subst, arith, true}
 use Rattle.std.proofs.Math.ListN.{get_or-map}
 use Rattle.std.proofs.lemmas.List.{length-map}
 use Rattle.std.proofs.lemmas.List.Elements.{Contains-append_cases, Contains-append_left, Contains-append_right}
@@ -18,12 +18,13 @@ use Rattle.mar_node.specs.Metadata.{LeavesPairs, Pair, first_pair, lucky_pair, p
 use Rattle.mar_node.proofs.Pairs.{leaves_pairs, lucky_pair_of}
 use Rattle.mar_node.specs.Faults.{Fault, block_store, cache_store, cert_store, meta_store}
 use Rattle.mar_writes.specs.Writing.{no_writes}
-use Rattle.mar_node.specs.Held.{ArePassed, Ending, Grew, Held, IsNoStores, LeavesUnloaded, LeavesUnopened, Loses, LosesOpening, Passes, Progress, Remains, ReopensAs, Watches, Written, blocks_left, cache_left, certs_left, ended_of, nothing_written, progress_of}
+use Rattle.mar_node.specs.Held.{ArePassed, Ending, Grew, Held, IsNoStores, LeavesUnloaded, LeavesUnopened, Loses, LosesOpening, Passes, Progress, Remains, ReopensAs, Watches, Written, blocks_left, cache_left, certs_left, ended_of, nothing_written, progress_of, HeldCache}
 use Rattle.mar_node.proofs.Cutting.{only_one, some_from_first}
 use Rattle.mar_node.proofs.Growing.{Grew-refl, within_all}
 use Rattle.mar_node.proofs.Passing.{ArePassed-store, ArePassed-then, FailsBy-nothing, FailsBy-store, FailsBy-then}
 use Rattle.mar_node.proofs.StoreLosses.{IsHow}
 use Rattle.mar_writes.specs.Writing.{no_writes}
+use Rattle.mar_node.specs.LuckyEntries.{lucky_entries}
 
 LeavesUnopened-same : {T : Type 0} (old : Left (At T)) (put : List (At T)) → LeavesUnopened old put old
 LeavesUnopened-same old put = record { sure = λ h v is. is; may = λ x has. Contains-append_left old.may put x has }
@@ -146,8 +147,8 @@ module _ (old_blocks : Left (At Block)) (old_certs : Left (At Finalization)) (ol
             passed_four = ArePassed-then watches two four passed_two (ArePassed-store two meta_store wm passed_meta)
 
         -- and what each found is what its luck keeps
-        pub reopens : (luck : ℕ) (cache : Left Cached) (lowest : ℕ) (lowests : List ℕ) (ws : Watch) → IsUnloaded old_cache.sure old_cache.may cache → Contains (0 ∷ lowests) lowest → Within lowests old_lowests → Passes watches.cache ws → 0 < length old_values → IfSome watches.blocks.keeps (λ keeps. blocks.held ≡ lucky_found (keeps_by keeps luck) old_blocks) → IfSome watches.certs.keeps (λ keeps. certs.held ≡ lucky_found (keeps_by keeps luck) old_certs) → IfSome watches.meta.keeps (λ keeps. values ≡ lucky_values (keeps_by keeps luck 0) old_values) → ReopensAs old luck (record { blocks = blocks; certs = certs; processed = progress.processed; cutoff = progress.cutoff; witnessed = progress.witnessed; pairs = progress.pairs; cache = cache; lowest = lowest; lowests = lowests; writes = no_writes; watches = record { blocks = wb; certs = wc; meta = progress.watch; cache = ws }; intact = progress.intact })
-        reopens luck cache lowest lowests ws unloaded lowest_is lowests_were passes some lucky_blocks lucky_certs lucky_meta = record {
+        pub reopens : (luck : ℕ) (cache : HeldCache) (lowest : ℕ) (lowests : List ℕ) (ws : Watch) → IsUnloaded old_cache.sure old_cache.may (left_of cache.kept) → cache.kept.held ≡ [] → cache.fresh ≡ true → cache.finds ≡ option_map (λ keeps. lucky_entries (keeps_by keeps luck) old_cache) watches.cache.keeps → Contains (0 ∷ lowests) lowest → Within lowests old_lowests → Passes watches.cache ws → 0 < length old_values → IfSome watches.blocks.keeps (λ keeps. blocks.held ≡ lucky_found (keeps_by keeps luck) old_blocks) → IfSome watches.certs.keeps (λ keeps. certs.held ≡ lucky_found (keeps_by keeps luck) old_certs) → IfSome watches.meta.keeps (λ keeps. values ≡ lucky_values (keeps_by keeps luck 0) old_values) → ReopensAs old luck (record { blocks = blocks; certs = certs; processed = progress.processed; cutoff = progress.cutoff; witnessed = progress.witnessed; pairs = progress.pairs; cache = cache; lowest = lowest; lowests = lowests; writes = no_writes; watches = record { blocks = wb; certs = wc; meta = progress.watch; cache = ws }; intact = progress.intact })
+        reopens luck cache lowest lowests ws unloaded unheld fresh finds lowest_is lowests_were passes some lucky_blocks lucky_certs lucky_meta = record {
           blocks = reopened;
           certs = certs_reopened;
           pair = pair_at values;
@@ -165,6 +166,9 @@ module _ (old_blocks : Left (At Block)) (old_certs : Left (At Finalization)) (ol
           passed = all_passed ws passes;
           intact = ap (λ p. p.intact) is;
           cache = unloaded;
+          unheld = unheld;
+          fresh = fresh;
+          finds = finds;
           lowest = lowest_is;
           lowests = lowests_were;
         }
@@ -187,7 +191,7 @@ Grew-opened old luck first written reopens = Grew-refl first written (IsNested-o
 LeavesUnloaded-then : (old : Remains) (luck : ℕ) (s : Held) (written : Written) (e : Ending) → written.cached ≡ [] → written.prunes ≡ [] → ReopensAs old luck s → Loses s written e → LeavesUnloaded (cache_left old.ended) (cache_left e.remains.ended) old.ended.lowests e.remains.ended.lowests
 LeavesUnloaded-then old luck s written e none_put none_pruned reopens lost = record {
   sure = λ x has. stays x (subst (λ ps. Contains e.remains.ended.cache_sure x ⊎ IsTrue (list_any (λ p. is_below p x) ps)) none_pruned (lost.leaves.cache.sure x (reopens.cache.with_sure x has)));
-  may = λ x has. reopens.cache.within_may x (subst (λ xs. Contains xs x) (ap (λ xs. s.cache.may ++ xs) none_put ∙ append-nil s.cache.may) (lost.leaves.cache.may x has));
+  may = λ x has. reopens.cache.within_may x (subst (λ xs. Contains xs x) (ap (λ xs. s.cache.kept.may ++ xs) none_put ∙ append-nil s.cache.kept.may) (lost.leaves.cache.may x has));
   lowest = λ k has. reopens.lowests k (subst (λ xs. Contains xs k) (ap (λ ps. s.lowests ++ map (λ p. p.epoch) ps) none_pruned ∙ append-nil s.lowests) (lost.leaves.cache.lowest k has));
 }
   where

@@ -14,7 +14,6 @@ use Rattle.mar_node.specs.Event.{no_floor, sync_finished}
 use Rattle.mar_node.specs.Held.{MakesSure, Seen}
 use Rattle.mar_node.specs.Metadata.{pair_of}
 use Rattle.mar_node.specs.Moves.{FinishesSync}
-use Rattle.mar_node.specs.Cached.{unloaded}
 use Rattle.mar_node.specs.Node.{AreBlocksOf, AreFinalizationsOf, ConsecutiveFrom, FloorSafe, HasAnchor, IsCacheOf, IsGood}
 use Rattle.mar_node.specs.Promise.{Waiting, node_of}
 use Rattle.mar_node.specs.Step.{KeepsFrom, Writes}
@@ -136,7 +135,7 @@ module _ {P E : Type 0} (config : Config) (chain : Chain) (a m : Seen P E) (t : 
         held_certs = subst (AreFinalizationsOf chain) (sym finishes.certs.held) good.of_chain.stores.held_certs;
         may_certs = AllByRecursion-within (λ x. Finalizes chain x.height x.value.round x.value.payload) m.held.certs.may a.held.certs.may finishes.certs.may good.of_chain.stores.may_certs;
       };
-      cache = subst (IsCacheOf chain) (sym (ap (λ s. unloaded s.held.cache) finishes.same)) good.of_chain.cache;
+      cache = subst (IsCacheOf chain) (sym (ap (λ s. s.held.cache.kept) finishes.same)) good.of_chain.cache;
       asks = record { requests = good.of_chain.asks.requests; ready = tt; overflow = tt };
       awaits = tt;
       not_at_hand = tt;

@@ -18,6 +18,7 @@ use Rattle.mar_cert.specs.Block.{Block}
 use Rattle.mar_node.specs.Acks.{Outstanding}
 use Rattle.mar_node.specs.Cache.{is_below}
 use Rattle.mar_node.specs.Cached.{Cached, IsUnloaded}
+use Rattle.mar_node.specs.LuckyEntries.{lucky_entries}
 use Rattle.mar_node.specs.Metadata.{Pair, first_pair, lucky_pair}
 use Rattle.mar_node.specs.Faults.{Fault, store_fault, want_of_memory, StoreName, block_store, cert_store, meta_store, cache_store}
 use Rattle.mar_node.specs.Lives.{IsPicked, Picks, round_zero}
@@ -37,12 +38,12 @@ watch_of w cert_store = w.certs
 watch_of w meta_store = w.meta
 watch_of w cache_store = w.cache
 
--- with one more call of a store armed; the cache counts none yet
+-- with one more call of a store armed
 abbrev pub with_armed : StoreName → ℕ → Watches → Watches
 with_armed block_store calls w = record w { blocks = armed calls w.blocks }
 with_armed cert_store calls w = record w { certs = armed calls w.certs }
 with_armed meta_store calls w = record w { meta = armed calls w.meta }
-with_armed cache_store calls w = w
+with_armed cache_store calls w = record w { cache = armed calls w.cache }
 
 -- after so many counted calls
 abbrev pub counted_calls : ℕ → Watch → Watch
@@ -89,6 +90,14 @@ pub record Progress : Type 0 where
 abbrev pub progress_of : Pair → Watch → Progress
 progress_of p watch = record { processed = option_map at_block p.processed; cutoff = p.cutoff; witnessed = round_zero; pairs = p ∷ []; watch = watch; intact = true }
 
+-- The cache of a life: its entries, and what a start makes of them. They are held from the start on, which takes up what a crash
+-- left.
+pub record HeldCache : Type 0 where
+  pub kept : Kept Cached
+  pub loaded : Bool  -- what a crash left was taken up
+  pub fresh : Bool  -- nothing was put since the opening, and nothing taken up
+  pub finds : Option (List Cached)  -- what the luck of the opening picked to be taken up, where the cache goes by luck
+
 -- The stores of a life, with the processed height, the cutoff, the last witnessed round, the pairs that a crash can leave
 -- of the first two, the cache, and the writes that wait for a sync.
 pub record Held : Type 0 where
@@ -98,7 +107,7 @@ pub record Held : Type 0 where
   pub cutoff : Cutoff
   pub witnessed : Round
   pub pairs : List Pair
-  pub cache : Left Cached  -- what a crash left of it waits: nothing is held
+  pub cache : HeldCache
   pub lowest : ℕ  -- the lowest epoch of the cache
   pub lowests : List ℕ  -- those that a crash may leave
   pub writes : Writing
@@ -177,7 +186,7 @@ ended_of blocks certs cache lowests pairs = record {
 
 -- what a crash between two store calls leaves
 abbrev pub remains_of : Held → Remains
-remains_of h = record { ended = ended_of (left_of h.blocks) (left_of h.certs) h.cache h.lowests h.pairs; watches = h.watches }
+remains_of h = record { ended = ended_of (left_of h.blocks) (left_of h.certs) (left_of h.cache.kept) h.lowests h.pairs; watches = h.watches }
 
 abbrev pub blocks_left : Ended → Left (At Block)
 blocks_left e = record { sure = e.blocks_sure; may = e.blocks_may }
@@ -261,7 +270,7 @@ pub record LeavesMore (start : Held) (written : Written) (now : Ended) : Type 0 
   pub blocks : LeavesStore start.blocks written.blocks_from written.blocks (blocks_left now)
   pub certs : LeavesStore start.certs written.certs_from written.certs (certs_left now)
   pub pairs : LeavesPairsSince start.pairs written.pairs now.meta
-  pub cache : LeavesCache start.cache start.lowests written.cached written.prunes (cache_left now) now.lowests
+  pub cache : LeavesCache (left_of start.cache.kept) start.lowests written.cached written.prunes (cache_left now) now.lowests
 
 -- The calls since a start went well; what was held at or above the bound of a prune is held.
 pub record Grew (start : Held) (written : Written) (now : Held) : Type 0 where
@@ -302,6 +311,7 @@ picks_of old luck = record {
   blocks = option_map (λ keeps. lucky_found (keeps_by keeps luck) (blocks_left old.ended)) old.watches.blocks.keeps;
   certs = option_map (λ keeps. lucky_found (keeps_by keeps luck) (certs_left old.ended)) old.watches.certs.keeps;
   pair = option_map (λ keeps. lucky_pair (keeps_by keeps luck 0) old.ended.meta) old.watches.meta.keeps;
+  cache = option_map (λ keeps. lucky_entries (keeps_by keeps luck) (cache_left old.ended)) old.watches.cache.keeps;
 }
 
 -- The stores as an opening finds them: each archive reopened, one pair of the metadata, one call of each store counted.
@@ -318,7 +328,10 @@ pub record ReopensAs (old : Remains) (luck : ℕ) (new : Held) : Type 0 where
   pub writes : new.writes ≡ no_writes
   pub passed : ArePassed old.watches new.watches
   pub intact : new.intact ≡ true
-  pub cache : IsUnloaded old.ended.cache_sure old.ended.cache_may new.cache
+  pub cache : IsUnloaded old.ended.cache_sure old.ended.cache_may (left_of new.cache.kept)
+  pub unheld : new.cache.kept.held ≡ []
+  pub fresh : new.cache.fresh ≡ true
+  pub finds : new.cache.finds ≡ (picks_of old luck).cache
   pub lowest : Contains (0 ∷ new.lowests) new.lowest
   pub lowests : Within new.lowests old.ended.lowests
 

@@ -25,10 +25,12 @@ pub mod Opening
 pub mod Newest
 pub mod Messages
 pub mod Cached
+pub mod SmallEntries
 pub mod Sections
 pub mod Entries
 pub mod AllEntries
 pub mod CacheCalls
+pub mod LuckyEntries
 pub mod Stored
 pub mod Acks
 pub mod Metadata

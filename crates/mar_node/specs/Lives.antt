@@ -7,6 +7,7 @@ use Rattle.mar_cert.specs.Finalization.{Finalization}
 use Rattle.mar_key.specs.Cutoff.{Cutoff, at_epoch, at_round, greatest_of}
 use Rattle.mar_key.specs.Processed.{Processed, at_absent, at_block, height_in}
 use Rattle.mar_types.specs.Epochs.{Epochs, closed_epoch}
+use Rattle.mar_node.specs.AllEntries.{LoadsEntries}
 use Rattle.mar_node.specs.Chain.{Chain}
 use Rattle.mar_store.specs.Changes.{Left, Within}
 use Rattle.mar_store.specs.Kept.{At, EachHeightOnce, Kept, Reopens, has_height, newest_upto, reopened_store, value_at}
@@ -130,8 +131,9 @@ pub record Picks : Type 0 where
   pub blocks : Option (List (At Block))
   pub certs : Option (List (At Finalization))
   pub pair : Option (Option Pair)
+  pub cache : Option (List Cached)
 
--- where luck picks, this was found
+-- where luck picks, this was found of the archives and of the metadata
 pub record IsPicked (picks : Picks) (blocks : List (At Block)) (certs : List (At Finalization)) (pair : Pair) : Type 0 where
   pub blocks_are : IfSome picks.blocks (λ picked. blocks ≡ picked)
   pub certs_are : IfSome picks.certs (λ picked. certs ≡ picked)
@@ -139,7 +141,7 @@ pub record IsPicked (picks : Picks) (blocks : List (At Block)) (certs : List (At
 
 -- stores that do not go by luck
 abbrev pub no_picks : Picks
-no_picks = record { blocks = None; certs = None; pair = None }
+no_picks = record { blocks = None; certs = None; pair = None; cache = None }
 
 -- What an opening finds: each list reopened, but for the cache, which is taken up later, one pair of the metadata, block 0 entered, no fault.
 pub record Finds (config : Config) (e : Ended) (picks : Picks) (begin : Begin) (n : Node) : Type 0 where
@@ -162,11 +164,24 @@ pub record Finds (config : Config) (e : Ended) (picks : Picks) (begin : Begin) (
   pub no_fault : opening_fault found certs pair begin ≡ None
   pub node : n ≡ opened_node config blocks certs cache lowest lowests pair
 
--- An opening that finished: what it found, then the step of a start.
+-- these are the entries that luck picked, where it picks
+abbrev pub ArePicked : Option (List Cached) → List Cached → Type 0
+ArePicked picked held = IfSome picked (λ entries. held ≡ entries)
+
+-- A node took up what a crash left of its cache: what luck picked, where the cache goes by luck.
+pub record TakesUp (picked : Option (List Cached)) (n begun : Node) : Type 0 where
+  pub cache : Kept Cached
+  pub loads : LoadsEntries n.cache cache
+  pub by_luck : ArePicked picked cache.held
+  pub begun_is : begun ≡ record n { cache = cache }
+
+-- An opening that finished: what it found, then the step of a start, which takes up what was left of the cache.
 pub record Opens (config : Config) (chain : Chain) (e : Ended) (picks : Picks) (begin : Begin) (made : Made) (n : Node) : Type 0 where
   pub first : Node
   pub finds : Finds config e picks begin first
-  pub start : Steps config chain first (life_started (floor_of begin) ∷ []) made n
+  pub begun : Node
+  pub takes : TakesUp picks.cache first begun
+  pub start : Steps config chain begun (life_started (floor_of begin) ∷ []) made n
 
 -- CUT
 
@@ -209,7 +224,8 @@ abbrev pub reached_after : Node → Event → Effect → Reached
 reached_after n e fx = record { processed = option_map height_in (processed_after n e fx); out = kept_blocks n e fx }
 
 -- What an event that was cut may leave: all that was held, unless a prune may take it, and nothing more than what might be
--- left before, blocks that were at hand, and its own finalization or a cached one. What is sure may be left.
+-- left before, blocks that were at hand, and its own finalization or a cached one. What is sure may be left. Nothing is put into
+-- the cache yet.
 pub record LeavesMay (n : Node) (e : Event) (blocks_bound certs_bound : ℕ) (left : Ended) : Type 0 where
   pub held_blocks : (h : ℕ) → blocks_bound ≤ h → IsTrue (has_height n.blocks.held h) → IsTrue (has_height left.blocks_may h)
   pub held_certs : (h : ℕ) → certs_bound ≤ h → IsTrue (has_height n.certs.held h) → IsTrue (has_height left.certs_may h)
@@ -217,6 +233,7 @@ pub record LeavesMay (n : Node) (e : Event) (blocks_bound certs_bound : ℕ) (le
   pub certs : (x : At Finalization) → Contains left.certs_may x → Contains n.certs.may x ⊎ IsCertFrom n e x
   pub sure_blocks : (h : ℕ) → IsTrue (has_height left.blocks_sure h) → IsTrue (has_height left.blocks_may h)
   pub sure_certs : (h : ℕ) → IsTrue (has_height left.certs_sure h) → IsTrue (has_height left.certs_may h)
+  pub cached : Within left.cache_may n.cache.may
 
 -- What an event that was cut leaves. `earlier` are the pairs of the last finished step, or in an
 -- opening those of the ended node before it; `least` is the height of that step.
@@ -272,14 +289,17 @@ pub record CutsReopening (config : Config) (chain : Chain) (e : Ended) (picks : 
   pub first_pair : (p : Pair) → first_pair left.meta ≡ Some p → Contains e.meta p
   pub may_blocks : (x : At Block) → Contains left.blocks_may x → Contains e.blocks_may x ⊎ (begin ≡ from_genesis x.value)
   pub may_certs : Within left.certs_may e.certs_may
+  pub may_cached : Within left.cache_may e.cache_may
   -- by what some reopening finds
   pub cause : IsTrue (is_by_value fault) → (pair : Pair) × (blocks : List (At Block)) × (certs : List (At Finalization)) × Contains e.meta pair × Reopens e.blocks_sure e.blocks_may blocks × Reopens e.certs_sure e.certs_may certs × (opening_fault blocks certs pair begin ≡ Some fault)
 
--- An opening cut in its Start step.
+-- An opening cut in its Start step, before it took up the cache or behind that.
 pub record CutsStart (config : Config) (chain : Chain) (e : Ended) (picks : Picks) (begin : Begin) (made : Made) (fault : Fault) (left : Ended) : Type 0 where
   pub first : Node
   pub finds : Finds config e picks begin first
-  pub cut : CutsEvent config chain e.meta None first (life_started (floor_of begin)) made fault left
+  pub begun : Node
+  pub takes : (begun ≡ first) ⊎ TakesUp picks.cache first begun
+  pub cut : CutsEvent config chain e.meta None begun (life_started (floor_of begin)) made fault left
 
 -- an opening that was cut, before its start or in it
 abbrev pub CutsOpening : Config → Chain → Ended → Picks → Begin → Made → Fault → Ended → Type 0

@@ -1,6 +1,6 @@
 -- What the parts of a step change: what is seen of an actor before and after them.
 use Rattle.std.specs.List.{AllByRecursion}
-use Rattle.std.specs.Prelude.{Bool, Contains, List, MatchResult, None, Option, Result, Some, [], bytes_eq, false, find, fold, if◌then◌else◌, is_some, length, map, nat_lt, not, option_to_list, true, ℕ, ◌&&◌, ◌++◌, ◌+◌, ◌-◌, ◌<◌, ◌^◌, ◌∷◌, ◌≡◌, ◌≤◌, ◌⊎◌}
+use Rattle.std.specs.Prelude.{Bool, Contains, List, MatchResult, None, Option, Result, Some, [], bytes_eq, false, find, fold, if◌then◌else◌, is_some, length, map, nat_lt, not, option_and_then, option_to_list, true, ℕ, ◌&&◌, ◌++◌, ◌+◌, ◌-◌, ◌<◌, ◌^◌, ◌∷◌, ◌≡◌, ◌≤◌, ◌⊎◌}
 use Rattle.std.specs.Option.{option_or}
 use Rattle.mar_types.specs.Round.{Round}
 use Rattle.mar_types.specs.Epochs.{Epochs}
@@ -11,11 +11,14 @@ use Rattle.mar_key.specs.Hears.{Hears}
 use Rattle.mar_key.specs.Processed.{first_unprocessed}
 use Rattle.mar_store.specs.Kept.{At, Kept, has_height, value_at}
 use Rattle.mar_store.specs.Changes.{Puts, Within}
+use Rattle.mar_node.specs.AllEntries.{LoadsEntries, soonest}
+use Rattle.mar_node.specs.Cached.{Cached, cached_block}
+use Rattle.mar_node.specs.Entries.{has_commitment}
 use Rattle.mar_node.specs.Stored.{at_own_height, block_of, is_certified, is_held, newest}
 use Rattle.mar_node.specs.Acks.{Outstanding, after_given, after_oldest, dropped_oldest, given_front, given_oldest, height_after}
 use Rattle.mar_node.specs.Event.{acked_to, all_retired, round_at}
 use Rattle.mar_node.specs.Faults.{ack_kind, dropped_ack, last_height, sync_kind, ticket_limit}
-use Rattle.mar_node.specs.Lives.{later_round}
+use Rattle.mar_node.specs.Lives.{ArePicked, later_round}
 use Rattle.mar_node.specs.Step.{HandedBlock, HeldFrom, IsFront, Report, handed_over, new_tip, outstanding_of}
 use Rattle.mar_node.specs.Held.{ArePassed, AreWritten, Ending, Grew, Held, IsArchiveFault, IsEndedBy, Loses, MakesSure, Seen, Watches, nothing_written}
 use Rattle.mar_writes.specs.Writing.{with_finished, with_started, with_write}
@@ -154,13 +157,27 @@ with_newest a = record a { life = record a.life { tip = newest_tip a.life.tip (n
 
 -- STORING
 
--- the block of this commitment, in the buffer or else, by the digest that the commitment names, among the held blocks
+-- the block of this commitment, where that is its own
 abbrev pub of_commitment : List ℕ → Option Block → Option Block
 of_commitment commitment None = None
 of_commitment commitment (Some b) = if bytes_eq b.commitment commitment then Some b else None
 
-abbrev pub found_at_hand : (List ℕ → List ℕ) → List Block → List (At Block) → List ℕ → Option Block
-found_at_hand inner buffer held commitment = option_or (find (λ b. bytes_eq b.commitment commitment) buffer) (of_commitment commitment (block_of held (inner commitment)))
+-- the block of the entry that a search of the cache finds by a commitment
+abbrev pub cached_by_commitment : List ℕ → List Cached → Option Block
+cached_by_commitment commitment entries = option_and_then cached_block (soonest (λ x. has_commitment commitment (cached_block x)) entries)
+
+-- the block of this commitment: in the buffer, or else in the cache, or else, by the digest that the commitment names, among the
+-- held blocks
+abbrev pub found_at_hand : (List ℕ → List ℕ) → List Block → List Cached → List (At Block) → List ℕ → Option Block
+found_at_hand inner buffer cached held commitment =
+    option_or (find (λ b. bytes_eq b.commitment commitment) buffer)
+    (option_or (cached_by_commitment commitment cached) (of_commitment commitment (block_of held (inner commitment))))
+
+-- What a crash left of the cache was taken up, and nothing else changed.
+pub record LoadsCache {P E : Type 0} (old new : Seen P E) : Type 0 where
+  pub loads : old.held.cache.fresh ≡ true → LoadsEntries old.held.cache.kept new.held.cache.kept
+  pub by_luck : old.held.cache.fresh ≡ true → ArePicked old.held.cache.finds new.held.cache.kept.held
+  pub same : new ≡ record old { held = record old.held { cache = new.held.cache; watches = new.held.watches } }
 
 -- A put that was synced, with all that was held before; a crash leaves just what is held.
 pub record StoresValue {T : Type 0} (ignored : Bool) (old : Kept (At T)) (x : At T) (new : Kept (At T)) : Type 0 where

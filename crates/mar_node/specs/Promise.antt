@@ -1,6 +1,6 @@
 -- An actor as a node, what a step asks of it and of its event, and what a step promises.
-use Rattle.std.specs.List.{AllByRecursion}
-use Rattle.std.specs.Prelude.{Bool, Contains, List, MatchResult, None, Option, Result, Some, [], false, length, ℕ, ⊤, ◌++◌, ◌<◌, ◌∷◌, ◌≡◌}
+use Rattle.std.specs.List.{AllByRecursion, filter_map}
+use Rattle.std.specs.Prelude.{Bool, Contains, List, MatchResult, None, Option, Result, Some, [], false, length, true, ℕ, ⊤, ◌++◌, ◌<◌, ◌∷◌, ◌≡◌, ◌⊎◌}
 use Rattle.mar_types.specs.Epochs.{Epochs, IsPartition}
 use Rattle.mar_cert.specs.Block.{Block}
 use Rattle.mar_cert.specs.Finalization.{Finalization, finalization_bytes}
@@ -11,7 +11,7 @@ use Rattle.mar_key.specs.Keys.{Call}
 use Rattle.mar_key.specs.PeerQueue.{PeerQueue}
 use Rattle.mar_store.specs.Kept.{At, Reopens}
 use Rattle.mar_node.specs.Answers.{Sent, TicketAnswer}
-use Rattle.mar_node.specs.Cached.{unloaded}
+use Rattle.mar_node.specs.Cached.{Cached, cached_block}
 use Rattle.mar_node.specs.Messages.{Inbox, report_finalization}
 use Rattle.mar_node.specs.Metadata.{Pair}
 use Rattle.mar_node.specs.Chain.{Chain, IsBlockAt, IsLawful}
@@ -19,7 +19,7 @@ use Rattle.mar_node.specs.Config.{Config}
 use Rattle.mar_node.specs.Event.{Event, life_started, message_told}
 use Rattle.mar_node.specs.Faults.{Begin, Fault, from_floor, from_genesis, opening_fault}
 use Rattle.mar_node.specs.Held.{Ending, Remains, Seen, Sizes, picks_of}
-use Rattle.mar_node.specs.Lives.{Cuts, CutsReopening, Finds, IsGoodEnded, Picks}
+use Rattle.mar_node.specs.Lives.{Cuts, CutsReopening, Finds, IsGoodEnded, Picks, TakesUp}
 use Rattle.mar_node.specs.Node.{Awaited, CacheSync, CertifiedCommitment, Ended, IsFinalized, IsGood, Node, Rest, Subscription, empty_inbox, empty_peers}
 use Rattle.mar_node.specs.Step.{Made, Report, Steps, nothing_made}
 
@@ -79,7 +79,7 @@ node_around around a buffer waiting = record {
   syncs = a.held.writes.syncs;
   tip = a.life.tip;
   buffer = buffer;
-  cache = unloaded a.held.cache;
+  cache = a.held.cache.kept;
   lowest = a.held.lowest;
   lowests = a.held.lowests;
   cache_syncs = around.cache_syncs;
@@ -133,10 +133,14 @@ abbrev pub IsGoodFor : Config → Chain → Node → List Event → Type 0
 IsGoodFor config chain n (life_started f ∷ events) = IsGoodUntold config chain n
 IsGoodFor config chain n _ = IsGood config chain n
 
+-- the blocks that a step may meet: the chain's, those of the buffer, and those that are cached or that a crash may leave cached
+abbrev pub known_blocks : Chain → Node → List Block
+known_blocks chain n = chain.blocks ++ (n.buffer ++ filter_map cached_block (n.cache.held ++ n.cache.may))
+
 -- What a step asks: a lawful chain, that digests name one block each, finalizations of the chain, a good node that rests.
 pub record IsLawfulStep (config : Config) (chain : Chain) (n : Node) (events : List Event) : Type 0 where
   pub lawful : IsLawful config.epochs chain
-  pub one : AreOne config.inner (chain.blocks ++ n.buffer)
+  pub one : AreOne config.inner (known_blocks chain n)
   pub reported : AllByRecursion (ReportsFinalized chain) events
   pub good : IsGoodFor config chain n events
   pub rests : RestsBefore config.window n events
@@ -182,11 +186,34 @@ pub record CutsStep (config : Config) (chain : Chain) (n : Node) (events : List 
 abbrev pub StepsOrCuts : {P E : Type 0} → Config → Chain → Node → List Event → Heard → Heard → Result (Seen P E) Ending → Type 0
 StepsOrCuts config chain n events before after result = MatchResult result (FinishesStep config chain n events before after) (CutsStep config chain n events before after)
 
--- What a step promises of every chain for which it is lawful: it is a step of the node, or a cut.
-abbrev pub KeepsPromise : {P E : Type 0} → Epochs → (List ℕ → List ℕ) → Seen P E → List Event → List Block → Heard → Heard → Result (Seen P E) Ending → Type 0
-KeepsPromise epochs inner old events buffer before after result =
+-- What a step of a life that has begun promises of every chain for which it is lawful: it is a step of the node, or a cut.
+abbrev pub KeepsStep : {P E : Type 0} → Epochs → (List ℕ → List ℕ) → Seen P E → List Event → List Block → Heard → Heard → Result (Seen P E) Ending → Type 0
+KeepsStep epochs inner old events buffer before after result =
     (config : Config) (chain : Chain) (waiting : Waiting) → IsSetTo config old.life.sizes epochs inner → IsLawfulStep config chain (node_of old buffer waiting) events
     → StepsOrCuts config chain (node_of old buffer waiting) events before after result
+
+-- A start that finished: what a crash left of the cache was taken up, and from there it is a step of the node.
+pub record FinishesStart {P E : Type 0} (config : Config) (chain : Chain) (picked : Option (List Cached)) (n : Node) (events : List Event) (before after : Heard) (new : Seen P E) : Type 0 where
+  pub begun : Node
+  pub takes : TakesUp picked n begun
+  pub finishes : FinishesStep config chain begun events before after new
+
+-- A start that was cut, before it took up the cache or behind that.
+pub record CutsStart (config : Config) (chain : Chain) (picked : Option (List Cached)) (n : Node) (events : List Event) (before after : Heard) (e : Ending) : Type 0 where
+  pub begun : Node
+  pub takes : (begun ≡ n) ⊎ TakesUp picked n begun
+  pub cuts : CutsStep config chain begun events before after e
+
+-- What a start promises where nothing was put into the cache nor taken up before it.
+abbrev pub KeepsStart : {P E : Type 0} → Epochs → (List ℕ → List ℕ) → Seen P E → List Event → List Block → Heard → Heard → Result (Seen P E) Ending → Type 0
+KeepsStart epochs inner old events buffer before after result =
+    old.held.cache.fresh ≡ true → (config : Config) (chain : Chain) (waiting : Waiting) → IsSetTo config old.life.sizes epochs inner → IsLawfulStep config chain (node_of old buffer waiting) events
+    → MatchResult result (FinishesStart config chain old.held.cache.finds (node_of old buffer waiting) events before after) (CutsStart config chain old.held.cache.finds (node_of old buffer waiting) events before after)
+
+-- what a step promises, be it the start of a life or one of a life that has begun
+abbrev pub KeepsPromise : {P E : Type 0} → List Event → Epochs → (List ℕ → List ℕ) → Seen P E → List Block → Heard → Heard → Result (Seen P E) Ending → Type 0
+KeepsPromise (life_started f ∷ events) epochs inner old buffer before after result = KeepsStart epochs inner old (life_started f ∷ events) buffer before after result
+KeepsPromise events epochs inner old buffer before after result = KeepsStep epochs inner old events buffer before after result
 
 -- what an event would store is small
 abbrev pub IsSmallEvent : Event → Type 0

@@ -1,14 +1,17 @@
 //! A cache of entries by epoch, seen as one list of entries.
-ghost use Rattle.std.specs.Prelude.{◌≡◌, ◌++◌, ◌∷◌, Bool, ℕ, [], Contains, IfErr, IfOk, List, None, OnErr, OnOk, Some, true, false, max};
+ghost use Rattle.std.specs.Prelude.{◌≡◌, ◌++◌, ◌∷◌, Bool, ℕ, [], Contains, IfErr, IfOk, IfSome, List, None, OnErr, OnOk, Option, Some, true, false, max, option_map};
 ghost use Rattle.mar_store.specs.Changes.{Left, Within, left_of};
 ghost use Rattle.mar_store.specs.Kept.{Kept};
 ghost use Rattle.mar_store.specs.Lost.{wreck_of};
+ghost use Rattle.mar_store.specs.Luck.{keeps_by};
 ghost use Rattle.mar_store.specs.Watch.{Heeds, Watch, armed};
 ghost use Rattle.mar_node.specs.AllEntries.{FirstsStay, LoadsEntries, PrunesEntries};
 ghost use Rattle.mar_node.specs.Cache.{is_below, is_certified_below};
 ghost use Rattle.mar_node.specs.CacheCalls.{FinishesEntries, GoesOn, IsNestedCache, LosesCache, ReopensCache};
 ghost use Rattle.mar_node.specs.CacheCalls.{StartsSync, UnopensCache, is_of_archive, none_goes};
 ghost use Rattle.mar_node.specs.Cached.{Cached};
+ghost use Rattle.mar_node.specs.SmallEntries.{AreSmallEntries};
+ghost use Rattle.mar_node.specs.LuckyEntries.{lucky_entries};
 ghost use Rattle.mar_node.specs.declared.started.CacheTicket.{CacheTicket as CacheTicketOf};
 ghost use Rattle.mar_node.specs.declared.started.SectionSync.{SectionSync as SectionSyncOf};
 
@@ -36,6 +39,8 @@ pub trait ShelfRuin: Drop {
         ensures same { (left self.new ≡ left self.old) × (lowests self.new ≡ lowests self.old) };
 
     ghost within: { (w : Self) → Within (left w).sure (left w).may };
+
+    ghost small: { (w : Self) → AreSmallEntries (left w).may };
 }
 
 /// A cache of entries by epoch, seen as one list of entries, whatever they are made of: `Shelf` puts them and looks for them.
@@ -55,6 +60,9 @@ pub trait Cache: Drop {
 
     /// Nothing was put since the reopening, and nothing taken up.
     ghost fresh: { Self → Bool };
+
+    /// What taking up what a crash left would hold, where it goes by luck, as long as nothing was put or taken up.
+    ghost finds: { Self → Option (List Cached) };
 
     /// What a ticket makes sure.
     ghost covers: { Self → CacheTicketOf → List Cached };
@@ -127,6 +135,7 @@ pub trait Cache: Drop {
     where
         Self: Sized,
         ensures done { fresh self ≡ true → IfOk result (λ s. LoadsEntries (kept self) (kept s)) }
+        ensures found { fresh self ≡ true → IfOk result (λ s. IfSome (finds self) (λ found. (kept s).held ≡ found)) }
         ensures goes_on { IfOk result (λ s. GoesOn [] none_goes (kept self) (kept s) (covers self) (covers s)) }
         ensures stays { IfOk result (λ s. (lowest s ≡ lowest self) × (loaded s ≡ true)) }
         ensures lost { IfErr result (λ l. LosesCache [] none_goes (kept self) (lowest self ∷ [])
@@ -167,13 +176,15 @@ pub trait Cache: Drop {
         ensures watch { Self.Wreck.watch result ≡ watch self };
 
     /// Takes up what a crash left, but for its entries: none is held before they are loaded. Luck picks among what may be
-    /// left, now and where they are loaded.
+    /// left, now and where they are loaded: of each archive of each epoch the entries whose numbers it keeps.
     fn reopen(wreck: Self::Wreck, luck: u64) -> Result<Self, Lost<Self::Wreck>>
     where
         Self: Sized,
         ensures done { IfOk result (λ s. ReopensCache (Self.Wreck.left wreck) (kept s)) }
         ensures lowest { IfOk result (λ s. Contains (Self.Wreck.lowests wreck) (lowest s)) }
         ensures fresh { IfOk result (λ s. (fresh s ≡ true) × (loaded s ≡ false)) }
+        ensures picked { IfOk result (λ s. finds s
+            ≡ option_map (λ keeps. lucky_entries (keeps_by keeps luck) (Self.Wreck.left wreck)) (Self.Wreck.watch wreck).keeps) }
         ensures lost { IfErr result (λ l. UnopensCache (Self.Wreck.left wreck) (Self.Wreck.lowests wreck)
             (Self.Wreck.left (wreck_of l)) (Self.Wreck.lowests (wreck_of l))) }
         ensures watched { Heeds watch Self.Wreck.watch (Self.Wreck.watch wreck) result };
@@ -183,9 +194,11 @@ pub trait Cache: Drop {
         ensures armed { OnOk result (watch self.new ≡ armed calls (watch self.old)) }
         ensures unarmed { OnErr result (watch self.new ≡ watch self.old) }
         ensures same { (kept self.new ≡ kept self.old) × (lowest self.new ≡ lowest self.old) × (loaded self.new ≡ loaded self.old)
-            × (fresh self.new ≡ fresh self.old) × (covers self.new ≡ covers self.old) };
+            × (fresh self.new ≡ fresh self.old) × (finds self.new ≡ finds self.old) × (covers self.new ≡ covers self.old) };
 
     ghost nested: { (s : Self) → IsNestedCache (kept s) (lowest s) (loaded s) };
+
+    ghost small: { (s : Self) → AreSmallEntries (kept s).may };
 
     ghost joins: { (s : Self) (e : ℕ) (p q : SectionSyncOf) → covers s (record { epoch = e; first = p; second = Some q })
         ≡ covers s (record { epoch = e; first = p; second = None }) ++ covers s (record { epoch = e; first = q; second = None }) };

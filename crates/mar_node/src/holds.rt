@@ -1,5 +1,5 @@
 //! The stores of a life, as far as the rules of a node see them.
-ghost use Rattle.std.specs.Prelude.{◌≡◌, ◌≤◌, ◌-◌, ◌^◌, ◌⊎◌, ◌∷◌, [], IfErr, IfOk, IfSome, OnErr, OnOk, Some, false, map, option_map, true};
+ghost use Rattle.std.specs.Prelude.{◌≡◌, ◌≤◌, ◌-◌, ◌^◌, ◌⊎◌, ◌∷◌, [], IfErr, IfOk, IfSome, OnErr, OnOk, Some, false, map, option_and_then, option_map, true};
 ghost use Rattle.mar_key.specs.Processed.{at_absent, at_block};
 ghost use Rattle.mar_key.specs.Views.{cutoff_of};
 ghost use Rattle.mar_store.specs.Changes.{IsNested, Puts, heights};
@@ -7,19 +7,25 @@ ghost use Rattle.mar_store.specs.Kept.{has_height, value_at};
 ghost use Rattle.mar_store.specs.Named.{last_index};
 ghost use Rattle.mar_store.specs.Ranges.{ranges};
 ghost use Rattle.mar_store.specs.Sizes.{IsSmall};
+ghost use Rattle.mar_node.specs.AllEntries.{LoadsEntries, soonest};
+ghost use Rattle.mar_node.specs.Cached.{cached_block};
+ghost use Rattle.mar_node.specs.Entries.{is_sought, sought_block};
+ghost use Rattle.mar_node.specs.Queries.{cached_at};
 ghost use Rattle.mar_node.specs.Held.{ArePassed, AreWritten, GoesOn, Held, IsArchiveFault, IsUsual, LosesOpening, LosesSince, MakesSure, Remains, ReopensAs};
 ghost use Rattle.mar_node.specs.Held.{nothing_written, remains_of, with_armed, written_block, written_cert, written_pair};
-ghost use Rattle.mar_node.specs.Lives.{later_round};
+ghost use Rattle.mar_node.specs.Lives.{ArePicked, later_round};
 ghost use Rattle.mar_node.specs.Metadata.{first_pair, pair_of};
 ghost use Rattle.mar_node.specs.Faults.{sync_kind, ticket_limit};
 ghost use Rattle.mar_node.specs.Moves.{StoresValue, at_height};
 ghost use Rattle.mar_writes.specs.Pool.{writing_of};
 ghost use Rattle.mar_writes.specs.Writing.{IsLastWrite, is_open_sync, with_finished, with_started, with_write};
 ghost use Rattle.mar_cert.specs.Finalization.{finalization_bytes};
+ghost use Rattle.mar_node.specs.SmallEntries.{AreSmallEntries};
 ghost use Rattle.mar_node.specs.Stored.{AreSmall, at_own_height, block_of, is_certified, is_held};
 ghost use Rattle.mar_node.specs.Staged.{Staged, is_taken_in, kept_from, staged_where, without_height};
 ghost use Rattle.mar_node.specs.Views.{fault_of, store_name_of};
 
+use crate::entry::BlockName;
 use crate::fault::{Fault, StoreName};
 use crate::floor::State;
 use crate::shown::ShownRuins;
@@ -36,7 +42,7 @@ pub trait StoresRuin {
     /// What is left of them, and what each tells of its failures.
     ghost left: { Self → Remains };
 
-    /// Makes the counted call of a store fail that is so many calls away, 1 being the next. The cache counts none yet.
+    /// Makes the counted call of a store fail that is so many calls away, 1 being the next.
     fn arm(&mut self, store: StoreName, calls: u64) -> Result<(), AllocError>
         ensures ended { (left self.new).ended ≡ (left self.old).ended }
         ensures armed { OnOk result ((left self.new).watches ≡ with_armed (store_name_of store) calls (left self.old).watches) }
@@ -91,15 +97,16 @@ pub trait Holds<V: Variant> {
         Self: Sized,
         ensures { Self.Ruins.left result ≡ remains_of (held self) };
 
-    /// What is sure is held, what is held may be left, each held block is small, and what isn't sure waits for a sync. The
-    /// call does nothing: it is a law.
+    /// What is sure is held, what is held may be left, each block that is held or cached is small, and what isn't sure waits
+    /// for a sync. The call does nothing: it is a law.
     fn law(&self)
         ensures blocks { (held self.now).intact ≡ true → IsNested (held self.now).blocks }
         ensures certs { (held self.now).intact ≡ true → IsNested (held self.now).certs }
         ensures small { (held self.now).intact ≡ true → AreSmall (map (λ x. x.value) (held self.now).blocks.held) }
+        ensures small_cached { (held self.now).intact ≡ true → AreSmallEntries (held self.now).cache.kept.held }
         ensures written { (held self.now).intact ≡ true → AreWritten (held self.now) };
 
-    /// Makes the counted call of a store fail that is so many calls away, 1 being the next. The cache counts none yet.
+    /// Makes the counted call of a store fail that is so many calls away, 1 being the next.
     fn arm(&mut self, store: StoreName, calls: u64) -> Result<(), AllocError>
         ensures staged { staged self.new ≡ staged self.old }
         ensures armed { OnOk result (held self.new
@@ -179,6 +186,36 @@ pub trait Holds<V: Variant> {
         ensures same { OnOk result (held self.new ≡ record (held self.old) { watches = (held self.new).watches }) }
         ensures goes_on { GoesOn (fault_of V.Commitment.bytes) (held self.old) nothing_written (held self.new) result }
         ensures archive { IfErr result (λ e. IsArchiveFault (fault_of V.Commitment.bytes e)) }
+        ensures usual { IfErr result (λ e. IsUsual (fault_of V.Commitment.bytes e)) };
+
+    /// Takes up what a crash left of the cache. Before that nothing of it is found.
+    fn load_cache(&mut self) -> Result<(), Fault<V::Commitment>>
+        ensures staged { staged self.new ≡ staged self.old }
+        ensures loads { (held self.old).cache.fresh ≡ true → OnOk result (LoadsEntries (held self.old).cache.kept (held self.new).cache.kept) }
+        ensures by_luck { (held self.old).cache.fresh ≡ true → OnOk result (ArePicked (held self.old).cache.finds (held self.new).cache.kept.held) }
+        ensures same { OnOk result (held self.new ≡ record (held self.old) { cache = (held self.new).cache; watches = (held self.new).watches }) }
+        ensures goes_on { GoesOn (fault_of V.Commitment.bytes) (held self.old) nothing_written (held self.new) result }
+        ensures usual { IfErr result (λ e. IsUsual (fault_of V.Commitment.bytes e)) };
+
+    /// The cached block of a digest or of a commitment: in the newest epoch that has one, there among the verified blocks,
+    /// then the notarized and the certified ones, at the lowest view or height.
+    fn cached_block(
+        &mut self,
+        name: BlockName<V::Digest, V::Commitment>,
+    ) -> Result<Option<V::Block>, Fault<V::Commitment>>
+        ensures staged { staged self.new ≡ staged self.old }
+        ensures found { IfOk result (λ r. option_map V.plain r ≡ option_and_then cached_block (soonest (is_sought V.Digest.bytes V.Commitment.bytes V.inner
+            (sought_block name)) (held self.old).cache.kept.held)) }
+        ensures same { OnOk result (held self.new ≡ record (held self.old) { watches = (held self.new).watches }) }
+        ensures goes_on { GoesOn (fault_of V.Commitment.bytes) (held self.old) nothing_written (held self.new) result }
+        ensures usual { IfErr result (λ e. IsUsual (fault_of V.Commitment.bytes e)) };
+
+    /// The cached block that was verified in a round, of several the one put first.
+    fn cached_verified(&mut self, round: Round) -> Result<Option<V::Block>, Fault<V::Commitment>>
+        ensures staged { staged self.new ≡ staged self.old }
+        ensures found { IfOk result (λ r. option_map V.plain r ≡ cached_at round (held self.old).cache.kept.held) }
+        ensures same { OnOk result (held self.new ≡ record (held self.old) { watches = (held self.new).watches }) }
+        ensures goes_on { GoesOn (fault_of V.Commitment.bytes) (held self.old) nothing_written (held self.new) result }
         ensures usual { IfErr result (λ e. IsUsual (fault_of V.Commitment.bytes e)) };
 
     /// The finalization that is held at a height.

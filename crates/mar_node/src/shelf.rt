@@ -1,12 +1,15 @@
 //! The cache of what consensus and peers report before it is final.
 ghost use Rattle.std.specs.Prelude.{◌≡◌, ◌∷◌, ◌&&◌, ◌==◌, [], IfErr, IfOk, option_and_then, option_map};
 ghost use Rattle.std.specs.List.{list_any};
+ghost use Rattle.mar_cert.specs.Finalization.{finalization_bytes};
 ghost use Rattle.mar_store.specs.Lost.{wreck_of};
+ghost use Rattle.mar_store.specs.Sizes.{IsSmall};
 ghost use Rattle.mar_store.specs.Watch.{Heeds, HeedsRead};
 ghost use Rattle.mar_node.specs.AllEntries.{soonest};
 ghost use Rattle.mar_node.specs.CacheCalls.{GoesOn, LosesCache, PutsAndStarts, PutsAndSyncs, none_goes};
 ghost use Rattle.mar_node.specs.Cached.{cached_block, certified_entry, epoch_of, finalization_entry, notarization_entry};
 ghost use Rattle.mar_node.specs.Cached.{notarized_entry, verified_entry};
+ghost use Rattle.mar_node.specs.SmallEntries.{IsSmallEntry};
 ghost use Rattle.mar_node.specs.Entries.{cached_of, has_digest, is_for, is_notarization_at, is_sought, is_verified_at, sought_block};
 
 use crate::cache::Cache;
@@ -27,6 +30,7 @@ pub trait Shelf<V: Variant, F: CommitsTo<V::Commitment>>: Cache {
     ) -> Result<(Self, Started), Lost<Self::Wreck>>
     where
         Self: Sized,
+        requires small { IsSmallEntry (cached_of V.plain Self.Notarization.plain F.plain entry) }
         ensures puts { IfOk result (λ r. PutsAndStarts (cached_of V.plain Self.Notarization.plain F.plain entry)
             (Self.lowest self) (Self.loaded self) (Self.kept self) (Self.kept r.0) (Self.covers r.0) r.1) }
         ensures goes_on { IfOk result (λ r. GoesOn ((cached_of V.plain Self.Notarization.plain F.plain entry) ∷ []) none_goes
@@ -43,6 +47,7 @@ pub trait Shelf<V: Variant, F: CommitsTo<V::Commitment>>: Cache {
     ) -> Result<Self, Lost<Self::Wreck>>
     where
         Self: Sized,
+        requires small { IsSmallEntry (cached_of V.plain Self.Notarization.plain F.plain entry) }
         ensures puts { IfOk result (λ r. PutsAndSyncs (cached_of V.plain Self.Notarization.plain F.plain entry)
             (Self.lowest self) (Self.loaded self) (Self.kept self) (Self.kept r)) }
         ensures goes_on { IfOk result (λ r. GoesOn ((cached_of V.plain Self.Notarization.plain F.plain entry) ∷ []) none_goes
@@ -60,6 +65,7 @@ pub trait Shelf<V: Variant, F: CommitsTo<V::Commitment>>: Cache {
     ) -> Result<(Self, Started), Lost<Self::Wreck>>
     where
         Self: Sized,
+        requires small { IsSmall (V.plain block).encoded }
         ensures puts { IfOk result (λ r. PutsAndStarts (verified_entry round (V.plain block))
             (Self.lowest self) (Self.loaded self) (Self.kept self) (Self.kept r.0) (Self.covers r.0) r.1) }
         ensures goes_on { IfOk result (λ r. GoesOn ((verified_entry round (V.plain block)) ∷ []) none_goes
@@ -80,6 +86,7 @@ pub trait Shelf<V: Variant, F: CommitsTo<V::Commitment>>: Cache {
     ) -> Result<(Self, Started), Lost<Self::Wreck>>
     where
         Self: Sized,
+        requires small { IsSmall (V.plain block).encoded }
         ensures puts { IfOk result (λ r. PutsAndStarts (notarized_entry round (V.plain block))
             (Self.lowest self) (Self.loaded self) (Self.kept self) (Self.kept r.0) (Self.covers r.0) r.1) }
         ensures goes_on { IfOk result (λ r. GoesOn ((notarized_entry round (V.plain block)) ∷ []) none_goes
@@ -99,6 +106,7 @@ pub trait Shelf<V: Variant, F: CommitsTo<V::Commitment>>: Cache {
     ) -> Result<(Self, Started), Lost<Self::Wreck>>
     where
         Self: Sized,
+        requires small { IsSmall (finalization_bytes (Self.Notarization.plain notarization)) }
         ensures puts { IfOk result (λ r. PutsAndStarts (notarization_entry (Self.Notarization.plain notarization))
             (Self.lowest self) (Self.loaded self) (Self.kept self) (Self.kept r.0) (Self.covers r.0) r.1) }
         ensures goes_on { IfOk result (λ r. GoesOn ((notarization_entry (Self.Notarization.plain notarization)) ∷ []) none_goes
@@ -115,6 +123,7 @@ pub trait Shelf<V: Variant, F: CommitsTo<V::Commitment>>: Cache {
     final fn put_certified(self, epoch: Epoch, block: V::Block) -> Result<Self, Lost<Self::Wreck>>
     where
         Self: Sized,
+        requires small { IsSmall (V.plain block).encoded }
         ensures puts { IfOk result (λ r. PutsAndSyncs (certified_entry epoch (V.plain block))
             (Self.lowest self) (Self.loaded self) (Self.kept self) (Self.kept r)) }
         ensures goes_on { IfOk result (λ r. GoesOn ((certified_entry epoch (V.plain block)) ∷ []) none_goes
@@ -131,6 +140,7 @@ pub trait Shelf<V: Variant, F: CommitsTo<V::Commitment>>: Cache {
     final fn put_finalization(self, finalization: F) -> Result<Self, Lost<Self::Wreck>>
     where
         Self: Sized,
+        requires small { IsSmall (finalization_bytes (F.plain finalization)) }
         ensures puts { IfOk result (λ r. PutsAndSyncs (finalization_entry (F.plain finalization))
             (Self.lowest self) (Self.loaded self) (Self.kept self) (Self.kept r)) }
         ensures goes_on { IfOk result (λ r. GoesOn ((finalization_entry (F.plain finalization)) ∷ []) none_goes
@@ -153,7 +163,8 @@ pub trait Shelf<V: Variant, F: CommitsTo<V::Commitment>>: Cache {
         ensures found { IfOk result (λ o. option_map (cached_of V.plain Self.Notarization.plain F.plain) o
             ≡ soonest (λ y. epoch_of y == epoch && is_sought V.Digest.bytes V.Commitment.bytes V.inner sought y) (Self.kept self.old).held) }
         ensures same { (Self.kept self.new ≡ Self.kept self.old) × (Self.lowest self.new ≡ Self.lowest self.old)
-            × (Self.loaded self.new ≡ Self.loaded self.old) × (Self.fresh self.new ≡ Self.fresh self.old) × (Self.covers self.new ≡ Self.covers self.old) }
+            × (Self.loaded self.new ≡ Self.loaded self.old) × (Self.fresh self.new ≡ Self.fresh self.old)
+            × (Self.finds self.new ≡ Self.finds self.old) × (Self.covers self.new ≡ Self.covers self.old) }
         ensures watched { HeedsRead (Self.watch self.old) (Self.watch self.new) result };
 
     /// What is looked for, in the newest epoch that has it: a finalization of a block, a block by its digest or commitment.
@@ -164,7 +175,8 @@ pub trait Shelf<V: Variant, F: CommitsTo<V::Commitment>>: Cache {
         ensures found { IfOk result (λ o. option_map (cached_of V.plain Self.Notarization.plain F.plain) o
             ≡ soonest (is_sought V.Digest.bytes V.Commitment.bytes V.inner sought) (Self.kept self.old).held) }
         ensures same { (Self.kept self.new ≡ Self.kept self.old) × (Self.lowest self.new ≡ Self.lowest self.old)
-            × (Self.loaded self.new ≡ Self.loaded self.old) × (Self.fresh self.new ≡ Self.fresh self.old) × (Self.covers self.new ≡ Self.covers self.old) }
+            × (Self.loaded self.new ≡ Self.loaded self.old) × (Self.fresh self.new ≡ Self.fresh self.old)
+            × (Self.finds self.new ≡ Self.finds self.old) × (Self.covers self.new ≡ Self.covers self.old) }
         ensures watched { HeedsRead (Self.watch self.old) (Self.watch self.new) result };
 
     /// The notarization of a round.
@@ -172,7 +184,8 @@ pub trait Shelf<V: Variant, F: CommitsTo<V::Commitment>>: Cache {
         ensures found { IfOk result (λ o. option_map (λ n. notarization_entry (Self.Notarization.plain n)) o
             ≡ soonest (is_notarization_at round) (Self.kept self.old).held) }
         ensures same { (Self.kept self.new ≡ Self.kept self.old) × (Self.lowest self.new ≡ Self.lowest self.old)
-            × (Self.loaded self.new ≡ Self.loaded self.old) × (Self.fresh self.new ≡ Self.fresh self.old) × (Self.covers self.new ≡ Self.covers self.old) }
+            × (Self.loaded self.new ≡ Self.loaded self.old) × (Self.fresh self.new ≡ Self.fresh self.old)
+            × (Self.finds self.new ≡ Self.finds self.old) × (Self.covers self.new ≡ Self.covers self.old) }
         ensures watched { HeedsRead (Self.watch self.old) (Self.watch self.new) result }
     {
         match self.get(round.epoch(), Sought::NotarizationAt(round)) {
@@ -187,7 +200,8 @@ pub trait Shelf<V: Variant, F: CommitsTo<V::Commitment>>: Cache {
         ensures found { IfOk result (λ b. b ≡ list_any (λ x. is_verified_at round x && has_digest (V.Digest.bytes digest) (cached_block x))
             (Self.kept self.old).held) }
         ensures same { (Self.kept self.new ≡ Self.kept self.old) × (Self.lowest self.new ≡ Self.lowest self.old)
-            × (Self.loaded self.new ≡ Self.loaded self.old) × (Self.fresh self.new ≡ Self.fresh self.old) × (Self.covers self.new ≡ Self.covers self.old) }
+            × (Self.loaded self.new ≡ Self.loaded self.old) × (Self.fresh self.new ≡ Self.fresh self.old)
+            × (Self.finds self.new ≡ Self.finds self.old) × (Self.covers self.new ≡ Self.covers self.old) }
         ensures watched { HeedsRead (Self.watch self.old) (Self.watch self.new) result }
     {
         match self.get(round.epoch(), Sought::VerifiedBlock(round, digest)) {
@@ -200,7 +214,8 @@ pub trait Shelf<V: Variant, F: CommitsTo<V::Commitment>>: Cache {
     final fn get_verified(&mut self, round: Round) -> Result<Option<V::Block>, Miss>
         ensures found { IfOk result (λ o. option_map V.plain o ≡ option_and_then cached_block (soonest (is_verified_at round) (Self.kept self.old).held)) }
         ensures same { (Self.kept self.new ≡ Self.kept self.old) × (Self.lowest self.new ≡ Self.lowest self.old)
-            × (Self.loaded self.new ≡ Self.loaded self.old) × (Self.fresh self.new ≡ Self.fresh self.old) × (Self.covers self.new ≡ Self.covers self.old) }
+            × (Self.loaded self.new ≡ Self.loaded self.old) × (Self.fresh self.new ≡ Self.fresh self.old)
+            × (Self.finds self.new ≡ Self.finds self.old) × (Self.covers self.new ≡ Self.covers self.old) }
         ensures watched { HeedsRead (Self.watch self.old) (Self.watch self.new) result }
     {
         match self.get(round.epoch(), Sought::VerifiedAt(round)) {
@@ -215,7 +230,8 @@ pub trait Shelf<V: Variant, F: CommitsTo<V::Commitment>>: Cache {
         ensures found { IfOk result (λ o. option_map (λ f. finalization_entry (F.plain f)) o
             ≡ soonest (is_for V.inner (V.Digest.bytes digest)) (Self.kept self.old).held) }
         ensures same { (Self.kept self.new ≡ Self.kept self.old) × (Self.lowest self.new ≡ Self.lowest self.old)
-            × (Self.loaded self.new ≡ Self.loaded self.old) × (Self.fresh self.new ≡ Self.fresh self.old) × (Self.covers self.new ≡ Self.covers self.old) }
+            × (Self.loaded self.new ≡ Self.loaded self.old) × (Self.fresh self.new ≡ Self.fresh self.old)
+            × (Self.finds self.new ≡ Self.finds self.old) × (Self.covers self.new ≡ Self.covers self.old) }
         ensures watched { HeedsRead (Self.watch self.old) (Self.watch self.new) result }
     {
         match self.search(Sought::FinalizationFor(digest)) {
@@ -234,7 +250,8 @@ pub trait Shelf<V: Variant, F: CommitsTo<V::Commitment>>: Cache {
         ensures found { IfOk result (λ o. option_map V.plain o
             ≡ option_and_then cached_block (soonest (is_sought V.Digest.bytes V.Commitment.bytes V.inner (sought_block name)) (Self.kept self.old).held)) }
         ensures same { (Self.kept self.new ≡ Self.kept self.old) × (Self.lowest self.new ≡ Self.lowest self.old)
-            × (Self.loaded self.new ≡ Self.loaded self.old) × (Self.fresh self.new ≡ Self.fresh self.old) × (Self.covers self.new ≡ Self.covers self.old) }
+            × (Self.loaded self.new ≡ Self.loaded self.old) × (Self.fresh self.new ≡ Self.fresh self.old)
+            × (Self.finds self.new ≡ Self.finds self.old) × (Self.covers self.new ≡ Self.covers self.old) }
         ensures watched { HeedsRead (Self.watch self.old) (Self.watch self.new) result }
     {
         match self.search(sought_block(name)) {

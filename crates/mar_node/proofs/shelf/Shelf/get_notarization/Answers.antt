@@ -1,4 +1,4 @@
-use Rattle.mar_node.proofs.Looking.{none_notarized, notarization_found}
+use Rattle.mar_node.proofs.Looking.{notarization_found}
 use Rattle.mar_node.proofs.shelf.Shelf.get_notarization.Goals as goal
 
 pub returns-in-Ok-Some-clause-found : goal.returns-in-Ok-Some-clause-found
