@@ -9,9 +9,8 @@ use Rattle.mar_key.specs.Processed.{Processed}
 use Rattle.mar_store.specs.Changes.{Left, left_of}
 use Rattle.mar_store.specs.Kept.{At, Kept}
 use Rattle.mar_store.specs.Watch.{Watch}
-use Rattle.mar_node.specs.Cached.{Cached}
 use Rattle.mar_node.specs.Faults.{Fault, block_store, cert_store, sync_kind, ticket_limit}
-use Rattle.mar_node.specs.Held.{GoesOn, Grew, Held, IsArchiveFault, IsUsual, Loses, MakesSure, Written, ended_of, nothing_written}
+use Rattle.mar_node.specs.Held.{GoesOn, Grew, Held, IsArchiveFault, IsUsual, Loses, MakesSure, Written, ended_of, nothing_written, HeldCache}
 use Rattle.mar_node.specs.Metadata.{Pair}
 use Rattle.mar_node.specs.Places.{kept_at, watch_at}
 use Rattle.mar_node.specs.Writing.{Writing}
@@ -38,7 +37,7 @@ module _ {S W R X : Type 0} (stored : S → Kept (At Block)) (left : W → Left 
       by (inr (surer, failed)) = usual_fault cert_store _ _ fault failed.cause
 
   -- what is left of all stores, since a start
-  pub both_lose : (start : Held) (all : Written) {processed : Option Processed} {cutoff : Cutoff} {witnessed : Round} {pairs : List Pair} {waits : Left Cached} {lowest : ℕ} {lowests : List ℕ} {writes : Writing} {meta cache : Watch} {intact : Bool} → Grew start all (record {
+  pub both_lose : (start : Held) (all : Written) {processed : Option Processed} {cutoff : Cutoff} {witnessed : Round} {pairs : List Pair} {waits : HeldCache} {lowest : ℕ} {lowests : List ℕ} {writes : Writing} {meta cache : Watch} {intact : Bool} → Grew start all (record {
     blocks = kept_at stored left old;
     certs = kept_at stored_2 left_2 old_2;
     processed = processed;
@@ -54,7 +53,7 @@ module _ {S W R X : Type 0} (stored : S → Kept (At Block)) (left : W → Left 
   }) → Loses start all (record {
     fault = fault;
     remains = record {
-      ended = ended_of (left_of (kept_at stored left new)) (left_of (kept_at stored_2 left_2 new_2)) waits lowests pairs;
+      ended = ended_of (left_of (kept_at stored left new)) (left_of (kept_at stored_2 left_2 new_2)) (left_of waits.kept) lowests pairs;
       watches = record { blocks = watch_at watch watch_left new; certs = watch_at watch_2 watch_left_2 new_2; meta = meta; cache = cache };
     };
   })
@@ -63,14 +62,14 @@ module _ {S W R X : Type 0} (stored : S → Kept (At Block)) (left : W → Left 
       by : FailsBoth stored left watch watch_left stored_2 left_2 watch_2 watch_left_2 old new old_2 new_2 fault → Loses start all (record {
         fault = fault;
         remains = record {
-          ended = ended_of (left_of (kept_at stored left new)) (left_of (kept_at stored_2 left_2 new_2)) waits lowests pairs;
+          ended = ended_of (left_of (kept_at stored left new)) (left_of (kept_at stored_2 left_2 new_2)) (left_of waits.kept) lowests pairs;
           watches = record { blocks = watch_at watch watch_left new; certs = watch_at watch_2 watch_left_2 new_2; meta = meta; cache = cache };
         };
       })
       by (inl (failed, same)) = rw same (Loses-blocks start all _ grew _ _ fault _ (WithinWritten-nothing all).blocks failed.fails failed.cause)
       by (inr (surer, failed)) = Loses-certs start all _ (Grew-surer_blocks start all _ grew _ _ surer.nested surer.surer surer.passed) _ _ fault _ (WithinWritten-nothing all).certs failed.fails failed.cause
 
-module _ {S W R X : Type 0} (stored : S → Kept (At Block)) (left : W → Left (At Block)) (watch : S → Watch) (watch_left : W → Watch) (stored_2 : R → Kept (At Finalization)) (left_2 : X → Left (At Finalization)) (watch_2 : R → Watch) (watch_left_2 : X → Watch) (old new : Place S W) (old_2 new_2 : Place R X) {processed : Option Processed} {cutoff : Cutoff} {witnessed : Round} {pairs : List Pair} {waits : Left Cached} {lowest : ℕ} {lowests : List ℕ} {writes : Writing} {meta cache : Watch} {was : Bool} (later : Writing) (is : Bool) where
+module _ {S W R X : Type 0} (stored : S → Kept (At Block)) (left : W → Left (At Block)) (watch : S → Watch) (watch_left : W → Watch) (stored_2 : R → Kept (At Finalization)) (left_2 : X → Left (At Finalization)) (watch_2 : R → Watch) (watch_left_2 : X → Watch) (old new : Place S W) (old_2 new_2 : Place R X) {processed : Option Processed} {cutoff : Cutoff} {witnessed : Round} {pairs : List Pair} {waits : HeldCache} {lowest : ℕ} {lowests : List ℕ} {writes : Writing} {meta cache : Watch} {was : Bool} (later : Writing) (is : Bool) where
   both_surer : (start : Held) (all : Written) → Grew start all (life (kept_at stored left old) (watch_at watch watch_left old) (kept_at stored_2 left_2 old_2) (watch_at watch_2 watch_left_2 old_2) processed cutoff witnessed pairs waits lowest lowests writes meta cache was) → SurerIn stored left watch watch_left old new → SurerIn stored_2 left_2 watch_2 watch_left_2 old_2 new_2 → Grew start all (life (kept_at stored left new) (watch_at watch watch_left new) (kept_at stored_2 left_2 new_2) (watch_at watch_2 watch_left_2 new_2) processed cutoff witnessed pairs waits lowest lowests later meta cache is)
   both_surer start all grew first second =
       let g = Grew-surer_certs start all _ (Grew-surer_blocks start all _ grew _ _ first.nested first.surer first.passed) _ _ second.nested second.surer second.passed in

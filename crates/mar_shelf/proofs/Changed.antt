@@ -1,30 +1,32 @@
 -- What a change of an archive comes to for the stores of a life.
-use Rattle.std.proofs.Common.{◌∷◌, [], ℕ, Bool, List, Option, Result}
+use Rattle.std.proofs.Common.{◌∷◌, [], ℕ, Bool, List, Option, Result, ◌≡◌, subst, sym}
 use Rattle.std.specs.Prelude.{IfErr, OnOk}
 use Rattle.mar_types.specs.Round.{Round}
 use Rattle.mar_cert.specs.Block.{Block}
 use Rattle.mar_cert.specs.Finalization.{Finalization}
 use Rattle.mar_key.specs.Cutoff.{Cutoff}
 use Rattle.mar_key.specs.Processed.{Processed}
-use Rattle.mar_store.specs.Changes.{IsNested, Left, Puts}
+use Rattle.mar_store.specs.Changes.{IsNested, Left, Puts, left_of}
 use Rattle.mar_store.specs.Kept.{At, Kept}
 use Rattle.mar_store.specs.Watch.{Watch}
-use Rattle.mar_node.specs.Cached.{Cached}
 use Rattle.mar_node.specs.Faults.{Fault, block_store, cert_store}
-use Rattle.mar_node.specs.Held.{GoesOn, Passes, written_block, written_cert}
+use Rattle.mar_node.specs.Held.{GoesOn, Passes, written_block, written_cert, HeldCache, LeavesCache, nothing_written}
 use Rattle.mar_node.specs.Metadata.{Pair}
 use Rattle.mar_node.specs.Moves.{StoresValue}
 use Rattle.mar_node.specs.Places.{kept_at, watch_at}
 use Rattle.mar_node.specs.Writing.{Writing}
 use Rattle.mar_node.specs.declared.Place.{Place}
-use Rattle.mar_node.proofs.Growing.{Grew-put_block, Grew-put_cert, Grew-surer_blocks, Grew-surer_certs}
+use Rattle.mar_node.proofs.Growing.{Grew-put_block, Grew-put_cert, Grew-surer_blocks, Grew-surer_certs, Grew-loaded}
 use Rattle.mar_node.proofs.Passing.{Passes-refl}
-use Rattle.mar_node.proofs.StoreLosses.{Loses-blocks, Loses-certs}
+use Rattle.mar_node.proofs.StoreLosses.{Loses-blocks, Loses-certs, Loses-cache}
 use Rattle.mar_shelf.proofs.Placed.{both_done, by_answer, nested_before, nested_in, stored_puts, stored_surer}
 use Rattle.mar_shelf.proofs.Reading.{life}
 use Rattle.mar_shelf.specs.Pooling.{FailsIn, StaysIn}
+use Rattle.mar_node.specs.AllEntries.{LeavesEntries}
+use Rattle.mar_node.specs.CacheCalls.{none_goes}
+use Rattle.mar_shelf.specs.Caching.{FailsCache}
 
-module _ {X C : Type 0} (fault : C → Fault) (r : Result X C) {processed : Option Processed} {cutoff : Cutoff} {witnessed : Round} {pairs : List Pair} {waits : Left Cached} {lowest : ℕ} {lowests : List ℕ} {writes : Writing} {meta cache : Watch} {was : Bool} (later : Writing) (is : Bool) where
+module _ {X C : Type 0} (fault : C → Fault) (r : Result X C) {processed : Option Processed} {cutoff : Cutoff} {witnessed : Round} {pairs : List Pair} {waits : HeldCache} {lowest : ℕ} {lowests : List ℕ} {writes : Writing} {meta cache : Watch} {was : Bool} (later : Writing) (is : Bool) where
   -- of the blocks
   module _ {S W : Type 0} (stored : S → Kept (At Block)) (left : W → Left (At Block)) (watch : S → Watch) (watch_left : W → Watch) (x : At Block) (old new : Place S W) {certs : Kept (At Finalization)} {of_certs : Watch} (ignored : Bool) (passed : OnOk r (Passes (watch_at watch watch_left old) (watch_at watch watch_left new))) (failed : IfErr r (λ e. FailsIn block_store stored left watch watch_left (x ∷ []) old new (fault e))) where
     -- a block was put
@@ -50,3 +52,16 @@ module _ {X C : Type 0} (fault : C → Fault) (r : Result X C) {processed : Opti
     store_cert_goes_on number covers law stays stores start all grew within = by_answer r (both_done _ _ r (both_done _ _ r stays stores) passed) failed
         (λ ok. let g = Grew-surer_certs start all _ (Grew-put_cert start all _ grew _ x _ _ within.certs (stored_puts ok.0.1) ok.1) _ _ (nested_in stored number covers left law _ _ ok.0.0) (stored_surer ok.0.1 (nested_before stored number covers left law _ _ ok.0.0) (nested_in stored number covers left law _ _ ok.0.0)) (Passes-refl _) in record { leaves = g.leaves; blocks = g.blocks; certs = g.certs; passed = g.passed })
         (λ e how. Loses-certs start all _ grew _ _ _ _ within.certs how.fails how.cause)
+
+-- what was left of the cache was taken up, or a part of it
+pub load_goes_on : {X C : Type 0} (fault : C → Fault) (r : Result X C) {blocks : Kept (At Block)} {certs : Kept (At Finalization)} {of_blocks of_certs meta w : Watch} {processed : Option Processed} {cutoff : Cutoff} {witnessed : Round} {pairs : List Pair} {writes : Writing} {was : Bool} (now : Watch) (is : Bool) (old new : HeldCache) (lowest lowest' : ℕ) (lowests lowests' : List ℕ)
+    → OnOk r (LeavesEntries [] none_goes old.kept new.kept.sure new.kept.may) → OnOk r (lowests' ≡ lowests) → OnOk r (Passes w now) → IfErr r (λ e. FailsCache [] none_goes old.kept lowests w new.kept lowests' now (fault e))
+    → GoesOn fault (life blocks of_blocks certs of_certs processed cutoff witnessed pairs old lowest lowests writes meta w was) nothing_written (life blocks of_blocks certs of_certs processed cutoff witnessed pairs new lowest' lowests' writes meta now is) r
+load_goes_on fault r {w = w} now is old new lowest lowest' lowests lowests' leaves stays passed failed start all grew within = by_answer r (both_done _ _ r (both_done _ _ r leaves stays) passed) failed
+    (λ ok. let g = Grew-loaded start all _ grew new now ok.0.0 ok.1 in record {
+      leaves = record { blocks = g.leaves.blocks; certs = g.leaves.certs; pairs = g.leaves.pairs; cache = subst (λ ls. LeavesCache (left_of start.cache.kept) start.lowests all.cached all.prunes (left_of new.kept) ls) (sym ok.0.1) g.leaves.cache };
+      blocks = g.blocks;
+      certs = g.certs;
+      passed = g.passed;
+    })
+    (λ e how. Loses-cache start all _ grew (left_of new.kept) lowests' (fault e) now how.loses.leaves how.loses.lowests how.cause)

@@ -6,3 +6,4 @@ pub mod Both
 pub mod Opened
 pub mod Reading
 pub mod Changed
+pub mod Caches

@@ -11,7 +11,7 @@ use Rattle.mar_store.specs.Kept.{At, Kept}
 use Rattle.mar_store.specs.Watch.{Watch}
 use Rattle.mar_node.specs.Cached.{Cached}
 use Rattle.mar_node.specs.Faults.{Fault, StoreName}
-use Rattle.mar_node.specs.Held.{GoesOn, Held, Passes, Progress, nothing_written, watch_of}
+use Rattle.mar_node.specs.Held.{GoesOn, Held, Passes, Progress, nothing_written, watch_of, HeldCache}
 use Rattle.mar_node.specs.Metadata.{Pair}
 use Rattle.mar_node.specs.Places.{is_open, kept_at}
 use Rattle.mar_node.specs.Writing.{Writing}
@@ -27,7 +27,7 @@ pub read_goes_on : {X C : Type 0} (fault : C → Fault) (s : StoreName) (old new
 read_goes_on fault s old new w r same passed failed = rw same (λ start all grew within. by_answer r passed failed (λ passed. Grew-counted start all old grew s w passed) (λ e how. Loses-missed start all old grew s (fault e) w _ refl how))
 
 -- the stores of a life by their parts
-abbrev pub life : Kept (At Block) → Watch → Kept (At Finalization) → Watch → Option Processed → Cutoff → Round → List Pair → Left Cached → ℕ → List ℕ → Writing → Watch → Watch → Bool → Held
+abbrev pub life : Kept (At Block) → Watch → Kept (At Finalization) → Watch → Option Processed → Cutoff → Round → List Pair → HeldCache → ℕ → List ℕ → Writing → Watch → Watch → Bool → Held
 life blocks of_blocks certs of_certs processed cutoff witnessed pairs waits lowest lowests writes meta cache intact = record {
   blocks = blocks;
   certs = certs;
@@ -44,7 +44,7 @@ life blocks of_blocks certs of_certs processed cutoff witnessed pairs waits lowe
 }
 
 -- what is held stays where the blocks or the finalizations were read
-module _ {S W : Type 0} {of_blocks of_certs meta cache : Watch} {processed : Option Processed} {cutoff : Cutoff} {witnessed : Round} {pairs : List Pair} {waits : Left Cached} {lowest : ℕ} {lowests : List ℕ} {writes : Writing} where
+module _ {S W : Type 0} {of_blocks of_certs meta cache : Watch} {processed : Option Processed} {cutoff : Cutoff} {witnessed : Round} {pairs : List Pair} {waits : HeldCache} {lowest : ℕ} {lowests : List ℕ} {writes : Writing} where
   pub blocks_read : (stored : S → Kept (At Block)) (number : S → ℕ) (covers : S → ℕ → List (At Block)) (left : W → Left (At Block)) {certs : Kept (At Finalization)} (rest : Bool) (old new : Place S W) → IsReadIn stored number covers left old new
       → life (kept_at stored left new) of_blocks certs of_certs processed cutoff witnessed pairs waits lowest lowests writes meta cache (is_open new && rest)
       ≡ life (kept_at stored left old) of_blocks certs of_certs processed cutoff witnessed pairs waits lowest lowests writes meta cache (is_open old && rest)
@@ -56,7 +56,7 @@ module _ {S W : Type 0} {of_blocks of_certs meta cache : Watch} {processed : Opt
   certs_read stored number covers left here rest old new read = rw (read_same stored number covers left old new read, read_open stored number covers left old new read) refl
 
 -- a store that is there still is changed in what it keeps, or in what waits for a sync, and in nothing else
-module _ {blocks : Kept (At Block)} {certs : Kept (At Finalization)} {of_blocks of_certs meta cache : Watch} {processed : Option Processed} {cutoff : Cutoff} {witnessed : Round} {pairs : List Pair} {waits : Left Cached} {lowest : ℕ} {lowests : List ℕ} {writes : Writing} (rest : Bool) {a b : Bool} where
+module _ {blocks : Kept (At Block)} {certs : Kept (At Finalization)} {of_blocks of_certs meta cache : Watch} {processed : Option Processed} {cutoff : Cutoff} {witnessed : Round} {pairs : List Pair} {waits : HeldCache} {lowest : ℕ} {lowests : List ℕ} {writes : Writing} (rest : Bool) {a b : Bool} where
   pub blocks_still : {later : Writing} → a ≡ b → later ≡ writes → life blocks of_blocks certs of_certs processed cutoff witnessed pairs waits lowest lowests later meta cache (a && rest) ≡ life blocks of_blocks certs of_certs processed cutoff witnessed pairs waits lowest lowests writes meta cache (b && rest)
   blocks_still still writing = rw (still, writing) refl
 
@@ -71,8 +71,20 @@ module _ {blocks : Kept (At Block)} {certs : Kept (At Finalization)} {of_blocks 
   pub both_same : {was : Kept (At Block)} {were : Kept (At Finalization)} {later : Writing} {c d : Bool} → was ≡ blocks → were ≡ certs → a ≡ b → c ≡ d → later ≡ writes → life was of_blocks were of_certs processed cutoff witnessed pairs waits lowest lowests later meta cache (a && (c && rest)) ≡ life blocks of_blocks certs of_certs processed cutoff witnessed pairs waits lowest lowests writes meta cache (b && (d && rest))
   both_same first second here there writing = rw (first, second, here, there, writing) refl
 
+-- the cache was read
+pub cache_read : {blocks : Kept (At Block)} {certs : Kept (At Finalization)} {of_blocks of_certs meta w : Watch} {processed : Option Processed} {cutoff : Cutoff} {witnessed : Round} {pairs : List Pair} {waits now : HeldCache} {lowest lowest' : ℕ} {lowests lowests' : List ℕ} {writes : Writing} {near near' : Bool} (here there rest : Bool) → (now ≡ waits) × (lowest' ≡ lowest) × (lowests' ≡ lowests) × (near' ≡ near)
+    → life blocks of_blocks certs of_certs processed cutoff witnessed pairs now lowest' lowests' writes meta w (here && (there && (near' && rest)))
+    ≡ life blocks of_blocks certs of_certs processed cutoff witnessed pairs waits lowest lowests writes meta w (here && (there && (near && rest)))
+cache_read here there rest (waits, lowest, lowests, near) = rw (waits, lowest, lowests, near) refl
+
+-- it was changed, and has the same lowest epoch
+pub cache_changed : {blocks : Kept (At Block)} {certs : Kept (At Finalization)} {of_blocks of_certs meta w : Watch} {processed : Option Processed} {cutoff : Cutoff} {witnessed : Round} {pairs : List Pair} {waits : HeldCache} {lowest lowest' : ℕ} {lowests lowests' : List ℕ} {writes : Writing} {near near' : Bool} (here there rest : Bool) → lowest' ≡ lowest → lowests' ≡ lowests → near' ≡ near
+    → life blocks of_blocks certs of_certs processed cutoff witnessed pairs waits lowest' lowests' writes meta w (here && (there && (near' && rest)))
+    ≡ life blocks of_blocks certs of_certs processed cutoff witnessed pairs waits lowest lowests writes meta w (here && (there && (near && rest)))
+cache_changed here there rest lowest lowests near = rw (lowest, lowests, near) refl
+
 -- the metadata is as it was to be
-pub progress_is : {blocks : Kept (At Block)} {certs : Kept (At Finalization)} {of_blocks of_certs cache : Watch} {waits : Left Cached} {lowest : ℕ} {lowests : List ℕ} {writes : Writing} {now wanted : Progress} (here there : Bool) → now ≡ wanted
-    → life blocks of_blocks certs of_certs now.processed now.cutoff now.witnessed now.pairs waits lowest lowests writes now.watch cache (here && (there && now.intact))
-    ≡ life blocks of_blocks certs of_certs wanted.processed wanted.cutoff wanted.witnessed wanted.pairs waits lowest lowests writes now.watch cache (here && (there && wanted.intact))
-progress_is here there is = rw is refl
+pub progress_is : {blocks : Kept (At Block)} {certs : Kept (At Finalization)} {of_blocks of_certs cache : Watch} {waits : HeldCache} {lowest : ℕ} {lowests : List ℕ} {writes : Writing} {now wanted : Progress} (here there near : Bool) → now ≡ wanted
+    → life blocks of_blocks certs of_certs now.processed now.cutoff now.witnessed now.pairs waits lowest lowests writes now.watch cache (here && (there && (near && now.intact)))
+    ≡ life blocks of_blocks certs of_certs wanted.processed wanted.cutoff wanted.witnessed wanted.pairs waits lowest lowests writes now.watch cache (here && (there && (near && wanted.intact)))
+progress_is here there near is = rw is refl

@@ -9,9 +9,8 @@ use Rattle.mar_store.specs.Tickets.{KeepsCovers, last_number}
 use Rattle.mar_store.specs.Values.{LeavesValues, Values}
 use Rattle.mar_store.specs.Watch.{Watch}
 use Rattle.mar_store.specs.declared.Miss.{Miss}
-use Rattle.mar_node.specs.Cached.{Cached, IsUnloaded}
-use Rattle.mar_node.specs.Faults.{Fault, StoreName, block_store, cache_store, cert_store, meta_store, store_fault, want_of_memory}
-use Rattle.mar_node.specs.Held.{Breaks, LeavesUnloaded, MakesSure, Passes, Progress, missed_fault, progress_of}
+use Rattle.mar_node.specs.Faults.{Fault, StoreName, block_store, cert_store, meta_store, store_fault, want_of_memory}
+use Rattle.mar_node.specs.Held.{Breaks, MakesSure, Passes, Progress, missed_fault, progress_of}
 use Rattle.mar_node.specs.Metadata.{pair_at}
 use Rattle.mar_node.specs.Node.{SureOrWritten}
 use Rattle.mar_node.specs.Places.{is_open, kept_at, watch_at}
@@ -170,14 +169,3 @@ pub record ClosesPairs {W : Type 0} (left : W → List Values) (watch : W → Wa
   pub may : Contains (left old) values
   pub is : map pair_at (left new) ≡ pair_at values ∷ []
   pub passed : Passes (watch old) (watch new)
-
--- and of the cache: what a crash left of it waits
-pub record OpensShelf {H Z : Type 0} (left : H → Left Cached) (lowest : H → ℕ) (was_left : Z → Left Cached) (lowests : Z → List ℕ) (watch : H → Watch)
-    (watch_left : Z → Watch) (wreck : Z) (shelf : H) : Type 0 where
-  pub waits : IsUnloaded (was_left wreck).sure (was_left wreck).may (left shelf)
-  pub lowest_was : Contains (lowests wreck) (lowest shelf)
-  pub passed : Passes (watch_left wreck) (watch shelf)
-
-pub record UnopensShelf {Z : Type 0} (left : Z → Left Cached) (lowests : Z → List ℕ) (watch : Z → Watch) (old new : Z) (fault : Fault) : Type 0 where
-  pub leaves : LeavesUnloaded (left old) (left new) (lowests old) (lowests new)
-  pub cause : IsFaultOf cache_store (watch old) fault (watch new)

@@ -233,7 +233,7 @@ pub fn answered<X, C: Named>(answer: Result<X, Miss>, store: StoreName) -> Resul
 }
 
 /// Puts what is left of a lost store in its place.
-fn lose<S: Drop, W: Drop, C: Named>(
+pub fn lose<S: Drop, W: Drop, C: Named>(
     place: &mut Place<S, W>,
     lost: Lost<W>,
     store: StoreName,

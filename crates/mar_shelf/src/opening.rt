@@ -1,12 +1,14 @@
 //! What a crash left of stores is opened, two at a time.
-ghost use Rattle.std.specs.Prelude.{◌≡◌, ◌⊎◌, IfErr, IfOk, map};
+ghost use Rattle.std.specs.Prelude.{◌≡◌, ◌⊎◌, IfErr, IfOk};
 ghost use Rattle.mar_node.specs.Faults.{block_store, cert_store};
-ghost use Rattle.mar_shelf.specs.Pooling.{Closes, ClosesPairs, Opens, OpensPairs, OpensShelf, Unopens, UnopensPairs, UnopensShelf};
+ghost use Rattle.mar_shelf.specs.Pooling.{Closes, ClosesPairs, Opens, OpensPairs, Unopens, UnopensPairs};
+ghost use Rattle.mar_shelf.specs.Caching.{ClosesCache, OpensCache};
 ghost use Rattle.mar_node.specs.Views.{fault_of};
 
-use crate::Shelf;
+use crate::LifeCache;
 use crate::in_place::lost_by;
 use crate::keeps::Keeps;
+use mar_block::Variant;
 use mar_cert::CommitsTo;
 use mar_node::{Fault, Progress, StoreName};
 use mar_store::Meta;
@@ -59,16 +61,17 @@ pub fn archives<T, S: Keeps<T>, U, R: Keeps<U>, C: Named>(
 }
 
 /// Opens what a crash left of the metadata, and then of the cache.
-pub fn progress<M: Meta, H: Shelf, C: Named, F: CommitsTo<C>>(
+pub fn progress<V: Variant, F: CommitsTo<V::Commitment>, M: Meta, H: LifeCache<V>>(
     meta: M::Wreck,
-    shelf: H::Wreck,
+    cache: H::Ruin,
     luck: u64,
-) -> Result<(Progress<M, C, F>, H), Unopened<C, M::Wreck, H::Wreck>>
+) -> Result<(Progress<M, V::Commitment, F>, H), Unopened<V::Commitment, M::Wreck, H::Ruin>>
     ensures pairs { IfOk result (λ p. OpensPairs (M.Wreck.left meta) (M.Wreck.watch meta) luck p.0) }
-    ensures shelf { IfOk result (λ p. OpensShelf H.left H.lowest H.Wreck.left H.Wreck.lowests H.watch H.Wreck.watch shelf p.1) }
-    ensures lost { IfErr result (λ e. UnopensPairs M.Wreck.left M.Wreck.watch meta e.first (fault_of C.bytes e.fault) × (e.second ≡ shelf)
+    ensures cache { IfOk result (λ p. OpensCache H.held H.lowest H.lowests H.intact H.Ruin.left H.Ruin.lowests
+        H.watch H.Ruin.watch luck cache p.1) }
+    ensures lost { IfErr result (λ e. UnopensPairs M.Wreck.left M.Wreck.watch meta e.first (fault_of V.Commitment.bytes e.fault) × (e.second ≡ cache)
         ⊎ ClosesPairs M.Wreck.left M.Wreck.watch meta e.first
-        × UnopensShelf H.Wreck.left H.Wreck.lowests H.Wreck.watch shelf e.second (fault_of C.bytes e.fault)) }
+        × ClosesCache H.Ruin.left H.Ruin.lowests H.Ruin.watch cache e.second (fault_of V.Commitment.bytes e.fault)) }
 {
     let progress = match M::reopen(meta, luck) {
         Ok(meta) => Progress::new(meta),
@@ -77,12 +80,12 @@ pub fn progress<M: Meta, H: Shelf, C: Named, F: CommitsTo<C>>(
             return Err(Unopened {
                 fault,
                 first,
-                second: shelf,
+                second: cache,
             });
         }
     };
-    match H::reopen(shelf, luck) {
-        Ok(shelf) => Ok((progress, shelf)),
+    match H::reopen(cache, luck) {
+        Ok(cache) => Ok((progress, cache)),
         Err(lost) => {
             let (fault, second) = lost_by(lost, StoreName::Cache);
             Err(Unopened {

@@ -1,8 +1,8 @@
 //! What is left where no life runs.
-use crate::{Blocks, Certificates, Shelf};
+use crate::{Blocks, Certificates, LifeCache};
 use mar_block::Variant;
 use mar_cert::CommitsTo;
-use mar_node::{ShownRuins, StoreName, StoresRuin, synced_cutoff, synced_height};
+use mar_node::{ShelfRuin, ShownRuins, StoreName, StoresRuin, synced_cutoff, synced_height};
 use mar_store::{ArchiveRuin, Meta, MetaRuin};
 use std::alloc::AllocError;
 use std::marker::Model;
@@ -15,7 +15,7 @@ pub struct Ruins<
     FB: Blocks<V>,
     FC: Certificates<V, F>,
     M: Meta,
-    H: Shelf,
+    H: LifeCache<V>,
 > {
     /// What is left of the finalized blocks.
     pub blocks: FB::Wreck,
@@ -24,7 +24,7 @@ pub struct Ruins<
     /// What is left of the metadata.
     pub meta: M::Wreck,
     /// What is left of the cache.
-    pub shelf: H::Wreck,
+    pub cache: H::Ruin,
 }
 
 impl<
@@ -33,7 +33,7 @@ impl<
     FB: Blocks<V>,
     FC: Certificates<V, F>,
     M: Meta,
-    H: Shelf,
+    H: LifeCache<V>,
 > Model for Ruins<V, F, FB, FC, M, H> {
     ghost use Rattle.std.specs.Prelude.{map};
     ghost use Rattle.mar_node.specs.Metadata.{pair_at};
@@ -42,9 +42,9 @@ impl<
     ghost Value = { Remains };
 
     ghost view = { λ r. record {
-      ended = ended_of (FB.Wreck.left r.blocks) (FC.Wreck.left r.certs) (H.Wreck.left r.shelf) (H.Wreck.lowests r.shelf)
+      ended = ended_of (FB.Wreck.left r.blocks) (FC.Wreck.left r.certs) (H.Ruin.left r.cache) (H.Ruin.lowests r.cache)
           (map pair_at (M.Wreck.left r.meta));
-      watches = record { blocks = FB.Wreck.watch r.blocks; certs = FC.Wreck.watch r.certs; meta = M.Wreck.watch r.meta; cache = H.Wreck.watch r.shelf };
+      watches = record { blocks = FB.Wreck.watch r.blocks; certs = FC.Wreck.watch r.certs; meta = M.Wreck.watch r.meta; cache = H.Ruin.watch r.cache };
     } };
 }
 
@@ -54,7 +54,7 @@ impl<
     FB: Blocks<V>,
     FC: Certificates<V, F>,
     M: Meta,
-    H: Shelf,
+    H: LifeCache<V>,
 > StoresRuin for Ruins<V, F, FB, FC, M, H> {
     ghost left = { λ r. r };
 
@@ -63,7 +63,7 @@ impl<
             StoreName::Blocks => self.blocks.arm(calls),
             StoreName::Certs => self.certs.arm(calls),
             StoreName::Meta => self.meta.arm(calls),
-            StoreName::Cache => Ok(()),
+            StoreName::Cache => self.cache.arm(calls),
         }
     }
 

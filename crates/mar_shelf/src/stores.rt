@@ -1,13 +1,20 @@
 //! The four stores of a life.
+ghost use Rattle.std.specs.Prelude.{◌≡◌, IfErr, IfOk, OnOk, option_and_then, option_map};
+ghost use Rattle.mar_node.specs.AllEntries.{soonest};
+ghost use Rattle.mar_node.specs.Cached.{cached_block};
+ghost use Rattle.mar_node.specs.Entries.{is_sought, sought_block};
+ghost use Rattle.mar_node.specs.Held.{GoesOn, IsUsual, nothing_written};
+ghost use Rattle.mar_node.specs.Views.{fault_of};
+
 use crate::in_place::{self, answered};
 use crate::item::{BlockItem, CertificateItem};
 use crate::opening::{self, Unopened};
 use crate::ruins::Ruins;
-use crate::{Blocks, Certificates, Shelf, blocks_in_place, certificates_in_place, syncs};
+use crate::{Blocks, Certificates, LifeCache, blocks_in_place, certificates_in_place, syncs};
 use mar_block::Variant;
 use mar_cert::CommitsTo;
 use mar_key::Cutoff;
-use mar_node::{Ended, Fault, Holds, Place, Progress, Staged, State, StoreName, Writes};
+use mar_node::{BlockName, Ended, Fault, Holds, Place, Progress, Staged, State, StoreName, Writes};
 use mar_store::{Meta, RangeSet};
 use mar_types::{Height, Round};
 use std::alloc::{AllocError, Global};
@@ -24,14 +31,14 @@ pub struct Stores<
     FB: Blocks<V>,
     FC: Certificates<V, F>,
     M: Meta,
-    H: Shelf,
+    H: LifeCache<V>,
 > {
     blocks: Place<FB, FB::Wreck>,
     certs: Place<FC, FC::Wreck>,
     writes: Writes,
     staged: Staged<V::Block>,
     progress: Progress<M, V::Commitment, F>,
-    shelf: H,
+    cache: H,
     of: PhantomData<(V, F)>,
 }
 
@@ -41,13 +48,13 @@ impl<
     FB: Blocks<V>,
     FC: Certificates<V, F>,
     M: Meta,
-    H: Shelf,
+    H: LifeCache<V>,
 > Model for Stores<V, F, FB, FC, M, H> {
     ghost use Rattle.mar_node.specs.Pool.{writing_of};
     ghost use Rattle.mar_node.specs.Places.{is_open, kept_at, watch_at};
     ghost use Rattle.mar_shelf.specs.Pooling.{AreHeldIn, AwaitsIn, of_blocks, of_certs};
     ghost use Rattle.mar_shelf.specs.Views.{Stock};
-    ghost use Rattle.std.specs.Prelude.{◌&&◌, ◌∷◌, []};
+    ghost use Rattle.std.specs.Prelude.{◌&&◌};
 
     ghost Value = { Stock V.Block };
 
@@ -59,17 +66,17 @@ impl<
         cutoff = s.progress.cutoff;
         witnessed = s.progress.witnessed;
         pairs = s.progress.pairs;
-        cache = H.left s.shelf;
-        lowest = H.lowest s.shelf;
-        lowests = H.lowest s.shelf ∷ [];
+        cache = H.held s.cache;
+        lowest = H.lowest s.cache;
+        lowests = H.lowests s.cache;
         writes = writing_of s.writes;
         watches = record {
           blocks = watch_at FB.watch FB.Wreck.watch s.blocks;
           certs = watch_at FC.watch FC.Wreck.watch s.certs;
           meta = s.progress.watch;
-          cache = H.watch s.shelf;
+          cache = H.watch s.cache;
         };
-        intact = is_open s.blocks && (is_open s.certs && s.progress.intact);
+        intact = is_open s.blocks && (is_open s.certs && (H.intact s.cache && s.progress.intact));
       };
       staged = s.staged;
     } };
@@ -85,7 +92,7 @@ impl<
     FB: Blocks<V>,
     FC: Certificates<V, F>,
     M: Meta,
-    H: Shelf,
+    H: LifeCache<V>,
 > Holds<V> for Stores<V, F, FB, FC, M, H> {
     type Ruins = Ruins<V, F, FB, FC, M, H>;
 
@@ -105,7 +112,7 @@ impl<
             blocks,
             certs,
             meta,
-            shelf,
+            cache,
         } = ruins;
         let (blocks, certs) = match opening::archives::<
             BlockItem<V>,
@@ -128,26 +135,26 @@ impl<
                         blocks,
                         certs,
                         meta,
-                        shelf,
+                        cache,
                     },
                 });
             }
         };
-        match opening::progress::<M, H, V::Commitment, F>(meta, shelf, luck) {
-            Ok((progress, shelf)) => Ok(Stores {
+        match opening::progress::<V, F, M, H>(meta, cache, luck) {
+            Ok((progress, cache)) => Ok(Stores {
                 blocks: Place::Open(blocks),
                 certs: Place::Open(certs),
                 writes: Writes::new(alloc),
                 staged: Staged::new(alloc, max_staged),
                 progress,
-                shelf,
+                cache,
                 of: PhantomData,
             }),
             Err(unopened) => {
                 let Unopened {
                     fault,
                     first: meta,
-                    second: shelf,
+                    second: cache,
                 } = unopened;
                 Err(Ended {
                     fault,
@@ -155,7 +162,7 @@ impl<
                         blocks: blocks.wreck(),
                         certs: certs.wreck(),
                         meta,
-                        shelf,
+                        cache,
                     },
                 })
             }
@@ -169,14 +176,14 @@ impl<
             writes: _writes,
             staged: _staged,
             progress,
-            shelf,
+            cache,
             of: _of,
         } = self;
         Ruins {
             blocks: in_place::left::<BlockItem<V>, FB>(blocks),
             certs: in_place::left::<CertificateItem<V, F>, FC>(certs),
             meta: progress.wreck(),
-            shelf: shelf.wreck(),
+            cache: cache.wreck(),
         }
     }
 
@@ -189,7 +196,7 @@ impl<
             StoreName::Blocks => in_place::arm::<BlockItem<V>, FB>(&mut self.blocks, calls),
             StoreName::Certs => in_place::arm::<CertificateItem<V, F>, FC>(&mut self.certs, calls),
             StoreName::Meta => self.progress.arm(calls),
-            StoreName::Cache => Ok(()),
+            StoreName::Cache => self.cache.arm(calls),
         }
     }
 
@@ -243,6 +250,28 @@ impl<
 
     fn block_of(&mut self, digest: &V::Digest) -> Result<Option<V::Block>, Fault<V::Commitment>> {
         blocks_in_place::of::<V, FB>(&mut self.blocks, digest)
+    }
+
+    fn load_cache(&mut self) -> Result<(), Fault<V::Commitment>> {
+        self.cache.load()
+    }
+
+    fn cached_block(
+        &mut self,
+        name: BlockName<V::Digest, V::Commitment>,
+    ) -> Result<Option<V::Block>, Fault<V::Commitment>>
+        ensures staged { self.new.staged ≡ self.old.staged }
+        ensures found { IfOk result (λ r. option_map V.plain r ≡ option_and_then cached_block (soonest (is_sought V.Digest.bytes V.Commitment.bytes V.inner
+            (sought_block name)) self.old.held.cache.kept.held)) }
+        ensures same { OnOk result (self.new.held ≡ record self.old.held { watches = self.new.held.watches }) }
+        ensures goes_on { GoesOn (fault_of V.Commitment.bytes) self.old.held nothing_written self.new.held result }
+        ensures usual { IfErr result (λ e. IsUsual (fault_of V.Commitment.bytes e)) }
+    {
+        self.cache.find_block(name)
+    }
+
+    fn cached_verified(&mut self, round: Round) -> Result<Option<V::Block>, Fault<V::Commitment>> {
+        self.cache.find_verified(round)
     }
 
     fn certificate_at(&mut self, height: Height) -> Result<Option<F>, Fault<V::Commitment>> {

@@ -2,6 +2,7 @@ use Rattle.std.proofs.Common.{◌∙◌, ap, inl, inr, refl, subst, sym}
 use Rattle.mar_node.specs.Faults.{cache_store, meta_store}
 use Rattle.mar_node.specs.Held.{Passes}
 use Rattle.mar_node.proofs.Passing.{Passes-one, by_lost}
+use Rattle.mar_shelf.proofs.Caches.{unloaded_so}
 use Rattle.mar_shelf.proofs.opening.progress.Goals as goal
 
 pub returns-in-Err-clause-lost : goal.returns-in-Err-clause-lost
@@ -17,8 +18,17 @@ returns-in-Ok-reopen-clause-pairs g c = record {
   lucky = c.in-Ok.ensures.lucky;
 }
 
-pub returns-in-Ok-reopen-clause-shelf : goal.returns-in-Ok-reopen-clause-shelf
-returns-in-Ok-reopen-clause-shelf g c = record { waits = c.in-Ok-reopen.ensures.waits; lowest_was = c.in-Ok-reopen.ensures.lowest; passed = Passes-one _ _ c.in-Ok-reopen.ensures.watched.0 c.in-Ok-reopen.ensures.watched.1 }
+pub returns-in-Ok-reopen-clause-cache : goal.returns-in-Ok-reopen-clause-cache
+returns-in-Ok-reopen-clause-cache g c = record {
+  found = c.in-Ok-reopen.ensures.done;
+  nested = (g.met.H.LifeCache.nested c.in-Ok-reopen.cache).sure_may;
+  lowest_was = c.in-Ok-reopen.ensures.lowest;
+  lowest_is = g.met.H.LifeCache.lowest_there c.in-Ok-reopen.cache c.in-Ok-reopen.ensures.intact;
+  fresh_is = c.in-Ok-reopen.ensures.fresh.0;
+  picked = c.in-Ok-reopen.ensures.picked;
+  intact_is = c.in-Ok-reopen.ensures.intact;
+  passed = Passes-one _ _ c.in-Ok-reopen.ensures.watched.0 c.in-Ok-reopen.ensures.watched.1;
+}
 
 pub returns-in-Err-reopen-clause-lost : goal.returns-in-Err-reopen-clause-lost
 returns-in-Err-reopen-clause-lost g c = rw (c.lost_by-fault-in-Err-reopen.ensures.fault, c.lost_by-fault-in-Err-reopen.ensures.wreck) (inr (
@@ -28,5 +38,5 @@ returns-in-Err-reopen-clause-lost g c = rw (c.lost_by-fault-in-Err-reopen.ensure
     is = c.wreck.ensures.left ∙ ap (λ p. p.pairs) c.new-progress.ensures;
     passed = subst (Passes (g.M.Wreck.MetaRuin.watch c.args.meta)) (sym (c.wreck.ensures.watch ∙ ap (λ p. p.watch) c.new-progress.ensures)) (Passes-one _ _ c.in-Ok.ensures.watched.0 c.in-Ok.ensures.watched.1);
   },
-  record { leaves = c.in-Err-reopen.ensures.lost; cause = by_lost g.H.Shelf.watch g.H.Wreck.ShelfRuin.watch _ cache_store c.in-Err-reopen.lost c.in-Err-reopen.ensures.watched },
+  record { leaves = unloaded_so _ _ _ _ c.in-Err-reopen.ensures.lost; cause = by_lost g.H.LifeCache.watch g.H.Ruin.ShelfRuin.watch _ cache_store c.in-Err-reopen.lost c.in-Err-reopen.ensures.watched },
 ))

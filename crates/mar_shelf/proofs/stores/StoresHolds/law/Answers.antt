@@ -2,6 +2,7 @@ use Rattle.std.proofs.Common.{map}
 use Rattle.mar_store.specs.Changes.{IsNested}
 use Rattle.mar_node.specs.Stored.{AreSmall}
 use Rattle.mar_node.proofs.FoundBlocks.{are_small}
+use Rattle.mar_node.proofs.SmallFound.{small_held}
 use Rattle.mar_shelf.specs.Pooling.{of_blocks, of_certs}
 use Rattle.mar_shelf.proofs.InPlace.{first_of, kept_open, second_of, written_in}
 use Rattle.mar_shelf.proofs.stores.StoresHolds.law.Goals as goal
@@ -21,3 +22,6 @@ returns-clause-written g c = rw (← c.self.view_is) (λ intact. record {
   certs = written_in of_certs g.FC.Keeps.stored g.FC.Keeps.number g.FC.Keeps.covers g.FC.Wreck.ArchiveRuin.left c.self.inside.certs _ c.self.invariant.2 (second_of _ _ _ intact);
   ordered = c.law.ensures;
 })
+
+pub returns-clause-small_cached : goal.returns-clause-small_cached
+returns-clause-small_cached g c = rw (← c.self.view_is) (λ intact. small_held _ _ _ (g.met.H.LifeCache.nested c.self.inside.cache) (g.met.H.LifeCache.small c.self.inside.cache))

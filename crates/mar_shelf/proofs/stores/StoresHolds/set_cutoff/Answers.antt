@@ -3,6 +3,7 @@ use Rattle.mar_node.specs.Faults.{meta_store}
 use Rattle.mar_node.proofs.Growing.{Grew-set}
 use Rattle.mar_node.proofs.Passing.{Passes-refl}
 use Rattle.mar_node.proofs.StoreLosses.{Loses-meta}
+use Rattle.mar_node.specs.Places.{is_open}
 use Rattle.mar_node.specs.Views.{fault_of}
 use Rattle.mar_shelf.proofs.Answered.{answer_calm, answer_done, answer_left, with_left}
 use Rattle.mar_shelf.proofs.Reading.{progress_is}
@@ -16,7 +17,7 @@ pub returns-clause-staged : goal.returns-clause-staged
 returns-clause-staged g c = rw (← c.self.view_is) refl
 
 pub returns-clause-ok : goal.returns-clause-ok
-returns-clause-ok g c = rw (← c.self.view_is) (done_so c.answered.result (answer_done (fault_of g.V.Commitment.Named.bytes) meta_store _ c.set_cutoff.result c.answered.result c.answered.ensures c.set_cutoff.ensures.ok) (λ is. progress_is _ _ is))
+returns-clause-ok g c = rw (← c.self.view_is) (done_so c.answered.result (answer_done (fault_of g.V.Commitment.Named.bytes) meta_store _ c.set_cutoff.result c.answered.result c.answered.ensures c.set_cutoff.ensures.ok) (λ is. progress_is (is_open c.self.inside.blocks) (is_open c.self.inside.certs) (g.H.LifeCache.intact c.self.inside.cache) is))
 
 pub returns-clause-goes_on : goal.returns-clause-goes_on
 returns-clause-goes_on g c = rw (← c.self.view_is) (λ start all grew within. by_answer c.answered.result (answer_done (fault_of g.V.Commitment.Named.bytes) meta_store _ c.set_cutoff.result c.answered.result c.answered.ensures c.set_cutoff.ensures.ok)

@@ -2,6 +2,7 @@ use Rattle.std.proofs.Common.{refl}
 use Rattle.mar_node.specs.Faults.{meta_store}
 use Rattle.mar_node.proofs.Passing.{ArePassed-store}
 use Rattle.mar_node.proofs.StoreLosses.{Loses-meta}
+use Rattle.mar_node.specs.Places.{is_open}
 use Rattle.mar_node.specs.Views.{fault_of}
 use Rattle.mar_shelf.proofs.Answered.{answer_done, answer_idle, answer_left, answer_synced, with_left}
 use Rattle.mar_shelf.proofs.Placed.{done_so, failed_so, usual_fault}
@@ -15,7 +16,7 @@ pub returns-clause-staged : goal.returns-clause-staged
 returns-clause-staged g c = rw (← c.self.view_is) refl
 
 pub returns-clause-ok : goal.returns-clause-ok
-returns-clause-ok g c = rw (← c.self.view_is) (done_so c.answered.result (answer_done (fault_of g.V.Commitment.Named.bytes) meta_store _ c.sync.result c.answered.result c.answered.ensures c.sync.ensures.ok) (λ is. progress_is _ _ is))
+returns-clause-ok g c = rw (← c.self.view_is) (done_so c.answered.result (answer_done (fault_of g.V.Commitment.Named.bytes) meta_store _ c.sync.result c.answered.result c.answered.ensures c.sync.ensures.ok) (λ is. progress_is (is_open c.self.inside.blocks) (is_open c.self.inside.certs) (g.H.LifeCache.intact c.self.inside.cache) is))
 
 pub returns-clause-passed : goal.returns-clause-passed
 returns-clause-passed g c = rw (← c.self.view_is) (done_so c.answered.result (answer_idle (fault_of g.V.Commitment.Named.bytes) meta_store _ _ c.sync.result c.answered.result c.answered.ensures c.sync.ensures.watched) (λ passed. ArePassed-store _ meta_store _ passed))

@@ -1,0 +1,39 @@
+-- What calls of a cache in its place come to.
+use Rattle.std.proofs.Common.{◌≡◌, inr, ℕ, Bool, Contains, List, [], false, arith, refl, subst, sym}
+use Rattle.std.proofs.lemmas.List.Elements.{Contains-append_left}
+use Rattle.mar_store.specs.Changes.{Left}
+use Rattle.mar_store.specs.Kept.{Kept}
+use Rattle.mar_store.specs.Watch.{Watch}
+use Rattle.mar_node.specs.CacheCalls.{UnopensCache}
+use Rattle.mar_node.specs.Cached.{Cached}
+use Rattle.mar_node.specs.Faults.{want_of_memory}
+use Rattle.mar_node.specs.Held.{LeavesUnloaded}
+use Rattle.mar_node.specs.Places.{is_open, kept_at, watch_at}
+use Rattle.mar_node.specs.declared.Place.{Place}
+use Rattle.mar_node.specs.declared.Place.TheVariants.{Away, Lost, Open}
+use Rattle.mar_node.proofs.Passing.{Passes-refl}
+use Rattle.mar_shelf.specs.Caching.{FailsCache, lowests_at}
+
+none : {X P : Type 0} (x : X) → Contains [] x → P
+none x (k, lt, is) = absurd (omega (arith, lt))
+
+-- what a reopening that failed leaves waits
+pub unloaded_so : (old : Left Cached) (were : List ℕ) (left : Left Cached) (now : List ℕ) → UnopensCache old were left now → LeavesUnloaded old left were now
+unloaded_so old were left now lost = record { sure = lost.sure; may = lost.may; lowest = lost.lowests }
+
+-- of a cache that isn't there nothing is held
+nothing_held : {S W : Type 0} (kept : S → Kept Cached) (left : W → Left Cached) (place : Place S W) → is_open place ≡ false → (kept_at kept left place).held ≡ []
+nothing_held kept left (Open s) shut = absurd cc
+nothing_held kept left (Lost w) shut = refl
+nothing_held kept left Away shut = refl
+
+-- where there was no cache to change nothing changed
+pub cache_alone : {S W : Type 0} (kept : S → Kept Cached) (left : W → Left Cached) (lowest : S → ℕ) (lowests : W → List ℕ) (watch : S → Watch) (watch_left : W → Watch) (put : List Cached) (gone : Cached → Bool) (old new : Place S W) → new ≡ old → is_open old ≡ false
+    → FailsCache put gone (kept_at kept left old) (lowests_at lowest lowests old) (watch_at watch watch_left old) (kept_at kept left new) (lowests_at lowest lowests new) (watch_at watch watch_left new) want_of_memory
+cache_alone {S = S} {W = W} kept left lowest lowests watch watch_left put gone old new same shut = subst (λ n. FailsCache put gone (kept_at kept left old) (lowests_at lowest lowests old) (watch_at watch watch_left old) (kept_at kept left n) (lowests_at lowest lowests n) (watch_at watch watch_left n) want_of_memory) (sym same) (record {
+  loses = record {
+    leaves = record { stays = λ x has is. has; held = λ x has is. none x (subst (λ xs. Contains xs x) (nothing_held kept left old shut) has); within = λ x has. Contains-append_left _ put x has };
+    lowests = λ k has. has;
+  };
+  cause = inr (refl, Passes-refl _);
+})

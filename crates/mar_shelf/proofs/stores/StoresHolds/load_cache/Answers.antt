@@ -1,0 +1,29 @@
+use Rattle.std.proofs.Common.{refl}
+use Rattle.mar_node.specs.Faults.{cache_store}
+use Rattle.mar_node.specs.Places.{is_open}
+use Rattle.mar_node.specs.Views.{fault_of}
+use Rattle.mar_shelf.proofs.Changed.{load_goes_on}
+use Rattle.mar_shelf.proofs.Placed.{done_so, failed_so, usual_fault}
+use Rattle.mar_shelf.proofs.Reading.{cache_changed}
+use Rattle.mar_shelf.proofs.stores.StoresHolds.load_cache.Goals as goal
+
+pub invariant_of-self : goal.invariant_of-self
+invariant_of-self g c = c.self.invariant
+
+pub returns-clause-staged : goal.returns-clause-staged
+returns-clause-staged g c = rw (← c.self.view_is) refl
+
+pub returns-clause-loads : goal.returns-clause-loads
+returns-clause-loads g c = rw (← c.self.view_is) c.load.ensures.done
+
+pub returns-clause-by_luck : goal.returns-clause-by_luck
+returns-clause-by_luck g c = rw (← c.self.view_is) c.load.ensures.found
+
+pub returns-clause-same : goal.returns-clause-same
+returns-clause-same g c = rw (← c.self.view_is) (done_so c.load.result c.load.ensures.stays (λ is. cache_changed (is_open c.self.inside.blocks) (is_open c.self.inside.certs) c.self.inside.progress.intact is.0 is.1 is.3))
+
+pub returns-clause-goes_on : goal.returns-clause-goes_on
+returns-clause-goes_on g c = rw (← c.self.view_is) (load_goes_on (fault_of g.V.Commitment.Named.bytes) c.load.result _ _ _ _ _ _ _ _ c.load.ensures.leaves (done_so c.load.result c.load.ensures.stays (λ is. is.1)) c.load.ensures.passed c.load.ensures.failed)
+
+pub returns-clause-usual : goal.returns-clause-usual
+returns-clause-usual g c = failed_so c.load.result c.load.ensures.failed (λ e how. usual_fault cache_store _ _ _ how.cause)

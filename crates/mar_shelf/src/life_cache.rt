@@ -1,0 +1,117 @@
+//! The cache of a life, as its stores see it.
+ghost use Rattle.std.specs.Prelude.{◌≡◌, ◌∷◌, ℕ, [], Bool, Contains, IfErr, IfOk, IfSome, List, OnErr, OnOk, Option, false, option_and_then, option_map, true};
+ghost use Rattle.mar_store.specs.Changes.{left_of};
+ghost use Rattle.mar_store.specs.Luck.{keeps_by};
+ghost use Rattle.mar_store.specs.Lost.{wreck_of};
+ghost use Rattle.mar_store.specs.Watch.{Heeds, Watch, armed};
+ghost use Rattle.mar_node.specs.AllEntries.{LeavesEntries, LoadsEntries, soonest};
+ghost use Rattle.mar_node.specs.CacheCalls.{IsNestedCache, ReopensCache, UnopensCache, none_goes};
+ghost use Rattle.mar_node.specs.Cached.{Cached, cached_block};
+ghost use Rattle.mar_node.specs.Entries.{is_sought, is_verified_at, sought_block};
+ghost use Rattle.mar_node.specs.Faults.{cache_store};
+ghost use Rattle.mar_node.specs.Held.{HeldCache, Passes};
+ghost use Rattle.mar_node.specs.LuckyEntries.{lucky_entries};
+ghost use Rattle.mar_node.specs.SmallEntries.{AreSmallEntries};
+ghost use Rattle.mar_node.specs.Views.{fault_of};
+ghost use Rattle.mar_shelf.specs.Caching.{FailsCache};
+ghost use Rattle.mar_shelf.specs.Pooling.{IsFaultOf};
+
+use mar_block::Variant;
+use mar_node::{BlockName, Fault, ShelfRuin};
+use mar_store::Lost;
+use mar_types::Round;
+use std::alloc::AllocError;
+
+/// The cache of a life, or what is left of it where a change of it failed: later calls leave that and answer want of memory.
+/// Each makes one counted call of the cache, but for `wreck` and `arm`. What a crash left is taken up by `load`.
+pub trait LifeCache<V: Variant>: Drop {
+    /// What is left of it where no life runs.
+    type Ruin: ShelfRuin;
+
+    /// Its entries, whether they were taken up, and what a start makes of them.
+    ghost held: { Self → HeldCache };
+
+    /// The lowest epoch of which something is kept.
+    ghost lowest: { Self → ℕ };
+
+    /// Those that a crash can leave.
+    ghost lowests: { Self → List ℕ };
+
+    /// What it tells of its failures.
+    ghost watch: { Self → Watch };
+
+    /// No change of it has failed.
+    ghost intact: { Self → Bool };
+
+    /// Takes up what a crash left, but for its entries: none is held before they are loaded. Luck picks among what may be
+    /// left, now and where they are loaded.
+    fn reopen(ruin: Self::Ruin, luck: u64) -> Result<Self, Lost<Self::Ruin>>
+    where
+        Self: Sized,
+        ensures done { IfOk result (λ c. ReopensCache (Self.Ruin.left ruin) (held c).kept) }
+        ensures lowest { IfOk result (λ c. Contains (Self.Ruin.lowests ruin) (lowest c)) }
+        ensures fresh { IfOk result (λ c. ((held c).fresh ≡ true) × ((held c).loaded ≡ false)) }
+        ensures picked { IfOk result (λ c. (held c).finds
+            ≡ option_map (λ keeps. lucky_entries (keeps_by keeps luck) (Self.Ruin.left ruin)) (Self.Ruin.watch ruin).keeps) }
+        ensures intact { IfOk result (λ c. intact c ≡ true) }
+        ensures lost { IfErr result (λ l. UnopensCache (Self.Ruin.left ruin) (Self.Ruin.lowests ruin)
+            (Self.Ruin.left (wreck_of l)) (Self.Ruin.lowests (wreck_of l))) }
+        ensures watched { Heeds watch Self.Ruin.watch (Self.Ruin.watch ruin) result };
+
+    /// What a crash now leaves.
+    fn wreck(self) -> Self::Ruin
+    where
+        Self: Sized,
+        ensures left { Self.Ruin.left result ≡ left_of (held self).kept }
+        ensures lowests { Self.Ruin.lowests result ≡ lowests self }
+        ensures watch { Self.Ruin.watch result ≡ watch self };
+
+    /// Makes the counted call fail that is so many calls away, 1 being the next.
+    fn arm(&mut self, calls: u64) -> Result<(), AllocError>
+        ensures armed { OnOk result (watch self.new ≡ armed calls (watch self.old)) }
+        ensures unarmed { OnErr result (watch self.new ≡ watch self.old) }
+        ensures same { (held self.new ≡ held self.old) × (lowest self.new ≡ lowest self.old) × (lowests self.new ≡ lowests self.old)
+            × (intact self.new ≡ intact self.old) };
+
+    /// Takes up the entries that a crash left.
+    fn load(&mut self) -> Result<(), Fault<V::Commitment>>
+        ensures done { (held self.old).fresh ≡ true → OnOk result (LoadsEntries (held self.old).kept (held self.new).kept) }
+        ensures found { (held self.old).fresh ≡ true → OnOk result (IfSome (held self.old).finds (λ found. (held self.new).kept.held ≡ found)) }
+        ensures leaves { OnOk result (LeavesEntries [] none_goes (held self.old).kept (held self.new).kept.sure (held self.new).kept.may) }
+        ensures stays { OnOk result ((lowest self.new ≡ lowest self.old) × (lowests self.new ≡ lowests self.old) × ((held self.new).loaded ≡ true)
+            × (intact self.new ≡ intact self.old)) }
+        ensures passed { OnOk result (Passes (watch self.old) (watch self.new)) }
+        ensures left { OnErr result (intact self.new ≡ false) }
+        ensures failed { IfErr result (λ e. FailsCache [] none_goes (held self.old).kept (lowests self.old) (watch self.old)
+            (held self.new).kept (lowests self.new) (watch self.new) (fault_of V.Commitment.bytes e)) };
+
+    /// The block of a digest or of a commitment: in the newest epoch that has one, there among the verified blocks, then
+    /// the notarized and the certified ones, at the lowest view or height.
+    fn find_block(
+        &mut self,
+        name: BlockName<V::Digest, V::Commitment>,
+    ) -> Result<Option<V::Block>, Fault<V::Commitment>>
+        ensures found { IfOk result (λ o. option_map V.plain o
+            ≡ option_and_then cached_block (soonest (is_sought V.Digest.bytes V.Commitment.bytes V.inner (sought_block name)) (held self.old).kept.held)) }
+        ensures same { (held self.new ≡ held self.old) × (lowest self.new ≡ lowest self.old) × (lowests self.new ≡ lowests self.old)
+            × (intact self.new ≡ intact self.old) }
+        ensures passed { OnOk result (Passes (watch self.old) (watch self.new)) }
+        ensures failed { IfErr result (λ e. IsFaultOf cache_store (watch self.old) (fault_of V.Commitment.bytes e) (watch self.new)) };
+
+    /// The block that was verified in a round, of several the one put first.
+    fn find_verified(&mut self, round: Round) -> Result<Option<V::Block>, Fault<V::Commitment>>
+        ensures found { IfOk result (λ o. option_map V.plain o
+            ≡ option_and_then cached_block (soonest (is_verified_at round) (held self.old).kept.held)) }
+        ensures same { (held self.new ≡ held self.old) × (lowest self.new ≡ lowest self.old) × (lowests self.new ≡ lowests self.old)
+            × (intact self.new ≡ intact self.old) }
+        ensures passed { OnOk result (Passes (watch self.old) (watch self.new)) }
+        ensures failed { IfErr result (λ e. IsFaultOf cache_store (watch self.old) (fault_of V.Commitment.bytes e) (watch self.new)) };
+
+    ghost nested: { (s : Self) → IsNestedCache (held s).kept (lowest s) (held s).loaded };
+
+    ghost small: { (s : Self) → AreSmallEntries (held s).kept.may };
+
+    ghost lowest_there: { (s : Self) → intact s ≡ true → lowests s ≡ lowest s ∷ [] };
+
+    ghost none_held: { (s : Self) → intact s ≡ false → ((held s).kept.held ≡ []) × ((held s).loaded ≡ false) };
+}
