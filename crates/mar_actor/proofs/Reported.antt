@@ -55,7 +55,7 @@ read-part held one life same passed = IsPart-read (seen held life) (seen one lif
 
 -- the stores were read, and then its block was requested, for which there may have been no memory
 module _ {P E T C : Type 0} (fault : C → Fault) (held one : Held) (life : Remembered P E) (read : one ≡ record held { watches = one.watches }) (goes : (start : Held) (all : Written) → Grew start all held → WithinWritten nothing_written all → Grew start all one) where
-  pub absent-promise : (epochs : Epochs) (inner : List ℕ → List ℕ) → IsPartition epochs → (buffer : List Block) (f : Finalization) (told : Option (List Report)) (heard heard' : Option (List Call)) (result : Result T C) → IfErr result (λ e. fault e ≡ want_of_memory) → IsNested held.blocks → IsNested held.certs → None ≡ found_at_hand inner buffer held.blocks.held f.payload → HearsUpTo heard (want_asks held.cutoff f.round f.payload) heard' result → KeepsPromise epochs inner (seen held life) (message_told None (report_finalization f) ∷ []) buffer (heard_by told heard) (heard_by told heard') (outcome fault (seen one life) result)
+  pub absent-promise : (epochs : Epochs) (inner : List ℕ → List ℕ) → IsPartition epochs → (buffer : List Block) (f : Finalization) (told : Option (List Report)) (heard heard' : Option (List Call)) (result : Result T C) → IfErr result (λ e. fault e ≡ want_of_memory) → IsNested held.blocks → IsNested held.certs → None ≡ found_at_hand inner buffer held.cache.kept.held held.blocks.held f.payload → HearsUpTo heard (want_asks held.cutoff f.round f.payload) heard' result → KeepsPromise (message_told None (report_finalization f) ∷ []) epochs inner (seen held life) buffer (heard_by told heard) (heard_by told heard') (outcome fault (seen one life) result)
   absent-promise epochs inner partition buffer f told heard heard' (Ok x) memory nested certs_nested found asks =
       promise-absent epochs inner partition (seen held life) buffer f told heard heard' (seen one life) (Ok (seen one life)) nested certs_nested (sym found) asks (ap (λ h. seen h life) read) refl (grown held nothing_written one goes nested certs_nested) tt
   absent-promise epochs inner partition buffer f told heard heard' (Err e) memory nested certs_nested found asks =
@@ -111,7 +111,7 @@ module _ {P E : Type 0} (held one : Held) (life : Remembered P E) (f : Finalizat
     went nested certs_nested = outcome-both fault result now (λ m. Grew one (written_cert (at_height b.height f)) m.held) (Loses one (written_cert (at_height b.height f)))
         (goes one (written_cert (at_height b.height f)) (Grew-refl one (written_cert (at_height b.height f)) (subst IsNested (sym (ap (λ h. h.blocks) noted)) nested) (subst IsNested (sym (ap (λ h. h.certs) noted)) certs_nested)) (WithinWritten-refl (written_cert (at_height b.height f))))
 
-    pub noted-promise : (epochs : Epochs) → IsPartition epochs → (buffer : List Block) → found_at_hand inner buffer held.blocks.held f.payload ≡ Some b → nat_lt (height_of held.processed) b.height ≡ false → (told told' : Option (List Report)) (heard heard' : Option (List Call)) → OnOk result (Hears told (late_tips (lacks_finalization one b) life.tip f b) told') → OnErr result (Hears told [] told') → IfErr result (λ e. IsArchiveFault (fault e)) → Hears heard (raise_asks held.cutoff (at_round f.round ∷ [])) heard' → IsNested held.blocks → IsNested held.certs → KeepsPromise epochs inner (seen held life) (message_told None (report_finalization f) ∷ []) buffer (heard_by told heard) (heard_by told' heard') (outcome fault now result)
+    pub noted-promise : (epochs : Epochs) → IsPartition epochs → (buffer : List Block) → found_at_hand inner buffer held.cache.kept.held held.blocks.held f.payload ≡ Some b → nat_lt (height_of held.processed) b.height ≡ false → (told told' : Option (List Report)) (heard heard' : Option (List Call)) → OnOk result (Hears told (late_tips (lacks_finalization one b) life.tip f b) told') → OnErr result (Hears told [] told') → IfErr result (λ e. IsArchiveFault (fault e)) → Hears heard (raise_asks held.cutoff (at_round f.round ∷ [])) heard' → IsNested held.blocks → IsNested held.certs → KeepsPromise (message_told None (report_finalization f) ∷ []) epochs inner (seen held life) buffer (heard_by told heard) (heard_by told' heard') (outcome fault now result)
     noted-promise epochs partition buffer found low told told' heard heard' tips silent archive asks nested certs_nested =
         promise-noted epochs inner partition (seen held life) buffer f b found low raised (seen one life) (record { same = refl }) synced told told' heard heard' (outcome fault now result) nested certs_nested (outcome-on_ok fault result now _ tips) (outcome-on_err fault result now _ silent) (outcome-ok fault result now (λ m. StoresLate inner (seen one life) f b m) stores) (went nested certs_nested) (outcome-err fault result now (λ x. IsArchiveFault x.fault) archive) asks
 

@@ -39,7 +39,7 @@ where
     A: Reporter<V>,
     requires intact { (S.held stores.old).intact ≡ true }
     ensures promise { IsNested (S.held stores.old).blocks → IsNested (S.held stores.old).certs → (buffer : List Block)
-        → KeepsPromise (E.epochs life.old.epocher) V.inner (seen (S.held stores.old) life.old) (ack_given ticket ∷ []) buffer
+        → KeepsPromise (ack_given ticket ∷ []) (E.epochs life.old.epocher) V.inner (seen (S.held stores.old) life.old) buffer
         (heard_by (A.told application.old) (R.told resolver.old)) (heard_by (A.told application.new) (R.told resolver.new))
         (outcome (fault_of V.Commitment.bytes) (seen (S.held stores.new) life.new) result) }
     ensures lives { IsNested (S.held stores.old).blocks → IsNested (S.held stores.old).certs

@@ -1,6 +1,7 @@
 //! The node, which each of its steps consumes.
 ghost use Rattle.std.specs.Prelude.{◌≡◌, ◌≤◌, ◌+◌, ◌&&◌, ◌∷◌, ◌++◌, [], ℕ, IfErr, IfOk, Ok, OnErr, OnOk, false, map, nat_lt, not, true};
 ghost use Rattle.std.specs.List.{list_any};
+ghost use Rattle.mar_node.specs.SmallEntries.{AreSmallEntries};
 ghost use Rattle.mar_store.specs.Changes.{IsNested};
 ghost use Rattle.mar_block.specs.Sent.{Sends};
 ghost use Rattle.mar_node.specs.Acks.{is_unmarked};
@@ -61,7 +62,7 @@ impl<V: Variant, S: Holds<V>, P: Drop, E: Epocher> Model for Node<V, S, P, E> {
 
 impl<V: Variant, S: Holds<V>, P: Drop, E: Epocher> Node<V, S, P, E> {
     /// Takes one event, the first of a life being `Event::Start`. An end of the life says why and hands back what is left.
-    /// On a lawful chain the step is a step of the node, or a cut. No rule takes memory of its own yet: `_alloc` is for
+    /// On a lawful chain the step is a step of the node, or a cut; a second start in one life is promised nothing of the node. No rule takes memory of its own yet: `_alloc` is for
     /// those that keep what isn't final. The buffer keeps its blocks: of a prepared one alone anything is sent.
     ///
     /// The fault of a step is `StoreFault` only where that store has failed, `HeightLimit` where a finalized block stands
@@ -79,7 +80,7 @@ impl<V: Variant, S: Holds<V>, P: Drop, E: Epocher> Node<V, S, P, E> {
     ) -> Result<Self, Ended<V, S>>
         requires small_event { IsSmallEvent (event_of V.Digest.bytes V.plain S.Finalization.plain event) }
         requires small_buffer { AreSmall (B.blocks buffer.old) }
-        ensures promise { KeepsPromise (E.epochs self.life.epocher) V.inner self (event_of V.Digest.bytes V.plain S.Finalization.plain event ∷ [])
+        ensures promise { KeepsPromise (event_of V.Digest.bytes V.plain S.Finalization.plain event ∷ []) (E.epochs self.life.epocher) V.inner self
             (B.blocks buffer.old)
             (heard_with (A.told application.old) (R.told resolver.old) (sent_by (B.sent buffer.old))
             (told (value_of V.Digest.bytes V.plain S.Finalization.plain) answers.old))
@@ -137,12 +138,13 @@ impl<V: Variant, S: Holds<V>, P: Drop, E: Epocher> Node<V, S, P, E> {
         ensures blocks { IsNested self.now.held.blocks }
         ensures certs { IsNested self.now.held.certs }
         ensures small { AreSmall (map (λ x. x.value) self.now.held.blocks.held) }
+        ensures small_cached { AreSmallEntries self.now.held.cache.kept.held }
         ensures written { AreWritten self.now.held }
     {
         self.stores.law();
     }
 
-    /// Makes the counted call of a store fail that is so many calls away, 1 being the next. The cache counts none yet.
+    /// Makes the counted call of a store fail that is so many calls away, 1 being the next.
     pub fn arm(&mut self, store: StoreName, calls: u64) -> Result<(), AllocError>
         ensures armed { OnOk result (self.new ≡ record self.old {
           held = record self.old.held { watches = with_armed (store_name_of store) calls self.old.held.watches };
@@ -205,11 +207,12 @@ where
     requires blocks { IsNested (S.held stores.old).blocks }
     requires certs { IsNested (S.held stores.old).certs }
     requires small { AreSmall (map (λ x. x.value) (S.held stores.old).blocks.held) }
+    requires small_cached { AreSmallEntries (S.held stores.old).cache.kept.held }
     requires ordered { IsOrdered (S.held stores.old).writes }
     requires small_event { IsSmallEvent (event_of V.Digest.bytes V.plain S.Finalization.plain event) }
     requires small_buffer { AreSmall (B.blocks buffer.old) }
-    ensures promise { KeepsPromise (E.epochs life.old.epocher) V.inner (seen (S.held stores.old) life.old)
-        (event_of V.Digest.bytes V.plain S.Finalization.plain event ∷ []) (B.blocks buffer.old)
+    ensures promise { KeepsPromise (event_of V.Digest.bytes V.plain S.Finalization.plain event ∷ []) (E.epochs life.old.epocher) V.inner
+        (seen (S.held stores.old) life.old) (B.blocks buffer.old)
         (heard_with (A.told application.old) (R.told resolver.old) (sent_by (B.sent buffer.old))
         (told (value_of V.Digest.bytes V.plain S.Finalization.plain) answers.old))
         (heard_with (A.told application.new) (R.told resolver.new) (sent_by (B.sent buffer.new))

@@ -1,6 +1,6 @@
 //! Opening the stores of a node that begins.
-ghost use Rattle.std.specs.Prelude.{◌≡◌, ◌⊎◌, IfErr, IfOk};
-ghost use Rattle.mar_node.specs.Held.{ArePassed, IsEndedBy, IsUsual};
+ghost use Rattle.std.specs.Prelude.{◌≡◌, ◌⊎◌, IfErr, IfOk, true};
+ghost use Rattle.mar_node.specs.Held.{ArePassed, IsEndedBy, IsUsual, picks_of};
 ghost use Rattle.mar_node.specs.Promise.{IsFound, IsOpeningFault, IsSmallBegin, KeepsOpening};
 ghost use Rattle.mar_actor.specs.Views.{begin_of, sizes_of};
 
@@ -42,6 +42,8 @@ impl<V: Variant, S: Holds<V>, P: Drop, E: Epocher> Node<V, S, P, E> {
         ensures by_value { IfErr result (λ e. IsUsual e.fault ⊎ IsOpeningFault (S.Ruins.left ruins).ended (begin_of V.plain config.start) e.fault) }
         ensures finds { IfOk result (λ r. IsFound (E.epochs config.epocher) V.inner (sizes_of config) (S.Ruins.left ruins) luck
             (begin_of V.plain config.start) r.0) }
+        ensures fresh { IfOk result (λ r. r.0.held.cache.fresh ≡ true) }
+        ensures picked { IfOk result (λ r. r.0.held.cache.finds ≡ (picks_of (S.Ruins.left ruins) luck).cache) }
         ensures floor { IfOk result (λ r. r.1 ≡ record { processed = r.0.held.processed; cutoff = r.0.held.cutoff }) }
     {
         let epocher = config.epocher;

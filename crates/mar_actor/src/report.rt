@@ -1,6 +1,7 @@
 //! Finalizations that consensus reports.
 ghost use Rattle.std.specs.Prelude.{◌≡◌, ◌∷◌, [], IfErr, List, None, OnErr, OnOk, Option, Some, false, map, nat_lt, true};
 ghost use Rattle.mar_cert.specs.Block.{Block};
+ghost use Rattle.mar_node.specs.SmallEntries.{AreSmallEntries};
 ghost use Rattle.mar_node.specs.Messages.{report_finalization};
 ghost use Rattle.mar_key.specs.Hears.{Hears};
 ghost use Rattle.mar_key.specs.Keys.{Call};
@@ -49,19 +50,21 @@ where
     requires intact { (S.held stores.old).intact ≡ true }
     requires small { IsSmall (finalization_bytes (S.Finalization.plain finalization.now)) }
     requires small_buffer { AreSmall (B.blocks buffer.now) }
+    requires small_cached { AreSmallEntries (S.held stores.old).cache.kept.held }
     requires small_held { AreSmall (map (λ x. x.value) (S.held stores.old).blocks.held) }
     requires ordered { IsOrdered (S.held stores.old).writes }
     ensures promise { IsNested (S.held stores.old).blocks → IsNested (S.held stores.old).certs
-        → KeepsPromise (E.epochs life.old.epocher) V.inner (seen (S.held stores.old) life.old)
-        (message_told None (report_finalization (S.Finalization.plain finalization.now)) ∷ []) (B.blocks buffer.now)
+        → KeepsPromise (message_told None (report_finalization (S.Finalization.plain finalization.now)) ∷ []) (E.epochs life.old.epocher) V.inner
+        (seen (S.held stores.old) life.old) (B.blocks buffer.now)
         (heard_by (A.told application.old) (R.told resolver.old)) (heard_by (A.told application.new) (R.told resolver.new))
         (outcome (fault_of V.Commitment.bytes) (seen (S.held stores.new) life.new) result) }
     ensures lives { IsNested (S.held stores.old).blocks → IsNested (S.held stores.old).certs
         → LivesOn (seen (S.held stores.old) life.old) (outcome (fault_of V.Commitment.bytes) (seen (S.held stores.new) life.new) result) }
-    ensures by_value { EndsWhereDue (storing_due (S.held stores.old) (found_at_hand V.inner (B.blocks buffer.now) (S.held stores.old).blocks.held
-        (S.Finalization.plain finalization.now).payload)) (outcome (fault_of V.Commitment.bytes) (seen (S.held stores.new) life.new) result) }
+    ensures by_value { EndsWhereDue (storing_due (S.held stores.old) (found_at_hand V.inner (B.blocks buffer.now) (S.held stores.old).cache.kept.held
+        (S.held stores.old).blocks.held (S.Finalization.plain finalization.now).payload)) (outcome (fault_of V.Commitment.bytes) (seen (S.held stores.new) life.new) result) }
     ensures tells { TellsInOrder (A.told application.old) (finalized_tips (seen (S.held stores.old) life.old) (S.Finalization.plain finalization.now)
-        (found_at_hand V.inner (B.blocks buffer.now) (S.held stores.old).blocks.held (S.Finalization.plain finalization.now).payload))
+        (found_at_hand V.inner (B.blocks buffer.now) (S.held stores.old).cache.kept.held (S.held stores.old).blocks.held
+        (S.Finalization.plain finalization.now).payload))
         (A.told application.new) (outcome (fault_of V.Commitment.bytes) (seen (S.held stores.new) life.new) result) }
 {
     match block_at_hand::<V, S, B>(stores, finalization.payload(), buffer)? {
@@ -95,10 +98,11 @@ where
     requires small_block { IsSmall (V.plain block).encoded }
     requires ordered { IsOrdered (S.held stores.old).writes }
     ensures promise { (heard : Option (List Call)) → IsNested (S.held stores.old).blocks → IsNested (S.held stores.old).certs → (buffer : List Block)
-        → found_at_hand V.inner buffer (S.held stores.old).blocks.held (S.Finalization.plain finalization.now).payload ≡ Some (V.plain block)
+        → found_at_hand V.inner buffer (S.held stores.old).cache.kept.held (S.held stores.old).blocks.held
+        (S.Finalization.plain finalization.now).payload ≡ Some (V.plain block)
         → nat_lt (height_of (S.held stores.old).processed) (V.plain block).height ≡ true
-        → KeepsPromise (E.epochs life.old.epocher) V.inner (seen (S.held stores.old) life.old)
-        (message_told None (report_finalization (S.Finalization.plain finalization.now)) ∷ []) buffer
+        → KeepsPromise (message_told None (report_finalization (S.Finalization.plain finalization.now)) ∷ []) (E.epochs life.old.epocher) V.inner
+        (seen (S.held stores.old) life.old) buffer
         (heard_by (A.told application.old) heard) (heard_by (A.told application.new) heard)
         (outcome (fault_of V.Commitment.bytes) (seen (S.held stores.new) life.new) result) }
     ensures lives { IsNested (S.held stores.old).blocks → IsNested (S.held stores.old).certs
@@ -189,10 +193,11 @@ where
     requires intact { (S.held stores.old).intact ≡ true }
     requires small { IsSmall (finalization_bytes (S.Finalization.plain finalization.now)) }
     ensures promise { IsNested (S.held stores.old).blocks → IsNested (S.held stores.old).certs → (buffer : List Block)
-        → found_at_hand V.inner buffer (S.held stores.old).blocks.held (S.Finalization.plain finalization.now).payload ≡ Some (V.plain block.now)
+        → found_at_hand V.inner buffer (S.held stores.old).cache.kept.held (S.held stores.old).blocks.held
+        (S.Finalization.plain finalization.now).payload ≡ Some (V.plain block.now)
         → nat_lt (height_of (S.held stores.old).processed) (V.plain block.now).height ≡ false
-        → KeepsPromise (E.epochs life.old.epocher) V.inner (seen (S.held stores.old) life.old)
-        (message_told None (report_finalization (S.Finalization.plain finalization.now)) ∷ []) buffer
+        → KeepsPromise (message_told None (report_finalization (S.Finalization.plain finalization.now)) ∷ []) (E.epochs life.old.epocher) V.inner
+        (seen (S.held stores.old) life.old) buffer
         (heard_by (A.told application.old) (R.told resolver.old)) (heard_by (A.told application.new) (R.told resolver.new))
         (outcome (fault_of V.Commitment.bytes) (seen (S.held stores.new) life.new) result) }
     ensures lives { IsNested (S.held stores.old).blocks → IsNested (S.held stores.old).certs

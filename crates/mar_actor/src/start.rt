@@ -22,7 +22,7 @@ use mar_cert::{AsFinalization, CommitsTo};
 use mar_node::{Fault, Holds, newest_certificate};
 use mar_types::Epocher;
 
-/// Reports the newest stored finalization as the tip, and hands over what may follow.
+/// Reports the newest stored finalization as the tip, takes up what a crash left of the cache, and hands over what may follow.
 pub(crate) fn start<V, S, P, E, A>(
     stores: &mut S,
     life: &mut Life<P, E>,
@@ -35,7 +35,7 @@ where
     A: Reporter<V>,
     requires intact { (S.held stores.old).intact ≡ true }
     ensures promise { IsNested (S.held stores.old).blocks → IsNested (S.held stores.old).certs → (heard : Option (List Call)) (buffer : List Block)
-        → KeepsPromise (E.epochs life.old.epocher) V.inner (seen (S.held stores.old) life.old) (life_started None ∷ []) buffer
+        → KeepsPromise (life_started None ∷ []) (E.epochs life.old.epocher) V.inner (seen (S.held stores.old) life.old) buffer
         (heard_by (A.told application.old) heard) (heard_by (A.told application.new) heard)
         (outcome (fault_of V.Commitment.bytes) (seen (S.held stores.new) life.new) result) }
     ensures lives { IsNested (S.held stores.old).blocks → IsNested (S.held stores.old).certs
@@ -45,6 +45,7 @@ where
         (A.told application.new) (outcome (fault_of V.Commitment.bytes) (seen (S.held stores.new) life.new) result) }
 {
     report_newest::<V, S, P, E, A>(stores, life, application)?;
+    stores.load_cache()?;
     dispatch::<V, S, P, E, A>(stores, life, application)
 }
 

@@ -35,7 +35,7 @@ where
     A: Reporter<V>,
     requires intact { (S.held stores.old).intact ≡ true }
     ensures promise { IsNested (S.held stores.old).blocks → IsNested (S.held stores.old).certs → (heard : Option (List Call)) (buffer : List Block)
-        → KeepsPromise (E.epochs life.old.epocher) V.inner (seen (S.held stores.old) life.old) (sync_finished ticket ∷ []) buffer
+        → KeepsPromise (sync_finished ticket ∷ []) (E.epochs life.old.epocher) V.inner (seen (S.held stores.old) life.old) buffer
         (heard_by (A.told application.old) heard) (heard_by (A.told application.new) heard)
         (outcome (fault_of V.Commitment.bytes) (seen (S.held stores.new) life.new) result) }
     ensures lives { IsNested (S.held stores.old).blocks → IsNested (S.held stores.old).certs

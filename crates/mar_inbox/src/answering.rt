@@ -1,4 +1,5 @@
 //! What callers ask, and are answered from what stands: nothing changes but the answers.
+ghost use Rattle.std.specs.Option.{option_or};
 ghost use Rattle.std.specs.Prelude.{◌≡◌, ◌+◌, ◌++◌, ◌<◌, IfErr, IfNone, IfOk, IfSome, List, OnErr, OnOk, Some, option_map, ℕ};
 ghost use Rattle.mar_cert.specs.Block.{Block};
 ghost use Rattle.mar_cert.specs.Finalization.{Finalization};
@@ -10,7 +11,8 @@ ghost use Rattle.mar_key.specs.Views.{processed_of};
 ghost use Rattle.mar_node.specs.Answers.{anchor, block_info, bytes_of, certificate_info, finalization_value, info, or_none, processed_value};
 ghost use Rattle.mar_node.specs.Event.{message_told};
 ghost use Rattle.mar_node.specs.Held.{GoesOn, IsUsual, nothing_written};
-ghost use Rattle.mar_node.specs.Queries.{answers_found, block_found, value_found};
+ghost use Rattle.mar_node.specs.Queries.{answers_found, block_found, cached_by_digest, value_found};
+ghost use Rattle.mar_node.specs.Stored.{block_of};
 ghost use Rattle.mar_node.specs.Messages.{of_height};
 ghost use Rattle.mar_node.specs.Views.{entry_of, fault_of};
 
@@ -22,7 +24,7 @@ use crate::value::Value;
 use mar_block::Buffer;
 use mar_cert::{AsFinalization, CommitsTo, Variant};
 use mar_key::Processed;
-use mar_node::{Fault, Holds, newest_certificate};
+use mar_node::{BlockName, Fault, Holds, newest_certificate};
 use mar_types::Height;
 
 /// Answers a query from what stands.
@@ -75,7 +77,10 @@ fn value_for<V: Variant, S: Holds<V>, B: Buffer<V>>(
             Ok(of_processed(processed))
         }
         Query::Anchor => backing_block::<V, S>(stores),
-        Query::Verified(_round) => Ok(Value::None),
+        Query::Verified(round) => match stores.cached_verified(round) {
+            Ok(block) => Ok(of_block(block)),
+            Err(ended) => Err(ended),
+        },
     }
 }
 
@@ -146,7 +151,7 @@ fn block_for<V: Variant, S: Holds<V>, B: Buffer<V>>(
         Identifier::Height(height) => stores.block_at(height),
         Identifier::Digest(digest) => match buffer.find_by_digest(&digest) {
             Ok(Some(block)) => Ok(Some(block)),
-            Ok(None) => stores.block_of(&digest),
+            Ok(None) => kept_block::<V, S>(stores, digest),
             Err(_) => Err(Fault::Memory),
         },
         Identifier::Latest => match newest_certificate::<V, S>(stores) {
@@ -158,6 +163,24 @@ fn block_for<V: Variant, S: Holds<V>, B: Buffer<V>>(
             },
             Err(ended) => Err(ended),
         },
+    }
+}
+
+/// The block of a digest: from the cache, or from the store.
+fn kept_block<V: Variant, S: Holds<V>>(
+    stores: &mut S,
+    digest: V::Digest,
+) -> Result<Option<V::Block>, Fault<V::Commitment>>
+    ensures found { IfOk result (λ r. option_map V.plain r ≡ option_or (cached_by_digest (V.Digest.bytes digest) (S.held stores.old).cache.kept.held)
+        (block_of (S.held stores.old).blocks.held (V.Digest.bytes digest))) }
+    ensures same { OnOk result (S.held stores.new ≡ record (S.held stores.old) { watches = (S.held stores.new).watches }) }
+    ensures goes_on { GoesOn (fault_of V.Commitment.bytes) (S.held stores.old) nothing_written (S.held stores.new) result }
+    ensures usual { IfErr result (λ e. IsUsual (fault_of V.Commitment.bytes e)) }
+{
+    match stores.cached_block(BlockName::Digest(digest)) {
+        Ok(Some(block)) => Ok(Some(block)),
+        Ok(None) => stores.block_of(&digest),
+        Err(ended) => Err(ended),
     }
 }
 

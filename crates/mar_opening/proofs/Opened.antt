@@ -1,5 +1,5 @@
 -- What an opening promises, by what was made of its stores.
-use Rattle.std.proofs.Common.{◌≡◌, ◌⊎◌, ◌∷◌, inl, inr, ℕ, [], None, Some, Result, Ok, Err, IfErr, OnOk, refl, subst, sym}
+use Rattle.std.proofs.Common.{◌≡◌, ◌⊎◌, ◌∷◌, inl, inr, ℕ, [], None, Some, Result, Ok, Err, IfErr, OnOk, true, refl, ap, ◌∙◌, subst, sym}
 use Rattle.mar_types.specs.Epochs.{Epochs}
 use Rattle.mar_cert.specs.Block.{Block}
 use Rattle.mar_node.specs.Chain.{Chain}
@@ -78,6 +78,16 @@ module _ (epochs : Epochs) (old : Remains) (luck : ℕ) (begin : Begin) (g : Blo
 
   pub opened_passed : (new : Held) → OpensAs epochs old luck g new → ArePassed old.watches new.watches
   opened_passed new opens = ArePassed-then old.watches opens.first.watches new.watches opens.reopens.passed (ArePassed-then opens.first.watches opens.begun.watches new.watches opens.grew.passed opens.passed)
+
+  -- its cache is as it was reopened
+  pub opened_cache : (new : Held) (opens : OpensAs epochs old luck g new) → new.cache ≡ opens.first.cache
+  opened_cache new opens = ap (λ h. h.cache) opens.derives.same ∙ ap (λ h. h.cache) opens.begins.same
+
+  pub opened_fresh : (new : Held) → OpensAs epochs old luck g new → new.cache.fresh ≡ true
+  opened_fresh new opens = ap (λ c. c.fresh) (opened_cache new opens) ∙ opens.reopens.fresh
+
+  pub opened_picked : (new : Held) → OpensAs epochs old luck g new → new.cache.finds ≡ (picks_of old luck).cache
+  opened_picked new opens = ap (λ c. c.finds) (opened_cache new opens) ∙ opens.reopens.finds
 
   module _ {P E : Type 0} (provider : P) (epocher : E) (sizes : Sizes) (new : Held) (life : Remembered P E) (opens : OpensAs epochs old luck g new) (life_is : life ≡ first_life provider epocher sizes) (config : Config) (same : config.epochs ≡ epochs) (capacity : config.capacity ≡ sizes.capacity) where
     derives : Derives config.epochs opens.begun new

@@ -6,7 +6,7 @@ use Rattle.mar_node.specs.Held.{Grew, IsUsual, Loses, nothing_written, outcome, 
 use Rattle.mar_node.specs.Writing.{is_open_sync}
 use Rattle.mar_node.proofs.Handing.{Hears-nothing}
 use Rattle.mar_node.proofs.Growing.{Grew-refl, WithinWritten-refl}
-use Rattle.mar_node.proofs.Heard.{KeepsPromise-beside, unanswered-err, unanswered-ok}
+use Rattle.mar_node.proofs.Heard.{KeepsStart-beside, KeepsStep-beside, unanswered-err, unanswered-ok}
 use Rattle.mar_node.proofs.Queries.{promise-asked}
 use Rattle.mar_node.proofs.Sending.{promise-prepared}
 use Rattle.std.proofs.lemmas.Result.{IfErr-weaker}
@@ -27,7 +27,7 @@ same_ticket t u is = cc
 pub returns-in-Start : goal.returns-in-Start
 returns-in-Start g c =
     rw c.in-Start.is (record {
-      promise = KeepsPromise-beside _ _ _ _ _ _ (Hears-nothing _) _ _ _ (seen (g.S.Holds.held c.args.stores.now) c.args.life.now) _ _ _ (c.start.ensures.promise c.requires.blocks c.requires.certs _ _);
+      promise = KeepsStart-beside _ _ _ _ _ _ (Hears-nothing _) _ _ _ (seen (g.S.Holds.held c.args.stores.now) c.args.life.now) _ _ _ (c.start.ensures.promise c.requires.blocks c.requires.certs _ _);
       answered = unanswered-ok _ c.start.result;
       unanswered = unanswered-err _ c.start.result;
       sends = unsent-ok _ c.start.result;
@@ -44,7 +44,7 @@ returns-in-Start g c =
 pub returns-in-Reported : goal.returns-in-Reported
 returns-in-Reported g c =
     rw (event_is g.V.Digest.Named.bytes g.V.Variant.plain g.S.Finalization.AsFinalization.plain c.args.event _ _ _ c.in-Message.is (c.told_by.ensures g.V.Digest.Named.bytes g.S.Finalization.AsFinalization.plain) c.in-Reported.is, c.in-Message.is) (record {
-      promise = KeepsPromise-beside _ _ _ _ _ _ (Hears-nothing _) _ _ _ (seen (g.S.Holds.held c.args.stores.now) c.args.life.now) _ _ _ (c.report_finalization.ensures.promise c.requires.blocks c.requires.certs);
+      promise = KeepsStep-beside _ _ _ _ _ _ (Hears-nothing _) _ _ _ (seen (g.S.Holds.held c.args.stores.now) c.args.life.now) _ _ _ (c.report_finalization.ensures.promise c.requires.blocks c.requires.certs);
       answered = unanswered-ok _ c.report_finalization.result;
       unanswered = unanswered-err _ c.report_finalization.result;
       sends = unsent-ok _ c.report_finalization.result;
@@ -111,7 +111,7 @@ returns-in-Prepared g c =
 pub returns-in-Sync : goal.returns-in-Sync
 returns-in-Sync g c =
     rw c.in-Sync.is (record {
-      promise = KeepsPromise-beside _ _ _ _ _ _ (Hears-nothing _) _ _ _ (seen (g.S.Holds.held c.args.stores.now) c.args.life.now) _ _ _ (c.finish_sync.ensures.promise c.requires.blocks c.requires.certs _ _);
+      promise = KeepsStep-beside _ _ _ _ _ _ (Hears-nothing _) _ _ _ (seen (g.S.Holds.held c.args.stores.now) c.args.life.now) _ _ _ (c.finish_sync.ensures.promise c.requires.blocks c.requires.certs _ _);
       answered = unanswered-ok _ c.finish_sync.result;
       unanswered = unanswered-err _ c.finish_sync.result;
       sends = unsent-ok _ c.finish_sync.result;
@@ -128,7 +128,7 @@ returns-in-Sync g c =
 pub returns-in-Ack : goal.returns-in-Ack
 returns-in-Ack g c =
     rw c.in-Ack.is (record {
-      promise = KeepsPromise-beside _ _ _ _ _ _ (Hears-nothing _) _ _ _ (seen (g.S.Holds.held c.args.stores.now) c.args.life.now) _ _ _ (c.acknowledge.ensures.promise c.requires.blocks c.requires.certs _);
+      promise = KeepsStep-beside _ _ _ _ _ _ (Hears-nothing _) _ _ _ (seen (g.S.Holds.held c.args.stores.now) c.args.life.now) _ _ _ (c.acknowledge.ensures.promise c.requires.blocks c.requires.certs _);
       answered = unanswered-ok _ c.acknowledge.result;
       unanswered = unanswered-err _ c.acknowledge.result;
       sends = unsent-ok _ c.acknowledge.result;

@@ -39,7 +39,7 @@ returns-in-None g c =
     }
 
 pub store_above-requires-clause-small_block : goal.store_above-requires-clause-small_block
-store_above-requires-clause-small_block g c = found_small g.V.Variant.inner (g.B.Buffer.blocks c.args.buffer.now) (g.S.Holds.held c.args.stores.now).blocks.held (g.S.Finalization.AsFinalization.plain c.args.finalization.now).payload _ c.requires.small_buffer c.requires.small_held (sym (rw (c.in-Some.is, c.payload.ensures) at c.in_ok-block_at_hand.ensures.found))
+store_above-requires-clause-small_block g c = found_small g.V.Variant.inner (g.B.Buffer.blocks c.args.buffer.now) (g.S.Holds.held c.args.stores.now).cache.kept.held (g.S.Holds.held c.args.stores.now).blocks.held (g.S.Finalization.AsFinalization.plain c.args.finalization.now).payload _ c.requires.small_buffer c.requires.small_cached c.requires.small_held (sym (rw (c.in-Some.is, c.payload.ensures) at c.in_ok-block_at_hand.ensures.found))
 
 pub returns-then-is_above : goal.returns-then-is_above
 returns-then-is_above g c =

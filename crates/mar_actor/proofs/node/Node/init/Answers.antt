@@ -4,7 +4,7 @@ use Rattle.mar_node.specs.Faults.{want_of_memory}
 use Rattle.mar_actor.specs.Views.{sizes_of}
 use Rattle.mar_node.proofs.OpeningEvent.{cut_early}
 use Rattle.mar_node.proofs.Reopenings.{LosesOpening-nothing}
-use Rattle.mar_opening.proofs.Opened.{failed_by_value, failed_cause, failed_cut, opened_begins, opened_finds, opened_passed}
+use Rattle.mar_opening.proofs.Opened.{failed_by_value, failed_cause, failed_cut, opened_begins, opened_finds, opened_fresh, opened_passed, opened_picked}
 use Rattle.mar_actor.proofs.node.Node.init.Goals as goal
 
 pub returns-in_default-clause-opens : goal.returns-in_default-clause-opens
@@ -35,6 +35,12 @@ returns-clause-opens g c =
 pub returns-clause-finds : goal.returns-clause-finds
 returns-clause-finds g c =
     λ config set. opened_finds _ (g.S.Ruins.StoresRuin.left c.args.ruins) _ _ _ (c.in-Ok.ensures.genesis g.V.Variant.plain) c.args.config.provider c.args.config.epocher (sizes_of c.args.config) (g.S.Holds.held c.in_ok-stores.stores.value) _ c.in_ok-stores.ensures.opens c.in-Ok.ensures.life config set.epochs_are set.capacity
+
+pub returns-clause-fresh : goal.returns-clause-fresh
+returns-clause-fresh g c = opened_fresh _ (g.S.Ruins.StoresRuin.left c.args.ruins) _ _ _ (c.in-Ok.ensures.genesis g.V.Variant.plain) _ c.in_ok-stores.ensures.opens
+
+pub returns-clause-picked : goal.returns-clause-picked
+returns-clause-picked g c = opened_picked _ (g.S.Ruins.StoresRuin.left c.args.ruins) _ _ _ (c.in-Ok.ensures.genesis g.V.Variant.plain) _ c.in_ok-stores.ensures.opens
 
 pub returns-clause-watches : goal.returns-clause-watches
 returns-clause-watches g c = opened_passed _ (g.S.Ruins.StoresRuin.left c.args.ruins) _ _ _ (c.in-Ok.ensures.genesis g.V.Variant.plain) _ c.in_ok-stores.ensures.opens
