@@ -85,6 +85,23 @@ another_word before pending line still after t other = record {
   };
 }
 
+pub first_read : (before : Option (List ℕ)) (pending : List ℕ) (line : Vec ℕ Global) (s : Settings) (still : List ℕ) (after : Option (List ℕ)) → TakesLine before pending (Ok (Some line)) still after → line.items ++ 10 ∷ [] ≡ settings_bytes s → TakesFirst before pending (Ok s) still after
+first_read before pending line s still after t is = record { read = t.read; gives = t.gives; first = t.line.0 ∙ sym (append_assoc line.items (10 ∷ []) still) ∙ ap (λ xs. xs ++ still) is }
+
+-- WHAT IS NO FAULT OF THE SOURCE
+
+pub read_well : {T E : Type 0} (x : T) (e : E) → Ok x ≡ Err e → ⊥
+read_well x e is = cc
+
+pub script_no_fault : {T : Type 0} (result : Result T StatusCode) (n : ℕ) (reason : Why) → result ≡ Err (status.Script n reason) → result ≡ Err status.ReadFault → ⊥
+script_no_fault result n reason told is = cc
+
+pub no_fault_told : {T : Type 0} (result : Result T StatusCode) (code : StatusCode) → (code ≡ status.ReadFault → ⊥) → result ≡ Err code → result ≡ Err status.ReadFault → ⊥
+no_fault_told result code none told is = let same : code ≡ status.ReadFault = cc in none same
+
+pub missing_fault : {T U : Type 0} (result : Result T StatusCode) (missed : Result U LineError) (code : StatusCode) (e : LineError) (P : Type 0) → (code ≡ status.ReadFault → e ≡ missing.ReadFault) → (missed ≡ Err missing.ReadFault → P) → missed ≡ Err e → result ≡ Err code → result ≡ Err status.ReadFault → P
+missing_fault result missed code e P same rose was told is = let fault : code ≡ status.ReadFault = cc in rose (was ∙ ap Err (same fault))
+
 -- A LATER LINE
 
 pub next_read : (n k : ℕ) (before : Option (List ℕ)) (pending : List ℕ) (line : Vec ℕ Global) (l : LineCode) (still : List ℕ) (after : Option (List ℕ)) → TakesLine before pending (Ok (Some line)) still after → Spells n line.items (plain_line l) → k ≤ max_lines

@@ -1,11 +1,11 @@
 -- Words that are compared and spelled again.
-use Rattle.std.proofs.Common.{Bool, add-one, not, List, None, Ok, Some, [], ap, arith, false, get_or, length, map, refl, suc, sym, take, true, zero, ℕ, ◌++◌, ◌+◌, ◌<◌, ◌^◌, ◌∙◌, ◌∷◌, ◌≡◌}
+use Rattle.std.proofs.Common.{Bool, add-one, not, List, None, Ok, Some, [], ap, arith, false, get_or, length, map, refl, suc, sym, take, true, zero, ℕ, ◌++◌, ◌+◌, ◌<◌, ◌^◌, ◌∙◌, ◌∷◌, ◌≡◌, ◌≤◌}
 use Rattle.std.specs.Borrow.{Bor}
 use Rattle.std.specs.Fmt.{decimal}
 use Rattle.std.specs.List.{AllByRecursion, slice_get}
 use Rattle.std.specs.Prelude.{option_map}
 use Rattle.std.specs.Str.{bytes_eq}
-use Rattle.std.proofs.lemmas.List.{get_or-map, length-map, map-append}
+use Rattle.std.proofs.lemmas.List.{get_or-map, length-map, map-append, take_all}
 use Rattle.std.proofs.lemmas.Option.{slice_get-get_or}
 use Rattle.std.proofs.lemmas.Slice.Eq.{bytes_eq-Decides}
 use Rattle.std.proofs.Math.Seq.{take-append_seam, take-suc}
@@ -72,6 +72,15 @@ words_more ws xs i d n same low is =
 
 pub numbers_more : (ns xs : List ℕ) (i n : ℕ) → xs ≡ take i ns → i < length ns → n ≡ get_or ns i 0 → xs ++ n ∷ [] ≡ take (i + 1) ns
 numbers_more ns xs i n same low is = ap (λ l. l ++ n ∷ []) same ∙ ap (λ v. take i ns ++ v ∷ []) is ∙ sym (rw add-one (take-suc ns i 0 low))
+
+-- all words and their numbers
+pub words_whole : (ws : List (Bor (List ℕ))) (xs : List ℕ) (i : ℕ) → words_of (take i ws) ≡ map decimal xs → length ws ≤ i → words_of ws ≡ map decimal xs
+words_whole ws xs i same past = ap words_of (sym (take_all i ws past)) ∙ same
+
+pub numbers_whole : (ws : List (Bor (List ℕ))) (ns xs : List ℕ) (i : ℕ) → xs ≡ take i ns → words_of ws ≡ map decimal ns → length ws ≤ i → xs ≡ ns
+numbers_whole ws ns xs i is same past =
+    let e : length (words_of ws) ≡ length (map decimal ns) = ap length same in
+    is ∙ take_all i ns (omega (arith, past, e, length-map ws (λ (v : Bor (List ℕ)). v.now), length-map ns decimal))
 
 -- one more of what is listed
 pub listed_more : {A B : Type 0} (f : A → B) (xs : List A) (ys : List B) (i : ℕ) (a : A) → map f xs ≡ take i ys → i < length ys → option_map f (Some a) ≡ slice_get ys i → map f (xs ++ a ∷ []) ≡ take (i + 1) ys

@@ -3,7 +3,7 @@ use Rattle.std.specs.Prelude.{None, Option, Some, ℕ, ◌≡◌}
 use Rattle.mar_node.specs.Faults.{Fault}
 use Rattle.mar_node.specs.Held.{ArePassed, FailsBy, Watches, with_armed}
 use Rattle.mar_store.specs.Alarms.{fresh_watch}
-use Rattle.mar_store.specs.Watch.{by_half, by_lowest_bit, unfailing}
+use Rattle.mar_store.specs.Watch.{by_half, by_lowest_bit}
 use Rattle.mar_store.specs.declared.LuckHalf.TheVariants.{High, Low}
 use Rattle.mar_script.specs.Script.{Line, crash_line, fail_line}
 
@@ -43,5 +43,5 @@ fresh_watches = record {
   blocks = fresh_watch (Some (by_half Low));
   certs = fresh_watch (Some (by_half High));
   meta = fresh_watch (Some by_lowest_bit);
-  cache = unfailing;
+  cache = fresh_watch (Some (by_half Low));
 }

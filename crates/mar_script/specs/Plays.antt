@@ -1,12 +1,14 @@
 -- What is asked of one line of a script and of the state before it, and what a line that was done makes of that state.
-use Rattle.std.specs.List.{AllByRecursion}
+use Rattle.std.specs.List.{AllByRecursion, filter_map}
 use Rattle.std.specs.Prelude.{Contains, IfSome, List, [], length, ℕ, ⊤, ◌*◌, ◌++◌, ◌+◌, ◌<◌, ◌≡◌, ◌≤◌}
 use Rattle.mar_types.specs.Epochs.{IsPartition}
 use Rattle.mar_cert.specs.Block.{Block}
 use Rattle.mar_cert.specs.Finalization.{Finalization, finalization_bytes}
+use Rattle.mar_store.specs.Changes.{Within}
 use Rattle.mar_store.specs.Sizes.{IsSmall}
 use Rattle.mar_node.specs.Messages.{report_finalization}
 use Rattle.mar_node.specs.Acks.{mark_dropped}
+use Rattle.mar_node.specs.Cached.{Cached, cached_block}
 use Rattle.mar_node.specs.Chain.{Chain, IsBlockAt, IsLawful}
 use Rattle.mar_node.specs.Config.{Config}
 use Rattle.mar_node.specs.Faults.{from_genesis}
@@ -41,6 +43,15 @@ abbrev pub buffer_in : State → List Block
 buffer_in (running n) = n.buffer
 buffer_in (stopped e) = []
 
+-- what is cached, and what a crash may leave of that
+abbrev pub cached_in : State → List Cached
+cached_in (running n) = n.cache.held ++ n.cache.may
+cached_in (stopped e) = e.cache_may
+
+-- the blocks that a line may meet beside its own: the chain's, those of the buffer, and those that may be cached
+abbrev pub known_in : Chain → State → List Block
+known_in chain s = chain.blocks ++ (buffer_in s ++ filter_map cached_block (cached_in s))
+
 -- What is asked of the chain, of the state behind k lines and of the next one: a digest names one block, a genesis is the
 -- chain's block 0, a reported finalization is the chain's; lines and window are no more than a script may have.
 pub record IsLawfulLine (config : Config) (chain : Chain) (k : ℕ) (before : State) (line : Line) : Type 0 where
@@ -49,7 +60,7 @@ pub record IsLawfulLine (config : Config) (chain : Chain) (k : ℕ) (before : St
   pub between : IsBetween config chain k before
   pub few : k ≤ max_lines
   pub narrow : config.window ≤ max_window
-  pub one : AreOne config.inner (chain.blocks ++ buffer_in before)
+  pub one : AreOne config.inner (known_in chain before)
   pub genesis : (b : Block) → line ≡ open_line (from_genesis b) → IsBlockAt chain 0 b
   pub reported : (f : Finalization) → line ≡ tell_line (report_finalization f) → IsFinalized chain f.round f.payload
 
@@ -58,6 +69,7 @@ pub record Plays (config : Config) (chain : Chain) (k : ℕ) (account : Account)
   pub done : LineDone config chain account before line out after
   pub between : IsBetween config chain (k + 1) after
   pub buffered : (b : Block) → Contains (buffer_in after) b → Contains (buffer_in before ++ line_blocks line) b
+  pub cached : Within (cached_in after) (cached_in before)
   pub excused : IfSome out.fault IsUsual
 
 -- SIZES

@@ -1,11 +1,12 @@
 -- What each script line does, runs of lines, and the headline.
-use Rattle.std.specs.List.{AllByRecursion, flat_map, list_any}
+use Rattle.std.specs.List.{AllByRecursion, filter_map, flat_map, list_any}
 use Rattle.std.specs.Prelude.{Any, Bool, Contains, IfSome, IsFalse, IsTrue, List, None, Option, Some, [], bytes_eq, false, filter, if◌then◌else◌, length, map, not, true, ℕ, ⊤, ◌&&◌, ◌++◌, ◌+◌, ◌<◌, ◌==◌, ◌||◌, ◌∷◌, ◌≡◌, ◌⊎◌}
 use Rattle.mar_types.specs.Causes.{Rose}
 use Rattle.mar_cert.specs.Block.{Block, IsBlock}
 use Rattle.mar_cert.specs.Finalization.{Finalization, finalization_bytes}
 use Rattle.mar_key.specs.Cutoff.{covers, cutoff_zero}
 use Rattle.mar_types.specs.Epochs.{IsPartition}
+use Rattle.mar_node.specs.Cached.{Cached, cached_block}
 use Rattle.mar_node.specs.Chain.{Chain, IsBlockAt, IsLawful}
 use Rattle.mar_store.specs.Kept.{At, has_height}
 use Rattle.mar_key.specs.Keys.{Annotation}
@@ -260,24 +261,25 @@ abbrev pub EndsWith : Block → Line → Type 0
 EndsWith b (peer_line key value) = IsBlock b × (front : List ℕ) × (value ≡ front ++ b.encoded)
 EndsWith b _ = ⊥
 
--- a block of the chain, of a line, or at the end of peer bytes
-abbrev pub Appears : Chain → List Line → Block → Type 0
-Appears chain lines b = Contains chain.blocks b ⊎ Contains (flat_map line_blocks lines) b ⊎ Any (EndsWith b) lines
+-- a block of the chain, of a line, at the end of peer bytes, or in a cache that may be left from before
+abbrev pub Appears : Chain → List Line → List Cached → Block → Type 0
+Appears chain lines cached b = Contains chain.blocks b ⊎ Contains (flat_map line_blocks lines) b ⊎ Any (EndsWith b) lines ⊎ Contains (filter_map cached_block cached) b
 
 -- a finalization in peer bytes that verifies is the chain's
 abbrev pub HonestBytes : Config → Chain → Line → Type 0
 HonestBytes config chain (peer_line key value) = (f : Finalization) (more : List ℕ) → IsFinalization config.members f → value ≡ finalization_bytes f ++ more → IsTrue (config.verifies f) → IsFinalized chain f.round f.payload
 HonestBytes config chain _ = ⊤
 
--- What is asked of a script: its finalizations that count are of the chain, its genesis is block 0, and equal digests mean equal blocks.
-pub record IsLawfulScript (config : Config) (chain : Chain) (lines : List Line) : Type 0 where
+-- What is asked of a script, over stores in which this may be left cached: its finalizations that count are of the chain, its
+-- genesis is block 0, and equal digests mean equal blocks.
+pub record IsLawfulScript (config : Config) (chain : Chain) (lines : List Line) (cached : List Cached) : Type 0 where
   pub genesis : (b : Block) → Contains lines (open_line (from_genesis b)) → IsBlockAt chain 0 b
   pub reported : (f : Finalization) → Contains (flat_map messages_of lines) (report_finalization f) → IsFinalized chain f.round f.payload
   pub floors : (f : Finalization) → Contains (flat_map messages_of lines) (set_floor f) → IsTrue (config.verifies f) → IsFinalized chain f.round f.payload
   pub first_floor : (f : Finalization) → Contains lines (open_line (from_floor f)) → IsTrue (config.verifies f) → IsFinalized chain f.round f.payload
   pub peer_bytes : (line : Line) → Contains lines line → HonestBytes config chain line
-  pub inner : (b : Block) → Appears chain lines b → config.inner b.commitment ≡ b.digest
-  pub one_block : (a b : Block) → Appears chain lines a → Appears chain lines b → a.digest ≡ b.digest → a ≡ b
+  pub inner : (b : Block) → Appears chain lines cached b → config.inner b.commitment ≡ b.digest
+  pub one_block : (a b : Block) → Appears chain lines cached a → Appears chain lines cached b → a.digest ≡ b.digest → a ≡ b
 
 -- HEADLINE
 
@@ -337,7 +339,7 @@ empty_stores = record {
   certs_may = [];
   cache_sure = [];
   cache_may = [];
-  lowests = [];
+  lowests = 0 ∷ [];
   meta = record { processed = None; cutoff = cutoff_zero } ∷ [];
 }
 
@@ -350,7 +352,7 @@ fresh_stores = record { ended = empty_stores; watches = fresh_watches }
 pub record Premises (config : Config) (chain : Chain) (lines : List Line) (before : Ended) : Type 0 where
   pub partition : IsPartition config.epochs
   pub lawful : IsLawful config.epochs chain
-  pub script : IsLawfulScript config chain lines
+  pub script : IsLawfulScript config chain lines before.cache_may
   pub good : IsGoodEnded chain before
   pub some_pair : 0 < length before.meta
 

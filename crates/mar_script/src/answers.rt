@@ -1,11 +1,10 @@
 //! The lines of what callers are answered.
-ghost use Rattle.std.specs.Prelude.{◌≡◌, ◌++◌, OnOk, string_bytes};
+ghost use Rattle.std.specs.Prelude.{◌≡◌, ◌++◌, IfOk, OnOk, string_bytes};
 ghost use Rattle.std.specs.List.{flat_map};
 ghost use Rattle.mar_inbox.specs.Answers.{answer_of, told};
 ghost use Rattle.mar_inbox.specs.Views.{value_of};
 ghost use Rattle.mar_cert.specs.Finalization.{finalization_bytes};
-ghost use Rattle.mar_key.specs.Views.{processed_of};
-ghost use Rattle.mar_node.specs.Answers.{anchor_value, bytes_value, to};
+ghost use Rattle.mar_node.specs.Answers.{to};
 ghost use Rattle.mar_script.specs.Lines.{plain_block, plain_finalization};
 ghost use Rattle.mar_script.specs.Text.{answer_words, line_of};
 
@@ -13,60 +12,32 @@ use crate::word::{Word, push_line};
 use mar_block::EmptyBlock;
 use mar_cert::MockFinalization;
 use mar_inbox::{Answer, Answered, Value};
-use mar_key::Processed;
-use mar_types::{Digested, Encode, Sha256, Sha256Digest, Write};
+use mar_types::{Digested, Sha256, Sha256Digest, Write};
 use std::alloc::{AllocError, Global};
 use std::convert::AsSlice;
 
-// A block by its bytes.
-fn push_block_answer(
+// The bytes of a block.
+fn bytes_of_block(
     alloc: Global,
-    text: &mut String,
-    ticket: u64,
     block: &Digested<EmptyBlock<Sha256>>,
-) -> Result<(), AllocError>
-    ensures { OnOk result (string_bytes text.new ≡ string_bytes text.old
-        ++ line_of (answer_words (to ticket (bytes_value (plain_block block.now).encoded)))) }
+) -> Result<Vec<u8>, AllocError>
+    ensures { IfOk result (λ bytes. bytes.items ≡ (plain_block block.now).encoded) }
 {
-    let bytes = block.inner().encode(alloc)?;
-    let words = [Word::Number(ticket), Word::Hex(bytes.as_slice())];
-    push_line(alloc, text, "answer", &words)
+    let mut bytes = Vec::new(alloc);
+    block.inner().write(&mut bytes)?;
+    Ok(bytes)
 }
 
-// A finalization by its bytes.
-fn push_finalization_answer(
+// The bytes of a finalization.
+fn bytes_of_finalization(
     alloc: Global,
-    text: &mut String,
-    ticket: u64,
     finalization: &MockFinalization,
-) -> Result<(), AllocError>
-    ensures { OnOk result (string_bytes text.new ≡ string_bytes text.old
-        ++ line_of (answer_words (to ticket (bytes_value (finalization_bytes (plain_finalization finalization.now)))))) }
+) -> Result<Vec<u8>, AllocError>
+    ensures { IfOk result (λ bytes. bytes.items ≡ finalization_bytes (plain_finalization finalization.now)) }
 {
     let mut bytes = Vec::new(alloc);
     finalization.write(&mut bytes)?;
-    let words = [Word::Number(ticket), Word::Hex(&bytes)];
-    push_line(alloc, text, "answer", &words)
-}
-
-// The processed height and the block that backs it.
-fn push_anchor_answer(
-    alloc: Global,
-    text: &mut String,
-    ticket: u64,
-    processed: Processed,
-    block: &Digested<EmptyBlock<Sha256>>,
-) -> Result<(), AllocError>
-    ensures { OnOk result (string_bytes text.new ≡ string_bytes text.old
-        ++ line_of (answer_words (to ticket (anchor_value (processed_of processed) (plain_block block.now))))) }
-{
-    let bytes = block.inner().encode(alloc)?;
-    let words = [
-        Word::Number(ticket),
-        Word::Processed(processed),
-        Word::Hex(bytes.as_slice()),
-    ];
-    push_line(alloc, text, "answer", &words)
+    Ok(bytes)
 }
 
 fn push_value(
@@ -93,9 +64,15 @@ fn push_value(
             ];
             push_line(alloc, text, "answer", &words)
         }
-        Value::Block(block) => push_block_answer(alloc, text, ticket, block),
+        Value::Block(block) => {
+            let bytes = bytes_of_block(alloc, block)?;
+            let words = [Word::Number(ticket), Word::Hex(&bytes)];
+            push_line(alloc, text, "answer", &words)
+        }
         Value::Finalization(finalization) => {
-            push_finalization_answer(alloc, text, ticket, finalization)
+            let bytes = bytes_of_finalization(alloc, finalization)?;
+            let words = [Word::Number(ticket), Word::Hex(&bytes)];
+            push_line(alloc, text, "answer", &words)
         }
         Value::Bytes(bytes) => push_line(
             alloc,
@@ -108,7 +85,13 @@ fn push_value(
             push_line(alloc, text, "answer", &words)
         }
         Value::Anchor { processed, block } => {
-            push_anchor_answer(alloc, text, ticket, *processed, block)
+            let bytes = bytes_of_block(alloc, block)?;
+            let words = [
+                Word::Number(ticket),
+                Word::Processed(*processed),
+                Word::Hex(&bytes),
+            ];
+            push_line(alloc, text, "answer", &words)
         }
         Value::Sync(sync) => {
             let words = [

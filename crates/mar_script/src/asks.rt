@@ -1,9 +1,9 @@
 //! The lines of what the resolver was asked.
-ghost use Rattle.std.specs.Prelude.{◌≡◌, ◌++◌, ◌∷◌, OnOk, Some, codes, map, string_bytes};
+ghost use Rattle.std.specs.Prelude.{◌≡◌, ◌++◌, ◌∷◌, OnOk, codes, map, option_map, string_bytes};
 ghost use Rattle.std.specs.List.{flat_map};
-ghost use Rattle.mar_key.specs.Keys.{above_round, retain};
+ghost use Rattle.mar_key.specs.Keys.{above_round, fetch, retain};
 ghost use Rattle.mar_key.specs.Recorded.{ask_of};
-ghost use Rattle.mar_key.specs.Views.{annotation_of, call_of, cutoff_of, retain_of, targeted_of};
+ghost use Rattle.mar_key.specs.Views.{annotation_of, cutoff_of, key_of, retain_of};
 ghost use Rattle.mar_script.specs.Script.{hex};
 ghost use Rattle.mar_script.specs.Text.{annotation_words, ask_words, line_of, target_words};
 
@@ -12,53 +12,47 @@ use mar_key::{Annotation, Ask, Cutoff, Fetch, Retain};
 use mar_types::{Encode, Sha256Digest};
 use std::alloc::{AllocError, Global};
 
-fn push_fetch(
-    alloc: Global,
-    text: &mut String,
-    fetch: &Fetch<Sha256Digest>,
-) -> Result<(), AllocError>
-    ensures { OnOk result (string_bytes text.new ≡ string_bytes text.old ++ line_of (ask_words (call_of (λ d. d.bytes) fetch.now))) }
-{
-    let key = fetch.key.encode(alloc)?;
-    let words = [
-        Word::Hex(key.as_slice()),
-        Word::Subscriber(fetch.subscriber),
-    ];
-    push_line(alloc, text, "fetch", &words)?;
-    Ok(())
-}
-
-// Appends the line of a request of these peers, by the bytes of its key.
-fn push_to_peers<'a>(
+// Appends the line of a request by the bytes of its key, of these peers alone where there are some.
+fn push_request<'a>(
     alloc: Global,
     text: &mut String,
     key: &'a [u8],
     annotation: Annotation,
-    peers: &'a [u32],
+    peers: Option<&'a [u32]>,
 ) -> Result<(), AllocError>
     ensures { OnOk result (string_bytes text.new ≡ string_bytes text.old
-        ++ line_of (codes "fetch" ∷ hex key.now ∷ annotation_words (annotation_of annotation) ++ target_words (Some peers.now))) }
+        ++ line_of (codes "fetch" ∷ hex key.now ∷ annotation_words (annotation_of annotation) ++ target_words (option_map (λ p. p.now) peers.entry))) }
 {
-    let words = [
-        Word::Hex(key),
-        Word::Subscriber(annotation),
-        Word::Plain("to"),
-        Word::Peers(peers),
-    ];
-    push_line(alloc, text, "fetch", &words)?;
-    Ok(())
+    match peers {
+        None => {
+            let words = [Word::Hex(key), Word::Subscriber(annotation)];
+            push_line(alloc, text, "fetch", &words)?;
+            Ok(())
+        }
+        Some(peers) => {
+            let words = [
+                Word::Hex(key),
+                Word::Subscriber(annotation),
+                Word::Plain("to"),
+                Word::Peers(peers),
+            ];
+            push_line(alloc, text, "fetch", &words)?;
+            Ok(())
+        }
+    }
 }
 
-fn push_targeted(
+fn push_fetch(
     alloc: Global,
     text: &mut String,
-    fetch: &Fetch<Sha256Digest>,
-    peers: &[u32],
+    asked: &Fetch<Sha256Digest>,
+    peers: Option<&[u32]>,
 ) -> Result<(), AllocError>
-    ensures { OnOk result (string_bytes text.new ≡ string_bytes text.old ++ line_of (ask_words (targeted_of (λ d. d.bytes) fetch.now peers.now))) }
+    ensures { OnOk result (string_bytes text.new ≡ string_bytes text.old
+        ++ line_of (ask_words (fetch (key_of (λ d. d.bytes) asked.now.key) (annotation_of asked.now.subscriber) (option_map (λ p. p.now) peers.entry)))) }
 {
-    let key = fetch.key.encode(alloc)?;
-    push_to_peers(alloc, text, key.as_slice(), fetch.subscriber, peers)?;
+    let key = asked.key.encode(alloc)?;
+    push_request(alloc, text, key.as_slice(), asked.subscriber, peers)?;
     Ok(())
 }
 
@@ -93,8 +87,8 @@ fn push_ask(alloc: Global, text: &mut String, ask: &Ask<Sha256Digest>) -> Result
     ensures { OnOk result (string_bytes text.new ≡ string_bytes text.old ++ line_of (ask_words (ask_of (λ d. d.bytes) ask.now))) }
 {
     match ask {
-        Ask::Fetch(fetch) => push_fetch(alloc, text, fetch),
-        Ask::Targeted(fetch, peers) => push_targeted(alloc, text, fetch, peers.as_slice()),
+        Ask::Fetch(asked) => push_fetch(alloc, text, asked, None),
+        Ask::Targeted(asked, peers) => push_fetch(alloc, text, asked, Some(peers.as_slice())),
         Ask::Retain(keep) => push_retain(alloc, text, *keep),
     }
 }

@@ -6,7 +6,7 @@ ghost use Rattle.mar_node.specs.Messages.{Peers};
 ghost use Rattle.mar_script.specs.Script.{ArePeers, IsPeers, comma_numbers, peers_text};
 ghost use Rattle.mar_script.specs.Words.{Yields, words_of};
 
-use crate::words::{ParseError, number, split_parts};
+use crate::words::{ParseError, number, split_at_each};
 use mar_block::Recipients;
 use mar_types::Participant;
 use std::alloc::Global;
@@ -35,7 +35,7 @@ fn members(alloc: Global, word: &[u8]) -> Result<Vec<Participant>, ParseError>
     ensures found { IfOk result (λ ms. word.now ≡ comma_numbers ms.items) }
     ensures only { (ps : List ℕ) → ArePeers ps → 0 < length ps → word.now ≡ comma_numbers ps → Yields (λ ms. ms.items ≡ ps) result }
 {
-    let parts = split_parts(alloc, word)?;
+    let parts = split_at_each(alloc, word, b',')?;
     members_of(alloc, parts.as_slice())
 }
 

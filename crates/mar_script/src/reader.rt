@@ -1,14 +1,14 @@
 //! The lines of a script, from a source that is read in pieces.
-ghost use Rattle.std.specs.Prelude.{◌≡◌, ◌≤◌, ◌<◌, ◌+◌, ◌++◌, ◌∷◌, ℕ, List, [], false, IfOk, IfSome, OnOk, OnErr, IsErrOf, take, drop, length};
+ghost use Rattle.std.specs.Prelude.{◌≡◌, ◌⊎◌, ◌≤◌, ◌<◌, ◌+◌, ◌++◌, ◌∷◌, ℕ, List, [], false, IfErr, IfOk, IfSome, None, OnErr, IsErrOf, take, drop, length};
 ghost use Rattle.mar_types.specs.Causes.{Rose};
 ghost use Rattle.mar_script.specs.Run.{IsShownAs};
 ghost use Rattle.mar_script.specs.Refused.{IsUnended};
-ghost use Rattle.mar_script.specs.Streams.{EndsAt, Gives, RaisedByFault, TakesLine};
+ghost use Rattle.mar_script.specs.Streams.{Gives, RaisedByFault, TakesLine};
 
 use crate::source::Source;
+use crate::words::first_place;
 use mar_store::Miss;
-use memchr::memchr;
-use std::alloc::{AllocError, Global};
+use std::alloc::Global;
 use std::marker::Model;
 
 /// The most bytes of a line, without its end.
@@ -80,7 +80,15 @@ impl ScriptReader {
     pub fn has_line(&self) -> bool
         ensures { result ≡ false → IsUnended self.now }
     {
-        find_end(self.behind(0)).is_some()
+        first_place(self.behind(0), b'\n').is_some()
+    }
+
+    // Lets go what was given.
+    fn forget_given(&mut self)
+        ensures { self.new ≡ self.old }
+    {
+        self.bytes.drain(..self.start);
+        self.start = 0;
     }
 
     // Takes a piece from the source.
@@ -92,8 +100,7 @@ impl ScriptReader {
         ensures later { S.faults source.old ≤ S.faults source.new }
         ensures cause { RaisedByFault (S.faults source.old) (S.faults source.new) result }
     {
-        self.bytes.drain(..self.start);
-        self.start = 0;
+        self.forget_given();
         if self.bytes.reserve(PIECE).is_err() || self.piece.resize(PIECE, 0).is_err() {
             return Err(Miss::Memory);
         }
@@ -107,16 +114,22 @@ impl ScriptReader {
         Ok(n)
     }
 
-    // Gives the first bytes, and lets the line's end behind them go.
-    fn give(&mut self, alloc: Global, n: usize) -> Result<Vec<u8>, AllocError>
+    // Gives the first bytes, unless they are too many, and lets the line's end behind them go.
+    fn give(&mut self, alloc: Global, n: usize) -> Result<Option<Vec<u8>>, LineError>
         requires { n < length self.old }
-        ensures line { IfOk result (λ line. line.items ≡ take n self.old) }
-        ensures ok { OnOk result (self.new ≡ drop (n + 1) self.old) }
+        ensures line { IfOk result (λ o. IfSome o (λ line. (n ≤ MAX_LINE) × (line.items ≡ take n self.old) × (self.new ≡ drop (n + 1) self.old))) }
+        ensures some { IfOk result (λ o. o ≡ None → ⊥) }
+        ensures cause { IfErr result (λ e. ((e ≡ LineError.TooLong) × (MAX_LINE < n)) ⊎ (e ≡ LineError.Memory)) }
         ensures err { OnErr result (self.new ≡ self.old) }
     {
-        let line = Vec::from_slice(alloc, &self.behind(0)[..n])?;
+        if n > MAX_LINE {
+            return Err(LineError::TooLong);
+        }
+        let Ok(line) = Vec::from_slice(alloc, &self.behind(0)[..n]) else {
+            return Err(LineError::Memory);
+        };
         self.start += n + 1;
-        Ok(line)
+        Ok(Some(line))
     }
 
     /// The next line without its end, or None at the end of the input. After an error but want of memory the bytes that
@@ -134,15 +147,9 @@ impl ScriptReader {
         let mut searched = 0;
         'pieces: loop {
             let held = self.len();
-            if let Some(n) = find_end(self.behind(searched)) {
+            if let Some(n) = first_place(self.behind(searched), b'\n') {
                 let found = searched + n;
-                if found > MAX_LINE {
-                    return Err(LineError::TooLong);
-                }
-                return match self.give(alloc, found) {
-                    Ok(line) => Ok(Some(line)),
-                    Err(_) => Err(LineError::Memory),
-                };
+                return self.give(alloc, found);
             }
             if held > MAX_LINE {
                 return Err(LineError::TooLong);
@@ -157,12 +164,4 @@ impl ScriptReader {
             }
         }
     }
-}
-
-// Where the first line ends.
-fn find_end(bytes: &[u8]) -> Option<usize>
-    ensures found { IfSome result (EndsAt bytes.now) }
-    ensures none { result ≡ None → IsUnended bytes.now }
-{
-    memchr(b'\n', bytes)
 }

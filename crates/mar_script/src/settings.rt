@@ -3,7 +3,7 @@ ghost use Rattle.std.specs.Prelude.{◌≡◌, ◌↔◌, ◌++◌, ◌∷◌, �
 ghost use Rattle.mar_script.specs.Script.{IsBetween, Settings, IsSettings, settings_bytes};
 ghost use Rattle.mar_script.specs.Words.{Yields, numbers_of};
 
-use crate::words::{ParseError, after, numbers, split_words};
+use crate::words::{ParseError, after, numbers, split_at_each};
 use std::alloc::Global;
 use std::marker::Model;
 
@@ -117,7 +117,7 @@ pub fn parse_settings(alloc: Global, line: &[u8]) -> Result<Settings, ParseError
     let Some(rest) = after(line, b"config") else {
         return Err(ParseError::Grammar);
     };
-    let words = split_words(alloc, rest)?;
+    let words = split_at_each(alloc, rest, b' ')?;
     let numbers = match numbers(alloc, words.as_slice()) {
         Ok(numbers) => numbers,
         Err(error) => return Err(error),

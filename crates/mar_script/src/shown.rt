@@ -79,7 +79,8 @@ fn push_node_front(alloc: Global, text: &mut String, node: &Shown<'_>) -> Result
     text.push_str("node p=")?;
     push_processed(text, node.processed)?;
     text.push_str(" o=")?;
-    push_acks(alloc, text, node.acks)
+    push_acks(alloc, text, node.acks)?;
+    Ok(())
 }
 
 fn push_node_ranges(
@@ -94,7 +95,8 @@ fn push_node_ranges(
     push_field(text, &mut kept.blocks, "b=", node.blocks_held)?;
     push_field(text, &mut kept.blocks_sure, "bs=", node.blocks_sure)?;
     push_field(text, &mut kept.certs, "f=", node.certs_held)?;
-    push_field(text, &mut kept.certs_sure, "fs=", node.certs_sure)
+    push_field(text, &mut kept.certs_sure, "fs=", node.certs_sure)?;
+    Ok(())
 }
 
 // The writes that wait for a sync, and the open syncs.
@@ -106,7 +108,8 @@ fn push_writes(text: &mut String, writes: &Writes) -> Result<(), AllocError>
     text.push_str(" u=")?;
     push_heights(text, front, back)?;
     text.push_str(" s=")?;
-    push_syncs(text, writes.syncs())
+    push_syncs(text, writes.syncs())?;
+    Ok(())
 }
 
 /// Appends the line that shows a node.
@@ -154,7 +157,8 @@ fn push_ended_ranges(
     push_field(text, &mut kept.blocks_sure, "bs=", ended.blocks_sure)?;
     push_field(text, &mut kept.blocks, "bm=", ended.blocks_may)?;
     push_field(text, &mut kept.certs_sure, "fs=", ended.certs_sure)?;
-    push_field(text, &mut kept.certs, "fm=", ended.certs_may)
+    push_field(text, &mut kept.certs, "fm=", ended.certs_may)?;
+    Ok(())
 }
 
 /// Appends the line that shows what is left where no life runs.

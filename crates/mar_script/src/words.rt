@@ -1,14 +1,15 @@
 //! The words of script lines.
-ghost use Rattle.std.specs.Prelude.{◌≡◌, ◌↔◌, ◌/◌, ◌%◌, ◌<◌, ◌^◌, ◌++◌, ◌∷◌, ℕ, List, Some, IfOk, IfSome, IsSomeAnd, IsTrue, length, decimal, map, slice_index};
-ghost use Rattle.std.specs.List.{AllByRecursion};
+ghost use Rattle.std.specs.Prelude.{◌≡◌, ◌↔◌, ◌/◌, ◌%◌, ◌<◌, ◌^◌, ◌+◌, ◌++◌, ◌==◌, ◌∷◌, ℕ, Contains, List, Some, IfOk, IfSome, IsSomeAnd, IsTrue, drop, length, decimal, map, slice_index, take};
+ghost use Rattle.std.specs.List.{AllByRecursion, slice_split};
 ghost use Rattle.hex.specs.Hex.{IsBytes, lower_digits};
 ghost use Rattle.mar_types.specs.Varint.{IsNumber};
 ghost use Rattle.mar_script.specs.Lines.{IsWord, named};
 ghost use Rattle.mar_script.specs.Refused.{HasFirstWord};
 ghost use Rattle.mar_script.specs.Script.{hex};
-ghost use Rattle.mar_script.specs.Words.{Yields, parts_in, words_in, words_of};
+ghost use Rattle.mar_script.specs.Words.{Yields, words_of};
 
 use itoa::Buffer;
+use memchr::memchr;
 use std::alloc::{AllocError, Global};
 use std::str;
 
@@ -50,12 +51,21 @@ pub fn after<'a>(line: &'a [u8], word: &[u8]) -> Option<&'a [u8]>
     Some(back.split_at(1).1)
 }
 
+/// Where a byte stands for the first time.
+pub fn first_place(bytes: &[u8], byte: u8) -> Option<usize>
+    ensures found { IfSome result (λ n. (n < length bytes.now) × (bytes.now ≡ take n bytes.now ++ byte ∷ drop (n + 1) bytes.now)
+        × (Contains (take n bytes.now) byte → ⊥)) }
+    ensures none { result ≡ None → Contains bytes.now byte → ⊥ }
+{
+    memchr(byte, bytes)
+}
+
 /// The first word of a line, and what stands behind it and a space.
 pub fn split_word(line: &[u8]) -> Option<(&[u8], &[u8])>
     ensures found { IfSome result (λ parts. (line.now ≡ parts.0.now ++ 32 ∷ parts.1.now) × IsWord parts.0.now) }
     ensures none { result ≡ None → IsWord line.now }
 {
-    let space = line.iter().position(|byte| *byte == b' ')?;
+    let space = first_place(line, b' ')?;
     let (word, rest) = line.split_at(space);
     Some((word, rest.split_at(1).1))
 }
@@ -79,18 +89,15 @@ pub fn begins_with(line: &[u8], word: &[u8]) -> bool
     line == word || after(line, word).is_some()
 }
 
-/// The words of a line.
-pub fn split_words<'a>(alloc: Global, line: &'a [u8]) -> Result<Vec<&'a [u8]>, AllocError>
-    ensures { IfOk result (λ words. words_of words.items ≡ words_in line.now) }
+/// What stands between these bytes of a line.
+pub fn split_at_each<'a>(
+    alloc: Global,
+    line: &'a [u8],
+    byte: u8,
+) -> Result<Vec<&'a [u8]>, AllocError>
+    ensures { IfOk result (λ parts. words_of parts.items ≡ slice_split (λ b. b == byte) line.now) }
 {
-    line.split(|byte| *byte == b' ').collect(alloc)
-}
-
-/// The parts of a word, with a comma between.
-pub fn split_parts<'a>(alloc: Global, word: &'a [u8]) -> Result<Vec<&'a [u8]>, AllocError>
-    ensures { IfOk result (λ parts. words_of parts.items ≡ parts_in word.now) }
-{
-    word.split(|byte| *byte == b',').collect(alloc)
+    line.split(|b| *b == byte).collect(alloc)
 }
 
 /// The number that a word spells.

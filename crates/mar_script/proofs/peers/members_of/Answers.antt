@@ -1,7 +1,7 @@
 use Rattle.std.proofs.Common.{ap, get_or, rules, sym, ◌++◌, ◌∙◌, ◌∷◌, ◌==◌, ◌≡◌, []}
 use Rattle.std.specs.List.{list_any}
 use Rattle.mar_script.proofs.PeerWords.{found_among, not_again, not_among, nth_peer, peers_more}
-use Rattle.mar_script.proofs.Spelled.{nth_fits, nth_word, numbers_more, words_more}
+use Rattle.mar_script.proofs.Spelled.{nth_fits, nth_word, numbers_more, numbers_whole, words_more, words_whole}
 use Rattle.mar_script.proofs.peers.members_of.Goals as goal
 
 pub returns-in-Err-clause-only : goal.returns-in-Err-clause-only
@@ -24,3 +24,9 @@ loop-word-preserved c =
       found = rw pushed (words_more c.args.words.now _ i _ c.in-Ok.member c.loop-word.invariant.found c.loop-word-test.true c.in-Ok.ensures.found);
       only = λ ps are same. rw pushed (numbers_more ps _ i c.in-Ok.member (c.loop-word.invariant.only ps are same) (nth_fits c.args.words.now ps i same c.loop-word-test.true) (c.in-Ok.ensures.only (get_or ps i 0) (nth_peer ps i are.0) (nth_word c.args.words.now ps i _ same c.loop-word-test.true)));
     }
+
+pub returns-clause-found : goal.returns-clause-found
+returns-clause-found c = words_whole c.args.words.now _ _ c.loop-word.invariant.found c.loop-word-test.false
+
+pub returns-clause-only : goal.returns-clause-only
+returns-clause-only c = λ ps are same. numbers_whole c.args.words.now ps _ _ (c.loop-word.invariant.only ps are same) same c.loop-word-test.false
