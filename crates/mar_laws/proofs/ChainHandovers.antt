@@ -58,7 +58,7 @@ module _ (config : Config) (chain : Chain) where
   steps n (e ∷ events) outcomes produced_answers out after d = step n (e ∷ events) outcomes produced_answers out after d
 
   opens : (e : Ended) (picks : Picks) (begin : Begin) (out : Output) (after : State) → OpenDone config chain e picks begin out after → AreChains chain out.made.reports
-  opens e picks begin out (running n) d = subst (λ o. AreChains chain o.made.reports) (sym d.3) (advances d.1.first (life_started (floor_of begin) ∷ []) d.0 d.1.start.unticketed d.1.start.advances)
+  opens e picks begin out (running n) d = subst (λ o. AreChains chain o.made.reports) (sym d.3) (advances d.1.begun (life_started (floor_of begin) ∷ []) d.0 d.1.start.unticketed d.1.start.advances)
   opens e picks begin out (stopped left) d = cuts_opening e picks begin out.made d.0 left d.3
 
   taken_by : (b : Bool) (n : Node) (q : Queued) (out : Output) (after : State) → TakenDone b config chain n q out after → AreChains chain out.made.reports

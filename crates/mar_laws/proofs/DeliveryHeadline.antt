@@ -155,7 +155,7 @@ module _ (chain : Chain) (p : Premises config chain lines empty_stores) where
     where
       by : ((c : Block) × (slice_get chain.blocks h ≡ Some c) × (c.commitment ≡ d1)) → IsBlockAt chain 1 b1 × IsFinal chain r1 1
       by (c, there, commits) =
-          let appears : Appears chain lines c = inl (stands_in chain.blocks h c there) in
+          let appears : Appears chain lines [] c = inl (stands_in chain.blocks h c there) in
           let digest : c.digest ≡ d1 = sym (p.script.inner c appears) ∙ commits in
           let same : c ≡ b1 = p.script.one_block c b1 appears (inr (inl (1, lit< tt, refl))) digest in
           let height : 1 ≡ h = sym (ap (λ b. b.height) same) ∙ p.lawful.heights h c there in

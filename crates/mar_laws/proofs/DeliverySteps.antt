@@ -19,7 +19,7 @@ use Rattle.mar_script.specs.Run.{LineDone, Run, empty_stores, next_picks}
 use Rattle.mar_laws.proofs.SmallChain.{b0, b1, d1, f1, r1, config}
 use Rattle.mar_laws.proofs.DeliveryRun.{fresh, making, none_failed, begun, n0, n1, n2, n3, n4, n5, delivery_run}
 use Rattle.mar_laws.proofs.SmallEntries.{new_block, new_cert, new_certificates, same_certificates, settled_of, settled_stores}
-use Rattle.mar_laws.proofs.SmallFacts.{same_kept, not_entered, entered_own}
+use Rattle.mar_laws.proofs.SmallFacts.{same_kept, not_entered, entered_own, none_in}
 
 -- before its sync is started
 abbrev pub unticketed : Node
@@ -200,7 +200,7 @@ module _ (chain : Chain) (at0 : IsBlockAt chain 0 b0) (at1 : IsBlockAt chain 1 b
       cache_may = record { with_sure = λ x e. e; within_may = λ x e. e; sure_may = λ x e. e };
       lowest = 0;
       lowests = [];
-      lowests_were = λ k there. there;
+      lowests_were = λ k there. absurd (none_in k there);
       lowest_was = (0, lit< tt, refl);
       blocks = reopened_store (record { height = 0; value = b0 } ∷ []);
       settled = record { sure = refl; may = λ x has. has; held_may = λ x has. has };
@@ -245,7 +245,7 @@ module _ (chain : Chain) (at0 : IsBlockAt chain 0 b0) (at1 : IsBlockAt chain 1 b
     }
 
     opens : LineDone config chain fresh (stopped empty_stores) (open_line (from_genesis b0)) (making (record nothing_made { reports = handed_over 0 b0 ∷ [] })) (running n0)
-    opens = (_, record { first = begun; finds = finds; start = record { unticketed = n0; advances = starts; ticket = refl; rests = block_missing refl; good = good0 } }, refl, refl)
+    opens = (_, record { first = begun; finds = finds; begun = begun; takes = record { cache = record { held = []; sure = []; may = [] }; loads = record { with_sure = λ x has. has; within_may = λ x has. has; sure = λ x has. has; may = λ x has. has; once = tt }; by_luck = refl; begun_is = refl }; start = record { unticketed = n0; advances = starts; ticket = refl; rests = block_missing refl; good = good0 } }, refl, refl)
 
     buffers : LineDone config chain fresh (running n0) (buffer_line b1) silent_output (running n1)
     buffers = (refl, refl)

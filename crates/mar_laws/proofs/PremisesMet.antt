@@ -83,10 +83,11 @@ no_peers b (suc (suc (suc (suc zero))), line, lt, e, ends) = (subst (λ l. EndsW
 no_peers b (suc (suc (suc (suc (suc zero)))), line, lt, e, ends) = (subst (λ l. EndsWith b l) (sym e) ends)
 no_peers b (suc (suc (suc (suc (suc (suc k))))), line, lt, e, ends) = omega arith
 
-appears : (x : Block) → Appears chain lines x → (b0 ≡ x) ⊎ (b1 ≡ x)
+appears : (x : Block) → Appears chain lines [] x → (b0 ≡ x) ⊎ (b1 ≡ x)
 appears x (inl there) = one_of_two x there
 appears x (inr (inl there)) = one_of_two x there
-appears x (inr (inr there)) = absurd (no_peers x there)
+appears x (inr (inr (inl there))) = absurd (no_peers x there)
+appears x (inr (inr (inr (k, lt, is)))) = absurd (omega arith)
 
 first_byte : List ℕ → ℕ
 first_byte [] = 0
@@ -154,7 +155,7 @@ inner_of : (x : Block) → (b0 ≡ x) ⊎ (b1 ≡ x) → x.commitment ≡ x.dige
 inner_of x (inl p) = subst (λ c. c.commitment ≡ c.digest) p refl
 inner_of x (inr p) = subst (λ c. c.commitment ≡ c.digest) p refl
 
-pub lawful_script : IsLawfulScript config chain lines
+pub lawful_script : IsLawfulScript config chain lines []
 lawful_script = record {
   genesis = λ b there. is_genesis b (first_line (open_line (from_genesis b)) there);
   reported = λ f there. let e : report_finalization f1 ≡ report_finalization f = only _ _ there in subst (λ g. IsFinalized chain g.round g.payload) (reported_f f e) (1, record { named = (0, lit< tt, refl); payload_is = refl });

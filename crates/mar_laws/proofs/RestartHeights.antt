@@ -9,13 +9,14 @@ use Rattle.mar_cert.specs.Block.{Block}
 use Rattle.mar_key.specs.Processed.{at_block, at_absent, height_in, first_unprocessed}
 use Rattle.mar_node.specs.Chain.{Chain}
 use Rattle.mar_store.specs.Kept.{At, has_height}
+use Rattle.mar_node.specs.Cached.{Cached}
 use Rattle.mar_node.specs.Config.{Config}
 use Rattle.mar_node.specs.Node.{Node, write_count, Ended, ConsecutiveFrom}
 use Rattle.mar_node.specs.Metadata.{Pair, pair_of}
 use Rattle.mar_node.specs.Event.{Event, life_started, ack_given, ack_dropped, sync_finished, block_buffered, buffer_ended, Effect, effect_of, kept_blocks, processed_after}
 use Rattle.mar_node.specs.Faults.{Begin, floor_of, next_after}
 use Rattle.mar_node.specs.Step.{Made, Advances, AdvancesAll, with_sync, Steps}
-use Rattle.mar_node.specs.Lives.{processed_at, Finds, Opens, NotBelow, OpeningPair, CutsOpening, Picks}
+use Rattle.mar_node.specs.Lives.{processed_at, Finds, Opens, NotBelow, OpeningPair, CutsOpening, Picks, TakesUp}
 use Rattle.mar_script.specs.Accounts.{Account}
 use Rattle.mar_script.specs.Text.{State, running, stopped, Output, Done, Remark}
 use Rattle.mar_node.specs.Messages.{Message, close_ticket, Queued}
@@ -104,6 +105,17 @@ module _ (config : Config) (chain : Chain) where
   found_out : (e : Ended) (picks : Picks) (begin : Begin) (n : Node) → Finds config e picks begin n → ConsecutiveFrom (first_unprocessed n.processed) n.out
   found_out e picks begin n f = subst (λ xs. ConsecutiveFrom (first_unprocessed n.processed) xs) (sym (ap (λ m. m.out) f.node)) tt
 
+  -- what took up its cache has processed and handed over the same
+  taken_up : (picked : Option (List Cached)) (n begun : Node) → TakesUp picked n begun → (begun.processed ≡ n.processed) × (begun.out ≡ n.out)
+  taken_up picked n begun takes = (ap (λ m. m.processed) takes.begun_is, ap (λ m. m.out) takes.begun_is)
+
+  cut_from : (picked : Option (List Cached)) (n begun : Node) → (begun ≡ n) ⊎ TakesUp picked n begun → (begun.processed ≡ n.processed) × (begun.out ≡ n.out)
+  cut_from picked n begun (inl is) = (ap (λ m. m.processed) is, ap (λ m. m.out) is)
+  cut_from picked n begun (inr takes) = taken_up picked n begun takes
+
+  begun_out : (n begun : Node) → (begun.processed ≡ n.processed) × (begun.out ≡ n.out) → ConsecutiveFrom (first_unprocessed n.processed) n.out → ConsecutiveFrom (first_unprocessed begun.processed) begun.out
+  begun_out n begun same c = subst (λ p. ConsecutiveFrom (first_unprocessed p) begun.out) (sym same.0) (subst (λ xs. ConsecutiveFrom (first_unprocessed n.processed) xs) (sym same.1) c)
+
   -- LINES
 
   step_least : (k : ℕ) (n : Node) (events : List Event) (outcomes : List Judged) (produced_answers : Node → List TicketAnswer) (out : Output) (after : State) → ConsecutiveFrom (first_unprocessed n.processed) n.out → k ≤ first_unprocessed n.processed → StepDone config chain n events outcomes produced_answers out after → IsInOrder after × AtLeast k after
@@ -120,8 +132,9 @@ module _ (config : Config) (chain : Chain) where
   open_least : (k : ℕ) (e : Ended) (picks : Picks) (begin : Begin) (out : Output) (after : State) → AllByRecursion (λ p. k ≤ next_after p.processed) e.meta → OpenDone config chain e picks begin out after → IsInOrder after × AtLeast k after
   open_least k e picks begin out (running n) a d =
       let o : Opens config chain e picks begin d.0 n = d.1 in
-      let low : k ≤ first_unprocessed o.first.processed = found_least k e picks begin o.first a o.finds in
-      let rise : first_unprocessed o.first.processed ≤ first_unprocessed n.processed = steps_rise o.first (life_started (floor_of begin) ∷ []) d.0 n o.start (found_out e picks begin o.first o.finds) in
+      let same = taken_up picks.cache o.first o.begun o.takes in
+      let low : k ≤ first_unprocessed o.begun.processed = subst (λ p. k ≤ first_unprocessed p) (sym same.0) (found_least k e picks begin o.first a o.finds) in
+      let rise : first_unprocessed o.begun.processed ≤ first_unprocessed n.processed = steps_rise o.begun (life_started (floor_of begin) ∷ []) d.0 n o.start (begun_out o.first o.begun same (found_out e picks begin o.first o.finds)) in
       ((o.start.good.heights.delivery.consecutive, o.start.good.heights.own_pair), omega arith)
   open_least k e picks begin out (stopped left) a d = (tt, cut d.3)
     where
@@ -135,11 +148,12 @@ module _ (config : Config) (chain : Chain) where
       cut : CutsOpening config chain e picks begin out.made d.0 left → AllByRecursion (λ p. k ≤ next_after p.processed) left.meta
       cut (inl c) = AllByRecursion-weaker _ _ either left.meta c.leaves.pairs
       cut (inr c) =
-          let low : k ≤ first_unprocessed c.first.processed = found_least k e picks begin c.first a c.finds in
-          let fx : Effect = effect_of config c.first (life_started (floor_of begin)) in
-          let rise : first_unprocessed c.first.processed ≤ first_unprocessed (processed_after c.first (life_started (floor_of begin)) fx) = first_unprocessed-rises c.first (life_started (floor_of begin)) fx (found_out e picks begin c.first c.finds) in
-          let mine : next_after (option_map height_in c.first.processed) ≡ first_unprocessed c.first.processed = next_after-is c.first.processed in
-          let later : next_after (option_map height_in (processed_after c.first (life_started (floor_of begin)) fx)) ≡ first_unprocessed (processed_after c.first (life_started (floor_of begin)) fx) = next_after-is (processed_after c.first (life_started (floor_of begin)) fx) in
+          let same = cut_from picks.cache c.first c.begun c.takes in
+          let low : k ≤ first_unprocessed c.begun.processed = subst (λ p. k ≤ first_unprocessed p) (sym same.0) (found_least k e picks begin c.first a c.finds) in
+          let fx : Effect = effect_of config c.begun (life_started (floor_of begin)) in
+          let rise : first_unprocessed c.begun.processed ≤ first_unprocessed (processed_after c.begun (life_started (floor_of begin)) fx) = first_unprocessed-rises c.begun (life_started (floor_of begin)) fx (begun_out c.first c.begun same (found_out e picks begin c.first c.finds)) in
+          let mine : next_after (option_map height_in c.begun.processed) ≡ first_unprocessed c.begun.processed = next_after-is c.begun.processed in
+          let later : next_after (option_map height_in (processed_after c.begun (life_started (floor_of begin)) fx)) ≡ first_unprocessed (processed_after c.begun (life_started (floor_of begin)) fx) = next_after-is (processed_after c.begun (life_started (floor_of begin)) fx) in
           AllByRecursion-weaker _ _ (λ p there. one_of (λ q. k ≤ next_after q.processed) e.meta _ _ p a (omega arith) (omega arith) there) left.meta c.cut.leaves.pairs
 
   takes_least : (k : ℕ) (n : Node) (q : Option Queued) (out : Output) (after : State) → IsInOrder (running n) → k ≤ first_unprocessed n.processed → TakeDone config chain n q out after → IsInOrder after × AtLeast k after

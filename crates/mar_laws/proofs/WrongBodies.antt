@@ -158,7 +158,7 @@ genesis_again n picks others o = refuse (ap (λ m. m.processed) o.finds.node ∙
     zero_late k above e = omega arith
 
     refuse : o.first.processed ≡ Some (processed_at o.finds.blocks.held 1) → ⊥
-    refuse is = zero_late _ (late _ _ (o.start.advances.processed ∙ none_brought o.first o.first.awaited ∙ is) _ (height_at (has_height o.finds.blocks.held 1))) (o.start.advances.hands.in_order).1
+    refuse is = zero_late _ (late _ _ (o.start.advances.processed ∙ none_brought o.begun o.begun.awaited ∙ ap (λ m. m.processed) o.takes.begun_is ∙ is) _ (height_at (has_height o.finds.blocks.held 1))) (o.start.advances.hands.in_order).1
 
 -- AWAITED THOUGH ITS BLOCK CAME
 

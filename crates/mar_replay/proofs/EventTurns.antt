@@ -1,10 +1,11 @@
 -- What the actor's promise makes of one event, where it tells all that was told and asked.
-use Rattle.std.proofs.Common.{Err, List, Ok, Option, Some, [], ap, map, refl, subst, sym, ◌+◌, ◌++◌, ◌∙◌, ◌∷◌, ◌≡◌}
+use Rattle.std.proofs.Common.{Err, List, Ok, Option, Some, [], ap, map, refl, subst, sym, ◌++◌, ◌∙◌, ◌∷◌, ◌≡◌}
 use Rattle.std.specs.Prelude.{Result}
 use Rattle.std.proofs.lemmas.Simd.{map-map}
 use Rattle.mar_types.specs.declared.Sha256.{Sha256}
 use Rattle.mar_types.specs.declared.Sha256Digest.{Sha256Digest}
 use Rattle.mar_types.specs.Epochs.{fixed_epochs}
+use Rattle.mar_cert.specs.Block.{Block}
 use Rattle.mar_block.specs.Sent.{Held, Sending, Sends, sending}
 use Rattle.mar_block.specs.declared.EmptyBlock.{EmptyBlock}
 use Rattle.mar_block.specs.declared.recipients.Sent.{Sent as SentCode}
@@ -12,18 +13,23 @@ use Rattle.mar_inbox.specs.Views.{sent_by, sent_of}
 use Rattle.mar_key.specs.Hears.{Hears}
 use Rattle.mar_key.specs.Keys.{Call}
 use Rattle.mar_node.specs.Answers.{Sent, TicketAnswer}
-use Rattle.mar_node.specs.Event.{Event}
+use Rattle.mar_node.specs.Chain.{Chain}
+use Rattle.mar_node.specs.Config.{Config}
+use Rattle.mar_node.specs.Event.{Event, ack_dropped, ack_given, block_buffered, buffer_ended, life_started, message_told, peer_answered, serve_ended, sync_finished}
 use Rattle.mar_node.specs.Held.{ArePassed, Ending, FailsBy, Remains}
 use Rattle.mar_node.specs.Lives.{Cuts}
-use Rattle.mar_node.specs.Promise.{Heard, HearsMade, IsSetTo, KeepsPromise, asked_since, heard_with, node_of}
+use Rattle.mar_node.specs.Node.{Node}
+use Rattle.mar_node.specs.Promise.{CutsStep, FinishesStep, Heard, HearsMade, IsSetTo, KeepsPromise, KeepsStart, KeepsStep, Waiting, asked_since, heard_with, node_of, waiting_in}
 use Rattle.mar_node.specs.Step.{Made, Report, Steps, nothing_made}
 use Rattle.mar_node.specs.Stored.{AreSmall}
 use Rattle.mar_node.specs.declared.fault.Fault.{Fault as FaultCode}
-use Rattle.mar_replay.specs.Playing.{GivesFew, IsNearLast, SeenNode, TakesEvent}
+use Rattle.mar_replay.specs.Playing.{DoesEvent, DoesStart, DoesStep, GivesFew, IsNearLast, SeenNode, TakesEvent}
 use Rattle.mar_script.specs.Lines.{plain_block, plain_sent}
 use Rattle.mar_script.specs.Shown.{plain_fault}
+use Rattle.mar_replay.specs.declared.play.Outcome.{Outcome}
 use Rattle.mar_replay.specs.declared.play.Outcome.TheVariants as outcome
 use Rattle.mar_replay.specs.declared.play.Pending.{Pending}
+use Rattle.mar_replay.specs.declared.play.State.{State as StateCode}
 use Rattle.mar_replay.specs.declared.play.State.TheVariants as state
 
 -- all that was told since there was nothing
@@ -43,42 +49,93 @@ made_same a b reports asks sends answers =
 abbrev heard_of : Made → Heard
 heard_of made = heard_with (Some made.reports) (Some made.asks) (Some made.sends) made.answers
 
-module _ (seen : SeenNode) (buffer : Held) (e : Event) (before now : Made) (silent : before ≡ nothing_made) where
-  abbrev Promises : Result SeenNode Ending → Type 0
-  Promises = KeepsPromise (fixed_epochs seen.life.epocher.length) (λ commitment. commitment) seen (e ∷ []) buffer.blocks (heard_of before) (heard_of now)
-
+module _ (seen : SeenNode) (buffer : Held) (before now : Made) (silent : before ≡ nothing_made) where
   -- what was made is what was heard since
   made_is : (made : Made) → HearsMade (heard_of before) made (heard_of now) → made ≡ now
   made_is made heard = made_same made now (told_all before.reports now.reports made.reports (ap (λ m. m.reports) silent) heard.reports) (told_all before.asks now.asks made.asks (ap (λ m. m.asks) silent) heard.asks) (told_all before.sends now.sends made.sends (ap (λ m. m.sends) silent) heard.sends)
       (sym (heard.answers ∙ ap (λ xs. xs ++ made.answers) (ap (λ m. m.answers) silent)))
 
-  pub takes_ok : {H R : Type 0} (new : SeenNode) (kept : Held) (pending : Pending) → kept.blocks ≡ buffer.blocks → Promises (Ok new) → new.life.epocher ≡ seen.life.epocher → new.life.sizes ≡ seen.life.sizes → ArePassed seen.held.watches new.held.watches → GivesFew seen new → TakesEvent {H = H} {R = R} seen buffer pending e now (state.Running new kept pending) outcome.Done
-  takes_ok new kept pending same promise epocher sizes passed tickets = record {
+  -- a step of this node that finished
+  finished : (config : Config) (chain : Chain) (n : Node) (waiting : Waiting) (e : Event) (new : SeenNode) (kept : List Block) → n.buffer ≡ kept → asked_since (waiting_in n) now.asks ≡ asked_since waiting now.asks → FinishesStep config chain n (e ∷ []) (heard_of before) (heard_of now) new
+      → Steps config chain n (e ∷ []) now (node_of new kept (asked_since waiting now.asks))
+  finished config chain n waiting e new kept same waits finishes =
+      subst (λ w. Steps config chain n (e ∷ []) now (node_of new kept w)) waits
+      (subst (λ bs. Steps config chain n (e ∷ []) now (node_of new bs (asked_since (waiting_in n) now.asks))) same
+      (subst (λ m. Steps config chain n (e ∷ []) m (node_of new n.buffer (asked_since (waiting_in n) m.asks))) (made_is finishes.made finishes.heard) finishes.steps))
+
+  -- one that was cut
+  cut_short : (config : Config) (chain : Chain) (n : Node) (e : Event) (x : Ending) → CutsStep config chain n (e ∷ []) (heard_of before) (heard_of now) x → Cuts config chain n (e ∷ []) now x.fault x.remains.ended
+  cut_short config chain n e x cut = subst (λ m. Cuts config chain n (e ∷ []) m x.fault x.remains.ended) (made_is cut.made cut.heard) cut.cuts
+
+  -- WHAT IS PROMISED IS DONE
+
+  abbrev PromisesStart : Event → Result SeenNode Ending → Type 0
+  PromisesStart e = KeepsStart (fixed_epochs seen.life.epocher.length) (λ commitment. commitment) seen (e ∷ []) buffer.blocks (heard_of before) (heard_of now)
+
+  abbrev PromisesStep : Event → Result SeenNode Ending → Type 0
+  PromisesStep e = KeepsStep (fixed_epochs seen.life.epocher.length) (λ commitment. commitment) seen (e ∷ []) buffer.blocks (heard_of before) (heard_of now)
+
+  abbrev Promises : Event → Result SeenNode Ending → Type 0
+  Promises e = KeepsPromise (e ∷ []) (fixed_epochs seen.life.epocher.length) (λ commitment. commitment) seen buffer.blocks (heard_of before) (heard_of now)
+
+  -- of a start, and of an event of a life that has begun
+  by_event : {H R : Type 0} (after : StateCode H R) (o : Outcome) (result : Result SeenNode Ending) → ((e : Event) → PromisesStart e result → DoesStart seen buffer e now after o) → ((e : Event) → PromisesStep e result → DoesStep seen buffer e now after o) → (e : Event) → Promises e result → DoesEvent seen buffer e now after o
+  by_event after o result start step (life_started f) promise = start (life_started f) promise
+  by_event after o result start step (message_told t m) promise = step (message_told t m) promise
+  by_event after o result start step (ack_given t) promise = step (ack_given t) promise
+  by_event after o result start step (ack_dropped t) promise = step (ack_dropped t) promise
+  by_event after o result start step (sync_finished t) promise = step (sync_finished t) promise
+  by_event after o result start step (peer_answered a) promise = step (peer_answered a) promise
+  by_event after o result start step serve_ended promise = step serve_ended promise
+  by_event after o result start step (block_buffered b) promise = step (block_buffered b) promise
+  by_event after o result start step buffer_ended promise = step buffer_ended promise
+
+  module _ (H R : Type 0) (new : SeenNode) (kept : Held) (pending : Pending) (same : kept.blocks ≡ buffer.blocks) (tickets : GivesFew seen new) where
+    started_ok : (e : Event) → PromisesStart e (Ok new) → DoesStart {H = H} {R = R} seen buffer e now (state.Running new kept pending) outcome.Done
+    started_ok e promise fresh config chain waiting set lawful =
+        let start = promise fresh config chain waiting set lawful in (
+          start.begun,
+          start.takes,
+          (finished config chain start.begun waiting e new kept.blocks (ap (λ n. n.buffer) start.takes.begun_is ∙ sym same) (ap (λ n. asked_since (waiting_in n) now.asks) start.takes.begun_is) start.finishes, same, tickets),
+        )
+
+    stepped_ok : (e : Event) → PromisesStep e (Ok new) → DoesStep {H = H} {R = R} seen buffer e now (state.Running new kept pending) outcome.Done
+    stepped_ok e promise config chain waiting set lawful = (finished config chain (node_of seen buffer.blocks waiting) waiting e new kept.blocks (sym same) refl (promise config chain waiting set lawful), same, tickets)
+
+  abbrev ending : FaultCode Sha256Digest → Remains → Ending
+  ending fault left = record { fault = plain_fault fault; remains = left }
+
+  module _ (H R : Type 0) (fault : FaultCode Sha256Digest) (left : Remains) (limit : IsNearLast seen (plain_fault fault)) where
+    started_err : (e : Event) → PromisesStart e (Err (ending fault left)) → DoesStart {H = H} {R = R} seen buffer e now (state.Stopped left 0) (outcome.Fault fault)
+    started_err e promise fresh config chain waiting set lawful = let start = promise fresh config chain waiting set lawful in (start.begun, start.takes, (cut_short config chain start.begun e (ending fault left) start.cuts, limit))
+
+    stepped_err : (e : Event) → PromisesStep e (Err (ending fault left)) → DoesStep {H = H} {R = R} seen buffer e now (state.Stopped left 0) (outcome.Fault fault)
+    stepped_err e promise config chain waiting set lawful = (cut_short config chain (node_of seen buffer.blocks waiting) e (ending fault left) (promise config chain waiting set lawful), limit)
+
+-- ONE EVENT
+
+module _ (seen : SeenNode) (buffer : Held) (e : Event) (before now : Made) (silent : before ≡ nothing_made) where
+  pub takes_ok : {H R : Type 0} (new : SeenNode) (kept : Held) (pending : Pending) → kept.blocks ≡ buffer.blocks → Promises seen buffer before now silent e (Ok new) → new.life.epocher ≡ seen.life.epocher → new.life.sizes ≡ seen.life.sizes → ArePassed seen.held.watches new.held.watches → GivesFew seen new
+      → TakesEvent {H = H} {R = R} seen buffer pending e now (state.Running new kept pending) outcome.Done
+  takes_ok {H = H} {R = R} new kept pending same promise epocher sizes passed tickets = record {
     set = λ config set. subst (λ z. IsSetTo config z (fixed_epochs new.life.epocher.length) (λ commitment. commitment)) (sym sizes) (subst (λ p. IsSetTo config seen.life.sizes (fixed_epochs p.length) (λ commitment. commitment)) (sym epocher) set);
     small = λ small. subst AreSmall (sym same) small;
     calls = passed;
     lucky = λ luck line. tt;
     pending_as = refl;
-    done = λ config chain waiting set lawful.
-        let finishes = promise config chain waiting set lawful in (
-          subst (λ bs. Steps config chain (node_of seen buffer.blocks waiting) (e ∷ []) now (node_of new bs (asked_since waiting now.asks))) (sym same)
-              (subst (λ m. Steps config chain (node_of seen buffer.blocks waiting) (e ∷ []) m (node_of new buffer.blocks (asked_since waiting m.asks))) (made_is finishes.made finishes.heard) finishes.steps),
-          same,
-          tickets,
-        );
+    done = by_event seen buffer before now silent {H = H} {R = R} (state.Running new kept pending) outcome.Done (Ok new) (started_ok seen buffer before now silent H R new kept pending same tickets) (stepped_ok seen buffer before now silent H R new kept pending same tickets) e promise;
   }
 
-  pub takes_err : {H R : Type 0} (pending : Pending) (fault : FaultCode Sha256Digest) (left : Remains) → Promises (Err (record { fault = plain_fault fault; remains = left })) → FailsBy seen.held.watches (plain_fault fault) left.watches → IsNearLast seen (plain_fault fault)
+  pub takes_err : {H R : Type 0} (pending : Pending) (fault : FaultCode Sha256Digest) (left : Remains) (x : Ending) → x ≡ record { fault = plain_fault fault; remains = left } → Promises seen buffer before now silent e (Err x) → FailsBy seen.held.watches (plain_fault fault) left.watches → IsNearLast seen (plain_fault fault)
       → TakesEvent {H = H} {R = R} seen buffer pending e now (state.Stopped left 0) (outcome.Fault fault)
-  takes_err pending fault left promise fails limit = record {
+  takes_err {H = H} {R = R} pending fault left x is promise fails limit = record {
     set = λ config set. tt;
     small = λ small. tt;
     calls = fails;
     lucky = λ luck line. refl;
     pending_as = tt;
-    done = λ config chain waiting set lawful.
-        let cut = promise config chain waiting set lawful in
-        (subst (λ m. Cuts config chain (node_of seen buffer.blocks waiting) (e ∷ []) m (plain_fault fault) left.ended) (made_is cut.made cut.heard) cut.cuts, limit);
+    done = by_event seen buffer before now silent {H = H} {R = R} (state.Stopped left 0) (outcome.Fault fault) (Err (record { fault = plain_fault fault; remains = left })) (started_err seen buffer before now silent H R fault left limit) (stepped_err seen buffer before now silent H R fault left limit) e
+        (subst (λ y. Promises seen buffer before now silent e (Err y)) is promise);
   }
 
 -- WHAT WAS SENT
@@ -93,9 +150,9 @@ sent_nothing buffer cleared before sent is silent unsent = ap sent_by unsent ∙
 
 -- by a buffer out of which was taken what earlier lines sent
 pub promise_since : (seen : SeenNode) (buffer cleared : Held) (e : Event) (reports reports' : Option (List Report)) (asks asks' : Option (List Call)) (sent sends' : Option (List Sent)) (answers answers' : List TicketAnswer) (before : Made) (result : Result SeenNode Ending) → cleared ≡ record buffer { sent = [] } → before ≡ nothing_made → sent ≡ sends'
-    → KeepsPromise (fixed_epochs seen.life.epocher.length) (λ commitment. commitment) seen (e ∷ []) cleared.blocks (heard_with reports asks (sent_by (Some cleared.sent)) answers) (heard_with reports' asks' sent answers') result
-    → KeepsPromise (fixed_epochs seen.life.epocher.length) (λ commitment. commitment) seen (e ∷ []) buffer.blocks (heard_with reports asks (Some before.sends) answers) (heard_with reports' asks' sends' answers') result
+    → KeepsPromise (e ∷ []) (fixed_epochs seen.life.epocher.length) (λ commitment. commitment) seen cleared.blocks (heard_with reports asks (sent_by (Some cleared.sent)) answers) (heard_with reports' asks' sent answers') result
+    → KeepsPromise (e ∷ []) (fixed_epochs seen.life.epocher.length) (λ commitment. commitment) seen buffer.blocks (heard_with reports asks (Some before.sends) answers) (heard_with reports' asks' sends' answers') result
 promise_since seen buffer cleared e reports reports' asks asks' sent sends' answers answers' before result is silent same promise =
-    subst (λ m. KeepsPromise (fixed_epochs seen.life.epocher.length) (λ commitment. commitment) seen (e ∷ []) buffer.blocks (heard_with reports asks (Some m.sends) answers) (heard_with reports' asks' sends' answers') result) (sym silent)
-    (subst (λ s. KeepsPromise (fixed_epochs seen.life.epocher.length) (λ commitment. commitment) seen (e ∷ []) buffer.blocks (heard_with reports asks (Some []) answers) (heard_with reports' asks' s answers') result) same
-    (subst (λ b. KeepsPromise (fixed_epochs seen.life.epocher.length) (λ commitment. commitment) seen (e ∷ []) b.blocks (heard_with reports asks (sent_by (Some b.sent)) answers) (heard_with reports' asks' sent answers') result) is promise))
+    subst (λ m. KeepsPromise (e ∷ []) (fixed_epochs seen.life.epocher.length) (λ commitment. commitment) seen buffer.blocks (heard_with reports asks (Some m.sends) answers) (heard_with reports' asks' sends' answers') result) (sym silent)
+    (subst (λ s. KeepsPromise (e ∷ []) (fixed_epochs seen.life.epocher.length) (λ commitment. commitment) seen buffer.blocks (heard_with reports asks (Some []) answers) (heard_with reports' asks' s answers') result) same
+    (subst (λ b. KeepsPromise (e ∷ []) (fixed_epochs seen.life.epocher.length) (λ commitment. commitment) seen b.blocks (heard_with reports asks (sent_by (Some b.sent)) answers) (heard_with reports' asks' sent answers') result) is promise))

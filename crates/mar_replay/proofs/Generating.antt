@@ -114,7 +114,7 @@ module _ {H R : Type 0} where
     runs_made : (status : Status) → StopsBetween status → StopsAt (length (lines_of so.made) + 2) (IsLineBytes 4) [] [] status → number ≤ max_lines + 1 → ((asked : List Asked) → HandsBack (state_with asked c) (remains_in c).ended) → RunsMade seed n (lines_of so.made) status (texts_of (text before.ended []) so.made) before (remains_in c)
     runs_made status between stops number_fits hands = record {
       reads = reads_made seed n (lines_of so.made) status fits few so.ours (omega (arith, so.count, number_fits)) stops;
-      premises = λ apart good some. premises_made seed n (lines_of so.made) so.ours before.ended few apart good some;
+      premises = λ apart own good some. premises_made seed n (lines_of so.made) so.ours before.ended few apart own good some;
       runs = λ chain p. stops_between status (config_of gen_settings) chain before (lines_of so.made) (account_in so.luck c) (state_of c) (texts_of (text before.ended []) so.made) (remains_in c) between (so.runs chain p) refl (left_remains c (open_in c)) (hands (open_in c));
     }
 
@@ -213,7 +213,7 @@ module _ {H R : Type 0} where
               bytes = texts_of (text before.ended []) so.made ++ wrote.0;
               runs = record {
                 reads = reads_made seed n (lines_of so.made ++ plain_line l ∷ []) out_of_memory fits few ours_now (omega (arith, count_now, number_fits)) tt;
-                premises = λ apart good some. premises_made seed n (lines_of so.made ++ plain_line l ∷ []) ours_now before.ended few apart good some;
+                premises = λ apart own good some. premises_made seed n (lines_of so.made ++ plain_line l ∷ []) ours_now before.ended few apart own good some;
                 runs = λ chain p.
                     stops_in_text (config_of gen_settings) chain before (lines_of so.made) (plain_line l) (account_in so.luck c) (state_of c) (texts_of (text before.ended []) so.made) p (before_line chain p) turned.out state_now (account_in luck_now d) (played chain p)
                     counted_now out_of_memory wrote.0 (remains_in d) tt (subst (λ whole. IsFront wrote.0 whole) (sym (text_open turned.out d (opened_now (config_of gen_settings) c d (plain_line l) (Some []) (Some now) written turned))) wrote.1) (λ memory. refl) refl (left_remains d (opened_now (config_of gen_settings) c d (plain_line l) (Some []) (Some now) written turned)) (hands (opened_now (config_of gen_settings) c d (plain_line l) (Some []) (Some now) written turned));
@@ -237,7 +237,7 @@ gen_nothing seed n fits few before front of_text = record {
   bytes = front;
   runs = record {
     reads = reads_made seed n [] out_of_memory fits few tt (lit< tt) tt;
-    premises = λ apart good some. premises_made seed n [] tt before.ended few apart good some;
+    premises = λ apart own good some. premises_made seed n [] tt before.ended few apart own good some;
     runs = λ chain p. record {
       run = [];
       lines_done = refl;

@@ -106,9 +106,8 @@ asks_reports chain t query.Processed = tt
 asks_reports chain t query.Anchor = tt
 asks_reports chain t (query.Verified r) = tt
 
--- a start, a reported finalization, an acknowledgement, a sync that finished, a query, a prepared block
+-- an event of a life that has begun: a reported finalization, an acknowledgement, a sync that finished, a query, a prepared block
 pub data IsPlain : Event → Type 0 where
-  starts : IsPlain (life_started None)
   reports : (f : Finalization) → IsPlain (message_told None (report_finalization f))
   acks : (t : ℕ) → IsPlain (ack_given t)
   finishes : (t : ℕ) → IsPlain (sync_finished t)
@@ -127,8 +126,10 @@ module _ {P E : Type 0} (config : Config) (chain : Chain) (a : Seen P E) (buffer
   abbrev node : Node
   node = node_of a buffer waiting
 
+  pub undropped-start : (made : Made) (n' : Node) → Steps config chain node (life_started None ∷ []) made n' → Undropped node.out → Undropped n'.out
+  undropped-start made n' steps undropped = subst (λ m. Undropped m.out) (sym steps.ticket) (undropped-with_sync (write_count node) steps.unticketed (undropped-kept node (life_started None) made steps.unticketed steps.advances.hands undropped))
+
   pub undropped-step : (e : Event) → IsPlain e → (made : Made) (n' : Node) → Steps config chain node (e ∷ []) made n' → Undropped node.out → Undropped n'.out
-  undropped-step e starts made n' steps undropped = subst (λ m. Undropped m.out) (sym steps.ticket) (undropped-with_sync (write_count node) steps.unticketed (undropped-kept node (life_started None) made steps.unticketed steps.advances.hands undropped))
   undropped-step e (reports f) made n' steps undropped = subst (λ m. Undropped m.out) (sym steps.ticket) (undropped-with_sync (write_count node) steps.unticketed (undropped-kept node (message_told None (report_finalization f)) made steps.unticketed steps.advances.hands undropped))
   undropped-step e (acks t) made n' steps undropped = subst (λ m. Undropped m.out) (sym steps.ticket) (undropped-with_sync (write_count node) steps.unticketed
       (undropped-kept node (ack_given t) made steps.unticketed steps.advances.hands (undropped-after (with_mark t mark_given a.life.out) (undropped-marked t a.life.out undropped))))
@@ -145,7 +146,6 @@ module _ {P E : Type 0} (config : Config) (chain : Chain) (a : Seen P E) (buffer
   query_fault t (query.Verified r) = refl
 
   pub no_event_fault : (e : Event) → IsPlain e → IsLawfulStep config chain node (e ∷ []) → Undropped node.out → event_fault config node e ≡ None
-  no_event_fault e starts lawful undropped = refl
   no_event_fault e (finishes t) lawful undropped = refl
   no_event_fault e (queries t q) lawful undropped = query_fault t q
   no_event_fault e (prepares r peers b) lawful undropped = refl

@@ -1,5 +1,6 @@
 pub mod SameWords
 pub mod Lasting
+pub mod CachedLines
 pub mod LineTurns
 pub mod OpeningTurns
 pub mod EventTurns

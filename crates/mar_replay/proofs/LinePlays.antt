@@ -1,6 +1,6 @@
 -- What `play` makes of each line.
-use Rattle.std.proofs.Common.{Contains, List, None, Option, [], ap, arith, refl, subst, sym, ℕ, ◌++◌, ◌+◌, ◌<◌, ◌∷◌, ◌≡◌, ◌≤◌, ◌⊎◌, ◌*◌, ◌∙◌}
-use Rattle.std.proofs.lemmas.List.Elements.{Contains-append_left}
+use Rattle.std.proofs.Common.{Contains, List, None, Option, [], ap, arith, refl, subst, sym, true, ℕ, ◌++◌, ◌+◌, ◌<◌, ◌∷◌, ◌≡◌, ◌≤◌, ◌⊎◌, ◌*◌, ◌∙◌}
+use Rattle.std.proofs.lemmas.List.Elements.{Contains-append_left, Contains-append_right}
 use Rattle.mar_types.specs.declared.Sha256Digest.{Sha256Digest}
 use Rattle.mar_types.specs.Epochs.{fixed_epochs}
 use Rattle.mar_cert.specs.Block.{Block}
@@ -15,9 +15,10 @@ use Rattle.mar_node.specs.Faults.{Fault, StoreName, from_genesis, ticket_limit}
 use Rattle.mar_node.specs.Held.{ArePassed, FailsBy, IsUsual, Remains, Sizes, Watches, picks_of, remains_of, with_armed}
 use Rattle.mar_node.specs.Lives.{CutsReopening, Finds}
 use Rattle.mar_node.specs.Stored.{AreSmall}
+use Rattle.mar_store.specs.Changes.{Within}
 use Rattle.mar_store.specs.Sizes.{IsSmall}
 use Rattle.mar_store.proofs.Lookups.{AllByRecursion-push}
-use Rattle.mar_node.specs.Promise.{IsGoodUntold, IsLawfulStep, IsOpeningFault, IsSetTo, Waiting, node_of, none_waiting}
+use Rattle.mar_node.specs.Promise.{IsGoodUntold, IsLawfulStep, IsOpeningFault, IsSetTo, Waiting, asked_since, node_of, none_waiting}
 use Rattle.mar_node.specs.Node.{Node}
 use Rattle.mar_node.specs.Step.{Made, Steps, nothing_made}
 use Rattle.mar_node.proofs.Passing.{ArePassed-refl}
@@ -29,7 +30,7 @@ use Rattle.mar_node.specs.Views.{kind_of}
 use Rattle.mar_script.specs.Refused.{max_lines}
 use Rattle.mar_script.specs.Accounts.{Account, Calls, CallsEnd, luck_after}
 use Rattle.mar_script.specs.Plays.{IsBetween, IsLawfulLine, Plays, max_window}
-use Rattle.mar_replay.specs.Playing.{AfterEvent, HasLuck, IsNearLast, IsOpenAs, IsPendingAs, IsSetNode, PlaysLine, SeenNode, TakesEvent, account_in, empty_buffer}
+use Rattle.mar_replay.specs.Playing.{AfterEvent, DoesEvent, DoesStep, HasLuck, IsNearLast, IsOpenAs, IsPendingAs, IsSetNode, PlaysLine, SeenNode, StartsFrom, TakesEvent, account_in, empty_buffer}
 use Rattle.mar_script.specs.Run.{LineDone, OpenDone, StepDone, still_unanswered}
 use Rattle.mar_script.specs.Script.{Line, Settings, buffer_line, config_of, crash_line, fail_line, open_line, tell_line}
 use Rattle.mar_script.specs.Text.{Output, State, running, stopped}
@@ -42,18 +43,19 @@ use Rattle.mar_replay.specs.declared.play.Pending.{Pending}
 use Rattle.mar_replay.specs.declared.play.State.{State as StateCode}
 use Rattle.mar_replay.specs.declared.play.State.TheVariants as state
 use Rattle.mar_script.specs.declared.RemarkShown.{RemarkShown}
-use Rattle.mar_replay.proofs.Lasting.{IsPlain, starts, syncs_after, syncs_last, tickets_after, tickets_last}
-use Rattle.mar_replay.proofs.LineTurns.{cut_between, cut_usual, lawful_step, step_between, step_cut, step_done}
+use Rattle.mar_replay.proofs.CachedLines.{step_cached}
+use Rattle.mar_replay.proofs.Lasting.{IsPlain, acks, finishes, prepares, queries, reports, syncs_after, syncs_last, tickets_after, tickets_last}
+use Rattle.mar_replay.proofs.LineTurns.{cut_between, cut_cached, cut_usual, lawful_step, only_cut, step_between, step_cut, step_done}
 use Rattle.mar_replay.proofs.Replaying.{between_left}
-use Rattle.mar_replay.proofs.OpeningTurns.{lawful_start, opening_cut, opening_done, opening_usual, start_cut, undropped-found}
+use Rattle.mar_replay.proofs.OpeningTurns.{lawful_start, opening_between, opening_cached, opening_cut, opening_done, opening_usual, start_cached, start_cut, start_usual, undropped-found}
 
 none_in : (b : Block) → Contains [] b → ⊥
 none_in b has = let lt : has.0 < 0 = has.1 in omega arith
 
 -- the tickets of so many lines last
 never_last : (k : ℕ) (seen : SeenNode) (fault : Fault) → seen.life.next_ack ≤ max_window * k → seen.held.writes.next_sync ≤ k → k ≤ max_lines → seen.life.sizes.window ≤ max_window → IsNearLast seen fault → (kind : TicketKind) → fault ≡ ticket_limit (kind_of kind) → ⊥
-never_last k seen fault acks syncs few narrow near Ack is = tickets_last k seen.life.next_ack seen.life.sizes.window acks few narrow (near.0 is)
-never_last k seen fault acks syncs few narrow near Sync is = syncs_last k seen.held.writes.next_sync syncs few (near.1 is)
+never_last k seen fault given started few narrow near Ack is = tickets_last k seen.life.next_ack seen.life.sizes.window given few narrow (near.0 is)
+never_last k seen fault given started few narrow near Sync is = syncs_last k seen.held.writes.next_sync started few (near.1 is)
 
 -- a state behind one line more
 later_state : (config : Config) (chain : Chain) (k : ℕ) (s : State) → IsBetween config chain k s → IsBetween config chain (k + 1) s
@@ -97,7 +99,7 @@ module _ {H R : Type 0} where
     calls = calls (remains_in s).watches;
     lucky = λ before has. subst (λ k. HasLuck k s) (sym (luck before)) has;
     opened = keeps_open s;
-    plays = λ is before has chain k lawful. record { done = done chain (account_in before s); between = later_state config chain k (state_of s) lawful.between; buffered = λ b has. Contains-append_left _ _ b has; excused = tt };
+    plays = λ is before has chain k lawful. record { done = done chain (account_in before s); between = later_state config chain k (state_of s) lawful.between; buffered = λ b has. Contains-append_left _ _ b has; cached = λ x has. has; excused = tt };
   }
 
   -- a store is made to fail
@@ -109,7 +111,7 @@ module _ {H R : Type 0} where
     calls = refl;
     lucky = λ before has. tt;
     opened = refl;
-    plays = λ set before has chain k lawful. record { done = (refl, refl); between = later_state config chain k (running (node_of seen buffer.blocks (between pending))) lawful.between; buffered = λ b has. Contains-append_left _ _ b has; excused = tt };
+    plays = λ set before has chain k lawful. record { done = (refl, refl); between = later_state config chain k (running (node_of seen buffer.blocks (between pending))) lawful.between; buffered = λ b has. Contains-append_left _ _ b has; cached = λ x has. has; excused = tt };
   })
 
   pub plays_fail_left : (config : Config) (left new : Remains) (luck : ℕ) (store : StoreName) (calls : ℕ) → new.ended ≡ left.ended → new.watches ≡ with_armed store calls left.watches
@@ -124,6 +126,7 @@ module _ {H R : Type 0} where
       done = (refl, ap stopped ended);
       between = subst (λ e. IsBetween config chain (k + 1) (stopped e)) (sym ended) lawful.between;
       buffered = λ b has. absurd (none_in b has);
+      cached = subst (λ e. Within e.cache_may left.ended.cache_may) (sym ended) (λ x has. has);
       excused = tt;
     };
   }
@@ -140,6 +143,7 @@ module _ {H R : Type 0} where
       done = (refl, ap (λ bs. running (node_of seen bs (between pending))) is);
       between = put_between config chain k seen buffer.blocks new.blocks (between pending) lawful.between;
       buffered = λ x has. subst (λ bs. Contains bs x) is has;
+      cached = λ x has. has;
       excused = tt;
     };
   }
@@ -152,7 +156,13 @@ module _ {H R : Type 0} where
     calls = ArePassed-refl seen.held.watches;
     lucky = λ before has. refl;
     opened = tt;
-    plays = λ is before has chain k lawful. record { done = (refl, refl); between = between_left config chain k (running (node_of seen buffer.blocks (between pending))) lawful.between; buffered = λ b has. absurd (none_in b has); excused = tt };
+    plays = λ is before has chain k lawful. record {
+      done = (refl, refl);
+      between = between_left config chain k (running (node_of seen buffer.blocks (between pending))) lawful.between;
+      buffered = λ b has. absurd (none_in b has);
+      cached = λ x has. Contains-append_right seen.held.cache.kept.held seen.held.cache.kept.may x has;
+      excused = tt;
+    };
   }
 
   -- or sets the luck alone, where no life runs
@@ -163,7 +173,7 @@ module _ {H R : Type 0} where
     calls = ArePassed-refl left.watches;
     lucky = λ was has. refl;
     opened = tt;
-    plays = λ is was has chain k lawful. record { done = (refl, refl); between = lawful.between; buffered = λ b has. absurd (none_in b has); excused = tt };
+    plays = λ is was has chain k lawful. record { done = (refl, refl); between = lawful.between; buffered = λ b has. absurd (none_in b has); cached = λ x has. has; excused = tt };
   }
 
   -- behind an event of the life, whoever waited beside it
@@ -171,7 +181,7 @@ module _ {H R : Type 0} where
       (lawful : IsLawfulLine config chain k (running (node_of seen buffer.blocks (between pending))) l) (step : IsLawfulStep config chain (node_of seen buffer.blocks waiting) (e ∷ [])) (few : waiting.next_answer ≤ k + 1) (answered : (n' : Node) → Steps config chain (node_of seen buffer.blocks waiting) (e ∷ []) made n' → still_unanswered made.answers [] waiting.unanswered ≡ [])
       (account : Account) (line_done : (out : Output) (s : State) → StepDone config chain (node_of seen buffer.blocks waiting) (e ∷ []) [] (λ m. []) out s → LineDone config chain account (running (node_of seen buffer.blocks (between pending))) l out s)
     where
-      pub after_event : (after : StateCode H R) (o : Outcome) (next : ℕ) → waiting.next_answer ≡ next → AfterEvent config chain seen buffer.blocks waiting e made after o
+      pub after_event : (after : StateCode H R) (o : Outcome) (next : ℕ) → waiting.next_answer ≡ next → AfterEvent config chain (node_of seen buffer.blocks waiting) seen buffer.blocks waiting e made after o
           → ((new : SeenNode) (kept : Held) (now : Pending) → after ≡ state.Running new kept now → now.next_answer ≡ next)
           → Plays config chain k account (running (node_of seen buffer.blocks (between pending))) l (output_of made o) (state_with (asked_after waiting.requests [] made.asks) after)
       after_event (state.Running new kept now) outcome.Done next is (steps, same, tickets) next_is = record {
@@ -182,12 +192,14 @@ module _ {H R : Type 0} where
             (tickets_after k seen.life.next_ack new.life.next_ack seen.life.sizes.window lawful.between.2.tickets (subst (λ w. w ≤ max_window) set.window lawful.narrow) tickets.0)
             (syncs_after k seen.held.writes.next_sync new.held.writes.next_sync lawful.between.2.sync_tickets tickets.1) few);
         buffered = λ b has. Contains-append_left _ _ b (subst (λ xs. Contains xs b) same has);
+        cached = step_cached config chain (node_of seen buffer.blocks waiting) e made (node_of new kept.blocks (asked_since waiting made.asks)) steps;
         excused = tt;
       }
       after_event (state.Stopped left luck) (outcome.Fault fault) next is (cuts, limit) next_is = record {
         done = line_done _ _ (step_cut config chain seen buffer.blocks waiting e made fault left.ended cuts);
         between = cut_between config chain seen buffer.blocks waiting (k + 1) e made (plain_fault fault) left.ended cuts;
         buffered = λ b has. absurd (none_in b has);
+        cached = λ x has. Contains-append_right seen.held.cache.kept.held seen.held.cache.kept.may x (cut_cached config chain (node_of seen buffer.blocks waiting) e made (plain_fault fault) left.ended cuts x has);
         excused = cut_usual config chain seen buffer.blocks waiting e plain made fault left.ended step lawful.between.2.undropped cuts
             (never_last k seen (plain_fault fault) lawful.between.2.tickets lawful.between.2.sync_tickets lawful.few (subst (λ w. w ≤ max_window) set.window lawful.narrow) limit);
       }
@@ -211,6 +223,14 @@ module _ {H R : Type 0} where
   opened_as before (state.Running new kept now) kept_as = ap (λ p. p.requests) kept_as
   opened_as before (state.Stopped left luck) kept_as = tt
 
+  -- what an event of a life that has begun makes of it
+  pub done_step : (seen : SeenNode) (buffer : Held) (made : Made) (after : StateCode H R) (o : Outcome) {e : Event} → IsPlain e → DoesEvent seen buffer e made after o → DoesStep seen buffer e made after o
+  done_step seen buffer made after o (reports f) done = done
+  done_step seen buffer made after o (acks t) done = done
+  done_step seen buffer made after o (finishes t) done = done
+  done_step seen buffer made after o (queries t q) done = done
+  done_step seen buffer made after o (prepares r peers b) done = done
+
   -- a line that is one event of the life
   pub plays_event : (seen : SeenNode) (buffer : Held) (pending : Pending) (l : Line) (e : Event) (made : Made) (after : StateCode H R) (o : Outcome) → IsPlain e → ((f : Finalization) → e ≡ message_told None (report_finalization f) → l ≡ tell_line (report_finalization f))
       → ((before now : Watches) (fault : Option Fault) → CallsEnd before fault now → Calls before l fault now)
@@ -225,7 +245,7 @@ module _ {H R : Type 0} where
     plays = λ is before has chain k lawful.
         let step = lawful_step config chain seen buffer.blocks (between pending) k l e plain lawful same in
         after_event seen buffer pending l e made config chain k (between pending) plain is lawful step (let low : pending.next_answer ≤ k = lawful.between.2.answer_tickets in omega arith) (λ n' steps. refl) (account_in before (Running seen buffer pending)) (line_done config chain (account_in before (Running seen buffer pending)) (between pending)) after o pending.next_answer refl
-        (takes.done config chain (between pending) is step) (pending_next pending after takes.pending_as);
+        (done_step seen buffer made after o plain takes.done config chain (between pending) is step) (pending_next pending after takes.pending_as);
   }
 
   -- an opening that was cut before its start
@@ -242,53 +262,60 @@ module _ {H R : Type 0} where
       done = subst (λ j. OpenDone config chain before.ended (picks_of before j) (from_genesis g) (output_of nothing_made (outcome.Fault fault)) (stopped left.ended)) has (opening_cut config chain before.ended (picks_of before luck) g fault left.ended (cuts chain k lawful));
       between = ((cuts chain k lawful).leaves.good, (cuts chain k lawful).leaves.some_pair);
       buffered = λ b has. absurd (none_in b has);
+      cached = (cuts chain k lawful).may_cached;
       excused = opening_usual config chain before.ended (picks_of before luck) g fault k lawful kind;
     };
   }
 
   -- an opening, and the start of its life
   pub plays_opening : (config : Config) (before : Remains) (luck : ℕ) (g : Block) (seen : SeenNode) (made : Made) (after : StateCode H R) (o : Outcome) → IsSetNode config seen → ArePassed before.watches seen.held.watches
+      → seen.held.cache.fresh ≡ true → seen.held.cache.finds ≡ (picks_of before luck).cache
       → ((chain : Chain) (k : ℕ) → IsLawfulLine config chain k (stopped before.ended) (open_line (from_genesis g)) → Finds config before.ended (picks_of before luck) (from_genesis g) (node_of seen [] none_waiting) × IsGoodUntold config chain (node_of seen [] none_waiting))
       → TakesEvent seen empty_buffer first_pending (life_started None) made after o → PlaysLine config (Stopped before luck) (open_line (from_genesis g)) (output_of made o) after
-  plays_opening config before luck g seen made after o set passed begins takes = record {
+  plays_opening config before luck g seen made after o set passed fresh picked begins takes = record {
     set = λ is. takes.set config set;
     small = λ line small. takes.small tt;
     calls = CallsEnd-then before.watches seen.held.watches (remains_in after).watches (fault_in o) passed takes.calls;
     lucky = λ was has. takes.lucky was (open_line (from_genesis g));
     opened = opened_as first_pending after takes.pending_as;
     plays = λ is was has chain k lawful.
-        let begun = begins chain k lawful in
+        let begins_so = begins chain k lawful in
+        let started = takes.done fresh config chain none_waiting set (lawful_start config chain before.ended (picks_of before luck) g seen begins_so.0 k lawful begins_so.1) in
         subst (λ j. Plays config chain k (account_in j (Stopped before luck)) (stopped before.ended) (open_line (from_genesis g)) (output_of made o) (state_with (asked_after [] [] made.asks) after)) has
-        (by after o (pending_next first_pending after takes.pending_as) chain k lawful begun.0 begun.1 (takes.done config chain none_waiting set (lawful_start config chain before.ended (picks_of before luck) g seen begun.0 k lawful begun.1)));
+        (by after o (pending_next first_pending after takes.pending_as) chain k lawful begins_so.0 begins_so.1 started.0 (subst (λ p. StartsFrom o p (node_of seen [] none_waiting) started.0) picked started.1) started.2);
   }
     where
-      by : (after : StateCode H R) (o : Outcome) → ((new : SeenNode) (kept : Held) (now : Pending) → after ≡ state.Running new kept now → now.next_answer ≡ 0) → (chain : Chain) (k : ℕ) → IsLawfulLine config chain k (stopped before.ended) (open_line (from_genesis g)) → Finds config before.ended (picks_of before luck) (from_genesis g) (node_of seen [] none_waiting) → IsGoodUntold config chain (node_of seen [] none_waiting) → AfterEvent config chain seen [] none_waiting (life_started None) made after o
+      by : (after : StateCode H R) (o : Outcome) → ((new : SeenNode) (kept : Held) (now : Pending) → after ≡ state.Running new kept now → now.next_answer ≡ 0) → (chain : Chain) (k : ℕ) → IsLawfulLine config chain k (stopped before.ended) (open_line (from_genesis g)) → Finds config before.ended (picks_of before luck) (from_genesis g) (node_of seen [] none_waiting) → IsGoodUntold config chain (node_of seen [] none_waiting)
+          → (begun : Node) → StartsFrom o (picks_of before luck).cache (node_of seen [] none_waiting) begun → AfterEvent config chain begun seen [] none_waiting (life_started None) made after o
           → Plays config chain k (account_in luck (Stopped before luck)) (stopped before.ended) (open_line (from_genesis g)) (output_of made o) (state_with (asked_after [] [] made.asks) after)
-      by (state.Running new kept now) outcome.Done next_is chain k lawful finds good (steps, same, tickets) =
+      by (state.Running new kept now) outcome.Done next_is chain k lawful finds good begun takes (steps, same, tickets) =
           let first = undropped-found config before.ended (picks_of before luck) (from_genesis g) (node_of seen [] none_waiting) finds in
           record {
             done = subst (λ t. OpenDone config chain before.ended (picks_of before luck) (from_genesis g) (output_of made outcome.Done) (running (node_of new kept.blocks (waiting_with (asked_after [] [] made.asks) t)))) (sym (next_is new kept now refl))
-                (opening_done config chain before.ended (picks_of before luck) g seen finds made new kept.blocks steps);
+                (opening_done config chain before.ended (picks_of before luck) g seen finds begun takes made new kept.blocks steps);
             between = subst (λ t. IsBetween config chain (k + 1) (running (node_of new kept.blocks (waiting_with (asked_after [] [] made.asks) t)))) (sym (next_is new kept now refl))
-                (step_between config chain seen [] none_waiting k (life_started None) starts made new kept.blocks first.0 steps
+                (opening_between config chain before.ended (picks_of before luck) g seen finds begun takes made new kept.blocks steps k
                 (tickets_after k seen.life.next_ack new.life.next_ack seen.life.sizes.window (omega (arith, first.1)) (subst (λ w. w ≤ max_window) set.window lawful.narrow) tickets.0)
-                (syncs_after k seen.held.writes.next_sync new.held.writes.next_sync (omega (arith, first.2)) tickets.1) (omega arith));
+                (syncs_after k seen.held.writes.next_sync new.held.writes.next_sync (omega (arith, first.2)) tickets.1));
             buffered = λ b has. absurd (none_in b (subst (λ xs. Contains xs b) same has));
+            cached = opening_cached config chain before.ended (picks_of before luck) g seen finds begun takes made new kept.blocks steps;
             excused = tt;
           }
-      by (state.Stopped left now) (outcome.Fault fault) next_is chain k lawful finds good (cuts, limit) =
+      by (state.Stopped left now) (outcome.Fault fault) next_is chain k lawful finds good begun takes (cuts, limit) =
           let first = undropped-found config before.ended (picks_of before luck) (from_genesis g) (node_of seen [] none_waiting) finds in
+          let cut = only_cut config chain begun (life_started None) made (plain_fault fault) left.ended cuts in
           record {
-            done = start_cut config chain before.ended (picks_of before luck) g seen finds made fault left.ended good cuts;
-            between = cut_between config chain seen [] none_waiting (k + 1) (life_started None) made (plain_fault fault) left.ended cuts;
+            done = start_cut config chain before.ended (picks_of before luck) g seen finds begun takes made fault left.ended cuts good;
+            between = (cut.leaves.good, cut.leaves.some_pair);
             buffered = λ b has. absurd (none_in b has);
-            excused = cut_usual config chain seen [] none_waiting (life_started None) starts made fault left.ended (lawful_start config chain before.ended (picks_of before luck) g seen finds k lawful good) first.0 cuts
+            cached = start_cached config chain before.ended (picks_of before luck) g seen finds begun takes made fault left.ended cuts;
+            excused = start_usual config chain before.ended (picks_of before luck) g seen finds begun takes made fault left.ended cuts
                 (never_last k seen (plain_fault fault) (omega (arith, first.1)) (omega (arith, first.2)) lawful.few (subst (λ w. w ≤ max_window) set.window lawful.narrow) limit);
           }
-      by (state.Running new kept old) (outcome.Remark r) next_is chain k lawful finds good done = absurd done
-      by (state.Running new kept old) (outcome.Fault fault) next_is chain k lawful finds good done = absurd done
-      by (state.Stopped left now) outcome.Done next_is chain k lawful finds good done = absurd done
-      by (state.Stopped left now) (outcome.Remark r) next_is chain k lawful finds good done = absurd done
+      by (state.Running new kept old) (outcome.Remark r) next_is chain k lawful finds good begun takes done = absurd done
+      by (state.Running new kept old) (outcome.Fault fault) next_is chain k lawful finds good begun takes done = absurd done
+      by (state.Stopped left now) outcome.Done next_is chain k lawful finds good begun takes done = absurd done
+      by (state.Stopped left now) (outcome.Remark r) next_is chain k lawful finds good begun takes done = absurd done
 
 -- the settings are those that the actor was opened with
 pub set_node : (s : Settings) (sizes : Sizes) (length : ℕ) → sizes ≡ record { window = s.window; max_repair = s.max_repair; retention = s.retention; capacity = s.capacity } → length ≡ s.epoch_length → IsSetTo (config_of s) sizes (fixed_epochs length) (λ commitment. commitment)

@@ -4,6 +4,7 @@ use Rattle.std.specs.List.{list_any}
 use Rattle.mar_types.specs.declared.Sha256Digest.{Sha256Digest}
 use Rattle.mar_cert.specs.Block.{Block}
 use Rattle.mar_cert.specs.Finalization.{Finalization}
+use Rattle.mar_store.specs.Changes.{Within}
 use Rattle.mar_node.specs.Messages.{report_finalization}
 use Rattle.mar_key.specs.Asked.{asked_after}
 use Rattle.mar_key.specs.Processed.{height_in}
@@ -31,7 +32,7 @@ use Rattle.mar_script.specs.Text.{Output, State, remark_ignored, running, stoppe
 use Rattle.mar_script.specs.Shown.{plain_fault}
 use Rattle.mar_replay.specs.Turn.{output_of, waiting_with}
 use Rattle.mar_replay.specs.declared.play.Outcome.TheVariants as outcome
-use Rattle.mar_replay.proofs.Lasting.{IsPlain, Undropped, acks, asks_reports, finishes, no_event_fault, prepares, queries, reports, starts, undropped-step}
+use Rattle.mar_replay.proofs.Lasting.{IsPlain, Undropped, acks, asks_reports, finishes, no_event_fault, prepares, queries, reports, undropped-step}
 
 -- CUTS
 
@@ -56,6 +57,10 @@ only_cut config chain n e made fault left cuts = by cuts.finished cuts.first cut
         (subst (λ m. CutsEvent config chain n.meta (option_map height_in n.processed) m e later fault left) advances.1
         (subst (λ x. CutsEvent config chain n.meta (option_map height_in n.processed) mid x later fault left) (head d cuts.others split) cut))
     by (x ∷ xs) first mid d later split advances made_is cut = absurd (none_behind xs cuts.others d (tail x (xs ++ d ∷ cuts.others) split))
+
+-- nothing more may be left cached than might be
+pub cut_cached : (config : Config) (chain : Chain) (n : Node) (e : Event) (made : Made) (fault : Fault) (left : Ended) → Cuts config chain n (e ∷ []) made fault left → Within left.cache_may n.cache.may
+cut_cached config chain n e made fault left cuts = (only_cut config chain n e made fault left cuts).may.cached
 
 -- a fault that no value calls for, and no want of tickets, is want of memory or a store's
 pub usual : (fault : FaultCode Sha256Digest) → (IsTrue (is_by_value (plain_fault fault)) → ⊥) → ((kind : TicketKind) → plain_fault fault ≡ ticket_limit (kind_of kind) → ⊥) → IsUsual (plain_fault fault)
@@ -109,7 +114,6 @@ pub lawful_step : {P E : Type 0} (config : Config) (chain : Chain) (a : Seen P E
 lawful_step config chain a buffer waiting k line e plain lawful same = record { lawful = lawful.lawful; one = lawful.one; reported = (told plain same, tt); good = good plain; rests = rests plain }
   where
     told : {d : Event} → IsPlain d → ((f : Finalization) → d ≡ message_told None (report_finalization f) → line ≡ tell_line (report_finalization f)) → ReportsFinalized chain d
-    told starts is = tt
     told (reports f) is = lawful.reported f (is f refl)
     told (acks t) is = tt
     told (finishes t) is = tt
@@ -117,7 +121,6 @@ lawful_step config chain a buffer waiting k line e plain lawful same = record { 
     told (prepares r peers b) is = tt
 
     good : {d : Event} → IsPlain d → IsGoodFor config chain (node_of a buffer waiting) (d ∷ [])
-    good starts = (a.life.tip, lawful.between.0)
     good (reports f) = lawful.between.0
     good (acks t) = lawful.between.0
     good (finishes t) = lawful.between.0
@@ -125,7 +128,6 @@ lawful_step config chain a buffer waiting k line e plain lawful same = record { 
     good (prepares r peers b) = lawful.between.0
 
     rests : {d : Event} → IsPlain d → RestsBefore config.window (node_of a buffer waiting) (d ∷ [])
-    rests starts = tt
     rests (reports f) = lawful.between.1
     rests (acks t) = lawful.between.1
     rests (finishes t) = lawful.between.1

@@ -1,7 +1,7 @@
 -- Made lines are a script that is read whole, and one that is lawful for the made chain.
 use Rattle.std.proofs.Common.{Contains, List, None, Option, Some, [], ap, arith, inl, inr, length, length-append, lit<, lit≤, refl, subst, suc, sym, zero, ℕ, ◌*◌, ◌++◌, ◌+◌, ◌<◌, ◌∙◌, ◌∷◌, ◌≡◌, ◌≤◌, ◌⊎◌}
 use Rattle.std.specs.Fmt.{decimal}
-use Rattle.std.specs.List.{AllByRecursion, flat_map}
+use Rattle.std.specs.List.{AllByRecursion, filter_map, flat_map}
 use Rattle.std.specs.Prelude.{codes}
 use Rattle.std.proofs.lemmas.Fmt.{length-decimal-le}
 use Rattle.std.proofs.lemmas.List.{append-nil}
@@ -11,11 +11,12 @@ use Rattle.mar_types.specs.Varint.{IsNumber}
 use Rattle.mar_types.specs.Fixed.{fixed_partition}
 use Rattle.mar_cert.specs.Block.{Block}
 use Rattle.mar_cert.specs.Finalization.{Finalization, finalization_bytes}
+use Rattle.mar_node.specs.Cached.{Cached, cached_block}
 use Rattle.mar_node.specs.Chain.{IsBlockAt}
 use Rattle.mar_node.specs.Faults.{from_floor, from_genesis}
 use Rattle.mar_node.specs.Lives.{IsGoodEnded}
 use Rattle.mar_node.specs.Messages.{Message, report_finalization, set_floor}
-use Rattle.mar_node.specs.Node.{Ended, IsFinalized}
+use Rattle.mar_node.specs.Node.{Agrees, BlocksAgree, Ended, IsFinalized}
 use Rattle.mar_store.proofs.Lookups.{AllByRecursion-contains}
 use Rattle.mar_script.specs.Plays.{IsSmallLine}
 use Rattle.mar_script.specs.Refused.{max_lines}
@@ -28,7 +29,7 @@ use Rattle.mar_gen.specs.declared.Planned.TheVariants.{Buffer, Crash, Final, Ope
 use Rattle.mar_gen.proofs.Lawful.{commitment_of, made_at, made_finalized, made_in, made_lawful}
 use Rattle.mar_gen.proofs.Values.{block_is, block_short, finalization_is, finalization_short}
 use Rattle.mar_script.proofs.SmallLines.{small_line}
-use Rattle.mar_replay.specs.Gen.{HasOwnDigests, IsMadeLine, gen_settings}
+use Rattle.mar_replay.specs.Gen.{HasOwnDigests, HasOwnCachedDigests, IsMadeLine, gen_settings}
 
 -- LINES ARE SHORT
 
@@ -200,11 +201,13 @@ module _ (seed n : ℕ) (lines : List Line) (ours : AllByRecursion (IsMadeLine s
   made_line : (l : Line) → Contains lines l → IsMadeLine seed n l
   made_line l has = AllByRecursion-contains (IsMadeLine seed n) lines l ours has
 
-  appears : (b : Block) → Appears (made_chain seed n) lines b → IsMadeBlock seed n b
+  -- a block of the chain or of a line is one of the made chain
+  appears : (cached : List Cached) (b : Block) → Appears (made_chain seed n) lines cached b → IsMadeBlock seed n b ⊎ Contains (filter_map cached_block cached) b
   unfolding IsMadeBlock
-  appears b (inl of_chain) = made_in seed n b of_chain
-  appears b (inr (inl of_line)) = of_lines line_blocks (IsMadeBlock seed n) seed n lines b (λ l is there. block_of seed n l b is there) ours of_line
-  appears b (inr (inr (i, l, low, is, ends))) = absurd (no_peer seed n l b (made_line l (i, low, is)) ends)
+  appears cached b (inl of_chain) = inl (made_in seed n b of_chain)
+  appears cached b (inr (inl of_line)) = inl (of_lines line_blocks (IsMadeBlock seed n) seed n lines b (λ l is there. block_of seed n l b is there) ours of_line)
+  appears cached b (inr (inr (inl (i, l, low, is, ends)))) = absurd (no_peer seed n l b (made_line l (i, low, is)) ends)
+  appears cached b (inr (inr (inr there))) = inr there
 
   reported : (f : Finalization) → IsMadeMessage seed n (report_finalization f) → IsFinalized (made_chain seed n) f.round f.payload
   unfolding IsMadeMessage
@@ -228,17 +231,46 @@ module _ (seed n : ℕ) (lines : List Line) (ours : AllByRecursion (IsMadeLine s
   unfolding IsMadeBlock
   same_block apart a b (i, low, is) (j, high, also) same = sym is ∙ apart i j low high (ap (λ x. x.digest) is ∙ same ∙ ap (λ x. x.digest) (sym also)) ∙ also
 
-  lawful_script : HasOwnDigests seed n → IsLawfulScript (config_of gen_settings) (made_chain seed n) lines
-  lawful_script apart = record {
-    genesis = λ b has. made_genesis seed n (open_line (from_genesis b)) b (made_line (open_line (from_genesis b)) has) refl;
-    reported = λ f has. reported f (made_message (report_finalization f) has);
-    floors = λ f has verifies. absurd (no_set f (made_message (set_floor f) has));
-    first_floor = λ f has verifies. absurd (no_floor seed n (open_line (from_floor f)) f (made_line (open_line (from_floor f)) has) refl);
-    peer_bytes = λ l has. honest seed n l (made_line l has);
-    inner = λ b there. own_digest b (appears b there);
-    one_block = λ a b first second same. same_block apart a b (appears a first) (appears b second) same;
-  }
+  -- OVER STORES IN WHICH THIS MAY BE LEFT CACHED
+
+  module _ (apart : HasOwnDigests seed n) (cached : List Cached) (own : HasOwnCachedDigests cached) (agree : BlocksAgree (made_chain seed n) cached) where
+    abbrev IsKnown : Block → Type 0
+    IsKnown b = IsMadeBlock seed n b ⊎ Contains (filter_map cached_block cached) b
+
+    names_own : (b : Block) → IsKnown b → b.commitment ≡ b.digest
+    names_own b (inl made) = own_digest b made
+    names_own b (inr there) = own.names b there
+
+    -- a cached block of a made one's digest has its commitment too, so that it is the chain's
+    cached_made : (a b : Block) → Contains (filter_map cached_block cached) a → IsMadeBlock seed n b → a.digest ≡ b.digest → b ≡ a
+    unfolding IsMadeBlock
+    cached_made a b there (i, low, is) same =
+        AllByRecursion-contains (Agrees (made_chain seed n)) (filter_map cached_block cached) a agree there i b (subst (IsBlockAt (made_chain seed n) i) is (made_at seed n i low))
+        (own_digest b (i, low, is) ∙ (sym same ∙ sym (own.names a there)))
+
+    one_known : (a b : Block) → IsKnown a → IsKnown b → a.digest ≡ b.digest → a ≡ b
+    one_known a b (inl made) (inl also) same = same_block apart a b made also same
+    one_known a b (inl made) (inr there) same = cached_made b a there made (sym same)
+    one_known a b (inr there) (inl made) same = sym (cached_made a b there made same)
+    one_known a b (inr here) (inr there) same = own.one a b here there same
+
+    lawful_script : IsLawfulScript (config_of gen_settings) (made_chain seed n) lines cached
+    lawful_script = record {
+      genesis = λ b has. made_genesis seed n (open_line (from_genesis b)) b (made_line (open_line (from_genesis b)) has) refl;
+      reported = λ f has. reported f (made_message (report_finalization f) has);
+      floors = λ f has verifies. absurd (no_set f (made_message (set_floor f) has));
+      first_floor = λ f has verifies. absurd (no_floor seed n (open_line (from_floor f)) f (made_line (open_line (from_floor f)) has) refl);
+      peer_bytes = λ l has. honest seed n l (made_line l has);
+      inner = λ b there. names_own b (appears cached b there);
+      one_block = λ a b first second same. one_known a b (appears cached a first) (appears cached b second) same;
+    }
 
   -- all that the headline asks of the lines and the chain, but for the digests
-  pub premises_made : (before : Ended) → n ≤ 10_000 → HasOwnDigests seed n → IsGoodEnded (made_chain seed n) before → 0 < length before.meta → Premises (config_of gen_settings) (made_chain seed n) lines before
-  premises_made before few apart good some = record { partition = fixed_partition 10 (lit< tt) (lit< tt); lawful = made_lawful seed n few; script = lawful_script apart; good = good; some_pair = some }
+  pub premises_made : (before : Ended) → n ≤ 10_000 → HasOwnDigests seed n → HasOwnCachedDigests before.cache_may → IsGoodEnded (made_chain seed n) before → 0 < length before.meta → Premises (config_of gen_settings) (made_chain seed n) lines before
+  premises_made before few apart own good some = record {
+    partition = fixed_partition 10 (lit< tt) (lit< tt);
+    lawful = made_lawful seed n few;
+    script = lawful_script apart before.cache_may own good.may_cached_blocks;
+    good = good;
+    some_pair = some;
+  }

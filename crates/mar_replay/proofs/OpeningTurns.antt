@@ -1,32 +1,39 @@
 -- What openings make of a line where no life runs.
-use Rattle.std.proofs.Common.{Contains, List, None, [], ap, arith, inl, inr, option_map, refl, subst, sym, ℕ, ◌++◌, ◌∷◌, ◌≡◌, ◌⊎◌}
+use Rattle.std.proofs.Common.{Contains, List, None, Option, Some, [], ap, arith, inl, inr, option_map, refl, subst, sym, ℕ, ◌*◌, ◌++◌, ◌+◌, ◌∷◌, ◌≡◌, ◌≤◌, ◌⊎◌}
+use Rattle.std.specs.List.{filter_map}
 use Rattle.std.proofs.lemmas.List.Elements.{Contains-append_cases, Contains-append_left, Contains-append_right}
 use Rattle.mar_types.specs.declared.Sha256Digest.{Sha256Digest}
 use Rattle.mar_cert.specs.Block.{Block}
 use Rattle.mar_key.specs.Processed.{height_in}
 use Rattle.mar_node.specs.Metadata.{Pair, pair_of}
+use Rattle.mar_store.specs.Changes.{Within}
+use Rattle.mar_store.specs.Kept.{Kept}
 use Rattle.mar_store.proofs.Lookups.{AllByRecursion-weaker}
+use Rattle.mar_node.specs.Cached.{Cached, cached_block}
 use Rattle.mar_node.specs.Chain.{Chain, IsBlockAt}
 use Rattle.mar_node.specs.Config.{Config}
-use Rattle.mar_node.specs.Event.{cutoff_after, life_started, no_floor, processed_after}
-use Rattle.mar_node.specs.Faults.{Begin, from_genesis}
+use Rattle.mar_node.specs.Event.{cutoff_after, effect_of, life_started, processed_after}
+use Rattle.mar_node.specs.Faults.{Begin, Fault, event_fault, from_genesis, ticket_limit}
 use Rattle.mar_node.specs.Held.{IsUsual, Seen}
-use Rattle.mar_node.specs.Lives.{Cuts, CutsEvent, CutsReopening, Finds, NotBelow, Picks}
+use Rattle.mar_node.specs.Lives.{Cuts, CutsEvent, CutsReopening, Finds, NotBelow, Picks, TakesUp}
 use Rattle.mar_node.specs.Node.{Ended, Node}
-use Rattle.mar_node.specs.Promise.{IsGoodUntold, IsLawfulOpening, IsLawfulStep, IsOpeningFault, asked_since, node_of, none_waiting}
+use Rattle.mar_node.specs.Promise.{IsGoodUntold, IsLawfulOpening, IsLawfulStep, IsOpeningFault, asked_since, known_blocks, node_of, none_waiting}
 use Rattle.mar_node.specs.Step.{Made, Steps, nothing_made}
 use Rattle.mar_node.specs.declared.fault.Fault.{Fault as FaultCode}
+use Rattle.mar_node.specs.declared.fault.TicketKind.{TicketKind}
+use Rattle.mar_node.specs.Views.{kind_of}
 use Rattle.mar_node.proofs.Cutting.{only_one}
 use Rattle.mar_node.proofs.GoodOpenings.{IsOpeningFault-none}
-use Rattle.mar_script.specs.Plays.{IsLawfulLine}
+use Rattle.mar_script.specs.Plays.{IsBetween, IsLawfulLine, known_in, max_window}
 use Rattle.mar_script.specs.Run.{OpenDone}
 use Rattle.mar_script.specs.Script.{open_line}
 use Rattle.mar_script.specs.Text.{running, stopped}
 use Rattle.mar_script.specs.Shown.{plain_fault}
 use Rattle.mar_replay.specs.Turn.{output_of}
 use Rattle.mar_replay.specs.declared.play.Outcome.TheVariants as outcome
-use Rattle.mar_replay.proofs.Lasting.{Undropped}
-use Rattle.mar_replay.proofs.LineTurns.{only_cut}
+use Rattle.mar_replay.proofs.CachedLines.{AreOne-within, begun_cached, found_cached, found_within, step_cached}
+use Rattle.mar_replay.proofs.Lasting.{Undropped, undropped-start}
+use Rattle.mar_replay.proofs.LineTurns.{cut_cached, only_cut, usual}
 
 -- BEFORE THE START
 
@@ -39,7 +46,7 @@ pub lawful_opening : (config : Config) (chain : Chain) (e : Ended) (g : Block) (
 lawful_opening config chain e g k lawful = record {
   partition = lawful.partition;
   lawful = lawful.lawful;
-  one = record { names = λ b has. lawful.one.names b (Contains-append_left chain.blocks [] b has); one = λ a b has other is. lawful.one.one a b (Contains-append_left chain.blocks [] a has) (Contains-append_left chain.blocks [] b other) is };
+  one = AreOne-within config.inner chain.blocks (known_in chain (stopped e)) (λ b has. Contains-append_left chain.blocks ([] ++ filter_map cached_block e.cache_may) b has) lawful.one;
   good = lawful.between.0;
   some_pair = lawful.between.1;
   genesis = λ b is. subst (IsBlockAt chain 0) (same b is) (lawful.genesis g refl);
@@ -55,58 +62,121 @@ module _ (config : Config) (chain : Chain) (e : Ended) (picks : Picks) (g : Bloc
 
   -- it has no fault that values call for
   pub opening_usual : (fault : FaultCode Sha256Digest) (k : ℕ) → IsLawfulLine config chain k (stopped e) (open_line (from_genesis g)) → IsUsual (plain_fault fault) ⊎ IsOpeningFault e (from_genesis g) (plain_fault fault) → IsUsual (plain_fault fault)
-  opening_usual fault k lawful (inl usual) = usual
+  opening_usual fault k lawful (inl own) = own
   opening_usual fault k lawful (inr faulty) = absurd (IsOpeningFault-none config chain e (from_genesis g) (plain_fault fault) (lawful_opening config chain e g k lawful) faulty)
+
+  -- THE START
 
   module _ {P E : Type 0} (a : Seen P E) (finds : Finds config e picks (from_genesis g) (node_of a [] none_waiting)) where
     abbrev first : Node
     first = node_of a [] none_waiting
 
+    -- the blocks that it may meet might be met before
+    known_first : (b : Block) → Contains (known_blocks chain first) b → Contains (known_in chain (stopped e)) b
+    known_first b has = by (Contains-append_cases chain.blocks ([] ++ filter_map cached_block (first.cache.held ++ first.cache.may)) b has)
+      where
+        by : Contains chain.blocks b ⊎ Contains ([] ++ filter_map cached_block (first.cache.held ++ first.cache.may)) b → Contains (known_in chain (stopped e)) b
+        by (inl of_chain) = Contains-append_left chain.blocks ([] ++ filter_map cached_block e.cache_may) b of_chain
+        by (inr cached) = Contains-append_right chain.blocks ([] ++ filter_map cached_block e.cache_may) b (found_within cached_block (first.cache.held ++ first.cache.may) e.cache_may (found_cached config e picks (from_genesis g) first finds) b cached)
+
     -- what is asked of its start
     pub lawful_start : (k : ℕ) → IsLawfulLine config chain k (stopped e) (open_line (from_genesis g)) → IsGoodUntold config chain first → IsLawfulStep config chain first (life_started None ∷ [])
-    lawful_start k lawful good = record { lawful = lawful.lawful; one = lawful.one; reported = (tt, tt); good = good; rests = tt }
+    lawful_start k lawful good = record { lawful = lawful.lawful; one = AreOne-within config.inner (known_blocks chain first) (known_in chain (stopped e)) known_first lawful.one; reported = (tt, tt); good = good; rests = tt }
 
-    -- an opening that finished
-    pub opening_done : (made : Made) (b : Seen P E) (kept : List Block) → Steps config chain first (life_started None ∷ []) made (node_of b kept (asked_since none_waiting made.asks)) → OpenDone config chain e picks (from_genesis g) (output_of made outcome.Done) (running (node_of b kept (asked_since none_waiting made.asks)))
-    opening_done made b kept steps = (made, record { first = first; finds = finds; start = steps }, refl, refl)
+    module _ (begun : Node) where
+      -- what holds whatever is cached holds where the start begins
+      begun_has : (Has : Node → Type 0) → ((kept : Kept Cached) → Has (record first { cache = kept })) → (begun ≡ first) ⊎ TakesUp picks.cache first begun → Has begun
+      begun_has Has each (inl is) = subst Has (sym is) (each first.cache)
+      begun_has Has each (inr takes) = subst Has (sym takes.begun_is) (each takes.cache)
 
-    -- an opening that was cut in its start
-    pub start_cut : (made : Made) (fault : FaultCode Sha256Digest) (left : Ended) → IsGoodUntold config chain first → Cuts config chain first (life_started None ∷ []) made (plain_fault fault) left → OpenDone config chain e picks (from_genesis g) (output_of made (outcome.Fault fault)) (stopped left)
-    start_cut made fault left good cuts = (plain_fault fault, refl, refl, inr (record { first = first; finds = finds; cut = from_left (only_cut config chain first (life_started None) made (plain_fault fault) left cuts) }), refl)
-      where
-        -- the pair of the opened node is the one that its start stands on
-        pair_before : (p : Pair) → Contains (first.meta ++ pair_of first.processed first.cutoff ∷ pair_of (processed_after first (life_started None) no_floor) (cutoff_after config first (life_started None) no_floor) ∷ []) p → Contains (e.meta ++ pair_of first.processed first.cutoff ∷ pair_of (processed_after first (life_started None) no_floor) (cutoff_after config first (life_started None) no_floor) ∷ []) p
-        pair_before p has = by (Contains-append_cases first.meta _ p has)
+      -- an actor whose cache holds this
+      abbrev with_kept : Kept Cached → Seen P E
+      with_kept kept = record a { held = record a.held { cache = record a.held.cache { kept = kept } } }
+
+      -- an opening that finished
+      module _ (takes : TakesUp picks.cache first begun) (made : Made) (b : Seen P E) (kept : List Block) (steps : Steps config chain begun (life_started None ∷ []) made (node_of b kept (asked_since none_waiting made.asks))) where
+        pub opening_done : OpenDone config chain e picks (from_genesis g) (output_of made outcome.Done) (running (node_of b kept (asked_since none_waiting made.asks)))
+        opening_done = (made, record { first = first; finds = finds; begun = begun; takes = takes; start = steps }, refl, refl)
+
+        pub opening_between : (k : ℕ) → b.life.next_ack ≤ max_window * (k + 1) → b.held.writes.next_sync ≤ k + 1 → IsBetween config chain (k + 1) (running (node_of b kept (asked_since none_waiting made.asks)))
+        opening_between k tickets sync_tickets = (
+          steps.good,
+          steps.rests,
+          record {
+            undropped = begun_has (λ n. Steps config chain n (life_started None ∷ []) made (node_of b kept (asked_since none_waiting made.asks)) → Undropped b.life.out)
+                (λ c started. undropped-start config chain (with_kept c) [] none_waiting made (node_of b kept (asked_since none_waiting made.asks)) started (undropped-found config e picks (from_genesis g) first finds).0) (inr takes) steps;
+            tickets = tickets;
+            sync_tickets = sync_tickets;
+            answer_tickets = omega arith;
+          },
+        )
+
+        -- nothing is cached behind it but what might be left
+        pub opening_cached : Within (b.held.cache.kept.held ++ b.held.cache.kept.may) e.cache_may
+        opening_cached x has =
+            found_cached config e picks (from_genesis g) first finds x
+            (Contains-append_right first.cache.held first.cache.may x (begun_cached picks.cache first begun takes x (step_cached config chain begun (life_started None) made (node_of b kept (asked_since none_waiting made.asks)) steps x has)))
+
+      -- the pairs of its start
+      abbrev later : List Pair
+      later = pair_of begun.processed begun.cutoff ∷ pair_of (processed_after begun (life_started None) (effect_of config begun (life_started None))) (cutoff_after config begun (life_started None) (effect_of config begun (life_started None))) ∷ []
+
+      -- an opening that was cut in its start
+      module _ (takes : (begun ≡ first) ⊎ TakesUp picks.cache first begun) (made : Made) (fault : FaultCode Sha256Digest) (left : Ended) (cuts : Cuts config chain begun (life_started None ∷ []) made (plain_fault fault) left) where
+        pub start_cut : IsGoodUntold config chain first → OpenDone config chain e picks (from_genesis g) (output_of made (outcome.Fault fault)) (stopped left)
+        start_cut good = (plain_fault fault, refl, refl, inr (record { first = first; finds = finds; begun = begun; takes = takes; cut = from_left (only_cut config chain begun (life_started None) made (plain_fault fault) left cuts) }), refl)
           where
-            by : Contains first.meta p ⊎ Contains (pair_of first.processed first.cutoff ∷ pair_of (processed_after first (life_started None) no_floor) (cutoff_after config first (life_started None) no_floor) ∷ []) p → Contains (e.meta ++ pair_of first.processed first.cutoff ∷ pair_of (processed_after first (life_started None) no_floor) (cutoff_after config first (life_started None) no_floor) ∷ []) p
-            by (inl own) = Contains-append_right e.meta _ p (0, omega arith, only_one (pair_of first.processed first.cutoff) p (subst (λ ps. Contains ps p) good.1.heights.own_pair own))
-            by (inr later) = Contains-append_right e.meta _ p later
+            own_pair : begun.meta ≡ pair_of begun.processed begun.cutoff ∷ []
+            own_pair = begun_has (λ n. n.meta ≡ pair_of n.processed n.cutoff ∷ []) (λ c. good.1.heights.own_pair) takes
 
-        from_left : CutsEvent config chain first.meta (option_map height_in first.processed) first (life_started None) made (plain_fault fault) left → CutsEvent config chain e.meta None first (life_started None) made (plain_fault fault) left
-        from_left cut = record {
-          tip = cut.tip;
-          tips = cut.tips;
-          tips_chain = cut.tips_chain;
-          reached = cut.reached;
-          reached_is = cut.reached_is;
-          in_order = cut.in_order;
-          hands_chain = cut.hands_chain;
-          leaves = record {
-            sure_blocks = cut.leaves.sure_blocks;
-            sure_certs = cut.leaves.sure_certs;
-            sure_cache = cut.leaves.sure_cache;
-            lowests = cut.leaves.lowests;
-            some_pair = cut.leaves.some_pair;
-            pairs = AllByRecursion-weaker _ _ pair_before left.meta cut.leaves.pairs;
-            good = cut.leaves.good;
-          };
-          may = cut.may;
-          asks = cut.asks;
-          sends = cut.sends;
-          answers = cut.answers;
-          first_pair = cut.first_pair;
-          no_lower = AllByRecursion-weaker _ (λ p. NotBelow None p.processed) (λ p any. omega arith) left.meta cut.no_lower;
-          cause = cut.cause;
-          refused = cut.refused;
-          unsynced = cut.unsynced;
-        }
+            -- the pair of the opened node is the one that its start stands on
+            pair_before : (p : Pair) → Contains (begun.meta ++ later) p → Contains (e.meta ++ later) p
+            pair_before p has = by (Contains-append_cases begun.meta later p has)
+              where
+                by : Contains begun.meta p ⊎ Contains later p → Contains (e.meta ++ later) p
+                by (inl own) = Contains-append_right e.meta later p (0, omega arith, only_one (pair_of begun.processed begun.cutoff) p (subst (λ ps. Contains ps p) own_pair own))
+                by (inr later_one) = Contains-append_right e.meta later p later_one
+
+            from_left : CutsEvent config chain begun.meta (option_map height_in begun.processed) begun (life_started None) made (plain_fault fault) left → CutsEvent config chain e.meta None begun (life_started None) made (plain_fault fault) left
+            from_left cut = record {
+              tip = cut.tip;
+              tips = cut.tips;
+              tips_chain = cut.tips_chain;
+              reached = cut.reached;
+              reached_is = cut.reached_is;
+              in_order = cut.in_order;
+              hands_chain = cut.hands_chain;
+              leaves = record {
+                sure_blocks = cut.leaves.sure_blocks;
+                sure_certs = cut.leaves.sure_certs;
+                sure_cache = cut.leaves.sure_cache;
+                lowests = cut.leaves.lowests;
+                some_pair = cut.leaves.some_pair;
+                pairs = AllByRecursion-weaker _ _ pair_before left.meta cut.leaves.pairs;
+                good = cut.leaves.good;
+              };
+              may = cut.may;
+              asks = cut.asks;
+              sends = cut.sends;
+              answers = cut.answers;
+              first_pair = cut.first_pair;
+              no_lower = AllByRecursion-weaker _ (λ p. NotBelow None p.processed) (λ p any. omega arith) left.meta cut.no_lower;
+              cause = cut.cause;
+              refused = cut.refused;
+              unsynced = cut.unsynced;
+            }
+
+        -- no value calls for its fault
+        pub start_usual : ((kind : TicketKind) → plain_fault fault ≡ ticket_limit (kind_of kind) → ⊥) → IsUsual (plain_fault fault)
+        start_usual limit = usual fault (λ by_value. never (event_fault config begun (life_started None)) (begun_has (λ n. event_fault config n (life_started None) ≡ None) (λ c. refl) takes) ((only_cut config chain begun (life_started None) made (plain_fault fault) left cuts).cause by_value)) limit
+          where
+            never : (o : Option Fault) → o ≡ None → o ≡ Some (plain_fault fault) → ⊥
+            never o p q = absurd cc
+
+        -- and nothing more is left cached
+        pub start_cached : Within left.cache_may e.cache_may
+        start_cached x has = found_cached config e picks (from_genesis g) first finds x (Contains-append_right first.cache.held first.cache.may x (by takes (cut_cached config chain begun (life_started None) made (plain_fault fault) left cuts x has)))
+          where
+            by : (begun ≡ first) ⊎ TakesUp picks.cache first begun → Contains begun.cache.may x → Contains first.cache.may x
+            by (inl is) may = subst (λ n. Contains n.cache.may x) is may
+            by (inr taken) may = begun_cached picks.cache first begun taken x (Contains-append_right begun.cache.held begun.cache.may x may)

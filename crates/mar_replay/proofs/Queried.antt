@@ -28,7 +28,7 @@ use Rattle.mar_replay.specs.declared.play.Outcome.{Outcome}
 use Rattle.mar_replay.specs.declared.play.Pending.{Pending}
 use Rattle.mar_replay.specs.declared.play.State.{State as StateCode}
 use Rattle.mar_replay.proofs.Lasting.{answers_last, asked_event, asks_reports, queries}
-use Rattle.mar_replay.proofs.LinePlays.{Running, after_event, between, opened_as, pending_next}
+use Rattle.mar_replay.proofs.LinePlays.{Running, after_event, between, done_step, opened_as, pending_next}
 
 abbrev asked_of : Query Sha256Digest → Message
 asked_of q = query_of (λ digest. digest.bytes) q
@@ -97,6 +97,6 @@ plays_query {H = H} {R = R} seen buffer pending next q made after o next_is take
       let step = lawful_query config chain seen buffer.blocks pending k q lawful in
       let low : pending.next_answer ≤ k = lawful.between.2.answer_tickets in
       after_event seen buffer pending (tell_line (asked_of q)) (asked_event pending.next_answer q) made config chain k (one_waiting pending) (queries pending.next_answer q) is lawful step (omega arith) (answered config chain seen buffer.blocks pending q made)
-      (account_in before (Running {H = H} {R = R} seen buffer pending)) (asked_done config chain seen buffer.blocks pending (account_in before (Running {H = H} {R = R} seen buffer pending)) q) after o next (sym (next_is (answers_last k pending.next_answer low lawful.few))) (takes.done config chain (one_waiting pending) is step)
+      (account_in before (Running {H = H} {R = R} seen buffer pending)) (asked_done config chain seen buffer.blocks pending (account_in before (Running {H = H} {R = R} seen buffer pending)) q) after o next (sym (next_is (answers_last k pending.next_answer low lawful.few))) (done_step seen buffer made after o (queries pending.next_answer q) takes.done config chain (one_waiting pending) is step)
       (pending_next (record { requests = pending.requests; next_answer = next }) after takes.pending_as);
 }

@@ -1,12 +1,13 @@
 -- The lines that were done so far as a run of lives, and what a replay is where it stops.
 use Rattle.std.proofs.Common.{Contains, List, None, Option, Some, [], ap, append_assoc, arith, inl, inr, length, length-append, map, refl, subst, sym, ℕ, ◌++◌, ◌+◌, ◌<◌, ◌∙◌, ◌∷◌, ◌≡◌, ◌≤◌, ◌⊎◌}
-use Rattle.std.specs.List.{AllByRecursion, flat_map}
+use Rattle.std.specs.List.{AllByRecursion, filter_map, flat_map}
 use Rattle.std.specs.Prelude.{Any, ⊤}
 use Rattle.std.proofs.lemmas.Grind.{flat_map-append}
 use Rattle.std.proofs.lemmas.List.{append-nil, map-append}
 use Rattle.std.proofs.lemmas.List.Elements.{Contains-append_cases, Contains-append_left, Contains-append_right}
 use Rattle.mar_cert.specs.Block.{Block}
 use Rattle.mar_node.specs.Messages.{report_finalization, set_floor}
+use Rattle.mar_store.specs.Changes.{Within}
 use Rattle.mar_store.proofs.Lookups.{AllByRecursion-from_contains, AllByRecursion-push}
 use Rattle.mar_node.specs.Chain.{Chain}
 use Rattle.mar_node.specs.Config.{Config}
@@ -18,13 +19,14 @@ use Rattle.mar_node.specs.Cached.{cached_block, cached_finalization}
 use Rattle.mar_node.proofs.Filtered.{all_found_within}
 use Rattle.mar_node.proofs.Soundness.{IsFrom, IsGoodEnded-from_sound, IsSound-from_good}
 use Rattle.mar_script.specs.Accounts.{Account, AccountsFor, first_account}
-use Rattle.mar_script.specs.Plays.{IsBetween, IsLawfulLine, Plays, buffer_in, max_window}
+use Rattle.mar_script.specs.Plays.{IsBetween, IsLawfulLine, Plays, buffer_in, cached_in, known_in, max_window}
 use Rattle.mar_script.specs.Refused.{max_lines}
 use Rattle.mar_node.specs.Step.{IsFront}
 use Rattle.mar_script.specs.Run.{Appears, AreSmooth, EndsWith, HandsBack, IsExcused, IsFaultFree, IsOutput, IsQuiet, LineDone, MemoryEnds, Premises, Replays, Run, Status, account_after, line_blocks, messages_of, out_of_memory, outside_grammar, read_failed, read_to_end, write_failed}
 use Rattle.mar_script.specs.Script.{Line, open_line}
 use Rattle.mar_script.proofs.Accounts.{account-push, quiet_run, run_push}
 use Rattle.mar_script.specs.Text.{Done, Output, State, output_text, running, silent_output, stopped, text}
+use Rattle.mar_replay.proofs.CachedLines.{found_within}
 
 -- LAWFUL FRONTS
 
@@ -55,10 +57,11 @@ premises_before config chain lines l before p = record {
   some_pair = p.some_pair;
 }
   where
-    more : (b : Block) → Appears chain lines b → Appears chain (lines ++ l ∷ []) b
+    more : (b : Block) → Appears chain lines before.cache_may b → Appears chain (lines ++ l ∷ []) before.cache_may b
     more b (inl of_chain) = inl of_chain
     more b (inr (inl of_line)) = inr (inl (more_lines line_blocks lines l b of_line))
-    more b (inr (inr at_end)) = inr (inr (any_more (EndsWith b) lines (l ∷ []) at_end))
+    more b (inr (inr (inl at_end))) = inr (inr (inl (any_more (EndsWith b) lines (l ∷ []) at_end)))
+    more b (inr (inr (inr cached))) = inr (inr (inr cached))
 
 -- SO FAR
 
@@ -71,6 +74,7 @@ pub record RunSoFar (config : Config) (chain : Chain) (before : Remains) (lines 
   pub wrote : bytes ≡ text before.ended run
   pub between : IsBetween config chain (length lines) now
   pub buffered : (b : Block) → Contains (buffer_in now) b → Contains (flat_map line_blocks lines) b
+  pub cached : Within (cached_in now) before.ended.cache_may
   pub no_memory : AllByRecursion (λ d. d.output.fault ≡ Some want_of_memory → ⊥) run
   pub excused : AllByRecursion IsExcused run
 
@@ -83,6 +87,7 @@ first_run config chain before now p is = record {
   wrote = refl;
   between = subst (λ s. IsBetween config chain 0 s) (sym is) (p.good, p.some_pair);
   buffered = λ b has. absurd (none b (subst (λ s. Contains (buffer_in s) b) is has));
+  cached = subst (λ s. Within (cached_in s) before.ended.cache_may) (sym is) (λ x has. has);
   no_memory = tt;
   excused = tt;
 }
@@ -96,12 +101,16 @@ text_push before run d =
     ∙ sym (append_assoc (output_text silent_output (stopped before)) (flat_map (λ x. output_text x.output x.after) run) (output_text d.output d.after))
 
 module _ (config : Config) (chain : Chain) (before : Remains) (lines : List Line) (l : Line) (account : Account) (now : State) (bytes : List ℕ) (p : Premises config chain (lines ++ l ∷ []) before.ended) (so : RunSoFar config chain before lines account now bytes) where
-  appears : (b : Block) → Contains (chain.blocks ++ buffer_in now) b → Appears chain (lines ++ l ∷ []) b
-  appears b has = by (Contains-append_cases chain.blocks (buffer_in now) b has)
+  appears : (b : Block) → Contains (known_in chain now) b → Appears chain (lines ++ l ∷ []) before.ended.cache_may b
+  appears b has = by (Contains-append_cases chain.blocks (buffer_in now ++ filter_map cached_block (cached_in now)) b has)
     where
-      by : Contains chain.blocks b ⊎ Contains (buffer_in now) b → Appears chain (lines ++ l ∷ []) b
+      beside : Contains (buffer_in now) b ⊎ Contains (filter_map cached_block (cached_in now)) b → Appears chain (lines ++ l ∷ []) before.ended.cache_may b
+      beside (inl of_buffer) = inr (inl (more_lines line_blocks lines l b (so.buffered b of_buffer)))
+      beside (inr of_cache) = inr (inr (inr (found_within cached_block (cached_in now) before.ended.cache_may so.cached b of_cache)))
+
+      by : Contains chain.blocks b ⊎ Contains (buffer_in now ++ filter_map cached_block (cached_in now)) b → Appears chain (lines ++ l ∷ []) before.ended.cache_may b
       by (inl of_chain) = inl of_chain
-      by (inr of_buffer) = inr (inl (more_lines line_blocks lines l b (so.buffered b of_buffer)))
+      by (inr others) = beside (Contains-append_cases (buffer_in now) (filter_map cached_block (cached_in now)) b others)
 
   -- the next line is lawful in the state that the others left
   pub lawful_next : length lines ≤ max_lines → config.window ≤ max_window → IsLawfulLine config chain (length lines) now l
@@ -143,6 +152,7 @@ module _ (config : Config) (chain : Chain) (before : Remains) (lines : List Line
       wrote = ap (λ bs. bs ++ output_text out after) so.wrote ∙ sym (text_push before.ended so.run done);
       between = subst (λ k. IsBetween config chain k after) (sym (length-append lines (l ∷ []))) plays.between;
       buffered = λ b has. by b (Contains-append_cases (buffer_in now) (line_blocks l) b (plays.buffered b has));
+      cached = λ x has. so.cached x (plays.cached x has);
       no_memory = AllByRecursion-push (λ d. d.output.fault ≡ Some want_of_memory → ⊥) so.run done so.no_memory remembered;
       excused = excused_now;
     }

@@ -1,12 +1,14 @@
 -- What a large run of a seed does: the lines that it makes, each by what the text before it says, the replay that these
 -- lines are, and the line that sums it up.
-use Rattle.std.specs.List.{AllByRecursion, count_by, flat_map}
+use Rattle.std.specs.List.{AllByRecursion, count_by, filter_map, flat_map}
 use Rattle.std.specs.Prelude.{List, None, Option, Some, [], drop, length, map, min, ℕ, ◌++◌, ◌+◌, ◌-◌, ◌<◌, ◌^◌, ◌∷◌, ◌≡◌, ◌≤◌, ◌⊎◌}
 use Rattle.mar_types.specs.Varint.{IsNumber}
+use Rattle.mar_node.specs.Cached.{Cached, cached_block}
 use Rattle.mar_node.specs.Faults.{from_genesis}
 use Rattle.mar_node.specs.Held.{Remains}
 use Rattle.mar_node.specs.Lives.{IsGoodEnded}
 use Rattle.mar_node.specs.Messages.{report_finalization}
+use Rattle.mar_node.specs.Promise.{AreOne}
 use Rattle.mar_script.specs.Run.{Premises, ReadsLines, RunsLines, Status, out_of_memory, read_to_end}
 use Rattle.mar_script.specs.Script.{Line, Settings, ack_line, buffer_line, config_of, crash_line, open_line, script_bytes, sync_line, tell_line}
 use Rattle.mar_script.specs.Streams.{Takes, TakesFront}
@@ -97,11 +99,16 @@ ComesBehind seed n place before (coming.End processed) = IsOwed (node_words befo
 abbrev pub HasOwnDigests : ℕ → ℕ → Type 0
 HasOwnDigests seed n = (i j : ℕ) → i ≤ n → j ≤ n → (made_block seed i).digest ≡ (made_block seed j).digest → made_block seed i ≡ made_block seed j
 
+-- of the blocks that may be left cached, a commitment is its block's digest, and equal digests mean equal blocks
+abbrev pub HasOwnCachedDigests : List Cached → Type 0
+HasOwnCachedDigests cached = AreOne (λ commitment. commitment) (filter_map cached_block cached)
+
 -- The made lines are a script that a replay reads whole, and they are replayed so. All that the headline asks of them
--- is that no two blocks of the made chain have one digest, and that the stores were good for it.
+-- is that no two blocks of the made chain have one digest, that blocks that may be left cached have digests of their own, and
+-- that the stores were good for it.
 pub record RunsMade (seed n : ℕ) (lines : List Line) (status : Status) (bytes : List ℕ) (before after : Remains) : Type 0 where
   pub reads : ReadsLines (Some gen_settings) lines [] status (script_bytes gen_settings lines) []
-  pub premises : HasOwnDigests seed n → IsGoodEnded (made_chain seed n) before.ended → 0 < length before.ended.meta → Premises (config_of gen_settings) (made_chain seed n) lines before.ended
+  pub premises : HasOwnDigests seed n → HasOwnCachedDigests before.ended.cache_may → IsGoodEnded (made_chain seed n) before.ended → 0 < length before.ended.meta → Premises (config_of gen_settings) (made_chain seed n) lines before.ended
   pub runs : RunsLines (Some gen_settings) lines status bytes before after
 
 -- Lines were made until the steps were done and nothing was owed, and replayed; so many blocks were handed over, as

@@ -6,12 +6,14 @@ use Rattle.mar_cert.specs.Block.{Block}
 use Rattle.mar_block.specs.Sent.{Held}
 use Rattle.mar_cert.specs.Provided.{Provided}
 use Rattle.mar_key.specs.Asked.{Asked, asked_after}
+use Rattle.mar_node.specs.Cached.{Cached}
 use Rattle.mar_node.specs.Chain.{Chain}
 use Rattle.mar_node.specs.Config.{Config}
-use Rattle.mar_node.specs.Event.{Event}
+use Rattle.mar_node.specs.Event.{Event, life_started}
 use Rattle.mar_node.specs.Faults.{Fault, ack_kind, sync_kind, ticket_limit, want_of_memory}
 use Rattle.mar_node.specs.Held.{Seen}
-use Rattle.mar_node.specs.Lives.{Cuts}
+use Rattle.mar_node.specs.Lives.{Cuts, TakesUp}
+use Rattle.mar_node.specs.Node.{Node}
 use Rattle.mar_node.specs.Promise.{IsLawfulStep, IsSetTo, Waiting, asked_since, node_of}
 use Rattle.mar_node.specs.Step.{Made, Steps}
 use Rattle.mar_node.specs.Stored.{AreSmall}
@@ -118,13 +120,35 @@ GivesFew seen new = (new.life.next_ack ≤ seen.life.next_ack + seen.life.sizes.
 abbrev pub IsNearLast : SeenNode → Fault → Type 0
 IsNearLast seen fault = (fault ≡ ticket_limit ack_kind → 2 ^ 64 - 1 ≤ seen.life.next_ack + seen.life.sizes.window) × (fault ≡ ticket_limit sync_kind → seen.held.writes.next_sync ≡ 2 ^ 64 - 1)
 
--- A step that finished and gave few tickets, with the buffer as it was; or a cut.
-abbrev pub AfterEvent : {H R : Type 0} → Config → Chain → SeenNode → List Block → Waiting → Event → Made → StateCode H R → Outcome → Type 0
-AfterEvent config chain seen buffer waiting e made (state.Running new same pending) outcome.Done =
-    Steps config chain (node_of seen buffer waiting) (e ∷ []) made (node_of new same.blocks (asked_since waiting made.asks)) × (same.blocks ≡ buffer) × GivesFew seen new
-AfterEvent config chain seen buffer waiting e made (state.Stopped left luck) (outcome.Fault fault) =
-    Cuts config chain (node_of seen buffer waiting) (e ∷ []) made (plain_fault fault) left.ended × IsNearLast seen (plain_fault fault)
-AfterEvent config chain seen buffer waiting e made after outcome = ⊥
+-- A step from this node that finished and gave few tickets, with the buffer as it was; or a cut.
+abbrev pub AfterEvent : {H R : Type 0} → Config → Chain → Node → SeenNode → List Block → Waiting → Event → Made → StateCode H R → Outcome → Type 0
+AfterEvent config chain n seen buffer waiting e made (state.Running new same pending) outcome.Done =
+    Steps config chain n (e ∷ []) made (node_of new same.blocks (asked_since waiting made.asks)) × (same.blocks ≡ buffer) × GivesFew seen new
+AfterEvent config chain n seen buffer waiting e made (state.Stopped left luck) (outcome.Fault fault) =
+    Cuts config chain n (e ∷ []) made (plain_fault fault) left.ended × IsNearLast seen (plain_fault fault)
+AfterEvent config chain n seen buffer waiting e made after outcome = ⊥
+
+-- where a start steps from: what a crash left of the cache was taken up, unless it was cut before that
+abbrev pub StartsFrom : Outcome → Option (List Cached) → Node → Node → Type 0
+StartsFrom outcome.Done picked n begun = TakesUp picked n begun
+StartsFrom _ picked n begun = (begun ≡ n) ⊎ TakesUp picked n begun
+
+-- what a start makes of a life, where nothing was put into the cache nor taken up before it
+abbrev pub DoesStart : {H R : Type 0} → SeenNode → Held → Event → Made → StateCode H R → Outcome → Type 0
+DoesStart seen buffer e made after outcome =
+    seen.held.cache.fresh ≡ true → (config : Config) (chain : Chain) (waiting : Waiting) → IsSetNode config seen → IsLawfulStep config chain (node_of seen buffer.blocks waiting) (e ∷ [])
+    → (begun : Node) × StartsFrom outcome seen.held.cache.finds (node_of seen buffer.blocks waiting) begun × AfterEvent config chain begun seen buffer.blocks waiting e made after outcome
+
+-- what an event makes of a life that has begun
+abbrev pub DoesStep : {H R : Type 0} → SeenNode → Held → Event → Made → StateCode H R → Outcome → Type 0
+DoesStep seen buffer e made after outcome =
+    (config : Config) (chain : Chain) (waiting : Waiting) → IsSetNode config seen → IsLawfulStep config chain (node_of seen buffer.blocks waiting) (e ∷ [])
+    → AfterEvent config chain (node_of seen buffer.blocks waiting) seen buffer.blocks waiting e made after outcome
+
+-- the one or the other
+abbrev pub DoesEvent : {H R : Type 0} → SeenNode → Held → Event → Made → StateCode H R → Outcome → Type 0
+DoesEvent seen buffer (life_started f) made after outcome = DoesStart seen buffer (life_started f) made after outcome
+DoesEvent seen buffer e made after outcome = DoesStep seen buffer e made after outcome
 
 -- What one event makes of a life, whoever waits beside it.
 pub record TakesEvent {H R : Type 0} (seen : SeenNode) (buffer : Held) (pending : Pending) (e : Event) (made : Made) (after : StateCode H R) (outcome : Outcome) : Type 0 where
@@ -133,4 +157,4 @@ pub record TakesEvent {H R : Type 0} (seen : SeenNode) (buffer : Held) (pending 
   pub calls : CallsEnd seen.held.watches (fault_in outcome) (remains_in after).watches
   pub lucky : (luck : ℕ) (line : Line) → HasLuck (luck_after luck line (fault_in outcome)) after
   pub pending_as : IsPendingAs pending after
-  pub done : (config : Config) (chain : Chain) (waiting : Waiting) → IsSetNode config seen → IsLawfulStep config chain (node_of seen buffer.blocks waiting) (e ∷ []) → AfterEvent config chain seen buffer.blocks waiting e made after outcome
+  pub done : DoesEvent seen buffer e made after outcome

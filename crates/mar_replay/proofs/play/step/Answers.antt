@@ -12,6 +12,6 @@ returns-in-Ok g c =
 pub returns-in-Err : goal.returns-in-Err
 returns-in-Err g c =
     let is = c.parts_of-fault.ensures in
-    takes_err c.args.actor c.args.buffer _ _ _ c.requires.silent c.args.pending _ _
-    (promise_since c.args.actor c.args.buffer _ _ _ _ _ _ _ _ _ _ _ (Err _) c.take_sent-earlier.ensures.left c.requires.silent (sent_nothing c.args.buffer _ _ _ c.take_sent-earlier.ensures.left c.requires.silent c.in-Err.ensures.unsent) (rw is at c.in-Err.ensures.promise))
+    takes_err c.args.actor c.args.buffer _ _ _ c.requires.silent c.args.pending _ _ _ is
+    (promise_since c.args.actor c.args.buffer _ _ _ _ _ _ _ _ _ _ _ (Err _) c.take_sent-earlier.ensures.left c.requires.silent (sent_nothing c.args.buffer _ _ _ c.take_sent-earlier.ensures.left c.requires.silent c.in-Err.ensures.unsent) c.in-Err.ensures.promise)
     (rw is at c.in-Err.ensures.cause) (rw is at c.in-Err.ensures.runs_out)
