@@ -20,10 +20,11 @@ use crate::service::{Handed, Service};
 use mar_actor::{Ended, Event, Fault, Holds, Ruins, Stores};
 use mar_archives::immutable;
 use mar_block::{MemBuffer, StandardBlocks, Variant};
+use mar_cache::{CacheEntry, EpochCache, Epochs, KeptEntry, KeyedEntry, Shelf, empty_shelf};
 use mar_cert::{AsFinalization, MockFinalization};
 use mar_inbox::AnswerTable;
 use mar_key::Recorder;
-use mar_shelf::{BlockItem, Blocks, CertificateItem, Certificates, NoShelf, Shelf};
+use mar_shelf::{BlockItem, Blocks, CacheInPlace, CertificateItem, Certificates, LifeCache};
 use mar_store::{Archive, LuckHalf, MemArchive, MemMeta, Meta};
 use mar_types::Sha256Digest;
 use std::alloc::Global;
@@ -33,6 +34,9 @@ use std::io;
 type CertificateStore = immutable::Archive<
     MemArchive<CertificateItem<StandardBlocks, MockFinalization>>,
 >;
+
+/// What is kept in the cache; a notarization is of the type of a finalization.
+type Kept = CacheEntry<StandardBlocks, MockFinalization, MockFinalization>;
 
 /// The four stores of a life, of whatever make.
 type StoresOf<FB, FC, M, H> = Stores<StandardBlocks, MockFinalization, FB, FC, M, H>;
@@ -169,13 +173,13 @@ fn lived_over<
     FB: Blocks<StandardBlocks>,
     FC: Certificates<StandardBlocks, MockFinalization>,
     M: Meta,
-    H: Shelf,
+    H: LifeCache<StandardBlocks>,
 >(
     alloc: Global,
     blocks: FB,
     certs: FC,
     meta: M,
-    shelf: H,
+    cache: H,
     consensus: Told,
 ) -> Result<Outcome, Fault<Sha256Digest>>
     requires first { IsSmall (finalization_bytes (⟦<MockFinalization as AsFinalization>⟧.plain consensus.first)) }
@@ -187,7 +191,7 @@ fn lived_over<
         blocks: blocks.wreck(),
         certs: certs.wreck(),
         meta: meta.wreck(),
-        shelf: shelf.wreck(),
+        cache: cache.wreck(),
     };
     match lives::<StoresOf<FB, FC, M, H>>(alloc, nothing, consensus) {
         Ok((outcome, _left)) => Ok(outcome),
@@ -195,11 +199,12 @@ fn lived_over<
     }
 }
 
-// The same with all stores but that of the blocks in memory. What is made of many types is put in step by step: a bound that
-// such a type meets is proved anew in each function that names it, and all of them at once cost most.
-fn lived_over_blocks<FB: Blocks<StandardBlocks>>(
+// The same with all stores but those of the blocks and the cache in memory. What is made of many types is put in step by
+// step: a bound that such a type meets is proved anew in each function that names it, and all of them at once cost most.
+fn lived_over_blocks<FB: Blocks<StandardBlocks>, H: LifeCache<StandardBlocks>>(
     alloc: Global,
     blocks: FB,
+    cache: H,
     consensus: Told,
 ) -> Result<Outcome, Fault<Sha256Digest>>
     requires first { IsSmall (finalization_bytes (⟦<MockFinalization as AsFinalization>⟧.plain consensus.first)) }
@@ -209,13 +214,14 @@ fn lived_over_blocks<FB: Blocks<StandardBlocks>>(
 {
     let certs: CertificateStore = immutable::Archive::new(MemArchive::new(alloc, LuckHalf::High));
     let meta = MemMeta::new(alloc);
-    lived_over(alloc, blocks, certs, meta, NoShelf, consensus)
+    lived_over(alloc, blocks, certs, meta, cache, consensus)
 }
 
 // The same over an archive of blocks from which nothing is pruned.
-fn lived_over_archive<A: Archive<BlockItem<StandardBlocks>>>(
+fn lived_over_archive<A: Archive<BlockItem<StandardBlocks>>, H: LifeCache<StandardBlocks>>(
     alloc: Global,
     archive: A,
+    cache: H,
     consensus: Told,
 ) -> Result<Outcome, Fault<Sha256Digest>>
     requires first { IsSmall (finalization_bytes (⟦<MockFinalization as AsFinalization>⟧.plain consensus.first)) }
@@ -224,7 +230,65 @@ fn lived_over_archive<A: Archive<BlockItem<StandardBlocks>>>(
     requires around { AreSmall consensus.around.buffer.blocks }
 {
     let blocks: immutable::Archive<A> = immutable::Archive::new(archive);
-    lived_over_blocks(alloc, blocks, consensus)
+    lived_over_blocks(alloc, blocks, cache, consensus)
+}
+
+// The same over a cache of a life.
+fn lived_over_cache<H: LifeCache<StandardBlocks>>(
+    alloc: Global,
+    cache: H,
+    consensus: Told,
+) -> Result<Outcome, Fault<Sha256Digest>>
+    requires first { IsSmall (finalization_bytes (⟦<MockFinalization as AsFinalization>⟧.plain consensus.first)) }
+    requires second { IsSmall (finalization_bytes (⟦<MockFinalization as AsFinalization>⟧.plain consensus.second)) }
+    requires third { IsSmall (finalization_bytes (⟦<MockFinalization as AsFinalization>⟧.plain consensus.third)) }
+    requires around { AreSmall consensus.around.buffer.blocks }
+{
+    let archive = MemArchive::new(alloc, LuckHalf::Low);
+    lived_over_archive(alloc, archive, cache, consensus)
+}
+
+// The same over any cache.
+fn lived_over_shelf<H: Shelf<StandardBlocks, MockFinalization>>(
+    alloc: Global,
+    cache: H,
+    consensus: Told,
+) -> Result<Outcome, Fault<Sha256Digest>>
+    requires first { IsSmall (finalization_bytes (⟦<MockFinalization as AsFinalization>⟧.plain consensus.first)) }
+    requires second { IsSmall (finalization_bytes (⟦<MockFinalization as AsFinalization>⟧.plain consensus.second)) }
+    requires third { IsSmall (finalization_bytes (⟦<MockFinalization as AsFinalization>⟧.plain consensus.third)) }
+    requires around { AreSmall consensus.around.buffer.blocks }
+{
+    lived_over_cache(alloc, CacheInPlace::new(cache), consensus)
+}
+
+// The same over a cache of any epochs.
+fn lived_over_epochs<S: Epochs, M: Meta>(
+    alloc: Global,
+    cache: EpochCache<S, M>,
+    consensus: Told,
+) -> Result<Outcome, Fault<Sha256Digest>>
+where
+    S::Entry: KeptEntry<StandardBlocks, MockFinalization>,
+    requires first { IsSmall (finalization_bytes (⟦<MockFinalization as AsFinalization>⟧.plain consensus.first)) }
+    requires second { IsSmall (finalization_bytes (⟦<MockFinalization as AsFinalization>⟧.plain consensus.second)) }
+    requires third { IsSmall (finalization_bytes (⟦<MockFinalization as AsFinalization>⟧.plain consensus.third)) }
+    requires around { AreSmall consensus.around.buffer.blocks }
+{
+    lived_over_shelf(alloc, cache, consensus)
+}
+
+// The same over a cache in memory that keeps such entries.
+fn lived_over_entries<E: KeptEntry<StandardBlocks, MockFinalization> + KeyedEntry>(
+    alloc: Global,
+    consensus: Told,
+) -> Result<Outcome, Fault<Sha256Digest>>
+    requires first { IsSmall (finalization_bytes (⟦<MockFinalization as AsFinalization>⟧.plain consensus.first)) }
+    requires second { IsSmall (finalization_bytes (⟦<MockFinalization as AsFinalization>⟧.plain consensus.second)) }
+    requires third { IsSmall (finalization_bytes (⟦<MockFinalization as AsFinalization>⟧.plain consensus.third)) }
+    requires around { AreSmall consensus.around.buffer.blocks }
+{
+    lived_over_epochs(alloc, empty_shelf::<E>(alloc), consensus)
 }
 
 // The same over the library's stores in memory.
@@ -234,8 +298,7 @@ fn lived_in_memory(alloc: Global, consensus: Told) -> Result<Outcome, Fault<Sha2
     requires third { IsSmall (finalization_bytes (⟦<MockFinalization as AsFinalization>⟧.plain consensus.third)) }
     requires around { AreSmall consensus.around.buffer.blocks }
 {
-    let archive = MemArchive::new(alloc, LuckHalf::Low);
-    lived_over_archive(alloc, archive, consensus)
+    lived_over_entries::<Kept>(alloc, consensus)
 }
 
 // What the service was handed, a line for each block.

@@ -5,7 +5,7 @@ use crate::tell::*;
 use mar_archives::{immutable, prunable};
 use mar_block::{EmptyBlock, StandardBlocks, Variant};
 use mar_mocks::Recording;
-use mar_shelf::{BlockItem, Blocks, NoShelf, Shelf};
+use mar_shelf::{BlockItem, Blocks};
 use mar_store::{Archive, ArchiveRuin, Lost, LuckHalf, MemArchive, RangeSet};
 use mar_types::{Digested, EncodeSize, Hasher, Height, Sha256};
 use std::alloc::{AllocError, Global};
@@ -129,11 +129,4 @@ fn text_of_both(alloc: Global) -> Option<String> {
 fn stores_of_blocks(rt: HostRuntime) {
     let text = given(&rt, text_of_both(rt.alloc()).ok_or("no text"));
     holds(&rt, text.as_str() == ASKED);
-}
-
-#[test]
-fn a_shelf_that_holds_nothing(rt: HostRuntime) {
-    let shelf = given(&rt, NoShelf::reopen(NoShelf.wreck(), 0));
-    let text = given(&rt, format!(in rt.alloc(); "{shelf:?}"));
-    holds(&rt, text.as_str() == "NoShelf");
 }

@@ -7,18 +7,14 @@ use mar_types::{Digested, Digestible, Hasher, Height, Sha256, Sha256Digest, UInt
 use std::alloc::Global;
 use std::process::Abort;
 
-pub type Empty = EmptyBlock<Sha256>;
+type Empty = EmptyBlock<Sha256>;
 
-pub type Block = Digested<Empty>;
+type Block = Digested<Empty>;
 
 type Mock = MockBlock<Sha256Digest, UInt>;
 
 fn first_block() -> Empty {
     EmptyBlock::new(Sha256::fill(1), Height::new(1), 7)
-}
-
-pub(crate) fn block(rt: &impl Abort, alloc: Global) -> Block {
-    given(rt, ready(alloc, first_block()))
 }
 
 pub(crate) fn is_cloned<T: Clone + PartialEq + Drop>(rt: &impl Abort, value: &T) -> bool {
@@ -68,6 +64,7 @@ fn standard_blocks(rt: HostRuntime) {
     let again = given(&rt, StandardBlocks::restore(rt.alloc(), block, digest));
     is_first(&rt, &again, &digest);
     is_first(&rt, &restored(&rt, rt.alloc()), &digest);
+    is_first(&rt, &given(&rt, ready(rt.alloc(), first_block())), &digest);
     holds(&rt, parent == Sha256::fill(1));
     holds(&rt, StandardBlocks::max_backfill_block_size(52) == 52);
     holds(&rt, StandardBlocks::max_buffer_payload_size(4, 53) == 53);

@@ -1,5 +1,6 @@
 //! Buffers: what they tell of blocks that come, and what they are handed to send.
-use crate::blocks::{block, is_cloned};
+use crate::blocks::is_cloned;
+use crate::light::{Plates, plate_at};
 use crate::tell::*;
 use mar_block::*;
 use mar_types::{Participant, Sha256Digest};
@@ -7,12 +8,12 @@ use std::alloc::Global;
 use std::process::Abort;
 
 // Whether both kinds of subscriptions to a block are given.
-fn subscribes<B: Buffer<StandardBlocks>>(buffer: &B, name: &Sha256Digest) -> bool {
+fn subscribes<B: Buffer<Plates>>(buffer: &B, name: &Sha256Digest) -> bool {
     buffer.subscribe_by_digest(name).is_some() & buffer.subscribe_by_commitment(name).is_some()
 }
 
 // Whether a block is found by neither of its names.
-fn finds_none<B: Buffer<StandardBlocks>>(rt: &impl Abort, buffer: &B, name: &Sha256Digest) -> bool {
+fn finds_none<B: Buffer<Plates>>(rt: &impl Abort, buffer: &B, name: &Sha256Digest) -> bool {
     given(rt, buffer.find_by_digest(name)).is_none()
         & given(rt, buffer.find_by_commitment(name)).is_none()
 }
@@ -23,18 +24,17 @@ fn third(rt: &impl Abort, alloc: Global) -> Recipients<Participant> {
 
 // Whether it tells of blocks that come, and finds none; a block is then sent to the third peer. All that is asked at a buffer
 // is asked here, since each bound costs where it is met.
-fn tells<B: Buffer<StandardBlocks>>(rt: &impl Abort, alloc: Global, buffer: &mut B) -> bool {
-    let block = block(rt, alloc);
-    let name = block.digest();
-    let tells = subscribes(&*buffer, &name);
-    holds(rt, finds_none(rt, &*buffer, &name));
+fn tells<B: Buffer<Plates>>(rt: &impl Abort, alloc: Global, buffer: &mut B) -> bool {
+    let block = plate_at(1);
+    let tells = subscribes(&*buffer, &block.digest);
+    holds(rt, finds_none(rt, &*buffer, &block.digest));
     given(rt, buffer.send(round(2, 7), block, third(rt, alloc)));
     tells
 }
 
 #[test]
 fn a_buffer_tells_and_sends(rt: HostRuntime) {
-    let mut buffer: MemBuffer<StandardBlocks> = MemBuffer::new(rt.alloc());
+    let mut buffer: MemBuffer<Plates> = MemBuffer::new(rt.alloc());
     holds(&rt, buffer.is_open() & tells(&rt, rt.alloc(), &mut buffer));
     buffer.close();
     holds(

@@ -1,20 +1,29 @@
-//! The calls of any cache, each with ample memory. No function here has a clause, and each makes few calls, so that what
-//! calls it has nothing to carry. Where a call has no answer the cache is gone.
+//! The calls of any cache, each with ample memory. Hardly a function here has a clause, and each makes few calls, so that what
+//! calls it has nothing to carry, but a certificate's that it is small. Where a call has no answer the cache is gone.
+ghost use Rattle.std.specs.Prelude.{◌≡◌, length};
+ghost use Rattle.mar_cert.specs.Finalization.{finalization_bytes};
+ghost use Rattle.mar_store.specs.Sizes.{IsSmall};
+
 use crate::cache_light::{Light, Name, Plate, Vote};
 use mar_cache::{BlockName, Shelf, ShelfRuin, Sought, Started};
+use mar_cert::AsFinalization;
 use mar_store::Lost;
-use mar_types::{Epoch, Height, Round, View};
+use mar_types::{Epoch, Height, Named, Round, View};
 
 fn round(epoch: u64, view: u64) -> Round {
     Round::new(Epoch::new(epoch), View::new(view))
 }
 
-fn name_at(height: u8) -> Name {
+fn name_at(height: u8) -> Name
+    ensures { length (⟦<Name as Named>⟧.bytes result) ≡ 1 }
+{
     Plate::at(height).name
 }
 
 // A certificate of a round, over the block at a height.
-fn vote(at: Round, height: u8) -> Vote {
+fn vote(at: Round, height: u8) -> Vote
+    ensures small { IsSmall (finalization_bytes (⟦<Vote as AsFinalization>⟧.plain result)) }
+{
     Vote {
         round: at,
         payload: name_at(height),

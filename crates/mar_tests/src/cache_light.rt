@@ -1,5 +1,5 @@
 //! Light blocks and certificates.
-ghost use Rattle.std.specs.Prelude.{refl};
+ghost use Rattle.std.specs.Prelude.{◌≡◌, length, refl};
 
 use mar_block::Variant;
 use mar_cert::{AsFinalization, CommitsTo};
@@ -26,7 +26,9 @@ pub struct Plate {
 }
 
 impl Plate {
-    pub(crate) fn at(height: u8) -> Plate {
+    pub(crate) fn at(height: u8) -> Plate
+        ensures { length (⟦<Name as Named>⟧.bytes result.name) ≡ 1 }
+    {
         Plate {
             height: Height::new(u64::from(height)),
             name: Name { bytes: [height] },

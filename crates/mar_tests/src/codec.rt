@@ -6,7 +6,8 @@ use mar_types::*;
 use std::cell::Cell;
 use std::convert::AsSlice;
 
-const DRAWN: &str = "02030405060708090a0b0c0d0e0f101112131415161718191a1b1c1d1e1f2021";
+const DRAWN: &[u8] =
+    b"\x02\x03\x04\x05\x06\x07\x08\x09\x0a\x0b\x0c\x0d\x0e\x0f\x10\x11\x12\x13\x14\x15\x16\x17\x18\x19\x1a\x1b\x1c\x1d\x1e\x1f\x20\x21";
 
 #[test]
 fn a_drawn_digest(rt: HostRuntime) {
@@ -15,7 +16,7 @@ fn a_drawn_digest(rt: HostRuntime) {
         at_each_byte: true,
     };
     let drawn = Sha256Digest::random(&mut words);
-    in_hex(&rt, rt.alloc(), drawn.as_slice(), DRAWN);
+    holds(&rt, drawn.as_slice() == DRAWN);
 }
 
 // A value that counts how often its digest is computed.

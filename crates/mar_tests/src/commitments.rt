@@ -27,9 +27,10 @@ impl CodingScheme for Scheme {
 type Coded = Commitment<Plain, Scheme, Sha256>;
 
 // The word is 5, so there are 5 shards, and 1 in place of 0.
-const DRAWN: &str = "0606060606060606060606060606060606060606060606060606060606060606\
-0707070707070707070707070707070707070707070707070707070707070707\
-080808080808080808080808080808080808080808080808080808080808080800050001";
+const DRAWN: &[u8] =
+    b"\x06\x06\x06\x06\x06\x06\x06\x06\x06\x06\x06\x06\x06\x06\x06\x06\x06\x06\x06\x06\x06\x06\x06\x06\x06\x06\x06\x06\x06\x06\x06\x06\
+\x07\x07\x07\x07\x07\x07\x07\x07\x07\x07\x07\x07\x07\x07\x07\x07\x07\x07\x07\x07\x07\x07\x07\x07\x07\x07\x07\x07\x07\x07\x07\x07\
+\x08\x08\x08\x08\x08\x08\x08\x08\x08\x08\x08\x08\x08\x08\x08\x08\x08\x08\x08\x08\x08\x08\x08\x08\x08\x08\x08\x08\x08\x08\x08\x08\x00\x05\x00\x01";
 
 #[test]
 fn drawn_and_empty_commitments(rt: HostRuntime) {
@@ -38,6 +39,6 @@ fn drawn_and_empty_commitments(rt: HostRuntime) {
         at_each_byte: false,
     };
     let drawn = Coded::random(&mut words);
-    in_hex(&rt, rt.alloc(), drawn.as_slice(), DRAWN);
+    holds(&rt, drawn.as_slice() == DRAWN);
     holds(&rt, Coded::empty() == Coded::default());
 }

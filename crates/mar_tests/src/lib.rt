@@ -1,6 +1,6 @@
 //! Tests that cross crates: of the plain values, their texts, and each public call that no program makes; of the parts of a
-//! node in worked cases; and of the calls of stores, over archives too, of what callers are answered and of texts, which no
-//! script of the program reaches.
+//! node; and of the calls of stores, of the cache, of what callers are answered and of texts, which no script of the program
+//! reaches.
 #![tactic(auto)]
 
 #[cfg(test)]
@@ -13,6 +13,8 @@ mod blocks;
 mod buffers;
 #[cfg(test)]
 mod cache_calls;
+#[cfg(test)]
+mod cache_in_place;
 #[cfg(test)]
 mod cache_light;
 #[cfg(test)]
@@ -32,8 +34,6 @@ mod epochs;
 #[cfg(test)]
 mod floors;
 #[cfg(test)]
-mod gate;
-#[cfg(test)]
 mod inbox;
 #[cfg(test)]
 mod laws;
@@ -47,8 +47,6 @@ mod parts;
 mod peers;
 #[cfg(test)]
 mod requests;
-#[cfg(test)]
-mod staged_blocks;
 #[cfg(test)]
 mod stores;
 #[cfg(test)]

@@ -3,7 +3,7 @@ ghost use Rattle.std.specs.Prelude.{[], refl};
 
 use mar_block::Variant;
 use mar_cert::{AsFinalization, CommitsTo};
-use mar_types::{Epoch, Hasher, Height, Named, Round, Sha256, Sha256Digest, View};
+use mar_types::{Hasher, Height, Named, Round, Sha256, Sha256Digest};
 use std::alloc::AllocError;
 
 // A block whose commitment is its digest.
@@ -11,6 +11,14 @@ use std::alloc::AllocError;
 pub struct Plate {
     pub height: Height,
     pub digest: Sha256Digest,
+}
+
+// The block of a height, of whose digest each byte is the height.
+pub(crate) fn plate_at(height: u8) -> Plate {
+    Plate {
+        height: Height::new(u64::from(height)),
+        digest: Sha256::fill(height),
+    }
 }
 
 pub struct Plates {}
@@ -67,11 +75,11 @@ pub struct Vote {
     pub payload: Sha256Digest,
 }
 
-// Of this view of the first epoch, for a payload of this byte throughout.
-pub(crate) fn vote_of(view: u64, byte: u8) -> Vote {
+// A finalization over the block of a height.
+pub(crate) fn vote_over(round: Round, height: u8) -> Vote {
     Vote {
-        round: Round::new(Epoch::zero(), View::new(view)),
-        payload: Sha256::fill(byte),
+        round,
+        payload: Sha256::fill(height),
     }
 }
 

@@ -3,7 +3,7 @@ use crate::tell::*;
 use mar_key::Cutoff;
 use mar_node::Writes;
 use mar_parts::*;
-use mar_store::{MemMeta, Meta, Miss};
+use mar_store::{MemMeta, Miss};
 use mar_types::Height;
 use std::alloc::{AllocError, Global};
 use std::process::Abort;
@@ -24,38 +24,17 @@ fn clears(rt: &impl Abort, writes: &mut Writes) -> bool {
     is_barred & writes.barrier().is_none()
 }
 
-// Whether a cutoff comes back from the store with the processed height, once it was synced.
-fn comes_back(rt: &impl Abort, stream: Stream<MemMeta>, cutoff: Cutoff) -> (Stream<MemMeta>, bool) {
-    let stream = given(rt, stream.set_cutoff(cutoff));
-    let stream = given(rt, stream.sync());
-    let stream = match MemMeta::reopen(stream.wreck(), 0) {
-        Ok(meta) => Stream::new(meta),
-        Err(_) => panic!(rt; "an error"),
-    };
-    let is_back = is_at(stream.processed_height(), Some(8)) & (stream.cutoff() == cutoff);
-    (stream, is_back)
-}
-
-// Whether a stream begins at zero, and keeps what is synced, the processed height under its key.
-fn lasts(rt: &impl Abort, alloc: Global) -> bool {
+// Whether a stream over nothing begins at zero.
+fn begins(rt: &impl Abort, alloc: Global) -> bool {
     let stream = Stream::new(MemMeta::new(alloc));
     assert!(rt; stream.processed_height() == None);
-    let begins = stream.is_synced()
-        & (stream.next_height() == Height::zero())
-        & (stream.cutoff() == Cutoff::zero());
-    let stream = given(rt, stream.acknowledge(Height::new(8)));
-    let (round, later) = (round(2, 40), round(3, 5));
-    let (stream, first) = comes_back(rt, stream, Cutoff::Round(round));
-    let (stream, second) = comes_back(rt, stream, Cutoff::Epoch(round.epoch()));
-    let (stream, third) = comes_back(rt, stream, Cutoff::Round(later));
-    let meta = given(rt, MemMeta::reopen(stream.wreck(), 0));
-    begins & first & second & third & (meta.get(0xFF) == Some(8))
+    stream.is_synced() & stream.next_height().is_zero() & (stream.cutoff() == Cutoff::zero())
 }
 
 #[test]
 fn parts_that_the_program_does_not_call(rt: HostRuntime) {
     holds(&rt, clears(&rt, &mut Writes::new(rt.alloc())));
-    holds(&rt, lasts(&rt, rt.alloc()));
+    holds(&rt, begins(&rt, rt.alloc()));
 }
 
 fn of_nobody(alloc: Global) -> Served {

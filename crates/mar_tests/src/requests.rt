@@ -1,7 +1,7 @@
 //! Requests and annotations: what is printed of them, which floors let them live, and what is open of them.
 use crate::tell::*;
 use mar_key::{
-    Annotation, Cutoff, Fetch, Finalized, Key, OpenRequests, Recorder, Request, Resolver, Retain,
+    Annotation, Cutoff, Fetch, Finalized, Key, OpenRequests, Recorder, Request, Retain,
     TargetedResolver,
 };
 use mar_types::{Epoch, Height, Sha256Digest};
@@ -60,61 +60,10 @@ fn what_is_asked_of_peers_is_open(rt: HostRuntime) {
     let alloc = rt.alloc();
     let fetch: Fetch<Sha256Digest> = Fetch::from(Request::finalized(at()));
     let mut recorder = Recorder::new(alloc);
-    given(&rt, recorder.fetch_targeted(fetch, &[1, 2]));
-    given(&rt, recorder.fetch_all(&[fetch]));
     given(&rt, recorder.fetch_all_targeted(&[fetch], &[3]));
-    holds(&rt, recorder.asks().len() == 3);
+    holds(&rt, recorder.asks().len() == 1);
     let mut open = OpenRequests::new(alloc);
     given(&rt, open.settle(&[], recorder.asks()));
     holds(&rt, open.annotations_of(&fetch.key).len() == 1);
     fetch.key.is_key();
-}
-
-// Whether a floor denies a request.
-fn goes(floor: &Retain, request: Request<u64>) -> bool {
-    floor.denies(&Fetch::from(request).subscriber)
-}
-
-#[test]
-fn floors_deny_what_they_reach(rt: HostRuntime) {
-    let (last, next) = (Height::new(100), Height::new(101));
-    let height = Retain::AboveHeight(last);
-    holds(&rt, goes(&height, Request::finalized(last)));
-    holds(&rt, goes(&height, Request::untrusted(9, last)));
-    holds(&rt, !goes(&height, Request::finalized(next)));
-    holds(&rt, !goes(&height, Request::untrusted(9, next)));
-    holds(&rt, !goes(&height, Request::notarized(round(1, 10))));
-    let cutoff = Retain::AboveRound(Cutoff::Round(round(1, 10)));
-    holds(&rt, goes(&cutoff, Request::notarized(round(1, 10))));
-    holds(&rt, !goes(&cutoff, Request::notarized(round(1, 11))));
-    let epoch = Retain::AboveRound(Cutoff::Epoch(Epoch::new(1)));
-    holds(&rt, goes(&epoch, Request::notarized(round(1, u64::MAX))));
-    holds(&rt, !goes(&epoch, Request::notarized(round(2, 0))));
-}
-
-const fn finalized(height: u64) -> Key<u64> {
-    Key::Finalized {
-        height: Height::new(height),
-    }
-}
-
-#[test]
-fn keys_ascend(rt: HostRuntime) {
-    let (older, newer) = (round(333, 250), round(333, 300));
-    holds(&rt, Key::Block(9).is_before(&finalized(100)));
-    holds(&rt, finalized(100).is_before(&finalized(200)));
-    holds(
-        &rt,
-        finalized(200).is_before(&Key::Notarized { round: older }),
-    );
-    holds(
-        &rt,
-        Key::<u64>::Notarized { round: older }.is_before(&Key::Notarized { round: newer }),
-    );
-    debugs(
-        &rt,
-        rt.alloc(),
-        &finalized(12345),
-        "Finalized(Height(12345))",
-    );
 }

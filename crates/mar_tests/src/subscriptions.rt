@@ -1,9 +1,9 @@
 //! Subscriptions, over a buffer that promises and one that doesn't.
-use crate::light::{Plate, Plates};
+use crate::light::{Plate, Plates, plate_at};
 use crate::tell::*;
 use mar_block::{Buffer, Recipients, Subscription};
 use mar_parts::{Key, Subscriptions};
-use mar_types::{Hasher, Height, Participant, Round, Sha256, Sha256Digest};
+use mar_types::{Hasher, Participant, Round, Sha256, Sha256Digest};
 use std::alloc::{AllocError, Global};
 use std::cell::Cell;
 use std::process::Abort;
@@ -68,93 +68,57 @@ impl Buffer<Plates> for Counting {
     }
 }
 
-// What names a block, which has one byte throughout.
-type Named = Key<u8, u8>;
-
-// A call, and what it is to answer.
-#[derive(Clone, Copy)]
-enum Call {
-    // A ticket, and what the buffer was asked by then.
-    Insert(Named, u64, u64),
-    IsSubscribed(Named, bool),
-    // The tickets that wait for the digest of that byte, and for the commitment.
-    Notify(u8, &'static [u64], &'static [u64]),
-    Remove(Named, &'static [u64]),
-    RetainOpen(&'static [u64]),
-}
-
 type Waits = Subscriptions<Plates>;
 
-fn name_of(named: Named) -> Key<Sha256Digest, Sha256Digest> {
-    match named {
-        Key::Digest(byte) => Key::Digest(Sha256::fill(byte)),
-        Key::Commitment(byte) => Key::Commitment(Sha256::fill(byte)),
-    }
+type Name = Key<Sha256Digest, Sha256Digest>;
+
+fn digest() -> Name {
+    Key::Digest(Sha256::fill(1))
 }
 
-fn notifies(waits: &mut Waits, byte: u8, digests: &[u64], commitments: &[u64]) -> bool {
-    let block = Plate {
-        height: Height::new(u64::from(byte)),
-        digest: Sha256::fill(byte),
-    };
-    let served = waits.notify(&block);
-    (served.by_digest.as_slice() == digests) & (served.by_commitment.as_slice() == commitments)
+fn commitment() -> Name {
+    Key::Commitment(Sha256::fill(1))
 }
 
-fn answers(rt: &impl Abort, waits: &mut Waits, buffer: &Counting, call: Call) -> bool {
-    match call {
-        Call::Insert(named, ticket, asked) => {
-            given(rt, waits.insert(name_of(named), ticket, buffer));
-            buffer.asked.get() == asked
-        }
-        Call::IsSubscribed(named, is_so) => waits.is_subscribed(&name_of(named)) == is_so,
-        Call::Notify(byte, digests, commitments) => notifies(waits, byte, digests, commitments),
-        Call::Remove(named, tickets) => waits.remove(&name_of(named)).as_slice() == tickets,
-        Call::RetainOpen(closed) => {
-            waits.retain_open(closed);
-            true
-        }
-    }
+// What the buffer was asked when the ticket waits under a key.
+fn asked_by(rt: &impl Abort, waits: &mut Waits, buffer: &Counting, name: Name, ticket: u64) -> u64 {
+    given(rt, waits.insert(name, ticket, buffer));
+    buffer.asked.get()
 }
 
-// Makes the calls in turn over a buffer that promises or doesn't.
-fn follow(rt: &impl Abort, alloc: Global, promises: bool, calls: &[Call]) {
+// Whether the buffer is asked by the first ticket under each key alone.
+fn asks_once(rt: &impl Abort, waits: &mut Waits, buffer: &Counting) -> bool {
+    let first = asked_by(rt, waits, buffer, digest(), 4);
+    let again = asked_by(rt, waits, buffer, digest(), 2);
+    let other = asked_by(rt, waits, buffer, commitment(), 3);
+    let more = asked_by(rt, waits, buffer, commitment(), 5);
+    (first == 1) & (again == 1) & (other == 11) & (more == 11)
+}
+
+// Whether a block serves those who wait for it.
+fn serves(waits: &mut Waits) -> bool {
+    waits.retain_open(&[2, 3]);
+    let served = waits.notify(&plate_at(1));
+    (served.by_digest.len() == 1) & (served.by_commitment.len() == 1)
+}
+
+// Whether the buffer is asked once a key, and once more where nobody waited any longer.
+fn waits_over(rt: &impl Abort, alloc: Global, promises: bool) -> bool {
     let buffer = Counting {
         promises,
         asked: Cell::new(0),
     };
     let mut waits = Subscriptions::new(alloc);
-    for call in calls {
-        holds(rt, answers(rt, &mut waits, &buffer, *call));
-    }
+    let once = asks_once(rt, &mut waits, &buffer);
+    let promised = waits.is_subscribed(&commitment()) == promises;
+    let served = serves(&mut waits);
+    let anew = asked_by(rt, &mut waits, &buffer, digest(), 6) == 12;
+    let removed = waits.remove(&digest());
+    once & promised & served & anew & (removed.len() == 1)
 }
-
-const PROMISED: [Call; 10] = [
-    Call::Insert(Key::Digest(1), 4, 1),
-    Call::Insert(Key::Digest(1), 2, 1),
-    Call::Insert(Key::Commitment(1), 3, 11),
-    Call::Insert(Key::Commitment(1), 5, 11),
-    Call::Insert(Key::Digest(2), 7, 12),
-    Call::RetainOpen(&[2, 3]),
-    Call::IsSubscribed(Key::Commitment(1), true),
-    Call::Notify(1, &[4], &[5]),
-    Call::IsSubscribed(Key::Digest(1), false),
-    Call::Notify(2, &[7], &[]),
-];
-
-// One ticket waits under one key as often as it is put there.
-const UNPROMISED: [Call; 7] = [
-    Call::Insert(Key::Digest(1), 4, 1),
-    Call::Insert(Key::Digest(1), 4, 1),
-    Call::Insert(Key::Commitment(1), 4, 11),
-    Call::IsSubscribed(Key::Commitment(1), false),
-    Call::Remove(Key::Digest(1), &[4, 4]),
-    Call::Insert(Key::Digest(1), 6, 12),
-    Call::Notify(1, &[6], &[4]),
-];
 
 #[test]
 fn a_buffer_is_asked_once_a_key(rt: HostRuntime) {
-    follow(&rt, rt.alloc(), true, &PROMISED);
-    follow(&rt, rt.alloc(), false, &UNPROMISED);
+    holds(&rt, waits_over(&rt, rt.alloc(), true));
+    holds(&rt, waits_over(&rt, rt.alloc(), false));
 }

@@ -4,27 +4,17 @@ use mar_types::{TermLength, View};
 use std::num::NonZeroU32;
 use std::process::Abort;
 
-fn terms_of(rt: &impl Abort, length: u32) -> TermLength {
-    TermLength::new(NonZeroU32::new(length).expect(rt, "zero"))
-}
-
 // A view, the first and the last of its term, the first of the next term, and its term's number.
-type Place = (u64, u64, u64, u64, u64);
-
-fn has_place(rt: &impl Abort, length: TermLength, place: Place) {
-    let (number, first, last, next, index) = place;
-    let view = View::new(number);
-    let is_begun = (view.term_start(length).get() == first)
-        & (view.term_index(length) == index)
-        & (view.is_term_start(length) == (number == first));
-    assert!(rt; number < 100);
-    let (end, start) = (view.term_end(length), view.next_term_start(length));
-    holds(rt, is_begun & (end.get() == last) & (start.get() == next));
-}
+type Place = (u32, u64, u64, u64, u64);
 
 fn have_places(rt: &impl Abort, length: TermLength, places: &[Place]) {
-    for place in places {
-        has_place(rt, length, *place);
+    for (number, first, last, next, index) in places {
+        let view = View::new(u64::from(*number));
+        let is_begun = (view.term_start(length).get() == *first)
+            & (view.term_index(length) == *index)
+            & (view.is_term_start(length) == (view.get() == *first));
+        let (end, start) = (view.term_end(length), view.next_term_start(length));
+        holds(rt, is_begun & (end.get() == *last) & (start.get() == *next));
     }
 }
 
@@ -62,7 +52,7 @@ const PAIRS_OF_FIVE: [Pair; 8] = [
 
 #[test]
 fn terms_have_their_length(rt: HostRuntime) {
-    let five = terms_of(&rt, 5);
+    let five = TermLength::new(NonZeroU32::new(5).expect(&rt, "zero"));
     have_places(&rt, five, &PLACES_OF_FIVE);
     lead(&rt, five, &PAIRS_OF_FIVE);
     let covering = View::new(8).covering_range(five);

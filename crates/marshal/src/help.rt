@@ -32,7 +32,7 @@ the lines of a script behind its settings, `config` and eight numbers:
   getverified E V     asks for the block that was first verified in the round of epoch E and view V
   prepared E V PEERS HEX
                       sends a block in the round of epoch E and view V to PEERS: all, -, or members with commas between
-  fail STORE N        the Nth counted call of this store from here on fails: blocks, certs or meta (cache has none yet)
+  fail STORE N        the Nth counted call of this store from here on fails: blocks, certs, meta or cache
   crash N             ends the life; of what a crash may leave, the next opening finds what N picks
 
 exit status: 0 the input was read to its end, 1 out of memory, 2 usage, 3 a line is outside the grammar,
