@@ -4,10 +4,11 @@ ghost use Rattle.std.specs.Prelude.{◌≤◌, ℕ, [], IfOk};
 use crate::marks::Mark;
 use crate::mem_disk::MemDisk;
 use crate::store::Store;
+use crate::text::both_text;
 use mar_durable::{JournalArchive, JournalArchiveWreck};
 use mar_journal::Unopened;
-use mar_store::{Archive, ArchiveRuin, Identifier, Lost, RangeSet, SyncTicket};
-use std::alloc::Global;
+use mar_store::{Archive, Identifier, Lost, SyncTicket};
+use std::alloc::{AllocError, Global};
 
 /// An archive of marks that is a journal.
 pub type OnDisk = JournalArchive<Mark, MemDisk>;
@@ -50,23 +51,11 @@ pub trait Marks: Store {
     /// Whether it holds the mark of a byte at the index of that number; none where it holds another there.
     fn holds(&mut self, byte: u8) -> Option<bool>;
 
-    /// Whether it holds a mark at an index.
-    fn holds_at(&mut self, index: u64) -> bool;
+    /// The greatest index that is held, where it holds a mark at 0.
+    fn last_from_first(&mut self) -> Option<u64>;
 
-    /// The greatest index that is held.
-    fn last(&self) -> Option<u64>;
-
-    /// The indexes that are held.
-    fn held(&self) -> &RangeSet;
-
-    /// Those that are sure.
-    fn sure(&self) -> &RangeSet;
-
-    /// The indexes of what every crash leaves.
-    fn sure_of(wreck: &Self::Wreck) -> &RangeSet;
-
-    /// Those of all that a crash can leave.
-    fn may_of(wreck: &Self::Wreck) -> &RangeSet;
+    /// The indexes that are held, and those that are sure.
+    fn ranges_text(&self, alloc: Global) -> Result<String, AllocError>;
 }
 
 impl Store for OnDisk {
@@ -88,10 +77,6 @@ impl Store for OnDisk {
 
     fn disk(self) -> MemDisk {
         self.into_disk()
-    }
-
-    fn damage_of(wreck: &Wreck) -> Option<usize> {
-        wreck.damage()
     }
 }
 
@@ -126,27 +111,15 @@ impl Marks for OnDisk {
         }
     }
 
-    fn holds_at(&mut self, index: u64) -> bool {
-        self.has(Identifier::Index(index)) == Ok(true)
+    fn last_from_first(&mut self) -> Option<u64> {
+        if self.has(Identifier::Index(0)) == Ok(true) {
+            self.last_index()
+        } else {
+            None
+        }
     }
 
-    fn last(&self) -> Option<u64> {
-        self.last_index()
-    }
-
-    fn held(&self) -> &RangeSet {
-        self.held_ranges()
-    }
-
-    fn sure(&self) -> &RangeSet {
-        self.sure_ranges()
-    }
-
-    fn sure_of(wreck: &Wreck) -> &RangeSet {
-        wreck.sure_ranges()
-    }
-
-    fn may_of(wreck: &Wreck) -> &RangeSet {
-        wreck.may_ranges()
+    fn ranges_text(&self, alloc: Global) -> Result<String, AllocError> {
+        both_text(alloc, self.held_ranges(), ", sure ", self.sure_ranges())
     }
 }

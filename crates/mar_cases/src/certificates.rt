@@ -5,7 +5,7 @@ use mar_cert::{
     Subject, verify_certificates,
 };
 use mar_gen::number;
-use mar_types::{Decode, Encode, EncodeSize, Epoch, Error, Round, Sha256Digest, read_front};
+use mar_types::{Decode, Encode, EncodeSize, Epoch, Round, Sha256Digest, read_front};
 use std::alloc::{AllocError, Global};
 
 // No certificate that is told of takes more bytes.
@@ -74,17 +74,6 @@ fn certificate(alloc: Global, bytes: &[u8], members: u32) -> Result<String, Allo
     }
 }
 
-// What a certificate that was read tells of itself.
-#[derive(Drop)]
-struct Told {
-    round: Round,
-    epoch: Epoch,
-    size: usize,
-    most: usize,
-    spelled: &'static str,
-    verdict: &'static str,
-}
-
 fn notarization(alloc: Global, bytes: &[u8], scheme: MockScheme) -> Result<String, AllocError> {
     let read = match MockNotarization::decode_cfg(alloc, bytes, &scheme.members()) {
         Ok(read) => read,
@@ -93,18 +82,21 @@ fn notarization(alloc: Global, bytes: &[u8], scheme: MockScheme) -> Result<Strin
     if read.certificate.encode_size() > LONGEST {
         return "too long".to_string(alloc);
     }
-    let told = Told {
-        round: read.round(),
-        epoch: read.epoch(),
-        size: read.encode_size(),
-        most: MockNotarization::max_encode_size::<MockScheme>(scheme.members()),
-        spelled: is_spelled_by(alloc, &read, bytes)?,
-        verdict: verdict(read.verify(&Scoped::scheme(scheme))),
-    };
+    let size = read.encode_size();
+    let most = MockNotarization::max_encode_size::<MockScheme>(scheme.members());
+    let spelled = is_spelled_by(alloc, &read, bytes)?;
+    let verdict = verdict(read.verify(&Scoped::scheme(scheme)));
+    let told = parts(
+        alloc,
+        (read.round(), read.epoch()),
+        (size, most),
+        spelled,
+        verdict,
+    )?;
     let subject = Subject::Notarize {
         proposal: read.proposal.copy(),
     };
-    judged(alloc, scheme, &subject, &read.certificate, &told)
+    judged(alloc, scheme, &subject, &read.certificate, told.as_str())
 }
 
 fn finalization(alloc: Global, bytes: &[u8], scheme: MockScheme) -> Result<String, AllocError> {
@@ -115,18 +107,21 @@ fn finalization(alloc: Global, bytes: &[u8], scheme: MockScheme) -> Result<Strin
     if read.certificate.encode_size() > LONGEST {
         return "too long".to_string(alloc);
     }
-    let told = Told {
-        round: read.round(),
-        epoch: read.epoch(),
-        size: read.encode_size(),
-        most: MockFinalization::max_encode_size::<MockScheme>(scheme.members()),
-        spelled: is_spelled_by(alloc, &read, bytes)?,
-        verdict: verdict(read.verify(&Scoped::scheme(scheme))),
-    };
+    let size = read.encode_size();
+    let most = MockFinalization::max_encode_size::<MockScheme>(scheme.members());
+    let spelled = is_spelled_by(alloc, &read, bytes)?;
+    let verdict = verdict(read.verify(&Scoped::scheme(scheme)));
+    let told = parts(
+        alloc,
+        (read.round(), read.epoch()),
+        (size, most),
+        spelled,
+        verdict,
+    )?;
     let subject = Subject::Finalize {
         proposal: read.proposal.copy(),
     };
-    judged(alloc, scheme, &subject, &read.certificate, &told)
+    judged(alloc, scheme, &subject, &read.certificate, told.as_str())
 }
 
 fn verdict(is_verified: bool) -> &'static str {
@@ -137,6 +132,17 @@ fn verdict(is_verified: bool) -> &'static str {
     }
 }
 
+// What a certificate that was read tells of itself: where it stands, its size and the greatest, and more.
+fn parts(
+    alloc: Global,
+    (round, epoch): (Round, Epoch),
+    (size, most): (usize, usize),
+    spelled: &str,
+    verdict: &str,
+) -> Result<String, AllocError> {
+    format!(in alloc; "{round} of epoch {epoch}, {size} of {most} bytes, {spelled}, {verdict}")
+}
+
 // The subject, how many sign of how many and how many suffice, the sizes of both parts, the committee's verdict, and
 // what the certificate tells.
 fn judged(
@@ -144,40 +150,47 @@ fn judged(
     scheme: MockScheme,
     subject: &Subject<Sha256Digest>,
     certificate: &MockCertificate,
-    told: &Told,
+    told: &str,
 ) -> Result<String, AllocError> {
     let bytes = certificate.encode(alloc)?;
-    let scoped = Scoped::scheme(scheme);
-    let verdict = match is_judged_valid(alloc, &scoped, subject, bytes.as_slice()) {
-        Ok(is_valid) => verdict(is_valid),
-        Err(_) => "not read again",
-    };
+    let verdict = verdict_again(alloc, scheme, subject, bytes.as_slice());
     let (signers, members, quorum) = (certificate.signers.len(), scheme.members(), scheme.quorum());
     let (size, more) = (subject.proposal().encode_size(), bytes.len());
-    let told = parts(alloc, told)?;
     format!(in alloc;
         "{subject:?} {size} + {more} bytes, {signers} of {members} where {quorum} suffice: {verdict}; {told}"
     )
 }
 
-fn parts(alloc: Global, told: &Told) -> Result<String, AllocError> {
-    let (round, epoch, size, most) = (told.round, told.epoch, told.size, told.most);
-    let (spelled, verdict) = (told.spelled, told.verdict);
-    format!(in alloc; "{round} of epoch {epoch}, {size} of {most} bytes, {spelled}, {verdict}")
+// The committee's verdict over a certificate over a subject, read by its own reader and by that of any committee.
+fn verdict_again(
+    alloc: Global,
+    scheme: MockScheme,
+    subject: &Subject<Sha256Digest>,
+    bytes: &[u8],
+) -> &'static str {
+    let scoped = Scoped::scheme(scheme);
+    let config = scoped.certificate_codec_config();
+    let peers = is_verified_as(alloc, &scoped, subject, bytes, &config);
+    let config = MockScheme::certificate_codec_config_unbounded();
+    let stored = is_verified_as(alloc, &scoped, subject, bytes, &config);
+    match (peers, stored) {
+        (Some(peers), Some(stored)) => verdict(peers && stored),
+        _ => "not read again",
+    }
 }
 
-// Whether a committee verifies a certificate over a subject, read by its own reader and by that of any committee.
-fn is_judged_valid(
+// Whether a certificate over a subject verifies, as a reader of this configuration reads it.
+fn is_verified_as(
     alloc: Global,
     scoped: &Scoped<MockScheme>,
     subject: &Subject<Sha256Digest>,
     bytes: &[u8],
-) -> Result<bool, Error> {
-    let config = scoped.certificate_codec_config();
-    let peers = MockCertificate::decode_cfg(alloc, bytes, &config)?;
-    let config = MockScheme::certificate_codec_config_unbounded();
-    let stored = MockCertificate::decode_cfg(alloc, bytes, &config)?;
-    Ok(scoped.verify(subject, &peers) && scoped.verify(subject, &stored))
+    config: &u32,
+) -> Option<bool> {
+    match MockCertificate::decode_cfg(alloc, bytes, config) {
+        Ok(read) => Some(scoped.verify(subject, &read)),
+        Err(_) => None,
+    }
 }
 
 // The verdicts over finalizations that follow one another.
@@ -214,6 +227,11 @@ fn changed(alloc: Global, bytes: &[u8], scheme: MockScheme) -> Result<String, Al
     format!(in alloc; "not verified with any of {count} bytes changed")
 }
 
+// The byte with one bit changed, another at each place of seven.
+fn changed_at(byte: u8, place: usize) -> u8 {
+    byte ^ (1 << (place % 7))
+}
+
 fn is_verified_changed(
     alloc: Global,
     bytes: &[u8],
@@ -222,7 +240,7 @@ fn is_verified_changed(
 ) -> Result<bool, AllocError> {
     let mut bytes = Vec::from_slice(alloc, bytes)?;
     if let Some(byte) = bytes.get_mut(place) {
-        *byte ^= 1 << (place % 7);
+        *byte = changed_at(*byte, place);
     }
     match MockFinalization::decode_cfg(alloc, bytes.as_slice(), &scheme.members()) {
         Ok(read) => Ok(read.verify(&Scoped::scheme(scheme))),

@@ -1,7 +1,6 @@
 //! Each of the first calls of a disk fails by each of eight lucks: how often what was durable is found behind it, and how
 //! often what the sync that failed was to make durable.
 use crate::archive::Marks;
-use crate::mem_disk::MemDisk;
 use crate::play::{crashed, disk_of, play};
 use crate::script::{Lists, Step};
 use std::alloc::{AllocError, Global};
@@ -10,7 +9,7 @@ use std::alloc::{AllocError, Global};
 const LUCKS: [u64; 8] = [0, 1, 2, 3, 6, 7, 0xffff_ffff_ffff_fffe, u64::MAX];
 
 // What a crash left.
-#[derive(Clone, Copy, PartialEq, Eq)]
+#[derive(Clone, Copy)]
 enum Found {
     // What was durable, and no more.
     Before,
@@ -30,55 +29,33 @@ fn has_just<S: Marks>(archive: &mut S, list: &[u8]) -> bool {
     true
 }
 
-// What is found behind a crash within the steps.
-fn found_later<S: Marks>(
-    archive: S,
-    steps: &[Step],
-    luck: u64,
-    lists: &mut Lists,
-) -> Result<Found, AllocError> {
-    let wreck = play(steps, archive, lists)?;
-    let mut archive = match S::open_left(wreck, luck) {
-        Ok(archive) => archive,
-        Err(_) => return Ok(Found::Neither),
-    };
+// What an archive holds, which is to be what was durable or what was held.
+fn found_of<S: Marks>(archive: S, lists: &Lists) -> Found {
+    let mut archive = archive;
     if has_just(&mut archive, &lists.durable) {
-        return Ok(Found::Before);
+        return Found::Before;
     }
     if has_just(&mut archive, &lists.held) {
-        return Ok(Found::After);
+        return Found::After;
     }
-    Ok(Found::Neither)
+    Found::Neither
 }
 
-// What is found behind a crash within the first opening.
-fn found_first<S: Marks>(alloc: Global, disk: MemDisk, luck: u64) -> Result<Found, AllocError> {
-    match S::open_on(alloc, crashed(disk, luck)?) {
-        Ok(archive) => {
-            let mut archive = archive;
-            if has_just(&mut archive, &[]) {
-                Ok(Found::Before)
-            } else {
-                Ok(Found::Neither)
-            }
-        }
-        Err(_) => Ok(Found::Neither),
-    }
-}
-
-// What is found where this call of the disk fails.
+// What is found where this call of the disk fails: one within the steps, or one of the first opening.
 fn left_by<S: Marks>(
     alloc: Global,
     steps: &[Step],
     call: u64,
     luck: u64,
 ) -> Result<Found, AllocError> {
-    match S::open_on(alloc, disk_of(alloc, call)?) {
-        Ok(archive) => {
-            let mut lists = Lists::new(alloc);
-            found_later(archive, steps, luck, &mut lists)
-        }
-        Err((_, disk)) => found_first::<S>(alloc, disk, luck),
+    let mut lists = Lists::new(alloc);
+    let opened = match S::open_on(alloc, disk_of(alloc, call)?) {
+        Ok(archive) => S::open_left(play(steps, archive, &mut lists)?, luck).ok(),
+        Err((_, disk)) => S::open_on(alloc, crashed(disk, luck)?).ok(),
+    };
+    match opened {
+        Some(archive) => Ok(found_of(archive, &lists)),
+        None => Ok(Found::Neither),
     }
 }
 

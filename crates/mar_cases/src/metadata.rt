@@ -6,7 +6,7 @@ use crate::mem_disk::MemDisk;
 use crate::store::Store;
 use mar_durable::{JournalMeta, JournalMetaWreck};
 use mar_journal::Unopened;
-use mar_store::{Lost, Meta, MetaRuin};
+use mar_store::{Lost, Meta};
 use std::alloc::Global;
 
 /// A store of metadata that is a journal.
@@ -35,12 +35,6 @@ pub trait Numbers: Store {
     where
         Self: Sized,
         ensures { IfOk result (λ s. Self.changed s ≡ []) };
-
-    /// The value of a key.
-    fn value(&self, key: u64) -> Option<u64>;
-
-    /// The value of a key that was synced last.
-    fn synced_of(wreck: &Self::Wreck, key: u64) -> Option<u64>;
 }
 
 /// Two keys in one batch, and both changed in another.
@@ -75,10 +69,6 @@ impl Store for MetaOnDisk {
     fn disk(self) -> MemDisk {
         self.into_disk()
     }
-
-    fn damage_of(wreck: &Wreck) -> Option<usize> {
-        wreck.damage()
-    }
 }
 
 impl Numbers for MetaOnDisk {
@@ -92,13 +82,5 @@ impl Numbers for MetaOnDisk {
 
     fn save(self) -> Result<Self, Lost<Wreck>> {
         self.sync()
-    }
-
-    fn value(&self, key: u64) -> Option<u64> {
-        self.get(key)
-    }
-
-    fn synced_of(wreck: &Wreck, key: u64) -> Option<u64> {
-        wreck.synced(key)
     }
 }

@@ -1,7 +1,7 @@
 //! What the bytes of a file open as, on a disk in memory, and in how many reads.
 use crate::archive::Marks;
-use crate::marks::Mark;
 use crate::mem_disk::MemDisk;
+use crate::records::written;
 use crate::store::Store;
 use crate::text::number_text;
 use mar_gen::number;
@@ -26,34 +26,17 @@ pub(crate) fn told<S: Store>(alloc: Global, text: &str) -> Result<String, AllocE
     }
 }
 
-// The disk of a new archive in which so many values were put and then synced once.
-fn written<S: Marks>(alloc: Global, count: u64) -> Option<MemDisk> {
-    let mut archive = S::open_on(alloc, MemDisk::new(alloc)).ok()?;
-    for number in 0..count {
-        archive = archive.add(number, Mark::numbered(number)).ok()?;
-    }
-    Some(archive.save().ok()?.disk())
-}
-
 // The last index of what these bytes open as, where the disk answers so many reads and no more.
-fn last_within<S: Marks>(
-    alloc: Global,
-    bytes: &[u8],
-    reads: u64,
-) -> Result<Option<u64>, AllocError> {
+fn last_within<S: Marks>(alloc: Global, bytes: &[u8], reads: u64) -> Result<String, AllocError> {
     let mut disk = MemDisk::with_bytes(alloc, bytes)?;
     // An opening syncs once before it reads.
     disk.bound(reads.saturating_add(1));
     match S::open_on(alloc, disk) {
         Ok(archive) => {
             let mut archive = archive;
-            if archive.holds_at(0) {
-                Ok(archive.last())
-            } else {
-                Ok(None)
-            }
+            number_text(alloc, archive.last_from_first())
         }
-        Err(_) => Ok(None),
+        Err(_) => "-".to_string(alloc),
     }
 }
 
@@ -62,13 +45,13 @@ pub(crate) fn told_reads<S: Marks>(alloc: Global, text: &str) -> Result<String, 
     let Some(count) = number(text.as_bytes()) else {
         return "no number".to_string(alloc);
     };
-    let Some(disk) = written::<S>(alloc, count) else {
+    let Some(archive) = written::<S>(alloc, count, 0) else {
         return "not written".to_string(alloc);
     };
+    let disk = archive.disk();
     let bytes = disk.bytes();
     let reads = (bytes.len() as u64).div_ceil(65_536);
-    let enough = number_text(alloc, last_within::<S>(alloc, bytes, reads)?)?;
+    let enough = last_within::<S>(alloc, bytes, reads)?;
     let less = last_within::<S>(alloc, bytes, reads.saturating_sub(1))?;
-    let less = number_text(alloc, less)?;
     format!(in alloc; "{enough} in one read for each 64 KiB, {less} in one less")
 }

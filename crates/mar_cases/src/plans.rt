@@ -2,7 +2,8 @@
 ghost use Rattle.mar_gen.specs.Plan.{IsStepWithin};
 
 use crate::answers::in_hex;
-use mar_gen::{Made, Planned, finalization, number};
+use crate::text::three_numbers;
+use mar_gen::{Made, Planned, finalization};
 use mar_types::Digestible;
 use std::alloc::{AllocError, Global};
 
@@ -45,19 +46,9 @@ fn steps_of(alloc: Global, made: &Made, count: u64) -> Result<String, AllocError
     format!(in alloc; "{steps} steps{text}")
 }
 
-// A seed, a number of heights and a number of steps.
-fn asked(text: &str) -> Option<(u64, u64, u64)> {
-    let (seed, rest) = text.split_once(' ')?;
-    let (last, count) = rest.split_once(' ')?;
-    let seed = number(seed.as_bytes())?;
-    let last = number(last.as_bytes())?;
-    let count = number(count.as_bytes())?;
-    Some((seed, last, count))
-}
-
 /// The first steps of a script, a line each, by its seed, how many heights it has and how many steps are asked for.
 pub(crate) fn told(alloc: Global, text: &str) -> Result<String, AllocError> {
-    let Some((seed, last, count)) = asked(text) else {
+    let Some((seed, last, count)) = three_numbers(text) else {
         return "no case".to_string(alloc);
     };
     if last < 1 || last > 10_000 {

@@ -2,38 +2,27 @@
 use crate::archive::Marks;
 use crate::marks::Mark;
 use crate::mem_disk::MemDisk;
-use crate::text::ranges_text;
-use mar_gen::number;
+use crate::text::three_numbers;
 use mar_store::Lost;
 use std::alloc::{AllocError, Global};
 
-// How many records, how many of them a sync writes, and how often the archive is opened again.
-#[derive(Clone, Copy)]
-struct Amount {
-    records: u64,
-    each: u64,
-    openings: u64,
-}
-
-fn amount_of(text: &str) -> Option<Amount> {
-    let (records, rest) = text.split_once(' ')?;
-    let (each, openings) = rest.split_once(' ')?;
-    Some(Amount {
-        records: number(records.as_bytes())?,
-        each: number(each.as_bytes())?,
-        openings: number(openings.as_bytes())?,
-    })
-}
-
-fn filled<S: Marks>(archive: S, amount: Amount) -> Result<S, Lost<S::Wreck>> {
+fn filled<S: Marks>(archive: S, records: u64, each: u64) -> Result<S, Lost<S::Wreck>> {
     let mut archive = archive;
-    for number in 0..amount.records {
+    for number in 0..records {
         archive = archive.add(number, Mark::numbered(number))?;
-        if amount.each > 0 && number % amount.each == amount.each - 1 {
+        if each > 0 && number % each == each - 1 {
             archive = archive.save()?;
         }
     }
     archive.save()
+}
+
+/// A new archive in which so many marks were put, a sync behind each so many of them and one behind all.
+pub(crate) fn written<S: Marks>(alloc: Global, records: u64, each: u64) -> Option<S> {
+    match S::open_on(alloc, MemDisk::new(alloc)) {
+        Ok(archive) => filled(archive, records, each).ok(),
+        Err(_) => None,
+    }
 }
 
 fn reopened<S: Marks>(archive: S, openings: u64) -> Result<S, Lost<S::Wreck>> {
@@ -46,25 +35,19 @@ fn reopened<S: Marks>(archive: S, openings: u64) -> Result<S, Lost<S::Wreck>> {
 
 /// What is held and sure behind all that, how many bytes the disk has, and how many calls wrote, synced and crashed.
 pub(crate) fn told<S: Marks>(alloc: Global, text: &str) -> Result<String, AllocError> {
-    let Some(amount) = amount_of(text) else {
+    let Some((records, each, openings)) = three_numbers(text) else {
         return "no amount".to_string(alloc);
     };
-    let archive = match S::open_on(alloc, MemDisk::new(alloc)) {
-        Ok(archive) => archive,
-        Err(_) => return "not opened".to_string(alloc),
+    let Some(archive) = written::<S>(alloc, records, each) else {
+        return "not written".to_string(alloc);
     };
-    let archive = match filled(archive, amount) {
-        Ok(archive) => archive,
-        Err(_) => return "not written".to_string(alloc),
-    };
-    let archive = match reopened(archive, amount.openings) {
+    let archive = match reopened(archive, openings) {
         Ok(archive) => archive,
         Err(_) => return "not reopened".to_string(alloc),
     };
-    let held = ranges_text(alloc, archive.held())?;
-    let sure = ranges_text(alloc, archive.sure())?;
+    let ranges = archive.ranges_text(alloc)?;
     let disk = archive.disk();
     let bytes = disk.bytes().len();
     let calls = disk.calls().len();
-    format!(in alloc; "held {held}, sure {sure}, {bytes} bytes, {calls} calls")
+    format!(in alloc; "held {ranges}, {bytes} bytes, {calls} calls")
 }

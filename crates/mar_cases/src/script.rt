@@ -36,18 +36,27 @@ pub struct Lists {
     pub steps: u64,
 }
 
-fn byte_of(text: &str) -> Option<u8> {
-    let number = number(text.as_bytes())?;
-    if number < 256 {
-        Some(number as u8)
-    } else {
-        None
+// Puts a value, starts a sync, puts another and finishes the sync, of two bytes.
+fn ticket_of(text: &str) -> Option<Line> {
+    let (first, later) = text.split_once(' ')?;
+    let first = number(first.as_bytes())?;
+    let later = number(later.as_bytes())?;
+    if first > 255 || later > 255 {
+        return None;
     }
+    Some(Line::Step(Step::Ticket(first as u8, later as u8)))
 }
 
-fn ticket_of(text: &str) -> Option<Step> {
-    let (first, later) = text.split_once(' ')?;
-    Some(Step::Ticket(byte_of(first)?, byte_of(later)?))
+// What a word and a number say.
+fn numbered(word: &str, number: u64) -> Option<Line> {
+    match word {
+        "put" if number < 256 => Some(Line::Step(Step::Put(number as u8))),
+        "prune" if number < 256 => Some(Line::Step(Step::Prune(number as u8))),
+        "each" => Some(Line::Each(number)),
+        "table" => Some(Line::Table(number)),
+        "metadata" => Some(Line::Metadata(number)),
+        _ => None,
+    }
 }
 
 /// What a line says.
@@ -55,15 +64,11 @@ pub(crate) fn line_of(line: &str) -> Option<Line> {
     if line == "sync" {
         return Some(Line::Step(Step::Sync));
     }
-    match line.split_once(' ')? {
-        ("put", number) => Some(Line::Step(Step::Put(byte_of(number)?))),
-        ("prune", number) => Some(Line::Step(Step::Prune(byte_of(number)?))),
-        ("ticket", numbers) => Some(Line::Step(ticket_of(numbers)?)),
-        ("each", calls) => Some(Line::Each(number(calls.as_bytes())?)),
-        ("table", calls) => Some(Line::Table(number(calls.as_bytes())?)),
-        ("metadata", calls) => Some(Line::Metadata(number(calls.as_bytes())?)),
-        _ => None,
+    let (word, text) = line.split_once(' ')?;
+    if word == "ticket" {
+        return ticket_of(text);
     }
+    numbered(word, number(text.as_bytes())?)
 }
 
 impl Lists {

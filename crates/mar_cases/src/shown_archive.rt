@@ -6,7 +6,8 @@ use crate::play::play;
 use crate::script::{Lists, Step};
 use crate::store::Store;
 use crate::table::Shown;
-use crate::text::ranges_text;
+use crate::text::{both_text, number_text};
+use mar_store::{ArchiveRuin, RangeSet};
 use std::alloc::{AllocError, Global};
 
 // The values that it holds, by their bytes.
@@ -26,15 +27,19 @@ fn values_text<S: Marks>(alloc: Global, archive: &mut S) -> Result<String, Alloc
 
 fn archive_text<S: Marks>(alloc: Global, archive: &mut S) -> Result<String, AllocError> {
     let values = values_text(alloc, archive)?;
-    let held = ranges_text(alloc, archive.held())?;
-    let sure = ranges_text(alloc, archive.sure())?;
-    format!(in alloc; "{held}, sure {sure}, values{values}")
+    let ranges = archive.ranges_text(alloc)?;
+    format!(in alloc; "{ranges}, values{values}")
 }
 
-fn ruin_text<S: Marks>(alloc: Global, wreck: &S::Wreck) -> Result<String, AllocError> {
-    let sure = ranges_text(alloc, S::sure_of(wreck))?;
-    let may = ranges_text(alloc, S::may_of(wreck))?;
-    format!(in alloc; "{sure} to {may}")
+fn ruin_text(
+    alloc: Global,
+    sure: &RangeSet,
+    may: &RangeSet,
+    damage: Option<usize>,
+) -> Result<String, AllocError> {
+    let ranges = both_text(alloc, sure, " to ", may)?;
+    let damage = number_text(alloc, damage)?;
+    format!(in alloc; "left {ranges}, damage {damage}")
 }
 
 fn played<S: Marks>(
@@ -62,6 +67,11 @@ impl Shown for OnDisk {
     }
 
     fn left_text(alloc: Global, wreck: &<OnDisk as Store>::Wreck) -> Result<String, AllocError> {
-        ruin_text::<OnDisk>(alloc, wreck)
+        ruin_text(
+            alloc,
+            wreck.sure_ranges(),
+            wreck.may_ranges(),
+            wreck.damage(),
+        )
     }
 }

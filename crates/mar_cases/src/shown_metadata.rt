@@ -6,7 +6,7 @@ use crate::script::Step;
 use crate::store::Store;
 use crate::table::Shown;
 use crate::text::number_text;
-use mar_store::Lost;
+use mar_store::{Lost, Meta, MetaRuin};
 use std::alloc::{AllocError, Global};
 
 fn played<S: Numbers>(alloc: Global, store: S) -> Result<(String, S::Wreck), AllocError>
@@ -21,17 +21,26 @@ fn played<S: Numbers>(alloc: Global, store: S) -> Result<(String, S::Wreck), All
 }
 
 // The values of both keys.
-fn values_text<S: Numbers>(alloc: Global, store: &S) -> Result<String, AllocError> {
-    let first = number_text(alloc, store.value(1))?;
-    let second = number_text(alloc, store.value(2))?;
+fn values_text(
+    alloc: Global,
+    first: Option<u64>,
+    second: Option<u64>,
+) -> Result<String, AllocError> {
+    let first = number_text(alloc, first)?;
+    let second = number_text(alloc, second)?;
     format!(in alloc; "{first} {second}")
 }
 
-// Those that were synced last.
-fn synced_text<S: Numbers>(alloc: Global, wreck: &S::Wreck) -> Result<String, AllocError> {
-    let first = number_text(alloc, S::synced_of(wreck, 1))?;
-    let second = number_text(alloc, S::synced_of(wreck, 2))?;
-    format!(in alloc; "{first} {second}")
+// Those that were synced last, and where the file was seen to be damaged.
+fn ruin_text(
+    alloc: Global,
+    first: Option<u64>,
+    second: Option<u64>,
+    damage: Option<usize>,
+) -> Result<String, AllocError> {
+    let values = values_text(alloc, first, second)?;
+    let damage = number_text(alloc, damage)?;
+    format!(in alloc; "left {values}, damage {damage}")
 }
 
 impl Shown for MetaOnDisk {
@@ -44,13 +53,13 @@ impl Shown for MetaOnDisk {
     }
 
     fn found_text(&mut self, alloc: Global) -> Result<String, AllocError> {
-        values_text(alloc, self)
+        values_text(alloc, self.get(1), self.get(2))
     }
 
     fn left_text(
         alloc: Global,
         wreck: &<MetaOnDisk as Store>::Wreck,
     ) -> Result<String, AllocError> {
-        synced_text::<MetaOnDisk>(alloc, wreck)
+        ruin_text(alloc, wreck.synced(1), wreck.synced(2), wreck.damage())
     }
 }

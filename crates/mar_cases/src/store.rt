@@ -34,7 +34,4 @@ pub trait Store: Drop {
     fn disk(self) -> MemDisk
     where
         Self: Sized;
-
-    /// Where the file was seen to be damaged.
-    fn damage_of(wreck: &Self::Wreck) -> Option<usize>;
 }

@@ -6,7 +6,8 @@ use crate::mem_disk::MemDisk;
 use crate::play::{crashed, disk_of};
 use crate::script::Step;
 use crate::store::Store;
-use crate::text::{bytes_text, number_text};
+use crate::text::bytes_text;
+use mar_journal::Unopened;
 use mar_store::Lost;
 use std::alloc::{AllocError, Global};
 
@@ -21,45 +22,35 @@ pub trait Shown: Store {
     /// What it holds.
     fn found_text(&mut self, alloc: Global) -> Result<String, AllocError>;
 
-    /// What a crash may leave.
+    /// What a crash may leave, and where the file was seen to be damaged.
     fn left_text(alloc: Global, wreck: &Self::Wreck) -> Result<String, AllocError>;
 }
 
-// What a store just opened holds, and the bytes of its disk.
-fn found_text<S: Shown>(alloc: Global, store: S) -> Result<String, AllocError> {
+// What is left, and behind it what a store just opened holds and the bytes of its disk.
+fn found_text<S: Shown>(alloc: Global, left: &str, store: S) -> Result<String, AllocError> {
     let mut store = store;
     let found = store.found_text(alloc)?;
     let disk = store.disk();
     let bytes = bytes_text(alloc, disk.bytes())?;
-    format!(in alloc; "found {found};{bytes}")
+    format!(in alloc; "{left}; found {found};{bytes}")
 }
 
-// What a wreck says.
-fn wreck_text<S: Shown>(alloc: Global, wreck: &S::Wreck) -> Result<String, AllocError> {
-    let left = S::left_text(alloc, wreck)?;
-    let damage = number_text(alloc, S::damage_of(wreck))?;
-    format!(in alloc; "left {left}, damage {damage}")
-}
-
-// Opens what a crash left; a second time where the call that fails is one of the opening.
+// Opens what a crash left, behind what was told so far; a second time where the call that fails is one of the opening.
 fn reopened_text<S: Shown>(
     alloc: Global,
+    told: &str,
     wreck: S::Wreck,
     luck: u64,
 ) -> Result<String, AllocError> {
-    let left = wreck_text::<S>(alloc, &wreck)?;
+    let left = S::left_text(alloc, &wreck)?;
+    let left = format!(in alloc; "{told}{left}")?;
     match S::open_left(wreck, luck) {
-        Ok(store) => {
-            let found = found_text(alloc, store)?;
-            format!(in alloc; "{left}; {found}")
-        }
+        Ok(store) => found_text(alloc, left.as_str(), store),
         Err(Lost::Fault(wreck)) => {
-            let again = wreck_text::<S>(alloc, &wreck)?;
+            let again = S::left_text(alloc, &wreck)?;
+            let left = format!(in alloc; "{left}; not reopened, {again}")?;
             match S::open_left(wreck, luck) {
-                Ok(store) => {
-                    let found = found_text(alloc, store)?;
-                    format!(in alloc; "{left}; not reopened, {again}; {found}")
-                }
+                Ok(store) => found_text(alloc, left.as_str(), store),
                 Err(_) => "not reopened twice".to_string(alloc),
             }
         }
@@ -68,14 +59,17 @@ fn reopened_text<S: Shown>(
 }
 
 // Opens what a crash left of a disk that wasn't opened.
-fn opened_text<S: Shown>(alloc: Global, disk: MemDisk, luck: u64) -> Result<String, AllocError> {
+fn opened_text<S: Shown>(
+    alloc: Global,
+    reason: Unopened,
+    disk: MemDisk,
+    luck: u64,
+) -> Result<String, AllocError> {
     let disk = crashed(disk, luck)?;
-    let left = bytes_text(alloc, disk.bytes())?;
+    let bytes = bytes_text(alloc, disk.bytes())?;
+    let left = format!(in alloc; "not opened, {reason:?}; left{bytes}")?;
     match S::open_on(alloc, disk) {
-        Ok(store) => {
-            let found = found_text(alloc, store)?;
-            format!(in alloc; "left{left}; {found}")
-        }
+        Ok(store) => found_text(alloc, left.as_str(), store),
         Err(_) => "not opened twice".to_string(alloc),
     }
 }
@@ -90,12 +84,8 @@ pub(crate) fn row<S: Shown>(
     match S::open_on(alloc, disk_of(alloc, call)?) {
         Ok(store) => {
             let (told, wreck) = store.played(alloc, steps)?;
-            let text = reopened_text::<S>(alloc, wreck, luck)?;
-            format!(in alloc; "{told}{text}")
+            reopened_text::<S>(alloc, told.as_str(), wreck, luck)
         }
-        Err((reason, disk)) => {
-            let text = opened_text::<S>(alloc, disk, luck)?;
-            format!(in alloc; "not opened, {reason:?}; {text}")
-        }
+        Err((reason, disk)) => opened_text::<S>(alloc, reason, disk, luck),
     }
 }

@@ -1,7 +1,18 @@
-//! Numbers, ranges and bytes as text.
+//! Numbers, ranges and bytes as text, and numbers of text.
+use mar_gen::number;
 use mar_store::RangeSet;
 use std::alloc::{AllocError, Global};
 use std::fmt::Display;
+
+/// Three numbers with a space between them.
+pub(crate) fn three_numbers(text: &str) -> Option<(u64, u64, u64)> {
+    let (first, rest) = text.split_once(' ')?;
+    let (second, third) = rest.split_once(' ')?;
+    let first = number(first.as_bytes())?;
+    let second = number(second.as_bytes())?;
+    let third = number(third.as_bytes())?;
+    Some((first, second, third))
+}
 
 /// A number; `-` for none.
 pub(crate) fn number_text<T: Display + Drop>(
@@ -32,6 +43,18 @@ pub(crate) fn ranges_text(alloc: Global, set: &RangeSet) -> Result<String, Alloc
         text.push_str(part.as_str())?;
     }
     Ok(text)
+}
+
+/// The ranges of two sets, with a text between them.
+pub(crate) fn both_text(
+    alloc: Global,
+    first: &RangeSet,
+    between: &str,
+    second: &RangeSet,
+) -> Result<String, AllocError> {
+    let first = ranges_text(alloc, first)?;
+    let second = ranges_text(alloc, second)?;
+    format!(in alloc; "{first}{between}{second}")
 }
 
 // A byte that stands so often in a row.

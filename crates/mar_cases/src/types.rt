@@ -8,6 +8,7 @@ use mar_types::{
 use std::alloc::{AllocError, Global};
 use std::num::{NonZeroU32, NonZeroU64};
 
+// A block and the scheme that codes it: a commitment asks of each only what its digests are.
 struct Plain;
 
 impl Digestible for Plain {
@@ -22,13 +23,11 @@ impl Digestible for Plain {
     }
 }
 
-struct Scheme;
-
-impl CodingScheme for Scheme {
+impl CodingScheme for Plain {
     type Commitment = Sha256Digest;
 }
 
-type Coded = Commitment<Plain, Scheme, Sha256>;
+type Coded = Commitment<Plain, Plain, Sha256>;
 
 // The parts of the commitment that these bytes spell, and the one that is made of them.
 fn parts(alloc: Global, bytes: &[u8]) -> Result<String, AllocError> {
