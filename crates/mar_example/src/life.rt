@@ -10,7 +10,7 @@ use crate::chain::{Block, genesis};
 use crate::service::Service;
 use mar_actor::{Config, Ended, Event, Fault, Holds, Node, Start};
 use mar_block::{MemBuffer, StandardBlocks, Variant};
-use mar_cert::{AsFinalization, MockFinalization, MockProvider, MockScheme};
+use mar_cert::{MockProvider, MockScheme};
 use mar_inbox::{AnswerTable, Identifier, Message, Standing, Value};
 use mar_key::Recorder;
 use mar_types::{Epoch, FixedEpocher, Sha256Digest, ViewDelta};
@@ -23,9 +23,9 @@ pub(crate) type Member<S> = Node<StandardBlocks, S, MockProvider, FixedEpocher>;
 /// What a node speaks to: those who ask, the blocks that are at hand, the peers, and the service; and where memory comes
 /// from.
 #[derive(Drop)]
-pub(crate) struct Around {
+pub(crate) struct Around<F> {
     pub(crate) alloc: Global,
-    pub(crate) answers: AnswerTable<Value<Sha256Digest, Block, MockFinalization>>,
+    pub(crate) answers: AnswerTable<Value<Sha256Digest, Block, F>>,
     pub(crate) buffer: MemBuffer<StandardBlocks>,
     pub(crate) peers: Recorder<Sha256Digest>,
     pub(crate) service: Service,
@@ -48,13 +48,12 @@ fn config(genesis: Block) -> Config<MockProvider, FixedEpocher, Block, ()>
 }
 
 /// Gives a node one event.
-pub(crate) fn step<S: Holds<StandardBlocks, Finalization = MockFinalization>>(
+pub(crate) fn step<S: Holds<StandardBlocks>>(
     node: Member<S>,
-    event: Event<Sha256Digest, Block, MockFinalization>,
-    around: &mut Around,
+    event: Event<Sha256Digest, Block, S::Finalization>,
+    around: &mut Around<S::Finalization>,
 ) -> Result<Member<S>, Ended<StandardBlocks, S>>
-    requires small_event { IsSmallEvent (event_of (λ d. d.bytes) ⟦<StandardBlocks as Variant>⟧.plain
-        ⟦<MockFinalization as AsFinalization>⟧.plain event) }
+    requires small_event { IsSmallEvent (event_of (λ d. d.bytes) ⟦<StandardBlocks as Variant>⟧.plain S.Finalization.plain event) }
     requires small_buffer { AreSmall around.old.buffer.blocks }
     ensures { around.new.buffer.blocks ≡ around.old.buffer.blocks }
 {
@@ -69,10 +68,10 @@ pub(crate) fn step<S: Holds<StandardBlocks, Finalization = MockFinalization>>(
 }
 
 /// Opens a node over what is left of its stores, and starts it: what isn't acknowledged is handed over again.
-pub(crate) fn begun<S: Holds<StandardBlocks, Finalization = MockFinalization>>(
+pub(crate) fn begun<S: Holds<StandardBlocks>>(
     alloc: Global,
     left: S::Ruins,
-    around: &mut Around,
+    around: &mut Around<S::Finalization>,
 ) -> Result<Member<S>, Ended<StandardBlocks, S>>
     requires small_buffer { AreSmall around.old.buffer.blocks }
     ensures { around.new.buffer.blocks ≡ around.old.buffer.blocks }
@@ -89,13 +88,13 @@ pub(crate) fn begun<S: Holds<StandardBlocks, Finalization = MockFinalization>>(
 
 /// Tells a node that a block is finalized, and then that the sync of this ticket, which the node started for it, has
 /// finished: the block is durable and is handed over.
-pub(crate) fn finalized<S: Holds<StandardBlocks, Finalization = MockFinalization>>(
+pub(crate) fn finalized<S: Holds<StandardBlocks>>(
     node: Member<S>,
-    finalization: MockFinalization,
+    finalization: S::Finalization,
     ticket: u64,
-    around: &mut Around,
+    around: &mut Around<S::Finalization>,
 ) -> Result<Member<S>, Ended<StandardBlocks, S>>
-    requires small { IsSmall (finalization_bytes (⟦<MockFinalization as AsFinalization>⟧.plain finalization)) }
+    requires small { IsSmall (finalization_bytes (S.Finalization.plain finalization)) }
     requires small_buffer { AreSmall around.old.buffer.blocks }
     ensures { around.new.buffer.blocks ≡ around.old.buffer.blocks }
 {
@@ -106,10 +105,10 @@ pub(crate) fn finalized<S: Holds<StandardBlocks, Finalization = MockFinalization
 }
 
 /// Asks a node under a ticket for the newest finalized block, and says its height.
-pub(crate) fn newest<S: Holds<StandardBlocks, Finalization = MockFinalization>>(
+pub(crate) fn newest<S: Holds<StandardBlocks>>(
     node: Member<S>,
     ticket: u64,
-    around: &mut Around,
+    around: &mut Around<S::Finalization>,
 ) -> Result<(Member<S>, Option<u64>), Ended<StandardBlocks, S>>
     requires small_buffer { AreSmall around.old.buffer.blocks }
 {

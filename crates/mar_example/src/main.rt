@@ -42,7 +42,12 @@ type Kept = CacheEntry<StandardBlocks, MockFinalization, MockFinalization>;
 type StoresOf<FB, FC, M, H> = Stores<StandardBlocks, MockFinalization, FB, FC, M, H>;
 
 // Where these blocks are at hand, though no one knows yet that they are finalized.
-fn around(alloc: Global, first: Block, second: Block, third: Block) -> Option<Around>
+fn around(
+    alloc: Global,
+    first: Block,
+    second: Block,
+    third: Block,
+) -> Option<Around<MockFinalization>>
     requires first { IsSmall (⟦<StandardBlocks as Variant>⟧.plain first).encoded }
     requires second { IsSmall (⟦<StandardBlocks as Variant>⟧.plain second).encoded }
     requires third { IsSmall (⟦<StandardBlocks as Variant>⟧.plain third).encoded }
@@ -63,15 +68,15 @@ fn around(alloc: Global, first: Block, second: Block, third: Block) -> Option<Ar
 
 // A life in which blocks 1 and 2 are finalized and handed over. A crash ends it before block 2 is acknowledged. Says beside
 // what is left whether block 2 was durable and owed.
-fn first_life<S: Holds<StandardBlocks, Finalization = MockFinalization>>(
+fn first_life<S: Holds<StandardBlocks>>(
     alloc: Global,
     nothing: S::Ruins,
-    first: MockFinalization,
-    second: MockFinalization,
-    around: &mut Around,
+    first: S::Finalization,
+    second: S::Finalization,
+    around: &mut Around<S::Finalization>,
 ) -> Result<(S::Ruins, bool), Ended<StandardBlocks, S>>
-    requires first { IsSmall (finalization_bytes (⟦<MockFinalization as AsFinalization>⟧.plain first)) }
-    requires second { IsSmall (finalization_bytes (⟦<MockFinalization as AsFinalization>⟧.plain second)) }
+    requires first { IsSmall (finalization_bytes (S.Finalization.plain first)) }
+    requires second { IsSmall (finalization_bytes (S.Finalization.plain second)) }
     requires small_buffer { AreSmall around.old.buffer.blocks }
     ensures { around.new.buffer.blocks ≡ around.old.buffer.blocks }
 {
@@ -86,13 +91,13 @@ fn first_life<S: Holds<StandardBlocks, Finalization = MockFinalization>>(
 
 // A life over what that one left. Block 2 is handed over again, and block 3 after it. Says beside what is left which height
 // is the newest.
-fn second_life<S: Holds<StandardBlocks, Finalization = MockFinalization>>(
+fn second_life<S: Holds<StandardBlocks>>(
     alloc: Global,
     left: S::Ruins,
-    third: MockFinalization,
-    around: &mut Around,
+    third: S::Finalization,
+    around: &mut Around<S::Finalization>,
 ) -> Result<(S::Ruins, Option<u64>), Ended<StandardBlocks, S>>
-    requires third { IsSmall (finalization_bytes (⟦<MockFinalization as AsFinalization>⟧.plain third)) }
+    requires third { IsSmall (finalization_bytes (S.Finalization.plain third)) }
     requires small_buffer { AreSmall around.old.buffer.blocks }
 {
     let node = begun::<S>(alloc, left, around)?;
@@ -104,14 +109,14 @@ fn second_life<S: Holds<StandardBlocks, Finalization = MockFinalization>>(
 
 // What consensus tells of the three blocks, and what a node will speak to.
 #[derive(Drop)]
-struct Told {
-    first: MockFinalization,
-    second: MockFinalization,
-    third: MockFinalization,
-    around: Around,
+struct Told<F> {
+    first: F,
+    second: F,
+    third: F,
+    around: Around<F>,
 }
 
-fn chain_of_three(alloc: Global) -> Option<Told>
+fn chain_of_three(alloc: Global) -> Option<Told<MockFinalization>>
     ensures first { IfSome result (λ p. IsSmall (finalization_bytes (⟦<MockFinalization as AsFinalization>⟧.plain p.first))) }
     ensures second { IfSome result (λ p. IsSmall (finalization_bytes (⟦<MockFinalization as AsFinalization>⟧.plain p.second))) }
     ensures third { IfSome result (λ p. IsSmall (finalization_bytes (⟦<MockFinalization as AsFinalization>⟧.plain p.third))) }
@@ -139,15 +144,15 @@ struct Outcome {
     newest: Option<u64>,
 }
 
-// Both lives, and what they leave.
-fn lives<S: Holds<StandardBlocks, Finalization = MockFinalization>>(
+// Both lives: what they came to, or why one ended, and beside it what they leave.
+fn lives<S: Holds<StandardBlocks>>(
     alloc: Global,
     nothing: S::Ruins,
-    consensus: Told,
-) -> Result<(Outcome, S::Ruins), Ended<StandardBlocks, S>>
-    requires first { IsSmall (finalization_bytes (⟦<MockFinalization as AsFinalization>⟧.plain consensus.first)) }
-    requires second { IsSmall (finalization_bytes (⟦<MockFinalization as AsFinalization>⟧.plain consensus.second)) }
-    requires third { IsSmall (finalization_bytes (⟦<MockFinalization as AsFinalization>⟧.plain consensus.third)) }
+    consensus: Told<S::Finalization>,
+) -> (Result<Outcome, Fault<Sha256Digest>>, S::Ruins)
+    requires first { IsSmall (finalization_bytes (S.Finalization.plain consensus.first)) }
+    requires second { IsSmall (finalization_bytes (S.Finalization.plain consensus.second)) }
+    requires third { IsSmall (finalization_bytes (S.Finalization.plain consensus.third)) }
     requires around { AreSmall consensus.around.buffer.blocks }
 {
     let Told {
@@ -156,19 +161,26 @@ fn lives<S: Holds<StandardBlocks, Finalization = MockFinalization>>(
         third,
         mut around,
     } = consensus;
-    let (left, is_owed) = first_life::<S>(alloc, nothing, first, second, &mut around)?;
-    let before = around.service.handed.len();
-    let (left, newest) = second_life::<S>(alloc, left, third, &mut around)?;
-    let outcome = Outcome {
-        handed: around.service.handed,
-        before,
-        is_owed,
-        newest,
+    let (left, is_owed) = match first_life::<S>(alloc, nothing, first, second, &mut around) {
+        Ok(lived) => lived,
+        Err(ended) => return (Err(ended.fault), ended.ruins),
     };
-    Ok((outcome, left))
+    let before = around.service.handed.len();
+    match second_life::<S>(alloc, left, third, &mut around) {
+        Ok((left, newest)) => {
+            let outcome = Outcome {
+                handed: around.service.handed,
+                before,
+                is_owed,
+                newest,
+            };
+            (Ok(outcome), left)
+        }
+        Err(ended) => (Err(ended.fault), ended.ruins),
+    }
 }
 
-// The same over stores that hold nothing yet.
+// The same over any four stores that hold nothing yet.
 fn lived_over<
     FB: Blocks<StandardBlocks>,
     FC: Certificates<StandardBlocks, MockFinalization>,
@@ -180,7 +192,7 @@ fn lived_over<
     certs: FC,
     meta: M,
     cache: H,
-    consensus: Told,
+    consensus: Told<MockFinalization>,
 ) -> Result<Outcome, Fault<Sha256Digest>>
     requires first { IsSmall (finalization_bytes (⟦<MockFinalization as AsFinalization>⟧.plain consensus.first)) }
     requires second { IsSmall (finalization_bytes (⟦<MockFinalization as AsFinalization>⟧.plain consensus.second)) }
@@ -193,10 +205,8 @@ fn lived_over<
         meta: meta.wreck(),
         cache: cache.wreck(),
     };
-    match lives::<StoresOf<FB, FC, M, H>>(alloc, nothing, consensus) {
-        Ok((outcome, _left)) => Ok(outcome),
-        Err(ended) => Err(ended.fault),
-    }
+    let (outcome, _left) = lives::<StoresOf<FB, FC, M, H>>(alloc, nothing, consensus);
+    outcome
 }
 
 // The same with all stores but those of the blocks and the cache in memory. What is made of many types is put in step by
@@ -205,7 +215,7 @@ fn lived_over_blocks<FB: Blocks<StandardBlocks>, H: LifeCache<StandardBlocks>>(
     alloc: Global,
     blocks: FB,
     cache: H,
-    consensus: Told,
+    consensus: Told<MockFinalization>,
 ) -> Result<Outcome, Fault<Sha256Digest>>
     requires first { IsSmall (finalization_bytes (⟦<MockFinalization as AsFinalization>⟧.plain consensus.first)) }
     requires second { IsSmall (finalization_bytes (⟦<MockFinalization as AsFinalization>⟧.plain consensus.second)) }
@@ -222,7 +232,7 @@ fn lived_over_archive<A: Archive<BlockItem<StandardBlocks>>, H: LifeCache<Standa
     alloc: Global,
     archive: A,
     cache: H,
-    consensus: Told,
+    consensus: Told<MockFinalization>,
 ) -> Result<Outcome, Fault<Sha256Digest>>
     requires first { IsSmall (finalization_bytes (⟦<MockFinalization as AsFinalization>⟧.plain consensus.first)) }
     requires second { IsSmall (finalization_bytes (⟦<MockFinalization as AsFinalization>⟧.plain consensus.second)) }
@@ -237,7 +247,7 @@ fn lived_over_archive<A: Archive<BlockItem<StandardBlocks>>, H: LifeCache<Standa
 fn lived_over_cache<H: LifeCache<StandardBlocks>>(
     alloc: Global,
     cache: H,
-    consensus: Told,
+    consensus: Told<MockFinalization>,
 ) -> Result<Outcome, Fault<Sha256Digest>>
     requires first { IsSmall (finalization_bytes (⟦<MockFinalization as AsFinalization>⟧.plain consensus.first)) }
     requires second { IsSmall (finalization_bytes (⟦<MockFinalization as AsFinalization>⟧.plain consensus.second)) }
@@ -252,7 +262,7 @@ fn lived_over_cache<H: LifeCache<StandardBlocks>>(
 fn lived_over_shelf<H: Shelf<StandardBlocks, MockFinalization>>(
     alloc: Global,
     cache: H,
-    consensus: Told,
+    consensus: Told<MockFinalization>,
 ) -> Result<Outcome, Fault<Sha256Digest>>
     requires first { IsSmall (finalization_bytes (⟦<MockFinalization as AsFinalization>⟧.plain consensus.first)) }
     requires second { IsSmall (finalization_bytes (⟦<MockFinalization as AsFinalization>⟧.plain consensus.second)) }
@@ -266,7 +276,7 @@ fn lived_over_shelf<H: Shelf<StandardBlocks, MockFinalization>>(
 fn lived_over_epochs<S: Epochs, M: Meta>(
     alloc: Global,
     cache: EpochCache<S, M>,
-    consensus: Told,
+    consensus: Told<MockFinalization>,
 ) -> Result<Outcome, Fault<Sha256Digest>>
 where
     S::Entry: KeptEntry<StandardBlocks, MockFinalization>,
@@ -281,7 +291,7 @@ where
 // The same over a cache in memory that keeps such entries.
 fn lived_over_entries<E: KeptEntry<StandardBlocks, MockFinalization> + KeyedEntry>(
     alloc: Global,
-    consensus: Told,
+    consensus: Told<MockFinalization>,
 ) -> Result<Outcome, Fault<Sha256Digest>>
     requires first { IsSmall (finalization_bytes (⟦<MockFinalization as AsFinalization>⟧.plain consensus.first)) }
     requires second { IsSmall (finalization_bytes (⟦<MockFinalization as AsFinalization>⟧.plain consensus.second)) }
@@ -292,7 +302,10 @@ fn lived_over_entries<E: KeptEntry<StandardBlocks, MockFinalization> + KeyedEntr
 }
 
 // The same over the library's stores in memory.
-fn lived_in_memory(alloc: Global, consensus: Told) -> Result<Outcome, Fault<Sha256Digest>>
+fn lived_in_memory(
+    alloc: Global,
+    consensus: Told<MockFinalization>,
+) -> Result<Outcome, Fault<Sha256Digest>>
     requires first { IsSmall (finalization_bytes (⟦<MockFinalization as AsFinalization>⟧.plain consensus.first)) }
     requires second { IsSmall (finalization_bytes (⟦<MockFinalization as AsFinalization>⟧.plain consensus.second)) }
     requires third { IsSmall (finalization_bytes (⟦<MockFinalization as AsFinalization>⟧.plain consensus.third)) }
