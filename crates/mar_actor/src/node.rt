@@ -62,13 +62,14 @@ impl<V: Variant, S: Holds<V>, P: Drop, E: Epocher> Model for Node<V, S, P, E> {
 
 impl<V: Variant, S: Holds<V>, P: Drop, E: Epocher> Node<V, S, P, E> {
     /// Takes one event, the first of a life being `Event::Start`. An end of the life says why and hands back what is left.
-    /// On a lawful chain the step is a step of the node, or a cut; a second start in one life is promised nothing of the node. No rule takes memory of its own yet: `_alloc` is for
-    /// those that keep what isn't final. The buffer keeps its blocks: of a prepared one alone anything is sent.
+    /// On a lawful chain the step is a step of the node, or a cut; a second start in one life is promised nothing of the
+    /// node. No rule takes memory of its own yet: `_alloc` is for those that keep what isn't final. The buffer keeps its
+    /// blocks: of a prepared one alone anything is sent.
     ///
     /// The fault of a step is `StoreFault` only where that store has failed, `HeightLimit` where a finalized block stands
     /// at the last height and `AckDropped` where the application dropped the oldest acknowledgement, each exactly where
-    /// it is due unless a store or memory fails first, `TicketLimit` where no ticket of that kind is left, and `Memory`. What a step
-    /// may store is small: at most 1,048,576 bytes each.
+    /// it is due unless a store or memory fails first, `TicketLimit` where no ticket of that kind is left, and `Memory`.
+    /// What a step may store is small: at most 1,048,576 bytes each.
     pub fn step<B: Buffer<V>, R: Resolver<V::Commitment>, A: Reporter<V>>(
         self,
         _alloc: Global,

@@ -61,7 +61,8 @@ where
     ensures lives { IsNested (S.held stores.old).blocks → IsNested (S.held stores.old).certs
         → LivesOn (seen (S.held stores.old) life.old) (outcome (fault_of V.Commitment.bytes) (seen (S.held stores.new) life.new) result) }
     ensures by_value { EndsWhereDue (storing_due (S.held stores.old) (found_at_hand V.inner (B.blocks buffer.now) (S.held stores.old).cache.kept.held
-        (S.held stores.old).blocks.held (S.Finalization.plain finalization.now).payload)) (outcome (fault_of V.Commitment.bytes) (seen (S.held stores.new) life.new) result) }
+        (S.held stores.old).blocks.held (S.Finalization.plain finalization.now).payload))
+        (outcome (fault_of V.Commitment.bytes) (seen (S.held stores.new) life.new) result) }
     ensures tells { TellsInOrder (A.told application.old) (finalized_tips (seen (S.held stores.old) life.old) (S.Finalization.plain finalization.now)
         (found_at_hand V.inner (B.blocks buffer.now) (S.held stores.old).cache.kept.held (S.held stores.old).blocks.held
         (S.Finalization.plain finalization.now).payload))

@@ -35,7 +35,8 @@ fn kept_block<V: Variant, S: Holds<V>>(
     commitment: V::Commitment,
 ) -> Result<Option<V::Block>, Fault<V::Commitment>>
     ensures same { OnOk result (S.held stores.new ≡ record (S.held stores.old) { watches = (S.held stores.new).watches }) }
-    ensures found { IfOk result (λ r. option_map V.plain r ≡ option_or (cached_by_commitment (V.Commitment.bytes commitment) (S.held stores.old).cache.kept.held)
+    ensures found { IfOk result (λ r. option_map V.plain r
+        ≡ option_or (cached_by_commitment (V.Commitment.bytes commitment) (S.held stores.old).cache.kept.held)
         (of_commitment (V.Commitment.bytes commitment) (block_of (S.held stores.old).blocks.held (V.inner (V.Commitment.bytes commitment))))) }
     ensures goes_on { GoesOn (fault_of V.Commitment.bytes) (S.held stores.old) nothing_written (S.held stores.new) result }
     ensures usual { IfErr result (λ e. IsUsual (fault_of V.Commitment.bytes e)) }

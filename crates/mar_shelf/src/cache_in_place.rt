@@ -110,7 +110,8 @@ impl<V: Variant, F: CommitsTo<V::Commitment>, H: Shelf<V, F>> LifeCache<V>
         ensures found { IfOk result (λ o. option_map V.plain o
             ≡ option_and_then cached_block (soonest (is_sought V.Digest.bytes V.Commitment.bytes V.inner (sought_block name))
             (held_at H.kept H.loaded H.fresh H.finds H.Wreck.left self.old.place).kept.held)) }
-        ensures same { (held_at H.kept H.loaded H.fresh H.finds H.Wreck.left self.new.place ≡ held_at H.kept H.loaded H.fresh H.finds H.Wreck.left self.old.place)
+        ensures same { (held_at H.kept H.loaded H.fresh H.finds H.Wreck.left self.new.place
+            ≡ held_at H.kept H.loaded H.fresh H.finds H.Wreck.left self.old.place)
             × (lowest_at H.lowest self.new.place ≡ lowest_at H.lowest self.old.place)
             × (lowests_at H.lowest H.Wreck.lowests self.new.place ≡ lowests_at H.lowest H.Wreck.lowests self.old.place)
             × (is_open self.new.place ≡ is_open self.old.place) }
