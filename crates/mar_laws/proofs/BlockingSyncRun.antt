@@ -11,37 +11,17 @@ use Rattle.mar_script.specs.Text.{output_text, remark_output, remark_ignored, ru
 use Rattle.mar_script.specs.Run.{LineDone, Run}
 use Rattle.mar_laws.proofs.SmallChain.{b0, b1, d1, f1, r1, chain, config}
 use Rattle.mar_laws.proofs.DeliveryRun.{fresh, making, none_failed, n1, n3, line}
+use Rattle.mar_laws.proofs.DeliverySteps.{both_blocks, one_certificate}
 use Rattle.mar_laws.proofs.SmallCutoffs.{zero_safe, finalizes}
-use Rattle.mar_laws.proofs.SmallEntries.{new_block, new_cert, new_certificates, settled_of, settled_stores}
+use Rattle.mar_laws.proofs.SmallEntries.{new_block, new_cert, new_certificates}
 use Rattle.mar_laws.proofs.SmallFacts.{grown_kept, entered_own}
+use Rattle.mar_laws.proofs.SmallSteps.{settled_good}
 
 abbrev pub at_once : Node
 at_once = record n3 { next_sync = 0 }
 
 good : IsGood config chain at_once
-good = record {
-  heights = record {
-    stores = settled_stores _ _;
-    delivery = record {
-      consecutive = (refl, (refl, tt));
-      out_sure = (refl, (refl, tt));
-      within_window = lit≤ tt;
-      anchored = tt;
-    };
-    floor_clears = λ some. cc;
-    own_pair = refl;
-    sync_open = λ more. absurd (omega arith);
-  };
-  of_chain = record {
-    stores = settled_of _ _ _ (refl, (refl, tt)) (finalizes, tt);
-    cache = record { finalizations = tt; blocks = tt };
-    asks = record { requests = tt; ready = tt; overflow = tt };
-    awaits = tt;
-    not_at_hand = tt;
-    floor_safe = zero_safe;
-    tip_reported = (lit≤ tt, tt);
-  };
-}
+good = settled_good chain at_once both_blocks one_certificate (record { consecutive = (refl, (refl, tt)); out_sure = (refl, (refl, tt)); within_window = lit≤ tt; anchored = tt }) (refl, (refl, tt)) (finalizes, tt) zero_safe (lit≤ tt, tt)
 
 finalized : Advances config chain n1 (message_told None (report_finalization f1)) (record nothing_made { reports = new_tip r1 1 d1 ∷ handed_over 1 b1 ∷ [] }) at_once
 finalized = record {

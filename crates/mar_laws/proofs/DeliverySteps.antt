@@ -1,12 +1,15 @@
 -- The delivery run's lines are lines of a run; their nodes are good.
-use Rattle.std.proofs.Common.{ap, option_map, List, ℕ, ◌==◌, Bool, Contains, if◌then◌else◌, is_some, [], ◌∷◌, Some, None, refl, IsTrue, IsFalse, ◌≡◌, ◌⊎◌, inl, inr, true, false, nat_lt, lit<, lit≤, arith, take}
+use Rattle.std.proofs.Common.{ap, option_map, List, ℕ, ◌==◌, Bool, Contains, if◌then◌else◌, is_some, [], ◌∷◌, Some, None, refl, IsTrue, IsFalse, ◌≡◌, ◌⊎◌, inl, inr, true, false, nat_lt, lit<, lit≤, ◌≤◌, arith, take}
 use Rattle.mar_cert.specs.Block.{Block}
+use Rattle.mar_cert.specs.Finalization.{Finalization}
 use Rattle.mar_types.specs.Round.{Round}
 use Rattle.mar_key.specs.Cutoff.{at_round, covers, cutoff_zero}
+use Rattle.mar_key.specs.Processed.{height_in}
+use Rattle.mar_store.specs.Changes.{KeepsValues}
 use Rattle.mar_node.specs.Chain.{Chain, IsBlockAt, IsFinal, Finalizes}
 use Rattle.mar_store.specs.Kept.{At, has_height, reopened_store}
 use Rattle.mar_store.proofs.Lookups.{value_at-append_found}
-use Rattle.mar_node.specs.Node.{FloorSafe, Node, SureOrWritten, window_full, write_uncovered, block_missing, IsGood}
+use Rattle.mar_node.specs.Node.{FloorSafe, IsGood, IsGoodDelivery, Node, SureOrWritten, window_full, write_uncovered, block_missing}
 use Rattle.mar_node.specs.Event.{life_started, message_told, ack_given, sync_finished}
 use Rattle.mar_key.specs.Keys.{retain, above_height, above_round}
 use Rattle.mar_node.specs.Faults.{from_genesis}
@@ -18,8 +21,20 @@ use Rattle.mar_script.specs.Text.{silent_output, running, stopped}
 use Rattle.mar_script.specs.Run.{LineDone, Run, empty_stores, next_picks}
 use Rattle.mar_laws.proofs.SmallChain.{b0, b1, d1, f1, r1, config}
 use Rattle.mar_laws.proofs.DeliveryRun.{fresh, making, none_failed, begun, n0, n1, n2, n3, n4, n5, delivery_run}
-use Rattle.mar_laws.proofs.SmallEntries.{new_block, new_cert, new_certificates, same_certificates, settled_of, settled_stores}
-use Rattle.mar_laws.proofs.SmallFacts.{same_kept, not_entered, entered_own, none_in}
+use Rattle.mar_laws.proofs.SmallEntries.{new_block, new_cert, new_certificates}
+use Rattle.mar_laws.proofs.SmallFacts.{entered_own, none_in}
+use Rattle.mar_laws.proofs.SmallSteps.{settled, settled_good, stores_nothing}
+
+-- what is held from block 1 on
+abbrev pub both_blocks : List (At Block)
+both_blocks = record { height = 0; value = b0 } ∷ record { height = 1; value = b1 } ∷ []
+
+abbrev pub one_certificate : List (At Finalization)
+one_certificate = record { height = 1; value = f1 } ∷ []
+
+-- block 0 was sure before
+pub first_stays : KeepsValues n2.blocks.sure n2.blocks.held
+first_stays h v is = value_at-append_found n1.blocks.held (record { height = 1; value = b1 } ∷ []) h v is
 
 -- before its sync is started
 abbrev pub unticketed : Node
@@ -61,29 +76,7 @@ module _ (chain : Chain) (at0 : IsBlockAt chain 0 b0) (at1 : IsBlockAt chain 1 b
     finalizes = record { named = named; payload_is = ap (option_map (λ b. b.commitment)) at1 }
 
     good0 : IsGood config chain n0
-    good0 = record {
-      heights = record {
-        stores = settled_stores _ _;
-        delivery = record {
-          consecutive = (refl, tt);
-          out_sure = (refl, tt);
-          within_window = lit≤ tt;
-          anchored = tt;
-        };
-        floor_clears = λ some. cc;
-        own_pair = refl;
-        sync_open = λ more. absurd (omega arith);
-      };
-      of_chain = record {
-        stores = record { held_blocks = (at0, tt); may_blocks = (at0, tt); held_certs = tt; may_certs = tt };
-        cache = record { finalizations = tt; blocks = tt };
-        asks = record { requests = tt; ready = tt; overflow = tt };
-        awaits = tt;
-        not_at_hand = tt;
-        floor_safe = zero_safe;
-        tip_reported = tt;
-      };
-    }
+    good0 = settled_good chain n0 (record { height = 0; value = b0 } ∷ []) [] (record { consecutive = (refl, tt); out_sure = (refl, tt); within_window = lit≤ tt; anchored = tt }) (at0, tt) tt zero_safe tt
 
     good2 : IsGood config chain n2
     good2 = record {
@@ -115,75 +108,18 @@ module _ (chain : Chain) (at0 : IsBlockAt chain 0 b0) (at1 : IsBlockAt chain 1 b
       };
     }
 
+    -- the later nodes, which hold both blocks and the finalization
+    settled_later : (n : Node) → IsGoodDelivery config.window both_blocks n.processed n.out → FloorSafe (option_map height_in n.processed) n.cutoff both_blocks chain → 1 ≤ n.tip → IsGood config chain (settled n both_blocks one_certificate)
+    settled_later n delivery safe told = settled_good chain n both_blocks one_certificate delivery (at0, (at1, tt)) (finalizes, tt) safe (told, tt)
+
     good3 : IsGood config chain n3
-    good3 = record {
-      heights = record {
-        stores = settled_stores _ _;
-        delivery = record {
-          consecutive = (refl, (refl, tt));
-          out_sure = (refl, (refl, tt));
-          within_window = lit≤ tt;
-          anchored = tt;
-        };
-        floor_clears = λ some. cc;
-        own_pair = refl;
-        sync_open = λ more. absurd (omega arith);
-      };
-      of_chain = record {
-        stores = settled_of _ _ _ (at0, (at1, tt)) (finalizes, tt);
-        cache = record { finalizations = tt; blocks = tt };
-        asks = record { requests = tt; ready = tt; overflow = tt };
-        awaits = tt;
-        not_at_hand = tt;
-        floor_safe = zero_safe;
-        tip_reported = (lit≤ tt, tt);
-      };
-    }
+    good3 = settled_later n3 (record { consecutive = (refl, (refl, tt)); out_sure = (refl, (refl, tt)); within_window = lit≤ tt; anchored = tt }) zero_safe (lit≤ tt)
 
     good4 : IsGood config chain n4
-    good4 = record {
-      heights = record {
-        stores = settled_stores _ _;
-        delivery = record {
-          consecutive = (refl, tt);
-          out_sure = (refl, tt);
-          within_window = lit≤ tt;
-          anchored = refl;
-        };
-        floor_clears = λ some. cc;
-        own_pair = refl;
-        sync_open = λ more. absurd (omega arith);
-      };
-      of_chain = record {
-        stores = settled_of _ _ _ (at0, (at1, tt)) (finalizes, tt);
-        cache = record { finalizations = tt; blocks = tt };
-        asks = record { requests = tt; ready = tt; overflow = tt };
-        awaits = tt;
-        not_at_hand = tt;
-        floor_safe = safe_at_zero n4.blocks.sure;
-        tip_reported = (lit≤ tt, tt);
-      };
-    }
+    good4 = settled_later n4 (record { consecutive = (refl, tt); out_sure = (refl, tt); within_window = lit≤ tt; anchored = refl }) (safe_at_zero both_blocks) (lit≤ tt)
 
     pub good5 : IsGood config chain n5
-    good5 = record {
-      heights = record {
-        stores = settled_stores _ _;
-        delivery = record { consecutive = tt; out_sure = tt; within_window = lit≤ tt; anchored = refl };
-        floor_clears = λ some. cc;
-        own_pair = refl;
-        sync_open = λ more. absurd (omega arith);
-      };
-      of_chain = record {
-        stores = settled_of _ _ _ (at0, (at1, tt)) (finalizes, tt);
-        cache = record { finalizations = tt; blocks = tt };
-        asks = record { requests = tt; ready = tt; overflow = tt };
-        awaits = tt;
-        not_at_hand = tt;
-        floor_safe = safe_at_one n5.blocks.sure;
-        tip_reported = (lit≤ tt, tt);
-      };
-    }
+    good5 = settled_later n5 (record { consecutive = tt; out_sure = tt; within_window = lit≤ tt; anchored = refl }) (safe_at_one both_blocks) (lit≤ tt)
 
     -- LINES
 
@@ -210,39 +146,8 @@ module _ (chain : Chain) (at0 : IsBlockAt chain 0 b0) (at1 : IsBlockAt chain 1 b
     }
 
     starts : Advances config chain begun (life_started None) (record nothing_made { reports = handed_over 0 b0 ∷ [] }) n0
-    starts = record {
-      hands = record { in_order = (refl, refl, refl, tt); counted = refl; out = refl; below_barrier = (tt, tt) };
-      hands_chain = ((at0, refl), tt);
-      processed = refl;
-      cutoff = refl;
-      blocks = same_kept 0 begun.blocks;
-      certs = same_kept 0 begun.certs;
-      may_blocks = λ x has. inl has;
-      may_certs = λ x has. inl has;
-      certificates = same_certificates begun (life_started None) n0 refl refl;
-      writes = record {
-        repaired = [];
-        by_repair = λ h. not_entered (nat_lt 0 h) (has_height begun.blocks.held h) true;
-        each_once = λ h. lit≤ tt;
-        blocking = 0;
-        within = lit≤ tt;
-        at_least = lit≤ tt;
-        covered = refl;
-        uncovered = refl;
-        syncs = refl;
-      };
-      repairs = record { at_hand = λ h b is. absurd cc; with_finalization = λ h b is. absurd cc };
-      tips = refl;
-      tips_chain = tt;
-      awaited = refl;
-      cache = record { cache = refl; lowest = refl; lowests = refl; cache_syncs = refl; witnessed = refl };
-      stored = tt;
-      stored_late = tt;
-      floor_stored = tt;
-      query = λ is. cc;
-      no_fault = refl;
-      beside = record { asks = refl; sends = refl; answers = refl; subscriptions = refl; certified = λ h c. refl; next_sync = refl; untouched = refl };
-    }
+    starts = stores_nothing chain begun (life_started None) (record { no_effect = refl; no_storing = refl; untold = refl; no_query = refl; no_fault = refl; no_syncs = λ n. refl }) (handed_over 0 b0 ∷ []) begun.blocks.sure [] begun.meta
+        (record { in_order = (refl, refl, refl, tt); counted = refl; out = refl; below_barrier = (tt, tt) }) ((at0, refl), tt) (λ h v is. is) (λ h v is. is) refl tt
 
     opens : LineDone config chain fresh (stopped empty_stores) (open_line (from_genesis b0)) (making (record nothing_made { reports = handed_over 0 b0 ∷ [] })) (running n0)
     opens = (_, record { first = begun; finds = finds; begun = begun; takes = record { cache = record { held = []; sure = []; may = [] }; loads = record { with_sure = λ x has. has; within_may = λ x has. has; sure = λ x has. has; may = λ x has. has; once = tt }; by_luck = refl; begun_is = refl }; start = record { unticketed = n0; advances = starts; ticket = refl; rests = block_missing refl; good = good0 } }, refl, refl)
@@ -289,115 +194,20 @@ module _ (chain : Chain) (at0 : IsBlockAt chain 0 b0) (at1 : IsBlockAt chain 1 b
     finals = (_, record { unticketed = unticketed; advances = finalized; ticket = refl; rests = write_uncovered 1 (0, lit< tt, refl) (lit≤ tt); good = good2 }, refl, refl, refl)
 
     synced : Advances config chain n2 (sync_finished 0) (record nothing_made { reports = handed_over 1 b1 ∷ [] }) n3
-    synced = record {
-      hands = record { in_order = (refl, refl, refl, tt); counted = refl; out = refl; below_barrier = (tt, tt) };
-      hands_chain = ((at1, refl), tt);
-      processed = refl;
-      cutoff = refl;
-      blocks = record { held = λ h v above e. e; sure = λ h v e still. value_at-append_found n1.blocks.held (record { height = 1; value = b1 } ∷ []) h v e };
-      certs = record { held = λ h v above e. e; sure = λ h v e still. absurd cc };
-      may_blocks = λ x has. inl has;
-      may_certs = λ x has. inl has;
-      certificates = same_certificates n2 (sync_finished 0) n3 refl refl;
-      writes = record {
-        repaired = [];
-        by_repair = λ h. not_entered (nat_lt 0 h) (has_height n2.blocks.held h) true;
-        each_once = λ h. lit≤ tt;
-        blocking = 0;
-        within = lit≤ tt;
-        at_least = lit≤ tt;
-        covered = refl;
-        uncovered = refl;
-        syncs = refl;
-      };
-      repairs = record { at_hand = λ h b is. absurd cc; with_finalization = λ h b is. absurd cc };
-      tips = refl;
-      tips_chain = tt;
-      awaited = refl;
-      cache = record { cache = refl; lowest = refl; lowests = refl; cache_syncs = refl; witnessed = refl };
-      stored = tt;
-      stored_late = tt;
-      floor_stored = tt;
-      query = λ is. cc;
-      no_fault = refl;
-      beside = record { asks = refl; sends = refl; answers = refl; subscriptions = refl; certified = λ h c. refl; next_sync = refl; untouched = refl };
-    }
+    synced = stores_nothing chain n2 (sync_finished 0) (record { no_effect = refl; no_storing = refl; untold = refl; no_query = refl; no_fault = refl; no_syncs = λ n. refl }) (handed_over 1 b1 ∷ []) n2.blocks.held n2.certs.held n2.meta
+        (record { in_order = (refl, refl, refl, tt); counted = refl; out = refl; below_barrier = (tt, tt) }) ((at1, refl), tt) first_stays (λ h v is. absurd cc) refl tt
 
     syncs : LineDone config chain fresh (running n2) (sync_line 0) (making (record nothing_made { reports = handed_over 1 b1 ∷ [] })) (running n3)
     syncs = (_, record { unticketed = n3; advances = synced; ticket = refl; rests = window_full refl; good = good3 }, refl, refl, refl)
 
     acked0 : Advances config chain n3 (ack_given 0) (record nothing_made { asks = retain (above_height 0) ∷ [] }) n4
-    acked0 = record {
-      hands = record { in_order = tt; counted = refl; out = refl; below_barrier = tt };
-      hands_chain = tt;
-      processed = refl;
-      cutoff = refl;
-      blocks = same_kept 0 n3.blocks;
-      certs = same_kept 0 n3.certs;
-      may_blocks = λ x has. inl has;
-      may_certs = λ x has. inl has;
-      certificates = same_certificates n3 (ack_given 0) n4 refl refl;
-      writes = record {
-        repaired = [];
-        by_repair = λ h. not_entered (nat_lt 0 h) (has_height n3.blocks.held h) true;
-        each_once = λ h. lit≤ tt;
-        blocking = 0;
-        within = lit≤ tt;
-        at_least = lit≤ tt;
-        covered = refl;
-        uncovered = refl;
-        syncs = refl;
-      };
-      repairs = record { at_hand = λ h b is. absurd cc; with_finalization = λ h b is. absurd cc };
-      tips = refl;
-      tips_chain = tt;
-      awaited = refl;
-      cache = record { cache = refl; lowest = refl; lowests = refl; cache_syncs = refl; witnessed = refl };
-      stored = tt;
-      stored_late = tt;
-      floor_stored = tt;
-      query = λ is. cc;
-      no_fault = refl;
-      beside = record { asks = refl; sends = refl; answers = refl; subscriptions = refl; certified = λ h c. refl; next_sync = refl; untouched = refl };
-    }
+    acked0 = stores_nothing chain n3 (ack_given 0) (record { no_effect = refl; no_storing = refl; untold = refl; no_query = refl; no_fault = refl; no_syncs = λ n. refl }) [] n3.blocks.sure n3.certs.sure n4.meta (record { in_order = tt; counted = refl; out = refl; below_barrier = tt }) tt (λ h v is. is) (λ h v is. is) refl tt
 
     acks0 : LineDone config chain fresh (running n3) (ack_line 0) (making (record nothing_made { asks = retain (above_height 0) ∷ [] })) (running n4)
     acks0 = (_, record { unticketed = n4; advances = acked0; ticket = refl; rests = block_missing refl; good = good4 }, refl, refl, refl)
 
     acked1 : Advances config chain n4 (ack_given 1) (record nothing_made { asks = retain (above_height 1) ∷ retain (above_round (at_round r1)) ∷ [] }) n5
-    acked1 = record {
-      hands = record { in_order = tt; counted = refl; out = refl; below_barrier = tt };
-      hands_chain = tt;
-      processed = refl;
-      cutoff = refl;
-      blocks = same_kept 0 n4.blocks;
-      certs = same_kept 0 n4.certs;
-      may_blocks = λ x has. inl has;
-      may_certs = λ x has. inl has;
-      certificates = same_certificates n4 (ack_given 1) n5 refl refl;
-      writes = record {
-        repaired = [];
-        by_repair = λ h. not_entered (nat_lt 1 h) (has_height n4.blocks.held h) true;
-        each_once = λ h. lit≤ tt;
-        blocking = 0;
-        within = lit≤ tt;
-        at_least = lit≤ tt;
-        covered = refl;
-        uncovered = refl;
-        syncs = refl;
-      };
-      repairs = record { at_hand = λ h b is. absurd cc; with_finalization = λ h b is. absurd cc };
-      tips = refl;
-      tips_chain = tt;
-      awaited = refl;
-      cache = record { cache = refl; lowest = refl; lowests = refl; cache_syncs = refl; witnessed = refl };
-      stored = tt;
-      stored_late = tt;
-      floor_stored = tt;
-      query = λ is. cc;
-      no_fault = refl;
-      beside = record { asks = refl; sends = refl; answers = refl; subscriptions = refl; certified = λ h c. refl; next_sync = refl; untouched = refl };
-    }
+    acked1 = stores_nothing chain n4 (ack_given 1) (record { no_effect = refl; no_storing = refl; untold = refl; no_query = refl; no_fault = refl; no_syncs = λ n. refl }) [] n4.blocks.sure n4.certs.sure n5.meta (record { in_order = tt; counted = refl; out = refl; below_barrier = tt }) tt (λ h v is. is) (λ h v is. is) refl tt
 
     acks1 : LineDone config chain fresh (running n4) (ack_line 1) (making (record nothing_made { asks = retain (above_height 1) ∷ retain (above_round (at_round r1)) ∷ [] })) (running n5)
     acks1 = (_, record { unticketed = n5; advances = acked1; ticket = refl; rests = block_missing refl; good = good5 }, refl, refl, refl)

@@ -4,6 +4,7 @@ pub mod DeliveryRun
 pub mod SmallFacts
 pub mod SmallEntries
 pub mod SmallCutoffs
+pub mod SmallSteps
 pub mod DeliverySteps
 pub mod WrongBodies
 pub mod WrongStorings

@@ -1,23 +1,23 @@
 -- Two syncs are open, of the same finalization told twice, and the later one finishes first: it covers both writes, and the earlier one
 -- then has nothing left to cover.
-use Rattle.std.proofs.Common.{◌≡◌, ℕ, ◌==◌, List, [], ◌∷◌, ◌++◌, None, refl, inl, inr, Contains, ◌⊎◌, ◌||◌, true, false, not, nat_lt, zero, suc, lit<, lit≤, arith, codes}
+use Rattle.std.proofs.Common.{◌≡◌, ℕ, ◌==◌, List, [], ◌∷◌, ◌++◌, None, refl, inl, inr, Contains, ◌⊎◌, ◌||◌, false, not, nat_lt, zero, suc, lit<, lit≤, ◌≤◌, option_map, arith, codes}
 use Rattle.std.specs.Fmt.{digits}
 use Rattle.hex.specs.Hex.{encode_with}
+use Rattle.mar_key.specs.Processed.{height_in}
 use Rattle.mar_store.specs.Kept.{has_height}
 use Rattle.mar_node.specs.Messages.{report_finalization}
-use Rattle.mar_node.specs.Node.{Node, window_full, write_uncovered, IsGood}
+use Rattle.mar_node.specs.Node.{FloorSafe, IsGood, IsGoodDelivery, Node, window_full, write_uncovered}
 use Rattle.mar_node.specs.Event.{message_told, sync_finished}
 use Rattle.mar_node.specs.Step.{handed_over, nothing_made, Advances}
 use Rattle.mar_script.specs.Script.{tell_line, sync_line}
 use Rattle.mar_script.specs.Text.{output_text, running, Done}
 use Rattle.mar_script.specs.Run.{LineDone, Run}
-use Rattle.mar_store.proofs.Lookups.{value_at-append_found}
 use Rattle.mar_laws.proofs.SmallChain.{b1, f1, chain, config}
-use Rattle.mar_laws.proofs.DeliveryRun.{fresh, making, none_failed, n1, n2, n3, line}
-use Rattle.mar_laws.proofs.DeliverySteps.{blocks_nested, blocks_written, certs_written}
+use Rattle.mar_laws.proofs.DeliveryRun.{fresh, making, none_failed, n2, n3, line}
+use Rattle.mar_laws.proofs.DeliverySteps.{blocks_nested, blocks_written, both_blocks, certs_written, first_stays, one_certificate}
 use Rattle.mar_laws.proofs.SmallCutoffs.{zero_safe, finalizes}
-use Rattle.mar_laws.proofs.SmallEntries.{same_certificates, settled_of, settled_stores}
 use Rattle.mar_laws.proofs.SmallFacts.{not_entered, same_kept}
+use Rattle.mar_laws.proofs.SmallSteps.{settled, settled_good, stores_nothing}
 
 -- after the second telling, the later sync, and the earlier one
 abbrev pub told_twice : Node
@@ -69,55 +69,15 @@ good_told = record {
   };
 }
 
+-- once one of them finished, all is sure
+settled_both : (n : Node) → IsGoodDelivery config.window both_blocks n.processed n.out → FloorSafe (option_map height_in n.processed) n.cutoff both_blocks chain → 1 ≤ n.tip → IsGood config chain (settled n both_blocks one_certificate)
+settled_both n delivery safe told_tip = settled_good chain n both_blocks one_certificate delivery (refl, (refl, tt)) (finalizes, tt) safe (told_tip, tt)
+
 good_later : IsGood config chain later_first
-good_later = record {
-  heights = record {
-    stores = settled_stores _ _;
-    delivery = record {
-      consecutive = (refl, (refl, tt));
-      out_sure = (refl, (refl, tt));
-      within_window = lit≤ tt;
-      anchored = tt;
-    };
-    floor_clears = λ some. cc;
-    own_pair = refl;
-    sync_open = λ more. absurd (omega arith);
-  };
-  of_chain = record {
-    stores = settled_of _ _ _ (refl, (refl, tt)) (finalizes, tt);
-    cache = record { finalizations = tt; blocks = tt };
-    asks = record { requests = tt; ready = tt; overflow = tt };
-    awaits = tt;
-    not_at_hand = tt;
-    floor_safe = zero_safe;
-    tip_reported = (lit≤ tt, tt);
-  };
-}
+good_later = settled_both later_first (record { consecutive = (refl, (refl, tt)); out_sure = (refl, (refl, tt)); within_window = lit≤ tt; anchored = tt }) zero_safe (lit≤ tt)
 
 good_both : IsGood config chain both_finished
-good_both = record {
-  heights = record {
-    stores = settled_stores _ _;
-    delivery = record {
-      consecutive = (refl, (refl, tt));
-      out_sure = (refl, (refl, tt));
-      within_window = lit≤ tt;
-      anchored = tt;
-    };
-    floor_clears = λ some. cc;
-    own_pair = refl;
-    sync_open = λ more. absurd (omega arith);
-  };
-  of_chain = record {
-    stores = settled_of _ _ _ (refl, (refl, tt)) (finalizes, tt);
-    cache = record { finalizations = tt; blocks = tt };
-    asks = record { requests = tt; ready = tt; overflow = tt };
-    awaits = tt;
-    not_at_hand = tt;
-    floor_safe = zero_safe;
-    tip_reported = (lit≤ tt, tt);
-  };
-}
+good_both = settled_both both_finished (record { consecutive = (refl, (refl, tt)); out_sure = (refl, (refl, tt)); within_window = lit≤ tt; anchored = tt }) zero_safe (lit≤ tt)
 
 told : Advances config chain n2 (message_told None (report_finalization f1)) nothing_made (record told_twice { syncs = n2.syncs; next_sync = 1 })
 told = record {
@@ -158,77 +118,14 @@ tells : LineDone config chain fresh (running n2) (tell_line (report_finalization
 tells = (_, record { unticketed = record told_twice { syncs = n2.syncs; next_sync = 1 }; advances = told; ticket = refl; rests = write_uncovered 1 (0, lit< tt, refl) (lit≤ tt); good = good_told }, refl, refl, refl)
 
 later : Advances config chain told_twice (sync_finished 1) (record nothing_made { reports = handed_over 1 b1 ∷ [] }) later_first
-later = record {
-  hands = record { in_order = (refl, refl, refl, tt); counted = refl; out = refl; below_barrier = (tt, tt) };
-  hands_chain = ((refl, refl), tt);
-  processed = refl;
-  cutoff = refl;
-  blocks = record { held = λ h v above e. e; sure = λ h v e still. value_at-append_found n1.blocks.held (record { height = 1; value = b1 } ∷ []) h v e };
-  certs = record { held = λ h v above e. e; sure = λ h v e still. absurd cc };
-  may_blocks = λ x has. inl has;
-  may_certs = λ x has. inl has;
-  certificates = same_certificates told_twice (sync_finished 1) later_first refl refl;
-  writes = record {
-    repaired = [];
-    by_repair = λ h. not_entered (nat_lt 0 h) (has_height told_twice.blocks.held h) true;
-    each_once = λ h. lit≤ tt;
-    blocking = 0;
-    within = lit≤ tt;
-    at_least = lit≤ tt;
-    covered = refl;
-    uncovered = refl;
-    syncs = refl;
-  };
-  repairs = record { at_hand = λ h b is. absurd cc; with_finalization = λ h b is. absurd cc };
-  tips = refl;
-  tips_chain = tt;
-  awaited = refl;
-  cache = record { cache = refl; lowest = refl; lowests = refl; cache_syncs = refl; witnessed = refl };
-  stored = tt;
-  stored_late = tt;
-  floor_stored = tt;
-  query = λ is. cc;
-  no_fault = refl;
-  beside = record { asks = refl; sends = refl; answers = refl; subscriptions = refl; certified = λ h c. refl; next_sync = refl; untouched = refl };
-}
+later = stores_nothing chain told_twice (sync_finished 1) (record { no_effect = refl; no_storing = refl; untold = refl; no_query = refl; no_fault = refl; no_syncs = λ n. refl }) (handed_over 1 b1 ∷ []) n2.blocks.held n2.certs.held n2.meta
+    (record { in_order = (refl, refl, refl, tt); counted = refl; out = refl; below_barrier = (tt, tt) }) ((refl, refl), tt) first_stays (λ h v is. absurd cc) refl tt
 
 laters : LineDone config chain fresh (running told_twice) (sync_line 1) (making (record nothing_made { reports = handed_over 1 b1 ∷ [] })) (running later_first)
 laters = (_, record { unticketed = later_first; advances = later; ticket = refl; rests = window_full refl; good = good_later }, refl, refl, refl)
 
 earlier : Advances config chain later_first (sync_finished 0) nothing_made both_finished
-earlier = record {
-  hands = record { in_order = tt; counted = refl; out = refl; below_barrier = tt };
-  hands_chain = tt;
-  processed = refl;
-  cutoff = refl;
-  blocks = same_kept 0 later_first.blocks;
-  certs = same_kept 0 later_first.certs;
-  may_blocks = λ x has. inl has;
-  may_certs = λ x has. inl has;
-  certificates = same_certificates later_first (sync_finished 0) both_finished refl refl;
-  writes = record {
-    repaired = [];
-    by_repair = λ h. not_entered (nat_lt 0 h) (has_height later_first.blocks.held h) true;
-    each_once = λ h. lit≤ tt;
-    blocking = 0;
-    within = lit≤ tt;
-    at_least = lit≤ tt;
-    covered = refl;
-    uncovered = refl;
-    syncs = refl;
-  };
-  repairs = record { at_hand = λ h b is. absurd cc; with_finalization = λ h b is. absurd cc };
-  tips = refl;
-  tips_chain = tt;
-  awaited = refl;
-  cache = record { cache = refl; lowest = refl; lowests = refl; cache_syncs = refl; witnessed = refl };
-  stored = tt;
-  stored_late = tt;
-  floor_stored = tt;
-  query = λ is. cc;
-  no_fault = refl;
-  beside = record { asks = refl; sends = refl; answers = refl; subscriptions = refl; certified = λ h c. refl; next_sync = refl; untouched = refl };
-}
+earlier = stores_nothing chain later_first (sync_finished 0) (record { no_effect = refl; no_storing = refl; untold = refl; no_query = refl; no_fault = refl; no_syncs = λ n. refl }) [] later_first.blocks.sure later_first.certs.sure later_first.meta (record { in_order = tt; counted = refl; out = refl; below_barrier = tt }) tt (λ h v is. is) (λ h v is. is) refl tt
 
 earliers : LineDone config chain fresh (running later_first) (sync_line 0) (making nothing_made) (running both_finished)
 earliers = (_, record { unticketed = both_finished; advances = earlier; ticket = refl; rests = window_full refl; good = good_both }, refl, refl, refl)
