@@ -1,83 +1,57 @@
-//! The stores of blocks over archives, and the one that keeps what it was asked, at blocks of the program's kind.
-ghost use Rattle.std.specs.Prelude.{◌≤◌, IfOk};
-
+//! The store of blocks that keeps what it was asked, over one that prunes an archive: the calls of stores of blocks, of which
+//! the program makes some, and the example those of a store that keeps all. Only the prunes, which nothing else calls, and
+//! the text say what no clause says; each function makes few calls.
+use crate::light::{Plates, plate_at};
 use crate::tell::*;
-use mar_archives::{immutable, prunable};
-use mar_block::{EmptyBlock, StandardBlocks, Variant};
+use mar_archives::prunable;
 use mar_mocks::Recording;
-use mar_shelf::{BlockItem, Blocks};
-use mar_store::{Archive, ArchiveRuin, Lost, LuckHalf, MemArchive, RangeSet};
-use mar_types::{Digested, EncodeSize, Hasher, Height, Sha256};
-use std::alloc::{AllocError, Global};
+use mar_shelf::{BlockItem, Blocks, Keeps};
+use mar_store::{Archive, ArchiveRuin, LuckHalf, MemArchive, RangeSet};
+use mar_types::Height;
+use std::alloc::Global;
 
-type Block = Digested<EmptyBlock<Sha256>>;
+type Item = BlockItem<Plates>;
 
-fn block(alloc: Global, height: u64) -> Result<Block, AllocError> {
-    let parent = Sha256::fill(0);
-    Digested::compute(alloc, EmptyBlock::new(parent, Height::new(height), 7))
+// Puts the blocks at heights 1 and 4.
+fn put<S: Blocks<Plates>>(store: S) -> Option<S> {
+    let (low, high) = (plate_at(1), plate_at(4));
+    let store = store.put(&low.digest, &low).ok()?;
+    store.put(&high.digest, &high).ok()
 }
 
-// Puts a block that is small enough for a store.
-fn put<S: Blocks<StandardBlocks>>(store: S, block: &Block) -> Result<S, Lost<S::Wreck>>
-    ensures { IfOk result (λ s. S.number store ≤ S.number s) }
-{
-    if block.inner().encode_size() > 1_048_576 {
-        return Err(Lost::Memory(store.wreck()));
-    }
-    store.put(&StandardBlocks::digest(block), block)
+// Makes sure what is held, at once and by a ticket.
+fn synced<S: Keeps<Item>>(store: S) -> Option<S> {
+    let (store, ticket) = store.sync().ok()?.start_sync().ok()?;
+    store.finish(ticket).ok()
 }
 
-// Puts a block and syncs, and starts a sync, puts another block and finishes the sync.
-fn filled<S: Blocks<StandardBlocks>>(
-    store: S,
-    first: &Block,
-    second: &Block,
-) -> Result<S, Lost<S::Wreck>> {
-    let store = put(store, first)?;
-    let (store, ticket) = store.sync()?.start_sync()?;
-    let store = put(store, second)?;
-    store.finish(ticket)
-}
-
-// Whether a block is found by its digest and its height, and the gap behind it, which has two heights.
-fn is_found<S: Blocks<StandardBlocks>>(alloc: Global, store: &mut S, block: &Block) -> bool {
-    let height = block.inner().height;
-    let (end, start) = store.next_gap(height);
+// Whether the lower block is found by its digest and its height, and the gap behind it, which has two heights.
+fn is_found<S: Blocks<Plates>>(alloc: Global, store: &mut S) -> bool {
+    let block = plate_at(1);
+    let (end, start) = store.next_gap(block.height);
     let gap = end.is_some() & start.is_some() & store.last_index().is_some();
-    let found = match store.find(&StandardBlocks::digest(block)) {
-        Ok(found) => found.is_some(),
-        Err(_) => false,
-    };
-    let got = match store.get(height) {
-        Ok(got) => got.is_some(),
-        Err(_) => false,
-    };
-    match store.missing_items(alloc, height, 4) {
-        Ok(missing) => gap & found & got & (missing.len() == 2),
-        Err(_) => false,
-    }
+    let found = matches!(store.find(&block.digest), Ok(Some(_)));
+    let got = matches!(store.get(block.height), Ok(Some(_)));
+    let missing =
+        matches!(store.missing_items(alloc, block.height, 4), Ok(heights) if heights.len() == 2);
+    gap & found & got & missing
 }
 
 fn count(ranges: &RangeSet) -> usize {
     ranges.as_slice().len()
 }
 
-// What is left of the store behind a prune below a height, with so many ranges held and as many sure.
-fn pruned<S: Blocks<StandardBlocks>>(store: S, below: u64, ranges: usize) -> Option<S::Wreck> {
-    let mut store = store.prune(Height::new(below)).ok()?.sync().ok()?;
+// The store without the lower block.
+fn pruned<S: Keeps<Item>>(store: S) -> Option<S> {
+    let mut store = store.prune(Height::new(4)).ok()?.sync().ok()?;
     store.arm(9).ok()?;
-    let are_so = (count(store.held_ranges()) == ranges) & (count(store.sure_ranges()) == ranges);
-    if are_so { Some(store.wreck()) } else { None }
+    let is_left = (count(store.held_ranges()) == 1) & (count(store.sure_ranges()) == 1);
+    if is_left { Some(store) } else { None }
 }
 
-// The store that is reopened when two blocks were put and the lower one was pruned.
-fn reopened<S: Blocks<StandardBlocks>>(alloc: Global, store: S, ranges: usize) -> Option<S> {
-    let (first, second) = (block(alloc, 1).ok()?, block(alloc, 4).ok()?);
-    let mut store = filled(store, &first, &second).ok()?;
-    if !is_found(alloc, &mut store, &first) {
-        return None;
-    }
-    let mut wreck = pruned(store, 4, ranges)?;
+// The store that is opened over what is left of this one.
+fn reopened<S: Keeps<Item>>(store: S) -> Option<S> {
+    let mut wreck = store.wreck();
     wreck.arm(9).ok()?;
     if count(wreck.sure_ranges()) == count(wreck.may_ranges()) {
         S::reopen(wreck, 0).ok()
@@ -86,47 +60,40 @@ fn reopened<S: Blocks<StandardBlocks>>(alloc: Global, store: S, ranges: usize) -
     }
 }
 
-fn keeps_all<A: Archive<BlockItem<StandardBlocks>>>(alloc: Global, archive: A) -> bool {
-    let store: immutable::Archive<A> = immutable::Archive::new(archive);
-    reopened(alloc, store, 2).is_some()
-}
-
 // What a store was asked, in its own words.
 fn text_of_ops<B>(alloc: Global, store: &Recording<B>) -> Option<String> {
     let ops = store.ops();
     format!(in alloc; "{ops:?}").ok()
 }
 
-// What a store that prunes was asked.
-fn text_of_asked<A: Archive<BlockItem<StandardBlocks>>>(
-    alloc: Global,
-    archive: A,
-) -> Option<String> {
-    let store = Recording::new(alloc, prunable::Archive::new(archive));
-    match reopened(alloc, store, 1) {
-        Some(store) => text_of_ops(alloc, &store),
-        None => None,
+fn lived<S: Blocks<Plates>>(alloc: Global, store: S) -> Option<S> {
+    let mut store = synced(put(store)?)?;
+    if !is_found(alloc, &mut store) {
+        return None;
     }
+    reopened(pruned(store)?)
+}
+
+// What a store is asked in one life.
+fn text_of_asked<S: Blocks<Plates>>(alloc: Global, store: S) -> Option<String> {
+    let store = lived(alloc, Recording::new(alloc, store))?;
+    text_of_ops(alloc, &store)
+}
+
+fn over_archive<A: Archive<Item>>(alloc: Global, archive: A) -> Option<String> {
+    let store: prunable::Archive<A> = prunable::Archive::new(archive);
+    text_of_asked(alloc, store)
+}
+
+// Only this function names the archive: a proof of a call at it costs more than one by its bound.
+fn over_memory(alloc: Global) -> Option<String> {
+    over_archive(alloc, MemArchive::new(alloc, LuckHalf::Low))
 }
 
 const ASKED: &str = "[Put(Height(1)), Put(Height(4)), Get(None), Get(Some(Height(1)))]";
 
-// Only the functions here name the archive: a proof of a call at it costs more than one by its bound.
-fn archive(alloc: Global) -> MemArchive<BlockItem<StandardBlocks>> {
-    MemArchive::new(alloc, LuckHalf::Low)
-}
-
-// What the store that prunes was asked, where the other one keeps all.
-fn text_of_both(alloc: Global) -> Option<String> {
-    if keeps_all(alloc, archive(alloc)) {
-        text_of_asked(alloc, archive(alloc))
-    } else {
-        None
-    }
-}
-
 #[test]
 fn stores_of_blocks(rt: HostRuntime) {
-    let text = given(&rt, text_of_both(rt.alloc()).ok_or("no text"));
+    let text = given(&rt, over_memory(rt.alloc()).ok_or("no text"));
     holds(&rt, text.as_str() == ASKED);
 }
