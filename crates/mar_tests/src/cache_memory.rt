@@ -3,8 +3,9 @@
 use crate::cache_calls::answers;
 use crate::cache_light::{Light, Vote};
 use crate::tell::holds;
-use mar_cache::{CacheEntry, EpochCache, Epochs, KeptEntry, KeyedEntry, empty_shelf};
-use mar_store::Meta;
+use mar_cache::{CacheEntry, EpochCache, Epochs, KeptEntry, KeyedEntry, MemEpochs, empty_shelf};
+use mar_epochs::{DepotEpochs, EpochArchives, EpochArchivesDepot};
+use mar_store::{MemMeta, Meta};
 use std::alloc::Global;
 
 fn of_cache<S: Epochs, M: Meta>(cache: EpochCache<S, M>) -> Option<bool>
@@ -14,10 +15,25 @@ where
     answers(cache)
 }
 
+// The same of a cache over archives and a depot.
+fn of_archives<A: EpochArchives, D: EpochArchivesDepot<A::Wreck>>(
+    cache: EpochCache<DepotEpochs<A, D>, MemMeta>,
+) -> Option<bool>
+where
+    A::Entry: KeptEntry<Light, Vote, Notarization = Vote>,
+{
+    of_cache(cache)
+}
+
+// A new cache, whose long clauses stay here.
+fn made<E: KeyedEntry>(alloc: Global) -> EpochCache<MemEpochs<E>, MemMeta> {
+    empty_shelf(alloc)
+}
+
 fn of_entries<E: KeptEntry<Light, Vote, Notarization = Vote> + KeyedEntry>(
     alloc: Global,
 ) -> Option<bool> {
-    of_cache(empty_shelf::<E>(alloc))
+    of_archives(made::<E>(alloc))
 }
 
 #[test]

@@ -21,11 +21,11 @@ fn a_drawn_digest(rt: HostRuntime) {
 
 // A value that counts how often its digest is computed.
 #[derive(Drop)]
-struct Counted<'a> {
-    computed: &'a Cell<u64>,
+struct Counted {
+    computed: Cell<u64>,
 }
 
-impl Digestible for Counted<'_> {
+impl Digestible for Counted {
     type Digest = Sha256Digest;
 
     ghost digest_bytes = { λ _. replicate 32 1 };
@@ -38,9 +38,8 @@ impl Digestible for Counted<'_> {
 
 #[test]
 fn a_digest_is_computed_once(rt: HostRuntime) {
-    let computed = Cell::new(0);
     let value = Counted {
-        computed: &computed,
+        computed: Cell::new(0),
     };
     let first = given(&rt, Digested::compute(rt.alloc(), value));
     let copy = given(&rt, first.clone());

@@ -37,16 +37,12 @@ fn parts_that_the_program_does_not_call(rt: HostRuntime) {
     holds(&rt, begins(&rt, rt.alloc()));
 }
 
-fn of_nobody(alloc: Global) -> Served {
-    Served {
-        by_digest: Vec::new(alloc),
-        by_commitment: Vec::new(alloc),
-    }
-}
-
 fn shown(alloc: Global) -> Result<String, AllocError> {
     let oldest = Oldest::Given(ack(1, Mark::Given));
-    let served = of_nobody(alloc);
+    let served = Served {
+        by_digest: Vec::new(alloc),
+        by_commitment: Vec::new(alloc),
+    };
     let miss = Miss::Fault;
     let key: Key<u64, u64> = Key::Digest(8);
     format!(in alloc; "{oldest:?} {served:?} {key:?} {miss:?}")
@@ -59,9 +55,6 @@ const SHOWN: &str =
 fn parts_are_compared_and_shown(rt: HostRuntime) {
     acks_compared();
     waits_compared::<u64, u64>();
-    let (lesser, greater): (Key<u64, u64>, Key<u64, u64>) = (Key::Digest(9), Key::Commitment(1));
-    holds(&rt, (lesser < greater) & (lesser != greater));
-    holds(&rt, of_nobody(rt.alloc()) == of_nobody(rt.alloc()));
     let text = given(&rt, shown(rt.alloc()));
     holds(&rt, text.as_str() == SHOWN);
 }

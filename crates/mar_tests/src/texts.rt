@@ -13,25 +13,22 @@ use mar_types::{Epoch, Height};
 fn a_read_that_fails(rt: HostRuntime) {
     let mut source = Bytes::new(b"a\nb", &[1]);
     let mut reader = ScriptReader::new(rt.alloc());
-    let first = given(&rt, reader.next_line(rt.alloc(), &mut source));
-    holds(&rt, first.is_some());
-    let fails = match reader.next_line(rt.alloc(), &mut source) {
-        Err(LineError::ReadFault) => true,
-        _ => false,
-    };
-    holds(&rt, fails);
+    let first = matches!(reader.next_line(rt.alloc(), &mut source), Ok(Some(_)));
+    let fails = matches!(
+        reader.next_line(rt.alloc(), &mut source),
+        Err(LineError::ReadFault)
+    );
+    holds(&rt, first & fails);
 }
 
 #[test]
 fn a_write_that_fails(rt: HostRuntime) {
     let mut sink = Written::new(rt.alloc(), &[1]);
-    given(&rt, write_all(&mut sink, b"ab"));
-    let fails = match write_all(&mut sink, b"cd") {
-        Err(Miss::Fault) => true,
-        _ => false,
-    };
-    holds(&rt, fails & (given(&rt, sink.write(b"ef")) == 2));
-    holds(&rt, sink.bytes() == b"abef".as_slice());
+    let first = matches!(write_all(&mut sink, b"ab"), Ok(()));
+    let fails = matches!(write_all(&mut sink, b"cd"), Err(Miss::Fault));
+    let other = matches!(sink.write(b"ef"), Ok(2));
+    let is_there = sink.bytes() == b"abef".as_slice();
+    holds(&rt, first & fails & other & is_there);
 }
 
 #[test]
