@@ -1,6 +1,5 @@
-//! The store of blocks that keeps what it was asked, over one that prunes an archive: the calls of stores of blocks, of which
-//! the program makes some, and the example those of a store that keeps all. Only the prunes, which nothing else calls, and
-//! the text say what no clause says; each function makes few calls.
+//! The calls of stores of blocks: of one that keeps what it was asked, over one that prunes an archive; and what it was asked,
+//! in its own words. A store that keeps all is one of mar_example. Each function makes few calls, and none has a clause.
 use crate::light::{Plates, plate_at};
 use crate::tell::*;
 use mar_archives::prunable;

@@ -13,9 +13,9 @@ fn subscribes<B: Buffer<Plates>>(buffer: &B, name: &Sha256Digest) -> bool {
 }
 
 // Whether a block is found by neither of its names.
-fn finds_none<B: Buffer<Plates>>(rt: &impl Abort, buffer: &B, name: &Sha256Digest) -> bool {
-    given(rt, buffer.find_by_digest(name)).is_none()
-        & given(rt, buffer.find_by_commitment(name)).is_none()
+fn finds_none<B: Buffer<Plates>>(buffer: &B, name: &Sha256Digest) -> bool {
+    matches!(buffer.find_by_digest(name), Ok(None))
+        & matches!(buffer.find_by_commitment(name), Ok(None))
 }
 
 fn third(rt: &impl Abort, alloc: Global) -> Recipients<Participant> {
@@ -27,7 +27,7 @@ fn third(rt: &impl Abort, alloc: Global) -> Recipients<Participant> {
 fn tells<B: Buffer<Plates>>(rt: &impl Abort, alloc: Global, buffer: &mut B) -> bool {
     let block = plate_at(1);
     let tells = subscribes(&*buffer, &block.digest);
-    holds(rt, finds_none(rt, &*buffer, &block.digest));
+    holds(rt, finds_none(&*buffer, &block.digest));
     given(rt, buffer.send(round(2, 7), block, third(rt, alloc)));
     tells
 }

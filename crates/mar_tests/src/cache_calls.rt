@@ -1,40 +1,18 @@
-//! The calls of any cache that no program makes, each with ample memory, and what a luck keeps. Hardly a function here has a
-//! clause, and each makes few calls, so that what calls it has nothing to carry, but a certificate's that it is small. Those
-//! that put nothing and look for nothing are of any `Cache`, which knows no kind of blocks. Where a call has no answer the
-//! cache is gone.
-ghost use Rattle.std.specs.Prelude.{◌≡◌, length};
-ghost use Rattle.mar_cert.specs.Finalization.{finalization_bytes};
-ghost use Rattle.mar_store.specs.Sizes.{IsSmall};
-
+//! The calls of any cache that no program makes, each with ample memory, and what a luck keeps. No function here has a clause,
+//! and each makes few calls, so that what calls it has nothing to carry. Those that put nothing and look for nothing are of
+//! any `Cache`, which knows no kind of blocks. Where a call has no answer the cache is gone.
 use crate::cache_in_place::is_gone_once_lost;
-use crate::cache_light::{Light, Name, Plate, Vote};
+use crate::light::{Plates, Vote, plate_at, vote_over};
 use crate::tell::round;
 use mar_cache::{Cache, Shelf, Sought, Started};
-use mar_cert::AsFinalization;
 use mar_shelf::CacheInPlace;
-use mar_types::{Epoch, Height, Named, Round};
-
-fn name_at(height: u8) -> Name
-    ensures { length (⟦<Name as Named>⟧.bytes result) ≡ 1 }
-{
-    Plate::at(height).name
-}
-
-// A certificate of a round, over the block at a height.
-fn vote(at: Round, height: u8) -> Vote
-    ensures small { IsSmall (finalization_bytes (⟦<Vote as AsFinalization>⟧.plain result)) }
-{
-    Vote {
-        round: at,
-        payload: name_at(height),
-    }
-}
+use mar_types::{Epoch, Hasher, Height, Round, Sha256};
 
 // Puts what isn't sure: a verified block at height 1, a notarization of view 2, and a notarized block at height 3.
-fn put<C: Shelf<Light, Vote, Notarization = Vote>>(cache: C) -> Option<C> {
-    let (cache, _) = cache.put_verified(round(0, 1), Plate::at(1)).ok()?;
-    let (cache, _) = cache.put_notarization(vote(round(0, 2), 2)).ok()?;
-    let (cache, _) = cache.put_notarized(round(0, 3), Plate::at(3)).ok()?;
+fn put<C: Shelf<Plates, Vote, Notarization = Vote>>(cache: C) -> Option<C> {
+    let (cache, _) = cache.put_verified(round(0, 1), plate_at(1)).ok()?;
+    let (cache, _) = cache.put_notarization(vote_over(round(0, 2), 2)).ok()?;
+    let (cache, _) = cache.put_notarized(round(0, 3), plate_at(3)).ok()?;
     Some(cache)
 }
 
@@ -52,19 +30,19 @@ fn synced<C: Cache>(cache: C) -> Option<C> {
 }
 
 // Puts what is sure at once: a certified block at height 4, and a finalization of view 5.
-fn put_sure<C: Shelf<Light, Vote, Notarization = Vote>>(cache: C) -> Option<C> {
-    let cache = cache.put_certified(Epoch::zero(), Plate::at(4)).ok()?;
-    cache.put_finalization(vote(round(0, 5), 5)).ok()
+fn put_sure<C: Shelf<Plates, Vote, Notarization = Vote>>(cache: C) -> Option<C> {
+    let cache = cache.put_certified(Epoch::zero(), plate_at(4)).ok()?;
+    cache.put_finalization(vote_over(round(0, 5), 5)).ok()
 }
 
 // So many verified blocks of the next epoch aren't sure.
 const UNSURE: u8 = 34;
 
-fn put_many<C: Shelf<Light, Vote, Notarization = Vote>>(cache: C) -> Option<C> {
+fn put_many<C: Shelf<Plates, Vote, Notarization = Vote>>(cache: C) -> Option<C> {
     let mut cache = cache;
     for view in 0..UNSURE {
         let (next, _) = cache
-            .put_verified(round(1, u64::from(view)), Plate::at(view))
+            .put_verified(round(1, u64::from(view)), plate_at(view))
             .ok()?;
         cache = next;
     }
@@ -81,15 +59,15 @@ fn reopened<C: Cache>(cache: C) -> Option<C> {
 }
 
 // Whether the block of a height was verified in a round.
-fn has_verified<C: Shelf<Light, Vote, Notarization = Vote>>(
+fn has_verified<C: Shelf<Plates, Vote, Notarization = Vote>>(
     cache: &mut C,
     at: Round,
     height: u8,
 ) -> bool {
-    matches!(cache.has_verified(at, name_at(height)), Ok(true))
+    matches!(cache.has_verified(at, Sha256::fill(height)), Ok(true))
 }
 
-fn keeps_by_its_bits<C: Shelf<Light, Vote, Notarization = Vote>>(cache: &mut C) -> bool {
+fn keeps_by_its_bits<C: Shelf<Plates, Vote, Notarization = Vote>>(cache: &mut C) -> bool {
     let mut is_so = true;
     for view in 0..UNSURE {
         let is_kept = LUCK >> (view % 32) & 1 == 1;
@@ -100,15 +78,15 @@ fn keeps_by_its_bits<C: Shelf<Light, Vote, Notarization = Vote>>(cache: &mut C) 
 }
 
 // Whether there is a block of that height.
-fn has<C: Shelf<Light, Vote, Notarization = Vote>>(cache: &mut C, height: u8) -> bool {
-    let sought = Sought::CommittedTo(name_at(height));
+fn has<C: Shelf<Plates, Vote, Notarization = Vote>>(cache: &mut C, height: u8) -> bool {
+    let sought = Sought::CommittedTo(Sha256::fill(height));
     matches!(cache.search(sought), Ok(Some(_)))
 }
 
 // Whether what is sure is found, and the one notarized block, whose number is 0.
-fn finds<C: Shelf<Light, Vote, Notarization = Vote>>(cache: &mut C) -> bool {
+fn finds<C: Shelf<Plates, Vote, Notarization = Vote>>(cache: &mut C) -> bool {
     let notarized = matches!(cache.get_notarization(round(0, 2)), Ok(Some(_)));
-    let is_final = matches!(cache.get_finalization_for(name_at(5)), Ok(Some(_)));
+    let is_final = matches!(cache.get_finalization_for(Sha256::fill(5)), Ok(Some(_)));
     notarized & is_final & has(cache, 1) & has(cache, 3) & has(cache, 4)
 }
 
@@ -119,7 +97,7 @@ fn pruned<C: Cache>(cache: C) -> Option<C> {
 }
 
 /// Whether a cache that holds nothing answers as it is to.
-pub(crate) fn answers<C: Shelf<Light, Vote, Notarization = Vote>>(cache: C) -> Option<bool> {
+pub(crate) fn answers<C: Shelf<Plates, Vote, Notarization = Vote>>(cache: C) -> Option<bool> {
     let cache = put_many(put_sure(synced(put(cache)?)?)?)?;
     let mut cache = reopened(cache)?;
     let are_found = finds(&mut cache) & keeps_by_its_bits(&mut cache);

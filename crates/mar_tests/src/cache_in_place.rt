@@ -1,20 +1,21 @@
 //! The cache of a life where a change of it failed. What it answers before that, and which calls fail, scripts of the program
 //! tell (tests/lives and tests/queries).
-use crate::cache_light::{Light, Plate};
+use crate::light::Plates;
 use crate::tell::round;
 use mar_cache::BlockName;
 use mar_node::{Fault, StoreName};
 use mar_shelf::LifeCache;
+use mar_types::{Hasher, Sha256};
 
 // Whether each look-up for the block at height 1 wants for memory.
-fn is_unread<C: LifeCache<Light>>(cache: &mut C) -> bool {
-    let name = BlockName::Digest(Plate::at(1).name);
+fn is_unread<C: LifeCache<Plates>>(cache: &mut C) -> bool {
+    let name = BlockName::Digest(Sha256::fill(1));
     matches!(cache.find_block(name), Err(Fault::Memory))
         & matches!(cache.find_verified(round(0, 1)), Err(Fault::Memory))
 }
 
 /// Whether a change fails where it is armed, and later calls want for memory.
-pub(crate) fn is_gone_once_lost<C: LifeCache<Light>>(cache: C) -> bool {
+pub(crate) fn is_gone_once_lost<C: LifeCache<Plates>>(cache: C) -> bool {
     let mut cache = cache;
     let is_armed = cache.arm(1).is_ok();
     let failed = matches!(cache.load(), Err(Fault::StoreFault(StoreName::Cache)));

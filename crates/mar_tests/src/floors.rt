@@ -6,27 +6,20 @@ use mar_key::{Cutoff, Floor, Processed, Recorder, Request};
 use mar_parts::{FetchAdmission, State};
 use mar_types::{Hasher, Height, Round, Sha256, Sha256Digest};
 use std::alloc::Global;
-use std::process::Abort;
 
 type Floors = State<Sha256Digest, Vote>;
 
 // Whether the request above the processed height is asked by each call, and not the one at it.
-fn asks_what_lives(rt: &impl Abort, alloc: Global, floors: &Floors) -> bool {
+fn asks_what_lives(alloc: Global, floors: &Floors) -> bool {
     let mut resolver = Recorder::new(alloc);
     let low: Request<Sha256Digest> = Request::finalized(Height::new(5));
     let high = Request::finalized(Height::new(6));
-    let one = given(rt, floors.fetch_if_permitted(&mut resolver, low));
-    let all = given(
-        rt,
-        floors.fetch_all_if_permitted(alloc, &mut resolver, &[low, high]),
-    );
-    let told = given(
-        rt,
-        floors.fetch_targeted_if_permitted(&mut resolver, high, &[1, 2]),
-    );
-    matches!(one, FetchAdmission::Denied)
-        & matches!(all, FetchAdmission::Issued)
-        & matches!(told, FetchAdmission::Issued)
+    let one = floors.fetch_if_permitted(&mut resolver, low);
+    let all = floors.fetch_all_if_permitted(alloc, &mut resolver, &[low, high]);
+    let told = floors.fetch_targeted_if_permitted(&mut resolver, high, &[1, 2]);
+    matches!(one, Ok(FetchAdmission::Denied))
+        & matches!(all, Ok(FetchAdmission::Issued))
+        & matches!(told, Ok(FetchAdmission::Issued))
         & (resolver.asks().len() == 2)
 }
 
@@ -51,7 +44,7 @@ fn floors_ask_and_await(rt: HostRuntime) {
     let floor = Floor::new(processed, Cutoff::zero());
     let configured = Some(vote_over(round(0, 1), 1));
     let mut floors: Floors = State::new(configured, floor, Round::zero());
-    holds(&rt, asks_what_lives(&rt, rt.alloc(), &floors));
+    holds(&rt, asks_what_lives(rt.alloc(), &floors));
     holds(&rt, floors.take_configured().is_some());
     holds(&rt, awaits_the_later(&mut floors));
     floors.set_pending(vote_over(round(0, 1), 1), None);

@@ -16,8 +16,6 @@ mod cache_calls;
 #[cfg(test)]
 mod cache_in_place;
 #[cfg(test)]
-mod cache_light;
-#[cfg(test)]
 mod cache_memory;
 #[cfg(test)]
 mod certificates;

@@ -1,5 +1,7 @@
 //! Blocks and finalizations without type parameters, which cost little to prove.
 ghost use Rattle.std.specs.Prelude.{[], refl};
+ghost use Rattle.mar_cert.specs.Finalization.{finalization_bytes};
+ghost use Rattle.mar_store.specs.Sizes.{IsSmall};
 
 use mar_block::Variant;
 use mar_cert::{AsFinalization, CommitsTo};
@@ -76,7 +78,9 @@ pub struct Vote {
 }
 
 // A finalization over the block of a height.
-pub(crate) fn vote_over(round: Round, height: u8) -> Vote {
+pub(crate) fn vote_over(round: Round, height: u8) -> Vote
+    ensures small { IsSmall (finalization_bytes (⟦<Vote as AsFinalization>⟧.plain result)) }
+{
     Vote {
         round,
         payload: Sha256::fill(height),
