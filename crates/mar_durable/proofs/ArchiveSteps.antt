@@ -1,12 +1,11 @@
 -- The calls of an archive that is a journal, by its entries.
-use Rattle.std.proofs.Common.{Bool, Contains, List, Some, [], ap, append_assoc, arith, cond, drop, filter, fold, max, min, nat_le, bytes_eq, not, inl, inr, length, length-append, map, false, refl, subst, suc, sym, take, true, zero, ℕ, ◌&&◌, ◌++◌, ◌+◌, ◌-◌, ◌<◌, ◌==◌, ◌^◌, ◌∙◌, ◌∷◌, ◌≡◌, ◌≤◌}
+use Rattle.std.proofs.Common.{Bool, Contains, List, Some, [], ap, append_assoc, arith, cond, drop, filter, max, min, nat_le, bytes_eq, not, inl, inr, length, length-append, map, false, refl, subst, suc, sym, take, true, zero, ℕ, ◌&&◌, ◌++◌, ◌+◌, ◌-◌, ◌<◌, ◌==◌, ◌^◌, ◌∙◌, ◌∷◌, ◌≡◌, ◌≤◌}
 use Rattle.std.proofs.Math.Logic.{∥∥₁_elim, ∥∥₁_map, ∥∥₁_map₂}
 use Rattle.std.specs.Coded.{Coded, Coded-set, coded_bool, coded_option, le_prop}
 use Rattle.std.proofs.lemmas.Bool.{and_from, eq-eqb, eqb-true, false≢true, true≢false}
 use Rattle.std.proofs.lemmas.Slice.Eq.{bytes_eq-Decides}
 use Rattle.std.specs.List.{AllByRecursion, AllByRecursion-prop}
 use Rattle.std.proofs.lemmas.List.{map-append}
-use Rattle.std.proofs.lemmas.List.Sums.{fold-append}
 use Rattle.mar_store.specs.Changes.{Fails, Finishes, IsReopened, IsStillOr, KeepsValues, Left, Prunes, Puts, Within, heights, left_of}
 use Rattle.mar_store.specs.Entries.{AreCounted, covered_by, is_covered, kept_of, seen}
 use Rattle.mar_store.specs.Kept.{At, EachHeightOnce, Reopens, reopened_store, value_at}
@@ -30,6 +29,7 @@ use Rattle.mar_journal.specs.declared.ArchiveRecord.TheVariants.{Prune, Put}
 use Rattle.mar_journal.proofs.Crash.{end_within}
 use Rattle.mar_durable.proofs.Marks.{Ordered-prop, covered_before, mark_above, mark_last, mark_upto, newest_ordered, ordered_later, ordered_none, put_ordered}
 use Rattle.mar_journal.proofs.Moments.{and_then, goes_on, stayed, weaker}
+use Rattle.mar_durable.proofs.SameRanges.{ranges_same}
 use Rattle.mar_durable.proofs.Replays.{CoversLess, backed_front, backed_left, backed_more, narrowed_left, old_or_new, opening_finds, opening_left, pending_long, pending_none, pending_same, pending_sure, reopens_held, reopens_weaker, undamaged, writing_left, writing_moments}
 
 IsArchived-prop : {T : Type 0} (fits : ℕ → T → Bool) (spelled : T → List ℕ) (r : ArchiveRecord T) → IsProp (IsArchived fits spelled r)
@@ -307,15 +307,6 @@ finishes_with_gone gone items new n m more f = record {
   same = λ kept. ap (λ k. record { held = k.held; sure = k.sure; may = map seen gone ++ k.may }) (f.same kept);
 }
 
--- the ranges of three lists, one after the other
-pub ranges_of_three : {T : Type 0} (xs ys zs : List (At T)) (first second third : List Range) → first ≡ ranges (heights xs) → second ≡ fold (λ rs h. with_height h rs) first (heights ys) → third ≡ fold (λ rs h. with_height h rs) second (heights zs)
-    → third ≡ ranges (heights ((xs ++ ys) ++ zs))
-ranges_of_three xs ys zs first second third is and_more and_last =
-    and_last
-    ∙ ap (λ l. fold (λ rs h. with_height h rs) l (heights zs)) (and_more ∙ ap (λ l. fold (λ rs h. with_height h rs) l (heights ys)) is ∙ sym (fold-append (λ rs h. with_height h rs) [] (heights xs) (heights ys)) ∙ ap ranges (sym (map-append (λ y. y.height) xs ys)))
-    ∙ sym (fold-append (λ rs h. with_height h rs) [] (heights (xs ++ ys)) (heights zs))
-    ∙ ap ranges (sym (map-append (λ y. y.height) (xs ++ ys) zs))
-
 by_parts : {T : Type 0} (y : Entry T) (items below above : List (Entry T)) (b : Bool) (x : At T) → (Contains (map seen items) x → Contains (map seen below ++ map seen above) x) → Contains (seen y ∷ map seen items) x
     → Contains (map seen (cond (not b) (y ∷ below) below) ++ map seen (cond b (y ∷ above) above)) x
 by_parts y items below above false x more (zero, lt, e) = (zero, omega arith, e)
@@ -367,8 +358,9 @@ module _ {T : Type 0} (min : ℕ) (gone aside items new : List (Entry T)) (n m :
     may = narrower_prune;
   }
 
-  pub prune_ranges : (more : List (At T)) (set : List Range) → map seen aside ≡ map seen gone ++ more → set ≡ ranges (heights ((map seen gone ++ more) ++ map seen (filter (λ e. nat_le min e.index) items))) → set ≡ ranges (heights (left_may aside new))
-  prune_ranges more set is set_is = set_is ∙ ap (λ l. ranges (heights l)) (ap (λ l. l ++ map seen (filter (λ e. nat_le min e.index) items)) (sym is) ∙ ap (λ l. map seen aside ++ map seen l) (sym new_is))
+  -- a prune leaves the ranges of what may be left
+  pub prune_ranges : (set : List Range) → set ≡ ranges (heights (left_may gone items)) → set ≡ ranges (heights (left_may aside new))
+  prune_ranges set is = is ∙ ranges_same (left_may gone items) (left_may aside new) wider_prune narrower_prune
 
   pub prune_backed : {D : Type 0} (name spelled : T → List ℕ) (fits : ℕ → T → Bool) (seen_bytes : D → List ℕ) (may_leave : D → List ℕ → Type 0) (disk : D) (end accepted later : ℕ) (waiting after : List (ArchiveRecord T)) (marks ends : List ℕ) (number mark : ℕ) → min < 2 ^ 64
       → after ≡ waiting ++ Prune min ∷ [] → ends ≡ marks ++ mark ∷ [] → later ≡ accepted → number ≤ accepted → mark ≡ max number (last_mark marks) → mark ≤ last_number

@@ -1,3 +1,7 @@
+mod Results
+mod Reasons
+mod Copies
+mod SameRanges
 mod Watching
 mod MetaSteps
 mod Replays

@@ -1,3 +1,4 @@
 pub mod Watches
+pub mod Reasons
 pub mod MetaStore
 pub mod ArchiveStore

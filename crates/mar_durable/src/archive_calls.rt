@@ -17,7 +17,7 @@ ghost use Rattle.mar_journal.specs.Journal.{Adds};
 ghost use Rattle.mar_journal.specs.declared.ArchiveRecord.{ArchiveRecord};
 ghost use Rattle.mar_durable.specs.Watches.{HasFaultCause, journal_watch};
 
-use crate::archive_drafts::{front_of, newest, prepare_prune, prepare_put};
+use crate::archive_drafts::{copies_below, front_of, newest, prepare_put};
 use crate::{JournalArchive, JournalArchiveWreck};
 use mar_journal::{Disk, JournalItem};
 use mar_store::{Archive, Identifier, Lost, Miss, RangeSet, SyncTicket};
@@ -253,14 +253,9 @@ impl<T: JournalItem, D: Disk> Archive<T> for JournalArchive<T, D> {
         if archive.alarm.rings() {
             return Err(Lost::Fault(archive.left()));
         }
-        match prepare_prune(
-            archive.aside.alloc,
-            &archive.aside.gone,
-            &archive.entries.pile.items,
-            min,
-        ) {
+        match copies_below(archive.aside.alloc, &archive.entries.pile.items, min) {
             Err(_) => Err(Lost::Memory(archive.left())),
-            Ok((more, may)) => archive.cut(min, more, may),
+            Ok(more) => archive.cut(min, more),
         }
     }
 

@@ -1,8 +1,7 @@
 //! What the calls of an archive that is a journal prepare before they change it.
-ghost use Rattle.std.specs.Prelude.{◌≡◌, ◌++◌, not, fold, filter, map, nat_le, IfOk, OnOk, max};
-ghost use Rattle.mar_store.specs.Changes.{heights};
+ghost use Rattle.std.specs.Prelude.{◌≡◌, not, filter, map, nat_le, IfOk, max};
 ghost use Rattle.mar_store.specs.Entries.{seen};
-ghost use Rattle.mar_store.specs.Ranges.{ranges, with_height};
+ghost use Rattle.mar_store.specs.Ranges.{with_height};
 ghost use Rattle.mar_journal.specs.declared.ArchiveRecord.{ArchiveRecord};
 ghost use Rattle.mar_durable.specs.ArchiveStore.{IsFront, IsMarkOf, last_mark};
 
@@ -25,8 +24,8 @@ pub fn prepare_put<T: Item>(
     Ok((ArchiveRecord::Put(index, copy), grown))
 }
 
-// Appends copies of the entries below an index.
-fn push_below<T: Item>(
+/// Copies of the entries below an index, which a prune sets aside.
+pub fn copies_below<T: Item>(
     alloc: Global,
     items: &[Entry<T>],
     min: u64,
@@ -44,37 +43,6 @@ fn push_below<T: Item>(
         }
     }
     Ok(below)
-}
-
-// Adds the indexes of the entries at or above an index.
-fn add_from<T>(set: &mut RangeSet, items: &[Entry<T>], min: u64) -> Result<(), AllocError>
-    ensures { OnOk result (set.new ≡ fold (λ rs h. with_height h rs) set.old (heights (map seen (filter (λ e. nat_le min e.index) items.now)))) }
-{
-    for entry in items {
-        if entry.index >= min {
-            set.insert(entry.index)?;
-        }
-    }
-    Ok(())
-}
-
-/// What a prune sets aside, and the ranges of what may be left after it.
-pub fn prepare_prune<T: Item>(
-    alloc: Global,
-    gone: &[Entry<T>],
-    items: &[Entry<T>],
-    min: u64,
-) -> Result<(Vec<Entry<T>>, RangeSet), AllocError>
-    ensures more { IfOk result (λ p. map seen p.0.items ≡ map seen (filter (λ e. not (nat_le min e.index)) items.now)) }
-    ensures may { IfOk result (λ p. p.1 ≡ ranges (heights ((map seen gone.now ++ map seen p.0.items)
-        ++ map seen (filter (λ e. nat_le min e.index) items.now)))) }
-{
-    let more = push_below(alloc, items, min)?;
-    let mut may = RangeSet::new(alloc);
-    add_from(&mut may, gone, 0)?;
-    add_from(&mut may, &more, 0)?;
-    add_from(&mut may, items, min)?;
-    Ok((more, may))
 }
 
 /// The mark of the put of the last of some entries: the number of the first ticket that covers it.

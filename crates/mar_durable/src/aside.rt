@@ -46,6 +46,5 @@ pub fn set_aside<T: Drop, D: Drop>(
 {
     let mut more = more;
     log.add(ArchiveRecord::Prune(min), mark)?;
-    gone.append(&mut more)?;
-    Ok(())
+    gone.append(&mut more)
 }

@@ -22,6 +22,7 @@ use crate::archive_drafts::{mark_of, newest};
 use crate::archive_opening::open_entries;
 use crate::aside::{Aside, set_aside};
 use crate::log::Log;
+use crate::told::told_by;
 use mar_journal::{ArchiveRecord, Disk, JournalItem, Unopened};
 use mar_store::{Alarm, ArchiveRuin, Entries, Entry, Lost, Miss, Pile, RangeSet};
 use std::alloc::{AllocError, Global};
@@ -288,17 +289,14 @@ impl<T: JournalItem, D: Disk> JournalArchive<T, D> {
         }
     }
 
-    // Takes out what is below an index, and sets it aside. It is given copies of that, and the ranges of what may be left.
+    // Takes out what is below an index, and sets it aside. It is given copies of that. The same may be left as before.
     pub(crate) fn cut(
         self,
         min: u64,
         more: Vec<Entry<T>>,
-        ranges_after: RangeSet,
     ) -> Result<Self, Lost<JournalArchiveWreck<T, D>>>
         requires min { min < 2 ^ 64 }
         requires more { map seen more.items ≡ map seen (filter (λ e. not (nat_le min e.index)) self.entries.pile.items.items) }
-        requires may { ranges_after ≡ ranges (heights ((map seen self.aside.gone.items ++ map seen more.items)
-            ++ map seen (filter (λ e. nat_le min e.index) self.entries.pile.items.items))) }
         ensures done { MatchResult result
             (λ s. Prunes min (archive_kept self.aside.gone.items self.entries.pile.items.items self.entries.pile.synced)
             (archive_kept s.aside.gone.items s.entries.pile.items.items s.entries.pile.synced))
@@ -331,15 +329,12 @@ impl<T: JournalItem, D: Disk> JournalArchive<T, D> {
                 alarm,
             })),
             Ok(()) => match entries.prune(min) {
-                Ok(entries) => {
-                    aside.may = ranges_after;
-                    Ok(JournalArchive {
-                        entries,
-                        aside,
-                        log,
-                        alarm,
-                    })
-                }
+                Ok(entries) => Ok(JournalArchive {
+                    entries,
+                    aside,
+                    log,
+                    alarm,
+                }),
                 Err(pile) => {
                     aside.gone.truncate(count);
                     Err(Lost::Memory(JournalArchiveWreck {
@@ -433,28 +428,6 @@ impl<T: JournalItem, D: Disk> JournalArchiveWreck<T, D> {
         }
     }
 
-    // The same where the journal wasn't opened. Damage that was seen is kept.
-    fn lost_for(self, reason: Unopened) -> Lost<Self>
-        ensures pile { (wreck_of result).pile ≡ self.pile }
-        ensures aside { (wreck_of result).aside ≡ self.aside }
-        ensures disk { (wreck_of result).disk ≡ self.disk }
-        ensures damage { ((at : ℕ) → reason ≡ Unopened.Damaged at → ⊥) → (wreck_of result).damage ≡ self.damage }
-        ensures due { (wreck_of result).alarm.due.items ≡ self.alarm.due.items }
-        ensures counts { CountsLost (λ w. w.alarm.faults) self.alarm.faults result }
-        ensures cause { (due : List ℕ) (before : ℕ) → ((at : ℕ) → reason ≡ Unopened.Damaged at → ⊥)
-            → (reason ≡ Unopened.Fault → Rose before (D.faults self.disk)) → HasFaultCause (λ w. D.faults w.disk) due before result }
-    {
-        let mut wreck = self;
-        match reason {
-            Unopened::Fault => wreck.lost_by(Miss::Fault),
-            Unopened::Memory => wreck.lost_by(Miss::Memory),
-            Unopened::Damaged(at) => {
-                wreck.damage = Some(at);
-                wreck.lost_by(Miss::Fault)
-            }
-        }
-    }
-
     // Opens what a crash left, by its luck where that can be played.
     pub(crate) fn find(self, luck: u64) -> Result<JournalArchive<T, D>, Lost<Self>>
         requires undamaged { self.damage ≡ None }
@@ -496,7 +469,11 @@ impl<T: JournalItem, D: Disk> JournalArchiveWreck<T, D> {
                     alarm,
                 })
             }
-            Err(reason) => Err(wreck.lost_for(reason)),
+            Err(reason) => {
+                let told = told_by(reason);
+                wreck.damage = told.1;
+                Err(wreck.lost_by(told.0))
+            }
         }
     }
 }

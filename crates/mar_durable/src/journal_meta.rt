@@ -14,6 +14,7 @@ ghost use Rattle.mar_durable.specs.MetaStore.{IsMetaFile, IsMetaLeft, failed_ent
 ghost use Rattle.mar_durable.specs.Watches.{CountsLost, HasFaultCause};
 
 use crate::meta_map::{batch_of, open_maps, set, unset};
+use crate::told::told_by;
 use mar_journal::{Disk, MetaRecord, Unopened, append};
 use mar_store::{Alarm, Lost, Meta, MetaRuin, Miss};
 use std::alloc::{AllocError, Global};
@@ -191,25 +192,6 @@ impl<D: Disk> JournalMetaWreck<D> {
                 Lost::Fault(wreck)
             }
             Miss::Memory => Lost::Memory(wreck),
-        }
-    }
-
-    // The same where the journal wasn't opened. Damage that was seen is kept.
-    fn lost_for(self, reason: Unopened) -> Lost<Self>
-        ensures kept { wreck_of result ≡ record self { faults = (wreck_of result).faults; damage = (wreck_of result).damage } }
-        ensures damage { ((at : ℕ) → reason ≡ Unopened.Damaged at → ⊥) → (wreck_of result).damage ≡ self.damage }
-        ensures counts { CountsLost (λ w. w.faults) self.faults result }
-        ensures cause { (due : List ℕ) (before : ℕ) → ((at : ℕ) → reason ≡ Unopened.Damaged at → ⊥)
-            → (reason ≡ Unopened.Fault → Rose before (D.faults self.disk)) → HasFaultCause (λ w. D.faults w.disk) due before result }
-    {
-        let mut wreck = self;
-        match reason {
-            Unopened::Fault => wreck.lost_by(Miss::Fault),
-            Unopened::Memory => wreck.lost_by(Miss::Memory),
-            Unopened::Damaged(at) => {
-                wreck.damage = Some(at);
-                wreck.lost_by(Miss::Fault)
-            }
         }
     }
 
@@ -428,7 +410,11 @@ impl<D: Disk> Meta for JournalMeta<D> {
                     alarm,
                 })
             }
-            Err(reason) => Err(left.lost_for(reason)),
+            Err(reason) => {
+                let told = told_by(reason);
+                left.damage = told.1;
+                Err(left.lost_by(told.0))
+            }
         }
     }
 

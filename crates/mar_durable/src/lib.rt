@@ -10,6 +10,7 @@ mod journal_meta;
 mod laws;
 mod log;
 mod meta_map;
+mod told;
 
 pub use journal_archive::{JournalArchive, JournalArchiveWreck};
 pub use journal_meta::{JournalMeta, JournalMetaWreck};

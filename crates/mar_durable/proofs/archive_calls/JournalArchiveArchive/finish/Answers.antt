@@ -4,6 +4,7 @@ use Rattle.mar_store.specs.Entries.{covered_by}
 use Rattle.mar_durable.proofs.ArchiveSteps.{fails_left, idle_moments, marked, ordered_of}
 use Rattle.mar_durable.proofs.Fronts.{none_written}
 use Rattle.mar_durable.proofs.Marks.{front_exact}
+use Rattle.mar_durable.proofs.Results.{any_err}
 use Rattle.mar_durable.proofs.Watching.{heeds_calm, lost_calm, struck}
 use Rattle.mar_durable.proofs.archive_calls.JournalArchiveArchive.finish.Goals as goal
 
@@ -69,3 +70,12 @@ returns-in-Ok-clause-idle g c = λ above.
 
 pub returns-in-Ok-clause-cause : goal.returns-in-Ok-clause-cause
 returns-in-Ok-clause-cause g c = c.make_covered_sure.ensures.cause c.args.self.alarm.due.items _
+
+pub returns-in-Ok-clause-still : goal.returns-in-Ok-clause-still
+returns-in-Ok-clause-still g c = any_err c.make_covered_sure.result _ (λ l. tt)
+
+pub returns-in-Err-clause-any_moment : goal.returns-in-Err-clause-any_moment
+returns-in-Err-clause-any_moment g c = c.in-Err.ensures.any_moment
+
+pub returns-then-rings-clause-idle : goal.returns-then-rings-clause-idle
+returns-then-rings-clause-idle g c = λ above. c.left.ensures.disk

@@ -2,6 +2,7 @@ use Rattle.std.proofs.Common.{[], ap, arith, inl, sym, ◌∙◌}
 use Rattle.mar_store.proofs.Stores.{covers_pruned}
 use Rattle.std.proofs.lemmas.Result.{IfOk-weaker}
 use Rattle.mar_durable.proofs.ArchiveSteps.{fails_left}
+use Rattle.mar_durable.proofs.Results.{any_err}
 use Rattle.mar_durable.proofs.Watching.{heeds_calm, struck, unstruck}
 use Rattle.mar_durable.proofs.archive_calls.JournalArchiveArchive.prune.Goals as goal
 
@@ -36,7 +37,16 @@ pub returns-in-Ok-clause-tickets : goal.returns-in-Ok-clause-tickets
 returns-in-Ok-clause-tickets g c = IfOk-weaker c.cut.result _ _ (λ s is. omega (arith, is)) c.cut.ensures.tickets
 
 pub cut-requires-clause-more : goal.cut-requires-clause-more
-cut-requires-clause-more g c = rw c.deref-2.ensures.value at c.in-Ok.ensures.more
+cut-requires-clause-more g c = rw c.deref.ensures.value at c.in-Ok.ensures
 
-pub cut-requires-clause-may : goal.cut-requires-clause-may
-cut-requires-clause-may g c = rw (c.deref.ensures.value, c.deref-2.ensures.value) at c.in-Ok.ensures.may
+pub returns-in-Ok-clause-still : goal.returns-in-Ok-clause-still
+returns-in-Ok-clause-still g c = any_err c.cut.result _ (λ l. tt)
+
+pub returns-in-Ok-clause-marked : goal.returns-in-Ok-clause-marked
+returns-in-Ok-clause-marked g c = c.cut.ensures.marked
+
+pub returns-in-Ok-clause-disk : goal.returns-in-Ok-clause-disk
+returns-in-Ok-clause-disk g c = c.cut.ensures.disk
+
+pub returns-in-Err-clause-cause : goal.returns-in-Err-clause-cause
+returns-in-Err-clause-cause g c = tt

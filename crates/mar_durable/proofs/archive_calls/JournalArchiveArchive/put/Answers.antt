@@ -1,5 +1,6 @@
 use Rattle.std.proofs.Common.{[], ap, inl, sym, ◌∙◌, ◌∷◌}
 use Rattle.mar_durable.proofs.ArchiveSteps.{fails_left}
+use Rattle.mar_durable.proofs.Results.{any_err}
 use Rattle.mar_durable.proofs.Watching.{heeds_calm, struck, unstruck}
 use Rattle.mar_durable.proofs.archive_calls.JournalArchiveArchive.put.Goals as goal
 
@@ -29,3 +30,18 @@ returns-in-Ok-clause-done g c = c.place.ensures.done
 
 pub returns-in-Ok-clause-marked : goal.returns-in-Ok-clause-marked
 returns-in-Ok-clause-marked g c = c.place.ensures.marked
+
+pub returns-in-Ok-clause-still : goal.returns-in-Ok-clause-still
+returns-in-Ok-clause-still g c = any_err c.place.result _ (λ l. tt)
+
+pub returns-in-Ok-clause-ignored : goal.returns-in-Ok-clause-ignored
+returns-in-Ok-clause-ignored g c = c.place.ensures.ignored
+
+pub returns-in-Ok-clause-tickets : goal.returns-in-Ok-clause-tickets
+returns-in-Ok-clause-tickets g c = c.place.ensures.tickets
+
+pub returns-in-Ok-clause-covers : goal.returns-in-Ok-clause-covers
+returns-in-Ok-clause-covers g c = c.place.ensures.covers
+
+pub returns-in-Ok-clause-disk : goal.returns-in-Ok-clause-disk
+returns-in-Ok-clause-disk g c = c.place.ensures.disk

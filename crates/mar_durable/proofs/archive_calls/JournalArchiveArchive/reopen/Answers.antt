@@ -1,6 +1,7 @@
 use Rattle.std.proofs.Common.{inl, refl, sym, ◌∙◌}
 use Rattle.mar_store.proofs.Settled.{fails_still}
 use Rattle.mar_durable.proofs.ArchiveSteps.{still_moments}
+use Rattle.mar_durable.proofs.Results.{any_err, any_gone_well}
 use Rattle.mar_durable.proofs.Watching.{heeds_calm, struck}
 use Rattle.mar_durable.proofs.archive_calls.JournalArchiveArchive.reopen.Goals as goal
 
@@ -21,3 +22,21 @@ returns-then-rings-clause-watched g c = struck c.args.wreck.alarm.faults _ c.arg
 
 pub returns-clause-watched : goal.returns-clause-watched
 returns-clause-watched g c = heeds_calm (λ s. s.alarm.faults) (λ s. s.alarm.due.items) (λ w. w.alarm.faults) (λ w. w.alarm.due.items) c.args.wreck.alarm.faults _ c.args.wreck.alarm.due.items _ c.rings.result c.if-rings.false c.rings.ensures.rings c.rings.ensures.due c.rings.ensures.faults c.find.result c.find.ensures.watched
+
+pub returns-clause-done : goal.returns-clause-done
+returns-clause-done g c = c.find.ensures.done
+
+pub returns-clause-still : goal.returns-clause-still
+returns-clause-still g c = any_err c.find.result _ (λ l. tt)
+
+pub returns-clause-lucky : goal.returns-clause-lucky
+returns-clause-lucky g c = any_gone_well c.find.result _ (λ s. tt)
+
+pub returns-clause-found : goal.returns-clause-found
+returns-clause-found g c = c.find.ensures.found
+
+pub returns-clause-undamaged : goal.returns-clause-undamaged
+returns-clause-undamaged g c = c.find.ensures.undamaged
+
+pub returns-clause-any_moment : goal.returns-clause-any_moment
+returns-clause-any_moment g c = c.find.ensures.any_moment

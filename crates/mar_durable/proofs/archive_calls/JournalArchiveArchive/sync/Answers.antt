@@ -3,6 +3,7 @@ use Rattle.mar_store.specs.Entries.{covered_by}
 use Rattle.std.proofs.lemmas.List.{drop_all, take_all}
 use Rattle.std.proofs.lemmas.Result.{IfOk-weaker, MatchResult-weaker}
 use Rattle.mar_durable.proofs.ArchiveSteps.{fails_left, idle_moments}
+use Rattle.mar_durable.proofs.Results.{any_err}
 use Rattle.mar_durable.proofs.Watching.{heeds_calm, lost_calm, struck, unstruck}
 use Rattle.mar_durable.proofs.archive_calls.JournalArchiveArchive.sync.Goals as goal
 
@@ -73,3 +74,12 @@ returns-in-Ok-flush-clause-idle g c = λ none.
 
 pub returns-in-Ok-flush-clause-cause : goal.returns-in-Ok-flush-clause-cause
 returns-in-Ok-flush-clause-cause g c = c.make_sure.ensures.cause c.args.self.alarm.due.items _
+
+pub returns-in-Ok-flush-clause-still : goal.returns-in-Ok-flush-clause-still
+returns-in-Ok-flush-clause-still g c = any_err c.make_sure.result _ (λ l. tt)
+
+pub returns-in-Err-flush-clause-any_moment : goal.returns-in-Err-flush-clause-any_moment
+returns-in-Err-flush-clause-any_moment g c = c.in-Err-flush.ensures.any_moment
+
+pub returns-then-rings-clause-idle : goal.returns-then-rings-clause-idle
+returns-then-rings-clause-idle g c = λ none. c.left.ensures.disk

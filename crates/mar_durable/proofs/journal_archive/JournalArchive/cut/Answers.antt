@@ -20,7 +20,7 @@ invariant_of-result-in-Ok-prune g c =
     let more_is = ap (map seen) c.in-Ok.ensures.gone ∙ map-append seen c.args.self.aside.gone.items c.args.more.items in
     let aside = more_is ∙ ap (λ l. map seen c.args.self.aside.gone.items ++ l) c.requires.more in
     rw (c.set_aside.ensures.disk, c.set_aside.ensures.end) (record {
-      may_is = prune_ranges c.args.min c.args.self.aside.gone.items c.set_aside.new.gone.items c.args.self.entries.pile.items.items c.in-Ok-prune.entries.pile.items.items c.args.self.entries.pile.synced c.in-Ok-prune.entries.pile.synced c.args.self.entries.pile.once c.in-Ok-prune.ensures.items c.in-Ok-prune.ensures.synced aside (map seen c.args.more.items) c.args.ranges_after more_is c.requires.may;
+      may_is = prune_ranges c.args.min c.args.self.aside.gone.items c.set_aside.new.gone.items c.args.self.entries.pile.items.items c.in-Ok-prune.entries.pile.items.items c.args.self.entries.pile.synced c.in-Ok-prune.entries.pile.synced c.args.self.entries.pile.once c.in-Ok-prune.ensures.items c.in-Ok-prune.ensures.synced aside c.args.self.aside.may c.args.self.may_is;
       backed = prune_backed c.args.min c.args.self.aside.gone.items c.set_aside.new.gone.items c.args.self.entries.pile.items.items c.in-Ok-prune.entries.pile.items.items c.args.self.entries.pile.synced c.in-Ok-prune.entries.pile.synced c.args.self.entries.pile.once c.in-Ok-prune.ensures.items c.in-Ok-prune.ensures.synced aside g.T.Item.name g.T.JournalItem.spelled g.T.Item.fits g.D.Disk.seen g.D.Disk.may_leave c.args.self.log.disk c.args.self.log.end c.args.self.entries.pile.accepted c.in-Ok-prune.entries.pile.accepted c.args.self.log.waiting.items c.set_aside.new.log.waiting.items c.args.self.log.marks.items c.set_aside.new.log.marks.items c.number.result c.newest-mark.result c.requires.min c.in-Ok.ensures.waiting c.in-Ok.ensures.marks c.in-Ok-prune.ensures.tickets (omega (arith, c.number.ensures, c.ticket.ensures.made)) (rw c.deref.ensures.value at c.newest-mark.ensures) (omega arith) c.args.self.backed;
     })
 

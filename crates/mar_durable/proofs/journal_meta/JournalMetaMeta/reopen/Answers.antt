@@ -5,6 +5,7 @@ use Rattle.mar_journal.specs.Journal.{HasReason}
 use Rattle.mar_journal.specs.MetaRecords.{IsMeta, meta_bytes}
 use Rattle.mar_durable.specs.MetaStore.{failed_entries, failed_in, left_by_meta}
 use Rattle.mar_durable.proofs.MetaSteps.{crash_moments, leaves_still, opening_finds, opening_left, reopen_moments, store_opened, undamaged, wreck_moments}
+use Rattle.mar_durable.proofs.Reasons.{fault_told, none_seen}
 use Rattle.mar_durable.proofs.Watching.{lost_calm, lost_calmly, struck, unstruck}
 use Rattle.mar_durable.proofs.journal_meta.JournalMetaMeta.reopen.Goals as goal
 
@@ -60,16 +61,16 @@ pub returns-in-Ok-clause-watched : goal.returns-in-Ok-clause-watched
 returns-in-Ok-clause-watched g c = rw (← c.left.view_is) (unstruck c.left.inside.alarm.faults _ c.left.inside.alarm.due.items _ c.rings.result c.if-rings.false c.rings.ensures.rings c.rings.ensures.due c.rings.ensures.faults)
 
 pub returns-in-Err-clause-done : goal.returns-in-Err-clause-done
-returns-in-Err-clause-done g c = rw (c.lost_for.ensures.kept, ← c.left.view_is) (leaves_still c.left.inside.synced.entries (failed_entries c.left.inside.failed))
+returns-in-Err-clause-done g c = rw (c.lost_by.ensures.kept, ← c.left.view_is) (leaves_still c.left.inside.synced.entries (failed_entries c.left.inside.failed))
 
 pub returns-in-Err-clause-any_moment : goal.returns-in-Err-clause-any_moment
-returns-in-Err-clause-any_moment g c = rw (c.lost_for.ensures.kept, ← c.left.view_is) (reopen_moments g.D.Disk.seen g.D.Disk.may_leave g.D.Disk.moment g.D.Disk.left_since g.met.D.Disk.only_now c.left.inside.disk c.crash.new.self c.open_maps.new.disk (left_by_meta (values_of c.left.inside.synced) (failed_in (failed_entries c.left.inside.failed))) c.left.invariant c.crash.ensures.crash c.crash.ensures.time (g.met.D.Disk.is_image c.crash.new.self) c.open_maps.ensures.any_moment)
+returns-in-Err-clause-any_moment g c = rw (c.lost_by.ensures.kept, ← c.left.view_is) (reopen_moments g.D.Disk.seen g.D.Disk.may_leave g.D.Disk.moment g.D.Disk.left_since g.met.D.Disk.only_now c.left.inside.disk c.crash.new.self c.open_maps.new.disk (left_by_meta (values_of c.left.inside.synced) (failed_in (failed_entries c.left.inside.failed))) c.left.invariant c.crash.ensures.crash c.crash.ensures.time (g.met.D.Disk.is_image c.crash.new.self) c.open_maps.ensures.any_moment)
 
 pub returns-in-Err-clause-watched : goal.returns-in-Err-clause-watched
-returns-in-Err-clause-watched g c = rw (← c.left.view_is) (lost_calm (λ w. w.faults) (λ w. w.due) c.left.inside.alarm.faults _ c.left.inside.alarm.due.items _ c.rings.result c.if-rings.false c.rings.ensures.rings c.rings.ensures.due c.rings.ensures.faults c.lost_for.result (lost_calmly {S = Watch} (λ s. s) (λ w. w.faults) (λ w. w.due) _ _ c.lost_for.result c.lost_for.ensures.counts (ap (λ w. w.due) c.lost_for.ensures.kept)))
+returns-in-Err-clause-watched g c = rw (← c.left.view_is) (lost_calm (λ w. w.faults) (λ w. w.due) c.left.inside.alarm.faults _ c.left.inside.alarm.due.items _ c.rings.result c.if-rings.false c.rings.ensures.rings c.rings.ensures.due c.rings.ensures.faults c.lost_by.result (lost_calmly {S = Watch} (λ s. s) (λ w. w.faults) (λ w. w.due) _ _ c.lost_by.result c.lost_by.ensures.counts (ap (λ w. w.due) c.lost_by.ensures.kept)))
 
 pub returns-in-Err-clause-undamaged : goal.returns-in-Err-clause-undamaged
-returns-in-Err-clause-undamaged g c = c.lost_for.ensures.damage (λ at is. undamaged g.D.Disk.seen g.D.Disk.may_leave c.crash.new.self (left_by_meta (values_of c.left.inside.synced) (failed_in (failed_entries c.left.inside.failed))) at (g.met.D.Disk.is_image c.crash.new.self) (λ x now. c.left.invariant x (c.crash.ensures.crash x now)) (subst (HasReason meta_bytes IsMeta _ _ _) is c.in-Err.ensures.reason).1)
+returns-in-Err-clause-undamaged g c = ap (λ w. w.damage) c.lost_by.ensures.kept ∙ c.told_by-told.ensures.damage ∙ none_seen c.in-Err.reason (λ at is. undamaged g.D.Disk.seen g.D.Disk.may_leave c.crash.new.self (left_by_meta (values_of c.left.inside.synced) (failed_in (failed_entries c.left.inside.failed))) at (g.met.D.Disk.is_image c.crash.new.self) (λ x now. c.left.invariant x (c.crash.ensures.crash x now)) (subst (HasReason meta_bytes IsMeta _ _ _) is c.in-Err.ensures.reason).1)
 
 pub returns-in-Err-clause-cause : goal.returns-in-Err-clause-cause
-returns-in-Err-clause-cause g c = rw (← c.left.view_is) (c.lost_for.ensures.cause c.left.inside.alarm.due.items (g.D.Disk.faults c.left.inside.disk) (λ at is. undamaged g.D.Disk.seen g.D.Disk.may_leave c.crash.new.self (left_by_meta (values_of c.left.inside.synced) (failed_in (failed_entries c.left.inside.failed))) at (g.met.D.Disk.is_image c.crash.new.self) (λ x now. c.left.invariant x (c.crash.ensures.crash x now)) (subst (HasReason meta_bytes IsMeta _ _ _) is c.in-Err.ensures.reason).1) (λ is. rw c.crash.ensures.cause at (subst (HasReason meta_bytes IsMeta _ _ _) is c.in-Err.ensures.reason)))
+returns-in-Err-clause-cause g c = rw (← c.left.view_is) (c.lost_by.ensures.cause c.left.inside.alarm.due.items (g.D.Disk.faults c.left.inside.disk) (λ miss. fault_told c.in-Err.reason (λ at is. undamaged g.D.Disk.seen g.D.Disk.may_leave c.crash.new.self (left_by_meta (values_of c.left.inside.synced) (failed_in (failed_entries c.left.inside.failed))) at (g.met.D.Disk.is_image c.crash.new.self) (λ x now. c.left.invariant x (c.crash.ensures.crash x now)) (subst (HasReason meta_bytes IsMeta _ _ _) is c.in-Err.ensures.reason).1) (λ is. rw c.crash.ensures.cause at (subst (HasReason meta_bytes IsMeta _ _ _) is c.in-Err.ensures.reason)) (sym c.told_by-told.ensures.miss ∙ miss)))
