@@ -1,5 +1,5 @@
 -- The calls of an archive that is a journal, by its entries.
-use Rattle.std.proofs.Common.{Bool, Contains, List, Some, [], ap, append_assoc, arith, cond, drop, filter, max, min, nat_le, bytes_eq, not, inl, inr, length, length-append, map, false, refl, subst, suc, sym, take, true, zero, ℕ, ◌&&◌, ◌++◌, ◌+◌, ◌-◌, ◌<◌, ◌==◌, ◌^◌, ◌∙◌, ◌∷◌, ◌≡◌, ◌≤◌}
+use Rattle.std.proofs.Common.{Bool, Contains, List, Some, [], ap, append_assoc, arith, cond, drop, filter, max, min, nat_le, bytes_eq, not, inl, inr, length, length-append, map, false, refl, subst, suc, sym, take, true, zero, ℕ, ◌&&◌, ◌++◌, ◌<◌, ◌==◌, ◌^◌, ◌∙◌, ◌∷◌, ◌≡◌, ◌≤◌}
 use Rattle.std.proofs.Math.Logic.{∥∥₁_elim, ∥∥₁_map, ∥∥₁_map₂}
 use Rattle.std.specs.Coded.{Coded, Coded-set, coded_bool, coded_option, le_prop}
 use Rattle.std.proofs.lemmas.Bool.{and_from, eq-eqb, eqb-true, false≢true, true≢false}

@@ -1,4 +1,4 @@
--- A list as far as a loop has come that keeps some of its elements.
+-- A list as far as a loop has come: some of its elements, or what each becomes.
 use Rattle.std.proofs.Common.{Bool, List, [], ap, append-nil, cond, false, filter, get_or, length, map, sym, take, true, ℕ, ◌++◌, ◌+◌, ◌<◌, ◌∙◌, ◌∷◌, ◌≡◌}
 use Rattle.std.proofs.lemmas.List.{map-append, take_more}
 use Rattle.std.proofs.lemmas.List.Elements.{filter-append}
@@ -17,3 +17,7 @@ module _ {X Y : Type 0} (f : X → Y) (p : X → Bool) (xs : List X) (i : ℕ) (
   -- an element was passed over
   pub one_passed : p x ≡ false → new ≡ old → map f new ≡ map f (filter p (take (i + 1) xs))
   one_passed fails are = one_more (ap (map f) are ∙ sym (append-nil (map f old)) ∙ ap (λ b. map f old ++ map f (cond b (x ∷ []) [])) (sym fails))
+
+pub one_mapped : {X Y : Type 0} (f : X → Y) (xs : List X) (i : ℕ) (d : X) → i < length xs → (old new : List Y) (y : Y) → new ≡ old ++ y ∷ [] → y ≡ f (get_or xs i d) → old ≡ map f (take i xs) → new ≡ map f (take (i + 1) xs)
+one_mapped f xs i d within old new y are is was =
+    are ∙ ap (λ l. l ++ y ∷ []) was ∙ ap (λ z. map f (take i xs) ++ z ∷ []) is ∙ sym (map-append f (take i xs) (get_or xs i d ∷ [])) ∙ ap (map f) (sym (take_more xs i d within))

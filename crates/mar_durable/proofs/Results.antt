@@ -1,5 +1,5 @@
 -- What is said of a call's result, from what is said of both of its ways.
-use Rattle.std.proofs.Common.{Bool, Err, IfErr, IfOk, MatchResult, Ok, OnErr, OnOk, Result, cond, is_ok, ◌≡◌}
+use Rattle.std.proofs.Common.{Err, IfErr, IfOk, MatchResult, Ok, OnErr, OnOk, Result, cond, is_ok, ◌≡◌}
 
 module _ {S L : Type 0} where
   -- of what went well

@@ -1,5 +1,5 @@
 -- Two lists of the same heights have the same ranges.
-use Rattle.std.proofs.Common.{Contains, List, [], ap, arith, inl, inr, length, map, refl, subst, suc, sym, zero, ℕ, ⊎_elim, ◌+◌, ◌<◌, ◌∷◌, ◌≡◌, ◌≤◌}
+use Rattle.std.proofs.Common.{Contains, List, [], ap, arith, inl, inr, map, refl, subst, suc, sym, zero, ℕ, ⊎_elim, ◌+◌, ◌∷◌, ◌≡◌, ◌≤◌}
 use Rattle.mar_store.specs.Changes.{Within, heights}
 use Rattle.mar_store.specs.Kept.{At}
 use Rattle.mar_store.specs.Ranges.{Range, ranges}

@@ -115,7 +115,7 @@ impl<T: JournalItem, D: Disk> Archive<T> for JournalArchive<T, D> {
         }
         match prepare_put(&archive.aside.may, index, &item) {
             Err(_) => Err(Lost::Memory(archive.left())),
-            Ok((record, grown)) => archive.place(index, item, record, grown),
+            Ok((copy, grown)) => archive.place(index, item, copy, grown),
         }
     }
 

@@ -2,26 +2,24 @@
 ghost use Rattle.std.specs.Prelude.{◌≡◌, not, filter, map, nat_le, IfOk, max};
 ghost use Rattle.mar_store.specs.Entries.{seen};
 ghost use Rattle.mar_store.specs.Ranges.{with_height};
-ghost use Rattle.mar_journal.specs.declared.ArchiveRecord.{ArchiveRecord};
 ghost use Rattle.mar_durable.specs.ArchiveStore.{IsFront, IsMarkOf, last_mark};
 
-use mar_journal::ArchiveRecord;
 use mar_store::{Entry, Item, RangeSet};
 use std::alloc::{AllocError, Global};
 
-/// The record of a put, and the ranges with its index.
+/// A copy of what is put, and the ranges with its index.
 pub fn prepare_put<T: Item>(
     may: &RangeSet,
     index: u64,
     item: &T,
-) -> Result<(ArchiveRecord<T>, RangeSet), AllocError>
-    ensures change { IfOk result (λ p. p.0 ≡ ArchiveRecord.Put index item.now) }
+) -> Result<(T, RangeSet), AllocError>
+    ensures copy { IfOk result (λ p. p.0 ≡ item.now) }
     ensures grown { IfOk result (λ p. p.1 ≡ with_height index may.now) }
 {
     let copy = item.try_clone()?;
     let mut grown = may.try_clone()?;
     grown.insert(index)?;
-    Ok((ArchiveRecord::Put(index, copy), grown))
+    Ok((copy, grown))
 }
 
 /// Copies of the entries below an index, which a prune sets aside.

@@ -116,18 +116,18 @@ impl<T: JournalItem, D: Disk> JournalArchive<T, D> {
         }
     }
 
-    // Puts a value, whose record waits.
+    // Puts a value, whose record waits. It is given a copy of it for that.
     pub(crate) fn place(
         self,
         index: u64,
         item: T,
-        change: ArchiveRecord<T>,
+        copy: T,
         grown: RangeSet,
     ) -> Result<Self, Lost<JournalArchiveWreck<T, D>>>
         requires index { index < 2 ^ 64 }
         requires size { T.size item ≤ 1048576 }
         requires fits { T.fits index item ≡ true }
-        requires change { change ≡ ArchiveRecord.Put index item }
+        requires copy { copy ≡ item }
         requires grown { grown ≡ with_height index self.aside.may }
         ensures done { MatchResult result
             (λ s. Puts (is_taken T.name (map seen self.entries.pile.items.items) (record { height = index; value = item }))
@@ -183,7 +183,7 @@ impl<T: JournalItem, D: Disk> JournalArchive<T, D> {
             Ok(entries) => {
                 aside.may = grown;
                 let mark = mark_of(&entries.pile.items);
-                match log.add(change, mark) {
+                match log.add(ArchiveRecord::Put(index, copy), mark) {
                     Ok(()) => Ok(JournalArchive {
                         entries,
                         aside,

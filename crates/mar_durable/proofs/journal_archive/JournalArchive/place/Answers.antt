@@ -1,7 +1,8 @@
-use Rattle.std.proofs.Common.{[], ap, arith, refl, sym, ◌++◌, ◌∙◌, ◌∷◌}
+use Rattle.std.proofs.Common.{[], ap, arith, sym, ◌++◌, ◌∙◌, ◌∷◌}
 use Rattle.mar_store.proofs.Stores.{fails_done}
 use Rattle.std.proofs.lemmas.Bool.{true≢false}
 use Rattle.std.proofs.lemmas.List.{length-map}
+use Rattle.mar_journal.specs.declared.ArchiveRecord.TheVariants.{Put}
 use Rattle.mar_durable.proofs.ArchiveSteps.{free_by_length, grown_ranges, keeps_backed, keeps_left, keeps_ranges, left_with_gone, more_by_length, more_by_still, more_left, nothing_lost, put_backed, put_is_writable, put_marked, puts_with_gone, same_by_length, same_by_still, taken_by_length}
 use Rattle.mar_durable.proofs.journal_archive.JournalArchive.place.Goals as goal
 
@@ -31,13 +32,13 @@ invariant_of-result-in-Ok g c =
 
 pub invariant_of-result-in-Ok-add : goal.invariant_of-result-in-Ok-add
 invariant_of-result-in-Ok-add g c =
+    let good = put_is_writable g.T.Item.name g.T.JournalItem.spelled g.T.Item.fits c.args.index c.args.item c.requires.index c.requires.fits (g.met.T.JournalItem.keyed c.args.item) (omega (arith, g.met.T.JournalItem.sized c.args.item, c.requires.size)) in
     let are = more_by_length _ _ _ (record { height = c.args.index; value = c.args.item }) c.in-Ok.ensures.done.held (λ e. c.if-len-count-2.false (let long = simp length-map at e in omega (arith, c.len-count.ensures, long, c.in-Ok.entries.pile.items.ok.0, c.args.self.entries.pile.items.ok.0))) in
     let free = free_by_length _ _ _ (record { height = c.args.index; value = c.args.item }) c.in-Ok.ensures.done.held (λ e. c.if-len-count-2.false (let long = simp length-map at e in omega (arith, c.len-count.ensures, long, c.in-Ok.entries.pile.items.ok.0, c.args.self.entries.pile.items.ok.0))) in
-    let good = put_is_writable g.T.Item.name g.T.JournalItem.spelled g.T.Item.fits c.args.index c.args.item c.requires.index c.requires.fits (g.met.T.JournalItem.keyed c.args.item) (omega (arith, g.met.T.JournalItem.sized c.args.item, c.requires.size)) in
     rw (c.add.ensures.disk, c.add.ensures.end) (record {
       may_is = grown_ranges c.args.self.aside.gone.items c.args.self.entries.pile.items.items c.in-Ok.entries.pile.items.items (record { height = c.args.index; value = c.args.item }) c.args.self.aside.may c.args.grown c.args.self.may_is c.requires.grown are;
       backed = put_backed g.T.Item.name g.T.JournalItem.spelled g.T.Item.fits g.D.Disk.may_leave c.args.self.log.disk c.args.self.aside.gone.items c.args.self.entries.pile.items.items c.in-Ok.entries.pile.items.items c.args.self.entries.pile.synced c.in-Ok.entries.pile.synced g.D.Disk.seen c.args.self.log.end c.args.self.entries.pile.accepted c.in-Ok.entries.pile.accepted c.args.self.log.waiting.items c.args.self.log.marks.items c.args.index c.args.item c.add.new.self.waiting.items c.add.new.self.marks.items c.mark_of-mark.result c.args.self.entries.pile.once c.in-Ok.ensures.done.sure are c.in-Ok.ensures.done.held good
-          (c.in-Ok-add.ensures.waiting ∙ ap (λ r. c.args.self.log.waiting.items ++ r ∷ []) c.requires.change)
+          (c.in-Ok-add.ensures.waiting ∙ ap (λ v. c.args.self.log.waiting.items ++ Put c.args.index v ∷ []) c.requires.copy)
           c.in-Ok-add.ensures.marks c.in-Ok.ensures.tickets c.in-Ok.ensures.covers free c.in-Ok.entries.pile.counted (rw c.deref.ensures.value at c.mark_of-mark.ensures)
           c.args.self.backed;
     })
@@ -72,7 +73,7 @@ pub returns-in-Ok-add-clause-marked : goal.returns-in-Ok-add-clause-marked
 returns-in-Ok-add-clause-marked g c =
     let are = more_by_length _ _ _ (record { height = c.args.index; value = c.args.item }) c.in-Ok.ensures.done.held (λ e. c.if-len-count-2.false (let long = simp length-map at e in omega (arith, c.len-count.ensures, long, c.in-Ok.entries.pile.items.ok.0, c.args.self.entries.pile.items.ok.0))) in
     λ free. put_marked g.T.Item.name c.args.self.entries.pile.items.items c.in-Ok.entries.pile.items.items c.args.index c.args.item c.args.self.entries.pile.accepted c.in-Ok.entries.pile.accepted c.mark_of-mark.result c.args.self.log.waiting.items c.add.new.self.waiting.items c.args.self.log.marks.items c.add.new.self.marks.items c.args.self.entries.pile.once free are c.in-Ok.ensures.covers c.in-Ok.entries.pile.counted (rw c.deref.ensures.value at c.mark_of-mark.ensures)
-    (c.in-Ok-add.ensures.waiting ∙ ap (λ r. c.args.self.log.waiting.items ++ r ∷ []) c.requires.change) c.in-Ok-add.ensures.marks
+    (c.in-Ok-add.ensures.waiting ∙ ap (λ v. c.args.self.log.waiting.items ++ Put c.args.index v ∷ []) c.requires.copy) c.in-Ok-add.ensures.marks
 
 pub returns-clause-done : goal.returns-clause-done
 returns-clause-done g c = rw c.into_pile.ensures (fails_done _ _ (record { height = c.args.index; value = c.args.item }) _ (puts_with_gone c.args.self.aside.gone.items c.args.self.entries.pile.items.items c.in-Ok.entries.pile.items.items c.args.self.entries.pile.synced c.in-Ok.entries.pile.synced (record { height = c.args.index; value = c.args.item }) _ c.in-Ok.ensures.done))

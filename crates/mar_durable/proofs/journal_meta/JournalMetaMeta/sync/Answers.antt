@@ -1,4 +1,4 @@
-use Rattle.std.proofs.Common.{Err, Some, [], ap, arith, inl, map, sym, ◌∙◌, ◌∷◌}
+use Rattle.std.proofs.Common.{Err, [], ap, arith, inl, map, sym, ◌∙◌, ◌∷◌}
 use Rattle.std.proofs.lemmas.List.{nil_from_length}
 use Rattle.mar_store.specs.MemMeta.{values_of}
 use Rattle.mar_store.specs.Watch.{Watch}
