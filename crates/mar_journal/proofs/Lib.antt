@@ -7,3 +7,6 @@ pub mod Bodies
 mod Opening
 mod Heads
 pub mod WritingAll
+mod Spelling
+mod Causes
+mod Firsts

@@ -1,6 +1,9 @@
 use Rattle.std.proofs.Common.{ap, arith, length, refl, subst, take, ◌++◌, ◌+◌, ◌-◌, ◌∙◌, ◌≡◌, ◌≤◌}
+use Rattle.std.proofs.lemmas.List.{take_all}
+use Rattle.std.proofs.lemmas.Result.{IfOk-from_err}
 use Rattle.mar_journal.specs.Format.{StandsUpto}
 use Rattle.mar_journal.specs.Journal.{IsSettled}
+use Rattle.mar_journal.proofs.Causes.{answers_ok}
 use Rattle.mar_journal.proofs.Moments.{and_then}
 use Rattle.mar_journal.proofs.WritingAll.{batch_here, settled_more, settled_none, upto_either, upto_first}
 use Rattle.mar_journal.proofs.journal.write_all.Goals as goal
@@ -48,3 +51,18 @@ batches-preserved g c =
 
 pub returns-clause-idle : goal.returns-clause-idle
 returns-clause-idle g c = c.batches.invariant.idle
+
+pub returns-clause-done : goal.returns-clause-done
+returns-clause-done g c = λ before s. subst (λ l. IsSettled g.R.Record.spelled g.R.Record.valid g.D.Disk.seen g.D.Disk.may_leave (before ++ l) c.batches.end c.batches.disk) (take_all c.batches.done c.args.records.now c.batches-test.false) (c.batches.invariant.settled before s)
+
+pub returns-clause-any_moment : goal.returns-clause-any_moment
+returns-clause-any_moment g c = c.batches.invariant.any_moment
+
+pub returns-clause-cause : goal.returns-clause-cause
+returns-clause-cause g c = answers_ok _ _ c.batches.end c.batches.invariant.calm
+
+pub returns-in_err-end-clause-done : goal.returns-in_err-end-clause-done
+returns-in_err-end-clause-done g c = λ before s. IfOk-from_err c.from_residual.result _ c.from_residual.ensures.0
+
+pub returns-in_err-end-clause-idle : goal.returns-in_err-end-clause-idle
+returns-in_err-end-clause-idle g c = λ none. absurd (omega (arith, c.batches-test.true, ap length none))
