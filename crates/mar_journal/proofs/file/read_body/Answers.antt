@@ -2,7 +2,7 @@ use Rattle.std.proofs.Common.{[], ap, arith, drop, length, length-drop, subst, s
 use Rattle.std.specs.List.{AllByRecursion}
 use Rattle.std.proofs.lemmas.List.{take_all}
 use Rattle.mar_journal.specs.Format.{body}
-use Rattle.mar_journal.proofs.Spelling.{few_more}
+use Rattle.mar_journal.proofs.Spelling.{few_more, whole_batch}
 use Rattle.mar_journal.proofs.Bodies.{all_valid, none_first, none_from, nothing, one_more, some_from, too_many}
 use Rattle.mar_journal.proofs.file.read_body.Goals as goal
 
@@ -33,3 +33,8 @@ records-preserved g c =
       few = few_more c.records.records.items c.push.new.self.items c.in-Some.record c.len.result c.in_ok-push-in-Some.ensures.items (c.len.ensures ∙ c.records.records.ok.0) c.if-len-eq-MAX_BATCH.false c.records.invariant.few;
       valid = subst (AllByRecursion g.R.Record.valid) (sym c.in_ok-push-in-Some.ensures.items) (all_valid g.R.Record.spelled g.R.Record.valid g.met.R.Record.one g.met.R.Record.some c.records.records.items c.in-Some.record c.records.invariant.valid first.valid);
     }
+
+pub returns : goal.returns
+returns g c =
+    whole_batch g.R.Record.spelled g.R.Record.valid c.records.records.items c.records.rest.now c.args.bytes.now c.records.invariant.valid c.records.invariant.read (none_from _ c.records-test.ensures)
+    (omega (arith, c.records.records.ok.0, some_from _ c.if-is_empty.ensures)) c.records.invariant.few c.requires
