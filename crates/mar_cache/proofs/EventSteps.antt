@@ -13,8 +13,8 @@ use Rattle.mar_node.specs.Cache.{AdvancesCache, certified_from, entries_put, fin
 use Rattle.mar_node.specs.Config.{Config}
 use Rattle.mar_node.specs.Event.{Effect, Event}
 use Rattle.mar_node.specs.Node.{Node}
-use Rattle.mar_node.specs.AllEntries.{FirstsStay, PrunesEntries, is_in_place, with_own_entry}
-use Rattle.mar_cache.specs.Steps.{KeepsBeside, PrunesByAll, PutsNone, PutsOne, is_certified}
+use Rattle.mar_node.specs.AllEntries.{FirstsStay, PrunesByAll, PrunesEntries, is_in_place, with_own_entry}
+use Rattle.mar_cache.specs.Steps.{KeepsBeside, PutsNone, PutsOne, is_certified}
 use Rattle.mar_cache.proofs.StateLosses.{filtered}
 use Rattle.mar_cache.proofs.ListPrunes.{firsts_stay}
 use Rattle.mar_cache.proofs.ListPuts.{contains_none, none_verified, one_of, passes_alike}

@@ -12,7 +12,7 @@ use Rattle.mar_node.specs.Cache.{first_of, first_verified, verified_in}
 use Rattle.mar_cache.specs.AsOne.{up_to}
 use Rattle.mar_node.specs.AllEntries.{is_in_place, with_own_entry}
 use Rattle.mar_cache.specs.Nested.{in_up_to, of_up_to}
-use Rattle.mar_cache.proofs.EpochLists.{filter_map_up_to, only_in, up_to_none}
+use Rattle.mar_cache.proofs.EpochLists.{filter_map_up_to, filter_up_to, only_in, up_to_none, up_to_same}
 
 pub and_false_left : (a b : Bool) → a ≡ false → (a && b) ≡ false
 and_false_left false b is = refl
@@ -148,6 +148,20 @@ module _ (old new : ℕ → List Cached) (e h : ℕ) (x : Cached) (own : (k : �
     ]
     | inr other ↦ if_left (list_any (same_place x) (old e)) (up_to old h) x y (in_up_to old h k y within (subst (λ zs. Contains zs y) (others k other) found))
   ])
+
+  -- the others are held in the order in which they were
+  pub puts_others : (passes : Cached → Bool) → passes x ≡ false → filter passes (up_to new h) ≡ filter passes (up_to old h)
+  puts_others passes none = filter_up_to passes new h ∙ up_to_same (λ k. filter passes (new k)) (λ k. filter passes (old k)) h (λ k within. each k) ∙ sym (filter_up_to passes old h)
+    where
+      dropped : (b : Bool) (xs : List Cached) → filter passes (with_if b xs x) ≡ filter passes xs
+      dropped true xs = refl
+      dropped false xs = filter-append passes xs (x ∷ []) ∙ ap (λ (b : Bool). filter passes xs ++ cond b (x ∷ []) []) none ∙ append-nil (filter passes xs)
+
+      each : (k : ℕ) → filter passes (new k) ≡ filter passes (old k)
+      each k = elim (cases_eq k e) [
+        | inl same ↦ ap (λ j. filter passes (new j)) same ∙ ap (filter passes) here ∙ dropped (list_any (same_place x) (old e)) (old e) ∙ ap (λ j. filter passes (old j)) (sym same)
+        | inr other ↦ ap (filter passes) (others k other)
+      ]
 
   pub own_new : (k : ℕ) (y : Cached) → Contains (new k) y → epoch_of y ≡ k
   own_new k y has = elim (cases_eq k e) [

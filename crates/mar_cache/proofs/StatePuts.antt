@@ -17,7 +17,7 @@ use Rattle.mar_epochs.specs.EpochStates.{ChangesEpoch, EpochState, EpochStates, 
 use Rattle.mar_cache.specs.Shelved.{DoesAt, LieWithin, raised}
 use Rattle.mar_cache.specs.Nested.{in_up_to, may_some, of_up_to, within_up_to}
 use Rattle.mar_cache.proofs.EpochLists.{up_to_more}
-use Rattle.mar_cache.proofs.ListPuts.{contains_none, puts_firsts, puts_held, puts_only}
+use Rattle.mar_cache.proofs.ListPuts.{contains_none, puts_firsts, puts_held, puts_only, puts_others}
 
 -- NOTHING BEYOND THE HIGHEST
 
@@ -103,6 +103,7 @@ pub puts_over : (x : Cached) (old new : EpochStates) (b : Bounds) → LieWithin 
 puts_over x old new b lie here others = record {
   held = λ y has. puts_held (λ k. held_in (old k)) (λ k. held_in (new k)) (epoch_of x) h x (λ k. (lie k).held) refl inside here.held (λ k other. ap held_in (others k other)) y (subst (λ zs. Contains (with_own_entry zs x) y) (sym (held_more old b lie h above)) has);
   only = λ y has. subst (λ zs. Contains (with_own_entry zs x) y) (held_more old b lie h above) (puts_only (λ k. held_in (old k)) (λ k. held_in (new k)) (epoch_of x) h x (λ k. (lie k).held) refl inside here.held (λ k other. ap held_in (others k other)) y has);
+  others = λ passes none. puts_others (λ k. held_in (old k)) (λ k. held_in (new k)) (epoch_of x) h x (λ k. (lie k).held) refl inside here.held (λ k other. ap held_in (others k other)) passes none ∙ ap (filter passes) (held_more old b lie h above);
   firsts = λ r. puts_firsts (λ k. held_in (old k)) (λ k. held_in (new k)) (epoch_of x) h x (λ k. (lie k).held) refl inside here.held (λ k other. ap held_in (others k other)) r ∙ ap (λ zs. first_verified (with_own_entry zs x) r) (held_more old b lie h above);
   sure = λ y has. within_up_to (λ k. sure_in (old k)) (λ k. sure_in (new k)) h (λ k within. each k (cases_eq k (epoch_of x))) y (subst (λ zs. Contains zs y) (sym (sure_more old b lie h above)) has);
   may = λ y has. let (k, within, found) = of_up_to (λ k. may_in (new k)) h y has in elim (may_from k y (cases_eq k (epoch_of x)) found) [

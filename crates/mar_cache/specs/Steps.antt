@@ -1,14 +1,13 @@
 -- What an event makes of a cache that keeps one more entry and is pruned by rounds.
 use Rattle.std.specs.Prelude.{Bool, Contains, IsTrue, List, [], false, true, ℕ, ◌<◌, ◌∷◌, ◌≡◌, ◌≤◌, ◌⊎◌, map, ◌++◌}
-use Rattle.mar_types.specs.Round.{Round}
 use Rattle.mar_store.specs.Changes.{Within}
 use Rattle.mar_store.specs.Kept.{Kept}
 use Rattle.mar_node.specs.Cached.{Cached, certified_entry, epoch_of, same_place}
-use Rattle.mar_node.specs.Cache.{answer_ticket, certified_from, entries_put, finished_covers, is_below, is_covered_put, is_synced_put, lowest_after, same_archive, started_syncs, still_covers, tickets_from, without_cache_sync, witnessing_of}
+use Rattle.mar_node.specs.Cache.{answer_ticket, certified_from, entries_put, finished_covers, is_covered_put, is_synced_put, lowest_after, same_archive, started_syncs, still_covers, tickets_from, without_cache_sync, witnessing_of}
 use Rattle.mar_node.specs.Config.{Config}
 use Rattle.mar_node.specs.Event.{Effect, Event}
 use Rattle.mar_node.specs.Node.{Node}
-use Rattle.mar_node.specs.AllEntries.{PrunesEntries, PutsEntry}
+use Rattle.mar_node.specs.AllEntries.{PrunesByAll, PutsEntry}
 
 abbrev pub is_certified : Cached → Bool
 is_certified (certified_entry e b) = true
@@ -17,11 +16,6 @@ is_certified _ = false
 -- an entry is put, unless its epoch is below the lowest
 abbrev pub PutsOrPasses : ℕ → Cached → Kept Cached → Kept Cached → Type 0
 PutsOrPasses lowest x old new = ((epoch_of x < lowest) × (new ≡ old)) ⊎ (lowest ≤ epoch_of x) × PutsEntry x old new
-
--- prunes by these rounds, one after another
-abbrev pub PrunesByAll : List Round → Kept Cached → Kept Cached → Type 0
-PrunesByAll [] old new = new ≡ old
-PrunesByAll (r ∷ rounds) old new = (mid : Kept Cached) × PrunesEntries (is_below r) old mid × PrunesByAll rounds mid new
 
 -- The calls of an event that puts one entry, and syncs its archive where the event waits for that, and then witnesses.
 pub record PutsOne (config : Config) (n : Node) (e : Event) (fx : Effect) (n' : Node) (x : Cached) : Type 0 where

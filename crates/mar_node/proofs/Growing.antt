@@ -12,12 +12,10 @@ use Rattle.mar_store.specs.Watch.{Watch}
 use Rattle.mar_store.proofs.Lookups.{Contains-from_value}
 use Rattle.mar_node.specs.Cached.{Cached}
 use Rattle.mar_node.specs.Metadata.{Pair}
-use Rattle.mar_node.specs.Faults.{StoreName, block_store, cert_store, meta_store, cache_store}
-use Rattle.mar_node.specs.Held.{ArePassed, Grew, Held, LeavesCache, LeavesPairsSince, LeavesStore, MakesSure, Passes, WithinWritten, Written, nothing_written, watch_of, written_block, written_both, written_cert, written_pair, HeldCache}
+use Rattle.mar_node.specs.Faults.{StoreName, block_store, cert_store, meta_store}
+use Rattle.mar_node.specs.Held.{ArePassed, Grew, Held, LeavesCache, LeavesPairsSince, LeavesStore, MakesSure, Passes, WithinWritten, Written, nothing_written, watch_of, written_block, written_both, written_cert, written_pair}
 use Rattle.mar_writes.specs.Writing.{Writing}
 use Rattle.mar_node.proofs.Passing.{ArePassed-refl, ArePassed-store, ArePassed-then, with_watch}
-use Rattle.mar_node.specs.AllEntries.{LeavesEntries}
-use Rattle.mar_node.specs.CacheCalls.{none_goes}
 
 -- ONE STORE
 
@@ -101,22 +99,6 @@ LeavesCache-refl cache lowests put prunes = record {
 -- where nothing was put in the cache, nor pruned
 pub LeavesCache-unwritten : (start : Left Cached) (started : List ℕ) (put : List Cached) (prunes : List Round) (left : Left Cached) (lowests : List ℕ) → put ≡ [] → prunes ≡ [] → LeavesCache start started put prunes left lowests → LeavesCache start started [] [] left lowests
 LeavesCache-unwritten start started put prunes left lowests none_put none_pruned leaves = subst (λ xs. LeavesCache start started xs [] left lowests) none_put (subst (λ ps. LeavesCache start started put ps left lowests) none_pruned leaves)
-
--- where all that was sure then is sure, and no more may be left
-pub LeavesCache-then : (start : Left Cached) (started : List ℕ) (put : List Cached) (prunes : List Round) (mid left : Left Cached) (between lowests : List ℕ) → Within mid.sure left.sure → Within left.may mid.may → Within lowests between → LeavesCache start started put prunes mid between → LeavesCache start started put prunes left lowests
-LeavesCache-then start started put prunes mid left between lowests sure may fewer leaves = record {
-  sure = λ x has. ⊎_elim (λ stays. inl (sure x stays)) (λ goes. inr goes) (leaves.sure x has);
-  may = λ x has. leaves.may x (may x has);
-  lowest = λ k has. leaves.lowest k (fewer k has);
-}
-
--- no more may be left where nothing was put
-within_nothing : (may old : List Cached) → Within may (old ++ []) → Within may old
-within_nothing may old within x has = subst (λ xs. Contains xs x) (append-nil old) (within x has)
-
--- what a change of the cache leaves that puts and prunes nothing
-pub LeavesCache-entries : (start : Left Cached) (started : List ℕ) (put : List Cached) (prunes : List Round) (old : Kept Cached) (left : Left Cached) (between lowests : List ℕ) → LeavesEntries [] none_goes old left.sure left.may → Within lowests between → LeavesCache start started put prunes (left_of old) between → LeavesCache start started put prunes left lowests
-LeavesCache-entries start started put prunes old left between lowests entries fewer leaves = LeavesCache-then start started put prunes (left_of old) left between lowests (λ x has. entries.stays x has refl) (within_nothing left.may old.may entries.within) fewer leaves
 
 pub Grew-refl : (old : Held) (written : Written) → IsNested old.blocks → IsNested old.certs → Grew old written old
 Grew-refl old written blocks certs = record {
@@ -212,20 +194,6 @@ module _ (start : Held) (all : Written) (old : Held) (grew : Grew start all old)
     blocks = grew.blocks;
     certs = λ y low has. subst (λ xs. Contains xs y) (sym surer.held) (grew.certs y low has);
     passed = ArePassed-then start.watches old.watches (record old.watches { certs = w }) grew.passed (ArePassed-store old.watches cert_store w passes);
-  }
-
-  -- what was left of the cache was taken up
-  pub Grew-loaded : (cache : HeldCache) (w : Watch) → LeavesEntries [] none_goes old.cache.kept cache.kept.sure cache.kept.may → Passes old.watches.cache w → Grew start all (record old { cache = cache; watches = record old.watches { cache = w } })
-  Grew-loaded cache w entries passes = record {
-    leaves = record {
-      blocks = grew.leaves.blocks;
-      certs = grew.leaves.certs;
-      pairs = grew.leaves.pairs;
-      cache = LeavesCache-entries (left_of start.cache.kept) start.lowests all.cached all.prunes old.cache.kept (left_of cache.kept) old.lowests old.lowests entries (λ k has. has) grew.leaves.cache;
-    };
-    blocks = grew.blocks;
-    certs = grew.certs;
-    passed = ArePassed-then start.watches old.watches (record old.watches { cache = w }) grew.passed (ArePassed-store old.watches cache_store w passes);
   }
 
   -- writes were taken in, or covered

@@ -10,6 +10,7 @@ pub mod CachedBlocks
 pub mod HonestAsks
 pub mod SyncTickets
 pub mod StoreLosses
+pub mod CacheChanges
 pub mod Passing
 pub mod Growing
 pub mod Storing

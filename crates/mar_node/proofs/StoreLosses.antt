@@ -1,18 +1,15 @@
 -- A store call that failed leaves what was there and no more than it was to write, and its fault has its cause.
-use Rattle.std.proofs.Common.{◌≡◌, ◌⊎◌, List, refl, sym, ◌∙◌, subst, ℕ, []}
+use Rattle.std.proofs.Common.{◌≡◌, ◌⊎◌, List, refl, sym, ◌∙◌, subst}
 use Rattle.mar_cert.specs.Block.{Block}
 use Rattle.mar_cert.specs.Finalization.{Finalization}
 use Rattle.mar_store.specs.Kept.{At}
 use Rattle.mar_store.specs.Changes.{Fails, Left, Within, left_of}
 use Rattle.mar_store.specs.Watch.{Watch}
 use Rattle.mar_node.specs.Metadata.{LeavesPairs, Pair}
-use Rattle.mar_node.specs.Faults.{Fault, StoreName, block_store, cert_store, meta_store, store_fault, want_of_memory, cache_store}
+use Rattle.mar_node.specs.Faults.{Fault, StoreName, block_store, cert_store, meta_store, store_fault, want_of_memory}
 use Rattle.mar_node.specs.Held.{Breaks, Ending, Grew, Held, IsNoStores, Loses, Passes, Written, ended_of, remains_of, watch_of}
-use Rattle.mar_node.proofs.Growing.{LeavesStore-failed, within_all, LeavesCache-entries}
+use Rattle.mar_node.proofs.Growing.{LeavesStore-failed, within_all}
 use Rattle.mar_node.proofs.Passing.{FailsBy-nothing, FailsBy-store, FailsBy-then, with_watch}
-use Rattle.mar_node.specs.AllEntries.{LeavesEntries}
-use Rattle.mar_node.specs.CacheCalls.{none_goes}
-use Rattle.mar_node.specs.Cached.{Cached}
 
 -- how one store's call ended: it failed, or memory ran out
 abbrev pub IsHow : StoreName → Watch → Fault → Watch → Type 0
@@ -40,18 +37,6 @@ module _ (start : Held) (all : Written) (old : Held) (grew : Grew start all old)
       cache = grew.leaves.cache;
     };
     cause = FailsBy-then start.watches old.watches _ _ grew.passed (FailsBy-store old.watches cert_store w _ _ refl how);
-  }
-
-  -- nothing was put in the cache, nor pruned
-  pub Loses-cache : (left : Left Cached) (lowests : List ℕ) (fault : Fault) (w : Watch) → LeavesEntries [] none_goes old.cache.kept left.sure left.may → Within lowests old.lowests → IsHow cache_store old.watches.cache fault w → Loses start all (record { fault = fault; remains = record { ended = ended_of (left_of old.blocks) (left_of old.certs) left lowests old.pairs; watches = record old.watches { cache = w } } })
-  Loses-cache left lowests fault w entries fewer how = record {
-    leaves = record {
-      blocks = grew.leaves.blocks;
-      certs = grew.leaves.certs;
-      pairs = grew.leaves.pairs;
-      cache = LeavesCache-entries (left_of start.cache.kept) start.lowests all.cached all.prunes old.cache.kept left old.lowests lowests entries fewer grew.leaves.cache;
-    };
-    cause = FailsBy-then start.watches old.watches _ _ grew.passed (FailsBy-store old.watches cache_store w _ _ refl how);
   }
 
   pub Loses-meta : (more left : List Pair) (fault : Fault) (w : Watch) → Within more all.pairs → LeavesPairs old.pairs more left → IsHow meta_store old.watches.meta fault w → Loses start all (record { fault = fault; remains = record { ended = ended_of (left_of old.blocks) (left_of old.certs) (left_of old.cache.kept) old.lowests left; watches = record old.watches { meta = w } } })

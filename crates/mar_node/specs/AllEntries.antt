@@ -6,7 +6,7 @@ use Rattle.mar_cert.specs.Block.{Block}
 use Rattle.mar_store.specs.Changes.{Within}
 use Rattle.mar_store.specs.Kept.{Kept}
 use Rattle.mar_node.specs.Cached.{Cached, epoch_of, same_place, verified_entry}
-use Rattle.mar_node.specs.Cache.{first_verified, same_archive}
+use Rattle.mar_node.specs.Cache.{first_verified, is_below, same_archive}
 use Rattle.mar_node.specs.Sections.{stands_before}
 
 -- an entry that stands in the place of another in its epoch
@@ -21,6 +21,7 @@ with_own_entry held x = if list_any (is_in_place x) held then held else held ++ 
 pub record PutsEntry (x : Cached) (old new : Kept Cached) : Type 0 where
   pub held : Within (with_own_entry old.held x) new.held
   pub only : Within new.held (with_own_entry old.held x)
+  pub others : (passes : Cached → Bool) → passes x ≡ false → filter passes new.held ≡ filter passes old.held  -- in their order
   pub firsts : (r : Round) → first_verified new.held r ≡ first_verified (with_own_entry old.held x) r
   pub sure : Within old.sure new.sure
   pub may : Within new.may (old.may ++ x ∷ [])
@@ -39,6 +40,11 @@ pub record PrunesEntries (test : Cached → Bool) (old new : Kept Cached) : Type
   pub held : new.held ≡ filter (λ x. not (test x)) old.held
   pub sure : (x : Cached) → Contains old.sure x → test x ≡ false → Contains new.sure x
   pub may : Within new.may old.may
+
+-- prunes by these rounds, one after another
+abbrev pub PrunesByAll : List Round → Kept Cached → Kept Cached → Type 0
+PrunesByAll [] old new = new ≡ old
+PrunesByAll (r ∷ rounds) old new = (mid : Kept Cached) × PrunesEntries (is_below r) old mid × PrunesByAll rounds mid new
 
 -- What a call that failed leaves: what was sure is sure, but for what the test passes, and no more may be left but what was
 -- to be put.

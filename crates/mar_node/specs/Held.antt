@@ -17,6 +17,7 @@ use Rattle.mar_store.specs.declared.Miss.TheVariants.{Fault as Missed, Memory as
 use Rattle.mar_cert.specs.Block.{Block}
 use Rattle.mar_node.specs.Acks.{Outstanding}
 use Rattle.mar_node.specs.Cache.{is_below}
+use Rattle.mar_node.specs.CacheCalls.{IsNestedCache}
 use Rattle.mar_node.specs.Cached.{Cached, IsUnloaded}
 use Rattle.mar_node.specs.LuckyEntries.{lucky_entries}
 use Rattle.mar_node.specs.Metadata.{Pair, first_pair, lucky_pair}
@@ -119,6 +120,11 @@ pub record AreWritten (h : Held) : Type 0 where
   pub blocks : SureOrWritten h.blocks h.writes.uncovered
   pub certs : SureOrWritten h.certs h.writes.uncovered
   pub ordered : IsOrdered h.writes
+
+-- What is cached may be left, none of it of an epoch below the lowest, which is what a crash leaves of that.
+pub record AreCached (h : Held) : Type 0 where
+  pub nested : IsNestedCache h.cache.kept h.lowest h.cache.loaded
+  pub own_lowest : h.lowests ≡ h.lowest ∷ []
 
 -- A sync made more sure: nothing else is held, and nothing else may be left.
 pub record MakesSure {T : Type 0} (old new : Kept (At T)) : Type 0 where
@@ -230,6 +236,12 @@ written_cert x = record nothing_written { certs = x ∷ [] }
 
 abbrev pub written_both : At Block → At Finalization → Written
 written_both x y = record nothing_written { blocks = x ∷ []; certs = y ∷ [] }
+
+abbrev pub written_entry : Cached → Written
+written_entry x = record nothing_written { cached = x ∷ [] }
+
+abbrev pub written_prune : Round → Written
+written_prune round = record nothing_written { prunes = round ∷ [] }
 
 abbrev pub written_pair : Pair → Written
 written_pair p = record nothing_written { pairs = p ∷ [] }

@@ -1,6 +1,6 @@
 -- What the parts of a step change: what is seen of an actor before and after them.
 use Rattle.std.specs.List.{AllByRecursion}
-use Rattle.std.specs.Prelude.{Bool, Contains, List, MatchResult, None, Option, Result, Some, [], bytes_eq, false, find, fold, if◌then◌else◌, is_some, length, map, nat_lt, not, option_and_then, option_to_list, true, ℕ, ◌&&◌, ◌++◌, ◌+◌, ◌-◌, ◌<◌, ◌^◌, ◌∷◌, ◌≡◌, ◌≤◌, ◌⊎◌}
+use Rattle.std.specs.Prelude.{Bool, Contains, List, MatchResult, None, Option, Result, Some, [], bytes_eq, false, find, fold, if◌then◌else◌, is_some, length, map, max, nat_lt, not, option_and_then, option_to_list, true, ℕ, ◌&&◌, ◌++◌, ◌+◌, ◌-◌, ◌<◌, ◌^◌, ◌∷◌, ◌≡◌, ◌≤◌, ◌⊎◌}
 use Rattle.std.specs.Option.{option_or}
 use Rattle.mar_types.specs.Round.{Round}
 use Rattle.mar_types.specs.Epochs.{Epochs}
@@ -11,8 +11,10 @@ use Rattle.mar_key.specs.Hears.{Hears}
 use Rattle.mar_key.specs.Processed.{first_unprocessed}
 use Rattle.mar_store.specs.Kept.{At, Kept, has_height, value_at}
 use Rattle.mar_store.specs.Changes.{Puts, Within}
-use Rattle.mar_node.specs.AllEntries.{LoadsEntries, soonest}
-use Rattle.mar_node.specs.Cached.{Cached, cached_block}
+use Rattle.mar_node.specs.AllEntries.{LoadsEntries, PrunesEntries, soonest}
+use Rattle.mar_node.specs.Cache.{is_below}
+use Rattle.mar_node.specs.CacheCalls.{PutsAndSyncs}
+use Rattle.mar_node.specs.Cached.{Cached, cached_block, finalization_entry}
 use Rattle.mar_node.specs.Entries.{has_commitment}
 use Rattle.mar_node.specs.Stored.{at_own_height, block_of, is_certified, is_held, newest}
 use Rattle.mar_node.specs.Acks.{Outstanding, after_given, after_oldest, dropped_oldest, given_front, given_oldest, height_after}
@@ -178,6 +180,24 @@ pub record LoadsCache {P E : Type 0} (old new : Seen P E) : Type 0 where
   pub loads : old.held.cache.fresh ≡ true → LoadsEntries old.held.cache.kept new.held.cache.kept
   pub by_luck : old.held.cache.fresh ≡ true → ArePicked old.held.cache.finds new.held.cache.kept.held
   pub same : new ≡ record old { held = record old.held { cache = new.held.cache; watches = new.held.watches } }
+
+-- these stores, with what others say of the cache and of how many calls were counted
+abbrev pub with_cache_of : Held → Held → Held
+with_cache_of now h = record h { cache = now.cache; lowest = now.lowest; lowests = now.lowests; watches = now.watches }
+
+-- A finalization was put into the cache, where it is sure, unless its epoch is below the lowest.
+pub record CachesFinalization (f : Finalization) (old new : Held) : Type 0 where
+  pub puts : PutsAndSyncs (finalization_entry f) old.lowest old.cache.loaded old.cache.kept new.cache.kept
+  pub loaded : new.cache.loaded ≡ old.cache.loaded
+  pub same : new ≡ record old { cache = new.cache; watches = new.watches }
+
+-- What is cached below a round was pruned, whose epoch is then the lowest, unless that is a newer one.
+pub record PrunesCache (round : Round) (old new : Held) : Type 0 where
+  pub prunes : old.cache.loaded ≡ true → PrunesEntries (is_below round) old.cache.kept new.cache.kept
+  pub loaded : new.cache.loaded ≡ old.cache.loaded
+  pub lowest : new.lowest ≡ max old.lowest round.epoch
+  pub own_lowest : new.lowests ≡ new.lowest ∷ []
+  pub same : new ≡ with_cache_of new old
 
 -- A put that was synced, with all that was held before; a crash leaves just what is held.
 pub record StoresValue {T : Type 0} (ignored : Bool) (old : Kept (At T)) (x : At T) (new : Kept (At T)) : Type 0 where

@@ -8,15 +8,16 @@ ghost use Rattle.mar_store.specs.Named.{last_index};
 ghost use Rattle.mar_store.specs.Ranges.{ranges};
 ghost use Rattle.mar_store.specs.Sizes.{IsSmall};
 ghost use Rattle.mar_node.specs.AllEntries.{LoadsEntries, soonest};
-ghost use Rattle.mar_node.specs.Cached.{cached_block};
+ghost use Rattle.mar_node.specs.Cached.{cached_block, finalization_entry};
 ghost use Rattle.mar_node.specs.Entries.{is_sought, sought_block};
 ghost use Rattle.mar_node.specs.Queries.{cached_at};
-ghost use Rattle.mar_node.specs.Held.{ArePassed, AreWritten, GoesOn, Held, IsArchiveFault, IsUsual, LosesOpening, LosesSince, MakesSure, Remains, ReopensAs};
-ghost use Rattle.mar_node.specs.Held.{nothing_written, remains_of, with_armed, written_block, written_cert, written_pair};
+ghost use Rattle.mar_node.specs.Held.{AreCached, ArePassed, AreWritten, GoesOn, Held, IsArchiveFault, IsUsual, LosesOpening, LosesSince, MakesSure, Remains, ReopensAs};
+ghost use Rattle.mar_node.specs.Held.{nothing_written, remains_of, with_armed, written_block, written_cert, written_entry, written_pair};
+ghost use Rattle.mar_node.specs.Held.{written_prune};
 ghost use Rattle.mar_node.specs.Lives.{ArePicked, later_round};
 ghost use Rattle.mar_node.specs.Metadata.{first_pair, pair_of};
 ghost use Rattle.mar_node.specs.Faults.{sync_kind, ticket_limit};
-ghost use Rattle.mar_node.specs.Moves.{StoresValue, at_height};
+ghost use Rattle.mar_node.specs.Moves.{CachesFinalization, PrunesCache, StoresValue, at_height};
 ghost use Rattle.mar_writes.specs.Pool.{writing_of};
 ghost use Rattle.mar_writes.specs.Writing.{IsLastWrite, is_open_sync, with_finished, with_started, with_write};
 ghost use Rattle.mar_cert.specs.Finalization.{finalization_bytes};
@@ -98,13 +99,14 @@ pub trait Holds<V: Variant> {
         ensures { Self.Ruins.left result ≡ remains_of (held self) };
 
     /// What is sure is held, what is held may be left, each block that is held or cached is small, and what isn't sure waits
-    /// for a sync. The call does nothing: it is a law.
+    /// for a sync; nothing is cached of an epoch below the lowest. The call does nothing: it is a law.
     fn law(&self)
         ensures blocks { (held self.now).intact ≡ true → IsNested (held self.now).blocks }
         ensures certs { (held self.now).intact ≡ true → IsNested (held self.now).certs }
         ensures small { (held self.now).intact ≡ true → AreSmall (map (λ x. x.value) (held self.now).blocks.held) }
         ensures small_cached { (held self.now).intact ≡ true → AreSmallEntries (held self.now).cache.kept.held }
-        ensures written { (held self.now).intact ≡ true → AreWritten (held self.now) };
+        ensures written { (held self.now).intact ≡ true → AreWritten (held self.now) }
+        ensures cached { (held self.now).intact ≡ true → AreCached (held self.now) };
 
     /// Makes the counted call of a store fail that is so many calls away, 1 being the next.
     fn arm(&mut self, store: StoreName, calls: u64) -> Result<(), AllocError>
@@ -195,6 +197,26 @@ pub trait Holds<V: Variant> {
         ensures by_luck { (held self.old).cache.fresh ≡ true → OnOk result (ArePicked (held self.old).cache.finds (held self.new).cache.kept.held) }
         ensures same { OnOk result (held self.new ≡ record (held self.old) { cache = (held self.new).cache; watches = (held self.new).watches }) }
         ensures goes_on { GoesOn (fault_of V.Commitment.bytes) (held self.old) nothing_written (held self.new) result }
+        ensures usual { IfErr result (λ e. IsUsual (fault_of V.Commitment.bytes e)) };
+
+    /// Keeps a finalization in the cache and makes it sure. Nothing is kept of an epoch below the lowest.
+    fn cache_finalization(
+        &mut self,
+        finalization: &Self::Finalization,
+    ) -> Result<(), Fault<V::Commitment>>
+        requires small { IsSmall (finalization_bytes (Self.Finalization.plain finalization.now)) }
+        ensures staged { staged self.new ≡ staged self.old }
+        ensures caches { OnOk result (CachesFinalization (Self.Finalization.plain finalization.now) (held self.old) (held self.new)) }
+        ensures goes_on { GoesOn (fault_of V.Commitment.bytes) (held self.old)
+            (written_entry (finalization_entry (Self.Finalization.plain finalization.now))) (held self.new) result }
+        ensures usual { IfErr result (λ e. IsUsual (fault_of V.Commitment.bytes e)) };
+
+    /// Prunes the cache below a round: older epochs are destroyed, and what stands in the round's own epoch below its view
+    /// goes. That epoch is then the lowest, unless a newer one was. Where it fails, some of that may be gone.
+    fn prune_cache(&mut self, round: Round) -> Result<(), Fault<V::Commitment>>
+        ensures staged { staged self.new ≡ staged self.old }
+        ensures prunes { OnOk result (PrunesCache round (held self.old) (held self.new)) }
+        ensures goes_on { GoesOn (fault_of V.Commitment.bytes) (held self.old) (written_prune round) (held self.new) result }
         ensures usual { IfErr result (λ e. IsUsual (fault_of V.Commitment.bytes e)) };
 
     /// The cached block of a digest or of a commitment: in the newest epoch that has one, there among the verified blocks,

@@ -31,7 +31,7 @@ pub fn run<
     FB: Blocks<StandardBlocks>,
     FC: Certificates<StandardBlocks, MockFinalization>,
     M: Meta,
-    H: LifeCache<StandardBlocks>,
+    H: LifeCache<StandardBlocks, MockFinalization>,
 >(
     _rt: &R,
     alloc: Global,

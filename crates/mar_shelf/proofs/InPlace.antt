@@ -38,6 +38,10 @@ pub second_of : (a b c : Bool) → (a && (b && c)) ≡ true → b ≡ true
 second_of true b c both = first_of b c both
 second_of false b c both = absurd cc
 
+pub third_of : (a b c d : Bool) → (a && (b && (c && d))) ≡ true → c ≡ true
+third_of true b c d all = second_of b c d all
+third_of false b c d all = absurd cc
+
 -- what is held is sure or waits for a sync
 pub written_in : {T S W : Type 0} (ticket_of : Pooled → ℕ) (stored : S → Kept (At T)) (number : S → ℕ) (covers : S → ℕ → List (At T)) (left : W → Left (At T)) (place : Place S W) (pool : Pool) → AwaitsIn ticket_of stored number covers place pool → is_open place ≡ true → SureOrWritten (kept_at stored left place) pool.uncovered
 written_in ticket_of stored number covers left (Open s) pool waits is = waits.written

@@ -83,6 +83,12 @@ pub cache_changed : {blocks : Kept (At Block)} {certs : Kept (At Finalization)} 
     ≡ life blocks of_blocks certs of_certs processed cutoff witnessed pairs waits lowest lowests writes meta w (here && (there && (near && rest)))
 cache_changed here there rest lowest lowests near = rw (lowest, lowests, near) refl
 
+-- it was pruned
+pub cache_pruned : {blocks : Kept (At Block)} {certs : Kept (At Finalization)} {of_blocks of_certs meta w : Watch} {processed : Option Processed} {cutoff : Cutoff} {witnessed : Round} {pairs : List Pair} {now : HeldCache} {lowest' : ℕ} {lowests' : List ℕ} {writes : Writing} {near near' : Bool} (here there rest : Bool) → near' ≡ near
+    → life blocks of_blocks certs of_certs processed cutoff witnessed pairs now lowest' lowests' writes meta w (here && (there && (near' && rest)))
+    ≡ life blocks of_blocks certs of_certs processed cutoff witnessed pairs now lowest' lowests' writes meta w (here && (there && (near && rest)))
+cache_pruned here there rest near = rw near refl
+
 -- the metadata is as it was to be
 pub progress_is : {blocks : Kept (At Block)} {certs : Kept (At Finalization)} {of_blocks of_certs cache : Watch} {waits : HeldCache} {lowest : ℕ} {lowests : List ℕ} {writes : Writing} {now wanted : Progress} (here there near : Bool) → now ≡ wanted
     → life blocks of_blocks certs of_certs now.processed now.cutoff now.witnessed now.pairs waits lowest lowests writes now.watch cache (here && (there && (near && now.intact)))

@@ -1,11 +1,14 @@
 -- What a life's cache keeps in its place, and what its calls come to.
-use Rattle.std.specs.Prelude.{Bool, Contains, List, None, Option, [], false, option_map, true, ℕ, ◌≡◌, ◌≤◌, ◌∷◌}
+use Rattle.std.specs.Prelude.{Bool, Contains, List, None, Option, [], false, max, option_map, true, ℕ, ◌++◌, ◌≡◌, ◌≤◌, ◌∷◌}
 use Rattle.std.proofs.Common.{arith, refl}
 use Rattle.mar_store.specs.Changes.{Left, Within, left_of}
 use Rattle.mar_store.specs.Kept.{Kept}
 use Rattle.mar_store.specs.Luck.{keeps_by}
 use Rattle.mar_store.specs.Watch.{Watch}
-use Rattle.mar_node.specs.CacheCalls.{IsNestedCache, LosesCache, ReopensCache}
+use Rattle.mar_types.specs.Round.{Round}
+use Rattle.mar_node.specs.AllEntries.{LeavesEntries, PrunesEntries}
+use Rattle.mar_node.specs.Cache.{is_below}
+use Rattle.mar_node.specs.CacheCalls.{IsNestedCache, LosesCache, PutsAndSyncs, ReopensCache, none_goes}
 use Rattle.mar_node.specs.Cached.{Cached, epoch_of}
 use Rattle.mar_node.specs.Faults.{Fault, cache_store}
 use Rattle.mar_node.specs.Held.{HeldCache, LeavesUnloaded, Passes}
@@ -81,6 +84,21 @@ module _ {S W : Type 0} (kept : S → Kept Cached) (lowest : S → ℕ) (loaded 
 pub record FailsCache (put : List Cached) (gone : Cached → Bool) (old : Kept Cached) (were : List ℕ) (before : Watch) (new : Kept Cached) (now : List ℕ) (after : Watch) (fault : Fault) : Type 0 where
   pub loses : LosesCache put gone old were (left_of new) now
   pub cause : IsFaultOf cache_store before fault after
+
+-- A finalization was put, or another entry whose archive is synced: it is there, and the rest of what a life sees is as it was.
+pub record PutsInLife (x : Cached) (old new : HeldCache) (lowest : ℕ) : Type 0 where
+  pub puts : PutsAndSyncs x lowest old.loaded old.kept new.kept
+  pub leaves : LeavesEntries (x ∷ []) none_goes old.kept new.kept.sure new.kept.may
+  pub loaded : new.loaded ≡ old.loaded
+
+-- What is cached below a round was pruned.
+pub record PrunesInLife (round : Round) (old new : HeldCache) (lowest now : ℕ) (were lowests : List ℕ) : Type 0 where
+  pub prunes : old.loaded ≡ true → PrunesEntries (is_below round) old.kept new.kept
+  pub leaves : LeavesEntries [] (is_below round) old.kept new.kept.sure new.kept.may
+  pub loaded : new.loaded ≡ old.loaded
+  pub lowest_is : now ≡ max lowest round.epoch
+  pub own_lowest : lowests ≡ now ∷ []
+  pub within : Within lowests (were ++ round.epoch ∷ [])
 
 -- OPENINGS
 

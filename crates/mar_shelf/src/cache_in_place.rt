@@ -14,7 +14,7 @@ ghost use Rattle.mar_shelf.specs.Caching.{held_at, small_at, lowest_at, lowests_
 use crate::LifeCache;
 use crate::in_place::{answered, lose};
 use mar_block::Variant;
-use mar_cert::CommitsTo;
+use mar_cert::{AsFinalization, CommitsTo};
 use mar_node::{BlockName, Fault, Place, Shelf, ShelfRuin, StoreName};
 use mar_store::Lost;
 use mar_types::Round;
@@ -41,7 +41,7 @@ impl<V: Variant, F: CommitsTo<V::Commitment>, H: Shelf<V, F>> CacheInPlace<V, F,
     }
 }
 
-impl<V: Variant, F: CommitsTo<V::Commitment>, H: Shelf<V, F>> LifeCache<V>
+impl<V: Variant, F: CommitsTo<V::Commitment>, H: Shelf<V, F>> LifeCache<V, F>
     for CacheInPlace<V, F, H> {
     type Ruin = H::Wreck;
 
@@ -95,6 +95,35 @@ impl<V: Variant, F: CommitsTo<V::Commitment>, H: Shelf<V, F>> LifeCache<V>
             return Err(Fault::Memory);
         };
         match cache.load_persisted_epochs() {
+            Ok(cache) => {
+                self.place = Place::Open(cache);
+                Ok(())
+            }
+            Err(lost) => Err(lose(&mut self.place, lost, StoreName::Cache)),
+        }
+    }
+
+    fn put_finalization(&mut self, finalization: &F) -> Result<(), Fault<V::Commitment>> {
+        let Ok(finalization) = finalization.try_clone() else {
+            return Err(Fault::Memory);
+        };
+        let Some(cache) = self.place.take() else {
+            return Err(Fault::Memory);
+        };
+        match cache.put_finalization(finalization) {
+            Ok(cache) => {
+                self.place = Place::Open(cache);
+                Ok(())
+            }
+            Err(lost) => Err(lose(&mut self.place, lost, StoreName::Cache)),
+        }
+    }
+
+    fn prune(&mut self, round: Round) -> Result<(), Fault<V::Commitment>> {
+        let Some(cache) = self.place.take() else {
+            return Err(Fault::Memory);
+        };
+        match cache.prune_by_view(round) {
             Ok(cache) => {
                 self.place = Place::Open(cache);
                 Ok(())

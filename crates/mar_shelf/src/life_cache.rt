@@ -1,22 +1,26 @@
 //! The cache of a life, as its stores see it.
-ghost use Rattle.std.specs.Prelude.{◌≡◌, ◌∷◌, ℕ, [], Bool, Contains, IfErr, IfOk, IfSome, List, OnErr, OnOk, Option, false, option_and_then, option_map, true};
+ghost use Rattle.std.specs.Prelude.{◌≡◌, ◌++◌, ◌∷◌, ℕ, [], Bool, Contains, IfErr, IfOk, IfSome, List, OnErr, OnOk, Option, false, option_and_then, option_map, true};
+ghost use Rattle.mar_cert.specs.Finalization.{finalization_bytes};
 ghost use Rattle.mar_store.specs.Changes.{left_of};
 ghost use Rattle.mar_store.specs.Luck.{keeps_by};
 ghost use Rattle.mar_store.specs.Lost.{wreck_of};
+ghost use Rattle.mar_store.specs.Sizes.{IsSmall};
 ghost use Rattle.mar_store.specs.Watch.{Heeds, Watch, armed};
 ghost use Rattle.mar_node.specs.AllEntries.{LeavesEntries, LoadsEntries, soonest};
 ghost use Rattle.mar_node.specs.CacheCalls.{IsNestedCache, ReopensCache, UnopensCache, none_goes};
-ghost use Rattle.mar_node.specs.Cached.{Cached, cached_block};
+ghost use Rattle.mar_node.specs.Cache.{is_below};
+ghost use Rattle.mar_node.specs.Cached.{Cached, cached_block, finalization_entry};
 ghost use Rattle.mar_node.specs.Entries.{is_sought, is_verified_at, sought_block};
 ghost use Rattle.mar_node.specs.Faults.{cache_store};
 ghost use Rattle.mar_node.specs.Held.{HeldCache, Passes};
 ghost use Rattle.mar_node.specs.LuckyEntries.{lucky_entries};
 ghost use Rattle.mar_node.specs.SmallEntries.{AreSmallEntries};
 ghost use Rattle.mar_node.specs.Views.{fault_of};
-ghost use Rattle.mar_shelf.specs.Caching.{FailsCache};
+ghost use Rattle.mar_shelf.specs.Caching.{FailsCache, PrunesInLife, PutsInLife};
 ghost use Rattle.mar_shelf.specs.Pooling.{IsFaultOf};
 
 use mar_block::Variant;
+use mar_cert::CommitsTo;
 use mar_node::{BlockName, Fault, ShelfRuin};
 use mar_store::Lost;
 use mar_types::Round;
@@ -24,7 +28,7 @@ use std::alloc::AllocError;
 
 /// The cache of a life, or what is left of it where a change of it failed: later calls leave that and answer want of memory.
 /// Each makes one counted call of the cache, but for `wreck` and `arm`. What a crash left is taken up by `load`.
-pub trait LifeCache<V: Variant>: Drop {
+pub trait LifeCache<V: Variant, F: CommitsTo<V::Commitment>>: Drop {
     /// What is left of it where no life runs.
     type Ruin: ShelfRuin;
 
@@ -84,6 +88,24 @@ pub trait LifeCache<V: Variant>: Drop {
         ensures left { OnErr result (intact self.new ≡ false) }
         ensures failed { IfErr result (λ e. FailsCache [] none_goes (held self.old).kept (lowests self.old) (watch self.old)
             (held self.new).kept (lowests self.new) (watch self.new) (fault_of V.Commitment.bytes e)) };
+
+    /// Keeps a finalization and makes it sure. Nothing is kept of an epoch below the lowest.
+    fn put_finalization(&mut self, finalization: &F) -> Result<(), Fault<V::Commitment>>
+        requires small { IsSmall (finalization_bytes (F.plain finalization.now)) }
+        ensures done { OnOk result (PutsInLife (finalization_entry (F.plain finalization.now)) (held self.old) (held self.new) (lowest self.old)) }
+        ensures stays { OnOk result ((lowest self.new ≡ lowest self.old) × (lowests self.new ≡ lowests self.old) × (intact self.new ≡ intact self.old)) }
+        ensures passed { OnOk result (Passes (watch self.old) (watch self.new)) }
+        ensures failed { IfErr result (λ e. FailsCache (finalization_entry (F.plain finalization.now) ∷ []) none_goes (held self.old).kept
+            (lowests self.old) (watch self.old) (held self.new).kept (lowests self.new) (watch self.new) (fault_of V.Commitment.bytes e)) };
+
+    /// Prunes what is below a round: older epochs, and in the round's own what stands there below its view.
+    fn prune(&mut self, round: Round) -> Result<(), Fault<V::Commitment>>
+        ensures done { OnOk result (PrunesInLife round (held self.old) (held self.new) (lowest self.old) (lowest self.new) (lowests self.old)
+            (lowests self.new)) }
+        ensures stays { OnOk result (intact self.new ≡ intact self.old) }
+        ensures passed { OnOk result (Passes (watch self.old) (watch self.new)) }
+        ensures failed { IfErr result (λ e. FailsCache [] (is_below round) (held self.old).kept (lowests self.old ++ round.epoch ∷ [])
+            (watch self.old) (held self.new).kept (lowests self.new) (watch self.new) (fault_of V.Commitment.bytes e)) };
 
     /// The block of a digest or of a commitment: in the newest epoch that has one, there among the verified blocks, then
     /// the notarized and the certified ones, at the lowest view or height.

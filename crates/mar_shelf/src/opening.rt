@@ -61,7 +61,7 @@ pub fn archives<T, S: Keeps<T>, U, R: Keeps<U>, C: Named>(
 }
 
 /// Opens what a crash left of the metadata, and then of the cache.
-pub fn progress<V: Variant, F: CommitsTo<V::Commitment>, M: Meta, H: LifeCache<V>>(
+pub fn progress<V: Variant, F: CommitsTo<V::Commitment>, M: Meta, H: LifeCache<V, F>>(
     meta: M::Wreck,
     cache: H::Ruin,
     luck: u64,

@@ -15,7 +15,7 @@ pub struct Ruins<
     FB: Blocks<V>,
     FC: Certificates<V, F>,
     M: Meta,
-    H: LifeCache<V>,
+    H: LifeCache<V, F>,
 > {
     /// What is left of the finalized blocks.
     pub blocks: FB::Wreck,
@@ -33,7 +33,7 @@ impl<
     FB: Blocks<V>,
     FC: Certificates<V, F>,
     M: Meta,
-    H: LifeCache<V>,
+    H: LifeCache<V, F>,
 > Model for Ruins<V, F, FB, FC, M, H> {
     ghost use Rattle.std.specs.Prelude.{map};
     ghost use Rattle.mar_node.specs.Metadata.{pair_at};
@@ -54,7 +54,7 @@ impl<
     FB: Blocks<V>,
     FC: Certificates<V, F>,
     M: Meta,
-    H: LifeCache<V>,
+    H: LifeCache<V, F>,
 > StoresRuin for Ruins<V, F, FB, FC, M, H> {
     ghost left = { λ r. r };
 

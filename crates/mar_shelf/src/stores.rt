@@ -31,7 +31,7 @@ pub struct Stores<
     FB: Blocks<V>,
     FC: Certificates<V, F>,
     M: Meta,
-    H: LifeCache<V>,
+    H: LifeCache<V, F>,
 > {
     blocks: Place<FB, FB::Wreck>,
     certs: Place<FC, FC::Wreck>,
@@ -48,7 +48,7 @@ impl<
     FB: Blocks<V>,
     FC: Certificates<V, F>,
     M: Meta,
-    H: LifeCache<V>,
+    H: LifeCache<V, F>,
 > Model for Stores<V, F, FB, FC, M, H> {
     ghost use Rattle.mar_node.specs.Pool.{writing_of};
     ghost use Rattle.mar_node.specs.Places.{is_open, kept_at, watch_at};
@@ -92,7 +92,7 @@ impl<
     FB: Blocks<V>,
     FC: Certificates<V, F>,
     M: Meta,
-    H: LifeCache<V>,
+    H: LifeCache<V, F>,
 > Holds<V> for Stores<V, F, FB, FC, M, H> {
     type Ruins = Ruins<V, F, FB, FC, M, H>;
 
@@ -254,6 +254,14 @@ impl<
 
     fn load_cache(&mut self) -> Result<(), Fault<V::Commitment>> {
         self.cache.load()
+    }
+
+    fn cache_finalization(&mut self, finalization: &F) -> Result<(), Fault<V::Commitment>> {
+        self.cache.put_finalization(finalization)
+    }
+
+    fn prune_cache(&mut self, round: Round) -> Result<(), Fault<V::Commitment>> {
+        self.cache.prune(round)
     }
 
     fn cached_block(

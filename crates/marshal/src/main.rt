@@ -97,7 +97,7 @@ fn run_over_shelf<H: Shelf<StandardBlocks, MockFinalization>>(
 }
 
 /// The same over any cache of a life that is new.
-fn run_over_cache<H: LifeCache<StandardBlocks>>(
+fn run_over_cache<H: LifeCache<StandardBlocks, MockFinalization>>(
     rt: &(impl AllocGlobal + Input + Print),
     words: &[String],
     cache: H,
@@ -119,7 +119,7 @@ fn run_over<
     FB: Blocks<StandardBlocks>,
     FC: Certificates<StandardBlocks, MockFinalization>,
     M: Meta,
-    H: LifeCache<StandardBlocks>,
+    H: LifeCache<StandardBlocks, MockFinalization>,
 >(
     rt: &(impl AllocGlobal + Input + Print),
     words: &[String],
@@ -168,7 +168,7 @@ fn empty_stores<
     FB: Blocks<StandardBlocks>,
     FC: Certificates<StandardBlocks, MockFinalization>,
     M: Meta,
-    H: LifeCache<StandardBlocks>,
+    H: LifeCache<StandardBlocks, MockFinalization>,
 >(blocks: FB, certs: FC, meta: M, cache: H) -> ScriptRuins<FB, FC, M, H>
     requires blocks { FB.stored blocks ≡ reopened_store [] }
     requires certs { FC.stored certs ≡ reopened_store [] }

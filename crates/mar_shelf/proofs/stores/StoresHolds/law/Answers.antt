@@ -4,7 +4,7 @@ use Rattle.mar_node.specs.Stored.{AreSmall}
 use Rattle.mar_node.proofs.FoundBlocks.{are_small}
 use Rattle.mar_node.proofs.SmallFound.{small_held}
 use Rattle.mar_shelf.specs.Pooling.{of_blocks, of_certs}
-use Rattle.mar_shelf.proofs.InPlace.{first_of, kept_open, second_of, written_in}
+use Rattle.mar_shelf.proofs.InPlace.{first_of, kept_open, second_of, third_of, written_in}
 use Rattle.mar_shelf.proofs.stores.StoresHolds.law.Goals as goal
 
 pub returns-clause-blocks : goal.returns-clause-blocks
@@ -25,3 +25,6 @@ returns-clause-written g c = rw (← c.self.view_is) (λ intact. record {
 
 pub returns-clause-small_cached : goal.returns-clause-small_cached
 returns-clause-small_cached g c = rw (← c.self.view_is) (λ intact. small_held _ _ _ (g.met.H.LifeCache.nested c.self.inside.cache) (g.met.H.LifeCache.small c.self.inside.cache))
+
+pub returns-clause-cached : goal.returns-clause-cached
+returns-clause-cached g c = rw (← c.self.view_is) (λ intact. record { nested = g.met.H.LifeCache.nested c.self.inside.cache; own_lowest = g.met.H.LifeCache.lowest_there c.self.inside.cache (third_of _ _ _ _ intact) })

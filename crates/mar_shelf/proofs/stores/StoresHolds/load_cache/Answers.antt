@@ -1,9 +1,10 @@
-use Rattle.std.proofs.Common.{refl}
+use Rattle.std.proofs.Common.{Contains, refl, subst}
 use Rattle.mar_node.specs.Faults.{cache_store}
+use Rattle.mar_node.specs.Held.{nothing_written}
 use Rattle.mar_node.specs.Places.{is_open}
 use Rattle.mar_node.specs.Views.{fault_of}
-use Rattle.mar_shelf.proofs.Changed.{load_goes_on}
-use Rattle.mar_shelf.proofs.Placed.{done_so, failed_so, usual_fault}
+use Rattle.mar_shelf.proofs.Changed.{cache_goes_on, takes_up}
+use Rattle.mar_shelf.proofs.Placed.{both_done, done_so, failed_so, usual_fault}
 use Rattle.mar_shelf.proofs.Reading.{cache_changed}
 use Rattle.mar_shelf.proofs.stores.StoresHolds.load_cache.Goals as goal
 
@@ -23,7 +24,7 @@ pub returns-clause-same : goal.returns-clause-same
 returns-clause-same g c = rw (← c.self.view_is) (done_so c.load.result c.load.ensures.stays (λ is. cache_changed (is_open c.self.inside.blocks) (is_open c.self.inside.certs) c.self.inside.progress.intact is.0 is.1 is.3))
 
 pub returns-clause-goes_on : goal.returns-clause-goes_on
-returns-clause-goes_on g c = rw (← c.self.view_is) (load_goes_on (fault_of g.V.Commitment.Named.bytes) c.load.result _ _ _ _ _ _ _ _ c.load.ensures.leaves (done_so c.load.result c.load.ensures.stays (λ is. is.1)) c.load.ensures.passed c.load.ensures.failed)
+returns-clause-goes_on g c = rw (← c.self.view_is) (cache_goes_on (fault_of g.V.Commitment.Named.bytes) nothing_written c.load.result _ _ _ _ _ _ _ _ (done_so c.load.result (both_done _ _ c.load.result c.load.ensures.leaves c.load.ensures.stays) (λ is. takes_up _ _ _ _ is.0 (λ k has. subst (λ ks. Contains ks k) is.1.1 has))) c.load.ensures.passed (failed_so c.load.result c.load.ensures.failed (λ e how. (takes_up _ _ _ _ how.loses.leaves how.loses.lowests, how.cause))))
 
 pub returns-clause-usual : goal.returns-clause-usual
 returns-clause-usual g c = failed_so c.load.result c.load.ensures.failed (λ e how. usual_fault cache_store _ _ _ how.cause)
