@@ -28,6 +28,7 @@ ghost use Rattle.mar_node.specs.Views.{fault_of, store_name_of};
 
 use crate::entry::BlockName;
 use crate::fault::{Fault, StoreName};
+use crate::holds_cache::HoldsCache;
 use crate::floor::State;
 use crate::shown::ShownRuins;
 use mar_cert::{CommitsTo, Variant};
@@ -64,18 +65,12 @@ pub trait StoresRuin {
 /// store failed, later calls of it leave what is left of it and answer want of memory. Each makes one call of a store;
 /// `set_cutoff`, `start_sync`, `finish_sync` and the calls that make a value durable at once make two, and `reopen` one of
 /// each.
-pub trait Holds<V: Variant> {
+pub trait Holds<V: Variant>: HoldsCache<V> {
     /// What is left where no life runs.
     type Ruins: StoresRuin;
 
     /// A finalization as it is stored.
     type Finalization: CommitsTo<V::Commitment>;
-
-    /// What they hold and may leave, and what each tells of its failures.
-    ghost held: { Self → Held };
-
-    /// The blocks that are staged until they are handed over.
-    ghost staged: { Self → Staged V.Block };
 
     /// Opens what a crash left, in the order blocks, certificates, metadata, cache. At most `max_staged` blocks are kept at
     /// hand until they are handed over.
@@ -87,8 +82,8 @@ pub trait Holds<V: Variant> {
     ) -> Result<Self, Ended<V, Self>>
     where
         Self: Sized,
-        ensures ok { IfOk result (λ s. ReopensAs (Self.Ruins.left ruins) luck (held s)) }
-        ensures staged { IfOk result (λ s. staged s ≡ record { blocks = []; min = 0; max = max_staged }) }
+        ensures ok { IfOk result (λ s. ReopensAs (Self.Ruins.left ruins) luck (Self.held s)) }
+        ensures staged { IfOk result (λ s. Self.staged s ≡ record { blocks = []; min = 0; max = max_staged }) }
         ensures lost { IfErr result (LosesOpening (Self.Ruins.left ruins) nothing_written) }
         ensures usual { IfErr result (λ e. IsUsual e.fault) };
 
@@ -96,107 +91,98 @@ pub trait Holds<V: Variant> {
     fn wreck(self) -> Self::Ruins
     where
         Self: Sized,
-        ensures { Self.Ruins.left result ≡ remains_of (held self) };
+        ensures { Self.Ruins.left result ≡ remains_of (Self.held self) };
 
     /// What is sure is held, what is held may be left, each block that is held or cached is small, and what isn't sure waits
     /// for a sync; nothing is cached of an epoch below the lowest. The call does nothing: it is a law.
     fn law(&self)
-        ensures blocks { (held self.now).intact ≡ true → IsNested (held self.now).blocks }
-        ensures certs { (held self.now).intact ≡ true → IsNested (held self.now).certs }
-        ensures small { (held self.now).intact ≡ true → AreSmall (map (λ x. x.value) (held self.now).blocks.held) }
-        ensures small_cached { (held self.now).intact ≡ true → AreSmallEntries (held self.now).cache.kept.held }
-        ensures written { (held self.now).intact ≡ true → AreWritten (held self.now) }
-        ensures cached { (held self.now).intact ≡ true → AreCached (held self.now) };
+        ensures blocks { (Self.held self.now).intact ≡ true → IsNested (Self.held self.now).blocks }
+        ensures certs { (Self.held self.now).intact ≡ true → IsNested (Self.held self.now).certs }
+        ensures small { (Self.held self.now).intact ≡ true → AreSmall (map (λ x. x.value) (Self.held self.now).blocks.held) }
+        ensures small_cached { (Self.held self.now).intact ≡ true → AreSmallEntries (Self.held self.now).cache.kept.held }
+        ensures written { (Self.held self.now).intact ≡ true → AreWritten (Self.held self.now) }
+        ensures cached { (Self.held self.now).intact ≡ true → AreCached (Self.held self.now) };
 
     /// Makes the counted call of a store fail that is so many calls away, 1 being the next.
     fn arm(&mut self, store: StoreName, calls: u64) -> Result<(), AllocError>
-        ensures staged { staged self.new ≡ staged self.old }
-        ensures armed { OnOk result (held self.new
-            ≡ record (held self.old) { watches = with_armed (store_name_of store) calls (held self.old).watches }) }
-        ensures unarmed { OnErr result (held self.new ≡ held self.old) };
+        ensures staged { Self.staged self.new ≡ Self.staged self.old }
+        ensures armed { OnOk result (Self.held self.new
+            ≡ record (Self.held self.old) { watches = with_armed (store_name_of store) calls (Self.held self.old).watches }) }
+        ensures unarmed { OnErr result (Self.held self.new ≡ Self.held self.old) };
 
     /// The processed height, the cutoff and the newest witnessed round.
     fn floor(&self) -> &State<V::Commitment, Self::Finalization>
-        ensures processed { result.now.processed ≡ (held self.now).processed }
-        ensures cutoff { result.now.cutoff ≡ (held self.now).cutoff }
-        ensures witnessed { result.now.witnessed ≡ (held self.now).witnessed };
+        ensures processed { result.now.processed ≡ (Self.held self.now).processed }
+        ensures cutoff { result.now.cutoff ≡ (Self.held self.now).cutoff }
+        ensures witnessed { result.now.witnessed ≡ (Self.held self.now).witnessed };
 
     /// Takes note of a round: the last one witnessed is the later of it and the one before.
     fn witness(&mut self, round: Round)
-        ensures staged { staged self.new ≡ staged self.old }
-        ensures held { held self.new ≡ record (held self.old) { witnessed = later_round (held self.old).witnessed (Some round) } };
+        ensures staged { Self.staged self.new ≡ Self.staged self.old }
+        ensures held { Self.held self.new ≡ record (Self.held self.old) { witnessed = later_round (Self.held self.old).witnessed (Some round) } };
 
     /// The processed height, whose block isn't there.
     fn without_block(&mut self, height: Height)
-        requires { (held self.old).processed ≡ Some (at_block height) }
-        ensures staged { staged self.new ≡ staged self.old }
-        ensures held { held self.new ≡ record (held self.old) { processed = Some (at_absent height) } };
+        requires { (Self.held self.old).processed ≡ Some (at_block height) }
+        ensures staged { Self.staged self.new ≡ Self.staged self.old }
+        ensures held { Self.held self.new ≡ record (Self.held self.old) { processed = Some (at_absent height) } };
 
     /// The greatest height of a held block.
     fn last_block(&self) -> Option<Height>
-        ensures { result ≡ last_index (held self.now).blocks.held };
+        ensures { result ≡ last_index (Self.held self.now).blocks.held };
 
     /// The greatest height of a held finalization.
     fn last_certificate(&self) -> Option<Height>
-        ensures { result ≡ last_index (held self.now).certs.held };
+        ensures { result ≡ last_index (Self.held self.now).certs.held };
 
     /// The heights of the held blocks.
     fn blocks_held(&self) -> &RangeSet
-        ensures { (held self.now).intact ≡ true → result.now ≡ ranges (heights (held self.now).blocks.held) };
+        ensures { (Self.held self.now).intact ≡ true → result.now ≡ ranges (heights (Self.held self.now).blocks.held) };
 
     /// The heights of the blocks that every crash leaves.
     fn blocks_sure(&self) -> &RangeSet
-        ensures { (held self.now).intact ≡ true → result.now ≡ ranges (heights (held self.now).blocks.sure) };
+        ensures { (Self.held self.now).intact ≡ true → result.now ≡ ranges (heights (Self.held self.now).blocks.sure) };
 
     /// The heights of the held finalizations.
     fn certificates_held(&self) -> &RangeSet
-        ensures { (held self.now).intact ≡ true → result.now ≡ ranges (heights (held self.now).certs.held) };
+        ensures { (Self.held self.now).intact ≡ true → result.now ≡ ranges (heights (Self.held self.now).certs.held) };
 
     /// The heights of the finalizations that every crash leaves.
     fn certificates_sure(&self) -> &RangeSet
-        ensures { (held self.now).intact ≡ true → result.now ≡ ranges (heights (held self.now).certs.sure) };
+        ensures { (Self.held self.now).intact ≡ true → result.now ≡ ranges (heights (Self.held self.now).certs.sure) };
 
     /// The writes that wait for a sync, and the syncs that are open.
     fn writes(&self) -> &Writes
-        ensures { writing_of result.now ≡ (held self.now).writes };
+        ensures { writing_of result.now ≡ (Self.held self.now).writes };
 
     /// The block to hand over at a height: one that is staged, which is then no longer, or the one that is held. Blocks
     /// staged at or below that height are dropped.
     fn take_block(&mut self, height: Height) -> Result<Option<V::Block>, Fault<V::Commitment>>
-        ensures dropped { OnOk result (staged self.new ≡ without_height height (kept_from height (staged self.old))) }
-        ensures found { IfOk result (λ r. option_map V.plain r ≡ value_at (held self.old).blocks.held height) }
+        ensures dropped { OnOk result (Self.staged self.new ≡ without_height height (kept_from height (Self.staged self.old))) }
+        ensures found { IfOk result (λ r. option_map V.plain r ≡ value_at (Self.held self.old).blocks.held height) }
         ensures own { IfOk result (λ r. IfSome r (λ b. (V.plain b).height ≡ height)) }
-        ensures same { OnOk result (held self.new ≡ record (held self.old) { watches = (held self.new).watches }) }
-        ensures goes_on { GoesOn (fault_of V.Commitment.bytes) (held self.old) nothing_written (held self.new) result }
+        ensures same { OnOk result (Self.held self.new ≡ record (Self.held self.old) { watches = (Self.held self.new).watches }) }
+        ensures goes_on { GoesOn (fault_of V.Commitment.bytes) (Self.held self.old) nothing_written (Self.held self.new) result }
         ensures archive { IfErr result (λ e. IsArchiveFault (fault_of V.Commitment.bytes e)) }
         ensures usual { IfErr result (λ e. IsUsual (fault_of V.Commitment.bytes e)) };
 
     /// The block that is held at a height.
     fn block_at(&mut self, height: Height) -> Result<Option<V::Block>, Fault<V::Commitment>>
-        ensures staged { staged self.new ≡ staged self.old }
-        ensures found { IfOk result (λ r. option_map V.plain r ≡ value_at (held self.old).blocks.held height) }
+        ensures staged { Self.staged self.new ≡ Self.staged self.old }
+        ensures found { IfOk result (λ r. option_map V.plain r ≡ value_at (Self.held self.old).blocks.held height) }
         ensures own { IfOk result (λ r. IfSome r (λ b. (V.plain b).height ≡ height)) }
-        ensures same { OnOk result (held self.new ≡ record (held self.old) { watches = (held self.new).watches }) }
-        ensures goes_on { GoesOn (fault_of V.Commitment.bytes) (held self.old) nothing_written (held self.new) result }
+        ensures same { OnOk result (Self.held self.new ≡ record (Self.held self.old) { watches = (Self.held self.new).watches }) }
+        ensures goes_on { GoesOn (fault_of V.Commitment.bytes) (Self.held self.old) nothing_written (Self.held self.new) result }
         ensures archive { IfErr result (λ e. IsArchiveFault (fault_of V.Commitment.bytes e)) }
         ensures usual { IfErr result (λ e. IsUsual (fault_of V.Commitment.bytes e)) };
 
     /// A held block of this digest.
     fn block_of(&mut self, digest: &V::Digest) -> Result<Option<V::Block>, Fault<V::Commitment>>
-        ensures staged { staged self.new ≡ staged self.old }
-        ensures found { IfOk result (λ r. option_map V.plain r ≡ block_of (held self.old).blocks.held (V.Digest.bytes digest.now)) }
-        ensures same { OnOk result (held self.new ≡ record (held self.old) { watches = (held self.new).watches }) }
-        ensures goes_on { GoesOn (fault_of V.Commitment.bytes) (held self.old) nothing_written (held self.new) result }
+        ensures staged { Self.staged self.new ≡ Self.staged self.old }
+        ensures found { IfOk result (λ r. option_map V.plain r ≡ block_of (Self.held self.old).blocks.held (V.Digest.bytes digest.now)) }
+        ensures same { OnOk result (Self.held self.new ≡ record (Self.held self.old) { watches = (Self.held self.new).watches }) }
+        ensures goes_on { GoesOn (fault_of V.Commitment.bytes) (Self.held self.old) nothing_written (Self.held self.new) result }
         ensures archive { IfErr result (λ e. IsArchiveFault (fault_of V.Commitment.bytes e)) }
-        ensures usual { IfErr result (λ e. IsUsual (fault_of V.Commitment.bytes e)) };
-
-    /// Takes up what a crash left of the cache. Before that nothing of it is found.
-    fn load_cache(&mut self) -> Result<(), Fault<V::Commitment>>
-        ensures staged { staged self.new ≡ staged self.old }
-        ensures loads { (held self.old).cache.fresh ≡ true → OnOk result (LoadsEntries (held self.old).cache.kept (held self.new).cache.kept) }
-        ensures by_luck { (held self.old).cache.fresh ≡ true → OnOk result (ArePicked (held self.old).cache.finds (held self.new).cache.kept.held) }
-        ensures same { OnOk result (held self.new ≡ record (held self.old) { cache = (held self.new).cache; watches = (held self.new).watches }) }
-        ensures goes_on { GoesOn (fault_of V.Commitment.bytes) (held self.old) nothing_written (held self.new) result }
         ensures usual { IfErr result (λ e. IsUsual (fault_of V.Commitment.bytes e)) };
 
     /// Keeps a finalization in the cache and makes it sure. Nothing is kept of an epoch below the lowest.
@@ -205,39 +191,10 @@ pub trait Holds<V: Variant> {
         finalization: &Self::Finalization,
     ) -> Result<(), Fault<V::Commitment>>
         requires small { IsSmall (finalization_bytes (Self.Finalization.plain finalization.now)) }
-        ensures staged { staged self.new ≡ staged self.old }
-        ensures caches { OnOk result (CachesFinalization (Self.Finalization.plain finalization.now) (held self.old) (held self.new)) }
-        ensures goes_on { GoesOn (fault_of V.Commitment.bytes) (held self.old)
-            (written_entry (finalization_entry (Self.Finalization.plain finalization.now))) (held self.new) result }
-        ensures usual { IfErr result (λ e. IsUsual (fault_of V.Commitment.bytes e)) };
-
-    /// Prunes the cache below a round: older epochs are destroyed, and what stands in the round's own epoch below its view
-    /// goes. That epoch is then the lowest, unless a newer one was. Where it fails, some of that may be gone.
-    fn prune_cache(&mut self, round: Round) -> Result<(), Fault<V::Commitment>>
-        ensures staged { staged self.new ≡ staged self.old }
-        ensures prunes { OnOk result (PrunesCache round (held self.old) (held self.new)) }
-        ensures goes_on { GoesOn (fault_of V.Commitment.bytes) (held self.old) (written_prune round) (held self.new) result }
-        ensures usual { IfErr result (λ e. IsUsual (fault_of V.Commitment.bytes e)) };
-
-    /// The cached block of a digest or of a commitment: in the newest epoch that has one, there among the verified blocks,
-    /// then the notarized and the certified ones, at the lowest view or height.
-    fn cached_block(
-        &mut self,
-        name: BlockName<V::Digest, V::Commitment>,
-    ) -> Result<Option<V::Block>, Fault<V::Commitment>>
-        ensures staged { staged self.new ≡ staged self.old }
-        ensures found { IfOk result (λ r. option_map V.plain r ≡ option_and_then cached_block (soonest (is_sought V.Digest.bytes V.Commitment.bytes V.inner
-            (sought_block name)) (held self.old).cache.kept.held)) }
-        ensures same { OnOk result (held self.new ≡ record (held self.old) { watches = (held self.new).watches }) }
-        ensures goes_on { GoesOn (fault_of V.Commitment.bytes) (held self.old) nothing_written (held self.new) result }
-        ensures usual { IfErr result (λ e. IsUsual (fault_of V.Commitment.bytes e)) };
-
-    /// The cached block that was verified in a round, of several the one put first.
-    fn cached_verified(&mut self, round: Round) -> Result<Option<V::Block>, Fault<V::Commitment>>
-        ensures staged { staged self.new ≡ staged self.old }
-        ensures found { IfOk result (λ r. option_map V.plain r ≡ cached_at round (held self.old).cache.kept.held) }
-        ensures same { OnOk result (held self.new ≡ record (held self.old) { watches = (held self.new).watches }) }
-        ensures goes_on { GoesOn (fault_of V.Commitment.bytes) (held self.old) nothing_written (held self.new) result }
+        ensures staged { Self.staged self.new ≡ Self.staged self.old }
+        ensures caches { OnOk result (CachesFinalization (Self.Finalization.plain finalization.now) (Self.held self.old) (Self.held self.new)) }
+        ensures goes_on { GoesOn (fault_of V.Commitment.bytes) (Self.held self.old)
+            (written_entry (finalization_entry (Self.Finalization.plain finalization.now))) (Self.held self.new) result }
         ensures usual { IfErr result (λ e. IsUsual (fault_of V.Commitment.bytes e)) };
 
     /// The finalization that is held at a height.
@@ -245,19 +202,19 @@ pub trait Holds<V: Variant> {
         &mut self,
         height: Height,
     ) -> Result<Option<Self::Finalization>, Fault<V::Commitment>>
-        ensures staged { staged self.new ≡ staged self.old }
-        ensures found { IfOk result (λ r. option_map Self.Finalization.plain r ≡ value_at (held self.old).certs.held height) }
-        ensures same { OnOk result (held self.new ≡ record (held self.old) { watches = (held self.new).watches }) }
-        ensures goes_on { GoesOn (fault_of V.Commitment.bytes) (held self.old) nothing_written (held self.new) result }
+        ensures staged { Self.staged self.new ≡ Self.staged self.old }
+        ensures found { IfOk result (λ r. option_map Self.Finalization.plain r ≡ value_at (Self.held self.old).certs.held height) }
+        ensures same { OnOk result (Self.held self.new ≡ record (Self.held self.old) { watches = (Self.held self.new).watches }) }
+        ensures goes_on { GoesOn (fault_of V.Commitment.bytes) (Self.held self.old) nothing_written (Self.held self.new) result }
         ensures archive { IfErr result (λ e. IsArchiveFault (fault_of V.Commitment.bytes e)) }
         ensures usual { IfErr result (λ e. IsUsual (fault_of V.Commitment.bytes e)) };
 
     /// Whether a finalization is held at a height.
     fn has_certificate(&mut self, height: Height) -> Result<bool, Fault<V::Commitment>>
-        ensures staged { staged self.new ≡ staged self.old }
-        ensures found { IfOk result (λ r. r ≡ has_height (held self.old).certs.held height) }
-        ensures same { OnOk result (held self.new ≡ record (held self.old) { watches = (held self.new).watches }) }
-        ensures goes_on { GoesOn (fault_of V.Commitment.bytes) (held self.old) nothing_written (held self.new) result }
+        ensures staged { Self.staged self.new ≡ Self.staged self.old }
+        ensures found { IfOk result (λ r. r ≡ has_height (Self.held self.old).certs.held height) }
+        ensures same { OnOk result (Self.held self.new ≡ record (Self.held self.old) { watches = (Self.held self.new).watches }) }
+        ensures goes_on { GoesOn (fault_of V.Commitment.bytes) (Self.held self.old) nothing_written (Self.held self.new) result }
         ensures archive { IfErr result (λ e. IsArchiveFault (fault_of V.Commitment.bytes e)) }
         ensures usual { IfErr result (λ e. IsUsual (fault_of V.Commitment.bytes e)) };
 
@@ -265,16 +222,16 @@ pub trait Holds<V: Variant> {
     /// block is staged where its height was free and it was taken in.
     fn put_block(&mut self, block: V::Block) -> Result<(), Fault<V::Commitment>>
         requires small { IsSmall (V.plain block).encoded }
-        ensures staged { OnOk result (staged self.new ≡ staged_where (is_taken_in (V.plain block).height (held self.old).blocks (held self.new).blocks)
-            (V.plain block).height block (staged self.old)) }
-        ensures ok { OnOk result (Puts (is_held (held self.old).blocks.held (V.plain block)) (held self.old).blocks (at_own_height (V.plain block))
-            (held self.new).blocks) }
-        ensures same { OnOk result (held self.new ≡ record (held self.old) {
-          blocks = (held self.new).blocks;
-          writes = with_write (V.plain block).height (held self.old).writes;
-          watches = (held self.new).watches;
+        ensures staged { OnOk result (Self.staged self.new ≡ staged_where (is_taken_in (V.plain block).height (Self.held self.old).blocks (Self.held self.new).blocks)
+            (V.plain block).height block (Self.staged self.old)) }
+        ensures ok { OnOk result (Puts (is_held (Self.held self.old).blocks.held (V.plain block)) (Self.held self.old).blocks (at_own_height (V.plain block))
+            (Self.held self.new).blocks) }
+        ensures same { OnOk result (Self.held self.new ≡ record (Self.held self.old) {
+          blocks = (Self.held self.new).blocks;
+          writes = with_write (V.plain block).height (Self.held self.old).writes;
+          watches = (Self.held self.new).watches;
         }) }
-        ensures goes_on { GoesOn (fault_of V.Commitment.bytes) (held self.old) (written_block (at_own_height (V.plain block))) (held self.new) result }
+        ensures goes_on { GoesOn (fault_of V.Commitment.bytes) (Self.held self.old) (written_block (at_own_height (V.plain block))) (Self.held self.new) result }
         ensures usual { IfErr result (λ e. IsUsual (fault_of V.Commitment.bytes e)) };
 
     /// Stores the finalization of the block that was put last, with which it waits for a sync.
@@ -284,24 +241,24 @@ pub trait Holds<V: Variant> {
         finalization: &Self::Finalization,
     ) -> Result<(), Fault<V::Commitment>>
         requires small { IsSmall (finalization_bytes (Self.Finalization.plain finalization.now)) }
-        requires waits { IsLastWrite height (held self.old).writes }
-        ensures staged { staged self.new ≡ staged self.old }
-        ensures ok { OnOk result (Puts (is_certified V.inner (held self.old).certs.held height (V.inner (Self.Finalization.plain finalization.now).payload))
-            (held self.old).certs (at_height height (Self.Finalization.plain finalization.now)) (held self.new).certs) }
-        ensures same { OnOk result (held self.new ≡ record (held self.old) { certs = (held self.new).certs; watches = (held self.new).watches }) }
-        ensures goes_on { GoesOn (fault_of V.Commitment.bytes) (held self.old)
-            (written_cert (at_height height (Self.Finalization.plain finalization.now))) (held self.new) result }
+        requires waits { IsLastWrite height (Self.held self.old).writes }
+        ensures staged { Self.staged self.new ≡ Self.staged self.old }
+        ensures ok { OnOk result (Puts (is_certified V.inner (Self.held self.old).certs.held height (V.inner (Self.Finalization.plain finalization.now).payload))
+            (Self.held self.old).certs (at_height height (Self.Finalization.plain finalization.now)) (Self.held self.new).certs) }
+        ensures same { OnOk result (Self.held self.new ≡ record (Self.held self.old) { certs = (Self.held self.new).certs; watches = (Self.held self.new).watches }) }
+        ensures goes_on { GoesOn (fault_of V.Commitment.bytes) (Self.held self.old)
+            (written_cert (at_height height (Self.Finalization.plain finalization.now))) (Self.held self.new) result }
         ensures archive { IfErr result (λ e. IsArchiveFault (fault_of V.Commitment.bytes e)) }
         ensures usual { IfErr result (λ e. IsUsual (fault_of V.Commitment.bytes e)) };
 
     /// Stores a block and makes it durable at once.
     fn store_block(&mut self, block: &V::Block) -> Result<(), Fault<V::Commitment>>
         requires small { IsSmall (V.plain block.now).encoded }
-        ensures staged { staged self.new ≡ staged self.old }
-        ensures ok { OnOk result (StoresValue (is_held (held self.old).blocks.held (V.plain block.now)) (held self.old).blocks
-            (at_own_height (V.plain block.now)) (held self.new).blocks) }
-        ensures same { OnOk result (held self.new ≡ record (held self.old) { blocks = (held self.new).blocks; watches = (held self.new).watches }) }
-        ensures goes_on { GoesOn (fault_of V.Commitment.bytes) (held self.old) (written_block (at_own_height (V.plain block.now))) (held self.new) result }
+        ensures staged { Self.staged self.new ≡ Self.staged self.old }
+        ensures ok { OnOk result (StoresValue (is_held (Self.held self.old).blocks.held (V.plain block.now)) (Self.held self.old).blocks
+            (at_own_height (V.plain block.now)) (Self.held self.new).blocks) }
+        ensures same { OnOk result (Self.held self.new ≡ record (Self.held self.old) { blocks = (Self.held self.new).blocks; watches = (Self.held self.new).watches }) }
+        ensures goes_on { GoesOn (fault_of V.Commitment.bytes) (Self.held self.old) (written_block (at_own_height (V.plain block.now))) (Self.held self.new) result }
         ensures usual { IfErr result (λ e. IsUsual (fault_of V.Commitment.bytes e)) };
 
     /// Stores a finalization at a height and makes it durable at once; the writes that wait for a sync go on waiting.
@@ -311,70 +268,70 @@ pub trait Holds<V: Variant> {
         finalization: &Self::Finalization,
     ) -> Result<(), Fault<V::Commitment>>
         requires small { IsSmall (finalization_bytes (Self.Finalization.plain finalization.now)) }
-        ensures staged { staged self.new ≡ staged self.old }
-        ensures ok { OnOk result (StoresValue (is_certified V.inner (held self.old).certs.held height
-            (V.inner (Self.Finalization.plain finalization.now).payload)) (held self.old).certs
-            (at_height height (Self.Finalization.plain finalization.now)) (held self.new).certs) }
-        ensures same { OnOk result (held self.new ≡ record (held self.old) { certs = (held self.new).certs; watches = (held self.new).watches }) }
-        ensures goes_on { GoesOn (fault_of V.Commitment.bytes) (held self.old)
-            (written_cert (at_height height (Self.Finalization.plain finalization.now))) (held self.new) result }
+        ensures staged { Self.staged self.new ≡ Self.staged self.old }
+        ensures ok { OnOk result (StoresValue (is_certified V.inner (Self.held self.old).certs.held height
+            (V.inner (Self.Finalization.plain finalization.now).payload)) (Self.held self.old).certs
+            (at_height height (Self.Finalization.plain finalization.now)) (Self.held self.new).certs) }
+        ensures same { OnOk result (Self.held self.new ≡ record (Self.held self.old) { certs = (Self.held self.new).certs; watches = (Self.held self.new).watches }) }
+        ensures goes_on { GoesOn (fault_of V.Commitment.bytes) (Self.held self.old)
+            (written_cert (at_height height (Self.Finalization.plain finalization.now))) (Self.held self.new) result }
         ensures archive { IfErr result (λ e. IsArchiveFault (fault_of V.Commitment.bytes e)) }
         ensures usual { IfErr result (λ e. IsUsual (fault_of V.Commitment.bytes e)) };
 
     /// Starts a sync of the blocks and the finalizations that covers all writes, under the next ticket. Where none is left
     /// the life ends.
     fn start_sync(&mut self) -> Result<(), Fault<V::Commitment>>
-        ensures staged { staged self.new ≡ staged self.old }
-        ensures ok { OnOk result (held self.new ≡ record (held self.old) { writes = with_started (held self.old).writes; watches = (held self.new).watches }) }
-        ensures goes_on { GoesOn (fault_of V.Commitment.bytes) (held self.old) nothing_written (held self.new) result }
+        ensures staged { Self.staged self.new ≡ Self.staged self.old }
+        ensures ok { OnOk result (Self.held self.new ≡ record (Self.held self.old) { writes = with_started (Self.held self.old).writes; watches = (Self.held self.new).watches }) }
+        ensures goes_on { GoesOn (fault_of V.Commitment.bytes) (Self.held self.old) nothing_written (Self.held self.new) result }
         ensures kind { IfErr result (λ e. IsArchiveFault (fault_of V.Commitment.bytes e)
-            ⊎ ((fault_of V.Commitment.bytes e ≡ ticket_limit sync_kind) × ((held self.old).writes.next_sync ≡ 2 ^ 64 - 1))) };
+            ⊎ ((fault_of V.Commitment.bytes e ≡ ticket_limit sync_kind) × ((Self.held self.old).writes.next_sync ≡ 2 ^ 64 - 1))) };
 
     /// Finishes the sync of a ticket, which makes durable what was written before it was started, and says whether it was
     /// open. One that isn't changes nothing, and asks no store.
     fn finish_sync(&mut self, ticket: u64) -> Result<bool, Fault<V::Commitment>>
-        ensures staged { staged self.new ≡ staged self.old }
-        ensures was_open { IfOk result (λ r. r ≡ is_open_sync (held self.old).writes.syncs ticket) }
-        ensures closed { IfOk result (λ r. r ≡ false → held self.new ≡ held self.old) }
-        ensures failed { IfErr result (λ e. is_open_sync (held self.old).writes.syncs ticket ≡ true) }
-        ensures blocks { OnOk result (MakesSure (held self.old).blocks (held self.new).blocks) }
-        ensures certs { OnOk result (MakesSure (held self.old).certs (held self.new).certs) }
-        ensures written { (held self.old).intact ≡ true → OnOk result (AreWritten (held self.new)) }
-        ensures same { OnOk result (held self.new ≡ record (held self.old) {
-          blocks = (held self.new).blocks;
-          certs = (held self.new).certs;
-          writes = with_finished ticket (held self.old).writes;
-          watches = (held self.new).watches;
+        ensures staged { Self.staged self.new ≡ Self.staged self.old }
+        ensures was_open { IfOk result (λ r. r ≡ is_open_sync (Self.held self.old).writes.syncs ticket) }
+        ensures closed { IfOk result (λ r. r ≡ false → Self.held self.new ≡ Self.held self.old) }
+        ensures failed { IfErr result (λ e. is_open_sync (Self.held self.old).writes.syncs ticket ≡ true) }
+        ensures blocks { OnOk result (MakesSure (Self.held self.old).blocks (Self.held self.new).blocks) }
+        ensures certs { OnOk result (MakesSure (Self.held self.old).certs (Self.held self.new).certs) }
+        ensures written { (Self.held self.old).intact ≡ true → OnOk result (AreWritten (Self.held self.new)) }
+        ensures same { OnOk result (Self.held self.new ≡ record (Self.held self.old) {
+          blocks = (Self.held self.new).blocks;
+          certs = (Self.held self.new).certs;
+          writes = with_finished ticket (Self.held self.old).writes;
+          watches = (Self.held self.new).watches;
         }) }
-        ensures goes_on { GoesOn (fault_of V.Commitment.bytes) (held self.old) nothing_written (held self.new) result }
+        ensures goes_on { GoesOn (fault_of V.Commitment.bytes) (Self.held self.old) nothing_written (Self.held self.new) result }
         ensures archive { IfErr result (λ e. IsArchiveFault (fault_of V.Commitment.bytes e)) }
         ensures usual { IfErr result (λ e. IsUsual (fault_of V.Commitment.bytes e)) };
 
     /// The block at this height is processed, which becomes durable with the next sync of the metadata.
     fn set_processed(&mut self, height: Height) -> Result<(), Fault<V::Commitment>>
-        ensures staged { staged self.new ≡ staged self.old }
-        ensures ok { OnOk result (held self.new ≡ record (held self.old) { processed = Some (at_block height); watches = (held self.new).watches }) }
-        ensures goes_on { GoesOn (fault_of V.Commitment.bytes) (held self.old) nothing_written (held self.new) result }
+        ensures staged { Self.staged self.new ≡ Self.staged self.old }
+        ensures ok { OnOk result (Self.held self.new ≡ record (Self.held self.old) { processed = Some (at_block height); watches = (Self.held self.new).watches }) }
+        ensures goes_on { GoesOn (fault_of V.Commitment.bytes) (Self.held self.old) nothing_written (Self.held self.new) result }
         ensures usual { IfErr result (λ e. IsUsual (fault_of V.Commitment.bytes e)) };
 
     /// Sets the cutoff, which becomes durable with the next sync of the metadata.
     fn set_cutoff(&mut self, cutoff: &Cutoff) -> Result<(), Fault<V::Commitment>>
-        ensures staged { staged self.new ≡ staged self.old }
-        ensures ok { OnOk result (held self.new ≡ record (held self.old) { cutoff = cutoff_of cutoff.now; watches = (held self.new).watches }) }
-        ensures goes_on { GoesOn (fault_of V.Commitment.bytes) (held self.old) nothing_written (held self.new) result }
+        ensures staged { Self.staged self.new ≡ Self.staged self.old }
+        ensures ok { OnOk result (Self.held self.new ≡ record (Self.held self.old) { cutoff = cutoff_of cutoff.now; watches = (Self.held self.new).watches }) }
+        ensures goes_on { GoesOn (fault_of V.Commitment.bytes) (Self.held self.old) nothing_written (Self.held self.new) result }
         ensures usual { IfErr result (λ e. IsUsual (fault_of V.Commitment.bytes e)) };
 
     /// Makes the processed height and the cutoff durable together.
     fn sync_metadata(&mut self) -> Result<(), Fault<V::Commitment>>
-        ensures staged { staged self.new ≡ staged self.old }
-        ensures ok { OnOk result (held self.new ≡ record (held self.old) {
-          pairs = pair_of (held self.old).processed (held self.old).cutoff
+        ensures staged { Self.staged self.new ≡ Self.staged self.old }
+        ensures ok { OnOk result (Self.held self.new ≡ record (Self.held self.old) {
+          pairs = pair_of (Self.held self.old).processed (Self.held self.old).cutoff
               ∷ [];
-          watches = (held self.new).watches;
+          watches = (Self.held self.new).watches;
         }) }
-        ensures passed { OnOk result (ArePassed (held self.old).watches (held self.new).watches) }
-        ensures lost { LosesSince (fault_of V.Commitment.bytes) (held self.old)
-            (written_pair (pair_of (held self.old).processed (held self.old).cutoff)) (held self.new) result }
+        ensures passed { OnOk result (ArePassed (Self.held self.old).watches (Self.held self.new).watches) }
+        ensures lost { LosesSince (fault_of V.Commitment.bytes) (Self.held self.old)
+            (written_pair (pair_of (Self.held self.old).processed (Self.held self.old).cutoff)) (Self.held self.new) result }
         ensures usual { IfErr result (λ e. IsUsual (fault_of V.Commitment.bytes e)) };
 }
 

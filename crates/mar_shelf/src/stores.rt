@@ -14,7 +14,7 @@ use crate::{Blocks, Certificates, LifeCache, blocks_in_place, certificates_in_pl
 use mar_block::Variant;
 use mar_cert::CommitsTo;
 use mar_key::Cutoff;
-use mar_node::{BlockName, Ended, Fault, Holds, Place, Progress, Staged, State, StoreName, Writes};
+use mar_node::{BlockName, Ended, Fault, Holds, HoldsCache, Place, Progress, Staged, State, StoreName, Writes};
 use mar_store::{Meta, RangeSet};
 use mar_types::{Height, Round};
 use std::alloc::{AllocError, Global};
@@ -93,14 +93,49 @@ impl<
     FC: Certificates<V, F>,
     M: Meta,
     H: LifeCache<V, F>,
+> HoldsCache<V> for Stores<V, F, FB, FC, M, H> {
+    ghost held = { λ s. s.held };
+
+    ghost staged = { λ s. s.staged };
+
+    fn load_cache(&mut self) -> Result<(), Fault<V::Commitment>> {
+        self.cache.load()
+    }
+
+    fn prune_cache(&mut self, round: Round) -> Result<(), Fault<V::Commitment>> {
+        self.cache.prune(round)
+    }
+
+    fn cached_block(
+        &mut self,
+        name: BlockName<V::Digest, V::Commitment>,
+    ) -> Result<Option<V::Block>, Fault<V::Commitment>>
+        ensures staged { self.new.staged ≡ self.old.staged }
+        ensures found { IfOk result (λ r. option_map V.plain r ≡ option_and_then cached_block (soonest (is_sought V.Digest.bytes V.Commitment.bytes V.inner
+            (sought_block name)) self.old.held.cache.kept.held)) }
+        ensures same { OnOk result (self.new.held ≡ record self.old.held { watches = self.new.held.watches }) }
+        ensures goes_on { GoesOn (fault_of V.Commitment.bytes) self.old.held nothing_written self.new.held result }
+        ensures usual { IfErr result (λ e. IsUsual (fault_of V.Commitment.bytes e)) }
+    {
+        self.cache.find_block(name)
+    }
+
+    fn cached_verified(&mut self, round: Round) -> Result<Option<V::Block>, Fault<V::Commitment>> {
+        self.cache.find_verified(round)
+    }
+}
+
+impl<
+    V: Variant,
+    F: CommitsTo<V::Commitment>,
+    FB: Blocks<V>,
+    FC: Certificates<V, F>,
+    M: Meta,
+    H: LifeCache<V, F>,
 > Holds<V> for Stores<V, F, FB, FC, M, H> {
     type Ruins = Ruins<V, F, FB, FC, M, H>;
 
     type Finalization = F;
-
-    ghost held = { λ s. s.held };
-
-    ghost staged = { λ s. s.staged };
 
     fn reopen(
         alloc: Global,
@@ -252,34 +287,8 @@ impl<
         blocks_in_place::of::<V, FB>(&mut self.blocks, digest)
     }
 
-    fn load_cache(&mut self) -> Result<(), Fault<V::Commitment>> {
-        self.cache.load()
-    }
-
     fn cache_finalization(&mut self, finalization: &F) -> Result<(), Fault<V::Commitment>> {
         self.cache.put_finalization(finalization)
-    }
-
-    fn prune_cache(&mut self, round: Round) -> Result<(), Fault<V::Commitment>> {
-        self.cache.prune(round)
-    }
-
-    fn cached_block(
-        &mut self,
-        name: BlockName<V::Digest, V::Commitment>,
-    ) -> Result<Option<V::Block>, Fault<V::Commitment>>
-        ensures staged { self.new.staged ≡ self.old.staged }
-        ensures found { IfOk result (λ r. option_map V.plain r ≡ option_and_then cached_block (soonest (is_sought V.Digest.bytes V.Commitment.bytes V.inner
-            (sought_block name)) self.old.held.cache.kept.held)) }
-        ensures same { OnOk result (self.new.held ≡ record self.old.held { watches = self.new.held.watches }) }
-        ensures goes_on { GoesOn (fault_of V.Commitment.bytes) self.old.held nothing_written self.new.held result }
-        ensures usual { IfErr result (λ e. IsUsual (fault_of V.Commitment.bytes e)) }
-    {
-        self.cache.find_block(name)
-    }
-
-    fn cached_verified(&mut self, round: Round) -> Result<Option<V::Block>, Fault<V::Commitment>> {
-        self.cache.find_verified(round)
     }
 
     fn certificate_at(&mut self, height: Height) -> Result<Option<F>, Fault<V::Commitment>> {

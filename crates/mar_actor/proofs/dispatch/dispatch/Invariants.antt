@@ -3,4 +3,4 @@ use Rattle.mar_node.proofs.Handing.{HandsSoFar}
 use Rattle.mar_actor.proofs.dispatch.dispatch.Given as goal
 
 abbrev pub invariant-window : goal.invariant-window
-invariant-window g l = HandsSoFar (seen (g.S.Holds.held l.initial.stores) l.initial.life) (seen (g.S.Holds.held l.stores) l.life) (g.A.Reporter.told l.initial.application) (g.A.Reporter.told l.application) l._handed
+invariant-window g l = HandsSoFar (seen (g.S.HoldsCache.held l.initial.stores) l.initial.life) (seen (g.S.HoldsCache.held l.stores) l.life) (g.A.Reporter.told l.initial.application) (g.A.Reporter.told l.application) l._handed

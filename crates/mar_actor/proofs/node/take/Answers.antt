@@ -27,7 +27,7 @@ same_ticket t u is = cc
 pub returns-in-Start : goal.returns-in-Start
 returns-in-Start g c =
     rw c.in-Start.is (record {
-      promise = KeepsStart-beside _ _ _ _ _ _ (Hears-nothing _) _ _ _ (seen (g.S.Holds.held c.args.stores.now) c.args.life.now) _ _ _ (c.start.ensures.promise c.requires.blocks c.requires.certs _ _);
+      promise = KeepsStart-beside _ _ _ _ _ _ (Hears-nothing _) _ _ _ (seen (g.S.HoldsCache.held c.args.stores.now) c.args.life.now) _ _ _ (c.start.ensures.promise c.requires.blocks c.requires.certs _ _);
       answered = unanswered-ok _ c.start.result;
       unanswered = unanswered-err _ c.start.result;
       sends = unsent-ok _ c.start.result;
@@ -44,7 +44,7 @@ returns-in-Start g c =
 pub returns-in-Reported : goal.returns-in-Reported
 returns-in-Reported g c =
     rw (event_is g.V.Digest.Named.bytes g.V.Variant.plain g.S.Finalization.AsFinalization.plain c.args.event _ _ _ c.in-Message.is (c.told_by.ensures g.V.Digest.Named.bytes g.S.Finalization.AsFinalization.plain) c.in-Reported.is, c.in-Message.is) (record {
-      promise = KeepsStep-beside _ _ _ _ _ _ (Hears-nothing _) _ _ _ (seen (g.S.Holds.held c.args.stores.now) c.args.life.now) _ _ _ (c.report_finalization.ensures.promise c.requires.blocks c.requires.certs);
+      promise = KeepsStep-beside _ _ _ _ _ _ (Hears-nothing _) _ _ _ (seen (g.S.HoldsCache.held c.args.stores.now) c.args.life.now) _ _ _ (c.report_finalization.ensures.promise c.requires.blocks c.requires.certs);
       answered = unanswered-ok _ c.report_finalization.result;
       unanswered = unanswered-err _ c.report_finalization.result;
       sends = unsent-ok _ c.report_finalization.result;
@@ -60,8 +60,8 @@ returns-in-Reported g c =
 
 pub returns-in-Asked : goal.returns-in-Asked
 returns-in-Asked g c =
-    let old = g.S.Holds.held c.args.stores.now in
-    let new = g.S.Holds.held c.answer.new.stores in
+    let old = g.S.HoldsCache.held c.args.stores.now in
+    let new = g.S.HoldsCache.held c.answer.new.stores in
     let life = c.args.life.now in
     let fault = fault_of g.V.Commitment.Named.bytes in
     let result = outcome fault (seen new life) c.answer.result in
@@ -86,7 +86,7 @@ returns-in-Asked g c =
 
 pub returns-in-Prepared : goal.returns-in-Prepared
 returns-in-Prepared g c =
-    let held = g.S.Holds.held c.args.stores.now in
+    let held = g.S.HoldsCache.held c.args.stores.now in
     let old = seen held c.args.life.now in
     let fault = fault_of g.V.Commitment.Named.bytes in
     let result = outcome fault old c.send.result in
@@ -111,7 +111,7 @@ returns-in-Prepared g c =
 pub returns-in-Sync : goal.returns-in-Sync
 returns-in-Sync g c =
     rw c.in-Sync.is (record {
-      promise = KeepsStep-beside _ _ _ _ _ _ (Hears-nothing _) _ _ _ (seen (g.S.Holds.held c.args.stores.now) c.args.life.now) _ _ _ (c.finish_sync.ensures.promise c.requires.blocks c.requires.certs _ _);
+      promise = KeepsStep-beside _ _ _ _ _ _ (Hears-nothing _) _ _ _ (seen (g.S.HoldsCache.held c.args.stores.now) c.args.life.now) _ _ _ (c.finish_sync.ensures.promise c.requires.blocks c.requires.certs _ _);
       answered = unanswered-ok _ c.finish_sync.result;
       unanswered = unanswered-err _ c.finish_sync.result;
       sends = unsent-ok _ c.finish_sync.result;
@@ -120,7 +120,7 @@ returns-in-Sync g c =
       notifies = refl;
       buffer = λ none. refl;
       lives = c.finish_sync.ensures.lives c.requires.blocks c.requires.certs;
-      idle = λ t is closed. c.finish_sync.ensures.idle (subst (λ k. is_open_sync (g.S.Holds.held c.args.stores.now).writes.syncs k ≡ false) (sym (same_ticket _ t is)) closed);
+      idle = λ t is closed. c.finish_sync.ensures.idle (subst (λ k. is_open_sync (g.S.HoldsCache.held c.args.stores.now).writes.syncs k ≡ false) (sym (same_ticket _ t is)) closed);
       by_value = c.finish_sync.ensures.by_value;
       tells = c.finish_sync.ensures.tells;
     })
@@ -128,7 +128,7 @@ returns-in-Sync g c =
 pub returns-in-Ack : goal.returns-in-Ack
 returns-in-Ack g c =
     rw c.in-Ack.is (record {
-      promise = KeepsStep-beside _ _ _ _ _ _ (Hears-nothing _) _ _ _ (seen (g.S.Holds.held c.args.stores.now) c.args.life.now) _ _ _ (c.acknowledge.ensures.promise c.requires.blocks c.requires.certs _);
+      promise = KeepsStep-beside _ _ _ _ _ _ (Hears-nothing _) _ _ _ (seen (g.S.HoldsCache.held c.args.stores.now) c.args.life.now) _ _ _ (c.acknowledge.ensures.promise c.requires.blocks c.requires.certs _);
       answered = unanswered-ok _ c.acknowledge.result;
       unanswered = unanswered-err _ c.acknowledge.result;
       sends = unsent-ok _ c.acknowledge.result;

@@ -14,7 +14,7 @@ use Rattle.mar_actor.proofs.report.note.Goals as goal
 pub returns-in_err-note_round : goal.returns-in_err-note_round
 returns-in_err-note_round g c =
     let p = err_from_is_err_and c.from_residual.result c.from_residual.ensures.1 in
-    let held = g.S.Holds.held c.args.stores.now in
+    let held = g.S.HoldsCache.held c.args.stores.now in
     let a = seen held c.args.life.now in
     let asks = rw c.round.ensures at c.in_err-note_round.ensures.asks in
     let ends = rw c.round.ensures at c.in_err-note_round.ensures.lost in
@@ -28,14 +28,14 @@ returns-in_err-note_round g c =
 
 pub returns : goal.returns
 returns g c =
-    let held = g.S.Holds.held c.args.stores.now in
+    let held = g.S.HoldsCache.held c.args.stores.now in
     let life = c.args.life.now in
     let finalization = g.S.Finalization.AsFinalization.plain c.args.finalization.now in
     let block = g.V.Variant.plain c.args.block.now in
     let noted = rw c.round.ensures at c.in_ok-note_round.ensures.ok in
     let asks = rw c.round.ensures at c.in_ok-note_round.ensures.asks in
     let fault = fault_of g.V.Commitment.Named.bytes in
-    let now = seen (g.S.Holds.held c.store_late.new.stores) c.store_late.new.life in
+    let now = seen (g.S.HoldsCache.held c.store_late.new.stores) c.store_late.new.life in
     record {
       promise = λ nested certs_nested buffer found low. noted-promise held _ life finalization block noted fault c.store_late.result now g.V.Variant.inner c.store_late.ensures.stores c.store_late.ensures.goes_on (g.E.Epocher.epochs life.epocher) (g.met.E.Epocher.partition life.epocher) buffer found low _ _ _ _ c.store_late.ensures.ok c.store_late.ensures.err c.store_late.ensures.archive asks nested certs_nested;
       lives = λ nested certs_nested. noted-lives held _ life finalization block noted fault c.store_late.result now g.V.Variant.inner c.store_late.ensures.stores c.store_late.ensures.goes_on c.in_ok-note_round.ensures.passed c.store_late.ensures.usual nested certs_nested;

@@ -15,7 +15,7 @@ use Rattle.mar_actor.proofs.report.report_finalization.Goals as goal
 pub returns-in_err-block_at_hand : goal.returns-in_err-block_at_hand
 returns-in_err-block_at_hand g c =
     let p = err_from_is_err_and c.from_residual.result c.from_residual.ensures.1 in
-    let a = seen (g.S.Holds.held c.args.stores.now) c.args.life.now in
+    let a = seen (g.S.HoldsCache.held c.args.stores.now) c.args.life.now in
     rw (p.1, p.2) (record {
       promise = λ nested certs_nested. promise-unread (g.E.Epocher.epochs c.args.life.now.epocher) g.V.Variant.inner (g.met.E.Epocher.partition c.args.life.now.epocher) a _ _ _ _ _ (lost _ _ _ c.in_err-block_at_hand.ensures.goes_on nested certs_nested) c.in_err-block_at_hand.ensures.usual;
       lives = λ nested certs_nested. EndsLife-usual a _ (lost _ nothing_written _ c.in_err-block_at_hand.ensures.goes_on nested certs_nested).cause c.in_err-block_at_hand.ensures.usual;
@@ -25,12 +25,12 @@ returns-in_err-block_at_hand g c =
 
 pub returns-in-None : goal.returns-in-None
 returns-in-None g c =
-    let held = g.S.Holds.held c.args.stores.now in
+    let held = g.S.HoldsCache.held c.args.stores.now in
     let life = c.args.life.now in
     let same = c.in_ok-block_at_hand.ensures.same in
     let found = rw (c.in-None.is, c.payload.ensures) at c.in_ok-block_at_hand.ensures.found in
     let fault = fault_of g.V.Commitment.Named.bytes in
-    let now = seen (g.S.Holds.held c.block_at_hand.new.stores) life in
+    let now = seen (g.S.HoldsCache.held c.block_at_hand.new.stores) life in
     record {
       promise = λ nested certs_nested. absent-promise fault held _ life same c.in_ok-block_at_hand.ensures.goes_on (g.E.Epocher.epochs life.epocher) g.V.Variant.inner (g.met.E.Epocher.partition life.epocher) _ _ _ _ _ c.request.result c.request.ensures.memory nested certs_nested found (rw same at c.request.ensures.asks);
       lives = λ nested certs_nested. absent-lives fault held _ life same c.in_ok-block_at_hand.ensures.goes_on c.request.result c.request.ensures.memory nested certs_nested;
@@ -39,17 +39,17 @@ returns-in-None g c =
     }
 
 pub store_above-requires-clause-small_block : goal.store_above-requires-clause-small_block
-store_above-requires-clause-small_block g c = found_small g.V.Variant.inner (g.B.Buffer.blocks c.args.buffer.now) (g.S.Holds.held c.args.stores.now).cache.kept.held (g.S.Holds.held c.args.stores.now).blocks.held (g.S.Finalization.AsFinalization.plain c.args.finalization.now).payload _ c.requires.small_buffer c.requires.small_cached c.requires.small_held (sym (rw (c.in-Some.is, c.payload.ensures) at c.in_ok-block_at_hand.ensures.found))
+store_above-requires-clause-small_block g c = found_small g.V.Variant.inner (g.B.Buffer.blocks c.args.buffer.now) (g.S.HoldsCache.held c.args.stores.now).cache.kept.held (g.S.HoldsCache.held c.args.stores.now).blocks.held (g.S.Finalization.AsFinalization.plain c.args.finalization.now).payload _ c.requires.small_buffer c.requires.small_cached c.requires.small_held (sym (rw (c.in-Some.is, c.payload.ensures) at c.in_ok-block_at_hand.ensures.found))
 
 pub returns-then-is_above : goal.returns-then-is_above
 returns-then-is_above g c =
-    let held = g.S.Holds.held c.args.stores.now in
+    let held = g.S.HoldsCache.held c.args.stores.now in
     let life = c.args.life.now in
     let a = seen held life in
     let same = c.in_ok-block_at_hand.ensures.same in
     let found = rw (c.in-Some.is, c.payload.ensures) at c.in_ok-block_at_hand.ensures.found in
     let above = rw same at (sym c.is_above.ensures ∙ c.if-is_above.true) in
-    let result = outcome (fault_of g.V.Commitment.Named.bytes) (seen (g.S.Holds.held c.store_above.new.stores) c.store_above.new.life) c.store_above.result in
+    let result = outcome (fault_of g.V.Commitment.Named.bytes) (seen (g.S.HoldsCache.held c.store_above.new.stores) c.store_above.new.life) c.store_above.result in
     let promise = rw same at c.store_above.ensures.promise in
     record {
       promise = λ nested certs_nested. promise _ nested certs_nested _ (sym found) above;
@@ -60,13 +60,13 @@ returns-then-is_above g c =
 
 pub returns-else-is_above : goal.returns-else-is_above
 returns-else-is_above g c =
-    let held = g.S.Holds.held c.args.stores.now in
+    let held = g.S.HoldsCache.held c.args.stores.now in
     let life = c.args.life.now in
     let a = seen held life in
     let same = c.in_ok-block_at_hand.ensures.same in
     let found = rw (c.in-Some.is, c.payload.ensures) at c.in_ok-block_at_hand.ensures.found in
     let low = rw same at (sym c.is_above.ensures ∙ c.if-is_above.false) in
-    let result = outcome (fault_of g.V.Commitment.Named.bytes) (seen (g.S.Holds.held c.note.new.stores) c.note.new.life) c.note.result in
+    let result = outcome (fault_of g.V.Commitment.Named.bytes) (seen (g.S.HoldsCache.held c.note.new.stores) c.note.new.life) c.note.result in
     let promise = rw same at c.note.ensures.promise in
     record {
       promise = λ nested certs_nested. promise nested certs_nested _ (sym found) low;

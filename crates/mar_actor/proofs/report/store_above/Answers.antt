@@ -13,7 +13,7 @@ use Rattle.mar_actor.proofs.report.store_above.Goals as goal
 
 pub returns-then-get : goal.returns-then-get
 returns-then-get g c =
-    let a = seen (g.S.Holds.held c.args.stores.now) c.args.life.now in
+    let a = seen (g.S.HoldsCache.held c.args.stores.now) c.args.life.now in
     record {
       promise = λ heard nested certs_nested buffer found above config chain waiting set step. absurd (promise-limit (g.E.Epocher.epochs c.args.life.now.epocher) g.V.Variant.inner (g.met.E.Epocher.partition c.args.life.now.epocher) a buffer _ _ found config chain waiting set step (omega (arith, c.if-get.true, c.get.ensures.value, c.height-height.ensures)));
       lives = λ nested certs_nested. limit-ends a _ nested certs_nested;
@@ -24,7 +24,7 @@ returns-then-get g c =
 pub returns-in_err-put_above : goal.returns-in_err-put_above
 returns-in_err-put_above g c =
     let p = err_from_is_err_and c.from_residual.result c.from_residual.ensures.1 in
-    let a = seen (g.S.Holds.held c.args.stores.now) c.args.life.now in
+    let a = seen (g.S.HoldsCache.held c.args.stores.now) c.args.life.now in
     rw (p.1, p.2) (record {
       promise = λ heard nested certs_nested buffer found above. promise-unstored (g.E.Epocher.epochs c.args.life.now.epocher) g.V.Variant.inner (g.met.E.Epocher.partition c.args.life.now.epocher) a buffer _ _ found _ _ heard _ c.in_err-put_above.ensures.err (lost _ _ _ c.in_err-put_above.ensures.goes_on nested certs_nested) c.in_err-put_above.ensures.usual;
       lives = λ nested certs_nested. EndsLife-usual a _ (lost _ _ _ c.in_err-put_above.ensures.goes_on nested certs_nested).cause c.in_err-put_above.ensures.usual;
@@ -35,7 +35,7 @@ returns-in_err-put_above g c =
 pub returns-in_err-start_sync : goal.returns-in_err-start_sync
 returns-in_err-start_sync g c =
     let p = err_from_is_err_and c.from_residual-in_err-start_sync.result c.from_residual-in_err-start_sync.ensures.1 in
-    let a = seen (g.S.Holds.held c.args.stores.now) c.args.life.now in
+    let a = seen (g.S.HoldsCache.held c.args.stores.now) c.args.life.now in
     let plain = unstarted_plain _ c.in_err-start_sync.ensures.kind in
     rw (p.1, p.2) (record {
       promise = λ heard nested certs_nested buffer found above. promise-unstarted (g.E.Epocher.epochs c.args.life.now.epocher) g.V.Variant.inner (g.met.E.Epocher.partition c.args.life.now.epocher) a buffer _ _ found _ _ heard _ c.in_ok-put_above.ensures.ok (lost-then _ _ _ _ c.in_ok-put_above.ensures.goes_on c.in_err-start_sync.ensures.goes_on nested certs_nested) plain.0 plain.1;
@@ -46,7 +46,7 @@ returns-in_err-start_sync g c =
 
 pub returns : goal.returns
 returns g c =
-    let a = seen (g.S.Holds.held c.args.stores.now) c.args.life.now in
+    let a = seen (g.S.HoldsCache.held c.args.stores.now) c.args.life.now in
     let started = ap (λ h. seen h c.put_above.new.life) c.in_ok-start_sync.ensures.ok in
     let whole = ap (λ h. h.intact) c.in_ok-start_sync.ensures.ok ∙ (ap (λ (s : Seen _ _). s.held.intact) c.in_ok-put_above.ensures.puts.same ∙ c.requires.intact) in
     record {

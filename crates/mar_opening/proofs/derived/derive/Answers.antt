@@ -21,12 +21,12 @@ returns-in_err-newest-clause-lost g c =
 pub returns-in_err-raise_to-clause-lost : goal.returns-in_err-raise_to-clause-lost
 returns-in_err-raise_to-clause-lost g c =
     let p = err_from_is_err_and c.from_residual-in_err-raise_to.result c.from_residual-in_err-raise_to.ensures.1 in
-    let pair = derived_pair (g.E.Epocher.epochs c.args.epocher.now) (g.S.Holds.held c.args.stores.now) in
-    let pair_is : pair_of (g.S.Holds.held c.processed_round.new.stores).processed (cutoff_of c.derived_cutoff-cutoff.result) ≡ derived_pair (g.E.Epocher.epochs c.args.epocher.now) (g.S.Holds.held c.args.stores.now) = search rules in
+    let pair = derived_pair (g.E.Epocher.epochs c.args.epocher.now) (g.S.HoldsCache.held c.args.stores.now) in
+    let pair_is : pair_of (g.S.HoldsCache.held c.processed_round.new.stores).processed (cutoff_of c.derived_cutoff-cutoff.result) ≡ derived_pair (g.E.Epocher.epochs c.args.epocher.now) (g.S.HoldsCache.held c.args.stores.now) = search rules in
     rw (p.1, p.2) (λ start all grew. inr (c.in_ok-successor.ensures.none, c.in_err-raise_to.ensures.lost start (record all { pairs = pair ∷ all.pairs }) (Grew-wider start all pair _ (c.in_ok-newest.ensures.goes_on start all (c.in_ok-successor.ensures.goes_on start all grew (WithinWritten-nothing all)) (WithinWritten-nothing all))) (subst (λ q. WithinWritten (written_pair q) (record all { pairs = pair ∷ all.pairs })) (sym pair_is) (WithinWritten-pair pair all))))
 
 pub returns-clause-passed : goal.returns-clause-passed
 returns-clause-passed g c =
-    let first = c.in_ok-successor.ensures.goes_on (g.S.Holds.held c.args.stores.now) nothing_written (Grew-refl _ _ (c.law.ensures.blocks c.requires.intact) (c.law.ensures.certs c.requires.intact)) (WithinWritten-refl _) in
-    let read = c.in_ok-newest.ensures.goes_on (g.S.Holds.held c.args.stores.now) nothing_written first (WithinWritten-refl _) in
+    let first = c.in_ok-successor.ensures.goes_on (g.S.HoldsCache.held c.args.stores.now) nothing_written (Grew-refl _ _ (c.law.ensures.blocks c.requires.intact) (c.law.ensures.certs c.requires.intact)) (WithinWritten-refl _) in
+    let read = c.in_ok-newest.ensures.goes_on (g.S.HoldsCache.held c.args.stores.now) nothing_written first (WithinWritten-refl _) in
     rw (c.note_round-2.ensures, c.note_round.ensures) (ArePassed-then _ _ _ read.passed c.in_ok-raise_to.ensures.passed)

@@ -14,7 +14,7 @@ pub returns-in_err-witness-clause-asks : goal.returns-in_err-witness-clause-asks
 returns-in_err-witness-clause-asks g c =
     let before = on_ok c.retain.result (sym c.is_err.ensures.value ∙ c.if-is_err.false) c.retain.ensures.ok in
     let p = err_from_is_err_and c.from_residual-in_err-witness.result c.from_residual-in_err-witness.ensures.1 in
-    rw p.1 (unraised (g.E.Epocher.epochs c.args.epocher.now) (g.S.Holds.held c.args.stores.now) (g.S.Holds.held c.set_processed.new.self) (g.S.Holds.held c.round_at.new.stores) (Some (at_block c.args.height)) c.args.height c.in_ok-round.round c.in_ok-set_processed.ensures.ok c.in_ok-round.ensures.same c.in_ok-round.ensures.found (g.R.Resolver.told c.args.resolver.now) (g.R.Resolver.told c.retain.new.self) (g.R.Resolver.told c.witness.new.resolver) before c.in_err-witness.ensures.asks)
+    rw p.1 (unraised (g.E.Epocher.epochs c.args.epocher.now) (g.S.HoldsCache.held c.args.stores.now) (g.S.HoldsCache.held c.set_processed.new.self) (g.S.HoldsCache.held c.round_at.new.stores) (Some (at_block c.args.height)) c.args.height c.in_ok-round.round c.in_ok-set_processed.ensures.ok c.in_ok-round.ensures.same c.in_ok-round.ensures.found (g.R.Resolver.told c.args.resolver.now) (g.R.Resolver.told c.retain.new.self) (g.R.Resolver.told c.witness.new.resolver) before c.in_err-witness.ensures.asks)
 
 pub returns-in_err-witness-clause-goes_on : goal.returns-in_err-witness-clause-goes_on
 returns-in_err-witness-clause-goes_on g c =
@@ -24,7 +24,7 @@ returns-in_err-witness-clause-goes_on g c =
 pub returns-clause-asks : goal.returns-clause-asks
 returns-clause-asks g c =
     let before = on_ok c.retain.result (sym c.is_err.ensures.value ∙ c.if-is_err.false) c.retain.ensures.ok in
-    raised (g.E.Epocher.epochs c.args.epocher.now) (g.S.Holds.held c.args.stores.now) (g.S.Holds.held c.set_processed.new.self) (g.S.Holds.held c.round_at.new.stores) (Some (at_block c.args.height)) c.args.height c.in_ok-round.round c.in_ok-set_processed.ensures.ok c.in_ok-round.ensures.same c.in_ok-round.ensures.found (g.S.Holds.held c.witness.new.stores) (later_round (g.S.Holds.held c.round_at.new.stores).witnessed c.in_ok-round.round) (g.R.Resolver.told c.args.resolver.now) (g.R.Resolver.told c.retain.new.self) (g.R.Resolver.told c.witness.new.resolver) (g.R.Resolver.told c.close_epochs.new.resolver) c.in_ok-witness.ensures.ok before c.in_ok-witness.ensures.asks c.close_epochs.result c.close_epochs.ensures.asks
+    raised (g.E.Epocher.epochs c.args.epocher.now) (g.S.HoldsCache.held c.args.stores.now) (g.S.HoldsCache.held c.set_processed.new.self) (g.S.HoldsCache.held c.round_at.new.stores) (Some (at_block c.args.height)) c.args.height c.in_ok-round.round c.in_ok-set_processed.ensures.ok c.in_ok-round.ensures.same c.in_ok-round.ensures.found (g.S.HoldsCache.held c.witness.new.stores) (later_round (g.S.HoldsCache.held c.round_at.new.stores).witnessed c.in_ok-round.round) (g.R.Resolver.told c.args.resolver.now) (g.R.Resolver.told c.retain.new.self) (g.R.Resolver.told c.witness.new.resolver) (g.R.Resolver.told c.close_epochs.new.resolver) c.in_ok-witness.ensures.ok before c.in_ok-witness.ensures.asks c.close_epochs.result c.close_epochs.ensures.asks
 
 pub returns-clause-goes_on : goal.returns-clause-goes_on
 returns-clause-goes_on g c = λ start all grew within. c.close_epochs.ensures.goes_on start all (c.in_ok-witness.ensures.goes_on start all (c.in_ok-round.ensures.goes_on start all (c.in_ok-set_processed.ensures.goes_on start all grew within) within) within) within

@@ -30,11 +30,11 @@ returns-in_err-stores-clause-cause g c =
 
 pub returns-clause-opens : goal.returns-clause-opens
 returns-clause-opens g c =
-    λ config chain set asks. opened_begins _ (g.S.Ruins.StoresRuin.left c.args.ruins) _ _ _ (c.in-Ok.ensures.genesis g.V.Variant.plain) c.args.config.provider c.args.config.epocher (sizes_of c.args.config) (g.S.Holds.held c.in_ok-stores.stores.value) _ c.in_ok-stores.ensures.opens c.in-Ok.ensures.life config set.epochs_are set.capacity chain asks
+    λ config chain set asks. opened_begins _ (g.S.Ruins.StoresRuin.left c.args.ruins) _ _ _ (c.in-Ok.ensures.genesis g.V.Variant.plain) c.args.config.provider c.args.config.epocher (sizes_of c.args.config) (g.S.HoldsCache.held c.in_ok-stores.stores.value) _ c.in_ok-stores.ensures.opens c.in-Ok.ensures.life config set.epochs_are set.capacity chain asks
 
 pub returns-clause-finds : goal.returns-clause-finds
 returns-clause-finds g c =
-    λ config set. opened_finds _ (g.S.Ruins.StoresRuin.left c.args.ruins) _ _ _ (c.in-Ok.ensures.genesis g.V.Variant.plain) c.args.config.provider c.args.config.epocher (sizes_of c.args.config) (g.S.Holds.held c.in_ok-stores.stores.value) _ c.in_ok-stores.ensures.opens c.in-Ok.ensures.life config set.epochs_are set.capacity
+    λ config set. opened_finds _ (g.S.Ruins.StoresRuin.left c.args.ruins) _ _ _ (c.in-Ok.ensures.genesis g.V.Variant.plain) c.args.config.provider c.args.config.epocher (sizes_of c.args.config) (g.S.HoldsCache.held c.in_ok-stores.stores.value) _ c.in_ok-stores.ensures.opens c.in-Ok.ensures.life config set.epochs_are set.capacity
 
 pub returns-clause-fresh : goal.returns-clause-fresh
 returns-clause-fresh g c = opened_fresh _ (g.S.Ruins.StoresRuin.left c.args.ruins) _ _ _ (c.in-Ok.ensures.genesis g.V.Variant.plain) _ c.in_ok-stores.ensures.opens

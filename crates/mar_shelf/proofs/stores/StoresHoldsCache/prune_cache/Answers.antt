@@ -6,7 +6,7 @@ use Rattle.mar_node.specs.Views.{fault_of}
 use Rattle.mar_shelf.proofs.Changed.{cache_goes_on, prunes_below}
 use Rattle.mar_shelf.proofs.Placed.{both_done, done_so, failed_so, usual_fault}
 use Rattle.mar_shelf.proofs.Reading.{cache_pruned}
-use Rattle.mar_shelf.proofs.stores.StoresHolds.prune_cache.Goals as goal
+use Rattle.mar_shelf.proofs.stores.StoresHoldsCache.prune_cache.Goals as goal
 
 pub invariant_of-self : goal.invariant_of-self
 invariant_of-self g c = c.self.invariant

@@ -4,7 +4,7 @@ use Rattle.mar_node.specs.Places.{is_open}
 use Rattle.mar_node.specs.Views.{fault_of}
 use Rattle.mar_shelf.proofs.Placed.{always_done, failed_so, usual_fault}
 use Rattle.mar_shelf.proofs.Reading.{cache_read, read_goes_on}
-use Rattle.mar_shelf.proofs.stores.StoresHolds.cached_block.Goals as goal
+use Rattle.mar_shelf.proofs.stores.StoresHoldsCache.cached_block.Goals as goal
 
 pub invariant_of-self : goal.invariant_of-self
 invariant_of-self g c = c.self.invariant
