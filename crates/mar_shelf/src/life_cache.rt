@@ -9,7 +9,7 @@ ghost use Rattle.mar_store.specs.Watch.{Heeds, Watch, armed};
 ghost use Rattle.mar_node.specs.AllEntries.{LeavesEntries, LoadsEntries, soonest};
 ghost use Rattle.mar_node.specs.CacheCalls.{IsNestedCache, ReopensCache, UnopensCache, none_goes};
 ghost use Rattle.mar_node.specs.Cache.{is_below};
-ghost use Rattle.mar_node.specs.Cached.{Cached, cached_block, finalization_entry};
+ghost use Rattle.mar_node.specs.Cached.{cached_block, finalization_entry};
 ghost use Rattle.mar_node.specs.Entries.{is_sought, is_verified_at, sought_block};
 ghost use Rattle.mar_node.specs.Faults.{cache_store};
 ghost use Rattle.mar_node.specs.Held.{HeldCache, Passes};

@@ -14,7 +14,9 @@ use crate::{Blocks, Certificates, LifeCache, blocks_in_place, certificates_in_pl
 use mar_block::Variant;
 use mar_cert::CommitsTo;
 use mar_key::Cutoff;
-use mar_node::{BlockName, Ended, Fault, Holds, HoldsCache, Place, Progress, Staged, State, StoreName, Writes};
+use mar_node::{
+    BlockName, Ended, Fault, Holds, HoldsCache, Place, Progress, Staged, State, StoreName, Writes,
+};
 use mar_store::{Meta, RangeSet};
 use mar_types::{Height, Round};
 use std::alloc::{AllocError, Global};
