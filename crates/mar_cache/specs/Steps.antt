@@ -1,5 +1,5 @@
 -- What an event makes of a cache that keeps one more entry and is pruned by rounds.
-use Rattle.std.specs.Prelude.{Bool, Contains, IsTrue, List, [], false, true, ℕ, ◌<◌, ◌∷◌, ◌≡◌, ◌≤◌, ◌⊎◌, map, ◌++◌}
+use Rattle.std.specs.Prelude.{Bool, Contains, IsTrue, [], false, true, ℕ, ◌<◌, ◌∷◌, ◌≡◌, ◌≤◌, ◌⊎◌, map, ◌++◌}
 use Rattle.mar_store.specs.Changes.{Within}
 use Rattle.mar_store.specs.Kept.{Kept}
 use Rattle.mar_node.specs.Cached.{Cached, certified_entry, epoch_of, same_place}

@@ -1,5 +1,5 @@
 -- What a change of the cache of a life leaves, since some start.
-use Rattle.std.proofs.Common.{◌≡◌, ◌⊎◌, inl, inr, map, ⊎_elim, ℕ, List, [], ◌∷◌, ◌++◌, Bool, true, false, ◌||◌, Contains, IsTrue, subst, sym, ap, ◌∙◌, refl, zero, suc, arith}
+use Rattle.std.proofs.Common.{◌≡◌, ◌⊎◌, inl, inr, map, ⊎_elim, ℕ, List, [], ◌∷◌, Bool, true, false, ◌||◌, Contains, IsTrue, subst, ap, ◌∙◌, refl, zero, suc, arith}
 use Rattle.std.specs.List.{list_any}
 use Rattle.std.proofs.lemmas.List.Elements.{Contains-append_cases, Contains-append_right}
 use Rattle.mar_types.specs.Round.{Round}

@@ -217,7 +217,8 @@ pub trait Holds<V: Variant>: HoldsCache<V> {
     /// block is staged where its height was free and it was taken in.
     fn put_block(&mut self, block: V::Block) -> Result<(), Fault<V::Commitment>>
         requires small { IsSmall (V.plain block).encoded }
-        ensures staged { OnOk result (Self.staged self.new ≡ staged_where (is_taken_in (V.plain block).height (Self.held self.old).blocks (Self.held self.new).blocks)
+        ensures staged { OnOk result (Self.staged self.new ≡ staged_where
+            (is_taken_in (V.plain block).height (Self.held self.old).blocks (Self.held self.new).blocks)
             (V.plain block).height block (Self.staged self.old)) }
         ensures ok { OnOk result (Puts (is_held (Self.held self.old).blocks.held (V.plain block)) (Self.held self.old).blocks (at_own_height (V.plain block))
             (Self.held self.new).blocks) }
@@ -226,7 +227,8 @@ pub trait Holds<V: Variant>: HoldsCache<V> {
           writes = with_write (V.plain block).height (Self.held self.old).writes;
           watches = (Self.held self.new).watches;
         }) }
-        ensures goes_on { GoesOn (fault_of V.Commitment.bytes) (Self.held self.old) (written_block (at_own_height (V.plain block))) (Self.held self.new) result }
+        ensures goes_on { GoesOn (fault_of V.Commitment.bytes) (Self.held self.old) (written_block (at_own_height (V.plain block)))
+            (Self.held self.new) result }
         ensures usual { IfErr result (λ e. IsUsual (fault_of V.Commitment.bytes e)) };
 
     /// Stores the finalization of the block that was put last, with which it waits for a sync.
@@ -238,9 +240,11 @@ pub trait Holds<V: Variant>: HoldsCache<V> {
         requires small { IsSmall (finalization_bytes (Self.Finalization.plain finalization.now)) }
         requires waits { IsLastWrite height (Self.held self.old).writes }
         ensures staged { Self.staged self.new ≡ Self.staged self.old }
-        ensures ok { OnOk result (Puts (is_certified V.inner (Self.held self.old).certs.held height (V.inner (Self.Finalization.plain finalization.now).payload))
+        ensures ok { OnOk result (Puts (is_certified V.inner (Self.held self.old).certs.held height
+            (V.inner (Self.Finalization.plain finalization.now).payload))
             (Self.held self.old).certs (at_height height (Self.Finalization.plain finalization.now)) (Self.held self.new).certs) }
-        ensures same { OnOk result (Self.held self.new ≡ record (Self.held self.old) { certs = (Self.held self.new).certs; watches = (Self.held self.new).watches }) }
+        ensures same { OnOk result (Self.held self.new
+            ≡ record (Self.held self.old) { certs = (Self.held self.new).certs; watches = (Self.held self.new).watches }) }
         ensures goes_on { GoesOn (fault_of V.Commitment.bytes) (Self.held self.old)
             (written_cert (at_height height (Self.Finalization.plain finalization.now))) (Self.held self.new) result }
         ensures archive { IfErr result (λ e. IsArchiveFault (fault_of V.Commitment.bytes e)) }
@@ -252,8 +256,10 @@ pub trait Holds<V: Variant>: HoldsCache<V> {
         ensures staged { Self.staged self.new ≡ Self.staged self.old }
         ensures ok { OnOk result (StoresValue (is_held (Self.held self.old).blocks.held (V.plain block.now)) (Self.held self.old).blocks
             (at_own_height (V.plain block.now)) (Self.held self.new).blocks) }
-        ensures same { OnOk result (Self.held self.new ≡ record (Self.held self.old) { blocks = (Self.held self.new).blocks; watches = (Self.held self.new).watches }) }
-        ensures goes_on { GoesOn (fault_of V.Commitment.bytes) (Self.held self.old) (written_block (at_own_height (V.plain block.now))) (Self.held self.new) result }
+        ensures same { OnOk result (Self.held self.new
+            ≡ record (Self.held self.old) { blocks = (Self.held self.new).blocks; watches = (Self.held self.new).watches }) }
+        ensures goes_on { GoesOn (fault_of V.Commitment.bytes) (Self.held self.old) (written_block (at_own_height (V.plain block.now)))
+            (Self.held self.new) result }
         ensures usual { IfErr result (λ e. IsUsual (fault_of V.Commitment.bytes e)) };
 
     /// Stores a finalization at a height and makes it durable at once; the writes that wait for a sync go on waiting.
@@ -267,7 +273,8 @@ pub trait Holds<V: Variant>: HoldsCache<V> {
         ensures ok { OnOk result (StoresValue (is_certified V.inner (Self.held self.old).certs.held height
             (V.inner (Self.Finalization.plain finalization.now).payload)) (Self.held self.old).certs
             (at_height height (Self.Finalization.plain finalization.now)) (Self.held self.new).certs) }
-        ensures same { OnOk result (Self.held self.new ≡ record (Self.held self.old) { certs = (Self.held self.new).certs; watches = (Self.held self.new).watches }) }
+        ensures same { OnOk result (Self.held self.new
+            ≡ record (Self.held self.old) { certs = (Self.held self.new).certs; watches = (Self.held self.new).watches }) }
         ensures goes_on { GoesOn (fault_of V.Commitment.bytes) (Self.held self.old)
             (written_cert (at_height height (Self.Finalization.plain finalization.now))) (Self.held self.new) result }
         ensures archive { IfErr result (λ e. IsArchiveFault (fault_of V.Commitment.bytes e)) }
@@ -277,7 +284,8 @@ pub trait Holds<V: Variant>: HoldsCache<V> {
     /// the life ends.
     fn start_sync(&mut self) -> Result<(), Fault<V::Commitment>>
         ensures staged { Self.staged self.new ≡ Self.staged self.old }
-        ensures ok { OnOk result (Self.held self.new ≡ record (Self.held self.old) { writes = with_started (Self.held self.old).writes; watches = (Self.held self.new).watches }) }
+        ensures ok { OnOk result (Self.held self.new
+            ≡ record (Self.held self.old) { writes = with_started (Self.held self.old).writes; watches = (Self.held self.new).watches }) }
         ensures goes_on { GoesOn (fault_of V.Commitment.bytes) (Self.held self.old) nothing_written (Self.held self.new) result }
         ensures kind { IfErr result (λ e. IsArchiveFault (fault_of V.Commitment.bytes e)
             ⊎ ((fault_of V.Commitment.bytes e ≡ ticket_limit sync_kind) × ((Self.held self.old).writes.next_sync ≡ 2 ^ 64 - 1))) };
@@ -305,7 +313,8 @@ pub trait Holds<V: Variant>: HoldsCache<V> {
     /// The block at this height is processed, which becomes durable with the next sync of the metadata.
     fn set_processed(&mut self, height: Height) -> Result<(), Fault<V::Commitment>>
         ensures staged { Self.staged self.new ≡ Self.staged self.old }
-        ensures ok { OnOk result (Self.held self.new ≡ record (Self.held self.old) { processed = Some (at_block height); watches = (Self.held self.new).watches }) }
+        ensures ok { OnOk result (Self.held self.new
+            ≡ record (Self.held self.old) { processed = Some (at_block height); watches = (Self.held self.new).watches }) }
         ensures goes_on { GoesOn (fault_of V.Commitment.bytes) (Self.held self.old) nothing_written (Self.held self.new) result }
         ensures usual { IfErr result (λ e. IsUsual (fault_of V.Commitment.bytes e)) };
 

@@ -9,7 +9,6 @@ use Rattle.mar_key.specs.Processed.{Processed}
 use Rattle.mar_store.specs.Changes.{Left}
 use Rattle.mar_store.specs.Kept.{At, Kept}
 use Rattle.mar_store.specs.Watch.{Watch}
-use Rattle.mar_node.specs.Cached.{Cached}
 use Rattle.mar_node.specs.Faults.{Fault, StoreName}
 use Rattle.mar_node.specs.Held.{GoesOn, Held, Passes, Progress, nothing_written, watch_of, HeldCache}
 use Rattle.mar_node.specs.Metadata.{Pair}
