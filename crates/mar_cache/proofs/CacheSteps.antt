@@ -32,7 +32,8 @@ use Rattle.mar_cache.specs.declared.stage.Stage.TheVariants.{Begun, Fresh, Loade
 use Rattle.mar_cache.proofs.AllEpochs.{at_each, finish_goes_on, finishes_all, goes_as, goes_on}
 use Rattle.mar_cache.proofs.BoundsKept.{within_map}
 use Rattle.mar_cache.proofs.EpochLists.{filter_up_to, up_to_none, up_to_same}
-use Rattle.mar_cache.proofs.ListPrunes.{firsts_stay, older_below}
+use Rattle.mar_node.proofs.EntryLists.{firsts_stay}
+use Rattle.mar_cache.proofs.ListPrunes.{older_below}
 use Rattle.mar_cache.proofs.Shelving.{changes_grows, grows_itself, grows_then, opens_grows, stays_grow}
 use Rattle.mar_cache.proofs.StateLoads.{loads_all}
 use Rattle.mar_cache.proofs.StateLosses.{found_soonest, in_all, in_some, newest_soonest, of_all, of_some, one_of_some, prunes_all_epochs, reaches, up_to_greatest}

@@ -15,7 +15,6 @@ pub mod StatePuts
 pub mod StateLosses
 pub mod StateLoads
 pub mod LuckyLoads
-pub mod EventSteps
 pub mod Ticketing
 pub mod AllEpochs
 pub mod CacheSteps

@@ -1,17 +1,18 @@
 -- A put in one epoch, seen over all epochs.
-use Rattle.std.proofs.Common.{◌≡◌, ◌≢◌, ◌⊎◌, inl, inr, ◌≤◌, ◌<◌, ◌==◌, ◌&&◌, ◌||◌, nat_le, ℕ, zero, suc, List, [], ◌∷◌, ◌++◌, Bool, true, false, Contains, Some, None, cond, refl, ap, ap₂, sym, subst, arith, ◌∙◌, filter}
-use Rattle.std.specs.List.{cons_option, filter_map, list_any}
+use Rattle.std.proofs.Common.{◌≡◌, ◌≢◌, ◌⊎◌, inl, inr, ◌≤◌, ◌<◌, ◌==◌, ◌&&◌, ◌||◌, nat_le, ℕ, zero, suc, List, [], ◌∷◌, ◌++◌, Bool, true, false, Contains, cond, refl, ap, sym, subst, arith, ◌∙◌, filter}
+use Rattle.std.specs.List.{filter_map, list_any}
 use Rattle.std.proofs.lemmas.Bool.{cases_eq, eq-eqb, leb-false, leb-true, ne_eqb}
 use Rattle.std.proofs.lemmas.List.{append-nil}
 use Rattle.std.proofs.lemmas.List.Elements.{Contains-append_cases, Contains-append_left, Contains-append_right, filter-append, filter_map-append}
 use Rattle.std.proofs.lemmas.List.Folds.{list_any-append}
 use Rattle.mar_types.specs.Round.{Round}
 use Rattle.mar_cert.specs.Block.{Block}
-use Rattle.mar_node.specs.Cached.{Cached, certified_entry, epoch_of, finalization_entry, notarization_entry, notarized_entry, same_place, verified_entry, with_entry}
+use Rattle.mar_node.specs.Cached.{Cached, epoch_of, same_place, with_entry}
 use Rattle.mar_node.specs.Cache.{first_of, first_verified, verified_in}
 use Rattle.mar_cache.specs.AsOne.{up_to}
 use Rattle.mar_node.specs.AllEntries.{is_in_place, with_own_entry}
 use Rattle.mar_cache.specs.Nested.{in_up_to, of_up_to}
+use Rattle.mar_node.proofs.EntryLists.{contains_here, contains_more, none_verified, one_of, passes_alike}
 use Rattle.mar_cache.proofs.EpochLists.{filter_map_up_to, filter_up_to, only_in, up_to_none, up_to_same}
 
 pub and_false_left : (a b : Bool) → a ≡ false → (a && b) ≡ false
@@ -26,36 +27,10 @@ or_false_right' : (a b : Bool) → b ≡ false → (a || b) ≡ a
 or_false_right' false b is = is
 or_false_right' true b is = refl
 
-contains_more : {T : Type 0} (x : T) (xs : List T) (y : T) → Contains xs y → Contains (x ∷ xs) y
-contains_more x xs y (k, lt, is) = (suc k, omega arith, is)
-
-contains_here : {T : Type 0} (x : T) (xs : List T) → Contains (x ∷ xs) x
-contains_here x xs = (zero, omega arith, refl)
-
-pub contains_none : {A : Type 0} {P : Type 0} (y : A) → Contains [] y → P
-contains_none y (k, lt, is) = absurd (omega arith)
-
 -- a test that none of these passes
 pub none_passes : {T : Type 0} (test : T → Bool) (xs : List T) → ((y : T) → Contains xs y → test y ≡ false) → list_any test xs ≡ false
 none_passes test [] none = refl
 none_passes test (x ∷ xs) none = or_false (test x) (list_any test xs) (none x (contains_here x xs)) ∙ none_passes test xs (λ y has. none y (contains_more x xs y has))
-
--- tests that agree on these
-pub passes_alike : {T : Type 0} (p q : T → Bool) (xs : List T) → ((y : T) → Contains xs y → p y ≡ q y) → list_any p xs ≡ list_any q xs
-passes_alike p q [] alike = refl
-passes_alike p q (x ∷ xs) alike = ap₂ (λ a b. a || b) (alike x (contains_here x xs)) (passes_alike p q xs (λ y has. alike y (contains_more x xs y has)))
-
--- no block was verified at a round of another epoch
-verified_elsewhere : (r : Round) (x : Cached) → epoch_of x ≢ r.epoch → verified_in r x ≡ None
-verified_elsewhere r (verified_entry s b) other = ap (λ c. cond c (Some b) None) (and_false_left (r.epoch == s.epoch) (r.view == s.view) (ne_eqb r.epoch s.epoch (λ same. other (sym same))))
-verified_elsewhere r (finalization_entry f) other = refl
-verified_elsewhere r (notarized_entry s b) other = refl
-verified_elsewhere r (certified_entry e b) other = refl
-verified_elsewhere r (notarization_entry f) other = refl
-
-pub none_verified : (r : Round) (xs : List Cached) → ((y : Cached) → Contains xs y → epoch_of y ≢ r.epoch) → filter_map (verified_in r) xs ≡ []
-none_verified r [] other = refl
-none_verified r (x ∷ xs) other = ap (λ o. cons_option o (filter_map (verified_in r) xs)) (verified_elsewhere r x (other x (contains_here x xs))) ∙ none_verified r xs (λ y has. other y (contains_more x xs y has))
 
 -- each entry stands in its own epoch
 pub own_verified : (lists : ℕ → List Cached) (h : ℕ) (r : Round) → ((k : ℕ) (y : Cached) → Contains (lists k) y → epoch_of y ≡ k) → r.epoch ≤ h → filter_map (verified_in r) (up_to lists h) ≡ filter_map (verified_in r) (lists r.epoch)
@@ -70,10 +45,6 @@ within_or a b = by (nat_le a b) refl
     by : (c : Bool) → nat_le a b ≡ c → (a ≤ b) ⊎ (b < a)
     by true is = inl (leb-true a b is)
     by false is = inr (leb-false a b is)
-
-pub one_of : {X : Type 0} (x y : X) → Contains (x ∷ []) y → y ≡ x
-one_of x y (zero, lt, is) = sym is
-one_of x y (suc k, lt, is) = absurd (omega (arith, lt))
 
 -- WITH ONE MORE
 

@@ -18,7 +18,8 @@ use Rattle.mar_cache.specs.Shelved.{AllLieWithin, AreOf, LieWithin, OpensOrStays
 use Rattle.mar_cache.specs.Stages.{IsAtStage, is_fresh}
 use Rattle.mar_cache.specs.declared.stage.Stage.{Stage}
 use Rattle.mar_cache.proofs.EpochLists.{up_to_same}
-use Rattle.mar_cache.proofs.ListPuts.{one_of, passes_alike, placed}
+use Rattle.mar_node.proofs.EntryLists.{one_of, passes_alike}
+use Rattle.mar_cache.proofs.ListPuts.{placed}
 use Rattle.mar_cache.proofs.StateLosses.{up_to_greatest}
 use Rattle.mar_cache.proofs.StatePuts.{may_more, sure_more}
 use Rattle.mar_cache.proofs.Views.{bare_or_some}

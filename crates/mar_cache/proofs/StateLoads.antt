@@ -13,7 +13,8 @@ use Rattle.mar_epochs.specs.EpochStates.{EpochState, EpochStates, HasSome, IsBar
 use Rattle.mar_cache.specs.Laws.{LoadsAll}
 use Rattle.mar_cache.specs.Shelved.{LieWithin}
 use Rattle.mar_cache.specs.Nested.{of_up_to, within_up_to}
-use Rattle.mar_cache.proofs.ListPuts.{and_false_left, contains_none, none_passes}
+use Rattle.mar_node.proofs.EntryLists.{contains_none}
+use Rattle.mar_cache.proofs.ListPuts.{and_false_left, none_passes}
 
 -- what is taken up of one epoch
 pub record LoadsHere (t n : EpochState) : Type 0 where

@@ -19,11 +19,11 @@ use Rattle.mar_cache.specs.Laws.{PrunesByView}
 use Rattle.mar_cache.specs.SameEntries.{same_entry}
 use Rattle.mar_cache.specs.Shelved.{AllLieWithin, LeavesEpochs, LieWithin, pruned_bounds}
 use Rattle.mar_cache.specs.Nested.{in_up_to, may_some, of_up_to}
+use Rattle.mar_node.proofs.EntryLists.{contains_none, filter_passed, filtered, firsts_stay}
 use Rattle.mar_cache.proofs.EpochLists.{filter_up_to, only_in}
-use Rattle.mar_cache.proofs.ListPrunes.{filter_none, firsts_stay, older_below, prunes_all}
-use Rattle.mar_cache.proofs.ListPuts.{contains_none}
+use Rattle.mar_cache.proofs.ListPrunes.{filter_none, older_below, prunes_all}
 use Rattle.mar_cache.proofs.ListFinds.{soonest_in, soonest_newest, soonest_none}
-use Rattle.mar_cache.proofs.StatePuts.{beyond, filter_passed, held_more, held_some, may_more, sure_more, sure_some, to_highest}
+use Rattle.mar_cache.proofs.StatePuts.{beyond, held_more, held_some, may_more, sure_more, sure_some, to_highest}
 use Rattle.mar_cache.proofs.TellsEntries.{entries_same, entry_refl}
 
 -- A PRUNE BY VIEW
@@ -150,15 +150,6 @@ pub in_all : (ways : List EpochStates) (h : ℕ) (y : Cached) → 0 < length way
 in_all [] h y some all = absurd (omega (arith, some))
 in_all (way ∷ []) h y some all = all way (zero, omega arith, refl)
 in_all (way ∷ other ∷ ways) h y some all = filter_passed (λ x. list_any (same_entry x) (sure_of_all (other ∷ ways) h)) (up_to (λ k. sure_in (way k)) h) y (all way (zero, omega arith, refl)) (any_same y (sure_of_all (other ∷ ways) h) (in_all (other ∷ ways) h y (omega arith) (λ w (k, lt, is). all w (suc k, omega (arith, lt), is))))
-
-pub filtered : {T : Type 0} (test : T → Bool) (xs : List T) (y : T) → Contains (filter test xs) y → Contains xs y × (test y ≡ true)
-filtered test [] y has = (has, contains_none y has)
-filtered {T} test (x ∷ xs) y has = by (test x) refl has (filtered test xs y)
-  where
-    by : (c : Bool) → test x ≡ c → Contains (cond c (x ∷ filter test xs) (filter test xs)) y → (Contains (filter test xs) y → Contains xs y × (test y ≡ true)) → Contains (x ∷ xs) y × (test y ≡ true)
-    by true is (zero, lt, at) rest = ((zero, omega arith, at), ap test (sym at) ∙ is)
-    by true is (suc k, lt, at) rest = let (found, passes) = rest (k, omega (arith, lt), at) in let (j, under, same) = found in ((suc j, omega (arith, under), same), passes)
-    by false is has' rest = let (found, passes) = rest has' in let (j, under, same) = found in ((suc j, omega (arith, under), same), passes)
 
 pub of_all : (ways : List EpochStates) (h : ℕ) (y : Cached) → Contains (sure_of_all ways h) y → (way : EpochStates) → Contains ways way → Contains (up_to (λ k. sure_in (way k)) h) y
 of_all [] h y has way among = contains_none y has

@@ -1,5 +1,5 @@
 -- What calls make of single epochs, seen over all of them.
-use Rattle.std.proofs.Common.{◌≡◌, ◌⊎◌, inl, inr, ◌≤◌, ◌<◌, ◌&&◌, nat_le, ℕ, zero, suc, List, [], ◌∷◌, ◌++◌, Bool, true, false, Contains, cond, filter, refl, ap, sym, subst, arith, ◌∙◌}
+use Rattle.std.proofs.Common.{◌≡◌, ◌⊎◌, inl, inr, ◌≤◌, ◌<◌, ◌&&◌, nat_le, ℕ, zero, List, [], ◌∷◌, ◌++◌, Bool, true, false, Contains, filter, refl, ap, sym, subst, arith, ◌∙◌}
 use Rattle.std.proofs.lemmas.Bool.{cases_eq, eqb-true, leb-true}
 use Rattle.std.proofs.lemmas.List.Elements.{Contains-append_cases, Contains-append_left, Contains-append_right}
 use Rattle.mar_store.specs.Changes.{Within}
@@ -16,8 +16,9 @@ use Rattle.mar_node.specs.AllEntries.{PutsEntry, PutsEntryNow, with_own_entry}
 use Rattle.mar_epochs.specs.EpochStates.{ChangesEpoch, EpochState, EpochStates, HasSome, IsBare, KeepsOtherEpochs, OpensEpoch, held_in, is_opened, may_in, opened, shut, sure_in}
 use Rattle.mar_cache.specs.Shelved.{DoesAt, LieWithin, raised}
 use Rattle.mar_cache.specs.Nested.{in_up_to, may_some, of_up_to, within_up_to}
+use Rattle.mar_node.proofs.EntryLists.{contains_none, filter_passed}
 use Rattle.mar_cache.proofs.EpochLists.{up_to_more}
-use Rattle.mar_cache.proofs.ListPuts.{contains_none, puts_firsts, puts_held, puts_only, puts_others}
+use Rattle.mar_cache.proofs.ListPuts.{puts_firsts, puts_held, puts_only, puts_others}
 
 -- NOTHING BEYOND THE HIGHEST
 
@@ -140,16 +141,6 @@ pub record SyncsHere (s : Section) (t n : EpochState) : Type 0 where
   pub sure : Within (sure_in t) (sure_in n)
   pub synced : (y : Cached) → Contains (held_in n) y → is_in s y ≡ true → Contains (sure_in n) y
   pub may : Within (may_in n) (may_in t)
-
-pub filter_passed : {T : Type 0} (test : T → Bool) (xs : List T) (x : T) → Contains xs x → test x ≡ true → Contains (filter test xs) x
-filter_passed test [] x has passes = has
-filter_passed {T} test (y ∷ ys) x has passes = by (test y) refl has (λ has'. filter_passed test ys x has' passes)
-  where
-    by : (b : Bool) → test y ≡ b → Contains (y ∷ ys) x → (Contains ys x → Contains (filter test ys) x) → Contains (cond b (y ∷ filter test ys) (filter test ys)) x
-    by true is (zero, lt, e) rest = (zero, omega arith, e)
-    by true is (suc k, lt, e) rest = let (j, under, same) = rest (k, omega (arith, lt), e) in (suc j, omega (arith, under), same)
-    by false is (zero, lt, e) rest = absurd (let no_pass : false ≡ true = sym is ∙ ap test e ∙ passes in cc)
-    by false is (suc k, lt, e) rest = rest (k, omega (arith, lt), e)
 
 pub syncs_here : (s : Section) (t m n : EpochState) → is_opened t ≡ true → ChangesEpoch (λ y. y) (Sync s) t m → n ≡ m → SyncsHere s t n
 syncs_here s (opened b) m n open_now (c, does, m_is) is = subst (SyncsHere s (opened b)) (sym (is ∙ m_is)) (record {

@@ -7,6 +7,7 @@ use Rattle.mar_types.specs.Round.{Round, round_eq}
 use Rattle.mar_cert.specs.Block.{Block}
 use Rattle.mar_cert.specs.Finalization.{Finalization}
 use Rattle.mar_node.specs.Cached.{Cached, certified_entry, finalization_entry, notarization_entry, notarized_entry, verified_entry}
+use Rattle.mar_node.proofs.EntryLists.{rounds_same}
 use Rattle.mar_cache.specs.SameEntries.{same_block, same_entry, same_finalization}
 
 and_both : (p q : Bool) → (p && q) ≡ true → (p ≡ true) × (q ≡ true)
@@ -22,9 +23,6 @@ bytes_same xs ys is = (bytes_eq-Decides xs ys).0 is
 
 bytes_refl : (xs : List ℕ) → bytes_eq xs xs ≡ true
 bytes_refl xs = (bytes_eq-Decides xs xs).1 refl
-
-pub rounds_same : (s t : Round) → round_eq s t ≡ true → s ≡ t
-rounds_same s t same = let parts = and_both (s.epoch == t.epoch) (s.view == t.view) same in ap₂ {C = Round} (λ e v. record { epoch = e; view = v }) (eqb-true s.epoch t.epoch parts.0) (eqb-true s.view t.view parts.1)
 
 round_refl : (s : Round) → round_eq s s ≡ true
 round_refl s = both (s.epoch == s.epoch) (s.view == s.view) (eq-eqb s.epoch s.epoch refl) (eq-eqb s.view s.view refl)

@@ -24,8 +24,8 @@ use Rattle.mar_cache.specs.Bounds.{Bounds}
 use Rattle.mar_cache.specs.Nested.{in_nothing}
 use Rattle.mar_cache.specs.Shelved.{AllChanges, GrowsEpoch, IsStarted, LieWithin, OpensOrStays, ThinsEpoch}
 use Rattle.mar_cache.proofs.Shelving.{changes_grows, filter_contains, grows_itself, grows_then, held_kept}
-use Rattle.mar_cache.proofs.StateLosses.{filtered, held_of_archive}
-use Rattle.mar_cache.proofs.StatePuts.{filter_passed}
+use Rattle.mar_node.proofs.EntryLists.{filter_passed, filtered}
+use Rattle.mar_cache.proofs.StateLosses.{held_of_archive}
 
 -- what each ticket covers of an epoch stays, but for what the test passes
 abbrev pub TicketsStay : (Cached → Bool) → EpochState → EpochState → Type 0

@@ -1,6 +1,6 @@
 -- Epochs of which something is open or left lie from the lowest to the highest, and their entries are of them, also after a
 -- crash.
-use Rattle.std.proofs.Common.{◌≡◌, ◌⊎◌, inl, inr, ◌≤◌, ◌<◌, ◌&&◌, ℕ, zero, suc, List, [], ◌∷◌, ◌++◌, Bool, true, false, Contains, Err, cond, nat_le, max, refl, ap, ap₂, sym, subst, arith, ◌∙◌}
+use Rattle.std.proofs.Common.{◌≡◌, ◌⊎◌, inl, inr, ◌≤◌, ◌<◌, ◌&&◌, ℕ, List, [], ◌∷◌, ◌++◌, Bool, true, false, Contains, Err, cond, nat_le, max, refl, ap, ap₂, sym, subst, arith, ◌∙◌}
 use Rattle.std.specs.List.{AllByRecursion}
 use Rattle.std.proofs.lemmas.Bool.{cases_eq, le-leb, leb-false, leb-true}
 use Rattle.std.proofs.lemmas.List.Elements.{Contains-append_cases}
@@ -12,6 +12,7 @@ use Rattle.mar_store.specs.declared.Lost.{Lost}
 use Rattle.mar_store.specs.declared.Lost.TheVariants.{Fault, Memory}
 use Rattle.mar_store.proofs.Lookups.{AllByRecursion-contains, AllByRecursion-weaker}
 use Rattle.mar_node.specs.Cached.{Cached, epoch_of}
+use Rattle.mar_node.proofs.EntryLists.{one_of}
 use Rattle.mar_cache.specs.Bounds.{Bounds, includes}
 use Rattle.mar_cache.specs.Shelved.{AllLieWithin, AreOf, DropsOlder, LiesWithin, LieWithin, pruned_bounds, raised}
 use Rattle.mar_epochs.specs.EpochStates.{ChangesEpoch, DestroysOrNot, EpochState, EpochStates, HasSome, IsBare, IsNestedEpoch, KeepsOtherEpochs, LeavesOtherEpochs, LosesEpoch, MightBe, OpensEpoch, is_opened, left_of_epoch, may_in, opened, shut}
@@ -152,10 +153,6 @@ within_pruned r states b older lie k = record { inside = λ some. by some (nat_l
     by some false = includes_is (record { lowest = r.epoch; highest = max b.highest r.epoch }) k (not_older some) (omega (arith, to_highest b k ((lie k).inside some)))
 
 -- WHAT IS LEFT
-
-one_of : {X : Type 0} (x y : X) → Contains (x ∷ []) y → y ≡ x
-one_of x y (zero, lt, is) = sym is
-one_of x y (suc k, lt, is) = absurd (omega (arith, lt))
 
 -- within each of the bounds that may be left, which are the ones of before
 within_each : (states : EpochStates) (b : Bounds) (lefts : List Bounds) → lefts ≡ b ∷ [] → LieWithin states b → (c : Bounds) → Contains lefts c → LieWithin states c

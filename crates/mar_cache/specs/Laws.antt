@@ -1,13 +1,10 @@
 -- What calls that change single epochs make of all entries together, as laws.
 use Rattle.std.specs.List.{AllByRecursion}
-use Rattle.std.specs.Prelude.{Bool, List, Option, [], false, true, filter, length, ℕ, ◌&&◌, ◌<◌, ◌==◌, ◌≡◌}
+use Rattle.std.specs.Prelude.{Bool, List, Option, false, true, filter, length, ℕ, ◌&&◌, ◌<◌, ◌==◌, ◌≡◌}
 use Rattle.mar_types.specs.Round.{Round}
 use Rattle.mar_store.specs.Changes.{Within}
 use Rattle.mar_node.specs.Cached.{Cached, epoch_of}
-use Rattle.mar_node.specs.Cache.{AdvancesCache, finished_covers, is_below}
-use Rattle.mar_node.specs.Config.{Config}
-use Rattle.mar_node.specs.Event.{Effect, Event}
-use Rattle.mar_node.specs.Node.{Node}
+use Rattle.mar_node.specs.Cache.{is_below}
 use Rattle.mar_epochs.specs.EpochStates.{ChangesEpoch, EpochStates, HasSome, IsBare, IsNestedEpoch, IsNewest, held_in, is_opened}
 use Rattle.mar_node.specs.Sections.{is_in}
 use Rattle.mar_epochs.specs.declared.Change.TheVariants.{PruneBelow}
@@ -17,7 +14,6 @@ use Rattle.mar_cache.specs.AsOne.{IsLoaded, greatest_highest, kept_of, may_of_so
 use Rattle.mar_cache.specs.Bounds.{Bounds}
 use Rattle.mar_cache.specs.Calls.{IsPut, IsPutAndSynced}
 use Rattle.mar_cache.specs.Shelved.{AllLieWithin, LeavesEpochs, LieWithin, OpensOrStays, pruned_bounds, raised}
-use Rattle.mar_cache.specs.Steps.{KeepsBeside, PutsNone, PutsOne}
 
 -- a put, of which `new` has the epochs, and where it rose the highest, seen over all
 abbrev pub PutsOverAll : Type 0
@@ -63,12 +59,3 @@ LeavesOverAll =
     (put : ℕ → List Cached) (gone : ℕ → Cached → Bool) (all : List Cached) (lets : Cached → Bool) (old : EpochStates) (b : Bounds) (ways : List EpochStates) (lefts : List Bounds)
     → LieWithin old b → AllLieWithin ways lefts → 0 < length ways → 0 < length lefts → ((k : ℕ) → Within (put k) all) → ((k : ℕ) (y : Cached) → epoch_of y ≡ k → lets y ≡ false → gone k y ≡ false) → AllByRecursion (LeavesEpochs put gone old) ways
     → LeavesEntries all lets (kept_of old b.highest) (sure_of_all ways (greatest_highest lefts)) (may_of_some ways (greatest_highest lefts))
-
--- an event that puts one entry, prunes by the rounds that it witnesses and finishes no ticket advances the cache as the
--- definition of a step says
-abbrev pub AdvancesByOne : Type 0
-AdvancesByOne = (config : Config) (n : Node) (e : Event) (fx : Effect) (n' : Node) (x : Cached) → PutsOne config n e fx n' x → finished_covers n e ≡ [] → KeepsBeside config n e fx n' → AdvancesCache config n e fx n'
-
--- and so does one that puts nothing
-abbrev pub AdvancesByNone : Type 0
-AdvancesByNone = (config : Config) (n : Node) (e : Event) (fx : Effect) (n' : Node) → PutsNone config n e fx n' → KeepsBeside config n e fx n' → AdvancesCache config n e fx n'

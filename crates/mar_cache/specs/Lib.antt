@@ -7,5 +7,4 @@ pub mod Stages
 pub mod Finds
 pub mod Nested
 pub mod SmallKept
-pub mod Steps
 pub mod Laws

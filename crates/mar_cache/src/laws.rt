@@ -1,7 +1,7 @@
 //! What calls that change single epochs make of all entries together. A node sees the cache as one list of entries; a shelf
 //! keeps them by epochs. Each function does nothing: its contract is a law.
 
-ghost use Rattle.mar_cache.specs.Laws.{AdvancesByNone, AdvancesByOne, FindsOverAll, HoldsOverAll, LeavesOverAll, LoadsOverAll, PrunesOverAll, PutsNowOverAll, PutsOverAll};
+ghost use Rattle.mar_cache.specs.Laws.{FindsOverAll, HoldsOverAll, LeavesOverAll, LoadsOverAll, PrunesOverAll, PutsNowOverAll, PutsOverAll};
 
 /// A put keeps the first entry of each place, and the first block that was verified in each round.
 pub fn puts_over_all()
@@ -37,15 +37,4 @@ pub fn loads_over_all()
 /// Where a call fails, what was sure is sure, and no more may be left but what was to be put.
 pub fn leaves_over_all()
     ensures { LeavesOverAll }
-{}
-
-/// An event that puts one entry and prunes by the rounds that it witnesses advances the cache as the definition of a node's
-/// step says.
-pub fn advances_by_one()
-    ensures { AdvancesByOne }
-{}
-
-/// The same of an event that puts nothing: a ticket that finishes makes sure what it covers.
-pub fn advances_by_none()
-    ensures { AdvancesByNone }
 {}

@@ -11,8 +11,8 @@ mod stage;
 
 pub use epoch_cache::EpochCache;
 pub use laws::{
-    advances_by_none, advances_by_one, finds_over_all, holds_over_all, leaves_over_all,
-    loads_over_all, prunes_over_all, puts_now_over_all, puts_over_all,
+    finds_over_all, holds_over_all, leaves_over_all, loads_over_all, prunes_over_all,
+    puts_now_over_all, puts_over_all,
 };
 pub use manager::{Manager, ManagerWreck};
 pub use mar_epochs::{CacheEntry, Epochs, EpochsRuin, KeptEntry, KeyedEntry};

@@ -1,5 +1,5 @@
 -- The delivery run where the sync blocks: block 1 is sure in the step that writes it and handed over at once, and `sync 0` is ignored.
-use Rattle.std.proofs.Common.{◌≡◌, ◌==◌, List, [], ◌∷◌, ◌++◌, None, refl, inl, nat_lt, lit<, lit≤, arith, codes}
+use Rattle.std.proofs.Common.{◌≡◌, ◌==◌, List, [], ◌∷◌, ◌++◌, None, refl, inl, inr, nat_lt, lit<, lit≤, arith, codes}
 use Rattle.std.specs.Fmt.{digits}
 use Rattle.hex.specs.Hex.{encode_with}
 use Rattle.mar_node.specs.Messages.{report_finalization}
@@ -10,10 +10,10 @@ use Rattle.mar_script.specs.Script.{tell_line, sync_line}
 use Rattle.mar_script.specs.Text.{output_text, remark_output, remark_ignored, running, Done}
 use Rattle.mar_script.specs.Run.{LineDone, Run}
 use Rattle.mar_laws.proofs.SmallChain.{b0, b1, d1, f1, r1, chain, config}
-use Rattle.mar_laws.proofs.DeliveryRun.{fresh, making, none_failed, n1, n3, line}
+use Rattle.mar_laws.proofs.DeliveryRun.{fresh, making, none_failed, n1, n3, line, one_entry}
 use Rattle.mar_laws.proofs.DeliverySteps.{both_blocks, one_certificate}
 use Rattle.mar_laws.proofs.SmallCutoffs.{zero_safe, finalizes}
-use Rattle.mar_laws.proofs.SmallEntries.{new_block, new_cert, new_certificates}
+use Rattle.mar_laws.proofs.SmallEntries.{cached_of, caches_report, new_block, new_cert, new_certificates}
 use Rattle.mar_laws.proofs.SmallFacts.{grown_kept, entered_own}
 use Rattle.mar_laws.proofs.SmallSteps.{settled_good}
 
@@ -21,7 +21,7 @@ abbrev pub at_once : Node
 at_once = record n3 { next_sync = 0 }
 
 good : IsGood config chain at_once
-good = settled_good chain at_once both_blocks one_certificate (record { consecutive = (refl, (refl, tt)); out_sure = (refl, (refl, tt)); within_window = lit≤ tt; anchored = tt }) (refl, (refl, tt)) (finalizes, tt) zero_safe (lit≤ tt, tt)
+good = settled_good chain at_once both_blocks one_certificate one_entry (record { consecutive = (refl, (refl, tt)); out_sure = (refl, (refl, tt)); within_window = lit≤ tt; anchored = tt }) (refl, (refl, tt)) (finalizes, tt) (cached_of chain finalizes) zero_safe (lit≤ tt, tt)
 
 finalized : Advances config chain n1 (message_told None (report_finalization f1)) (record nothing_made { reports = new_tip r1 1 d1 ∷ handed_over 1 b1 ∷ [] }) at_once
 finalized = record {
@@ -49,7 +49,8 @@ finalized = record {
   tips = (lit< tt, refl);
   tips_chain = ((0, lit< tt, refl), refl, tt);
   awaited = refl;
-  cache = record { cache = refl; lowest = refl; lowests = refl; cache_syncs = refl; witnessed = refl };
+  cache = caches_report at_once;
+  may_cached = λ x has. inr ([], has);
   stored = record { block = inl refl; certificate = λ with_it above. refl };
   stored_late = λ with_it late held. absurd (omega arith);
   floor_stored = tt;

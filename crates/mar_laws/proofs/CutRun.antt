@@ -59,7 +59,7 @@ cut = record {
     certs = λ x has. inl has;
     sure_blocks = λ h sure. sure;
     sure_certs = λ h sure. sure;
-    cached = λ x has. has;
+    cached = λ x has. inl has;
   };
   asks = ([], refl);
   sends = ([], refl);

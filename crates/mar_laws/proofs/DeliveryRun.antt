@@ -5,11 +5,12 @@ use Rattle.std.specs.Fmt.{digits}
 use Rattle.hex.specs.Hex.{encode_with}
 use Rattle.mar_key.specs.Cutoff.{at_round, cutoff_zero}
 use Rattle.mar_key.specs.Processed.{at_block}
-use Rattle.mar_store.specs.Kept.{reopened_store}
+use Rattle.mar_store.specs.Kept.{Kept, reopened_store}
 use Rattle.mar_key.specs.Keys.{retain, above_height, above_round}
 use Rattle.mar_node.specs.Messages.{report_finalization}
 use Rattle.mar_node.specs.Node.{Node}
 use Rattle.mar_node.specs.Acks.{mark_waiting}
+use Rattle.mar_node.specs.Cached.{Cached, finalization_entry}
 use Rattle.mar_node.specs.Faults.{from_genesis}
 use Rattle.mar_node.specs.Step.{new_tip, handed_over, Made, nothing_made}
 use Rattle.mar_node.specs.Lives.{opened_node}
@@ -31,6 +32,13 @@ n0 = record begun { out = record { ticket = 0; height = 0; mark = mark_waiting }
 abbrev pub n1 : Node
 n1 = record n0 { buffer = b1 ∷ [] }
 
+-- the finalization of block 1 is cached, and sure there
+abbrev pub one_entry : List Cached
+one_entry = finalization_entry f1 ∷ []
+
+abbrev pub one_cached : Kept Cached
+one_cached = reopened_store one_entry
+
 -- block 1 and its finalization are written, and a sync that covers them is open
 abbrev pub n2 : Node
 n2 = record n1 {
@@ -42,6 +50,7 @@ n2 = record n1 {
   certs = record { held = record { height = 1; value = f1 } ∷ []; sure = []; may = record { height = 1; value = f1 } ∷ [] };
   uncovered = 1 ∷ [];
   syncs = record { ticket = 0; position = 1 } ∷ [];
+  cache = one_cached;
   next_sync = 1;
   tip = 1;
 }
@@ -53,6 +62,7 @@ n3 = record n1 {
   out = record { ticket = 0; height = 0; mark = mark_waiting } ∷ record { ticket = 1; height = 1; mark = mark_waiting } ∷ [];
   covered = 1;
   uncovered = [];
+  cache = one_cached;
   next_sync = 1;
   tip = 1;
   next_ack = 2;

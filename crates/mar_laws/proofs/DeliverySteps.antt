@@ -20,8 +20,8 @@ use Rattle.mar_script.specs.Script.{open_line, tell_line, buffer_line, sync_line
 use Rattle.mar_script.specs.Text.{silent_output, running, stopped}
 use Rattle.mar_script.specs.Run.{LineDone, Run, empty_stores, next_picks}
 use Rattle.mar_laws.proofs.SmallChain.{b0, b1, d1, f1, r1, config}
-use Rattle.mar_laws.proofs.DeliveryRun.{fresh, making, none_failed, begun, n0, n1, n2, n3, n4, n5, delivery_run}
-use Rattle.mar_laws.proofs.SmallEntries.{new_block, new_cert, new_certificates}
+use Rattle.mar_laws.proofs.DeliveryRun.{fresh, making, none_failed, begun, n0, n1, n2, n3, n4, n5, delivery_run, one_entry}
+use Rattle.mar_laws.proofs.SmallEntries.{cached_of, caches_report, new_block, new_cert, new_certificates}
 use Rattle.mar_laws.proofs.SmallFacts.{entered_own, none_in}
 use Rattle.mar_laws.proofs.SmallSteps.{settled, settled_good, stores_nothing}
 
@@ -76,7 +76,7 @@ module _ (chain : Chain) (at0 : IsBlockAt chain 0 b0) (at1 : IsBlockAt chain 1 b
     finalizes = record { named = named; payload_is = ap (option_map (λ b. b.commitment)) at1 }
 
     good0 : IsGood config chain n0
-    good0 = settled_good chain n0 (record { height = 0; value = b0 } ∷ []) [] (record { consecutive = (refl, tt); out_sure = (refl, tt); within_window = lit≤ tt; anchored = tt }) (at0, tt) tt zero_safe tt
+    good0 = settled_good chain n0 (record { height = 0; value = b0 } ∷ []) [] [] (record { consecutive = (refl, tt); out_sure = (refl, tt); within_window = lit≤ tt; anchored = tt }) (at0, tt) tt (record { finalizations = tt; blocks = tt }) zero_safe tt
 
     good2 : IsGood config chain n2
     good2 = record {
@@ -99,7 +99,7 @@ module _ (chain : Chain) (at0 : IsBlockAt chain 0 b0) (at1 : IsBlockAt chain 1 b
       };
       of_chain = record {
         stores = record { held_blocks = (at0, (at1, tt)); may_blocks = (at0, (at1, tt)); held_certs = (finalizes, tt); may_certs = (finalizes, tt) };
-        cache = record { finalizations = tt; blocks = tt };
+        cache = cached_of chain finalizes;
         asks = record { requests = tt; ready = tt; overflow = tt };
         awaits = tt;
         not_at_hand = tt;
@@ -108,9 +108,9 @@ module _ (chain : Chain) (at0 : IsBlockAt chain 0 b0) (at1 : IsBlockAt chain 1 b
       };
     }
 
-    -- the later nodes, which hold both blocks and the finalization
-    settled_later : (n : Node) → IsGoodDelivery config.window both_blocks n.processed n.out → FloorSafe (option_map height_in n.processed) n.cutoff both_blocks chain → 1 ≤ n.tip → IsGood config chain (settled n both_blocks one_certificate)
-    settled_later n delivery safe told = settled_good chain n both_blocks one_certificate delivery (at0, (at1, tt)) (finalizes, tt) safe (told, tt)
+    -- the later nodes, which hold both blocks and the finalization, and have it cached
+    settled_later : (n : Node) → IsGoodDelivery config.window both_blocks n.processed n.out → FloorSafe (option_map height_in n.processed) n.cutoff both_blocks chain → 1 ≤ n.tip → IsGood config chain (settled n both_blocks one_certificate one_entry)
+    settled_later n delivery safe told = settled_good chain n both_blocks one_certificate one_entry delivery (at0, (at1, tt)) (finalizes, tt) (cached_of chain finalizes) safe (told, tt)
 
     good3 : IsGood config chain n3
     good3 = settled_later n3 (record { consecutive = (refl, (refl, tt)); out_sure = (refl, (refl, tt)); within_window = lit≤ tt; anchored = tt }) zero_safe (lit≤ tt)
@@ -146,7 +146,7 @@ module _ (chain : Chain) (at0 : IsBlockAt chain 0 b0) (at1 : IsBlockAt chain 1 b
     }
 
     starts : Advances config chain begun (life_started None) (record nothing_made { reports = handed_over 0 b0 ∷ [] }) n0
-    starts = stores_nothing chain begun (life_started None) (record { no_effect = refl; no_storing = refl; untold = refl; no_query = refl; no_fault = refl; no_syncs = λ n. refl }) (handed_over 0 b0 ∷ []) begun.blocks.sure [] begun.meta
+    starts = stores_nothing chain begun (life_started None) (record { no_effect = refl; no_storing = refl; untold = refl; no_query = refl; no_fault = refl; no_puts = λ after. refl; no_syncs = λ n. refl; no_tickets = refl; lowest = refl; still_lowest = refl }) (handed_over 0 b0 ∷ []) begun.blocks.sure [] begun.meta
         (record { in_order = (refl, refl, refl, tt); counted = refl; out = refl; below_barrier = (tt, tt) }) ((at0, refl), tt) (λ h v is. is) (λ h v is. is) refl tt
 
     opens : LineDone config chain fresh (stopped empty_stores) (open_line (from_genesis b0)) (making (record nothing_made { reports = handed_over 0 b0 ∷ [] })) (running n0)
@@ -181,7 +181,8 @@ module _ (chain : Chain) (at0 : IsBlockAt chain 0 b0) (at1 : IsBlockAt chain 1 b
       tips = (lit< tt, refl);
       tips_chain = (named, ap (option_map (λ b. b.digest)) at1, tt);
       awaited = refl;
-      cache = record { cache = refl; lowest = refl; lowests = refl; cache_syncs = refl; witnessed = refl };
+      cache = caches_report unticketed;
+      may_cached = λ x has. inr ([], has);
       stored = record { block = inl refl; certificate = λ with_it above. refl };
       stored_late = λ with_it late held. absurd (omega arith);
       floor_stored = tt;
@@ -194,20 +195,20 @@ module _ (chain : Chain) (at0 : IsBlockAt chain 0 b0) (at1 : IsBlockAt chain 1 b
     finals = (_, record { unticketed = unticketed; advances = finalized; ticket = refl; rests = write_uncovered 1 (0, lit< tt, refl) (lit≤ tt); good = good2 }, refl, refl, refl)
 
     synced : Advances config chain n2 (sync_finished 0) (record nothing_made { reports = handed_over 1 b1 ∷ [] }) n3
-    synced = stores_nothing chain n2 (sync_finished 0) (record { no_effect = refl; no_storing = refl; untold = refl; no_query = refl; no_fault = refl; no_syncs = λ n. refl }) (handed_over 1 b1 ∷ []) n2.blocks.held n2.certs.held n2.meta
+    synced = stores_nothing chain n2 (sync_finished 0) (record { no_effect = refl; no_storing = refl; untold = refl; no_query = refl; no_fault = refl; no_puts = λ after. refl; no_syncs = λ n. refl; no_tickets = refl; lowest = refl; still_lowest = refl }) (handed_over 1 b1 ∷ []) n2.blocks.held n2.certs.held n2.meta
         (record { in_order = (refl, refl, refl, tt); counted = refl; out = refl; below_barrier = (tt, tt) }) ((at1, refl), tt) first_stays (λ h v is. absurd cc) refl tt
 
     syncs : LineDone config chain fresh (running n2) (sync_line 0) (making (record nothing_made { reports = handed_over 1 b1 ∷ [] })) (running n3)
     syncs = (_, record { unticketed = n3; advances = synced; ticket = refl; rests = window_full refl; good = good3 }, refl, refl, refl)
 
     acked0 : Advances config chain n3 (ack_given 0) (record nothing_made { asks = retain (above_height 0) ∷ [] }) n4
-    acked0 = stores_nothing chain n3 (ack_given 0) (record { no_effect = refl; no_storing = refl; untold = refl; no_query = refl; no_fault = refl; no_syncs = λ n. refl }) [] n3.blocks.sure n3.certs.sure n4.meta (record { in_order = tt; counted = refl; out = refl; below_barrier = tt }) tt (λ h v is. is) (λ h v is. is) refl tt
+    acked0 = stores_nothing chain n3 (ack_given 0) (record { no_effect = refl; no_storing = refl; untold = refl; no_query = refl; no_fault = refl; no_puts = λ after. refl; no_syncs = λ n. refl; no_tickets = refl; lowest = refl; still_lowest = refl }) [] n3.blocks.sure n3.certs.sure n4.meta (record { in_order = tt; counted = refl; out = refl; below_barrier = tt }) tt (λ h v is. is) (λ h v is. is) refl tt
 
     acks0 : LineDone config chain fresh (running n3) (ack_line 0) (making (record nothing_made { asks = retain (above_height 0) ∷ [] })) (running n4)
     acks0 = (_, record { unticketed = n4; advances = acked0; ticket = refl; rests = block_missing refl; good = good4 }, refl, refl, refl)
 
     acked1 : Advances config chain n4 (ack_given 1) (record nothing_made { asks = retain (above_height 1) ∷ retain (above_round (at_round r1)) ∷ [] }) n5
-    acked1 = stores_nothing chain n4 (ack_given 1) (record { no_effect = refl; no_storing = refl; untold = refl; no_query = refl; no_fault = refl; no_syncs = λ n. refl }) [] n4.blocks.sure n4.certs.sure n5.meta (record { in_order = tt; counted = refl; out = refl; below_barrier = tt }) tt (λ h v is. is) (λ h v is. is) refl tt
+    acked1 = stores_nothing chain n4 (ack_given 1) (record { no_effect = refl; no_storing = refl; untold = refl; no_query = refl; no_fault = refl; no_puts = λ after. refl; no_syncs = λ n. refl; no_tickets = refl; lowest = refl; still_lowest = refl }) [] n4.blocks.sure n4.certs.sure n5.meta (record { in_order = tt; counted = refl; out = refl; below_barrier = tt }) tt (λ h v is. is) (λ h v is. is) refl tt
 
     acks1 : LineDone config chain fresh (running n4) (ack_line 1) (making (record nothing_made { asks = retain (above_height 1) ∷ retain (above_round (at_round r1)) ∷ [] })) (running n5)
     acks1 = (_, record { unticketed = n5; advances = acked1; ticket = refl; rests = block_missing refl; good = good5 }, refl, refl, refl)

@@ -1,15 +1,17 @@
 -- What enters the stores in the instances, and what may be left of it.
-use Rattle.std.proofs.Common.{Bool, Contains, List, [], None, Option, Some, ap, arith, false, if◌then◌else◌, inl, inr, lit<, subst, suc, sym, true, zero, ℕ, ◌∙◌, ◌≡◌, ◌⊎◌}
+use Rattle.std.proofs.Common.{Bool, Contains, List, [], None, Option, Some, ap, arith, false, if◌then◌else◌, inl, inr, lit<, refl, subst, suc, sym, true, zero, ℕ, ◌∙◌, ◌≡◌, ◌⊎◌}
 use Rattle.mar_cert.specs.Block.{Block}
 use Rattle.mar_cert.specs.Finalization.{Finalization}
 use Rattle.mar_store.specs.Kept.{At, reopened_store, value_at}
 use Rattle.mar_node.specs.Messages.{report_finalization}
-use Rattle.mar_node.specs.Chain.{Chain}
-use Rattle.mar_node.specs.Node.{AreBlocksOf, AreFinalizationsOf, AreGoodStores, AreNestedHeights, AreStoresOf, Node}
-use Rattle.mar_node.specs.Event.{Event, Storing, message_told, storing_of, told_finalization}
+use Rattle.mar_node.specs.Cache.{AdvancesCache}
+use Rattle.mar_node.specs.Chain.{Chain, Finalizes}
+use Rattle.mar_node.specs.Node.{AreBlocksOf, AreFinalizationsOf, AreGoodStores, AreNestedHeights, AreStoresOf, IsCacheOf, Node}
+use Rattle.mar_node.specs.Event.{Event, Storing, message_told, no_floor, storing_of, told_finalization}
 use Rattle.mar_node.specs.Step.{CertificatesFrom, IsBlockFrom, IsCertFrom}
-use Rattle.mar_laws.proofs.SmallChain.{f1}
-use Rattle.mar_laws.proofs.DeliveryRun.{n1, n2}
+use Rattle.mar_laws.proofs.SmallChain.{config, d1, f1, r1}
+use Rattle.mar_laws.proofs.SmallFacts.{none_in}
+use Rattle.mar_laws.proofs.DeliveryRun.{n1, n2, one_cached}
 
 -- all that is held is sure
 pub settled_heights : {T : Type 0} (xs : List (At T)) → AreNestedHeights (reopened_store xs)
@@ -38,7 +40,7 @@ same_certificates n e n' untold same = record {
     none is = cc
 
 -- the finalization of block 1 is reported
-abbrev reported : Event
+abbrev pub reported : Event
 reported = message_told None (report_finalization f1)
 
 pub new_block : (x : At Block) → Contains n2.blocks.may x → Contains n1.blocks.may x ⊎ IsBlockFrom n1 reported x
@@ -68,3 +70,27 @@ new_certificates n same = record {
       where
         inside : (t : Storing) → ◌≡◌ {A = Option Storing} (Some (record { height = 1; with_certificate = true })) (Some t) → ◌≡◌ {A = Storing} (record { height = 1; with_certificate = true }) t
         inside t is = cc
+
+-- it is cached, synced there, and prunes nothing
+abbrev pub caching : Node → Node
+caching n = record n { cache = one_cached; lowest = 0; lowests = []; cache_syncs = []; witnessed = n1.witnessed }
+
+pub caches_report : (n : Node) → AdvancesCache config n1 reported no_floor (caching n)
+caches_report n = record {
+  kept = λ x there. inl there;
+  nothing_else = λ x there. there;
+  stays_sure = λ x sure held. absurd (none_in x sure);
+  stays = λ x there. absurd (none_in x there);
+  first_stays = λ r b first held. first;
+  synced = λ x is held. held;
+  finished = λ x there held. held;
+  lowest = refl;
+  lowests = λ k there. absurd (none_in k there);
+  own_lowest = (0, lit< tt, refl);
+  cache_syncs = refl;
+  witnessed = refl;
+}
+
+-- what is cached is the chain's
+pub cached_of : (chain : Chain) → Finalizes chain 1 r1 d1 → IsCacheOf chain one_cached
+cached_of chain finalizes = record { finalizations = ((1, finalizes), ((1, finalizes), tt)); blocks = tt }

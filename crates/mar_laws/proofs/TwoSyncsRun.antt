@@ -5,18 +5,20 @@ use Rattle.std.specs.Fmt.{digits}
 use Rattle.hex.specs.Hex.{encode_with}
 use Rattle.mar_key.specs.Processed.{height_in}
 use Rattle.mar_store.specs.Kept.{has_height}
+use Rattle.mar_node.specs.Cache.{AdvancesCache}
 use Rattle.mar_node.specs.Messages.{report_finalization}
 use Rattle.mar_node.specs.Node.{FloorSafe, IsGood, IsGoodDelivery, Node, window_full, write_uncovered}
-use Rattle.mar_node.specs.Event.{message_told, sync_finished}
+use Rattle.mar_node.specs.Event.{message_told, no_floor, sync_finished}
 use Rattle.mar_node.specs.Step.{handed_over, nothing_made, Advances}
 use Rattle.mar_script.specs.Script.{tell_line, sync_line}
 use Rattle.mar_script.specs.Text.{output_text, running, Done}
 use Rattle.mar_script.specs.Run.{LineDone, Run}
 use Rattle.mar_laws.proofs.SmallChain.{b1, f1, chain, config}
-use Rattle.mar_laws.proofs.DeliveryRun.{fresh, making, none_failed, n2, n3, line}
+use Rattle.mar_laws.proofs.DeliveryRun.{fresh, making, none_failed, n2, n3, line, one_entry}
 use Rattle.mar_laws.proofs.DeliverySteps.{blocks_nested, blocks_written, both_blocks, certs_written, first_stays, one_certificate}
 use Rattle.mar_laws.proofs.SmallCutoffs.{zero_safe, finalizes}
-use Rattle.mar_laws.proofs.SmallFacts.{not_entered, same_kept}
+use Rattle.mar_laws.proofs.SmallEntries.{cached_of, reported}
+use Rattle.mar_laws.proofs.SmallFacts.{none_in, not_entered, same_kept}
 use Rattle.mar_laws.proofs.SmallSteps.{settled, settled_good, stores_nothing}
 
 -- after the second telling, the later sync, and the earlier one
@@ -60,7 +62,7 @@ good_told = record {
       held_certs = (finalizes, tt);
       may_certs = (finalizes, tt);
     };
-    cache = record { finalizations = tt; blocks = tt };
+    cache = cached_of chain finalizes;
     asks = record { requests = tt; ready = tt; overflow = tt };
     awaits = tt;
     not_at_hand = tt;
@@ -70,8 +72,8 @@ good_told = record {
 }
 
 -- once one of them finished, all is sure
-settled_both : (n : Node) → IsGoodDelivery config.window both_blocks n.processed n.out → FloorSafe (option_map height_in n.processed) n.cutoff both_blocks chain → 1 ≤ n.tip → IsGood config chain (settled n both_blocks one_certificate)
-settled_both n delivery safe told_tip = settled_good chain n both_blocks one_certificate delivery (refl, (refl, tt)) (finalizes, tt) safe (told_tip, tt)
+settled_both : (n : Node) → IsGoodDelivery config.window both_blocks n.processed n.out → FloorSafe (option_map height_in n.processed) n.cutoff both_blocks chain → 1 ≤ n.tip → IsGood config chain (settled n both_blocks one_certificate one_entry)
+settled_both n delivery safe told_tip = settled_good chain n both_blocks one_certificate one_entry delivery (refl, (refl, tt)) (finalizes, tt) (cached_of chain finalizes) safe (told_tip, tt)
 
 good_later : IsGood config chain later_first
 good_later = settled_both later_first (record { consecutive = (refl, (refl, tt)); out_sure = (refl, (refl, tt)); within_window = lit≤ tt; anchored = tt }) zero_safe (lit≤ tt)
@@ -79,7 +81,27 @@ good_later = settled_both later_first (record { consecutive = (refl, (refl, tt))
 good_both : IsGood config chain both_finished
 good_both = settled_both both_finished (record { consecutive = (refl, (refl, tt)); out_sure = (refl, (refl, tt)); within_window = lit≤ tt; anchored = tt }) zero_safe (lit≤ tt)
 
-told : Advances config chain n2 (message_told None (report_finalization f1)) nothing_made (record told_twice { syncs = n2.syncs; next_sync = 1 })
+abbrev unticketed : Node
+unticketed = record told_twice { syncs = n2.syncs; next_sync = 1 }
+
+-- its finalization is cached already
+cached_before : AdvancesCache config n2 reported no_floor unticketed
+cached_before = record {
+  kept = λ x there. inl there;
+  nothing_else = λ x there. there;
+  stays_sure = λ x sure held. held;
+  stays = λ x there. inl there;
+  first_stays = λ r b first held. first;
+  synced = λ x is held. held;
+  finished = λ x there held. held;
+  lowest = refl;
+  lowests = λ k there. absurd (none_in k there);
+  own_lowest = (0, lit< tt, refl);
+  cache_syncs = refl;
+  witnessed = refl;
+}
+
+told : Advances config chain n2 (message_told None (report_finalization f1)) nothing_made unticketed
 told = record {
   hands = record { in_order = tt; counted = refl; out = refl; below_barrier = tt };
   hands_chain = tt;
@@ -105,7 +127,8 @@ told = record {
   tips = refl;
   tips_chain = tt;
   awaited = refl;
-  cache = record { cache = refl; lowest = refl; lowests = refl; cache_syncs = refl; witnessed = refl };
+  cache = cached_before;
+  may_cached = λ x has. inl has;
   stored = record { block = inl refl; certificate = λ with_it above. refl };
   stored_late = λ with_it late held. absurd (omega arith);
   floor_stored = tt;
@@ -115,17 +138,17 @@ told = record {
 }
 
 tells : LineDone config chain fresh (running n2) (tell_line (report_finalization f1)) (making nothing_made) (running told_twice)
-tells = (_, record { unticketed = record told_twice { syncs = n2.syncs; next_sync = 1 }; advances = told; ticket = refl; rests = write_uncovered 1 (0, lit< tt, refl) (lit≤ tt); good = good_told }, refl, refl, refl)
+tells = (_, record { unticketed = unticketed; advances = told; ticket = refl; rests = write_uncovered 1 (0, lit< tt, refl) (lit≤ tt); good = good_told }, refl, refl, refl)
 
 later : Advances config chain told_twice (sync_finished 1) (record nothing_made { reports = handed_over 1 b1 ∷ [] }) later_first
-later = stores_nothing chain told_twice (sync_finished 1) (record { no_effect = refl; no_storing = refl; untold = refl; no_query = refl; no_fault = refl; no_syncs = λ n. refl }) (handed_over 1 b1 ∷ []) n2.blocks.held n2.certs.held n2.meta
+later = stores_nothing chain told_twice (sync_finished 1) (record { no_effect = refl; no_storing = refl; untold = refl; no_query = refl; no_fault = refl; no_puts = λ after. refl; no_syncs = λ n. refl; no_tickets = refl; lowest = refl; still_lowest = refl }) (handed_over 1 b1 ∷ []) n2.blocks.held n2.certs.held n2.meta
     (record { in_order = (refl, refl, refl, tt); counted = refl; out = refl; below_barrier = (tt, tt) }) ((refl, refl), tt) first_stays (λ h v is. absurd cc) refl tt
 
 laters : LineDone config chain fresh (running told_twice) (sync_line 1) (making (record nothing_made { reports = handed_over 1 b1 ∷ [] })) (running later_first)
 laters = (_, record { unticketed = later_first; advances = later; ticket = refl; rests = window_full refl; good = good_later }, refl, refl, refl)
 
 earlier : Advances config chain later_first (sync_finished 0) nothing_made both_finished
-earlier = stores_nothing chain later_first (sync_finished 0) (record { no_effect = refl; no_storing = refl; untold = refl; no_query = refl; no_fault = refl; no_syncs = λ n. refl }) [] later_first.blocks.sure later_first.certs.sure later_first.meta (record { in_order = tt; counted = refl; out = refl; below_barrier = tt }) tt (λ h v is. is) (λ h v is. is) refl tt
+earlier = stores_nothing chain later_first (sync_finished 0) (record { no_effect = refl; no_storing = refl; untold = refl; no_query = refl; no_fault = refl; no_puts = λ after. refl; no_syncs = λ n. refl; no_tickets = refl; lowest = refl; still_lowest = refl }) [] later_first.blocks.sure later_first.certs.sure later_first.meta (record { in_order = tt; counted = refl; out = refl; below_barrier = tt }) tt (λ h v is. is) (λ h v is. is) refl tt
 
 earliers : LineDone config chain fresh (running later_first) (sync_line 0) (making nothing_made) (running both_finished)
 earliers = (_, record { unticketed = both_finished; advances = earlier; ticket = refl; rests = window_full refl; good = good_both }, refl, refl, refl)

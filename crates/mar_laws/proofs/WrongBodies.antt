@@ -133,8 +133,8 @@ ended = record {
   blocks_may = n5.blocks.may;
   certs_sure = n5.certs.sure;
   certs_may = n5.certs.may;
-  cache_sure = [];
-  cache_may = [];
+  cache_sure = n5.cache.sure;
+  cache_may = n5.cache.may;
   lowests = [];
   meta = n5.meta;
 }

@@ -10,7 +10,7 @@ use Rattle.mar_node.specs.Messages.{report_finalization, set_floor, verified}
 use Rattle.mar_node.specs.Metadata.{Pair}
 use Rattle.mar_node.specs.Node.{Node, Ended, left_by, IsGood}
 use Rattle.mar_node.specs.Event.{Event, Effect, no_floor, message_told, ack_dropped, ack_given, peer_answered, gave_nothing, block_buffered}
-use Rattle.mar_node.specs.Cached.{epoch_of, verified_entry}
+use Rattle.mar_node.specs.Cached.{Cached, epoch_of, finalization_entry, verified_entry}
 use Rattle.mar_node.specs.Cache.{AdvancesCache, entries_with_puts, is_pruned}
 use Rattle.mar_node.specs.Faults.{Fault, dropped_ack, floor_invalid, next_after}
 use Rattle.mar_node.specs.Requests.{Repaired, Passes}
@@ -18,7 +18,8 @@ use Rattle.mar_node.specs.Step.{Made, nothing_made, handed_over, Advances}
 use Rattle.mar_node.specs.Lives.{CutsEvent, reached_after, reached_before}
 use Rattle.mar_laws.proofs.SmallChain.{b0, b1, d1, f1, r1, chain, config}
 use Rattle.mar_laws.proofs.DeliveryRun.{begun, n0, n1, n3, n4, n5}
-use Rattle.mar_laws.proofs.SmallFacts.{none_in}
+use Rattle.mar_laws.proofs.SmallEntries.{reported}
+use Rattle.mar_laws.proofs.SmallFacts.{none_in, only}
 use Rattle.mar_laws.proofs.RepairPass.{gapped, gap_at}
 
 on_off : true ≡ false → ⊥
@@ -97,6 +98,17 @@ hands_again before least fault left c = by c.reached_is
 forgets_held : (before : List Pair) (least : Option ℕ) (made : Made) (fault : Fault) (left : Ended) → left.blocks_may ≡ [] → CutsEvent config chain before least n3 (ack_given 0) made fault left → ⊥
 forgets_held before least made fault left none c = on_off (sym (c.may.held_blocks 1 (lit≤ tt) refl) ∙ ap (λ xs. has_height xs 1) none)
 
+-- one after which an entry may be cached that might not be before, and that the event does not put
+caches_more : (before : List Pair) (least : Option ℕ) (made : Made) (fault : Fault) (left : Ended) → left.cache_may ≡ verified_entry r1 b1 ∷ [] → CutsEvent config chain before least n3 (ack_given 0) made fault left → ⊥
+caches_more before least made fault left some c = refuse (c.may.cached (verified_entry r1 b1) (subst (λ xs. Contains xs (verified_entry r1 b1)) (sym some) (0, lit< tt, refl)))
+  where
+    apart : finalization_entry f1 ≡ verified_entry r1 b1 → ⊥
+    apart e = cc
+
+    refuse : Contains n3.cache.may (verified_entry r1 b1) ⊎ List Cached × Contains [] (verified_entry r1 b1) → ⊥
+    refuse (inl before) = apart (only _ _ before)
+    refuse (inr (after, put)) = none_in (verified_entry r1 b1) put
+
 -- one that asks for what the event would not, before it is cut
 asks_otherwise : (before : List Pair) (least : Option ℕ) (fault : Fault) (left : Ended) → CutsEvent config chain before least n3 (ack_given 0) (record nothing_made { asks = retain (above_height 1) ∷ [] }) fault left → ⊥
 asks_otherwise before least fault left c = apart _ _ c.asks.1
@@ -139,3 +151,16 @@ caches_nothing n held a = refuse (a.kept (verified_entry r1 b1) (subst (λ after
     refuse (inl has) = none_in (verified_entry r1 b1) (subst (λ xs. Contains xs (verified_entry r1 b1)) held has)
     refuse (inr (inl low)) = omega arith
     refuse (inr (inr pruned)) = cc
+
+-- one that leaves the cache as it was where a finalization is reported
+leaves_cache : (n : Node) → n.cache ≡ n1.cache → (made : Made) → Advances config chain n1 reported made n → ⊥
+leaves_cache n same made a = refuse (a.cache.kept (finalization_entry f1) (0, lit< tt, refl))
+  where
+    refuse : Contains n.cache.held (finalization_entry f1) ⊎ (epoch_of (finalization_entry f1) < n1.lowest) ⊎ IsTrue (is_pruned config n1 reported no_floor (finalization_entry f1)) → ⊥
+    refuse (inl has) = none_in (finalization_entry f1) (subst (λ k. Contains k.held (finalization_entry f1)) same has)
+    refuse (inr (inl low)) = omega arith
+    refuse (inr (inr pruned)) = cc
+
+-- one that caches it there and does not sync it
+leaves_unsynced : (n : Node) → n.cache.held ≡ finalization_entry f1 ∷ [] → n.cache.sure ≡ [] → (made : Made) → Advances config chain n1 reported made n → ⊥
+leaves_unsynced n held unsure made a = none_in (finalization_entry f1) (subst (λ xs. Contains xs (finalization_entry f1)) unsure (a.cache.synced (finalization_entry f1) refl (subst (λ xs. Contains xs (finalization_entry f1)) (sym held) (0, lit< tt, refl))))

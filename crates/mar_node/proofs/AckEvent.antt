@@ -1,10 +1,10 @@
 -- An acknowledgement: what is given at the front is processed, and the node stays good.
 use Rattle.std.proofs.Common.{◌≡◌, inr, ℕ, zero, suc, ◌+◌, ◌≤◌, List, [], ◌∷◌, ◌++◌, length, fold, Bool, true, false, if◌then◌else◌, nat_lt, Option, Some, None, Contains, option_map, refl, sym, ◌∙◌, ap, ap₂, subst, arith, append-nil}
-use Rattle.std.specs.List.{cons_option, filter_map}
+use Rattle.std.specs.List.{filter_map}
 use Rattle.std.proofs.lemmas.Bool.Decides.{nat_tests}
 use Rattle.std.proofs.lemmas.List.{length-map}
 use Rattle.mar_types.specs.Epochs.{IsPartition}
-use Rattle.mar_types.specs.Round.{Round, round_lt}
+use Rattle.mar_types.specs.Round.{Round}
 use Rattle.mar_cert.specs.Block.{Block}
 use Rattle.mar_cert.specs.Finalization.{Finalization}
 use Rattle.mar_key.specs.Cutoff.{Cutoff, greatest_of}
@@ -13,18 +13,20 @@ use Rattle.mar_store.specs.Changes.{IsNested, KeepsValues}
 use Rattle.mar_store.specs.Kept.{At, value_at}
 use Rattle.mar_node.specs.Acks.{Mark, Outstanding, after_given, dropped_oldest, given_front, is_dropped, is_given, mark_dropped, mark_given, mark_waiting, marked_entry, with_mark}
 use Rattle.mar_node.specs.Metadata.{Pair, pair_of}
-use Rattle.mar_node.specs.Cache.{Witnessing, prunes_by, with_witness, witnessing_of}
+use Rattle.mar_node.specs.Cache.{Witnessing, with_witness, witnessed_rounds, witnessing_of}
 use Rattle.mar_node.specs.Chain.{Chain, IsLawful}
 use Rattle.mar_node.specs.Config.{Config}
 use Rattle.mar_node.specs.Event.{ack_given, acked_to, all_retired, cutoff_after, no_floor, processed_after, round_at}
 use Rattle.mar_node.specs.Faults.{dropped_first, next_after}
-use Rattle.mar_node.specs.Held.{Watches, Seen}
+use Rattle.mar_node.specs.Held.{AreCached, Held, Seen, Watches}
 use Rattle.mar_node.specs.Lives.{NotBelow, later_round}
-use Rattle.mar_node.specs.Moves.{Drains}
+use Rattle.mar_node.specs.Moves.{Drains, PrunesCacheBy, pruned_by, rounds_of, with_cache_of}
 use Rattle.mar_node.specs.Node.{FloorSafe, IsGood, Node, Rest, block_missing, floor_awaited, window_full, write_uncovered}
 use Rattle.mar_node.specs.Promise.{Waiting, node_of}
 use Rattle.mar_node.specs.Requests.{own_asks, retire_asks}
 use Rattle.mar_node.specs.Sound.{IsSafePair}
+use Rattle.mar_node.proofs.CacheOver.{moves_pruned}
+use Rattle.mar_node.proofs.CachePrunes.{IsCacheOf-pruned, PrunesCacheBy-beside, last_after-is, later_rounds-of, witnessing_from}
 use Rattle.mar_node.proofs.Cutting.{MayBeLeft, keeps_heights}
 use Rattle.mar_node.proofs.FloorSafety.{FloorSafe-after, next_after-is}
 use Rattle.mar_node.proofs.OutstandingLemmas.{ConsecutiveFrom-after_given, ConsecutiveFrom-with_mark, all_sure-drained, all_sure-kept, first_unprocessed-rises}
@@ -75,22 +77,7 @@ none_of_length (x ∷ xs) e = absurd (clash (length xs) e)
 
 -- the later of the rounds at these heights is the last one witnessed
 pub later_rounds-are : (certs : List (At Finalization)) (retention : ℕ) (w : Witnessing) (out : List Outstanding) → fold (λ r o. later_round r (round_at certs o.height)) w.last out ≡ (fold (with_witness retention) w (filter_map (λ o. round_at certs o.height) out)).last
-later_rounds-are certs retention w [] = refl
-later_rounds-are certs retention w (o ∷ out) = by (round_at certs o.height) (λ v. later_rounds-are certs retention v out)
-  where
-    later : Round → Round
-    later r = fold (λ s x. later_round s (round_at certs x.height)) r out
-
-    rounds : List Round
-    rounds = filter_map (λ x. round_at certs x.height) out
-
-    newer : (r : Round) (b : Bool) → ((v : Witnessing) → later v.last ≡ (fold (with_witness retention) v rounds).last) → later (if b then r else w.last) ≡ (fold (with_witness retention) (if b then record { last = r; prunes = w.prunes ++ prunes_by retention w.last ∷ [] } else w) rounds).last
-    newer r true others = others (record { last = r; prunes = w.prunes ++ prunes_by retention w.last ∷ [] })
-    newer r false others = others w
-
-    by : (r : Option Round) → ((v : Witnessing) → later v.last ≡ (fold (with_witness retention) v rounds).last) → later (later_round w.last r) ≡ (fold (with_witness retention) w (cons_option r rounds)).last
-    by None others = others w
-    by (Some r) others = newer r (round_lt w.last r) others
+later_rounds-are certs retention w out = later_rounds-of certs w.last out ∙ sym (last_after-is retention w (rounds_of certs out))
 
 -- THE EVENT
 
@@ -98,7 +85,7 @@ later_rounds-are certs retention w (o ∷ out) = by (round_at certs o.height) (�
 abbrev pub with_own_pair : {P E : Type 0} → Watches → Seen P E → Seen P E
 with_own_pair watches b = record b { held = record b.held { pairs = pair_of b.held.processed b.held.cutoff ∷ []; watches = watches } }
 
-module _ {P E : Type 0} (config : Config) (chain : Chain) (lawful : IsLawful config.epochs chain) (partition : IsPartition config.epochs) (a : Seen P E) (t : ℕ) (buffer : List Block) (waiting : Waiting) (nested : IsNested a.held.blocks) (certs_nested : IsNested a.held.certs) (good : IsGood config chain (node_of a buffer waiting)) where
+module _ {P E : Type 0} (config : Config) (chain : Chain) (lawful : IsLawful config.epochs chain) (partition : IsPartition config.epochs) (a : Seen P E) (t : ℕ) (buffer : List Block) (waiting : Waiting) (nested : IsNested a.held.blocks) (certs_nested : IsNested a.held.certs) (good : IsGood config chain (node_of a buffer waiting)) (loaded : a.held.cache.loaded ≡ true) (cached : AreCached a.held) where
   abbrev pub n : Node
   n = node_of a buffer waiting
 
@@ -117,15 +104,18 @@ module _ {P E : Type 0} (config : Config) (chain : Chain) (lawful : IsLawful con
   abbrev pub cutoff : Cutoff
   cutoff = greatest_of a.held.cutoff (all_retired config.epochs a.held.certs.held drained)
 
-  -- the actor once they are drained, with these pairs and counted calls
-  abbrev pub drained_to : List Pair → Watches → Seen P E
-  drained_to pairs watches = record a {
-    held = record a.held {
+  -- the rounds that prune the cache as theirs are witnessed
+  abbrev pub prunes : List Round
+  prunes = pruned_by a.life.sizes.retention a.held.witnessed (rounds_of a.held.certs.held drained)
+
+  -- the actor once they are drained, with these pairs, and the cache and the counted calls of these stores
+  abbrev pub drained_to : List Pair → Held → Seen P E
+  drained_to pairs now = record a {
+    held = record (with_cache_of now a.held) {
       processed = processed;
       cutoff = cutoff;
       witnessed = fold (λ r o. later_round r (round_at a.held.certs.held o.height)) a.held.witnessed drained;
       pairs = pairs;
-      watches = watches;
     };
     life = record a.life { out = after_given given.life.out };
   }
@@ -142,12 +132,17 @@ module _ {P E : Type 0} (config : Config) (chain : Chain) (lawful : IsLawful con
   pub asks-drained : retire_asks config.epochs a.held.certs.held a.held.cutoff drained ≡ own_asks config n (ack_given t) no_floor
   asks-drained = sym (append-nil (retire_asks config.epochs a.held.certs.held a.held.cutoff drained ++ []) ∙ append-nil (retire_asks config.epochs a.held.certs.held a.held.cutoff drained))
 
-  -- and so is the round that is witnessed last
+  -- the rounds that are witnessed are the event's
+  rounds-are : rounds_of a.held.certs.held drained ≡ witnessed_rounds n (ack_given t) no_floor
+  rounds-are = sym (append-nil (rounds_of a.held.certs.held drained))
+
+  -- and so is the last one
   witnessed-is : fold (λ r o. later_round r (round_at a.held.certs.held o.height)) a.held.witnessed drained ≡ (witnessing_of config n (ack_given t) no_floor).last
-  witnessed-is = later_rounds-are a.held.certs.held config.retention start drained ∙ ap (λ rounds. (fold (with_witness config.retention) start rounds).last) (sym (append-nil (filter_map (λ o. round_at a.held.certs.held o.height) drained)))
-    where
-      start : Witnessing
-      start = record { last = a.held.witnessed; prunes = [] }
+  witnessed-is = later_rounds-are a.held.certs.held config.retention (witnessing_from a.held.witnessed) drained ∙ ap (λ rounds. (fold (with_witness config.retention) (witnessing_from a.held.witnessed) rounds).last) rounds-are
+
+  -- the event prunes by the same rounds, where it retains as many views as the actor
+  pub prunes-are : config.retention ≡ a.life.sizes.retention → prunes ≡ (witnessing_of config n (ack_given t) no_floor).prunes
+  prunes-are retention = ap (λ k. pruned_by k a.held.witnessed (rounds_of a.held.certs.held drained)) (sym retention) ∙ ap (pruned_by config.retention a.held.witnessed) rounds-are
 
   -- it covers nothing but what is processed or, next after that, sure
   floor_safe : FloorSafe (option_map height_in processed) cutoff a.held.blocks.sure chain
@@ -162,8 +157,8 @@ module _ {P E : Type 0} (config : Config) (chain : Chain) (lawful : IsLawful con
       omega arith
 
   -- it is good
-  IsGood-drained : (watches : Watches) → IsGood config chain (node_of (drained_to own_pairs watches) buffer waiting)
-  IsGood-drained watches = record {
+  IsGood-drained : (now : Held) → PrunesCacheBy prunes a.held now → IsGood config chain (node_of (drained_to own_pairs now) buffer waiting)
+  IsGood-drained now pruned = record {
     heights = record {
       stores = good.heights.stores;
       delivery = record {
@@ -178,7 +173,7 @@ module _ {P E : Type 0} (config : Config) (chain : Chain) (lawful : IsLawful con
     };
     of_chain = record {
       stores = good.of_chain.stores;
-      cache = good.of_chain.cache;
+      cache = IsCacheOf-pruned chain prunes a.held.cache.kept now.cache.kept good.of_chain.cache (pruned.prunes loaded);
       asks = good.of_chain.asks;
       awaits = good.of_chain.awaits;
       not_at_hand = good.of_chain.not_at_hand;
@@ -188,8 +183,8 @@ module _ {P E : Type 0} (config : Config) (chain : Chain) (lawful : IsLawful con
   }
 
   -- and the event reached it, where the oldest that stays wasn't dropped
-  Reaches-drained : (watches : Watches) → dropped_oldest (after_given given.life.out) ≡ None → Reaches config chain a (ack_given t) buffer waiting [] (drained_to own_pairs watches)
-  Reaches-drained watches not_dropped = record {
+  Reaches-drained : prunes ≡ (witnessing_of config n (ack_given t) no_floor).prunes → (now : Held) → PrunesCacheBy prunes a.held now → dropped_oldest (after_given given.life.out) ≡ None → Reaches config chain a (ack_given t) buffer waiting [] (drained_to own_pairs now)
+  Reaches-drained prunes_own now pruned not_dropped = record {
     no_effect = refl;
     kept = refl;
     next_ack = refl;
@@ -207,16 +202,13 @@ module _ {P E : Type 0} (config : Config) (chain : Chain) (lawful : IsLawful con
     of_certs = tt;
     own_blocks = λ x has. nothing_put x has;
     own_certs = λ x has. nothing_put x has;
-    certificates = Certificates-same a (drained_to own_pairs watches) (ack_given t) buffer waiting refl;
-    writes = (Writes-same a (drained_to own_pairs watches) (ack_given t) buffer waiting refl refl refl (λ syncs. refl) (λ syncs. refl)).0;
-    no_repair = (Writes-same a (drained_to own_pairs watches) (ack_given t) buffer waiting refl refl refl (λ syncs. refl) (λ syncs. refl)).1;
+    certificates = Certificates-same a (drained_to own_pairs now) (ack_given t) buffer waiting refl;
+    writes = (Writes-same a (drained_to own_pairs now) (ack_given t) buffer waiting refl refl refl (λ syncs. refl) (λ syncs. refl)).0;
+    no_repair = (Writes-same a (drained_to own_pairs now) (ack_given t) buffer waiting refl refl refl (λ syncs. refl) (λ syncs. refl)).1;
     are_tips = tt;
     tips_rise = refl;
     tips_chain = tt;
-    cache = refl;
-    lowest = refl;
-    lowests = refl;
-    witnessed = witnessed-is;
+    cache = moves_pruned config chain a (drained_to own_pairs now) (ack_given t) buffer waiting refl refl cached.own_lowest prunes loaded prunes_own witnessed-is (PrunesCacheBy-beside prunes a.held now (drained_to own_pairs now).held refl refl refl pruned);
     stored = tt;
     stored_late = tt;
     no_query = refl;
@@ -229,17 +221,25 @@ module _ {P E : Type 0} (config : Config) (chain : Chain) (lawful : IsLawful con
   }
 
   module _ (is_drained : Bool) (b : Seen P E) (drains : Drains config.epochs given is_drained b) where
+    -- the cache of these stores, with so many counted calls
+    abbrev counted_to : Watches → Held
+    counted_to watches = record b.held { watches = watches }
+
+    pruned : (watches : Watches) → PrunesCacheBy prunes a.held (counted_to watches)
+    pruned watches = PrunesCacheBy-beside prunes a.held b.held (counted_to watches) refl refl refl drains.prunes
+
     -- it is good
     pub IsGood-ack : (m : Seen P E) → m ≡ with_own_pair m.held.watches b → IsGood config chain (node_of m buffer waiting)
-    IsGood-ack m after = subst (λ x. IsGood config chain (node_of x buffer waiting)) (sym (after ∙ ap (with_own_pair m.held.watches) drains.same)) (IsGood-drained m.held.watches)
+    IsGood-ack m after = subst (λ x. IsGood config chain (node_of x buffer waiting)) (sym (after ∙ ap (with_own_pair m.held.watches) drains.same)) (IsGood-drained (counted_to m.held.watches) (pruned m.held.watches))
 
     -- and has written no more
     pub writes-ack : (m : Seen P E) → m ≡ with_own_pair m.held.watches b → m.held.writes ≡ a.held.writes
     writes-ack m after = ap (λ x. x.held.writes) (after ∙ ap (with_own_pair m.held.watches) drains.same)
 
-    -- An acknowledgement reaches the actor whose pair was synced after it drained.
-    pub Reaches-ack : (m : Seen P E) → m ≡ with_own_pair m.held.watches b → Reaches config chain a (ack_given t) buffer waiting [] m
-    Reaches-ack m after = subst (λ x. Reaches config chain a (ack_given t) buffer waiting [] x) (sym (after ∙ ap (with_own_pair m.held.watches) drains.same)) (Reaches-drained m.held.watches drains.not_dropped)
+    -- An acknowledgement reaches the actor whose pair was synced after it drained, where that retains as many views as the
+    -- event says.
+    pub Reaches-ack : config.retention ≡ a.life.sizes.retention → (m : Seen P E) → m ≡ with_own_pair m.held.watches b → Reaches config chain a (ack_given t) buffer waiting [] m
+    Reaches-ack retention m after = subst (λ x. Reaches config chain a (ack_given t) buffer waiting [] x) (sym (after ∙ ap (with_own_pair m.held.watches) drains.same)) (Reaches-drained (prunes-are retention) (counted_to m.held.watches) (pruned m.held.watches) drains.not_dropped)
 
     -- its pair, said of the actor before
     pair-is : pair_of b.held.processed b.held.cutoff ≡ pair_of processed cutoff
@@ -251,7 +251,7 @@ module _ {P E : Type 0} (config : Config) (chain : Chain) (lawful : IsLawful con
 
     -- which is safe
     pub pair_after-safe : IsSafePair chain a.held.blocks.sure (pair_of b.held.processed b.held.cutoff)
-    pair_after-safe = subst (IsSafePair chain a.held.blocks.sure) (sym pair-is) (own_pair_safe chain (node_of (drained_to own_pairs a.held.watches) buffer waiting) (IsGood-drained a.held.watches).heights.delivery.anchored floor_safe)
+    pair_after-safe = subst (IsSafePair chain a.held.blocks.sure) (sym pair-is) (own_pair_safe chain (node_of (drained_to own_pairs b.held) buffer waiting) (IsGood-drained b.held drains.prunes).heights.delivery.anchored floor_safe)
 
     -- and not below the one before
     pub NotBelow-drained : NotBelow (option_map height_in a.held.processed) (option_map height_in b.held.processed)
@@ -282,12 +282,16 @@ module _ {P E : Type 0} (config : Config) (chain : Chain) (lawful : IsLawful con
     pairs-are : a.held.pairs ≡ own_pairs
     pairs-are = good.heights.own_pair ∙ sym (ap (λ out. pair_of (acked_to a.held.processed out) (greatest_of a.held.cutoff (all_retired config.epochs a.held.certs.held out)) ∷ []) none_drained)
 
+    -- no round is witnessed, so none prunes
+    none_pruned : prunes ≡ (witnessing_of config n (ack_given t) no_floor).prunes
+    none_pruned = ap (λ out. pruned_by a.life.sizes.retention a.held.witnessed (rounds_of a.held.certs.held out)) none_drained ∙ sym (ap (pruned_by config.retention a.held.witnessed) (sym rounds-are ∙ ap (rounds_of a.held.certs.held) none_drained))
+
     -- An acknowledgement behind one that is waited for reaches the actor with its mark.
     pub Reaches-undrained : Reaches config chain a (ack_given t) buffer waiting [] b
-    Reaches-undrained = subst (λ x. Reaches config chain a (ack_given t) buffer waiting [] x) (sym (drains.same ∙ ap (λ pairs. drained_to pairs b.held.watches) pairs-are)) (Reaches-drained b.held.watches drains.not_dropped)
+    Reaches-undrained = subst (λ x. Reaches config chain a (ack_given t) buffer waiting [] x) (sym (drains.same ∙ ap (λ pairs. drained_to pairs b.held) pairs-are)) (Reaches-drained none_pruned b.held drains.prunes drains.not_dropped)
 
     pub IsGood-undrained : IsGood config chain (node_of b buffer waiting)
-    IsGood-undrained = subst (λ x. IsGood config chain (node_of x buffer waiting)) (sym (drains.same ∙ ap (λ pairs. drained_to pairs b.held.watches) pairs-are)) (IsGood-drained b.held.watches)
+    IsGood-undrained = subst (λ x. IsGood config chain (node_of x buffer waiting)) (sym (drains.same ∙ ap (λ pairs. drained_to pairs b.held) pairs-are)) (IsGood-drained b.held drains.prunes)
 
     pub writes-undrained : b.held.writes ≡ a.held.writes
     writes-undrained = ap (λ x. x.held.writes) drains.same

@@ -33,7 +33,7 @@ any_more test (y ∷ ys) x (suc k, lt, is) passes = or_right (test y) (list_any 
     or_right true b is = refl
     or_right false b is = is
 
-any_within : {T : Type 0} (test : T → Bool) (xs ys : List T) → Within xs ys → list_any test xs ≡ true → list_any test ys ≡ true
+pub any_within : {T : Type 0} (test : T → Bool) (xs ys : List T) → Within xs ys → list_any test xs ≡ true → list_any test ys ≡ true
 any_within test xs ys within any = let (x, there, passes) = any_place test xs any in any_more test ys x (within x there) passes
 
 mapped : {T S : Type 0} (f : T → S) (ys : List T) (x : T) → Contains ys x → Contains (map f ys) (f x)
@@ -41,7 +41,7 @@ mapped f [] x (k, lt, is) = absurd (omega (arith, lt))
 mapped f (y ∷ ys) x (zero, lt, is) = (zero, omega arith, ap f is)
 mapped f (y ∷ ys) x (suc k, lt, is) = let (j, under, same) = mapped f ys x (k, omega (arith, lt), is) in (suc j, omega (arith, under), same)
 
-map_within : {T S : Type 0} (f : T → S) (xs ys : List T) → Within xs ys → Within (map f xs) (map f ys)
+pub map_within : {T S : Type 0} (f : T → S) (xs ys : List T) → Within xs ys → Within (map f xs) (map f ys)
 map_within f [] ys within y (k, lt, is) = absurd (omega (arith, lt))
 map_within f (x ∷ xs) ys within y (zero, lt, is) = subst (Contains (map f ys)) is (mapped f ys x (within x (zero, omega arith, refl)))
 map_within f (x ∷ xs) ys within y (suc k, lt, is) = map_within f xs ys (λ z (j, under, same). within z (suc j, omega (arith, under), same)) y (k, omega (arith, lt), is)

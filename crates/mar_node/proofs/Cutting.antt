@@ -1,7 +1,7 @@
 -- What a failed call leaves is a cut of the step: before any block was handed over, and while blocks are.
-use Rattle.std.specs.List.{list_any}
-use Rattle.std.proofs.Common.{append-nil, ◌≡◌, ◌⊎◌, inl, inr, ⊎_elim, ℕ, zero, suc, ◌+◌, ◌<◌, ◌≤◌, List, [], ◌∷◌, ◌++◌, length, map, Bool, true, false, Option, Some, None, option_map, IsTrue, Contains, refl, sym, ◌∙◌, ap, subst, arith, le_refl}
+use Rattle.std.proofs.Common.{◌≡◌, ◌||◌, ◌⊎◌, inl, inr, ⊎_elim, ℕ, zero, suc, ◌+◌, ◌<◌, ◌≤◌, List, [], ◌∷◌, ◌++◌, length, map, Bool, true, false, Option, Some, None, option_map, IsTrue, Contains, refl, sym, ◌∙◌, ap, subst, arith, le_refl}
 use Rattle.std.proofs.lemmas.List.Elements.{Contains-append_cases, Contains-append_left, Contains-append_right}
+use Rattle.mar_types.specs.Round.{Round}
 use Rattle.mar_cert.specs.Block.{Block}
 use Rattle.mar_cert.specs.Finalization.{Finalization}
 use Rattle.mar_key.specs.Keys.{Call}
@@ -14,8 +14,8 @@ use Rattle.mar_node.specs.Chain.{Chain, Finalizes, IsBlockAt}
 use Rattle.mar_node.specs.Config.{Config}
 use Rattle.mar_node.specs.Event.{Event, brought_block, cutoff_after, effect_of, no_floor, processed_after, told_finalization}
 use Rattle.mar_node.specs.Faults.{Fault, corrupt, damaged, dropped_ack, event_fault, floor_epoch_unavailable, floor_invalid, floor_parent_mismatch, genesis_height, genesis_mismatch, height_limit, is_by_value, meta_store, next_after, store_fault, sync_kind, ticket_limit, unbacked, want_of_memory}
-use Rattle.mar_node.specs.Cache.{is_below, witnessing_of}
-use Rattle.mar_node.specs.Cached.{Cached, cached_block, cached_finalization}
+use Rattle.mar_node.specs.Cache.{MayBeCached, certified_from, is_below, is_certified_below, is_pruned, witnessing_of}
+use Rattle.mar_node.specs.Cached.{Cached, cached_block, cached_finalization, epoch_of}
 use Rattle.mar_node.specs.Held.{Ending, IsArchiveFault, IsUsual, LeavesCache, LeavesStore, Loses, Seen, Written, blocks_left, cache_left, certs_left}
 use Rattle.mar_node.specs.Lives.{Cuts, CutsBy, IsGoodEnded, NotBelow, Reached, is_dropped_ack, is_refused_floor, reached_after, reached_before}
 use Rattle.mar_node.specs.Node.{Agrees, AreBlocksOf, AreFinalizationsOf, Ended, IsFinalized, IsGood, Node}
@@ -25,8 +25,9 @@ use Rattle.mar_node.specs.Requests.{own_asks}
 use Rattle.mar_node.specs.Sound.{IsSafePair, IsSound}
 use Rattle.mar_node.specs.Step.{AreHandedOf, AreTipsOf, HandedFrom, IsFront, Report, TipsFrom, handed_blocks, handed_over, new_tip, nothing_made}
 use Rattle.mar_node.proofs.Reaching.{AreTips, block_from, cert_from}
-use Rattle.mar_node.proofs.Filtered.{all_found_within}
-use Rattle.mar_node.proofs.Growing.{LeavesCache-unwritten}
+use Rattle.mar_node.proofs.CacheChanges.{any_within, map_within}
+use Rattle.mar_node.proofs.CacheOver.{OwnCache}
+use Rattle.mar_node.proofs.Filtered.{all_found_put}
 use Rattle.mar_node.proofs.Soundness.{IsFrom, IsGoodEnded-from_sound, IsSound-from_good, IsSound-untold, may_cached_blocks_of, may_cached_of}
 
 -- WHAT IS LEFT
@@ -37,8 +38,9 @@ keeps_heights old new keeps h has = by (value-from_has_height old h has)
     by : (v : _) × (value_at old h ≡ Some v) → IsTrue (has_height new h)
     by (v, is) = has_height-from_value new h v (keeps h v is)
 
--- What is left of the two archives since an event began, and what the event put: its own block and finalization.
-pub record LeavesArchives (chain : Chain) (n : Node) (e : Event) (left : Ended) : Type 0 where
+-- What is left of the stores since an event began, and what the event put: its own block and finalization, its entries of the
+-- cache and its prunes.
+pub record LeavesStores (config : Config) (chain : Chain) (n : Node) (e : Event) (left : Ended) : Type 0 where
   pub put_blocks : List (At Block)
   pub put_certs : List (At Finalization)
   pub blocks : LeavesStore n.blocks 0 put_blocks (blocks_left left)
@@ -47,7 +49,10 @@ pub record LeavesArchives (chain : Chain) (n : Node) (e : Event) (left : Ended) 
   pub of_certs : AreFinalizationsOf chain put_certs
   pub own_blocks : (x : At Block) → Contains put_blocks x → brought_block n e ≡ Some x.value
   pub own_certs : (x : At Finalization) → Contains put_certs x → told_finalization n e ≡ Some x.value
-  pub cache : LeavesCache (left_of n.cache) n.lowests [] [] (cache_left left) left.lowests
+  pub put_cached : List Cached
+  pub prunes : List Round
+  pub own_cache : OwnCache config chain n e put_cached prunes
+  pub cache : LeavesCache (left_of n.cache) n.lowests put_cached prunes (cache_left left) left.lowests
 
 -- what was held stands among what may be left, and what is sure too
 held_may_heights : {T : Type 0} (start : Kept (At T)) (put : List (At T)) (left : Left (At T)) → LeavesStore start 0 put left → (h : ℕ) → 0 ≤ h → IsTrue (has_height start.held h) → IsTrue (has_height left.may h)
@@ -103,7 +108,7 @@ module _ {P E : Type 0} (config : Config) (chain : Chain) (a : Seen P E) (e : Ev
   -- from a node that is good once some tip is told
   module _ (tip_before : ℕ) (good : IsGood config chain (record n { tip = tip_before })) (no_effect : effect_of config n e ≡ no_floor) where
     -- all that a cut says, of what is left
-    pub Cuts-left : (reports : List Report) (asks : List Call) (tip : ℕ) (reached : Reached) (fault : Fault) (left : Ended) → TipsFrom a.life.tip reports tip → AreTipsOf chain reports → (reached ≡ reached_before n e) ⊎ (reached ≡ reached_after n e no_floor) × Contains (map (λ p. p.processed) left.meta) reached.processed → HandedFrom left.blocks_sure a.life.next_ack (next_after reached.processed + length reached.out) (handed_blocks reports) → AreHandedOf chain left.blocks_sure (handed_blocks reports) → LeavesArchives chain n e left → 0 < length left.meta → (first_pair left.meta ≡ first_pair a.held.pairs) ⊎ (fault ≡ store_fault meta_store → ⊥) × (first_pair left.meta ≡ Some after) → ((p : Pair) → Contains left.meta p → MayBeLeft left.blocks_sure p) → (IsTrue (is_by_value fault) → event_fault config n e ≡ Some fault) → (IsTrue (is_refused_floor e fault) → ⊥) → (IsTrue (is_dropped_ack fault) → left.meta ≡ a.held.pairs) → IsFront asks (own_asks config n e no_floor) → Cuts config chain n (e ∷ []) (made_of reports asks) fault left
+    pub Cuts-left : (reports : List Report) (asks : List Call) (tip : ℕ) (reached : Reached) (fault : Fault) (left : Ended) → TipsFrom a.life.tip reports tip → AreTipsOf chain reports → (reached ≡ reached_before n e) ⊎ (reached ≡ reached_after n e no_floor) × Contains (map (λ p. p.processed) left.meta) reached.processed → HandedFrom left.blocks_sure a.life.next_ack (next_after reached.processed + length reached.out) (handed_blocks reports) → AreHandedOf chain left.blocks_sure (handed_blocks reports) → LeavesStores config chain n e left → 0 < length left.meta → (first_pair left.meta ≡ first_pair a.held.pairs) ⊎ (fault ≡ store_fault meta_store → ⊥) × (first_pair left.meta ≡ Some after) → ((p : Pair) → Contains left.meta p → MayBeLeft left.blocks_sure p) → (IsTrue (is_by_value fault) → event_fault config n e ≡ Some fault) → (IsTrue (is_refused_floor e fault) → ⊥) → (IsTrue (is_dropped_ack fault) → left.meta ≡ a.held.pairs) → IsFront asks (own_asks config n e no_floor) → Cuts config chain n (e ∷ []) (made_of reports asks) fault left
     Cuts-left reports asks tip reached fault left tips tips_chain reached_is in_order hands_chain leaves some first pairs cause refused unsynced front = record {
       finished = [];
       event = e;
@@ -117,15 +122,14 @@ module _ {P E : Type 0} (config : Config) (chain : Chain) (a : Seen P E) (e : Ev
       cut = subst (λ fx. CutsBy config chain a.held.pairs (option_map height_in a.held.processed) n e fx (made_of reports asks) fault left) (sym no_effect) unfloored;
     }
       where
-        sure_cached : (x : Cached) → Contains a.held.cache.kept.sure x → Contains left.cache_sure x
-        sure_cached x has = unpruned (leaves.cache.sure x has)
-          where
-            unpruned : Contains left.cache_sure x ⊎ IsTrue (list_any (λ p. is_below p x) []) → Contains left.cache_sure x
-            unpruned (inl there) = there
-            unpruned (inr pruned) = absurd cc
+        sure_cached : (x : Cached) → Contains a.held.cache.kept.sure x → Contains left.cache_sure x ⊎ (epoch_of x < n.lowest) ⊎ IsTrue (is_pruned config n e no_floor x)
+        sure_cached x has = ⊎_elim (λ there. inl there) (λ pruned. inr (inr (ap (λ d. d || is_certified_below (certified_from n no_floor) x) (any_within (λ p. is_below p x) leaves.prunes (witnessing_of config n e no_floor).prunes leaves.own_cache.prunes_own pruned)))) (leaves.cache.sure x has)
 
-        may_cached : (x : Cached) → Contains left.cache_may x → Contains a.held.cache.kept.may x
-        may_cached x has = subst (λ xs. Contains xs x) (append-nil a.held.cache.kept.may) (leaves.cache.may x has)
+        may_cached : (x : Cached) → Contains left.cache_may x → MayBeCached config n e no_floor x
+        may_cached x has = ⊎_elim (λ before. inl before) (λ new. inr (leaves.own_cache.own x new)) (Contains-append_cases a.held.cache.kept.may leaves.put_cached x (leaves.cache.may x has))
+
+        lowest_cached : (k : ℕ) → Contains left.lowests k → Contains (a.held.lowests ++ map (λ p. p.epoch) (witnessing_of config n e no_floor).prunes) k
+        lowest_cached k has = ⊎_elim (λ before. Contains-append_left a.held.lowests (map (λ p. p.epoch) (witnessing_of config n e no_floor).prunes) k before) (λ new. Contains-append_right a.held.lowests (map (λ p. p.epoch) (witnessing_of config n e no_floor).prunes) k (map_within (λ (p : Round). p.epoch) leaves.prunes (witnessing_of config n e no_floor).prunes leaves.own_cache.prunes_own k new)) (Contains-append_cases a.held.lowests (map (λ p. p.epoch) leaves.prunes) k (leaves.cache.lowest k has))
 
         sound : IsSound chain n
         sound = IsSound-untold chain n tip_before (IsSound-from_good config chain (record n { tip = tip_before }) good)
@@ -154,8 +158,8 @@ module _ {P E : Type 0} (config : Config) (chain : Chain) (a : Seen P E) (e : Ev
 
         good_left : IsGoodEnded chain left
         good_left = IsGoodEnded-from_sound chain n 0 left sound may_blocks may_certs
-            (all_found_within cached_finalization (λ f. IsFinalized chain f.round f.payload) left.cache_may a.held.cache.kept.may may_cached (may_cached_of chain n sound))
-            (all_found_within cached_block (Agrees chain) left.cache_may a.held.cache.kept.may may_cached (may_cached_blocks_of chain n sound))
+            (all_found_put cached_finalization (λ f. IsFinalized chain f.round f.payload) left.cache_may a.held.cache.kept.may leaves.put_cached leaves.cache.may (may_cached_of chain n sound) leaves.own_cache.finalizations)
+            (all_found_put cached_block (Agrees chain) left.cache_may a.held.cache.kept.may leaves.put_cached leaves.cache.may (may_cached_blocks_of chain n sound) leaves.own_cache.blocks)
             (λ h low has. keeps_heights a.held.blocks.sure left.blocks_sure (keeps_sure a.held.blocks leaves.put_blocks (blocks_left left) leaves.blocks) h has)
             (AllByRecursion-from_contains (λ p. (Contains a.held.pairs p × IsFrom 0 p.processed) ⊎ IsSafePair chain left.blocks_sure p) left.meta (λ p has. of_node p (pairs p has)))
 
@@ -171,8 +175,8 @@ module _ {P E : Type 0} (config : Config) (chain : Chain) (a : Seen P E) (e : Ev
           leaves = record {
             sure_blocks = λ h b is low. leaves.blocks.sure h b (omega arith) is;
             sure_certs = λ h f is low. leaves.certs.sure h f (omega arith) is;
-            sure_cache = λ x has. inl (sure_cached x has);
-            lowests = λ k has. Contains-append_left a.held.lowests (map (λ p. p.epoch) (witnessing_of config n e no_floor).prunes) k (subst (λ ks. Contains ks k) (append-nil a.held.lowests) (leaves.cache.lowest k has));
+            sure_cache = sure_cached;
+            lowests = lowest_cached;
             some_pair = some;
             pairs = AllByRecursion-from_contains (Contains (a.held.pairs ++ own ∷ after ∷ [])) left.meta (λ p has. allowed p (pairs p has));
             good = good_left;
@@ -197,8 +201,8 @@ module _ {P E : Type 0} (config : Config) (chain : Chain) (a : Seen P E) (e : Ev
         }
 
     -- A call failed before any block was handed over; `written` has the pairs that a failed sync was to write.
-    pub Cuts-before : (tips : List Report) (asks : List Call) (tip : ℕ) (written : Written) (left : Ending) → AreTips tips → TipsFrom a.life.tip tips tip → AreTipsOf chain tips → written.blocks_from ≡ 0 → written.certs_from ≡ 0 → written.cached ≡ [] → written.prunes ≡ [] → AreBlocksOf chain written.blocks → AreFinalizationsOf chain written.certs → ((x : At Block) → Contains written.blocks x → brought_block n e ≡ Some x.value) → ((x : At Finalization) → Contains written.certs x → told_finalization n e ≡ Some x.value) → Loses a.held written left → ((p : Pair) → Contains written.pairs p → MayBeLeft left.remains.ended.blocks_sure p) → (IsTrue (is_by_value left.fault) → event_fault config n e ≡ Some left.fault) → (IsTrue (is_refused_floor e left.fault) → ⊥) → (IsTrue (is_dropped_ack left.fault) → left.remains.ended.meta ≡ a.held.pairs) → IsFront asks (own_asks config n e no_floor) → Cuts config chain n (e ∷ []) (made_of tips asks) left.fault left.remains.ended
-    Cuts-before tips asks tip written left only tips_rise tips_chain no_prune no_cert_prune none_put none_pruned of_blocks of_certs own_blocks own_certs lost new cause refused unsynced front =
+    pub Cuts-before : (tips : List Report) (asks : List Call) (tip : ℕ) (written : Written) (left : Ending) → AreTips tips → TipsFrom a.life.tip tips tip → AreTipsOf chain tips → written.blocks_from ≡ 0 → written.certs_from ≡ 0 → OwnCache config chain n e written.cached written.prunes → AreBlocksOf chain written.blocks → AreFinalizationsOf chain written.certs → ((x : At Block) → Contains written.blocks x → brought_block n e ≡ Some x.value) → ((x : At Finalization) → Contains written.certs x → told_finalization n e ≡ Some x.value) → Loses a.held written left → ((p : Pair) → Contains written.pairs p → MayBeLeft left.remains.ended.blocks_sure p) → (IsTrue (is_by_value left.fault) → event_fault config n e ≡ Some left.fault) → (IsTrue (is_refused_floor e left.fault) → ⊥) → (IsTrue (is_dropped_ack left.fault) → left.remains.ended.meta ≡ a.held.pairs) → IsFront asks (own_asks config n e no_floor) → Cuts config chain n (e ∷ []) (made_of tips asks) left.fault left.remains.ended
+    Cuts-before tips asks tip written left only tips_rise tips_chain no_prune no_cert_prune own_cache of_blocks of_certs own_blocks own_certs lost new cause refused unsynced front =
         Cuts-left tips asks tip (reached_before n e) left.fault left.remains.ended tips_rise tips_chain (inl refl)
         (subst (λ xs. HandedFrom left.remains.ended.blocks_sure a.life.next_ack (next_after (option_map height_in a.held.processed) + length (reached_before n e).out) xs) (sym none) tt)
         (subst (λ xs. AreHandedOf chain left.remains.ended.blocks_sure xs) (sym none) tt)
@@ -212,7 +216,7 @@ module _ {P E : Type 0} (config : Config) (chain : Chain) (a : Seen P E) (e : Ev
             no_handed (new_tip r h d ∷ reports) is = no_handed reports is
             no_handed (handed_over t b ∷ reports) is = absurd is
 
-        leaves : LeavesArchives chain n e left.remains.ended
+        leaves : LeavesStores config chain n e left.remains.ended
         leaves = record {
           put_blocks = written.blocks;
           put_certs = written.certs;
@@ -222,7 +226,10 @@ module _ {P E : Type 0} (config : Config) (chain : Chain) (a : Seen P E) (e : Ev
           of_certs = of_certs;
           own_blocks = own_blocks;
           own_certs = own_certs;
-          cache = LeavesCache-unwritten (left_of a.held.cache.kept) a.held.lowests written.cached written.prunes (cache_left left.remains.ended) left.remains.ended.lowests none_put none_pruned lost.leaves.cache;
+          put_cached = written.cached;
+          prunes = written.prunes;
+          own_cache = own_cache;
+          cache = lost.leaves.cache;
         }
 
         first : first_pair left.remains.ended.meta ≡ Some own

@@ -1,7 +1,8 @@
 -- Acknowledged blocks that are processed one after another.
-use Rattle.std.proofs.Common.{◌≡◌, ℕ, suc, ◌+◌, ◌≤◌, List, [], ◌∷◌, ◌++◌, length, flat_map, fold, Bool, true, false, if◌then◌else◌, nat_lt, is_some, Option, Some, None, option_to_list, refl, sym, ◌∙◌, ap, ap₂, subst, arith, append_assoc, append-nil, length-append}
+use Rattle.std.proofs.Common.{◌≡◌, ℕ, suc, ◌+◌, ◌≤◌, List, [], ◌∷◌, ◌++◌, length, flat_map, fold, Contains, Bool, true, false, if◌then◌else◌, nat_lt, is_some, Option, Some, None, option_to_list, refl, sym, ◌∙◌, ap, ap₂, subst, arith, append_assoc, append-nil, length-append}
 use Rattle.std.proofs.lemmas.Bool.Decides.{nat_tests}
 use Rattle.std.proofs.lemmas.Grind.{flat_map-append}
+use Rattle.std.proofs.lemmas.List.Elements.{Contains-append_left, Contains-append_right}
 use Rattle.mar_types.specs.Round.{Round}
 use Rattle.mar_types.specs.Epochs.{Epochs}
 use Rattle.mar_cert.specs.Finalization.{Finalization}
@@ -13,10 +14,11 @@ use Rattle.mar_key.proofs.CutoffOrder.{greatest_of-append}
 use Rattle.mar_store.specs.Kept.{At}
 use Rattle.mar_node.specs.Acks.{Outstanding, after_given, after_oldest, dropped_oldest, given_front, given_oldest, is_given}
 use Rattle.mar_node.specs.Event.{acked_to, all_retired, retired, round_at}
-use Rattle.mar_node.specs.Held.{Grew, Held, Seen, Watches, Written}
+use Rattle.mar_node.specs.Held.{Grew, Held, Seen, WithinWritten, Written, written_prunes}
 use Rattle.mar_node.specs.Lives.{later_round}
-use Rattle.mar_node.specs.Moves.{Drains, DrainsNext, HearsFront, with_processed}
+use Rattle.mar_node.specs.Moves.{Drains, DrainsNext, HearsFront, PrunesCacheBy, PrunesProcessed, processed_prunes, pruned_by, rounds_of, with_cache_of, with_processed}
 use Rattle.mar_node.specs.Requests.{raise_asks, retire_asks}
+use Rattle.mar_node.proofs.CachePrunes.{PrunesCacheBy-none, PrunesCacheBy-then, last_after, later_rounds-of, pruned_by-append, rounds_of-append}
 use Rattle.mar_node.proofs.Handing.{Hears-nothing, Hears-then, HearsFront-more, HearsFront-then}
 
 -- THE OLDEST, AND THE GIVEN ONES AT THE FRONT
@@ -114,14 +116,26 @@ cutoffs_of epochs a zs = all_retired epochs a.held.certs.held zs
 abbrev later_in : {P E : Type 0} → Seen P E → Round → Outstanding → Round
 later_in a r o = later_round r (round_at a.held.certs.held o.height)
 
-abbrev remade : {P E : Type 0} → Seen P E → List Outstanding → Watches → Option Processed → Cutoff → Round → Seen P E
-remade a out watches p c w = record a { held = record a.held { processed = p; cutoff = c; witnessed = w; watches = watches }; life = record a.life { out = out } }
+abbrev remade : {P E : Type 0} → Seen P E → List Outstanding → Held → Option Processed → Cutoff → Round → Seen P E
+remade a out now p c w = record a { held = record (with_cache_of now a.held) { processed = p; cutoff = c; witnessed = w }; life = record a.life { out = out } }
 
-pub with_processed-then : {P E : Type 0} (epochs : Epochs) (a : Seen P E) (xs ys out out' : List Outstanding) (watches watches' : Watches) → with_processed epochs (with_processed epochs a xs out watches) ys out' watches' ≡ with_processed epochs a (xs ++ ys) out' watches'
-with_processed-then epochs a xs ys out out' watches watches' =
-    ap (λ p. remade a out' watches' p (greatest_of (greatest_of a.held.cutoff (cutoffs_of epochs a xs)) (cutoffs_of epochs a ys)) (fold (later_in a) (fold (later_in a) a.held.witnessed xs) ys)) (sym (acked_to-append a.held.processed xs ys))
-    ∙ (ap (λ c. remade a out' watches' (acked_to a.held.processed (xs ++ ys)) c (fold (later_in a) (fold (later_in a) a.held.witnessed xs) ys)) (sym (greatest_of-append a.held.cutoff (cutoffs_of epochs a xs) (cutoffs_of epochs a ys)) ∙ ap (λ cs. greatest_of a.held.cutoff cs) (sym (flat_map-append (λ o. retired epochs a.held.certs.held o.height) xs ys)))
-    ∙ ap (λ w. remade a out' watches' (acked_to a.held.processed (xs ++ ys)) (greatest_of a.held.cutoff (cutoffs_of epochs a (xs ++ ys))) w) (sym (fold-append (later_in a) a.held.witnessed xs ys)))
+pub with_processed-then : {P E : Type 0} (epochs : Epochs) (a : Seen P E) (xs ys out out' : List Outstanding) (now now' : Held) → with_processed epochs (with_processed epochs a xs out now) ys out' now' ≡ with_processed epochs a (xs ++ ys) out' now'
+with_processed-then epochs a xs ys out out' now now' =
+    ap (λ p. remade a out' now' p (greatest_of (greatest_of a.held.cutoff (cutoffs_of epochs a xs)) (cutoffs_of epochs a ys)) (fold (later_in a) (fold (later_in a) a.held.witnessed xs) ys)) (sym (acked_to-append a.held.processed xs ys))
+    ∙ (ap (λ c. remade a out' now' (acked_to a.held.processed (xs ++ ys)) c (fold (later_in a) (fold (later_in a) a.held.witnessed xs) ys)) (sym (greatest_of-append a.held.cutoff (cutoffs_of epochs a xs) (cutoffs_of epochs a ys)) ∙ ap (λ cs. greatest_of a.held.cutoff cs) (sym (flat_map-append (λ o. retired epochs a.held.certs.held o.height) xs ys)))
+    ∙ ap (λ w. remade a out' now' (acked_to a.held.processed (xs ++ ys)) (greatest_of a.held.cutoff (cutoffs_of epochs a (xs ++ ys))) w) (sym (fold-append (later_in a) a.held.witnessed xs ys)))
+
+-- what is processed next prunes from the last one witnessed on
+processed_prunes-then : {P E : Type 0} (epochs : Epochs) (a m : Seen P E) (xs ys : List Outstanding) → m ≡ with_processed epochs a xs m.life.out m.held → processed_prunes a (xs ++ ys) ≡ processed_prunes a xs ++ processed_prunes m ys
+processed_prunes-then epochs a m xs ys same =
+    ap (pruned_by a.life.sizes.retention a.held.witnessed) (rounds_of-append a.held.certs.held xs ys)
+    ∙ (pruned_by-append a.life.sizes.retention a.held.witnessed (rounds_of a.held.certs.held xs) (rounds_of a.held.certs.held ys)
+    ∙ ap (λ rounds. processed_prunes a xs ++ rounds) (sym (ap (λ s. processed_prunes s ys) same ∙ ap (λ r. pruned_by a.life.sizes.retention r (rounds_of a.held.certs.held ys)) (later_rounds-of a.held.certs.held a.held.witnessed xs))))
+
+PrunesProcessed-then : {P E : Type 0} (epochs : Epochs) (a m : Seen P E) (xs ys : List Outstanding) (now : Held) → m ≡ with_processed epochs a xs m.life.out m.held → PrunesProcessed a xs m.held → PrunesProcessed m ys now → PrunesProcessed a (xs ++ ys) now
+PrunesProcessed-then epochs a m xs ys now same first second =
+    subst (λ rounds. PrunesCacheBy rounds a.held now) (sym (processed_prunes-then epochs a m xs ys same))
+    (PrunesCacheBy-then (processed_prunes a xs) (processed_prunes m ys) a.held m.held now first second)
 
 -- SO FAR
 
@@ -131,13 +145,14 @@ pub record DrainsSoFar {P E : Type 0} (epochs : Epochs) (start now : Seen P E) (
   pub front : given_front start.life.out ≡ done ++ given_front now.life.out
   pub rest : after_given now.life.out ≡ after_given start.life.out
   pub heard : Hears told (retire_asks epochs start.held.certs.held start.held.cutoff done) told'
-  pub same : now ≡ with_processed epochs start done now.life.out now.held.watches
-  pub grew : (first : Held) (all : Written) → Grew first all start.held → Grew first all now.held
+  pub prunes : PrunesProcessed start done now.held
+  pub same : now ≡ with_processed epochs start done now.life.out now.held
+  pub grew : (first : Held) (all : Written) → Grew first all start.held → WithinWritten (written_prunes (processed_prunes start (given_front start.life.out))) all → Grew first all now.held
   pub is_drained : drained ≡ nat_lt 0 (length done)
   pub counted : count ≡ length done
 
 pub DrainsSoFar-first : {P E : Type 0} (epochs : Epochs) (start : Seen P E) (told : Option (List Call)) → DrainsSoFar epochs start start told told false 0
-DrainsSoFar-first epochs start told = record { done = []; front = refl; rest = refl; heard = Hears-nothing told; same = refl; grew = λ first all grew. grew; is_drained = refl; counted = refl }
+DrainsSoFar-first epochs start told = record { done = []; front = refl; rest = refl; heard = Hears-nothing told; prunes = PrunesCacheBy-none start.held start.held refl refl refl; same = refl; grew = λ first all grew within. grew; is_drained = refl; counted = refl }
 
 module _ {P E : Type 0} (epochs_of : E → Epochs) (start now : Seen P E) (told told' : Option (List Call)) (drained : Bool) (count : ℕ) (so_far : DrainsSoFar (epochs_of start.life.epocher) start now told told' drained count) where
   abbrev pub epochs : Epochs
@@ -153,12 +168,16 @@ module _ {P E : Type 0} (epochs_of : E → Epochs) (start now : Seen P E) (told 
   certs_now = ap (λ a. a.held.certs.held) so_far.same
 
   -- one more was processed, or there was none
-  after_next : (new : Seen P E) (is_processed : Bool) → DrainsNext (epochs_of now.life.epocher) now is_processed new → new ≡ with_processed epochs start (so_far.done ++ one) (after_oldest now.life.out) new.held.watches
+  after_next : (new : Seen P E) (is_processed : Bool) → DrainsNext (epochs_of now.life.epocher) now is_processed new → new ≡ with_processed epochs start (so_far.done ++ one) (after_oldest now.life.out) new.held
   after_next new is_processed next =
       next.same
-      ∙ (ap (λ es. with_processed es now one (after_oldest now.life.out) new.held.watches) epochs_now
-      ∙ (ap (λ a. with_processed epochs a one (after_oldest now.life.out) new.held.watches) so_far.same
-      ∙ with_processed-then epochs start so_far.done one now.life.out (after_oldest now.life.out) now.held.watches new.held.watches))
+      ∙ (ap (λ es. with_processed es now one (after_oldest now.life.out) new.held) epochs_now
+      ∙ (ap (λ a. with_processed epochs a one (after_oldest now.life.out) new.held) so_far.same
+      ∙ with_processed-then epochs start so_far.done one now.life.out (after_oldest now.life.out) now.held new.held))
+
+  -- it pruned the cache further
+  prunes_next : (new : Seen P E) (is_processed : Bool) → DrainsNext (epochs_of now.life.epocher) now is_processed new → PrunesProcessed start (so_far.done ++ one) new.held
+  prunes_next new is_processed next = PrunesProcessed-then epochs start now so_far.done one new.held so_far.same so_far.prunes next.prunes
 
   out_is : (new : Seen P E) (is_processed : Bool) → DrainsNext (epochs_of now.life.epocher) now is_processed new → new.life.out ≡ after_oldest now.life.out
   out_is new is_processed next = ap (λ a. a.life.out) next.same
@@ -169,6 +188,19 @@ module _ {P E : Type 0} (epochs_of : E → Epochs) (start now : Seen P E) (told 
       (subst (λ c. Hears told' (retire_asks epochs start.held.certs.held c one) told'') (ap (λ a. a.held.cutoff) so_far.same)
       (subst (λ cs. Hears told' (retire_asks epochs cs now.held.cutoff one) told'') certs_now
       (subst (λ es. Hears told' (retire_asks es now.held.certs.held now.held.cutoff one) told'') epochs_now heard))))
+
+  -- what the next one writes is among what all of them do
+  pub next_written : (all : Written) → WithinWritten (written_prunes (processed_prunes start (given_front start.life.out))) all → WithinWritten (written_prunes (processed_prunes now one)) all
+  next_written all within = record { blocks = within.blocks; certs = within.certs; cached = within.cached; prunes = λ r has. within.prunes r (subst (λ rs. Contains rs r) (sym whole) (Contains-append_right (processed_prunes start so_far.done) (processed_prunes now (given_front now.life.out)) r (front r has))); pairs = within.pairs; blocks_from = within.blocks_from; certs_from = within.certs_from }
+    where
+      whole : processed_prunes start (given_front start.life.out) ≡ processed_prunes start so_far.done ++ processed_prunes now (given_front now.life.out)
+      whole = ap (processed_prunes start) so_far.front ∙ processed_prunes-then epochs start now so_far.done (given_front now.life.out) so_far.same
+
+      next : processed_prunes now (given_front now.life.out) ≡ processed_prunes now one ++ pruned_by now.life.sizes.retention (last_after now.held.witnessed (rounds_of now.held.certs.held one)) (rounds_of now.held.certs.held (given_front (after_oldest now.life.out)))
+      next = ap (processed_prunes now) (front_next now.life.out) ∙ (ap (pruned_by now.life.sizes.retention now.held.witnessed) (rounds_of-append now.held.certs.held one (given_front (after_oldest now.life.out))) ∙ pruned_by-append now.life.sizes.retention now.held.witnessed (rounds_of now.held.certs.held one) (rounds_of now.held.certs.held (given_front (after_oldest now.life.out))))
+
+      front : (r : Round) → Contains (processed_prunes now one) r → Contains (processed_prunes now (given_front now.life.out)) r
+      front r has = subst (λ rs. Contains rs r) (sym next) (Contains-append_left (processed_prunes now one) _ r has)
 
   -- the next one ended the life
   pub front_heard : (told'' : Option (List Call)) → HearsFront told' (retire_asks (epochs_of now.life.epocher) now.held.certs.held now.held.cutoff one) told'' → HearsFront told (retire_asks epochs start.held.certs.held start.held.cutoff (given_front start.life.out)) told''
@@ -191,13 +223,14 @@ module _ {P E : Type 0} (epochs_of : E → Epochs) (start now : Seen P E) (told 
           ∙ (ap (λ zs. retire_asks epochs start.held.certs.held start.held.cutoff so_far.done ++ zs) (retire_asks-append epochs now.held.certs.held now.held.cutoff one (given_front (after_oldest now.life.out)))
           ∙ sym (append_assoc (retire_asks epochs start.held.certs.held start.held.cutoff so_far.done) (retire_asks epochs now.held.certs.held now.held.cutoff one) more))))
 
-  pub DrainsSoFar-more : (new : Seen P E) (told'' : Option (List Call)) (is_processed : Bool) → is_processed ≡ true → DrainsNext (epochs_of now.life.epocher) now is_processed new → Hears told' (retire_asks (epochs_of now.life.epocher) now.held.certs.held now.held.cutoff one) told'' → ((first : Held) (all : Written) → Grew first all start.held → Grew first all new.held) → DrainsSoFar epochs start new told told'' true (count + 1)
+  pub DrainsSoFar-more : (new : Seen P E) (told'' : Option (List Call)) (is_processed : Bool) → is_processed ≡ true → DrainsNext (epochs_of now.life.epocher) now is_processed new → Hears told' (retire_asks (epochs_of now.life.epocher) now.held.certs.held now.held.cutoff one) told'' → ((first : Held) (all : Written) → Grew first all start.held → WithinWritten (written_prunes (processed_prunes start (given_front start.life.out))) all → Grew first all new.held) → DrainsSoFar epochs start new told told'' true (count + 1)
   DrainsSoFar-more new told'' is_processed was next heard grew = record {
     done = so_far.done ++ one;
     front = so_far.front ∙ (ap (λ zs. so_far.done ++ zs) (front_next now.life.out) ∙ (sym (append_assoc so_far.done one (given_front (after_oldest now.life.out))) ∙ ap (λ o. (so_far.done ++ one) ++ given_front o) (sym (out_is new is_processed next))));
     rest = ap after_given (out_is new is_processed next) ∙ (rest_next now.life.out ∙ so_far.rest);
     heard = heard_next told'' heard;
-    same = after_next new is_processed next ∙ ap (λ o. with_processed epochs start (so_far.done ++ one) o new.held.watches) (sym (out_is new is_processed next));
+    prunes = prunes_next new is_processed next;
+    same = after_next new is_processed next ∙ ap (λ o. with_processed epochs start (so_far.done ++ one) o new.held) (sym (out_is new is_processed next));
     grew = grew;
     is_drained = sym (more (length (so_far.done ++ one)) longer);
     counted = counted;
@@ -219,7 +252,8 @@ module _ {P E : Type 0} (epochs_of : E → Epochs) (start now : Seen P E) (told 
   pub Drains-still : (new : Seen P E) (told'' : Option (List Call)) (is_processed : Bool) → is_processed ≡ false → DrainsNext (epochs_of now.life.epocher) now is_processed new → Hears told' (retire_asks (epochs_of now.life.epocher) now.held.certs.held now.held.cutoff one) told'' → Drains epochs start drained new × Hears told (retire_asks epochs start.held.certs.held start.held.cutoff (given_front start.life.out)) told''
   Drains-still new told'' is_processed was next heard = (
     record {
-      same = after_next new is_processed next ∙ (ap (λ zs. with_processed epochs start zs (after_oldest now.life.out) new.held.watches) all ∙ ap (λ o. with_processed epochs start (given_front start.life.out) o new.held.watches) (same_oldest now.life.out none ∙ (sym (none_after now.life.out none) ∙ so_far.rest)));
+      prunes = subst (λ zs. PrunesProcessed start zs new.held) all (prunes_next new is_processed next);
+      same = after_next new is_processed next ∙ (ap (λ zs. with_processed epochs start zs (after_oldest now.life.out) new.held) all ∙ ap (λ o. with_processed epochs start (given_front start.life.out) o new.held) (same_oldest now.life.out none ∙ (sym (none_after now.life.out none) ∙ so_far.rest)));
       drained = so_far.is_drained ∙ ap (λ zs. nat_lt 0 (length zs)) done_is;
       not_dropped = ap dropped_oldest (sym so_far.rest ∙ none_after now.life.out none) ∙ next.not_dropped;
     },
@@ -239,7 +273,8 @@ module _ {P E : Type 0} (epochs_of : E → Epochs) (start now : Seen P E) (told 
   pub Drains-all : length start.life.out ≤ count → Drains epochs start drained now × Hears told (retire_asks epochs start.held.certs.held start.held.cutoff (given_front start.life.out)) told'
   Drains-all full = (
     record {
-      same = so_far.same ∙ (ap (λ zs. with_processed epochs start zs now.life.out now.held.watches) done_is ∙ ap (λ o. with_processed epochs start (given_front start.life.out) o now.held.watches) (none_left ∙ sym none_behind));
+      prunes = subst (λ zs. PrunesProcessed start zs now.held) done_is so_far.prunes;
+      same = so_far.same ∙ (ap (λ zs. with_processed epochs start zs now.life.out now.held) done_is ∙ ap (λ o. with_processed epochs start (given_front start.life.out) o now.held) (none_left ∙ sym none_behind));
       drained = so_far.is_drained ∙ ap (λ zs. nat_lt 0 (length zs)) done_is;
       not_dropped = ap dropped_oldest none_behind;
     },

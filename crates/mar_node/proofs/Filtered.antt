@@ -1,6 +1,8 @@
 -- What holds of each that is found in a list.
-use Rattle.std.proofs.Common.{◌≡◌, zero, suc, List, [], ◌∷◌, Option, Some, None, Contains, refl, ◌∙◌, ap, subst, arith}
+use Rattle.std.proofs.Common.{◌≡◌, zero, suc, List, [], ◌∷◌, ◌++◌, Option, Some, None, Contains, refl, sym, ◌∙◌, ap, subst, arith}
+use Rattle.std.proofs.lemmas.List.Elements.{filter_map-append}
 use Rattle.std.specs.List.{AllByRecursion, cons_option, filter_map}
+use Rattle.mar_store.proofs.Lookups.{AllByRecursion-append}
 
 pub all_found_of : {T U : Type 0} (f : T → Option U) (P : U → Type 0) (xs : List T) (x : T) (y : U) → AllByRecursion P (filter_map f xs) → Contains xs x → f x ≡ Some y → P y
 all_found_of f P [] x y all (k, lt, e) is = absurd (omega arith)
@@ -29,3 +31,7 @@ all_found_from {U = U} f P (x ∷ xs) each = by (f x) refl (all_found_from f P x
 -- what holds of each that is found in a list holds of each that is found in lists within it
 pub all_found_within : {T U : Type 0} (f : T → Option U) (P : U → Type 0) (xs ys : List T) → ((x : T) → Contains xs x → Contains ys x) → AllByRecursion P (filter_map f ys) → AllByRecursion P (filter_map f xs)
 all_found_within f P xs ys within all = all_found_from f P xs (λ x y has is. all_found_of f P ys x y all (within x has) is)
+
+-- and what holds of what was found before and of what was put holds of all that may be left
+pub all_found_put : {T U : Type 0} (f : T → Option U) (P : U → Type 0) (xs ys put : List T) → ((x : T) → Contains xs x → Contains (ys ++ put) x) → AllByRecursion P (filter_map f ys) → AllByRecursion P (filter_map f put) → AllByRecursion P (filter_map f xs)
+all_found_put f P xs ys put within before new = all_found_within f P xs (ys ++ put) within (subst (AllByRecursion P) (sym (filter_map-append f ys put)) (AllByRecursion-append P (filter_map f ys) (filter_map f put) before new))

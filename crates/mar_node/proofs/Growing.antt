@@ -1,5 +1,5 @@
 -- What calls one after another leave, since some start: what was sure and held, and no more than was written.
-use Rattle.std.proofs.Common.{◌≡◌, inl, map, ⊎_elim, ℕ, ◌<◌, ◌≤◌, Option, Some, List, [], ◌∷◌, ◌++◌, Bool, true, false, Contains, refl, sym, subst, arith, append-nil}
+use Rattle.std.proofs.Common.{◌≡◌, ap, inl, map, ⊎_elim, ℕ, ◌<◌, ◌≤◌, Option, Some, List, [], ◌∷◌, ◌++◌, Bool, true, false, Contains, refl, sym, subst, arith, append-nil}
 use Rattle.std.proofs.lemmas.List.Elements.{Contains-append_cases, Contains-append_left, Contains-append_right}
 use Rattle.mar_types.specs.Round.{Round}
 use Rattle.mar_key.specs.Cutoff.{Cutoff}
@@ -13,8 +13,10 @@ use Rattle.mar_store.proofs.Lookups.{Contains-from_value}
 use Rattle.mar_node.specs.Cached.{Cached}
 use Rattle.mar_node.specs.Metadata.{Pair}
 use Rattle.mar_node.specs.Faults.{StoreName, block_store, cert_store, meta_store}
-use Rattle.mar_node.specs.Held.{ArePassed, Grew, Held, LeavesCache, LeavesPairsSince, LeavesStore, MakesSure, Passes, WithinWritten, Written, nothing_written, watch_of, written_block, written_both, written_cert, written_pair}
+use Rattle.mar_node.specs.Held.{ArePassed, Grew, Held, LeavesCache, LeavesPairsSince, LeavesStore, MakesSure, Passes, WithinWritten, Written, Watches, nothing_written, watch_of, written_block, written_both, written_cert, written_entry, written_pair}
+use Rattle.mar_node.specs.Moves.{CachesReport}
 use Rattle.mar_writes.specs.Writing.{Writing}
+use Rattle.mar_node.proofs.EntryLists.{one_of}
 use Rattle.mar_node.proofs.Passing.{ArePassed-refl, ArePassed-store, ArePassed-then, with_watch}
 
 -- ONE STORE
@@ -95,10 +97,6 @@ LeavesCache-refl cache lowests put prunes = record {
   may = λ x has. Contains-append_left cache.may put x has;
   lowest = λ k has. Contains-append_left lowests (map (λ p. p.epoch) prunes) k has;
 }
-
--- where nothing was put in the cache, nor pruned
-pub LeavesCache-unwritten : (start : Left Cached) (started : List ℕ) (put : List Cached) (prunes : List Round) (left : Left Cached) (lowests : List ℕ) → put ≡ [] → prunes ≡ [] → LeavesCache start started put prunes left lowests → LeavesCache start started [] [] left lowests
-LeavesCache-unwritten start started put prunes left lowests none_put none_pruned leaves = subst (λ xs. LeavesCache start started xs [] left lowests) none_put (subst (λ ps. LeavesCache start started put ps left lowests) none_pruned leaves)
 
 pub Grew-refl : (old : Held) (written : Written) → IsNested old.blocks → IsNested old.certs → Grew old written old
 Grew-refl old written blocks certs = record {
@@ -223,6 +221,19 @@ WithinWritten-block x y all within = let none = WithinWritten-nothing all in rec
 pub WithinWritten-cert : (x : At Block) (y : At Finalization) (all : Written) → WithinWritten (written_both x y) all → WithinWritten (written_cert y) all
 WithinWritten-cert x y all within = let none = WithinWritten-nothing all in record { blocks = none.blocks; certs = within.certs; cached = none.cached; prunes = none.prunes; pairs = none.pairs; blocks_from = none.blocks_from; certs_from = none.certs_from }
 
+-- an entry of the cache, where it is written; all but the entries, the prunes or the pairs
+pub WithinWritten-entry : (x : Cached) (all : Written) → Contains all.cached x → WithinWritten (written_entry x) all
+WithinWritten-entry x all has = let none = WithinWritten-nothing all in record { blocks = none.blocks; certs = none.certs; cached = λ y own. subst (Contains all.cached) (sym (one_of x y own)) has; prunes = none.prunes; pairs = none.pairs; blocks_from = none.blocks_from; certs_from = none.certs_from }
+
+pub WithinWritten-uncached : (all : Written) → WithinWritten (record all { cached = [] }) all
+WithinWritten-uncached all = let whole = WithinWritten-refl all in record { blocks = whole.blocks; certs = whole.certs; cached = (WithinWritten-nothing all).cached; prunes = whole.prunes; pairs = whole.pairs; blocks_from = whole.blocks_from; certs_from = whole.certs_from }
+
+pub WithinWritten-unpruned : (all : Written) → WithinWritten (record all { prunes = [] }) all
+WithinWritten-unpruned all = let whole = WithinWritten-refl all in record { blocks = whole.blocks; certs = whole.certs; cached = whole.cached; prunes = (WithinWritten-nothing all).prunes; pairs = whole.pairs; blocks_from = whole.blocks_from; certs_from = whole.certs_from }
+
+pub WithinWritten-unpaired : (all : Written) → WithinWritten (record all { pairs = [] }) all
+WithinWritten-unpaired all = let whole = WithinWritten-refl all in record { blocks = whole.blocks; certs = whole.certs; cached = whole.cached; prunes = whole.prunes; pairs = (WithinWritten-nothing all).pairs; blocks_from = whole.blocks_from; certs_from = whole.certs_from }
+
 -- the pair joins what is written
 pub WithinWritten-pair : (p : Pair) (all : Written) → WithinWritten (written_pair p) (record all { pairs = p ∷ all.pairs })
 WithinWritten-pair p all = let none = WithinWritten-nothing all in record { blocks = none.blocks; certs = none.certs; cached = none.cached; prunes = none.prunes; pairs = Contains-append_left (p ∷ []) all.pairs; blocks_from = none.blocks_from; certs_from = none.certs_from }
@@ -238,4 +249,15 @@ Grew-wider start all p now grew = record {
   blocks = grew.blocks;
   certs = grew.certs;
   passed = grew.passed;
+}
+
+-- a finalization that was cached stays so as stores are read
+pub CachesReport-read : (f : Finalization) (old now : Held) (w : Watches) → CachesReport f old now → ((start : Held) (all : Written) → Grew start all now → WithinWritten nothing_written all → Grew start all (record now { watches = w })) → CachesReport f old (record now { watches = w })
+CachesReport-read f old now w caches goes = record {
+  caches = record {
+    puts = caches.caches.puts;
+    loaded = caches.caches.loaded;
+    same = ap (λ (h : Held). record h { watches = w }) caches.caches.same;
+  };
+  grew = λ all within. goes old all (caches.grew all within) (WithinWritten-nothing all);
 }

@@ -28,11 +28,11 @@ module _ (reports reports' : Option (List Report)) (asks asks' : Option (List Ca
   }
 
   pub KeepsStep-beside : {P E : Type 0} (epochs : Epochs) (inner : List ℕ → List ℕ) (old : Seen P E) (events : List Event) (buffer : List Block) (result : Result (Seen P E) Ending) → KeepsStep epochs inner old events buffer (heard_by reports asks) (heard_by reports' asks') result → KeepsStep epochs inner old events buffer (heard_with reports asks sends answers) (heard_with reports' asks' sends' answers) result
-  KeepsStep-beside epochs inner old events buffer (Ok new) keeps config chain waiting set step =
-      let finishes = keeps config chain waiting set step in
+  KeepsStep-beside epochs inner old events buffer (Ok new) keeps loaded config chain waiting set step =
+      let finishes = keeps loaded config chain waiting set step in
       record { made = finishes.made; heard = HearsMade-beside finishes.made finishes.heard; steps = finishes.steps }
-  KeepsStep-beside epochs inner old events buffer (Err e) keeps config chain waiting set step =
-      let cut = keeps config chain waiting set step in
+  KeepsStep-beside epochs inner old events buffer (Err e) keeps loaded config chain waiting set step =
+      let cut = keeps loaded config chain waiting set step in
       record { made = cut.made; heard = HearsMade-beside cut.made cut.heard; cuts = cut.cuts }
 
   pub KeepsStart-beside : {P E : Type 0} (epochs : Epochs) (inner : List ℕ → List ℕ) (old : Seen P E) (events : List Event) (buffer : List Block) (result : Result (Seen P E) Ending) → KeepsStart epochs inner old events buffer (heard_by reports asks) (heard_by reports' asks') result → KeepsStart epochs inner old events buffer (heard_with reports asks sends answers) (heard_with reports' asks' sends' answers) result

@@ -5,17 +5,19 @@ use Rattle.mar_types.specs.Epochs.{Epochs, IsPartition}
 use Rattle.mar_cert.specs.Block.{Block}
 use Rattle.mar_key.specs.Keys.{Call}
 use Rattle.mar_node.specs.Answers.{Sent, TicketAnswer, answers_of, certified_after, is_known, sends_of, subscriptions_after}
-use Rattle.mar_node.specs.Cache.{started_syncs, witnessing_of}
+use Rattle.mar_node.specs.Cache.{entries_put, started_syncs, witnessing_of}
+use Rattle.mar_node.specs.Cached.{Cached}
 use Rattle.mar_node.specs.Chain.{Chain}
 use Rattle.mar_node.specs.Config.{Config}
 use Rattle.mar_node.specs.Event.{Event, acked_to, blocks_from, certs_from, cutoff_after, drained_blocks, effect_of, no_floor, own_writes, storing_of, undrained_blocks}
 use Rattle.mar_node.specs.Faults.{Fault, event_fault}
-use Rattle.mar_node.specs.Held.{Ending, IsUsual, Loses, Seen, nothing_written}
+use Rattle.mar_node.specs.Held.{AreCached, Ending, IsUsual, Loses, Seen, nothing_written}
 use Rattle.mar_node.specs.Lives.{is_refused_floor}
 use Rattle.mar_node.specs.Node.{IsGood, Node, OpenSync, Rest, write_count}
 use Rattle.mar_node.specs.Promise.{KeepsStep, Waiting, heard_by, node_of}
 use Rattle.mar_node.specs.Requests.{own_asks}
 use Rattle.mar_node.specs.Step.{AdvancesBy, IsStored, IsStoredLate, Made, Report, Steps, finished_position, without_finished}
+use Rattle.mar_node.proofs.CacheOver.{moves_none, own_none}
 use Rattle.mar_node.proofs.EventPromises.{quiet_cut}
 use Rattle.mar_node.proofs.Handing.{Hears-nothing, HearsFront-nothing}
 use Rattle.mar_node.proofs.PlainEvents.{Certificates-same, KeepsFrom-same, Writes-same, nothing_put}
@@ -30,7 +32,8 @@ pub record IsIdle (config : Config) (n : Node) (e : Event) : Type 0 where
   pub storing : storing_of n e ≡ None
   pub position : (syncs : List OpenSync) → finished_position syncs e ≡ 0
   pub syncs : (syncs : List OpenSync) → without_finished e syncs ≡ syncs
-  pub witnessed : (witnessing_of config n e no_floor).last ≡ n.witnessed
+  pub witnessing : witnessing_of config n e no_floor ≡ record { last = n.witnessed; prunes = [] }
+  pub unput : (after : List Cached) → entries_put config n after e no_floor ≡ []
   pub no_fault : event_fault config n e ≡ None
   pub asks : own_asks config n e no_floor ≡ []
   pub subscriptions : subscriptions_after n e no_floor ≡ []
@@ -46,8 +49,8 @@ module _ {P E : Type 0} (config : Config) (chain : Chain) (a : Seen P E) (buffer
   abbrev n : Node
   n = node_of a buffer waiting
 
-  advances : (sends : List Sent) (answers : List TicketAnswer) → sends ≡ sends_of n e → answers ≡ answers_of config n n.lowest e no_floor → AdvancesBy config chain n e no_floor (sent_and_answered sends answers) n
-  advances sends answers sent answered =
+  advances : (sends : List Sent) (answers : List TicketAnswer) → AreCached a.held → sends ≡ sends_of n e → answers ≡ answers_of config n n.lowest e no_floor → AdvancesBy config chain n e no_floor (sent_and_answered sends answers) n
+  advances sends answers cached sent answered =
       let wrote = Writes-same a a e buffer waiting (ap (λ s. own_writes n s no_floor) quiet.storing) refl refl quiet.position quiet.syncs in
       record {
         hands = record {
@@ -69,7 +72,8 @@ module _ {P E : Type 0} (config : Config) (chain : Chain) (a : Seen P E) (buffer
         tips = refl;
         tips_chain = tt;
         awaited = refl;
-        cache = record { cache = refl; lowest = refl; lowests = refl; cache_syncs = refl; witnessed = sym quiet.witnessed };
+        cache = (moves_none config chain a a e buffer waiting (quiet.unput a.held.cache.kept.held) (quiet.no_syncs n) cached.own_lowest (sym (ap (λ w. w.prunes) quiet.witnessing)) (sym (ap (λ w. w.last) quiet.witnessing)) refl refl refl).advances;
+        may_cached = λ x has. inl has;
         stored = subst (λ s. IfSome s (IsStored n)) (sym quiet.storing) tt;
         stored_late = subst (λ s. IfSome s (IsStoredLate n no_floor n)) (sym quiet.storing) tt;
         floor_stored = tt;
@@ -92,10 +96,10 @@ module _ {P E : Type 0} (config : Config) (chain : Chain) (a : Seen P E) (buffer
       plus_none : (k : ℕ) → k + 0 ≡ k
       plus_none k = omega arith
 
-  pub steps : (sends : List Sent) (answers : List TicketAnswer) → sends ≡ sends_of n e → answers ≡ answers_of config n n.lowest e no_floor → IsGood config chain n → Rest config.window n → Steps config chain n (e ∷ []) (sent_and_answered sends answers) n
-  steps sends answers sent answered good rests = record {
+  pub steps : (sends : List Sent) (answers : List TicketAnswer) → AreCached a.held → sends ≡ sends_of n e → answers ≡ answers_of config n n.lowest e no_floor → IsGood config chain n → Rest config.window n → Steps config chain n (e ∷ []) (sent_and_answered sends answers) n
+  steps sends answers cached sent answered good rests = record {
     unticketed = n;
-    advances = subst (λ fx. AdvancesBy config chain n e fx (sent_and_answered sends answers) n) (sym quiet.effect) (advances sends answers sent answered);
+    advances = subst (λ fx. AdvancesBy config chain n e fx (sent_and_answered sends answers) n) (sym quiet.effect) (advances sends answers cached sent answered);
     ticket = sym (with_sync-unwritten (write_count n) n (omega arith));
     rests = rests;
     good = good;
@@ -103,6 +107,6 @@ module _ {P E : Type 0} (config : Config) (chain : Chain) (a : Seen P E) (buffer
 
 -- cut, it changed nothing
 pub promise-cut : {P E : Type 0} (epochs : Epochs) (inner : List ℕ → List ℕ) (partition : IsPartition epochs) (a : Seen P E) (buffer : List Block) (e : Event) → ((config : Config) (waiting : Waiting) → IsIdle config (node_of a buffer waiting) e) → (told : Option (List Report)) (heard : Option (List Call)) (x : Ending) → Loses a.held nothing_written x → IsUsual x.fault → KeepsStep epochs inner a (e ∷ []) buffer (heard_by told heard) (heard_by told heard) (Err x)
-promise-cut epochs inner partition a buffer e idle told heard x lost usual config chain waiting set step =
+promise-cut epochs inner partition a buffer e idle told heard x lost usual loaded config chain waiting set step =
     let quiet = idle config waiting in
-    quiet_cut epochs inner partition a buffer config chain waiting e step quiet.effect quiet.unrefused told told heard heard nothing_written x (Hears-nothing told) (HearsFront-nothing heard _ heard (Hears-nothing heard)) refl refl refl refl tt tt (λ y has. nothing_put y has) (λ y has. nothing_put y has) lost (λ p has. nothing_put p has) usual
+    quiet_cut epochs inner partition a buffer config chain waiting e step quiet.effect quiet.unrefused told told heard heard nothing_written x (Hears-nothing told) (HearsFront-nothing heard _ heard (Hears-nothing heard)) refl refl (own_none config chain (node_of a buffer waiting) e) tt tt (λ y has. nothing_put y has) (λ y has. nothing_put y has) lost (λ p has. nothing_put p has) usual

@@ -9,11 +9,13 @@ use Rattle.mar_store.specs.Kept.{At, Kept}
 use Rattle.mar_node.specs.Acks.{mark_given, with_mark}
 use Rattle.mar_node.specs.Metadata.{Pair}
 use Rattle.mar_node.specs.Faults.{Fault, TicketKind, ack_kind, dropped_ack, sync_kind, ticket_limit}
-use Rattle.mar_node.specs.Held.{ArePassed, Ending, Grew, IsArchiveFault, IsEndedBy, IsUsual, Loses, Seen, Watches, Written, nothing_written}
-use Rattle.mar_node.specs.Moves.{Drains, EndsDropped, EndsLife, FinishesSync, HasRoom, IsLastTicket, IsRead, IsStarted, LivesOn, RaisesTo, PutsAbove, RunsOut, StoresLate}
+use Rattle.mar_node.specs.Cached.{finalization_entry}
+use Rattle.mar_node.specs.Held.{ArePassed, Ending, Grew, Held, IsArchiveFault, IsEndedBy, IsUsual, Loses, Seen, Written, nothing_written, written_entry}
+use Rattle.mar_node.specs.Moves.{CachesReport, Drains, EndsDropped, EndsLife, FinishesSync, HasRoom, IsLastTicket, IsRead, IsStarted, LivesOn, RaisesTo, PutsAbove, RunsOut, StoresLate, with_cache_of}
 use Rattle.mar_node.specs.Step.{HandedBlock, Report}
 use Rattle.mar_writes.specs.Writing.{Writing}
 use Rattle.mar_node.proofs.Cutting.{usual_from_archive}
+use Rattle.mar_node.proofs.Growing.{WithinWritten-refl}
 use Rattle.mar_node.proofs.Handing.{Ran}
 use Rattle.mar_node.proofs.Passing.{ArePassed-then, FailsBy-then}
 
@@ -50,6 +52,7 @@ LivesOn-ran a told told' (Ok new) (handed, heard, ran) = record {
   epocher = ap (λ s. s.life.epocher) ran.same;
   sizes = ap (λ s. s.life.sizes) ran.same;
   intact = ap (λ s. s.held.intact) ran.same;
+  loaded = λ is. ap (λ s. s.held.cache.loaded) ran.same ∙ is;
 }
 LivesOn-ran a told told' (Err x) (handed, heard, stops) = record { cause = stops.lost.cause; tickets = (λ is. by is stops.kind, λ is. absurd (no_sync is stops.kind)) }
   where
@@ -63,7 +66,7 @@ LivesOn-ran a told told' (Err x) (handed, heard, stops) = record { cause = stops
 
 -- PARTS
 
--- What the first calls of a step keep: the settings and the next tickets; no store failed.
+-- What the first calls of a step keep: the settings and the next tickets, and that the cache was taken up; no store failed.
 pub record IsPart {P E : Type 0} (old new : Seen P E) : Type 0 where
   pub passed : ArePassed old.held.watches new.held.watches
   pub provider : new.life.provider ≡ old.life.provider
@@ -72,6 +75,7 @@ pub record IsPart {P E : Type 0} (old new : Seen P E) : Type 0 where
   pub next_ack : new.life.next_ack ≡ old.life.next_ack
   pub next_sync : new.held.writes.next_sync ≡ old.held.writes.next_sync
   pub intact : new.held.intact ≡ old.held.intact
+  pub loaded : old.held.cache.loaded ≡ true → new.held.cache.loaded ≡ true
 
 pub IsPart-then : {P E : Type 0} (a m n : Seen P E) → IsPart a m → IsPart m n → IsPart a n
 IsPart-then a m n first second = record {
@@ -82,6 +86,7 @@ IsPart-then a m n first second = record {
   next_ack = second.next_ack ∙ first.next_ack;
   next_sync = second.next_sync ∙ first.next_sync;
   intact = second.intact ∙ first.intact;
+  loaded = λ is. second.loaded (first.loaded is);
 }
 
 pub EndsLife-then : {P E : Type 0} (a m : Seen P E) (x : Ending) → IsPart a m → EndsLife m x → EndsLife a x
@@ -99,30 +104,35 @@ LivesOn-then a m (Ok new) part same = record {
   epocher = same.epocher ∙ part.epocher;
   sizes = same.sizes ∙ part.sizes;
   intact = same.intact ∙ part.intact;
+  loaded = λ is. same.loaded (part.loaded is);
 }
 LivesOn-then a m (Err x) part ends = EndsLife-then a m x part ends
 
 -- a part is a step that gives no ticket
 pub LivesOn-part : {P E : Type 0} (a : Seen P E) (new : Seen P E) → IsPart a new → LivesOn a (Ok new)
-LivesOn-part a new part = record { passed = part.passed; tickets = let same : new.life.next_ack ≡ a.life.next_ack = part.next_ack in omega arith; sync_tickets = let same : new.held.writes.next_sync ≡ a.held.writes.next_sync = part.next_sync in omega arith; provider = part.provider; epocher = part.epocher; sizes = part.sizes; intact = part.intact }
+LivesOn-part a new part = record { passed = part.passed; tickets = let same : new.life.next_ack ≡ a.life.next_ack = part.next_ack in omega arith; sync_tickets = let same : new.held.writes.next_sync ≡ a.held.writes.next_sync = part.next_sync in omega arith; provider = part.provider; epocher = part.epocher; sizes = part.sizes; intact = part.intact; loaded = part.loaded }
 
 -- calls that went well, or of which the last failed
 pub LivesOn-goes : {P E : Type 0} (a : Seen P E) (written : Written) (result : Result (Seen P E) Ending) → IfOk result (λ new. ArePassed a.held.watches new.held.watches → IsPart a new) → MatchResult result (λ new. Grew a.held written new.held) (Loses a.held written) → IfErr result (λ x. IsUsual x.fault) → LivesOn a result
 LivesOn-goes a written (Ok new) part goes usual = LivesOn-part a new (part goes.passed)
 LivesOn-goes a written (Err x) part goes usual = EndsLife-usual a x goes.cause usual
 
--- an actor with other stores, cutoff, pairs, tip, writes and witnessed round
-abbrev pub moved : {P E : Type 0} → Seen P E → Kept (At Block) → Kept (At Finalization) → Cutoff → List Pair → Watches → ℕ → Writing → Round → Seen P E
-moved a blocks certs cutoff pairs watches tip writes witnessed = record a {
-  held = record a.held { blocks = blocks; certs = certs; cutoff = cutoff; witnessed = witnessed; pairs = pairs; writes = writes; watches = watches };
+-- an actor with other stores, cutoff, pairs, tip, writes and witnessed round, and with the cache of these stores
+abbrev pub moved : {P E : Type 0} → Seen P E → Kept (At Block) → Kept (At Finalization) → Cutoff → List Pair → Held → ℕ → Writing → Round → Seen P E
+moved a blocks certs cutoff pairs now tip writes witnessed = record a {
+  held = record (with_cache_of now a.held) { blocks = blocks; certs = certs; cutoff = cutoff; witnessed = witnessed; pairs = pairs; writes = writes };
   life = record a.life { tip = tip };
 }
 
-pub IsPart-moved : {P E : Type 0} (a m : Seen P E) (blocks : Kept (At Block)) (certs : Kept (At Finalization)) (cutoff : Cutoff) (pairs : List Pair) (watches : Watches) (tip : ℕ) (writes : Writing) (witnessed : Round) → m ≡ moved a blocks certs cutoff pairs watches tip writes witnessed → writes.next_sync ≡ a.held.writes.next_sync → ArePassed a.held.watches m.held.watches → IsPart a m
-IsPart-moved a m blocks certs cutoff pairs watches tip writes witnessed is same passed = record { passed = passed; provider = ap (λ s. s.life.provider) is; epocher = ap (λ s. s.life.epocher) is; sizes = ap (λ s. s.life.sizes) is; next_ack = ap (λ s. s.life.next_ack) is; next_sync = ap (λ s. s.held.writes.next_sync) is ∙ same; intact = ap (λ s. s.held.intact) is }
+pub IsPart-moved : {P E : Type 0} (a m : Seen P E) (blocks : Kept (At Block)) (certs : Kept (At Finalization)) (cutoff : Cutoff) (pairs : List Pair) (now : Held) (tip : ℕ) (writes : Writing) (witnessed : Round) → m ≡ moved a blocks certs cutoff pairs now tip writes witnessed → writes.next_sync ≡ a.held.writes.next_sync → now.cache.loaded ≡ a.held.cache.loaded → ArePassed a.held.watches m.held.watches → IsPart a m
+IsPart-moved a m blocks certs cutoff pairs now tip writes witnessed is same loaded passed = record { passed = passed; provider = ap (λ s. s.life.provider) is; epocher = ap (λ s. s.life.epocher) is; sizes = ap (λ s. s.life.sizes) is; next_ack = ap (λ s. s.life.next_ack) is; next_sync = ap (λ s. s.held.writes.next_sync) is ∙ same; intact = ap (λ s. s.held.intact) is; loaded = λ was. ap (λ s. s.held.cache.loaded) is ∙ (loaded ∙ was) }
+
+-- these stores as they were, but for how many calls were counted
+abbrev counted_in : {P E : Type 0} → Seen P E → Seen P E → Held
+counted_in a m = record a.held { watches = m.held.watches }
 
 pub IsPart-read : {P E : Type 0} (a m : Seen P E) → IsRead a m → ArePassed a.held.watches m.held.watches → IsPart a m
-IsPart-read a m is passed = IsPart-moved a m _ _ _ _ _ _ _ _ is refl passed
+IsPart-read a m is passed = IsPart-moved a m _ _ _ _ (counted_in a m) _ _ _ is refl refl passed
 
 -- calls that read, of which the last may have failed
 pub LivesOn-read : {P E : Type 0} (a node : Seen P E) (result : Result (Seen P E) Ending) → IsRead a node → IfOk result (λ new. new ≡ node) → MatchResult result (λ new. Grew a.held nothing_written new.held) (Loses a.held nothing_written) → IfErr result (λ x. IsUsual x.fault) → LivesOn a result
@@ -130,26 +140,30 @@ LivesOn-read a node (Ok new) read same goes usual = LivesOn-part a new (IsPart-r
 LivesOn-read a node (Err x) read same goes usual = EndsLife-usual a x goes.cause usual
 
 pub IsPart-stored : {P E : Type 0} (inner : List ℕ → List ℕ) (a : Seen P E) (f : Finalization) (b : Block) (m : Seen P E) → PutsAbove inner a f b m → ArePassed a.held.watches m.held.watches → IsPart a m
-IsPart-stored inner a f b m stores passed = IsPart-moved a m _ _ _ _ _ _ _ _ stores.same refl passed
+IsPart-stored inner a f b m stores passed = IsPart-moved a m _ _ _ _ (counted_in a m) _ _ _ stores.same refl refl passed
 
 pub IsPart-late : {P E : Type 0} (inner : List ℕ → List ℕ) (a : Seen P E) (f : Finalization) (b : Block) (m : Seen P E) → StoresLate inner a f b m → ArePassed a.held.watches m.held.watches → IsPart a m
-IsPart-late inner a f b m stores passed = IsPart-moved a m _ _ _ _ _ _ _ _ stores.same refl passed
+IsPart-late inner a f b m stores passed = IsPart-moved a m _ _ _ _ (counted_in a m) _ _ _ stores.same refl refl passed
 
 pub parts_late : {P E : Type 0} (inner : List ℕ → List ℕ) (a : Seen P E) (f : Finalization) (b : Block) (result : Result (Seen P E) Ending) → IfOk result (λ m. StoresLate inner a f b m) → IfOk result (λ m. ArePassed a.held.watches m.held.watches → IsPart a m)
 parts_late inner a f b (Ok m) stores = λ passed. IsPart-late inner a f b m stores passed
 parts_late inner a f b (Err x) stores = tt
 
-pub IsPart-raised : {P E : Type 0} (a m : Seen P E) (cutoffs : List Cutoff) (witnessed : Round) → RaisesTo a cutoffs witnessed m → ArePassed a.held.watches m.held.watches → IsPart a m
-IsPart-raised a m cutoffs witnessed raised passed = IsPart-moved a m _ _ _ _ _ _ _ _ raised.same refl passed
+pub IsPart-raised : {P E : Type 0} (a m : Seen P E) (cutoffs : List Cutoff) (rounds : List Round) → RaisesTo a cutoffs rounds m → ArePassed a.held.watches m.held.watches → IsPart a m
+IsPart-raised a m cutoffs rounds raised passed = IsPart-moved a m _ _ _ _ m.held _ _ _ raised.same refl raised.prunes.loaded passed
 
 pub IsPart-synced : {P E : Type 0} (a m : Seen P E) (pairs : List Pair) → m ≡ record a { held = record a.held { pairs = pairs; watches = m.held.watches } } → ArePassed a.held.watches m.held.watches → IsPart a m
-IsPart-synced a m pairs is passed = IsPart-moved a m _ _ _ _ _ _ _ _ is refl passed
+IsPart-synced a m pairs is passed = IsPart-moved a m _ _ _ _ (counted_in a m) _ _ _ is refl refl passed
 
 abbrev pub given_in : {P E : Type 0} → Seen P E → ℕ → Seen P E
 given_in a t = record a { life = record a.life { out = with_mark t mark_given a.life.out } }
 
 pub IsPart-drained : {P E : Type 0} (epochs : Epochs) (a : Seen P E) (t : ℕ) (is_drained : Bool) (d : Seen P E) → Drains epochs (given_in a t) is_drained d → ArePassed a.held.watches d.held.watches → IsPart a d
-IsPart-drained epochs a t is_drained d drains passed = record { passed = passed; provider = ap (λ s. s.life.provider) drains.same; epocher = ap (λ s. s.life.epocher) drains.same; sizes = ap (λ s. s.life.sizes) drains.same; next_ack = ap (λ s. s.life.next_ack) drains.same; next_sync = ap (λ s. s.held.writes.next_sync) drains.same; intact = ap (λ s. s.held.intact) drains.same }
+IsPart-drained epochs a t is_drained d drains passed = record { passed = passed; provider = ap (λ s. s.life.provider) drains.same; epocher = ap (λ s. s.life.epocher) drains.same; sizes = ap (λ s. s.life.sizes) drains.same; next_ack = ap (λ s. s.life.next_ack) drains.same; next_sync = ap (λ s. s.held.writes.next_sync) drains.same; intact = ap (λ s. s.held.intact) drains.same; loaded = λ is. drains.prunes.loaded ∙ is }
+
+-- a reported finalization was cached
+pub IsPart-cached : {P E : Type 0} (f : Finalization) (a m : Seen P E) → CachesReport f a.held m.held → m.life ≡ a.life → IsPart a m
+IsPart-cached f a m report life = record { passed = (report.grew (written_entry (finalization_entry f)) (WithinWritten-refl (written_entry (finalization_entry f)))).passed; provider = ap (λ l. l.provider) life; epocher = ap (λ l. l.epocher) life; sizes = ap (λ l. l.sizes) life; next_ack = ap (λ l. l.next_ack) life; next_sync = ap (λ h. h.writes.next_sync) report.caches.same; intact = ap (λ h. h.intact) report.caches.same; loaded = λ is. report.caches.loaded ∙ is }
 
 -- THE STEP
 
@@ -190,6 +204,7 @@ LivesOn-started a m new part started passed = record {
   tickets = let same : new.life.next_ack ≡ a.life.next_ack = ap (λ s. s.life.next_ack) started ∙ part.next_ack in omega arith;
   sync_tickets = let next : new.held.writes.next_sync ≡ a.held.writes.next_sync + 1 = ap (λ s. s.held.writes.next_sync) started ∙ ap (λ k. k + 1) part.next_sync in omega arith;
   intact = ap (λ s. s.held.intact) started ∙ part.intact;
+  loaded = λ is. ap (λ s. s.held.cache.loaded) started ∙ part.loaded is;
   provider = ap (λ s. s.life.provider) started ∙ part.provider;
   epocher = ap (λ s. s.life.epocher) started ∙ part.epocher;
   sizes = ap (λ s. s.life.sizes) started ∙ part.sizes;
@@ -202,7 +217,7 @@ EndsLife-unstarted a m x part cause (inr (limit, last)) = record { cause = cause
 
 -- one that finished keeps the tickets
 pub IsPart-finished : {P E : Type 0} (a m : Seen P E) (t : ℕ) → FinishesSync t a m → ArePassed a.held.watches m.held.watches → IsPart a m
-IsPart-finished a m t finishes passed = IsPart-moved a m _ _ _ _ _ _ _ _ finishes.same refl passed
+IsPart-finished a m t finishes passed = IsPart-moved a m _ _ _ _ (counted_in a m) _ _ _ finishes.same refl refl passed
 
 -- no call that changes a store failed
 pub intact_in : {P E : Type 0} (a : Seen P E) (result : Result (Seen P E) Ending) → a.held.intact ≡ true → LivesOn a result → IfOk result (λ new. new.held.intact ≡ true)

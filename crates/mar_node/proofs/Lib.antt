@@ -11,6 +11,10 @@ pub mod HonestAsks
 pub mod SyncTickets
 pub mod StoreLosses
 pub mod CacheChanges
+pub mod EntryLists
+pub mod CacheSteps
+pub mod CachePrunes
+pub mod CacheOver
 pub mod Passing
 pub mod Growing
 pub mod Storing

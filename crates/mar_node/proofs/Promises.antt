@@ -13,7 +13,7 @@ use Rattle.mar_node.specs.Chain.{Chain, IsBlockAt}
 use Rattle.mar_node.specs.Config.{Config}
 use Rattle.mar_node.specs.Event.{Event, cutoff_after, no_floor, processed_after, undrained_blocks}
 use Rattle.mar_node.specs.Faults.{Fault, ack_kind, is_by_value, meta_store, next_after, store_fault, ticket_limit}
-use Rattle.mar_node.specs.Held.{Ending, IsArchiveFault, LeavesCache, LeavesStore, Seen, blocks_left, cache_left, certs_left}
+use Rattle.mar_node.specs.Held.{Ending, IsArchiveFault, LeavesStore, Seen, blocks_left, cache_left, certs_left}
 use Rattle.mar_node.specs.Lives.{Cuts, NotBelow, Reached, is_dropped_ack, is_refused_floor, reached_after}
 use Rattle.mar_node.specs.Moves.{IsLastTicket, IsStarted, IsStill, StopsHanding, handed_report, next_in, with_handed}
 use Rattle.mar_node.specs.Step.{HeldFrom}
@@ -23,7 +23,8 @@ use Rattle.mar_node.specs.Promise.{FinishesStep, IsGoodUntold, IsLawfulStep, Ste
 use Rattle.mar_node.specs.Requests.{own_asks}
 use Rattle.mar_node.specs.Sound.{IsSafePair}
 use Rattle.mar_node.specs.Step.{AreHandedOf, HandedBlock, HandedFrom, Report, Steps, handed_blocks}
-use Rattle.mar_node.proofs.Cutting.{Cuts-left, LeavesArchives, MayBeLeft, contains_first, keeps_heights, keeps_sure, never, only_one, some_from_first, usual_from_archive, usual_not_by_value, usual_not_dropped}
+use Rattle.mar_node.proofs.Cutting.{Cuts-left, LeavesStores, MayBeLeft, contains_first, keeps_heights, keeps_sure, never, only_one, some_from_first, usual_from_archive, usual_not_by_value, usual_not_dropped}
+use Rattle.mar_node.proofs.CacheOver.{LeavesCache-still}
 use Rattle.mar_node.proofs.FloorSafety.{next_after-is}
 use Rattle.mar_node.proofs.Growing.{LeavesStore-then}
 use Rattle.mar_node.proofs.Handing.{HandedFrom-held, Hears-then, Ran, sure_below, sure_value, with_handed-none}
@@ -65,7 +66,7 @@ module _ {P E : Type 0} (config : Config) (chain : Chain) (a m : Seen P E) (e : 
       m_blocks : LeavesStore m.held.blocks 0 [] (blocks_left left)
       m_blocks = stops.lost.leaves.blocks
 
-      leaves : LeavesArchives chain n e left
+      leaves : LeavesStores config chain n e left
       leaves = record {
         put_blocks = reach.put_blocks;
         put_certs = reach.put_certs;
@@ -75,7 +76,10 @@ module _ {P E : Type 0} (config : Config) (chain : Chain) (a m : Seen P E) (e : 
         of_certs = reach.of_certs;
         own_blocks = reach.own_blocks;
         own_certs = reach.own_certs;
-        cache = subst (λ l. LeavesCache (left_of a.held.cache.kept) l [] [] (cache_left left) left.lowests) reach.lowests (subst (λ c. LeavesCache (left_of c.kept) m.held.lowests [] [] (cache_left left) left.lowests) reach.cache stops.lost.leaves.cache);
+        put_cached = reach.cache.put;
+        prunes = reach.cache.prunes;
+        own_cache = reach.cache.own;
+        cache = LeavesCache-still (left_of a.held.cache.kept) a.held.lowests reach.cache.put reach.cache.prunes (left_of m.held.cache.kept) m.held.lowests (cache_left left) left.lowests reach.cache.leaves stops.lost.leaves.cache;
       }
 
       kept : KeepsValues m.held.blocks.sure left.blocks_sure

@@ -15,7 +15,7 @@ use Rattle.mar_node.specs.Cached.{cached_block}
 use Rattle.mar_node.specs.Chain.{Chain}
 use Rattle.mar_node.specs.Config.{Config}
 use Rattle.mar_node.specs.Event.{Event, is_query, message_told, no_floor}
-use Rattle.mar_node.specs.Held.{Ending, Grew, IsUsual, Loses, Seen, nothing_written}
+use Rattle.mar_node.specs.Held.{AreCached, Ending, Grew, IsUsual, Loses, Seen, nothing_written}
 use Rattle.mar_node.specs.Messages.{Identifier, Message, certify, close_ticket, forward, get_anchor, get_block, get_finalization, get_info, get_processed, get_verified, hint_finalized, hint_notarized, latest, of_digest, of_height, prepared, proposed, prune_below, report_certification, report_finalization, report_notarization, set_floor, subscribe_commitment, subscribe_digest, verified}
 use Rattle.mar_node.specs.Moves.{IsRead, found_at_hand}
 use Rattle.mar_node.specs.Node.{AreBlocksOf, Node, at_hand}
@@ -76,12 +76,12 @@ module _ {P E : Type 0} (config : Config) (a : Seen P E) (buffer : List Block) (
 
   -- it brings, stores, asks and sends nothing
   idle : (m : Message) → is_query (message_told (Some t) m) ≡ true → IsIdle config n (message_told (Some t) m) × ([] ≡ sends_of n (message_told (Some t) m))
-  idle (get_info id) is = (record { effect = refl; undrained = refl; processed = refl; cutoff = refl; storing = refl; position = λ xs. refl; syncs = λ xs. refl; witnessed = refl; no_fault = refl; asks = refl; subscriptions = refl; certified = λ tip. refl; no_syncs = λ n'. refl; unrefused = λ fault. refl }, refl)
-  idle (get_block id) is = (record { effect = refl; undrained = refl; processed = refl; cutoff = refl; storing = refl; position = λ xs. refl; syncs = λ xs. refl; witnessed = refl; no_fault = refl; asks = refl; subscriptions = refl; certified = λ tip. refl; no_syncs = λ n'. refl; unrefused = λ fault. refl }, refl)
-  idle (get_finalization h) is = (record { effect = refl; undrained = refl; processed = refl; cutoff = refl; storing = refl; position = λ xs. refl; syncs = λ xs. refl; witnessed = refl; no_fault = refl; asks = refl; subscriptions = refl; certified = λ tip. refl; no_syncs = λ n'. refl; unrefused = λ fault. refl }, refl)
-  idle get_processed is = (record { effect = refl; undrained = refl; processed = refl; cutoff = refl; storing = refl; position = λ xs. refl; syncs = λ xs. refl; witnessed = refl; no_fault = refl; asks = refl; subscriptions = refl; certified = λ tip. refl; no_syncs = λ n'. refl; unrefused = λ fault. refl }, refl)
-  idle get_anchor is = (record { effect = refl; undrained = refl; processed = refl; cutoff = refl; storing = refl; position = λ xs. refl; syncs = λ xs. refl; witnessed = refl; no_fault = refl; asks = refl; subscriptions = refl; certified = λ tip. refl; no_syncs = λ n'. refl; unrefused = λ fault. refl }, refl)
-  idle (get_verified r) is = (record { effect = refl; undrained = refl; processed = refl; cutoff = refl; storing = refl; position = λ xs. refl; syncs = λ xs. refl; witnessed = refl; no_fault = refl; asks = refl; subscriptions = refl; certified = λ tip. refl; no_syncs = λ n'. refl; unrefused = λ fault. refl }, refl)
+  idle (get_info id) is = (record { effect = refl; undrained = refl; processed = refl; cutoff = refl; storing = refl; position = λ xs. refl; syncs = λ xs. refl; witnessing = refl; unput = λ after. refl; no_fault = refl; asks = refl; subscriptions = refl; certified = λ tip. refl; no_syncs = λ n'. refl; unrefused = λ fault. refl }, refl)
+  idle (get_block id) is = (record { effect = refl; undrained = refl; processed = refl; cutoff = refl; storing = refl; position = λ xs. refl; syncs = λ xs. refl; witnessing = refl; unput = λ after. refl; no_fault = refl; asks = refl; subscriptions = refl; certified = λ tip. refl; no_syncs = λ n'. refl; unrefused = λ fault. refl }, refl)
+  idle (get_finalization h) is = (record { effect = refl; undrained = refl; processed = refl; cutoff = refl; storing = refl; position = λ xs. refl; syncs = λ xs. refl; witnessing = refl; unput = λ after. refl; no_fault = refl; asks = refl; subscriptions = refl; certified = λ tip. refl; no_syncs = λ n'. refl; unrefused = λ fault. refl }, refl)
+  idle get_processed is = (record { effect = refl; undrained = refl; processed = refl; cutoff = refl; storing = refl; position = λ xs. refl; syncs = λ xs. refl; witnessing = refl; unput = λ after. refl; no_fault = refl; asks = refl; subscriptions = refl; certified = λ tip. refl; no_syncs = λ n'. refl; unrefused = λ fault. refl }, refl)
+  idle get_anchor is = (record { effect = refl; undrained = refl; processed = refl; cutoff = refl; storing = refl; position = λ xs. refl; syncs = λ xs. refl; witnessing = refl; unput = λ after. refl; no_fault = refl; asks = refl; subscriptions = refl; certified = λ tip. refl; no_syncs = λ n'. refl; unrefused = λ fault. refl }, refl)
+  idle (get_verified r) is = (record { effect = refl; undrained = refl; processed = refl; cutoff = refl; storing = refl; position = λ xs. refl; syncs = λ xs. refl; witnessing = refl; unput = λ after. refl; no_fault = refl; asks = refl; subscriptions = refl; certified = λ tip. refl; no_syncs = λ n'. refl; unrefused = λ fault. refl }, refl)
   idle (report_finalization f) is = absurd cc
   idle (report_notarization f) is = absurd cc
   idle (report_certification f) is = absurd cc
@@ -132,11 +132,11 @@ module _ {P E : Type 0} (epochs : Epochs) (inner : List ℕ → List ℕ) (parti
   e = message_told (Some t) m
 
   -- a query that is answered leaves what it read
-  pub promise-answered : (told : Option (List Report)) (heard : Option (List Call)) (sends : Option (List Sent)) (before after : List TicketAnswer) (new : Seen P E) → IsRead a new → after ≡ before ++ answers_found inner a.held buffer e → KeepsStep epochs inner a (e ∷ []) buffer (heard_with told heard sends before) (heard_with told heard sends after) (Ok new)
-  promise-answered told heard sends before after new read answered config chain waiting set step = record {
+  pub promise-answered : (told : Option (List Report)) (heard : Option (List Call)) (sends : Option (List Sent)) (before after : List TicketAnswer) (new : Seen P E) → AreCached a.held → IsRead a new → after ≡ before ++ answers_found inner a.held buffer e → KeepsStep epochs inner a (e ∷ []) buffer (heard_with told heard sends before) (heard_with told heard sends after) (Ok new)
+  promise-answered told heard sends before after new cached read answered loaded config chain waiting set step = record {
     made = sent_and_answered [] answers;
     heard = record { reports = Hears-nothing told; asks = Hears-nothing heard; sends = Hears-nothing sends; answers = answered };
-    steps = subst (λ s. Steps config chain (node_of a buffer waiting) (e ∷ []) (sent_and_answered [] answers) (node_of s buffer waiting)) (sym read) (steps config chain a buffer waiting e quiet.0 [] answers quiet.1 are step.good step.rests);
+    steps = subst (λ s. Steps config chain (node_of a buffer waiting) (e ∷ []) (sent_and_answered [] answers) (node_of s buffer waiting)) (sym read) (steps config chain a buffer waiting e quiet.0 [] answers cached quiet.1 are step.good step.rests);
   }
     where
       quiet : IsIdle config (node_of a buffer waiting) e × ([] ≡ sends_of (node_of a buffer waiting) e)
@@ -149,9 +149,9 @@ module _ {P E : Type 0} (epochs : Epochs) (inner : List ℕ → List ℕ) (parti
       are = ap (λ i. answers_found i a.held buffer e) (sym set.inner_is) ∙ answers_found-is config a buffer waiting t chain step.one step.good.of_chain.stores.held_blocks m query
 
   -- a query
-  pub promise-asked : (told : Option (List Report)) (heard : Option (List Call)) (sends : Option (List Sent)) (before after : List TicketAnswer) (result : Result (Seen P E) Ending) → IfOk result (IsRead a) → OnOk result (after ≡ before ++ answers_found inner a.held buffer e) → OnErr result (after ≡ before) → MatchResult result (λ new. Grew a.held nothing_written new.held) (Loses a.held nothing_written) → IfErr result (λ x. IsUsual x.fault) → KeepsStep epochs inner a (e ∷ []) buffer (heard_with told heard sends before) (heard_with told heard sends after) result
-  promise-asked told heard sends before after (Ok new) read answered unanswered goes usual = promise-answered told heard sends before after new read answered
-  promise-asked told heard sends before after (Err x) read answered unanswered goes usual =
+  pub promise-asked : (told : Option (List Report)) (heard : Option (List Call)) (sends : Option (List Sent)) (before after : List TicketAnswer) (result : Result (Seen P E) Ending) → AreCached a.held → IfOk result (IsRead a) → OnOk result (after ≡ before ++ answers_found inner a.held buffer e) → OnErr result (after ≡ before) → MatchResult result (λ new. Grew a.held nothing_written new.held) (Loses a.held nothing_written) → IfErr result (λ x. IsUsual x.fault) → KeepsStep epochs inner a (e ∷ []) buffer (heard_with told heard sends before) (heard_with told heard sends after) result
+  promise-asked told heard sends before after (Ok new) cached read answered unanswered goes usual = promise-answered told heard sends before after new cached read answered
+  promise-asked told heard sends before after (Err x) cached read answered unanswered goes usual =
       subst (λ answers. KeepsStep epochs inner a (e ∷ []) buffer (heard_with told heard sends before) (heard_with told heard sends answers) (Err x)) (sym unanswered)
       (KeepsStep-beside told told heard heard sends sends (Hears-nothing sends) before epochs inner a (e ∷ []) buffer (Err x) (promise-cut epochs inner partition a buffer e (λ config waiting. (idle config a buffer waiting t m query).0) told heard x goes usual))
 

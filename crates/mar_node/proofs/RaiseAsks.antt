@@ -10,7 +10,7 @@ use Rattle.mar_key.specs.Processed.{Processed}
 use Rattle.mar_types.specs.Epochs.{Epochs}
 use Rattle.mar_node.specs.Held.{Watches, Seen}
 use Rattle.mar_node.specs.Event.{closed_at, retired, round_at}
-use Rattle.mar_node.specs.Moves.{HearsFront, HearsUpTo, IsRead, RaisesTo}
+use Rattle.mar_node.specs.Moves.{HearsFront, HearsUpTo, IsRead}
 use Rattle.mar_node.specs.Requests.{raise_asks}
 use Rattle.mar_node.proofs.Handing.{Hears-then, HearsFront-more, HearsFront-then, HearsUpTo-then}
 
@@ -89,10 +89,10 @@ module _ {P E : Type 0} (epochs_of : E → Epochs) (old one two : Seen P E) (pro
       (HearsFront-raised old.held.cutoff (option_to_list (option_map at_round (round_at old.held.certs.held height))) (closed_at (epochs_of old.life.epocher) height) second last (subst (λ zs. HearsFront second zs last) raised_old front))
 
   -- or it went on, and over the epochs
-  pub process_asks : {A C : Type 0} (three : Seen P E) (result : Result A C) (first second third last : Option (List Call)) (witnessed : Round) → RaisesTo two (option_to_list (option_map at_round round)) witnessed three → Hears first (retain (above_height height) ∷ []) second → Hears second (raise_asks two.held.cutoff (option_to_list (option_map at_round round))) third → HearsUpTo third (raise_asks three.held.cutoff (closed_at (epochs_of three.life.epocher) height)) last result → HearsUpTo first (retain (above_height height) ∷ raise_asks old.held.cutoff retired_old) last result
-  process_asks three result first second third last witnessed raised before between after =
+  pub process_asks : {A C : Type 0} (three : Seen P E) (result : Result A C) (first second third last : Option (List Call)) → three.held.cutoff ≡ greatest_of two.held.cutoff (option_to_list (option_map at_round round)) → three.life.epocher ≡ two.life.epocher → Hears first (retain (above_height height) ∷ []) second → Hears second (raise_asks two.held.cutoff (option_to_list (option_map at_round round))) third → HearsUpTo third (raise_asks three.held.cutoff (closed_at (epochs_of three.life.epocher) height)) last result → HearsUpTo first (retain (above_height height) ∷ raise_asks old.held.cutoff retired_old) last result
+  process_asks three result first second third last raised same_epocher before between after =
       HearsUpTo-processed result first second third last (retain (above_height height)) old.held.cutoff three.held.cutoff (option_to_list (option_map at_round (round_at old.held.certs.held height))) (closed_at (epochs_of old.life.epocher) height)
       before
       (subst (λ zs. Hears second zs third) raised_old between)
-      (ap (λ a. a.held.cutoff) raised.same ∙ ap₂ (λ c o. greatest_of c (option_to_list (option_map at_round o))) cutoff_is round_old)
-      (subst (λ e. HearsUpTo third (raise_asks three.held.cutoff (closed_at (epochs_of e) height)) last result) (ap (λ a. a.life.epocher) raised.same ∙ epocher_is) after)
+      (raised ∙ ap₂ (λ c o. greatest_of c (option_to_list (option_map at_round o))) cutoff_is round_old)
+      (subst (λ e. HearsUpTo third (raise_asks three.held.cutoff (closed_at (epochs_of e) height)) last result) (same_epocher ∙ epocher_is) after)

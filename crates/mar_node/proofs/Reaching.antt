@@ -11,7 +11,7 @@ use Rattle.mar_store.specs.Kept.{At, has_height, value_at}
 use Rattle.mar_store.specs.Changes.{KeepsValues}
 use Rattle.mar_store.proofs.Lookups.{AllByRecursion-append, AllByRecursion-value_at}
 use Rattle.mar_node.specs.Answers.{answers_of, certified_after, is_known, sends_of, subscriptions_after}
-use Rattle.mar_node.specs.Cache.{started_syncs, witnessing_of}
+use Rattle.mar_node.specs.Cache.{answer_ticket, started_syncs, still_covers, tickets_from, without_cache_sync}
 use Rattle.mar_node.specs.Chain.{Chain, IsBlockAt, IsLawful}
 use Rattle.mar_node.specs.Cached.{cached_block, cached_finalization}
 use Rattle.mar_node.specs.Config.{Config}
@@ -24,6 +24,7 @@ use Rattle.mar_node.specs.Promise.{ReportsFinalized, Waiting, asked_since, made_
 use Rattle.mar_writes.specs.Writing.{total_writes}
 use Rattle.mar_node.specs.Requests.{own_asks}
 use Rattle.mar_node.specs.Step.{AdvancesBy, AreHandedOf, AreTipsOf, CertificatesFrom, HandedBlock, HandedFrom, HandsOver, IsBlockFrom, IsCertFrom, IsStored, IsStoredLate, KeepsFrom, Report, Steps, TipsFrom, Writes, handed_blocks, handed_over, new_tip, outstanding_of}
+use Rattle.mar_node.proofs.CacheOver.{MovesCache}
 use Rattle.mar_node.proofs.Growing.{Grown}
 use Rattle.mar_node.proofs.Handing.{AreHandedOf-held, HandedFrom-held, handed_blocks-is, height_after-consecutive, sure_below}
 use Rattle.mar_node.proofs.HonestAsks.{AreHonest-asked_after, own_asks-honest}
@@ -163,10 +164,7 @@ pub record Reaches {P E : Type 0} (config : Config) (chain : Chain) (a : Seen P 
   pub are_tips : AreTips tips
   pub tips_rise : TipsFrom a.life.tip tips m.life.tip
   pub tips_chain : AreTipsOf chain tips
-  pub cache : m.held.cache ≡ a.held.cache
-  pub lowest : m.held.lowest ≡ a.held.lowest
-  pub lowests : m.held.lowests ≡ a.held.lowests
-  pub witnessed : m.held.witnessed ≡ (witnessing_of config (node_of a buffer waiting) e no_floor).last
+  pub cache : MovesCache config chain a m e buffer waiting
   pub stored : IfSome (storing_of (node_of a buffer waiting) e) (IsStored (node_of m buffer waiting))
   pub stored_late : IfSome (storing_of (node_of a buffer waiting) e) (IsStoredLate (node_of a buffer waiting) no_floor (node_of m buffer waiting))
   pub no_query : is_query e ≡ false
@@ -308,7 +306,21 @@ module _ {P E : Type 0} (config : Config) (chain : Chain) (a m : Seen P E) (e : 
       tips = tips_before_handed a.life.tip m.life.tip tips handed reach.are_tips reach.tips_rise;
       tips_chain = tips_of_both chain tips handed reach.are_tips reach.tips_chain;
       awaited = refl;
-      cache = record { cache = ap (λ c. c.kept) reach.cache; lowest = reach.lowest; lowests = reach.lowests; cache_syncs = refl; witnessed = reach.witnessed };
+      cache = record {
+        kept = reach.cache.advances.kept;
+        nothing_else = reach.cache.advances.nothing_else;
+        stays_sure = reach.cache.advances.stays_sure;
+        stays = reach.cache.advances.stays;
+        first_stays = reach.cache.advances.first_stays;
+        synced = reach.cache.advances.synced;
+        finished = reach.cache.advances.finished;
+        lowest = reach.cache.advances.lowest;
+        lowests = reach.cache.advances.lowests;
+        own_lowest = reach.cache.advances.own_lowest;
+        cache_syncs = reach.cache.advances.cache_syncs ∙ ap (λ ss. map (still_covers config n e no_floor) (without_cache_sync e []) ++ tickets_from a.held.writes.next_sync (answer_ticket e) m.held.cache.kept.held ss) (reach.no_syncs (node_of m buffer waiting) ∙ sym (reach.no_syncs n'));
+        witnessed = reach.cache.advances.witnessed;
+      };
+      may_cached = λ x has. ⊎_elim (λ before. inl before) (λ new. inr (reach.cache.own.own x new)) (Contains-append_cases a.held.cache.kept.may reach.cache.put x (reach.cache.leaves.may x has));
       stored = IfSome-more (IsStored (node_of m buffer waiting)) (IsStored n') (λ s is. record { block = is.block; certificate = is.certificate }) (storing_of n e) reach.stored;
       stored_late = IfSome-more (IsStoredLate n no_floor (node_of m buffer waiting)) (IsStoredLate n no_floor n') (λ s is. is) (storing_of n e) reach.stored_late;
       floor_stored = tt;

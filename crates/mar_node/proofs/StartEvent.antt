@@ -14,14 +14,15 @@ use Rattle.mar_node.specs.Cached.{Cached, cached_block, cached_finalization}
 use Rattle.mar_node.specs.Chain.{Chain}
 use Rattle.mar_node.specs.Config.{Config}
 use Rattle.mar_node.specs.Event.{life_started}
-use Rattle.mar_node.specs.Held.{ArePassed, Ending, HeldCache, IsUsual, Loses, Seen, nothing_written}
+use Rattle.mar_node.specs.Held.{AreCached, ArePassed, Ending, HeldCache, IsUsual, Loses, Seen, nothing_written}
 use Rattle.mar_node.specs.Lives.{ArePicked, TakesUp}
-use Rattle.mar_node.specs.Moves.{IsRead, LivesOn, LoadsCache, newest_tip, newest_tips, with_newest}
+use Rattle.mar_node.specs.Moves.{IsRead, LivesOn, LoadsCache, newest_tip, newest_tips, with_newest, with_watches}
 use Rattle.mar_node.specs.Stored.{newest}
 use Rattle.mar_node.specs.Node.{Agrees, IsFinalized, IsGood}
 use Rattle.mar_node.specs.Promise.{AreOne, CutsStart, FinishesStart, IsGoodUntold, IsLawfulStep, KeepsPromise, StepsOrCuts, Waiting, heard_by, known_blocks, node_of}
 use Rattle.mar_writes.specs.Writing.{total_writes}
 use Rattle.mar_node.specs.Step.{AreTipsOf, Report}
+use Rattle.mar_node.proofs.CacheOver.{moves_none, own_none}
 use Rattle.mar_node.proofs.Cutting.{usual_not_by_value, usual_not_dropped}
 use Rattle.mar_node.proofs.EventPromises.{quiet_cut, told_cut}
 use Rattle.mar_node.proofs.Filtered.{all_found_within}
@@ -55,8 +56,8 @@ module _ {P E : Type 0} (config : Config) (chain : Chain) (a : Seen P E) (buffer
     };
   }
 
-  pub Reaches-start : (m : Seen P E) → IsRead (with_newest a) m → AreOne config.inner (known_blocks chain (node_of a buffer waiting)) → Reaches config chain a (life_started None) buffer waiting (newest_tips config.inner a.life.tip (newest a.held.certs.held)) m
-  Reaches-start m same one = subst (Reaches config chain a (life_started None) buffer waiting (newest_tips config.inner a.life.tip (newest a.held.certs.held))) (sym same) (record {
+  pub Reaches-start : (m : Seen P E) → a.held.lowests ≡ a.held.lowest ∷ [] → IsRead (with_newest a) m → AreOne config.inner (known_blocks chain (node_of a buffer waiting)) → Reaches config chain a (life_started None) buffer waiting (newest_tips config.inner a.life.tip (newest a.held.certs.held)) m
+  Reaches-start m own_lowest same one = subst (Reaches config chain a (life_started None) buffer waiting (newest_tips config.inner a.life.tip (newest a.held.certs.held))) (sym same) (record {
     no_effect = refl;
     kept = refl;
     next_ack = refl;
@@ -80,10 +81,7 @@ module _ {P E : Type 0} (config : Config) (chain : Chain) (a : Seen P E) (buffer
     are_tips = newest_tips-tips config.inner a.life.tip (newest a.held.certs.held);
     tips_rise = newest_tips-rise config.inner a.life.tip (newest a.held.certs.held);
     tips_chain = newest_tips-chain config.inner chain (buffer ++ filter_map cached_block (a.held.cache.kept.held ++ a.held.cache.kept.may)) one a.life.tip a.held.certs.held untold.1.of_chain.stores.held_certs;
-    cache = refl;
-    lowest = refl;
-    lowests = refl;
-    witnessed = refl;
+    cache = moves_none config chain a (with_watches (with_newest a) m.held.watches) (life_started None) buffer waiting refl refl own_lowest refl refl refl refl refl;
     stored = tt;
     stored_late = tt;
     no_query = refl;
@@ -105,6 +103,7 @@ IsPart-begun a m n same loads passed = record {
   next_ack = ap (λ s. s.life.next_ack) loads.same ∙ ap (λ s. s.life.next_ack) same;
   next_sync = ap (λ s. s.held.writes.next_sync) loads.same ∙ ap (λ s. s.held.writes.next_sync) same;
   intact = ap (λ s. s.held.intact) loads.same ∙ ap (λ s. s.held.intact) same;
+  loaded = λ was. loads.loaded;
 }
 
 pub LivesOn-start : {P E : Type 0} (a m n : Seen P E) (told told' : Option (List Report)) (result : Result (Seen P E) Ending) → IsRead (with_newest a) m → LoadsCache m n → ArePassed a.held.watches n.held.watches → Ran n told told' result → LivesOn a result
@@ -177,7 +176,7 @@ module _ {P E : Type 0} (epochs : Epochs) (inner : List ℕ → List ℕ) (parti
   promise-untold told told' heard x silent lost usual fresh config chain waiting set step = record {
     begun = node_of a buffer waiting;
     takes = inl refl;
-    cuts = quiet_cut epochs inner partition a buffer config chain waiting (life_started None) step refl (λ fault. refl) told told' heard heard nothing_written x silent (HearsFront-nothing heard _ heard (Hears-nothing heard)) refl refl refl refl tt tt (λ y has. nothing_put y has) (λ y has. nothing_put y has) lost (λ p has. nothing_put p has) usual;
+    cuts = quiet_cut epochs inner partition a buffer config chain waiting (life_started None) step refl (λ fault. refl) told told' heard heard nothing_written x silent (HearsFront-nothing heard _ heard (Hears-nothing heard)) refl refl (own_none config chain (node_of a buffer waiting) (life_started None)) tt tt (λ y has. nothing_put y has) (λ y has. nothing_put y has) lost (λ p has. nothing_put p has) usual;
   }
 
   -- the cache could not be taken up
@@ -188,12 +187,12 @@ module _ {P E : Type 0} (epochs : Epochs) (inner : List ℕ → List ℕ) (parti
     cuts = told_cut epochs inner partition a buffer config chain waiting (life_started None) step refl (λ fault. refl) (newest_tips inner a.life.tip (newest a.held.certs.held)) (newest_tip a.life.tip (newest a.held.certs.held))
         (newest_tips-tips inner a.life.tip (newest a.held.certs.held)) (newest_tips-rise inner a.life.tip (newest a.held.certs.held))
         (subst (λ i. AreTipsOf chain (newest_tips i a.life.tip (newest a.held.certs.held))) set.inner_is (newest_tips-chain config.inner chain (buffer ++ filter_map cached_block (a.held.cache.kept.held ++ a.held.cache.kept.may)) step.one a.life.tip a.held.certs.held step.good.1.of_chain.stores.held_certs))
-        told told' heard heard nothing_written x tips (HearsFront-nothing heard _ heard (Hears-nothing heard)) refl refl refl refl tt tt (λ y has. nothing_put y has) (λ y has. nothing_put y has) lost (λ p has. nothing_put p has) (usual_not_by_value x.fault usual) (usual_not_dropped x.fault usual);
+        told told' heard heard nothing_written x tips (HearsFront-nothing heard _ heard (Hears-nothing heard)) refl refl (own_none config chain (node_of a buffer waiting) (life_started None)) tt tt (λ y has. nothing_put y has) (λ y has. nothing_put y has) lost (λ p has. nothing_put p has) (usual_not_by_value x.fault usual) (usual_not_dropped x.fault usual);
   }
 
   -- it was, and blocks were handed over
-  pub promise-start : (told told1 told' : Option (List Report)) (heard : Option (List Call)) (m n : Seen P E) (result : Result (Seen P E) Ending) → IsNested a.held.blocks → IsNested a.held.certs → IsRead (with_newest a) m → LoadsCache m n → Hears told (newest_tips inner a.life.tip (newest a.held.certs.held)) told1 → Ran n told1 told' result → KeepsPromise (life_started None ∷ []) epochs inner a buffer (heard_by told heard) (heard_by told' heard) result
-  promise-start told told1 told' heard m n result nested certs_nested same loads tips ran fresh config chain waiting set step = by result ran
+  pub promise-start : (told told1 told' : Option (List Report)) (heard : Option (List Call)) (m n : Seen P E) (result : Result (Seen P E) Ending) → IsNested a.held.blocks → IsNested a.held.certs → AreCached a.held → IsRead (with_newest a) m → LoadsCache m n → Hears told (newest_tips inner a.life.tip (newest a.held.certs.held)) told1 → Ran n told1 told' result → KeepsPromise (life_started None ∷ []) epochs inner a buffer (heard_by told heard) (heard_by told' heard) result
+  promise-start told told1 told' heard m n result nested certs_nested cached same loads tips ran fresh config chain waiting set step = by result ran
     where
       cache_is : m.held.cache ≡ a.held.cache
       cache_is = ap (λ s. s.held.cache) same
@@ -215,7 +214,7 @@ module _ {P E : Type 0} (epochs : Epochs) (inner : List ℕ → List ℕ) (parti
 
       steps_on : (r : Result (Seen P E) Ending) → Ran n told1 told' r → StepsOrCuts config chain (node_of (with_cache a n.held.cache) buffer waiting) (life_started None ∷ []) (heard_by told heard) (heard_by told' heard) r
       steps_on r ran =
-          dispatched config chain (with_cache a n.held.cache) n (life_started None) buffer waiting (newest_tips config.inner a.life.tip (newest a.held.certs.held)) (set.window ∙ sym (ap (λ s. s.life.sizes.window) begun_same)) begun_step (λ fault. refl) (Reaches-start config chain (with_cache a n.held.cache) buffer waiting nested certs_nested begun_step.good n begun_same begun_step.one)
+          dispatched config chain (with_cache a n.held.cache) n (life_started None) buffer waiting (newest_tips config.inner a.life.tip (newest a.held.certs.held)) (set.window ∙ sym (ap (λ s. s.life.sizes.window) begun_same)) begun_step (λ fault. refl) (Reaches-start config chain (with_cache a n.held.cache) buffer waiting nested certs_nested begun_step.good n cached.own_lowest begun_same begun_step.one)
           (subst (λ s. IsGood config chain (node_of s buffer waiting)) (sym begun_same) (IsGood-told config chain (with_cache a n.held.cache) buffer waiting nested certs_nested begun_step.good)) (let writes : total_writes n.held.writes ≡ total_writes a.held.writes = ap (λ s. total_writes s.held.writes) begun_same in omega arith)
           (subst (λ s. KeepsValues s.held.blocks.sure s.held.blocks.held) (sym begun_same) nested.sure_held) told told1 told' heard heard r
           (subst (λ i. Hears told (newest_tips i a.life.tip (newest a.held.certs.held)) told1) (sym set.inner_is) tips) ran (Hears-nothing heard)

@@ -11,7 +11,7 @@ use Rattle.mar_store.proofs.Lookups.{AllByRecursion-weaker, AllByRecursion-withi
 use Rattle.mar_node.specs.Chain.{Chain, Finalizes, IsBlockAt}
 use Rattle.mar_node.specs.Config.{Config}
 use Rattle.mar_node.specs.Event.{no_floor, sync_finished}
-use Rattle.mar_node.specs.Held.{MakesSure, Seen}
+use Rattle.mar_node.specs.Held.{AreCached, MakesSure, Seen}
 use Rattle.mar_node.specs.Metadata.{pair_of}
 use Rattle.mar_node.specs.Moves.{FinishesSync}
 use Rattle.mar_node.specs.Node.{AreBlocksOf, AreFinalizationsOf, ConsecutiveFrom, FloorSafe, HasAnchor, IsCacheOf, IsGood}
@@ -22,6 +22,7 @@ use Rattle.mar_node.proofs.Cutting.{keeps_heights}
 use Rattle.mar_node.proofs.FinalizationEvent.{nested_heights}
 use Rattle.mar_node.proofs.FloorSafety.{FloorSafe-still}
 use Rattle.mar_node.proofs.Growing.{Grown}
+use Rattle.mar_node.proofs.CacheOver.{moves_none}
 use Rattle.mar_node.proofs.PairsAfter.{HasAnchor-kept}
 use Rattle.mar_node.proofs.PlainEvents.{Writes-none, nothing_put}
 use Rattle.mar_node.proofs.Reaching.{Reaches}
@@ -47,8 +48,8 @@ module _ {P E : Type 0} (config : Config) (chain : Chain) (a m : Seen P E) (t : 
   written = Writes-none a m (sync_finished t) buffer waiting refl finishes.blocks.held (ap (λ s. s.held.writes.covered) finishes.same) (ap (λ s. s.held.writes.uncovered) finishes.same ∙ ap (λ k. drop (k - a.held.writes.covered) a.held.writes.uncovered) (sym (ap (λ s. s.held.writes.covered) finishes.same))) (ap (λ s. s.held.writes.syncs) finishes.same)
 
   -- a sync that finished, or wasn't open, reaches the actor in which it makes more sure
-  pub Reaches-finished : IsNested m.held.blocks → IsNested m.held.certs → Reaches config chain a (sync_finished t) buffer waiting [] m
-  Reaches-finished new_nested new_certs = record {
+  pub Reaches-finished : AreCached a.held → IsNested m.held.blocks → IsNested m.held.certs → Reaches config chain a (sync_finished t) buffer waiting [] m
+  Reaches-finished cached new_nested new_certs = record {
     no_effect = refl;
     kept = ap (λ s. s.life.out) finishes.same;
     next_ack = ap (λ s. s.life.next_ack) finishes.same;
@@ -75,10 +76,7 @@ module _ {P E : Type 0} (config : Config) (chain : Chain) (a m : Seen P E) (t : 
     are_tips = tt;
     tips_rise = ap (λ s. s.life.tip) finishes.same;
     tips_chain = tt;
-    cache = ap (λ s. s.held.cache) finishes.same;
-    lowest = ap (λ s. s.held.lowest) finishes.same;
-    lowests = ap (λ s. s.held.lowests) finishes.same;
-    witnessed = ap (λ s. s.held.witnessed) finishes.same;
+    cache = moves_none config chain a m (sync_finished t) buffer waiting refl refl cached.own_lowest refl (ap (λ s. s.held.witnessed) finishes.same) (ap (λ s. s.held.cache) finishes.same) (ap (λ s. s.held.lowest) finishes.same) (ap (λ s. s.held.lowests) finishes.same);
     stored = tt;
     stored_late = tt;
     no_query = refl;

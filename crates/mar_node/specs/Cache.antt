@@ -60,6 +60,10 @@ entries_put config n after (peer_answered (gave_block b annotations)) no_floor =
 entries_put config n after (peer_answered (gave_notarized f b)) fx = notarized_entry f.round b ∷ notarization_entry f ∷ []
 entries_put config n after _ fx = []
 
+-- an entry that might be left before, or that the event puts
+abbrev pub MayBeCached : Config → Node → Event → Effect → Cached → Type 0
+MayBeCached config n e fx x = Contains n.cache.may x ⊎ (after : List Cached) × Contains (entries_put config n after e fx) x
+
 -- what the cache held and what the event puts, the first kept
 abbrev pub entries_with_puts : Config → Node → List Cached → Event → Effect → List Cached
 entries_with_puts config n after e fx = fold with_entry n.cache.held (entries_put config n after e fx)
@@ -199,14 +203,6 @@ tickets_from t answer held (test ∷ syncs) = record { ticket = t; entries = fil
 abbrev pub answer_ticket : Event → Option ℕ
 answer_ticket (message_told t m) = t
 answer_ticket _ = None
-
--- A node without an epoch cache over one event: nothing is put, and the last witnessed round goes on.
-pub record HasNoCache (config : Config) (n : Node) (e : Event) (fx : Effect) (n' : Node) : Type 0 where
-  pub cache : n'.cache ≡ n.cache
-  pub lowest : n'.lowest ≡ n.lowest
-  pub lowests : n'.lowests ≡ n.lowests
-  pub cache_syncs : n'.cache_syncs ≡ n.cache_syncs
-  pub witnessed : n'.witnessed ≡ (witnessing_of config n e fx).last
 
 -- The cache over one event.
 pub record AdvancesCache (config : Config) (n : Node) (e : Event) (fx : Effect) (n' : Node) : Type 0 where

@@ -1,5 +1,5 @@
 -- What the calls of a cache make of it: of its entries, those of all epochs together, and of what its tickets cover.
-use Rattle.std.specs.Prelude.{Bool, Contains, List, None, [], false, filter, true, ℕ, ◌&&◌, ◌<◌, ◌==◌, ◌≡◌, ◌≤◌}
+use Rattle.std.specs.Prelude.{Bool, Contains, List, None, Some, [], false, filter, true, ℕ, ◌&&◌, ◌++◌, ◌<◌, ◌==◌, ◌≡◌, ◌≤◌}
 use Rattle.mar_store.specs.Changes.{Left, Within}
 use Rattle.mar_store.specs.Kept.{Kept}
 use Rattle.mar_node.specs.AllEntries.{LeavesEntries, PutsEntry, PutsEntryNow}
@@ -8,6 +8,7 @@ use Rattle.mar_node.specs.Cached.{Cached, epoch_of}
 use Rattle.mar_node.specs.Sections.{is_in}
 use Rattle.mar_node.specs.declared.section.Section.{Section}
 use Rattle.mar_node.specs.declared.started.CacheTicket.{CacheTicket}
+use Rattle.mar_node.specs.declared.started.SectionSync.{SectionSync}
 use Rattle.mar_node.specs.declared.started.Started.{Started}
 use Rattle.mar_node.specs.declared.started.Started.TheVariants.{Ready, Ticket}
 
@@ -43,6 +44,11 @@ StartsSync covers e passes held Ready = (x : Cached) → Contains held x → pas
 -- what each ticket covers stays, but for what the test passes
 abbrev pub KeepsTickets : (Cached → Bool) → (CacheTicket → List Cached) → (CacheTicket → List Cached) → Type 0
 KeepsTickets gone old new = (t : CacheTicket) (x : Cached) → Contains (old t) x → gone x ≡ false → Contains (new t) x
+
+-- a ticket of two archives covers what one of each covers
+abbrev pub JoinsTickets : (CacheTicket → List Cached) → Type 0
+JoinsTickets covers = (e : ℕ) (p q : SectionSync)
+    → covers (record { epoch = e; first = p; second = Some q }) ≡ covers (record { epoch = e; first = p; second = None }) ++ covers (record { epoch = e; first = q; second = None })
 
 -- A call that went well: what was sure is sure, but for what the test passes, and no more may be left but what was put;
 -- what tickets cover stays.

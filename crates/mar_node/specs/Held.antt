@@ -243,6 +243,9 @@ written_entry x = record nothing_written { cached = x ∷ [] }
 abbrev pub written_prune : Round → Written
 written_prune round = record nothing_written { prunes = round ∷ [] }
 
+abbrev pub written_prunes : List Round → Written
+written_prunes rounds = record nothing_written { prunes = rounds }
+
 abbrev pub written_pair : Pair → Written
 written_pair p = record nothing_written { pairs = p ∷ [] }
 

@@ -18,7 +18,7 @@ use Rattle.mar_node.specs.Acks.{Outstanding}
 use Rattle.mar_node.specs.Cached.{Cached, IsUnloaded, epoch_of, unloaded}
 use Rattle.mar_node.specs.Metadata.{Pair, first_pair, pair_of}
 use Rattle.mar_node.specs.Event.{Effect, Event, blocks_from, certs_from, cutoff_after, effect_of, kept_blocks, life_started, marked_blocks, message_told, processed_after}
-use Rattle.mar_node.specs.Cache.{is_pruned, witnessing_of}
+use Rattle.mar_node.specs.Cache.{MayBeCached, is_pruned, witnessing_of}
 use Rattle.mar_node.specs.Faults.{Begin, Fault, dropped_ack, event_fault, floor_epoch_unavailable, floor_invalid, floor_of, from_genesis, is_by_value, meta_store, next_after, opening_fault, store_fault, with_genesis}
 use Rattle.mar_node.specs.Answers.{answers_of, sends_of}
 use Rattle.mar_node.specs.Requests.{own_asks}
@@ -224,16 +224,16 @@ abbrev pub reached_after : Node → Event → Effect → Reached
 reached_after n e fx = record { processed = option_map height_in (processed_after n e fx); out = kept_blocks n e fx }
 
 -- What an event that was cut may leave: all that was held, unless a prune may take it, and nothing more than what might be
--- left before, blocks that were at hand, and its own finalization or a cached one. What is sure may be left. Nothing is put into
--- the cache yet.
-pub record LeavesMay (n : Node) (e : Event) (blocks_bound certs_bound : ℕ) (left : Ended) : Type 0 where
+-- left before, blocks that were at hand, its own finalization or a cached one, and what it puts into the cache. What is sure may
+-- be left.
+pub record LeavesMay (config : Config) (n : Node) (e : Event) (fx : Effect) (blocks_bound certs_bound : ℕ) (left : Ended) : Type 0 where
   pub held_blocks : (h : ℕ) → blocks_bound ≤ h → IsTrue (has_height n.blocks.held h) → IsTrue (has_height left.blocks_may h)
   pub held_certs : (h : ℕ) → certs_bound ≤ h → IsTrue (has_height n.certs.held h) → IsTrue (has_height left.certs_may h)
   pub blocks : (x : At Block) → Contains left.blocks_may x → Contains n.blocks.may x ⊎ IsBlockFrom n e x
   pub certs : (x : At Finalization) → Contains left.certs_may x → Contains n.certs.may x ⊎ IsCertFrom n e x
   pub sure_blocks : (h : ℕ) → IsTrue (has_height left.blocks_sure h) → IsTrue (has_height left.blocks_may h)
   pub sure_certs : (h : ℕ) → IsTrue (has_height left.certs_sure h) → IsTrue (has_height left.certs_may h)
-  pub cached : Within left.cache_may n.cache.may
+  pub cached : (x : Cached) → Contains left.cache_may x → MayBeCached config n e fx x
 
 -- What an event that was cut leaves. `earlier` are the pairs of the last finished step, or in an
 -- opening those of the ended node before it; `least` is the height of that step.
@@ -250,7 +250,7 @@ pub record CutsBy (config : Config) (chain : Chain) (earlier : List Pair) (least
       (n.lowests ++ map (λ p. p.epoch) (witnessing_of config n e fx).prunes)
       (Contains (earlier ++ pair_of n.processed n.cutoff ∷ pair_of (processed_after n e fx) (cutoff_after config n e fx) ∷ []))
       left
-  pub may : LeavesMay n e (blocks_from n e fx) (certs_from n e fx) left
+  pub may : LeavesMay config n e fx (blocks_from n e fx) (certs_from n e fx) left
   -- it asked, sent and answered no more than it would have, in that order
   pub asks : IsFront made.asks (own_asks config n e fx)
   pub sends : IsFront made.sends (sends_of n e)

@@ -1,6 +1,6 @@
 -- What the parts of a step change: what is seen of an actor before and after them.
 use Rattle.std.specs.List.{AllByRecursion}
-use Rattle.std.specs.Prelude.{Bool, Contains, List, MatchResult, None, Option, Result, Some, [], bytes_eq, false, find, fold, if◌then◌else◌, is_some, length, map, max, nat_lt, not, option_and_then, option_to_list, true, ℕ, ◌&&◌, ◌++◌, ◌+◌, ◌-◌, ◌<◌, ◌^◌, ◌∷◌, ◌≡◌, ◌≤◌, ◌⊎◌}
+use Rattle.std.specs.Prelude.{Bool, Contains, List, MatchResult, None, Option, Result, Some, [], bytes_eq, false, filter_map, find, fold, if◌then◌else◌, is_some, length, map, max, nat_lt, not, option_and_then, option_to_list, true, ℕ, ⊤, ◌&&◌, ◌++◌, ◌+◌, ◌-◌, ◌<◌, ◌^◌, ◌∷◌, ◌≡◌, ◌≤◌, ◌⊎◌}
 use Rattle.std.specs.Option.{option_or}
 use Rattle.mar_types.specs.Round.{Round}
 use Rattle.mar_types.specs.Epochs.{Epochs}
@@ -11,18 +11,22 @@ use Rattle.mar_key.specs.Hears.{Hears}
 use Rattle.mar_key.specs.Processed.{first_unprocessed}
 use Rattle.mar_store.specs.Kept.{At, Kept, has_height, value_at}
 use Rattle.mar_store.specs.Changes.{Puts, Within}
-use Rattle.mar_node.specs.AllEntries.{LoadsEntries, PrunesEntries, soonest}
-use Rattle.mar_node.specs.Cache.{is_below}
-use Rattle.mar_node.specs.CacheCalls.{PutsAndSyncs}
+use Rattle.mar_node.specs.AllEntries.{LoadsEntries, PrunesByAll, PrunesEntries, soonest}
+use Rattle.mar_node.specs.Cache.{is_below, with_witness}
+use Rattle.mar_node.specs.CacheCalls.{FinishesEntries, KeepsTickets, PutsAndStarts, PutsAndSyncs, StartsSync, is_of_archive, none_goes}
 use Rattle.mar_node.specs.Cached.{Cached, cached_block, finalization_entry}
 use Rattle.mar_node.specs.Entries.{has_commitment}
 use Rattle.mar_node.specs.Stored.{at_own_height, block_of, is_certified, is_held, newest}
 use Rattle.mar_node.specs.Acks.{Outstanding, after_given, after_oldest, dropped_oldest, given_front, given_oldest, height_after}
-use Rattle.mar_node.specs.Event.{acked_to, all_retired, round_at}
+use Rattle.mar_node.specs.Event.{Event, acked_to, all_retired, life_started, message_told, round_at}
+use Rattle.mar_node.specs.Messages.{report_finalization}
 use Rattle.mar_node.specs.Faults.{ack_kind, dropped_ack, last_height, sync_kind, ticket_limit}
 use Rattle.mar_node.specs.Lives.{ArePicked, later_round}
 use Rattle.mar_node.specs.Step.{HandedBlock, HeldFrom, IsFront, Report, handed_over, new_tip, outstanding_of}
-use Rattle.mar_node.specs.Held.{ArePassed, AreWritten, Ending, Grew, Held, IsArchiveFault, IsEndedBy, Loses, MakesSure, Seen, Watches, nothing_written}
+use Rattle.mar_node.specs.Held.{ArePassed, AreWritten, Ending, Grew, Held, IsArchiveFault, IsEndedBy, Loses, MakesSure, Seen, Watches, WithinWritten, Written, nothing_written, written_entry}
+use Rattle.mar_node.specs.declared.section.Section.{Section}
+use Rattle.mar_node.specs.declared.started.CacheTicket.{CacheTicket}
+use Rattle.mar_node.specs.declared.started.Started.{Started}
 use Rattle.mar_writes.specs.Writing.{with_finished, with_started, with_write}
 
 -- HANDING OVER
@@ -121,6 +125,17 @@ pub record SameLife {P E : Type 0} (old new : Seen P E) : Type 0 where
   pub epocher : new.life.epocher ≡ old.life.epocher
   pub sizes : new.life.sizes ≡ old.life.sizes
   pub intact : new.held.intact ≡ old.held.intact
+  pub loaded : old.held.cache.loaded ≡ true → new.held.cache.loaded ≡ true
+
+-- a start takes up what a crash left of the cache, and what was taken up stays so
+abbrev pub KeepsTakenUp : {P E : Type 0} → Event → Seen P E → Seen P E → Type 0
+KeepsTakenUp (life_started f) old new = new.held.cache.loaded ≡ true
+KeepsTakenUp _ old new = old.held.cache.loaded ≡ true → new.held.cache.loaded ≡ true
+
+-- what a report finds is said where that was taken up: before, a put shows what a crash left
+abbrev pub FindsInCache : {P E : Type 0} → Event → Seen P E → Type 0
+FindsInCache (message_told t (report_finalization f)) a = a.held.cache.loaded ≡ true
+FindsInCache _ a = ⊤
 
 -- The tickets run out only where fewer are left than a window has, and those of syncs where none is left.
 abbrev pub RunsOut : {P E : Type 0} → Seen P E → Ending → Type 0
@@ -179,6 +194,7 @@ found_at_hand inner buffer cached held commitment =
 pub record LoadsCache {P E : Type 0} (old new : Seen P E) : Type 0 where
   pub loads : old.held.cache.fresh ≡ true → LoadsEntries old.held.cache.kept new.held.cache.kept
   pub by_luck : old.held.cache.fresh ≡ true → ArePicked old.held.cache.finds new.held.cache.kept.held
+  pub loaded : new.held.cache.loaded ≡ true
   pub same : new ≡ record old { held = record old.held { cache = new.held.cache; watches = new.held.watches } }
 
 -- these stores, with what others say of the cache and of how many calls were counted
@@ -191,6 +207,36 @@ pub record CachesFinalization (f : Finalization) (old new : Held) : Type 0 where
   pub loaded : new.cache.loaded ≡ old.cache.loaded
   pub same : new ≡ record old { cache = new.cache; watches = new.watches }
 
+-- A reported finalization was cached, since these stores.
+pub record CachesReport (f : Finalization) (old new : Held) : Type 0 where
+  pub caches : CachesFinalization f old new
+  pub grew : (all : Written) → WithinWritten (written_entry (finalization_entry f)) all → Grew old all new
+
+-- An entry was put into the cache, and a sync of its archive started, unless its epoch is below the lowest. What tickets cover
+-- stays.
+pub record CachesEntry (x : Cached) (started : Started) (old new : Held) (covers now : CacheTicket → List Cached) : Type 0 where
+  pub puts : PutsAndStarts x old.lowest old.cache.loaded old.cache.kept new.cache.kept now started
+  pub loaded : new.cache.loaded ≡ old.cache.loaded
+  pub tickets : KeepsTickets none_goes covers now
+  pub same : new ≡ record old { cache = new.cache; watches = new.watches }
+
+-- A sync of an archive of the cache was started, or there is nothing to wait for: what is kept is as it was.
+pub record StartsCacheSync (epoch : ℕ) (section : Section) (started : Started) (old new : Held) (covers now : CacheTicket → List Cached) : Type 0 where
+  pub starts : StartsSync now epoch (is_of_archive epoch section) old.cache.kept.held started
+  pub kept : new.cache.kept ≡ old.cache.kept
+  pub loaded : new.cache.loaded ≡ old.cache.loaded
+  pub fresh : new.cache.fresh ≡ old.cache.fresh
+  pub tickets : KeepsTickets none_goes covers now
+  pub same : new ≡ record old { cache = new.cache; watches = new.watches }
+
+-- The sync of a ticket of the cache has finished: what it covers is sure, and nothing else is held.
+pub record FinishesCacheSync (ticket : CacheTicket) (old new : Held) (covers now : CacheTicket → List Cached) : Type 0 where
+  pub finishes : FinishesEntries (covers ticket) old.cache.kept new.cache.kept
+  pub loaded : new.cache.loaded ≡ old.cache.loaded
+  pub fresh : new.cache.fresh ≡ old.cache.fresh
+  pub tickets : KeepsTickets none_goes covers now
+  pub same : new ≡ record old { cache = new.cache; watches = new.watches }
+
 -- What is cached below a round was pruned, whose epoch is then the lowest, unless that is a newer one.
 pub record PrunesCache (round : Round) (old new : Held) : Type 0 where
   pub prunes : old.cache.loaded ≡ true → PrunesEntries (is_below round) old.cache.kept new.cache.kept
@@ -198,6 +244,17 @@ pub record PrunesCache (round : Round) (old new : Held) : Type 0 where
   pub lowest : new.lowest ≡ max old.lowest round.epoch
   pub own_lowest : new.lowests ≡ new.lowest ∷ []
   pub same : new ≡ with_cache_of new old
+
+-- the rounds by which these prune the cache as they are witnessed, one after another
+abbrev pub pruned_by : ℕ → Round → List Round → List Round
+pruned_by retention last rounds = (fold (with_witness retention) (record { last = last; prunes = [] }) rounds).prunes
+
+-- Rounds prune the cache, one after another.
+pub record PrunesCacheBy (rounds : List Round) (old new : Held) : Type 0 where
+  pub prunes : old.cache.loaded ≡ true → PrunesByAll rounds old.cache.kept new.cache.kept
+  pub loaded : new.cache.loaded ≡ old.cache.loaded
+  pub lowest : new.lowest ≡ fold (λ k r. max k r.epoch) old.lowest rounds
+  pub own_lowest : old.lowests ≡ old.lowest ∷ [] → new.lowests ≡ new.lowest ∷ []
 
 -- A put that was synced, with all that was held before; a crash leaves just what is held.
 pub record StoresValue {T : Type 0} (ignored : Bool) (old : Kept (At T)) (x : At T) (new : Kept (At T)) : Type 0 where
@@ -263,33 +320,47 @@ pub record StoresLate {P E : Type 0} (inner : List ℕ → List ℕ) (old : Seen
 
 -- PROGRESS
 
--- The cutoff rises to the greatest of these, and this round is the last one witnessed.
-pub record RaisesTo {P E : Type 0} (old : Seen P E) (cutoffs : List Cutoff) (witnessed : Round) (new : Seen P E) : Type 0 where
+-- The cutoff rises to the greatest of these, and rounds are witnessed, which prunes the cache.
+pub record RaisesTo {P E : Type 0} (old : Seen P E) (cutoffs : List Cutoff) (rounds : List Round) (new : Seen P E) : Type 0 where
+  pub prunes : PrunesCacheBy (pruned_by old.life.sizes.retention old.held.witnessed rounds) old.held new.held
   pub same : new ≡ record old {
-    held = record old.held { cutoff = greatest_of old.held.cutoff cutoffs; witnessed = witnessed; watches = new.held.watches };
+    held = record (with_cache_of new.held old.held) { cutoff = greatest_of old.held.cutoff cutoffs; witnessed = fold (λ r s. later_round r (Some s)) old.held.witnessed rounds };
   }
 
--- an actor after these blocks were processed in order, with what is left of the outstanding ones
-abbrev pub with_processed : {P E : Type 0} → Epochs → Seen P E → List Outstanding → List Outstanding → Watches → Seen P E
-with_processed epochs a done out watches = record a {
-  held = record a.held {
+-- the rounds of the finalizations that are held of these blocks
+abbrev pub rounds_of : List (At Finalization) → List Outstanding → List Round
+rounds_of certs done = filter_map (λ o. round_at certs o.height) done
+
+-- an actor after these blocks were processed in order, with what is left of the outstanding ones, and of the cache
+abbrev pub with_processed : {P E : Type 0} → Epochs → Seen P E → List Outstanding → List Outstanding → Held → Seen P E
+with_processed epochs a done out now = record a {
+  held = record (with_cache_of now a.held) {
     processed = acked_to a.held.processed done;
     cutoff = greatest_of a.held.cutoff (all_retired epochs a.held.certs.held done);
     witnessed = fold (λ r o. later_round r (round_at a.held.certs.held o.height)) a.held.witnessed done;
-    watches = watches;
   };
   life = record a.life { out = out };
 }
 
+-- the rounds by which the cache is pruned as these blocks are processed
+abbrev pub processed_prunes : {P E : Type 0} → Seen P E → List Outstanding → List Round
+processed_prunes a done = pruned_by a.life.sizes.retention a.held.witnessed (rounds_of a.held.certs.held done)
+
+-- processing these witnessed their rounds, which pruned the cache
+abbrev pub PrunesProcessed : {P E : Type 0} → Seen P E → List Outstanding → Held → Type 0
+PrunesProcessed a done now = PrunesCacheBy (processed_prunes a done) a.held now
+
 -- The oldest block is processed where it was given.
 pub record DrainsNext {P E : Type 0} (epochs : Epochs) (old : Seen P E) (is_processed : Bool) (new : Seen P E) : Type 0 where
-  pub same : new ≡ with_processed epochs old (option_to_list (given_oldest old.life.out)) (after_oldest old.life.out) new.held.watches
+  pub prunes : PrunesProcessed old (option_to_list (given_oldest old.life.out)) new.held
+  pub same : new ≡ with_processed epochs old (option_to_list (given_oldest old.life.out)) (after_oldest old.life.out) new.held
   pub processed : is_processed ≡ is_some (given_oldest old.life.out)
   pub not_dropped : dropped_oldest old.life.out ≡ None
 
 -- The given blocks at the front are processed, in order.
 pub record Drains {P E : Type 0} (epochs : Epochs) (old : Seen P E) (is_drained : Bool) (new : Seen P E) : Type 0 where
-  pub same : new ≡ with_processed epochs old (given_front old.life.out) (after_given old.life.out) new.held.watches
+  pub prunes : PrunesProcessed old (given_front old.life.out) new.held
+  pub same : new ≡ with_processed epochs old (given_front old.life.out) (after_given old.life.out) new.held
   pub drained : is_drained ≡ nat_lt 0 (length (given_front old.life.out))
   pub not_dropped : dropped_oldest (after_given old.life.out) ≡ None
 

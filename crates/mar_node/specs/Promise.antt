@@ -186,10 +186,11 @@ pub record CutsStep (config : Config) (chain : Chain) (n : Node) (events : List 
 abbrev pub StepsOrCuts : {P E : Type 0} → Config → Chain → Node → List Event → Heard → Heard → Result (Seen P E) Ending → Type 0
 StepsOrCuts config chain n events before after result = MatchResult result (FinishesStep config chain n events before after) (CutsStep config chain n events before after)
 
--- What a step of a life that has begun promises of every chain for which it is lawful: it is a step of the node, or a cut.
+-- What a step of a life that has begun promises of every chain for which it is lawful, where what a crash left of the cache was
+-- taken up: it is a step of the node, or a cut.
 abbrev pub KeepsStep : {P E : Type 0} → Epochs → (List ℕ → List ℕ) → Seen P E → List Event → List Block → Heard → Heard → Result (Seen P E) Ending → Type 0
 KeepsStep epochs inner old events buffer before after result =
-    (config : Config) (chain : Chain) (waiting : Waiting) → IsSetTo config old.life.sizes epochs inner → IsLawfulStep config chain (node_of old buffer waiting) events
+    old.held.cache.loaded ≡ true → (config : Config) (chain : Chain) (waiting : Waiting) → IsSetTo config old.life.sizes epochs inner → IsLawfulStep config chain (node_of old buffer waiting) events
     → StepsOrCuts config chain (node_of old buffer waiting) events before after result
 
 -- A start that finished: what a crash left of the cache was taken up, and from there it is a step of the node.

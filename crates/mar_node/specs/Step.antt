@@ -12,9 +12,9 @@ use Rattle.mar_node.specs.Config.{Config}
 use Rattle.mar_node.specs.Acks.{Outstanding, mark_waiting}
 use Rattle.mar_node.specs.Node.{IsGood, Node, OpenSync, Rest, write_count}
 use Rattle.mar_writes.specs.Writing.{position_of, without_sync}
-use Rattle.mar_node.specs.Cached.{cached_block, cached_finalization}
+use Rattle.mar_node.specs.Cached.{Cached, cached_block, cached_finalization}
 use Rattle.mar_node.specs.Event.{Effect, Event, Storing, applies_floor, awaited_after, awaits_floor, block_buffered, blocks_from, brought_block, certs_from, cutoff_after, effect_of, finalization_for, is_above, is_query, kept_blocks, no_floor, own_writes, processed_after, storing_of, sync_finished, told_finalization}
-use Rattle.mar_node.specs.Cache.{HasNoCache, entries_with_puts, started_syncs}
+use Rattle.mar_node.specs.Cache.{AdvancesCache, MayBeCached, entries_with_puts, started_syncs}
 use Rattle.mar_node.specs.Faults.{event_fault}
 use Rattle.mar_node.specs.Answers.{Sent, TicketAnswer, answers_of, certified_after, is_known, sends_of, subscriptions_after}
 use Rattle.mar_node.specs.Requests.{own_asks}
@@ -201,7 +201,8 @@ pub record AdvancesBy (config : Config) (chain : Chain) (n : Node) (e : Event) (
   pub tips : TipsFrom n.tip made.reports n'.tip
   pub tips_chain : AreTipsOf chain made.reports
   pub awaited : n'.awaited ≡ awaited_after n fx n'.cutoff
-  pub cache : HasNoCache config n e fx n'
+  pub cache : AdvancesCache config n e fx n'
+  pub may_cached : (x : Cached) → Contains n'.cache.may x → MayBeCached config n e fx x
   pub stored : IfSome (storing_of n e) (IsStored n')
   pub stored_late : IfSome (storing_of n e) (IsStoredLate n fx n')
   pub floor_stored : IsFloorStored n fx n'

@@ -1,17 +1,16 @@
 //! The stores of a life, as far as the rules of a node see them.
-ghost use Rattle.std.specs.Prelude.{◌≡◌, ◌-◌, ◌^◌, ◌⊎◌, ◌∷◌, [], IfErr, IfOk, IfSome, OnErr, OnOk, Some, false, map, option_map, true};
-ghost use Rattle.mar_key.specs.Processed.{at_absent, at_block};
+ghost use Rattle.std.specs.Prelude.{◌≡◌, ◌-◌, ◌^◌, ◌⊎◌, [], IfErr, IfOk, IfSome, OnErr, OnOk, Some, false, map, option_map, true};
 ghost use Rattle.mar_key.specs.Views.{cutoff_of};
 ghost use Rattle.mar_store.specs.Changes.{IsNested, Puts, heights};
 ghost use Rattle.mar_store.specs.Kept.{has_height, value_at};
 ghost use Rattle.mar_store.specs.Named.{last_index};
 ghost use Rattle.mar_store.specs.Ranges.{ranges};
 ghost use Rattle.mar_store.specs.Sizes.{IsSmall};
+ghost use Rattle.mar_node.specs.CacheCalls.{JoinsTickets, KeepsTickets, none_goes};
 ghost use Rattle.mar_node.specs.Cached.{finalization_entry};
-ghost use Rattle.mar_node.specs.Held.{AreCached, ArePassed, AreWritten, GoesOn, IsArchiveFault, IsUsual, LosesOpening, LosesSince, MakesSure, Remains, ReopensAs};
-ghost use Rattle.mar_node.specs.Held.{nothing_written, remains_of, with_armed, written_block, written_cert, written_entry, written_pair};
-ghost use Rattle.mar_node.specs.Lives.{later_round};
-ghost use Rattle.mar_node.specs.Metadata.{first_pair, pair_of};
+ghost use Rattle.mar_node.specs.Held.{AreCached, AreWritten, GoesOn, IsArchiveFault, IsUsual, LosesOpening, MakesSure, Remains, ReopensAs};
+ghost use Rattle.mar_node.specs.Held.{nothing_written, remains_of, with_armed, written_block, written_cert, written_entry};
+ghost use Rattle.mar_node.specs.Metadata.{first_pair};
 ghost use Rattle.mar_node.specs.Faults.{sync_kind, ticket_limit};
 ghost use Rattle.mar_node.specs.Moves.{CachesFinalization, StoresValue, at_height};
 ghost use Rattle.mar_writes.specs.Pool.{writing_of};
@@ -24,12 +23,11 @@ ghost use Rattle.mar_node.specs.Views.{fault_of, store_name_of};
 
 use crate::fault::{Fault, StoreName};
 use crate::floor::State;
-use crate::holds_cache::HoldsCache;
+use crate::holds_progress::HoldsProgress;
 use crate::shown::ShownRuins;
 use mar_cert::{CommitsTo, Variant};
-use mar_key::Cutoff;
 use mar_store::RangeSet;
-use mar_types::{Height, Round};
+use mar_types::Height;
 use mar_writes::Writes;
 use std::alloc::{AllocError, Global};
 use std::marker::Model;
@@ -58,9 +56,8 @@ pub trait StoresRuin {
 /// The stores of a life: blocks, certificates, how far delivery has come, and the cache. A call that reads or changes
 /// one answers a fault where that failed; the life has ended then, and `wreck` gives what is left. Where a change of a
 /// store failed, later calls of it leave what is left of it and answer want of memory. Each makes one call of a store;
-/// `set_cutoff`, `start_sync`, `finish_sync` and the calls that make a value durable at once make two, and `reopen` one of
-/// each.
-pub trait Holds<V: Variant>: HoldsCache<V> {
+/// `start_sync`, `finish_sync` and the calls that make a value durable at once make two, and `reopen` one of each.
+pub trait Holds<V: Variant>: HoldsProgress<V> {
     /// What is left where no life runs.
     type Ruins: StoresRuin;
 
@@ -89,18 +86,21 @@ pub trait Holds<V: Variant>: HoldsCache<V> {
         ensures { Self.Ruins.left result ≡ remains_of (Self.held self) };
 
     /// What is sure is held, what is held may be left, each block that is held or cached is small, and what isn't sure waits
-    /// for a sync; nothing is cached of an epoch below the lowest. The call does nothing: it is a law.
+    /// for a sync; nothing is cached of an epoch below the lowest, and a ticket of two archives of the cache covers what one
+    /// of each covers. The call does nothing: it is a law.
     fn law(&self)
         ensures blocks { (Self.held self.now).intact ≡ true → IsNested (Self.held self.now).blocks }
         ensures certs { (Self.held self.now).intact ≡ true → IsNested (Self.held self.now).certs }
         ensures small { (Self.held self.now).intact ≡ true → AreSmall (map (λ x. x.value) (Self.held self.now).blocks.held) }
         ensures small_cached { (Self.held self.now).intact ≡ true → AreSmallEntries (Self.held self.now).cache.kept.held }
         ensures written { (Self.held self.now).intact ≡ true → AreWritten (Self.held self.now) }
-        ensures cached { (Self.held self.now).intact ≡ true → AreCached (Self.held self.now) };
+        ensures cached { (Self.held self.now).intact ≡ true → AreCached (Self.held self.now) }
+        ensures joins { JoinsTickets (Self.covers self.now) };
 
     /// Makes the counted call of a store fail that is so many calls away, 1 being the next.
     fn arm(&mut self, store: StoreName, calls: u64) -> Result<(), AllocError>
         ensures staged { Self.staged self.new ≡ Self.staged self.old }
+        ensures tickets { Self.covers self.new ≡ Self.covers self.old }
         ensures armed { OnOk result (Self.held self.new
             ≡ record (Self.held self.old) { watches = with_armed (store_name_of store) calls (Self.held self.old).watches }) }
         ensures unarmed { OnErr result (Self.held self.new ≡ Self.held self.old) };
@@ -110,17 +110,6 @@ pub trait Holds<V: Variant>: HoldsCache<V> {
         ensures processed { result.now.processed ≡ (Self.held self.now).processed }
         ensures cutoff { result.now.cutoff ≡ (Self.held self.now).cutoff }
         ensures witnessed { result.now.witnessed ≡ (Self.held self.now).witnessed };
-
-    /// Takes note of a round: the last one witnessed is the later of it and the one before.
-    fn witness(&mut self, round: Round)
-        ensures staged { Self.staged self.new ≡ Self.staged self.old }
-        ensures held { Self.held self.new ≡ record (Self.held self.old) { witnessed = later_round (Self.held self.old).witnessed (Some round) } };
-
-    /// The processed height, whose block isn't there.
-    fn without_block(&mut self, height: Height)
-        requires { (Self.held self.old).processed ≡ Some (at_block height) }
-        ensures staged { Self.staged self.new ≡ Self.staged self.old }
-        ensures held { Self.held self.new ≡ record (Self.held self.old) { processed = Some (at_absent height) } };
 
     /// The greatest height of a held block.
     fn last_block(&self) -> Option<Height>
@@ -154,6 +143,7 @@ pub trait Holds<V: Variant>: HoldsCache<V> {
     /// staged at or below that height are dropped.
     fn take_block(&mut self, height: Height) -> Result<Option<V::Block>, Fault<V::Commitment>>
         ensures dropped { OnOk result (Self.staged self.new ≡ without_height height (kept_from height (Self.staged self.old))) }
+        ensures tickets { Self.covers self.new ≡ Self.covers self.old }
         ensures found { IfOk result (λ r. option_map V.plain r ≡ value_at (Self.held self.old).blocks.held height) }
         ensures own { IfOk result (λ r. IfSome r (λ b. (V.plain b).height ≡ height)) }
         ensures same { OnOk result (Self.held self.new ≡ record (Self.held self.old) { watches = (Self.held self.new).watches }) }
@@ -164,6 +154,7 @@ pub trait Holds<V: Variant>: HoldsCache<V> {
     /// The block that is held at a height.
     fn block_at(&mut self, height: Height) -> Result<Option<V::Block>, Fault<V::Commitment>>
         ensures staged { Self.staged self.new ≡ Self.staged self.old }
+        ensures tickets { Self.covers self.new ≡ Self.covers self.old }
         ensures found { IfOk result (λ r. option_map V.plain r ≡ value_at (Self.held self.old).blocks.held height) }
         ensures own { IfOk result (λ r. IfSome r (λ b. (V.plain b).height ≡ height)) }
         ensures same { OnOk result (Self.held self.new ≡ record (Self.held self.old) { watches = (Self.held self.new).watches }) }
@@ -174,6 +165,7 @@ pub trait Holds<V: Variant>: HoldsCache<V> {
     /// A held block of this digest.
     fn block_of(&mut self, digest: &V::Digest) -> Result<Option<V::Block>, Fault<V::Commitment>>
         ensures staged { Self.staged self.new ≡ Self.staged self.old }
+        ensures tickets { Self.covers self.new ≡ Self.covers self.old }
         ensures found { IfOk result (λ r. option_map V.plain r ≡ block_of (Self.held self.old).blocks.held (V.Digest.bytes digest.now)) }
         ensures same { OnOk result (Self.held self.new ≡ record (Self.held self.old) { watches = (Self.held self.new).watches }) }
         ensures goes_on { GoesOn (fault_of V.Commitment.bytes) (Self.held self.old) nothing_written (Self.held self.new) result }
@@ -187,6 +179,7 @@ pub trait Holds<V: Variant>: HoldsCache<V> {
     ) -> Result<(), Fault<V::Commitment>>
         requires small { IsSmall (finalization_bytes (Self.Finalization.plain finalization.now)) }
         ensures staged { Self.staged self.new ≡ Self.staged self.old }
+        ensures tickets { OnOk result (KeepsTickets none_goes (Self.covers self.old) (Self.covers self.new)) }
         ensures caches { OnOk result (CachesFinalization (Self.Finalization.plain finalization.now) (Self.held self.old) (Self.held self.new)) }
         ensures goes_on { GoesOn (fault_of V.Commitment.bytes) (Self.held self.old)
             (written_entry (finalization_entry (Self.Finalization.plain finalization.now))) (Self.held self.new) result }
@@ -198,6 +191,7 @@ pub trait Holds<V: Variant>: HoldsCache<V> {
         height: Height,
     ) -> Result<Option<Self::Finalization>, Fault<V::Commitment>>
         ensures staged { Self.staged self.new ≡ Self.staged self.old }
+        ensures tickets { Self.covers self.new ≡ Self.covers self.old }
         ensures found { IfOk result (λ r. option_map Self.Finalization.plain r ≡ value_at (Self.held self.old).certs.held height) }
         ensures same { OnOk result (Self.held self.new ≡ record (Self.held self.old) { watches = (Self.held self.new).watches }) }
         ensures goes_on { GoesOn (fault_of V.Commitment.bytes) (Self.held self.old) nothing_written (Self.held self.new) result }
@@ -207,6 +201,7 @@ pub trait Holds<V: Variant>: HoldsCache<V> {
     /// Whether a finalization is held at a height.
     fn has_certificate(&mut self, height: Height) -> Result<bool, Fault<V::Commitment>>
         ensures staged { Self.staged self.new ≡ Self.staged self.old }
+        ensures tickets { Self.covers self.new ≡ Self.covers self.old }
         ensures found { IfOk result (λ r. r ≡ has_height (Self.held self.old).certs.held height) }
         ensures same { OnOk result (Self.held self.new ≡ record (Self.held self.old) { watches = (Self.held self.new).watches }) }
         ensures goes_on { GoesOn (fault_of V.Commitment.bytes) (Self.held self.old) nothing_written (Self.held self.new) result }
@@ -220,6 +215,7 @@ pub trait Holds<V: Variant>: HoldsCache<V> {
         ensures staged { OnOk result (Self.staged self.new ≡ staged_where
             (is_taken_in (V.plain block).height (Self.held self.old).blocks (Self.held self.new).blocks)
             (V.plain block).height block (Self.staged self.old)) }
+        ensures tickets { Self.covers self.new ≡ Self.covers self.old }
         ensures ok { OnOk result (Puts (is_held (Self.held self.old).blocks.held (V.plain block)) (Self.held self.old).blocks (at_own_height (V.plain block))
             (Self.held self.new).blocks) }
         ensures same { OnOk result (Self.held self.new ≡ record (Self.held self.old) {
@@ -240,6 +236,7 @@ pub trait Holds<V: Variant>: HoldsCache<V> {
         requires small { IsSmall (finalization_bytes (Self.Finalization.plain finalization.now)) }
         requires waits { IsLastWrite height (Self.held self.old).writes }
         ensures staged { Self.staged self.new ≡ Self.staged self.old }
+        ensures tickets { Self.covers self.new ≡ Self.covers self.old }
         ensures ok { OnOk result (Puts (is_certified V.inner (Self.held self.old).certs.held height
             (V.inner (Self.Finalization.plain finalization.now).payload))
             (Self.held self.old).certs (at_height height (Self.Finalization.plain finalization.now)) (Self.held self.new).certs) }
@@ -254,6 +251,7 @@ pub trait Holds<V: Variant>: HoldsCache<V> {
     fn store_block(&mut self, block: &V::Block) -> Result<(), Fault<V::Commitment>>
         requires small { IsSmall (V.plain block.now).encoded }
         ensures staged { Self.staged self.new ≡ Self.staged self.old }
+        ensures tickets { Self.covers self.new ≡ Self.covers self.old }
         ensures ok { OnOk result (StoresValue (is_held (Self.held self.old).blocks.held (V.plain block.now)) (Self.held self.old).blocks
             (at_own_height (V.plain block.now)) (Self.held self.new).blocks) }
         ensures same { OnOk result (Self.held self.new
@@ -270,6 +268,7 @@ pub trait Holds<V: Variant>: HoldsCache<V> {
     ) -> Result<(), Fault<V::Commitment>>
         requires small { IsSmall (finalization_bytes (Self.Finalization.plain finalization.now)) }
         ensures staged { Self.staged self.new ≡ Self.staged self.old }
+        ensures tickets { Self.covers self.new ≡ Self.covers self.old }
         ensures ok { OnOk result (StoresValue (is_certified V.inner (Self.held self.old).certs.held height
             (V.inner (Self.Finalization.plain finalization.now).payload)) (Self.held self.old).certs
             (at_height height (Self.Finalization.plain finalization.now)) (Self.held self.new).certs) }
@@ -284,6 +283,7 @@ pub trait Holds<V: Variant>: HoldsCache<V> {
     /// the life ends.
     fn start_sync(&mut self) -> Result<(), Fault<V::Commitment>>
         ensures staged { Self.staged self.new ≡ Self.staged self.old }
+        ensures tickets { Self.covers self.new ≡ Self.covers self.old }
         ensures ok { OnOk result (Self.held self.new
             ≡ record (Self.held self.old) { writes = with_started (Self.held self.old).writes; watches = (Self.held self.new).watches }) }
         ensures goes_on { GoesOn (fault_of V.Commitment.bytes) (Self.held self.old) nothing_written (Self.held self.new) result }
@@ -294,6 +294,7 @@ pub trait Holds<V: Variant>: HoldsCache<V> {
     /// open. One that isn't changes nothing, and asks no store.
     fn finish_sync(&mut self, ticket: u64) -> Result<bool, Fault<V::Commitment>>
         ensures staged { Self.staged self.new ≡ Self.staged self.old }
+        ensures tickets { Self.covers self.new ≡ Self.covers self.old }
         ensures was_open { IfOk result (λ r. r ≡ is_open_sync (Self.held self.old).writes.syncs ticket) }
         ensures closed { IfOk result (λ r. r ≡ false → Self.held self.new ≡ Self.held self.old) }
         ensures failed { IfErr result (λ e. is_open_sync (Self.held self.old).writes.syncs ticket ≡ true) }
@@ -308,34 +309,6 @@ pub trait Holds<V: Variant>: HoldsCache<V> {
         }) }
         ensures goes_on { GoesOn (fault_of V.Commitment.bytes) (Self.held self.old) nothing_written (Self.held self.new) result }
         ensures archive { IfErr result (λ e. IsArchiveFault (fault_of V.Commitment.bytes e)) }
-        ensures usual { IfErr result (λ e. IsUsual (fault_of V.Commitment.bytes e)) };
-
-    /// The block at this height is processed, which becomes durable with the next sync of the metadata.
-    fn set_processed(&mut self, height: Height) -> Result<(), Fault<V::Commitment>>
-        ensures staged { Self.staged self.new ≡ Self.staged self.old }
-        ensures ok { OnOk result (Self.held self.new
-            ≡ record (Self.held self.old) { processed = Some (at_block height); watches = (Self.held self.new).watches }) }
-        ensures goes_on { GoesOn (fault_of V.Commitment.bytes) (Self.held self.old) nothing_written (Self.held self.new) result }
-        ensures usual { IfErr result (λ e. IsUsual (fault_of V.Commitment.bytes e)) };
-
-    /// Sets the cutoff, which becomes durable with the next sync of the metadata.
-    fn set_cutoff(&mut self, cutoff: &Cutoff) -> Result<(), Fault<V::Commitment>>
-        ensures staged { Self.staged self.new ≡ Self.staged self.old }
-        ensures ok { OnOk result (Self.held self.new ≡ record (Self.held self.old) { cutoff = cutoff_of cutoff.now; watches = (Self.held self.new).watches }) }
-        ensures goes_on { GoesOn (fault_of V.Commitment.bytes) (Self.held self.old) nothing_written (Self.held self.new) result }
-        ensures usual { IfErr result (λ e. IsUsual (fault_of V.Commitment.bytes e)) };
-
-    /// Makes the processed height and the cutoff durable together.
-    fn sync_metadata(&mut self) -> Result<(), Fault<V::Commitment>>
-        ensures staged { Self.staged self.new ≡ Self.staged self.old }
-        ensures ok { OnOk result (Self.held self.new ≡ record (Self.held self.old) {
-          pairs = pair_of (Self.held self.old).processed (Self.held self.old).cutoff
-              ∷ [];
-          watches = (Self.held self.new).watches;
-        }) }
-        ensures passed { OnOk result (ArePassed (Self.held self.old).watches (Self.held self.new).watches) }
-        ensures lost { LosesSince (fault_of V.Commitment.bytes) (Self.held self.old)
-            (written_pair (pair_of (Self.held self.old).processed (Self.held self.old).cutoff)) (Self.held self.new) result }
         ensures usual { IfErr result (λ e. IsUsual (fault_of V.Commitment.bytes e)) };
 }
 

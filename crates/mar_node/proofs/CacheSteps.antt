@@ -1,5 +1,5 @@
--- An event that puts one entry and prunes by rounds advances the cache as its definition says.
-use Rattle.std.proofs.Common.{◌≡◌, ◌≢◌, ◌⊎◌, inl, inr, ◌<◌, ◌==◌, ◌&&◌, ◌||◌, not, zero, suc, List, [], ◌∷◌, ◌++◌, Bool, true, false, IsTrue, Contains, Some, cond, refl, ap, ap₂, sym, subst, arith, ◌∙◌}
+-- An event that puts one entry, or none, and prunes by rounds advances the cache as its definition says.
+use Rattle.std.proofs.Common.{◌≡◌, ◌≢◌, ◌⊎◌, inl, inr, ◌<◌, ◌==◌, ◌&&◌, ◌||◌, not, zero, suc, List, [], ◌∷◌, ◌++◌, Bool, true, false, IsTrue, Contains, Some, cond, refl, ap, ap₂, sym, subst, arith, ◌∙◌, ◌≤◌, ℕ, map}
 use Rattle.std.specs.Prelude.{fold}
 use Rattle.std.specs.List.{filter_map, list_any}
 use Rattle.std.proofs.lemmas.Bool.{eq-eqb}
@@ -7,19 +7,56 @@ use Rattle.std.proofs.lemmas.List.Elements.{Contains-append_cases, Contains-appe
 use Rattle.std.proofs.lemmas.List.{append-nil}
 use Rattle.mar_types.specs.Round.{Round, round_eq, round_lt}
 use Rattle.mar_cert.specs.Block.{Block}
+use Rattle.mar_store.specs.Changes.{Within}
 use Rattle.mar_store.specs.Kept.{Kept}
 use Rattle.mar_node.specs.Cached.{Cached, certified_entry, epoch_of, finalization_entry, notarization_entry, notarized_entry, same_place, verified_entry, with_entry}
-use Rattle.mar_node.specs.Cache.{AdvancesCache, certified_from, entries_put, finished_covers, entries_with_puts, first_of, first_verified, is_below, is_certified_below, is_pruned, is_synced, is_synced_put, is_covered_put, same_archive, verified_in, witnessing_of}
+use Rattle.mar_node.specs.Cache.{AdvancesCache, answer_ticket, certified_from, entries_put, finished_covers, entries_with_puts, first_of, first_verified, is_below, is_certified_below, is_pruned, is_synced, is_synced_put, is_covered_put, lowest_after, same_archive, started_syncs, still_covers, tickets_from, verified_in, without_cache_sync, witnessing_of}
 use Rattle.mar_node.specs.Config.{Config}
 use Rattle.mar_node.specs.Event.{Effect, Event}
 use Rattle.mar_node.specs.Node.{Node}
-use Rattle.mar_node.specs.AllEntries.{FirstsStay, PrunesByAll, PrunesEntries, is_in_place, with_own_entry}
-use Rattle.mar_cache.specs.Steps.{KeepsBeside, PutsNone, PutsOne, is_certified}
-use Rattle.mar_cache.proofs.StateLosses.{filtered}
-use Rattle.mar_cache.proofs.ListPrunes.{firsts_stay}
-use Rattle.mar_cache.proofs.ListPuts.{contains_none, none_verified, one_of, passes_alike}
-use Rattle.mar_cache.proofs.StatePuts.{filter_passed}
-use Rattle.mar_cache.proofs.TellsEntries.{rounds_same}
+use Rattle.mar_node.specs.AllEntries.{FirstsStay, PrunesByAll, PrunesEntries, PutsEntry, is_in_place, with_own_entry}
+use Rattle.mar_node.proofs.CachePrunes.{PrunesByAll-held}
+use Rattle.mar_node.proofs.EntryLists.{contains_none, filter_passed, filtered, firsts_stay, none_verified, one_of, passes_alike, rounds_same}
+
+-- THE CALLS OF AN EVENT
+
+abbrev pub is_certified : Cached → Bool
+is_certified (certified_entry e b) = true
+is_certified _ = false
+
+-- an entry is put, unless its epoch is below the lowest
+abbrev pub PutsOrPasses : ℕ → Cached → Kept Cached → Kept Cached → Type 0
+PutsOrPasses lowest x old new = ((epoch_of x < lowest) × (new ≡ old)) ⊎ (lowest ≤ epoch_of x) × PutsEntry x old new
+
+-- The calls of an event that puts one entry, and syncs its archive where the event waits for that, and then witnesses.
+pub record PutsOne (config : Config) (n : Node) (e : Event) (fx : Effect) (n' : Node) (x : Cached) : Type 0 where
+  pub entries : entries_put config n n'.cache.held e fx ≡ x ∷ []
+  pub by_view : is_certified x ≡ false
+  pub no_floor : certified_from n fx ≡ 0
+  pub within : (y : Cached) → Contains n.cache.held y → n.lowest ≤ epoch_of y
+  pub mid : Kept Cached
+  pub put : PutsOrPasses n.lowest x n.cache mid
+  pub covers : (y : Cached) → is_covered_put e x y ≡ same_place x y
+  pub synced : is_synced_put e x ≡ true → n.lowest ≤ epoch_of x → (y : Cached) → IsTrue (same_archive x y) → Contains mid.held y → Contains mid.sure y
+  pub prunes : PrunesByAll (witnessing_of config n e fx).prunes mid n'.cache
+
+-- The calls of an event that puts nothing: a ticket that finishes makes sure what it covers, and rounds are witnessed.
+pub record PutsNone (config : Config) (n : Node) (e : Event) (fx : Effect) (n' : Node) : Type 0 where
+  pub entries : entries_put config n n'.cache.held e fx ≡ []
+  pub no_floor : certified_from n fx ≡ 0
+  pub mid : Kept Cached
+  pub held : mid.held ≡ n.cache.held
+  pub sure : Within n.cache.sure mid.sure
+  pub finished : (y : Cached) → Contains (finished_covers n e) y → Contains mid.held y → Contains mid.sure y
+  pub prunes : PrunesByAll (witnessing_of config n e fx).prunes mid n'.cache
+
+-- What a node keeps of its cache beside the entries: the lowest epoch, which is what a crash leaves of it, the open tickets
+-- and the last witnessed round.
+pub record KeepsBeside (config : Config) (n : Node) (e : Event) (fx : Effect) (n' : Node) : Type 0 where
+  pub lowest : n'.lowest ≡ lowest_after config n e fx
+  pub lowests : n'.lowests ≡ n'.lowest ∷ []
+  pub cache_syncs : n'.cache_syncs ≡ map (still_covers config n e fx) (without_cache_sync e n.cache_syncs) ++ tickets_from n.next_sync (answer_ticket e) n'.cache.held (started_syncs n n' e)
+  pub witnessed : n'.witnessed ≡ (witnessing_of config n e fx).last
 
 -- IN ITS PLACE
 
@@ -50,7 +87,7 @@ place_in x y by_view = by (same_place x y) refl
 pub own_is : (x : Cached) (held : List Cached) → is_certified x ≡ false → with_own_entry held x ≡ with_entry held x
 own_is x held by_view = ap (λ c. cond c held (held ++ x ∷ [])) (passes_alike (is_in_place x) (same_place x) held (λ y has. place_in x y by_view))
 
-with_cases : (x : Cached) (held : List Cached) (y : Cached) → Contains (with_entry held x) y → Contains held y ⊎ (y ≡ x)
+pub with_cases : (x : Cached) (held : List Cached) (y : Cached) → Contains (with_entry held x) y → Contains held y ⊎ (y ≡ x)
 with_cases x held y = by (list_any (same_place x) held)
   where
     by : (c : Bool) → Contains (cond c held (held ++ x ∷ [])) y → Contains held y ⊎ (y ≡ x)
@@ -94,13 +131,9 @@ or_either : (a b : Bool) → (a || b) ≡ true → (a ≡ true) ⊎ (b ≡ true)
 or_either true b is = inl refl
 or_either false b is = inr is
 
-pub prunes_only : (rounds : List Round) (old new : Kept Cached) → PrunesByAll rounds old new → (y : Cached) → Contains new.held y → Contains old.held y
-prunes_only [] old new is y has = subst (λ k. Contains k.held y) is has
-prunes_only (r ∷ rounds) old new (mid, prunes, rest) y has = (filtered (λ x. not (is_below r x)) old.held y (subst (λ ys. Contains ys y) prunes.held (prunes_only rounds mid new rest y has))).0
-
 pub prunes_sure : (rounds : List Round) (old new : Kept Cached) → PrunesByAll rounds old new → (y : Cached) → Contains old.sure y → Contains new.held y → Contains new.sure y
 prunes_sure [] old new is y sure has = subst (λ k. Contains k.sure y) (sym is) sure
-prunes_sure (r ∷ rounds) old new (mid, prunes, rest) y sure has = prunes_sure rounds mid new rest y (prunes.sure y sure (not_true (is_below r y) (filtered (λ x. not (is_below r x)) old.held y (subst (λ ys. Contains ys y) prunes.held (prunes_only rounds mid new rest y has))).1)) has
+prunes_sure (r ∷ rounds) old new (mid, prunes, rest) y sure has = prunes_sure rounds mid new rest y (prunes.sure y sure (not_true (is_below r y) (filtered (λ x. not (is_below r x)) old.held y (subst (λ ys. Contains ys y) prunes.held (PrunesByAll-held rounds mid new rest y has))).1)) has
 
 pub prunes_stay : (rounds : List Round) (old new : Kept Cached) → PrunesByAll rounds old new → (y : Cached) → Contains old.held y → Contains new.held y ⊎ (list_any (λ r. is_below r y) rounds ≡ true)
 prunes_stay [] old new is y has = inl (subst (λ k. Contains k.held y) (sym is) has)
@@ -112,7 +145,7 @@ prunes_stay (r ∷ rounds) old new (mid, prunes, rest) y has = by (is_below r y)
 
 pub prunes_firsts : (rounds : List Round) (old new : Kept Cached) → PrunesByAll rounds old new → FirstsStay old.held new.held
 prunes_firsts [] old new is = subst (λ k. FirstsStay old.held k.held) (sym is) (λ r b first has. first)
-prunes_firsts (s ∷ rounds) old new (mid, prunes, rest) = λ r b first has. prunes_firsts rounds mid new rest r b (prune_firsts s old mid prunes r b first (prunes_only rounds mid new rest (verified_entry r b) has)) has
+prunes_firsts (s ∷ rounds) old new (mid, prunes, rest) = λ r b first has. prunes_firsts rounds mid new rest r b (prune_firsts s old mid prunes r b first (PrunesByAll-held rounds mid new rest (verified_entry r b) has)) has
 
 -- AN EVENT THAT PUTS ONE ENTRY
 
@@ -149,7 +182,7 @@ module _ (config : Config) (n : Node) (e : Event) (fx : Effect) (n' : Node) (x :
       or_below (inr pruned) = inr (inr pruned)
 
   pub one_nothing_else : (y : Cached) → Contains n'.cache.held y → Contains (entries_with_puts config n n'.cache.held e fx) y
-  one_nothing_else y has = subst (λ ys. Contains ys y) (sym puts_is) (from_mid y (prunes_only prunes does.mid n'.cache does.prunes y has))
+  one_nothing_else y has = subst (λ ys. Contains ys y) (sym puts_is) (from_mid y (PrunesByAll-held prunes does.mid n'.cache does.prunes y has))
 
   pub one_stays_sure : (y : Cached) → Contains n.cache.sure y → Contains n'.cache.held y → Contains n'.cache.sure y
   one_stays_sure y sure has = prunes_sure prunes does.mid n'.cache does.prunes y (elim does.put [ inl passes ↦ subst (λ k. Contains k.sure y) (sym passes.1) sure | inr puts ↦ puts.1.sure y sure ]) has
@@ -166,7 +199,7 @@ module _ (config : Config) (n : Node) (e : Event) (fx : Effect) (n' : Node) (x :
       passed : (epoch_of x < n.lowest) × (does.mid ≡ n.cache) → first_verified does.mid.held r ≡ Some b
       passed passes =
           let low = passes.0 in
-          let over = does.within (verified_entry r b) (subst (λ k. Contains k.held (verified_entry r b)) passes.1 (prunes_only prunes does.mid n'.cache does.prunes (verified_entry r b) has)) in
+          let over = does.within (verified_entry r b) (subst (λ k. Contains k.held (verified_entry r b)) passes.1 (PrunesByAll-held prunes does.mid n'.cache does.prunes (verified_entry r b) has)) in
           ap (λ k. first_verified k.held r) passes.1 ∙ sym (without x n.cache.held r (λ same. omega (arith, same, low, over))) ∙ put
 
   pub one_synced : (y : Cached) → IsTrue (is_synced e (entries_put config n n'.cache.held e fx) y) → Contains n'.cache.held y → Contains n'.cache.sure y
@@ -190,7 +223,7 @@ module _ (config : Config) (n : Node) (e : Event) (fx : Effect) (n' : Node) (x :
       here = place_epoch x y does.by_view place
 
       in_held : Contains does.mid.held y
-      in_held = prunes_only prunes does.mid n'.cache does.prunes y has
+      in_held = PrunesByAll-held prunes does.mid n'.cache does.prunes y has
 
 pub advances_one : (config : Config) (n : Node) (e : Event) (fx : Effect) (n' : Node) (x : Cached) → PutsOne config n e fx n' x → finished_covers n e ≡ [] → KeepsBeside config n e fx n' → AdvancesCache config n e fx n'
 advances_one config n e fx n' x does no_finish beside = record {
@@ -213,12 +246,12 @@ advances_one config n e fx n' x does no_finish beside = record {
 pub advances_none : (config : Config) (n : Node) (e : Event) (fx : Effect) (n' : Node) → PutsNone config n e fx n' → KeepsBeside config n e fx n' → AdvancesCache config n e fx n'
 advances_none config n e fx n' does beside = record {
   kept = λ y has. elim (after y (in_mid y (subst (λ ys. Contains ys y) puts_is has))) [ inl held ↦ inl held | inr pruned ↦ inr (inr pruned) ];
-  nothing_else = λ y has. subst (λ ys. Contains ys y) (sym puts_is) (of_mid y (prunes_only prunes does.mid n'.cache does.prunes y has));
+  nothing_else = λ y has. subst (λ ys. Contains ys y) (sym puts_is) (of_mid y (PrunesByAll-held prunes does.mid n'.cache does.prunes y has));
   stays_sure = λ y sure has. prunes_sure prunes does.mid n'.cache does.prunes y (does.sure y sure) has;
   stays = λ y has. after y (in_mid y has);
   first_stays = λ r b first has. prunes_firsts prunes does.mid n'.cache does.prunes r b (ap (λ ys. first_verified ys r) (does.held ∙ sym puts_is) ∙ first) has;
   synced = λ y synced has. absurd (let none : IsTrue (is_synced e [] y) = subst (λ ys. IsTrue (is_synced e ys y)) does.entries synced in cc);
-  finished = λ y covered has. prunes_sure prunes does.mid n'.cache does.prunes y (does.finished y covered (prunes_only prunes does.mid n'.cache does.prunes y has)) has;
+  finished = λ y covered has. prunes_sure prunes does.mid n'.cache does.prunes y (does.finished y covered (PrunesByAll-held prunes does.mid n'.cache does.prunes y has)) has;
   lowest = beside.lowest;
   lowests = λ k has. Contains-append_right n.lowests (n'.lowest ∷ []) k (subst (λ ks. Contains ks k) beside.lowests has);
   own_lowest = subst (λ ks. Contains (0 ∷ ks) n'.lowest) (sym beside.lowests) (suc zero, omega arith, refl);
