@@ -103,6 +103,14 @@ pub both_found : {T E : Type 0} (A B : T → Type 0) (r : Result T E) → IfOk r
 both_found A B (Ok x) a b = (a, b)
 both_found A B (Err e) a b = tt
 
+pub found_with_done : {T E : Type 0} (A : T → Type 0) (B : Type 0) (r : Result T E) → IfOk r A → OnOk r B → IfOk r (λ x. A x × B)
+found_with_done A B (Ok x) a b = (a, b)
+found_with_done A B (Err e) a b = tt
+
+pub found_is_done : {T E B : Type 0} {A : T → Type 0} (r : Result T E) → IfOk r A → ((x : T) → A x → B) → OnOk r B
+found_is_done (Ok x) found f = f x found
+found_is_done (Err e) found f = tt
+
 -- what is true of each answer is true where there is one
 pub each_done : {E : Type 0} (A : Type 0) (r : Result Bool E) → IfOk r (λ b. (b ≡ true → A) × (b ≡ false → A)) → OnOk r A
 each_done A (Ok true) f = f.0 refl

@@ -8,7 +8,7 @@ use Rattle.mar_store.specs.Watch.{Watch}
 use Rattle.mar_types.specs.Round.{Round}
 use Rattle.mar_node.specs.AllEntries.{LeavesEntries, PrunesEntries}
 use Rattle.mar_node.specs.Cache.{is_below}
-use Rattle.mar_node.specs.CacheCalls.{IsNestedCache, LosesCache, PutsAndSyncs, ReopensCache, none_goes}
+use Rattle.mar_node.specs.CacheCalls.{FinishesEntries, IsNestedCache, JoinsTickets, KeepsTickets, LosesCache, PutsAndStarts, PutsAndSyncs, ReopensCache, StartsSync, is_of_archive, none_goes}
 use Rattle.mar_node.specs.Cached.{Cached, epoch_of}
 use Rattle.mar_node.specs.Faults.{Fault, cache_store}
 use Rattle.mar_node.specs.Held.{HeldCache, LeavesUnloaded, Passes}
@@ -17,6 +17,9 @@ use Rattle.mar_node.specs.SmallEntries.{AreSmallEntries}
 use Rattle.mar_node.specs.Places.{is_open, kept_at}
 use Rattle.mar_node.specs.declared.Place.{Place}
 use Rattle.mar_node.specs.declared.Place.TheVariants.{Away, Lost, Open}
+use Rattle.mar_node.specs.declared.CacheTicket.{CacheTicket}
+use Rattle.mar_node.specs.declared.Section.{Section}
+use Rattle.mar_node.specs.declared.Started.{Started}
 use Rattle.mar_shelf.specs.Pooling.{IsFaultOf}
 
 -- IN ITS PLACE
@@ -46,6 +49,11 @@ finds_at finds _ = None
 abbrev pub held_at : {S W : Type 0} → (S → Kept Cached) → (S → Bool) → (S → Bool) → (S → Option (List Cached)) → (W → Left Cached) → Place S W → HeldCache
 held_at kept loaded fresh finds left place = record { kept = kept_at kept left place; loaded = is_so_at loaded place; fresh = is_so_at fresh place; finds = finds_at finds place }
 
+-- what a ticket covers of one that is there
+abbrev pub covers_at : {S W : Type 0} → (S → CacheTicket → List Cached) → Place S W → CacheTicket → List Cached
+covers_at covers (Open s) = covers s
+covers_at covers _ = λ ticket. []
+
 from_zero : (n : ℕ) → 0 ≤ n
 from_zero n = omega arith
 
@@ -57,6 +65,12 @@ pub small_at : {S W : Type 0} (kept : S → Kept Cached) (left : W → Left Cach
 small_at kept left small small_left (Open s) = small s
 small_at kept left small small_left (Lost w) = small_left w
 small_at kept left small small_left Away = λ x has. none_in x has
+
+-- a ticket of two archives covers what one of each covers
+pub joins_at : {S W : Type 0} (covers : S → CacheTicket → List Cached) → ((s : S) → JoinsTickets (covers s)) → (place : Place S W) → JoinsTickets (covers_at covers place)
+joins_at covers joins (Open s) = joins s
+joins_at covers joins (Lost w) = λ e p q. refl
+joins_at covers joins Away = λ e p q. refl
 
 module _ {S W : Type 0} (kept : S → Kept Cached) (lowest : S → ℕ) (loaded : S → Bool) (left : W → Left Cached) (lowests : W → List ℕ) where
   -- what a cache keeps it keeps in its place
@@ -90,6 +104,30 @@ pub record PutsInLife (x : Cached) (old new : HeldCache) (lowest : ℕ) : Type 0
   pub puts : PutsAndSyncs x lowest old.loaded old.kept new.kept
   pub leaves : LeavesEntries (x ∷ []) none_goes old.kept new.kept.sure new.kept.may
   pub loaded : new.loaded ≡ old.loaded
+
+-- An entry was put, and a sync of its archive started, unless its epoch is below the lowest.
+pub record StartsInLife (x : Cached) (old new : HeldCache) (lowest : ℕ) (covers now : CacheTicket → List Cached) (started : Started) : Type 0 where
+  pub puts : PutsAndStarts x lowest old.loaded old.kept new.kept now started
+  pub leaves : LeavesEntries (x ∷ []) none_goes old.kept new.kept.sure new.kept.may
+  pub loaded : new.loaded ≡ old.loaded
+  pub tickets : KeepsTickets none_goes covers now
+
+-- A sync of an archive was started, or there is nothing to wait for.
+pub record SyncsInLife (epoch : ℕ) (section : Section) (old new : HeldCache) (covers now : CacheTicket → List Cached) (started : Started) : Type 0 where
+  pub starts : StartsSync now epoch (is_of_archive epoch section) old.kept.held started
+  pub kept : new.kept ≡ old.kept
+  pub leaves : LeavesEntries [] none_goes old.kept new.kept.sure new.kept.may
+  pub loaded : new.loaded ≡ old.loaded
+  pub fresh : new.fresh ≡ old.fresh
+  pub tickets : KeepsTickets none_goes covers now
+
+-- The sync of a ticket has finished.
+pub record FinishesInLife (ticket : CacheTicket) (old new : HeldCache) (covers now : CacheTicket → List Cached) : Type 0 where
+  pub finishes : FinishesEntries (covers ticket) old.kept new.kept
+  pub leaves : LeavesEntries [] none_goes old.kept new.kept.sure new.kept.may
+  pub loaded : new.loaded ≡ old.loaded
+  pub fresh : new.fresh ≡ old.fresh
+  pub tickets : KeepsTickets none_goes covers now
 
 -- What is cached below a round was pruned.
 pub record PrunesInLife (round : Round) (old new : HeldCache) (lowest now : ℕ) (were lowests : List ℕ) : Type 0 where

@@ -2,7 +2,9 @@
 use Rattle.mar_node.specs.Held.{Held}
 use Rattle.mar_node.specs.Staged.{Staged}
 
--- The stores of a life, and the blocks that are staged until they are handed over.
-pub record Stock (B : Type 0) : Type 0 where
+-- The stores of a life, the blocks that are staged until they are handed over, and the cache as it is: what its tickets cover
+-- is a function, which no value of a model may hold.
+pub record Stock (B C : Type 0) : Type 0 where
   pub held : Held
   pub staged : Staged B
+  pub cache : C

@@ -9,15 +9,17 @@ ghost use Rattle.mar_node.specs.Views.{fault_of};
 ghost use Rattle.mar_node.specs.Places.{is_open, is_there, watch_at};
 ghost use Rattle.mar_node.specs.declared.place.Place.TheVariants.{Open};
 ghost use Rattle.mar_shelf.specs.Pooling.{IsFaultOf};
-ghost use Rattle.mar_shelf.specs.Caching.{held_at, small_at, lowest_at, lowests_at, nested_at, nothing_at, only_lowest_at};
+ghost use Rattle.mar_shelf.specs.Caching.{covers_at, held_at, joins_at, small_at, lowest_at, lowests_at, nested_at, nothing_at, only_lowest_at};
 
-use crate::LifeCache;
 use crate::in_place::{answered, lose};
+use crate::{LifeCache, LifeNotarizations};
 use mar_block::Variant;
 use mar_cert::{AsFinalization, CommitsTo};
-use mar_node::{BlockName, Fault, Place, Shelf, ShelfRuin, StoreName};
+use mar_node::{
+    BlockName, CacheTicket, Fault, Place, Section, Shelf, ShelfRuin, Started, StoreName,
+};
 use mar_store::Lost;
-use mar_types::Round;
+use mar_types::{Epoch, Round};
 use std::alloc::AllocError;
 use std::marker::PhantomData;
 
@@ -47,6 +49,8 @@ impl<V: Variant, F: CommitsTo<V::Commitment>, H: Shelf<V, F>> LifeCache<V, F>
 
     ghost held = { λ c. held_at H.kept H.loaded H.fresh H.finds H.Wreck.left c.place };
 
+    ghost covers = { λ c. covers_at H.covers c.place };
+
     ghost lowest = { λ c. lowest_at H.lowest c.place };
 
     ghost lowests = { λ c. lowests_at H.lowest H.Wreck.lowests c.place };
@@ -62,6 +66,8 @@ impl<V: Variant, F: CommitsTo<V::Commitment>, H: Shelf<V, F>> LifeCache<V, F>
     ghost lowest_there = { λ c. only_lowest_at H.kept H.lowest H.loaded H.Wreck.left H.Wreck.lowests c.place };
 
     ghost none_held = { λ c. nothing_at H.kept H.lowest H.loaded H.Wreck.left H.Wreck.lowests c.place };
+
+    ghost joins = { λ c. joins_at H.covers H.joins c.place };
 
     fn reopen(ruin: H::Wreck, luck: u64) -> Result<Self, Lost<H::Wreck>> {
         match H::reopen(ruin, luck) {
@@ -119,6 +125,70 @@ impl<V: Variant, F: CommitsTo<V::Commitment>, H: Shelf<V, F>> LifeCache<V, F>
         }
     }
 
+    fn put_verified(
+        &mut self,
+        round: Round,
+        block: V::Block,
+    ) -> Result<Started, Fault<V::Commitment>> {
+        let Some(cache) = self.place.take() else {
+            return Err(Fault::Memory);
+        };
+        match cache.put_verified(round, block) {
+            Ok((cache, started)) => {
+                self.place = Place::Open(cache);
+                Ok(started)
+            }
+            Err(lost) => Err(lose(&mut self.place, lost, StoreName::Cache)),
+        }
+    }
+
+    fn put_notarized(
+        &mut self,
+        round: Round,
+        block: V::Block,
+    ) -> Result<Started, Fault<V::Commitment>> {
+        let Some(cache) = self.place.take() else {
+            return Err(Fault::Memory);
+        };
+        match cache.put_notarized(round, block) {
+            Ok((cache, started)) => {
+                self.place = Place::Open(cache);
+                Ok(started)
+            }
+            Err(lost) => Err(lose(&mut self.place, lost, StoreName::Cache)),
+        }
+    }
+
+    fn start_sync(
+        &mut self,
+        epoch: Epoch,
+        section: Section,
+    ) -> Result<Started, Fault<V::Commitment>> {
+        let Some(cache) = self.place.take() else {
+            return Err(Fault::Memory);
+        };
+        match cache.start_sync(epoch, section) {
+            Ok((cache, started)) => {
+                self.place = Place::Open(cache);
+                Ok(started)
+            }
+            Err(lost) => Err(lose(&mut self.place, lost, StoreName::Cache)),
+        }
+    }
+
+    fn finish_sync(&mut self, ticket: CacheTicket) -> Result<(), Fault<V::Commitment>> {
+        let Some(cache) = self.place.take() else {
+            return Err(Fault::Memory);
+        };
+        match cache.finish(ticket) {
+            Ok(cache) => {
+                self.place = Place::Open(cache);
+                Ok(())
+            }
+            Err(lost) => Err(lose(&mut self.place, lost, StoreName::Cache)),
+        }
+    }
+
     fn prune(&mut self, round: Round) -> Result<(), Fault<V::Commitment>> {
         let Some(cache) = self.place.take() else {
             return Err(Fault::Memory);
@@ -139,6 +209,7 @@ impl<V: Variant, F: CommitsTo<V::Commitment>, H: Shelf<V, F>> LifeCache<V, F>
         ensures found { IfOk result (λ o. option_map V.plain o
             ≡ option_and_then cached_block (soonest (is_sought V.Digest.bytes V.Commitment.bytes V.inner (sought_block name))
             (held_at H.kept H.loaded H.fresh H.finds H.Wreck.left self.old.place).kept.held)) }
+        ensures tickets { covers_at H.covers self.new.place ≡ covers_at H.covers self.old.place }
         ensures same { (held_at H.kept H.loaded H.fresh H.finds H.Wreck.left self.new.place
             ≡ held_at H.kept H.loaded H.fresh H.finds H.Wreck.left self.old.place)
             × (lowest_at H.lowest self.new.place ≡ lowest_at H.lowest self.old.place)
@@ -159,5 +230,37 @@ impl<V: Variant, F: CommitsTo<V::Commitment>, H: Shelf<V, F>> LifeCache<V, F>
             return Err(Fault::Memory);
         };
         answered(cache.get_verified(round), StoreName::Cache)
+    }
+
+    fn has_verified(
+        &mut self,
+        round: Round,
+        digest: V::Digest,
+    ) -> Result<bool, Fault<V::Commitment>> {
+        let Place::Open(cache) = &mut self.place else {
+            return Err(Fault::Memory);
+        };
+        answered(cache.has_verified(round, digest), StoreName::Cache)
+    }
+}
+
+impl<V: Variant, F: CommitsTo<V::Commitment>, H: Shelf<V, F>> LifeNotarizations<V, F>
+    for CacheInPlace<V, F, H> {
+    type Notarization = H::Notarization;
+
+    fn put_notarization(
+        &mut self,
+        notarization: H::Notarization,
+    ) -> Result<Started, Fault<V::Commitment>> {
+        let Some(cache) = self.place.take() else {
+            return Err(Fault::Memory);
+        };
+        match cache.put_notarization(notarization) {
+            Ok((cache, sync)) => {
+                self.place = Place::Open(cache);
+                Ok(sync)
+            }
+            Err(lost) => Err(lose(&mut self.place, lost, StoreName::Cache)),
+        }
     }
 }

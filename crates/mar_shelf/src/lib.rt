@@ -20,6 +20,6 @@ pub use cache_in_place::CacheInPlace;
 pub use certificates::Certificates;
 pub use item::{BlockItem, CertificateItem};
 pub use keeps::Keeps;
-pub use life_cache::LifeCache;
+pub use life_cache::{LifeCache, LifeNotarizations};
 pub use ruins::Ruins;
 pub use stores::Stores;

@@ -10,22 +10,26 @@ use crate::in_place::{self, answered};
 use crate::item::{BlockItem, CertificateItem};
 use crate::opening::{self, Unopened};
 use crate::ruins::Ruins;
-use crate::{Blocks, Certificates, LifeCache, blocks_in_place, certificates_in_place, syncs};
+use crate::{
+    Blocks, Certificates, LifeCache, LifeNotarizations, blocks_in_place, certificates_in_place,
+    syncs,
+};
 use mar_block::Variant;
 use mar_cert::CommitsTo;
 use mar_key::Cutoff;
 use mar_node::{
-    BlockName, Ended, Fault, Holds, HoldsCache, Place, Progress, Staged, State, StoreName, Writes,
+    BlockName, CacheTicket, Ended, Fault, Holds, HoldsCache, HoldsNotarizations, HoldsProgress,
+    Place, Progress, Section, Staged, Started, State, StoreName, Writes,
 };
 use mar_store::{Meta, RangeSet};
-use mar_types::{Height, Round};
+use mar_types::{Epoch, Height, Round};
 use std::alloc::{AllocError, Global};
 use std::marker::{Model, PhantomData};
 
 /// The stores of a life: blocks, certificates, how far delivery has come, and the cache; with the writes of the first two
 /// that wait for a sync, and the blocks that are staged until they are handed over. A contract sees what each store holds
-/// and may leave, how often it has failed, the writes, and what is staged, each block of which is held. Where a change of
-/// a store failed, what is left of it stands in its place, and later calls of it leave that and fail.
+/// and may leave, how often it has failed, the writes, the cache, and what is staged, each block of which is held. Where a
+/// change of a store failed, what is left of it stands in its place, and later calls of it leave that and fail.
 #[derive(Drop)]
 pub struct Stores<
     V: Variant,
@@ -58,7 +62,7 @@ impl<
     ghost use Rattle.mar_shelf.specs.Views.{Stock};
     ghost use Rattle.std.specs.Prelude.{◌&&◌};
 
-    ghost Value = { Stock V.Block };
+    ghost Value = { Stock V.Block H };
 
     ghost view = { λ s. record {
       held = record {
@@ -81,6 +85,7 @@ impl<
         intact = is_open s.blocks && (is_open s.certs && (H.intact s.cache && s.progress.intact));
       };
       staged = s.staged;
+      cache = s.cache;
     } };
 
     ghost invariant = { λ s. AwaitsIn of_blocks FB.stored FB.number FB.covers s.blocks s.writes
@@ -100,8 +105,38 @@ impl<
 
     ghost staged = { λ s. s.staged };
 
+    ghost covers = { λ s. H.covers s.cache };
+
     fn load_cache(&mut self) -> Result<(), Fault<V::Commitment>> {
         self.cache.load()
+    }
+
+    fn put_verified(
+        &mut self,
+        round: Round,
+        block: V::Block,
+    ) -> Result<Started, Fault<V::Commitment>> {
+        self.cache.put_verified(round, block)
+    }
+
+    fn put_notarized(
+        &mut self,
+        round: Round,
+        block: V::Block,
+    ) -> Result<Started, Fault<V::Commitment>> {
+        self.cache.put_notarized(round, block)
+    }
+
+    fn start_cache_sync(
+        &mut self,
+        epoch: Epoch,
+        section: Section,
+    ) -> Result<Started, Fault<V::Commitment>> {
+        self.cache.start_sync(epoch, section)
+    }
+
+    fn finish_cache_sync(&mut self, ticket: CacheTicket) -> Result<(), Fault<V::Commitment>> {
+        self.cache.finish_sync(ticket)
     }
 
     fn prune_cache(&mut self, round: Round) -> Result<(), Fault<V::Commitment>> {
@@ -113,6 +148,7 @@ impl<
         name: BlockName<V::Digest, V::Commitment>,
     ) -> Result<Option<V::Block>, Fault<V::Commitment>>
         ensures staged { self.new.staged ≡ self.old.staged }
+        ensures tickets { H.covers self.new.cache ≡ H.covers self.old.cache }
         ensures found { IfOk result (λ r. option_map V.plain r ≡ option_and_then cached_block (soonest (is_sought V.Digest.bytes V.Commitment.bytes V.inner
             (sought_block name)) self.old.held.cache.kept.held)) }
         ensures same { OnOk result (self.new.held ≡ record self.old.held { watches = self.new.held.watches }) }
@@ -124,6 +160,43 @@ impl<
 
     fn cached_verified(&mut self, round: Round) -> Result<Option<V::Block>, Fault<V::Commitment>> {
         self.cache.find_verified(round)
+    }
+
+    fn has_verified(
+        &mut self,
+        round: Round,
+        digest: V::Digest,
+    ) -> Result<bool, Fault<V::Commitment>> {
+        self.cache.has_verified(round, digest)
+    }
+}
+
+impl<
+    V: Variant,
+    F: CommitsTo<V::Commitment>,
+    FB: Blocks<V>,
+    FC: Certificates<V, F>,
+    M: Meta,
+    H: LifeCache<V, F>,
+> HoldsProgress<V> for Stores<V, F, FB, FC, M, H> {
+    fn witness(&mut self, round: Round) {
+        self.progress.witness(round);
+    }
+
+    fn without_block(&mut self, height: Height) {
+        self.progress.without_block(height);
+    }
+
+    fn set_processed(&mut self, height: Height) -> Result<(), Fault<V::Commitment>> {
+        answered(self.progress.set_processed(height), StoreName::Meta)
+    }
+
+    fn set_cutoff(&mut self, cutoff: &Cutoff) -> Result<(), Fault<V::Commitment>> {
+        answered(self.progress.set_cutoff(cutoff), StoreName::Meta)
+    }
+
+    fn sync_metadata(&mut self) -> Result<(), Fault<V::Commitment>> {
+        answered(self.progress.sync(), StoreName::Meta)
     }
 }
 
@@ -241,14 +314,6 @@ impl<
         self.progress.floor()
     }
 
-    fn witness(&mut self, round: Round) {
-        self.progress.witness(round);
-    }
-
-    fn without_block(&mut self, height: Height) {
-        self.progress.without_block(height);
-    }
-
     fn last_block(&self) -> Option<Height> {
         in_place::last::<BlockItem<V>, FB>(&self.blocks)
     }
@@ -341,16 +406,22 @@ impl<
             ticket,
         )
     }
+}
 
-    fn set_processed(&mut self, height: Height) -> Result<(), Fault<V::Commitment>> {
-        answered(self.progress.set_processed(height), StoreName::Meta)
-    }
+impl<
+    V: Variant,
+    F: CommitsTo<V::Commitment>,
+    FB: Blocks<V>,
+    FC: Certificates<V, F>,
+    M: Meta,
+    H: LifeNotarizations<V, F>,
+> HoldsNotarizations<V> for Stores<V, F, FB, FC, M, H> {
+    type Notarization = H::Notarization;
 
-    fn set_cutoff(&mut self, cutoff: &Cutoff) -> Result<(), Fault<V::Commitment>> {
-        answered(self.progress.set_cutoff(cutoff), StoreName::Meta)
-    }
-
-    fn sync_metadata(&mut self) -> Result<(), Fault<V::Commitment>> {
-        answered(self.progress.sync(), StoreName::Meta)
+    fn put_notarization(
+        &mut self,
+        notarization: H::Notarization,
+    ) -> Result<Started, Fault<V::Commitment>> {
+        self.cache.put_notarization(notarization)
     }
 }

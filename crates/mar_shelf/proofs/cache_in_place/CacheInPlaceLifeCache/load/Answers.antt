@@ -18,6 +18,9 @@ returns-in-Ok-clause-done g c = rw c.in-Some.ensures.0 c.in-Ok.ensures.done
 pub returns-in-Ok-clause-leaves : goal.returns-in-Ok-clause-leaves
 returns-in-Ok-clause-leaves g c = rw c.in-Some.ensures.0 c.in-Ok.ensures.goes_on.leaves
 
+pub returns-in-Ok-clause-tickets : goal.returns-in-Ok-clause-tickets
+returns-in-Ok-clause-tickets g c = rw c.in-Some.ensures.0 c.in-Ok.ensures.goes_on.tickets
+
 pub returns-in-Ok-clause-stays : goal.returns-in-Ok-clause-stays
 returns-in-Ok-clause-stays g c = rw c.in-Some.ensures.0 (c.in-Ok.ensures.stays.0, ap (λ k. k ∷ []) c.in-Ok.ensures.stays.0, c.in-Ok.ensures.stays.1, refl)
 

@@ -18,6 +18,9 @@ returns-in-Ok-clause-done g c = rw c.in-Some.ensures.0 (record {
   within = λ k has. max_among _ c.args.round.epoch k (subst (λ j. Contains (j ∷ []) k) c.in-Ok.ensures.stays.0 has);
 })
 
+pub returns-in-Ok-clause-tickets : goal.returns-in-Ok-clause-tickets
+returns-in-Ok-clause-tickets g c = rw c.in-Some.ensures.0 c.in-Ok.ensures.goes_on.tickets
+
 pub returns-in-Ok-clause-stays : goal.returns-in-Ok-clause-stays
 returns-in-Ok-clause-stays g c = rw c.in-Some.ensures.0 refl
 

@@ -16,6 +16,9 @@ returns-in_default-take-clause-failed g c = cache_alone g.H.Cache.kept g.H.Wreck
 pub returns-in-Ok-put_finalization-clause-done : goal.returns-in-Ok-put_finalization-clause-done
 returns-in-Ok-put_finalization-clause-done g c = rw (c.in-Some.ensures.0, ← c.in-Ok.ensures) (record { puts = c.in-Ok-put_finalization.ensures.puts; leaves = c.in-Ok-put_finalization.ensures.goes_on.leaves; loaded = c.in-Ok-put_finalization.ensures.stays.1 })
 
+pub returns-in-Ok-put_finalization-clause-tickets : goal.returns-in-Ok-put_finalization-clause-tickets
+returns-in-Ok-put_finalization-clause-tickets g c = rw c.in-Some.ensures.0 c.in-Ok-put_finalization.ensures.goes_on.tickets
+
 pub returns-in-Ok-put_finalization-clause-stays : goal.returns-in-Ok-put_finalization-clause-stays
 returns-in-Ok-put_finalization-clause-stays g c = rw c.in-Some.ensures.0 (c.in-Ok-put_finalization.ensures.stays.0, ap (λ k. k ∷ []) c.in-Ok-put_finalization.ensures.stays.0, refl)
 

@@ -15,6 +15,9 @@ invariant_of-self g c = c.self.invariant
 pub returns-clause-staged : goal.returns-clause-staged
 returns-clause-staged g c = rw (← c.self.view_is) refl
 
+pub returns-clause-tickets : goal.returns-clause-tickets
+returns-clause-tickets g c = rw (← c.self.view_is) c.put_finalization.ensures.tickets
+
 pub returns-clause-caches : goal.returns-clause-caches
 returns-clause-caches g c =
     let both = both_done _ _ c.put_finalization.result c.put_finalization.ensures.done c.put_finalization.ensures.stays in

@@ -13,6 +13,9 @@ invariant_of-self g c = (c.finish.ensures.blocks, held_in g.V.Variant.plain g.FB
 pub returns-clause-staged : goal.returns-clause-staged
 returns-clause-staged g c = rw (← c.self.view_is) refl
 
+pub returns-clause-tickets : goal.returns-clause-tickets
+returns-clause-tickets g c = rw (← c.self.view_is) refl
+
 pub returns-clause-was_open : goal.returns-clause-was_open
 returns-clause-was_open g c = rw (← c.self.view_is) c.finish.ensures.was_open
 

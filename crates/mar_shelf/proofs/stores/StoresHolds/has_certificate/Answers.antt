@@ -12,6 +12,9 @@ invariant_of-self g c = (c.self.invariant.0, c.self.invariant.1, waits_read g.FC
 pub returns-clause-staged : goal.returns-clause-staged
 returns-clause-staged g c = rw (← c.self.view_is) refl
 
+pub returns-clause-tickets : goal.returns-clause-tickets
+returns-clause-tickets g c = rw (← c.self.view_is) refl
+
 pub returns-clause-found : goal.returns-clause-found
 returns-clause-found g c = rw (← c.self.view_is) c.has.ensures.found
 

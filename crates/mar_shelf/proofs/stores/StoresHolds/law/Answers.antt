@@ -28,3 +28,6 @@ returns-clause-small_cached g c = rw (← c.self.view_is) (λ intact. small_held
 
 pub returns-clause-cached : goal.returns-clause-cached
 returns-clause-cached g c = rw (← c.self.view_is) (λ intact. record { nested = g.met.H.LifeCache.nested c.self.inside.cache; own_lowest = g.met.H.LifeCache.lowest_there c.self.inside.cache (third_of _ _ _ _ intact) })
+
+pub returns-clause-joins : goal.returns-clause-joins
+returns-clause-joins g c = rw (← c.self.view_is) (g.met.H.LifeCache.joins c.self.inside.cache)

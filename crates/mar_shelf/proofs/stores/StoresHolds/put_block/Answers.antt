@@ -1,4 +1,4 @@
-use Rattle.std.proofs.Common.{ap}
+use Rattle.std.proofs.Common.{ap, refl}
 use Rattle.mar_node.specs.Faults.{block_store}
 use Rattle.mar_node.specs.Pool.{writing_of}
 use Rattle.mar_node.specs.Views.{fault_of}
@@ -13,6 +13,9 @@ invariant_of-self g c = (c.put.ensures.waits, c.put.ensures.held, waits_either g
 
 pub returns-clause-staged : goal.returns-clause-staged
 returns-clause-staged g c = rw (← c.self.view_is) c.put.ensures.staged
+
+pub returns-clause-tickets : goal.returns-clause-tickets
+returns-clause-tickets g c = rw (← c.self.view_is) refl
 
 pub returns-clause-ok : goal.returns-clause-ok
 returns-clause-ok g c = rw (← c.self.view_is) c.put.ensures.done

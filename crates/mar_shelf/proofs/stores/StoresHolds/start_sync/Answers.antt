@@ -11,6 +11,9 @@ invariant_of-self g c = (c.start.ensures.blocks, held_in g.V.Variant.plain g.FB.
 pub returns-clause-staged : goal.returns-clause-staged
 returns-clause-staged g c = rw (← c.self.view_is) refl
 
+pub returns-clause-tickets : goal.returns-clause-tickets
+returns-clause-tickets g c = rw (← c.self.view_is) refl
+
 pub returns-clause-ok : goal.returns-clause-ok
 returns-clause-ok g c = rw (← c.self.view_is) (done_so c.start.result (both_done _ _ c.start.result (both_done _ _ c.start.result (both_done _ _ c.start.result c.start.ensures.same_blocks c.start.ensures.same_certs) (both_done _ _ c.start.result c.start.ensures.surer_blocks c.start.ensures.surer_certs)) c.start.ensures.started)
     (λ ok. both_same _ ok.0.0.0 ok.0.0.1 ok.0.1.0.still ok.0.1.1.still ok.1))

@@ -1,3 +1,4 @@
+use Rattle.std.proofs.Common.{refl}
 use Rattle.mar_node.specs.Faults.{block_store}
 use Rattle.mar_node.specs.Views.{fault_of}
 use Rattle.mar_shelf.specs.Pooling.{of_blocks}
@@ -7,6 +8,9 @@ use Rattle.mar_shelf.proofs.stores.StoresHolds.take_block.Goals as goal
 
 pub returns-clause-dropped : goal.returns-clause-dropped
 returns-clause-dropped g c = rw (← c.self.view_is) c.take.ensures.dropped
+
+pub returns-clause-tickets : goal.returns-clause-tickets
+returns-clause-tickets g c = rw (← c.self.view_is) refl
 
 pub invariant_of-self : goal.invariant_of-self
 invariant_of-self g c = (waits_read g.FB.Keeps.stored g.FB.Keeps.number g.FB.Keeps.covers of_blocks g.FB.Wreck.ArchiveRuin.left _ _ c.self.inside.writes c.take.ensures.read c.self.invariant.0, c.take.ensures.held, c.self.invariant.2)

@@ -14,11 +14,17 @@ invariant_of-self g c = c.self.invariant
 pub returns-clause-staged : goal.returns-clause-staged
 returns-clause-staged g c = rw (← c.self.view_is) refl
 
+pub returns-clause-loaded : goal.returns-clause-loaded
+returns-clause-loaded g c = done_so c.load.result c.load.ensures.stays (λ is. is.2)
+
 pub returns-clause-loads : goal.returns-clause-loads
 returns-clause-loads g c = rw (← c.self.view_is) c.load.ensures.done
 
 pub returns-clause-by_luck : goal.returns-clause-by_luck
 returns-clause-by_luck g c = rw (← c.self.view_is) c.load.ensures.found
+
+pub returns-clause-tickets : goal.returns-clause-tickets
+returns-clause-tickets g c = rw (← c.self.view_is) c.load.ensures.tickets
 
 pub returns-clause-same : goal.returns-clause-same
 returns-clause-same g c = rw (← c.self.view_is) (done_so c.load.result c.load.ensures.stays (λ is. cache_changed (is_open c.self.inside.blocks) (is_open c.self.inside.certs) c.self.inside.progress.intact is.0 is.1 is.3))

@@ -14,6 +14,9 @@ invariant_of-self g c = c.self.invariant
 pub returns-clause-staged : goal.returns-clause-staged
 returns-clause-staged g c = rw (← c.self.view_is) refl
 
+pub returns-clause-tickets : goal.returns-clause-tickets
+returns-clause-tickets g c = rw (← c.self.view_is) c.prune.ensures.tickets
+
 pub returns-clause-prunes : goal.returns-clause-prunes
 returns-clause-prunes g c =
     let both = both_done _ _ c.prune.result c.prune.ensures.done c.prune.ensures.stays in

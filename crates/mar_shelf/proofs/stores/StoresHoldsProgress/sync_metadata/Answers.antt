@@ -7,13 +7,16 @@ use Rattle.mar_node.specs.Views.{fault_of}
 use Rattle.mar_shelf.proofs.Answered.{answer_done, answer_idle, answer_left, answer_synced, with_left}
 use Rattle.mar_shelf.proofs.Placed.{done_so, failed_so, usual_fault}
 use Rattle.mar_shelf.proofs.Reading.{progress_is}
-use Rattle.mar_shelf.proofs.stores.StoresHolds.sync_metadata.Goals as goal
+use Rattle.mar_shelf.proofs.stores.StoresHoldsProgress.sync_metadata.Goals as goal
 
 pub invariant_of-self : goal.invariant_of-self
 invariant_of-self g c = c.self.invariant
 
 pub returns-clause-staged : goal.returns-clause-staged
 returns-clause-staged g c = rw (← c.self.view_is) refl
+
+pub returns-clause-tickets : goal.returns-clause-tickets
+returns-clause-tickets g c = rw (← c.self.view_is) refl
 
 pub returns-clause-ok : goal.returns-clause-ok
 returns-clause-ok g c = rw (← c.self.view_is) (done_so c.answered.result (answer_done (fault_of g.V.Commitment.Named.bytes) meta_store _ c.sync.result c.answered.result c.answered.ensures c.sync.ensures.ok) (λ is. progress_is (is_open c.self.inside.blocks) (is_open c.self.inside.certs) (g.H.LifeCache.intact c.self.inside.cache) is))

@@ -1,5 +1,5 @@
 use Rattle.std.proofs.Common.{refl}
-use Rattle.mar_shelf.proofs.stores.StoresHolds.without_block.Goals as goal
+use Rattle.mar_shelf.proofs.stores.StoresHoldsProgress.witness.Goals as goal
 
 pub invariant_of-self : goal.invariant_of-self
 invariant_of-self g c = c.self.invariant
@@ -7,5 +7,8 @@ invariant_of-self g c = c.self.invariant
 pub returns-clause-staged : goal.returns-clause-staged
 returns-clause-staged g c = rw (← c.self.view_is) refl
 
+pub returns-clause-tickets : goal.returns-clause-tickets
+returns-clause-tickets g c = rw (← c.self.view_is) refl
+
 pub returns-clause-held : goal.returns-clause-held
-returns-clause-held g c = rw (← c.self.view_is, c.without_block.ensures) refl
+returns-clause-held g c = rw (← c.self.view_is, c.witness.ensures) refl
