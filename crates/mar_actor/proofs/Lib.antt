@@ -5,3 +5,4 @@ pub mod Raised
 pub mod Told
 pub mod Reported
 pub mod Sent
+pub mod Drained

@@ -1,9 +1,11 @@
 -- Calls over the stores of a life, one after another.
-use Rattle.std.proofs.Common.{◌≡◌, ◌⊎◌, inl, inr, ℕ, List, ap, subst, sym}
+use Rattle.std.proofs.Common.{◌≡◌, ◌⊎◌, ◌∙◌, inl, inr, ℕ, List, Option, Result, Ok, Err, OnOk, true, ap, subst, sym}
 use Rattle.mar_node.specs.Faults.{Fault, ack_kind, ticket_limit, want_of_memory}
-use Rattle.mar_node.specs.Held.{AreWritten, Held, IsArchiveFault, IsNoStores, MakesSure, Remembered, Seen, seen}
+use Rattle.mar_node.specs.Held.{AreWritten, Held, IsArchiveFault, IsNoStores, MakesSure, Remembered, Seen, outcome, seen}
 use Rattle.mar_node.specs.Metadata.{Pair}
-use Rattle.mar_node.specs.Moves.{FinishesSync, IsRead}
+use Rattle.mar_node.specs.Moves.{FinishesSync, IsRead, LivesOn}
+use Rattle.mar_node.specs.Step.{Report}
+use Rattle.mar_node.proofs.Handing.{Ran}
 use Rattle.mar_node.specs.Writing.{with_finished}
 
 -- THE RULES END THE LIFE
@@ -27,3 +29,13 @@ synced_over life h k pairs is = with_held life _ _ is
 -- a sync that finished, over the same life
 pub finished : {P E : Type 0} (life : Remembered P E) (t : ℕ) (h k : Held) → MakesSure h.blocks k.blocks → MakesSure h.certs k.certs → AreWritten k → k ≡ record h { blocks = k.blocks; certs = k.certs; writes = with_finished t h.writes; watches = k.watches } → FinishesSync t (seen h life) (seen k life)
 finished life t h k blocks certs written same = record { blocks = blocks; certs = certs; written = written; same = with_held life _ _ same }
+
+-- a dispatch leaves what was taken up of the cache
+pub Ran-loaded : {P E T C : Type 0} (fault : C → Fault) (a now : Seen P E) (told told' : Option (List Report)) (result : Result T C) → Ran a told told' (outcome fault now result) → a.held.cache.loaded ≡ true → OnOk result (now.held.cache.loaded ≡ true)
+Ran-loaded fault a now told told' (Ok x) (handed, heard, ran) loaded = ap (λ s. s.held.cache.loaded) ran.same ∙ loaded
+Ran-loaded fault a now told told' (Err e) ran loaded = tt
+
+-- and so does a life that goes on
+pub lives-loaded : {P E T C : Type 0} (fault : C → Fault) (a now : Seen P E) (result : Result T C) → LivesOn a (outcome fault now result) → OnOk result (a.held.cache.loaded ≡ true → now.held.cache.loaded ≡ true)
+lives-loaded fault a now (Ok x) lives = lives.loaded
+lives-loaded fault a now (Err e) lives = tt

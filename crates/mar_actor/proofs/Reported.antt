@@ -1,5 +1,5 @@
 -- What the rules of a reported finalization come to, whose calls are made in place.
-use Rattle.std.proofs.Common.{◌≡◌, ℕ, List, [], ◌∷◌, false, nat_lt, true, Option, Some, None, Result, Ok, Err, IfErr, MatchResult, OnErr, OnOk, refl, sym, ap, subst}
+use Rattle.std.proofs.Common.{◌≡◌, ◌∙◌, arith, zero, ℕ, List, [], ◌∷◌, false, nat_lt, true, Option, Some, None, Result, Ok, Err, IfErr, MatchResult, OnErr, OnOk, refl, sym, ap, subst}
 use Rattle.mar_types.specs.Epochs.{Epochs, IsPartition}
 use Rattle.mar_cert.specs.Block.{Block}
 use Rattle.mar_cert.specs.Finalization.{Finalization}
@@ -10,15 +10,17 @@ use Rattle.mar_key.specs.Processed.{height_of}
 use Rattle.mar_store.specs.Changes.{IsNested}
 use Rattle.mar_node.specs.Event.{message_told}
 use Rattle.mar_node.specs.Faults.{Fault, height_limit, want_of_memory}
-use Rattle.mar_node.specs.Held.{ArePassed, Ending, GoesOn, Grew, Held, IsArchiveFault, IsUsual, Loses, Remembered, Seen, WithinWritten, Written, ended_on, nothing_written, outcome, seen, written_cert}
+use Rattle.mar_node.specs.Cached.{finalization_entry}
+use Rattle.mar_node.specs.Held.{AreCached, ArePassed, Ending, GoesOn, Grew, Held, IsArchiveFault, IsUsual, Loses, Remembered, Seen, WithinWritten, Written, ended_on, nothing_written, outcome, seen, written_cert, written_entry}
 use Rattle.mar_node.specs.Lives.{later_round}
 use Rattle.mar_node.specs.Messages.{report_finalization}
-use Rattle.mar_node.specs.Moves.{EndsLife, HearsUpTo, LivesOn, StoresLate, at_height, found_at_hand, lacks_finalization, late_tips, tip_reports}
+use Rattle.mar_node.specs.Moves.{CachesFinalization, CachesReport, EndsLife, HearsUpTo, LivesOn, PrunesCacheBy, RaisesTo, StoresLate, at_height, found_at_hand, lacks_finalization, late_tips, pruned_by, tip_reports, with_cache_of}
 use Rattle.mar_node.specs.Promise.{KeepsPromise, heard_by}
 use Rattle.mar_node.specs.Requests.{raise_asks, want_asks}
 use Rattle.mar_node.specs.Step.{Report}
 use Rattle.mar_node.proofs.EventPromises.{promise-absent}
-use Rattle.mar_node.proofs.Growing.{Grew-refl, WithinWritten-nothing, WithinWritten-refl}
+use Rattle.mar_node.proofs.CacheOver.{found_cached}
+use Rattle.mar_node.proofs.Growing.{Grew-refl, WithinWritten-entry, WithinWritten-nothing, WithinWritten-refl, WithinWritten-uncached}
 use Rattle.mar_node.proofs.Lasting.{EndsLife-other, IsPart, IsPart-raised, IsPart-read, IsPart-synced, IsPart-then, LivesOn-goes, LivesOn-read, LivesOn-then, parts_late}
 use Rattle.mar_node.proofs.Passing.{ArePassed-refl}
 use Rattle.mar_node.proofs.ProgressPromises.{promise-noted}
@@ -51,15 +53,54 @@ lost-then old mid written e first goes nested certs_nested = goes old written (g
 pub read-part : {P E : Type 0} (held one : Held) (life : Remembered P E) → one ≡ record held { watches = one.watches } → ArePassed held.watches one.watches → IsPart (seen held life) (seen one life)
 read-part held one life same passed = IsPart-read (seen held life) (seen one life) (ap (λ h. seen h life) same) passed
 
+-- SINCE A FINALIZATION WAS CACHED
+
+-- calls that write no entry of the cache, since the stores that the report began with
+module _ (f : Finalization) (before held : Held) (caches : CachesReport f before held) (written : Written) where
+  abbrev pub with_report : Written
+  with_report = record written { cached = finalization_entry f ∷ [] }
+
+  grew_report : Grew before with_report held
+  grew_report = caches.grew with_report (WithinWritten-entry (finalization_entry f) with_report (zero, omega arith, refl))
+
+  pub report_grown : (new : Held) → ((start : Held) (all : Written) → Grew start all held → WithinWritten (record written { cached = [] }) all → Grew start all new) → Grew before with_report new
+  report_grown new goes = goes before with_report grew_report (WithinWritten-uncached with_report)
+
+  pub report_lost : (e : Ending) → ((start : Held) (all : Written) → Grew start all held → WithinWritten (record written { cached = [] }) all → Loses start all e) → Loses before with_report e
+  report_lost e goes = goes before with_report grew_report (WithinWritten-uncached with_report)
+
+  -- and what the next call says, which writes nothing
+  pub report_lost-then : (mid : Held) (e : Ending) → ((start : Held) (all : Written) → Grew start all held → WithinWritten (record written { cached = [] }) all → Grew start all mid) → ((start : Held) (all : Written) → Grew start all mid → WithinWritten nothing_written all → Loses start all e) → Loses before with_report e
+  report_lost-then mid e first goes = goes before with_report (report_grown mid first) (WithinWritten-nothing with_report)
+
+-- what is due and told is what was before
+module _ (inner : List ℕ → List ℕ) (f : Finalization) (before held : Held) (buffer : List Block) (loaded : before.cache.loaded ≡ true) (caches : CachesFinalization f before held) where
+  found_same : found_at_hand inner buffer held.cache.kept.held held.blocks.held f.payload ≡ found_at_hand inner buffer before.cache.kept.held before.blocks.held f.payload
+  found_same = ap (λ h. found_at_hand inner buffer held.cache.kept.held h.blocks.held f.payload) caches.same ∙ found_cached inner f before held buffer before.blocks.held f.payload loaded caches
+
+  pub cached-due : storing_due held (found_at_hand inner buffer held.cache.kept.held held.blocks.held f.payload) ≡ storing_due before (found_at_hand inner buffer before.cache.kept.held before.blocks.held f.payload)
+  cached-due = by (found_at_hand inner buffer held.cache.kept.held held.blocks.held f.payload) ∙ ap (storing_due before) found_same
+    where
+      by : (o : Option Block) → storing_due held o ≡ storing_due before o
+      by None = refl
+      by (Some b) = ap (λ h. storing_due h (Some b)) caches.same
+
+  pub cached-tips : {P E : Type 0} (life : Remembered P E) → finalized_tips (seen held life) f (found_at_hand inner buffer held.cache.kept.held held.blocks.held f.payload) ≡ finalized_tips (seen before life) f (found_at_hand inner buffer before.cache.kept.held before.blocks.held f.payload)
+  cached-tips life = by (found_at_hand inner buffer held.cache.kept.held held.blocks.held f.payload) ∙ ap (finalized_tips (seen before life) f) found_same
+    where
+      by : (o : Option Block) → finalized_tips (seen held life) f o ≡ finalized_tips (seen before life) f o
+      by None = refl
+      by (Some b) = ap (λ h. finalized_tips (seen h life) f (Some b)) caches.same
+
 -- A BLOCK THAT ISN'T AT HAND
 
 -- the stores were read, and then its block was requested, for which there may have been no memory
 module _ {P E T C : Type 0} (fault : C → Fault) (held one : Held) (life : Remembered P E) (read : one ≡ record held { watches = one.watches }) (goes : (start : Held) (all : Written) → Grew start all held → WithinWritten nothing_written all → Grew start all one) where
-  pub absent-promise : (epochs : Epochs) (inner : List ℕ → List ℕ) → IsPartition epochs → (buffer : List Block) (f : Finalization) (told : Option (List Report)) (heard heard' : Option (List Call)) (result : Result T C) → IfErr result (λ e. fault e ≡ want_of_memory) → IsNested held.blocks → IsNested held.certs → None ≡ found_at_hand inner buffer held.cache.kept.held held.blocks.held f.payload → HearsUpTo heard (want_asks held.cutoff f.round f.payload) heard' result → KeepsPromise (message_told None (report_finalization f) ∷ []) epochs inner (seen held life) buffer (heard_by told heard) (heard_by told heard') (outcome fault (seen one life) result)
-  absent-promise epochs inner partition buffer f told heard heard' (Ok x) memory nested certs_nested found asks =
-      promise-absent epochs inner partition (seen held life) buffer f told heard heard' (seen one life) (Ok (seen one life)) nested certs_nested (sym found) asks (ap (λ h. seen h life) read) refl (grown held nothing_written one goes nested certs_nested) tt
-  absent-promise epochs inner partition buffer f told heard heard' (Err e) memory nested certs_nested found asks =
-      promise-absent epochs inner partition (seen held life) buffer f told heard heard' (seen one life) (Err (ended_on (fault e) one)) nested certs_nested (sym found) asks (ap (λ h. seen h life) read) tt (memory-loses held nothing_written one (grown held nothing_written one goes nested certs_nested) (fault e) memory) (memory-usual (fault e) memory)
+  pub absent-promise : (epochs : Epochs) (inner : List ℕ → List ℕ) → IsPartition epochs → (buffer : List Block) (f : Finalization) (before : Held) → CachesReport f before held → (told : Option (List Report)) (heard heard' : Option (List Call)) (result : Result T C) → IfErr result (λ e. fault e ≡ want_of_memory) → IsNested before.blocks → IsNested before.certs → AreCached before → None ≡ found_at_hand inner buffer held.cache.kept.held held.blocks.held f.payload → HearsUpTo heard (want_asks held.cutoff f.round f.payload) heard' result → KeepsPromise (message_told None (report_finalization f) ∷ []) epochs inner (seen before life) buffer (heard_by told heard) (heard_by told heard') (outcome fault (seen one life) result)
+  absent-promise epochs inner partition buffer f before caches told heard heard' (Ok x) memory nested certs_nested cached found asks =
+      promise-absent epochs inner partition (seen before life) buffer f held cached caches.caches told heard heard' (seen one life) (Ok (seen one life)) nested certs_nested (sym found) asks (ap (λ h. seen h life) read) refl (report_grown f before held caches nothing_written one goes) tt
+  absent-promise epochs inner partition buffer f before caches told heard heard' (Err e) memory nested certs_nested cached found asks =
+      promise-absent epochs inner partition (seen before life) buffer f held cached caches.caches told heard heard' (seen one life) (Err (ended_on (fault e) one)) nested certs_nested (sym found) asks (ap (λ h. seen h life) read) tt (memory-loses before (written_entry (finalization_entry f)) one (report_grown f before held caches nothing_written one goes) (fault e) memory) (memory-usual (fault e) memory)
 
   pub absent-lives : (result : Result T C) → IfErr result (λ e. fault e ≡ want_of_memory) → IsNested held.blocks → IsNested held.certs → LivesOn (seen held life) (outcome fault (seen one life) result)
   absent-lives (Ok x) memory nested certs_nested = LivesOn-read (seen held life) (seen one life) (Ok (seen one life)) (ap (λ h. seen h life) read) refl (grown held nothing_written one goes nested certs_nested) tt
@@ -96,24 +137,28 @@ limit-ends a height nested certs_nested = EndsLife-other a (ended_on (height_lim
 -- A BLOCK AT OR BELOW THE PROCESSED HEIGHT
 
 -- its round was noted, and then its finalization was stored where it was missing
-module _ {P E : Type 0} (held one : Held) (life : Remembered P E) (f : Finalization) (b : Block) (noted : one ≡ record held { cutoff = greatest_of held.cutoff (at_round f.round ∷ []); witnessed = later_round held.witnessed (Some f.round); pairs = noted_pair held f.round ∷ []; watches = one.watches }) where
+module _ {P E : Type 0} (held one : Held) (life : Remembered P E) (f : Finalization) (b : Block) (noted : one ≡ record (with_cache_of one held) { cutoff = greatest_of held.cutoff (at_round f.round ∷ []); witnessed = later_round held.witnessed (Some f.round); pairs = noted_pair held f.round ∷ [] }) (pruned : PrunesCacheBy (pruned_by life.sizes.retention held.witnessed (f.round ∷ [])) held one) where
   abbrev raised : Seen P E
-  raised = seen (record held { cutoff = greatest_of held.cutoff (at_round f.round ∷ []); witnessed = later_round held.witnessed (Some f.round) }) life
+  raised = seen (record (with_cache_of one held) { cutoff = greatest_of held.cutoff (at_round f.round ∷ []); witnessed = later_round held.witnessed (Some f.round) }) life
+
+  raises : RaisesTo (seen held life) (at_round f.round ∷ []) (f.round ∷ []) raised
+  raises = record { prunes = record { prunes = pruned.prunes; loaded = pruned.loaded; lowest = pruned.lowest; own_lowest = pruned.own_lowest }; same = refl }
 
   synced : ◌≡◌ {A = Seen P E} (seen one life) (record raised { held = record raised.held { pairs = noted_pair held f.round ∷ []; watches = one.watches } })
   synced = ap (λ h. seen h life) noted
 
   part : ArePassed held.watches one.watches → IsPart (seen held life) (seen one life)
-  part passed = IsPart-then (seen held life) raised (seen one life) (IsPart-raised (seen held life) raised (at_round f.round ∷ []) (later_round held.witnessed (Some f.round)) (record { same = refl }) (ArePassed-refl held.watches)) (IsPart-synced raised (seen one life) (noted_pair held f.round ∷ []) synced passed)
+  part passed = IsPart-then (seen held life) raised (seen one life) (IsPart-raised (seen held life) raised (at_round f.round ∷ []) (f.round ∷ []) raises passed) (IsPart-synced raised (seen one life) (noted_pair held f.round ∷ []) synced (ArePassed-refl one.watches))
 
   module _ {T C : Type 0} (fault : C → Fault) (result : Result T C) (now : Seen P E) (inner : List ℕ → List ℕ) (stores : OnOk result (StoresLate inner (seen one life) f b now)) (goes : GoesOn fault one (written_cert (at_height b.height f)) now.held result) where
     went : IsNested held.blocks → IsNested held.certs → MatchResult (outcome fault now result) (λ m. Grew one (written_cert (at_height b.height f)) m.held) (Loses one (written_cert (at_height b.height f)))
     went nested certs_nested = outcome-both fault result now (λ m. Grew one (written_cert (at_height b.height f)) m.held) (Loses one (written_cert (at_height b.height f)))
         (goes one (written_cert (at_height b.height f)) (Grew-refl one (written_cert (at_height b.height f)) (subst IsNested (sym (ap (λ h. h.blocks) noted)) nested) (subst IsNested (sym (ap (λ h. h.certs) noted)) certs_nested)) (WithinWritten-refl (written_cert (at_height b.height f))))
 
-    pub noted-promise : (epochs : Epochs) → IsPartition epochs → (buffer : List Block) → found_at_hand inner buffer held.cache.kept.held held.blocks.held f.payload ≡ Some b → nat_lt (height_of held.processed) b.height ≡ false → (told told' : Option (List Report)) (heard heard' : Option (List Call)) → OnOk result (Hears told (late_tips (lacks_finalization one b) life.tip f b) told') → OnErr result (Hears told [] told') → IfErr result (λ e. IsArchiveFault (fault e)) → Hears heard (raise_asks held.cutoff (at_round f.round ∷ [])) heard' → IsNested held.blocks → IsNested held.certs → KeepsPromise (message_told None (report_finalization f) ∷ []) epochs inner (seen held life) buffer (heard_by told heard) (heard_by told' heard') (outcome fault now result)
-    noted-promise epochs partition buffer found low told told' heard heard' tips silent archive asks nested certs_nested =
-        promise-noted epochs inner partition (seen held life) buffer f b found low raised (seen one life) (record { same = refl }) synced told told' heard heard' (outcome fault now result) nested certs_nested (outcome-on_ok fault result now _ tips) (outcome-on_err fault result now _ silent) (outcome-ok fault result now (λ m. StoresLate inner (seen one life) f b m) stores) (went nested certs_nested) (outcome-err fault result now (λ x. IsArchiveFault x.fault) archive) asks
+    pub noted-promise : (epochs : Epochs) → IsPartition epochs → (buffer : List Block) (before : Held) → CachesReport f before held → found_at_hand inner buffer held.cache.kept.held held.blocks.held f.payload ≡ Some b → nat_lt (height_of held.processed) b.height ≡ false → (told told' : Option (List Report)) (heard heard' : Option (List Call)) → OnOk result (Hears told (late_tips (lacks_finalization one b) life.tip f b) told') → OnErr result (Hears told [] told') → IfErr result (λ e. IsArchiveFault (fault e)) → Hears heard (raise_asks held.cutoff (at_round f.round ∷ [])) heard' → IsNested before.blocks → IsNested before.certs → AreCached before → KeepsPromise (message_told None (report_finalization f) ∷ []) epochs inner (seen before life) buffer (heard_by told heard) (heard_by told' heard') (outcome fault now result)
+    noted-promise epochs partition buffer before caches found low told told' heard heard' tips silent archive asks nested certs_nested cached =
+        promise-noted epochs inner partition (seen before life) buffer f held cached caches.caches b found low raised (seen one life) raises synced told told' heard heard' (outcome fault now result) nested certs_nested (outcome-on_ok fault result now _ tips) (outcome-on_err fault result now _ silent) (outcome-ok fault result now (λ m. StoresLate inner (seen one life) f b m) stores)
+        (went (subst (λ h. IsNested h.blocks) (sym caches.caches.same) nested) (subst (λ h. IsNested h.certs) (sym caches.caches.same) certs_nested)) (outcome-err fault result now (λ x. IsArchiveFault x.fault) archive) asks
 
     pub noted-lives : ArePassed held.watches one.watches → IfErr result (λ e. IsUsual (fault e)) → IsNested held.blocks → IsNested held.certs → LivesOn (seen held life) (outcome fault now result)
     noted-lives passed usual nested certs_nested =

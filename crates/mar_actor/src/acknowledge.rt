@@ -5,8 +5,8 @@ ghost use Rattle.mar_store.specs.Changes.{IsNested};
 ghost use Rattle.mar_cert.specs.Block.{Block};
 ghost use Rattle.mar_node.specs.Event.{ack_given};
 ghost use Rattle.mar_node.specs.Promise.{KeepsPromise, heard_by};
-ghost use Rattle.mar_node.specs.Held.{GoesOn, IsUsual, ended_on, nothing_written, outcome, seen};
-ghost use Rattle.mar_node.specs.Moves.{Drains, DrainsNext, EndsDropped, EndsOldest, HearsUpTo, LivesOn};
+ghost use Rattle.mar_node.specs.Held.{AreCached, GoesOn, IsUsual, ended_on, outcome, seen, written_prunes};
+ghost use Rattle.mar_node.specs.Moves.{Drains, DrainsNext, EndsDropped, EndsOldest, HearsUpTo, LivesOn, processed_prunes};
 ghost use Rattle.mar_node.specs.Requests.{retire_asks};
 ghost use Rattle.mar_node.specs.Views.{fault_of};
 ghost use Rattle.mar_actor.specs.Due.{EndsWhereDue, dropping_due};
@@ -38,7 +38,8 @@ where
     R: Resolver<V::Commitment>,
     A: Reporter<V>,
     requires intact { (S.held stores.old).intact ≡ true }
-    ensures promise { IsNested (S.held stores.old).blocks → IsNested (S.held stores.old).certs → (buffer : List Block)
+    ensures promise { IsNested (S.held stores.old).blocks → IsNested (S.held stores.old).certs → AreCached (S.held stores.old)
+        → (buffer : List Block)
         → KeepsPromise (ack_given ticket ∷ []) (E.epochs life.old.epocher) V.inner (seen (S.held stores.old) life.old) buffer
         (heard_by (A.told application.old) (R.told resolver.old)) (heard_by (A.told application.new) (R.told resolver.new))
         (outcome (fault_of V.Commitment.bytes) (seen (S.held stores.new) life.new) result) }
@@ -79,7 +80,8 @@ where
     ensures ok { IfOk result (λ r. Drains (E.epochs life.old.epocher) (seen (S.held stores.old) life.old) r (seen (S.held stores.new) life.new)) }
     ensures asks { HearsUpTo (R.told resolver.old) (retire_asks (E.epochs life.old.epocher) (S.held stores.old).certs.held (S.held stores.old).cutoff
         (given_front life.old.out)) (R.told resolver.new) result }
-    ensures goes_on { GoesOn (fault_of V.Commitment.bytes) (S.held stores.old) nothing_written (S.held stores.new) result }
+    ensures goes_on { GoesOn (fault_of V.Commitment.bytes) (S.held stores.old)
+        (written_prunes (processed_prunes (seen (S.held stores.old) life.old) (given_front life.old.out))) (S.held stores.new) result }
     ensures kind { IfErr result (λ e. IsUsual (fault_of V.Commitment.bytes e)
         ⊎ EndsDropped (seen (S.held stores.old) life.old) (ended_on (fault_of V.Commitment.bytes e) (S.held stores.new))) }
 {
@@ -107,7 +109,8 @@ where
     ensures ok { IfOk result (λ r. DrainsNext (E.epochs life.old.epocher) (seen (S.held stores.old) life.old) r (seen (S.held stores.new) life.new)) }
     ensures asks { HearsUpTo (R.told resolver.old) (retire_asks (E.epochs life.old.epocher) (S.held stores.old).certs.held (S.held stores.old).cutoff
         (option_to_list (given_oldest life.old.out))) (R.told resolver.new) result }
-    ensures goes_on { GoesOn (fault_of V.Commitment.bytes) (S.held stores.old) nothing_written (S.held stores.new) result }
+    ensures goes_on { GoesOn (fault_of V.Commitment.bytes) (S.held stores.old)
+        (written_prunes (processed_prunes (seen (S.held stores.old) life.old) (option_to_list (given_oldest life.old.out)))) (S.held stores.new) result }
     ensures kind { IfErr result (λ e. IsUsual (fault_of V.Commitment.bytes e)
         ⊎ EndsOldest (seen (S.held stores.old) life.old) (ended_on (fault_of V.Commitment.bytes e) (S.held stores.new))) }
 {
@@ -116,6 +119,6 @@ where
         Oldest::Unresolved => return Ok(false),
         Oldest::Dropped(ack) => return Err(Fault::AckDropped(ack.height)),
     };
-    process::<V, S, E, R>(stores, &life.epocher, height, resolver)?;
+    process::<V, S, E, R>(stores, &life.epocher, height, life.retention(), resolver)?;
     Ok(true)
 }

@@ -52,4 +52,11 @@ impl<P, E> Life<P, E> {
             tip: Height::zero(),
         }
     }
+
+    /// How many views below the last witnessed round the cache keeps.
+    pub(crate) fn retention(&self) -> u64
+        ensures { result ≡ self.now.sizes.retention }
+    {
+        self.limits.view_retention.get()
+    }
 }

@@ -6,8 +6,8 @@ ghost use Rattle.mar_store.specs.Changes.{IsNested};
 ghost use Rattle.mar_block.specs.Sent.{Sends};
 ghost use Rattle.mar_node.specs.Acks.{is_unmarked};
 ghost use Rattle.mar_node.specs.Event.{sync_finished};
-ghost use Rattle.mar_node.specs.Held.{ArePassed, AreWritten, IsEndedBy, outcome, remains_of, seen, with_armed};
-ghost use Rattle.mar_node.specs.Moves.{LivesOn, RunsOut};
+ghost use Rattle.mar_node.specs.Held.{AreCached, ArePassed, AreWritten, IsEndedBy, outcome, remains_of, seen, with_armed};
+ghost use Rattle.mar_node.specs.Moves.{FindsInCache, KeepsTakenUp, LivesOn, RunsOut};
 ghost use Rattle.mar_inbox.specs.Answers.{told};
 ghost use Rattle.mar_inbox.specs.Views.{sent_by, value_of};
 ghost use Rattle.mar_node.specs.Promise.{IsSmallEvent, KeepsPromise, heard_with};
@@ -101,8 +101,10 @@ impl<V: Variant, S: Holds<V>, P: Drop, E: Epocher> Node<V, S, P, E> {
         ensures cause { IfErr result (λ e. IsEndedBy self.held.watches e) }
         ensures idle { (t : ℕ) → event_of V.Digest.bytes V.plain S.Finalization.plain event ≡ sync_finished t
             → is_open_sync self.held.writes.syncs t ≡ false → result ≡ Ok self }
-        ensures by_value { EndsWhereDue (due_fault V.inner self (B.blocks buffer.old) (event_of V.Digest.bytes V.plain S.Finalization.plain event)) result }
-        ensures tells { TellsInOrder (A.told application.old)
+        ensures by_value { FindsInCache (event_of V.Digest.bytes V.plain S.Finalization.plain event) self
+            → EndsWhereDue (due_fault V.inner self (B.blocks buffer.old) (event_of V.Digest.bytes V.plain S.Finalization.plain event)) result }
+        ensures tells { FindsInCache (event_of V.Digest.bytes V.plain S.Finalization.plain event) self
+            → TellsInOrder (A.told application.old)
             (tips_of V.inner self (B.blocks buffer.old) (event_of V.Digest.bytes V.plain S.Finalization.plain event))
             (A.told application.new) result }
         ensures tickets { IfOk result (λ n. n.life.next_ack ≤ self.life.next_ack + self.life.sizes.window) }
@@ -110,6 +112,7 @@ impl<V: Variant, S: Holds<V>, P: Drop, E: Epocher> Node<V, S, P, E> {
         ensures runs_out { IfErr result (RunsOut self) }
         ensures same_life { IfOk result (λ n. (n.life.provider ≡ self.life.provider) × (n.life.epocher ≡ self.life.epocher)
             × (n.life.sizes ≡ self.life.sizes)) }
+        ensures loaded { IfOk result (KeepsTakenUp (event_of V.Digest.bytes V.plain S.Finalization.plain event) self) }
     {
         self.law();
         let Node {
@@ -141,6 +144,7 @@ impl<V: Variant, S: Holds<V>, P: Drop, E: Epocher> Node<V, S, P, E> {
         ensures small { AreSmall (map (λ x. x.value) self.now.held.blocks.held) }
         ensures small_cached { AreSmallEntries self.now.held.cache.kept.held }
         ensures written { AreWritten self.now.held }
+        ensures cached { AreCached self.now.held }
     {
         self.stores.law();
     }
@@ -210,6 +214,7 @@ where
     requires small { AreSmall (map (λ x. x.value) (S.held stores.old).blocks.held) }
     requires small_cached { AreSmallEntries (S.held stores.old).cache.kept.held }
     requires ordered { IsOrdered (S.held stores.old).writes }
+    requires cached { AreCached (S.held stores.old) }
     requires small_event { IsSmallEvent (event_of V.Digest.bytes V.plain S.Finalization.plain event) }
     requires small_buffer { AreSmall (B.blocks buffer.old) }
     ensures promise { KeepsPromise (event_of V.Digest.bytes V.plain S.Finalization.plain event ∷ []) (E.epochs life.old.epocher) V.inner
@@ -231,9 +236,13 @@ where
     ensures lives { LivesOn (seen (S.held stores.old) life.old) (outcome (fault_of V.Commitment.bytes) (seen (S.held stores.new) life.new) result) }
     ensures idle { (t : ℕ) → event_of V.Digest.bytes V.plain S.Finalization.plain event ≡ sync_finished t
         → is_open_sync (S.held stores.old).writes.syncs t ≡ false → (result ≡ Ok tt) × (S.held stores.new ≡ S.held stores.old) × (life.new ≡ life.old) }
-    ensures by_value { EndsWhereDue (due_fault V.inner (seen (S.held stores.old) life.old) (B.blocks buffer.old)
+    ensures loaded { OnOk result (KeepsTakenUp (event_of V.Digest.bytes V.plain S.Finalization.plain event) (seen (S.held stores.old) life.old)
+        (seen (S.held stores.new) life.new)) }
+    ensures by_value { FindsInCache (event_of V.Digest.bytes V.plain S.Finalization.plain event) (seen (S.held stores.old) life.old)
+        → EndsWhereDue (due_fault V.inner (seen (S.held stores.old) life.old) (B.blocks buffer.old)
         (event_of V.Digest.bytes V.plain S.Finalization.plain event)) (outcome (fault_of V.Commitment.bytes) (seen (S.held stores.new) life.new) result) }
-    ensures tells { TellsInOrder (A.told application.old) (tips_of V.inner (seen (S.held stores.old) life.old) (B.blocks buffer.old)
+    ensures tells { FindsInCache (event_of V.Digest.bytes V.plain S.Finalization.plain event) (seen (S.held stores.old) life.old)
+        → TellsInOrder (A.told application.old) (tips_of V.inner (seen (S.held stores.old) life.old) (B.blocks buffer.old)
         (event_of V.Digest.bytes V.plain S.Finalization.plain event)) (A.told application.new)
         (outcome (fault_of V.Commitment.bytes) (seen (S.held stores.new) life.new) result) }
 {

@@ -13,9 +13,9 @@ ghost use Rattle.mar_node.specs.Stored.{AreSmall, at_own_height};
 ghost use Rattle.mar_node.specs.Event.{message_told};
 ghost use Rattle.mar_node.specs.Promise.{KeepsPromise, heard_by};
 ghost use Rattle.mar_node.specs.Faults.{want_of_memory};
-ghost use Rattle.mar_node.specs.Held.{GoesOn, IsArchiveFault, IsUsual, outcome, seen, written_both, written_cert};
+ghost use Rattle.mar_node.specs.Held.{AreCached, GoesOn, Held, IsArchiveFault, IsUsual, outcome, seen, written_both, written_cert};
 ghost use Rattle.mar_node.specs.Views.{fault_of};
-ghost use Rattle.mar_node.specs.Moves.{LivesOn, PutsAbove, StoresLate, at_height, found_at_hand, lacks_finalization, late_tips, risen_to, tip_reports, tips_above};
+ghost use Rattle.mar_node.specs.Moves.{CachesReport, LivesOn, PutsAbove, StoresLate, at_height, found_at_hand, lacks_finalization, late_tips, risen_to, tip_reports, tips_above};
 ghost use Rattle.mar_node.specs.Writing.{IsOrdered};
 ghost use Rattle.mar_actor.specs.Due.{EndsWhereDue, storing_due};
 ghost use Rattle.mar_actor.specs.Told.{TellsInOrder, finalized_tips};
@@ -30,9 +30,50 @@ use mar_node::{Fault, Holds};
 use mar_rules::{is_above, note_round, put, put_late, request};
 use mar_types::{Epocher, Height, Round};
 
-/// Stores a finalized block that is at hand, above the processed height, and starts a sync that covers it. At or below that
-/// height the round is witnessed. Where the block isn't at hand it is requested.
+/// Caches a reported finalization before anything else. Its block is stored where it is at hand above the processed height, and a
+/// sync started that covers it; at or below that height the round is witnessed. Where the block isn't at hand it is requested.
 pub(crate) fn report_finalization<V, S, P, E, B, R, A>(
+    stores: &mut S,
+    life: &mut Life<P, E>,
+    finalization: &S::Finalization,
+    buffer: &B,
+    resolver: &mut R,
+    application: &mut A,
+) -> Result<(), Fault<V::Commitment>>
+where
+    V: Variant,
+    S: Holds<V>,
+    E: Epocher,
+    B: Buffer<V>,
+    R: Resolver<V::Commitment>,
+    A: Reporter<V>,
+    requires intact { (S.held stores.old).intact ≡ true }
+    requires small { IsSmall (finalization_bytes (S.Finalization.plain finalization.now)) }
+    requires small_buffer { AreSmall (B.blocks buffer.now) }
+    requires small_held { AreSmall (map (λ x. x.value) (S.held stores.old).blocks.held) }
+    requires ordered { IsOrdered (S.held stores.old).writes }
+    ensures promise { IsNested (S.held stores.old).blocks → IsNested (S.held stores.old).certs → AreCached (S.held stores.old)
+        → KeepsPromise (message_told None (report_finalization (S.Finalization.plain finalization.now)) ∷ []) (E.epochs life.old.epocher) V.inner
+        (seen (S.held stores.old) life.old) (B.blocks buffer.now)
+        (heard_by (A.told application.old) (R.told resolver.old)) (heard_by (A.told application.new) (R.told resolver.new))
+        (outcome (fault_of V.Commitment.bytes) (seen (S.held stores.new) life.new) result) }
+    ensures lives { IsNested (S.held stores.old).blocks → IsNested (S.held stores.old).certs
+        → LivesOn (seen (S.held stores.old) life.old) (outcome (fault_of V.Commitment.bytes) (seen (S.held stores.new) life.new) result) }
+    ensures by_value { (S.held stores.old).cache.loaded ≡ true → EndsWhereDue (storing_due (S.held stores.old) (found_at_hand V.inner
+        (B.blocks buffer.now) (S.held stores.old).cache.kept.held (S.held stores.old).blocks.held (S.Finalization.plain finalization.now).payload))
+        (outcome (fault_of V.Commitment.bytes) (seen (S.held stores.new) life.new) result) }
+    ensures tells { (S.held stores.old).cache.loaded ≡ true → TellsInOrder (A.told application.old) (finalized_tips (seen (S.held stores.old) life.old)
+        (S.Finalization.plain finalization.now) (found_at_hand V.inner (B.blocks buffer.now) (S.held stores.old).cache.kept.held
+        (S.held stores.old).blocks.held (S.Finalization.plain finalization.now).payload))
+        (A.told application.new) (outcome (fault_of V.Commitment.bytes) (seen (S.held stores.new) life.new) result) }
+{
+    stores.cache_finalization(finalization)?;
+    stores.law();
+    take_cached::<V, S, P, E, B, R, A>(stores, life, finalization, buffer, resolver, application)
+}
+
+/// Takes a finalization that was cached: stores its block, or takes note of it, or requests it.
+fn take_cached<V, S, P, E, B, R, A>(
     stores: &mut S,
     life: &mut Life<P, E>,
     finalization: &S::Finalization,
@@ -53,9 +94,10 @@ where
     requires small_cached { AreSmallEntries (S.held stores.old).cache.kept.held }
     requires small_held { AreSmall (map (λ x. x.value) (S.held stores.old).blocks.held) }
     requires ordered { IsOrdered (S.held stores.old).writes }
-    ensures promise { IsNested (S.held stores.old).blocks → IsNested (S.held stores.old).certs
+    ensures promise { (before : Held) → CachesReport (S.Finalization.plain finalization.now) before (S.held stores.old)
+        → IsNested before.blocks → IsNested before.certs → AreCached before
         → KeepsPromise (message_told None (report_finalization (S.Finalization.plain finalization.now)) ∷ []) (E.epochs life.old.epocher) V.inner
-        (seen (S.held stores.old) life.old) (B.blocks buffer.now)
+        (seen before life.old) (B.blocks buffer.now)
         (heard_by (A.told application.old) (R.told resolver.old)) (heard_by (A.told application.new) (R.told resolver.new))
         (outcome (fault_of V.Commitment.bytes) (seen (S.held stores.new) life.new) result) }
     ensures lives { IsNested (S.held stores.old).blocks → IsNested (S.held stores.old).certs
@@ -98,12 +140,13 @@ where
     requires small { IsSmall (finalization_bytes (S.Finalization.plain finalization.now)) }
     requires small_block { IsSmall (V.plain block).encoded }
     requires ordered { IsOrdered (S.held stores.old).writes }
-    ensures promise { (heard : Option (List Call)) → IsNested (S.held stores.old).blocks → IsNested (S.held stores.old).certs → (buffer : List Block)
+    ensures promise { (before : Held) → CachesReport (S.Finalization.plain finalization.now) before (S.held stores.old)
+        → (heard : Option (List Call)) → IsNested before.blocks → IsNested before.certs → AreCached before → (buffer : List Block)
         → found_at_hand V.inner buffer (S.held stores.old).cache.kept.held (S.held stores.old).blocks.held
         (S.Finalization.plain finalization.now).payload ≡ Some (V.plain block)
         → nat_lt (height_of (S.held stores.old).processed) (V.plain block).height ≡ true
         → KeepsPromise (message_told None (report_finalization (S.Finalization.plain finalization.now)) ∷ []) (E.epochs life.old.epocher) V.inner
-        (seen (S.held stores.old) life.old) buffer
+        (seen before life.old) buffer
         (heard_by (A.told application.old) heard) (heard_by (A.told application.new) heard)
         (outcome (fault_of V.Commitment.bytes) (seen (S.held stores.new) life.new) result) }
     ensures lives { IsNested (S.held stores.old).blocks → IsNested (S.held stores.old).certs
@@ -193,12 +236,13 @@ where
     A: Reporter<V>,
     requires intact { (S.held stores.old).intact ≡ true }
     requires small { IsSmall (finalization_bytes (S.Finalization.plain finalization.now)) }
-    ensures promise { IsNested (S.held stores.old).blocks → IsNested (S.held stores.old).certs → (buffer : List Block)
+    ensures promise { (before : Held) → CachesReport (S.Finalization.plain finalization.now) before (S.held stores.old)
+        → IsNested before.blocks → IsNested before.certs → AreCached before → (buffer : List Block)
         → found_at_hand V.inner buffer (S.held stores.old).cache.kept.held (S.held stores.old).blocks.held
         (S.Finalization.plain finalization.now).payload ≡ Some (V.plain block.now)
         → nat_lt (height_of (S.held stores.old).processed) (V.plain block.now).height ≡ false
         → KeepsPromise (message_told None (report_finalization (S.Finalization.plain finalization.now)) ∷ []) (E.epochs life.old.epocher) V.inner
-        (seen (S.held stores.old) life.old) buffer
+        (seen before life.old) buffer
         (heard_by (A.told application.old) (R.told resolver.old)) (heard_by (A.told application.new) (R.told resolver.new))
         (outcome (fault_of V.Commitment.bytes) (seen (S.held stores.new) life.new) result) }
     ensures lives { IsNested (S.held stores.old).blocks → IsNested (S.held stores.old).certs
@@ -208,7 +252,7 @@ where
         (S.Finalization.plain finalization.now) (V.plain block.now)) (A.told application.new)
         (outcome (fault_of V.Commitment.bytes) (seen (S.held stores.new) life.new) result) }
 {
-    note_round::<V, S, R>(stores, finalization.round(), resolver)?;
+    note_round::<V, S, R>(stores, finalization.round(), life.retention(), resolver)?;
     store_late::<V, S, P, E, A>(stores, life, finalization, block, application)
 }
 

@@ -47,7 +47,7 @@ pub struct Config<P, E, B, C> {
     pub start: Start<B>,
     /// How many messages wait in order; at least 1. No message waits yet: each is a step of its own.
     pub mailbox_size: usize,
-    /// How many views below the last witnessed round the cache keeps. There is no cache yet.
+    /// How many views below the round that was witnessed last the cache keeps as a newer one is.
     pub view_retention: ViewDelta,
     /// How the bytes of a block are read. No bytes come from peers yet.
     pub block_codec_config: C,

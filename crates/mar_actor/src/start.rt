@@ -5,7 +5,7 @@ ghost use Rattle.mar_key.specs.Hears.{Hears};
 ghost use Rattle.mar_key.specs.Keys.{Call};
 ghost use Rattle.mar_store.specs.Changes.{IsNested};
 ghost use Rattle.mar_node.specs.Event.{life_started};
-ghost use Rattle.mar_node.specs.Held.{GoesOn, IsUsual, nothing_written, outcome, seen};
+ghost use Rattle.mar_node.specs.Held.{AreCached, GoesOn, IsUsual, nothing_written, outcome, seen};
 ghost use Rattle.mar_node.specs.Moves.{IsRead, LivesOn, newest_tips, with_newest};
 ghost use Rattle.mar_node.specs.Stored.{newest};
 ghost use Rattle.mar_node.specs.Promise.{KeepsPromise, heard_by};
@@ -34,12 +34,14 @@ where
     E: Epocher,
     A: Reporter<V>,
     requires intact { (S.held stores.old).intact ≡ true }
-    ensures promise { IsNested (S.held stores.old).blocks → IsNested (S.held stores.old).certs → (heard : Option (List Call)) (buffer : List Block)
+    ensures promise { IsNested (S.held stores.old).blocks → IsNested (S.held stores.old).certs → AreCached (S.held stores.old)
+        → (heard : Option (List Call)) (buffer : List Block)
         → KeepsPromise (life_started None ∷ []) (E.epochs life.old.epocher) V.inner (seen (S.held stores.old) life.old) buffer
         (heard_by (A.told application.old) heard) (heard_by (A.told application.new) heard)
         (outcome (fault_of V.Commitment.bytes) (seen (S.held stores.new) life.new) result) }
     ensures lives { IsNested (S.held stores.old).blocks → IsNested (S.held stores.old).certs
         → LivesOn (seen (S.held stores.old) life.old) (outcome (fault_of V.Commitment.bytes) (seen (S.held stores.new) life.new) result) }
+    ensures loaded { OnOk result ((S.held stores.new).cache.loaded ≡ true) }
     ensures by_value { EndsWhereDue None (outcome (fault_of V.Commitment.bytes) (seen (S.held stores.new) life.new) result) }
     ensures tells { TellsInOrder (A.told application.old) (newest_tips V.inner life.old.tip (newest (S.held stores.old).certs.held))
         (A.told application.new) (outcome (fault_of V.Commitment.bytes) (seen (S.held stores.new) life.new) result) }

@@ -4,7 +4,7 @@ ghost use Rattle.mar_cert.specs.Block.{Block};
 ghost use Rattle.mar_key.specs.Keys.{Call};
 ghost use Rattle.mar_store.specs.Changes.{IsNested};
 ghost use Rattle.mar_node.specs.Event.{sync_finished};
-ghost use Rattle.mar_node.specs.Held.{outcome, seen};
+ghost use Rattle.mar_node.specs.Held.{AreCached, outcome, seen};
 ghost use Rattle.mar_node.specs.Moves.{LivesOn};
 ghost use Rattle.mar_node.specs.Promise.{KeepsPromise, heard_by};
 ghost use Rattle.mar_node.specs.Writing.{is_open_sync};
@@ -34,7 +34,8 @@ where
     E: Epocher,
     A: Reporter<V>,
     requires intact { (S.held stores.old).intact ≡ true }
-    ensures promise { IsNested (S.held stores.old).blocks → IsNested (S.held stores.old).certs → (heard : Option (List Call)) (buffer : List Block)
+    ensures promise { IsNested (S.held stores.old).blocks → IsNested (S.held stores.old).certs → AreCached (S.held stores.old)
+        → (heard : Option (List Call)) (buffer : List Block)
         → KeepsPromise (sync_finished ticket ∷ []) (E.epochs life.old.epocher) V.inner (seen (S.held stores.old) life.old) buffer
         (heard_by (A.told application.old) heard) (heard_by (A.told application.new) heard)
         (outcome (fault_of V.Commitment.bytes) (seen (S.held stores.new) life.new) result) }

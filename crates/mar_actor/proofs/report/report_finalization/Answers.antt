@@ -1,76 +1,57 @@
-use Rattle.std.proofs.Common.{subst, sym, ◌∙◌}
+use Rattle.std.proofs.Common.{ap, map, refl, subst, sym, ◌∙◌}
 use Rattle.std.proofs.lemmas.Result.{err_from_is_err_and}
-use Rattle.mar_node.specs.Held.{nothing_written, outcome, seen}
-use Rattle.mar_node.proofs.EventPromises.{promise-unread}
-use Rattle.mar_node.proofs.FoundBlocks.{found_small}
-use Rattle.mar_node.proofs.Handing.{Hears-nothing}
-use Rattle.mar_node.proofs.Lasting.{EndsLife-usual, LivesOn-then}
+use Rattle.mar_store.specs.Changes.{IsNested}
+use Rattle.mar_node.specs.Held.{outcome, seen}
+use Rattle.mar_node.specs.Moves.{CachesReport}
+use Rattle.mar_node.specs.Stored.{AreSmall}
 use Rattle.mar_node.specs.Views.{fault_of}
-use Rattle.mar_actor.specs.Due.{EndsWhereDue, storing_due}
+use Rattle.mar_node.specs.Writing.{IsOrdered}
+use Rattle.mar_node.proofs.EventPromises.{promise-unread}
+use Rattle.mar_node.proofs.Growing.{Grew-refl}
+use Rattle.mar_node.proofs.Handing.{Hears-nothing}
+use Rattle.mar_node.proofs.Lasting.{EndsLife-usual, IsPart-cached, LivesOn-then}
+use Rattle.mar_actor.specs.Due.{EndsWhereDue}
+use Rattle.mar_actor.specs.Told.{TellsInOrder}
 use Rattle.mar_actor.proofs.Due.{usual-due}
-use Rattle.mar_actor.proofs.Reported.{above-tells, absent-due, absent-lives, absent-promise, absent-tells, grown, lost, low-due, low-tells, read-part}
+use Rattle.mar_actor.proofs.Reported.{cached-due, cached-tips, lost}
 use Rattle.mar_actor.proofs.Told.{TellsInOrder-ended}
 use Rattle.mar_actor.proofs.report.report_finalization.Goals as goal
 
-pub returns-in_err-block_at_hand : goal.returns-in_err-block_at_hand
-returns-in_err-block_at_hand g c =
+pub returns-in_err-cache_finalization : goal.returns-in_err-cache_finalization
+returns-in_err-cache_finalization g c =
     let p = err_from_is_err_and c.from_residual.result c.from_residual.ensures.1 in
     let a = seen (g.S.HoldsCache.held c.args.stores.now) c.args.life.now in
+    let f = g.S.Finalization.AsFinalization.plain c.args.finalization.now in
     rw (p.1, p.2) (record {
-      promise = λ nested certs_nested. promise-unread (g.E.Epocher.epochs c.args.life.now.epocher) g.V.Variant.inner (g.met.E.Epocher.partition c.args.life.now.epocher) a _ _ _ _ _ (lost _ _ _ c.in_err-block_at_hand.ensures.goes_on nested certs_nested) c.in_err-block_at_hand.ensures.usual;
-      lives = λ nested certs_nested. EndsLife-usual a _ (lost _ nothing_written _ c.in_err-block_at_hand.ensures.goes_on nested certs_nested).cause c.in_err-block_at_hand.ensures.usual;
-      by_value = usual-due _ _ c.in_err-block_at_hand.ensures.usual;
-      tells = TellsInOrder-ended _ _ _ (Hears-nothing _);
+      promise = λ nested certs_nested cached. promise-unread (g.E.Epocher.epochs c.args.life.now.epocher) g.V.Variant.inner (g.met.E.Epocher.partition c.args.life.now.epocher) a (g.B.Buffer.blocks c.args.buffer.now) f _ _ _ (lost _ _ _ c.in_err-cache_finalization.ensures.goes_on nested certs_nested) c.in_err-cache_finalization.ensures.usual;
+      lives = λ nested certs_nested. EndsLife-usual a _ (lost _ _ _ c.in_err-cache_finalization.ensures.goes_on nested certs_nested).cause c.in_err-cache_finalization.ensures.usual;
+      by_value = λ loaded. usual-due _ _ c.in_err-cache_finalization.ensures.usual;
+      tells = λ loaded. TellsInOrder-ended _ _ _ (Hears-nothing _);
     })
 
-pub returns-in-None : goal.returns-in-None
-returns-in-None g c =
-    let held = g.S.HoldsCache.held c.args.stores.now in
-    let life = c.args.life.now in
-    let same = c.in_ok-block_at_hand.ensures.same in
-    let found = rw (c.in-None.is, c.payload.ensures) at c.in_ok-block_at_hand.ensures.found in
-    let fault = fault_of g.V.Commitment.Named.bytes in
-    let now = seen (g.S.HoldsCache.held c.block_at_hand.new.stores) life in
-    record {
-      promise = λ nested certs_nested. absent-promise fault held _ life same c.in_ok-block_at_hand.ensures.goes_on (g.E.Epocher.epochs life.epocher) g.V.Variant.inner (g.met.E.Epocher.partition life.epocher) _ _ _ _ _ c.request.result c.request.ensures.memory nested certs_nested found (rw same at c.request.ensures.asks);
-      lives = λ nested certs_nested. absent-lives fault held _ life same c.in_ok-block_at_hand.ensures.goes_on c.request.result c.request.ensures.memory nested certs_nested;
-      by_value = absent-due fault now _ found held c.request.result c.request.ensures.memory;
-      tells = absent-tells fault now _ found (seen held life) _ _ c.request.result;
-    }
+pub take_cached-requires-clause-intact : goal.take_cached-requires-clause-intact
+take_cached-requires-clause-intact g c = ap (λ h. h.intact) c.in_ok-cache_finalization.ensures.caches.same ∙ c.requires.intact
 
-pub store_above-requires-clause-small_block : goal.store_above-requires-clause-small_block
-store_above-requires-clause-small_block g c = found_small g.V.Variant.inner (g.B.Buffer.blocks c.args.buffer.now) (g.S.HoldsCache.held c.args.stores.now).cache.kept.held (g.S.HoldsCache.held c.args.stores.now).blocks.held (g.S.Finalization.AsFinalization.plain c.args.finalization.now).payload _ c.requires.small_buffer c.requires.small_cached c.requires.small_held (sym (rw (c.in-Some.is, c.payload.ensures) at c.in_ok-block_at_hand.ensures.found))
+pub take_cached-requires-clause-small_cached : goal.take_cached-requires-clause-small_cached
+take_cached-requires-clause-small_cached g c = c.law.ensures.small_cached (ap (λ h. h.intact) c.in_ok-cache_finalization.ensures.caches.same ∙ c.requires.intact)
 
-pub returns-then-is_above : goal.returns-then-is_above
-returns-then-is_above g c =
-    let held = g.S.HoldsCache.held c.args.stores.now in
-    let life = c.args.life.now in
-    let a = seen held life in
-    let same = c.in_ok-block_at_hand.ensures.same in
-    let found = rw (c.in-Some.is, c.payload.ensures) at c.in_ok-block_at_hand.ensures.found in
-    let above = rw same at (sym c.is_above.ensures ∙ c.if-is_above.true) in
-    let result = outcome (fault_of g.V.Commitment.Named.bytes) (seen (g.S.HoldsCache.held c.store_above.new.stores) c.store_above.new.life) c.store_above.result in
-    let promise = rw same at c.store_above.ensures.promise in
-    record {
-      promise = λ nested certs_nested. promise _ nested certs_nested _ (sym found) above;
-      lives = λ nested certs_nested. LivesOn-then a _ _ (read-part held _ life same (grown _ nothing_written _ c.in_ok-block_at_hand.ensures.goes_on nested certs_nested).passed) (c.store_above.ensures.lives (rw same nested) (rw same certs_nested));
-      by_value = subst (λ o. EndsWhereDue (storing_due held o) result) found (rw same at c.store_above.ensures.by_value above);
-      tells = above-tells a _ _ _ found _ _ result above c.store_above.ensures.tells;
-    }
+pub take_cached-requires-clause-small_held : goal.take_cached-requires-clause-small_held
+take_cached-requires-clause-small_held g c = subst (λ h. AreSmall (map (λ x. x.value) h.blocks.held)) (sym c.in_ok-cache_finalization.ensures.caches.same) c.requires.small_held
 
-pub returns-else-is_above : goal.returns-else-is_above
-returns-else-is_above g c =
-    let held = g.S.HoldsCache.held c.args.stores.now in
+pub take_cached-requires-clause-ordered : goal.take_cached-requires-clause-ordered
+take_cached-requires-clause-ordered g c = subst (λ h. IsOrdered h.writes) (sym c.in_ok-cache_finalization.ensures.caches.same) c.requires.ordered
+
+pub returns : goal.returns
+returns g c =
+    let before = g.S.HoldsCache.held c.args.stores.now in
     let life = c.args.life.now in
-    let a = seen held life in
-    let same = c.in_ok-block_at_hand.ensures.same in
-    let found = rw (c.in-Some.is, c.payload.ensures) at c.in_ok-block_at_hand.ensures.found in
-    let low = rw same at (sym c.is_above.ensures ∙ c.if-is_above.false) in
-    let result = outcome (fault_of g.V.Commitment.Named.bytes) (seen (g.S.HoldsCache.held c.note.new.stores) c.note.new.life) c.note.result in
-    let promise = rw same at c.note.ensures.promise in
+    let f = g.S.Finalization.AsFinalization.plain c.args.finalization.now in
+    let caches = c.in_ok-cache_finalization.ensures.caches in
+    let since : IsNested before.blocks → IsNested before.certs → CachesReport f before (g.S.HoldsCache.held c.cache_finalization.new.self) = λ nested certs_nested. record { caches = caches; grew = λ all within. c.in_ok-cache_finalization.ensures.goes_on before all (Grew-refl before all nested certs_nested) within } in
+    let result = outcome (fault_of g.V.Commitment.Named.bytes) (seen (g.S.HoldsCache.held c.take_cached.new.stores) c.take_cached.new.life) c.take_cached.result in
     record {
-      promise = λ nested certs_nested. promise nested certs_nested _ (sym found) low;
-      lives = λ nested certs_nested. LivesOn-then a _ _ (read-part held _ life same (grown _ nothing_written _ c.in_ok-block_at_hand.ensures.goes_on nested certs_nested).passed) (c.note.ensures.lives (rw same nested) (rw same certs_nested));
-      by_value = low-due held _ _ found result low c.note.ensures.by_value;
-      tells = low-tells a _ _ _ found _ _ result low (rw same at c.note.ensures.tells);
+      promise = λ nested certs_nested cached. c.take_cached.ensures.promise before (since nested certs_nested) nested certs_nested cached;
+      lives = λ nested certs_nested. LivesOn-then (seen before life) _ result (IsPart-cached f (seen before life) _ (since nested certs_nested) refl) (c.take_cached.ensures.lives (subst (λ h. IsNested h.blocks) (sym caches.same) nested) (subst (λ h. IsNested h.certs) (sym caches.same) certs_nested));
+      by_value = λ loaded. subst (λ due. EndsWhereDue due result) (cached-due g.V.Variant.inner f before _ (g.B.Buffer.blocks c.args.buffer.now) loaded caches) c.take_cached.ensures.by_value;
+      tells = λ loaded. subst (λ tips. TellsInOrder (g.A.Reporter.told c.args.application.now) tips (g.A.Reporter.told c.take_cached.new.application) result) (cached-tips g.V.Variant.inner f before _ (g.B.Buffer.blocks c.args.buffer.now) loaded caches life) c.take_cached.ensures.tells;
     }

@@ -22,4 +22,5 @@ returns-in-Ok g c =
       sync_tickets = lives.sync_tickets;
       runs_out = tt;
       same_life = (lives.provider, lives.epocher, lives.sizes);
+      loaded = c.in-Ok.ensures.loaded;
     })
