@@ -1,5 +1,5 @@
 -- What the actor's promise makes of one event, where it tells all that was told and asked.
-use Rattle.std.proofs.Common.{Err, List, Ok, Option, Some, [], ap, map, refl, subst, sym, ◌++◌, ◌∙◌, ◌∷◌, ◌≡◌}
+use Rattle.std.proofs.Common.{Err, List, Ok, Option, Some, [], ap, map, refl, subst, sym, ◌++◌, ◌∙◌, ◌∷◌, ◌≡◌, true}
 use Rattle.std.specs.Prelude.{Result}
 use Rattle.std.proofs.lemmas.Simd.{map-map}
 use Rattle.mar_types.specs.declared.Sha256.{Sha256}
@@ -19,11 +19,12 @@ use Rattle.mar_node.specs.Event.{Event, ack_dropped, ack_given, block_buffered, 
 use Rattle.mar_node.specs.Held.{ArePassed, Ending, FailsBy, Remains}
 use Rattle.mar_node.specs.Lives.{Cuts}
 use Rattle.mar_node.specs.Node.{Node}
+use Rattle.mar_node.specs.Moves.{KeepsTakenUp}
 use Rattle.mar_node.specs.Promise.{CutsStep, FinishesStep, Heard, HearsMade, IsSetTo, KeepsPromise, KeepsStart, KeepsStep, Waiting, asked_since, heard_with, node_of, waiting_in}
 use Rattle.mar_node.specs.Step.{Made, Report, Steps, nothing_made}
 use Rattle.mar_node.specs.Stored.{AreSmall}
 use Rattle.mar_node.specs.declared.fault.Fault.{Fault as FaultCode}
-use Rattle.mar_replay.specs.Playing.{DoesEvent, DoesStart, DoesStep, GivesFew, IsNearLast, SeenNode, TakesEvent}
+use Rattle.mar_replay.specs.Playing.{DoesEvent, DoesStart, DoesStep, FindsTakenUp, GivesFew, IsNearLast, SeenNode, TakesEvent}
 use Rattle.mar_script.specs.Lines.{plain_block, plain_sent}
 use Rattle.mar_script.specs.Shown.{plain_fault}
 use Rattle.mar_replay.specs.declared.play.Outcome.{Outcome}
@@ -100,7 +101,7 @@ module _ (seen : SeenNode) (buffer : Held) (before now : Made) (silent : before 
         )
 
     stepped_ok : (e : Event) → PromisesStep e (Ok new) → DoesStep {H = H} {R = R} seen buffer e now (state.Running new kept pending) outcome.Done
-    stepped_ok e promise config chain waiting set lawful = (finished config chain (node_of seen buffer.blocks waiting) waiting e new kept.blocks (sym same) refl (promise config chain waiting set lawful), same, tickets)
+    stepped_ok e promise loaded config chain waiting set lawful = (finished config chain (node_of seen buffer.blocks waiting) waiting e new kept.blocks (sym same) refl (promise loaded config chain waiting set lawful), same, tickets)
 
   abbrev ending : FaultCode Sha256Digest → Remains → Ending
   ending fault left = record { fault = plain_fault fault; remains = left }
@@ -110,15 +111,27 @@ module _ (seen : SeenNode) (buffer : Held) (before now : Made) (silent : before 
     started_err e promise fresh config chain waiting set lawful = let start = promise fresh config chain waiting set lawful in (start.begun, start.takes, (cut_short config chain start.begun e (ending fault left) start.cuts, limit))
 
     stepped_err : (e : Event) → PromisesStep e (Err (ending fault left)) → DoesStep {H = H} {R = R} seen buffer e now (state.Stopped left 0) (outcome.Fault fault)
-    stepped_err e promise config chain waiting set lawful = (cut_short config chain (node_of seen buffer.blocks waiting) e (ending fault left) (promise config chain waiting set lawful), limit)
+    stepped_err e promise loaded config chain waiting set lawful = (cut_short config chain (node_of seen buffer.blocks waiting) e (ending fault left) (promise loaded config chain waiting set lawful), limit)
 
 -- ONE EVENT
 
+-- what was taken up stays so, and a start takes it up
+taken_up : (e : Event) (seen new : SeenNode) → KeepsTakenUp e seen new → FindsTakenUp e seen → new.held.cache.loaded ≡ true
+taken_up (life_started f) seen new keeps up = keeps
+taken_up (message_told t m) seen new keeps up = keeps up
+taken_up (ack_given t) seen new keeps up = keeps up
+taken_up (ack_dropped t) seen new keeps up = keeps up
+taken_up (sync_finished t) seen new keeps up = keeps up
+taken_up (peer_answered a) seen new keeps up = keeps up
+taken_up serve_ended seen new keeps up = keeps up
+taken_up (block_buffered b) seen new keeps up = keeps up
+taken_up buffer_ended seen new keeps up = keeps up
+
 module _ (seen : SeenNode) (buffer : Held) (e : Event) (before now : Made) (silent : before ≡ nothing_made) where
-  pub takes_ok : {H R : Type 0} (new : SeenNode) (kept : Held) (pending : Pending) → kept.blocks ≡ buffer.blocks → Promises seen buffer before now silent e (Ok new) → new.life.epocher ≡ seen.life.epocher → new.life.sizes ≡ seen.life.sizes → ArePassed seen.held.watches new.held.watches → GivesFew seen new
+  pub takes_ok : {H R : Type 0} (new : SeenNode) (kept : Held) (pending : Pending) → kept.blocks ≡ buffer.blocks → Promises seen buffer before now silent e (Ok new) → new.life.epocher ≡ seen.life.epocher → new.life.sizes ≡ seen.life.sizes → ArePassed seen.held.watches new.held.watches → GivesFew seen new → KeepsTakenUp e seen new
       → TakesEvent {H = H} {R = R} seen buffer pending e now (state.Running new kept pending) outcome.Done
-  takes_ok {H = H} {R = R} new kept pending same promise epocher sizes passed tickets = record {
-    set = λ config set. subst (λ z. IsSetTo config z (fixed_epochs new.life.epocher.length) (λ commitment. commitment)) (sym sizes) (subst (λ p. IsSetTo config seen.life.sizes (fixed_epochs p.length) (λ commitment. commitment)) (sym epocher) set);
+  takes_ok {H = H} {R = R} new kept pending same promise epocher sizes passed tickets keeps = record {
+    set = λ config set up. (subst (λ z. IsSetTo config z (fixed_epochs new.life.epocher.length) (λ commitment. commitment)) (sym sizes) (subst (λ p. IsSetTo config seen.life.sizes (fixed_epochs p.length) (λ commitment. commitment)) (sym epocher) set), taken_up e seen new keeps up);
     small = λ small. subst AreSmall (sym same) small;
     calls = passed;
     lucky = λ luck line. tt;
@@ -129,7 +142,7 @@ module _ (seen : SeenNode) (buffer : Held) (e : Event) (before now : Made) (sile
   pub takes_err : {H R : Type 0} (pending : Pending) (fault : FaultCode Sha256Digest) (left : Remains) (x : Ending) → x ≡ record { fault = plain_fault fault; remains = left } → Promises seen buffer before now silent e (Err x) → FailsBy seen.held.watches (plain_fault fault) left.watches → IsNearLast seen (plain_fault fault)
       → TakesEvent {H = H} {R = R} seen buffer pending e now (state.Stopped left 0) (outcome.Fault fault)
   takes_err {H = H} {R = R} pending fault left x is promise fails limit = record {
-    set = λ config set. tt;
+    set = λ config set up. tt;
     small = λ small. tt;
     calls = fails;
     lucky = λ luck line. refl;

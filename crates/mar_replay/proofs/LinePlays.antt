@@ -3,11 +3,13 @@ use Rattle.std.proofs.Common.{Contains, List, None, Option, [], ap, arith, refl,
 use Rattle.std.proofs.lemmas.List.Elements.{Contains-append_left, Contains-append_right}
 use Rattle.mar_types.specs.declared.Sha256Digest.{Sha256Digest}
 use Rattle.mar_types.specs.Epochs.{fixed_epochs}
+use Rattle.std.specs.List.{filter_map}
 use Rattle.mar_cert.specs.Block.{Block}
 use Rattle.mar_block.specs.Sent.{Held}
 use Rattle.mar_cert.specs.Finalization.{Finalization}
 use Rattle.mar_node.specs.Messages.{report_finalization}
 use Rattle.mar_key.specs.Asked.{asked_after}
+use Rattle.mar_node.specs.Cached.{cached_block}
 use Rattle.mar_node.specs.Chain.{Chain}
 use Rattle.mar_node.specs.Config.{Config}
 use Rattle.mar_node.specs.Event.{Event, life_started, message_told}
@@ -15,7 +17,6 @@ use Rattle.mar_node.specs.Faults.{Fault, StoreName, from_genesis, ticket_limit}
 use Rattle.mar_node.specs.Held.{ArePassed, FailsBy, IsUsual, Remains, Sizes, Watches, picks_of, remains_of, with_armed}
 use Rattle.mar_node.specs.Lives.{CutsReopening, Finds}
 use Rattle.mar_node.specs.Stored.{AreSmall}
-use Rattle.mar_store.specs.Changes.{Within}
 use Rattle.mar_store.specs.Sizes.{IsSmall}
 use Rattle.mar_store.proofs.Lookups.{AllByRecursion-push}
 use Rattle.mar_node.specs.Promise.{IsGoodUntold, IsLawfulStep, IsOpeningFault, IsSetTo, Waiting, asked_since, node_of, none_waiting}
@@ -30,7 +31,7 @@ use Rattle.mar_node.specs.Views.{kind_of}
 use Rattle.mar_script.specs.Refused.{max_lines}
 use Rattle.mar_script.specs.Accounts.{Account, Calls, CallsEnd, luck_after}
 use Rattle.mar_script.specs.Plays.{IsBetween, IsLawfulLine, Plays, max_window}
-use Rattle.mar_replay.specs.Playing.{AfterEvent, DoesEvent, DoesStep, HasLuck, IsNearLast, IsOpenAs, IsPendingAs, IsSetNode, PlaysLine, SeenNode, StartsFrom, TakesEvent, account_in, empty_buffer}
+use Rattle.mar_replay.specs.Playing.{AfterEvent, DoesEvent, DoesStep, FindsTakenUp, HasLuck, IsNearLast, IsOpenAs, IsPendingAs, IsSetNode, PlaysLine, SeenNode, StartsFrom, TakesEvent, account_in, empty_buffer}
 use Rattle.mar_script.specs.Run.{LineDone, OpenDone, StepDone, still_unanswered}
 use Rattle.mar_script.specs.Script.{Line, Settings, buffer_line, config_of, crash_line, fail_line, open_line, tell_line}
 use Rattle.mar_script.specs.Text.{Output, State, running, stopped}
@@ -43,9 +44,9 @@ use Rattle.mar_replay.specs.declared.play.Pending.{Pending}
 use Rattle.mar_replay.specs.declared.play.State.{State as StateCode}
 use Rattle.mar_replay.specs.declared.play.State.TheVariants as state
 use Rattle.mar_script.specs.declared.RemarkShown.{RemarkShown}
-use Rattle.mar_replay.proofs.CachedLines.{step_cached}
+use Rattle.mar_replay.proofs.CachedLines.{found_within, plain_blockless, step_cached}
 use Rattle.mar_replay.proofs.Lasting.{IsPlain, acks, finishes, prepares, queries, reports, syncs_after, syncs_last, tickets_after, tickets_last}
-use Rattle.mar_replay.proofs.LineTurns.{cut_between, cut_cached, cut_usual, lawful_step, only_cut, step_between, step_cut, step_done}
+use Rattle.mar_replay.proofs.LineTurns.{cut_between, cut_blocks, cut_usual, lawful_step, only_cut, step_between, step_cut, step_done}
 use Rattle.mar_replay.proofs.Replaying.{between_left}
 use Rattle.mar_replay.proofs.OpeningTurns.{lawful_start, opening_between, opening_cached, opening_cut, opening_done, opening_usual, start_cached, start_cut, start_usual, undropped-found}
 
@@ -78,6 +79,18 @@ first_pending = record { requests = []; next_answer = 0 }
 abbrev pub between : Pending → Waiting
 between pending = waiting_with pending.requests pending.next_answer
 
+-- a block that may be left of the cache is among those of the state
+may_blocks : (seen : SeenNode) (b : Block) → Contains (filter_map cached_block seen.held.cache.kept.may) b → Contains (filter_map cached_block (seen.held.cache.kept.held ++ seen.held.cache.kept.may)) b
+may_blocks seen = found_within cached_block seen.held.cache.kept.may (seen.held.cache.kept.held ++ seen.held.cache.kept.may) (λ x has. Contains-append_right seen.held.cache.kept.held seen.held.cache.kept.may x has)
+
+-- such an event finds what was taken up of the cache
+pub plain_finds : (e : Event) → IsPlain e → (seen : SeenNode) → seen.held.cache.loaded ≡ true → FindsTakenUp e seen
+plain_finds e (reports f) seen loaded = loaded
+plain_finds e (acks t) seen loaded = loaded
+plain_finds e (finishes t) seen loaded = loaded
+plain_finds e (queries t q) seen loaded = loaded
+plain_finds e (prepares r peers b) seen loaded = loaded
+
 module _ {H R : Type 0} where
   abbrev Stopped : Remains → ℕ → StateCode H R
   Stopped left luck = state.Stopped left luck
@@ -99,7 +112,7 @@ module _ {H R : Type 0} where
     calls = calls (remains_in s).watches;
     lucky = λ before has. subst (λ k. HasLuck k s) (sym (luck before)) has;
     opened = keeps_open s;
-    plays = λ is before has chain k lawful. record { done = done chain (account_in before s); between = later_state config chain k (state_of s) lawful.between; buffered = λ b has. Contains-append_left _ _ b has; cached = λ x has. has; excused = tt };
+    plays = λ is before has chain k lawful. record { done = done chain (account_in before s); between = later_state config chain k (state_of s) lawful.between; buffered = λ b has. Contains-append_left _ _ b has; cached = λ b has. Contains-append_left _ _ b has; excused = tt };
   }
 
   -- a store is made to fail
@@ -111,7 +124,7 @@ module _ {H R : Type 0} where
     calls = refl;
     lucky = λ before has. tt;
     opened = refl;
-    plays = λ set before has chain k lawful. record { done = (refl, refl); between = later_state config chain k (running (node_of seen buffer.blocks (between pending))) lawful.between; buffered = λ b has. Contains-append_left _ _ b has; cached = λ x has. has; excused = tt };
+    plays = λ set before has chain k lawful. record { done = (refl, refl); between = later_state config chain k (running (node_of seen buffer.blocks (between pending))) lawful.between; buffered = λ b has. Contains-append_left _ _ b has; cached = λ b has. Contains-append_left _ _ b has; excused = tt };
   })
 
   pub plays_fail_left : (config : Config) (left new : Remains) (luck : ℕ) (store : StoreName) (calls : ℕ) → new.ended ≡ left.ended → new.watches ≡ with_armed store calls left.watches
@@ -126,7 +139,7 @@ module _ {H R : Type 0} where
       done = (refl, ap stopped ended);
       between = subst (λ e. IsBetween config chain (k + 1) (stopped e)) (sym ended) lawful.between;
       buffered = λ b has. absurd (none_in b has);
-      cached = subst (λ e. Within e.cache_may left.ended.cache_may) (sym ended) (λ x has. has);
+      cached = λ b has. Contains-append_left _ _ b (subst (λ e. Contains (filter_map cached_block e.cache_may) b) ended has);
       excused = tt;
     };
   }
@@ -143,7 +156,7 @@ module _ {H R : Type 0} where
       done = (refl, ap (λ bs. running (node_of seen bs (between pending))) is);
       between = put_between config chain k seen buffer.blocks new.blocks (between pending) lawful.between;
       buffered = λ x has. subst (λ bs. Contains bs x) is has;
-      cached = λ x has. has;
+      cached = λ x has. Contains-append_left _ _ x has;
       excused = tt;
     };
   }
@@ -160,7 +173,7 @@ module _ {H R : Type 0} where
       done = (refl, refl);
       between = between_left config chain k (running (node_of seen buffer.blocks (between pending))) lawful.between;
       buffered = λ b has. absurd (none_in b has);
-      cached = λ x has. Contains-append_right seen.held.cache.kept.held seen.held.cache.kept.may x has;
+      cached = λ b has. Contains-append_left _ _ b (may_blocks seen b has);
       excused = tt;
     };
   }
@@ -173,7 +186,7 @@ module _ {H R : Type 0} where
     calls = ArePassed-refl left.watches;
     lucky = λ was has. refl;
     opened = tt;
-    plays = λ is was has chain k lawful. record { done = (refl, refl); between = lawful.between; buffered = λ b has. absurd (none_in b has); cached = λ x has. has; excused = tt };
+    plays = λ is was has chain k lawful. record { done = (refl, refl); between = lawful.between; buffered = λ b has. absurd (none_in b has); cached = λ b has. Contains-append_left _ _ b has; excused = tt };
   }
 
   -- behind an event of the life, whoever waited beside it
@@ -192,14 +205,14 @@ module _ {H R : Type 0} where
             (tickets_after k seen.life.next_ack new.life.next_ack seen.life.sizes.window lawful.between.2.tickets (subst (λ w. w ≤ max_window) set.window lawful.narrow) tickets.0)
             (syncs_after k seen.held.writes.next_sync new.held.writes.next_sync lawful.between.2.sync_tickets tickets.1) few);
         buffered = λ b has. Contains-append_left _ _ b (subst (λ xs. Contains xs b) same has);
-        cached = step_cached config chain (node_of seen buffer.blocks waiting) e made (node_of new kept.blocks (asked_since waiting made.asks)) steps;
+        cached = λ b has. Contains-append_left _ _ b (step_cached config chain (node_of seen buffer.blocks waiting) e made (node_of new kept.blocks (asked_since waiting made.asks)) (plain_blockless config (node_of seen buffer.blocks waiting) e plain) steps b has);
         excused = tt;
       }
       after_event (state.Stopped left luck) (outcome.Fault fault) next is (cuts, limit) next_is = record {
         done = line_done _ _ (step_cut config chain seen buffer.blocks waiting e made fault left.ended cuts);
         between = cut_between config chain seen buffer.blocks waiting (k + 1) e made (plain_fault fault) left.ended cuts;
         buffered = λ b has. absurd (none_in b has);
-        cached = λ x has. Contains-append_right seen.held.cache.kept.held seen.held.cache.kept.may x (cut_cached config chain (node_of seen buffer.blocks waiting) e made (plain_fault fault) left.ended cuts x has);
+        cached = λ b has. Contains-append_left _ _ b (may_blocks seen b (cut_blocks config chain (node_of seen buffer.blocks waiting) e made (plain_fault fault) left.ended (plain_blockless config (node_of seen buffer.blocks waiting) e plain) cuts b has));
         excused = cut_usual config chain seen buffer.blocks waiting e plain made fault left.ended step lawful.between.2.undropped cuts
             (never_last k seen (plain_fault fault) lawful.between.2.tickets lawful.between.2.sync_tickets lawful.few (subst (λ w. w ≤ max_window) set.window lawful.narrow) limit);
       }
@@ -237,15 +250,15 @@ module _ {H R : Type 0} where
       → ((config : Config) (chain : Chain) (account : Account) (waiting : Waiting) (out : Output) (s : State) → StepDone config chain (node_of seen buffer.blocks waiting) (e ∷ []) [] (λ m. []) out s → LineDone config chain account (running (node_of seen buffer.blocks waiting)) l out s)
       → TakesEvent seen buffer pending e made after o → (config : Config) → PlaysLine config (Running seen buffer pending) l (output_of made o) after
   plays_event seen buffer pending l e made after o plain same calls line_done takes config = record {
-    set = λ is. takes.set config is;
+    set = λ is. takes.set config is.0 (plain_finds e plain seen is.1);
     small = λ line small. takes.small small;
     calls = calls seen.held.watches (remains_in after).watches (fault_in o) takes.calls;
     lucky = λ before has. takes.lucky before l;
     opened = opened_as pending after takes.pending_as;
     plays = λ is before has chain k lawful.
         let step = lawful_step config chain seen buffer.blocks (between pending) k l e plain lawful same in
-        after_event seen buffer pending l e made config chain k (between pending) plain is lawful step (let low : pending.next_answer ≤ k = lawful.between.2.answer_tickets in omega arith) (λ n' steps. refl) (account_in before (Running seen buffer pending)) (line_done config chain (account_in before (Running seen buffer pending)) (between pending)) after o pending.next_answer refl
-        (done_step seen buffer made after o plain takes.done config chain (between pending) is step) (pending_next pending after takes.pending_as);
+        after_event seen buffer pending l e made config chain k (between pending) plain is.0 lawful step (let low : pending.next_answer ≤ k = lawful.between.2.answer_tickets in omega arith) (λ n' steps. refl) (account_in before (Running seen buffer pending)) (line_done config chain (account_in before (Running seen buffer pending)) (between pending)) after o pending.next_answer refl
+        (done_step seen buffer made after o plain takes.done is.1 config chain (between pending) is.0 step) (pending_next pending after takes.pending_as);
   }
 
   -- an opening that was cut before its start
@@ -262,7 +275,7 @@ module _ {H R : Type 0} where
       done = subst (λ j. OpenDone config chain before.ended (picks_of before j) (from_genesis g) (output_of nothing_made (outcome.Fault fault)) (stopped left.ended)) has (opening_cut config chain before.ended (picks_of before luck) g fault left.ended (cuts chain k lawful));
       between = ((cuts chain k lawful).leaves.good, (cuts chain k lawful).leaves.some_pair);
       buffered = λ b has. absurd (none_in b has);
-      cached = (cuts chain k lawful).may_cached;
+      cached = λ b has. Contains-append_left _ _ b (found_within cached_block left.ended.cache_may before.ended.cache_may (cuts chain k lawful).may_cached b has);
       excused = opening_usual config chain before.ended (picks_of before luck) g fault k lawful kind;
     };
   }
@@ -273,7 +286,7 @@ module _ {H R : Type 0} where
       → ((chain : Chain) (k : ℕ) → IsLawfulLine config chain k (stopped before.ended) (open_line (from_genesis g)) → Finds config before.ended (picks_of before luck) (from_genesis g) (node_of seen [] none_waiting) × IsGoodUntold config chain (node_of seen [] none_waiting))
       → TakesEvent seen empty_buffer first_pending (life_started None) made after o → PlaysLine config (Stopped before luck) (open_line (from_genesis g)) (output_of made o) after
   plays_opening config before luck g seen made after o set passed fresh picked begins takes = record {
-    set = λ is. takes.set config set;
+    set = λ is. takes.set config set tt;
     small = λ line small. takes.small tt;
     calls = CallsEnd-then before.watches seen.held.watches (remains_in after).watches (fault_in o) passed takes.calls;
     lucky = λ was has. takes.lucky was (open_line (from_genesis g));
@@ -298,7 +311,7 @@ module _ {H R : Type 0} where
                 (tickets_after k seen.life.next_ack new.life.next_ack seen.life.sizes.window (omega (arith, first.1)) (subst (λ w. w ≤ max_window) set.window lawful.narrow) tickets.0)
                 (syncs_after k seen.held.writes.next_sync new.held.writes.next_sync (omega (arith, first.2)) tickets.1));
             buffered = λ b has. absurd (none_in b (subst (λ xs. Contains xs b) same has));
-            cached = opening_cached config chain before.ended (picks_of before luck) g seen finds begun takes made new kept.blocks steps;
+            cached = λ b has. Contains-append_left _ _ b (opening_cached config chain before.ended (picks_of before luck) g seen finds begun takes made new kept.blocks steps b has);
             excused = tt;
           }
       by (state.Stopped left now) (outcome.Fault fault) next_is chain k lawful finds good begun takes (cuts, limit) =
@@ -308,7 +321,7 @@ module _ {H R : Type 0} where
             done = start_cut config chain before.ended (picks_of before luck) g seen finds begun takes made fault left.ended cuts good;
             between = (cut.leaves.good, cut.leaves.some_pair);
             buffered = λ b has. absurd (none_in b has);
-            cached = start_cached config chain before.ended (picks_of before luck) g seen finds begun takes made fault left.ended cuts;
+            cached = λ b has. Contains-append_left _ _ b (start_cached config chain before.ended (picks_of before luck) g seen finds begun takes made fault left.ended cuts b has);
             excused = start_usual config chain before.ended (picks_of before luck) g seen finds begun takes made fault left.ended cuts
                 (never_last k seen (plain_fault fault) (omega (arith, first.1)) (omega (arith, first.2)) lawful.few (subst (λ w. w ≤ max_window) set.window lawful.narrow) limit);
           }

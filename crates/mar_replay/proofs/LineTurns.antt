@@ -1,17 +1,17 @@
 -- What steps make of a line while a life runs.
-use Rattle.std.proofs.Common.{Bool, IsTrue, List, None, Option, Some, [], ap, append-nil, false, if◌then◌else◌, option_map, refl, subst, sym, true, ℕ, ◌*◌, ◌++◌, ◌+◌, ◌∙◌, ◌∷◌, ◌||◌, ◌≡◌, ◌≤◌}
-use Rattle.std.specs.List.{list_any}
+use Rattle.std.proofs.Common.{Bool, Contains, IsTrue, List, None, Option, Some, [], ap, append-nil, false, if◌then◌else◌, option_map, refl, subst, sym, true, ℕ, ◌*◌, ◌++◌, ◌+◌, ◌∙◌, ◌∷◌, ◌||◌, ◌≡◌, ◌≤◌}
+use Rattle.std.specs.List.{filter_map, list_any}
 use Rattle.mar_types.specs.declared.Sha256Digest.{Sha256Digest}
 use Rattle.mar_cert.specs.Block.{Block}
 use Rattle.mar_cert.specs.Finalization.{Finalization}
-use Rattle.mar_store.specs.Changes.{Within}
 use Rattle.mar_node.specs.Messages.{report_finalization}
 use Rattle.mar_key.specs.Asked.{asked_after}
 use Rattle.mar_key.specs.Processed.{height_in}
 use Rattle.mar_node.specs.Acks.{is_unmarked}
 use Rattle.mar_node.specs.Chain.{Chain}
 use Rattle.mar_node.specs.Config.{Config}
-use Rattle.mar_node.specs.Event.{Event, ack_given, message_told, sync_finished}
+use Rattle.mar_node.specs.Cached.{cached_block}
+use Rattle.mar_node.specs.Event.{Event, ack_given, effect_of, message_told, sync_finished}
 use Rattle.mar_node.specs.Faults.{Fault, event_fault, is_by_value, ticket_limit}
 use Rattle.mar_node.specs.Held.{IsUsual, Seen}
 use Rattle.mar_node.specs.Lives.{Cuts, CutsEvent}
@@ -32,6 +32,7 @@ use Rattle.mar_script.specs.Text.{Output, State, remark_ignored, running, stoppe
 use Rattle.mar_script.specs.Shown.{plain_fault}
 use Rattle.mar_replay.specs.Turn.{output_of, waiting_with}
 use Rattle.mar_replay.specs.declared.play.Outcome.TheVariants as outcome
+use Rattle.mar_replay.proofs.CachedLines.{PutsNoBlock, cut_cached}
 use Rattle.mar_replay.proofs.Lasting.{IsPlain, Undropped, acks, asks_reports, finishes, no_event_fault, prepares, queries, reports, undropped-step}
 
 -- CUTS
@@ -58,9 +59,9 @@ only_cut config chain n e made fault left cuts = by cuts.finished cuts.first cut
         (subst (λ x. CutsEvent config chain n.meta (option_map height_in n.processed) mid x later fault left) (head d cuts.others split) cut))
     by (x ∷ xs) first mid d later split advances made_is cut = absurd (none_behind xs cuts.others d (tail x (xs ++ d ∷ cuts.others) split))
 
--- nothing more may be left cached than might be
-pub cut_cached : (config : Config) (chain : Chain) (n : Node) (e : Event) (made : Made) (fault : Fault) (left : Ended) → Cuts config chain n (e ∷ []) made fault left → Within left.cache_may n.cache.may
-cut_cached config chain n e made fault left cuts = (only_cut config chain n e made fault left cuts).may.cached
+-- no block may be left cached but what might be
+pub cut_blocks : (config : Config) (chain : Chain) (n : Node) (e : Event) (made : Made) (fault : Fault) (left : Ended) → PutsNoBlock config n e → Cuts config chain n (e ∷ []) made fault left → (b : Block) → Contains (filter_map cached_block left.cache_may) b → Contains (filter_map cached_block n.cache.may) b
+cut_blocks config chain n e made fault left blockless cuts = cut_cached config chain n e (effect_of config n e) left blockless (only_cut config chain n e made fault left cuts).may.cached
 
 -- a fault that no value calls for, and no want of tickets, is want of memory or a store's
 pub usual : (fault : FaultCode Sha256Digest) → (IsTrue (is_by_value (plain_fault fault)) → ⊥) → ((kind : TicketKind) → plain_fault fault ≡ ticket_limit (kind_of kind) → ⊥) → IsUsual (plain_fault fault)

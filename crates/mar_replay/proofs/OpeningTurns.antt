@@ -6,7 +6,6 @@ use Rattle.mar_types.specs.declared.Sha256Digest.{Sha256Digest}
 use Rattle.mar_cert.specs.Block.{Block}
 use Rattle.mar_key.specs.Processed.{height_in}
 use Rattle.mar_node.specs.Metadata.{Pair, pair_of}
-use Rattle.mar_store.specs.Changes.{Within}
 use Rattle.mar_store.specs.Kept.{Kept}
 use Rattle.mar_store.proofs.Lookups.{AllByRecursion-weaker}
 use Rattle.mar_node.specs.Cached.{Cached, cached_block}
@@ -31,9 +30,10 @@ use Rattle.mar_script.specs.Text.{running, stopped}
 use Rattle.mar_script.specs.Shown.{plain_fault}
 use Rattle.mar_replay.specs.Turn.{output_of}
 use Rattle.mar_replay.specs.declared.play.Outcome.TheVariants as outcome
+use Rattle.mar_node.proofs.EntryLists.{contains_none}
 use Rattle.mar_replay.proofs.CachedLines.{AreOne-within, begun_cached, found_cached, found_within, step_cached}
 use Rattle.mar_replay.proofs.Lasting.{Undropped, undropped-start}
-use Rattle.mar_replay.proofs.LineTurns.{cut_cached, only_cut, usual}
+use Rattle.mar_replay.proofs.LineTurns.{cut_blocks, only_cut, usual}
 
 -- BEFORE THE START
 
@@ -111,11 +111,11 @@ module _ (config : Config) (chain : Chain) (e : Ended) (picks : Picks) (g : Bloc
           },
         )
 
-        -- nothing is cached behind it but what might be left
-        pub opening_cached : Within (b.held.cache.kept.held ++ b.held.cache.kept.may) e.cache_may
-        opening_cached x has =
-            found_cached config e picks (from_genesis g) first finds x
-            (Contains-append_right first.cache.held first.cache.may x (begun_cached picks.cache first begun takes x (step_cached config chain begun (life_started None) made (node_of b kept (asked_since none_waiting made.asks)) steps x has)))
+        -- no block is cached behind it but what might be left
+        pub opening_cached : (c : Block) → Contains (filter_map cached_block (b.held.cache.kept.held ++ b.held.cache.kept.may)) c → Contains (filter_map cached_block e.cache_may) c
+        opening_cached c has =
+            found_within cached_block (begun.cache.held ++ begun.cache.may) e.cache_may (λ x there. found_cached config e picks (from_genesis g) first finds x (Contains-append_right first.cache.held first.cache.may x (begun_cached picks.cache first begun takes x there))) c
+            (step_cached config chain begun (life_started None) made (node_of b kept (asked_since none_waiting made.asks)) (λ fx after x put. contains_none x put) steps c has)
 
       -- the pairs of its start
       abbrev later : List Pair
@@ -173,10 +173,11 @@ module _ (config : Config) (chain : Chain) (e : Ended) (picks : Picks) (g : Bloc
             never : (o : Option Fault) → o ≡ None → o ≡ Some (plain_fault fault) → ⊥
             never o p q = absurd cc
 
-        -- and nothing more is left cached
-        pub start_cached : Within left.cache_may e.cache_may
-        start_cached x has = found_cached config e picks (from_genesis g) first finds x (Contains-append_right first.cache.held first.cache.may x (by takes (cut_cached config chain begun (life_started None) made (plain_fault fault) left cuts x has)))
+        -- and no block more is left cached
+        pub start_cached : (c : Block) → Contains (filter_map cached_block left.cache_may) c → Contains (filter_map cached_block e.cache_may) c
+        start_cached c has = found_within cached_block begun.cache.may e.cache_may (λ x there. found_cached config e picks (from_genesis g) first finds x (Contains-append_right first.cache.held first.cache.may x (by takes x there))) c
+            (cut_blocks config chain begun (life_started None) made (plain_fault fault) left (λ fx after x put. contains_none x put) cuts c has)
           where
-            by : (begun ≡ first) ⊎ TakesUp picks.cache first begun → Contains begun.cache.may x → Contains first.cache.may x
-            by (inl is) may = subst (λ n. Contains n.cache.may x) is may
-            by (inr taken) may = begun_cached picks.cache first begun taken x (Contains-append_right begun.cache.held begun.cache.may x may)
+            by : (begun ≡ first) ⊎ TakesUp picks.cache first begun → (x : Cached) → Contains begun.cache.may x → Contains first.cache.may x
+            by (inl is) x may = subst (λ n. Contains n.cache.may x) is may
+            by (inr taken) x may = begun_cached picks.cache first begun taken x (Contains-append_right begun.cache.held begun.cache.may x may)

@@ -88,7 +88,7 @@ module _ (config : Config) (chain : Chain) (seen : SeenNode) (buffer : List Bloc
 pub plays_query : {H R : Type 0} (seen : SeenNode) (buffer : Held) (pending : Pending) (next : ℕ) (q : Query Sha256Digest) (made : Made) (after : StateCode H R) (o : Outcome) → (pending.next_answer < 2 ^ 64 - 1 → next ≡ pending.next_answer + 1)
     → TakesEvent seen buffer (record { requests = pending.requests; next_answer = next }) (asked_event pending.next_answer q) made after o → (config : Config) → PlaysLine config (Running seen buffer pending) (tell_line (asked_of q)) (output_of made o) after
 plays_query {H = H} {R = R} seen buffer pending next q made after o next_is takes config = record {
-  set = λ is. takes.set config is;
+  set = λ is. takes.set config is.0 is.1;
   small = λ line small. takes.small small;
   calls = takes.calls;
   lucky = λ before has. takes.lucky before (tell_line (asked_of q));
@@ -96,7 +96,7 @@ plays_query {H = H} {R = R} seen buffer pending next q made after o next_is take
   plays = λ is before has chain k lawful.
       let step = lawful_query config chain seen buffer.blocks pending k q lawful in
       let low : pending.next_answer ≤ k = lawful.between.2.answer_tickets in
-      after_event seen buffer pending (tell_line (asked_of q)) (asked_event pending.next_answer q) made config chain k (one_waiting pending) (queries pending.next_answer q) is lawful step (omega arith) (answered config chain seen buffer.blocks pending q made)
-      (account_in before (Running {H = H} {R = R} seen buffer pending)) (asked_done config chain seen buffer.blocks pending (account_in before (Running {H = H} {R = R} seen buffer pending)) q) after o next (sym (next_is (answers_last k pending.next_answer low lawful.few))) (done_step seen buffer made after o (queries pending.next_answer q) takes.done config chain (one_waiting pending) is step)
+      after_event seen buffer pending (tell_line (asked_of q)) (asked_event pending.next_answer q) made config chain k (one_waiting pending) (queries pending.next_answer q) is.0 lawful step (omega arith) (answered config chain seen buffer.blocks pending q made)
+      (account_in before (Running {H = H} {R = R} seen buffer pending)) (asked_done config chain seen buffer.blocks pending (account_in before (Running {H = H} {R = R} seen buffer pending)) q) after o next (sym (next_is (answers_last k pending.next_answer low lawful.few))) (done_step seen buffer made after o (queries pending.next_answer q) takes.done is.1 config chain (one_waiting pending) is.0 step)
       (pending_next (record { requests = pending.requests; next_answer = next }) after takes.pending_as);
 }

@@ -7,7 +7,6 @@ use Rattle.std.proofs.lemmas.List.{append-nil, map-append}
 use Rattle.std.proofs.lemmas.List.Elements.{Contains-append_cases, Contains-append_left, Contains-append_right}
 use Rattle.mar_cert.specs.Block.{Block}
 use Rattle.mar_node.specs.Messages.{report_finalization, set_floor}
-use Rattle.mar_store.specs.Changes.{Within}
 use Rattle.mar_store.proofs.Lookups.{AllByRecursion-from_contains, AllByRecursion-push}
 use Rattle.mar_node.specs.Chain.{Chain}
 use Rattle.mar_node.specs.Config.{Config}
@@ -19,14 +18,13 @@ use Rattle.mar_node.specs.Cached.{cached_block, cached_finalization}
 use Rattle.mar_node.proofs.Filtered.{all_found_within}
 use Rattle.mar_node.proofs.Soundness.{IsFrom, IsGoodEnded-from_sound, IsSound-from_good}
 use Rattle.mar_script.specs.Accounts.{Account, AccountsFor, first_account}
-use Rattle.mar_script.specs.Plays.{IsBetween, IsLawfulLine, Plays, buffer_in, cached_in, known_in, max_window}
+use Rattle.mar_script.specs.Plays.{IsBetween, IsLawfulLine, Plays, buffer_in, cached_blocks_in, known_in, max_window}
 use Rattle.mar_script.specs.Refused.{max_lines}
 use Rattle.mar_node.specs.Step.{IsFront}
 use Rattle.mar_script.specs.Run.{Appears, AreSmooth, EndsWith, HandsBack, IsExcused, IsFaultFree, IsOutput, IsQuiet, LineDone, MemoryEnds, Premises, Replays, Run, Status, account_after, line_blocks, messages_of, out_of_memory, outside_grammar, read_failed, read_to_end, write_failed}
 use Rattle.mar_script.specs.Script.{Line, open_line}
 use Rattle.mar_script.proofs.Accounts.{account-push, quiet_run, run_push}
 use Rattle.mar_script.specs.Text.{Done, Output, State, output_text, running, silent_output, stopped, text}
-use Rattle.mar_replay.proofs.CachedLines.{found_within}
 
 -- LAWFUL FRONTS
 
@@ -74,7 +72,7 @@ pub record RunSoFar (config : Config) (chain : Chain) (before : Remains) (lines 
   pub wrote : bytes ≡ text before.ended run
   pub between : IsBetween config chain (length lines) now
   pub buffered : (b : Block) → Contains (buffer_in now) b → Contains (flat_map line_blocks lines) b
-  pub cached : Within (cached_in now) before.ended.cache_may
+  pub cached : (b : Block) → Contains (cached_blocks_in now) b → Contains (filter_map cached_block before.ended.cache_may ++ flat_map line_blocks lines) b
   pub no_memory : AllByRecursion (λ d. d.output.fault ≡ Some want_of_memory → ⊥) run
   pub excused : AllByRecursion IsExcused run
 
@@ -87,7 +85,7 @@ first_run config chain before now p is = record {
   wrote = refl;
   between = subst (λ s. IsBetween config chain 0 s) (sym is) (p.good, p.some_pair);
   buffered = λ b has. absurd (none b (subst (λ s. Contains (buffer_in s) b) is has));
-  cached = subst (λ s. Within (cached_in s) before.ended.cache_may) (sym is) (λ x has. has);
+  cached = λ b has. Contains-append_left _ _ b (subst (λ s. Contains (cached_blocks_in s) b) is has);
   no_memory = tt;
   excused = tt;
 }
@@ -102,15 +100,19 @@ text_push before run d =
 
 module _ (config : Config) (chain : Chain) (before : Remains) (lines : List Line) (l : Line) (account : Account) (now : State) (bytes : List ℕ) (p : Premises config chain (lines ++ l ∷ []) before.ended) (so : RunSoFar config chain before lines account now bytes) where
   appears : (b : Block) → Contains (known_in chain now) b → Appears chain (lines ++ l ∷ []) before.ended.cache_may b
-  appears b has = by (Contains-append_cases chain.blocks (buffer_in now ++ filter_map cached_block (cached_in now)) b has)
+  appears b has = by (Contains-append_cases chain.blocks (buffer_in now ++ cached_blocks_in now) b has)
     where
-      beside : Contains (buffer_in now) b ⊎ Contains (filter_map cached_block (cached_in now)) b → Appears chain (lines ++ l ∷ []) before.ended.cache_may b
-      beside (inl of_buffer) = inr (inl (more_lines line_blocks lines l b (so.buffered b of_buffer)))
-      beside (inr of_cache) = inr (inr (inr (found_within cached_block (cached_in now) before.ended.cache_may so.cached b of_cache)))
+      cached : Contains (filter_map cached_block before.ended.cache_may) b ⊎ Contains (flat_map line_blocks lines) b → Appears chain (lines ++ l ∷ []) before.ended.cache_may b
+      cached (inl left) = inr (inr (inr left))
+      cached (inr of_line) = inr (inl (more_lines line_blocks lines l b of_line))
 
-      by : Contains chain.blocks b ⊎ Contains (buffer_in now ++ filter_map cached_block (cached_in now)) b → Appears chain (lines ++ l ∷ []) before.ended.cache_may b
+      beside : Contains (buffer_in now) b ⊎ Contains (cached_blocks_in now) b → Appears chain (lines ++ l ∷ []) before.ended.cache_may b
+      beside (inl of_buffer) = inr (inl (more_lines line_blocks lines l b (so.buffered b of_buffer)))
+      beside (inr of_cache) = cached (Contains-append_cases (filter_map cached_block before.ended.cache_may) (flat_map line_blocks lines) b (so.cached b of_cache))
+
+      by : Contains chain.blocks b ⊎ Contains (buffer_in now ++ cached_blocks_in now) b → Appears chain (lines ++ l ∷ []) before.ended.cache_may b
       by (inl of_chain) = inl of_chain
-      by (inr others) = beside (Contains-append_cases (buffer_in now) (filter_map cached_block (cached_in now)) b others)
+      by (inr others) = beside (Contains-append_cases (buffer_in now) (cached_blocks_in now) b others)
 
   -- the next line is lawful in the state that the others left
   pub lawful_next : length lines ≤ max_lines → config.window ≤ max_window → IsLawfulLine config chain (length lines) now l
@@ -152,7 +154,7 @@ module _ (config : Config) (chain : Chain) (before : Remains) (lines : List Line
       wrote = ap (λ bs. bs ++ output_text out after) so.wrote ∙ sym (text_push before.ended so.run done);
       between = subst (λ k. IsBetween config chain k after) (sym (length-append lines (l ∷ []))) plays.between;
       buffered = λ b has. by b (Contains-append_cases (buffer_in now) (line_blocks l) b (plays.buffered b has));
-      cached = λ x has. so.cached x (plays.cached x has);
+      cached = λ b has. from b (Contains-append_cases (cached_blocks_in now) (line_blocks l) b (plays.cached b has));
       no_memory = AllByRecursion-push (λ d. d.output.fault ≡ Some want_of_memory → ⊥) so.run done so.no_memory remembered;
       excused = excused_now;
     }
@@ -160,6 +162,14 @@ module _ (config : Config) (chain : Chain) (before : Remains) (lines : List Line
         by : (b : Block) → Contains (buffer_in now) b ⊎ Contains (line_blocks l) b → Contains (flat_map line_blocks (lines ++ l ∷ [])) b
         by b (inl old) = more_lines line_blocks lines l b (so.buffered b old)
         by b (inr new) = last_line line_blocks lines l b new
+
+        further : (b : Block) → Contains (filter_map cached_block before.ended.cache_may) b ⊎ Contains (flat_map line_blocks lines) b → Contains (filter_map cached_block before.ended.cache_may ++ flat_map line_blocks (lines ++ l ∷ [])) b
+        further b (inl left) = Contains-append_left _ _ b left
+        further b (inr of_line) = Contains-append_right (filter_map cached_block before.ended.cache_may) _ b (more_lines line_blocks lines l b of_line)
+
+        from : (b : Block) → Contains (cached_blocks_in now) b ⊎ Contains (line_blocks l) b → Contains (filter_map cached_block before.ended.cache_may ++ flat_map line_blocks (lines ++ l ∷ [])) b
+        from b (inl old) = further b (Contains-append_cases (filter_map cached_block before.ended.cache_may) (flat_map line_blocks lines) b (so.cached b old))
+        from b (inr new) = Contains-append_right (filter_map cached_block before.ended.cache_may) _ b (last_line line_blocks lines l b new)
 
 -- WHERE IT STOPS
 

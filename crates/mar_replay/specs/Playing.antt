@@ -40,8 +40,9 @@ SeenNode = Seen Provided FixedEpocher
 abbrev pub IsSetNode : Config → SeenNode → Type 0
 IsSetNode config seen = IsSetTo config seen.life.sizes (fixed_epochs seen.life.epocher.length) (λ commitment. commitment)
 
+-- it was, and has taken up what a crash left of its cache
 abbrev pub IsSetAs : {H R : Type 0} → Config → StateCode H R → Type 0
-IsSetAs config (state.Running seen buffer pending) = IsSetNode config seen
+IsSetAs config (state.Running seen buffer pending) = IsSetNode config seen × (seen.held.cache.loaded ≡ true)
 IsSetAs config (state.Stopped left luck) = ⊤
 
 -- each block of the buffer is small enough for a store
@@ -139,10 +140,15 @@ DoesStart seen buffer e made after outcome =
     seen.held.cache.fresh ≡ true → (config : Config) (chain : Chain) (waiting : Waiting) → IsSetNode config seen → IsLawfulStep config chain (node_of seen buffer.blocks waiting) (e ∷ [])
     → (begun : Node) × StartsFrom outcome seen.held.cache.finds (node_of seen buffer.blocks waiting) begun × AfterEvent config chain begun seen buffer.blocks waiting e made after outcome
 
+-- an event but the start finds that taken up
+abbrev pub FindsTakenUp : Event → SeenNode → Type 0
+FindsTakenUp (life_started f) seen = ⊤
+FindsTakenUp _ seen = seen.held.cache.loaded ≡ true
+
 -- what an event makes of a life that has begun
 abbrev pub DoesStep : {H R : Type 0} → SeenNode → Held → Event → Made → StateCode H R → Outcome → Type 0
 DoesStep seen buffer e made after outcome =
-    (config : Config) (chain : Chain) (waiting : Waiting) → IsSetNode config seen → IsLawfulStep config chain (node_of seen buffer.blocks waiting) (e ∷ [])
+    seen.held.cache.loaded ≡ true → (config : Config) (chain : Chain) (waiting : Waiting) → IsSetNode config seen → IsLawfulStep config chain (node_of seen buffer.blocks waiting) (e ∷ [])
     → AfterEvent config chain (node_of seen buffer.blocks waiting) seen buffer.blocks waiting e made after outcome
 
 -- the one or the other
@@ -152,7 +158,7 @@ DoesEvent seen buffer e made after outcome = DoesStep seen buffer e made after o
 
 -- What one event makes of a life, whoever waits beside it.
 pub record TakesEvent {H R : Type 0} (seen : SeenNode) (buffer : Held) (pending : Pending) (e : Event) (made : Made) (after : StateCode H R) (outcome : Outcome) : Type 0 where
-  pub set : (config : Config) → IsSetNode config seen → IsSetAs config after
+  pub set : (config : Config) → IsSetNode config seen → FindsTakenUp e seen → IsSetAs config after
   pub small : AreSmall buffer.blocks → HasSmallBlocks after
   pub calls : CallsEnd seen.held.watches (fault_in outcome) (remains_in after).watches
   pub lucky : (luck : ℕ) (line : Line) → HasLuck (luck_after luck line (fault_in outcome)) after

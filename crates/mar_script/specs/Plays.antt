@@ -4,7 +4,6 @@ use Rattle.std.specs.Prelude.{Contains, IfSome, List, [], length, ℕ, ⊤, ◌*
 use Rattle.mar_types.specs.Epochs.{IsPartition}
 use Rattle.mar_cert.specs.Block.{Block}
 use Rattle.mar_cert.specs.Finalization.{Finalization, finalization_bytes}
-use Rattle.mar_store.specs.Changes.{Within}
 use Rattle.mar_store.specs.Sizes.{IsSmall}
 use Rattle.mar_node.specs.Messages.{report_finalization}
 use Rattle.mar_node.specs.Acks.{mark_dropped}
@@ -48,9 +47,13 @@ abbrev pub cached_in : State → List Cached
 cached_in (running n) = n.cache.held ++ n.cache.may
 cached_in (stopped e) = e.cache_may
 
+-- the blocks among that
+abbrev pub cached_blocks_in : State → List Block
+cached_blocks_in s = filter_map cached_block (cached_in s)
+
 -- the blocks that a line may meet beside its own: the chain's, those of the buffer, and those that may be cached
 abbrev pub known_in : Chain → State → List Block
-known_in chain s = chain.blocks ++ (buffer_in s ++ filter_map cached_block (cached_in s))
+known_in chain s = chain.blocks ++ (buffer_in s ++ cached_blocks_in s)
 
 -- What is asked of the chain, of the state behind k lines and of the next one: a digest names one block, a genesis is the
 -- chain's block 0, a reported finalization is the chain's; lines and window are no more than a script may have.
@@ -69,7 +72,7 @@ pub record Plays (config : Config) (chain : Chain) (k : ℕ) (account : Account)
   pub done : LineDone config chain account before line out after
   pub between : IsBetween config chain (k + 1) after
   pub buffered : (b : Block) → Contains (buffer_in after) b → Contains (buffer_in before ++ line_blocks line) b
-  pub cached : Within (cached_in after) (cached_in before)
+  pub cached : (b : Block) → Contains (cached_blocks_in after) b → Contains (cached_blocks_in before ++ line_blocks line) b
   pub excused : IfSome out.fault IsUsual
 
 -- SIZES

@@ -7,7 +7,7 @@ returns-in-Ok g c =
     let blocks = ap (λ b. b.blocks) c.take_sent.ensures.left ∙ (c.in-Ok.ensures.blocks ∙ ap (λ b. b.blocks) c.take_sent-earlier.ensures.left) in
     takes_ok c.args.actor c.args.buffer _ _ _ c.requires.silent c.in-Ok.actor _ c.args.pending blocks
     (promise_since c.args.actor c.args.buffer _ _ _ _ _ _ _ _ _ _ _ (Ok c.in-Ok.actor) c.take_sent-earlier.ensures.left c.requires.silent (sent_taken _ _ c.take_sent.ensures.taken) c.in-Ok.ensures.promise)
-    c.in-Ok.ensures.same_life.1 c.in-Ok.ensures.same_life.2 c.in-Ok.ensures.watches (c.in-Ok.ensures.tickets, c.in-Ok.ensures.sync_tickets)
+    c.in-Ok.ensures.same_life.1 c.in-Ok.ensures.same_life.2 c.in-Ok.ensures.watches (c.in-Ok.ensures.tickets, c.in-Ok.ensures.sync_tickets) c.in-Ok.ensures.loaded
 
 pub returns-in-Err : goal.returns-in-Err
 returns-in-Err g c =
