@@ -1,8 +1,9 @@
 //! The rules of a node that need its stores and its resolver alone: how a finalized block is stored or asked for, how the
-//! processed height and the cutoff rise, and what may be handed over.
+//! processed height and the cutoff rise and the cache is pruned, and what may be handed over.
 #![tactic(auto)]
 
 mod handing;
+mod pruning;
 mod raising;
 mod storing;
 

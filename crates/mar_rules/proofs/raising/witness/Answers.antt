@@ -1,5 +1,5 @@
-use Rattle.mar_node.proofs.Growing.{Grew-noted}
+use Rattle.mar_node.proofs.Growing.{Grew-noted, WithinWritten-nothing}
 use Rattle.mar_rules.proofs.raising.witness.Goals as goal
 
-pub returns-in-Some-clause-goes_on : goal.returns-in-Some-clause-goes_on
-returns-in-Some-clause-goes_on g c = λ start all grew within. c.raise.ensures.goes_on start all (rw c.witness.ensures.held (Grew-noted start all _ grew _ _)) within
+pub returns-in_ok-prune_before-in-Some-clause-goes_on : goal.returns-in_ok-prune_before-in-Some-clause-goes_on
+returns-in_ok-prune_before-in-Some-clause-goes_on g c = rw c.in-Some.is (λ start all grew within. c.raise.ensures.goes_on start all (rw c.witness.ensures.held (Grew-noted start all _ (c.in_ok-prune_before-in-Some.ensures.goes_on start all grew within) _ _)) (WithinWritten-nothing all))
