@@ -1,8 +1,9 @@
 -- What puts, syncs, prunes and a reopening make of logged entries.
 use Rattle.std.proofs.Common.{◌≡◌, ◌⊎◌, inl, inr, ◌||◌, ◌&&◌, ◌==◌, ◌≤◌, ◌<◌, ℕ, zero, suc, List, [], ◌∷◌, ◌++◌, Bool, true, false, Contains, cond, refl, ap, sym, ◌∙◌, subst, filter, map, nat_lt, min, ◌+◌, ◌≢◌, arith, append-nil}
-use Rattle.std.specs.List.{list_any}
+use Rattle.std.specs.List.{list_all, list_any}
 use Rattle.std.proofs.lemmas.Bool.{cases_eq, eq-eqb, eqb-true, le-ltb, lt-ltb, ltb-true, ne_eqb}
 use Rattle.std.proofs.lemmas.List.{map_push}
+use Rattle.std.proofs.lemmas.List.Folds.{list_all-map}
 use Rattle.std.proofs.lemmas.List.Elements.{Contains-append_left, filter-append}
 use Rattle.mar_key.specs.Fronts.{filter-map}
 use Rattle.mar_store.specs.Changes.{Within, left_of}
@@ -11,7 +12,8 @@ use Rattle.mar_store.specs.Tickets.{last_number}
 use Rattle.mar_store.proofs.Lookups.{AllByRecursion-push, AllByRecursion-weaker}
 use Rattle.mar_node.specs.Cached.{Cached, EachPlaceOnce, same_place}
 use Rattle.mar_node.specs.Sections.{is_in}
-use Rattle.mar_epochs.specs.EntryLogs.{AreNumbered, Logged, book_of, covered_in, drawn, drawn_in_all, entries, is_covered, is_drawn, is_numbered, kept_in, sure_entries, with_draw, with_mark, count_next}
+use Rattle.mar_epochs.specs.EntryLogs.{AreNumbered, Logged, book_of, covered_in, drawn, drawn_in_all, entries, is_covered, is_drawn, is_numbered, kept_in, log_of, logged_of, sure_entries, with_draw, with_mark, count_next}
+use Rattle.mar_epochs.specs.declared.logged_entry.LoggedEntry.{LoggedEntry}
 use Rattle.mar_epochs.specs.EpochArchives.{ChangesArchives, FindsArchives, KeepsCovered, LosesArchives, held_after, is_kept, newly_sure}
 use Rattle.mar_node.specs.declared.Section.{Section}
 use Rattle.mar_node.specs.declared.Section.TheVariants.{Certified, Finalizations, Notarizations, Notarized, Verified}
@@ -271,6 +273,37 @@ sure_drawn s half k (f ∷ fs) y has = by f.is_sure (is_drawn s f && is_lucky ha
     by true c rest (suc i, lt, is) = contains_more f.entry _ y (rest (i, omega arith, is))
     by false true rest has' = contains_more f.entry _ y (rest has')
     by false false rest has' = rest has'
+
+-- where all are sure, a reopening finds them as they are
+drawn_sure : (s : Section) (half k : ℕ) (fs : List Logged) → list_all (λ f. f.is_sure) fs ≡ true → drawn s half k fs ≡ fs
+drawn_sure s half k [] sure = refl
+drawn_sure s half k (f ∷ fs) sure = by f.number f.is_sure f.entry (λ k' rest. drawn_sure s half k' fs rest) sure
+  where
+    by : (n : ℕ) (b : Bool) (x : Cached) → ((k' : ℕ) → list_all (λ g. g.is_sure) fs ≡ true → drawn s half k' fs ≡ fs) → (b && list_all (λ g. g.is_sure) fs) ≡ true
+        → drawn s half k (record { number = n; is_sure = b; entry = x } ∷ fs) ≡ record { number = n; is_sure = b; entry = x } ∷ fs
+    by n true x go rest = ap (λ ys. record { number = n; is_sure = true; entry = x } ∷ ys) (go k rest)
+    by n false x go rest = absurd cc
+
+kept_sure : (fs : List Logged) → list_all (λ f. f.is_sure) fs ≡ true → filter (λ f. f.is_sure) fs ≡ fs
+kept_sure [] sure = refl
+kept_sure (f ∷ fs) sure = by f.is_sure (kept_sure fs) sure
+  where
+    by : (b : Bool) → (list_all (λ g. g.is_sure) fs ≡ true → filter (λ g. g.is_sure) fs ≡ fs) → (b && list_all (λ g. g.is_sure) fs) ≡ true → cond b (f ∷ filter (λ g. g.is_sure) fs) (filter (λ g. g.is_sure) fs) ≡ f ∷ fs
+    by true go rest = ap (λ ys. f ∷ ys) (go rest)
+    by false go rest = absurd cc
+
+settled_sure : (half : ℕ) (fs : List Logged) → list_all (λ f. f.is_sure) fs ≡ true → filter (λ f. f.is_sure) (drawn_in_all half fs) ≡ fs
+settled_sure half fs sure = ap (filter (λ f. f.is_sure)) same ∙ kept_sure fs sure
+  where
+    same : drawn_in_all half fs ≡ fs
+    same = ap (λ ys. drawn Finalizations half 0 (drawn Notarizations half 0 (drawn Certified half 0 (drawn Notarized half 0 ys)))) (drawn_sure Verified half 0 fs sure)
+        ∙ ap (λ ys. drawn Finalizations half 0 (drawn Notarizations half 0 (drawn Certified half 0 ys))) (drawn_sure Notarized half 0 fs sure)
+        ∙ ap (λ ys. drawn Finalizations half 0 (drawn Notarizations half 0 ys)) (drawn_sure Certified half 0 fs sure)
+        ∙ ap (drawn Finalizations half 0) (drawn_sure Notarizations half 0 fs sure)
+        ∙ drawn_sure Finalizations half 0 fs sure
+
+pub found_same : {E : Type 0} (plain : E → Cached) (half : ℕ) (items : List (LoggedEntry E)) → list_all (λ e. e.is_sure) items ≡ true → log_of plain items ≡ filter (λ f. f.is_sure) (drawn_in_all half (log_of plain items))
+found_same plain half items sure = sym (settled_sure half (log_of plain items) (list_all-map (λ f. f.is_sure) (logged_of plain) items ∙ sure))
 
 twice_same : (p : Logged → Bool) (fs : List Logged) → filter p (filter p fs) ≡ filter p fs
 twice_same p [] = refl

@@ -1,7 +1,7 @@
 //! Entries in the order of their puts, each with its number.
 ghost use Rattle.std.specs.Prelude.{◌≡◌, ◌++◌, ◌∷◌, [], false, filter, map, min, not, ◌+◌, slice_get, option_map, IfErr, IfOk};
 ghost use Rattle.std.specs.Option.{option_copied};
-ghost use Rattle.std.specs.List.{list_any};
+ghost use Rattle.std.specs.List.{list_all, list_any};
 ghost use Rattle.mar_store.specs.Tickets.{last_number};
 ghost use Rattle.mar_node.specs.Cached.{EachPlaceOnce, same_place};
 ghost use Rattle.mar_node.specs.Cache.{is_below, is_certified_below};
@@ -9,7 +9,9 @@ ghost use Rattle.mar_epochs.specs.EntryLogs.{AreNumbered, drawn_in_all, entries,
 ghost use Rattle.mar_epochs.specs.Props.{AreNumbered-prop, EachPlaceOnce-prop};
 
 use crate::as_entry::AsEntry;
-use crate::logged_entry::{LoggedEntry, copies_of, mark, settle, take_below, take_certified};
+use crate::logged_entry::{
+    LoggedEntry, are_sure, copies_of, mark, settle, take_below, take_certified,
+};
 use mar_node::Section;
 use mar_types::{Height, Round};
 use std::alloc::{AllocError, Global};
@@ -114,6 +116,13 @@ impl<E: AsEntry> EntryLog<E> {
         } = self;
         take_certified(&mut items, height);
         EntryLog { items, accepted }
+    }
+
+    /// Whether all entries are sure.
+    pub fn is_sure(&self) -> bool
+        ensures { result ≡ list_all (λ e. e.is_sure) self.now.items.items }
+    {
+        are_sure(&self.items)
     }
 
     /// What is sure stays, with what the bits of `half` keep of the rest; all of it is sure.

@@ -1,5 +1,6 @@
 //! Logged entries, in the order of their puts.
 ghost use Rattle.std.specs.Prelude.{◌≡◌, ◌==◌, ◌||◌, ◌<◌, IfOk, OnOk, filter, if◌then◌else◌, map, nat_lt, not};
+ghost use Rattle.std.specs.List.{list_all};
 ghost use Rattle.std.specs.BTreeMap.{get};
 ghost use Rattle.mar_store.specs.Tickets.{last_number};
 ghost use Rattle.mar_node.specs.Cache.{is_below, is_certified_below};
@@ -47,6 +48,13 @@ fn copy_of<E: AsEntry>(logged: &LoggedEntry<E>) -> Result<LoggedEntry<E>, AllocE
         is_sure: logged.is_sure,
         entry: logged.entry.try_clone()?,
     })
+}
+
+/// Whether every crash leaves all of these entries.
+pub fn are_sure<E>(items: &[LoggedEntry<E>]) -> bool
+    ensures { result ≡ list_all (λ e. e.is_sure) items.now }
+{
+    items.iter().all(|logged| logged.is_sure)
 }
 
 /// Where searches find these entries.

@@ -1,6 +1,7 @@
 //! The archives of an epoch in memory.
 ghost use Rattle.std.specs.Prelude.{◌≡◌, ◌++◌, ◌==◌, ◌∷◌, ◌≤◌, [], false, true, filter, if◌then◌else◌, length, map, refl, IfErr, IfOk, MatchResult, Some};
-ghost use Rattle.std.specs.List.{list_any};
+ghost use Rattle.std.specs.Option.{ForSome};
+ghost use Rattle.std.specs.List.{list_all, list_any};
 ghost use Rattle.std.specs.BTreeMap.{get};
 ghost use Rattle.mar_store.specs.Changes.{left_of};
 ghost use Rattle.mar_store.specs.Lost.{wreck_of};
@@ -32,10 +33,12 @@ pub struct MemEpochArchives<E: KeyedEntry> {
     ghost indexed: { (k : E.Key) → get E.Key.cmp index.spots k ≡ spot_found (E.has k) (entries (log_of E.plain log.items.items)) },
 }
 
-/// What is left of a `MemEpochArchives`.
+/// What is left of a `MemEpochArchives`, with its index where memory didn't run out.
 #[derive(Drop)]
 pub struct MemEpochArchivesWreck<E: KeyedEntry> {
     log: EntryLog<E>,
+    index: Option<Index<E::Key>>,
+    ghost indexed: { ForSome index (λ i. (k : E.Key) → get E.Key.cmp i.spots k ≡ spot_found (E.has k) (entries (log_of E.plain log.items.items))) },
 }
 
 impl<E: KeyedEntry> MemEpochArchives<E> {
@@ -103,6 +106,23 @@ impl<E: KeyedEntry> MemEpochArchives<E> {
     }
 }
 
+impl<E: KeyedEntry> MemEpochArchivesWreck<E> {
+    // The archives as they were, where all their entries are sure and there is an index; else what is left.
+    fn whole(self) -> Result<MemEpochArchives<E>, Self>
+        ensures same { MatchResult result (λ s. s.log ≡ self.log) (λ w. w.log ≡ self.log) }
+        ensures sure { IfOk result (λ s. list_all (λ e. e.is_sure) self.log.items.items ≡ true) }
+    {
+        if !self.log.is_sure() {
+            return Err(self);
+        }
+        let MemEpochArchivesWreck { log, index } = self;
+        match index {
+            Some(index) => Ok(MemEpochArchives { log, index }),
+            None => Err(MemEpochArchivesWreck { log, index: None }),
+        }
+    }
+}
+
 impl<E: KeyedEntry> EpochArchivesRuin for MemEpochArchivesWreck<E> {
     ghost left = { λ w. left_of (kept_in (log_of E.plain w.log.items.items)) };
 }
@@ -113,6 +133,7 @@ impl<E: KeyedEntry> EmptyStore for MemEpochArchivesWreck<E> {
     fn empty(alloc: Global) -> Self {
         MemEpochArchivesWreck {
             log: EntryLog::new(alloc),
+            index: None,
         }
     }
 }
@@ -158,34 +179,40 @@ impl<E: KeyedEntry> EpochArchives for MemEpochArchives<E> {
         match change {
             Change::Put(entry) => match self.put(entry) {
                 Ok(archives) => Ok(archives),
-                Err(log) => Err(Lost::Memory(MemEpochArchivesWreck { log })),
+                Err(log) => Err(Lost::Memory(MemEpochArchivesWreck { log, index: None })),
             },
             Change::Sync(section) => Ok(self.marked(section, u64::MAX)),
             Change::Finish(section, number) => Ok(self.marked(section, number)),
             Change::PruneBelow(round) => match MemEpochArchives::of(self.log.without_below(round)) {
                 Ok(archives) => Ok(archives),
-                Err(log) => Err(Lost::Memory(MemEpochArchivesWreck { log })),
+                Err(log) => Err(Lost::Memory(MemEpochArchivesWreck { log, index: None })),
             },
             Change::PruneCertified(height) => {
                 match MemEpochArchives::of(self.log.without_certified(height)) {
                     Ok(archives) => Ok(archives),
-                    Err(log) => Err(Lost::Memory(MemEpochArchivesWreck { log })),
+                    Err(log) => Err(Lost::Memory(MemEpochArchivesWreck { log, index: None })),
                 }
             }
         }
     }
 
     fn wreck(self) -> MemEpochArchivesWreck<E> {
-        MemEpochArchivesWreck { log: self.log }
+        MemEpochArchivesWreck {
+            log: self.log,
+            index: Some(self.index),
+        }
     }
 
     fn reopen(
         wreck: MemEpochArchivesWreck<E>,
         luck: u64,
     ) -> Result<Self, Lost<MemEpochArchivesWreck<E>>> {
-        match MemEpochArchives::settled(&wreck.log, LuckHalf::Low.of(luck)) {
+        match wreck.whole() {
             Ok(archives) => Ok(archives),
-            Err(_) => Err(Lost::Memory(wreck)),
+            Err(wreck) => match MemEpochArchives::settled(&wreck.log, LuckHalf::Low.of(luck)) {
+                Ok(archives) => Ok(archives),
+                Err(_) => Err(Lost::Memory(wreck)),
+            },
         }
     }
 }
