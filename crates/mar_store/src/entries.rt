@@ -23,7 +23,7 @@ use std::alloc::Global;
 #[derive(Drop)]
 pub struct Entries<T: Item> {
     pub pile: Pile<T>,
-    places: EntryPlaces<T::Key>,
+    pub(crate) places: EntryPlaces<T::Key>,
     ghost by_index: { (h : ℕ) → get nat_cmp places.by_index h ≡ first_place (λ e. e.index == h) pile.items.items },
     ghost by_key: { (k : T.Key) → get T.Key.cmp places.by_key k
         ≡ first_place (λ e. bytes_eq (T.name e.item) (T.Key.bytes k)) pile.items.items },

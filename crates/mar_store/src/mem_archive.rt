@@ -1,5 +1,9 @@
 //! An archive in memory.
-ghost use Rattle.std.specs.Prelude.{◌≡◌, ◌≤◌, IfErr, IfOk, MatchResult, [], filter, is_some, length, map, nat_le, take, Some};
+ghost use Rattle.std.specs.Prelude.{◌≡◌, ◌==◌, ◌≤◌, ℕ, IfErr, IfOk, MatchResult, [], bytes_eq, filter, is_some, length, map, nat_le, take, Some};
+ghost use Rattle.std.specs.Option.{ForSome};
+ghost use Rattle.std.specs.Ordering.{nat_cmp};
+ghost use Rattle.std.specs.BTreeMap.{get};
+ghost use Rattle.mar_types.specs.Places.{first_place};
 ghost use Rattle.mar_store.specs.Changes.{Fails, Prunes, left_of};
 ghost use Rattle.mar_store.specs.Kept.{reopened_store};
 ghost use Rattle.mar_store.specs.Entries.{covered_by, kept_of, seen};
@@ -14,6 +18,7 @@ ghost use Rattle.mar_store.specs.Nested.{covers_last, front_within, kept_nested}
 use crate::alarm::Alarm;
 use crate::entries::Entries;
 use crate::pile::Pile;
+use crate::places::EntryPlaces;
 use crate::{Archive, ArchiveRuin, Identifier, Item, Lost, LuckHalf, Miss, RangeSet, SyncTicket};
 use std::alloc::{AllocError, Global};
 
@@ -27,12 +32,16 @@ pub struct MemArchive<T: Item> {
     alarm: Alarm,
 }
 
-/// What is left of a `MemArchive`.
+/// What is left of a `MemArchive`, with the places of its entries where memory didn't run out.
 #[derive(Drop)]
 pub struct MemArchiveWreck<T: Item> {
     pile: Pile<T>,
+    places: Option<EntryPlaces<T::Key>>,
     half: LuckHalf,
     alarm: Alarm,
+    ghost by_index: { ForSome places (λ p. (h : ℕ) → get nat_cmp p.by_index h ≡ first_place (λ e. e.index == h) pile.items.items) },
+    ghost by_key: { ForSome places (λ p. (k : T.Key) → get T.Key.cmp p.by_key k
+        ≡ first_place (λ e. bytes_eq (T.name e.item) (T.Key.bytes k)) pile.items.items) },
 }
 
 impl<T: Item> MemArchive<T> {
@@ -58,10 +67,45 @@ impl<T: Item> MemArchive<T> {
         ensures half { result.half ≡ self.half }
         ensures alarm { result.alarm ≡ self.alarm }
     {
+        let Entries { pile, places } = self.entries;
         MemArchiveWreck {
-            pile: self.entries.into_pile(),
+            pile,
+            places: Some(places),
             half: self.half,
             alarm: self.alarm,
+        }
+    }
+}
+
+impl<T: Item> MemArchiveWreck<T> {
+    // The archive as it was, where all its entries are sure and their places are there; else what is left.
+    fn whole(self) -> Result<MemArchive<T>, Self>
+        ensures pile { MatchResult result (λ s. s.entries.pile ≡ self.pile) (λ w. w.pile ≡ self.pile) }
+        ensures half { MatchResult result (λ s. s.half ≡ self.half) (λ w. w.half ≡ self.half) }
+        ensures alarm { MatchResult result (λ s. s.alarm ≡ self.alarm) (λ w. w.alarm ≡ self.alarm) }
+        ensures sure { IfOk result (λ s. self.pile.synced ≡ length self.pile.items.items) }
+    {
+        if self.pile.sure_count() != self.pile.items.len() {
+            return Err(self);
+        }
+        let MemArchiveWreck {
+            pile,
+            places,
+            half,
+            alarm,
+        } = self;
+        match places {
+            Some(places) => Ok(MemArchive {
+                entries: Entries { pile, places },
+                half,
+                alarm,
+            }),
+            None => Err(MemArchiveWreck {
+                pile,
+                places: None,
+                half,
+                alarm,
+            }),
         }
     }
 }
@@ -148,6 +192,7 @@ impl<T: Item> Archive<T> for MemArchive<T> {
         if archive.alarm.rings() {
             return Err(Lost::Fault(MemArchiveWreck {
                 pile: archive.entries.put_in_part(index, item),
+                places: None,
                 half: archive.half,
                 alarm: archive.alarm,
             }));
@@ -156,6 +201,7 @@ impl<T: Item> Archive<T> for MemArchive<T> {
             Ok(entries) => Ok(MemArchive { entries, ..archive }),
             Err(pile) => Err(Lost::Memory(MemArchiveWreck {
                 pile,
+                places: None,
                 half: archive.half,
                 alarm: archive.alarm,
             })),
@@ -171,6 +217,7 @@ impl<T: Item> Archive<T> for MemArchive<T> {
             Ok(entries) => Ok(MemArchive { entries, ..archive }),
             Err(pile) => Err(Lost::Memory(MemArchiveWreck {
                 pile,
+                places: None,
                 half: archive.half,
                 alarm: archive.alarm,
             })),
@@ -195,6 +242,7 @@ impl<T: Item> Archive<T> for MemArchive<T> {
             Ok(entries) => Ok(MemArchive { entries, ..archive }),
             Err(pile) => Err(Lost::Memory(MemArchiveWreck {
                 pile,
+                places: None,
                 half: archive.half,
                 alarm: archive.alarm,
             })),
@@ -225,6 +273,7 @@ impl<T: Item> Archive<T> for MemArchive<T> {
             Ok(entries) => Ok(MemArchive { entries, ..archive }),
             Err(pile) => Err(Lost::Memory(MemArchiveWreck {
                 pile,
+                places: None,
                 half: archive.half,
                 alarm: archive.alarm,
             })),
@@ -232,8 +281,10 @@ impl<T: Item> Archive<T> for MemArchive<T> {
     }
 
     fn wreck(self) -> MemArchiveWreck<T> {
+        let Entries { pile, places } = self.entries;
         MemArchiveWreck {
-            pile: self.entries.into_pile(),
+            pile,
+            places: Some(places),
             half: self.half,
             alarm: self.alarm,
         }
@@ -244,13 +295,21 @@ impl<T: Item> Archive<T> for MemArchive<T> {
         if wreck.alarm.rings() {
             return Err(Lost::Fault(wreck));
         }
-        match Entries::open(wreck.pile, wreck.half.of(luck)) {
-            Ok(entries) => Ok(MemArchive {
-                entries,
-                half: wreck.half,
-                alarm: wreck.alarm,
-            }),
-            Err(pile) => Err(Lost::Memory(MemArchiveWreck { pile, ..wreck })),
+        match wreck.whole() {
+            Ok(archive) => Ok(archive),
+            Err(wreck) => match Entries::open(wreck.pile, wreck.half.of(luck)) {
+                Ok(entries) => Ok(MemArchive {
+                    entries,
+                    half: wreck.half,
+                    alarm: wreck.alarm,
+                }),
+                Err(pile) => Err(Lost::Memory(MemArchiveWreck {
+                    pile,
+                    places: None,
+                    half: wreck.half,
+                    alarm: wreck.alarm,
+                })),
+            },
         }
     }
 
