@@ -19,6 +19,7 @@ use Rattle.mar_epochs.specs.EpochStates.{ChangesEpoch, DestroysOrNot, EpochState
 use Rattle.mar_epochs.specs.EpochArchives.{puts_of}
 use Rattle.mar_epochs.proofs.Filtering.{contains_none}
 use Rattle.mar_epochs.specs.declared.Change.{Change}
+use Rattle.mar_cache.proofs.Views.{bare_or_some}
 
 -- AN EPOCH LIES WITHIN BOUNDS
 
@@ -56,6 +57,10 @@ some_not_bare (shut l) bare some = some bare
 opened_some : (t : EpochState) → is_opened t ≡ true → HasSome t
 opened_some (opened b) is = tt
 opened_some (shut l) is = absurd cc
+
+-- nothing is below the lowest epoch
+pub none_below : (states : EpochStates) (b : Bounds) (below : ℕ) → below ≤ b.lowest → LieWithin states b → (k : ℕ) → k < below → IsBare (states k)
+none_below states b below low lie k under = elim (bare_or_some (states k)) [ inl bare ↦ bare | inr some ↦ absurd (omega (arith, from_lowest b k ((lie k).inside some), low, under)) ]
 
 pub opens_itself : (t : EpochState) → is_opened t ≡ true → OpensEpoch t t
 opens_itself (opened b) is = refl

@@ -537,7 +537,7 @@ impl<S: Epochs, M: Meta> Manager<S, M> {
         manager.change(epoch, Change::PruneBelow(round))
     }
 
-    // Destroys each epoch that is below another.
+    // Destroys each epoch that is below another. None is where that isn't above the lowest.
     fn destroy_older(self, below: u64) -> Result<Self, Lost<ManagerWreck<S, M>>>
         ensures done { MatchResult result (λ m. DropsOlder below (S.states self.epochs) (S.states m.epochs))
             (λ l. AllByRecursion (DropsOlder below (λ k. left_of_epoch (S.states self.epochs k))) (S.Wreck.left (wreck_of l).epochs)) }
@@ -548,6 +548,9 @@ impl<S: Epochs, M: Meta> Manager<S, M> {
             (λ w. shelf_watch S.keeps w.alarm (S.Wreck.calm w.epochs && (M.Wreck.watch w.meta).only_armed))
             (shelf_watch S.keeps self.alarm (S.calm self.epochs && (M.watch self.meta).only_armed)) result }
     {
+        if below <= lowest(&self.meta) {
+            return Ok(self);
+        }
         let (manager, listed) = self.listed()?;
         manager.destroy_all(&listed, below)
     }

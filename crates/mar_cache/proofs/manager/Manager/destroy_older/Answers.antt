@@ -1,10 +1,15 @@
-use Rattle.std.proofs.Common.{ap, ◌∙◌, ◌&&◌}
+use Rattle.std.proofs.Common.{ap, arith, ◌∙◌, ◌&&◌}
 use Rattle.std.proofs.lemmas.Result.{IfErr-weaker, IfOk-weaker}
+use Rattle.mar_cache.specs.Bounds.{bounds_of}
 use Rattle.mar_cache.specs.Shelved.{shelf_watch}
 use Rattle.mar_cache.proofs.Exits.{err_is, err_match, no_ok}
 use Rattle.mar_cache.proofs.Views.{bare_if, drops_from, fallen_drops}
 use Rattle.mar_cache.proofs.Watched.{calm_exit, calm_then}
+use Rattle.mar_cache.proofs.Within.{none_below}
 use Rattle.mar_cache.proofs.manager.Manager.destroy_older.Goals as goal
+
+pub returns-then-below-lowest-clause-bare : goal.returns-then-below-lowest-clause-bare
+returns-then-below-lowest-clause-bare g c = none_below (g.S.Epochs.states c.args.self.epochs) (bounds_of (g.M.Meta.current c.args.self.meta)) c.args.below (omega (arith, c.lowest.ensures, c.if-below-lowest.true)) c.args.self.within
 
 pub returns-in_err-manager : goal.returns-in_err-manager
 returns-in_err-manager g c = record {
