@@ -10,6 +10,7 @@ pub mod PileSteps
 pub mod Surveys
 pub mod Covered
 pub mod Settled
+pub mod FrontPlaces
 pub mod Stores
 pub mod Finishing
 pub mod LastEnd

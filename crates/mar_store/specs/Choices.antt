@@ -1,5 +1,5 @@
 -- Which entries of a pile stay.
-use Rattle.std.specs.Prelude.{Bool, List, [], if◌then◌else◌, nat_le, nat_lt, suc, ℕ, ◌-◌, ◌||◌, ◌∷◌}
+use Rattle.std.specs.Prelude.{Bool, List, None, Option, Some, [], if◌then◌else◌, nat_le, nat_lt, suc, ℕ, ◌-◌, ◌||◌, ◌∷◌}
 use Rattle.mar_store.specs.Luck.{is_lucky}
 use Rattle.mar_store.specs.declared.entry.Entry.{Entry}
 use Rattle.mar_store.specs.declared.choice.Choice.{Choice}
@@ -17,3 +17,8 @@ stays choice place e = keeps_at choice place e.index
 abbrev pub chosen : {T : Type 0} → (ℕ → Entry T → Bool) → ℕ → List (Entry T) → List (Entry T)
 chosen p k [] = []
 chosen p k (e ∷ es) = if p k e then e ∷ chosen p (suc k) es else chosen p (suc k) es
+
+-- a place, where it is below an end
+abbrev pub place_below : ℕ → Option ℕ → Option ℕ
+place_below end None = None
+place_below end (Some place) = if nat_lt place end then Some place else None

@@ -15,7 +15,7 @@ use crate::choice::Choice;
 use crate::entry::Entry;
 use crate::pile::Pile;
 use crate::places::EntryPlaces;
-use crate::survey::places_of;
+use crate::survey::{places_from, places_of};
 use crate::{Identifier, Item};
 use std::alloc::Global;
 
@@ -203,6 +203,28 @@ impl<T: Item> Entries<T> {
     {
         let choice = Choice::Lucky(pile.sure_count(), half);
         match places_of(*pile.items.allocator(), &pile.items, choice) {
+            Err(_) => Err(pile),
+            Ok(places) => match pile.settle(half) {
+                Err(pile) => Err(pile),
+                Ok(pile) => Ok(Entries { pile, places }),
+            },
+        }
+    }
+
+    /// Opens entries again: what is sure stays, and those of the others that the bits of `half` keep. It gives back the pile
+    /// as it was where memory runs out.
+    pub fn drawn(self, half: u64) -> Result<Self, Pile<T>>
+        ensures found { IfOk result (λ s. kept_of s.pile.items.items s.pile.synced
+            ≡ reopened_store (lucky_found (is_lucky half) (left_of (kept_of self.pile.items.items self.pile.synced)))) }
+        ensures err { IfErr result (λ p. p ≡ self.pile) }
+    {
+        let sure = self.pile.sure_count();
+        if sure == self.pile.items.len() {
+            return Ok(self);
+        }
+        let Entries { pile, mut places } = self;
+        places.keep_below(sure);
+        match places_from(places, &pile.items, Choice::Lucky(sure, half), sure) {
             Err(_) => Err(pile),
             Ok(places) => match pile.settle(half) {
                 Err(pile) => Err(pile),

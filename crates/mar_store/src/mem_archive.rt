@@ -78,16 +78,12 @@ impl<T: Item> MemArchive<T> {
 }
 
 impl<T: Item> MemArchiveWreck<T> {
-    // The archive as it was, where all its entries are sure and their places are there; else what is left.
-    fn whole(self) -> Result<MemArchive<T>, Self>
+    // The archive as it was, where the places of its entries are there; else what is left.
+    fn standing(self) -> Result<MemArchive<T>, Self>
         ensures pile { MatchResult result (λ s. s.entries.pile ≡ self.pile) (λ w. w.pile ≡ self.pile) }
         ensures half { MatchResult result (λ s. s.half ≡ self.half) (λ w. w.half ≡ self.half) }
         ensures alarm { MatchResult result (λ s. s.alarm ≡ self.alarm) (λ w. w.alarm ≡ self.alarm) }
-        ensures sure { IfOk result (λ s. self.pile.synced ≡ length self.pile.items.items) }
     {
-        if self.pile.sure_count() != self.pile.items.len() {
-            return Err(self);
-        }
         let MemArchiveWreck {
             pile,
             places,
@@ -295,8 +291,20 @@ impl<T: Item> Archive<T> for MemArchive<T> {
         if wreck.alarm.rings() {
             return Err(Lost::Fault(wreck));
         }
-        match wreck.whole() {
-            Ok(archive) => Ok(archive),
+        match wreck.standing() {
+            Ok(archive) => match archive.entries.drawn(archive.half.of(luck)) {
+                Ok(entries) => Ok(MemArchive {
+                    entries,
+                    half: archive.half,
+                    alarm: archive.alarm,
+                }),
+                Err(pile) => Err(Lost::Memory(MemArchiveWreck {
+                    pile,
+                    places: None,
+                    half: archive.half,
+                    alarm: archive.alarm,
+                })),
+            },
             Err(wreck) => match Entries::open(wreck.pile, wreck.half.of(luck)) {
                 Ok(entries) => Ok(MemArchive {
                     entries,

@@ -3,6 +3,7 @@ ghost use Rattle.std.specs.Prelude.{◌≡◌, ◌==◌, ℕ, None, Some, OnOk, 
 ghost use Rattle.std.specs.Ordering.{nat_cmp};
 ghost use Rattle.std.specs.BTreeMap.{get};
 ghost use Rattle.mar_types.specs.Places.{or_place};
+ghost use Rattle.mar_store.specs.Choices.{place_below};
 
 use crate::ItemKey;
 use std::alloc::{AllocError, Global};
@@ -40,6 +41,15 @@ impl<K: ItemKey> EntryPlaces<K> {
         self.by_key.get(key).copied()
     }
 
+    /// Forgets the places from one on.
+    pub fn keep_below(&mut self, end: usize)
+        ensures indexes { (h : ℕ) → get nat_cmp self.new.by_index h ≡ place_below end (get nat_cmp self.old.by_index h) }
+        ensures keys { (k : K) → get K.cmp self.new.by_key k ≡ place_below end (get K.cmp self.old.by_key k) }
+    {
+        forget_from(&mut self.by_index, end);
+        forget_from(&mut self.by_key, end);
+    }
+
     /// Notes a place, but where the index or the key has one already.
     pub fn note(&mut self, index: u64, key: K, place: usize) -> Result<(), AllocError>
         ensures indexes { OnOk result ((h : ℕ) → get nat_cmp self.new.by_index h
@@ -56,4 +66,11 @@ impl<K: ItemKey> EntryPlaces<K> {
         }
         Ok(())
     }
+}
+
+// Forgets the places from one on.
+fn forget_from<K: Ord + Drop>(places: &mut BTreeMap<K, usize>, end: usize)
+    ensures { (k : K) → get K.cmp places.new k ≡ place_below end (get K.cmp places.old k) }
+{
+    places.retain(|_, place| *place < end);
 }

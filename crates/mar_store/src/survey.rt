@@ -1,5 +1,5 @@
 //! What stands beside entries, counted over them.
-ghost use Rattle.std.specs.Prelude.{◌≡◌, ◌≤◌, ◌==◌, ℕ, bytes_eq, length, map, None, Some, if◌then◌else◌, IfOk, OnOk};
+ghost use Rattle.std.specs.Prelude.{◌≡◌, ◌≤◌, ◌==◌, ℕ, bytes_eq, length, map, take, None, Some, if◌then◌else◌, IfOk, OnOk};
 ghost use Rattle.std.specs.Ordering.{nat_cmp};
 ghost use Rattle.std.specs.BTreeMap.{get};
 ghost use Rattle.mar_store.specs.Changes.{heights};
@@ -55,9 +55,27 @@ pub fn places_of<T: Item>(
     ensures keys { IfOk result (λ p. (k : T.Key) → get T.Key.cmp p.by_key k
         ≡ first_place (λ e. bytes_eq (T.name e.item) (T.Key.bytes k)) (chosen (stays choice) 0 items.now)) }
 {
-    let mut places = EntryPlaces::new(alloc);
-    let mut count = 0;
-    let mut place = 0;
+    places_from(EntryPlaces::new(alloc), items, choice, 0)
+}
+
+/// The same, where each of so many at the front stays, whose places are there.
+pub fn places_from<T: Item>(
+    places: EntryPlaces<T::Key>,
+    items: &[Entry<T>],
+    choice: Choice,
+    from: usize,
+) -> Result<EntryPlaces<T::Key>, AllocError>
+    requires within { from ≤ length items.now }
+    requires front { chosen (stays choice) 0 (take from items.now) ≡ take from items.now }
+    requires indexes { (h : ℕ) → get nat_cmp places.by_index h ≡ first_place (λ e. e.index == h) (take from items.now) }
+    requires keys { (k : T.Key) → get T.Key.cmp places.by_key k ≡ first_place (λ e. bytes_eq (T.name e.item) (T.Key.bytes k)) (take from items.now) }
+    ensures indexes { IfOk result (λ p. (h : ℕ) → get nat_cmp p.by_index h ≡ first_place (λ e. e.index == h) (chosen (stays choice) 0 items.now)) }
+    ensures keys { IfOk result (λ p. (k : T.Key) → get T.Key.cmp p.by_key k
+        ≡ first_place (λ e. bytes_eq (T.name e.item) (T.Key.bytes k)) (chosen (stays choice) 0 items.now)) }
+{
+    let mut places = places;
+    let mut count = from;
+    let mut place = from;
     while place < items.len() {
         let entry = &items[place];
         let stays = choice.keeps(place, entry.index);

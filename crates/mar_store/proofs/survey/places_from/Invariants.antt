@@ -4,7 +4,7 @@ use Rattle.mar_store.specs.Choices.{chosen, stays}
 use Rattle.std.specs.Ordering.{nat_cmp}
 use Rattle.std.specs.BTreeMap.{get}
 use Rattle.mar_types.specs.Places.{first_place}
-use Rattle.mar_store.proofs.survey.places_of.Given as goal
+use Rattle.mar_store.proofs.survey.places_from.Given as goal
 
 abbrev pub decreases-loop-place : goal.decreases-loop-place
 decreases-loop-place g l = length l.items - l.place

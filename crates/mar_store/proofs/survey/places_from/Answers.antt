@@ -2,7 +2,7 @@ use Rattle.std.proofs.Common.{arith, ap, refl, ◌+◌}
 use Rattle.std.specs.Prelude.{bytes_eq, ◌==◌}
 use Rattle.mar_store.specs.Choices.{stays}
 use Rattle.mar_store.proofs.Surveys.{count_step, place_step}
-use Rattle.mar_store.proofs.survey.places_of.Goals as goal
+use Rattle.mar_store.proofs.survey.places_from.Goals as goal
 
 pub loop-place-preserved : goal.loop-place-preserved
 loop-place-preserved g c =
