@@ -13,7 +13,7 @@ ghost use Rattle.mar_store.specs.Props.{AreCounted-prop, EachHeightOnce-prop, Ea
 
 use crate::choice::Choice;
 use crate::entry::Entry;
-use crate::survey::{count_of, ranges_of};
+use crate::survey::{count_of, ranges_from, ranges_of};
 use crate::{Item, RangeSet, SyncTicket};
 use std::alloc::{AllocError, Global};
 
@@ -249,19 +249,21 @@ impl<T: Item> Pile<T> {
             return Ok(self);
         }
         let choice = Choice::Lucky(self.synced, half);
-        match self.draft_settled(choice) {
+        match self.draft_settled(half) {
             Err(_) => Err(self),
             Ok(draft) => Ok(self.keep(choice, draft)),
         }
     }
 
-    // What stands beside the entries that stay where all of them are sure.
-    fn draft_settled(&self, choice: Choice) -> Result<Draft, AllocError>
-        ensures held { IfOk result (λ d. d.held ≡ ranges (heights (map seen (chosen (stays choice) 0 self.now.items.items)))) }
+    // What stands beside the entries that stay where those are made sure that the bits of `half` keep.
+    fn draft_settled(&self, half: u64) -> Result<Draft, AllocError>
+        ensures held { IfOk result (λ d. d.held ≡ ranges (heights (map seen (chosen (stays (Choice.Lucky self.now.synced half)) 0 self.now.items.items)))) }
         ensures sure { IfOk result (λ d. d.sure ≡ d.held) }
-        ensures synced { IfOk result (λ d. d.synced ≡ length (chosen (stays choice) 0 self.now.items.items)) }
+        ensures synced { IfOk result (λ d. d.synced ≡ length (chosen (stays (Choice.Lucky self.now.synced half)) 0 self.now.items.items)) }
     {
-        let held = ranges_of(*self.items.allocator(), &self.items, choice)?;
+        let choice = Choice::Lucky(self.synced, half);
+        let front = self.sure.try_clone()?;
+        let held = ranges_from(front, &self.items, choice, self.synced)?;
         let sure = held.try_clone()?;
         let synced = count_of(&self.items, choice);
         Ok(Draft { held, sure, synced })

@@ -22,8 +22,23 @@ pub fn ranges_of<T>(
 ) -> Result<RangeSet, AllocError>
     ensures { IfOk result (λ r. r ≡ ranges (heights (map seen (chosen (stays choice) 0 items.now)))) }
 {
-    let mut ranges = RangeSet::new(alloc);
-    let mut place = 0;
+    ranges_from(RangeSet::new(alloc), items, choice, 0)
+}
+
+/// The same, where each of so many at the front stays, whose ranges are there.
+pub fn ranges_from<T>(
+    front: RangeSet,
+    items: &[Entry<T>],
+    choice: Choice,
+    from: usize,
+) -> Result<RangeSet, AllocError>
+    requires within { from ≤ length items.now }
+    requires stay { chosen (stays choice) 0 (take from items.now) ≡ take from items.now }
+    requires front { front ≡ ranges (heights (map seen (take from items.now))) }
+    ensures { IfOk result (λ r. r ≡ ranges (heights (map seen (chosen (stays choice) 0 items.now)))) }
+{
+    let mut ranges = front;
+    let mut place = from;
     while place < items.len() {
         let index = items[place].index;
         insert_if(&mut ranges, choice.keeps(place, index), index)?;

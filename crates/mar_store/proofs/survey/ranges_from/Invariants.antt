@@ -3,7 +3,7 @@ use Rattle.mar_store.specs.Choices.{chosen, stays}
 use Rattle.mar_store.specs.Changes.{heights}
 use Rattle.mar_store.specs.Ranges.{ranges}
 use Rattle.mar_store.specs.Entries.{seen}
-use Rattle.mar_store.proofs.survey.ranges_of.Given as goal
+use Rattle.mar_store.proofs.survey.ranges_from.Given as goal
 
 abbrev pub decreases-loop-place : goal.decreases-loop-place
 decreases-loop-place g l = length l.items - l.place

@@ -1,7 +1,7 @@
 use Rattle.std.proofs.Common.{arith, refl}
 use Rattle.mar_store.specs.Choices.{stays}
 use Rattle.mar_store.proofs.Surveys.{ranges_step}
-use Rattle.mar_store.proofs.survey.ranges_of.Goals as goal
+use Rattle.mar_store.proofs.survey.ranges_from.Goals as goal
 
 pub loop-place-preserved : goal.loop-place-preserved
 loop-place-preserved g c = record {
