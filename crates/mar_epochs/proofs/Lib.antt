@@ -8,3 +8,4 @@ pub mod Leaving
 pub mod Unarmed
 pub mod Spotting
 pub mod Indexing
+pub mod Noting

@@ -53,8 +53,10 @@ impl<K: Ord + Copy> Index<K> {
         ensures { OnOk result ((k : K) → get K.cmp self.new.spots k
             ≡ (if eq_by_cmp K.cmp key k then sooner (get K.cmp self.old.spots k) spot else get K.cmp self.old.spots k)) }
     {
-        let first = sooner(self.spot_of(&key), spot);
-        self.spots.insert(key, first)?;
+        // Hardly any key has one, so that it is cheaper to put that back than to look first.
+        if let Some(found) = self.spots.insert(key, spot)? {
+            self.spots.insert(key, sooner(found, spot))?;
+        }
         Ok(())
     }
 
@@ -82,11 +84,8 @@ impl<K: Ord + Copy> Index<K> {
 }
 
 // Of an entry that was found and one put behind it, the spot of the one that is found.
-fn sooner(found: Option<Spot>, spot: Spot) -> Spot
-    ensures { Some result ≡ sooner found spot }
+const fn sooner(found: Spot, spot: Spot) -> Spot
+    ensures { Some result ≡ sooner (Some found) spot }
 {
-    match found {
-        Some(found) if !spot.is_before(&found) => found,
-        _ => spot,
-    }
+    if spot.is_before(&found) { spot } else { found }
 }
