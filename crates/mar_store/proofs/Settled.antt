@@ -88,6 +88,3 @@ fails_same items new n m are same = fails_still (left_of (kept_of items n)) (lef
 pub sure_stay : {T : Type 0} (half n k : ℕ) (es : List (Entry T)) → k + length es ≤ n → chosen (stays (Lucky n half)) k es ≡ es
 sure_stay half n k [] low = refl
 sure_stay half n k (e ∷ es) low = rw (or_left (nat_lt k n) (is_lucky half (k - n)) (lt-ltb k n (omega (arith, low)))) (ap (λ l. e ∷ l) (sure_stay half n (suc k) es (omega (arith, low))))
-
-pub whole_found : {T : Type 0} (half : ℕ) (items new : List (Entry T)) (n m : ℕ) → new ≡ items → m ≡ n → n ≡ length items → kept_of new m ≡ reopened_store (lucky_found (is_lucky half) (left_of (kept_of items n)))
-whole_found half items new n m are same all = rw (are, same) (settled half n n items items (omega (arith, all)) (sym (sure_stay half n 0 items (omega (arith, all)))) all)
