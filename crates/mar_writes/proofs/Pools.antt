@@ -9,7 +9,7 @@ use Rattle.std.specs.List.{AllByRecursion, find}
 use Rattle.std.specs.Prelude.{filter, get_or, is_some, not, option_map}
 use Rattle.mar_writes.proofs.Batches.{filter-map}
 use Rattle.mar_writes.specs.Pool.{Pool, Pooled, pool_covered, pool_finished, pooled_at, syncs_of, writing_of}
-use Rattle.mar_writes.specs.Writing.{IsOrdered, OpenSync, Writing, covered_to, is_open_sync, position_of, total_writes, with_finished, with_started, with_write, without_sync}
+use Rattle.mar_writes.specs.Writing.{IsOrdered, OpenSync, Writing, covered_to, is_open_sync, position_of, total_writes, with_finished, with_started, with_ticket, with_write, without_sync}
 
 -- the open sync of a ticket, among entries that are seen through `see`
 pub pooled_found : {A : Type 0} (see : A → Pooled) (t : ℕ) (xs : List A) → pooled_at (map see xs) t ≡ option_map see (find (λ x. (see x).sync.ticket == t) xs)
@@ -77,6 +77,9 @@ ordered_started w o = record {
   below = all_last _ w.syncs _ (all_weaker _ _ (λ s fits. omega (arith, fits)) w.syncs o.below) (omega arith);
   within = all_last _ w.syncs _ o.within (omega arith);
 }
+
+pub ordered_ticketed : (w : Writing) → IsOrdered w → IsOrdered (with_ticket w)
+ordered_ticketed w o = record { ascend = o.ascend; below = all_weaker _ _ (λ s fits. omega (arith, fits)) w.syncs o.below; within = o.within }
 
 pub ordered_covered : (w : Writing) (p : ℕ) → IsOrdered w → IsOrdered (covered_to p w)
 ordered_covered w p o = record {

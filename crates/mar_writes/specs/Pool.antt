@@ -35,6 +35,10 @@ pool_started blocks certs p = record p {
   next_sync = p.next_sync + 1;
 }
 
+-- a ticket was taken for a sync of something else
+abbrev pub pool_ticketed : Pool → Pool
+pool_ticketed p = record p { next_sync = p.next_sync + 1 }
+
 -- the open sync of a ticket
 abbrev pub pooled_at : List Pooled → ℕ → Option Pooled
 pooled_at [] t = None

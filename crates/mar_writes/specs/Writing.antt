@@ -31,6 +31,10 @@ with_write height w = record w { uncovered = w.uncovered ++ height ∷ [] }
 abbrev pub with_started : Writing → Writing
 with_started w = record w { syncs = w.syncs ++ record { ticket = w.next_sync; position = total_writes w } ∷ []; next_sync = w.next_sync + 1 }
 
+-- a ticket was taken for a sync of something else
+abbrev pub with_ticket : Writing → Writing
+with_ticket w = record w { next_sync = w.next_sync + 1 }
+
 -- whether a sync of this ticket is open
 abbrev pub is_open_sync : List OpenSync → ℕ → Bool
 is_open_sync syncs t = list_any (λ s. s.ticket == t) syncs

@@ -2,7 +2,7 @@
 ghost use Rattle.std.specs.Prelude.{◌≡◌, ◌<◌, ◌≤◌, ◌+◌, ◌-◌, ◌^◌, ◌==◌, ◌&&◌, ◌++◌, OnErr, OnOk, drop, false, filter, find, map, max, nat_le, nat_lt, not, option_map};
 ghost use Rattle.std.specs.VecDeque.{deque_len};
 ghost use Rattle.mar_writes.specs.Gate.{IsLeastOf};
-ghost use Rattle.mar_writes.specs.Pool.{empty_pool, pool_cleared, pool_deferred, pool_finished, pool_started, pooled_at, syncs_of, writing_of};
+ghost use Rattle.mar_writes.specs.Pool.{empty_pool, pool_cleared, pool_deferred, pool_finished, pool_started, pool_ticketed, pooled_at, syncs_of, writing_of};
 ghost use Rattle.mar_writes.specs.Views.{pooled_of};
 ghost use Rattle.mar_writes.specs.Writing.{IsOrdered, is_open_sync, total_writes};
 
@@ -125,6 +125,24 @@ impl Writes {
         });
         self.next_sync += 1;
         Ok(())
+    }
+
+    /// The ticket of the next sync.
+    pub fn next_ticket(&self) -> u64
+        ensures { result ≡ self.now.next_sync }
+    {
+        self.next_sync
+    }
+
+    /// Takes the next ticket for a sync of something else, which is then not the ticket of any sync of both archives.
+    pub fn take_ticket(&mut self) -> u64
+        requires { self.old.next_sync < 2 ^ 64 - 1 }
+        ensures number { result ≡ self.old.next_sync }
+        ensures rest { self.new ≡ pool_ticketed self.old }
+    {
+        let ticket = self.next_sync;
+        self.next_sync += 1;
+        ticket
     }
 
     /// The open sync of a ticket.
