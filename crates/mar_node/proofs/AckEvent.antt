@@ -208,7 +208,7 @@ module _ {P E : Type 0} (config : Config) (chain : Chain) (lawful : IsLawful con
     are_tips = tt;
     tips_rise = refl;
     tips_chain = tt;
-    cache = moves_pruned config chain a (drained_to own_pairs now) (ack_given t) buffer waiting refl refl cached.own_lowest prunes loaded prunes_own witnessed-is (PrunesCacheBy-beside prunes a.held now (drained_to own_pairs now).held refl refl refl pruned);
+    cache = moves_pruned config chain a (drained_to own_pairs now) (ack_given t) buffer waiting refl refl refl refl cached.own_lowest prunes loaded prunes_own witnessed-is (PrunesCacheBy-beside prunes a.held now (drained_to own_pairs now).held refl refl refl pruned);
     stored = tt;
     stored_late = tt;
     no_query = refl;

@@ -1,5 +1,5 @@
 -- What an event makes of the cache: what it puts, and what its rounds prune.
-use Rattle.std.proofs.Common.{◌≡◌, ◌⊎◌, inl, inr, ⊎_elim, cond, ℕ, max, List, [], ◌∷◌, ◌++◌, map, fold, Bool, true, false, None, bytes_eq, filter, find, Contains, refl, sym, ◌∙◌, ap, subst}
+use Rattle.std.proofs.Common.{◌≡◌, inl, inr, ⊎_elim, cond, ℕ, max, List, [], ◌∷◌, ◌++◌, map, fold, Bool, true, false, None, bytes_eq, filter, find, Contains, refl, sym, ◌∙◌, ap, subst}
 use Rattle.std.specs.List.{list_any}
 use Rattle.std.proofs.lemmas.Bool.{cases_lt}
 use Rattle.std.proofs.lemmas.List.Elements.{Contains-append_cases, Contains-append_left, Contains-append_right}
@@ -11,12 +11,12 @@ use Rattle.std.specs.Option.{option_or}
 use Rattle.std.specs.Prelude.{option_and_then}
 use Rattle.mar_store.specs.Kept.{At, Kept}
 use Rattle.mar_node.specs.AllEntries.{PrunesByAll, is_in_place, soonest, sooner_of}
-use Rattle.mar_node.specs.Cache.{AdvancesCache, answer_ticket, entries_put, finished_covers, is_below, started_syncs, still_covers, tickets_from, without_cache_sync, witnessing_of}
+use Rattle.mar_node.specs.Cache.{AdvancesCache, answer_ticket, entries_put, finished_covers, is_below, is_certified_below, is_pruned, started_syncs, tickets_from, without_cache_sync, witnessing_of}
 use Rattle.mar_node.specs.CacheCalls.{PutsAndSyncs}
 use Rattle.mar_node.specs.Cached.{Cached, cached_block, cached_finalization, finalization_entry}
 use Rattle.mar_node.specs.Chain.{Chain}
 use Rattle.mar_node.specs.Config.{Config}
-use Rattle.mar_node.specs.Event.{Event, message_told, no_floor, sync_finished}
+use Rattle.mar_node.specs.Event.{Event, message_told, no_floor}
 use Rattle.mar_node.specs.Held.{AreCached, Held, LeavesCache, Seen}
 use Rattle.mar_node.specs.Messages.{report_finalization}
 use Rattle.mar_node.specs.Entries.{has_commitment}
@@ -25,7 +25,10 @@ use Rattle.mar_node.specs.Stored.{block_of}
 use Rattle.mar_node.specs.Node.{Agrees, AreCachedOf, BlocksAgree, IsCacheOf, IsFinalized, Node, Rest, block_missing, floor_awaited, window_full, write_uncovered}
 use Rattle.mar_node.specs.Promise.{Waiting, node_of}
 use Rattle.mar_node.proofs.CacheChanges.{any_within, map_within}
-use Rattle.mar_node.proofs.CachePrunes.{LeavesCache-pruned}
+use Rattle.mar_node.proofs.CachePrunes.{LeavesCache-pruned, not_first}
+use Rattle.mar_node.proofs.OpenSyncs.{AreStillOpen-more, AreStillOpen-refl, AreStillOpen-then}
+use Rattle.mar_node.specs.OpenSyncs.{AreStillOpen}
+use Rattle.std.proofs.lemmas.List.{append-nil}
 use Rattle.mar_node.proofs.CacheSteps.{KeepsBeside, advances_none, advances_one}
 use Rattle.mar_node.proofs.EntryLists.{contains_none}
 use Rattle.mar_node.proofs.Growing.{LeavesCache-refl}
@@ -83,11 +86,6 @@ IsCacheOf-grown chain put old new is finalizations blocks held may = record {
 
 -- EVENTS
 
--- a node without open tickets of the cache
-without_none : (e : Event) → without_cache_sync e [] ≡ []
-without_none (sync_finished t) = refl
-without_none _ = refl
-
 module _ {P E : Type 0} (config : Config) (a m : Seen P E) (e : Event) (buffer buffer' : List Block) (waiting waiting' : Waiting) (rounds : List Round) where
   abbrev n : Node
   n = node_of a buffer waiting
@@ -98,8 +96,11 @@ module _ {P E : Type 0} (config : Config) (a m : Seen P E) (e : Event) (buffer b
   -- What the event's rounds are, and what they make of the lowest epoch: no sync is started.
   pub record Witnesses : Type 0 where
     pub unstarted : started_syncs n n' e ≡ []
+    pub unfinished : without_cache_sync e a.held.cache.syncs ≡ a.held.cache.syncs
+    pub uncovered : finished_covers n e ≡ []
     pub rounds_are : rounds ≡ (witnessing_of config n e no_floor).prunes
     pub last_is : m.held.witnessed ≡ (witnessing_of config n e no_floor).last
+    pub still_open : AreStillOpen (λ x. list_any (λ r. is_below r x) rounds) a.held.cache.syncs m.held.cache.syncs
     pub lowest : m.held.lowest ≡ fold (λ k r. max k r.epoch) a.held.lowest rounds
     pub own_lowest : m.held.lowests ≡ m.held.lowest ∷ []
 
@@ -107,13 +108,18 @@ module _ {P E : Type 0} (config : Config) (a m : Seen P E) (e : Event) (buffer b
   beside is = record {
     lowest = is.lowest ∙ ap (fold (λ k r. max k r.epoch) a.held.lowest) is.rounds_are;
     lowests = is.own_lowest;
-    cache_syncs = sym (ap (λ ss. map (still_covers config n e no_floor) ss ++ tickets_from a.held.writes.next_sync (answer_ticket e) m.held.cache.kept.held (started_syncs n n' e)) (without_none e) ∙ ap (tickets_from a.held.writes.next_sync (answer_ticket e) m.held.cache.kept.held) is.unstarted);
+    cache_syncs = record {
+      still = m.held.cache.syncs;
+      still_open = subst (λ ss. AreStillOpen (is_pruned config n e no_floor) ss m.held.cache.syncs) (sym is.unfinished) (AreStillOpen-more (λ x. list_any (λ r. is_below r x) rounds) (is_pruned config n e no_floor) fewer a.held.cache.syncs m.held.cache.syncs is.still_open);
+      started = [];
+      started_open = subst (λ tests. AreStillOpen (λ x. false) (tickets_from a.held.writes.next_sync (answer_ticket e) m.held.cache.kept.held tests) []) (sym is.unstarted) tt;
+      are = sym (append-nil m.held.cache.syncs);
+    };
     witnessed = is.last_is;
   }
-
-  finished_none : (x : Event) → finished_covers n x ≡ []
-  finished_none (sync_finished t) = refl
-  finished_none _ = refl
+    where
+      fewer : (x : Cached) → is_pruned config n e no_floor x ≡ false → list_any (λ r. is_below r x) rounds ≡ false
+      fewer x stays = ap (list_any (λ r. is_below r x)) is.rounds_are ∙ not_first (list_any (λ r. is_below r x) (witnessing_of config n e no_floor).prunes) (is_certified_below 0 x) stays
 
   -- nothing is put
   pub advances_pruned : entries_put config n m.held.cache.kept.held e no_floor ≡ [] → Witnesses → PrunesByAll rounds a.held.cache.kept m.held.cache.kept → AdvancesCache config n e no_floor n'
@@ -123,7 +129,7 @@ module _ {P E : Type 0} (config : Config) (a m : Seen P E) (e : Event) (buffer b
     mid = a.held.cache.kept;
     held = refl;
     sure = λ y has. has;
-    finished = λ y covered has. contains_none y (subst (λ ys. Contains ys y) (finished_none e) covered);
+    finished = λ y covered has. contains_none y (subst (λ ys. Contains ys y) is.uncovered covered);
     prunes = subst (λ rs. PrunesByAll rs a.held.cache.kept m.held.cache.kept) is.rounds_are prunes;
   }) (beside is)
 
@@ -191,7 +197,7 @@ pub record MovesCache {P E : Type 0} (config : Config) (chain : Chain) (a m : Se
   pub leaves : LeavesCache (left_of a.held.cache.kept) a.held.lowests put prunes (left_of m.held.cache.kept) m.held.lowests
   pub advances : AdvancesCache config (node_of a buffer waiting) e no_floor (node_of m buffer waiting)
 
-module _ {P E : Type 0} (config : Config) (chain : Chain) (a m : Seen P E) (e : Event) (buffer : List Block) (waiting : Waiting) (unput : entries_put config (node_of a buffer waiting) m.held.cache.kept.held e no_floor ≡ []) (unstarted : started_syncs (node_of a buffer waiting) (node_of m buffer waiting) e ≡ []) (own_lowest : a.held.lowests ≡ a.held.lowest ∷ []) where
+module _ {P E : Type 0} (config : Config) (chain : Chain) (a m : Seen P E) (e : Event) (buffer : List Block) (waiting : Waiting) (unput : entries_put config (node_of a buffer waiting) m.held.cache.kept.held e no_floor ≡ []) (unstarted : started_syncs (node_of a buffer waiting) (node_of m buffer waiting) e ≡ []) (unfinished : without_cache_sync e a.held.cache.syncs ≡ a.held.cache.syncs) (uncovered : finished_covers (node_of a buffer waiting) e ≡ []) (own_lowest : a.held.lowests ≡ a.held.lowest ∷ []) where
   -- it puts nothing, and its rounds prune
   pub moves_pruned : (rounds : List Round) → a.held.cache.loaded ≡ true → rounds ≡ (witnessing_of config (node_of a buffer waiting) e no_floor).prunes → m.held.witnessed ≡ (witnessing_of config (node_of a buffer waiting) e no_floor).last → PrunesCacheBy rounds a.held m.held → MovesCache config chain a m e buffer waiting
   moves_pruned rounds loaded rounds_are last_is pruned = record {
@@ -199,7 +205,7 @@ module _ {P E : Type 0} (config : Config) (chain : Chain) (a m : Seen P E) (e : 
     prunes = rounds;
     own = own_pruned config chain (node_of a buffer waiting) e rounds (λ r has. subst (λ rs. Contains rs r) rounds_are has);
     leaves = LeavesCache-pruned rounds a.held m.held loaded own_lowest pruned;
-    advances = advances_pruned config a m e buffer buffer waiting waiting rounds unput (record { unstarted = unstarted; rounds_are = rounds_are; last_is = last_is; lowest = pruned.lowest; own_lowest = pruned.own_lowest own_lowest }) (pruned.prunes loaded);
+    advances = advances_pruned config a m e buffer buffer waiting waiting rounds unput (record { unstarted = unstarted; unfinished = unfinished; uncovered = uncovered; rounds_are = rounds_are; last_is = last_is; still_open = pruned.still_open; lowest = pruned.lowest; own_lowest = pruned.own_lowest own_lowest }) (pruned.prunes loaded);
   }
 
   -- it leaves the cache as it was
@@ -209,7 +215,7 @@ module _ {P E : Type 0} (config : Config) (chain : Chain) (a m : Seen P E) (e : 
     prunes = [];
     own = own_none config chain (node_of a buffer waiting) e;
     leaves = subst (λ k. LeavesCache (left_of a.held.cache.kept) a.held.lowests [] [] (left_of k.kept) m.held.lowests) (sym cache) (subst (LeavesCache (left_of a.held.cache.kept) a.held.lowests [] [] (left_of a.held.cache.kept)) (sym lowests) (LeavesCache-refl (left_of a.held.cache.kept) a.held.lowests [] []));
-    advances = advances_pruned config a m e buffer buffer waiting waiting [] unput (record { unstarted = unstarted; rounds_are = none; last_is = last_is; lowest = lowest; own_lowest = lowests ∙ (own_lowest ∙ ap (λ k. k ∷ []) (sym lowest)) }) (ap (λ k. k.kept) cache);
+    advances = advances_pruned config a m e buffer buffer waiting waiting [] unput (record { unstarted = unstarted; unfinished = unfinished; uncovered = uncovered; rounds_are = none; last_is = last_is; still_open = subst (λ k. AreStillOpen (λ x. false) a.held.cache.syncs k.syncs) (sym cache) (AreStillOpen-refl (λ x. false) a.held.cache.syncs); lowest = lowest; own_lowest = lowests ∙ (own_lowest ∙ ap (λ k. k ∷ []) (sym lowest)) }) (ap (λ k. k.kept) cache);
   }
 
 -- a finalization was cached, and then rounds pruned
@@ -229,6 +235,9 @@ module _ (f : Finalization) (old now new : Held) (rounds : List Round) (cached :
   own_new : new.lowests ≡ new.lowest ∷ []
   own_new = pruned.own_lowest own_now
 
+  open_new : AreStillOpen (λ x. list_any (λ r. is_below r x) rounds) old.cache.syncs new.cache.syncs
+  open_new = AreStillOpen-then (λ x. false) (λ x. list_any (λ r. is_below r x) rounds) (λ x. list_any (λ r. is_below r x) rounds) (λ x stays. refl) (λ x stays. stays) old.cache.syncs now.cache.syncs new.cache.syncs caches.still_open pruned.still_open
+
   pub leaves_reported : LeavesCache (left_of old.cache.kept) old.lowests (finalization_entry f ∷ []) rounds (left_of new.cache.kept) new.lowests
   leaves_reported = LeavesCache-then (left_of old.cache.kept) old.lowests (left_of now.cache.kept) now.lowests (left_of new.cache.kept) new.lowests (finalization_entry f ∷ []) [] (finalization_entry f ∷ []) [] rounds rounds (λ x has. has) (Within-none (finalization_entry f ∷ [])) (Within-none rounds) (λ r has. has)
       (LeavesCache-put f old now loaded caches.puts same_lowests)
@@ -241,7 +250,7 @@ moves_reported config chain a m f now buffer waiting rounds cached loaded caches
   prunes = rounds;
   own = own_reported config chain (node_of a buffer waiting) f rounds final (λ r has. subst (λ rs. Contains rs r) rounds_are has);
   leaves = leaves_reported f a.held now m.held rounds cached loaded caches pruned;
-  advances = advances_report config a m f buffer buffer waiting waiting rounds now.cache.kept cached loaded caches.puts (record { unstarted = refl; rounds_are = rounds_are; last_is = last_is; lowest = lowest_new f a.held now m.held rounds cached loaded caches pruned; own_lowest = own_new f a.held now m.held rounds cached loaded caches pruned }) (pruned.prunes (caches.loaded ∙ loaded));
+  advances = advances_report config a m f buffer buffer waiting waiting rounds now.cache.kept cached loaded caches.puts (record { unstarted = refl; unfinished = refl; uncovered = refl; rounds_are = rounds_are; last_is = last_is; still_open = open_new f a.held now m.held rounds cached loaded caches pruned; lowest = lowest_new f a.held now m.held rounds cached loaded caches pruned; own_lowest = own_new f a.held now m.held rounds cached loaded caches pruned }) (pruned.prunes (caches.loaded ∙ loaded));
 }
 
 -- an actor whose cache is as these stores have it

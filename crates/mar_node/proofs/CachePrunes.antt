@@ -19,6 +19,8 @@ use Rattle.mar_node.specs.Lives.{later_round}
 use Rattle.mar_node.specs.Moves.{PrunesCache, PrunesCacheBy, pruned_by, rounds_of}
 use Rattle.mar_node.specs.Node.{Agrees, IsCacheOf, IsFinalized}
 use Rattle.mar_node.proofs.Filtered.{all_found_within}
+use Rattle.mar_node.proofs.OpenSyncs.{AreStillOpen-more, AreStillOpen-refl, AreStillOpen-then}
+use Rattle.mar_node.specs.OpenSyncs.{AreStillOpen}
 
 -- THE ROUNDS THAT PRUNE
 
@@ -112,10 +114,32 @@ IsCacheOf-pruned chain rounds old new of_chain prunes = record {
 
 -- THE STORES OF A LIFE
 
+-- where neither of two passes
+pub not_first : (a b : Bool) → (a || b) ≡ false → a ≡ false
+not_first true b is = absurd cc
+not_first false b is = refl
+
+pub not_second : (a b : Bool) → (a || b) ≡ false → b ≡ false
+not_second true b is = absurd cc
+not_second false b is = is
+
+not_in_front : {T : Type 0} (test : T → Bool) (xs ys : List T) → list_any test (xs ++ ys) ≡ false → list_any test xs ≡ false
+not_in_front test [] ys none = refl
+not_in_front test (x ∷ xs) ys none = by (test x) none (not_in_front test xs ys)
+  where
+    by : (c : Bool) → (c || list_any test (xs ++ ys)) ≡ false → (list_any test (xs ++ ys) ≡ false → list_any test xs ≡ false) → (c || list_any test xs) ≡ false
+    by true is rest = absurd cc
+    by false is rest = rest is
+
+not_behind : {T : Type 0} (test : T → Bool) (xs ys : List T) → list_any test (xs ++ ys) ≡ false → list_any test ys ≡ false
+not_behind test [] ys none = none
+not_behind test (x ∷ xs) ys none = not_behind test xs ys (not_second (test x) (list_any test (xs ++ ys)) none)
+
 pub PrunesCacheBy-none : (h h' : Held) → h'.cache ≡ h.cache → h'.lowest ≡ h.lowest → h'.lowests ≡ h.lowests → PrunesCacheBy [] h h'
 PrunesCacheBy-none h h' cache lowest lowests = record {
   prunes = λ loaded. ap (λ c. c.kept) cache;
   loaded = ap (λ c. c.loaded) cache;
+  still_open = subst (λ c. AreStillOpen (λ x. false) h.cache.syncs c.syncs) (sym cache) (AreStillOpen-refl (λ x. false) h.cache.syncs);
   lowest = lowest;
   own_lowest = λ own. lowests ∙ (own ∙ ap (λ k. k ∷ []) (sym lowest));
 }
@@ -125,6 +149,7 @@ pub PrunesCacheBy-beside : (rounds : List Round) (old new other : Held) → othe
 PrunesCacheBy-beside rounds old new other cache lowest lowests pruned = record {
   prunes = λ loaded. subst (λ k. PrunesByAll rounds old.cache.kept k.kept) (sym cache) (pruned.prunes loaded);
   loaded = ap (λ k. k.loaded) cache ∙ pruned.loaded;
+  still_open = subst (λ k. AreStillOpen (λ x. list_any (λ r. is_below r x) rounds) old.cache.syncs k.syncs) (sym cache) pruned.still_open;
   lowest = lowest ∙ pruned.lowest;
   own_lowest = λ own. lowests ∙ (pruned.own_lowest own ∙ ap (λ k. k ∷ []) (sym lowest));
 }
@@ -133,6 +158,7 @@ pub PrunesCacheBy-one : (r : Round) (a b : Held) → PrunesCache r a b → Prune
 PrunesCacheBy-one r a b prunes = record {
   prunes = λ loaded. (b.cache.kept, prunes.prunes loaded, refl);
   loaded = prunes.loaded;
+  still_open = AreStillOpen-more (is_below r) (λ x. is_below r x || false) (λ x stays. not_first (is_below r x) false stays) a.cache.syncs b.cache.syncs prunes.still_open;
   lowest = prunes.lowest;
   own_lowest = λ own. prunes.own_lowest;
 }
@@ -141,6 +167,7 @@ pub PrunesCacheBy-then : (xs ys : List Round) (a b c : Held) → PrunesCacheBy x
 PrunesCacheBy-then xs ys a b c first second = record {
   prunes = λ loaded. PrunesByAll-append xs ys a.cache.kept b.cache.kept c.cache.kept (first.prunes loaded) (second.prunes (first.loaded ∙ loaded));
   loaded = second.loaded ∙ first.loaded;
+  still_open = AreStillOpen-then (λ x. list_any (λ r. is_below r x) xs) (λ x. list_any (λ r. is_below r x) ys) (λ x. list_any (λ r. is_below r x) (xs ++ ys)) (λ x stays. not_in_front (λ r. is_below r x) xs ys stays) (λ x stays. not_behind (λ r. is_below r x) xs ys stays) a.cache.syncs b.cache.syncs c.cache.syncs first.still_open second.still_open;
   lowest = second.lowest ∙ (ap (λ k. fold (λ k r. max k r.epoch) k ys) first.lowest ∙ sym (fold-append (λ k r. max k r.epoch) a.lowest xs ys));
   own_lowest = λ own. second.own_lowest (first.own_lowest own);
 }

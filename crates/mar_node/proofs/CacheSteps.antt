@@ -1,5 +1,5 @@
 -- An event that puts one entry, or none, and prunes by rounds advances the cache as its definition says.
-use Rattle.std.proofs.Common.{◌≡◌, ◌≢◌, ◌⊎◌, inl, inr, ◌<◌, ◌==◌, ◌&&◌, ◌||◌, not, zero, suc, List, [], ◌∷◌, ◌++◌, Bool, true, false, IsTrue, Contains, Some, cond, refl, ap, ap₂, sym, subst, arith, ◌∙◌, ◌≤◌, ℕ, map}
+use Rattle.std.proofs.Common.{◌≡◌, ◌≢◌, ◌⊎◌, inl, inr, ◌<◌, ◌==◌, ◌&&◌, ◌||◌, not, zero, suc, List, [], ◌∷◌, ◌++◌, Bool, true, false, IsTrue, Contains, Some, cond, refl, ap, ap₂, sym, subst, arith, ◌∙◌, ◌≤◌, ℕ}
 use Rattle.std.specs.Prelude.{fold}
 use Rattle.std.specs.List.{filter_map, list_any}
 use Rattle.std.proofs.lemmas.Bool.{eq-eqb}
@@ -10,7 +10,7 @@ use Rattle.mar_cert.specs.Block.{Block}
 use Rattle.mar_store.specs.Changes.{Within}
 use Rattle.mar_store.specs.Kept.{Kept}
 use Rattle.mar_node.specs.Cached.{Cached, certified_entry, epoch_of, finalization_entry, notarization_entry, notarized_entry, same_place, verified_entry, with_entry}
-use Rattle.mar_node.specs.Cache.{AdvancesCache, answer_ticket, certified_from, entries_put, finished_covers, entries_with_puts, first_of, first_verified, is_below, is_certified_below, is_pruned, is_synced, is_synced_put, is_covered_put, lowest_after, same_archive, started_syncs, still_covers, tickets_from, verified_in, without_cache_sync, witnessing_of}
+use Rattle.mar_node.specs.Cache.{AdvancesCache, OpensCacheSyncs, certified_from, entries_put, finished_covers, entries_with_puts, first_of, first_verified, is_below, is_certified_below, is_pruned, is_synced, is_synced_put, is_covered_put, lowest_after, same_archive, verified_in, witnessing_of}
 use Rattle.mar_node.specs.Config.{Config}
 use Rattle.mar_node.specs.Event.{Effect, Event}
 use Rattle.mar_node.specs.Node.{Node}
@@ -55,13 +55,13 @@ pub record PutsNone (config : Config) (n : Node) (e : Event) (fx : Effect) (n' :
 pub record KeepsBeside (config : Config) (n : Node) (e : Event) (fx : Effect) (n' : Node) : Type 0 where
   pub lowest : n'.lowest ≡ lowest_after config n e fx
   pub lowests : n'.lowests ≡ n'.lowest ∷ []
-  pub cache_syncs : n'.cache_syncs ≡ map (still_covers config n e fx) (without_cache_sync e n.cache_syncs) ++ tickets_from n.next_sync (answer_ticket e) n'.cache.held (started_syncs n n' e)
+  pub cache_syncs : OpensCacheSyncs config n e fx n'
   pub witnessed : n'.witnessed ≡ (witnessing_of config n e fx).last
 
 -- IN ITS PLACE
 
 -- what stands in the place of an entry by view is of its epoch
-place_epoch : (x y : Cached) → is_certified x ≡ false → same_place x y ≡ true → epoch_of y ≡ epoch_of x
+pub place_epoch : (x y : Cached) → is_certified x ≡ false → same_place x y ≡ true → epoch_of y ≡ epoch_of x
 place_epoch (finalization_entry f) (finalization_entry g) by_view same = sym (ap (λ r. r.epoch) (rounds_same f.round g.round same))
 place_epoch (notarization_entry f) (notarization_entry g) by_view same = sym (ap (λ r. r.epoch) (rounds_same f.round g.round same))
 place_epoch (notarized_entry r b) (notarized_entry s c) by_view same = sym (ap (λ t. t.epoch) (rounds_same r s same))

@@ -19,7 +19,7 @@ use Rattle.mar_node.specs.Cached.{Cached, cached_block, cached_finalization, epo
 use Rattle.mar_node.specs.Held.{Ending, IsArchiveFault, IsUsual, LeavesCache, LeavesStore, Loses, Seen, Written, blocks_left, cache_left, certs_left}
 use Rattle.mar_node.specs.Lives.{Cuts, CutsBy, IsGoodEnded, NotBelow, Reached, is_dropped_ack, is_refused_floor, reached_after, reached_before}
 use Rattle.mar_node.specs.Node.{Agrees, AreBlocksOf, AreFinalizationsOf, Ended, IsFinalized, IsGood, Node}
-use Rattle.mar_node.specs.Answers.{answers_of, sends_of}
+use Rattle.mar_node.specs.Answers.{Sent, answers_of, sends_of}
 use Rattle.mar_node.specs.Promise.{Waiting, made_of, node_of}
 use Rattle.mar_node.specs.Requests.{own_asks}
 use Rattle.mar_node.specs.Sound.{IsSafePair, IsSound}
@@ -105,21 +105,21 @@ module _ {P E : Type 0} (config : Config) (chain : Chain) (a : Seen P E) (e : Ev
   abbrev pub MayBeLeft : List (At Block) → Pair → Type 0
   MayBeLeft sure p = (own ≡ p) ⊎ ((after ≡ p) × IsSafePair chain sure p × NotBelow (option_map height_in a.held.processed) p.processed)
 
-  -- from a node that is good once some tip is told
-  module _ (tip_before : ℕ) (good : IsGood config chain (record n { tip = tip_before })) (no_effect : effect_of config n e ≡ no_floor) where
+  -- from a node that is good once some tip is told, where these were sent before
+  module _ (tip_before : ℕ) (good : IsGood config chain (record n { tip = tip_before })) (no_effect : effect_of config n e ≡ no_floor) (sends : List Sent) (sent : IsFront sends (sends_of n e)) where
     -- all that a cut says, of what is left
-    pub Cuts-left : (reports : List Report) (asks : List Call) (tip : ℕ) (reached : Reached) (fault : Fault) (left : Ended) → TipsFrom a.life.tip reports tip → AreTipsOf chain reports → (reached ≡ reached_before n e) ⊎ (reached ≡ reached_after n e no_floor) × Contains (map (λ p. p.processed) left.meta) reached.processed → HandedFrom left.blocks_sure a.life.next_ack (next_after reached.processed + length reached.out) (handed_blocks reports) → AreHandedOf chain left.blocks_sure (handed_blocks reports) → LeavesStores config chain n e left → 0 < length left.meta → (first_pair left.meta ≡ first_pair a.held.pairs) ⊎ (fault ≡ store_fault meta_store → ⊥) × (first_pair left.meta ≡ Some after) → ((p : Pair) → Contains left.meta p → MayBeLeft left.blocks_sure p) → (IsTrue (is_by_value fault) → event_fault config n e ≡ Some fault) → (IsTrue (is_refused_floor e fault) → ⊥) → (IsTrue (is_dropped_ack fault) → left.meta ≡ a.held.pairs) → IsFront asks (own_asks config n e no_floor) → Cuts config chain n (e ∷ []) (made_of reports asks) fault left
+    pub Cuts-left : (reports : List Report) (asks : List Call) (tip : ℕ) (reached : Reached) (fault : Fault) (left : Ended) → TipsFrom a.life.tip reports tip → AreTipsOf chain reports → (reached ≡ reached_before n e) ⊎ (reached ≡ reached_after n e no_floor) × Contains (map (λ p. p.processed) left.meta) reached.processed → HandedFrom left.blocks_sure a.life.next_ack (next_after reached.processed + length reached.out) (handed_blocks reports) → AreHandedOf chain left.blocks_sure (handed_blocks reports) → LeavesStores config chain n e left → 0 < length left.meta → (first_pair left.meta ≡ first_pair a.held.pairs) ⊎ (fault ≡ store_fault meta_store → ⊥) × (first_pair left.meta ≡ Some after) → ((p : Pair) → Contains left.meta p → MayBeLeft left.blocks_sure p) → (IsTrue (is_by_value fault) → event_fault config n e ≡ Some fault) → (IsTrue (is_refused_floor e fault) → ⊥) → (IsTrue (is_dropped_ack fault) → left.meta ≡ a.held.pairs) → IsFront asks (own_asks config n e no_floor) → Cuts config chain n (e ∷ []) (record (made_of reports asks) { sends = sends }) fault left
     Cuts-left reports asks tip reached fault left tips tips_chain reached_is in_order hands_chain leaves some first pairs cause refused unsynced front = record {
       finished = [];
       event = e;
       others = [];
       split = refl;
       first = nothing_made;
-      later = made_of reports asks;
+      later = record (made_of reports asks) { sends = sends };
       made_is = refl;
       mid = n;
       advances = (refl, refl);
-      cut = subst (λ fx. CutsBy config chain a.held.pairs (option_map height_in a.held.processed) n e fx (made_of reports asks) fault left) (sym no_effect) unfloored;
+      cut = subst (λ fx. CutsBy config chain a.held.pairs (option_map height_in a.held.processed) n e fx (record (made_of reports asks) { sends = sends }) fault left) (sym no_effect) unfloored;
     }
       where
         sure_cached : (x : Cached) → Contains a.held.cache.kept.sure x → Contains left.cache_sure x ⊎ (epoch_of x < n.lowest) ⊎ IsTrue (is_pruned config n e no_floor x)
@@ -163,7 +163,7 @@ module _ {P E : Type 0} (config : Config) (chain : Chain) (a : Seen P E) (e : Ev
             (λ h low has. keeps_heights a.held.blocks.sure left.blocks_sure (keeps_sure a.held.blocks leaves.put_blocks (blocks_left left) leaves.blocks) h has)
             (AllByRecursion-from_contains (λ p. (Contains a.held.pairs p × IsFrom 0 p.processed) ⊎ IsSafePair chain left.blocks_sure p) left.meta (λ p has. of_node p (pairs p has)))
 
-        unfloored : CutsBy config chain a.held.pairs (option_map height_in a.held.processed) n e no_floor (made_of reports asks) fault left
+        unfloored : CutsBy config chain a.held.pairs (option_map height_in a.held.processed) n e no_floor (record (made_of reports asks) { sends = sends }) fault left
         unfloored = record {
           tip = tip;
           tips = tips;
@@ -191,7 +191,7 @@ module _ {P E : Type 0} (config : Config) (chain : Chain) (a : Seen P E) (e : Ev
             cached = may_cached;
           };
           asks = front;
-          sends = (sends_of n e, refl);
+          sends = sent;
           answers = (0, (answers_of config n 0 e no_floor, refl));
           first_pair = first;
           no_lower = AllByRecursion-from_contains (λ p. NotBelow (option_map height_in a.held.processed) p.processed) left.meta (λ p has. not_below p (pairs p has));
@@ -201,7 +201,7 @@ module _ {P E : Type 0} (config : Config) (chain : Chain) (a : Seen P E) (e : Ev
         }
 
     -- A call failed before any block was handed over; `written` has the pairs that a failed sync was to write.
-    pub Cuts-before : (tips : List Report) (asks : List Call) (tip : ℕ) (written : Written) (left : Ending) → AreTips tips → TipsFrom a.life.tip tips tip → AreTipsOf chain tips → written.blocks_from ≡ 0 → written.certs_from ≡ 0 → OwnCache config chain n e written.cached written.prunes → AreBlocksOf chain written.blocks → AreFinalizationsOf chain written.certs → ((x : At Block) → Contains written.blocks x → brought_block n e ≡ Some x.value) → ((x : At Finalization) → Contains written.certs x → told_finalization n e ≡ Some x.value) → Loses a.held written left → ((p : Pair) → Contains written.pairs p → MayBeLeft left.remains.ended.blocks_sure p) → (IsTrue (is_by_value left.fault) → event_fault config n e ≡ Some left.fault) → (IsTrue (is_refused_floor e left.fault) → ⊥) → (IsTrue (is_dropped_ack left.fault) → left.remains.ended.meta ≡ a.held.pairs) → IsFront asks (own_asks config n e no_floor) → Cuts config chain n (e ∷ []) (made_of tips asks) left.fault left.remains.ended
+    pub Cuts-before : (tips : List Report) (asks : List Call) (tip : ℕ) (written : Written) (left : Ending) → AreTips tips → TipsFrom a.life.tip tips tip → AreTipsOf chain tips → written.blocks_from ≡ 0 → written.certs_from ≡ 0 → OwnCache config chain n e written.cached written.prunes → AreBlocksOf chain written.blocks → AreFinalizationsOf chain written.certs → ((x : At Block) → Contains written.blocks x → brought_block n e ≡ Some x.value) → ((x : At Finalization) → Contains written.certs x → told_finalization n e ≡ Some x.value) → Loses a.held written left → ((p : Pair) → Contains written.pairs p → MayBeLeft left.remains.ended.blocks_sure p) → (IsTrue (is_by_value left.fault) → event_fault config n e ≡ Some left.fault) → (IsTrue (is_refused_floor e left.fault) → ⊥) → (IsTrue (is_dropped_ack left.fault) → left.remains.ended.meta ≡ a.held.pairs) → IsFront asks (own_asks config n e no_floor) → Cuts config chain n (e ∷ []) (record (made_of tips asks) { sends = sends }) left.fault left.remains.ended
     Cuts-before tips asks tip written left only tips_rise tips_chain no_prune no_cert_prune own_cache of_blocks of_certs own_blocks own_certs lost new cause refused unsynced front =
         Cuts-left tips asks tip (reached_before n e) left.fault left.remains.ended tips_rise tips_chain (inl refl)
         (subst (λ xs. HandedFrom left.remains.ended.blocks_sure a.life.next_ack (next_after (option_map height_in a.held.processed) + length (reached_before n e).out) xs) (sym none) tt)
@@ -289,6 +289,11 @@ usual_not_dropped (ticket_limit k) usual = absurd usual
 pub unstarted_plain : {T : Type 0} (fault : Fault) → IsArchiveFault fault ⊎ ((fault ≡ ticket_limit sync_kind) × T) → (is_by_value fault ≡ false) × (is_dropped_ack fault ≡ false)
 unstarted_plain fault (inl archive) = (usual_not_by_value fault (usual_from_archive fault archive), usual_not_dropped fault (usual_from_archive fault archive))
 unstarted_plain fault (inr limit) = (ap is_by_value limit.0, ap is_dropped_ack limit.0)
+
+-- nor that of an entry that could not be kept
+pub unkept_plain : {T : Type 0} (fault : Fault) → IsUsual fault ⊎ ((fault ≡ ticket_limit sync_kind) × T) → (is_by_value fault ≡ false) × (is_dropped_ack fault ≡ false)
+unkept_plain fault (inl usual) = (usual_not_by_value fault usual, usual_not_dropped fault usual)
+unkept_plain fault (inr limit) = (ap is_by_value limit.0, ap is_dropped_ack limit.0)
 
 pub never : (b : Bool) → b ≡ false → IsTrue b → ⊥
 never b off on = let both : false ≡ true = sym off ∙ on in cc

@@ -12,6 +12,8 @@ use Rattle.mar_store.specs.Changes.{IsNested, KeepsValues}
 use Rattle.mar_node.specs.Metadata.{Pair}
 use Rattle.mar_node.specs.Stored.{at_own_height}
 use Rattle.mar_node.specs.Chain.{Chain}
+use Rattle.mar_node.specs.Answers.{sends_of}
+use Rattle.mar_node.specs.OpenSyncs.{NoneHas}
 use Rattle.mar_node.specs.Config.{Config}
 use Rattle.mar_node.specs.Event.{Event, brought_block, effect_of, message_told, no_floor, sync_finished, told_finalization}
 use Rattle.mar_node.specs.Faults.{Fault, is_by_value}
@@ -50,7 +52,7 @@ module _ {P E : Type 0} (epochs : Epochs) (inner : List ℕ → List ℕ) (parti
   told_cut config chain waiting e step no_effect unrefused tips tip are_tips rise of_chain told told' heard heard' written x tips_heard (asks, front, asks_heard) no_prune no_cert_prune own_cache of_blocks of_certs own_blocks own_certs lost may no_value not_dropped = record {
     made = made_of tips asks;
     heard = record { reports = tips_heard; asks = asks_heard; sends = refl; answers = refl };
-    cuts = Cuts-before config chain a e buffer waiting (untold config chain (node_of a buffer waiting) e step.good).0 (untold config chain (node_of a buffer waiting) e step.good).1 no_effect tips asks tip written x are_tips rise of_chain no_prune no_cert_prune own_cache of_blocks of_certs own_blocks own_certs lost may
+    cuts = Cuts-before config chain a e buffer waiting (untold config chain (node_of a buffer waiting) e step.good).0 (untold config chain (node_of a buffer waiting) e step.good).1 no_effect [] (sends_of (node_of a buffer waiting) e, refl) tips asks tip written x are_tips rise of_chain no_prune no_cert_prune own_cache of_blocks of_certs own_blocks own_certs lost may
         (λ is. absurd (never (is_by_value x.fault) no_value is)) (never (is_refused_floor e x.fault) (unrefused x.fault)) (λ is. absurd (never (is_dropped_ack x.fault) not_dropped is)) front;
   }
 
@@ -61,19 +63,19 @@ module _ {P E : Type 0} (epochs : Epochs) (inner : List ℕ → List ℕ) (parti
 
   -- A SYNC
 
-  module _ (t : ℕ) (cached : AreCached a.held) where
+  module _ (t : ℕ) (cached : AreCached a.held) (none : NoneHas t a.held.cache.syncs) where
     -- a sync that finished: more may be handed over
     pub promise-finished : (told told' : Option (List Report)) (heard : Option (List Call)) (m : Seen P E) (result : Result (Seen P E) Ending) → IsNested a.held.blocks → IsNested a.held.certs → AreWritten a.held → IsNested m.held.blocks → IsNested m.held.certs → FinishesSync t a m → Ran m told told' result → KeepsStep epochs inner a (sync_finished t ∷ []) buffer (heard_by told heard) (heard_by told' heard) result
     promise-finished told told' heard m result nested certs_nested written new_nested new_certs finishes ran loaded config chain waiting set step =
         dispatched config chain a m (sync_finished t) buffer waiting [] (set.window ∙ sym (ap (λ s. s.life.sizes.window) finishes.same)) step (λ fault. refl)
-        (sync.Reaches-finished config chain a m t buffer waiting nested certs_nested finishes cached new_nested new_certs) (sync.IsGood-finished config chain a m t buffer waiting nested certs_nested finishes written.ordered new_nested new_certs step.good)
+        (sync.Reaches-finished config chain a m t buffer waiting nested certs_nested finishes cached none new_nested new_certs) (sync.IsGood-finished config chain a m t buffer waiting nested certs_nested finishes written.ordered new_nested new_certs step.good)
         (sync.total-same config chain a m t buffer waiting nested certs_nested finishes written.ordered) new_nested.sure_held told told told' heard heard result (Hears-nothing told) ran (Hears-nothing heard)
 
     -- one that isn't open: nothing changes
     pub promise-closed : (told : Option (List Report)) (heard : Option (List Call)) (m : Seen P E) → IsNested a.held.blocks → IsNested a.held.certs → AreWritten a.held → IsNested m.held.blocks → IsNested m.held.certs → FinishesSync t a m → m ≡ a → KeepsStep epochs inner a (sync_finished t ∷ []) buffer (heard_by told heard) (heard_by told heard) (Ok m)
     promise-closed told heard m nested certs_nested written new_nested new_certs finishes same loaded config chain waiting set step =
         undispatched config chain a m (sync_finished t) buffer waiting [] (set.window ∙ sym (ap (λ s. s.life.sizes.window) finishes.same)) step (λ fault. refl)
-        (sync.Reaches-finished config chain a m t buffer waiting nested certs_nested finishes cached new_nested new_certs) (sync.IsGood-finished config chain a m t buffer waiting nested certs_nested finishes written.ordered new_nested new_certs step.good)
+        (sync.Reaches-finished config chain a m t buffer waiting nested certs_nested finishes cached none new_nested new_certs) (sync.IsGood-finished config chain a m t buffer waiting nested certs_nested finishes written.ordered new_nested new_certs step.good)
         (sync.total-same config chain a m t buffer waiting nested certs_nested finishes written.ordered) new_nested.sure_held told told heard heard (Hears-nothing told) (Hears-nothing heard)
         (subst (λ s. Rest config.window (node_of s buffer waiting)) (sym same) step.rests)
 

@@ -257,6 +257,7 @@ CachesReport-read f old now w caches goes = record {
   caches = record {
     puts = caches.caches.puts;
     loaded = caches.caches.loaded;
+    still_open = caches.caches.still_open;
     same = ap (λ (h : Held). record h { watches = w }) caches.caches.same;
   };
   grew = λ all within. goes old all (caches.grew all within) (WithinWritten-nothing all);

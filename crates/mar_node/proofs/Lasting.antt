@@ -1,5 +1,5 @@
 -- What a step keeps, and why one ends a life: from call to call.
-use Rattle.std.proofs.Common.{◌≡◌, ◌⊎◌, inl, inr, ℕ, zero, suc, ◌+◌, ◌-◌, ◌^◌, ◌<◌, ◌≤◌, Bool, List, length, Option, Result, Ok, Err, IfErr, IfOk, MatchResult, sym, ◌∙◌, ap, subst, arith, refl, true}
+use Rattle.std.proofs.Common.{◌≡◌, ◌⊎◌, inl, inr, ℕ, zero, suc, ◌+◌, ◌-◌, ◌^◌, ◌<◌, ◌≤◌, Bool, List, length, Option, Some, None, Result, Ok, Err, IfErr, IfOk, MatchResult, sym, ◌∙◌, ap, subst, arith, refl, true}
 use Rattle.mar_types.specs.Epochs.{Epochs}
 use Rattle.mar_types.specs.Round.{Round}
 use Rattle.mar_cert.specs.Block.{Block}
@@ -9,9 +9,9 @@ use Rattle.mar_store.specs.Kept.{At, Kept}
 use Rattle.mar_node.specs.Acks.{mark_given, with_mark}
 use Rattle.mar_node.specs.Metadata.{Pair}
 use Rattle.mar_node.specs.Faults.{Fault, TicketKind, ack_kind, dropped_ack, sync_kind, ticket_limit}
-use Rattle.mar_node.specs.Cached.{finalization_entry}
-use Rattle.mar_node.specs.Held.{ArePassed, Ending, Grew, Held, IsArchiveFault, IsEndedBy, IsUsual, Loses, Seen, Written, nothing_written, written_entry}
-use Rattle.mar_node.specs.Moves.{CachesReport, Drains, EndsDropped, EndsLife, FinishesSync, HasRoom, IsLastTicket, IsRead, IsStarted, LivesOn, RaisesTo, PutsAbove, RunsOut, StoresLate, with_cache_of}
+use Rattle.mar_node.specs.Cached.{Cached, finalization_entry}
+use Rattle.mar_node.specs.Held.{ArePassed, Ending, Grew, Held, IsArchiveFault, IsEndedBy, IsUsual, Loses, Seen, Written, nothing_written, seen, written_entry}
+use Rattle.mar_node.specs.Moves.{CachesReport, FinishesCacheSync, KeepsFor, ticketed, Drains, EndsDropped, EndsLife, FinishesSync, HasRoom, IsLastTicket, IsRead, IsStarted, LivesOn, RaisesTo, PutsAbove, RunsOut, StoresLate, with_cache_of}
 use Rattle.mar_node.specs.Step.{HandedBlock, Report}
 use Rattle.mar_writes.specs.Writing.{Writing}
 use Rattle.mar_node.proofs.Cutting.{usual_from_archive}
@@ -223,3 +223,40 @@ IsPart-finished a m t finishes passed = IsPart-moved a m _ _ _ _ (counted_in a m
 pub intact_in : {P E : Type 0} (a : Seen P E) (result : Result (Seen P E) Ending) → a.held.intact ≡ true → LivesOn a result → IfOk result (λ new. new.held.intact ≡ true)
 intact_in a (Ok new) whole same = same.intact ∙ whole
 intact_in a (Err x) whole ends = tt
+
+-- BLOCKS THAT ARE KEPT
+
+-- a block was kept: one ticket is taken at most
+pub LivesOn-kept : {P E : Type 0} (a : Seen P E) (m : Held) (epoch : ℕ) (put : List Cached) (covered : Cached → Bool) (answer ticket : Option ℕ) → KeepsFor epoch put covered answer ticket a.held m → ArePassed a.held.watches m.watches → LivesOn a (Ok (seen m a.life))
+LivesOn-kept a m epoch put covered answer ticket keeps passed = record {
+  passed = passed;
+  tickets = omega arith;
+  sync_tickets = let same : m.writes.next_sync ≡ (ticketed ticket a.held.writes).next_sync = ap (λ h. h.writes.next_sync) keeps.same in at_most ticket m.writes.next_sync same;
+  provider = refl;
+  epocher = refl;
+  sizes = refl;
+  intact = ap (λ h. h.intact) keeps.same;
+  loaded = λ is. keeps.loaded ∙ is;
+}
+  where
+    at_most : (o : Option ℕ) (k : ℕ) → k ≡ (ticketed o a.held.writes).next_sync → k ≤ a.held.writes.next_sync + 1
+    at_most None k is = omega (arith, is)
+    at_most (Some t) k is = omega (arith, is)
+
+-- it wasn't, for want of a ticket or otherwise
+pub EndsLife-unkept : {P E : Type 0} (a : Seen P E) (x : Ending) → IsEndedBy a.held.watches x → IsUsual x.fault ⊎ ((x.fault ≡ ticket_limit sync_kind) × (a.held.writes.next_sync ≡ 2 ^ 64 - 1)) → EndsLife a x
+EndsLife-unkept a x cause (inl usual) = EndsLife-usual a x cause usual
+EndsLife-unkept a x cause (inr last) = record { cause = cause; tickets = (λ is. absurd (let both : ticket_limit sync_kind ≡ ticket_limit ack_kind = sym last.0 ∙ is in cc), λ is. last.1) }
+
+-- a sync of the cache has finished
+pub LivesOn-cache_finished : {P E : Type 0} (a : Seen P E) (m : Held) (t : ℕ) → FinishesCacheSync t a.held m → ArePassed a.held.watches m.watches → LivesOn a (Ok (seen m a.life))
+LivesOn-cache_finished a m t finishes passed = record {
+  passed = passed;
+  tickets = omega arith;
+  sync_tickets = let same : m.writes.next_sync ≡ a.held.writes.next_sync = ap (λ h. h.writes.next_sync) finishes.same in omega arith;
+  provider = refl;
+  epocher = refl;
+  sizes = refl;
+  intact = ap (λ h. h.intact) finishes.same;
+  loaded = λ is. finishes.loaded ∙ is;
+}

@@ -7,6 +7,7 @@ pub mod Openings
 pub mod PairsAfter
 pub mod AtHand
 pub mod CachedBlocks
+pub mod KnownBlocks
 pub mod HonestAsks
 pub mod SyncTickets
 pub mod StoreLosses
@@ -35,6 +36,11 @@ pub mod FinalizationEvent
 pub mod Promises
 pub mod Heard
 pub mod EventPromises
+pub mod CacheEvents
+pub mod KeptEvents
+pub mod CertifiedBlocks
+pub mod CacheSyncEvent
+pub mod KeptPromises
 pub mod Idle
 pub mod Queries
 pub mod Sending
@@ -48,5 +54,6 @@ pub mod Keys
 pub mod Pairs
 pub mod GoodOpenings
 pub mod Permitted
+pub mod OpenSyncs
 pub mod Outcomes
 pub mod Looking

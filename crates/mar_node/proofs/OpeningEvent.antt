@@ -19,6 +19,7 @@ use Rattle.mar_node.specs.Chain.{Chain, Finalizes, IsBlockAt}
 use Rattle.mar_node.specs.Config.{Config}
 use Rattle.mar_node.specs.Faults.{Begin, Fault, anchor_fault, from_genesis, genesis_fault, genesis_height, is_by_value, next_after, opening_fault, stored_mismatch, successor_fault, unbacked, with_genesis}
 use Rattle.mar_node.specs.Held.{Ending, Grew, Held, IsEndedBy, IsUsual, Loses, LosesOpening, Remains, Remembered, ReopensAs, Sizes, Written, first_life, nothing_written, picks_of, written_block}
+use Rattle.mar_node.specs.Node.{CacheSync}
 use Rattle.mar_node.specs.Lives.{BackedBy, CutsReopening, Finds, IsGoodEnded, IsSettled, OpeningPair, SameAt, opened_cutoff, opened_node, opened_witnessed, processed_at}
 use Rattle.mar_node.specs.Moves.{StoresValue, newest_tip}
 use Rattle.mar_node.specs.Stored.{newest}
@@ -265,6 +266,7 @@ module _ (old : Remains) (luck : ℕ) (first : Held) (reopens : ReopensAs old lu
           abbrev of_values : Held → Option Processed → Cutoff → List Pair → Round → Kept (At Finalization) → ℕ → Writing → Node
           of_values h p c pairs witnessed certs k w = record opened {
             cache = h.cache.kept;
+            cache_syncs = h.cache.syncs;
             lowest = h.lowest;
             lowests = h.lowests;
             processed = p;
@@ -295,7 +297,8 @@ module _ (old : Remains) (luck : ℕ) (first : Held) (reopens : ReopensAs old lu
               ap (λ h. node_of (record { held = h; life = life }) [] none_waiting) derives.same
               ∙ same_values s _ s.processed _ (derived_cutoff config.epochs s) _ (derived_pair config.epochs s ∷ []) _ (opened_witnessed s.blocks.held s.certs.held (pair_in s)) _ s.certs _ sizes.capacity _ s.writes _
               begins.same processed_is cutoff_is (ap (λ p. p ∷ []) derived_is) witnessed_is (certs_same ∙ first_certs) (sym capacity) writes_are
-              ∙ ap (λ (xs : List Cached). record opened { cache = record first.cache.kept { held = xs } }) reopens.unheld
+              ∙ (ap (λ (xs : List Cached). record opened { cache = record first.cache.kept { held = xs }; cache_syncs = first.cache.syncs }) reopens.unheld
+              ∙ ap (λ (ss : List CacheSync). record opened { cache_syncs = ss }) reopens.no_syncs)
 
           pub Finds-begun : Finds config old.ended (picks_of old luck) begin (node_of (record { held = new; life = life }) [] none_waiting)
           Finds-begun = subst (Finds config old.ended (picks_of old luck) begin) (sym begins_is) Finds-opened

@@ -39,16 +39,21 @@ Writes-none a m e buffer waiting none held covered uncovered syncs = (
   refl,
 )
 
--- and no sync finished
-pub Writes-same : {P E : Type 0} (a m : Seen P E) (e : Event) (buffer : List Block) (waiting : Waiting) → own_writes (node_of a buffer waiting) (storing_of (node_of a buffer waiting) e) no_floor ≡ [] → m.held.blocks.held ≡ a.held.blocks.held → m.held.writes ≡ a.held.writes → ((syncs : List OpenSync) → finished_position syncs e ≡ 0) → ((syncs : List OpenSync) → without_finished e syncs ≡ syncs) → (w : Writes (node_of a buffer waiting) e no_floor (node_of m buffer waiting)) × (w.repaired ≡ [])
-Writes-same a m e buffer waiting none held same position syncs =
+-- and no sync of both archives finished
+pub Writes-alike : {P E : Type 0} (a m : Seen P E) (e : Event) (buffer : List Block) (waiting : Waiting) → own_writes (node_of a buffer waiting) (storing_of (node_of a buffer waiting) e) no_floor ≡ [] → m.held.blocks.held ≡ a.held.blocks.held → m.held.writes.covered ≡ a.held.writes.covered → m.held.writes.uncovered ≡ a.held.writes.uncovered → m.held.writes.syncs ≡ a.held.writes.syncs → finished_position a.held.writes.syncs e ≡ 0 → without_finished e a.held.writes.syncs ≡ a.held.writes.syncs → (w : Writes (node_of a buffer waiting) e no_floor (node_of m buffer waiting)) × (w.repaired ≡ [])
+Writes-alike a m e buffer waiting none held covered uncovered syncs position stay =
     Writes-none a m e buffer waiting none held
-    (ap (λ w. w.covered) same ∙ sym (ap (max a.held.writes.covered) (position a.held.writes.syncs) ∙ max-zero a.held.writes.covered))
-    (ap (λ w. w.uncovered) same ∙ sym (ap (λ k. drop (k - a.held.writes.covered) a.held.writes.uncovered) (ap (λ w. w.covered) same) ∙ ap (λ k. drop k a.held.writes.uncovered) (minus-same a.held.writes.covered)))
-    (ap (λ w. w.syncs) same ∙ sym (syncs a.held.writes.syncs))
+    (covered ∙ sym (ap (max a.held.writes.covered) position ∙ max-zero a.held.writes.covered))
+    (uncovered ∙ sym (ap (λ k. drop (k - a.held.writes.covered) a.held.writes.uncovered) covered ∙ ap (λ k. drop k a.held.writes.uncovered) (minus-same a.held.writes.covered)))
+    (syncs ∙ sym stay)
   where
     minus-same : (k : ℕ) → k - k ≡ 0
     minus-same k = omega arith
+
+-- the writes are as they were
+pub Writes-same : {P E : Type 0} (a m : Seen P E) (e : Event) (buffer : List Block) (waiting : Waiting) → own_writes (node_of a buffer waiting) (storing_of (node_of a buffer waiting) e) no_floor ≡ [] → m.held.blocks.held ≡ a.held.blocks.held → m.held.writes ≡ a.held.writes → ((syncs : List OpenSync) → finished_position syncs e ≡ 0) → ((syncs : List OpenSync) → without_finished e syncs ≡ syncs) → (w : Writes (node_of a buffer waiting) e no_floor (node_of m buffer waiting)) × (w.repaired ≡ [])
+Writes-same a m e buffer waiting none held same position syncs =
+    Writes-alike a m e buffer waiting none held (ap (λ w. w.covered) same) (ap (λ w. w.uncovered) same) (ap (λ w. w.syncs) same) (position a.held.writes.syncs) (syncs a.held.writes.syncs)
 
 -- no certificate entered
 pub Certificates-same : {P E : Type 0} (a m : Seen P E) (e : Event) (buffer : List Block) (waiting : Waiting) → m.held.certs ≡ a.held.certs → CertificatesFrom (node_of a buffer waiting) e (node_of m buffer waiting)

@@ -16,6 +16,7 @@ use Rattle.mar_node.specs.Cached.{Cached, finalization_entry}
 use Rattle.mar_node.specs.Acks.{Mark, Outstanding, after_given, dropped_oldest, given_front, is_dropped, mark_dropped, mark_given, mark_waiting, with_mark}
 use Rattle.mar_node.specs.Metadata.{Pair, first_pair, pair_of}
 use Rattle.mar_node.specs.Chain.{Chain}
+use Rattle.mar_node.specs.Answers.{sends_of}
 use Rattle.mar_node.specs.Config.{Config}
 use Rattle.mar_node.specs.Event.{Event, ack_given, cutoff_after, effect_of, message_told, no_floor, processed_after, told_finalization}
 use Rattle.mar_node.specs.Faults.{Fault, dropped_ack, dropped_first, is_by_value}
@@ -70,7 +71,7 @@ module _ {P E : Type 0} (epochs : Epochs) (inner : List ℕ → List ℕ) (parti
   synced_cut config chain waiting e step no_effect unrefused told told' heard heard' now own put prunes y x silent asks same_blocks same_certs cache_leaves own_cache pairs own_is of_cert told_is lost may of_archive = record {
     made = made_of [] (own_asks config (node_of a buffer waiting) e no_floor);
     heard = record { reports = silent; asks = asks; sends = refl; answers = refl };
-    cuts = Cuts-left config chain a e buffer waiting before.0 before.1 no_effect [] (own_asks config (node_of a buffer waiting) e no_floor) a.life.tip (reached_before (node_of a buffer waiting) e) x.fault x.remains.ended refl tt (inl refl) tt tt leaves
+    cuts = Cuts-left config chain a e buffer waiting before.0 before.1 no_effect [] (sends_of (node_of a buffer waiting) e, refl) [] (own_asks config (node_of a buffer waiting) e no_floor) a.life.tip (reached_before (node_of a buffer waiting) e) x.fault x.remains.ended refl tt (inl refl) tt tt leaves
         (some_from_first x.remains.ended.meta own (lost.leaves.pairs.first ∙ ap first_pair pairs))
         (inr ((λ is. absurd (subst IsArchiveFault is of_archive)), lost.leaves.pairs.first ∙ (ap first_pair pairs ∙ ap Some own_is)))
         (λ p has. may x.remains.ended.blocks_sure (keeps_sure a.held.blocks [] (blocks_left x.remains.ended) blocks_leave) p (subst (λ ps. Contains ps p) (append-nil now.pairs ∙ pairs) (lost.leaves.pairs.within p has)))
@@ -244,7 +245,7 @@ module _ {P E : Type 0} (epochs : Epochs) (inner : List ℕ → List ℕ) (parti
     promise-undrained told heard heard' x nested certs_nested (asks, front, asks_heard) lost (inr ends) loaded config chain waiting set step = record {
       made = made_of [] asks;
       heard = record { reports = Hears-nothing told; asks = asks_heard; sends = refl; answers = refl };
-      cuts = Cuts-before config chain a (ack_given t) buffer waiting a.life.tip step.good refl [] asks a.life.tip (written_prunes acked_prunes) x tt refl tt refl refl (own_acked loaded config chain waiting set step nested certs_nested) tt tt (λ z has. nothing_put z has) (λ z has. nothing_put z has) lost (λ p has. nothing_put p has)
+      cuts = Cuts-before config chain a (ack_given t) buffer waiting a.life.tip step.good refl [] ([], refl) [] asks a.life.tip (written_prunes acked_prunes) x tt refl tt refl refl (own_acked loaded config chain waiting set step nested certs_nested) tt tt (λ z has. nothing_put z has) (λ z has. nothing_put z has) lost (λ p has. nothing_put p has)
           (λ is. dropped_first-some (after_given given.life.out) ends.oldest ends.dropped ∙ ap Some (sym ends.fault)) (never (is_refused_floor (ack_given t) x.fault) refl) (λ is. ends.unsynced)
           (subst (λ cs. IsFront asks cs) (asks_are loaded config chain waiting set step nested certs_nested) front);
     }

@@ -10,6 +10,7 @@ use Rattle.mar_store.specs.Changes.{KeepsValues, left_of}
 use Rattle.mar_store.proofs.Lookups.{AllByRecursion-value_at, has_height-from_value}
 use Rattle.mar_node.specs.Metadata.{Pair, first_pair, pair_of}
 use Rattle.mar_node.specs.Chain.{Chain, IsBlockAt}
+use Rattle.mar_node.specs.Answers.{sends_of}
 use Rattle.mar_node.specs.Config.{Config}
 use Rattle.mar_node.specs.Event.{Event, cutoff_after, no_floor, processed_after, undrained_blocks}
 use Rattle.mar_node.specs.Faults.{Fault, ack_kind, is_by_value, meta_store, next_after, store_fault, ticket_limit}
@@ -131,7 +132,7 @@ module _ {P E : Type 0} (config : Config) (chain : Chain) (a m : Seen P E) (e : 
       -- a life that ended while blocks were handed over is cut there
       pub Cuts-handing : Cuts config chain n (e ∷ []) (made_of (tips ++ map handed_report handed) (own_asks config n e no_floor)) x.fault left
       Cuts-handing =
-          Cuts-left config chain a e buffer waiting good_before.0 good_before.1 reach.no_effect (tips ++ map handed_report handed) (own_asks config n e no_floor) m.life.tip reached x.fault left
+          Cuts-left config chain a e buffer waiting good_before.0 good_before.1 reach.no_effect [] (sends_of n e, refl) (tips ++ map handed_report handed) (own_asks config n e no_floor) m.life.tip reached x.fault left
           (tips_before_handed a.life.tip m.life.tip tips handed reach.are_tips reach.tips_rise) (tips_of_both chain tips handed reach.are_tips reach.tips_chain)
           (inr (refl, subst (Contains (map (λ p. p.processed) left.meta)) (sym processed_is) (contains_first left.meta (pair_of m.held.processed m.held.cutoff) first)))
           (subst (λ p. HandedFrom left.blocks_sure a.life.next_ack (next_after p + length (undrained_blocks n e)) (handed_blocks (tips ++ map handed_report handed))) (sym processed_is)

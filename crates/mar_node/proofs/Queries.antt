@@ -2,6 +2,8 @@
 use Rattle.std.proofs.Common.{◌≡◌, ℕ, List, [], ◌∷◌, ◌++◌, true, Option, Some, None, option_to_list, IfSome, Result, Ok, Err, IfErr, IfOk, OnErr, OnOk, MatchResult, ◌<◌, ◌≤◌, bytes_eq, find, map, refl, sym, ◌∙◌, ap, subst, arith}
 use Rattle.std.specs.List.{filter_map}
 use Rattle.std.specs.Option.{option_or}
+use Rattle.std.specs.Prelude.{flat_map}
+use Rattle.mar_node.specs.Answers.{cache_value}
 use Rattle.std.specs.Prelude.{option_and_then}
 use Rattle.mar_types.specs.Epochs.{Epochs, IsPartition}
 use Rattle.mar_cert.specs.Block.{Block}
@@ -19,7 +21,8 @@ use Rattle.mar_node.specs.Held.{AreCached, Ending, Grew, IsUsual, Loses, Seen, n
 use Rattle.mar_node.specs.Messages.{Identifier, Message, certify, close_ticket, forward, get_anchor, get_block, get_finalization, get_info, get_processed, get_verified, hint_finalized, hint_notarized, latest, of_digest, of_height, prepared, proposed, prune_below, report_certification, report_finalization, report_notarization, set_floor, subscribe_commitment, subscribe_digest, verified}
 use Rattle.mar_node.specs.Moves.{IsRead, found_at_hand}
 use Rattle.mar_node.specs.Node.{AreBlocksOf, Node, at_hand}
-use Rattle.mar_node.specs.Promise.{AreOne, KeepsStep, Waiting, heard_with, known_blocks, node_of}
+use Rattle.mar_node.specs.Promise.{AreOne, KeepsStep, Waiting, heard_with, known_blocks, node_of, told_blocks}
+use Rattle.mar_node.proofs.KnownBlocks.{AreOne-behind}
 use Rattle.mar_node.specs.Queries.{answers_found, block_found, value_found}
 use Rattle.mar_node.specs.Step.{Report, Steps}
 use Rattle.mar_node.specs.Stored.{block_of, newest, values_of}
@@ -27,7 +30,8 @@ use Rattle.mar_node.proofs.CachedBlocks.{by_digest-is, verified_first}
 use Rattle.mar_node.proofs.FoundBlocks.{cached_known, find-three, found-is}
 use Rattle.mar_node.proofs.Handing.{Hears-nothing}
 use Rattle.mar_node.proofs.Heard.{KeepsStep-beside}
-use Rattle.mar_node.proofs.Idle.{IsIdle, promise-cut, sent_and_answered, steps}
+use Rattle.mar_node.proofs.Idle.{IsIdle, promise-cut, steps}
+use Rattle.mar_node.proofs.CacheEvents.{sent_and_answered}
 use Rattle.mar_node.proofs.Tips.{below_last}
 
 -- WHAT IS FOUND
@@ -76,12 +80,12 @@ module _ {P E : Type 0} (config : Config) (a : Seen P E) (buffer : List Block) (
 
   -- it brings, stores, asks and sends nothing
   idle : (m : Message) → is_query (message_told (Some t) m) ≡ true → IsIdle config n (message_told (Some t) m) × ([] ≡ sends_of n (message_told (Some t) m))
-  idle (get_info id) is = (record { effect = refl; undrained = refl; processed = refl; cutoff = refl; storing = refl; position = λ xs. refl; syncs = λ xs. refl; witnessing = refl; unput = λ after. refl; no_fault = refl; asks = refl; subscriptions = refl; certified = λ tip. refl; no_syncs = λ n'. refl; unrefused = λ fault. refl }, refl)
-  idle (get_block id) is = (record { effect = refl; undrained = refl; processed = refl; cutoff = refl; storing = refl; position = λ xs. refl; syncs = λ xs. refl; witnessing = refl; unput = λ after. refl; no_fault = refl; asks = refl; subscriptions = refl; certified = λ tip. refl; no_syncs = λ n'. refl; unrefused = λ fault. refl }, refl)
-  idle (get_finalization h) is = (record { effect = refl; undrained = refl; processed = refl; cutoff = refl; storing = refl; position = λ xs. refl; syncs = λ xs. refl; witnessing = refl; unput = λ after. refl; no_fault = refl; asks = refl; subscriptions = refl; certified = λ tip. refl; no_syncs = λ n'. refl; unrefused = λ fault. refl }, refl)
-  idle get_processed is = (record { effect = refl; undrained = refl; processed = refl; cutoff = refl; storing = refl; position = λ xs. refl; syncs = λ xs. refl; witnessing = refl; unput = λ after. refl; no_fault = refl; asks = refl; subscriptions = refl; certified = λ tip. refl; no_syncs = λ n'. refl; unrefused = λ fault. refl }, refl)
-  idle get_anchor is = (record { effect = refl; undrained = refl; processed = refl; cutoff = refl; storing = refl; position = λ xs. refl; syncs = λ xs. refl; witnessing = refl; unput = λ after. refl; no_fault = refl; asks = refl; subscriptions = refl; certified = λ tip. refl; no_syncs = λ n'. refl; unrefused = λ fault. refl }, refl)
-  idle (get_verified r) is = (record { effect = refl; undrained = refl; processed = refl; cutoff = refl; storing = refl; position = λ xs. refl; syncs = λ xs. refl; witnessing = refl; unput = λ after. refl; no_fault = refl; asks = refl; subscriptions = refl; certified = λ tip. refl; no_syncs = λ n'. refl; unrefused = λ fault. refl }, refl)
+  idle (get_info id) is = (record { rest = record { effect = refl; undrained = refl; processed = refl; cutoff = refl; storing = refl; position = refl; syncs = refl; witnessing = refl; no_fault = refl; asks = refl; subscriptions = refl; certified = λ tip. refl; unrefused = λ fault. refl }; unput = λ after. refl; unfinished = λ xs. refl; uncovered = refl; no_syncs = λ n'. refl }, refl)
+  idle (get_block id) is = (record { rest = record { effect = refl; undrained = refl; processed = refl; cutoff = refl; storing = refl; position = refl; syncs = refl; witnessing = refl; no_fault = refl; asks = refl; subscriptions = refl; certified = λ tip. refl; unrefused = λ fault. refl }; unput = λ after. refl; unfinished = λ xs. refl; uncovered = refl; no_syncs = λ n'. refl }, refl)
+  idle (get_finalization h) is = (record { rest = record { effect = refl; undrained = refl; processed = refl; cutoff = refl; storing = refl; position = refl; syncs = refl; witnessing = refl; no_fault = refl; asks = refl; subscriptions = refl; certified = λ tip. refl; unrefused = λ fault. refl }; unput = λ after. refl; unfinished = λ xs. refl; uncovered = refl; no_syncs = λ n'. refl }, refl)
+  idle get_processed is = (record { rest = record { effect = refl; undrained = refl; processed = refl; cutoff = refl; storing = refl; position = refl; syncs = refl; witnessing = refl; no_fault = refl; asks = refl; subscriptions = refl; certified = λ tip. refl; unrefused = λ fault. refl }; unput = λ after. refl; unfinished = λ xs. refl; uncovered = refl; no_syncs = λ n'. refl }, refl)
+  idle get_anchor is = (record { rest = record { effect = refl; undrained = refl; processed = refl; cutoff = refl; storing = refl; position = refl; syncs = refl; witnessing = refl; no_fault = refl; asks = refl; subscriptions = refl; certified = λ tip. refl; unrefused = λ fault. refl }; unput = λ after. refl; unfinished = λ xs. refl; uncovered = refl; no_syncs = λ n'. refl }, refl)
+  idle (get_verified r) is = (record { rest = record { effect = refl; undrained = refl; processed = refl; cutoff = refl; storing = refl; position = refl; syncs = refl; witnessing = refl; no_fault = refl; asks = refl; subscriptions = refl; certified = λ tip. refl; unrefused = λ fault. refl }; unput = λ after. refl; unfinished = λ xs. refl; uncovered = refl; no_syncs = λ n'. refl }, refl)
   idle (report_finalization f) is = absurd cc
   idle (report_notarization f) is = absurd cc
   idle (report_certification f) is = absurd cc
@@ -100,9 +104,9 @@ module _ {P E : Type 0} (config : Config) (a : Seen P E) (buffer : List Block) (
 
   -- its answer is what is found
   answers_found-is : (chain : Chain) → AreOne config.inner (known_blocks chain (node_of a buffer waiting)) → AreBlocksOf chain a.held.blocks.held → (m : Message) → is_query (message_told (Some t) m) ≡ true → answers_found config.inner a.held buffer (message_told (Some t) m) ≡ answers_of config n n.lowest (message_told (Some t) m) no_floor
-  answers_found-is chain one blocks m is = ap (λ o. map (to t) (option_to_list o)) (value_found-is config chain a buffer waiting one blocks (Some t) m is) ∙ own m is
+  answers_found-is chain one blocks m is = ap (λ o. map (to t) (option_to_list (option_or o (cache_value a.held.writes.next_sync a.held.lowest m)))) (value_found-is config chain a buffer waiting one blocks (Some t) m is) ∙ own m is
     where
-      own : (m : Message) → is_query (message_told (Some t) m) ≡ true → map (to t) (option_to_list (query_value config n m)) ≡ answers_of config n n.lowest (message_told (Some t) m) no_floor
+      own : (m : Message) → is_query (message_told (Some t) m) ≡ true → map (to t) (option_to_list (option_or (query_value config n m) (cache_value a.held.writes.next_sync a.held.lowest m))) ≡ answers_of config n n.lowest (message_told (Some t) m) no_floor
       own (get_info id) is = refl
       own (get_block id) is = refl
       own (get_finalization h) is = refl
@@ -146,7 +150,7 @@ module _ {P E : Type 0} (epochs : Epochs) (inner : List ℕ → List ℕ) (parti
       answers = answers_found inner a.held buffer e
 
       are : answers ≡ answers_of config (node_of a buffer waiting) a.held.lowest e no_floor
-      are = ap (λ i. answers_found i a.held buffer e) (sym set.inner_is) ∙ answers_found-is config a buffer waiting t chain step.one step.good.of_chain.stores.held_blocks m query
+      are = ap (λ i. answers_found i a.held buffer e) (sym set.inner_is) ∙ answers_found-is config a buffer waiting t chain (AreOne-behind config.inner (flat_map told_blocks (e ∷ [])) (known_blocks chain (node_of a buffer waiting)) step.one) step.good.of_chain.stores.held_blocks m query
 
   -- a query
   pub promise-asked : (told : Option (List Report)) (heard : Option (List Call)) (sends : Option (List Sent)) (before after : List TicketAnswer) (result : Result (Seen P E) Ending) → AreCached a.held → IfOk result (IsRead a) → OnOk result (after ≡ before ++ answers_found inner a.held buffer e) → OnErr result (after ≡ before) → MatchResult result (λ new. Grew a.held nothing_written new.held) (Loses a.held nothing_written) → IfErr result (λ x. IsUsual x.fault) → KeepsStep epochs inner a (e ∷ []) buffer (heard_with told heard sends before) (heard_with told heard sends after) result

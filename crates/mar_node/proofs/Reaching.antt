@@ -11,7 +11,8 @@ use Rattle.mar_store.specs.Kept.{At, has_height, value_at}
 use Rattle.mar_store.specs.Changes.{KeepsValues}
 use Rattle.mar_store.proofs.Lookups.{AllByRecursion-append, AllByRecursion-value_at}
 use Rattle.mar_node.specs.Answers.{answers_of, certified_after, is_known, sends_of, subscriptions_after}
-use Rattle.mar_node.specs.Cache.{answer_ticket, started_syncs, still_covers, tickets_from, without_cache_sync}
+use Rattle.mar_node.specs.Cache.{answer_ticket, started_syncs, tickets_from}
+use Rattle.mar_node.specs.OpenSyncs.{AreStillOpen}
 use Rattle.mar_node.specs.Chain.{Chain, IsBlockAt, IsLawful}
 use Rattle.mar_node.specs.Cached.{cached_block, cached_finalization}
 use Rattle.mar_node.specs.Config.{Config}
@@ -317,7 +318,13 @@ module _ {P E : Type 0} (config : Config) (chain : Chain) (a m : Seen P E) (e : 
         lowest = reach.cache.advances.lowest;
         lowests = reach.cache.advances.lowests;
         own_lowest = reach.cache.advances.own_lowest;
-        cache_syncs = reach.cache.advances.cache_syncs ∙ ap (λ ss. map (still_covers config n e no_floor) (without_cache_sync e []) ++ tickets_from a.held.writes.next_sync (answer_ticket e) m.held.cache.kept.held ss) (reach.no_syncs (node_of m buffer waiting) ∙ sym (reach.no_syncs n'));
+        cache_syncs = record {
+          still = reach.cache.advances.cache_syncs.still;
+          still_open = reach.cache.advances.cache_syncs.still_open;
+          started = reach.cache.advances.cache_syncs.started;
+          started_open = subst (λ tests. AreStillOpen (λ x. false) (tickets_from a.held.writes.next_sync (answer_ticket e) m.held.cache.kept.held tests) reach.cache.advances.cache_syncs.started) (reach.no_syncs (node_of m buffer waiting) ∙ sym (reach.no_syncs n')) reach.cache.advances.cache_syncs.started_open;
+          are = reach.cache.advances.cache_syncs.are;
+        };
         witnessed = reach.cache.advances.witnessed;
       };
       may_cached = λ x has. ⊎_elim (λ before. inl before) (λ new. inr (reach.cache.own.own x new)) (Contains-append_cases a.held.cache.kept.may reach.cache.put x (reach.cache.leaves.may x has));

@@ -15,7 +15,8 @@ use Rattle.mar_node.specs.Promise.{KeepsStep, Waiting, heard_with, node_of}
 use Rattle.mar_node.specs.Step.{Report, Steps}
 use Rattle.mar_node.proofs.Handing.{Hears-nothing}
 use Rattle.mar_node.proofs.Heard.{KeepsStep-beside}
-use Rattle.mar_node.proofs.Idle.{IsIdle, promise-cut, sent_and_answered, steps}
+use Rattle.mar_node.proofs.Idle.{IsIdle, promise-cut, steps}
+use Rattle.mar_node.proofs.CacheEvents.{sent_and_answered}
 
 module _ {P E : Type 0} (epochs : Epochs) (inner : List ℕ → List ℕ) (partition : IsPartition epochs) (a : Seen P E) (buffer : List Block) (r : Round) (peers : Peers) (b : Block) where
   abbrev e : Event
@@ -25,7 +26,7 @@ module _ {P E : Type 0} (epochs : Epochs) (inner : List ℕ → List ℕ) (parti
   sent = record { round = r; digest = b.digest; peers = peers } ∷ []
 
   idle : (config : Config) (waiting : Waiting) → IsIdle config (node_of a buffer waiting) e
-  idle config waiting = record { effect = refl; undrained = refl; processed = refl; cutoff = refl; storing = refl; position = λ xs. refl; syncs = λ xs. refl; witnessing = refl; unput = λ after. refl; no_fault = refl; asks = refl; subscriptions = refl; certified = λ tip. refl; no_syncs = λ n'. refl; unrefused = λ fault. refl }
+  idle config waiting = record { rest = record { effect = refl; undrained = refl; processed = refl; cutoff = refl; storing = refl; position = refl; syncs = refl; witnessing = refl; no_fault = refl; asks = refl; subscriptions = refl; certified = λ tip. refl; unrefused = λ fault. refl }; unput = λ after. refl; unfinished = λ xs. refl; uncovered = refl; no_syncs = λ n'. refl }
 
   -- the block is sent, or memory ran out before it was
   pub promise-prepared : (told : Option (List Report)) (heard : Option (List Call)) (before after : Option (List Sent)) (answers : List TicketAnswer) (result : Result (Seen P E) Ending) → AreCached a.held → IfOk result (IsRead a) → OnOk result (Hears before sent after) → OnErr result (Hears before [] after) → MatchResult result (λ new. Grew a.held nothing_written new.held) (Loses a.held nothing_written) → IfErr result (λ x. IsUsual x.fault) → KeepsStep epochs inner a (e ∷ []) buffer (heard_with told heard before answers) (heard_with told heard after answers) result

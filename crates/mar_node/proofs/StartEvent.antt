@@ -26,6 +26,9 @@ use Rattle.mar_node.proofs.CacheOver.{moves_none, own_none}
 use Rattle.mar_node.proofs.Cutting.{usual_not_by_value, usual_not_dropped}
 use Rattle.mar_node.proofs.EventPromises.{quiet_cut, told_cut}
 use Rattle.mar_node.proofs.Filtered.{all_found_within}
+use Rattle.mar_node.proofs.KnownBlocks.{AreOne-within}
+use Rattle.mar_node.specs.OpenSyncs.{AreStillOpen}
+use Rattle.std.specs.Prelude.{false}
 use Rattle.mar_node.proofs.Growing.{Grown-same}
 use Rattle.mar_node.proofs.Handing.{Hears-nothing, HearsFront-nothing, Ran}
 use Rattle.mar_node.proofs.Lasting.{IsPart, LivesOn-ran, LivesOn-then}
@@ -81,7 +84,7 @@ module _ {P E : Type 0} (config : Config) (chain : Chain) (a : Seen P E) (buffer
     are_tips = newest_tips-tips config.inner a.life.tip (newest a.held.certs.held);
     tips_rise = newest_tips-rise config.inner a.life.tip (newest a.held.certs.held);
     tips_chain = newest_tips-chain config.inner chain (buffer ++ filter_map cached_block (a.held.cache.kept.held ++ a.held.cache.kept.may)) one a.life.tip a.held.certs.held untold.1.of_chain.stores.held_certs;
-    cache = moves_none config chain a (with_watches (with_newest a) m.held.watches) (life_started None) buffer waiting refl refl own_lowest refl refl refl refl refl;
+    cache = moves_none config chain a (with_watches (with_newest a) m.held.watches) (life_started None) buffer waiting refl refl refl refl own_lowest refl refl refl refl refl;
     stored = tt;
     stored_late = tt;
     no_query = refl;
@@ -112,10 +115,6 @@ LivesOn-start a m n told told' result same loads passed ran = LivesOn-then a n r
 -- an actor that took up what a crash left of its cache
 abbrev with_cache : {P E : Type 0} → Seen P E → HeldCache → Seen P E
 with_cache a cache = record a { held = record a.held { cache = cache } }
-
--- of fewer blocks each digest names one, too
-AreOne-within : (inner : List ℕ → List ℕ) (some all : List Block) → ((b : Block) → Contains some b → Contains all b) → AreOne inner all → AreOne inner some
-AreOne-within inner some all within one = record { names = λ b has. one.names b (within b has); one = λ b c in_b in_c same. one.one b c (within b in_b) (within c in_c) same }
 
 module _ {P E : Type 0} (config : Config) (chain : Chain) (a : Seen P E) (cache : HeldCache) (buffer : List Block) (waiting : Waiting) (loads : LoadsEntries a.held.cache.kept cache.kept) where
   -- what was taken up might be left before
@@ -207,7 +206,7 @@ module _ {P E : Type 0} (epochs : Epochs) (inner : List ℕ → List ℕ) (parti
       begun_same = loads.same ∙ ap (λ (s : Seen P E). record s { held = record s.held { cache = n.held.cache; watches = n.held.watches } }) same
 
       takes : TakesUp a.held.cache.finds (node_of a buffer waiting) (node_of (with_cache a n.held.cache) buffer waiting)
-      takes = record { cache = n.held.cache.kept; loads = loaded; by_luck = picked; begun_is = refl }
+      takes = record { cache = n.held.cache.kept; loads = loaded; by_luck = picked; syncs = n.held.cache.syncs; still_open = subst (λ c. AreStillOpen (λ x. false) c.syncs n.held.cache.syncs) cache_is loads.still_open; begun_is = refl }
 
       begun_step : IsLawfulStep config chain (node_of (with_cache a n.held.cache) buffer waiting) (life_started None ∷ [])
       begun_step = IsLawfulStep-begun config chain a n.held.cache buffer waiting loaded step

@@ -1,5 +1,5 @@
 -- A sync of both archives finishes: more is sure, and dispatch may go on.
-use Rattle.std.proofs.Common.{◌≡◌, ◌⊎◌, inl, inr, ℕ, ◌-◌, ◌<◌, ◌≤◌, List, [], ◌∷◌, length, map, max, drop, Some, None, option_map, IsTrue, Contains, refl, sym, ◌∙◌, ap, subst, arith}
+use Rattle.std.proofs.Common.{◌≡◌, ◌⊎◌, inl, inr, ℕ, ◌-◌, ◌<◌, ◌≤◌, List, [], ◌∷◌, length, map, max, drop, Some, None, option_map, option_to_list, IsTrue, Contains, refl, sym, ◌∙◌, ap, subst, arith}
 use Rattle.std.specs.List.{AllByRecursion, AllPairs}
 use Rattle.std.proofs.lemmas.List.{length-drop}
 use Rattle.std.proofs.lemmas.List.Elements.{Contains-append_left}
@@ -9,6 +9,7 @@ use Rattle.mar_store.specs.Kept.{At, Kept, has_height, value_at}
 use Rattle.mar_store.specs.Changes.{IsNested}
 use Rattle.mar_store.proofs.Lookups.{AllByRecursion-weaker, AllByRecursion-within, Contains-from_value}
 use Rattle.mar_node.specs.Chain.{Chain, Finalizes, IsBlockAt}
+use Rattle.mar_node.specs.OpenSyncs.{NoneHas}
 use Rattle.mar_node.specs.Config.{Config}
 use Rattle.mar_node.specs.Event.{no_floor, sync_finished}
 use Rattle.mar_node.specs.Held.{AreCached, MakesSure, Seen}
@@ -23,6 +24,8 @@ use Rattle.mar_node.proofs.FinalizationEvent.{nested_heights}
 use Rattle.mar_node.proofs.FloorSafety.{FloorSafe-still}
 use Rattle.mar_node.proofs.Growing.{Grown}
 use Rattle.mar_node.proofs.CacheOver.{moves_none}
+use Rattle.mar_node.proofs.OpenSyncs.{covered-none, waits-none, without-none}
+use Rattle.mar_node.specs.Answers.{to, true_value}
 use Rattle.mar_node.proofs.PairsAfter.{HasAnchor-kept}
 use Rattle.mar_node.proofs.PlainEvents.{Writes-none, nothing_put}
 use Rattle.mar_node.proofs.Reaching.{Reaches}
@@ -47,9 +50,9 @@ module _ {P E : Type 0} (config : Config) (chain : Chain) (a m : Seen P E) (t : 
   written : (w : Writes (node_of a buffer waiting) (sync_finished t) no_floor (node_of m buffer waiting)) × (w.repaired ≡ [])
   written = Writes-none a m (sync_finished t) buffer waiting refl finishes.blocks.held (ap (λ s. s.held.writes.covered) finishes.same) (ap (λ s. s.held.writes.uncovered) finishes.same ∙ ap (λ k. drop (k - a.held.writes.covered) a.held.writes.uncovered) (sym (ap (λ s. s.held.writes.covered) finishes.same))) (ap (λ s. s.held.writes.syncs) finishes.same)
 
-  -- a sync that finished, or wasn't open, reaches the actor in which it makes more sure
-  pub Reaches-finished : AreCached a.held → IsNested m.held.blocks → IsNested m.held.certs → Reaches config chain a (sync_finished t) buffer waiting [] m
-  Reaches-finished cached new_nested new_certs = record {
+  -- a sync of both archives that finished, or one that wasn't open, reaches the actor in which it makes more sure
+  pub Reaches-finished : AreCached a.held → NoneHas t a.held.cache.syncs → IsNested m.held.blocks → IsNested m.held.certs → Reaches config chain a (sync_finished t) buffer waiting [] m
+  Reaches-finished cached none new_nested new_certs = record {
     no_effect = refl;
     kept = ap (λ s. s.life.out) finishes.same;
     next_ack = ap (λ s. s.life.next_ack) finishes.same;
@@ -76,13 +79,13 @@ module _ {P E : Type 0} (config : Config) (chain : Chain) (a m : Seen P E) (t : 
     are_tips = tt;
     tips_rise = ap (λ s. s.life.tip) finishes.same;
     tips_chain = tt;
-    cache = moves_none config chain a m (sync_finished t) buffer waiting refl refl cached.own_lowest refl (ap (λ s. s.held.witnessed) finishes.same) (ap (λ s. s.held.cache) finishes.same) (ap (λ s. s.held.lowest) finishes.same) (ap (λ s. s.held.lowests) finishes.same);
+    cache = moves_none config chain a m (sync_finished t) buffer waiting refl refl (without-none t a.held.cache.syncs none) (covered-none t a.held.cache.syncs none) cached.own_lowest refl (ap (λ s. s.held.witnessed) finishes.same) (ap (λ s. s.held.cache) finishes.same) (ap (λ s. s.held.lowest) finishes.same) (ap (λ s. s.held.lowests) finishes.same);
     stored = tt;
     stored_late = tt;
     no_query = refl;
     no_fault = refl;
     sends = refl;
-    answers = λ lowest. refl;
+    answers = λ lowest. ap (λ o. map (λ k. to k true_value) (option_to_list o)) (waits-none t a.held.cache.syncs none);
     subscriptions = refl;
     certified = λ tip. refl;
     no_syncs = λ n'. refl;

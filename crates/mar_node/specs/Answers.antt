@@ -11,6 +11,7 @@ use Rattle.mar_node.specs.Stored.{block_of, newest}
 use Rattle.mar_key.specs.Keys.{Annotation, Key, block_key, certified_at, finalized_key, notarized_key}
 use Rattle.mar_node.specs.Messages.{Identifier, Message, Peers, certify, close_ticket, forward, get_anchor, get_block, get_finalization, get_info, get_processed, get_verified, latest, of_digest, of_height, prepared, proposed, report_certification, some_peers, subscribe_commitment, subscribe_digest, verified}
 use Rattle.mar_node.specs.Config.{Config}
+use Rattle.mar_node.specs.OpenSyncs.{waits_for}
 use Rattle.mar_node.specs.Node.{CacheSync, CertifiedCommitment, Node, Subscription, Wanted, all_at_hand, at_hand, commitment_wanted, digest_wanted}
 use Rattle.mar_node.specs.Cached.{Cached, notarization_entry}
 use Rattle.mar_node.specs.Event.{Effect, Event, applies_floor, brought_block, buffer_ended, gave_block, message_told, no_floor, peer_answered, sync_finished}
@@ -108,19 +109,18 @@ produced_value n (notarized_key r) = or_none (option_map bytes_value (option_and
 -- CACHE TICKETS
 
 -- `true` at once where the epoch is below the lowest (after the event: the block is ingested first), else the sync that was started
-abbrev pub started_value : Node → ℕ → Round → Value
-started_value n lowest r = if nat_lt r.epoch lowest then true_value else sync_value n.next_sync
+abbrev pub started_value : ℕ → ℕ → Round → Value
+started_value next_sync lowest r = if nat_lt r.epoch lowest then true_value else sync_value next_sync
 
-abbrev pub cache_value : Node → ℕ → Message → Option Value
-cache_value n lowest (verified r b) = Some (started_value n lowest r)
-cache_value n lowest (proposed r peers b) = Some (started_value n lowest r)
-cache_value n lowest (certify r b) = Some (started_value n lowest r)
-cache_value n lowest _ = None
+abbrev pub cache_value : ℕ → ℕ → Message → Option Value
+cache_value next_sync lowest (verified r b) = Some (started_value next_sync lowest r)
+cache_value next_sync lowest (proposed r peers b) = Some (started_value next_sync lowest r)
+cache_value next_sync lowest (certify r b) = Some (started_value next_sync lowest r)
+cache_value next_sync lowest _ = None
 
 -- a finished sync tells the caller that waits for it
 abbrev pub finished_answers : ℕ → List CacheSync → List TicketAnswer
-finished_answers t [] = []
-finished_answers t (s ∷ syncs) = if s.ticket == t then map (λ a. to a true_value) (option_to_list s.answer) else finished_answers t syncs
+finished_answers t syncs = map (λ a. to a true_value) (option_to_list (waits_for t syncs))
 
 -- SUBSCRIPTIONS
 
@@ -199,7 +199,7 @@ subscriptions_after n e fx = unserved_subscriptions n.subscriptions (ingested_bl
 -- ALL ANSWERS OF AN EVENT
 
 abbrev pub own_value : Config → Node → ℕ → Message → Option Value
-own_value config n lowest m = option_or (query_value config n m) (option_or (cache_value n lowest m) (subscription_value n (wanted_by m)))
+own_value config n lowest m = option_or (query_value config n m) (option_or (cache_value n.next_sync lowest m) (subscription_value n (wanted_by m)))
 
 abbrev pub own_answer : Config → Node → ℕ → Option ℕ → Message → List TicketAnswer
 own_answer config n lowest None m = []

@@ -8,6 +8,7 @@ use Rattle.mar_key.specs.Cutoff.{covers}
 use Rattle.mar_types.specs.Epochs.{containing}
 use Rattle.mar_store.specs.Kept.{value_at}
 use Rattle.mar_key.specs.Keys.{Annotation, certified_at, is_finalized, untrusted_at}
+use Rattle.mar_node.specs.OpenSyncs.{AreStillOpen, covered_by, without_ticket}
 use Rattle.mar_node.specs.Messages.{certify, proposed, report_finalization, report_notarization, set_floor, verified}
 use Rattle.mar_node.specs.Config.{Config}
 use Rattle.mar_node.specs.Node.{CacheSync, Node, at_hand}
@@ -17,9 +18,14 @@ use Rattle.mar_node.specs.Event.{Effect, Event, applies_floor, awaits_floor, dra
 abbrev pub verified_at : Round → Block → Cached → Bool
 verified_at r b x = same_place (verified_entry r b) x
 
+-- put in notarized where verified doesn't hold it
+abbrev pub notarized_where : Bool → Round → Block → List Cached
+notarized_where true r b = []
+notarized_where false r b = notarized_entry r b ∷ []
+
 -- put in notarized unless verified holds it
 abbrev pub notarized_unless : List Cached → Round → Block → List Cached
-notarized_unless held r b = if list_any (verified_at r b) held then [] else notarized_entry r b ∷ []
+notarized_unless held r b = notarized_where (list_any (verified_at r b) held) r b
 
 abbrev pub notarized_at_hand : Node → Round → Option Block → List Cached
 notarized_at_hand n r None = []
@@ -152,22 +158,14 @@ first_of (x ∷ xs) = Some x
 abbrev pub first_verified : List Cached → Round → Option Block
 first_verified held r = first_of (filter_map (verified_in r) held)
 
-abbrev pub covered_by : ℕ → List CacheSync → List Cached
-covered_by t [] = []
-covered_by t (s ∷ syncs) = if s.ticket == t then s.entries else covered_by t syncs
-
 abbrev pub finished_covers : Node → Event → List Cached
 finished_covers n (sync_finished t) = covered_by t n.cache_syncs
 finished_covers n _ = []
 
 -- a finished ticket leaves
 abbrev pub without_cache_sync : Event → List CacheSync → List CacheSync
-without_cache_sync (sync_finished t) syncs = filter (λ s. not (s.ticket == t)) syncs
+without_cache_sync (sync_finished t) syncs = without_ticket t syncs
 without_cache_sync _ syncs = syncs
-
--- what a prune of this event covers is remembered no longer
-abbrev pub still_covers : Config → Node → Event → Effect → CacheSync → CacheSync
-still_covers config n e fx s = record s { entries = filter (λ x. not (is_pruned config n e fx x)) s.entries }
 
 -- the entries of one archive of one epoch
 abbrev pub is_verified_of : ℕ → Cached → Bool
@@ -182,6 +180,10 @@ abbrev pub is_notarization_of : ℕ → Cached → Bool
 is_notarization_of e (notarization_entry f) = f.round.epoch == e
 is_notarization_of e _ = false
 
+-- what the sync of a certified block covers: the notarizations of its epoch, and the archive that holds the block
+abbrev pub certified_covers : ℕ → Bool → Cached → Bool
+certified_covers e is_verified x = is_notarization_of e x || (if is_verified then is_verified_of e x else is_notarized_of e x)
+
 -- the syncs that an event starts, each by the test of what it covers
 -- under the lowest epoch and the cache after the event: the block is ingested first, which may apply a floor
 abbrev pub started_syncs : Node → Node → Event → List (Cached → Bool)
@@ -189,7 +191,7 @@ started_syncs n n' (message_told t (verified r b)) = if nat_lt r.epoch n'.lowest
 started_syncs n n' (message_told t (proposed r peers b)) = if nat_lt r.epoch n'.lowest then [] else is_verified_of r.epoch ∷ []
 started_syncs n n' (message_told t (certify r b)) =
     if nat_lt r.epoch n'.lowest then []
-    else (λ x. is_notarization_of r.epoch x || (if list_any (verified_at r b) n'.cache.held then is_verified_of r.epoch x else is_notarized_of r.epoch x)) ∷ []
+    else certified_covers r.epoch (list_any (verified_at r b) n'.cache.held) ∷ []
 started_syncs n n' (message_told t (report_notarization f)) =
     if nat_lt f.round.epoch n'.lowest then []
     else is_notarization_of f.round.epoch ∷ map (λ x. is_notarized_of f.round.epoch) (notarized_at_hand n f.round (at_hand n f.payload))
@@ -203,6 +205,14 @@ tickets_from t answer held (test ∷ syncs) = record { ticket = t; entries = fil
 abbrev pub answer_ticket : Event → Option ℕ
 answer_ticket (message_told t m) = t
 answer_ticket _ = None
+
+-- The open syncs over one event: one that finished leaves, the others are still open, and those that the event starts follow.
+pub record OpensCacheSyncs (config : Config) (n : Node) (e : Event) (fx : Effect) (n' : Node) : Type 0 where
+  pub still : List CacheSync
+  pub still_open : AreStillOpen (is_pruned config n e fx) (without_cache_sync e n.cache_syncs) still
+  pub started : List CacheSync
+  pub started_open : AreStillOpen (λ x. false) (tickets_from n.next_sync (answer_ticket e) n'.cache.held (started_syncs n n' e)) started
+  pub are : n'.cache_syncs ≡ still ++ started
 
 -- The cache over one event.
 pub record AdvancesCache (config : Config) (n : Node) (e : Event) (fx : Effect) (n' : Node) : Type 0 where
@@ -220,5 +230,5 @@ pub record AdvancesCache (config : Config) (n : Node) (e : Event) (fx : Effect) 
   -- a lowest epoch that a later sync wrote over may be forgotten; the node's own may not
   pub lowests : (k : ℕ) → Contains n'.lowests k → Contains (n.lowests ++ n'.lowest ∷ []) k
   pub own_lowest : Contains (0 ∷ n'.lowests) n'.lowest
-  pub cache_syncs : n'.cache_syncs ≡ map (still_covers config n e fx) (without_cache_sync e n.cache_syncs) ++ tickets_from n.next_sync (answer_ticket e) n'.cache.held (started_syncs n n' e)
+  pub cache_syncs : OpensCacheSyncs config n e fx n'
   pub witnessed : n'.witnessed ≡ (witnessing_of config n e fx).last

@@ -1,5 +1,5 @@
 -- What a life keeps: its stores, and what it remembers beside them; what is left of the stores.
-use Rattle.std.specs.List.{list_any}
+use Rattle.std.specs.List.{AllByRecursion, list_any}
 use Rattle.std.specs.Prelude.{Bool, Contains, Err, IfErr, IsTrue, List, MatchResult, Ok, Option, Result, Some, [], false, length, map, option_map, suc, true, zero, ℕ, ⊤, ◌++◌, ◌<◌, ◌∷◌, ◌≡◌, ◌≤◌, ◌⊎◌}
 use Rattle.mar_types.specs.Causes.{Rose}
 use Rattle.mar_types.specs.Round.{Round}
@@ -23,8 +23,8 @@ use Rattle.mar_node.specs.LuckyEntries.{lucky_entries}
 use Rattle.mar_node.specs.Metadata.{Pair, first_pair, lucky_pair}
 use Rattle.mar_node.specs.Faults.{Fault, store_fault, want_of_memory, StoreName, block_store, cert_store, meta_store, cache_store}
 use Rattle.mar_node.specs.Lives.{IsPicked, Picks, round_zero}
-use Rattle.mar_node.specs.Node.{Ended, SureOrWritten}
-use Rattle.mar_writes.specs.Writing.{IsOrdered, Writing, no_writes}
+use Rattle.mar_node.specs.Node.{CacheSync, Ended, SureOrWritten}
+use Rattle.mar_writes.specs.Writing.{IsOrdered, Writing, is_open_sync, no_writes}
 
 -- what each store tells of its failures
 pub record Watches : Type 0 where
@@ -91,13 +91,14 @@ pub record Progress : Type 0 where
 abbrev pub progress_of : Pair → Watch → Progress
 progress_of p watch = record { processed = option_map at_block p.processed; cutoff = p.cutoff; witnessed = round_zero; pairs = p ∷ []; watch = watch; intact = true }
 
--- The cache of a life: its entries, and what a start makes of them. They are held from the start on, which takes up what a crash
--- left.
+-- The cache of a life: its entries, what a start makes of them, and its open syncs. The entries are held from the start on, which
+-- takes up what a crash left.
 pub record HeldCache : Type 0 where
   pub kept : Kept Cached
   pub loaded : Bool  -- what a crash left was taken up
   pub fresh : Bool  -- nothing was put since the opening, and nothing taken up
   pub finds : Option (List Cached)  -- what the luck of the opening picked to be taken up, where the cache goes by luck
+  pub syncs : List CacheSync  -- those that are open
 
 -- The stores of a life, with the processed height, the cutoff, the last witnessed round, the pairs that a crash can leave
 -- of the first two, the cache, and the writes that wait for a sync.
@@ -121,10 +122,16 @@ pub record AreWritten (h : Held) : Type 0 where
   pub certs : SureOrWritten h.certs h.writes.uncovered
   pub ordered : IsOrdered h.writes
 
--- What is cached may be left, none of it of an epoch below the lowest, which is what a crash leaves of that.
+-- Open syncs of the cache have tickets that were given out, and no open sync of both archives has one of them.
+abbrev pub HaveOwnTickets : Writing → List CacheSync → Type 0
+HaveOwnTickets w syncs = AllByRecursion (λ s. (s.ticket < w.next_sync) × (is_open_sync w.syncs s.ticket ≡ false)) syncs
+
+-- What is cached may be left, none of it of an epoch below the lowest, which is what a crash leaves of that; and its open syncs
+-- have tickets of their own.
 pub record AreCached (h : Held) : Type 0 where
   pub nested : IsNestedCache h.cache.kept h.lowest h.cache.loaded
   pub own_lowest : h.lowests ≡ h.lowest ∷ []
+  pub own_tickets : HaveOwnTickets h.writes h.cache.syncs
 
 -- A sync made more sure: nothing else is held, and nothing else may be left.
 pub record MakesSure {T : Type 0} (old new : Kept (At T)) : Type 0 where
@@ -347,6 +354,7 @@ pub record ReopensAs (old : Remains) (luck : ℕ) (new : Held) : Type 0 where
   pub unheld : new.cache.kept.held ≡ []
   pub fresh : new.cache.fresh ≡ true
   pub finds : new.cache.finds ≡ (picks_of old luck).cache
+  pub no_syncs : new.cache.syncs ≡ []
   pub lowest : Contains (0 ∷ new.lowests) new.lowest
   pub lowests : Within new.lowests old.ended.lowests
 

@@ -5,6 +5,7 @@ pub use Rattle.mar_writes.specs.Gated
 pub mod Chain
 pub mod Config
 pub mod Node
+pub mod OpenSyncs
 pub mod Places
 pub mod Staged
 pub mod Views

@@ -13,7 +13,8 @@ use Rattle.mar_store.specs.Changes.{Left, Within}
 use Rattle.mar_store.specs.Kept.{At, EachHeightOnce, Kept, Reopens, has_height, newest_upto, reopened_store, value_at}
 use Rattle.mar_node.specs.Messages.{set_floor}
 use Rattle.mar_node.specs.Config.{Config}
-use Rattle.mar_node.specs.Node.{AreBlocksOf, AreCachedOf, AreFinalizationsOf, BlocksAgree, Ended, FloorSafe, Node, empty_inbox, empty_peers, left_by}
+use Rattle.mar_node.specs.OpenSyncs.{AreStillOpen}
+use Rattle.mar_node.specs.Node.{CacheSync, AreBlocksOf, AreCachedOf, AreFinalizationsOf, BlocksAgree, Ended, FloorSafe, Node, empty_inbox, empty_peers, left_by}
 use Rattle.mar_node.specs.Acks.{Outstanding}
 use Rattle.mar_node.specs.Cached.{Cached, IsUnloaded, epoch_of, unloaded}
 use Rattle.mar_node.specs.Metadata.{Pair, first_pair, pair_of}
@@ -173,7 +174,9 @@ pub record TakesUp (picked : Option (List Cached)) (n begun : Node) : Type 0 whe
   pub cache : Kept Cached
   pub loads : LoadsEntries n.cache cache
   pub by_luck : ArePicked picked cache.held
-  pub begun_is : begun ≡ record n { cache = cache }
+  pub syncs : List CacheSync
+  pub still_open : AreStillOpen (λ x. false) n.cache_syncs syncs
+  pub begun_is : begun ≡ record n { cache = cache; cache_syncs = syncs }
 
 -- An opening that finished: what it found, then the step of a start, which takes up what was left of the cache.
 pub record Opens (config : Config) (chain : Chain) (e : Ended) (picks : Picks) (begin : Begin) (made : Made) (n : Node) : Type 0 where

@@ -1,5 +1,5 @@
 -- What callers send to a node, and its inbox as data.
-use Rattle.std.specs.Prelude.{Bool, List, Option, ℕ}
+use Rattle.std.specs.Prelude.{Bool, List, Option, [], ℕ, ◌∷◌}
 use Rattle.mar_types.specs.Round.{Round}
 use Rattle.mar_cert.specs.Block.{Block}
 use Rattle.mar_cert.specs.Finalization.{Finalization, Notarization}
@@ -42,6 +42,14 @@ pub data Message : Type 0 where
   subscribe_commitment : List ℕ → Fallback → Message
   forward : Round → List ℕ → Peers → Message
   close_ticket : ℕ → Message
+
+-- the blocks that a message brings along
+abbrev pub message_blocks : Message → List Block
+message_blocks (verified r b) = b ∷ []
+message_blocks (proposed r peers b) = b ∷ []
+message_blocks (prepared r peers b) = b ∷ []
+message_blocks (certify r b) = b ∷ []
+message_blocks _ = []
 
 -- a message with the answer ticket that it took, if it takes one
 pub record Queued : Type 0 where

@@ -1,5 +1,5 @@
 -- What the parts of a step change: what is seen of an actor before and after them.
-use Rattle.std.specs.List.{AllByRecursion}
+use Rattle.std.specs.List.{AllByRecursion, list_any}
 use Rattle.std.specs.Prelude.{Bool, Contains, List, MatchResult, None, Option, Result, Some, [], bytes_eq, false, filter_map, find, fold, if◌then◌else◌, is_some, length, map, max, nat_lt, not, option_and_then, option_to_list, true, ℕ, ⊤, ◌&&◌, ◌++◌, ◌+◌, ◌-◌, ◌<◌, ◌^◌, ◌∷◌, ◌≡◌, ◌≤◌, ◌⊎◌}
 use Rattle.std.specs.Option.{option_or}
 use Rattle.mar_types.specs.Round.{Round}
@@ -11,7 +11,7 @@ use Rattle.mar_key.specs.Hears.{Hears}
 use Rattle.mar_key.specs.Processed.{first_unprocessed}
 use Rattle.mar_store.specs.Kept.{At, Kept, has_height, value_at}
 use Rattle.mar_store.specs.Changes.{Puts, Within}
-use Rattle.mar_node.specs.AllEntries.{LoadsEntries, PrunesByAll, PrunesEntries, soonest}
+use Rattle.mar_node.specs.AllEntries.{LoadsEntries, PrunesByAll, PrunesEntries, PutsEntry, soonest}
 use Rattle.mar_node.specs.Cache.{is_below, with_witness}
 use Rattle.mar_node.specs.CacheCalls.{FinishesEntries, KeepsTickets, PutsAndStarts, PutsAndSyncs, StartsSync, is_of_archive, none_goes}
 use Rattle.mar_node.specs.Cached.{Cached, cached_block, finalization_entry}
@@ -19,7 +19,9 @@ use Rattle.mar_node.specs.Entries.{has_commitment}
 use Rattle.mar_node.specs.Stored.{at_own_height, block_of, is_certified, is_held, newest}
 use Rattle.mar_node.specs.Acks.{Outstanding, after_given, after_oldest, dropped_oldest, given_front, given_oldest, height_after}
 use Rattle.mar_node.specs.Event.{Event, acked_to, all_retired, life_started, message_told, round_at}
-use Rattle.mar_node.specs.Messages.{report_finalization}
+use Rattle.mar_node.specs.Messages.{certify, proposed, report_finalization, verified}
+use Rattle.mar_node.specs.OpenSyncs.{AreStillOpen, covered_by, without_ticket}
+use Rattle.mar_node.specs.Node.{CacheSync}
 use Rattle.mar_node.specs.Faults.{ack_kind, dropped_ack, last_height, sync_kind, ticket_limit}
 use Rattle.mar_node.specs.Lives.{ArePicked, later_round}
 use Rattle.mar_node.specs.Step.{HandedBlock, HeldFrom, IsFront, Report, handed_over, new_tip, outstanding_of}
@@ -27,7 +29,7 @@ use Rattle.mar_node.specs.Held.{ArePassed, AreWritten, Ending, Grew, Held, IsArc
 use Rattle.mar_node.specs.declared.section.Section.{Section}
 use Rattle.mar_node.specs.declared.started.CacheTicket.{CacheTicket}
 use Rattle.mar_node.specs.declared.started.Started.{Started}
-use Rattle.mar_writes.specs.Writing.{with_finished, with_started, with_write}
+use Rattle.mar_writes.specs.Writing.{Writing, with_finished, with_started, with_ticket, with_write}
 
 -- HANDING OVER
 
@@ -137,6 +139,13 @@ abbrev pub FindsInCache : {P E : Type 0} → Event → Seen P E → Type 0
 FindsInCache (message_told t (report_finalization f)) a = a.held.cache.loaded ≡ true
 FindsInCache _ a = ⊤
 
+-- and so is what becomes of a block that is to be kept for a caller
+abbrev pub KeepsInCache : {P E : Type 0} → Event → Seen P E → Type 0
+KeepsInCache (message_told t (verified r b)) a = a.held.cache.loaded ≡ true
+KeepsInCache (message_told t (proposed r peers b)) a = a.held.cache.loaded ≡ true
+KeepsInCache (message_told t (certify r b)) a = a.held.cache.loaded ≡ true
+KeepsInCache _ a = ⊤
+
 -- The tickets run out only where fewer are left than a window has, and those of syncs where none is left.
 abbrev pub RunsOut : {P E : Type 0} → Seen P E → Ending → Type 0
 RunsOut a e = (e.fault ≡ ticket_limit ack_kind → 2 ^ 64 - 1 ≤ a.life.next_ack + a.life.sizes.window) × (e.fault ≡ ticket_limit sync_kind → a.held.writes.next_sync ≡ 2 ^ 64 - 1)
@@ -195,6 +204,7 @@ pub record LoadsCache {P E : Type 0} (old new : Seen P E) : Type 0 where
   pub loads : old.held.cache.fresh ≡ true → LoadsEntries old.held.cache.kept new.held.cache.kept
   pub by_luck : old.held.cache.fresh ≡ true → ArePicked old.held.cache.finds new.held.cache.kept.held
   pub loaded : new.held.cache.loaded ≡ true
+  pub still_open : AreStillOpen none_goes old.held.cache.syncs new.held.cache.syncs
   pub same : new ≡ record old { held = record old.held { cache = new.held.cache; watches = new.held.watches } }
 
 -- these stores, with what others say of the cache and of how many calls were counted
@@ -205,6 +215,7 @@ with_cache_of now h = record h { cache = now.cache; lowest = now.lowest; lowests
 pub record CachesFinalization (f : Finalization) (old new : Held) : Type 0 where
   pub puts : PutsAndSyncs (finalization_entry f) old.lowest old.cache.loaded old.cache.kept new.cache.kept
   pub loaded : new.cache.loaded ≡ old.cache.loaded
+  pub still_open : AreStillOpen none_goes old.cache.syncs new.cache.syncs
   pub same : new ≡ record old { cache = new.cache; watches = new.watches }
 
 -- A reported finalization was cached, since these stores.
@@ -217,6 +228,7 @@ pub record CachesReport (f : Finalization) (old new : Held) : Type 0 where
 pub record CachesEntry (x : Cached) (started : Started) (old new : Held) (covers now : CacheTicket → List Cached) : Type 0 where
   pub puts : PutsAndStarts x old.lowest old.cache.loaded old.cache.kept new.cache.kept now started
   pub loaded : new.cache.loaded ≡ old.cache.loaded
+  pub still_open : AreStillOpen none_goes old.cache.syncs new.cache.syncs
   pub tickets : KeepsTickets none_goes covers now
   pub same : new ≡ record old { cache = new.cache; watches = new.watches }
 
@@ -226,24 +238,59 @@ pub record StartsCacheSync (epoch : ℕ) (section : Section) (started : Started)
   pub kept : new.cache.kept ≡ old.cache.kept
   pub loaded : new.cache.loaded ≡ old.cache.loaded
   pub fresh : new.cache.fresh ≡ old.cache.fresh
+  pub still_open : AreStillOpen none_goes old.cache.syncs new.cache.syncs
   pub tickets : KeepsTickets none_goes covers now
   pub same : new ≡ record old { cache = new.cache; watches = new.watches }
 
--- The sync of a ticket of the cache has finished: what it covers is sure, and nothing else is held.
-pub record FinishesCacheSync (ticket : CacheTicket) (old new : Held) (covers now : CacheTicket → List Cached) : Type 0 where
-  pub finishes : FinishesEntries (covers ticket) old.cache.kept new.cache.kept
+-- with one more open sync, under the next ticket
+abbrev pub with_cache_sync : List Cached → Option ℕ → Held → Held
+with_cache_sync entries answer h = record h {
+  cache = record h.cache { syncs = h.cache.syncs ++ record { ticket = h.writes.next_sync; entries = entries; answer = answer } ∷ [] };
+  writes = with_ticket h.writes;
+}
+
+-- The sync of a ticket of the cache has finished: what it covers is sure, and nothing else is held. It is open no longer.
+pub record FinishesCacheSync (ticket : ℕ) (old new : Held) : Type 0 where
+  pub finishes : FinishesEntries (covered_by ticket old.cache.syncs) old.cache.kept new.cache.kept
   pub loaded : new.cache.loaded ≡ old.cache.loaded
   pub fresh : new.cache.fresh ≡ old.cache.fresh
-  pub tickets : KeepsTickets none_goes covers now
+  pub still_open : AreStillOpen none_goes (without_ticket ticket old.cache.syncs) new.cache.syncs
   pub same : new ≡ record old { cache = new.cache; watches = new.watches }
 
 -- What is cached below a round was pruned, whose epoch is then the lowest, unless that is a newer one.
 pub record PrunesCache (round : Round) (old new : Held) : Type 0 where
   pub prunes : old.cache.loaded ≡ true → PrunesEntries (is_below round) old.cache.kept new.cache.kept
   pub loaded : new.cache.loaded ≡ old.cache.loaded
+  pub still_open : AreStillOpen (is_below round) old.cache.syncs new.cache.syncs
   pub lowest : new.lowest ≡ max old.lowest round.epoch
   pub own_lowest : new.lowests ≡ new.lowest ∷ []
   pub same : new ≡ with_cache_of new old
+
+-- what stands of the cache where these were put, one or none
+abbrev pub PutsAll : List Cached → Kept Cached → Kept Cached → Type 0
+PutsAll [] old new = new ≡ old
+PutsAll (x ∷ xs) old new = (mid : Kept Cached) × PutsEntry x old mid × PutsAll xs mid new
+
+-- a ticket was taken where a sync was started
+abbrev pub ticketed : Option ℕ → Writing → Writing
+ticketed None w = w
+ticketed (Some t) w = with_ticket w
+
+-- A sync of what passes the test is open behind the others, under the next ticket.
+pub record StartsFor (covered : Cached → Bool) (answer : Option ℕ) (old new : Held) : Type 0 where
+  pub still : List CacheSync
+  pub still_open : AreStillOpen none_goes old.cache.syncs still
+  pub entries : List Cached
+  pub covers : (x : Cached) → Contains new.cache.kept.held x → covered x ≡ true → Contains entries x
+  pub are : new.cache.syncs ≡ still ++ record { ticket = old.writes.next_sync; entries = entries; answer = answer } ∷ []
+
+-- Entries of an epoch were put into the cache for a caller, and a sync was started that is to make sure what passes the test.
+-- Of an epoch below the lowest nothing is kept, and there is nothing to wait for.
+pub record KeepsFor (epoch : ℕ) (put : List Cached) (covered : Cached → Bool) (answer : Option ℕ) (ticket : Option ℕ) (old new : Held) : Type 0 where
+  pub below : epoch < old.lowest → (ticket ≡ None) × (new.cache.kept ≡ old.cache.kept) × AreStillOpen none_goes old.cache.syncs new.cache.syncs
+  pub done : old.cache.loaded ≡ true → old.lowest ≤ epoch → (ticket ≡ Some old.writes.next_sync) × PutsAll put old.cache.kept new.cache.kept × StartsFor covered answer old new
+  pub loaded : new.cache.loaded ≡ old.cache.loaded
+  pub same : new ≡ record old { cache = new.cache; writes = ticketed ticket old.writes; watches = new.watches }
 
 -- the rounds by which these prune the cache as they are witnessed, one after another
 abbrev pub pruned_by : ℕ → Round → List Round → List Round
@@ -253,6 +300,7 @@ pruned_by retention last rounds = (fold (with_witness retention) (record { last 
 pub record PrunesCacheBy (rounds : List Round) (old new : Held) : Type 0 where
   pub prunes : old.cache.loaded ≡ true → PrunesByAll rounds old.cache.kept new.cache.kept
   pub loaded : new.cache.loaded ≡ old.cache.loaded
+  pub still_open : AreStillOpen (λ x. list_any (λ r. is_below r x) rounds) old.cache.syncs new.cache.syncs
   pub lowest : new.lowest ≡ fold (λ k r. max k r.epoch) old.lowest rounds
   pub own_lowest : old.lowests ≡ old.lowest ∷ [] → new.lowests ≡ new.lowest ∷ []
 

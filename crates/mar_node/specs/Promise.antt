@@ -1,6 +1,6 @@
 -- An actor as a node, what a step asks of it and of its event, and what a step promises.
 use Rattle.std.specs.List.{AllByRecursion, filter_map}
-use Rattle.std.specs.Prelude.{Bool, Contains, List, MatchResult, None, Option, Result, Some, [], false, length, true, ℕ, ⊤, ◌++◌, ◌<◌, ◌∷◌, ◌≡◌, ◌⊎◌}
+use Rattle.std.specs.Prelude.{Bool, Contains, flat_map, List, MatchResult, None, Option, Result, Some, [], false, length, true, ℕ, ⊤, ◌++◌, ◌<◌, ◌∷◌, ◌≡◌, ◌⊎◌}
 use Rattle.mar_types.specs.Epochs.{Epochs, IsPartition}
 use Rattle.mar_cert.specs.Block.{Block}
 use Rattle.mar_cert.specs.Finalization.{Finalization, finalization_bytes}
@@ -12,7 +12,7 @@ use Rattle.mar_key.specs.PeerQueue.{PeerQueue}
 use Rattle.mar_store.specs.Kept.{At, Reopens}
 use Rattle.mar_node.specs.Answers.{Sent, TicketAnswer}
 use Rattle.mar_node.specs.Cached.{Cached, cached_block}
-use Rattle.mar_node.specs.Messages.{Inbox, report_finalization}
+use Rattle.mar_node.specs.Messages.{Inbox, certify, message_blocks, proposed, report_finalization, verified}
 use Rattle.mar_node.specs.Metadata.{Pair}
 use Rattle.mar_node.specs.Chain.{Chain, IsBlockAt, IsLawful}
 use Rattle.mar_node.specs.Config.{Config}
@@ -20,14 +20,12 @@ use Rattle.mar_node.specs.Event.{Event, life_started, message_told}
 use Rattle.mar_node.specs.Faults.{Begin, Fault, from_floor, from_genesis, opening_fault}
 use Rattle.mar_node.specs.Held.{Ending, Remains, Seen, Sizes, picks_of}
 use Rattle.mar_node.specs.Lives.{Cuts, CutsReopening, Finds, IsGoodEnded, Picks, TakesUp}
-use Rattle.mar_node.specs.Node.{Awaited, CacheSync, CertifiedCommitment, Ended, IsFinalized, IsGood, Node, Rest, Subscription, empty_inbox, empty_peers}
+use Rattle.mar_node.specs.Node.{Awaited, CertifiedCommitment, Ended, IsFinalized, IsGood, Node, Rest, Subscription, empty_inbox, empty_peers}
 use Rattle.mar_node.specs.Step.{Made, Report, Steps, nothing_made}
 
--- What stands around the stores and the window of a life: an awaited floor, the syncs of the cache, the queues, and callers
--- that wait.
+-- What stands around the stores and the window of a life: an awaited floor, the queues, and callers that wait.
 pub record Around : Type 0 where
   pub awaited : Option Awaited
-  pub cache_syncs : List CacheSync
   pub peers : PeerQueue
   pub inbox : Inbox
   pub subscriptions : List Subscription
@@ -38,7 +36,6 @@ pub record Around : Type 0 where
 abbrev pub nothing_around : ℕ → Around
 nothing_around capacity = record {
   awaited = None;
-  cache_syncs = [];
   peers = empty_peers capacity;
   inbox = empty_inbox capacity;
   subscriptions = [];
@@ -82,7 +79,7 @@ node_around around a buffer waiting = record {
   cache = a.held.cache.kept;
   lowest = a.held.lowest;
   lowests = a.held.lowests;
-  cache_syncs = around.cache_syncs;
+  cache_syncs = a.held.cache.syncs;
   asked = waiting.requests;
   peers = around.peers;
   inbox = around.inbox;
@@ -137,10 +134,15 @@ IsGoodFor config chain n _ = IsGood config chain n
 abbrev pub known_blocks : Chain → Node → List Block
 known_blocks chain n = chain.blocks ++ (n.buffer ++ filter_map cached_block (n.cache.held ++ n.cache.may))
 
+-- the blocks that an event tells
+abbrev pub told_blocks : Event → List Block
+told_blocks (message_told t m) = message_blocks m
+told_blocks _ = []
+
 -- What a step asks: a lawful chain, that digests name one block each, finalizations of the chain, a good node that rests.
 pub record IsLawfulStep (config : Config) (chain : Chain) (n : Node) (events : List Event) : Type 0 where
   pub lawful : IsLawful config.epochs chain
-  pub one : AreOne config.inner (known_blocks chain n)
+  pub one : AreOne config.inner (flat_map told_blocks events ++ known_blocks chain n)
   pub reported : AllByRecursion (ReportsFinalized chain) events
   pub good : IsGoodFor config chain n events
   pub rests : RestsBefore config.window n events
@@ -219,6 +221,9 @@ KeepsPromise events epochs inner old buffer before after result = KeepsStep epoc
 -- what an event would store is small
 abbrev pub IsSmallEvent : Event → Type 0
 IsSmallEvent (message_told t (report_finalization f)) = IsSmall (finalization_bytes f)
+IsSmallEvent (message_told t (verified r b)) = IsSmall b.encoded
+IsSmallEvent (message_told t (proposed r peers b)) = IsSmall b.encoded
+IsSmallEvent (message_told t (certify r b)) = IsSmall b.encoded
 IsSmallEvent _ = ⊤
 
 -- OPENING

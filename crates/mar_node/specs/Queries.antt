@@ -1,4 +1,5 @@
--- What an actor answers to a query: what it finds, where a block of a commitment is looked for by its digest.
+-- What an actor answers: to a query what it finds, where a block of a commitment is looked for by its digest; to a caller whose
+-- block it keeps which sync was started, and that this one has finished.
 use Rattle.std.specs.Option.{option_or}
 use Rattle.std.specs.Prelude.{List, None, Option, Some, [], bytes_eq, find, map, option_and_then, option_map, option_to_list, ℕ}
 use Rattle.mar_types.specs.Round.{Round}
@@ -7,8 +8,8 @@ use Rattle.mar_store.specs.Kept.{value_at}
 use Rattle.mar_node.specs.AllEntries.{soonest}
 use Rattle.mar_node.specs.Cached.{Cached, cached_block}
 use Rattle.mar_node.specs.Entries.{has_digest, is_verified_at}
-use Rattle.mar_node.specs.Answers.{TicketAnswer, Value, anchor, bytes_of, finalization_value, info, or_none, processed_value, to}
-use Rattle.mar_node.specs.Event.{Event, message_told}
+use Rattle.mar_node.specs.Answers.{TicketAnswer, Value, anchor, bytes_of, cache_value, finalization_value, finished_answers, info, or_none, processed_value, to}
+use Rattle.mar_node.specs.Event.{Event, message_told, sync_finished}
 use Rattle.mar_node.specs.Held.{Held}
 use Rattle.mar_node.specs.Messages.{Identifier, Message, get_anchor, get_block, get_finalization, get_info, get_processed, get_verified, latest, of_digest, of_height}
 use Rattle.mar_node.specs.Moves.{found_at_hand}
@@ -38,7 +39,12 @@ value_found inner h buffer get_anchor = Some (or_none (anchor h.blocks.held h.pr
 value_found inner h buffer (get_verified r) = Some (bytes_of (cached_at r h.cache.kept.held))
 value_found inner h buffer _ = None
 
+-- the answer to a message in its own step, None where it has none
+abbrev pub own_found : (List ℕ → List ℕ) → Held → List Block → Message → Option Value
+own_found inner h buffer m = option_or (value_found inner h buffer m) (cache_value h.writes.next_sync h.lowest m)
+
 -- the answers of an event
 abbrev pub answers_found : (List ℕ → List ℕ) → Held → List Block → Event → List TicketAnswer
-answers_found inner h buffer (message_told (Some t) m) = map (to t) (option_to_list (value_found inner h buffer m))
+answers_found inner h buffer (message_told (Some t) m) = map (to t) (option_to_list (own_found inner h buffer m))
+answers_found inner h buffer (sync_finished t) = finished_answers t h.cache.syncs
 answers_found inner h buffer _ = []

