@@ -1,3 +1,4 @@
+pub mod KeptFor
 pub mod Pruned
 pub mod Raised
 pub mod Taken

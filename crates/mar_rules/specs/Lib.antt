@@ -1,2 +1,3 @@
 pub mod Next
 pub mod Noted
+pub mod Keeping
