@@ -7,3 +7,4 @@ pub mod Opened
 pub mod Reading
 pub mod Changed
 pub mod Caches
+pub mod CacheSyncs

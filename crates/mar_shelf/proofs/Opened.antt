@@ -8,12 +8,13 @@ use Rattle.mar_store.specs.Values.{Values}
 use Rattle.mar_store.specs.Watch.{Watch}
 use Rattle.mar_node.specs.Cached.{Cached, IsUnloaded}
 use Rattle.mar_node.specs.Faults.{Fault, block_store, cert_store}
-use Rattle.mar_node.specs.Held.{LosesOpening, Progress, Remains, ReopensAs, ended_of, nothing_written, progress_of, HeldCache}
+use Rattle.mar_node.specs.Held.{LosesOpening, Progress, Remains, ReopensAs, ended_of, nothing_written, progress_of}
 use Rattle.mar_node.specs.Metadata.{pair_at}
 use Rattle.mar_node.specs.Writing.{no_writes}
+use Rattle.mar_node.specs.declared.CacheTicket.{CacheTicket}
 use Rattle.mar_node.proofs.Cutting.{only_one}
 use Rattle.mar_node.proofs.Reopenings.{lost_blocks, lost_certs, lost_meta, lost_shelf, reopens}
-use Rattle.mar_shelf.specs.Caching.{ClosesCache, OpensCache}
+use Rattle.mar_shelf.specs.Caching.{ClosesCache, LifeEntries, OpensCache, with_syncs}
 use Rattle.mar_shelf.specs.Pooling.{Closes, ClosesPairs, Opens, OpensPairs, Unopens, UnopensPairs}
 
 module _ {W X Y : Type 0} (left : W → Left (At Block)) (watch : W → Watch) (left_2 : X → Left (At Finalization)) (watch_2 : X → Watch) (values : Y → List Values) (watch_3 : Y → Watch) (blocks : W) (certs : X) (meta : Y) (waits : Left Cached) (lowests : List ℕ) (cache : Watch) where
@@ -36,6 +37,6 @@ module _ {W X Y : Type 0} (left : W → Left (At Block)) (watch : W → Watch) (
       progress_lost third fourth fault (inr (closed, unopened)) = rw closed.is (lost_shelf (left blocks) (left_2 certs) waits lowests (values meta) _ (stored s) (watch_open s) first.found first.passed (stored_2 r) (watch_open_2 r) second.found second.passed closed.values (progress_of (pair_at closed.values) (watch_3 third)) (watch_3 third) closed.may refl closed.passed (left_4 fourth) (lowests_4 fourth) fault (watch_4 fourth) (rw (of_waits, of_lowests) at unopened.leaves) (rw of_cache at unopened.cause))
 
       -- all four were opened
-      pub all_opened : {H : Type 0} (held : H → HeldCache) (lowest : H → ℕ) (lowests_open : H → List ℕ) (intact : H → Bool) (watch_open_4 : H → Watch) (opened : H) (progress : Progress) → OpensPairs (values meta) (watch_3 meta) luck progress → OpensCache held lowest lowests_open intact left_4 lowests_4 watch_open_4 watch_4 luck shelf opened
-          → ReopensAs before luck (record { blocks = stored s; certs = stored_2 r; processed = progress.processed; cutoff = progress.cutoff; witnessed = progress.witnessed; pairs = progress.pairs; cache = held opened; lowest = lowest opened; lowests = lowests_open opened; writes = no_writes; watches = record { blocks = watch_open s; certs = watch_open_2 r; meta = progress.watch; cache = watch_open_4 opened }; intact = intact opened && progress.intact })
-      all_opened held lowest lowests_open intact watch_open_4 opened progress pairs opens = rw (opens.intact_is, opens.lowest_is) (reopens (left blocks) (left_2 certs) waits lowests (values meta) _ (stored s) (watch_open s) first.found first.passed (stored_2 r) (watch_open_2 r) second.found second.passed pairs.values progress pairs.now pairs.may pairs.is pairs.passed luck (held opened) (lowest opened) (lowest opened ∷ []) (watch_open_4 opened) (subst (λ l. IsUnloaded l.sure l.may (left_of (held opened).kept)) of_waits (record { with_sure = opens.found.sure; within_may = opens.found.may; sure_may = opens.nested })) opens.found.held opens.fresh_is (rw (of_waits, of_cache) at opens.picked) (1, omega arith, refl) (λ k has. subst (Contains lowests) (only_one (lowest opened) k has) (rw of_lowests at opens.lowest_was)) (rw of_cache at opens.passed) some first.lucky second.lucky pairs.lucky)
+      pub all_opened : {H : Type 0} (held : H → LifeEntries) (covers : H → CacheTicket → List Cached) (lowest : H → ℕ) (lowests_open : H → List ℕ) (intact : H → Bool) (watch_open_4 : H → Watch) (opened : H) (progress : Progress) → OpensPairs (values meta) (watch_3 meta) luck progress → OpensCache held lowest lowests_open intact left_4 lowests_4 watch_open_4 watch_4 luck shelf opened
+          → ReopensAs before luck (record { blocks = stored s; certs = stored_2 r; processed = progress.processed; cutoff = progress.cutoff; witnessed = progress.witnessed; pairs = progress.pairs; cache = with_syncs (held opened) (covers opened) []; lowest = lowest opened; lowests = lowests_open opened; writes = no_writes; watches = record { blocks = watch_open s; certs = watch_open_2 r; meta = progress.watch; cache = watch_open_4 opened }; intact = intact opened && progress.intact })
+      all_opened held covers lowest lowests_open intact watch_open_4 opened progress pairs opens = rw (opens.intact_is, opens.lowest_is) (reopens (left blocks) (left_2 certs) waits lowests (values meta) _ (stored s) (watch_open s) first.found first.passed (stored_2 r) (watch_open_2 r) second.found second.passed pairs.values progress pairs.now pairs.may pairs.is pairs.passed luck (with_syncs (held opened) (covers opened) []) (lowest opened) (lowest opened ∷ []) (watch_open_4 opened) (subst (λ l. IsUnloaded l.sure l.may (left_of (held opened).kept)) of_waits (record { with_sure = opens.found.sure; within_may = opens.found.may; sure_may = opens.nested })) opens.found.held opens.fresh_is (rw (of_waits, of_cache) at opens.picked) refl (1, omega arith, refl) (λ k has. subst (Contains lowests) (only_one (lowest opened) k has) (rw of_lowests at opens.lowest_was)) (rw of_cache at opens.passed) some first.lucky second.lucky pairs.lucky)

@@ -9,16 +9,20 @@ use Rattle.mar_key.specs.Processed.{Processed}
 use Rattle.mar_store.specs.Changes.{Left}
 use Rattle.mar_store.specs.Kept.{At, Kept}
 use Rattle.mar_store.specs.Watch.{Watch}
+use Rattle.mar_node.specs.Cached.{Cached}
 use Rattle.mar_node.specs.Faults.{Fault, StoreName}
 use Rattle.mar_node.specs.Held.{GoesOn, Held, Passes, Progress, nothing_written, watch_of, HeldCache}
 use Rattle.mar_node.specs.Metadata.{Pair}
 use Rattle.mar_node.specs.Places.{is_open, kept_at}
 use Rattle.mar_node.specs.Writing.{Writing}
+use Rattle.mar_node.specs.declared.CacheTicket.{CacheTicket}
+use Rattle.mar_node.specs.declared.OpenTicket.{OpenTicket}
 use Rattle.mar_node.specs.declared.Place.{Place}
 use Rattle.mar_node.proofs.Growing.{Grew-counted}
 use Rattle.mar_node.proofs.Passing.{with_watch}
 use Rattle.mar_node.proofs.StoreLosses.{Loses-missed}
 use Rattle.mar_shelf.proofs.Placed.{by_answer, read_open, read_same}
+use Rattle.mar_shelf.specs.Caching.{LifeEntries, with_syncs}
 use Rattle.mar_shelf.specs.Pooling.{IsFaultOf, IsReadIn}
 
 -- nothing changed but what a store tells of its failures
@@ -71,10 +75,10 @@ module _ {blocks : Kept (At Block)} {certs : Kept (At Finalization)} {of_blocks 
   both_same first second here there writing = rw (first, second, here, there, writing) refl
 
 -- the cache was read
-pub cache_read : {blocks : Kept (At Block)} {certs : Kept (At Finalization)} {of_blocks of_certs meta w : Watch} {processed : Option Processed} {cutoff : Cutoff} {witnessed : Round} {pairs : List Pair} {waits now : HeldCache} {lowest lowest' : ℕ} {lowests lowests' : List ℕ} {writes : Writing} {near near' : Bool} (here there rest : Bool) → (now ≡ waits) × (lowest' ≡ lowest) × (lowests' ≡ lowests) × (near' ≡ near)
-    → life blocks of_blocks certs of_certs processed cutoff witnessed pairs now lowest' lowests' writes meta w (here && (there && (near' && rest)))
-    ≡ life blocks of_blocks certs of_certs processed cutoff witnessed pairs waits lowest lowests writes meta w (here && (there && (near && rest)))
-cache_read here there rest (waits, lowest, lowests, near) = rw (waits, lowest, lowests, near) refl
+pub cache_read : {blocks : Kept (At Block)} {certs : Kept (At Finalization)} {of_blocks of_certs meta w : Watch} {processed : Option Processed} {cutoff : Cutoff} {witnessed : Round} {pairs : List Pair} {waits now : LifeEntries} {covers later : CacheTicket → List Cached} (tickets : List OpenTicket) {lowest lowest' : ℕ} {lowests lowests' : List ℕ} {writes : Writing} {near near' : Bool} (here there rest : Bool) → later ≡ covers → (now ≡ waits) × (lowest' ≡ lowest) × (lowests' ≡ lowests) × (near' ≡ near)
+    → life blocks of_blocks certs of_certs processed cutoff witnessed pairs (with_syncs now later tickets) lowest' lowests' writes meta w (here && (there && (near' && rest)))
+    ≡ life blocks of_blocks certs of_certs processed cutoff witnessed pairs (with_syncs waits covers tickets) lowest lowests writes meta w (here && (there && (near && rest)))
+cache_read tickets here there rest covered (waits, lowest, lowests, near) = rw (covered, waits, lowest, lowests, near) refl
 
 -- it was changed, and has the same lowest epoch
 pub cache_changed : {blocks : Kept (At Block)} {certs : Kept (At Finalization)} {of_blocks of_certs meta w : Watch} {processed : Option Processed} {cutoff : Cutoff} {witnessed : Round} {pairs : List Pair} {waits : HeldCache} {lowest lowest' : ℕ} {lowests lowests' : List ℕ} {writes : Writing} {near near' : Bool} (here there rest : Bool) → lowest' ≡ lowest → lowests' ≡ lowests → near' ≡ near

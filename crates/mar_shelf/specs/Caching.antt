@@ -12,15 +12,29 @@ use Rattle.mar_node.specs.CacheCalls.{FinishesEntries, IsNestedCache, JoinsTicke
 use Rattle.mar_node.specs.Cached.{Cached, epoch_of}
 use Rattle.mar_node.specs.Faults.{Fault, cache_store}
 use Rattle.mar_node.specs.Held.{HeldCache, LeavesUnloaded, Passes}
+use Rattle.mar_node.specs.OpenSyncs.{syncs_by}
 use Rattle.mar_node.specs.LuckyEntries.{lucky_entries}
 use Rattle.mar_node.specs.SmallEntries.{AreSmallEntries}
 use Rattle.mar_node.specs.Places.{is_open, kept_at}
+use Rattle.mar_node.specs.declared.OpenTicket.{OpenTicket}
 use Rattle.mar_node.specs.declared.Place.{Place}
 use Rattle.mar_node.specs.declared.Place.TheVariants.{Away, Lost, Open}
 use Rattle.mar_node.specs.declared.CacheTicket.{CacheTicket}
 use Rattle.mar_node.specs.declared.Section.{Section}
 use Rattle.mar_node.specs.declared.Started.{Started}
 use Rattle.mar_shelf.specs.Pooling.{IsFaultOf}
+
+-- What a life's cache keeps beside its open syncs: its entries, whether what a crash left was taken up, whether nothing was put
+-- since the opening and nothing taken up, and what luck picked.
+pub record LifeEntries : Type 0 where
+  pub kept : Kept Cached
+  pub loaded : Bool
+  pub fresh : Bool
+  pub finds : Option (List Cached)
+
+-- with its open syncs, by what its tickets cover
+abbrev pub with_syncs : LifeEntries → (CacheTicket → List Cached) → List OpenTicket → HeldCache
+with_syncs e covers tickets = record { kept = e.kept; loaded = e.loaded; fresh = e.fresh; finds = e.finds; syncs = syncs_by covers tickets }
 
 -- IN ITS PLACE
 
@@ -46,7 +60,7 @@ finds_at finds (Open s) = finds s
 finds_at finds _ = None
 
 -- what a life's stores see of it
-abbrev pub held_at : {S W : Type 0} → (S → Kept Cached) → (S → Bool) → (S → Bool) → (S → Option (List Cached)) → (W → Left Cached) → Place S W → HeldCache
+abbrev pub held_at : {S W : Type 0} → (S → Kept Cached) → (S → Bool) → (S → Bool) → (S → Option (List Cached)) → (W → Left Cached) → Place S W → LifeEntries
 held_at kept loaded fresh finds left place = record { kept = kept_at kept left place; loaded = is_so_at loaded place; fresh = is_so_at fresh place; finds = finds_at finds place }
 
 -- what a ticket covers of one that is there
@@ -100,20 +114,20 @@ pub record FailsCache (put : List Cached) (gone : Cached → Bool) (old : Kept C
   pub cause : IsFaultOf cache_store before fault after
 
 -- A finalization was put, or another entry whose archive is synced: it is there, and the rest of what a life sees is as it was.
-pub record PutsInLife (x : Cached) (old new : HeldCache) (lowest : ℕ) : Type 0 where
+pub record PutsInLife (x : Cached) (old new : LifeEntries) (lowest : ℕ) : Type 0 where
   pub puts : PutsAndSyncs x lowest old.loaded old.kept new.kept
   pub leaves : LeavesEntries (x ∷ []) none_goes old.kept new.kept.sure new.kept.may
   pub loaded : new.loaded ≡ old.loaded
 
 -- An entry was put, and a sync of its archive started, unless its epoch is below the lowest.
-pub record StartsInLife (x : Cached) (old new : HeldCache) (lowest : ℕ) (covers now : CacheTicket → List Cached) (started : Started) : Type 0 where
+pub record StartsInLife (x : Cached) (old new : LifeEntries) (lowest : ℕ) (covers now : CacheTicket → List Cached) (started : Started) : Type 0 where
   pub puts : PutsAndStarts x lowest old.loaded old.kept new.kept now started
   pub leaves : LeavesEntries (x ∷ []) none_goes old.kept new.kept.sure new.kept.may
   pub loaded : new.loaded ≡ old.loaded
   pub tickets : KeepsTickets none_goes covers now
 
 -- A sync of an archive was started, or there is nothing to wait for.
-pub record SyncsInLife (epoch : ℕ) (section : Section) (old new : HeldCache) (covers now : CacheTicket → List Cached) (started : Started) : Type 0 where
+pub record SyncsInLife (epoch : ℕ) (section : Section) (old new : LifeEntries) (covers now : CacheTicket → List Cached) (started : Started) : Type 0 where
   pub starts : StartsSync now epoch (is_of_archive epoch section) old.kept.held started
   pub kept : new.kept ≡ old.kept
   pub leaves : LeavesEntries [] none_goes old.kept new.kept.sure new.kept.may
@@ -121,16 +135,16 @@ pub record SyncsInLife (epoch : ℕ) (section : Section) (old new : HeldCache) (
   pub fresh : new.fresh ≡ old.fresh
   pub tickets : KeepsTickets none_goes covers now
 
--- The sync of a ticket has finished.
-pub record FinishesInLife (ticket : CacheTicket) (old new : HeldCache) (covers now : CacheTicket → List Cached) : Type 0 where
-  pub finishes : FinishesEntries (covers ticket) old.kept new.kept
+-- A sync that covers these has finished.
+pub record FinishesInLife (covered : List Cached) (old new : LifeEntries) (covers now : CacheTicket → List Cached) : Type 0 where
+  pub finishes : FinishesEntries covered old.kept new.kept
   pub leaves : LeavesEntries [] none_goes old.kept new.kept.sure new.kept.may
   pub loaded : new.loaded ≡ old.loaded
   pub fresh : new.fresh ≡ old.fresh
   pub tickets : KeepsTickets none_goes covers now
 
 -- What is cached below a round was pruned.
-pub record PrunesInLife (round : Round) (old new : HeldCache) (lowest now : ℕ) (were lowests : List ℕ) : Type 0 where
+pub record PrunesInLife (round : Round) (old new : LifeEntries) (lowest now : ℕ) (were lowests : List ℕ) : Type 0 where
   pub prunes : old.loaded ≡ true → PrunesEntries (is_below round) old.kept new.kept
   pub leaves : LeavesEntries [] (is_below round) old.kept new.kept.sure new.kept.may
   pub loaded : new.loaded ≡ old.loaded
@@ -141,7 +155,7 @@ pub record PrunesInLife (round : Round) (old new : HeldCache) (lowest now : ℕ)
 -- OPENINGS
 
 -- The cache was opened: it holds nothing yet, and what a crash left of it waits, of which luck picked where it goes by that.
-pub record OpensCache {H Z : Type 0} (held : H → HeldCache) (lowest : H → ℕ) (lowests : H → List ℕ) (intact : H → Bool) (left : Z → Left Cached) (were : Z → List ℕ) (watch : H → Watch) (watch_left : Z → Watch) (luck : ℕ) (ruin : Z) (cache : H) : Type 0 where
+pub record OpensCache {H Z : Type 0} (held : H → LifeEntries) (lowest : H → ℕ) (lowests : H → List ℕ) (intact : H → Bool) (left : Z → Left Cached) (were : Z → List ℕ) (watch : H → Watch) (watch_left : Z → Watch) (luck : ℕ) (ruin : Z) (cache : H) : Type 0 where
   pub found : ReopensCache (left ruin) (held cache).kept
   pub nested : Within (held cache).kept.sure (held cache).kept.may
   pub lowest_was : Contains (were ruin) (lowest cache)

@@ -1,6 +1,6 @@
--- What the archives and what is staged keep, for the writes that wait and the syncs that are open.
+-- What the archives, what is staged and the open syncs of the cache keep, for the writes that wait and the syncs that are open.
 use Rattle.std.specs.List.{AllByRecursion}
-use Rattle.std.specs.Prelude.{Contains, Err, IfSome, IsTrue, List, Ok, Result, Some, [], drop, map, ℕ, ⊤, ◌-◌, ◌≡◌, ◌≤◌, ◌⊎◌, ◌∷◌}
+use Rattle.std.specs.Prelude.{Contains, Err, IfSome, IsTrue, List, Ok, Result, Some, [], drop, false, map, ℕ, ⊤, ◌-◌, ◌<◌, ◌≡◌, ◌≤◌, ◌⊎◌, ◌∷◌}
 use Rattle.mar_cert.specs.Block.{Block}
 use Rattle.mar_store.specs.Changes.{Fails, Finishes, IsNested, IsReopened, KeepsValues, Left, left_of}
 use Rattle.mar_store.specs.Kept.{At, Kept, has_height, value_at}
@@ -15,6 +15,8 @@ use Rattle.mar_node.specs.Metadata.{pair_at}
 use Rattle.mar_node.specs.Node.{SureOrWritten}
 use Rattle.mar_node.specs.Places.{is_open, kept_at, watch_at}
 use Rattle.mar_node.specs.Pool.{Pool, Pooled}
+use Rattle.mar_node.specs.Writing.{Writing, is_open_sync}
+use Rattle.mar_node.specs.declared.OpenTicket.{OpenTicket}
 use Rattle.mar_node.specs.declared.Place.{Place}
 use Rattle.mar_node.specs.declared.Place.TheVariants.{Away, Lost, Open}
 
@@ -29,6 +31,10 @@ pub record AwaitsSyncs {T : Type 0} (ticket_of : Pooled → ℕ) (kept : Kept (A
   pub given : (p : Pooled) → Contains pool.pooled p → (ticket_of p ≤ number) × (ticket_of p ≤ last_number)
   pub covered : (p : Pooled) → Contains pool.pooled p
       → (h : ℕ) → IsTrue (has_height kept.held h) → IsTrue (has_height kept.sure h) ⊎ IsTrue (has_height (covers (ticket_of p)) h) ⊎ Contains (writes_behind p.sync.position pool) h
+
+-- Open syncs of the cache have numbers that were given out, and no open sync of both archives has one of them.
+abbrev pub OwnNumbers : Writing → List OpenTicket → Type 0
+OwnNumbers w tickets = AllByRecursion (λ o. (o.number < w.next_sync) × (is_open_sync w.syncs o.number ≡ false)) tickets
 
 -- each staged block is the one that is held at its height
 abbrev pub AreHeld : {B : Type 0} → (B → Block) → List (At Block) → List (ℕ × B) → Type 0

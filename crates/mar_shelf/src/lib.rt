@@ -4,6 +4,7 @@
 mod blocks;
 mod blocks_in_place;
 mod cache_in_place;
+mod cache_syncs;
 mod certificates;
 mod certificates_in_place;
 mod in_place;

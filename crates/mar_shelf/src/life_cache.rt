@@ -14,12 +14,12 @@ ghost use Rattle.mar_node.specs.Cache.{is_below};
 ghost use Rattle.mar_node.specs.Cached.{Cached, cached_block, finalization_entry, notarization_entry, notarized_entry, verified_entry};
 ghost use Rattle.mar_node.specs.Entries.{has_digest, is_sought, is_verified_at, sought_block};
 ghost use Rattle.mar_node.specs.Faults.{cache_store};
-ghost use Rattle.mar_node.specs.Held.{HeldCache, Passes};
+ghost use Rattle.mar_node.specs.Held.{Passes};
 ghost use Rattle.mar_node.specs.LuckyEntries.{lucky_entries};
 ghost use Rattle.mar_node.specs.SmallEntries.{AreSmallEntries};
 ghost use Rattle.mar_node.specs.Views.{fault_of};
 ghost use Rattle.mar_node.specs.declared.CacheTicket.{CacheTicket as CacheTicketOf};
-ghost use Rattle.mar_shelf.specs.Caching.{FailsCache, FinishesInLife, PrunesInLife, PutsInLife, StartsInLife, SyncsInLife};
+ghost use Rattle.mar_shelf.specs.Caching.{FailsCache, FinishesInLife, LifeEntries, PrunesInLife, PutsInLife, StartsInLife, SyncsInLife};
 ghost use Rattle.mar_shelf.specs.Pooling.{IsFaultOf};
 
 use mar_block::Variant;
@@ -36,7 +36,7 @@ pub trait LifeCache<V: Variant, F: CommitsTo<V::Commitment>>: Drop {
     type Ruin: ShelfRuin;
 
     /// Its entries, whether they were taken up, and what a start makes of them.
-    ghost held: { Self → HeldCache };
+    ghost held: { Self → LifeEntries };
 
     /// What a ticket makes sure.
     ghost covers: { Self → CacheTicketOf → List Cached };
@@ -149,7 +149,7 @@ pub trait LifeCache<V: Variant, F: CommitsTo<V::Commitment>>: Drop {
 
     /// Makes sure what a ticket covers. A ticket of an earlier life is none.
     fn finish_sync(&mut self, ticket: CacheTicket) -> Result<(), Fault<V::Commitment>>
-        ensures done { OnOk result (FinishesInLife ticket (held self.old) (held self.new) (covers self.old) (covers self.new)) }
+        ensures done { OnOk result (FinishesInLife (covers self.old ticket) (held self.old) (held self.new) (covers self.old) (covers self.new)) }
         ensures stays { OnOk result ((lowest self.new ≡ lowest self.old) × (lowests self.new ≡ lowests self.old) × (intact self.new ≡ intact self.old)) }
         ensures passed { OnOk result (Passes (watch self.old) (watch self.new)) }
         ensures failed { IfErr result (λ e. FailsCache [] none_goes (held self.old).kept (lowests self.old) (watch self.old)

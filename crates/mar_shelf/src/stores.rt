@@ -11,15 +11,15 @@ use crate::item::{BlockItem, CertificateItem};
 use crate::opening::{self, Unopened};
 use crate::ruins::Ruins;
 use crate::{
-    Blocks, Certificates, LifeCache, LifeNotarizations, blocks_in_place, certificates_in_place,
-    syncs,
+    Blocks, Certificates, LifeCache, LifeNotarizations, blocks_in_place, cache_syncs,
+    certificates_in_place, syncs,
 };
 use mar_block::Variant;
 use mar_cert::CommitsTo;
 use mar_key::Cutoff;
 use mar_node::{
     BlockName, CacheTicket, Ended, Fault, Holds, HoldsCache, HoldsNotarizations, HoldsProgress,
-    Place, Progress, Section, Staged, Started, State, StoreName, Writes,
+    OpenTickets, Place, Progress, Section, Staged, Started, State, StoreName, Writes,
 };
 use mar_store::{Meta, RangeSet};
 use mar_types::{Epoch, Height, Round};
@@ -27,9 +27,10 @@ use std::alloc::{AllocError, Global};
 use std::marker::{Model, PhantomData};
 
 /// The stores of a life: blocks, certificates, how far delivery has come, and the cache; with the writes of the first two
-/// that wait for a sync, and the blocks that are staged until they are handed over. A contract sees what each store holds
-/// and may leave, how often it has failed, the writes, the cache, and what is staged, each block of which is held. Where a
-/// change of a store failed, what is left of it stands in its place, and later calls of it leave that and fail.
+/// that wait for a sync, the syncs of the cache that are open, and the blocks that are staged until they are handed over. A
+/// contract sees what each store holds and may leave, how often it has failed, the writes, the cache with its open syncs,
+/// and what is staged, each block of which is held. Where a change of a store failed, what is left of it stands in its
+/// place, and later calls of it leave that and fail.
 #[derive(Drop)]
 pub struct Stores<
     V: Variant,
@@ -45,6 +46,7 @@ pub struct Stores<
     staged: Staged<V::Block>,
     progress: Progress<M, V::Commitment, F>,
     cache: H,
+    syncs: OpenTickets,
     of: PhantomData<(V, F)>,
 }
 
@@ -58,7 +60,8 @@ impl<
 > Model for Stores<V, F, FB, FC, M, H> {
     ghost use Rattle.mar_node.specs.Pool.{writing_of};
     ghost use Rattle.mar_node.specs.Places.{is_open, kept_at, watch_at};
-    ghost use Rattle.mar_shelf.specs.Pooling.{AreHeldIn, AwaitsIn, of_blocks, of_certs};
+    ghost use Rattle.mar_shelf.specs.Caching.{with_syncs};
+    ghost use Rattle.mar_shelf.specs.Pooling.{AreHeldIn, AwaitsIn, OwnNumbers, of_blocks, of_certs};
     ghost use Rattle.mar_shelf.specs.Views.{Stock};
     ghost use Rattle.std.specs.Prelude.{◌&&◌};
 
@@ -72,7 +75,7 @@ impl<
         cutoff = s.progress.cutoff;
         witnessed = s.progress.witnessed;
         pairs = s.progress.pairs;
-        cache = H.held s.cache;
+        cache = with_syncs (H.held s.cache) (H.covers s.cache) s.syncs;
         lowest = H.lowest s.cache;
         lowests = H.lowests s.cache;
         writes = writing_of s.writes;
@@ -90,7 +93,8 @@ impl<
 
     ghost invariant = { λ s. AwaitsIn of_blocks FB.stored FB.number FB.covers s.blocks s.writes
         × AreHeldIn V.plain FB.stored s.blocks s.staged.blocks
-        × AwaitsIn of_certs FC.stored FC.number FC.covers s.certs s.writes };
+        × AwaitsIn of_certs FC.stored FC.number FC.covers s.certs s.writes
+        × OwnNumbers (writing_of s.writes) s.syncs };
 }
 
 impl<
@@ -135,8 +139,20 @@ impl<
         self.cache.start_sync(epoch, section)
     }
 
-    fn finish_cache_sync(&mut self, ticket: CacheTicket) -> Result<(), Fault<V::Commitment>> {
-        self.cache.finish_sync(ticket)
+    fn open_cache_sync(
+        &mut self,
+        sync: CacheTicket,
+        answer: Option<u64>,
+    ) -> Result<u64, AllocError> {
+        cache_syncs::open(&mut self.syncs, &mut self.writes, sync, answer)
+    }
+
+    fn cache_syncs(&self) -> &OpenTickets {
+        &self.syncs
+    }
+
+    fn finish_cache_sync(&mut self, ticket: u64) -> Result<(), Fault<V::Commitment>> {
+        cache_syncs::finish::<V, F, H>(&mut self.cache, &mut self.syncs, ticket)
     }
 
     fn prune_cache(&mut self, round: Round) -> Result<(), Fault<V::Commitment>> {
@@ -258,6 +274,7 @@ impl<
                 staged: Staged::new(alloc, max_staged),
                 progress,
                 cache,
+                syncs: OpenTickets::new(alloc),
                 of: PhantomData,
             }),
             Err(unopened) => {
@@ -287,6 +304,7 @@ impl<
             staged: _staged,
             progress,
             cache,
+            syncs: _syncs,
             of: _of,
         } = self;
         Ruins {

@@ -1,5 +1,5 @@
 //! Syncs of both archives in their places.
-ghost use Rattle.std.specs.Prelude.{◌≡◌, ◌⊎◌, ◌-◌, ◌^◌, IfErr, IfOk, OnOk, false, true};
+ghost use Rattle.std.specs.Prelude.{◌≡◌, ◌⊎◌, ◌-◌, ◌^◌, IfErr, IfOk, OnErr, OnOk, false, true};
 ghost use Rattle.mar_node.specs.Faults.{sync_kind, ticket_limit};
 ghost use Rattle.mar_node.specs.Places.{is_open, kept_at};
 ghost use Rattle.mar_node.specs.Pool.{syncs_of, writing_of};
@@ -24,6 +24,7 @@ pub fn start<T, S: Keeps<T>, U, R: Keeps<U>, C: Named>(
     ensures certs { AwaitsIn of_certs R.stored R.number R.covers certs.new writes.new }
     ensures holds { HoldsIn S.stored blocks.old blocks.new }
     ensures started { OnOk result (writing_of writes.new ≡ with_started (writing_of writes.old)) }
+    ensures unstarted { OnErr result (writes.new ≡ writes.old) }
     ensures same_blocks { OnOk result (kept_at S.stored S.Wreck.left blocks.new ≡ kept_at S.stored S.Wreck.left blocks.old) }
     ensures same_certs { OnOk result (kept_at R.stored R.Wreck.left certs.new ≡ kept_at R.stored R.Wreck.left certs.old) }
     ensures surer_blocks { OnOk result (SurerIn S.stored S.Wreck.left S.watch S.Wreck.watch blocks.old blocks.new) }
@@ -58,6 +59,7 @@ pub fn finish<T, S: Keeps<T>, U, R: Keeps<U>, C: Named>(
     ensures ordered { IsOrdered (writing_of writes.new) }
     ensures was_open { IfOk result (λ r. r ≡ is_open_sync (syncs_of writes.old.pooled) ticket) }
     ensures finished { OnOk result (writing_of writes.new ≡ with_finished ticket (writing_of writes.old)) }
+    ensures unfinished { OnErr result (writes.new ≡ writes.old) }
     ensures closed { IfOk result (λ r. r ≡ false → (blocks.new ≡ blocks.old) × (certs.new ≡ certs.old) × (writes.new ≡ writes.old)) }
     ensures surer_blocks { IfOk result (λ r. r ≡ true → SurerIn S.stored S.Wreck.left S.watch S.Wreck.watch blocks.old blocks.new) }
     ensures surer_certs { IfOk result (λ r. r ≡ true → SurerIn R.stored R.Wreck.left R.watch R.Wreck.watch certs.old certs.new) }

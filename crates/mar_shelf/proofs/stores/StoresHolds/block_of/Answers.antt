@@ -7,7 +7,7 @@ use Rattle.mar_shelf.proofs.Reading.{blocks_read, read_goes_on}
 use Rattle.mar_shelf.proofs.stores.StoresHolds.block_of.Goals as goal
 
 pub invariant_of-self : goal.invariant_of-self
-invariant_of-self g c = (waits_read g.FB.Keeps.stored g.FB.Keeps.number g.FB.Keeps.covers of_blocks g.FB.Wreck.ArchiveRuin.left _ _ c.self.inside.writes c.of.ensures.read c.self.invariant.0, held_read g.V.Variant.plain g.FB.Keeps.stored g.FB.Keeps.number g.FB.Keeps.covers g.FB.Wreck.ArchiveRuin.left _ _ c.self.inside.staged.blocks c.of.ensures.read c.self.invariant.1, c.self.invariant.2)
+invariant_of-self g c = (waits_read g.FB.Keeps.stored g.FB.Keeps.number g.FB.Keeps.covers of_blocks g.FB.Wreck.ArchiveRuin.left _ _ c.self.inside.writes c.of.ensures.read c.self.invariant.0, held_read g.V.Variant.plain g.FB.Keeps.stored g.FB.Keeps.number g.FB.Keeps.covers g.FB.Wreck.ArchiveRuin.left _ _ c.self.inside.staged.blocks c.of.ensures.read c.self.invariant.1, c.self.invariant.2, c.self.invariant.3)
 
 pub returns-clause-staged : goal.returns-clause-staged
 returns-clause-staged g c = rw (← c.self.view_is) refl

@@ -7,6 +7,8 @@ use Rattle.mar_node.specs.Views.{fault_of}
 use Rattle.mar_shelf.proofs.Changed.{cache_goes_on, keeps_entry}
 use Rattle.mar_shelf.proofs.Placed.{both_done, done_so, failed_so, usual_fault}
 use Rattle.mar_shelf.proofs.Reading.{cache_changed}
+use Rattle.mar_node.specs.CacheCalls.{none_goes}
+use Rattle.mar_node.proofs.OpenSyncs.{AreStillOpen-kept}
 use Rattle.mar_shelf.proofs.stores.StoresHolds.cache_finalization.Goals as goal
 
 pub invariant_of-self : goal.invariant_of-self
@@ -20,10 +22,11 @@ returns-clause-tickets g c = rw (← c.self.view_is) c.put_finalization.ensures.
 
 pub returns-clause-caches : goal.returns-clause-caches
 returns-clause-caches g c =
-    let both = both_done _ _ c.put_finalization.result c.put_finalization.ensures.done c.put_finalization.ensures.stays in
+    let both = both_done _ _ c.put_finalization.result (both_done _ _ c.put_finalization.result c.put_finalization.ensures.done c.put_finalization.ensures.tickets) c.put_finalization.ensures.stays in
     rw (← c.self.view_is) (done_so c.put_finalization.result both (λ is. record {
-      puts = is.0.puts;
-      loaded = is.0.loaded;
+      puts = is.0.0.puts;
+      loaded = is.0.0.loaded;
+      still_open = AreStillOpen-kept none_goes _ _ is.0.1 c.self.inside.syncs;
       same = cache_changed (is_open c.self.inside.blocks) (is_open c.self.inside.certs) c.self.inside.progress.intact is.1.0 is.1.1 is.1.2;
     }))
 

@@ -5,10 +5,11 @@ use Rattle.mar_shelf.proofs.Placed.{both_done, done_so, failed_so, found_so, hel
 use Rattle.mar_node.specs.Views.{fault_of}
 use Rattle.mar_shelf.proofs.Both.{both_archive, both_usual, finish_goes_on, makes_sure}
 use Rattle.mar_shelf.proofs.Reading.{both_still}
+use Rattle.mar_shelf.proofs.CacheSyncs.{own_after_finish}
 use Rattle.mar_shelf.proofs.stores.StoresHolds.finish_sync.Goals as goal
 
 pub invariant_of-self : goal.invariant_of-self
-invariant_of-self g c = (c.finish.ensures.blocks, held_in g.V.Variant.plain g.FB.Keeps.stored _ _ _ c.finish.ensures.holds c.self.invariant.1, c.finish.ensures.certs)
+invariant_of-self g c = (c.finish.ensures.blocks, held_in g.V.Variant.plain g.FB.Keeps.stored _ _ _ c.finish.ensures.holds c.self.invariant.1, c.finish.ensures.certs, own_after_finish c.args.ticket c.finish.result _ _ c.self.inside.syncs c.finish.ensures.finished c.finish.ensures.unfinished c.self.invariant.3)
 
 pub returns-clause-staged : goal.returns-clause-staged
 returns-clause-staged g c = rw (← c.self.view_is) refl

@@ -7,7 +7,7 @@ use Rattle.mar_shelf.proofs.Reading.{certs_read, read_goes_on}
 use Rattle.mar_shelf.proofs.stores.StoresHolds.has_certificate.Goals as goal
 
 pub invariant_of-self : goal.invariant_of-self
-invariant_of-self g c = (c.self.invariant.0, c.self.invariant.1, waits_read g.FC.Keeps.stored g.FC.Keeps.number g.FC.Keeps.covers of_certs g.FC.Wreck.ArchiveRuin.left _ _ c.self.inside.writes c.has.ensures.read c.self.invariant.2)
+invariant_of-self g c = (c.self.invariant.0, c.self.invariant.1, waits_read g.FC.Keeps.stored g.FC.Keeps.number g.FC.Keeps.covers of_certs g.FC.Wreck.ArchiveRuin.left _ _ c.self.inside.writes c.has.ensures.read c.self.invariant.2, c.self.invariant.3)
 
 pub returns-clause-staged : goal.returns-clause-staged
 returns-clause-staged g c = rw (← c.self.view_is) refl

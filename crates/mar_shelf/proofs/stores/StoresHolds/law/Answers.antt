@@ -1,10 +1,12 @@
 use Rattle.std.proofs.Common.{map}
 use Rattle.mar_store.specs.Changes.{IsNested}
+use Rattle.mar_node.specs.Pool.{writing_of}
 use Rattle.mar_node.specs.Stored.{AreSmall}
 use Rattle.mar_node.proofs.FoundBlocks.{are_small}
 use Rattle.mar_node.proofs.SmallFound.{small_held}
 use Rattle.mar_shelf.specs.Pooling.{of_blocks, of_certs}
 use Rattle.mar_shelf.proofs.InPlace.{first_of, kept_open, second_of, third_of, written_in}
+use Rattle.mar_shelf.proofs.CacheSyncs.{own_tickets}
 use Rattle.mar_shelf.proofs.stores.StoresHolds.law.Goals as goal
 
 pub returns-clause-blocks : goal.returns-clause-blocks
@@ -27,7 +29,7 @@ pub returns-clause-small_cached : goal.returns-clause-small_cached
 returns-clause-small_cached g c = rw (← c.self.view_is) (λ intact. small_held _ _ _ (g.met.H.LifeCache.nested c.self.inside.cache) (g.met.H.LifeCache.small c.self.inside.cache))
 
 pub returns-clause-cached : goal.returns-clause-cached
-returns-clause-cached g c = rw (← c.self.view_is) (λ intact. record { nested = g.met.H.LifeCache.nested c.self.inside.cache; own_lowest = g.met.H.LifeCache.lowest_there c.self.inside.cache (third_of _ _ _ _ intact) })
+returns-clause-cached g c = rw (← c.self.view_is) (λ intact. record { nested = g.met.H.LifeCache.nested c.self.inside.cache; own_lowest = g.met.H.LifeCache.lowest_there c.self.inside.cache (third_of _ _ _ _ intact); own_tickets = own_tickets (writing_of c.self.inside.writes) (g.H.LifeCache.covers c.self.inside.cache) c.self.inside.syncs c.self.invariant.3 })
 
 pub returns-clause-joins : goal.returns-clause-joins
 returns-clause-joins g c = rw (← c.self.view_is) (g.met.H.LifeCache.joins c.self.inside.cache)

@@ -6,10 +6,11 @@ use Rattle.mar_shelf.specs.Pooling.{of_certs}
 use Rattle.mar_shelf.proofs.Changed.{put_block_goes_on}
 use Rattle.mar_shelf.proofs.Placed.{both_done, done_so, failed_so, usual_fault, waits_either}
 use Rattle.mar_shelf.proofs.Reading.{blocks_still}
+use Rattle.mar_shelf.proofs.CacheSyncs.{own_after_write}
 use Rattle.mar_shelf.proofs.stores.StoresHolds.put_block.Goals as goal
 
 pub invariant_of-self : goal.invariant_of-self
-invariant_of-self g c = (c.put.ensures.waits, c.put.ensures.held, waits_either g.FC.Keeps.stored g.FC.Keeps.number g.FC.Keeps.covers of_certs c.self.inside.certs c.self.inside.writes _ _ c.put.ensures.writes c.self.invariant.2)
+invariant_of-self g c = (c.put.ensures.waits, c.put.ensures.held, waits_either g.FC.Keeps.stored g.FC.Keeps.number g.FC.Keeps.covers of_certs c.self.inside.certs c.self.inside.writes _ _ c.put.ensures.writes c.self.invariant.2, own_after_write _ _ _ c.self.inside.syncs c.put.ensures.writes c.self.invariant.3)
 
 pub returns-clause-staged : goal.returns-clause-staged
 returns-clause-staged g c = rw (← c.self.view_is) c.put.ensures.staged

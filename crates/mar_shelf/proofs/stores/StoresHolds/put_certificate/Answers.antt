@@ -12,6 +12,7 @@ invariant_of-self g c = (
   c.self.invariant.0,
   c.self.invariant.1,
   waits_put_so g.FC.Keeps.stored g.FC.Keeps.number g.FC.Keeps.covers of_certs c.put_certificate.result g.FC.Wreck.ArchiveRuin.left _ _ c.self.inside.writes c.self.invariant.2 c.put_certificate.ensures.stays c.put_certificate.ensures.left _ _ c.put_certificate.ensures.done (rw (← c.self.view_is) at c.requires.waits),
+  c.self.invariant.3,
 )
 
 pub returns-clause-staged : goal.returns-clause-staged

@@ -3,10 +3,11 @@ use Rattle.mar_shelf.proofs.Placed.{both_done, done_so, failed_so, held_in}
 use Rattle.mar_node.specs.Views.{fault_of}
 use Rattle.mar_shelf.proofs.Both.{both_archive, start_goes_on}
 use Rattle.mar_shelf.proofs.Reading.{both_same}
+use Rattle.mar_shelf.proofs.CacheSyncs.{own_after_start}
 use Rattle.mar_shelf.proofs.stores.StoresHolds.start_sync.Goals as goal
 
 pub invariant_of-self : goal.invariant_of-self
-invariant_of-self g c = (c.start.ensures.blocks, held_in g.V.Variant.plain g.FB.Keeps.stored _ _ _ c.start.ensures.holds c.self.invariant.1, c.start.ensures.certs)
+invariant_of-self g c = (c.start.ensures.blocks, held_in g.V.Variant.plain g.FB.Keeps.stored _ _ _ c.start.ensures.holds c.self.invariant.1, c.start.ensures.certs, own_after_start c.start.result _ _ c.self.inside.syncs c.start.ensures.started c.start.ensures.unstarted c.self.invariant.3)
 
 pub returns-clause-staged : goal.returns-clause-staged
 returns-clause-staged g c = rw (← c.self.view_is) refl

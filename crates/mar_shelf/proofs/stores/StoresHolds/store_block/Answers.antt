@@ -12,6 +12,7 @@ invariant_of-self g c = (
   waits_stored_so g.FB.Keeps.stored g.FB.Keeps.number g.FB.Keeps.covers of_blocks c.store.result g.FB.Wreck.ArchiveRuin.left _ _ c.self.inside.writes c.self.invariant.0 c.store.ensures.stays c.store.ensures.left _ _ c.store.ensures.done,
   held_stored g.V.Variant.plain g.FB.Keeps.stored g.FB.Keeps.number g.FB.Keeps.covers c.store.result g.FB.Wreck.ArchiveRuin.left _ _ _ _ _ (waits_there g.FB.Keeps.stored g.FB.Keeps.number g.FB.Keeps.covers of_blocks _ c.self.inside.writes c.self.invariant.0) c.store.ensures.stays c.store.ensures.left c.store.ensures.done c.self.invariant.1,
   c.self.invariant.2,
+  c.self.invariant.3,
 )
 
 pub returns-clause-staged : goal.returns-clause-staged

@@ -12,6 +12,7 @@ invariant_of-self g c = (
   c.self.invariant.0,
   c.self.invariant.1,
   waits_stored_so g.FC.Keeps.stored g.FC.Keeps.number g.FC.Keeps.covers of_certs c.store.result g.FC.Wreck.ArchiveRuin.left _ _ c.self.inside.writes c.self.invariant.2 c.store.ensures.stays c.store.ensures.left _ _ c.store.ensures.done,
+  c.self.invariant.3,
 )
 
 pub returns-clause-staged : goal.returns-clause-staged

@@ -13,7 +13,7 @@ pub returns-clause-tickets : goal.returns-clause-tickets
 returns-clause-tickets g c = rw (← c.self.view_is) refl
 
 pub invariant_of-self : goal.invariant_of-self
-invariant_of-self g c = (waits_read g.FB.Keeps.stored g.FB.Keeps.number g.FB.Keeps.covers of_blocks g.FB.Wreck.ArchiveRuin.left _ _ c.self.inside.writes c.take.ensures.read c.self.invariant.0, c.take.ensures.held, c.self.invariant.2)
+invariant_of-self g c = (waits_read g.FB.Keeps.stored g.FB.Keeps.number g.FB.Keeps.covers of_blocks g.FB.Wreck.ArchiveRuin.left _ _ c.self.inside.writes c.take.ensures.read c.self.invariant.0, c.take.ensures.held, c.self.invariant.2, c.self.invariant.3)
 
 pub returns-clause-found : goal.returns-clause-found
 returns-clause-found g c = rw (← c.self.view_is) c.take.ensures.found

@@ -19,10 +19,10 @@ pub returns-clause-found : goal.returns-clause-found
 returns-clause-found g c = rw (← c.self.view_is) c.find_block.ensures.found
 
 pub returns-clause-same : goal.returns-clause-same
-returns-clause-same g c = rw (← c.self.view_is) (always_done c.find_block.result (cache_read (is_open c.self.inside.blocks) (is_open c.self.inside.certs) c.self.inside.progress.intact c.find_block.ensures.same))
+returns-clause-same g c = rw (← c.self.view_is) (always_done c.find_block.result (cache_read c.self.inside.syncs (is_open c.self.inside.blocks) (is_open c.self.inside.certs) c.self.inside.progress.intact c.find_block.ensures.tickets c.find_block.ensures.same))
 
 pub returns-clause-goes_on : goal.returns-clause-goes_on
-returns-clause-goes_on g c = rw (← c.self.view_is) (read_goes_on (fault_of g.V.Commitment.Named.bytes) cache_store _ _ _ c.find_block.result (cache_read (is_open c.self.inside.blocks) (is_open c.self.inside.certs) c.self.inside.progress.intact c.find_block.ensures.same) c.find_block.ensures.passed c.find_block.ensures.failed)
+returns-clause-goes_on g c = rw (← c.self.view_is) (read_goes_on (fault_of g.V.Commitment.Named.bytes) cache_store _ _ _ c.find_block.result (cache_read c.self.inside.syncs (is_open c.self.inside.blocks) (is_open c.self.inside.certs) c.self.inside.progress.intact c.find_block.ensures.tickets c.find_block.ensures.same) c.find_block.ensures.passed c.find_block.ensures.failed)
 
 pub returns-clause-usual : goal.returns-clause-usual
 returns-clause-usual g c = failed_so c.find_block.result c.find_block.ensures.failed (λ e how. usual_fault cache_store _ _ _ how)

@@ -6,6 +6,8 @@ use Rattle.mar_node.specs.Views.{fault_of}
 use Rattle.mar_shelf.proofs.Changed.{cache_goes_on, takes_up}
 use Rattle.mar_shelf.proofs.Placed.{both_done, done_so, failed_so, usual_fault}
 use Rattle.mar_shelf.proofs.Reading.{cache_changed}
+use Rattle.mar_node.specs.CacheCalls.{none_goes}
+use Rattle.mar_node.proofs.OpenSyncs.{AreStillOpen-kept}
 use Rattle.mar_shelf.proofs.stores.StoresHoldsCache.load_cache.Goals as goal
 
 pub invariant_of-self : goal.invariant_of-self
@@ -23,8 +25,8 @@ returns-clause-loads g c = rw (← c.self.view_is) c.load.ensures.done
 pub returns-clause-by_luck : goal.returns-clause-by_luck
 returns-clause-by_luck g c = rw (← c.self.view_is) c.load.ensures.found
 
-pub returns-clause-tickets : goal.returns-clause-tickets
-returns-clause-tickets g c = rw (← c.self.view_is) c.load.ensures.tickets
+pub returns-clause-still_open : goal.returns-clause-still_open
+returns-clause-still_open g c = rw (← c.self.view_is) (done_so c.load.result c.load.ensures.tickets (λ keeps. AreStillOpen-kept none_goes _ _ keeps c.self.inside.syncs))
 
 pub returns-clause-same : goal.returns-clause-same
 returns-clause-same g c = rw (← c.self.view_is) (done_so c.load.result c.load.ensures.stays (λ is. cache_changed (is_open c.self.inside.blocks) (is_open c.self.inside.certs) c.self.inside.progress.intact is.0 is.1 is.3))

@@ -6,6 +6,8 @@ use Rattle.mar_node.specs.Views.{fault_of}
 use Rattle.mar_shelf.proofs.Changed.{cache_goes_on, prunes_below}
 use Rattle.mar_shelf.proofs.Placed.{both_done, done_so, failed_so, usual_fault}
 use Rattle.mar_shelf.proofs.Reading.{cache_pruned}
+use Rattle.mar_node.specs.Cache.{is_below}
+use Rattle.mar_node.proofs.OpenSyncs.{AreStillOpen-kept}
 use Rattle.mar_shelf.proofs.stores.StoresHoldsCache.prune_cache.Goals as goal
 
 pub invariant_of-self : goal.invariant_of-self
@@ -14,17 +16,15 @@ invariant_of-self g c = c.self.invariant
 pub returns-clause-staged : goal.returns-clause-staged
 returns-clause-staged g c = rw (← c.self.view_is) refl
 
-pub returns-clause-tickets : goal.returns-clause-tickets
-returns-clause-tickets g c = rw (← c.self.view_is) c.prune.ensures.tickets
-
 pub returns-clause-prunes : goal.returns-clause-prunes
 returns-clause-prunes g c =
-    let both = both_done _ _ c.prune.result c.prune.ensures.done c.prune.ensures.stays in
+    let both = both_done _ _ c.prune.result (both_done _ _ c.prune.result c.prune.ensures.done c.prune.ensures.tickets) c.prune.ensures.stays in
     rw (← c.self.view_is) (done_so c.prune.result both (λ is. record {
-      prunes = is.0.prunes;
-      loaded = is.0.loaded;
-      lowest = is.0.lowest_is;
-      own_lowest = is.0.own_lowest;
+      prunes = is.0.0.prunes;
+      loaded = is.0.0.loaded;
+      still_open = AreStillOpen-kept (is_below c.args.round) _ _ is.0.1 c.self.inside.syncs;
+      lowest = is.0.0.lowest_is;
+      own_lowest = is.0.0.own_lowest;
       same = cache_pruned (is_open c.self.inside.blocks) (is_open c.self.inside.certs) c.self.inside.progress.intact is.1;
     }))
 

@@ -7,6 +7,8 @@ use Rattle.mar_node.specs.Views.{fault_of}
 use Rattle.mar_shelf.proofs.Changed.{cache_goes_on, keeps_entry}
 use Rattle.mar_shelf.proofs.Placed.{failed_so, found_is_done, found_so, found_with_done, usual_fault}
 use Rattle.mar_shelf.proofs.Reading.{cache_changed}
+use Rattle.mar_node.specs.CacheCalls.{none_goes}
+use Rattle.mar_node.proofs.OpenSyncs.{AreStillOpen-kept}
 use Rattle.mar_shelf.proofs.stores.StoresHoldsCache.put_verified.Goals as goal
 
 pub invariant_of-self : goal.invariant_of-self
@@ -21,6 +23,7 @@ returns-clause-caches g c =
     rw (← c.self.view_is) (found_so c.put_verified.result both (λ s is. record {
       puts = is.0.puts;
       loaded = is.0.loaded;
+      still_open = AreStillOpen-kept none_goes _ _ is.0.tickets c.self.inside.syncs;
       tickets = is.0.tickets;
       same = cache_changed (is_open c.self.inside.blocks) (is_open c.self.inside.certs) c.self.inside.progress.intact is.1.0 is.1.1 is.1.2;
     }))

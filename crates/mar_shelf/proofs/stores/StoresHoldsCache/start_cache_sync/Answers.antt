@@ -6,6 +6,8 @@ use Rattle.mar_node.specs.Views.{fault_of}
 use Rattle.mar_shelf.proofs.Changed.{cache_goes_on, takes_up}
 use Rattle.mar_shelf.proofs.Placed.{failed_so, found_is_done, found_so, found_with_done, usual_fault}
 use Rattle.mar_shelf.proofs.Reading.{cache_changed}
+use Rattle.mar_node.specs.CacheCalls.{none_goes}
+use Rattle.mar_node.proofs.OpenSyncs.{AreStillOpen-kept}
 use Rattle.mar_shelf.proofs.stores.StoresHoldsCache.start_cache_sync.Goals as goal
 
 pub invariant_of-self : goal.invariant_of-self
@@ -22,6 +24,7 @@ returns-clause-starts g c =
       kept = is.0.kept;
       loaded = is.0.loaded;
       fresh = is.0.fresh;
+      still_open = AreStillOpen-kept none_goes _ _ is.0.tickets c.self.inside.syncs;
       tickets = is.0.tickets;
       same = cache_changed (is_open c.self.inside.blocks) (is_open c.self.inside.certs) c.self.inside.progress.intact is.1.0 is.1.1 is.1.2;
     }))
