@@ -38,7 +38,13 @@ entries_put = record {
   lowest = refl;
   lowests = λ k there. absurd (none_in k there);
   own_lowest = (0, lit< tt, refl);
-  cache_syncs = refl;
+  cache_syncs = record {
+    still = [];
+    still_open = tt;
+    started = c1.cache_syncs;
+    started_open = (record { ticket = refl; answer = refl; covers = λ x has stays. has }, tt);
+    are = refl;
+  };
   witnessed = refl;
 }
   where
@@ -57,7 +63,7 @@ finishes = record {
   lowest = refl;
   lowests = λ k there. absurd (none_in k there);
   own_lowest = (0, lit< tt, refl);
-  cache_syncs = refl;
+  cache_syncs = record { still = []; still_open = tt; started = []; started_open = tt; are = refl };
   witnessed = refl;
 }
 
@@ -76,7 +82,7 @@ finalizes_too = record {
   lowest = refl;
   lowests = λ k there. absurd (none_in k there);
   own_lowest = (0, lit< tt, refl);
-  cache_syncs = refl;
+  cache_syncs = record { still = []; still_open = tt; started = []; started_open = tt; are = refl };
   witnessed = refl;
 }
 

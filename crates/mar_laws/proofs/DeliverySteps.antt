@@ -150,7 +150,7 @@ module _ (chain : Chain) (at0 : IsBlockAt chain 0 b0) (at1 : IsBlockAt chain 1 b
         (record { in_order = (refl, refl, refl, tt); counted = refl; out = refl; below_barrier = (tt, tt) }) ((at0, refl), tt) (λ h v is. is) (λ h v is. is) refl tt
 
     opens : LineDone config chain fresh (stopped empty_stores) (open_line (from_genesis b0)) (making (record nothing_made { reports = handed_over 0 b0 ∷ [] })) (running n0)
-    opens = (_, record { first = begun; finds = finds; begun = begun; takes = record { cache = record { held = []; sure = []; may = [] }; loads = record { with_sure = λ x has. has; within_may = λ x has. has; sure = λ x has. has; may = λ x has. has; once = tt }; by_luck = refl; begun_is = refl }; start = record { unticketed = n0; advances = starts; ticket = refl; rests = block_missing refl; good = good0 } }, refl, refl)
+    opens = (_, record { first = begun; finds = finds; begun = begun; takes = record { cache = record { held = []; sure = []; may = [] }; loads = record { with_sure = λ x has. has; within_may = λ x has. has; sure = λ x has. has; may = λ x has. has; once = tt }; by_luck = refl; syncs = []; still_open = tt; begun_is = refl }; start = record { unticketed = n0; advances = starts; ticket = refl; rests = block_missing refl; good = good0 } }, refl, refl)
 
     buffers : LineDone config chain fresh (running n0) (buffer_line b1) silent_output (running n1)
     buffers = (refl, refl)

@@ -87,7 +87,7 @@ caches_report n = record {
   lowest = refl;
   lowests = λ k there. absurd (none_in k there);
   own_lowest = (0, lit< tt, refl);
-  cache_syncs = refl;
+  cache_syncs = record { still = []; still_open = tt; started = []; started_open = tt; are = refl };
   witnessed = refl;
 }
 

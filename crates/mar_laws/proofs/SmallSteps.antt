@@ -9,11 +9,12 @@ use Rattle.mar_key.specs.Processed.{height_in, height_of}
 use Rattle.mar_store.specs.Changes.{KeepsValues}
 use Rattle.mar_store.specs.Kept.{At, has_height, reopened_store}
 use Rattle.mar_node.specs.Answers.{answers_of, certified_after, sends_of, subscriptions_after}
-use Rattle.mar_node.specs.Cache.{AdvancesCache, answer_ticket, covered_by, entries_put, finished_covers, first_verified, is_synced, lowest_after, started_syncs, still_covers, tickets_from, without_cache_sync, witnessing_of}
+use Rattle.mar_node.specs.Cache.{AdvancesCache, answer_ticket, entries_put, finished_covers, first_verified, is_pruned, is_synced, lowest_after, started_syncs, tickets_from, without_cache_sync, witnessing_of}
 use Rattle.mar_node.specs.Cached.{Cached, with_entry}
 use Rattle.mar_node.specs.Chain.{Chain}
 use Rattle.mar_node.specs.Event.{Event, awaited_after, cutoff_after, effect_of, is_query, no_floor, own_writes, processed_after, storing_of, sync_finished, told_finalization, undrained_blocks}
 use Rattle.mar_node.specs.Faults.{event_fault}
+use Rattle.mar_node.specs.OpenSyncs.{AreStillOpen, covered_by, without_ticket}
 use Rattle.mar_node.specs.Metadata.{Pair, pair_of}
 use Rattle.mar_node.specs.Node.{AreBlocksOf, AreFinalizationsOf, FloorSafe, IsCacheOf, IsGood, IsGoodDelivery, Node, empty_peers}
 use Rattle.mar_node.specs.Requests.{own_asks}
@@ -111,7 +112,7 @@ module _ (chain : Chain) (n : Node) (e : Event) (nothing : StoresNothing n e) (r
   none_covered _ = refl
 
   none_open : (d : Event) → without_cache_sync d n.cache_syncs ≡ []
-  none_open (sync_finished t) = ap (filter (λ s. not (s.ticket == t))) nothing.no_tickets
+  none_open (sync_finished t) = ap (without_ticket t) nothing.no_tickets
   none_open _ = nothing.no_tickets
 
   cache_stays : AdvancesCache config n e no_floor reached
@@ -126,7 +127,13 @@ module _ (chain : Chain) (n : Node) (e : Event) (nothing : StoresNothing n e) (r
     lowest = nothing.lowest ∙ sym nothing.still_lowest;
     lowests = λ k there. Contains-append_left n.lowests (n.lowest ∷ []) k there;
     own_lowest = (0, omega arith, sym nothing.lowest);
-    cache_syncs = nothing.no_tickets ∙ sym (ap (λ xs. map (still_covers config n e no_floor) xs ++ tickets_from n.next_sync (answer_ticket e) n.cache.held (started_syncs n reached e)) (none_open e) ∙ ap (tickets_from n.next_sync (answer_ticket e) n.cache.held) (nothing.no_syncs reached));
+    cache_syncs = record {
+      still = [];
+      still_open = subst (λ syncs. AreStillOpen (is_pruned config n e no_floor) syncs []) (sym (none_open e)) tt;
+      started = [];
+      started_open = subst (λ tests. AreStillOpen (λ x. false) (tickets_from n.next_sync (answer_ticket e) n.cache.held tests) []) (sym (nothing.no_syncs reached)) tt;
+      are = nothing.no_tickets;
+    };
     witnessed = refl;
   }
 

@@ -97,7 +97,7 @@ cached_before = record {
   lowest = refl;
   lowests = λ k there. absurd (none_in k there);
   own_lowest = (0, lit< tt, refl);
-  cache_syncs = refl;
+  cache_syncs = record { still = []; still_open = tt; started = []; started_open = tt; are = refl };
   witnessed = refl;
 }
 

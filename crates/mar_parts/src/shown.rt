@@ -1,7 +1,7 @@
 //! What a node shows of itself while a life runs.
 use crate::acks::PendingAcks;
 use mar_key::{Cutoff, Processed};
-use mar_node::Writes;
+use mar_node::{OpenTicket, Writes};
 use mar_store::RangeSet;
 
 /// What a node shows while a life runs.
@@ -23,4 +23,6 @@ pub struct Shown<'a> {
     pub certs_sure: &'a RangeSet,
     /// The writes that wait for a sync, and the syncs that are open.
     pub writes: &'a Writes,
+    /// The open syncs of the cache.
+    pub tickets: &'a [OpenTicket],
 }

@@ -10,7 +10,7 @@ pub mod ReadBytes
 pub mod FirstWords
 pub mod LineKinds
 pub mod PeerWords
-pub mod PreparedWords
+pub mod BlockWords
 pub mod LineEnds
 pub mod ReadSteps
 pub mod FirstOutside

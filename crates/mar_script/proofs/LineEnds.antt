@@ -9,15 +9,18 @@ use Rattle.std.proofs.lemmas.List.Elements.{All-append, All-cons, All-contains, 
 use Rattle.hex.specs.Hex.{IsBytes, encode_lower, encode_with, hex_digit_value, lower_digits}
 use Rattle.hex.proofs.HexLemmas.{IsDigits-lower_digits}
 use Rattle.mar_types.specs.Varint.{IsNumber}
-use Rattle.mar_node.specs.Messages.{Identifier, get_anchor, get_block, get_finalization, get_info, get_processed, get_verified, latest, of_digest, of_height, prepared, report_finalization}
+use Rattle.mar_node.specs.Messages.{Identifier, Peers, certify, get_anchor, get_block, get_finalization, get_info, get_processed, get_verified, latest, of_digest, of_height, prepared, proposed, report_finalization, verified}
 use Rattle.mar_node.specs.Faults.{StoreName, block_store, cache_store, cert_store, from_genesis, meta_store}
+use Rattle.mar_types.specs.Round.{Round}
+use Rattle.mar_cert.specs.Block.{Block}
 use Rattle.mar_cert.specs.Finalization.{finalization_bytes}
+use Rattle.mar_script.specs.Lines.{IsRoundBlock, IsSentBlock}
 use Rattle.mar_script.specs.Run.{IsConfigBytes, IsLineBytes}
 use Rattle.mar_script.specs.Script.{HasValues, IsBuilt, IsIdentifier, IsLine, IsSettings, Line, Settings, ack_line, buffer_line, crash_line, fail_line, hex, identifier_text, line_bytes, line_words, open_line, peers_text, sentence, settings_bytes, settings_words, store_name, sync_line, tell_line}
 use Rattle.mar_script.specs.Refused.{IsUnended}
 use Rattle.mar_script.specs.Words.{numbers_of}
 use Rattle.mar_script.proofs.FirstWords.{heads}
-use Rattle.mar_script.proofs.PreparedWords.{peers_ink}
+use Rattle.mar_script.proofs.BlockWords.{peers_ink}
 use Rattle.mar_script.proofs.ReadBytes.{block_is_bytes, digest_is_bytes, finalization_is_bytes}
 use Rattle.mar_script.proofs.Sentences.{IsInk, digits_are_ink, settings_numbers}
 
@@ -93,6 +96,13 @@ identifier_inner (of_height h) is = All-cons IsInner 104 (decimal h) (λ e. omeg
 identifier_inner (of_digest d) is = All-cons IsInner 100 (hex d) (λ e. omega (arith, e)) (hex_inner d (digest_is_bytes d is))
 identifier_inner latest is = by_test (codes "latest") refl
 
+round_block_inner : (word : List ℕ) (r : Round) (b : Block) → All IsInner word → IsRoundBlock (r, b) → AllByRecursion (All IsInner) (word ∷ decimal r.epoch ∷ decimal r.view ∷ hex b.encoded ∷ [])
+round_block_inner word r b inner is = (inner, (decimal_inner r.epoch is.0.0, (decimal_inner r.view is.0.1, (hex_inner b.encoded (block_is_bytes b is.1), tt))))
+
+sent_block_inner : (word : List ℕ) (r : Round) (peers : Peers) (b : Block) → All IsInner word → IsSentBlock (r, peers, b) → AllByRecursion (All IsInner) (word ∷ decimal r.epoch ∷ decimal r.view ∷ peers_text peers ∷ hex b.encoded ∷ [])
+sent_block_inner word r peers b inner is =
+    (inner, (decimal_inner r.epoch is.0.0, (decimal_inner r.view is.0.1, (All-weaker IsInk IsInner (λ c ink e. omega (arith, ink)) (peers_text peers) (peers_ink peers is.1), (hex_inner b.encoded (block_is_bytes b is.2), tt)))))
+
 words_inner : (n : ℕ) (l : Line) → n < 2 ^ 64 → IsBuilt l → HasValues n l → AllByRecursion (All IsInner) (line_words l)
 words_inner n (open_line (from_genesis b)) wide built values = (by_test (codes "open") refl, (by_test (codes "genesis") refl, (hex_inner b.encoded (block_is_bytes b values), tt)))
 words_inner n (buffer_line b) wide built values = (by_test (codes "buffer") refl, (hex_inner b.encoded (block_is_bytes b values), tt))
@@ -103,8 +113,10 @@ words_inner n (tell_line (get_finalization h)) wide built values = (by_test (cod
 words_inner n (tell_line get_processed) wide built values = (by_test (codes "processed") refl, tt)
 words_inner n (tell_line get_anchor) wide built values = (by_test (codes "anchor") refl, tt)
 words_inner n (tell_line (get_verified r)) wide built values = (by_test (codes "getverified") refl, (decimal_inner r.epoch values.0, (decimal_inner r.view values.1, tt)))
-words_inner n (tell_line (prepared r peers b)) wide built values =
-    (by_test (codes "prepared") refl, (decimal_inner r.epoch values.0.0, (decimal_inner r.view values.0.1, (All-weaker IsInk IsInner (λ b ink is. omega (arith, ink)) (peers_text peers) (peers_ink peers values.1), (hex_inner b.encoded (block_is_bytes b values.2), tt)))))
+words_inner n (tell_line (verified r b)) wide built values = round_block_inner (codes "verified") r b (by_test (codes "verified") refl) values
+words_inner n (tell_line (certify r b)) wide built values = round_block_inner (codes "certified") r b (by_test (codes "certified") refl) values
+words_inner n (tell_line (proposed r peers b)) wide built values = sent_block_inner (codes "proposed") r peers b (by_test (codes "proposed") refl) values
+words_inner n (tell_line (prepared r peers b)) wide built values = sent_block_inner (codes "prepared") r peers b (by_test (codes "prepared") refl) values
 words_inner n (sync_line t) wide built values = (by_test (codes "sync") refl, (decimal_inner t values, tt))
 words_inner n (ack_line t) wide built values = (by_test (codes "ack") refl, (decimal_inner t values, tt))
 words_inner n (fail_line store k) wide built values = (by_test (codes "fail") refl, (store_inner store, (decimal_inner k values.1, tt)))

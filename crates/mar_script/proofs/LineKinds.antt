@@ -8,11 +8,11 @@ use Rattle.mar_types.specs.Round.{Round}
 use Rattle.mar_cert.specs.Block.{Block}
 use Rattle.mar_cert.specs.Finalization.{finalization_bytes}
 use Rattle.mar_node.specs.Faults.{StoreName, block_store, cache_store, cert_store, from_genesis, meta_store}
-use Rattle.mar_node.specs.Messages.{Peers, get_anchor, get_block, get_finalization, get_info, get_processed, get_verified, prepared, report_finalization}
+use Rattle.mar_node.specs.Messages.{Peers, certify, get_anchor, get_block, get_finalization, get_info, get_processed, get_verified, prepared, proposed, report_finalization, verified}
 use Rattle.mar_node.specs.Views.{store_name_of}
 use Rattle.mar_node.specs.declared.StoreName.{StoreName as StoreNameCode}
 use Rattle.mar_node.specs.declared.StoreName.TheVariants as code
-use Rattle.mar_script.specs.Lines.{Behind, IsLone, IsWord, MadeOf, Parses, Spells, first_word, kinds, named, plain_line, prepared_text, stores}
+use Rattle.mar_script.specs.Lines.{Behind, IsLone, IsWord, MadeOf, Parses, Spells, first_word, kinds, named, plain_line, round_block_text, sent_block_text, stores}
 use Rattle.mar_script.specs.Script.{HasValues, IsBuilt, Line, ack_line, buffer_line, crash_line, fail_line, hex, identifier_text, line_bytes, open_line, store_name, sync_line, tell_line}
 use Rattle.mar_script.specs.Words.{Yields}
 use Rattle.mar_types.specs.declared.Sha256Digest.{Sha256Digest}
@@ -35,7 +35,10 @@ named_kind kind.Final = refl
 named_kind kind.Info = refl
 named_kind kind.Block = refl
 named_kind kind.Finalization = refl
+named_kind kind.GetVerified = refl
 named_kind kind.Verified = refl
+named_kind kind.Certified = refl
+named_kind kind.Proposed = refl
 named_kind kind.Prepared = refl
 named_kind kind.Sync = refl
 named_kind kind.Ack = refl
@@ -60,7 +63,10 @@ kind_spells n kind.Final rest l of = spelled n (codes "final") rest l of (λ f i
 kind_spells n kind.Info rest l of = spelled n (codes "info") rest l of (λ i is. (tt, is)) (λ i. refl)
 kind_spells n kind.Block rest l of = spelled n (codes "block") rest l of (λ i is. (tt, is)) (λ i. refl)
 kind_spells n kind.Finalization rest l of = spelled n (codes "finalization") rest l of (λ h is. (tt, is)) (λ h. refl)
-kind_spells n kind.Verified rest l of = spelled n (codes "getverified") rest l of (λ r is. (tt, is)) (λ r. refl)
+kind_spells n kind.GetVerified rest l of = spelled n (codes "getverified") rest l of (λ r is. (tt, is)) (λ r. refl)
+kind_spells n kind.Verified rest l of = spelled n (codes "verified") rest l of (λ v is. (tt, is)) (λ v. refl)
+kind_spells n kind.Certified rest l of = spelled n (codes "certified") rest l of (λ v is. (tt, is)) (λ v. refl)
+kind_spells n kind.Proposed rest l of = spelled n (codes "proposed") rest l of (λ v is. (tt, is)) (λ v. refl)
 kind_spells n kind.Prepared rest l of = spelled n (codes "prepared") rest l of (λ v is. (tt, is)) (λ v. refl)
 kind_spells n kind.Sync rest l of = spelled n (codes "sync") rest l of (λ t is. (tt, is)) (λ t. refl)
 kind_spells n kind.Ack rest l of = spelled n (codes "ack") rest l of (λ t is. (tt, is)) (λ t. refl)
@@ -90,8 +96,11 @@ kind_of n bytes (tell_line (get_block i)) s = inl (of_kind kind.Block (identifie
 kind_of n bytes (tell_line (get_finalization h)) s = inl (of_kind kind.Finalization (decimal h) s.spelled (of_value h s.values))
 kind_of n bytes (tell_line get_processed) s = inr (append_cancel_right bytes (codes "processed") (10 ∷ []) s.spelled)
 kind_of n bytes (tell_line get_anchor) s = inr (append_cancel_right bytes (codes "anchor") (10 ∷ []) s.spelled)
-kind_of n bytes (tell_line (get_verified r)) s = inl (of_kind kind.Verified (decimal r.epoch ++ 32 ∷ decimal r.view) s.spelled (of_value r s.values))
-kind_of n bytes (tell_line (prepared r peers b)) s = inl (of_kind kind.Prepared (prepared_text (r, peers, b)) s.spelled (of_value {V = Round × Peers × Block} (r, peers, b) s.values))
+kind_of n bytes (tell_line (get_verified r)) s = inl (of_kind kind.GetVerified (decimal r.epoch ++ 32 ∷ decimal r.view) s.spelled (of_value r s.values))
+kind_of n bytes (tell_line (verified r b)) s = inl (of_kind kind.Verified (round_block_text (r, b)) s.spelled (of_value {V = Round × Block} (r, b) s.values))
+kind_of n bytes (tell_line (certify r b)) s = inl (of_kind kind.Certified (round_block_text (r, b)) s.spelled (of_value {V = Round × Block} (r, b) s.values))
+kind_of n bytes (tell_line (proposed r peers b)) s = inl (of_kind kind.Proposed (sent_block_text (r, peers, b)) s.spelled (of_value {V = Round × Peers × Block} (r, peers, b) s.values))
+kind_of n bytes (tell_line (prepared r peers b)) s = inl (of_kind kind.Prepared (sent_block_text (r, peers, b)) s.spelled (of_value {V = Round × Peers × Block} (r, peers, b) s.values))
 kind_of n bytes (sync_line t) s = inl (of_kind kind.Sync (decimal t) s.spelled (of_value t s.values))
 kind_of n bytes (ack_line t) s = inl (of_kind kind.Ack (decimal t) s.spelled (of_value t s.values))
 kind_of n bytes (fail_line store k) s = inl (of_kind kind.Fail (store_name store ++ 32 ∷ decimal k) s.spelled (of_value (store, k) s.values))

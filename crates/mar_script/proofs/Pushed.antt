@@ -40,14 +40,14 @@ line_end [] = refl
 line_end (w ∷ []) = refl
 line_end (w ∷ v ∷ ws) = append_assoc w (32 ∷ sentence (v ∷ ws)) (10 ∷ []) ∙ ap (λ l. w ++ (32 ∷ l)) (line_end (v ∷ ws))
 
-pub node_line : (p o c b bs f fs u s : List ℕ) → line_of (codes "node" ∷ (codes "p=" ++ p) ∷ (codes "o=" ++ o) ∷ (codes "c=" ++ c) ∷ codes "w=-" ∷ (codes "b=" ++ b) ∷ (codes "bs=" ++ bs) ∷ (codes "f=" ++ f) ∷ (codes "fs=" ++ fs) ∷ (codes "u=" ++ u) ∷ (codes "s=" ++ s) ∷ codes "y=-" ∷ [])
-    ≡ (codes "node p=" ++ (p ++ (codes " o=" ++ o))) ++ (codes " c=" ++ (c ++ (codes " w=-" ++ (((32 ∷ (codes "b=" ++ b)) ++ ((32 ∷ (codes "bs=" ++ bs)) ++ ((32 ∷ (codes "f=" ++ f)) ++ (32 ∷ (codes "fs=" ++ fs))))) ++ ((codes " u=" ++ (u ++ (codes " s=" ++ s))) ++ codes " y=-\n")))))
-node_line p o c b bs f fs u s =
-    line_end (codes "node" ∷ (codes "p=" ++ p) ∷ (codes "o=" ++ o) ∷ (codes "c=" ++ c) ∷ codes "w=-" ∷ (codes "b=" ++ b) ∷ (codes "bs=" ++ bs) ∷ (codes "f=" ++ f) ∷ (codes "fs=" ++ fs) ∷ (codes "u=" ++ u) ∷ (codes "s=" ++ s) ∷ codes "y=-" ∷ [])
+pub node_line : (p o c b bs f fs u s y : List ℕ) → line_of (codes "node" ∷ (codes "p=" ++ p) ∷ (codes "o=" ++ o) ∷ (codes "c=" ++ c) ∷ codes "w=-" ∷ (codes "b=" ++ b) ∷ (codes "bs=" ++ bs) ∷ (codes "f=" ++ f) ∷ (codes "fs=" ++ fs) ∷ (codes "u=" ++ u) ∷ (codes "s=" ++ s) ∷ (codes "y=" ++ y) ∷ [])
+    ≡ (codes "node p=" ++ (p ++ (codes " o=" ++ o))) ++ (codes " c=" ++ (c ++ (codes " w=-" ++ (((32 ∷ (codes "b=" ++ b)) ++ ((32 ∷ (codes "bs=" ++ bs)) ++ ((32 ∷ (codes "f=" ++ f)) ++ (32 ∷ (codes "fs=" ++ fs))))) ++ ((codes " u=" ++ (u ++ (codes " s=" ++ s))) ++ (codes " y=" ++ (y ++ codes "\n")))))))
+node_line p o c b bs f fs u s y =
+    line_end (codes "node" ∷ (codes "p=" ++ p) ∷ (codes "o=" ++ o) ∷ (codes "c=" ++ c) ∷ codes "w=-" ∷ (codes "b=" ++ b) ∷ (codes "bs=" ++ bs) ∷ (codes "f=" ++ f) ∷ (codes "fs=" ++ fs) ∷ (codes "u=" ++ u) ∷ (codes "s=" ++ s) ∷ (codes "y=" ++ y) ∷ [])
     ∙ sym (
-    ap (λ l. (codes "node p=" ++ (p ++ (codes " o=" ++ o))) ++ (codes " c=" ++ (c ++ (codes " w=-" ++ (((32 ∷ (codes "b=" ++ b)) ++ ((32 ∷ (codes "bs=" ++ bs)) ++ ((32 ∷ (codes "f=" ++ f)) ++ (32 ∷ (codes "fs=" ++ fs))))) ++ l))))) (front4 (codes " u=") u (codes " s=") s (codes " y=-\n"))
-    ∙ ap (λ l. (codes "node p=" ++ (p ++ (codes " o=" ++ o))) ++ (codes " c=" ++ (c ++ (codes " w=-" ++ l)))) (front4 (32 ∷ (codes "b=" ++ b)) (32 ∷ (codes "bs=" ++ bs)) (32 ∷ (codes "f=" ++ f)) (32 ∷ (codes "fs=" ++ fs)) (codes " u=" ++ (u ++ (codes " s=" ++ (s ++ codes " y=-\n")))))
-    ∙ front4 (codes "node p=") p (codes " o=") o (codes " c=" ++ (c ++ (codes " w=-" ++ ((32 ∷ (codes "b=" ++ b)) ++ ((32 ∷ (codes "bs=" ++ bs)) ++ ((32 ∷ (codes "f=" ++ f)) ++ ((32 ∷ (codes "fs=" ++ fs)) ++ (codes " u=" ++ (u ++ (codes " s=" ++ (s ++ codes " y=-\n")))))))))))
+    ap (λ l. (codes "node p=" ++ (p ++ (codes " o=" ++ o))) ++ (codes " c=" ++ (c ++ (codes " w=-" ++ (((32 ∷ (codes "b=" ++ b)) ++ ((32 ∷ (codes "bs=" ++ bs)) ++ ((32 ∷ (codes "f=" ++ f)) ++ (32 ∷ (codes "fs=" ++ fs))))) ++ l))))) (front4 (codes " u=") u (codes " s=") s (codes " y=" ++ (y ++ codes "\n")))
+    ∙ ap (λ l. (codes "node p=" ++ (p ++ (codes " o=" ++ o))) ++ (codes " c=" ++ (c ++ (codes " w=-" ++ l)))) (front4 (32 ∷ (codes "b=" ++ b)) (32 ∷ (codes "bs=" ++ bs)) (32 ∷ (codes "f=" ++ f)) (32 ∷ (codes "fs=" ++ fs)) (codes " u=" ++ (u ++ (codes " s=" ++ (s ++ (codes " y=" ++ (y ++ codes "\n")))))))
+    ∙ front4 (codes "node p=") p (codes " o=") o (codes " c=" ++ (c ++ (codes " w=-" ++ ((32 ∷ (codes "b=" ++ b)) ++ ((32 ∷ (codes "bs=" ++ bs)) ++ ((32 ∷ (codes "f=" ++ f)) ++ ((32 ∷ (codes "fs=" ++ fs)) ++ (codes " u=" ++ (u ++ (codes " s=" ++ (s ++ (codes " y=" ++ (y ++ codes "\n")))))))))))))
     )
 
 pub ended_line : (p c bs bm fs fm : List ℕ) → line_of (codes "node" ∷ codes "end" ∷ (codes "p=" ++ p) ∷ (codes "c=" ++ c) ∷ (codes "bs=" ++ bs) ∷ (codes "bm=" ++ bm) ∷ (codes "fs=" ++ fs) ∷ (codes "fm=" ++ fm) ∷ [])

@@ -79,6 +79,10 @@ numbers_listed (x ∷ xs) = ap (λ ys. join_with_byte 44 (decimal x ∷ map deci
 pub numbers_shown : (xs tail : List ℕ) (x : ℕ) → 0 < length xs → x ≡ get_or xs 0 x → tail ≡ drop 1 xs → comma_numbers xs ≡ decimal x ++ flat_map (λ p. 44 ∷ decimal p) tail
 numbers_shown xs tail x some is behind = numbers_listed xs ∙ shown_list (λ p. p) decimal xs tail x some is behind
 
+-- the comma list of numbers of things
+pub numbered_shown : {S : Type 0} (f : S → ℕ) (xs tail : List S) (x : S) → 0 < length xs → x ≡ get_or xs 0 x → tail ≡ drop 1 xs → comma_numbers (map f xs) ≡ decimal (f x) ++ flat_map (λ s. 44 ∷ decimal (f s)) tail
+numbered_shown f xs tail x some is behind = numbers_listed (map f xs) ∙ (ap (λ ns. comma_list (map decimal ns)) (map-map (λ p. p) f xs) ∙ shown_list f decimal xs tail x some is behind)
+
 numbers_first : (x : ℕ) (xs : List ℕ) → comma_numbers (x ∷ xs) ≡ decimal x ++ flat_map (λ p. 44 ∷ decimal p) xs
 numbers_first x xs = numbers_listed (x ∷ xs) ∙ joined (λ p. p) decimal x xs
 

@@ -22,12 +22,13 @@ use Rattle.mar_block.specs.Sent.{sending}
 use Rattle.mar_block.specs.declared.recipients.Sent.{Sent as SentCode}
 use Rattle.mar_inbox.specs.Views.{peers_of, query_of, sent_of}
 use Rattle.mar_node.specs.Answers.{Sent}
-use Rattle.mar_node.specs.Messages.{Peers, get_anchor, get_block, get_finalization, get_info, get_processed, get_verified, prepared, report_finalization}
+use Rattle.mar_node.specs.Messages.{Peers, certify, get_anchor, get_block, get_finalization, get_info, get_processed, get_verified, prepared, proposed, report_finalization, verified}
 use Rattle.mar_node.specs.Faults.{StoreName, from_genesis}
 use Rattle.mar_node.specs.Views.{store_name_of}
 use Rattle.mar_node.specs.declared.StoreName.{StoreName as StoreNameCode}
 use Rattle.mar_script.specs.Script.{HasValues, IsBuilt, IsIdentifier, IsPeers, Line, ack_line, buffer_line, crash_line, fail_line, hex, identifier_text, line_bytes, open_line, peers_text, store_name, sync_line, tell_line}
 use Rattle.mar_script.specs.Words.{Yields}
+use Rattle.mar_script.specs.declared.block_line.RoundBlock.{RoundBlock}
 use Rattle.mar_script.specs.declared.line.Line.{Line as LineCode}
 use Rattle.mar_script.specs.declared.line.Line.TheVariants as line
 use Rattle.mar_script.specs.declared.words.ParseError.{ParseError}
@@ -51,6 +52,9 @@ plain_line (line.OpenGenesis b) = open_line (from_genesis (plain_block b))
 plain_line (line.Buffer b) = buffer_line (plain_block b)
 plain_line (line.Final f) = tell_line (report_finalization (plain_finalization f))
 plain_line (line.Query q) = tell_line (query_of (λ digest. digest.bytes) q)
+plain_line (line.Verified v) = tell_line (verified v.round (plain_block v.block))
+plain_line (line.Certified v) = tell_line (certify v.round (plain_block v.block))
+plain_line (line.Proposed s) = tell_line (proposed s.round (peers_of s.recipients) (plain_block s.block))
 plain_line (line.Prepared s) = tell_line (prepared s.round (peers_of s.recipients) (plain_block s.block))
 plain_line (line.Sync t) = sync_line t
 plain_line (line.Ack t) = ack_line t
@@ -88,16 +92,39 @@ first_word kind.Final = codes "final"
 first_word kind.Info = codes "info"
 first_word kind.Block = codes "block"
 first_word kind.Finalization = codes "finalization"
-first_word kind.Verified = codes "getverified"
+first_word kind.GetVerified = codes "getverified"
+first_word kind.Verified = codes "verified"
+first_word kind.Certified = codes "certified"
+first_word kind.Proposed = codes "proposed"
 first_word kind.Prepared = codes "prepared"
 first_word kind.Sync = codes "sync"
 first_word kind.Ack = codes "ack"
 first_word kind.Fail = codes "fail"
 first_word kind.Crash = codes "crash"
 
--- the words of a prepared block behind the first
-abbrev pub prepared_text : Round × Peers × Block → List ℕ
-prepared_text v = decimal v.0.epoch ++ 32 ∷ (decimal v.0.view ++ 32 ∷ (peers_text v.1 ++ 32 ∷ hex v.2.encoded))
+-- two words of a round, and what stands behind them
+abbrev pub behind_round : Round → List ℕ → List ℕ
+behind_round r rest = decimal r.epoch ++ 32 ∷ (decimal r.view ++ 32 ∷ rest)
+
+-- a round and a block, as the code has them, and as words
+abbrev pub round_block_of : RoundBlock → Round × Block
+round_block_of v = (v.round, plain_block v.block)
+
+abbrev pub IsRoundBlock : Round × Block → Type 0
+IsRoundBlock v = IsRound v.0 × IsBlock v.1
+
+abbrev pub round_block_text : Round × Block → List ℕ
+round_block_text v = behind_round v.0 (hex v.1.encoded)
+
+-- the same with the peers to which the block is to be sent
+abbrev pub sent_block_of : SentCode (EmptyBlock Sha256 Sha256Digest) → Round × Peers × Block
+sent_block_of s = (s.round, peers_of s.recipients, plain_block s.block)
+
+abbrev pub IsSentBlock : Round × Peers × Block → Type 0
+IsSentBlock v = IsRound v.0 × IsPeers v.1 × IsBlock v.2
+
+abbrev pub sent_block_text : Round × Peers × Block → List ℕ
+sent_block_text v = behind_round v.0 (peers_text v.1 ++ 32 ∷ hex v.2.encoded)
 
 -- The line is made of a value that these bytes spell.
 pub record MadeOf {V : Type 0} (make : V → Line) (IsValue : V → Type 0) (text : V → List ℕ) (bytes : List ℕ) (line : Line) : Type 0 where
@@ -114,8 +141,11 @@ Behind n kind.Final = MadeOf (λ f. tell_line (report_finalization f)) (IsFinali
 Behind n kind.Info = MadeOf (λ i. tell_line (get_info i)) IsIdentifier identifier_text
 Behind n kind.Block = MadeOf (λ i. tell_line (get_block i)) IsIdentifier identifier_text
 Behind n kind.Finalization = MadeOf (λ h. tell_line (get_finalization h)) IsNumber decimal
-Behind n kind.Verified = MadeOf (λ r. tell_line (get_verified r)) IsRound (λ r. decimal r.epoch ++ 32 ∷ decimal r.view)
-Behind n kind.Prepared = MadeOf {V = Round × Peers × Block} (λ v. tell_line (prepared v.0 v.1 v.2)) (λ v. IsRound v.0 × IsPeers v.1 × IsBlock v.2) prepared_text
+Behind n kind.GetVerified = MadeOf (λ r. tell_line (get_verified r)) IsRound (λ r. decimal r.epoch ++ 32 ∷ decimal r.view)
+Behind n kind.Verified = MadeOf {V = Round × Block} (λ v. tell_line (verified v.0 v.1)) IsRoundBlock round_block_text
+Behind n kind.Certified = MadeOf {V = Round × Block} (λ v. tell_line (certify v.0 v.1)) IsRoundBlock round_block_text
+Behind n kind.Proposed = MadeOf {V = Round × Peers × Block} (λ v. tell_line (proposed v.0 v.1 v.2)) IsSentBlock sent_block_text
+Behind n kind.Prepared = MadeOf {V = Round × Peers × Block} (λ v. tell_line (prepared v.0 v.1 v.2)) IsSentBlock sent_block_text
 Behind n kind.Sync = MadeOf sync_line IsNumber decimal
 Behind n kind.Ack = MadeOf ack_line IsNumber decimal
 Behind n kind.Fail = MadeOf {V = StoreName × ℕ} (λ v. fail_line v.0 v.1) (λ v. (1 ≤ v.1) × IsNumber v.1) (λ v. store_name v.0 ++ 32 ∷ decimal v.1)

@@ -5,7 +5,7 @@ use Rattle.mar_types.specs.Epochs.{IsPartition}
 use Rattle.mar_cert.specs.Block.{Block}
 use Rattle.mar_cert.specs.Finalization.{Finalization, finalization_bytes}
 use Rattle.mar_store.specs.Sizes.{IsSmall}
-use Rattle.mar_node.specs.Messages.{report_finalization}
+use Rattle.mar_node.specs.Messages.{certify, proposed, report_finalization, verified}
 use Rattle.mar_node.specs.Acks.{mark_dropped}
 use Rattle.mar_node.specs.Cached.{Cached, cached_block}
 use Rattle.mar_node.specs.Chain.{Chain, IsBlockAt, IsLawful}
@@ -26,7 +26,7 @@ abbrev pub max_window : ℕ
 max_window = 1024
 
 -- No block was dropped, and the tickets are as few as so many lines can have given: a line hands over at most a window of
--- blocks, starts at most one sync of the finalized archives, and is answered at most once.
+-- blocks, and gives at most one ticket of a sync and one of an answer.
 pub record IsLasting (k : ℕ) (n : Node) : Type 0 where
   pub undropped : AllByRecursion (λ a. a.mark ≡ mark_dropped → ⊥) n.out
   pub tickets : n.next_ack ≤ max_window * k
@@ -55,15 +55,16 @@ cached_blocks_in s = filter_map cached_block (cached_in s)
 abbrev pub known_in : Chain → State → List Block
 known_in chain s = chain.blocks ++ (buffer_in s ++ cached_blocks_in s)
 
--- What is asked of the chain, of the state behind k lines and of the next one: a digest names one block, a genesis is the
--- chain's block 0, a reported finalization is the chain's; lines and window are no more than a script may have.
+-- What is asked of the chain, of the state behind k lines and of the next one: a digest names one block of those that the line
+-- brings or may meet, a genesis is the chain's block 0, a reported finalization is the chain's; lines and window are no more than
+-- a script may have.
 pub record IsLawfulLine (config : Config) (chain : Chain) (k : ℕ) (before : State) (line : Line) : Type 0 where
   pub partition : IsPartition config.epochs
   pub lawful : IsLawful config.epochs chain
   pub between : IsBetween config chain k before
   pub few : k ≤ max_lines
   pub narrow : config.window ≤ max_window
-  pub one : AreOne config.inner (known_in chain before)
+  pub one : AreOne config.inner (line_blocks line ++ known_in chain before)
   pub genesis : (b : Block) → line ≡ open_line (from_genesis b) → IsBlockAt chain 0 b
   pub reported : (f : Finalization) → line ≡ tell_line (report_finalization f) → IsFinalized chain f.round f.payload
 
@@ -82,4 +83,7 @@ abbrev pub IsSmallLine : Line → Type 0
 IsSmallLine (open_line (from_genesis b)) = IsSmall b.encoded
 IsSmallLine (buffer_line b) = IsSmall b.encoded
 IsSmallLine (tell_line (report_finalization f)) = IsSmall (finalization_bytes f)
+IsSmallLine (tell_line (verified r b)) = IsSmall b.encoded
+IsSmallLine (tell_line (certify r b)) = IsSmall b.encoded
+IsSmallLine (tell_line (proposed r peers b)) = IsSmall b.encoded
 IsSmallLine line = ⊤

@@ -11,7 +11,7 @@ use Rattle.mar_node.specs.Chain.{Chain, IsBlockAt, IsLawful}
 use Rattle.mar_store.specs.Kept.{At, has_height}
 use Rattle.mar_key.specs.Keys.{Annotation}
 use Rattle.mar_key.specs.Asked.{Judged, annotations_of, asked_after}
-use Rattle.mar_node.specs.Messages.{Message, Queued, certify, close_ticket, get_anchor, get_block, get_finalization, get_info, get_processed, get_verified, prepared, proposed, report_finalization, set_floor, subscribe_commitment, subscribe_digest, verified}
+use Rattle.mar_node.specs.Messages.{Message, Queued, certify, close_ticket, get_anchor, get_block, get_finalization, get_info, get_processed, get_verified, message_blocks, proposed, report_finalization, set_floor, subscribe_commitment, subscribe_digest, verified}
 use Rattle.mar_key.specs.PeerQueue.{PeerMessage, after_peer_close, after_peer_enqueue, after_peer_take, deliver, is_open, peer_room, produce}
 use Rattle.mar_node.specs.Config.{Config}
 use Rattle.mar_node.specs.Acks.{is_unmarked}
@@ -243,13 +243,6 @@ abbrev pub messages_of : Line → List Message
 messages_of (tell_line m) = m ∷ []
 messages_of (put_line m) = m ∷ []
 messages_of _ = []
-
-abbrev pub message_blocks : Message → List Block
-message_blocks (verified r b) = b ∷ []
-message_blocks (proposed r peers b) = b ∷ []
-message_blocks (prepared r peers b) = b ∷ []
-message_blocks (certify r b) = b ∷ []
-message_blocks _ = []
 
 abbrev pub line_blocks : Line → List Block
 line_blocks (open_line (from_genesis b)) = b ∷ []

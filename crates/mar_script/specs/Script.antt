@@ -229,6 +229,9 @@ IsBuiltMessage (get_finalization h) = ⊤
 IsBuiltMessage get_processed = ⊤
 IsBuiltMessage get_anchor = ⊤
 IsBuiltMessage (get_verified r) = ⊤
+IsBuiltMessage (verified r b) = ⊤
+IsBuiltMessage (certify r b) = ⊤
+IsBuiltMessage (proposed r peers b) = ⊤
 IsBuiltMessage (prepared r peers b) = ⊤
 IsBuiltMessage _ = ⊥
 

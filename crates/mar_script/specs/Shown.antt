@@ -25,10 +25,10 @@ plain_fault fault = fault_of (λ digest. digest.bytes) fault
 abbrev pub ranges_shown : List Range → List ℕ
 ranges_shown rs = comma_list (map range_text rs)
 
--- a node that awaits no floor and has no open sync of cache archives
+-- a node that awaits no floor
 abbrev pub shown_words : Option Processed → List Outstanding → Cutoff → List Range → List Range → List Range → List Range
-    → List ℕ → List OpenSync → List (List ℕ)
-shown_words processed out cutoff blocks blocks_sure certs certs_sure uncovered syncs =
+    → List ℕ → List OpenSync → List ℕ → List (List ℕ)
+shown_words processed out cutoff blocks blocks_sure certs certs_sure uncovered syncs tickets =
     codes "node"
     ∷ (codes "p=" ++ or_dash (option_map processed_text processed))
     ∷ (codes "o=" ++ comma_list (map outstanding_text out))
@@ -40,7 +40,7 @@ shown_words processed out cutoff blocks blocks_sure certs certs_sure uncovered s
     ∷ (codes "fs=" ++ ranges_shown certs_sure)
     ∷ (codes "u=" ++ comma_numbers uncovered)
     ∷ (codes "s=" ++ comma_list (map sync_text syncs))
-    ∷ codes "y=-"
+    ∷ (codes "y=" ++ comma_numbers tickets)
     ∷ []
 
 abbrev pub ended_shown_words : Option ℕ → Cutoff → List Range → List Range → List Range → List Range → List (List ℕ)

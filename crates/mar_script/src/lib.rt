@@ -3,6 +3,7 @@
 
 mod answers;
 mod asks;
+mod block_line;
 mod line;
 mod lists;
 mod peers;
@@ -24,6 +25,7 @@ mod writing;
 
 pub use answers::push_answers;
 pub use asks::push_asks;
+pub use block_line::RoundBlock;
 pub use line::{Line, parse_line};
 pub use lists::push_ack_list;
 pub use pieces::{push_cutoff, push_hex, push_processed};

@@ -1,21 +1,20 @@
 //! The lines of a script behind the first.
 ghost use Rattle.std.specs.Prelude.{◌≡◌, ℕ, IfOk};
-ghost use Rattle.mar_cert.specs.Block.{Block as PlainBlock, IsBlock};
 ghost use Rattle.mar_cert.specs.Finalization.{Finalization as PlainFinalization, finalization_bytes};
 ghost use Rattle.mar_cert.specs.MockScheme.{IsFinalization};
-ghost use Rattle.mar_script.specs.Lines.{Behind, IsLone, Parses, Spells, kinds, named, plain_block, plain_finalization, plain_line, stores};
+ghost use Rattle.mar_script.specs.Lines.{Behind, IsLone, Parses, Spells, kinds, named, plain_finalization, plain_line, stores};
 ghost use Rattle.mar_script.specs.Script.{IsSettings, Line as PlainLine, hex};
 ghost use Rattle.mar_script.specs.Words.{Yields};
 
-use crate::peers::recipients;
-use crate::query_line::{height, identifier, round, round_of};
+use crate::block_line::{RoundBlock, block_of, round_and_block, sent_block};
+use crate::query_line::{height, identifier, round};
 use crate::settings::Settings;
-use crate::words::{ParseError, bytes_of, look_up, number, split_word};
+use crate::words::{ParseError, bytes_of, look_up, number, refusal, split_word};
 use mar_block::{EmptyBlock, Sent};
 use mar_cert::MockFinalization;
 use mar_inbox::Query;
 use mar_node::StoreName;
-use mar_types::{Decode, Error, Sha256, Sha256Digest};
+use mar_types::{Decode, Sha256, Sha256Digest};
 use std::alloc::Global;
 
 /// A line of a script behind the first.
@@ -29,6 +28,12 @@ pub enum Line {
     Final(MockFinalization),
     /// Asks what stands, under the next answer ticket.
     Query(Query<Sha256Digest>),
+    /// A block was verified, under the next answer ticket.
+    Verified(RoundBlock),
+    /// A block was certified, under the next answer ticket.
+    Certified(RoundBlock),
+    /// A block was proposed, under the next answer ticket: it is to be sent so.
+    Proposed(Sent<EmptyBlock<Sha256>>),
     /// A block was built ahead of its proposal: it is to be sent so.
     Prepared(Sent<EmptyBlock<Sha256>>),
     /// The sync of this ticket finishes.
@@ -50,7 +55,10 @@ enum Kind {
     Info,
     Block,
     Finalization,
+    GetVerified,
     Verified,
+    Certified,
+    Proposed,
     Prepared,
     Sync,
     Ack,
@@ -59,14 +67,17 @@ enum Kind {
 }
 
 // The first word of each kind of line.
-const KINDS: [(&[u8], Kind); 12] = [
+const KINDS: [(&[u8], Kind); 15] = [
     (b"open", Kind::Open),
     (b"buffer", Kind::Buffer),
     (b"final", Kind::Final),
     (b"info", Kind::Info),
     (b"block", Kind::Block),
     (b"finalization", Kind::Finalization),
-    (b"getverified", Kind::Verified),
+    (b"getverified", Kind::GetVerified),
+    (b"verified", Kind::Verified),
+    (b"certified", Kind::Certified),
+    (b"proposed", Kind::Proposed),
     (b"prepared", Kind::Prepared),
     (b"sync", Kind::Sync),
     (b"ack", Kind::Ack),
@@ -135,8 +146,11 @@ fn parse_kind(alloc: Global, members: u32, kind: Kind, rest: &[u8]) -> Result<Li
         Kind::Info => identifier(rest).map(Query::Info).map(Line::Query),
         Kind::Block => identifier(rest).map(Query::Block).map(Line::Query),
         Kind::Finalization => height(rest).map(Query::Finalization).map(Line::Query),
-        Kind::Verified => round(rest).map(Query::Verified).map(Line::Query),
-        Kind::Prepared => prepared(alloc, rest),
+        Kind::GetVerified => round(rest).map(Query::Verified).map(Line::Query),
+        Kind::Verified => round_and_block(alloc, rest).map(Line::Verified),
+        Kind::Certified => round_and_block(alloc, rest).map(Line::Certified),
+        Kind::Proposed => sent_block(alloc, rest).map(Line::Proposed),
+        Kind::Prepared => sent_block(alloc, rest).map(Line::Prepared),
         Kind::Sync => number(rest).map(Line::Sync),
         Kind::Ack => number(rest).map(Line::Ack),
         Kind::Fail => fail(rest),
@@ -178,56 +192,6 @@ fn fail(words: &[u8]) -> Result<Line, ParseError>
     }
 }
 
-// The line `prepared` with these words.
-fn prepared(alloc: Global, words: &[u8]) -> Result<Line, ParseError>
-    ensures { (n : ℕ) → Parses (Behind n Kind.Prepared words.now) result }
-{
-    let Some((epoch, rest)) = split_word(words) else {
-        return Err(ParseError::Grammar);
-    };
-    let Some((view, rest)) = split_word(rest) else {
-        return Err(ParseError::Grammar);
-    };
-    let Some((peers, rest)) = split_word(rest) else {
-        return Err(ParseError::Grammar);
-    };
-    let round = match round_of(epoch, view) {
-        Ok(round) => round,
-        Err(error) => return Err(error),
-    };
-    let recipients = match recipients(alloc, peers) {
-        Ok(recipients) => recipients,
-        Err(error) => return Err(error),
-    };
-    match block_of(alloc, rest) {
-        Ok(block) => Ok(Line::Prepared(Sent {
-            round,
-            block,
-            recipients,
-        })),
-        Err(error) => Err(error),
-    }
-}
-
-// The block that a word spells, whole.
-fn block_of(alloc: Global, word: &[u8]) -> Result<EmptyBlock<Sha256>, ParseError>
-    ensures is_block { IfOk result (λ b. IsBlock (plain_block b)) }
-    ensures found { IfOk result (λ b. word.now ≡ hex (plain_block b).encoded) }
-    ensures only { (b : PlainBlock) → IsBlock b → word.now ≡ hex b.encoded → Yields (λ found. plain_block found ≡ b) result }
-{
-    let bytes = match bytes_of(alloc, word) {
-        Ok(bytes) => bytes,
-        Err(error) => return Err(error),
-    };
-    match EmptyBlock::<Sha256>::decode_cfg(alloc, bytes.as_slice(), &()) {
-        Ok(block) => {
-            block.is_block();
-            Ok(block)
-        }
-        Err(error) => Err(refusal(error)),
-    }
-}
-
 // The finalization of so many members that a word spells, whole.
 fn finalization_of(alloc: Global, members: u32, word: &[u8]) -> Result<MockFinalization, ParseError>
     ensures is_finalization { IfOk result (λ f. IsFinalization members (plain_finalization f)) }
@@ -245,16 +209,5 @@ fn finalization_of(alloc: Global, members: u32, word: &[u8]) -> Result<MockFinal
             Ok(finalization)
         }
         Err(error) => Err(refusal(error)),
-    }
-}
-
-// Why bytes that aren't read as a value are refused.
-fn refusal(error: Error) -> ParseError
-    ensures grammar { result ≡ ParseError.Grammar → error ≡ Error.Memory → ⊥ }
-    ensures memory { result ≡ ParseError.Memory → error ≡ Error.Memory }
-{
-    match error {
-        Error::Memory => ParseError::Memory,
-        _ => ParseError::Grammar,
     }
 }

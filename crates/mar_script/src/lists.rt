@@ -10,7 +10,7 @@ ghost use Rattle.mar_script.specs.Text.{comma_list, mark_text, outstanding_text,
 
 use crate::pieces::push_number;
 use mar_block::Recipients;
-use mar_node::OpenSync;
+use mar_node::{OpenSync, OpenTicket};
 use mar_parts::{Mark, PendingAck};
 use mar_types::{Height, Participant};
 use std::alloc::AllocError;
@@ -104,6 +104,29 @@ pub fn push_heights(text: &mut String, front: &[Height], back: &[Height]) -> Res
     }
     push_height_list(text, front)?;
     push_more_heights(text, back)?;
+    Ok(())
+}
+
+// The numbers of open syncs of the cache, each with a comma before it.
+fn push_more_numbers(text: &mut String, tickets: &[OpenTicket]) -> Result<(), AllocError>
+    ensures { OnOk result (string_bytes text.new ≡ string_bytes text.old ++ flat_map (λ o. 44 ∷ decimal o.number) tickets.now) }
+{
+    for open in tickets {
+        text.push_str(",")?;
+        push_number(text, open.number)?;
+    }
+    Ok(())
+}
+
+/// Appends the numbers of open syncs of the cache.
+pub fn push_numbers(text: &mut String, tickets: &[OpenTicket]) -> Result<(), AllocError>
+    ensures { OnOk result (string_bytes text.new ≡ string_bytes text.old ++ comma_numbers (map (λ o. o.number) tickets.now)) }
+{
+    if tickets.is_empty() {
+        return text.push_str("-");
+    }
+    push_number(text, tickets[0].number)?;
+    push_more_numbers(text, tickets.split_at(1).1)?;
     Ok(())
 }
 

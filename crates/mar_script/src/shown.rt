@@ -7,10 +7,10 @@ ghost use Rattle.mar_script.specs.Script.{comma_numbers};
 ghost use Rattle.mar_script.specs.Text.{comma_list, cutoff_text, line_of, or_dash, outstanding_text, processed_text, sync_text};
 ghost use Rattle.mar_script.specs.Shown.{ended_shown_words, ranges_shown, shown_words};
 
-use crate::lists::{push_ack_list, push_heights, push_syncs};
+use crate::lists::{push_ack_list, push_heights, push_numbers, push_syncs};
 use crate::pieces::{push_cutoff, push_height, push_processed};
 use crate::range_text::RangeText;
-use mar_node::{ShownRuins, Writes};
+use mar_node::{OpenTicket, ShownRuins, Writes};
 use mar_parts::{PendingAck, PendingAcks, Shown};
 use mar_store::RangeSet;
 use std::alloc::{AllocError, Global};
@@ -112,6 +112,17 @@ fn push_writes(text: &mut String, writes: &Writes) -> Result<(), AllocError>
     Ok(())
 }
 
+// The open syncs of the cache, with which the line ends.
+fn push_tickets(text: &mut String, tickets: &[OpenTicket]) -> Result<(), AllocError>
+    ensures { OnOk result (string_bytes text.new ≡ string_bytes text.old
+        ++ (codes " y=" ++ (comma_numbers (map (λ o. o.number) tickets.now) ++ codes "\n"))) }
+{
+    text.push_str(" y=")?;
+    push_numbers(text, tickets)?;
+    text.push_str("\n")?;
+    Ok(())
+}
+
 /// Appends the line that shows a node.
 pub fn push_node(
     alloc: Global,
@@ -122,7 +133,7 @@ pub fn push_node(
     ensures { OnOk result (string_bytes text.new ≡ string_bytes text.old ++ line_of (shown_words (option_map processed_of node.now.processed)
         node.now.acks.now.entries (cutoff_of node.now.cutoff)
         node.now.blocks_held.now node.now.blocks_sure.now node.now.certs_held.now node.now.certs_sure.now
-        node.now.writes.now.uncovered (syncs_of node.now.writes.now.pooled))) }
+        node.now.writes.now.uncovered (syncs_of node.now.writes.now.pooled) (map (λ o. o.number) node.now.tickets.now))) }
 {
     push_node_front(alloc, text, node)?;
     text.push_str(" c=")?;
@@ -130,7 +141,7 @@ pub fn push_node(
     text.push_str(" w=-")?;
     push_node_ranges(text, kept, node)?;
     push_writes(text, node.writes)?;
-    text.push_str(" y=-\n")?;
+    push_tickets(text, node.tickets)?;
     Ok(())
 }
 

@@ -9,6 +9,7 @@ ghost use Rattle.mar_script.specs.Script.{hex};
 ghost use Rattle.mar_script.specs.Words.{Yields, words_of};
 
 use itoa::Buffer;
+use mar_types::Error;
 use memchr::memchr;
 use std::alloc::{AllocError, Global};
 use std::str;
@@ -30,6 +31,17 @@ impl From<AllocError> for ParseError {
 
     fn from(_error: AllocError) -> ParseError {
         ParseError::Memory
+    }
+}
+
+/// Why bytes that aren't read as a value are refused.
+pub fn refusal(error: Error) -> ParseError
+    ensures grammar { result ≡ ParseError.Grammar → error ≡ Error.Memory → ⊥ }
+    ensures memory { result ≡ ParseError.Memory → error ≡ Error.Memory }
+{
+    match error {
+        Error::Memory => ParseError::Memory,
+        _ => ParseError::Grammar,
     }
 }
 

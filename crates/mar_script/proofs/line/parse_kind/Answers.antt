@@ -2,7 +2,7 @@ use Rattle.std.proofs.Common.{refl, ℕ}
 use Rattle.mar_types.specs.Round.{Round}
 use Rattle.mar_inbox.specs.Views.{identifier_of}
 use Rattle.mar_inbox.specs.declared.Query.TheVariants as query
-use Rattle.mar_script.specs.Lines.{plain_block, plain_finalization}
+use Rattle.mar_script.specs.Lines.{plain_block, plain_finalization, round_block_of, sent_block_of}
 use Rattle.mar_script.specs.declared.line.Line.TheVariants as line
 use Rattle.mar_script.proofs.LineKinds.{line_of, query_line}
 use Rattle.mar_script.proofs.line.parse_kind.Goals as goal
@@ -25,8 +25,8 @@ returns-in-Block c = rw c.in-Block.is (query_line _ _ _ _ (identifier_of (λ d. 
 pub returns-in-Finalization : goal.returns-in-Finalization
 returns-in-Finalization c = rw c.in-Finalization.is (query_line _ _ _ _ (λ (h : ℕ). h) query.Finalization c.height.result c.map-in-Finalization.result _ (λ h. refl) c.height.ensures.fits c.height.ensures.found c.height.ensures.only c.map-in-Finalization.ensures.cases c.map-in-Finalization-2.ensures.cases)
 
-pub returns-in-Verified : goal.returns-in-Verified
-returns-in-Verified c = rw c.in-Verified.is (query_line _ _ _ _ (λ (r : Round). r) query.Verified c.round.result c.map-in-Verified.result _ (λ r. refl) c.round.ensures.is_round c.round.ensures.found c.round.ensures.only c.map-in-Verified.ensures.cases c.map-in-Verified-2.ensures.cases)
+pub returns-in-GetVerified : goal.returns-in-GetVerified
+returns-in-GetVerified c = rw c.in-GetVerified.is (query_line _ _ _ _ (λ (r : Round). r) query.Verified c.round.result c.map-in-GetVerified.result _ (λ r. refl) c.round.ensures.is_round c.round.ensures.found c.round.ensures.only c.map-in-GetVerified.ensures.cases c.map-in-GetVerified-2.ensures.cases)
 
 pub returns-in-Sync : goal.returns-in-Sync
 returns-in-Sync c = rw c.in-Sync.is (line_of _ _ _ _ (λ (t : ℕ). t) line.Sync c.number.result _ (λ t. refl) c.number.ensures.fits c.number.ensures.found c.number.ensures.only c.map-in-Sync.ensures.cases)
@@ -40,5 +40,14 @@ returns-in-Fail c = rw c.in-Fail.is (c.fail.ensures c.args.members)
 pub returns-in-Crash : goal.returns-in-Crash
 returns-in-Crash c = rw c.in-Crash.is (line_of _ _ _ _ (λ (t : ℕ). t) line.Crash c.number-in-Crash.result _ (λ t. refl) c.number-in-Crash.ensures.fits c.number-in-Crash.ensures.found c.number-in-Crash.ensures.only c.map-in-Crash.ensures.cases)
 
+pub returns-in-Verified : goal.returns-in-Verified
+returns-in-Verified c = rw c.in-Verified.is (line_of _ _ _ _ round_block_of line.Verified c.round_and_block.result _ (λ v. refl) c.round_and_block.ensures.is c.round_and_block.ensures.found c.round_and_block.ensures.only c.map-in-Verified.ensures.cases)
+
+pub returns-in-Certified : goal.returns-in-Certified
+returns-in-Certified c = rw c.in-Certified.is (line_of _ _ _ _ round_block_of line.Certified c.round_and_block-in-Certified.result _ (λ v. refl) c.round_and_block-in-Certified.ensures.is c.round_and_block-in-Certified.ensures.found c.round_and_block-in-Certified.ensures.only c.map-in-Certified.ensures.cases)
+
+pub returns-in-Proposed : goal.returns-in-Proposed
+returns-in-Proposed c = rw c.in-Proposed.is (line_of _ _ _ _ sent_block_of line.Proposed c.sent_block.result _ (λ v. refl) c.sent_block.ensures.is c.sent_block.ensures.found c.sent_block.ensures.only c.map-in-Proposed.ensures.cases)
+
 pub returns-in-Prepared : goal.returns-in-Prepared
-returns-in-Prepared c = rw c.in-Prepared.is (c.prepared.ensures c.args.members)
+returns-in-Prepared c = rw c.in-Prepared.is (line_of _ _ _ _ sent_block_of line.Prepared c.sent_block-in-Prepared.result _ (λ v. refl) c.sent_block-in-Prepared.ensures.is c.sent_block-in-Prepared.ensures.found c.sent_block-in-Prepared.ensures.only c.map-in-Prepared.ensures.cases)
