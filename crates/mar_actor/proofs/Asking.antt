@@ -15,7 +15,7 @@ use Rattle.mar_node.specs.Step.{Report}
 use Rattle.mar_node.proofs.Lasting.{EndsLife-usual, IsPart-read, LivesOn-part}
 use Rattle.mar_actor.specs.Due.{due_fault}
 use Rattle.mar_actor.specs.Told.{tips_of}
-use Rattle.mar_actor.specs.Views.{event_of, no_block, no_notarization, told_of}
+use Rattle.mar_actor.specs.Views.{event_of, message_first, message_sendings, no_notarization, sendings_of, sent_first, told_first, told_of, told_sendings}
 use Rattle.mar_actor.specs.declared.event.Event.{Event as EventCode}
 use Rattle.mar_actor.specs.declared.event.Event.TheVariants as event
 use Rattle.mar_actor.specs.declared.messages.Told.{Told}
@@ -49,8 +49,15 @@ module _ {D : Type 0} (digest : D → List ℕ) (t : ℕ) where
 -- AN EVENT THAT IS A MESSAGE
 
 -- what its sender tells or asks is the event
-pub event_is : {D B F : Type 0} (digest : D → List ℕ) (block : B → Block) (plain : F → Finalization) (e : EventCode D B F) (m : Message D Infallible Infallible F) (r x : Told D F) → e ≡ event.Message m → told_of digest plain r ≡ message_told (ticket_of m) (message_of digest no_block no_notarization plain m) → r ≡ x → event_of digest block plain e ≡ told_of digest plain x
-event_is digest block plain e m r x is told same = ap (event_of digest block plain) is ∙ (sym told ∙ ap (told_of digest plain) same)
+pub event_is : {D B F : Type 0} (digest : D → List ℕ) (block : B → Block) (plain : F → Finalization) (e : EventCode D B F) (m : Message D B Infallible F) (r x : Told D B F) → e ≡ event.Message m → told_of digest block plain r ≡ message_told (ticket_of m) (message_of digest block no_notarization plain m) → r ≡ x → event_of digest block plain e ≡ told_of digest block plain x
+event_is digest block plain e m r x is told same = ap (event_of digest block plain) is ∙ (sym told ∙ ap (told_of digest block plain) same)
+
+-- and what it sends is what the event sends
+pub sendings_are : {D B F : Type 0} (block : B → Block) (e : EventCode D B F) (m : Message D B Infallible F) (r x : Told D B F) → e ≡ event.Message m → told_sendings block r ≡ message_sendings block m → r ≡ x → sendings_of block e ≡ told_sendings block x
+sendings_are block e m r x is told same = ap (sendings_of block) is ∙ (sym told ∙ ap (told_sendings block) same)
+
+pub firsts_are : {D B F : Type 0} (block : B → Block) (e : EventCode D B F) (m : Message D B Infallible F) (r x : Told D B F) → e ≡ event.Message m → told_first block r ≡ message_first block m → r ≡ x → sent_first block e ≡ told_first block x
+firsts_are block e m r x is told same = ap (sent_first block) is ∙ (sym told ∙ ap (told_first block) same)
 
 -- answering reads, and may find no memory
 pub lives_asked : {P E : Type 0} (a : Seen P E) (result : Result (Seen P E) Ending) → IfOk result (IsRead a) → MatchResult result (λ new. Grew a.held nothing_written new.held) (Loses a.held nothing_written) → IfErr result (λ x. IsUsual x.fault) → LivesOn a result

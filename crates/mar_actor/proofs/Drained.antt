@@ -1,13 +1,15 @@
 -- What is written as acknowledged blocks are processed, said of the life before the mark.
-use Rattle.std.proofs.Common.{◌≡◌, ℕ, List, [], Option, Some, None, option_to_list, ap, sym, subst, refl, ◌∙◌}
+use Rattle.std.proofs.Common.{◌≡◌, ℕ, List, [], Option, Some, None, option_to_list, false, is_some, ap, sym, subst, refl, ◌∙◌}
 use Rattle.std.specs.List.{cons_option}
 use Rattle.mar_types.specs.Round.{Round}
 use Rattle.mar_store.specs.Changes.{IsNested}
-use Rattle.mar_node.specs.Acks.{Outstanding, given_front, given_oldest, mark_given, with_mark}
+use Rattle.mar_node.specs.Acks.{Outstanding, after_oldest, dropped_oldest, given_front, given_oldest, mark_given, with_mark}
 use Rattle.mar_node.specs.Event.{round_at}
 use Rattle.mar_node.specs.Held.{Ending, Grew, Held, Loses, Remembered, Seen, WithinWritten, Written, seen, written_prunes}
 use Rattle.mar_node.specs.Metadata.{Pair}
-use Rattle.mar_node.specs.Moves.{processed_prunes, pruned_by, rounds_of}
+use Rattle.mar_node.specs.Moves.{DrainsNext, PrunesProcessed, with_processed, processed_prunes, pruned_by, rounds_of}
+use Rattle.mar_types.specs.Epochs.{Epochs}
+use Rattle.mar_node.proofs.CachePrunes.{PrunesCacheBy-none}
 use Rattle.mar_node.proofs.Growing.{Grew-refl, WithinWritten-refl, WithinWritten-unpaired}
 
 -- the rounds of the oldest block that is given, where there is one
@@ -35,3 +37,12 @@ module _ {P E : Type 0} (held : Held) (life given : Remembered P E) (t : ℕ) (i
 
     pub front_grown : (pairs : List Pair) (new : Held) → ((start : Held) (all : Written) → Grew start all held → WithinWritten (written_prunes (processed_prunes (seen held given) (given_front given.out))) all → Grew start all new) → Grew held (all_with pairs) new
     front_grown pairs new goes = goes held (all_with pairs) (Grew-refl held (all_with pairs) nested certs_nested) (subst (λ rounds. WithinWritten (written_prunes rounds) (all_with pairs)) (sym prunes_are) (WithinWritten-unpaired (all_with pairs)))
+
+-- where the oldest block is neither given nor dropped nothing is processed
+pub DrainsNext-none : {P E : Type 0} (epochs : Epochs) (held : Held) (life life' : Remembered P E) → given_oldest life.out ≡ None → dropped_oldest life.out ≡ None → life' ≡ record life { out = after_oldest life.out } → DrainsNext epochs (seen held life) false (seen held life')
+DrainsNext-none epochs held life life' given dropped same = record {
+  prunes = subst (λ o. PrunesProcessed (seen held life) (option_to_list o) held) (sym given) (PrunesCacheBy-none held held refl refl refl);
+  same = ap (seen held) same ∙ sym (ap (λ o. with_processed epochs (seen held life) (option_to_list o) (after_oldest life.out) held) given);
+  processed = sym (ap is_some given);
+  not_dropped = dropped;
+}

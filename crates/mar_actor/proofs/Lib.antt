@@ -6,3 +6,4 @@ pub mod Told
 pub mod Reported
 pub mod Sent
 pub mod Drained
+pub mod Kept

@@ -142,7 +142,7 @@ module _ {P E : Type 0} (held one : Held) (life : Remembered P E) (f : Finalizat
   raised = seen (record (with_cache_of one held) { cutoff = greatest_of held.cutoff (at_round f.round ∷ []); witnessed = later_round held.witnessed (Some f.round) }) life
 
   raises : RaisesTo (seen held life) (at_round f.round ∷ []) (f.round ∷ []) raised
-  raises = record { prunes = record { prunes = pruned.prunes; loaded = pruned.loaded; lowest = pruned.lowest; own_lowest = pruned.own_lowest }; same = refl }
+  raises = record { prunes = record { prunes = pruned.prunes; loaded = pruned.loaded; still_open = pruned.still_open; lowest = pruned.lowest; own_lowest = pruned.own_lowest }; same = refl }
 
   synced : ◌≡◌ {A = Seen P E} (seen one life) (record raised { held = record raised.held { pairs = noted_pair held f.round ∷ []; watches = one.watches } })
   synced = ap (λ h. seen h life) noted

@@ -1,5 +1,5 @@
 -- What a buffer was handed to send, as the definitions see it.
-use Rattle.std.proofs.Common.{◌≡◌, ℕ, List, [], ◌∷◌, map, Option, Some, None, Result, Ok, Err, OnErr, OnOk, refl, ◌∙◌, ap, subst}
+use Rattle.std.proofs.Common.{◌≡◌, ℕ, List, [], ◌∷◌, ◌++◌, map, Option, Some, None, Result, Ok, Err, OnErr, OnOk, refl, ◌∙◌, ap, subst}
 use Rattle.std.proofs.lemmas.List.{map-append}
 use Rattle.mar_types.specs.Round.{Round}
 use Rattle.mar_cert.specs.Block.{Block}
@@ -9,7 +9,9 @@ use Rattle.mar_block.specs.declared.recipients.Recipients.{Recipients}
 use Rattle.mar_block.specs.declared.recipients.Recipients.TheVariants.{All, Some as Given}
 use Rattle.mar_inbox.specs.Views.{peers_named, peers_of, sent_by, sent_of}
 use Rattle.mar_key.specs.Hears.{Hears}
+use Rattle.mar_node.specs.Step.{IsFront}
 use Rattle.mar_node.proofs.Handing.{Hears-nothing}
+use Rattle.mar_actor.specs.Kept.{SendsFront}
 
 -- more was sent
 pub hears_sent : (old new : Option (List Sending)) (more : List Sending) → Sends old more new → Hears (sent_by old) (map sent_of more) (sent_by new)
@@ -21,9 +23,12 @@ peers_are All = refl
 peers_are (Given peers) = refl
 
 -- one block was
+pub hears_one : (old new : Option (List Sending)) (r : Round) (peers : Recipients ℕ) (b : Block) → Sends old (record { round = r; block = b; peers = named peers } ∷ []) new → Hears (sent_by old) (record { round = r; digest = b.digest; peers = peers_of peers } ∷ []) (sent_by new)
+hears_one old new r peers b sends = subst (λ p. Hears (sent_by old) (record { round = r; digest = b.digest; peers = p } ∷ []) (sent_by new)) (peers_are peers) (hears_sent old new (record { round = r; block = b; peers = named peers } ∷ []) sends)
+
+-- where it was
 pub hears_block : {A E : Type 0} (old new : Option (List Sending)) (r : Round) (peers : Recipients ℕ) (b : Block) (result : Result A E) → OnOk result (Sends old (record { round = r; block = b; peers = named peers } ∷ []) new) → OnOk result (Hears (sent_by old) (record { round = r; digest = b.digest; peers = peers_of peers } ∷ []) (sent_by new))
-hears_block old new r peers b (Ok x) sends =
-    subst (λ p. Hears (sent_by old) (record { round = r; digest = b.digest; peers = p } ∷ []) (sent_by new)) (peers_are peers) (hears_sent old new (record { round = r; block = b; peers = named peers } ∷ []) sends)
+hears_block old new r peers b (Ok x) sends = hears_one old new r peers b sends
 hears_block old new r peers b (Err e) sends = tt
 
 -- nothing was
@@ -43,3 +48,13 @@ unsent-ok sent (Err e) = tt
 pub unsent-err : {A E : Type 0} (sent : Option (List Sending)) (result : Result A E) → OnErr result (Sends sent [] sent)
 unsent-err sent (Ok x) = tt
 unsent-err sent (Err e) = sends_nothing sent
+
+-- a front of what was to be sent
+pub hears_front : (old new : Option (List Sending)) (r : Round) (peers : Recipients ℕ) (b : Block) (front : List Sending) → IsFront front (record { round = r; block = b; peers = named peers } ∷ []) → Sends old front new
+    → IsFront (map sent_of front) (record { round = r; digest = b.digest; peers = peers_of peers } ∷ []) × Hears (sent_by old) (map sent_of front) (sent_by new)
+hears_front old new r peers b front (rest, is) sends = ((map sent_of rest, subst (λ p. record { round = r; digest = b.digest; peers = p } ∷ [] ≡ map sent_of front ++ map sent_of rest) (peers_are peers) (ap (map sent_of) is ∙ map-append sent_of front rest)), hears_sent old new front sends)
+
+-- nothing was, so none of it
+pub front_none : {A E : Type 0} (old new : Option (List Sending)) (result : Result A E) → OnErr result (Sends old [] new) → OnErr result (SendsFront old [] new)
+front_none old new (Ok x) sends = tt
+front_none old new (Err e) sends = ([], ([], refl), sends)

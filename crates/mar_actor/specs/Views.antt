@@ -6,7 +6,11 @@ use Rattle.mar_cert.specs.Finalization.{Finalization, Notarization}
 use Rattle.mar_block.specs.Recipients.{named}
 use Rattle.mar_block.specs.Sent.{Sending}
 use Rattle.mar_inbox.specs.Views.{message_of, peers_of, query_of, ticket_of}
-use Rattle.mar_node.specs.Messages.{prepared, report_finalization}
+use Rattle.mar_types.specs.Round.{Round}
+use Rattle.mar_block.specs.declared.recipients.Recipients.{Recipients}
+use Rattle.mar_inbox.specs.declared.Message.{Message}
+use Rattle.mar_inbox.specs.declared.Message.TheVariants as message
+use Rattle.mar_node.specs.Messages.{certify, prepared, proposed, report_finalization, verified}
 use Rattle.mar_node.specs.Event.{Event, life_started, message_told, sync_finished, ack_given}
 use Rattle.mar_node.specs.Faults.{Begin, from_genesis}
 use Rattle.mar_node.specs.Step.{Report, new_tip, handed_over}
@@ -22,30 +26,60 @@ use Rattle.mar_actor.specs.declared.settings.Limits.{Limits}
 use Rattle.mar_actor.specs.declared.settings.Start.{Start}
 use Rattle.mar_actor.specs.declared.settings.Start.TheVariants as start
 
--- no message brings a block or a notarization yet
-abbrev pub no_block : Infallible → Block
-no_block never = elim never [ ]
-
+-- no message brings a notarization yet
 abbrev pub no_notarization : Infallible → Notarization
 no_notarization never = elim never [ ]
 
 -- an event, by what a digest is as bytes, and a block and a finalization as plain data
 abbrev pub event_of : {D B F : Type 0} → (D → List ℕ) → (B → Block) → (F → Finalization) → EventCode D B F → Event
 event_of digest block plain event.Start = life_started None
-event_of digest block plain (event.Message m) = message_told (ticket_of m) (message_of digest no_block no_notarization plain m)
-event_of digest block plain (event.Prepared r peers b) = message_told None (prepared r (peers_of peers) (block b))
+event_of digest block plain (event.Message m) = message_told (ticket_of m) (message_of digest block no_notarization plain m)
 event_of digest block plain (event.Sync t) = sync_finished t
 event_of digest block plain (event.Ack t) = ack_given t
 
+-- a block that is sent to these peers
+abbrev pub sending : {B : Type 0} → (B → Block) → Round → Recipients ℕ → B → Sending
+sending block r peers b = record { round = r; block = block b; peers = named peers }
+
+-- what a message has the buffer send
+abbrev pub message_sendings : {D B N F : Type 0} → (B → Block) → Message D B N F → List Sending
+message_sendings block (message.Proposed t r peers b) = sending block r peers b ∷ []
+message_sendings block (message.Prepared r peers b) = sending block r peers b ∷ []
+message_sendings block _ = []
+
+-- and of that what is sent before anything else is done
+abbrev pub message_first : {D B N F : Type 0} → (B → Block) → Message D B N F → List Sending
+message_first block (message.Proposed t r peers b) = sending block r peers b ∷ []
+message_first block _ = []
+
+-- the same of what a message tells or asks
+abbrev pub told_sendings : {D B F : Type 0} → (B → Block) → Told D B F → List Sending
+told_sendings block (told.Proposed t r peers b) = sending block r peers b ∷ []
+told_sendings block (told.Prepared r peers b) = sending block r peers b ∷ []
+told_sendings block _ = []
+
+abbrev pub told_first : {D B F : Type 0} → (B → Block) → Told D B F → List Sending
+told_first block (told.Proposed t r peers b) = sending block r peers b ∷ []
+told_first block _ = []
+
 -- what an event has the buffer send, in order
 abbrev pub sendings_of : {D B F : Type 0} → (B → Block) → EventCode D B F → List Sending
-sendings_of block (event.Prepared r peers b) = record { round = r; block = block b; peers = named peers } ∷ []
+sendings_of block (event.Message m) = message_sendings block m
 sendings_of block _ = []
 
+-- and what of that stays sent where its step ends the life
+abbrev pub sent_first : {D B F : Type 0} → (B → Block) → EventCode D B F → List Sending
+sent_first block (event.Message m) = message_first block m
+sent_first block _ = []
+
 -- what a caller tells, or asks under a ticket
-abbrev pub told_of : {D F : Type 0} → (D → List ℕ) → (F → Finalization) → Told D F → Event
-told_of digest plain (told.Reported f) = message_told None (report_finalization (plain f))
-told_of digest plain (told.Asked t q) = message_told (Some t) (query_of digest q)
+abbrev pub told_of : {D B F : Type 0} → (D → List ℕ) → (B → Block) → (F → Finalization) → Told D B F → Event
+told_of digest block plain (told.Reported f) = message_told None (report_finalization (plain f))
+told_of digest block plain (told.Asked t q) = message_told (Some t) (query_of digest q)
+told_of digest block plain (told.Verified t r b) = message_told (Some t) (verified r (block b))
+told_of digest block plain (told.Proposed t r peers b) = message_told (Some t) (proposed r (peers_of peers) (block b))
+told_of digest block plain (told.Prepared r peers b) = message_told None (prepared r (peers_of peers) (block b))
+told_of digest block plain (told.Certified t r b) = message_told (Some t) (certify r (block b))
 
 -- what the application is told, by what digests are as bytes and blocks as plain data
 abbrev pub report_of : {D B : Type 0} → (D → List ℕ) → (B → Block) → Update D B → Report

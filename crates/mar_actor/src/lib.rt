@@ -13,8 +13,11 @@
 //! - **Tips come first.** The application is told of the newest finalized block as soon as that is known (`Update::Tip`),
 //!   though blocks below it may be missing. Tips only rise within a life.
 //! - **Answers.** A query is answered in its own step, from what stands, and changes nothing.
-//! - **Sends.** A prepared block is handed to the buffer, which sends it, once and in its own step; nothing is stored and
-//!   nobody answered.
+//! - **Blocks that aren't final.** A verified, proposed or certified block is kept in the cache, whether or not it is ever final,
+//!   and its caller is answered which sync makes it durable, and once more as that has finished. Of an epoch that was pruned
+//!   nothing is kept, and the answer says at once that there is nothing to wait for.
+//! - **Sends.** A proposed or a prepared block is handed to the buffer, which sends it, once and in its own step. A prepared one
+//!   is not kept and nobody answered; a proposed one is sent before it is kept.
 //! - **An end says why.** A step that can't go on hands back what is left of the stores, and its fault names the store that
 //!   failed or the value that it could not take. Whatever was durable is still there, and the next opening goes on from it.
 //!
@@ -23,7 +26,7 @@
 //! 1. A reported finalization whose block is at hand is put into the archives, block and finalization, and a sync of both
 //!    is started. No disk is waited for: the step ends there.
 //! 2. The caller says that the sync has finished (`Event::Sync`). What it covers is durable, and blocks are handed over, up
-//!    to the first one that waits for another sync.
+//!    to the first one that waits for another sync. The syncs of the cache have tickets of the same count, and finish so too.
 //! 3. The application acknowledges (`Event::Ack`). The processed height, and the cutoff below which nothing is asked for any
 //!    more, become durable together, in that step, and then the next block may be handed over.
 //!
@@ -36,14 +39,14 @@
 //! - `start`: the genesis. The same at each opening; another one is refused (`GenesisMismatch`).
 //! - `max_pending_acks`: 1 hands over one block at a time. More hides the time that the application takes for a block, at
 //!   the price of that many repeats after a crash, and of twice as many blocks in memory.
-//! - `mailbox_size`, `max_repair`, `view_retention`, `block_codec_config`: change nothing yet.
+//! - `view_retention`: how many views below the round that was witnessed last the cache keeps as a newer one is.
+//! - `mailbox_size`, `max_repair`, `block_codec_config`: change nothing yet.
 //!
 //! # Storage and repair
 //!
-//! There are four stores: blocks, finalizations, metadata, and a cache of what isn't final, which holds nothing yet. An
-//! opening reads them in that order, stores the genesis where it is missing, and refuses stores that don't fit together
-//! (`Unbacked`, `Corrupt`). A finalized block that isn't at hand is asked for by its commitment; blocks below it are not
-//! asked for yet.
+//! There are four stores: blocks, finalizations, metadata, and a cache of what isn't final. An opening reads them in that
+//! order, stores the genesis where it is missing, and refuses stores that don't fit together (`Unbacked`, `Corrupt`). A
+//! finalized block that isn't at hand is asked for by its commitment; blocks below it are not asked for yet.
 //!
 //! An opening takes the memory that the stores stand in while the life runs, and moving a node moves none of them.
 //!
@@ -54,6 +57,7 @@
 #![tactic(auto)]
 
 mod acknowledge;
+mod caching;
 mod dispatch;
 mod event;
 mod life;

@@ -1,24 +1,50 @@
 //! What a message tells or asks.
 ghost use Rattle.std.specs.Prelude.{◌≡◌, List, ℕ};
+ghost use Rattle.mar_cert.specs.Block.{Block};
 ghost use Rattle.mar_cert.specs.Finalization.{Finalization};
 ghost use Rattle.mar_inbox.specs.Views.{message_of, ticket_of};
 ghost use Rattle.mar_node.specs.Event.{message_told};
-ghost use Rattle.mar_actor.specs.Views.{no_block, no_notarization, told_of};
+ghost use Rattle.mar_actor.specs.Views.{message_first, message_sendings, no_notarization, told_first, told_of, told_sendings};
 
+use mar_block::Recipients;
 use mar_inbox::{Message, Query};
+use mar_types::{Participant, Round};
 use std::convert::Infallible;
 
 /// What a caller tells, or asks under a ticket.
 #[derive(Drop)]
-pub(crate) enum Told<D, F> {
+pub(crate) enum Told<D, B, F> {
     Reported(F),
     Asked(u64, Query<D>),
+    Verified {
+        ticket: u64,
+        round: Round,
+        block: B,
+    },
+    Proposed {
+        ticket: u64,
+        round: Round,
+        recipients: Recipients<Participant>,
+        block: B,
+    },
+    Prepared {
+        round: Round,
+        recipients: Recipients<Participant>,
+        block: B,
+    },
+    Certified {
+        ticket: u64,
+        round: Round,
+        block: B,
+    },
 }
 
 /// What a message tells or asks.
-pub(crate) fn told_by<D, F>(message: Message<D, Infallible, Infallible, F>) -> Told<D, F>
-    ensures { (digest : D → List ℕ) (plain : F → Finalization) → told_of digest plain result
-        ≡ message_told (ticket_of message) (message_of digest no_block no_notarization plain message) }
+pub(crate) fn told_by<D, B, F>(message: Message<D, B, Infallible, F>) -> Told<D, B, F>
+    ensures told { (digest : D → List ℕ) (block : B → Block) (plain : F → Finalization) → told_of digest block plain result
+        ≡ message_told (ticket_of message) (message_of digest block no_notarization plain message) }
+    ensures sends { (block : B → Block) → told_sendings block result ≡ message_sendings block message }
+    ensures first { (block : B → Block) → told_first block result ≡ message_first block message }
 {
     match message {
         Message::Finalization(finalization) => Told::Reported(finalization),
@@ -30,5 +56,43 @@ pub(crate) fn told_by<D, F>(message: Message<D, Infallible, Infallible, F>) -> T
         Message::GetProcessed { ticket } => Told::Asked(ticket, Query::Processed),
         Message::GetAnchor { ticket } => Told::Asked(ticket, Query::Anchor),
         Message::GetVerified { ticket, round } => Told::Asked(ticket, Query::Verified(round)),
+        Message::Verified {
+            ticket,
+            round,
+            block,
+        } => Told::Verified {
+            ticket,
+            round,
+            block,
+        },
+        Message::Proposed {
+            ticket,
+            round,
+            recipients,
+            block,
+        } => Told::Proposed {
+            ticket,
+            round,
+            recipients,
+            block,
+        },
+        Message::Prepared {
+            round,
+            recipients,
+            block,
+        } => Told::Prepared {
+            round,
+            recipients,
+            block,
+        },
+        Message::Certified {
+            ticket,
+            round,
+            block,
+        } => Told::Certified {
+            ticket,
+            round,
+            block,
+        },
     }
 }

@@ -1,5 +1,5 @@
 //! The node, which each of its steps consumes.
-ghost use Rattle.std.specs.Prelude.{◌≡◌, ◌≤◌, ◌+◌, ◌&&◌, ◌∷◌, ◌++◌, [], ℕ, IfErr, IfOk, Ok, OnErr, OnOk, false, map, nat_lt, not, true};
+ghost use Rattle.std.specs.Prelude.{◌≡◌, ◌≤◌, ◌+◌, ◌&&◌, ◌||◌, ◌∷◌, ◌++◌, [], ℕ, IfErr, IfOk, Ok, OnErr, OnOk, false, map, nat_lt, not, true};
 ghost use Rattle.std.specs.List.{list_any};
 ghost use Rattle.mar_node.specs.SmallEntries.{AreSmallEntries};
 ghost use Rattle.mar_store.specs.Changes.{IsNested};
@@ -7,7 +7,8 @@ ghost use Rattle.mar_block.specs.Sent.{Sends};
 ghost use Rattle.mar_node.specs.Acks.{is_unmarked};
 ghost use Rattle.mar_node.specs.Event.{sync_finished};
 ghost use Rattle.mar_node.specs.Held.{AreCached, ArePassed, AreWritten, IsEndedBy, outcome, remains_of, seen, with_armed};
-ghost use Rattle.mar_node.specs.Moves.{FindsInCache, KeepsTakenUp, LivesOn, RunsOut};
+ghost use Rattle.mar_node.specs.Moves.{FindsInCache, KeepsInCache, KeepsTakenUp, LivesOn, RunsOut};
+ghost use Rattle.mar_node.specs.OpenSyncs.{is_cache_sync};
 ghost use Rattle.mar_inbox.specs.Answers.{told};
 ghost use Rattle.mar_inbox.specs.Views.{sent_by, value_of};
 ghost use Rattle.mar_node.specs.Promise.{IsSmallEvent, KeepsPromise, heard_with};
@@ -17,9 +18,11 @@ ghost use Rattle.mar_node.specs.Writing.{IsOrdered, is_open_sync};
 ghost use Rattle.mar_node.specs.Views.{fault_of, store_name_of};
 ghost use Rattle.mar_actor.specs.Due.{EndsWhereDue, due_fault};
 ghost use Rattle.mar_actor.specs.Told.{TellsInOrder, tips_of};
-ghost use Rattle.mar_actor.specs.Views.{event_of, sendings_of};
+ghost use Rattle.mar_actor.specs.Kept.{SendsFront};
+ghost use Rattle.mar_actor.specs.Views.{event_of, sendings_of, sent_first};
 
 use crate::acknowledge::acknowledge;
+use crate::caching::{certify, propose, verify};
 use crate::event::Event;
 use crate::life::Life;
 use crate::messages::{Told, told_by};
@@ -27,7 +30,7 @@ use crate::report::report_finalization;
 use crate::reporter::Reporter;
 use crate::send::send;
 use crate::start::start;
-use crate::sync::finish_sync;
+use crate::sync::finish;
 use mar_block::{Buffer, Variant};
 use mar_inbox::{AnswerTable, Value, answer};
 use mar_key::Resolver;
@@ -63,8 +66,8 @@ impl<V: Variant, S: Holds<V>, P: Drop, E: Epocher> Model for Node<V, S, P, E> {
 impl<V: Variant, S: Holds<V>, P: Drop, E: Epocher> Node<V, S, P, E> {
     /// Takes one event, the first of a life being `Event::Start`. An end of the life says why and hands back what is left.
     /// On a lawful chain the step is a step of the node, or a cut; a second start in one life is promised nothing of the
-    /// node. No rule takes memory of its own yet: `_alloc` is for those that keep what isn't final. The buffer keeps its
-    /// blocks: of a prepared one alone anything is sent.
+    /// node. No rule takes memory of its own yet: `_alloc` is for those that wait for a block. The buffer keeps its blocks: of a
+    /// proposed and of a prepared one alone anything is sent, of a proposed one before it is kept.
     ///
     /// The fault of a step is `StoreFault` only where that store has failed, `HeightLimit` where a finalized block stands
     /// at the last height and `AckDropped` where the application dropped the oldest acknowledgement, each exactly where
@@ -88,11 +91,12 @@ impl<V: Variant, S: Holds<V>, P: Drop, E: Epocher> Node<V, S, P, E> {
             (heard_with (A.told application.new) (R.told resolver.new) (sent_by (B.sent buffer.new))
             (told (value_of V.Digest.bytes V.plain S.Finalization.plain) answers.new))
             result }
-        ensures answered { OnOk result (told (value_of V.Digest.bytes V.plain S.Finalization.plain) answers.new
+        ensures answered { KeepsInCache (event_of V.Digest.bytes V.plain S.Finalization.plain event) self
+            → OnOk result (told (value_of V.Digest.bytes V.plain S.Finalization.plain) answers.new
             ≡ told (value_of V.Digest.bytes V.plain S.Finalization.plain) answers.old
             ++ answers_found V.inner self.held (B.blocks buffer.old) (event_of V.Digest.bytes V.plain S.Finalization.plain event)) }
         ensures sends { OnOk result (Sends (B.sent buffer.old) (sendings_of V.plain event) (B.sent buffer.new)) }
-        ensures unsent { OnErr result (Sends (B.sent buffer.old) [] (B.sent buffer.new)) }
+        ensures unsent { OnErr result (SendsFront (B.sent buffer.old) (sent_first V.plain event) (B.sent buffer.new)) }
         ensures blocks { B.blocks buffer.new ≡ B.blocks buffer.old }
         ensures notifies { B.notifies buffer.new ≡ B.notifies buffer.old }
         ensures buffer { sendings_of V.plain event ≡ [] → buffer.new ≡ buffer.old }
@@ -100,7 +104,7 @@ impl<V: Variant, S: Holds<V>, P: Drop, E: Epocher> Node<V, S, P, E> {
         ensures watches { IfOk result (λ n. ArePassed self.held.watches n.held.watches) }
         ensures cause { IfErr result (λ e. IsEndedBy self.held.watches e) }
         ensures idle { (t : ℕ) → event_of V.Digest.bytes V.plain S.Finalization.plain event ≡ sync_finished t
-            → is_open_sync self.held.writes.syncs t ≡ false → result ≡ Ok self }
+            → is_open_sync self.held.writes.syncs t ≡ false → is_cache_sync self.held.cache.syncs t ≡ false → result ≡ Ok self }
         ensures by_value { FindsInCache (event_of V.Digest.bytes V.plain S.Finalization.plain event) self
             → EndsWhereDue (due_fault V.inner self (B.blocks buffer.old) (event_of V.Digest.bytes V.plain S.Finalization.plain event)) result }
         ensures tells { FindsInCache (event_of V.Digest.bytes V.plain S.Finalization.plain event) self
@@ -176,18 +180,27 @@ impl<V: Variant, S: Holds<V>, P: Drop, E: Epocher> Node<V, S, P, E> {
         self.life.acks.is_unmarked(ticket)
     }
 
-    /// Whether the sync of that ticket is open: it was started in this life and hasn't finished.
+    /// Whether the sync of that ticket is open, of finalized blocks or of the cache: it was started in this life and hasn't
+    /// finished.
     pub fn awaits_sync(&self, ticket: u64) -> bool
-        ensures { result ≡ is_open_sync self.now.held.writes.syncs ticket }
+        ensures { result ≡ (is_open_sync self.now.held.writes.syncs ticket || is_cache_sync self.now.held.cache.syncs ticket) }
     {
-        self.stores.writes().is_open(ticket)
+        self.stores.writes().is_open(ticket) || self.awaits_cache(ticket)
+    }
+
+    // Whether it is a sync of the cache, and open.
+    fn awaits_cache(&self, ticket: u64) -> bool
+        ensures { result ≡ is_cache_sync self.now.held.cache.syncs ticket }
+    {
+        self.stores.cache_syncs().is_open(ticket)
     }
 
     /// Whether the sync of that ticket was started in this life and has finished.
     pub fn finished(&self, ticket: u64) -> bool
-        ensures { result ≡ (nat_lt ticket self.now.held.writes.next_sync && not (is_open_sync self.now.held.writes.syncs ticket)) }
+        ensures { result ≡ (nat_lt ticket self.now.held.writes.next_sync
+            && not (is_open_sync self.now.held.writes.syncs ticket || is_cache_sync self.now.held.cache.syncs ticket)) }
     {
-        self.stores.writes().is_finished(ticket)
+        ticket < self.stores.writes().next_ticket() && !self.awaits_sync(ticket)
     }
 }
 
@@ -224,18 +237,20 @@ where
         (heard_with (A.told application.new) (R.told resolver.new) (sent_by (B.sent buffer.new))
         (told (value_of V.Digest.bytes V.plain S.Finalization.plain) answers.new))
         (outcome (fault_of V.Commitment.bytes) (seen (S.held stores.new) life.new) result) }
-    ensures answered { OnOk result (told (value_of V.Digest.bytes V.plain S.Finalization.plain) answers.new
+    ensures answered { KeepsInCache (event_of V.Digest.bytes V.plain S.Finalization.plain event) (seen (S.held stores.old) life.old)
+        → OnOk result (told (value_of V.Digest.bytes V.plain S.Finalization.plain) answers.new
         ≡ told (value_of V.Digest.bytes V.plain S.Finalization.plain) answers.old
         ++ answers_found V.inner (S.held stores.old) (B.blocks buffer.old) (event_of V.Digest.bytes V.plain S.Finalization.plain event)) }
     ensures unanswered { OnErr result (answers.new ≡ answers.old) }
     ensures sends { OnOk result (Sends (B.sent buffer.old) (sendings_of V.plain event) (B.sent buffer.new)) }
-    ensures unsent { OnErr result (Sends (B.sent buffer.old) [] (B.sent buffer.new)) }
+    ensures unsent { OnErr result (SendsFront (B.sent buffer.old) (sent_first V.plain event) (B.sent buffer.new)) }
     ensures blocks { B.blocks buffer.new ≡ B.blocks buffer.old }
     ensures notifies { B.notifies buffer.new ≡ B.notifies buffer.old }
     ensures buffer { sendings_of V.plain event ≡ [] → buffer.new ≡ buffer.old }
     ensures lives { LivesOn (seen (S.held stores.old) life.old) (outcome (fault_of V.Commitment.bytes) (seen (S.held stores.new) life.new) result) }
     ensures idle { (t : ℕ) → event_of V.Digest.bytes V.plain S.Finalization.plain event ≡ sync_finished t
-        → is_open_sync (S.held stores.old).writes.syncs t ≡ false → (result ≡ Ok tt) × (S.held stores.new ≡ S.held stores.old) × (life.new ≡ life.old) }
+        → is_open_sync (S.held stores.old).writes.syncs t ≡ false → is_cache_sync (S.held stores.old).cache.syncs t ≡ false
+        → (result ≡ Ok tt) × (S.held stores.new ≡ S.held stores.old) × (life.new ≡ life.old) }
     ensures loaded { OnOk result (KeepsTakenUp (event_of V.Digest.bytes V.plain S.Finalization.plain event) (seen (S.held stores.old) life.old)
         (seen (S.held stores.new) life.new)) }
     ensures by_value { FindsInCache (event_of V.Digest.bytes V.plain S.Finalization.plain event) (seen (S.held stores.old) life.old)
@@ -260,13 +275,31 @@ where
             Told::Asked(ticket, query) => {
                 answer::<V, S, B>(stores, ticket, query, &*buffer, answers)
             }
+            Told::Verified {
+                ticket,
+                round,
+                block,
+            } => verify::<V, S>(stores, ticket, round, block, answers),
+            Told::Proposed {
+                ticket,
+                round,
+                recipients,
+                block,
+            } => propose::<V, S, B>(stores, ticket, round, recipients, block, buffer, answers),
+            Told::Prepared {
+                round,
+                recipients,
+                block,
+            } => send::<V, B>(buffer, round, block, recipients),
+            Told::Certified {
+                ticket,
+                round,
+                block,
+            } => certify::<V, S>(stores, ticket, round, block, answers),
         },
-        Event::Prepared {
-            round,
-            recipients,
-            block,
-        } => send::<V, B>(buffer, round, block, recipients),
-        Event::Sync(ticket) => finish_sync::<V, S, P, E, A>(stores, life, ticket, application),
+        Event::Sync(ticket) => {
+            finish::<V, S, P, E, A>(stores, life, ticket, answers, application)
+        }
         Event::Ack(ticket) => {
             acknowledge::<V, S, P, E, R, A>(stores, life, ticket, resolver, application)
         }

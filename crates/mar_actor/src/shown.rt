@@ -1,5 +1,5 @@
 //! What a node shows of itself.
-ghost use Rattle.std.specs.Prelude.{◌≡◌, option_map};
+ghost use Rattle.std.specs.Prelude.{◌≡◌, map, option_map};
 ghost use Rattle.mar_key.specs.Views.{cutoff_of, processed_of};
 ghost use Rattle.mar_node.specs.Pool.{writing_of};
 ghost use Rattle.mar_store.specs.Changes.{heights};
@@ -22,6 +22,7 @@ impl<V: Variant, S: Holds<V>, P: Drop, E: Epocher> Node<V, S, P, E> {
         ensures certs_held { result.certs_held.now ≡ ranges (heights self.now.held.certs.held) }
         ensures certs_sure { result.certs_sure.now ≡ ranges (heights self.now.held.certs.sure) }
         ensures writes { writing_of result.writes.now ≡ self.now.held.writes }
+        ensures tickets { map (λ o. o.number) result.tickets.now ≡ map (λ s. s.ticket) self.now.held.cache.syncs }
     {
         let stores = self.stores.as_ref();
         let floor = stores.floor();
@@ -34,6 +35,7 @@ impl<V: Variant, S: Holds<V>, P: Drop, E: Epocher> Node<V, S, P, E> {
             certs_held: stores.certificates_held(),
             certs_sure: stores.certificates_sure(),
             writes: stores.writes(),
+            tickets: stores.cache_syncs().as_slice(),
         }
     }
 }

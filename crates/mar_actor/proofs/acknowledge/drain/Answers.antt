@@ -1,7 +1,7 @@
 use Rattle.std.proofs.Common.{arith, length, ◌≡◌}
 use Rattle.std.proofs.lemmas.Result.{err_from_is_err_and}
 use Rattle.mar_node.specs.Held.{seen}
-use Rattle.mar_node.proofs.Draining.{Drains-all, Drains-still, DrainsSoFar-more, front_heard, next_written}
+use Rattle.mar_node.proofs.Draining.{Drains-all, Drains-still, DrainsSoFar-first, DrainsSoFar-more, front_heard, next_written}
 use Rattle.mar_actor.proofs.acknowledge.drain.Goals as goal
 
 pub entries-preserved : goal.entries-preserved
@@ -37,3 +37,6 @@ returns-clause-asks g c =
 
 pub returns-clause-goes_on : goal.returns-clause-goes_on
 returns-clause-goes_on g c = λ start all grew within. c.entries.invariant.grew start all grew within
+
+pub entries-init : goal.entries-init
+entries-init g c = DrainsSoFar-first (g.E.Epocher.epochs c.args.life.now.epocher) (seen (g.S.HoldsCache.held c.args.stores.now) c.args.life.now) (g.R.Resolver.told c.args.resolver.now)

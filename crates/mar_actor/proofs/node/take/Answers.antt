@@ -1,8 +1,12 @@
-use Rattle.std.proofs.Common.{refl, subst, sym, false, ℕ, ◌≡◌}
+use Rattle.std.proofs.Common.{refl, subst, sym, false, ℕ, ◌≡◌, ◌∷◌, []}
+use Rattle.std.specs.List.{list_any}
+use Rattle.mar_node.specs.Cache.{certified_covers, is_verified_of, notarized_where, verified_at}
+use Rattle.mar_node.specs.Cached.{notarized_entry, verified_entry}
+use Rattle.mar_node.specs.OpenSyncs.{is_cache_sync}
 use Rattle.mar_inbox.specs.Answers.{told}
 use Rattle.mar_inbox.specs.Views.{peers_of, value_of}
 use Rattle.mar_node.specs.Event.{sync_finished}
-use Rattle.mar_node.specs.Held.{Grew, IsUsual, Loses, nothing_written, outcome, seen}
+use Rattle.mar_node.specs.Held.{Grew, IsUsual, Loses, nothing_written, outcome, seen, written_entry}
 use Rattle.mar_node.specs.Writing.{is_open_sync}
 use Rattle.mar_node.proofs.Handing.{Hears-nothing}
 use Rattle.mar_node.proofs.Growing.{Grew-refl, WithinWritten-refl}
@@ -13,12 +17,13 @@ use Rattle.std.proofs.lemmas.Result.{IfErr-weaker}
 use Rattle.mar_node.specs.Views.{fault_of}
 use Rattle.mar_actor.specs.Due.{EndsWhereDue}
 use Rattle.mar_actor.specs.Told.{TellsInOrder}
-use Rattle.mar_actor.proofs.Asking.{asks, event_is, lives_asked, no_tips, none_due, on_err}
+use Rattle.mar_actor.proofs.Asking.{asks, event_is, firsts_are, lives_asked, no_tips, none_due, on_err, sendings_are}
 use Rattle.mar_actor.proofs.Due.{EndsWhereDue-usual}
 use Rattle.mar_node.proofs.Outcomes.{goes_on_memory, memory-usual, outcome-both, outcome-err, outcome-on_err, outcome-on_ok, outcome-read, outcome-unasked}
 use Rattle.mar_actor.proofs.Raised.{lives-loaded}
-use Rattle.mar_actor.proofs.Sent.{hears_block, hears_none, unsent-err, unsent-ok}
+use Rattle.mar_actor.proofs.Sent.{front_none, hears_block, hears_none, unsent-err, unsent-ok}
 use Rattle.mar_actor.proofs.Told.{TellsInOrder-nothing}
+use Rattle.mar_actor.proofs.Kept.{certified_promise, kept_answers, kept_due, kept_lives, proposed_promise, verified_promise}
 use Rattle.mar_actor.proofs.node.take.Goals as goal
 
 -- an event names one ticket
@@ -29,34 +34,34 @@ pub returns-in-Start : goal.returns-in-Start
 returns-in-Start g c =
     rw c.in-Start.is (record {
       promise = KeepsStart-beside _ _ _ _ _ _ (Hears-nothing _) _ _ _ (seen (g.S.HoldsCache.held c.args.stores.now) c.args.life.now) _ _ _ (c.start.ensures.promise c.requires.blocks c.requires.certs c.requires.cached _ _);
-      answered = unanswered-ok _ c.start.result;
+      answered = λ finds. unanswered-ok _ c.start.result;
       unanswered = unanswered-err _ c.start.result;
       sends = unsent-ok _ c.start.result;
-      unsent = unsent-err _ c.start.result;
+      unsent = front_none _ _ c.start.result (unsent-err _ c.start.result);
       blocks = refl;
       notifies = refl;
       buffer = λ none. refl;
       lives = c.start.ensures.lives c.requires.blocks c.requires.certs;
       loaded = c.start.ensures.loaded;
-      idle = λ t is closed. absurd cc;
+      idle = λ t is closed other. absurd cc;
       by_value = λ finds. c.start.ensures.by_value;
       tells = λ finds. c.start.ensures.tells;
     })
 
 pub returns-in-Reported : goal.returns-in-Reported
 returns-in-Reported g c =
-    rw (event_is g.V.Digest.Named.bytes g.V.Variant.plain g.S.Finalization.AsFinalization.plain c.args.event _ _ _ c.in-Message.is (c.told_by.ensures g.V.Digest.Named.bytes g.S.Finalization.AsFinalization.plain) c.in-Reported.is, c.in-Message.is) (record {
+    rw (event_is g.V.Digest.Named.bytes g.V.Variant.plain g.S.Finalization.AsFinalization.plain c.args.event _ _ _ c.in-Message.is (c.told_by.ensures.told g.V.Digest.Named.bytes g.V.Variant.plain g.S.Finalization.AsFinalization.plain) c.in-Reported.is, sendings_are g.V.Variant.plain c.args.event _ _ _ c.in-Message.is (c.told_by.ensures.sends g.V.Variant.plain) c.in-Reported.is, firsts_are g.V.Variant.plain c.args.event _ _ _ c.in-Message.is (c.told_by.ensures.first g.V.Variant.plain) c.in-Reported.is) (record {
       promise = KeepsStep-beside _ _ _ _ _ _ (Hears-nothing _) _ _ _ (seen (g.S.HoldsCache.held c.args.stores.now) c.args.life.now) _ _ _ (c.report_finalization.ensures.promise c.requires.blocks c.requires.certs c.requires.cached);
-      answered = unanswered-ok _ c.report_finalization.result;
+      answered = λ finds. unanswered-ok _ c.report_finalization.result;
       unanswered = unanswered-err _ c.report_finalization.result;
       sends = unsent-ok _ c.report_finalization.result;
-      unsent = unsent-err _ c.report_finalization.result;
+      unsent = front_none _ _ c.report_finalization.result (unsent-err _ c.report_finalization.result);
       blocks = refl;
       notifies = refl;
       buffer = λ none. refl;
       lives = c.report_finalization.ensures.lives c.requires.blocks c.requires.certs;
       loaded = lives-loaded (fault_of g.V.Commitment.Named.bytes) (seen (g.S.HoldsCache.held c.args.stores.now) c.args.life.now) _ c.report_finalization.result (c.report_finalization.ensures.lives c.requires.blocks c.requires.certs);
-      idle = λ t is closed. absurd cc;
+      idle = λ t is closed other. absurd cc;
       by_value = c.report_finalization.ensures.by_value;
       tells = c.report_finalization.ensures.tells;
     })
@@ -72,18 +77,18 @@ returns-in-Asked g c =
     let goes = outcome-both fault c.answer.result (seen new life) (λ m. Grew old nothing_written m.held) (Loses old nothing_written) (c.answer.ensures.goes_on old nothing_written (Grew-refl old nothing_written c.requires.blocks c.requires.certs) (WithinWritten-refl nothing_written)) in
     let usual = outcome-err fault c.answer.result (seen new life) (λ x. IsUsual x.fault) c.answer.ensures.usual in
     let unanswered = on_err (λ xs. told (value_of g.V.Digest.Named.bytes g.V.Variant.plain g.S.Finalization.AsFinalization.plain) xs) _ _ _ c.answer.ensures.unanswered in
-    rw (event_is g.V.Digest.Named.bytes g.V.Variant.plain g.S.Finalization.AsFinalization.plain c.args.event _ _ _ c.in-Message.is (c.told_by.ensures g.V.Digest.Named.bytes g.S.Finalization.AsFinalization.plain) c.in-Asked.is, c.in-Message.is) (record {
+    rw (event_is g.V.Digest.Named.bytes g.V.Variant.plain g.S.Finalization.AsFinalization.plain c.args.event _ _ _ c.in-Message.is (c.told_by.ensures.told g.V.Digest.Named.bytes g.V.Variant.plain g.S.Finalization.AsFinalization.plain) c.in-Asked.is, sendings_are g.V.Variant.plain c.args.event _ _ _ c.in-Message.is (c.told_by.ensures.sends g.V.Variant.plain) c.in-Asked.is, firsts_are g.V.Variant.plain c.args.event _ _ _ c.in-Message.is (c.told_by.ensures.first g.V.Variant.plain) c.in-Asked.is) (record {
       promise = promise-asked (g.E.Epocher.epochs c.args.life.now.epocher) g.V.Variant.inner (g.met.E.Epocher.partition c.args.life.now.epocher) (seen old life) (g.B.Buffer.blocks c.args.buffer.now) c.in-Asked.ticket _ (asks g.V.Digest.Named.bytes c.in-Asked.ticket c.in-Asked.query) _ _ _ _ _ _ c.requires.cached read (outcome-on_ok fault c.answer.result (seen new life) _ c.answer.ensures.answered) (outcome-on_err fault c.answer.result (seen new life) _ unanswered) goes usual;
-      answered = c.answer.ensures.answered;
+      answered = λ finds. c.answer.ensures.answered;
       unanswered = c.answer.ensures.unanswered;
       sends = unsent-ok _ c.answer.result;
-      unsent = unsent-err _ c.answer.result;
+      unsent = front_none _ _ c.answer.result (unsent-err _ c.answer.result);
       blocks = refl;
       notifies = refl;
       buffer = λ none. refl;
       lives = lives_asked (seen old life) result read goes usual;
       loaded = lives-loaded fault (seen old life) _ c.answer.result (lives_asked (seen old life) result read goes usual);
-      idle = λ t is closed. absurd cc;
+      idle = λ t is closed other. absurd cc;
       by_value = λ finds. subst (λ due. EndsWhereDue due result) (sym (none_due g.V.Digest.Named.bytes c.in-Asked.ticket g.V.Variant.inner (seen old life) (g.B.Buffer.blocks c.args.buffer.now) c.in-Asked.query)) (EndsWhereDue-usual result usual);
       tells = λ finds. subst (λ tips. TellsInOrder (g.A.Reporter.told c.args.application.now) tips (g.A.Reporter.told c.args.application.now) result) (sym (no_tips g.V.Digest.Named.bytes c.in-Asked.ticket g.V.Variant.inner (seen old life) (g.B.Buffer.blocks c.args.buffer.now) c.in-Asked.query)) (TellsInOrder-nothing (g.A.Reporter.told c.args.application.now) result);
     })
@@ -97,54 +102,132 @@ returns-in-Prepared g c =
     let read = outcome-unasked fault old c.send.result in
     let goes = outcome-both fault c.send.result old (λ m. Grew held nothing_written m.held) (Loses held nothing_written) (goes_on_memory fault held nothing_written held (Grew-refl held nothing_written c.requires.blocks c.requires.certs) c.send.result c.send.ensures.memory) in
     let usual = outcome-err fault c.send.result old (λ x. IsUsual x.fault) (IfErr-weaker c.send.result _ _ (λ e. memory-usual (fault e)) c.send.ensures.memory) in
-    rw c.in-Prepared.is (record {
+    rw (event_is g.V.Digest.Named.bytes g.V.Variant.plain g.S.Finalization.AsFinalization.plain c.args.event _ _ _ c.in-Message.is (c.told_by.ensures.told g.V.Digest.Named.bytes g.V.Variant.plain g.S.Finalization.AsFinalization.plain) c.in-Prepared.is, sendings_are g.V.Variant.plain c.args.event _ _ _ c.in-Message.is (c.told_by.ensures.sends g.V.Variant.plain) c.in-Prepared.is, firsts_are g.V.Variant.plain c.args.event _ _ _ c.in-Message.is (c.told_by.ensures.first g.V.Variant.plain) c.in-Prepared.is) (record {
       promise = promise-prepared (g.E.Epocher.epochs c.args.life.now.epocher) g.V.Variant.inner (g.met.E.Epocher.partition c.args.life.now.epocher) old (g.B.Buffer.blocks c.args.buffer.now) c.in-Prepared.round (peers_of c.in-Prepared.recipients) (g.V.Variant.plain c.in-Prepared.block) _ _ _ _ _ result c.requires.cached read (outcome-on_ok fault c.send.result old _ (hears_block _ _ _ _ _ c.send.result c.send.ensures.sends)) (outcome-on_err fault c.send.result old _ (hears_none _ _ c.send.result c.send.ensures.unsent)) goes usual;
-      answered = unanswered-ok _ c.send.result;
+      answered = λ finds. unanswered-ok _ c.send.result;
       unanswered = unanswered-err _ c.send.result;
       sends = c.send.ensures.sends;
-      unsent = c.send.ensures.unsent;
+      unsent = front_none _ _ c.send.result c.send.ensures.unsent;
       blocks = c.send.ensures.blocks;
       notifies = c.send.ensures.notifies;
       buffer = λ none. absurd cc;
       lives = lives_asked old result read goes usual;
       loaded = lives-loaded fault old old c.send.result (lives_asked old result read goes usual);
-      idle = λ t is closed. absurd cc;
+      idle = λ t is closed other. absurd cc;
       by_value = λ finds. EndsWhereDue-usual result usual;
       tells = λ finds. TellsInOrder-nothing (g.A.Reporter.told c.args.application.now) result;
+    })
+
+pub returns-in-Verified : goal.returns-in-Verified
+returns-in-Verified g c =
+    let old = g.S.HoldsCache.held c.args.stores.now in
+    let new = g.S.HoldsCache.held c.verify.new.stores in
+    let life = c.args.life.now in
+    let fault = fault_of g.V.Commitment.Named.bytes in
+    let round = c.in-Verified.round in
+    let b = g.V.Variant.plain c.in-Verified.block in
+    let unanswered = on_err (told (value_of g.V.Digest.Named.bytes g.V.Variant.plain g.S.Finalization.AsFinalization.plain)) c.verify.result _ _ c.verify.ensures.unanswered in
+    let lives = kept_lives fault life old new c.verify.result c.requires.blocks c.requires.certs round.epoch (verified_entry round b ∷ []) (is_verified_of round.epoch) c.in-Verified.ticket _ _ (written_entry (verified_entry round b)) c.verify.ensures.keeps c.verify.ensures.goes_on c.verify.ensures.kind in
+    rw (event_is g.V.Digest.Named.bytes g.V.Variant.plain g.S.Finalization.AsFinalization.plain c.args.event _ _ _ c.in-Message.is (c.told_by.ensures.told g.V.Digest.Named.bytes g.V.Variant.plain g.S.Finalization.AsFinalization.plain) c.in-Verified.is, sendings_are g.V.Variant.plain c.args.event _ _ _ c.in-Message.is (c.told_by.ensures.sends g.V.Variant.plain) c.in-Verified.is, firsts_are g.V.Variant.plain c.args.event _ _ _ c.in-Message.is (c.told_by.ensures.first g.V.Variant.plain) c.in-Verified.is) (record {
+      promise = verified_promise fault life old new c.verify.result c.requires.blocks c.requires.certs (g.E.Epocher.epochs life.epocher) g.V.Variant.inner (g.met.E.Epocher.partition life.epocher) (g.B.Buffer.blocks c.args.buffer.now) c.in-Verified.ticket round b _ _ _ _ c.requires.cached c.verify.ensures.kind unanswered _ c.verify.ensures.keeps c.verify.ensures.goes_on;
+      answered = λ loaded. kept_answers fault life old new c.verify.result c.requires.blocks c.requires.certs round (verified_entry round b ∷ []) (is_verified_of round.epoch) c.in-Verified.ticket _ _ c.verify.ensures.keeps loaded;
+      unanswered = c.verify.ensures.unanswered;
+      sends = unsent-ok _ c.verify.result;
+      unsent = front_none _ _ c.verify.result (unsent-err _ c.verify.result);
+      blocks = refl;
+      notifies = refl;
+      buffer = λ none. refl;
+      lives = lives;
+      loaded = lives-loaded fault (seen old life) _ c.verify.result lives;
+      idle = λ t is closed other. absurd cc;
+      by_value = λ finds. kept_due fault life old new c.verify.result c.requires.blocks c.requires.certs c.verify.ensures.kind;
+      tells = λ finds. TellsInOrder-nothing (g.A.Reporter.told c.args.application.now) _;
+    })
+
+pub returns-in-Proposed : goal.returns-in-Proposed
+returns-in-Proposed g c =
+    let old = g.S.HoldsCache.held c.args.stores.now in
+    let new = g.S.HoldsCache.held c.propose.new.stores in
+    let life = c.args.life.now in
+    let fault = fault_of g.V.Commitment.Named.bytes in
+    let round = c.in-Proposed.round in
+    let b = g.V.Variant.plain c.in-Proposed.block in
+    let unanswered = on_err (told (value_of g.V.Digest.Named.bytes g.V.Variant.plain g.S.Finalization.AsFinalization.plain)) c.propose.result _ _ c.propose.ensures.unanswered in
+    let lives = kept_lives fault life old new c.propose.result c.requires.blocks c.requires.certs round.epoch (verified_entry round b ∷ []) (is_verified_of round.epoch) c.in-Proposed.ticket _ _ (written_entry (verified_entry round b)) c.propose.ensures.keeps c.propose.ensures.goes_on c.propose.ensures.kind in
+    rw (event_is g.V.Digest.Named.bytes g.V.Variant.plain g.S.Finalization.AsFinalization.plain c.args.event _ _ _ c.in-Message.is (c.told_by.ensures.told g.V.Digest.Named.bytes g.V.Variant.plain g.S.Finalization.AsFinalization.plain) c.in-Proposed.is, sendings_are g.V.Variant.plain c.args.event _ _ _ c.in-Message.is (c.told_by.ensures.sends g.V.Variant.plain) c.in-Proposed.is, firsts_are g.V.Variant.plain c.args.event _ _ _ c.in-Message.is (c.told_by.ensures.first g.V.Variant.plain) c.in-Proposed.is) (record {
+      promise = proposed_promise fault life old new c.propose.result c.requires.blocks c.requires.certs (g.E.Epocher.epochs life.epocher) g.V.Variant.inner (g.met.E.Epocher.partition life.epocher) (g.B.Buffer.blocks c.args.buffer.now) c.in-Proposed.ticket round b _ _ _ _ c.requires.cached c.propose.ensures.kind unanswered c.in-Proposed.recipients _ _ c.propose.ensures.sends c.propose.ensures.sent c.propose.ensures.keeps c.propose.ensures.goes_on;
+      answered = λ loaded. kept_answers fault life old new c.propose.result c.requires.blocks c.requires.certs round (verified_entry round b ∷ []) (is_verified_of round.epoch) c.in-Proposed.ticket _ _ c.propose.ensures.keeps loaded;
+      unanswered = c.propose.ensures.unanswered;
+      sends = c.propose.ensures.sends;
+      unsent = c.propose.ensures.sent;
+      blocks = c.propose.ensures.blocks;
+      notifies = c.propose.ensures.notifies;
+      buffer = λ none. absurd cc;
+      lives = lives;
+      loaded = lives-loaded fault (seen old life) _ c.propose.result lives;
+      idle = λ t is closed other. absurd cc;
+      by_value = λ finds. kept_due fault life old new c.propose.result c.requires.blocks c.requires.certs c.propose.ensures.kind;
+      tells = λ finds. TellsInOrder-nothing (g.A.Reporter.told c.args.application.now) _;
+    })
+
+pub returns-in-Certified : goal.returns-in-Certified
+returns-in-Certified g c =
+    let old = g.S.HoldsCache.held c.args.stores.now in
+    let new = g.S.HoldsCache.held c.certify.new.stores in
+    let life = c.args.life.now in
+    let fault = fault_of g.V.Commitment.Named.bytes in
+    let round = c.in-Certified.round in
+    let b = g.V.Variant.plain c.in-Certified.block in
+    let unanswered = on_err (told (value_of g.V.Digest.Named.bytes g.V.Variant.plain g.S.Finalization.AsFinalization.plain)) c.certify.result _ _ c.certify.ensures.unanswered in
+    let lives = kept_lives fault life old new c.certify.result c.requires.blocks c.requires.certs round.epoch (notarized_where (list_any (verified_at round b) old.cache.kept.held) round b) (certified_covers round.epoch (list_any (verified_at round b) old.cache.kept.held)) c.in-Certified.ticket _ _ (written_entry (notarized_entry round b)) c.certify.ensures.keeps c.certify.ensures.goes_on c.certify.ensures.kind in
+    rw (event_is g.V.Digest.Named.bytes g.V.Variant.plain g.S.Finalization.AsFinalization.plain c.args.event _ _ _ c.in-Message.is (c.told_by.ensures.told g.V.Digest.Named.bytes g.V.Variant.plain g.S.Finalization.AsFinalization.plain) c.in-Certified.is, sendings_are g.V.Variant.plain c.args.event _ _ _ c.in-Message.is (c.told_by.ensures.sends g.V.Variant.plain) c.in-Certified.is, firsts_are g.V.Variant.plain c.args.event _ _ _ c.in-Message.is (c.told_by.ensures.first g.V.Variant.plain) c.in-Certified.is) (record {
+      promise = certified_promise fault life old new c.certify.result c.requires.blocks c.requires.certs (g.E.Epocher.epochs life.epocher) g.V.Variant.inner (g.met.E.Epocher.partition life.epocher) (g.B.Buffer.blocks c.args.buffer.now) c.in-Certified.ticket round b _ _ _ _ c.requires.cached c.certify.ensures.kind unanswered _ c.certify.ensures.keeps c.certify.ensures.goes_on;
+      answered = λ loaded. kept_answers fault life old new c.certify.result c.requires.blocks c.requires.certs round (notarized_where (list_any (verified_at round b) old.cache.kept.held) round b) (certified_covers round.epoch (list_any (verified_at round b) old.cache.kept.held)) c.in-Certified.ticket _ _ c.certify.ensures.keeps loaded;
+      unanswered = c.certify.ensures.unanswered;
+      sends = unsent-ok _ c.certify.result;
+      unsent = front_none _ _ c.certify.result (unsent-err _ c.certify.result);
+      blocks = refl;
+      notifies = refl;
+      buffer = λ none. refl;
+      lives = lives;
+      loaded = lives-loaded fault (seen old life) _ c.certify.result lives;
+      idle = λ t is closed other. absurd cc;
+      by_value = λ finds. kept_due fault life old new c.certify.result c.requires.blocks c.requires.certs c.certify.ensures.kind;
+      tells = λ finds. TellsInOrder-nothing (g.A.Reporter.told c.args.application.now) _;
     })
 
 pub returns-in-Sync : goal.returns-in-Sync
 returns-in-Sync g c =
     rw c.in-Sync.is (record {
-      promise = KeepsStep-beside _ _ _ _ _ _ (Hears-nothing _) _ _ _ (seen (g.S.HoldsCache.held c.args.stores.now) c.args.life.now) _ _ _ (c.finish_sync.ensures.promise c.requires.blocks c.requires.certs c.requires.cached _ _);
-      answered = unanswered-ok _ c.finish_sync.result;
-      unanswered = unanswered-err _ c.finish_sync.result;
-      sends = unsent-ok _ c.finish_sync.result;
-      unsent = unsent-err _ c.finish_sync.result;
+      promise = c.finish.ensures.promise c.requires.blocks c.requires.certs _ _ _;
+      answered = λ finds. c.finish.ensures.answered;
+      unanswered = c.finish.ensures.unanswered;
+      sends = unsent-ok _ c.finish.result;
+      unsent = front_none _ _ c.finish.result (unsent-err _ c.finish.result);
       blocks = refl;
       notifies = refl;
       buffer = λ none. refl;
-      lives = c.finish_sync.ensures.lives c.requires.blocks c.requires.certs;
-      loaded = lives-loaded (fault_of g.V.Commitment.Named.bytes) (seen (g.S.HoldsCache.held c.args.stores.now) c.args.life.now) _ c.finish_sync.result (c.finish_sync.ensures.lives c.requires.blocks c.requires.certs);
-      idle = λ t is closed. c.finish_sync.ensures.idle (subst (λ k. is_open_sync (g.S.HoldsCache.held c.args.stores.now).writes.syncs k ≡ false) (sym (same_ticket _ t is)) closed);
-      by_value = λ finds. c.finish_sync.ensures.by_value;
-      tells = λ finds. c.finish_sync.ensures.tells;
+      lives = c.finish.ensures.lives c.requires.blocks c.requires.certs;
+      loaded = lives-loaded (fault_of g.V.Commitment.Named.bytes) (seen (g.S.HoldsCache.held c.args.stores.now) c.args.life.now) _ c.finish.result (c.finish.ensures.lives c.requires.blocks c.requires.certs);
+      idle = λ t is closed other. c.finish.ensures.idle (subst (λ k. is_open_sync (g.S.HoldsCache.held c.args.stores.now).writes.syncs k ≡ false) (sym (same_ticket _ t is)) closed) (subst (λ k. is_cache_sync (g.S.HoldsCache.held c.args.stores.now).cache.syncs k ≡ false) (sym (same_ticket _ t is)) other);
+      by_value = λ finds. c.finish.ensures.by_value;
+      tells = λ finds. c.finish.ensures.tells;
     })
 
 pub returns-in-Ack : goal.returns-in-Ack
 returns-in-Ack g c =
     rw c.in-Ack.is (record {
       promise = KeepsStep-beside _ _ _ _ _ _ (Hears-nothing _) _ _ _ (seen (g.S.HoldsCache.held c.args.stores.now) c.args.life.now) _ _ _ (c.acknowledge.ensures.promise c.requires.blocks c.requires.certs c.requires.cached _);
-      answered = unanswered-ok _ c.acknowledge.result;
+      answered = λ finds. unanswered-ok _ c.acknowledge.result;
       unanswered = unanswered-err _ c.acknowledge.result;
       sends = unsent-ok _ c.acknowledge.result;
-      unsent = unsent-err _ c.acknowledge.result;
+      unsent = front_none _ _ c.acknowledge.result (unsent-err _ c.acknowledge.result);
       blocks = refl;
       notifies = refl;
       buffer = λ none. refl;
       lives = c.acknowledge.ensures.lives c.requires.blocks c.requires.certs;
       loaded = lives-loaded (fault_of g.V.Commitment.Named.bytes) (seen (g.S.HoldsCache.held c.args.stores.now) c.args.life.now) _ c.acknowledge.result (c.acknowledge.ensures.lives c.requires.blocks c.requires.certs);
-      idle = λ t is closed. absurd cc;
+      idle = λ t is closed other. absurd cc;
       by_value = λ finds. c.acknowledge.ensures.by_value;
       tells = λ finds. c.acknowledge.ensures.tells;
     })

@@ -39,7 +39,7 @@ pub returns : goal.returns
 returns g c =
     let held = g.S.HoldsCache.held c.args.stores.now in
     let old = seen held c.args.life.now in
-    let loads : LoadsCache (seen (g.S.HoldsCache.held c.report_newest.new.stores) c.report_newest.new.life) (seen (g.S.HoldsCache.held c.load_cache.new.self) c.report_newest.new.life) = record { loads = c.in_ok-load_cache.ensures.loads; by_luck = c.in_ok-load_cache.ensures.by_luck; loaded = c.in_ok-load_cache.ensures.loaded; same = ap (λ h. seen h c.report_newest.new.life) c.in_ok-load_cache.ensures.same } in
+    let loads : LoadsCache (seen (g.S.HoldsCache.held c.report_newest.new.stores) c.report_newest.new.life) (seen (g.S.HoldsCache.held c.load_cache.new.self) c.report_newest.new.life) = record { loads = c.in_ok-load_cache.ensures.loads; by_luck = c.in_ok-load_cache.ensures.by_luck; loaded = c.in_ok-load_cache.ensures.loaded; still_open = c.in_ok-load_cache.ensures.still_open; same = ap (λ h. seen h c.report_newest.new.life) c.in_ok-load_cache.ensures.same } in
     record {
       promise = λ nested certs_nested cached heard buffer. promise-start (g.E.Epocher.epochs c.args.life.now.epocher) g.V.Variant.inner (g.met.E.Epocher.partition c.args.life.now.epocher) old buffer _ _ _ heard _ _ _ nested certs_nested cached c.in_ok-report_newest.ensures.same loads c.in_ok-report_newest.ensures.ok c.dispatch.ensures.ran;
       lives = λ nested certs_nested. LivesOn-start old _ _ _ _ _ c.in_ok-report_newest.ensures.same loads (c.in_ok-load_cache.ensures.goes_on held nothing_written (c.in_ok-report_newest.ensures.goes_on held nothing_written (Grew-refl held nothing_written nested certs_nested) (WithinWritten-refl nothing_written)) (WithinWritten-refl nothing_written)).passed c.dispatch.ensures.ran;

@@ -15,7 +15,7 @@ returns-in-Ok g c =
       unanswered = tt;
       watches = lives.passed;
       cause = tt;
-      idle = λ t is closed. let same = c.in-Ok.ensures.idle t is closed in rw (same.1, same.2) refl;
+      idle = λ t is closed other. let same = c.in-Ok.ensures.idle t is closed other in rw (same.1, same.2) refl;
       by_value = c.in-Ok.ensures.by_value;
       tells = c.in-Ok.ensures.tells;
       tickets = lives.tickets;

@@ -1,0 +1,186 @@
+//! Blocks that are kept in the cache for callers, who are told which sync makes them durable, and that it has finished.
+ghost use Rattle.std.specs.Prelude.{◌≡◌, ◌++◌, ◌∷◌, ◌-◌, ◌^◌, ◌⊎◌, [], IfErr, OnErr, OnOk, map, option_to_list, true};
+ghost use Rattle.mar_block.specs.Recipients.{named};
+ghost use Rattle.mar_block.specs.Sent.{Sends};
+ghost use Rattle.mar_inbox.specs.Answers.{told};
+ghost use Rattle.mar_inbox.specs.Views.{value_of};
+ghost use Rattle.mar_node.specs.Answers.{to, true_value};
+ghost use Rattle.mar_node.specs.Cache.{certified_covers, is_verified_of, notarized_where, verified_at};
+ghost use Rattle.mar_node.specs.Cached.{notarized_entry, verified_entry};
+ghost use Rattle.mar_node.specs.Faults.{sync_kind, ticket_limit, want_of_memory};
+ghost use Rattle.mar_node.specs.Held.{GoesOn, IsUsual, nothing_written, written_entry};
+ghost use Rattle.mar_node.specs.Moves.{FinishesCacheSync};
+ghost use Rattle.mar_node.specs.Views.{fault_of};
+ghost use Rattle.mar_store.specs.Sizes.{IsSmall};
+ghost use Rattle.std.specs.List.{list_any};
+ghost use Rattle.mar_actor.specs.Kept.{KeepsAndAnswers, SendsFront, kept_value};
+
+use crate::send::send;
+use mar_block::{Buffer, Recipients, Variant};
+use mar_inbox::{AnswerTable, Value};
+use mar_node::{Fault, Holds};
+use mar_rules::{keep_certified, keep_verified};
+use mar_types::{Participant, Round};
+
+/// Keeps a block that was verified in a round, and answers which sync makes it durable.
+pub(crate) fn verify<V: Variant, S: Holds<V>>(
+    stores: &mut S,
+    ticket: u64,
+    round: Round,
+    block: V::Block,
+    answers: &mut AnswerTable<Value<V::Digest, V::Block, S::Finalization>>,
+) -> Result<(), Fault<V::Commitment>>
+    requires small { IsSmall (V.plain block).encoded }
+    ensures keeps { OnOk result (KeepsAndAnswers round.epoch (verified_entry round (V.plain block) ∷ []) (is_verified_of round.epoch) ticket
+        (S.held stores.old) (S.held stores.new) (told (value_of V.Digest.bytes V.plain S.Finalization.plain) answers.old)
+        (told (value_of V.Digest.bytes V.plain S.Finalization.plain) answers.new)) }
+    ensures unanswered { OnErr result (answers.new ≡ answers.old) }
+    ensures goes_on { GoesOn (fault_of V.Commitment.bytes) (S.held stores.old) (written_entry (verified_entry round (V.plain block))) (S.held stores.new)
+        result }
+    ensures kind { IfErr result (λ e. IsUsual (fault_of V.Commitment.bytes e)
+        ⊎ ((fault_of V.Commitment.bytes e ≡ ticket_limit sync_kind) × ((S.held stores.old).writes.next_sync ≡ 2 ^ 64 - 1))) }
+{
+    match keep_verified(stores, round, block, ticket) {
+        Ok(sync) => answer_kept::<V, S>(answers, ticket, sync),
+        Err(fault) => Err(fault),
+    }
+}
+
+/// Keeps a block that was certified in a round, and answers which sync makes it durable together with its notarization.
+pub(crate) fn certify<V: Variant, S: Holds<V>>(
+    stores: &mut S,
+    ticket: u64,
+    round: Round,
+    block: V::Block,
+    answers: &mut AnswerTable<Value<V::Digest, V::Block, S::Finalization>>,
+) -> Result<(), Fault<V::Commitment>>
+    requires intact { (S.held stores.old).intact ≡ true }
+    requires small { IsSmall (V.plain block).encoded }
+    ensures keeps { OnOk result (KeepsAndAnswers round.epoch
+        (notarized_where (list_any (verified_at round (V.plain block)) (S.held stores.old).cache.kept.held) round (V.plain block))
+        (certified_covers round.epoch (list_any (verified_at round (V.plain block)) (S.held stores.old).cache.kept.held)) ticket
+        (S.held stores.old) (S.held stores.new) (told (value_of V.Digest.bytes V.plain S.Finalization.plain) answers.old)
+        (told (value_of V.Digest.bytes V.plain S.Finalization.plain) answers.new)) }
+    ensures unanswered { OnErr result (answers.new ≡ answers.old) }
+    ensures goes_on { GoesOn (fault_of V.Commitment.bytes) (S.held stores.old) (written_entry (notarized_entry round (V.plain block))) (S.held stores.new)
+        result }
+    ensures kind { IfErr result (λ e. IsUsual (fault_of V.Commitment.bytes e)
+        ⊎ ((fault_of V.Commitment.bytes e ≡ ticket_limit sync_kind) × ((S.held stores.old).writes.next_sync ≡ 2 ^ 64 - 1))) }
+{
+    match keep_certified(stores, round, block, ticket) {
+        Ok(sync) => answer_kept::<V, S>(answers, ticket, sync),
+        Err(fault) => Err(fault),
+    }
+}
+
+/// Sends a block that was proposed here, and then keeps it as a verified one. Where it could not be kept it may have been sent.
+pub(crate) fn propose<V: Variant, S: Holds<V>, B: Buffer<V>>(
+    stores: &mut S,
+    ticket: u64,
+    round: Round,
+    recipients: Recipients<Participant>,
+    block: V::Block,
+    buffer: &mut B,
+    answers: &mut AnswerTable<Value<V::Digest, V::Block, S::Finalization>>,
+) -> Result<(), Fault<V::Commitment>>
+    requires small { IsSmall (V.plain block).encoded }
+    ensures keeps { OnOk result (KeepsAndAnswers round.epoch (verified_entry round (V.plain block) ∷ []) (is_verified_of round.epoch) ticket
+        (S.held stores.old) (S.held stores.new) (told (value_of V.Digest.bytes V.plain S.Finalization.plain) answers.old)
+        (told (value_of V.Digest.bytes V.plain S.Finalization.plain) answers.new)) }
+    ensures unanswered { OnErr result (answers.new ≡ answers.old) }
+    ensures sends { OnOk result (Sends (B.sent buffer.old) (record { round = round; block = V.plain block; peers = named recipients } ∷ [])
+        (B.sent buffer.new)) }
+    ensures sent { OnErr result (SendsFront (B.sent buffer.old) (record { round = round; block = V.plain block; peers = named recipients } ∷ [])
+        (B.sent buffer.new)) }
+    ensures blocks { B.blocks buffer.new ≡ B.blocks buffer.old }
+    ensures notifies { B.notifies buffer.new ≡ B.notifies buffer.old }
+    ensures goes_on { GoesOn (fault_of V.Commitment.bytes) (S.held stores.old) (written_entry (verified_entry round (V.plain block))) (S.held stores.new)
+        result }
+    ensures kind { IfErr result (λ e. IsUsual (fault_of V.Commitment.bytes e)
+        ⊎ ((fault_of V.Commitment.bytes e ≡ ticket_limit sync_kind) × ((S.held stores.old).writes.next_sync ≡ 2 ^ 64 - 1))) }
+{
+    match send_copy::<V, B>(buffer, round, &block, recipients) {
+        Ok(()) => verify::<V, S>(stores, ticket, round, block, answers),
+        Err(fault) => Err(fault),
+    }
+}
+
+// Has the buffer send another handle of a block.
+fn send_copy<V: Variant, B: Buffer<V>>(
+    buffer: &mut B,
+    round: Round,
+    block: &V::Block,
+    recipients: Recipients<Participant>,
+) -> Result<(), Fault<V::Commitment>>
+    ensures sends { OnOk result (Sends (B.sent buffer.old) (record { round = round; block = V.plain block.now; peers = named recipients } ∷ [])
+        (B.sent buffer.new)) }
+    ensures unsent { OnErr result (Sends (B.sent buffer.old) [] (B.sent buffer.new)) }
+    ensures blocks { B.blocks buffer.new ≡ B.blocks buffer.old }
+    ensures notifies { B.notifies buffer.new ≡ B.notifies buffer.old }
+    ensures memory { IfErr result (λ e. fault_of V.Commitment.bytes e ≡ want_of_memory) }
+{
+    match V::try_clone(block) {
+        Ok(copy) => send::<V, B>(buffer, round, copy, recipients),
+        Err(_) => Err(Fault::Memory),
+    }
+}
+
+// Answers which sync makes a block durable, or that there is nothing to wait for.
+fn answer_kept<V: Variant, S: Holds<V>>(
+    answers: &mut AnswerTable<Value<V::Digest, V::Block, S::Finalization>>,
+    ticket: u64,
+    sync: Option<u64>,
+) -> Result<(), Fault<V::Commitment>>
+    ensures answered { OnOk result (told (value_of V.Digest.bytes V.plain S.Finalization.plain) answers.new
+        ≡ told (value_of V.Digest.bytes V.plain S.Finalization.plain) answers.old ++ to ticket (kept_value sync) ∷ []) }
+    ensures unanswered { OnErr result (answers.new ≡ answers.old) }
+    ensures memory { IfErr result (λ e. fault_of V.Commitment.bytes e ≡ want_of_memory) }
+{
+    let value = match sync {
+        Some(sync) => Value::Sync(sync),
+        None => Value::True,
+    };
+    match answers.put(ticket, value) {
+        Ok(()) => Ok(()),
+        Err(_) => Err(Fault::Memory),
+    }
+}
+
+/// Finishes the sync of the cache of a ticket, and answers the caller that waits for it.
+pub(crate) fn finish_kept<V: Variant, S: Holds<V>>(
+    stores: &mut S,
+    ticket: u64,
+    answer: Option<u64>,
+    answers: &mut AnswerTable<Value<V::Digest, V::Block, S::Finalization>>,
+) -> Result<(), Fault<V::Commitment>>
+    ensures finishes { OnOk result (FinishesCacheSync ticket (S.held stores.old) (S.held stores.new)) }
+    ensures answered { OnOk result (told (value_of V.Digest.bytes V.plain S.Finalization.plain) answers.new
+        ≡ told (value_of V.Digest.bytes V.plain S.Finalization.plain) answers.old ++ map (λ a. to a true_value) (option_to_list answer)) }
+    ensures unanswered { OnErr result (answers.new ≡ answers.old) }
+    ensures goes_on { GoesOn (fault_of V.Commitment.bytes) (S.held stores.old) nothing_written (S.held stores.new) result }
+    ensures usual { IfErr result (λ e. IsUsual (fault_of V.Commitment.bytes e)) }
+{
+    match stores.finish_cache_sync(ticket) {
+        Ok(()) => answer_finished::<V, S>(answers, answer),
+        Err(fault) => Err(fault),
+    }
+}
+
+// Tells the caller that waits for a sync, where there is one, that it has finished.
+fn answer_finished<V: Variant, S: Holds<V>>(
+    answers: &mut AnswerTable<Value<V::Digest, V::Block, S::Finalization>>,
+    answer: Option<u64>,
+) -> Result<(), Fault<V::Commitment>>
+    ensures answered { OnOk result (told (value_of V.Digest.bytes V.plain S.Finalization.plain) answers.new
+        ≡ told (value_of V.Digest.bytes V.plain S.Finalization.plain) answers.old ++ map (λ a. to a true_value) (option_to_list answer)) }
+    ensures unanswered { OnErr result (answers.new ≡ answers.old) }
+    ensures memory { IfErr result (λ e. fault_of V.Commitment.bytes e ≡ want_of_memory) }
+{
+    let Some(ticket) = answer else {
+        return Ok(());
+    };
+    match answers.put(ticket, Value::True) {
+        Ok(()) => Ok(()),
+        Err(_) => Err(Fault::Memory),
+    }
+}
