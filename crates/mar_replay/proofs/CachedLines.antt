@@ -1,38 +1,38 @@
--- The blocks that are cached, and that a crash may leave of the cache: no block comes to it over a line.
+-- The blocks that are cached, and that a crash may leave of the cache: over a line none comes to it but those that the line tells.
 use Rattle.std.proofs.Common.{Bool, Contains, List, None, Option, Some, [], ap, arith, false, fold, if◌then◌else◌, inl, inr, length, nat_lt, refl, subst, sym, true, zero, ℕ, ◌&&◌, ◌++◌, ◌+◌, ◌∙◌, ◌∷◌, ◌≡◌, ◌⊎◌}
-use Rattle.std.specs.List.{filter_map}
+use Rattle.std.specs.List.{filter_map, list_any}
 use Rattle.std.proofs.lemmas.List.Elements.{Contains-append_cases, Contains-append_left, Contains-append_right}
-use Rattle.mar_types.specs.declared.Sha256Digest.{Sha256Digest}
 use Rattle.mar_cert.specs.Block.{Block}
-use Rattle.mar_inbox.specs.declared.Query.{Query}
 use Rattle.mar_inbox.specs.declared.Query.TheVariants as query
 use Rattle.mar_store.specs.Changes.{Within}
 use Rattle.mar_store.proofs.Lookups.{AllByRecursion-contains, AllByRecursion-from_contains}
-use Rattle.mar_node.specs.Cache.{MayBeCached, entries_put}
-use Rattle.mar_node.specs.Cached.{Cached, cached_block, finalization_entry, with_entry}
+use Rattle.mar_node.specs.Cache.{MayBeCached, entries_put, notarized_where, verified_at}
+use Rattle.mar_node.specs.Cached.{Cached, cached_block, finalization_entry, notarized_entry, verified_entry, with_entry}
 use Rattle.mar_node.specs.Chain.{Chain}
 use Rattle.mar_node.specs.Config.{Config}
-use Rattle.mar_node.specs.Event.{Effect, Event, effect_of}
+use Rattle.mar_node.specs.Event.{Effect, Event, effect_of, message_told}
 use Rattle.mar_node.specs.Faults.{Begin}
 use Rattle.mar_node.specs.Lives.{Finds, Picks, TakesUp}
 use Rattle.mar_node.specs.Node.{Ended, Node, write_count}
-use Rattle.mar_node.specs.Promise.{AreOne}
+use Rattle.mar_node.specs.Messages.{Message, certify, proposed, verified}
+use Rattle.mar_node.specs.Promise.{told_blocks}
 use Rattle.mar_node.specs.Step.{Made, Steps, with_sync}
 use Rattle.mar_node.proofs.CacheSteps.{with_cases}
 use Rattle.mar_node.proofs.EntryLists.{contains_none, one_of}
 use Rattle.mar_node.proofs.Filtered.{all_found_from, all_found_of, all_found_within}
-use Rattle.mar_replay.proofs.Lasting.{IsPlain, acks, asked_event, finishes, prepares, queries, reports}
+use Rattle.mar_replay.specs.Playing.{IsAnswered, asks, certifies, proposes, verifies}
+use Rattle.mar_replay.proofs.Lasting.{IsPlain, acks, answers, finishes, prepares, reports}
 
 -- what is found in a list is found in one that has all of it
 pub found_within : {T U : Type 0} (f : T → Option U) (xs ys : List T) → Within xs ys → (y : U) → Contains (filter_map f xs) y → Contains (filter_map f ys) y
 found_within f xs ys within y has =
     AllByRecursion-contains (Contains (filter_map f ys)) (filter_map f xs) y (all_found_within f (Contains (filter_map f ys)) xs ys within (AllByRecursion-from_contains (Contains (filter_map f ys)) (filter_map f ys) (λ x there. there))) has
 
--- of fewer blocks each digest names one, too
-pub AreOne-within : (inner : List ℕ → List ℕ) (some all : List Block) → Within some all → AreOne inner all → AreOne inner some
-AreOne-within inner some all within one = record { names = λ b has. one.names b (within b has); one = λ b c in_b in_c same. one.one b c (within b in_b) (within c in_c) same }
-
 -- A STEP
+
+-- the block that is cached is one that the event tells, if it is a block
+abbrev pub IsTold : Event → Cached → Type 0
+IsTold e x = (b : Block) → cached_block x ≡ Some b → Contains (told_blocks e) b
 
 -- a ticket for a sync changes nothing that is cached
 cache-with_sync : (before : ℕ) (n : Node) → (with_sync before n).cache ≡ n.cache
@@ -51,55 +51,83 @@ with_entries held (y ∷ put) x has = elim (with_entries (with_entry held y) put
   | inr more ↦ inr (Contains-append_right (y ∷ []) put x more)
 ]
 
--- an event that puts no block into the cache
-abbrev pub PutsNoBlock : Config → Node → Event → Type 0
-PutsNoBlock config n e = (fx : Effect) (after : List Cached) (x : Cached) → Contains (entries_put config n after e fx) x → cached_block x ≡ None
+-- of blocks an event puts into the cache those that it tells alone
+abbrev pub PutsToldBlocks : Config → Node → Event → Type 0
+PutsToldBlocks config n e = (fx : Effect) (after : List Cached) (x : Cached) → Contains (entries_put config n after e fx) x → IsTold e x
 
--- blocks that are found in what was there or is no block
-blocks_from : (xs ys : List Cached) → ((x : Cached) → Contains xs x → Contains ys x ⊎ (cached_block x ≡ None)) → (b : Block) → Contains (filter_map cached_block xs) b → Contains (filter_map cached_block ys) b
-blocks_from xs ys from b has = AllByRecursion-contains (Contains (filter_map cached_block ys)) (filter_map cached_block xs) b (all_found_from cached_block (Contains (filter_map cached_block ys)) xs (λ x c there is. elim (from x there) [ inl before ↦ there_found x c before is | inr none ↦ absurd (let both : ◌≡◌ {A = Option Block} None (Some c) = sym none ∙ is in cc) ])) has
+-- blocks that are found in what was there, or that the event tells
+blocks_from : (e : Event) (xs ys : List Cached) → ((x : Cached) → Contains xs x → Contains ys x ⊎ IsTold e x) → (b : Block) → Contains (filter_map cached_block xs) b → Contains (filter_map cached_block ys ++ told_blocks e) b
+blocks_from e xs ys from b has = AllByRecursion-contains (Contains (filter_map cached_block ys ++ told_blocks e)) (filter_map cached_block xs) b (all_found_from cached_block (Contains (filter_map cached_block ys ++ told_blocks e)) xs (λ x c there is. elim (from x there) [
+  | inl before ↦ Contains-append_left (filter_map cached_block ys) (told_blocks e) c (there_found x c before is)
+  | inr told ↦ Contains-append_right (filter_map cached_block ys) (told_blocks e) c (told c is)
+])) has
   where
     there_found : (x : Cached) (c : Block) → Contains ys x → cached_block x ≡ Some c → Contains (filter_map cached_block ys) c
     there_found x c there is = all_found_of cached_block (Contains (filter_map cached_block ys)) ys x c (AllByRecursion-from_contains (Contains (filter_map cached_block ys)) (filter_map cached_block ys) (λ d in_ys. in_ys)) there is
 
--- over such an event none comes to it
-pub step_cached : (config : Config) (chain : Chain) (n : Node) (e : Event) (made : Made) (n' : Node) → PutsNoBlock config n e → Steps config chain n (e ∷ []) made n' → (b : Block) → Contains (filter_map cached_block (n'.cache.held ++ n'.cache.may)) b → Contains (filter_map cached_block (n.cache.held ++ n.cache.may)) b
-step_cached config chain n e made n' blockless steps b has = blocks_from (n'.cache.held ++ n'.cache.may) (n.cache.held ++ n.cache.may) (λ x there. each x (subst (λ c. Contains (c.held ++ c.may) x) same there)) b has
+-- over such an event no others come to it
+pub step_cached : (config : Config) (chain : Chain) (n : Node) (e : Event) (made : Made) (n' : Node) → PutsToldBlocks config n e → Steps config chain n (e ∷ []) made n' → (b : Block) → Contains (filter_map cached_block (n'.cache.held ++ n'.cache.may)) b → Contains (filter_map cached_block (n.cache.held ++ n.cache.may) ++ told_blocks e) b
+step_cached config chain n e made n' puts steps b has = blocks_from e (n'.cache.held ++ n'.cache.may) (n.cache.held ++ n.cache.may) (λ x there. each x (subst (λ c. Contains (c.held ++ c.may) x) same there)) b has
   where
     same : n'.cache ≡ steps.unticketed.cache
     same = ap (λ m. m.cache) steps.ticket ∙ cache-with_sync (write_count n) steps.unticketed
 
-    each : (x : Cached) → Contains (steps.unticketed.cache.held ++ steps.unticketed.cache.may) x → Contains (n.cache.held ++ n.cache.may) x ⊎ (cached_block x ≡ None)
+    each : (x : Cached) → Contains (steps.unticketed.cache.held ++ steps.unticketed.cache.may) x → Contains (n.cache.held ++ n.cache.may) x ⊎ IsTold e x
     each x there = elim (Contains-append_cases steps.unticketed.cache.held steps.unticketed.cache.may x there) [
       | inl held ↦ elim (with_entries n.cache.held (entries_put config n steps.unticketed.cache.held e (effect_of config n e)) x (steps.advances.cache.nothing_else x held)) [
         | inl before ↦ inl (Contains-append_left n.cache.held n.cache.may x before)
-        | inr put ↦ inr (blockless (effect_of config n e) steps.unticketed.cache.held x put)
+        | inr put ↦ inr (puts (effect_of config n e) steps.unticketed.cache.held x put)
       ]
       | inr may ↦ elim (steps.advances.may_cached x may) [
         | inl before ↦ inl (Contains-append_right n.cache.held n.cache.may x before)
-        | inr put ↦ inr (blockless (effect_of config n e) put.0 x put.1)
+        | inr put ↦ inr (puts (effect_of config n e) put.0 x put.1)
       ]
     ]
 
--- nor is one left by a cut
-pub cut_cached : (config : Config) (chain : Chain) (n : Node) (e : Event) (fx : Effect) (left : Ended) → PutsNoBlock config n e → ((x : Cached) → Contains left.cache_may x → MayBeCached config n e fx x) → (b : Block) → Contains (filter_map cached_block left.cache_may) b → Contains (filter_map cached_block n.cache.may) b
-cut_cached config chain n e fx left blockless may b has = blocks_from left.cache_may n.cache.may (λ x there. elim (may x there) [ inl before ↦ inl before | inr put ↦ inr (blockless fx put.0 x put.1) ]) b has
+-- nor are others left by a cut
+pub cut_cached : (config : Config) (chain : Chain) (n : Node) (e : Event) (fx : Effect) (left : Ended) → PutsToldBlocks config n e → ((x : Cached) → Contains left.cache_may x → MayBeCached config n e fx x) → (b : Block) → Contains (filter_map cached_block left.cache_may) b → Contains (filter_map cached_block n.cache.may ++ told_blocks e) b
+cut_cached config chain n e fx left puts may b has = blocks_from e left.cache_may n.cache.may (λ x there. elim (may x there) [ inl before ↦ inl before | inr put ↦ inr (puts fx put.0 x put.1) ]) b has
 
--- events of a script put none
-pub plain_blockless : (config : Config) (n : Node) (e : Event) → IsPlain e → PutsNoBlock config n e
-plain_blockless config n e (reports f) fx after x has = ap cached_block (one_of (finalization_entry f) x has)
-plain_blockless config n e (acks t) fx after x has = contains_none x has
-plain_blockless config n e (finishes t) fx after x has = contains_none x has
-plain_blockless config n e (queries t q) fx after x has = asked q has
+-- what is no block is told by any event
+none_told : (e : Event) (x y : Cached) → y ≡ x → cached_block y ≡ None → IsTold e x
+none_told e x y same none b is = absurd (apart (sym none ∙ (ap cached_block same ∙ is)))
   where
-    asked : (q : Query Sha256Digest) → Contains (entries_put config n after (asked_event t q) fx) x → cached_block x ≡ None
-    asked (query.Info id) has = contains_none x has
-    asked (query.Block id) has = contains_none x has
-    asked (query.Finalization h) has = contains_none x has
-    asked query.Processed has = contains_none x has
-    asked query.Anchor has = contains_none x has
-    asked (query.Verified r) has = contains_none x has
-plain_blockless config n e (prepares r peers b) fx after x has = contains_none x has
+    apart : ◌≡◌ {A = Option Block} None (Some b) → ⊥
+    apart both = cc
+
+-- the one block that an event tells
+one_told : (e : Event) (x y : Cached) (b : Block) → y ≡ x → cached_block y ≡ Some b → Contains (told_blocks e) b → IsTold e x
+one_told e x y b same one told c is = subst (Contains (told_blocks e)) (inside (sym one ∙ (ap cached_block same ∙ is))) told
+  where
+    inside : ◌≡◌ {A = Option Block} (Some b) (Some c) → b ≡ c
+    inside both = cc
+
+told_first : (b : Block) (others : List Block) → Contains (b ∷ others) b
+told_first b others = (zero, omega arith, refl)
+
+-- an answered message puts the block that is to be kept, if any
+answered_puts : (config : Config) (n : Node) (t : ℕ) (m : Message) → IsAnswered m → PutsToldBlocks config n (message_told (Some t) m)
+answered_puts config n t m (asks (query.Info id)) fx after x has = contains_none x has
+answered_puts config n t m (asks (query.Block id)) fx after x has = contains_none x has
+answered_puts config n t m (asks (query.Finalization h)) fx after x has = contains_none x has
+answered_puts config n t m (asks query.Processed) fx after x has = contains_none x has
+answered_puts config n t m (asks query.Anchor) fx after x has = contains_none x has
+answered_puts config n t m (asks (query.Verified r)) fx after x has = contains_none x has
+answered_puts config n t m (verifies r b) fx after x has = one_told (message_told (Some t) (verified r b)) x (verified_entry r b) b (sym (one_of (verified_entry r b) x has)) refl (told_first b [])
+answered_puts config n t m (proposes r peers b) fx after x has = one_told (message_told (Some t) (proposed r peers b)) x (verified_entry r b) b (sym (one_of (verified_entry r b) x has)) refl (told_first b [])
+answered_puts config n t m (certifies r b) fx after x has = by (list_any (verified_at r b) after) has
+  where
+    by : (is_verified : Bool) → Contains (notarized_where is_verified r b) x → IsTold (message_told (Some t) (certify r b)) x
+    by true there = contains_none x there
+    by false there = one_told (message_told (Some t) (certify r b)) x (notarized_entry r b) b (sym (one_of (notarized_entry r b) x there)) refl (told_first b [])
+
+-- events of a script do so
+pub plain_puts : (config : Config) (n : Node) (e : Event) → IsPlain e → PutsToldBlocks config n e
+plain_puts config n e (reports f) fx after x has = none_told e x (finalization_entry f) (sym (one_of (finalization_entry f) x has)) refl
+plain_puts config n e (acks t) fx after x has = contains_none x has
+plain_puts config n e (finishes t) fx after x has = contains_none x has
+plain_puts config n e (answers t m answered) fx after x has = answered_puts config n t m answered fx after x has
+plain_puts config n e (prepares r peers b) fx after x has = contains_none x has
 
 -- AN OPENING
 

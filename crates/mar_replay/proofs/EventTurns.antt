@@ -6,7 +6,7 @@ use Rattle.mar_types.specs.declared.Sha256.{Sha256}
 use Rattle.mar_types.specs.declared.Sha256Digest.{Sha256Digest}
 use Rattle.mar_types.specs.Epochs.{fixed_epochs}
 use Rattle.mar_cert.specs.Block.{Block}
-use Rattle.mar_block.specs.Sent.{Held, Sending, Sends, sending}
+use Rattle.mar_block.specs.Sent.{Held, Sending, sending}
 use Rattle.mar_block.specs.declared.EmptyBlock.{EmptyBlock}
 use Rattle.mar_block.specs.declared.recipients.Sent.{Sent as SentCode}
 use Rattle.mar_inbox.specs.Views.{sent_by, sent_of}
@@ -156,10 +156,6 @@ module _ (seen : SeenNode) (buffer : Held) (e : Event) (before now : Made) (sile
 -- as it was taken out of the buffer
 pub sent_taken : (items : List (SentCode (EmptyBlock Sha256 Sha256Digest))) (sent : List Sending) → map (sending plain_block) items ≡ sent → sent_by (Some sent) ≡ Some (map plain_sent items)
 sent_taken items sent taken = ap (λ xs. Some (map sent_of xs)) (sym taken) ∙ ap Some (map-map sent_of (sending plain_block) items)
-
--- where nothing was
-pub sent_nothing : (buffer cleared : Held) (before : Made) (sent : List Sending) → cleared ≡ record buffer { sent = [] } → before ≡ nothing_made → Sends (Some cleared.sent) [] (Some sent) → sent_by (Some sent) ≡ Some before.sends
-sent_nothing buffer cleared before sent is silent unsent = ap sent_by unsent ∙ (ap (λ b. Some (map sent_of (b.sent ++ []))) is ∙ ap (λ m. Some m.sends) (sym silent))
 
 -- by a buffer out of which was taken what earlier lines sent
 pub promise_since : (seen : SeenNode) (buffer cleared : Held) (e : Event) (reports reports' : Option (List Report)) (asks asks' : Option (List Call)) (sent sends' : Option (List Sent)) (answers answers' : List TicketAnswer) (before : Made) (result : Result SeenNode Ending) → cleared ≡ record buffer { sent = [] } → before ≡ nothing_made → sent ≡ sends'

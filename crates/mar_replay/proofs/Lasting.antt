@@ -1,20 +1,17 @@
 -- A life in which nothing is dropped ends in no fault that its events call for, and its tickets last for all lines of a script.
-use Rattle.std.proofs.Common.{Bool, IsTrue, List, None, Option, Some, [], arith, eqb-true, false, if◌then◌else◌, length, map, nat_lt, option_map, refl, subst, sym, true, ℕ, ◌&&◌, ◌*◌, ◌++◌, ◌+◌, ◌-◌, ◌<◌, ◌==◌, ◌^◌, ◌∷◌, ◌≡◌, ◌≤◌}
+use Rattle.std.proofs.Common.{Bool, List, None, Option, Some, [], arith, eqb-true, false, if◌then◌else◌, length, map, nat_lt, option_map, refl, subst, sym, true, ℕ, ◌&&◌, ◌*◌, ◌++◌, ◌+◌, ◌-◌, ◌<◌, ◌==◌, ◌^◌, ◌∷◌, ◌≡◌, ◌≤◌}
 use Rattle.std.specs.List.{AllByRecursion}
 use Rattle.mar_cert.specs.Block.{Block}
 use Rattle.mar_cert.specs.Finalization.{Finalization}
-use Rattle.mar_types.specs.declared.Sha256Digest.{Sha256Digest}
-use Rattle.mar_inbox.specs.Views.{query_of}
-use Rattle.mar_inbox.specs.declared.Query.{Query}
 use Rattle.mar_inbox.specs.declared.Query.TheVariants as query
 use Rattle.mar_types.specs.Round.{Round}
-use Rattle.mar_node.specs.Messages.{Peers, prepared, report_finalization}
+use Rattle.mar_node.specs.Messages.{Message, Peers, prepared, report_finalization}
 use Rattle.mar_key.specs.Processed.{height_of}
 use Rattle.mar_node.specs.Acks.{Mark, Outstanding, after_given, is_given, is_unmarked, mark_dropped, mark_given, mark_waiting, with_mark}
 use Rattle.mar_store.proofs.Lookups.{AllByRecursion-append}
 use Rattle.mar_node.specs.Chain.{Chain}
 use Rattle.mar_node.specs.Config.{Config}
-use Rattle.mar_node.specs.Event.{Event, ack_given, is_query, life_started, message_told, met_of, no_floor, sync_finished, undrained_blocks}
+use Rattle.mar_node.specs.Event.{Event, ack_given, effect_of, kept_blocks, life_started, message_told, met_of, no_floor, sync_finished, undrained_blocks}
 use Rattle.mar_node.specs.Faults.{dropped_first, event_fault, height_limit, last_height, storing_fault}
 use Rattle.mar_node.specs.Held.{Seen}
 use Rattle.mar_node.specs.Node.{Node, at_hand, write_count}
@@ -23,6 +20,7 @@ use Rattle.mar_node.specs.Step.{HandedBlock, HandsOver, Made, Steps, handed_bloc
 use Rattle.mar_node.proofs.FinalizationEvent.{not_last}
 use Rattle.mar_script.specs.Plays.{max_window}
 use Rattle.mar_script.specs.Refused.{max_lines}
+use Rattle.mar_replay.specs.Playing.{IsAnswered, asks, certifies, proposes, verifies}
 
 -- TICKETS
 
@@ -85,33 +83,25 @@ undropped-with_sync before n undropped = by (nat_lt before (write_count n)) (nat
     by true false = undropped
     by false c = undropped
 
--- a caller asks this under a ticket
-abbrev pub asked_event : ℕ → Query Sha256Digest → Event
-asked_event t q = message_told (Some t) (query_of (λ digest. digest.bytes) q)
+-- an answered message, as a caller tells it under a ticket, reports nothing
+pub answered_reports : (chain : Chain) (t : Option ℕ) (m : Message) → IsAnswered m → ReportsFinalized chain (message_told t m)
+answered_reports chain t m (asks (query.Info id)) = tt
+answered_reports chain t m (asks (query.Block id)) = tt
+answered_reports chain t m (asks (query.Finalization h)) = tt
+answered_reports chain t m (asks query.Processed) = tt
+answered_reports chain t m (asks query.Anchor) = tt
+answered_reports chain t m (asks (query.Verified r)) = tt
+answered_reports chain t m (verifies r b) = tt
+answered_reports chain t m (proposes r peers b) = tt
+answered_reports chain t m (certifies r b) = tt
 
-pub asks_query : (t : ℕ) (q : Query Sha256Digest) → IsTrue (is_query (asked_event t q))
-asks_query t (query.Info id) = refl
-asks_query t (query.Block id) = refl
-asks_query t (query.Finalization h) = refl
-asks_query t query.Processed = refl
-asks_query t query.Anchor = refl
-asks_query t (query.Verified r) = refl
-
--- and reports nothing
-pub asks_reports : (chain : Chain) (t : ℕ) (q : Query Sha256Digest) → ReportsFinalized chain (asked_event t q)
-asks_reports chain t (query.Info id) = tt
-asks_reports chain t (query.Block id) = tt
-asks_reports chain t (query.Finalization h) = tt
-asks_reports chain t query.Processed = tt
-asks_reports chain t query.Anchor = tt
-asks_reports chain t (query.Verified r) = tt
-
--- an event of a life that has begun: a reported finalization, an acknowledgement, a sync that finished, a query, a prepared block
+-- an event of a life that has begun: a reported finalization, an acknowledgement, a sync that finished, an answered message, a
+-- prepared block
 pub data IsPlain : Event → Type 0 where
   reports : (f : Finalization) → IsPlain (message_told None (report_finalization f))
   acks : (t : ℕ) → IsPlain (ack_given t)
   finishes : (t : ℕ) → IsPlain (sync_finished t)
-  queries : (t : ℕ) (q : Query Sha256Digest) → IsPlain (asked_event t q)
+  answers : (t : ℕ) (m : Message) → IsAnswered m → IsPlain (message_told (Some t) m)
   prepares : (r : Round) (peers : Peers) (b : Block) → IsPlain (message_told None (prepared r peers b))
 
 not_at_limit : (above : Bool) (h : ℕ) → (h ≡ 2 ^ 64 - 1 → ⊥) → (if above && h == last_height then Some (height_limit h) else None) ≡ None
@@ -129,25 +119,41 @@ module _ {P E : Type 0} (config : Config) (chain : Chain) (a : Seen P E) (buffer
   pub undropped-start : (made : Made) (n' : Node) → Steps config chain node (life_started None ∷ []) made n' → Undropped node.out → Undropped n'.out
   undropped-start made n' steps undropped = subst (λ m. Undropped m.out) (sym steps.ticket) (undropped-with_sync (write_count node) steps.unticketed (undropped-kept node (life_started None) made steps.unticketed steps.advances.hands undropped))
 
+  -- it touches no floor
+  no_effect : (t : ℕ) (m : Message) → IsAnswered m → effect_of config node (message_told (Some t) m) ≡ no_floor
+  no_effect t m (asks (query.Info id)) = refl
+  no_effect t m (asks (query.Block id)) = refl
+  no_effect t m (asks (query.Finalization h)) = refl
+  no_effect t m (asks query.Processed) = refl
+  no_effect t m (asks query.Anchor) = refl
+  no_effect t m (asks (query.Verified r)) = refl
+  no_effect t m (verifies r b) = refl
+  no_effect t m (proposes r peers b) = refl
+  no_effect t m (certifies r b) = refl
+
   pub undropped-step : (e : Event) → IsPlain e → (made : Made) (n' : Node) → Steps config chain node (e ∷ []) made n' → Undropped node.out → Undropped n'.out
   undropped-step e (reports f) made n' steps undropped = subst (λ m. Undropped m.out) (sym steps.ticket) (undropped-with_sync (write_count node) steps.unticketed (undropped-kept node (message_told None (report_finalization f)) made steps.unticketed steps.advances.hands undropped))
   undropped-step e (acks t) made n' steps undropped = subst (λ m. Undropped m.out) (sym steps.ticket) (undropped-with_sync (write_count node) steps.unticketed
       (undropped-kept node (ack_given t) made steps.unticketed steps.advances.hands (undropped-after (with_mark t mark_given a.life.out) (undropped-marked t a.life.out undropped))))
   undropped-step e (finishes t) made n' steps undropped = subst (λ m. Undropped m.out) (sym steps.ticket) (undropped-with_sync (write_count node) steps.unticketed (undropped-kept node (sync_finished t) made steps.unticketed steps.advances.hands undropped))
-  undropped-step e (queries t q) made n' steps undropped = subst (λ m. Undropped m.out) (sym steps.ticket) (undropped-with_sync (write_count node) steps.unticketed (subst (λ m. Undropped m.out) (sym (steps.advances.query (asks_query t q))) undropped))
+  undropped-step e (answers t m answered) made n' steps undropped = subst (λ x. Undropped x.out) (sym steps.ticket) (undropped-with_sync (write_count node) steps.unticketed
+      (undropped-kept node (message_told (Some t) m) made steps.unticketed (subst (λ fx. HandsOver node (kept_blocks node (message_told (Some t) m) fx) made.reports steps.unticketed) (no_effect t m answered) steps.advances.hands) undropped))
   undropped-step e (prepares r peers b) made n' steps undropped = subst (λ m. Undropped m.out) (sym steps.ticket) (undropped-with_sync (write_count node) steps.unticketed (undropped-kept node (message_told None (prepared r peers b)) made steps.unticketed steps.advances.hands undropped))
 
-  query_fault : (t : ℕ) (q : Query Sha256Digest) → event_fault config node (asked_event t q) ≡ None
-  query_fault t (query.Info id) = refl
-  query_fault t (query.Block id) = refl
-  query_fault t (query.Finalization h) = refl
-  query_fault t query.Processed = refl
-  query_fault t query.Anchor = refl
-  query_fault t (query.Verified r) = refl
+  answered_fault : (t : ℕ) (m : Message) → IsAnswered m → event_fault config node (message_told (Some t) m) ≡ None
+  answered_fault t m (asks (query.Info id)) = refl
+  answered_fault t m (asks (query.Block id)) = refl
+  answered_fault t m (asks (query.Finalization h)) = refl
+  answered_fault t m (asks query.Processed) = refl
+  answered_fault t m (asks query.Anchor) = refl
+  answered_fault t m (asks (query.Verified r)) = refl
+  answered_fault t m (verifies r b) = refl
+  answered_fault t m (proposes r peers b) = refl
+  answered_fault t m (certifies r b) = refl
 
   pub no_event_fault : (e : Event) → IsPlain e → IsLawfulStep config chain node (e ∷ []) → Undropped node.out → event_fault config node e ≡ None
   no_event_fault e (finishes t) lawful undropped = refl
-  no_event_fault e (queries t q) lawful undropped = query_fault t q
+  no_event_fault e (answers t m answered) lawful undropped = answered_fault t m answered
   no_event_fault e (prepares r peers b) lawful undropped = refl
   no_event_fault e (reports f) lawful undropped = by (at_hand node f.payload) refl
     where

@@ -1,6 +1,6 @@
 -- What `play` makes of each line.
-use Rattle.std.proofs.Common.{Contains, List, None, Option, [], ap, arith, refl, subst, sym, true, ℕ, ◌++◌, ◌+◌, ◌<◌, ◌∷◌, ◌≡◌, ◌≤◌, ◌⊎◌, ◌*◌, ◌∙◌}
-use Rattle.std.proofs.lemmas.List.Elements.{Contains-append_left, Contains-append_right}
+use Rattle.std.proofs.Common.{Contains, List, None, Option, [], ap, arith, refl, subst, sym, true, inl, inr, ℕ, ◌++◌, ◌+◌, ◌<◌, ◌∷◌, ◌≡◌, ◌≤◌, ◌⊎◌, ◌*◌, ◌∙◌}
+use Rattle.std.proofs.lemmas.List.Elements.{Contains-append_cases, Contains-append_left, Contains-append_right}
 use Rattle.mar_types.specs.declared.Sha256Digest.{Sha256Digest}
 use Rattle.mar_types.specs.Epochs.{fixed_epochs}
 use Rattle.std.specs.List.{filter_map}
@@ -19,7 +19,7 @@ use Rattle.mar_node.specs.Lives.{CutsReopening, Finds}
 use Rattle.mar_node.specs.Stored.{AreSmall}
 use Rattle.mar_store.specs.Sizes.{IsSmall}
 use Rattle.mar_store.proofs.Lookups.{AllByRecursion-push}
-use Rattle.mar_node.specs.Promise.{IsGoodUntold, IsLawfulStep, IsOpeningFault, IsSetTo, Waiting, asked_since, node_of, none_waiting}
+use Rattle.mar_node.specs.Promise.{IsGoodUntold, IsLawfulStep, IsOpeningFault, IsSetTo, Waiting, asked_since, node_of, none_waiting, told_blocks}
 use Rattle.mar_node.specs.Node.{Node}
 use Rattle.mar_node.specs.Step.{Made, Steps, nothing_made}
 use Rattle.mar_node.proofs.Passing.{ArePassed-refl}
@@ -30,9 +30,9 @@ use Rattle.mar_node.specs.declared.fault.TicketKind.TheVariants.{Ack, Sync}
 use Rattle.mar_node.specs.Views.{kind_of}
 use Rattle.mar_script.specs.Refused.{max_lines}
 use Rattle.mar_script.specs.Accounts.{Account, Calls, CallsEnd, luck_after}
-use Rattle.mar_script.specs.Plays.{IsBetween, IsLawfulLine, Plays, max_window}
+use Rattle.mar_script.specs.Plays.{IsBetween, IsLawfulLine, Plays, cached_blocks_in, max_window}
 use Rattle.mar_replay.specs.Playing.{AfterEvent, DoesEvent, DoesStep, FindsTakenUp, HasLuck, IsNearLast, IsOpenAs, IsPendingAs, IsSetNode, PlaysLine, SeenNode, StartsFrom, TakesEvent, account_in, empty_buffer}
-use Rattle.mar_script.specs.Run.{LineDone, OpenDone, StepDone, still_unanswered}
+use Rattle.mar_script.specs.Run.{LineDone, OpenDone, StepDone, line_blocks, still_unanswered}
 use Rattle.mar_script.specs.Script.{Line, Settings, buffer_line, config_of, crash_line, fail_line, open_line, tell_line}
 use Rattle.mar_script.specs.Text.{Output, State, running, stopped}
 use Rattle.mar_script.specs.Shown.{plain_fault}
@@ -44,8 +44,8 @@ use Rattle.mar_replay.specs.declared.play.Pending.{Pending}
 use Rattle.mar_replay.specs.declared.play.State.{State as StateCode}
 use Rattle.mar_replay.specs.declared.play.State.TheVariants as state
 use Rattle.mar_script.specs.declared.RemarkShown.{RemarkShown}
-use Rattle.mar_replay.proofs.CachedLines.{found_within, plain_blockless, step_cached}
-use Rattle.mar_replay.proofs.Lasting.{IsPlain, acks, finishes, prepares, queries, reports, syncs_after, syncs_last, tickets_after, tickets_last}
+use Rattle.mar_replay.proofs.CachedLines.{found_within, plain_puts, step_cached}
+use Rattle.mar_replay.proofs.Lasting.{IsPlain, acks, answers, finishes, prepares, reports, syncs_after, syncs_last, tickets_after, tickets_last}
 use Rattle.mar_replay.proofs.LineTurns.{cut_between, cut_blocks, cut_usual, lawful_step, only_cut, step_between, step_cut, step_done}
 use Rattle.mar_replay.proofs.Replaying.{between_left}
 use Rattle.mar_replay.proofs.OpeningTurns.{lawful_start, opening_between, opening_cached, opening_cut, opening_done, opening_usual, start_cached, start_cut, start_usual, undropped-found}
@@ -83,12 +83,27 @@ between pending = waiting_with pending.requests pending.next_answer
 may_blocks : (seen : SeenNode) (b : Block) → Contains (filter_map cached_block seen.held.cache.kept.may) b → Contains (filter_map cached_block (seen.held.cache.kept.held ++ seen.held.cache.kept.may)) b
 may_blocks seen = found_within cached_block seen.held.cache.kept.may (seen.held.cache.kept.held ++ seen.held.cache.kept.may) (λ x has. Contains-append_right seen.held.cache.kept.held seen.held.cache.kept.may x has)
 
+-- what an event tells, its line brings
+told_or_line : (e : Event) (l : Line) → ((b : Block) → Contains (told_blocks e) b → Contains (line_blocks l) b) → (before : List Block) (b : Block) → Contains (before ++ told_blocks e) b → Contains (before ++ line_blocks l) b
+told_or_line e l brings before b has = by (Contains-append_cases before (told_blocks e) b has)
+  where
+    by : Contains before b ⊎ Contains (told_blocks e) b → Contains (before ++ line_blocks l) b
+    by (inl old) = Contains-append_left before (line_blocks l) b old
+    by (inr told) = Contains-append_right before (line_blocks l) b (brings b told)
+
+may_or_line : (seen : SeenNode) (l : Line) (b : Block) → Contains (filter_map cached_block seen.held.cache.kept.may ++ line_blocks l) b → Contains (filter_map cached_block (seen.held.cache.kept.held ++ seen.held.cache.kept.may) ++ line_blocks l) b
+may_or_line seen l b has = by (Contains-append_cases (filter_map cached_block seen.held.cache.kept.may) (line_blocks l) b has)
+  where
+    by : Contains (filter_map cached_block seen.held.cache.kept.may) b ⊎ Contains (line_blocks l) b → Contains (filter_map cached_block (seen.held.cache.kept.held ++ seen.held.cache.kept.may) ++ line_blocks l) b
+    by (inl may) = Contains-append_left _ (line_blocks l) b (may_blocks seen b may)
+    by (inr of_line) = Contains-append_right _ (line_blocks l) b of_line
+
 -- such an event finds what was taken up of the cache
 pub plain_finds : (e : Event) → IsPlain e → (seen : SeenNode) → seen.held.cache.loaded ≡ true → FindsTakenUp e seen
 plain_finds e (reports f) seen loaded = loaded
 plain_finds e (acks t) seen loaded = loaded
 plain_finds e (finishes t) seen loaded = loaded
-plain_finds e (queries t q) seen loaded = loaded
+plain_finds e (answers t m answered) seen loaded = loaded
 plain_finds e (prepares r peers b) seen loaded = loaded
 
 module _ {H R : Type 0} where
@@ -190,7 +205,7 @@ module _ {H R : Type 0} where
   }
 
   -- behind an event of the life, whoever waited beside it
-  module _ (seen : SeenNode) (buffer : Held) (pending : Pending) (l : Line) (e : Event) (made : Made) (config : Config) (chain : Chain) (k : ℕ) (waiting : Waiting) (plain : IsPlain e) (set : IsSetNode config seen)
+  module _ (seen : SeenNode) (buffer : Held) (pending : Pending) (l : Line) (e : Event) (made : Made) (config : Config) (chain : Chain) (k : ℕ) (waiting : Waiting) (plain : IsPlain e) (brings : (b : Block) → Contains (told_blocks e) b → Contains (line_blocks l) b) (set : IsSetNode config seen)
       (lawful : IsLawfulLine config chain k (running (node_of seen buffer.blocks (between pending))) l) (step : IsLawfulStep config chain (node_of seen buffer.blocks waiting) (e ∷ [])) (few : waiting.next_answer ≤ k + 1) (answered : (n' : Node) → Steps config chain (node_of seen buffer.blocks waiting) (e ∷ []) made n' → still_unanswered made.answers [] waiting.unanswered ≡ [])
       (account : Account) (line_done : (out : Output) (s : State) → StepDone config chain (node_of seen buffer.blocks waiting) (e ∷ []) [] (λ m. []) out s → LineDone config chain account (running (node_of seen buffer.blocks (between pending))) l out s)
     where
@@ -205,14 +220,14 @@ module _ {H R : Type 0} where
             (tickets_after k seen.life.next_ack new.life.next_ack seen.life.sizes.window lawful.between.2.tickets (subst (λ w. w ≤ max_window) set.window lawful.narrow) tickets.0)
             (syncs_after k seen.held.writes.next_sync new.held.writes.next_sync lawful.between.2.sync_tickets tickets.1) few);
         buffered = λ b has. Contains-append_left _ _ b (subst (λ xs. Contains xs b) same has);
-        cached = λ b has. Contains-append_left _ _ b (step_cached config chain (node_of seen buffer.blocks waiting) e made (node_of new kept.blocks (asked_since waiting made.asks)) (plain_blockless config (node_of seen buffer.blocks waiting) e plain) steps b has);
+        cached = λ b has. told_or_line e l brings (cached_blocks_in (running (node_of seen buffer.blocks waiting))) b (step_cached config chain (node_of seen buffer.blocks waiting) e made (node_of new kept.blocks (asked_since waiting made.asks)) (plain_puts config (node_of seen buffer.blocks waiting) e plain) steps b has);
         excused = tt;
       }
       after_event (state.Stopped left luck) (outcome.Fault fault) next is (cuts, limit) next_is = record {
         done = line_done _ _ (step_cut config chain seen buffer.blocks waiting e made fault left.ended cuts);
         between = cut_between config chain seen buffer.blocks waiting (k + 1) e made (plain_fault fault) left.ended cuts;
         buffered = λ b has. absurd (none_in b has);
-        cached = λ b has. Contains-append_left _ _ b (may_blocks seen b (cut_blocks config chain (node_of seen buffer.blocks waiting) e made (plain_fault fault) left.ended (plain_blockless config (node_of seen buffer.blocks waiting) e plain) cuts b has));
+        cached = λ b has. may_or_line seen l b (told_or_line e l brings (filter_map cached_block seen.held.cache.kept.may) b (cut_blocks config chain (node_of seen buffer.blocks waiting) e made (plain_fault fault) left.ended (plain_puts config (node_of seen buffer.blocks waiting) e plain) cuts b has));
         excused = cut_usual config chain seen buffer.blocks waiting e plain made fault left.ended step lawful.between.2.undropped cuts
             (never_last k seen (plain_fault fault) lawful.between.2.tickets lawful.between.2.sync_tickets lawful.few (subst (λ w. w ≤ max_window) set.window lawful.narrow) limit);
       }
@@ -241,23 +256,23 @@ module _ {H R : Type 0} where
   done_step seen buffer made after o (reports f) done = done
   done_step seen buffer made after o (acks t) done = done
   done_step seen buffer made after o (finishes t) done = done
-  done_step seen buffer made after o (queries t q) done = done
+  done_step seen buffer made after o (answers t m answered) done = done
   done_step seen buffer made after o (prepares r peers b) done = done
 
   -- a line that is one event of the life
-  pub plays_event : (seen : SeenNode) (buffer : Held) (pending : Pending) (l : Line) (e : Event) (made : Made) (after : StateCode H R) (o : Outcome) → IsPlain e → ((f : Finalization) → e ≡ message_told None (report_finalization f) → l ≡ tell_line (report_finalization f))
+  pub plays_event : (seen : SeenNode) (buffer : Held) (pending : Pending) (l : Line) (e : Event) (made : Made) (after : StateCode H R) (o : Outcome) → IsPlain e → ((f : Finalization) → e ≡ message_told None (report_finalization f) → l ≡ tell_line (report_finalization f)) → ((b : Block) → Contains (told_blocks e) b → Contains (line_blocks l) b)
       → ((before now : Watches) (fault : Option Fault) → CallsEnd before fault now → Calls before l fault now)
       → ((config : Config) (chain : Chain) (account : Account) (waiting : Waiting) (out : Output) (s : State) → StepDone config chain (node_of seen buffer.blocks waiting) (e ∷ []) [] (λ m. []) out s → LineDone config chain account (running (node_of seen buffer.blocks waiting)) l out s)
       → TakesEvent seen buffer pending e made after o → (config : Config) → PlaysLine config (Running seen buffer pending) l (output_of made o) after
-  plays_event seen buffer pending l e made after o plain same calls line_done takes config = record {
+  plays_event seen buffer pending l e made after o plain same brings calls line_done takes config = record {
     set = λ is. takes.set config is.0 (plain_finds e plain seen is.1);
     small = λ line small. takes.small small;
     calls = calls seen.held.watches (remains_in after).watches (fault_in o) takes.calls;
     lucky = λ before has. takes.lucky before l;
     opened = opened_as pending after takes.pending_as;
     plays = λ is before has chain k lawful.
-        let step = lawful_step config chain seen buffer.blocks (between pending) k l e plain lawful same in
-        after_event seen buffer pending l e made config chain k (between pending) plain is.0 lawful step (let low : pending.next_answer ≤ k = lawful.between.2.answer_tickets in omega arith) (λ n' steps. refl) (account_in before (Running seen buffer pending)) (line_done config chain (account_in before (Running seen buffer pending)) (between pending)) after o pending.next_answer refl
+        let step = lawful_step config chain seen buffer.blocks (between pending) [] pending.next_answer k l e plain lawful same brings in
+        after_event seen buffer pending l e made config chain k (between pending) plain brings is.0 lawful step (let low : pending.next_answer ≤ k = lawful.between.2.answer_tickets in omega arith) (λ n' steps. refl) (account_in before (Running seen buffer pending)) (line_done config chain (account_in before (Running seen buffer pending)) (between pending)) after o pending.next_answer refl
         (done_step seen buffer made after o plain takes.done is.1 config chain (between pending) is.0 step) (pending_next pending after takes.pending_as);
   }
 

@@ -1,5 +1,5 @@
 -- What steps make of a line while a life runs.
-use Rattle.std.proofs.Common.{Bool, Contains, IsTrue, List, None, Option, Some, [], ap, append-nil, false, if◌then◌else◌, option_map, refl, subst, sym, true, ℕ, ◌*◌, ◌++◌, ◌+◌, ◌∙◌, ◌∷◌, ◌||◌, ◌≡◌, ◌≤◌}
+use Rattle.std.proofs.Common.{Bool, Contains, IsTrue, List, None, Option, Some, [], ap, append-nil, false, if◌then◌else◌, option_map, refl, subst, sym, true, ℕ, ◌*◌, ◌++◌, ◌+◌, ◌∙◌, ◌∷◌, ◌||◌, ◌≡◌, ◌≤◌, ◌⊎◌, inl, inr}
 use Rattle.std.specs.List.{filter_map, list_any}
 use Rattle.mar_types.specs.declared.Sha256Digest.{Sha256Digest}
 use Rattle.mar_cert.specs.Block.{Block}
@@ -15,9 +15,12 @@ use Rattle.mar_node.specs.Event.{Event, ack_given, effect_of, message_told, sync
 use Rattle.mar_node.specs.Faults.{Fault, event_fault, is_by_value, ticket_limit}
 use Rattle.mar_node.specs.Held.{IsUsual, Seen}
 use Rattle.mar_node.specs.Lives.{Cuts, CutsEvent}
-use Rattle.mar_node.specs.Node.{Ended, Node}
-use Rattle.mar_node.specs.Promise.{IsGoodFor, IsLawfulStep, ReportsFinalized, RestsBefore, Waiting, asked_since, node_of}
+use Rattle.mar_node.specs.Node.{Ended, IsGood, Node, Rest}
+use Rattle.mar_node.specs.OpenSyncs.{is_cache_sync}
+use Rattle.mar_node.specs.Promise.{AreOne, IsGoodFor, IsLawfulStep, ReportsFinalized, RestsBefore, Waiting, asked_since, known_blocks, node_of, told_blocks}
 use Rattle.mar_node.specs.Step.{AdvancesAll, Made, Steps, joined_made}
+use Rattle.std.proofs.lemmas.List.Elements.{Contains-append_cases, Contains-append_left, Contains-append_right}
+use Rattle.mar_node.proofs.KnownBlocks.{AreOne-within}
 use Rattle.mar_node.proofs.Reaching.{IsGood-beside, Rest-beside}
 use Rattle.mar_node.specs.declared.fault.Fault.{Fault as FaultCode}
 use Rattle.mar_node.specs.declared.fault.Fault.TheVariants as fault
@@ -25,15 +28,15 @@ use Rattle.mar_node.specs.declared.fault.TicketKind.{TicketKind}
 use Rattle.mar_node.specs.Views.{kind_of}
 use Rattle.mar_script.specs.Accounts.{Account}
 use Rattle.mar_script.specs.Plays.{IsBetween, IsLawfulLine, max_window}
-use Rattle.mar_script.specs.Run.{LineDone, RunningDone, StepDone, still_unanswered}
+use Rattle.mar_script.specs.Run.{LineDone, RunningDone, StepDone, line_blocks, still_unanswered}
 use Rattle.mar_node.specs.Writing.{is_open_sync}
 use Rattle.mar_script.specs.Script.{Line, ack_line, sync_line, tell_line}
 use Rattle.mar_script.specs.Text.{Output, State, remark_ignored, running, stopped}
 use Rattle.mar_script.specs.Shown.{plain_fault}
 use Rattle.mar_replay.specs.Turn.{output_of, waiting_with}
 use Rattle.mar_replay.specs.declared.play.Outcome.TheVariants as outcome
-use Rattle.mar_replay.proofs.CachedLines.{PutsNoBlock, cut_cached}
-use Rattle.mar_replay.proofs.Lasting.{IsPlain, Undropped, acks, asks_reports, finishes, no_event_fault, prepares, queries, reports, undropped-step}
+use Rattle.mar_replay.proofs.CachedLines.{PutsToldBlocks, cut_cached}
+use Rattle.mar_replay.proofs.Lasting.{IsPlain, Undropped, acks, answered_reports, answers, finishes, no_event_fault, prepares, reports, undropped-step}
 
 -- CUTS
 
@@ -59,9 +62,9 @@ only_cut config chain n e made fault left cuts = by cuts.finished cuts.first cut
         (subst (λ x. CutsEvent config chain n.meta (option_map height_in n.processed) mid x later fault left) (head d cuts.others split) cut))
     by (x ∷ xs) first mid d later split advances made_is cut = absurd (none_behind xs cuts.others d (tail x (xs ++ d ∷ cuts.others) split))
 
--- no block may be left cached but what might be
-pub cut_blocks : (config : Config) (chain : Chain) (n : Node) (e : Event) (made : Made) (fault : Fault) (left : Ended) → PutsNoBlock config n e → Cuts config chain n (e ∷ []) made fault left → (b : Block) → Contains (filter_map cached_block left.cache_may) b → Contains (filter_map cached_block n.cache.may) b
-cut_blocks config chain n e made fault left blockless cuts = cut_cached config chain n e (effect_of config n e) left blockless (only_cut config chain n e made fault left cuts).may.cached
+-- no block may be left cached but what might be, and what the event tells
+pub cut_blocks : (config : Config) (chain : Chain) (n : Node) (e : Event) (made : Made) (fault : Fault) (left : Ended) → PutsToldBlocks config n e → Cuts config chain n (e ∷ []) made fault left → (b : Block) → Contains (filter_map cached_block left.cache_may) b → Contains (filter_map cached_block n.cache.may ++ told_blocks e) b
+cut_blocks config chain n e made fault left puts cuts = cut_cached config chain n e (effect_of config n e) left puts (only_cut config chain n e made fault left cuts).may.cached
 
 -- a fault that no value calls for, and no want of tickets, is want of memory or a store's
 pub usual : (fault : FaultCode Sha256Digest) → (IsTrue (is_by_value (plain_fault fault)) → ⊥) → ((kind : TicketKind) → plain_fault fault ≡ ticket_limit (kind_of kind) → ⊥) → IsUsual (plain_fault fault)
@@ -110,30 +113,48 @@ module _ {P E : Type 0} (config : Config) (chain : Chain) (a : Seen P E) (buffer
       never : (o : Option Fault) (f : Fault) → o ≡ None → o ≡ Some f → ⊥
       never o f p q = absurd cc
 
--- what is asked of a step is what was asked of its line
-pub lawful_step : {P E : Type 0} (config : Config) (chain : Chain) (a : Seen P E) (buffer : List Block) (waiting : Waiting) (k : ℕ) (line : Line) (e : Event) → IsPlain e → IsLawfulLine config chain k (running (node_of a buffer waiting)) line → ((f : Finalization) → e ≡ message_told None (report_finalization f) → line ≡ tell_line (report_finalization f)) → IsLawfulStep config chain (node_of a buffer waiting) (e ∷ [])
-lawful_step config chain a buffer waiting k line e plain lawful same = record { lawful = lawful.lawful; one = lawful.one; reported = (told plain same, tt); good = good plain; rests = rests plain }
+-- these callers wait, and this is the next ticket
+abbrev waits : Waiting → List ℕ → ℕ → Waiting
+waits between unanswered next = record between { unanswered = unanswered; next_answer = next }
+
+-- what is asked of a step is what was asked of its line, whoever waits beside it
+pub lawful_step : {P E : Type 0} (config : Config) (chain : Chain) (a : Seen P E) (buffer : List Block) (between : Waiting) (unanswered : List ℕ) (next : ℕ) (k : ℕ) (line : Line) (e : Event) → IsPlain e → IsLawfulLine config chain k (running (node_of a buffer between)) line
+    → ((f : Finalization) → e ≡ message_told None (report_finalization f) → line ≡ tell_line (report_finalization f)) → ((b : Block) → Contains (told_blocks e) b → Contains (line_blocks line) b) → IsLawfulStep config chain (node_of a buffer (waits between unanswered next)) (e ∷ [])
+lawful_step config chain a buffer between unanswered next k line e plain lawful same brings = record { lawful = lawful.lawful; one = one; reported = (told plain same, tt); good = good plain; rests = rests plain }
   where
     told : {d : Event} → IsPlain d → ((f : Finalization) → d ≡ message_told None (report_finalization f) → line ≡ tell_line (report_finalization f)) → ReportsFinalized chain d
     told (reports f) is = lawful.reported f (is f refl)
     told (acks t) is = tt
     told (finishes t) is = tt
-    told (queries t q) is = asks_reports chain t q
+    told (answers t m answered) is = answered_reports chain (Some t) m answered
     told (prepares r peers b) is = tt
 
-    good : {d : Event} → IsPlain d → IsGoodFor config chain (node_of a buffer waiting) (d ∷ [])
-    good (reports f) = lawful.between.0
-    good (acks t) = lawful.between.0
-    good (finishes t) = lawful.between.0
-    good (queries t q) = lawful.between.0
-    good (prepares r peers b) = lawful.between.0
+    within : (b : Block) → Contains (told_blocks e ++ []) b ⊎ Contains (known_blocks chain (node_of a buffer (waits between unanswered next))) b → Contains (line_blocks line ++ known_blocks chain (node_of a buffer (waits between unanswered next))) b
+    within b (inl of_event) = Contains-append_left (line_blocks line) (known_blocks chain (node_of a buffer (waits between unanswered next))) b (brings b (subst (λ xs. Contains xs b) (append-nil (told_blocks e)) of_event))
+    within b (inr others) = Contains-append_right (line_blocks line) (known_blocks chain (node_of a buffer (waits between unanswered next))) b others
 
-    rests : {d : Event} → IsPlain d → RestsBefore config.window (node_of a buffer waiting) (d ∷ [])
-    rests (reports f) = lawful.between.1
-    rests (acks t) = lawful.between.1
-    rests (finishes t) = lawful.between.1
-    rests (queries t q) = lawful.between.1
-    rests (prepares r peers b) = lawful.between.1
+    one : AreOne config.inner ((told_blocks e ++ []) ++ known_blocks chain (node_of a buffer (waits between unanswered next)))
+    one = AreOne-within config.inner ((told_blocks e ++ []) ++ known_blocks chain (node_of a buffer (waits between unanswered next))) (line_blocks line ++ known_blocks chain (node_of a buffer (waits between unanswered next))) (λ b has. within b (Contains-append_cases (told_blocks e ++ []) (known_blocks chain (node_of a buffer (waits between unanswered next))) b has)) lawful.one
+
+    good_now : IsGood config chain (node_of a buffer (waits between unanswered next))
+    good_now = IsGood-beside config chain a buffer buffer between (waits between unanswered next) lawful.between.0.of_chain.asks.requests lawful.between.0
+
+    good : {d : Event} → IsPlain d → IsGoodFor config chain (node_of a buffer (waits between unanswered next)) (d ∷ [])
+    good (reports f) = good_now
+    good (acks t) = good_now
+    good (finishes t) = good_now
+    good (answers t m answered) = good_now
+    good (prepares r peers b) = good_now
+
+    rests_now : Rest config.window (node_of a buffer (waits between unanswered next))
+    rests_now = Rest-beside config.window a buffer buffer between (waits between unanswered next) lawful.between.1
+
+    rests : {d : Event} → IsPlain d → RestsBefore config.window (node_of a buffer (waits between unanswered next)) (d ∷ [])
+    rests (reports f) = rests_now
+    rests (acks t) = rests_now
+    rests (finishes t) = rests_now
+    rests (answers t m answered) = rests_now
+    rests (prepares r peers b) = rests_now
 
 -- THE ACKNOWLEDGEMENT LINE
 
@@ -147,15 +168,14 @@ ack_ignored config chain account a buffer waiting t out after owes done = subst 
 
 -- THE SYNC LINE
 
--- whether a sync is open is said by those of the archives alone
-open_alone : (b : Bool) → (b || false) ≡ b
-open_alone true = refl
-open_alone false = refl
+-- whether it is open, of both archives or of the cache
+abbrev pub is_open : {P E : Type 0} → Seen P E → ℕ → Bool
+is_open a t = is_open_sync a.held.writes.syncs t || is_cache_sync a.held.cache.syncs t
 
 -- an open sync finishes
-pub sync_done : {P E : Type 0} (config : Config) (chain : Chain) (account : Account) (a : Seen P E) (buffer : List Block) (waiting : Waiting) (t : ℕ) (out : Output) (after : State) → is_open_sync a.held.writes.syncs t ≡ true → StepDone config chain (node_of a buffer waiting) (sync_finished t ∷ []) [] (λ m. []) out after → LineDone config chain account (running (node_of a buffer waiting)) (sync_line t) out after
-sync_done config chain account a buffer waiting t out after is_open done = subst (λ (b : Bool). RunningDone config chain (node_of a buffer waiting) (sync_line t) (if b then None else Some remark_ignored) out after) (sym (open_alone (is_open_sync a.held.writes.syncs t) ∙ is_open)) done
+pub sync_done : {P E : Type 0} (config : Config) (chain : Chain) (account : Account) (a : Seen P E) (buffer : List Block) (waiting : Waiting) (t : ℕ) (out : Output) (after : State) → is_open a t ≡ true → StepDone config chain (node_of a buffer waiting) (sync_finished t ∷ []) [] (λ m. []) out after → LineDone config chain account (running (node_of a buffer waiting)) (sync_line t) out after
+sync_done config chain account a buffer waiting t out after is_open done = subst (λ (b : Bool). RunningDone config chain (node_of a buffer waiting) (sync_line t) (if b then None else Some remark_ignored) out after) (sym is_open) done
 
 -- another isn't awaited
-pub sync_ignored : {P E : Type 0} (config : Config) (chain : Chain) (account : Account) (a : Seen P E) (buffer : List Block) (waiting : Waiting) (t : ℕ) (out : Output) (after : State) → is_open_sync a.held.writes.syncs t ≡ false → RunningDone config chain (node_of a buffer waiting) (sync_line t) (Some remark_ignored) out after → LineDone config chain account (running (node_of a buffer waiting)) (sync_line t) out after
-sync_ignored config chain account a buffer waiting t out after closed done = subst (λ (b : Bool). RunningDone config chain (node_of a buffer waiting) (sync_line t) (if b then None else Some remark_ignored) out after) (sym (open_alone (is_open_sync a.held.writes.syncs t) ∙ closed)) done
+pub sync_ignored : {P E : Type 0} (config : Config) (chain : Chain) (account : Account) (a : Seen P E) (buffer : List Block) (waiting : Waiting) (t : ℕ) (out : Output) (after : State) → is_open a t ≡ false → RunningDone config chain (node_of a buffer waiting) (sync_line t) (Some remark_ignored) out after → LineDone config chain account (running (node_of a buffer waiting)) (sync_line t) out after
+sync_ignored config chain account a buffer waiting t out after closed done = subst (λ (b : Bool). RunningDone config chain (node_of a buffer waiting) (sync_line t) (if b then None else Some remark_ignored) out after) (sym closed) done

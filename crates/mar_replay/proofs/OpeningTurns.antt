@@ -1,5 +1,5 @@
 -- What openings make of a line where no life runs.
-use Rattle.std.proofs.Common.{Contains, List, None, Option, Some, [], ap, arith, inl, inr, option_map, refl, subst, sym, ℕ, ◌*◌, ◌++◌, ◌+◌, ◌∷◌, ◌≡◌, ◌≤◌, ◌⊎◌}
+use Rattle.std.proofs.Common.{Contains, List, None, Option, Some, [], ap, append-nil, arith, inl, inr, option_map, refl, subst, sym, ℕ, ◌*◌, ◌++◌, ◌+◌, ◌∷◌, ◌≡◌, ◌≤◌, ◌⊎◌}
 use Rattle.std.specs.List.{filter_map}
 use Rattle.std.proofs.lemmas.List.Elements.{Contains-append_cases, Contains-append_left, Contains-append_right}
 use Rattle.mar_types.specs.declared.Sha256Digest.{Sha256Digest}
@@ -15,7 +15,7 @@ use Rattle.mar_node.specs.Event.{cutoff_after, effect_of, life_started, processe
 use Rattle.mar_node.specs.Faults.{Begin, Fault, event_fault, from_genesis, ticket_limit}
 use Rattle.mar_node.specs.Held.{IsUsual, Seen}
 use Rattle.mar_node.specs.Lives.{Cuts, CutsEvent, CutsReopening, Finds, NotBelow, Picks, TakesUp}
-use Rattle.mar_node.specs.Node.{Ended, Node}
+use Rattle.mar_node.specs.Node.{CacheSync, Ended, Node}
 use Rattle.mar_node.specs.Promise.{IsGoodUntold, IsLawfulOpening, IsLawfulStep, IsOpeningFault, asked_since, known_blocks, node_of, none_waiting}
 use Rattle.mar_node.specs.Step.{Made, Steps, nothing_made}
 use Rattle.mar_node.specs.declared.fault.Fault.{Fault as FaultCode}
@@ -31,9 +31,14 @@ use Rattle.mar_script.specs.Shown.{plain_fault}
 use Rattle.mar_replay.specs.Turn.{output_of}
 use Rattle.mar_replay.specs.declared.play.Outcome.TheVariants as outcome
 use Rattle.mar_node.proofs.EntryLists.{contains_none}
-use Rattle.mar_replay.proofs.CachedLines.{AreOne-within, begun_cached, found_cached, found_within, step_cached}
+use Rattle.mar_node.proofs.KnownBlocks.{AreOne-within}
+use Rattle.mar_replay.proofs.CachedLines.{begun_cached, found_cached, found_within, step_cached}
 use Rattle.mar_replay.proofs.Lasting.{Undropped, undropped-start}
 use Rattle.mar_replay.proofs.LineTurns.{cut_blocks, only_cut, usual}
+
+-- a start tells no block
+none_more : (xs : List Block) (b : Block) → Contains (xs ++ []) b → Contains xs b
+none_more xs b has = subst (λ ys. Contains ys b) (append-nil xs) has
 
 -- BEFORE THE START
 
@@ -46,7 +51,7 @@ pub lawful_opening : (config : Config) (chain : Chain) (e : Ended) (g : Block) (
 lawful_opening config chain e g k lawful = record {
   partition = lawful.partition;
   lawful = lawful.lawful;
-  one = AreOne-within config.inner chain.blocks (known_in chain (stopped e)) (λ b has. Contains-append_left chain.blocks ([] ++ filter_map cached_block e.cache_may) b has) lawful.one;
+  one = AreOne-within config.inner chain.blocks (g ∷ known_in chain (stopped e)) (λ b has. Contains-append_right (g ∷ []) (known_in chain (stopped e)) b (Contains-append_left chain.blocks ([] ++ filter_map cached_block e.cache_may) b has)) lawful.one;
   good = lawful.between.0;
   some_pair = lawful.between.1;
   genesis = λ b is. subst (IsBlockAt chain 0) (same b is) (lawful.genesis g refl);
@@ -81,17 +86,17 @@ module _ (config : Config) (chain : Chain) (e : Ended) (picks : Picks) (g : Bloc
 
     -- what is asked of its start
     pub lawful_start : (k : ℕ) → IsLawfulLine config chain k (stopped e) (open_line (from_genesis g)) → IsGoodUntold config chain first → IsLawfulStep config chain first (life_started None ∷ [])
-    lawful_start k lawful good = record { lawful = lawful.lawful; one = AreOne-within config.inner (known_blocks chain first) (known_in chain (stopped e)) known_first lawful.one; reported = (tt, tt); good = good; rests = tt }
+    lawful_start k lawful good = record { lawful = lawful.lawful; one = AreOne-within config.inner (known_blocks chain first) (g ∷ known_in chain (stopped e)) (λ b has. Contains-append_right (g ∷ []) (known_in chain (stopped e)) b (known_first b has)) lawful.one; reported = (tt, tt); good = good; rests = tt }
 
     module _ (begun : Node) where
       -- what holds whatever is cached holds where the start begins
-      begun_has : (Has : Node → Type 0) → ((kept : Kept Cached) → Has (record first { cache = kept })) → (begun ≡ first) ⊎ TakesUp picks.cache first begun → Has begun
-      begun_has Has each (inl is) = subst Has (sym is) (each first.cache)
-      begun_has Has each (inr takes) = subst Has (sym takes.begun_is) (each takes.cache)
+      begun_has : (Has : Node → Type 0) → ((kept : Kept Cached) (syncs : List CacheSync) → Has (record first { cache = kept; cache_syncs = syncs })) → (begun ≡ first) ⊎ TakesUp picks.cache first begun → Has begun
+      begun_has Has each (inl is) = subst Has (sym is) (each first.cache first.cache_syncs)
+      begun_has Has each (inr takes) = subst Has (sym takes.begun_is) (each takes.cache takes.syncs)
 
-      -- an actor whose cache holds this
-      abbrev with_kept : Kept Cached → Seen P E
-      with_kept kept = record a { held = record a.held { cache = record a.held.cache { kept = kept } } }
+      -- an actor whose cache holds this, and has these open syncs
+      abbrev with_kept : Kept Cached → List CacheSync → Seen P E
+      with_kept kept syncs = record a { held = record a.held { cache = record a.held.cache { kept = kept; syncs = syncs } } }
 
       -- an opening that finished
       module _ (takes : TakesUp picks.cache first begun) (made : Made) (b : Seen P E) (kept : List Block) (steps : Steps config chain begun (life_started None ∷ []) made (node_of b kept (asked_since none_waiting made.asks))) where
@@ -104,7 +109,7 @@ module _ (config : Config) (chain : Chain) (e : Ended) (picks : Picks) (g : Bloc
           steps.rests,
           record {
             undropped = begun_has (λ n. Steps config chain n (life_started None ∷ []) made (node_of b kept (asked_since none_waiting made.asks)) → Undropped b.life.out)
-                (λ c started. undropped-start config chain (with_kept c) [] none_waiting made (node_of b kept (asked_since none_waiting made.asks)) started (undropped-found config e picks (from_genesis g) first finds).0) (inr takes) steps;
+                (λ c syncs started. undropped-start config chain (with_kept c syncs) [] none_waiting made (node_of b kept (asked_since none_waiting made.asks)) started (undropped-found config e picks (from_genesis g) first finds).0) (inr takes) steps;
             tickets = tickets;
             sync_tickets = sync_tickets;
             answer_tickets = omega arith;
@@ -115,7 +120,7 @@ module _ (config : Config) (chain : Chain) (e : Ended) (picks : Picks) (g : Bloc
         pub opening_cached : (c : Block) → Contains (filter_map cached_block (b.held.cache.kept.held ++ b.held.cache.kept.may)) c → Contains (filter_map cached_block e.cache_may) c
         opening_cached c has =
             found_within cached_block (begun.cache.held ++ begun.cache.may) e.cache_may (λ x there. found_cached config e picks (from_genesis g) first finds x (Contains-append_right first.cache.held first.cache.may x (begun_cached picks.cache first begun takes x there))) c
-            (step_cached config chain begun (life_started None) made (node_of b kept (asked_since none_waiting made.asks)) (λ fx after x put. contains_none x put) steps c has)
+            (none_more _ c (step_cached config chain begun (life_started None) made (node_of b kept (asked_since none_waiting made.asks)) (λ fx after x put. contains_none x put) steps c has))
 
       -- the pairs of its start
       abbrev later : List Pair
@@ -127,7 +132,7 @@ module _ (config : Config) (chain : Chain) (e : Ended) (picks : Picks) (g : Bloc
         start_cut good = (plain_fault fault, refl, refl, inr (record { first = first; finds = finds; begun = begun; takes = takes; cut = from_left (only_cut config chain begun (life_started None) made (plain_fault fault) left cuts) }), refl)
           where
             own_pair : begun.meta ≡ pair_of begun.processed begun.cutoff ∷ []
-            own_pair = begun_has (λ n. n.meta ≡ pair_of n.processed n.cutoff ∷ []) (λ c. good.1.heights.own_pair) takes
+            own_pair = begun_has (λ n. n.meta ≡ pair_of n.processed n.cutoff ∷ []) (λ c syncs. good.1.heights.own_pair) takes
 
             -- the pair of the opened node is the one that its start stands on
             pair_before : (p : Pair) → Contains (begun.meta ++ later) p → Contains (e.meta ++ later) p
@@ -168,7 +173,7 @@ module _ (config : Config) (chain : Chain) (e : Ended) (picks : Picks) (g : Bloc
 
         -- no value calls for its fault
         pub start_usual : ((kind : TicketKind) → plain_fault fault ≡ ticket_limit (kind_of kind) → ⊥) → IsUsual (plain_fault fault)
-        start_usual limit = usual fault (λ by_value. never (event_fault config begun (life_started None)) (begun_has (λ n. event_fault config n (life_started None) ≡ None) (λ c. refl) takes) ((only_cut config chain begun (life_started None) made (plain_fault fault) left cuts).cause by_value)) limit
+        start_usual limit = usual fault (λ by_value. never (event_fault config begun (life_started None)) (begun_has (λ n. event_fault config n (life_started None) ≡ None) (λ c syncs. refl) takes) ((only_cut config chain begun (life_started None) made (plain_fault fault) left cuts).cause by_value)) limit
           where
             never : (o : Option Fault) → o ≡ None → o ≡ Some (plain_fault fault) → ⊥
             never o p q = absurd cc
@@ -176,7 +181,7 @@ module _ (config : Config) (chain : Chain) (e : Ended) (picks : Picks) (g : Bloc
         -- and no block more is left cached
         pub start_cached : (c : Block) → Contains (filter_map cached_block left.cache_may) c → Contains (filter_map cached_block e.cache_may) c
         start_cached c has = found_within cached_block begun.cache.may e.cache_may (λ x there. found_cached config e picks (from_genesis g) first finds x (Contains-append_right first.cache.held first.cache.may x (by takes x there))) c
-            (cut_blocks config chain begun (life_started None) made (plain_fault fault) left (λ fx after x put. contains_none x put) cuts c has)
+            (none_more _ c (cut_blocks config chain begun (life_started None) made (plain_fault fault) left (λ fx after x put. contains_none x put) cuts c has))
           where
             by : (begun ≡ first) ⊎ TakesUp picks.cache first begun → (x : Cached) → Contains begun.cache.may x → Contains first.cache.may x
             by (inl is) x may = subst (λ n. Contains n.cache.may x) is may

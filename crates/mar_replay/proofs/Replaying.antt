@@ -99,8 +99,8 @@ text_push before run d =
     ∙ sym (append_assoc (output_text silent_output (stopped before)) (flat_map (λ x. output_text x.output x.after) run) (output_text d.output d.after))
 
 module _ (config : Config) (chain : Chain) (before : Remains) (lines : List Line) (l : Line) (account : Account) (now : State) (bytes : List ℕ) (p : Premises config chain (lines ++ l ∷ []) before.ended) (so : RunSoFar config chain before lines account now bytes) where
-  appears : (b : Block) → Contains (known_in chain now) b → Appears chain (lines ++ l ∷ []) before.ended.cache_may b
-  appears b has = by (Contains-append_cases chain.blocks (buffer_in now ++ cached_blocks_in now) b has)
+  appears : (b : Block) → Contains (line_blocks l ++ known_in chain now) b → Appears chain (lines ++ l ∷ []) before.ended.cache_may b
+  appears b has = known (Contains-append_cases (line_blocks l) (known_in chain now) b has)
     where
       cached : Contains (filter_map cached_block before.ended.cache_may) b ⊎ Contains (flat_map line_blocks lines) b → Appears chain (lines ++ l ∷ []) before.ended.cache_may b
       cached (inl left) = inr (inr (inr left))
@@ -113,6 +113,10 @@ module _ (config : Config) (chain : Chain) (before : Remains) (lines : List Line
       by : Contains chain.blocks b ⊎ Contains (buffer_in now ++ cached_blocks_in now) b → Appears chain (lines ++ l ∷ []) before.ended.cache_may b
       by (inl of_chain) = inl of_chain
       by (inr others) = beside (Contains-append_cases (buffer_in now) (cached_blocks_in now) b others)
+
+      known : Contains (line_blocks l) b ⊎ Contains (known_in chain now) b → Appears chain (lines ++ l ∷ []) before.ended.cache_may b
+      known (inl of_line) = inr (inl (last_line line_blocks lines l b of_line))
+      known (inr others) = by (Contains-append_cases chain.blocks (buffer_in now ++ cached_blocks_in now) b others)
 
   -- the next line is lawful in the state that the others left
   pub lawful_next : length lines ≤ max_lines → config.window ≤ max_window → IsLawfulLine config chain (length lines) now l

@@ -19,10 +19,11 @@ use Rattle.mar_replay.specs.Turn.{answers_text, asks_text, fault_in, heard_text,
 use Rattle.mar_replay.specs.declared.heard.Heard.{Heard}
 use Rattle.mar_replay.specs.declared.play.Outcome.{Outcome}
 
-pub node_shown : (p p' : Option Processed) (o o' : List Outstanding) (c c' : Cutoff) (b b' bs bs' f f' fs fs' : List Range) (w w' : Writing) → p ≡ p' → o ≡ o' → c ≡ c' → b ≡ b' → bs ≡ bs' → f ≡ f' → fs ≡ fs' → w ≡ w' → shown_words p o c b bs f fs w.uncovered w.syncs ≡ shown_words p' o' c' b' bs' f' fs' w'.uncovered w'.syncs
-node_shown p p' o o' c c' b b' bs bs' f f' fs fs' w w' e1 e2 e3 e4 e5 e6 e7 e8 =
-    ap (λ x. shown_words x o c b bs f fs w.uncovered w.syncs) e1 ∙ ap (λ x. shown_words p' x c b bs f fs w.uncovered w.syncs) e2 ∙ ap (λ x. shown_words p' o' x b bs f fs w.uncovered w.syncs) e3 ∙ ap (λ x. shown_words p' o' c' x bs f fs w.uncovered w.syncs) e4
-    ∙ ap (λ x. shown_words p' o' c' b' x f fs w.uncovered w.syncs) e5 ∙ ap (λ x. shown_words p' o' c' b' bs' x fs w.uncovered w.syncs) e6 ∙ ap (λ x. shown_words p' o' c' b' bs' f' x w.uncovered w.syncs) e7 ∙ ap (λ x. shown_words p' o' c' b' bs' f' fs' x.uncovered x.syncs) e8
+pub node_shown : (p p' : Option Processed) (o o' : List Outstanding) (c c' : Cutoff) (b b' bs bs' f f' fs fs' : List Range) (w w' : Writing) (y y' : List ℕ) → p ≡ p' → o ≡ o' → c ≡ c' → b ≡ b' → bs ≡ bs' → f ≡ f' → fs ≡ fs' → w ≡ w' → y ≡ y' → shown_words p o c b bs f fs w.uncovered w.syncs y ≡ shown_words p' o' c' b' bs' f' fs' w'.uncovered w'.syncs y'
+node_shown p p' o o' c c' b b' bs bs' f f' fs fs' w w' y y' e1 e2 e3 e4 e5 e6 e7 e8 e9 =
+    ap (λ x. shown_words x o c b bs f fs w.uncovered w.syncs y) e1 ∙ ap (λ x. shown_words p' x c b bs f fs w.uncovered w.syncs y) e2 ∙ ap (λ x. shown_words p' o' x b bs f fs w.uncovered w.syncs y) e3 ∙ ap (λ x. shown_words p' o' c' x bs f fs w.uncovered w.syncs y) e4
+    ∙ ap (λ x. shown_words p' o' c' b' x f fs w.uncovered w.syncs y) e5 ∙ ap (λ x. shown_words p' o' c' b' bs' x fs w.uncovered w.syncs y) e6 ∙ ap (λ x. shown_words p' o' c' b' bs' f' x w.uncovered w.syncs y) e7 ∙ ap (λ x. shown_words p' o' c' b' bs' f' fs' x.uncovered x.syncs y) e8
+    ∙ ap (λ x. shown_words p' o' c' b' bs' f' fs' w'.uncovered w'.syncs x) e9
 
 pub ended_shown : (e : Ended) (p : Option ℕ) (c : Cutoff) (bs bm fs fm : List Range) → first_pair e.meta ≡ Some (record { processed = p; cutoff = c }) → bs ≡ ranges (heights e.blocks_sure) → bm ≡ ranges (heights e.blocks_may) → fs ≡ ranges (heights e.certs_sure) → fm ≡ ranges (heights e.certs_may)
     → ended_shown_words p c bs bm fs fm ≡ ended_words e

@@ -2,7 +2,8 @@
 ghost use Rattle.std.specs.Prelude.{◌≡◌, ◌↔◌, [], IsTrue, List, Ok, OnErr, OnOk, Some, map};
 ghost use Rattle.mar_key.specs.Asked.{Asked, asked_after};
 ghost use Rattle.mar_key.specs.Recorded.{ask_of};
-ghost use Rattle.mar_node.specs.Messages.{prepared, report_finalization};
+ghost use Rattle.mar_node.specs.Event.{message_told};
+ghost use Rattle.mar_node.specs.Messages.{certify, prepared, proposed, report_finalization, verified};
 ghost use Rattle.mar_node.specs.Config.{Config as PlainConfig};
 ghost use Rattle.mar_node.specs.Faults.{from_genesis, want_of_memory};
 ghost use Rattle.mar_node.specs.Held.{remains_of};
@@ -15,10 +16,10 @@ ghost use Rattle.mar_script.specs.Plays.{IsSmallLine};
 ghost use Rattle.mar_actor.specs.Views.{begin_of, event_of, sizes_of};
 ghost use Rattle.mar_node.specs.Views.{store_name_of};
 ghost use Rattle.mar_script.specs.Lines.{plain_block, plain_finalization, plain_line};
-ghost use Rattle.mar_replay.specs.Playing.{HasSmallBlocks, PlaysLine, PlaysOrNot, TakesEvent};
+ghost use Rattle.mar_replay.specs.Playing.{HasSmallBlocks, IsAnswered, PlaysLine, PlaysOrNot, TakesEvent, plain_message};
 ghost use Rattle.mar_script.specs.Shown.{plain_fault};
 ghost use Rattle.mar_script.specs.Script.{IsSettings, ack_line, buffer_line, config_of, fail_line, open_line, sync_line, tell_line};
-ghost use Rattle.mar_inbox.specs.Views.{peers_of, query_of};
+ghost use Rattle.mar_inbox.specs.Views.{peers_of, query_of, ticket_of};
 ghost use Rattle.mar_replay.specs.Turn.{fault_in, made_in, open_in, output_of, with_open};
 
 use crate::heard::Heard;
@@ -28,9 +29,10 @@ use mar_cert::{MockFinalization, MockProvider, MockScheme};
 use mar_inbox::{Message, Query};
 use mar_key::{Ask, OpenRequests};
 use mar_node::{Holds, StoresRuin};
-use mar_script::{Line, RemarkShown, Settings};
+use mar_script::{Line, RemarkShown, RoundBlock, Settings};
 use mar_types::{Digested, Epoch, FixedEpocher, Sha256, Sha256Digest, ViewDelta};
 use std::alloc::{AllocError, Global};
+use std::convert::Infallible;
 use std::marker::Model;
 use std::num::NonZeroU64;
 
@@ -149,6 +151,9 @@ fn play_stopped<H: Holds<StandardBlocks, Finalization = MockFinalization>>(
         Line::Sync(_ticket) => pass(left, luck),
         Line::Ack(_ticket) => pass(left, luck),
         Line::Query(_query) => pass(left, luck),
+        Line::Verified(_verified) => pass(left, luck),
+        Line::Certified(_certified) => pass(left, luck),
+        Line::Proposed(_sending) => pass(left, luck),
         Line::Prepared(_sending) => pass(left, luck),
     }
 }
@@ -205,6 +210,9 @@ fn play_running<H: Holds<StandardBlocks, Finalization = MockFinalization>>(
         Line::Sync(ticket) => finish_sync(alloc, actor, buffer, pending, ticket, heard),
         Line::Ack(ticket) => acknowledge(alloc, actor, buffer, pending, ticket, heard),
         Line::Query(query) => ask(alloc, actor, buffer, pending, query, heard),
+        Line::Verified(verified) => verify(alloc, actor, buffer, pending, verified, heard),
+        Line::Certified(certified) => certify(alloc, actor, buffer, pending, certified, heard),
+        Line::Proposed(sending) => propose(alloc, actor, buffer, pending, sending, heard),
         Line::Prepared(sending) => prepare(alloc, actor, buffer, pending, sending, heard),
         Line::Fail(store, calls) => arm(actor, buffer, pending, store, calls),
         Line::Crash(luck) => (crash(actor, buffer, pending, luck), Ok(Outcome::Done)),
@@ -305,6 +313,36 @@ fn acknowledge<H: Holds<StandardBlocks, Finalization = MockFinalization>>(
     (state, Ok(outcome))
 }
 
+// Tells a message that is answered, under the next answer ticket.
+fn tell<H: Holds<StandardBlocks, Finalization = MockFinalization>>(
+    alloc: Global,
+    actor: ScriptNode<H>,
+    buffer: MemBuffer<StandardBlocks>,
+    pending: Pending,
+    message: Message<Sha256Digest, Digested<EmptyBlock<Sha256>>, Infallible, MockFinalization>,
+    heard: &mut Heard,
+) -> (State<H>, Result<Outcome, AllocError>)
+    requires small_event { IsSmallEvent (message_told (ticket_of message) (plain_message message)) }
+    requires small { AreSmall buffer.blocks }
+    requires silent { made_in heard.old ≡ nothing_made }
+    ensures { ticket_of message ≡ Some pending.next_answer → IsAnswered (plain_message message) → (config : PlainConfig)
+        → PlaysOrNot config (State.Running actor buffer pending) (tell_line (plain_message message)) (made_in heard.new) result.0 result.1 }
+{
+    let pending = Pending {
+        requests: pending.requests,
+        next_answer: pending.next_answer.saturating_add(1),
+    };
+    let (state, outcome) = step(
+        alloc,
+        actor,
+        buffer,
+        pending,
+        Event::Message(message),
+        heard,
+    );
+    (state, Ok(outcome))
+}
+
 // Asks what stands, under the next answer ticket.
 fn ask<H: Holds<StandardBlocks, Finalization = MockFinalization>>(
     alloc: Global,
@@ -319,14 +357,91 @@ fn ask<H: Holds<StandardBlocks, Finalization = MockFinalization>>(
     ensures { (config : PlainConfig) → PlaysOrNot config (State.Running actor buffer pending) (tell_line (query_of (λ digest. digest.bytes) query))
         (made_in heard.new) result.0 result.1 }
 {
-    let ticket = pending.next_answer;
-    let pending = Pending {
-        requests: pending.requests,
-        next_answer: ticket.saturating_add(1),
+    let message = query.under(pending.next_answer);
+    tell(alloc, actor, buffer, pending, message, heard)
+}
+
+// Has a block kept that was verified, under the next answer ticket.
+fn verify<H: Holds<StandardBlocks, Finalization = MockFinalization>>(
+    alloc: Global,
+    actor: ScriptNode<H>,
+    buffer: MemBuffer<StandardBlocks>,
+    pending: Pending,
+    brought: RoundBlock,
+    heard: &mut Heard,
+) -> (State<H>, Result<Outcome, AllocError>)
+    requires small_block { IsSmall (plain_block brought.block).encoded }
+    requires small { AreSmall buffer.blocks }
+    requires silent { made_in heard.old ≡ nothing_made }
+    ensures { (config : PlainConfig) → PlaysOrNot config (State.Running actor buffer pending)
+        (tell_line (verified brought.round (plain_block brought.block))) (made_in heard.new) result.0 result.1 }
+{
+    let block = match Digested::compute(alloc, brought.block) {
+        Ok(block) => block,
+        Err(error) => return (State::Running(actor, buffer, pending), Err(error)),
     };
-    let event = Event::Message(query.under(ticket));
-    let (state, outcome) = step(alloc, actor, buffer, pending, event, heard);
-    (state, Ok(outcome))
+    let message = Message::Verified {
+        ticket: pending.next_answer,
+        round: brought.round,
+        block,
+    };
+    tell(alloc, actor, buffer, pending, message, heard)
+}
+
+// Has a block kept that was certified, under the next answer ticket.
+fn certify<H: Holds<StandardBlocks, Finalization = MockFinalization>>(
+    alloc: Global,
+    actor: ScriptNode<H>,
+    buffer: MemBuffer<StandardBlocks>,
+    pending: Pending,
+    brought: RoundBlock,
+    heard: &mut Heard,
+) -> (State<H>, Result<Outcome, AllocError>)
+    requires small_block { IsSmall (plain_block brought.block).encoded }
+    requires small { AreSmall buffer.blocks }
+    requires silent { made_in heard.old ≡ nothing_made }
+    ensures { (config : PlainConfig) → PlaysOrNot config (State.Running actor buffer pending)
+        (tell_line (certify brought.round (plain_block brought.block))) (made_in heard.new) result.0 result.1 }
+{
+    let block = match Digested::compute(alloc, brought.block) {
+        Ok(block) => block,
+        Err(error) => return (State::Running(actor, buffer, pending), Err(error)),
+    };
+    let message = Message::Certified {
+        ticket: pending.next_answer,
+        round: brought.round,
+        block,
+    };
+    tell(alloc, actor, buffer, pending, message, heard)
+}
+
+// Has a block sent and kept that was proposed, under the next answer ticket.
+fn propose<H: Holds<StandardBlocks, Finalization = MockFinalization>>(
+    alloc: Global,
+    actor: ScriptNode<H>,
+    buffer: MemBuffer<StandardBlocks>,
+    pending: Pending,
+    sending: Sent<EmptyBlock<Sha256>>,
+    heard: &mut Heard,
+) -> (State<H>, Result<Outcome, AllocError>)
+    requires small_block { IsSmall (plain_block sending.block).encoded }
+    requires small { AreSmall buffer.blocks }
+    requires silent { made_in heard.old ≡ nothing_made }
+    ensures { (config : PlainConfig) → PlaysOrNot config (State.Running actor buffer pending)
+        (tell_line (proposed sending.round (peers_of sending.recipients) (plain_block sending.block)))
+        (made_in heard.new) result.0 result.1 }
+{
+    let block = match Digested::compute(alloc, sending.block) {
+        Ok(block) => block,
+        Err(error) => return (State::Running(actor, buffer, pending), Err(error)),
+    };
+    let message = Message::Proposed {
+        ticket: pending.next_answer,
+        round: sending.round,
+        recipients: sending.recipients,
+        block,
+    };
+    tell(alloc, actor, buffer, pending, message, heard)
 }
 
 // Sends a block ahead of its proposal.
@@ -348,11 +463,12 @@ fn prepare<H: Holds<StandardBlocks, Finalization = MockFinalization>>(
         Ok(block) => block,
         Err(error) => return (State::Running(actor, buffer, pending), Err(error)),
     };
-    let event = Event::Prepared {
+    let message = Message::Prepared {
         round: sending.round,
         recipients: sending.recipients,
         block,
     };
+    let event = Event::Message(message);
     let (state, outcome) = step(alloc, actor, buffer, pending, event, heard);
     (state, Ok(outcome))
 }
@@ -395,18 +511,18 @@ fn step<H: Holds<StandardBlocks, Finalization = MockFinalization>>(
     let mut buffer = buffer;
     // What earlier lines sent was told with them.
     let _earlier = buffer.take_sent(alloc);
-    match actor.step(
+    let stepped = actor.step(
         alloc,
         event,
         &mut heard.answers,
         &mut buffer,
         &mut heard.asked,
         &mut heard.told,
-    ) {
-        Ok(actor) => {
-            heard.sent = buffer.take_sent(alloc);
-            (State::Running(actor, buffer, pending), Outcome::Done)
-        }
+    );
+    // A block that was proposed may have been sent where the life then ended.
+    heard.sent = buffer.take_sent(alloc);
+    match stepped {
+        Ok(actor) => (State::Running(actor, buffer, pending), Outcome::Done),
         Err(ended) => {
             let (fault, left) = parts_of(ended);
             (State::Stopped(left, 0), Outcome::Fault(fault))

@@ -25,5 +25,14 @@ returns-in-Ack g c = rw c.in-Ack.is c.acknowledge.ensures
 pub returns-in-Query : goal.returns-in-Query
 returns-in-Query g c = rw c.in-Query.is c.ask.ensures
 
+pub returns-in-Verified : goal.returns-in-Verified
+returns-in-Verified g c = rw c.in-Verified.is c.verify.ensures
+
+pub returns-in-Certified : goal.returns-in-Certified
+returns-in-Certified g c = rw c.in-Certified.is c.certify.ensures
+
+pub returns-in-Proposed : goal.returns-in-Proposed
+returns-in-Proposed g c = rw c.in-Proposed.is c.propose.ensures
+
 pub returns-in-Prepared : goal.returns-in-Prepared
 returns-in-Prepared g c = rw c.in-Prepared.is c.prepare.ensures

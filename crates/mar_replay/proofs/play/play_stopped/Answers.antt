@@ -25,5 +25,14 @@ returns-in-Ack g c = rw (c.requires.silent, c.in-Ack.is, c.pass-in-Ack.ensures.s
 pub returns-in-Query : goal.returns-in-Query
 returns-in-Query g c = rw (c.requires.silent, c.in-Query.is, c.pass-in-Query.ensures.state, c.pass-in-Query.ensures.outcome) (plays_remark _ _ _ remark.Stopped (λ chain account. (refl, refl)) ArePassed-refl (λ luck. refl))
 
+pub returns-in-Verified : goal.returns-in-Verified
+returns-in-Verified g c = rw (c.requires.silent, c.in-Verified.is, c.pass-in-Verified.ensures.state, c.pass-in-Verified.ensures.outcome) (plays_remark _ _ _ remark.Stopped (λ chain account. (refl, refl)) ArePassed-refl (λ luck. refl))
+
+pub returns-in-Certified : goal.returns-in-Certified
+returns-in-Certified g c = rw (c.requires.silent, c.in-Certified.is, c.pass-in-Certified.ensures.state, c.pass-in-Certified.ensures.outcome) (plays_remark _ _ _ remark.Stopped (λ chain account. (refl, refl)) ArePassed-refl (λ luck. refl))
+
+pub returns-in-Proposed : goal.returns-in-Proposed
+returns-in-Proposed g c = rw (c.requires.silent, c.in-Proposed.is, c.pass-in-Proposed.ensures.state, c.pass-in-Proposed.ensures.outcome) (plays_remark _ _ _ remark.Stopped (λ chain account. (refl, refl)) ArePassed-refl (λ luck. refl))
+
 pub returns-in-Prepared : goal.returns-in-Prepared
 returns-in-Prepared g c = rw (c.requires.silent, c.in-Prepared.is, c.pass-in-Prepared.ensures.state, c.pass-in-Prepared.ensures.outcome) (plays_remark _ _ _ remark.Stopped (λ chain account. (refl, refl)) ArePassed-refl (λ luck. refl))

@@ -1,5 +1,5 @@
 use Rattle.std.proofs.Common.{Err, Ok, ap, ◌∙◌}
-use Rattle.mar_replay.proofs.EventTurns.{promise_since, sent_nothing, sent_taken, takes_err, takes_ok}
+use Rattle.mar_replay.proofs.EventTurns.{promise_since, sent_taken, takes_err, takes_ok}
 use Rattle.mar_replay.proofs.play.step.Goals as goal
 
 pub returns-in-Ok : goal.returns-in-Ok
@@ -13,5 +13,5 @@ pub returns-in-Err : goal.returns-in-Err
 returns-in-Err g c =
     let is = c.parts_of-fault.ensures in
     takes_err c.args.actor c.args.buffer _ _ _ c.requires.silent c.args.pending _ _ _ is
-    (promise_since c.args.actor c.args.buffer _ _ _ _ _ _ _ _ _ _ _ (Err _) c.take_sent-earlier.ensures.left c.requires.silent (sent_nothing c.args.buffer _ _ _ c.take_sent-earlier.ensures.left c.requires.silent c.in-Err.ensures.unsent) c.in-Err.ensures.promise)
+    (promise_since c.args.actor c.args.buffer _ _ _ _ _ _ _ _ _ _ _ (Err _) c.take_sent-earlier.ensures.left c.requires.silent (sent_taken _ _ c.take_sent.ensures.taken) c.in-Err.ensures.promise)
     (rw is at c.in-Err.ensures.cause) (rw is at c.in-Err.ensures.runs_out)
