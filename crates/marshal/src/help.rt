@@ -30,8 +30,13 @@ the lines of a script behind its settings, `config` and eight numbers:
   processed           asks for the processed height
   anchor              asks for it and the block that backs it
   getverified E V     asks for the block that was first verified in the round of epoch E and view V
+  verified E V HEX    a block was verified in the round of epoch E and view V: it is kept, and answered as it is durable
+  certified E V HEX   a block was certified in that round: the same
+  proposed E V PEERS HEX
+                      a block was proposed in that round: it is sent to PEERS, and kept as a verified one;
+                      PEERS is all, -, or members with commas between
   prepared E V PEERS HEX
-                      sends a block in the round of epoch E and view V to PEERS: all, -, or members with commas between
+                      sends a block in the round of epoch E and view V to PEERS
   fail STORE N        the Nth counted call of this store from here on fails: blocks, certs, meta or cache
   crash N             ends the life; of what a crash may leave, the next opening finds what N picks
 
