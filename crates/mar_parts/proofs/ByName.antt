@@ -27,15 +27,15 @@ named bytes cmp see ordered q (e ∷ es) =
       | false ↦ named bytes cmp see ordered q es
     ]
 
--- entries under the bytes of their names, seen through `see`
-abbrev pub seen : {K X Y : Type 0} → (K → List ℕ) → (X → Y) → List (K × X) → List (List ℕ × Y)
+-- entries under their names, as under the bytes of these, seen through `see`
+abbrev pub seen : {K N X Y : Type 0} → (K → N) → (X → Y) → List (K × X) → List (N × Y)
 seen bytes see es = map (λ e. (bytes e.0, see e.1)) es
 
-abbrev under : {Y : Type 0} → List ℕ → List (List ℕ × Y) → Y → List (List ℕ × Y)
+abbrev under : {N Y : Type 0} → N → List (N × Y) → Y → List (N × Y)
 under name rest y = (name, y) ∷ rest
 
 -- what was read and is written back as it was seen changes nothing that is seen
-pub written_same : {K X Y : Type 0} (bytes : K → List ℕ) (see : X → Y) (t : K → Bool) (w v : X) (es : List (K × X)) → lookup t es ≡ Some v → see w ≡ see v → seen bytes see (set_value t es w) ≡ seen bytes see es
+pub written_same : {K N X Y : Type 0} (bytes : K → N) (see : X → Y) (t : K → Bool) (w v : X) (es : List (K × X)) → lookup t es ≡ Some v → see w ≡ see v → seen bytes see (set_value t es w) ≡ seen bytes see es
 written_same bytes see t w v [] found same = refl
 written_same {K = K} {X = X} bytes see t w v (e ∷ es) found same = first (t e.0) refl (λ later. written_same bytes see t w v es later same)
   where
