@@ -18,7 +18,7 @@ use std::marker::PhantomData;
 
 /// An entry over blocks of a kind, small enough for a store.
 #[derive(Drop)]
-pub struct CacheEntry<V: Variant, N: AsFinalization, F: CommitsTo<V::Commitment>> {
+pub struct CacheEntry<V: Variant, N: CommitsTo<V::Commitment>, F: CommitsTo<V::Commitment>> {
     entry: Entry<V::Block, N, F>,
     of: PhantomData<V>,
     pub ghost small: { IsSmallEntry (cached_of V.plain N.plain F.plain entry) } by { IsSmallEntry-prop (cached_of V.plain N.plain F.plain entry) },
@@ -26,7 +26,7 @@ pub struct CacheEntry<V: Variant, N: AsFinalization, F: CommitsTo<V::Commitment>
 
 /// What keeps an entry over blocks of a kind.
 pub trait KeptEntry<V: Variant, F: CommitsTo<V::Commitment>>: AsEntry {
-    type Notarization: AsFinalization;
+    type Notarization: CommitsTo<V::Commitment>;
 
     /// That entry.
     fn of(entry: Entry<V::Block, Self::Notarization, F>) -> Self
@@ -54,7 +54,8 @@ fn is_earlier(first: Round, second: Round) -> bool
     epoch < other || (epoch == other && first.view().get() < second.view().get())
 }
 
-impl<V: Variant, N: AsFinalization, F: CommitsTo<V::Commitment>> AsEntry for CacheEntry<V, N, F> {
+impl<V: Variant, N: CommitsTo<V::Commitment>, F: CommitsTo<V::Commitment>> AsEntry
+    for CacheEntry<V, N, F> {
     type Wanted = Sought<V::Digest, V::Commitment>;
 
     ghost plain = { λ e. cached_of V.plain N.plain F.plain e.entry };
@@ -122,7 +123,8 @@ impl<V: Variant, N: AsFinalization, F: CommitsTo<V::Commitment>> AsEntry for Cac
     }
 }
 
-impl<V: Variant, N: AsFinalization, F: CommitsTo<V::Commitment>> KeyedEntry for CacheEntry<V, N, F>
+impl<V: Variant, N: CommitsTo<V::Commitment>, F: CommitsTo<V::Commitment>> KeyedEntry
+    for CacheEntry<V, N, F>
 where
     V::Digest: Ord,
     V::Commitment: Ord,
@@ -165,7 +167,7 @@ where
     }
 }
 
-impl<V: Variant, N: AsFinalization, F: CommitsTo<V::Commitment>> KeptEntry<V, F>
+impl<V: Variant, N: CommitsTo<V::Commitment>, F: CommitsTo<V::Commitment>> KeptEntry<V, F>
     for CacheEntry<V, N, F> {
     type Notarization = N;
 

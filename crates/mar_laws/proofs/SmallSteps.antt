@@ -1,5 +1,5 @@
 -- What is the same in each of the small steps: nodes whose stores are settled, and events that store nothing.
-use Rattle.std.proofs.Common.{◌≡◌, ◌≤◌, ℕ, List, [], ◌∷◌, ◌++◌, Contains, IsTrue, Some, None, option_map, false, true, nat_lt, not, drop, filter, length, map, max, refl, sym, subst, ap, inl, lit≤, arith, ◌-◌, ◌+◌, ◌==◌, ◌∙◌}
+use Rattle.std.proofs.Common.{◌≡◌, ◌≤◌, ℕ, List, [], ◌∷◌, ◌++◌, Contains, IsTrue, Some, None, option_map, false, true, nat_lt, drop, length, map, max, refl, sym, subst, ap, inl, lit≤, arith, ◌-◌, ◌+◌, ◌∙◌}
 use Rattle.std.specs.List.{AllByRecursion}
 use Rattle.std.specs.Prelude.{IfSome, fold}
 use Rattle.std.proofs.lemmas.List.Elements.{Contains-append_left}

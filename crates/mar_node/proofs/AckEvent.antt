@@ -216,7 +216,6 @@ module _ {P E : Type 0} (config : Config) (chain : Chain) (lawful : IsLawful con
     sends = refl;
     answers = λ lowest. refl;
     subscriptions = refl;
-    certified = λ tip. refl;
     no_syncs = λ n'. refl;
   }
 

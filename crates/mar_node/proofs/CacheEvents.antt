@@ -11,11 +11,11 @@ use Rattle.mar_node.specs.Event.{Event, acked_to, blocks_from, certs_from, cutof
 use Rattle.mar_node.specs.Faults.{Fault, event_fault}
 use Rattle.mar_node.specs.Held.{HeldCache, Seen, Watches}
 use Rattle.mar_node.specs.Lives.{is_refused_floor}
-use Rattle.mar_node.specs.Node.{IsCacheOf, IsGood, Node, Rest, block_missing, floor_awaited, window_full, write_count, write_uncovered}
-use Rattle.mar_node.specs.Promise.{Waiting, node_of}
+use Rattle.mar_node.specs.Node.{CertifiedCommitment, IsCacheOf, IsGood, Node, Rest, block_missing, floor_awaited, window_full, write_count, write_uncovered}
+use Rattle.mar_node.specs.Promise.{IsKnownSince, Waiting, knowing, node_of}
 use Rattle.mar_node.specs.Requests.{own_asks}
 use Rattle.mar_node.specs.Step.{AdvancesBy, IsStored, IsStoredLate, Made, Steps, finished_position, without_finished}
-use Rattle.mar_node.proofs.PlainEvents.{Certificates-same, KeepsFrom-same, Writes-alike}
+use Rattle.mar_node.proofs.PlainEvents.{Certificates-beside, Certificates-same, KeepsFrom-same, Writes-alike, Writes-beside}
 use Rattle.mar_node.proofs.SyncTickets.{with_sync-unwritten}
 
 -- An event that meets, stores, drains, witnesses and asks nothing, and finishes no sync of both archives; it may send and answer,
@@ -32,7 +32,6 @@ pub record LeavesArchives (config : Config) (n : Node) (e : Event) : Type 0 wher
   pub no_fault : event_fault config n e ≡ None
   pub asks : own_asks config n e no_floor ≡ []
   pub subscriptions : subscriptions_after n e no_floor ≡ []
-  pub certified : (tip : ℕ) → certified_after n e no_floor tip ≡ []
   pub unrefused : (fault : Fault) → is_refused_floor e fault ≡ false
 
 -- what such an event makes
@@ -43,7 +42,7 @@ sent_and_answered sends answers = record { reports = []; asks = []; sends = send
 abbrev pub cached_with : {P E : Type 0} → Seen P E → HeldCache → ℕ → Watches → Seen P E
 cached_with a cache next watches = record a { held = record a.held { cache = cache; writes = record a.held.writes { next_sync = next }; watches = watches } }
 
-module _ {P E : Type 0} (config : Config) (chain : Chain) (a : Seen P E) (buffer : List Block) (waiting : Waiting) (cache : HeldCache) (next : ℕ) (watches : Watches) where
+module _ {P E : Type 0} (config : Config) (chain : Chain) (a : Seen P E) (buffer : List Block) (waiting : Waiting) (cache : HeldCache) (next : ℕ) (watches : Watches) (certified : List CertifiedCommitment) where
   abbrev n : Node
   n = node_of a buffer waiting
 
@@ -51,7 +50,7 @@ module _ {P E : Type 0} (config : Config) (chain : Chain) (a : Seen P E) (buffer
   m = cached_with a cache next watches
 
   abbrev n' : Node
-  n' = node_of m buffer waiting
+  n' = node_of m buffer (knowing certified waiting)
 
   -- it rests as before
   pub Rest-kept : Rest config.window n → Rest config.window n'
@@ -81,7 +80,7 @@ module _ {P E : Type 0} (config : Config) (chain : Chain) (a : Seen P E) (buffer
     };
   }
 
-  module _ (e : Event) (quiet : LeavesArchives config n e) where
+  module _ (e : Event) (quiet : LeavesArchives config n e) (known : IsKnownSince config n e a.life.tip certified) where
     pub advances-kept : (sends : List Sent) (answers : List TicketAnswer) → AdvancesCache config n e no_floor n' → ((x : Cached) → Contains cache.kept.may x → MayBeCached config n e no_floor x) → (IsTrue (is_query e) → n' ≡ n) → next ≡ a.held.writes.next_sync + length (started_syncs n n' e) → sends ≡ sends_of n e → answers ≡ answers_of config n a.held.lowest e no_floor → AdvancesBy config chain n e no_floor (sent_and_answered sends answers) n'
     advances-kept sends answers advances may query tickets sent answered =
         let wrote = Writes-alike a m e buffer waiting (ap (λ s. own_writes n s no_floor) quiet.storing) refl refl refl refl quiet.position quiet.syncs in
@@ -99,8 +98,8 @@ module _ {P E : Type 0} (config : Config) (chain : Chain) (a : Seen P E) (buffer
           certs = KeepsFrom-same (certs_from n e no_floor) n.certs;
           may_blocks = λ x has. inl has;
           may_certs = λ x has. inl has;
-          certificates = Certificates-same a m e buffer waiting refl;
-          writes = wrote.0;
+          certificates = Certificates-beside n m e buffer waiting (knowing certified waiting) (Certificates-same a m e buffer waiting refl);
+          writes = Writes-beside n m e buffer waiting (knowing certified waiting) wrote.0;
           repairs = record { at_hand = λ h b any is. absurd (none_repaired wrote.0.repaired wrote.1 h any); with_finalization = λ h b any is some. absurd (none_repaired wrote.0.repaired wrote.1 h any) };
           tips = refl;
           tips_chain = tt;
@@ -117,7 +116,7 @@ module _ {P E : Type 0} (config : Config) (chain : Chain) (a : Seen P E) (buffer
             sends = sent;
             answers = answered;
             subscriptions = sym quiet.subscriptions;
-            certified = λ h c. ap (λ xs. is_known xs h c) (sym (quiet.certified a.life.tip));
+            certified = λ h c. subst (λ fx. is_known certified h c ≡ is_known (certified_after n e fx a.life.tip) h c) quiet.effect (known.known h c);
             next_sync = tickets;
             untouched = refl;
           };

@@ -275,12 +275,16 @@ soonest-filtered passes (x ∷ xs) = by (passes x) refl (soonest-filtered passes
     by true is rest = ap (sooner_of x) rest ∙ sym (ap (λ d. cond d (sooner_of x (soonest passes (filter passes xs))) (soonest passes (filter passes xs))) is)
     by false is rest = rest
 
--- a cached finalization is no block, so what is at hand is what was
-pub found_cached : (inner : List ℕ → List ℕ) (f : Finalization) (old now : Held) (buffer : List Block) (held : List (At Block)) (commitment : List ℕ) → old.cache.loaded ≡ true → CachesFinalization f old now → found_at_hand inner buffer now.cache.kept.held held commitment ≡ found_at_hand inner buffer old.cache.kept.held held commitment
-found_cached inner f old now buffer held commitment loaded caches = ap (λ o. option_or (find (λ b. bytes_eq b.commitment commitment) buffer) (option_or (option_and_then cached_block o) (of_commitment commitment (block_of held (inner commitment))))) (elim (cases_lt f.round.epoch old.lowest) [
-  | inl less ↦ ap (λ k. soonest passes k.held) (caches.puts.ready less)
-  | inr from ↦ soonest-filtered passes now.cache.kept.held ∙ (ap (soonest passes) ((caches.puts.done loaded from).puts.others passes refl) ∙ sym (soonest-filtered passes old.cache.kept.held))
-])
+-- what is found is what was, where the cached blocks of the commitment are as they were
+pub found_unmoved : (inner : List ℕ → List ℕ) (buffer : List Block) (held : List (At Block)) (commitment : List ℕ) (old new : List Cached) → filter (λ x. has_commitment commitment (cached_block x)) new ≡ filter (λ x. has_commitment commitment (cached_block x)) old → found_at_hand inner buffer new held commitment ≡ found_at_hand inner buffer old held commitment
+found_unmoved inner buffer held commitment old new same = ap (λ o. option_or (find (λ b. bytes_eq b.commitment commitment) buffer) (option_or (option_and_then cached_block o) (of_commitment commitment (block_of held (inner commitment))))) (soonest-filtered passes new ∙ (ap (soonest passes) same ∙ sym (soonest-filtered passes old)))
   where
     passes : Cached → Bool
     passes x = has_commitment commitment (cached_block x)
+
+-- a cached finalization is no block, so what is at hand is what was
+pub found_cached : (inner : List ℕ → List ℕ) (f : Finalization) (old now : Held) (buffer : List Block) (held : List (At Block)) (commitment : List ℕ) → old.cache.loaded ≡ true → CachesFinalization f old now → found_at_hand inner buffer now.cache.kept.held held commitment ≡ found_at_hand inner buffer old.cache.kept.held held commitment
+found_cached inner f old now buffer held commitment loaded caches = elim (cases_lt f.round.epoch old.lowest) [
+  | inl less ↦ ap (λ k. found_at_hand inner buffer k.held held commitment) (caches.puts.ready less)
+  | inr from ↦ found_unmoved inner buffer held commitment old.cache.kept.held now.cache.kept.held ((caches.puts.done loaded from).puts.others (λ x. has_commitment commitment (cached_block x)) refl)
+]

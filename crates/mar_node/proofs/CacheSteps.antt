@@ -58,6 +58,32 @@ pub record KeepsBeside (config : Config) (n : Node) (e : Event) (fx : Effect) (n
   pub cache_syncs : OpensCacheSyncs config n e fx n'
   pub witnessed : n'.witnessed ≡ (witnessing_of config n e fx).last
 
+-- What becomes of the entries over an event.
+pub record KeepsEntries (config : Config) (n : Node) (e : Event) (fx : Effect) (n' : Node) : Type 0 where
+  pub kept : (x : Cached) → Contains (entries_with_puts config n n'.cache.held e fx) x → Contains n'.cache.held x ⊎ (epoch_of x < n.lowest) ⊎ IsTrue (is_pruned config n e fx x)
+  pub nothing_else : (x : Cached) → Contains n'.cache.held x → Contains (entries_with_puts config n n'.cache.held e fx) x
+  pub stays_sure : (x : Cached) → Contains n.cache.sure x → Contains n'.cache.held x → Contains n'.cache.sure x
+  pub stays : (x : Cached) → Contains n.cache.held x → Contains n'.cache.held x ⊎ IsTrue (is_pruned config n e fx x)
+  pub first_stays : (r : Round) (b : Block) → first_verified (entries_with_puts config n n'.cache.held e fx) r ≡ Some b → Contains n'.cache.held (verified_entry r b) → first_verified n'.cache.held r ≡ Some b
+  pub synced : (x : Cached) → IsTrue (is_synced e (entries_put config n n'.cache.held e fx) x) → Contains n'.cache.held x → Contains n'.cache.sure x
+  pub finished : (x : Cached) → Contains (finished_covers n e) x → Contains n'.cache.held x → Contains n'.cache.sure x
+
+pub advances_with : (config : Config) (n : Node) (e : Event) (fx : Effect) (n' : Node) → KeepsEntries config n e fx n' → KeepsBeside config n e fx n' → AdvancesCache config n e fx n'
+advances_with config n e fx n' entries beside = record {
+  kept = entries.kept;
+  nothing_else = entries.nothing_else;
+  stays_sure = entries.stays_sure;
+  stays = entries.stays;
+  first_stays = entries.first_stays;
+  synced = entries.synced;
+  finished = entries.finished;
+  lowest = beside.lowest;
+  lowests = λ k has. Contains-append_right n.lowests (n'.lowest ∷ []) k (subst (λ ks. Contains ks k) beside.lowests has);
+  own_lowest = subst (λ ks. Contains (0 ∷ ks) n'.lowest) (sym beside.lowests) (suc zero, omega arith, refl);
+  cache_syncs = beside.cache_syncs;
+  witnessed = beside.witnessed;
+}
+
 -- IN ITS PLACE
 
 -- what stands in the place of an entry by view is of its epoch
@@ -94,7 +120,7 @@ with_cases x held y = by (list_any (same_place x) held)
     by true has = inl has
     by false has = elim (Contains-append_cases held (x ∷ []) y has) [ inl before ↦ inl before | inr new ↦ inr (one_of x y new) ]
 
-with_more : (x : Cached) (held : List Cached) (y : Cached) → Contains held y → Contains (with_entry held x) y
+pub with_more : (x : Cached) (held : List Cached) (y : Cached) → Contains held y → Contains (with_entry held x) y
 with_more x held y has = by (list_any (same_place x) held)
   where
     by : (c : Bool) → Contains (cond c held (held ++ x ∷ [])) y
@@ -111,7 +137,7 @@ place_archive (certified_entry e b) y by_view same = absurd cc
 place_archive _ _ by_view same = absurd cc
 
 -- an entry of another epoch is no block that was verified at that round
-without : (x : Cached) (held : List Cached) (r : Round) → epoch_of x ≢ r.epoch → first_verified (with_entry held x) r ≡ first_verified held r
+pub without : (x : Cached) (held : List Cached) (r : Round) → epoch_of x ≢ r.epoch → first_verified (with_entry held x) r ≡ first_verified held r
 without x held r other = by (list_any (same_place x) held)
   where
     by : (c : Bool) → first_verified (cond c held (held ++ x ∷ [])) r ≡ first_verified held r
@@ -226,7 +252,7 @@ module _ (config : Config) (n : Node) (e : Event) (fx : Effect) (n' : Node) (x :
       in_held = PrunesByAll-held prunes does.mid n'.cache does.prunes y has
 
 pub advances_one : (config : Config) (n : Node) (e : Event) (fx : Effect) (n' : Node) (x : Cached) → PutsOne config n e fx n' x → finished_covers n e ≡ [] → KeepsBeside config n e fx n' → AdvancesCache config n e fx n'
-advances_one config n e fx n' x does no_finish beside = record {
+advances_one config n e fx n' x does no_finish = advances_with config n e fx n' (record {
   kept = one_kept config n e fx n' x does;
   nothing_else = one_nothing_else config n e fx n' x does;
   stays_sure = one_stays_sure config n e fx n' x does;
@@ -234,17 +260,12 @@ advances_one config n e fx n' x does no_finish beside = record {
   first_stays = one_first_stays config n e fx n' x does;
   synced = one_synced config n e fx n' x does;
   finished = λ y covered has. contains_none y (subst (λ ys. Contains ys y) no_finish covered);
-  lowest = beside.lowest;
-  lowests = λ k has. Contains-append_right n.lowests (n'.lowest ∷ []) k (subst (λ ks. Contains ks k) beside.lowests has);
-  own_lowest = subst (λ ks. Contains (0 ∷ ks) n'.lowest) (sym beside.lowests) (suc zero, omega arith, refl);
-  cache_syncs = beside.cache_syncs;
-  witnessed = beside.witnessed;
-}
+})
 
 -- AN EVENT THAT PUTS NOTHING
 
 pub advances_none : (config : Config) (n : Node) (e : Event) (fx : Effect) (n' : Node) → PutsNone config n e fx n' → KeepsBeside config n e fx n' → AdvancesCache config n e fx n'
-advances_none config n e fx n' does beside = record {
+advances_none config n e fx n' does = advances_with config n e fx n' (record {
   kept = λ y has. elim (after y (in_mid y (subst (λ ys. Contains ys y) puts_is has))) [ inl held ↦ inl held | inr pruned ↦ inr (inr pruned) ];
   nothing_else = λ y has. subst (λ ys. Contains ys y) (sym puts_is) (of_mid y (PrunesByAll-held prunes does.mid n'.cache does.prunes y has));
   stays_sure = λ y sure has. prunes_sure prunes does.mid n'.cache does.prunes y (does.sure y sure) has;
@@ -252,12 +273,7 @@ advances_none config n e fx n' does beside = record {
   first_stays = λ r b first has. prunes_firsts prunes does.mid n'.cache does.prunes r b (ap (λ ys. first_verified ys r) (does.held ∙ sym puts_is) ∙ first) has;
   synced = λ y synced has. absurd (let none : IsTrue (is_synced e [] y) = subst (λ ys. IsTrue (is_synced e ys y)) does.entries synced in cc);
   finished = λ y covered has. prunes_sure prunes does.mid n'.cache does.prunes y (does.finished y covered (PrunesByAll-held prunes does.mid n'.cache does.prunes y has)) has;
-  lowest = beside.lowest;
-  lowests = λ k has. Contains-append_right n.lowests (n'.lowest ∷ []) k (subst (λ ks. Contains ks k) beside.lowests has);
-  own_lowest = subst (λ ks. Contains (0 ∷ ks) n'.lowest) (sym beside.lowests) (suc zero, omega arith, refl);
-  cache_syncs = beside.cache_syncs;
-  witnessed = beside.witnessed;
-}
+})
   where
     prunes : List Round
     prunes = (witnessing_of config n e fx).prunes

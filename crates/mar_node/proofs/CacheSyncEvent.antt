@@ -1,5 +1,5 @@
 -- A sync of the cache finishes: what it covers is sure, and who waits for it is answered.
-use Rattle.std.proofs.Common.{◌≡◌, inl, ℕ, ◌+◌, List, [], ◌∷◌, ◌++◌, false, Option, Err, Ok, Contains, refl, sym, ap, subst, arith, append-nil}
+use Rattle.std.proofs.Common.{◌≡◌, inl, ℕ, ◌+◌, List, [], ◌∷◌, ◌++◌, false, Option, Err, Ok, Contains, refl, sym, subst, arith, append-nil}
 use Rattle.std.proofs.lemmas.List.Elements.{Contains-append_left}
 use Rattle.mar_types.specs.Epochs.{Epochs, IsPartition}
 use Rattle.mar_cert.specs.Block.{Block}
@@ -12,7 +12,7 @@ use Rattle.mar_node.specs.Event.{Event, no_floor, sync_finished}
 use Rattle.mar_node.specs.Held.{AreCached, Ending, Held, IsUsual, Loses, Seen, nothing_written, seen}
 use Rattle.mar_node.specs.Moves.{FinishesCacheSync}
 use Rattle.mar_node.specs.Node.{IsCacheOf}
-use Rattle.mar_node.specs.Promise.{KeepsStep, Waiting, heard_with, node_of}
+use Rattle.mar_node.specs.Promise.{KeepsStep, Waiting, heard_with, node_of, knowing}
 use Rattle.mar_node.specs.Step.{Report, Steps}
 use Rattle.mar_writes.specs.Writing.{is_open_sync}
 use Rattle.mar_node.proofs.CacheEvents.{LeavesArchives, cached_with, sent_and_answered, steps-kept}
@@ -24,6 +24,7 @@ use Rattle.mar_node.proofs.Heard.{KeepsStep-beside}
 use Rattle.mar_node.proofs.OpenSyncs.{AreStillOpen-more}
 use Rattle.mar_node.proofs.PlainEvents.{nothing_put}
 use Rattle.mar_node.proofs.SyncTickets.{position-closed, without-closed}
+use Rattle.mar_node.proofs.CacheBeside.{AdvancesCache-beside}
 
 module _ {P E : Type 0} (epochs : Epochs) (inner : List ℕ → List ℕ) (partition : IsPartition epochs) (a : Seen P E) (buffer : List Block) (t : ℕ) where
   abbrev e : Event
@@ -31,7 +32,7 @@ module _ {P E : Type 0} (epochs : Epochs) (inner : List ℕ → List ℕ) (parti
 
   -- it is no sync of both archives
   quiet : (config : Config) (waiting : Waiting) → is_open_sync a.held.writes.syncs t ≡ false → LeavesArchives config (node_of a buffer waiting) e
-  quiet config waiting other = record { effect = refl; undrained = refl; processed = refl; cutoff = refl; storing = refl; position = position-closed a.held.writes.syncs t other; syncs = without-closed a.held.writes.syncs t other; witnessing = refl; no_fault = refl; asks = refl; subscriptions = refl; certified = λ tip. refl; unrefused = λ fault. refl }
+  quiet config waiting other = record { effect = refl; undrained = refl; processed = refl; cutoff = refl; storing = refl; position = position-closed a.held.writes.syncs t other; syncs = without-closed a.held.writes.syncs t other; witnessing = refl; no_fault = refl; asks = refl; subscriptions = refl; unrefused = λ fault. refl }
 
   advances : (config : Config) (waiting : Waiting) (m : Held) → AreCached a.held → FinishesCacheSync t a.held m → AdvancesCache config (node_of a buffer waiting) e no_floor (node_of (cached_with a m.cache a.held.writes.next_sync m.watches) buffer waiting)
   advances config waiting m cached finishes = advances_none config (node_of a buffer waiting) e no_floor (node_of (cached_with a m.cache a.held.writes.next_sync m.watches) buffer waiting) (record {
@@ -59,12 +60,12 @@ module _ {P E : Type 0} (epochs : Epochs) (inner : List ℕ → List ℕ) (parti
   still_of chain m finishes is = IsCacheOf-grown chain [] a.held.cache.kept m.cache.kept is tt tt (λ x has. Contains-append_left a.held.cache.kept.held [] x (subst (λ xs. Contains xs x) finishes.finishes.held has)) (λ x has. Contains-append_left a.held.cache.kept.may [] x (finishes.finishes.may x has))
 
   -- it has finished
-  pub promise-cache_finished : (told : Option (List Report)) (heard : Option (List Call)) (sends : Option (List Sent)) (answers answers' : List TicketAnswer) (m : Held) → AreCached a.held → is_open_sync a.held.writes.syncs t ≡ false → FinishesCacheSync t a.held m → answers' ≡ answers ++ finished_answers t a.held.cache.syncs → KeepsStep epochs inner a (e ∷ []) buffer (heard_with told heard sends answers) (heard_with told heard sends answers') (Ok (seen m a.life))
+  pub promise-cache_finished : (told : Option (List Report)) (heard : Option (List Call)) (sends : Option (List Sent)) (answers answers' : List TicketAnswer) (m : Held) → AreCached a.held → is_open_sync a.held.writes.syncs t ≡ false → FinishesCacheSync t a.held m → answers' ≡ answers ++ finished_answers t a.held.cache.syncs → KeepsStep epochs inner a (e ∷ []) buffer (heard_with told heard sends answers) (heard_with told heard sends answers') (Ok (record a { held = m }))
   promise-cache_finished told heard sends answers answers' m cached other finishes answered loaded config chain waiting set step = record {
     made = sent_and_answered [] (finished_answers t a.held.cache.syncs);
     heard = record { reports = Hears-nothing told; asks = Hears-nothing heard; sends = Hears-nothing sends; answers = answered };
-    steps = subst (λ s. Steps config chain (node_of a buffer waiting) (e ∷ []) (sent_and_answered [] (finished_answers t a.held.cache.syncs)) (node_of s buffer waiting)) (sym (ap (λ h. seen h a.life) finishes.same))
-        (steps-kept config chain a buffer waiting m.cache a.held.writes.next_sync m.watches e (quiet config waiting other) [] (finished_answers t a.held.cache.syncs) (advances config waiting m cached finishes) (λ x has. inl (finishes.finishes.may x has)) (λ is. absurd cc) (plus_none a.held.writes.next_sync) refl refl
+    steps = λ certified known. subst (λ h. Steps config chain (node_of a buffer waiting) (e ∷ []) (sent_and_answered [] (finished_answers t a.held.cache.syncs)) (node_of (seen h a.life) buffer (knowing certified waiting))) (sym finishes.same)
+        (steps-kept config chain a buffer waiting m.cache a.held.writes.next_sync m.watches certified e (quiet config waiting other) known [] (finished_answers t a.held.cache.syncs) (AdvancesCache-beside config (node_of a buffer waiting) e no_floor (cached_with a m.cache a.held.writes.next_sync m.watches) (cached_with a m.cache a.held.writes.next_sync m.watches) buffer buffer waiting (knowing certified waiting) refl (advances config waiting m cached finishes)) (λ x has. inl (finishes.finishes.may x has)) (λ is. absurd cc) (plus_none a.held.writes.next_sync) refl refl
         (still_of chain m finishes step.good.of_chain.cache) step.good step.rests);
   }
     where

@@ -1,5 +1,5 @@
 -- A certified block: whether it was verified at its round is the same before and behind the put of its event.
-use Rattle.std.proofs.Common.{◌≡◌, ◌&&◌, ◌||◌, ◌==◌, ℕ, List, [], ◌∷◌, Bool, true, false, cond, filter, bytes_eq, refl, sym, ap, ap₂, ◌∙◌, arith}
+use Rattle.std.proofs.Common.{◌≡◌, ◌&&◌, ◌||◌, ◌==◌, ℕ, List, [], ◌∷◌, Bool, true, false, cond, filter, bytes_eq, refl, sym, ap, ap₂, ◌∙◌, arith, Contains}
 use Rattle.std.specs.List.{list_any}
 use Rattle.std.proofs.lemmas.Bool.{false_from_ne_true}
 use Rattle.std.proofs.lemmas.Slice.Eq.{bytes_eq-Decides}
@@ -10,7 +10,8 @@ use Rattle.mar_node.specs.Cache.{notarized_where, verified_at}
 use Rattle.mar_node.specs.Cached.{Cached, cached_block, certified_entry, finalization_entry, notarization_entry, notarized_entry, verified_entry}
 use Rattle.mar_node.specs.Entries.{has_digest, is_verified_at}
 use Rattle.mar_node.specs.Moves.{PutsAll}
-use Rattle.mar_node.proofs.EntryLists.{passes_alike}
+use Rattle.mar_node.proofs.EntryLists.{contains_none, one_of, passes_alike}
+use Rattle.mar_node.proofs.KeptEach.{PutsAll-others}
 
 bytes_eq-sym : (xs ys : List ℕ) → bytes_eq xs ys ≡ bytes_eq ys xs
 bytes_eq-sym xs ys = by (bytes_eq xs ys) refl
@@ -42,9 +43,14 @@ any_filtered test (x ∷ xs) = by (test x) refl (any_filtered test xs)
     by true is rest = sym (ap (λ d. d || list_any test (filter test xs)) is)
     by false is rest = rest
 
+-- what was verified is as it was where nothing was put there
+pub verified-unmoved : (r : Round) (b : Block) (old new : List Cached) → filter (verified_at r b) new ≡ filter (verified_at r b) old → list_any (verified_at r b) new ≡ list_any (verified_at r b) old
+verified-unmoved r b old new same = any_filtered (verified_at r b) new ∙ (ap (list_any (verified_at r b)) same ∙ sym (any_filtered (verified_at r b) old))
+
 -- a notarized block is no verified one
 pub verified-stays : (r : Round) (b : Block) (c : Bool) (old new : Kept Cached) → PutsAll (notarized_where c r b) old new → list_any (verified_at r b) new.held ≡ list_any (verified_at r b) old.held
-verified-stays r b true old new same = ap (λ k. list_any (verified_at r b) k.held) same
-verified-stays r b false old new (mid, puts, same) =
-    ap (λ k. list_any (verified_at r b) k.held) same
-    ∙ (any_filtered (verified_at r b) mid.held ∙ (ap (list_any (verified_at r b)) (puts.others (verified_at r b) refl) ∙ sym (any_filtered (verified_at r b) old.held)))
+verified-stays r b c old new puts = verified-unmoved r b old.held new.held (PutsAll-others (verified_at r b) (notarized_where c r b) old new (other c) puts)
+  where
+    other : (d : Bool) (x : Cached) → Contains (notarized_where d r b) x → verified_at r b x ≡ false
+    other true x has = contains_none x has
+    other false x has = ap (verified_at r b) (one_of (notarized_entry r b) x has)

@@ -1,5 +1,5 @@
 -- Lists of cached entries: which are found, and which stay.
-use Rattle.std.proofs.Common.{◌≡◌, ◌≢◌, ◌==◌, ◌&&◌, ◌||◌, zero, suc, List, [], ◌∷◌, Bool, true, false, Contains, Option, Some, None, cond, refl, ap, ap₂, sym, arith, filter, ◌∙◌}
+use Rattle.std.proofs.Common.{◌≡◌, ◌≢◌, ◌⊎◌, inl, inr, ◌==◌, ◌&&◌, ◌||◌, zero, suc, List, [], ◌∷◌, Bool, true, false, Contains, Option, Some, None, cond, refl, ap, ap₂, sym, arith, filter, ◌∙◌}
 use Rattle.std.specs.List.{cons_option, filter_map, list_any}
 use Rattle.std.proofs.lemmas.Bool.{eqb-true, ne_eqb}
 use Rattle.mar_types.specs.Round.{Round, round_eq}
@@ -24,6 +24,10 @@ contains_none y (k, lt, is) = absurd (omega arith)
 pub one_of : {X : Type 0} (x y : X) → Contains (x ∷ []) y → y ≡ x
 one_of x y (zero, lt, is) = sym is
 one_of x y (suc k, lt, is) = absurd (omega (arith, lt))
+
+pub first_or_more : {X : Type 0} (x : X) (xs : List X) (y : X) → Contains (x ∷ xs) y → (y ≡ x) ⊎ Contains xs y
+first_or_more x xs y (zero, lt, is) = inl (sym is)
+first_or_more x xs y (suc k, lt, is) = inr (k, omega (arith, lt), is)
 
 -- tests that agree on these
 pub passes_alike : {T : Type 0} (p q : T → Bool) (xs : List T) → ((y : T) → Contains xs y → p y ≡ q y) → list_any p xs ≡ list_any q xs

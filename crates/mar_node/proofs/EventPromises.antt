@@ -18,7 +18,7 @@ use Rattle.mar_node.specs.Config.{Config}
 use Rattle.mar_node.specs.Event.{Event, brought_block, effect_of, message_told, no_floor, sync_finished, told_finalization}
 use Rattle.mar_node.specs.Faults.{Fault, is_by_value}
 use Rattle.mar_node.specs.Cached.{finalization_entry}
-use Rattle.mar_node.specs.Held.{AreCached, AreWritten, Ending, Grew, Held, IsUsual, Loses, Seen, Written, nothing_written, seen, written_both, written_entry}
+use Rattle.mar_node.specs.Held.{AreCached, AreWritten, Ending, Grew, Held, IsUsual, Loses, Seen, Written, nothing_written, written_both, written_entry}
 use Rattle.mar_node.specs.Lives.{is_dropped_ack, is_refused_floor}
 use Rattle.mar_node.specs.Moves.{CachesFinalization, FinishesSync, HearsFront, HearsUpTo, IsRead, IsStarted, PutsAbove, at_height, found_at_hand, tip_after, tip_reports}
 use Rattle.mar_node.specs.Requests.{own_asks, want_asks}
@@ -101,10 +101,10 @@ module _ {P E : Type 0} (epochs : Epochs) (inner : List ℕ → List ℕ) (parti
     -- once it is cached
     module _ (now : Held) (cached : AreCached a.held) (caches : CachesFinalization f a.held now) where
       abbrev pub after : Seen P E
-      after = seen now a.life
+      after = record a { held = now }
 
       after_is : after ≡ cached_as a now
-      after_is = ap (λ h. seen h a.life) caches.same
+      after_is = ap (λ h. record a { held = h }) caches.same
 
       -- what the actor found is what is at hand
       pub hand : a.held.cache.loaded ≡ true → (config : Config) (chain : Chain) (waiting : Waiting) → IsSetTo config a.life.sizes epochs inner → IsLawfulStep config chain (node_of a buffer waiting) (reported ∷ []) → (o : Option Block) → found_at_hand inner buffer now.cache.kept.held now.blocks.held f.payload ≡ o → at_hand (node_of a buffer waiting) f.payload ≡ o

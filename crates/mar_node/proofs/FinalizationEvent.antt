@@ -25,18 +25,19 @@ use Rattle.mar_node.specs.Faults.{height_limit, last_height, storing_fault}
 use Rattle.mar_node.specs.Held.{AreCached, AreWritten, Held, HeldCache, Seen}
 use Rattle.mar_node.specs.Lives.{later_round}
 use Rattle.mar_node.specs.Moves.{CachesFinalization, IsRead, IsStarted, PrunesCacheBy, PutsAbove, RaisesTo, StoresLate, StoresValue, StoresWhere, at_height, lacks_finalization, late_tip, late_tips, pruned_by, tip_after, tip_reports, with_cache_of, with_watches}
-use Rattle.mar_node.specs.Node.{Agrees, AreBlocksOf, AreFinalizationsOf, AreNestedHeights, ConsecutiveFrom, FloorSafe, HasAnchor, IsCacheOf, IsFinalized, IsGood, Node, OpenSync, Rest, SureOrWritten, at_hand, block_missing, floor_awaited, window_full, write_uncovered}
+use Rattle.mar_node.specs.Node.{AreBlocksOf, AreFinalizationsOf, AreNestedHeights, ConsecutiveFrom, FloorSafe, HasAnchor, IsCacheOf, IsFinalized, IsGood, Node, OpenSync, Rest, SureOrWritten, at_hand, block_missing, floor_awaited, window_full, write_uncovered}
 use Rattle.mar_writes.specs.Writing.{total_writes}
 use Rattle.mar_node.specs.Promise.{AreOne, Waiting, node_of, known_blocks}
 use Rattle.mar_node.specs.Requests.{own_asks, raise_asks, reported_asks, want_asks}
 use Rattle.mar_node.specs.Sound.{IsSafePair}
 use Rattle.mar_node.specs.Step.{AreTipsOf, CertificatesFrom, IsCertFrom, IsStored, IsStoredLate, KeepsFrom, Report, TipsFrom, Writes, is_repaired}
-use Rattle.mar_node.proofs.AtHand.{at_hand-all, at_hand-commitment, block_of_final, bytes_same}
+use Rattle.mar_node.proofs.AtHand.{at_hand-commitment, block_of_final, bytes_same}
 use Rattle.mar_node.proofs.CacheOver.{IsCacheOf-put, MovesCache, cached_as, moves_reported}
 use Rattle.mar_node.proofs.CachePrunes.{IsCacheOf-pruned, PrunesCacheBy-beside, PrunesCacheBy-none}
 use Rattle.mar_node.proofs.Cutting.{MayBeLeft, keeps_heights, only_one, sure_may_heights}
 use Rattle.mar_node.proofs.FloorSafety.{FloorSafe-still, KeepsHeightsFrom, MeetsFinal}
-use Rattle.mar_node.proofs.FoundBlocks.{Contains-slice_get, buffer_known, cached_known, chain_known, values_known}
+use Rattle.mar_node.proofs.FoundBlocks.{Contains-slice_get, chain_known}
+use Rattle.mar_node.proofs.KnownBlocks.{at_hand-known, known_agrees}
 use Rattle.mar_node.proofs.PairsAfter.{HasAnchor-kept, IsSafePair-after}
 use Rattle.mar_node.proofs.Growing.{Grown, Grown-same}
 use Rattle.mar_node.proofs.PlainEvents.{Certificates-same, KeepsFrom-same, Writes-same, nothing_put}
@@ -51,12 +52,12 @@ abbrev storing_met : Met → Storing
 storing_met m = record { height = m.block.height; with_certificate = true }
 
 -- nobody waits
-serves_none : (o : Option Block) → served_answers [] o ≡ []
+pub serves_none : (o : Option Block) → served_answers [] o ≡ []
 serves_none None = refl
 serves_none (Some b) = refl
 
 -- and nobody is left waiting
-leaves_none : (o : Option Block) → unserved_subscriptions [] o ≡ []
+pub leaves_none : (o : Option Block) → unserved_subscriptions [] o ≡ []
 leaves_none None = refl
 leaves_none (Some b) = refl
 
@@ -241,26 +242,20 @@ module _ {P E : Type 0} (config : Config) (chain : Chain) (a : Seen P E) (f : Fi
     abbrev pub known : List Block
     known = known_blocks chain n
 
-    -- a block at hand is the buffer's, a cached one or the chain's
-    at_hand-known : (b : Block) → at_hand n f.payload ≡ Some b → Contains known b
-    at_hand-known b is =
-        at_hand-all (Contains known) n f.payload b (buffer_known config.inner chain a buffer waiting) (cached_known config.inner chain a buffer waiting)
-        (values_known config.inner chain a buffer waiting good.of_chain.stores.held_blocks) is
+    -- a block at hand is known
+    in_known : (b : Block) → at_hand n f.payload ≡ Some b → Contains known b
+    in_known b is = at_hand-known config.inner chain a buffer waiting good.of_chain.stores.held_blocks f.payload b is
 
     -- and so is each block of the chain
     block_known : (h : ℕ) (c : Block) → IsBlockAt chain h c → Contains known c
     block_known h c at = chain_known config.inner chain a buffer waiting c (Contains-slice_get chain.blocks h c at)
-
-    -- blocks of one commitment are one
-    known_agrees : (b : Block) → Contains known b → Agrees chain b
-    known_agrees b there h c at same = one.one c b (block_known h c at) there (sym (one.names c (block_known h c at)) ∙ (ap config.inner same ∙ one.names b there))
 
     -- a reported block that is at hand is the finalized one
     pub block-final : (b : Block) → at_hand n f.payload ≡ Some b → IsFinal chain f.round b.height × IsBlockAt chain b.height b
     block-final b is = (subst (λ k. IsFinal chain f.round k) (sym found.1) final.1.named, subst (λ k. IsBlockAt chain k b) (sym found.1) found.0)
       where
         found : IsBlockAt chain final.0 b × (b.height ≡ final.0)
-        found = block_of_final config.epochs chain lawful final.0 f.round b (subst (Finalizes chain final.0 f.round) (sym (at_hand-commitment n f.payload b is)) final.1) (known_agrees b (at_hand-known b is))
+        found = block_of_final config.epochs chain lawful final.0 f.round b (subst (Finalizes chain final.0 f.round) (sym (at_hand-commitment n f.payload b is)) final.1) (known_agrees config.inner chain n one b (in_known b is))
 
     -- WHAT A REPORT MEETS
 
@@ -296,7 +291,7 @@ module _ {P E : Type 0} (config : Config) (chain : Chain) (a : Seen P E) (f : Fi
 
     -- a known block of the same digest as one at hand is that one
     one_block : (b c : Block) → at_hand n f.payload ≡ Some b → Contains known c → c.digest ≡ b.digest → c ≡ b
-    one_block b c is there same = one.one c b there (at_hand-known b is) same
+    one_block b c is there same = one.one c b there (in_known b is) same
 
     -- a put of the block is only ignored where its height is held
     block_there : (b : Block) → at_hand n f.payload ≡ Some b → IsTrue (is_held a.held.blocks.held b) → IsTrue (has_height a.held.blocks.held b.height)
@@ -317,7 +312,7 @@ module _ {P E : Type 0} (config : Config) (chain : Chain) (a : Seen P E) (f : Fi
     cert_there b is ignored = by (either_test (has_height a.held.certs.held b.height) (list_any (λ x. bytes_eq (config.inner x.value.payload) (config.inner f.payload)) a.held.certs.held) ignored)
       where
         digest_is : config.inner f.payload ≡ b.digest
-        digest_is = ap config.inner (sym (at_hand-commitment n f.payload b is)) ∙ one.names b (at_hand-known b is)
+        digest_is = ap config.inner (sym (at_hand-commitment n f.payload b is)) ∙ one.names b (in_known b is)
 
         same : (x : At Finalization) → Contains a.held.certs.held x → bytes_eq (config.inner x.value.payload) (config.inner f.payload) ≡ true → x.height ≡ b.height
         same x has digest = of_block (slice_get chain.blocks x.height) refl payload
@@ -492,7 +487,6 @@ module _ {P E : Type 0} (config : Config) (chain : Chain) (a : Seen P E) (f : Fi
         sends = refl;
         answers = λ lowest. ap (λ xs. xs ++ []) (serves_none (at_hand n f.payload));
         subscriptions = ap (λ xs. xs ++ []) (leaves_none (at_hand n f.payload));
-        certified = λ tip. refl;
         no_syncs = λ n'. refl;
       })
         where
@@ -632,7 +626,6 @@ module _ {P E : Type 0} (config : Config) (chain : Chain) (a : Seen P E) (f : Fi
         sends = refl;
         answers = λ lowest. ap (λ xs. xs ++ []) (serves_none (at_hand n f.payload));
         subscriptions = ap (λ xs. xs ++ []) (leaves_none (at_hand n f.payload));
-        certified = λ tip. refl;
         no_syncs = λ n'. refl;
       }
         where
@@ -720,7 +713,6 @@ module _ {P E : Type 0} (config : Config) (chain : Chain) (a : Seen P E) (f : Fi
         sends = refl;
         answers = λ lowest. ap (λ xs. xs ++ []) (serves_none (at_hand n f.payload));
         subscriptions = ap (λ xs. xs ++ []) (leaves_none (at_hand n f.payload));
-        certified = λ tip. refl;
         no_syncs = λ n'. refl;
       }
         where

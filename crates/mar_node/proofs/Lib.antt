@@ -14,6 +14,7 @@ pub mod StoreLosses
 pub mod CacheChanges
 pub mod EntryLists
 pub mod CacheSteps
+pub mod CacheBeside
 pub mod CachePrunes
 pub mod CacheOver
 pub mod Passing
@@ -25,6 +26,7 @@ pub mod Draining
 pub mod Reaching
 pub mod PlainEvents
 pub mod SyncEvent
+pub mod CertificationEvent
 pub mod Tips
 pub mod StartEvent
 pub mod FoundBlocks
@@ -37,10 +39,12 @@ pub mod Promises
 pub mod Heard
 pub mod EventPromises
 pub mod CacheEvents
-pub mod KeptEvents
+pub mod KeptEach
 pub mod CertifiedBlocks
+pub mod KeptEvents
 pub mod CacheSyncEvent
 pub mod KeptPromises
+pub mod NotarizationEvent
 pub mod Idle
 pub mod Queries
 pub mod Sending

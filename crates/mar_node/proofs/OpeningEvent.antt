@@ -18,7 +18,7 @@ use Rattle.mar_node.specs.Cached.{cached_block, cached_finalization, Cached}
 use Rattle.mar_node.specs.Chain.{Chain, Finalizes, IsBlockAt}
 use Rattle.mar_node.specs.Config.{Config}
 use Rattle.mar_node.specs.Faults.{Begin, Fault, anchor_fault, from_genesis, genesis_fault, genesis_height, is_by_value, next_after, opening_fault, stored_mismatch, successor_fault, unbacked, with_genesis}
-use Rattle.mar_node.specs.Held.{Ending, Grew, Held, IsEndedBy, IsUsual, Loses, LosesOpening, Remains, Remembered, ReopensAs, Sizes, Written, first_life, nothing_written, picks_of, written_block}
+use Rattle.mar_node.specs.Held.{Ending, Grew, Held, IsEndedBy, IsUsual, Loses, LosesOpening, Remains, Remembered, ReopensAs, Sizes, Written, first_life, nothing_written, picks_of, written_block, seen}
 use Rattle.mar_node.specs.Node.{CacheSync}
 use Rattle.mar_node.specs.Lives.{BackedBy, CutsReopening, Finds, IsGoodEnded, IsSettled, OpeningPair, SameAt, opened_cutoff, opened_node, opened_witnessed, processed_at}
 use Rattle.mar_node.specs.Moves.{StoresValue, newest_tip}
@@ -292,15 +292,15 @@ module _ (old : Remains) (luck : ℕ) (first : Held) (reopens : ReopensAs old lu
           witnessed_is : opened_witnessed s.blocks.held s.certs.held (pair_in s) ≡ opened_witnessed s.blocks.held first.certs.held (pair_in first)
           witnessed_is = ap (λ p. opened_witnessed s.blocks.held s.certs.held p) pair_same ∙ ap (λ k. opened_witnessed s.blocks.held k.held (pair_in first)) certs_same
 
-          begins_is : node_of (record { held = new; life = life }) [] none_waiting ≡ opened
+          begins_is : node_of (seen new life) [] none_waiting ≡ opened
           begins_is =
-              ap (λ h. node_of (record { held = h; life = life }) [] none_waiting) derives.same
+              ap (λ h. node_of (seen h life) [] none_waiting) derives.same
               ∙ same_values s _ s.processed _ (derived_cutoff config.epochs s) _ (derived_pair config.epochs s ∷ []) _ (opened_witnessed s.blocks.held s.certs.held (pair_in s)) _ s.certs _ sizes.capacity _ s.writes _
               begins.same processed_is cutoff_is (ap (λ p. p ∷ []) derived_is) witnessed_is (certs_same ∙ first_certs) (sym capacity) writes_are
               ∙ (ap (λ (xs : List Cached). record opened { cache = record first.cache.kept { held = xs }; cache_syncs = first.cache.syncs }) reopens.unheld
               ∙ ap (λ (ss : List CacheSync). record opened { cache_syncs = ss }) reopens.no_syncs)
 
-          pub Finds-begun : Finds config old.ended (picks_of old luck) begin (node_of (record { held = new; life = life }) [] none_waiting)
+          pub Finds-begun : Finds config old.ended (picks_of old luck) begin (node_of (seen new life) [] none_waiting)
           Finds-begun = subst (Finds config old.ended (picks_of old luck) begin) (sym begins_is) Finds-opened
 
         module _ (chain : Chain) (asks : IsLawfulOpening config chain old.ended begin) where
@@ -335,7 +335,7 @@ module _ (old : Remains) (luck : ℕ) (first : Held) (reopens : ReopensAs old lu
             tip_reported = newest_tip-high 0 first.certs.held;
           })
 
-          pub Begins-opened : {P E : Type 0} (provider : P) (epocher : E) (sizes : Sizes) (new : Held) → Derives config.epochs s new → config.capacity ≡ sizes.capacity → Begins config chain old.ended (picks_of old luck) begin (node_of (record { held = new; life = first_life provider epocher sizes }) [] none_waiting)
+          pub Begins-opened : {P E : Type 0} (provider : P) (epocher : E) (sizes : Sizes) (new : Held) → Derives config.epochs s new → config.capacity ≡ sizes.capacity → Begins config chain old.ended (picks_of old luck) begin (node_of (seen new (first_life provider epocher sizes)) [] none_waiting)
           Begins-opened provider epocher sizes new derives capacity = subst (Begins config chain old.ended (picks_of old luck) begin) (sym (begins_is provider epocher sizes new derives capacity)) (record { finds = Finds-opened; good = (tip, good) })
 
 -- A CUT
@@ -419,10 +419,10 @@ module _ (old : Remains) (begin : Begin) (luck : ℕ) (first : Held) (reopens : 
     next_by_value fault (inr judged) = inr (subst (λ b. IsOpeningFault old.ended b fault) (sym is) (IsOpeningFault-next old luck first reopens g s begins_with fault judged))
 
     -- a node that begins is what was found, whatever the chain
-    pub finds : {P E : Type 0} (config : Config) (provider : P) (epocher : E) (sizes : Sizes) (new : Held) (life : Remembered P E) → Grew first (written_block (at_own_height g)) s → config.capacity ≡ sizes.capacity → Derives config.epochs s new → life ≡ first_life provider epocher sizes → Finds config old.ended (picks_of old luck) begin (node_of (record { held = new; life = life }) [] none_waiting)
+    pub finds : {P E : Type 0} (config : Config) (provider : P) (epocher : E) (sizes : Sizes) (new : Held) (life : Remembered P E) → Grew first (written_block (at_own_height g)) s → config.capacity ≡ sizes.capacity → Derives config.epochs s new → life ≡ first_life provider epocher sizes → Finds config old.ended (picks_of old luck) begin (node_of (seen new life) [] none_waiting)
     finds config provider epocher sizes new _ grew capacity derives life_is =
-        subst (λ l. Finds config old.ended (picks_of old luck) begin (node_of (record { held = new; life = l }) [] none_waiting)) (sym life_is)
-        (subst (λ b. Finds config old.ended (picks_of old luck) b (node_of (record { held = new; life = first_life provider epocher sizes }) [] none_waiting)) (sym is)
+        subst (λ l. Finds config old.ended (picks_of old luck) begin (node_of (seen new l) [] none_waiting)) (sym life_is)
+        (subst (λ b. Finds config old.ended (picks_of old luck) b (node_of (seen new (first_life provider epocher sizes)) [] none_waiting)) (sym is)
         (Finds-begun old luck first reopens g s begins_with config grew derives.successor provider epocher sizes new derives capacity))
 
 -- a cutoff that couldn't be derived leaves what was sure
@@ -477,9 +477,9 @@ module _ (config : Config) (chain : Chain) (old : Remains) (luck : ℕ) (begin :
                   derived : derived_pair config.epochs s ≡ p
                   derived = only_one (derived_pair config.epochs s) p has
 
-      pub begins : {P E : Type 0} (provider : P) (epocher : E) (sizes : Sizes) (new : Held) (life : Remembered P E) → IsLawfulOpening config chain old.ended begin → config.capacity ≡ sizes.capacity → Derives config.epochs s new → life ≡ first_life provider epocher sizes → Begins config chain old.ended (picks_of old luck) begin (node_of (record { held = new; life = life }) [] none_waiting)
+      pub begins : {P E : Type 0} (provider : P) (epocher : E) (sizes : Sizes) (new : Held) (life : Remembered P E) → IsLawfulOpening config chain old.ended begin → config.capacity ≡ sizes.capacity → Derives config.epochs s new → life ≡ first_life provider epocher sizes → Begins config chain old.ended (picks_of old luck) begin (node_of (seen new life) [] none_waiting)
       begins provider epocher sizes new _ asks capacity derives life_is =
           let own = subst (IsLawfulOpening config chain old.ended) is asks in
-          subst (λ l. Begins config chain old.ended (picks_of old luck) begin (node_of (record { held = new; life = l }) [] none_waiting)) (sym life_is)
-          (subst (λ b. Begins config chain old.ended (picks_of old luck) b (node_of (record { held = new; life = first_life provider epocher sizes }) [] none_waiting)) (sym is)
+          subst (λ l. Begins config chain old.ended (picks_of old luck) begin (node_of (seen new l) [] none_waiting)) (sym life_is)
+          (subst (λ b. Begins config chain old.ended (picks_of old luck) b (node_of (seen new (first_life provider epocher sizes)) [] none_waiting)) (sym is)
           (Begins-opened old luck first reopens g s begins_with config grew derives.successor chain own provider epocher sizes new derives capacity))

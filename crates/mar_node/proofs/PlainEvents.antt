@@ -6,7 +6,7 @@ use Rattle.mar_key.specs.Processed.{height_of}
 use Rattle.mar_store.specs.Kept.{At, Kept, has_height, value_at}
 use Rattle.mar_node.specs.Event.{Event, no_floor, own_writes, storing_of}
 use Rattle.mar_node.specs.Held.{Seen}
-use Rattle.mar_node.specs.Node.{OpenSync}
+use Rattle.mar_node.specs.Node.{Node, OpenSync}
 use Rattle.mar_node.specs.Promise.{Waiting, node_of}
 use Rattle.mar_node.specs.Step.{CertificatesFrom, KeepsFrom, Writes, finished_position, without_finished}
 
@@ -61,6 +61,23 @@ Certificates-same a m e buffer waiting same = record {
   entered = λ h f is. inl (subst (λ k. value_at k.held h ≡ Some f) same is);
   own = λ s f stores told none. inl (subst (λ k. value_at k.held s.height ≡ None) (sym same) none);
 }
+
+-- others may wait beside it
+abbrev pub Writes-beside : {P E : Type 0} (n : Node) (m : Seen P E) (e : Event) (buffer : List Block) (waiting waiting' : Waiting) → Writes n e no_floor (node_of m buffer waiting) → Writes n e no_floor (node_of m buffer waiting')
+Writes-beside n m e buffer waiting waiting' wrote = record {
+  repaired = wrote.repaired;
+  by_repair = wrote.by_repair;
+  each_once = wrote.each_once;
+  blocking = wrote.blocking;
+  within = wrote.within;
+  at_least = wrote.at_least;
+  covered = wrote.covered;
+  uncovered = wrote.uncovered;
+  syncs = wrote.syncs;
+}
+
+pub Certificates-beside : {P E : Type 0} (n : Node) (m : Seen P E) (e : Event) (buffer : List Block) (waiting waiting' : Waiting) → CertificatesFrom n e (node_of m buffer waiting) → CertificatesFrom n e (node_of m buffer waiting')
+Certificates-beside n m e buffer waiting waiting' from = record { entered = from.entered; own = from.own }
 
 pub nothing_put : {T X : Type 0} (x : T) → Contains [] x → X
 nothing_put x has = absurd (let lt : has.0 < 0 = has.1 in omega arith)

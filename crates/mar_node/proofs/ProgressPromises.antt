@@ -20,7 +20,7 @@ use Rattle.mar_node.specs.Answers.{sends_of}
 use Rattle.mar_node.specs.Config.{Config}
 use Rattle.mar_node.specs.Event.{Event, ack_given, cutoff_after, effect_of, message_told, no_floor, processed_after, told_finalization}
 use Rattle.mar_node.specs.Faults.{Fault, dropped_ack, dropped_first, is_by_value}
-use Rattle.mar_node.specs.Held.{AreCached, Ending, Grew, Held, IsArchiveFault, IsUsual, LeavesCache, LeavesStore, Loses, Seen, Written, blocks_left, cache_left, certs_left, seen, written_cert, written_pair, written_prunes}
+use Rattle.mar_node.specs.Held.{AreCached, Ending, Grew, Held, IsArchiveFault, IsUsual, LeavesCache, LeavesStore, Loses, Seen, Written, blocks_left, cache_left, certs_left, written_cert, written_pair, written_prunes}
 use Rattle.mar_node.specs.Lives.{is_dropped_ack, is_refused_floor, later_round, reached_before}
 use Rattle.mar_node.specs.Moves.{CachesFinalization, Drains, EndsDropped, HearsFront, PrunesCacheBy, RaisesTo, StoresLate, at_height, found_at_hand, lacks_finalization, late_tips, pruned_by, rounds_of}
 use Rattle.mar_node.specs.Node.{AreFinalizationsOf, Rest, at_hand, block_missing, floor_awaited, window_full, write_uncovered}
@@ -115,10 +115,10 @@ module _ {P E : Type 0} (epochs : Epochs) (inner : List ℕ → List ℕ) (parti
 
     -- the actor once the finalization is cached
     abbrev pub after : Seen P E
-    after = seen now a.life
+    after = record a { held = now }
 
     after_is : after ≡ cached_as a now
-    after_is = ap (λ h. seen h a.life) caches.same
+    after_is = ap (λ h. record a { held = h }) caches.same
 
     low : nat_lt (height_of a.held.processed) b.height ≡ false
     low = subst (λ h. nat_lt (height_of h.processed) b.height ≡ false) caches.same low_now

@@ -14,13 +14,13 @@ use Rattle.mar_node.specs.Answers.{sends_of}
 use Rattle.mar_node.specs.Config.{Config}
 use Rattle.mar_node.specs.Event.{Event, cutoff_after, no_floor, processed_after, undrained_blocks}
 use Rattle.mar_node.specs.Faults.{Fault, ack_kind, is_by_value, meta_store, next_after, store_fault, ticket_limit}
-use Rattle.mar_node.specs.Held.{Ending, IsArchiveFault, LeavesStore, Seen, blocks_left, cache_left, certs_left}
+use Rattle.mar_node.specs.Held.{Ending, IsArchiveFault, LeavesStore, Seen, blocks_left, cache_left, certs_left, seen}
 use Rattle.mar_node.specs.Lives.{Cuts, NotBelow, Reached, is_dropped_ack, is_refused_floor, reached_after}
 use Rattle.mar_node.specs.Moves.{IsLastTicket, IsStarted, IsStill, StopsHanding, handed_report, next_in, with_handed}
 use Rattle.mar_node.specs.Step.{HeldFrom}
 use Rattle.mar_node.specs.Node.{AreBlocksOf, Ended, IsGood, Node, Rest}
 use Rattle.mar_writes.specs.Writing.{total_writes}
-use Rattle.mar_node.specs.Promise.{FinishesStep, IsGoodUntold, IsLawfulStep, StepsOrCuts, Waiting, asked_since, heard_by, made_of, node_of}
+use Rattle.mar_node.specs.Promise.{FinishesStep, IsGoodUntold, IsLawfulStep, StepsOrCuts, Waiting, asked_since, heard_by, made_of, node_of, knowing, IsKnownSince}
 use Rattle.mar_node.specs.Requests.{own_asks}
 use Rattle.mar_node.specs.Sound.{IsSafePair}
 use Rattle.mar_node.specs.Step.{AreHandedOf, HandedBlock, HandedFrom, Report, Steps, handed_blocks}
@@ -151,8 +151,8 @@ module _ {P E : Type 0} (config : Config) (chain : Chain) (a m : Seen P E) (e : 
     dispatched told told1 told' heard heard' (Ok d) tips_heard (handed, handed_heard, ran) asks_heard = record {
       made = made_of (tips ++ map handed_report handed) (own_asks config n e no_floor);
       heard = record { reports = Hears-then told told1 told' tips (map handed_report handed) tips_heard handed_heard; asks = asks_heard; sends = refl; answers = refl };
-      steps = subst (λ s. Steps config chain n (e ∷ []) (made_of (tips ++ map handed_report handed) (own_asks config n e no_floor)) (node_of s buffer (asked_since waiting (own_asks config n e no_floor)))) (sym ran.same)
-          (Steps-reached config chain a m e buffer waiting tips handed step.reported.0 good_before.1.of_chain.asks.requests reach (HandsSure-next config chain m buffer waiting handed good sure_held ran.next ran.below_barrier) unwritten handed_good
+      steps = λ certified known. subst (λ s. Steps config chain n (e ∷ []) (made_of (tips ++ map handed_report handed) (own_asks config n e no_floor)) (node_of (seen s.held s.life) buffer (knowing certified (asked_since waiting (own_asks config n e no_floor))))) (sym ran.same)
+          (Steps-reached config chain a m e buffer waiting tips handed step.reported.0 good_before.1.of_chain.asks.requests reach (HandsSure-next config chain m buffer waiting handed good sure_held ran.next ran.below_barrier) certified (subst (λ s. IsKnownSince config n e s.life.tip certified) ran.same known) unwritten handed_good
           (Rest-still config chain (with_handed m handed) buffer waiting step.lawful window handed_good (subst IsStill ran.same ran.still)));
     }
       where
@@ -165,21 +165,21 @@ module _ {P E : Type 0} (config : Config) (chain : Chain) (a m : Seen P E) (e : 
     }
 
     -- what a step without a dispatch makes of it, where the reached node rests
-    pub undispatched : (told told' : Option (List Report)) (heard heard' : Option (List Call)) → Hears told tips told' → Hears heard (own_asks config n e no_floor) heard' → Rest config.window (node_of m buffer waiting) → FinishesStep config chain n (e ∷ []) (heard_by told heard) (heard_by told' heard') m
+    pub undispatched : (told told' : Option (List Report)) (heard heard' : Option (List Call)) → Hears told tips told' → Hears heard (own_asks config n e no_floor) heard' → Rest config.window (node_of m buffer waiting) → FinishesStep config chain n (e ∷ []) (heard_by told heard) (heard_by told' heard') m.held m.life
     undispatched told told' heard heard' tips_heard asks_heard rests = record {
       made = made_of tips (own_asks config n e no_floor);
       heard = record { reports = tips_heard; asks = asks_heard; sends = refl; answers = refl };
-      steps = subst (λ rs. Steps config chain n (e ∷ []) (made_of rs (own_asks config n e no_floor)) (node_of m buffer (asked_since waiting (own_asks config n e no_floor)))) (append-nil tips)
-          (subst (λ s. Steps config chain n (e ∷ []) (made_of (tips ++ []) (own_asks config n e no_floor)) (node_of s buffer (asked_since waiting (own_asks config n e no_floor)))) (with_handed-none m)
-          (Steps-reached config chain a m e buffer waiting tips [] step.reported.0 good_before.1.of_chain.asks.requests reach (HandsSure-none chain m) unwritten (subst (λ s. IsGood config chain (node_of s buffer waiting)) (sym (with_handed-none m)) good) (subst (λ s. Rest config.window (node_of s buffer waiting)) (sym (with_handed-none m)) rests)));
+      steps = λ certified known. subst (λ rs. Steps config chain n (e ∷ []) (made_of rs (own_asks config n e no_floor)) (node_of (seen m.held m.life) buffer (knowing certified (asked_since waiting (own_asks config n e no_floor))))) (append-nil tips)
+          (subst (λ s. Steps config chain n (e ∷ []) (made_of (tips ++ []) (own_asks config n e no_floor)) (node_of (seen s.held s.life) buffer (knowing certified (asked_since waiting (own_asks config n e no_floor))))) (with_handed-none m)
+          (Steps-reached config chain a m e buffer waiting tips [] step.reported.0 good_before.1.of_chain.asks.requests reach (HandsSure-none chain m) certified known unwritten (subst (λ s. IsGood config chain (node_of s buffer waiting)) (sym (with_handed-none m)) good) (subst (λ s. Rest config.window (node_of s buffer waiting)) (sym (with_handed-none m)) rests)));
     }
 
 -- An event that wrote ends with a sync that covers what it wrote.
 module _ {P E : Type 0} (config : Config) (chain : Chain) (a m : Seen P E) (e : Event) (buffer : List Block) (waiting : Waiting) (tips : List Report) (step : IsLawfulStep config chain (node_of a buffer waiting) (e ∷ [])) (reach : Reaches config chain a e buffer waiting tips m) where
-  pub started : (new : Seen P E) → IsStarted m new → total_writes a.held.writes < total_writes m.held.writes → 0 < length m.held.writes.uncovered → IsGood config chain (node_of new buffer waiting) → Rest config.window (node_of new buffer waiting) → (told told' : Option (List Report)) (heard heard' : Option (List Call)) → Hears told tips told' → Hears heard (own_asks config (node_of a buffer waiting) e no_floor) heard' → FinishesStep config chain (node_of a buffer waiting) (e ∷ []) (heard_by told heard) (heard_by told' heard') new
+  pub started : (new : Seen P E) → IsStarted m new → total_writes a.held.writes < total_writes m.held.writes → 0 < length m.held.writes.uncovered → IsGood config chain (node_of new buffer waiting) → Rest config.window (node_of new buffer waiting) → (told told' : Option (List Report)) (heard heard' : Option (List Call)) → Hears told tips told' → Hears heard (own_asks config (node_of a buffer waiting) e no_floor) heard' → FinishesStep config chain (node_of a buffer waiting) (e ∷ []) (heard_by told heard) (heard_by told' heard') new.held new.life
   started new is written some good rests told told' heard heard' tips_heard asks_heard = record {
     made = made_of tips (own_asks config (node_of a buffer waiting) e no_floor);
     heard = record { reports = tips_heard; asks = asks_heard; sends = refl; answers = refl };
-    steps = subst (λ rs. Steps config chain (node_of a buffer waiting) (e ∷ []) (made_of rs (own_asks config (node_of a buffer waiting) e no_floor)) (node_of new buffer (asked_since waiting (own_asks config (node_of a buffer waiting) e no_floor)))) (append-nil tips)
-        (Steps-started config chain a m e buffer waiting tips [] step.reported.0 (untold config chain (node_of a buffer waiting) e step.good).1.of_chain.asks.requests reach (HandsSure-none chain m) new (subst (λ s. IsStarted s new) (sym (with_handed-none m)) is) written some good rests);
+    steps = λ certified known. subst (λ rs. Steps config chain (node_of a buffer waiting) (e ∷ []) (made_of rs (own_asks config (node_of a buffer waiting) e no_floor)) (node_of (seen new.held new.life) buffer (knowing certified (asked_since waiting (own_asks config (node_of a buffer waiting) e no_floor))))) (append-nil tips)
+        (Steps-started config chain a m e buffer waiting tips [] step.reported.0 (untold config chain (node_of a buffer waiting) e step.good).1.of_chain.asks.requests reach (HandsSure-none chain m) certified (subst (λ s. IsKnownSince config (node_of a buffer waiting) e s.life.tip certified) is known) new (subst (λ s. IsStarted s new) (sym (with_handed-none m)) is) written some good rests);
   }

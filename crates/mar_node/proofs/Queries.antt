@@ -17,11 +17,11 @@ use Rattle.mar_node.specs.Cached.{cached_block}
 use Rattle.mar_node.specs.Chain.{Chain}
 use Rattle.mar_node.specs.Config.{Config}
 use Rattle.mar_node.specs.Event.{Event, is_query, message_told, no_floor}
-use Rattle.mar_node.specs.Held.{AreCached, Ending, Grew, IsUsual, Loses, Seen, nothing_written}
+use Rattle.mar_node.specs.Held.{AreCached, Ending, Grew, IsUsual, Loses, Seen, nothing_written, seen}
 use Rattle.mar_node.specs.Messages.{Identifier, Message, certify, close_ticket, forward, get_anchor, get_block, get_finalization, get_info, get_processed, get_verified, hint_finalized, hint_notarized, latest, of_digest, of_height, prepared, proposed, prune_below, report_certification, report_finalization, report_notarization, set_floor, subscribe_commitment, subscribe_digest, verified}
 use Rattle.mar_node.specs.Moves.{IsRead, found_at_hand}
 use Rattle.mar_node.specs.Node.{AreBlocksOf, Node, at_hand}
-use Rattle.mar_node.specs.Promise.{AreOne, KeepsStep, Waiting, heard_with, known_blocks, node_of, told_blocks}
+use Rattle.mar_node.specs.Promise.{AreOne, KeepsStep, Waiting, heard_with, known_blocks, node_of, told_blocks, knowing, IsKnownSince}
 use Rattle.mar_node.proofs.KnownBlocks.{AreOne-behind}
 use Rattle.mar_node.specs.Queries.{answers_found, block_found, value_found}
 use Rattle.mar_node.specs.Step.{Report, Steps}
@@ -80,12 +80,12 @@ module _ {P E : Type 0} (config : Config) (a : Seen P E) (buffer : List Block) (
 
   -- it brings, stores, asks and sends nothing
   idle : (m : Message) → is_query (message_told (Some t) m) ≡ true → IsIdle config n (message_told (Some t) m) × ([] ≡ sends_of n (message_told (Some t) m))
-  idle (get_info id) is = (record { rest = record { effect = refl; undrained = refl; processed = refl; cutoff = refl; storing = refl; position = refl; syncs = refl; witnessing = refl; no_fault = refl; asks = refl; subscriptions = refl; certified = λ tip. refl; unrefused = λ fault. refl }; unput = λ after. refl; unfinished = λ xs. refl; uncovered = refl; no_syncs = λ n'. refl }, refl)
-  idle (get_block id) is = (record { rest = record { effect = refl; undrained = refl; processed = refl; cutoff = refl; storing = refl; position = refl; syncs = refl; witnessing = refl; no_fault = refl; asks = refl; subscriptions = refl; certified = λ tip. refl; unrefused = λ fault. refl }; unput = λ after. refl; unfinished = λ xs. refl; uncovered = refl; no_syncs = λ n'. refl }, refl)
-  idle (get_finalization h) is = (record { rest = record { effect = refl; undrained = refl; processed = refl; cutoff = refl; storing = refl; position = refl; syncs = refl; witnessing = refl; no_fault = refl; asks = refl; subscriptions = refl; certified = λ tip. refl; unrefused = λ fault. refl }; unput = λ after. refl; unfinished = λ xs. refl; uncovered = refl; no_syncs = λ n'. refl }, refl)
-  idle get_processed is = (record { rest = record { effect = refl; undrained = refl; processed = refl; cutoff = refl; storing = refl; position = refl; syncs = refl; witnessing = refl; no_fault = refl; asks = refl; subscriptions = refl; certified = λ tip. refl; unrefused = λ fault. refl }; unput = λ after. refl; unfinished = λ xs. refl; uncovered = refl; no_syncs = λ n'. refl }, refl)
-  idle get_anchor is = (record { rest = record { effect = refl; undrained = refl; processed = refl; cutoff = refl; storing = refl; position = refl; syncs = refl; witnessing = refl; no_fault = refl; asks = refl; subscriptions = refl; certified = λ tip. refl; unrefused = λ fault. refl }; unput = λ after. refl; unfinished = λ xs. refl; uncovered = refl; no_syncs = λ n'. refl }, refl)
-  idle (get_verified r) is = (record { rest = record { effect = refl; undrained = refl; processed = refl; cutoff = refl; storing = refl; position = refl; syncs = refl; witnessing = refl; no_fault = refl; asks = refl; subscriptions = refl; certified = λ tip. refl; unrefused = λ fault. refl }; unput = λ after. refl; unfinished = λ xs. refl; uncovered = refl; no_syncs = λ n'. refl }, refl)
+  idle (get_info id) is = (record { rest = record { effect = refl; undrained = refl; processed = refl; cutoff = refl; storing = refl; position = refl; syncs = refl; witnessing = refl; no_fault = refl; asks = refl; subscriptions = refl; unrefused = λ fault. refl }; unput = λ after. refl; unfinished = λ xs. refl; uncovered = refl; no_syncs = λ n'. refl }, refl)
+  idle (get_block id) is = (record { rest = record { effect = refl; undrained = refl; processed = refl; cutoff = refl; storing = refl; position = refl; syncs = refl; witnessing = refl; no_fault = refl; asks = refl; subscriptions = refl; unrefused = λ fault. refl }; unput = λ after. refl; unfinished = λ xs. refl; uncovered = refl; no_syncs = λ n'. refl }, refl)
+  idle (get_finalization h) is = (record { rest = record { effect = refl; undrained = refl; processed = refl; cutoff = refl; storing = refl; position = refl; syncs = refl; witnessing = refl; no_fault = refl; asks = refl; subscriptions = refl; unrefused = λ fault. refl }; unput = λ after. refl; unfinished = λ xs. refl; uncovered = refl; no_syncs = λ n'. refl }, refl)
+  idle get_processed is = (record { rest = record { effect = refl; undrained = refl; processed = refl; cutoff = refl; storing = refl; position = refl; syncs = refl; witnessing = refl; no_fault = refl; asks = refl; subscriptions = refl; unrefused = λ fault. refl }; unput = λ after. refl; unfinished = λ xs. refl; uncovered = refl; no_syncs = λ n'. refl }, refl)
+  idle get_anchor is = (record { rest = record { effect = refl; undrained = refl; processed = refl; cutoff = refl; storing = refl; position = refl; syncs = refl; witnessing = refl; no_fault = refl; asks = refl; subscriptions = refl; unrefused = λ fault. refl }; unput = λ after. refl; unfinished = λ xs. refl; uncovered = refl; no_syncs = λ n'. refl }, refl)
+  idle (get_verified r) is = (record { rest = record { effect = refl; undrained = refl; processed = refl; cutoff = refl; storing = refl; position = refl; syncs = refl; witnessing = refl; no_fault = refl; asks = refl; subscriptions = refl; unrefused = λ fault. refl }; unput = λ after. refl; unfinished = λ xs. refl; uncovered = refl; no_syncs = λ n'. refl }, refl)
   idle (report_finalization f) is = absurd cc
   idle (report_notarization f) is = absurd cc
   idle (report_certification f) is = absurd cc
@@ -140,7 +140,7 @@ module _ {P E : Type 0} (epochs : Epochs) (inner : List ℕ → List ℕ) (parti
   promise-answered told heard sends before after new cached read answered loaded config chain waiting set step = record {
     made = sent_and_answered [] answers;
     heard = record { reports = Hears-nothing told; asks = Hears-nothing heard; sends = Hears-nothing sends; answers = answered };
-    steps = subst (λ s. Steps config chain (node_of a buffer waiting) (e ∷ []) (sent_and_answered [] answers) (node_of s buffer waiting)) (sym read) (steps config chain a buffer waiting e quiet.0 [] answers cached quiet.1 are step.good step.rests);
+    steps = λ certified known. subst (λ s. Steps config chain (node_of a buffer waiting) (e ∷ []) (sent_and_answered [] answers) (node_of (seen s.held s.life) buffer (knowing certified waiting))) (sym read) (steps config chain a buffer waiting e quiet.0 certified (subst (λ s. IsKnownSince config (node_of a buffer waiting) e s.life.tip certified) read known) [] answers cached quiet.1 are step.good step.rests);
   }
     where
       quiet : IsIdle config (node_of a buffer waiting) e × ([] ≡ sends_of (node_of a buffer waiting) e)

@@ -11,8 +11,7 @@ use Rattle.mar_store.specs.Kept.{At, has_height, value_at}
 use Rattle.mar_store.specs.Changes.{KeepsValues}
 use Rattle.mar_store.proofs.Lookups.{AllByRecursion-append, AllByRecursion-value_at}
 use Rattle.mar_node.specs.Answers.{answers_of, certified_after, is_known, sends_of, subscriptions_after}
-use Rattle.mar_node.specs.Cache.{answer_ticket, started_syncs, tickets_from}
-use Rattle.mar_node.specs.OpenSyncs.{AreStillOpen}
+use Rattle.mar_node.specs.Cache.{started_syncs}
 use Rattle.mar_node.specs.Chain.{Chain, IsBlockAt, IsLawful}
 use Rattle.mar_node.specs.Cached.{cached_block, cached_finalization}
 use Rattle.mar_node.specs.Config.{Config}
@@ -20,11 +19,12 @@ use Rattle.mar_node.specs.Event.{Event, acked_to, blocks_from, brought_block, ce
 use Rattle.mar_node.specs.Faults.{event_fault, last_height}
 use Rattle.mar_node.specs.Held.{Seen}
 use Rattle.mar_node.specs.Moves.{AreNextHeld, HasRoom, IsBelowWrites, IsStarted, IsStill, handed_report, next_in, with_handed}
-use Rattle.mar_node.specs.Node.{AreBlocksOf, AreFinalizationsOf, AreHonest, IsGood, Node, Rest, block_missing, empty_inbox, empty_peers, floor_awaited, window_full, write_count, write_uncovered}
-use Rattle.mar_node.specs.Promise.{ReportsFinalized, Waiting, asked_since, made_of, node_of}
+use Rattle.mar_node.specs.Node.{AreBlocksOf, AreFinalizationsOf, AreHonest, CertifiedCommitment, IsGood, Node, Rest, block_missing, empty_inbox, empty_peers, floor_awaited, window_full, write_count, write_uncovered}
+use Rattle.mar_node.specs.Promise.{IsKnownSince, ReportsFinalized, Waiting, asked_since, knowing, made_of, node_of}
 use Rattle.mar_writes.specs.Writing.{total_writes}
 use Rattle.mar_node.specs.Requests.{own_asks}
 use Rattle.mar_node.specs.Step.{AdvancesBy, AreHandedOf, AreTipsOf, CertificatesFrom, HandedBlock, HandedFrom, HandsOver, IsBlockFrom, IsCertFrom, IsStored, IsStoredLate, KeepsFrom, Report, Steps, TipsFrom, Writes, handed_blocks, handed_over, new_tip, outstanding_of}
+use Rattle.mar_node.proofs.CacheBeside.{AdvancesCache-beside}
 use Rattle.mar_node.proofs.CacheOver.{MovesCache}
 use Rattle.mar_node.proofs.Growing.{Grown}
 use Rattle.mar_node.proofs.Handing.{AreHandedOf-held, HandedFrom-held, handed_blocks-is, height_after-consecutive, sure_below}
@@ -173,7 +173,6 @@ pub record Reaches {P E : Type 0} (config : Config) (chain : Chain) (a : Seen P 
   pub sends : sends_of (node_of a buffer waiting) e ≡ []
   pub answers : (lowest : ℕ) → answers_of config (node_of a buffer waiting) lowest e no_floor ≡ []
   pub subscriptions : subscriptions_after (node_of a buffer waiting) e no_floor ≡ []
-  pub certified : (tip : ℕ) → certified_after (node_of a buffer waiting) e no_floor tip ≡ []
   pub no_syncs : (n' : Node) → started_syncs (node_of a buffer waiting) n' e ≡ []
 
 -- BOTH PARTS
@@ -242,7 +241,7 @@ HandsSure-next config chain m buffer waiting handed good sure_is_held next below
     sure h low has = sure_below m.held.blocks m.held.writes.uncovered h good.heights.stores.sure_blocks low has
 
 module _ {P E : Type 0} (config : Config) (chain : Chain) (a m : Seen P E) (e : Event) (buffer : List Block) (waiting : Waiting) (tips : List Report) (handed : List HandedBlock)
-    (reported : ReportsFinalized chain e) (honest : AreHonest chain waiting.requests) (reach : Reaches config chain a e buffer waiting tips m) (hands_sure : HandsSure chain m handed)
+    (reported : ReportsFinalized chain e) (honest : AreHonest chain waiting.requests) (reach : Reaches config chain a e buffer waiting tips m) (hands_sure : HandsSure chain m handed) (certified : List CertifiedCommitment) (known : IsKnownSince config (node_of a buffer waiting) e m.life.tip certified)
   where
     abbrev pub n : Node
     n = node_of a buffer waiting
@@ -253,8 +252,11 @@ module _ {P E : Type 0} (config : Config) (chain : Chain) (a m : Seen P E) (e : 
     abbrev pub asks : List Call
     asks = own_asks config n e no_floor
 
+    abbrev pub after : Waiting
+    after = knowing certified (asked_since waiting asks)
+
     abbrev pub n' : Node
-    n' = node_of (with_handed m handed) buffer (asked_since waiting asks)
+    n' = node_of (with_handed m handed) buffer after
 
     blocks_are : handed_blocks reports ≡ handed
     blocks_are = handed_after_tips tips handed reach.are_tips
@@ -307,26 +309,7 @@ module _ {P E : Type 0} (config : Config) (chain : Chain) (a m : Seen P E) (e : 
       tips = tips_before_handed a.life.tip m.life.tip tips handed reach.are_tips reach.tips_rise;
       tips_chain = tips_of_both chain tips handed reach.are_tips reach.tips_chain;
       awaited = refl;
-      cache = record {
-        kept = reach.cache.advances.kept;
-        nothing_else = reach.cache.advances.nothing_else;
-        stays_sure = reach.cache.advances.stays_sure;
-        stays = reach.cache.advances.stays;
-        first_stays = reach.cache.advances.first_stays;
-        synced = reach.cache.advances.synced;
-        finished = reach.cache.advances.finished;
-        lowest = reach.cache.advances.lowest;
-        lowests = reach.cache.advances.lowests;
-        own_lowest = reach.cache.advances.own_lowest;
-        cache_syncs = record {
-          still = reach.cache.advances.cache_syncs.still;
-          still_open = reach.cache.advances.cache_syncs.still_open;
-          started = reach.cache.advances.cache_syncs.started;
-          started_open = subst (λ tests. AreStillOpen (λ x. false) (tickets_from a.held.writes.next_sync (answer_ticket e) m.held.cache.kept.held tests) reach.cache.advances.cache_syncs.started) (reach.no_syncs (node_of m buffer waiting) ∙ sym (reach.no_syncs n')) reach.cache.advances.cache_syncs.started_open;
-          are = reach.cache.advances.cache_syncs.are;
-        };
-        witnessed = reach.cache.advances.witnessed;
-      };
+      cache = AdvancesCache-beside config n e no_floor m (with_handed m handed) buffer buffer waiting after refl reach.cache.advances;
       may_cached = λ x has. ⊎_elim (λ before. inl before) (λ new. inr (reach.cache.own.own x new)) (Contains-append_cases a.held.cache.kept.may reach.cache.put x (reach.cache.leaves.may x has));
       stored = IfSome-more (IsStored (node_of m buffer waiting)) (IsStored n') (λ s is. record { block = is.block; certificate = is.certificate }) (storing_of n e) reach.stored;
       stored_late = IfSome-more (IsStoredLate n no_floor (node_of m buffer waiting)) (IsStoredLate n no_floor n') (λ s is. is) (storing_of n e) reach.stored_late;
@@ -338,14 +321,14 @@ module _ {P E : Type 0} (config : Config) (chain : Chain) (a m : Seen P E) (e : 
         sends = sym reach.sends;
         answers = sym (reach.answers m.held.lowest);
         subscriptions = sym reach.subscriptions;
-        certified = λ h c. ap (λ xs. is_known xs h c) (sym (reach.certified m.life.tip));
+        certified = λ h c. subst (λ fx. is_known certified h c ≡ is_known (certified_after n e fx m.life.tip) h c) reach.no_effect (known.known h c);
         next_sync = reach.next_sync ∙ sym (ap (λ xs. a.held.writes.next_sync + length xs) (reach.no_syncs n') ∙ plus_none a.held.writes.next_sync);
         untouched = untouched;
       };
     }
 
     -- The node that a step leaves: this one, or with a ticket.
-    honest_after : AreHonest chain (asked_since waiting asks).requests
+    honest_after : AreHonest chain after.requests
     honest_after = AreHonest-asked_after chain waiting.requests [] asks (own_asks-honest config chain n e no_floor reported tt) honest
 
     -- an event that reached some node, and handed over from there until it rests, is a step where it wrote nothing
@@ -354,16 +337,16 @@ module _ {P E : Type 0} (config : Config) (chain : Chain) (a m : Seen P E) (e : 
       unticketed = n';
       advances = subst (λ fx. AdvancesBy config chain n e fx (made_of reports asks) n') (sym reach.no_effect) advances_unfloored;
       ticket = sym (with_sync-unwritten (write_count n) n' unwritten);
-      rests = Rest-beside config.window (with_handed m handed) buffer buffer waiting (asked_since waiting asks) rests;
-      good = IsGood-beside config chain (with_handed m handed) buffer buffer waiting (asked_since waiting asks) honest_after good;
+      rests = Rest-beside config.window (with_handed m handed) buffer buffer waiting after rests;
+      good = IsGood-beside config chain (with_handed m handed) buffer buffer waiting after honest_after good;
     }
 
     -- where it wrote, it ends with a sync that covers what it wrote
-    pub Steps-started : (new : Seen P E) → IsStarted (with_handed m handed) new → total_writes a.held.writes < total_writes m.held.writes → 0 < length m.held.writes.uncovered → IsGood config chain (node_of new buffer waiting) → Rest config.window (node_of new buffer waiting) → Steps config chain n (e ∷ []) (made_of reports asks) (node_of new buffer (asked_since waiting asks))
+    pub Steps-started : (new : Seen P E) → IsStarted (with_handed m handed) new → total_writes a.held.writes < total_writes m.held.writes → 0 < length m.held.writes.uncovered → IsGood config chain (node_of new buffer waiting) → Rest config.window (node_of new buffer waiting) → Steps config chain n (e ∷ []) (made_of reports asks) (node_of new buffer after)
     Steps-started new started written some good rests = record {
       unticketed = n';
       advances = subst (λ fx. AdvancesBy config chain n e fx (made_of reports asks) n') (sym reach.no_effect) advances_unfloored;
-      ticket = ap (λ s. node_of s buffer (asked_since waiting asks)) started ∙ sym (with_sync-written (write_count n) n' written some);
-      rests = Rest-beside config.window new buffer buffer waiting (asked_since waiting asks) rests;
-      good = IsGood-beside config chain new buffer buffer waiting (asked_since waiting asks) honest_after good;
+      ticket = ap (λ s. node_of s buffer after) started ∙ sym (with_sync-written (write_count n) n' written some);
+      rests = Rest-beside config.window new buffer buffer waiting after rests;
+      good = IsGood-beside config chain new buffer buffer waiting after honest_after good;
     }

@@ -1,6 +1,6 @@
 -- The start of a life: the newest stored finalization is told as the tip, what a crash left of the cache is taken up, and then
 -- blocks are handed over.
-use Rattle.std.proofs.Common.{ℕ, ◌≡◌, inl, inr, ⊎_elim, arith, List, [], ◌∷◌, ◌++◌, None, Option, Contains, Result, Ok, Err, MatchResult, refl, sym, ◌∙◌, ap, subst}
+use Rattle.std.proofs.Common.{ℕ, ◌≡◌, inl, inr, ⊎_elim, arith, List, [], ◌∷◌, ◌++◌, None, Option, Contains, Result, Ok, Err, MatchResult, refl, sym, ◌∙◌, ap, subst, ◌≤◌}
 use Rattle.std.specs.List.{filter_map}
 use Rattle.std.proofs.lemmas.List.Elements.{Contains-append_cases, Contains-append_left, Contains-append_right}
 use Rattle.mar_types.specs.Epochs.{Epochs, IsPartition}
@@ -31,7 +31,7 @@ use Rattle.mar_node.specs.OpenSyncs.{AreStillOpen}
 use Rattle.std.specs.Prelude.{false}
 use Rattle.mar_node.proofs.Growing.{Grown-same}
 use Rattle.mar_node.proofs.Handing.{Hears-nothing, HearsFront-nothing, Ran}
-use Rattle.mar_node.proofs.Lasting.{IsPart, LivesOn-ran, LivesOn-then}
+use Rattle.mar_node.proofs.Lasting.{IsPart, LivesOn-ran, LivesOn-then, newest_from}
 use Rattle.mar_node.proofs.PlainEvents.{Certificates-same, KeepsFrom-same, Writes-same, nothing_put}
 use Rattle.mar_node.proofs.Promises.{dispatched}
 use Rattle.mar_node.proofs.Reaching.{Reaches}
@@ -92,7 +92,6 @@ module _ {P E : Type 0} (config : Config) (chain : Chain) (a : Seen P E) (buffer
     sends = refl;
     answers = λ lowest. refl;
     subscriptions = refl;
-    certified = λ tip. refl;
     no_syncs = λ n'. refl;
   })
 
@@ -107,6 +106,7 @@ IsPart-begun a m n same loads passed = record {
   next_sync = ap (λ s. s.held.writes.next_sync) loads.same ∙ ap (λ s. s.held.writes.next_sync) same;
   intact = ap (λ s. s.held.intact) loads.same ∙ ap (λ s. s.held.intact) same;
   loaded = λ was. loads.loaded;
+  rises = let same : n.life.tip ≡ newest_tip a.life.tip (newest a.held.certs.held) = ap (λ s. s.life.tip) loads.same ∙ ap (λ s. s.life.tip) same in let up : a.life.tip ≤ newest_tip a.life.tip (newest a.held.certs.held) = newest_from a.life.tip (newest a.held.certs.held) in omega arith;
 }
 
 pub LivesOn-start : {P E : Type 0} (a m n : Seen P E) (told told' : Option (List Report)) (result : Result (Seen P E) Ending) → IsRead (with_newest a) m → LoadsCache m n → ArePassed a.held.watches n.held.watches → Ran n told told' result → LivesOn a result
@@ -218,6 +218,6 @@ module _ {P E : Type 0} (epochs : Epochs) (inner : List ℕ → List ℕ) (parti
           (subst (λ s. KeepsValues s.held.blocks.sure s.held.blocks.held) (sym begun_same) nested.sure_held) told told1 told' heard heard r
           (subst (λ i. Hears told (newest_tips i a.life.tip (newest a.held.certs.held)) told1) (sym set.inner_is) tips) ran (Hears-nothing heard)
 
-      by : (r : Result (Seen P E) Ending) → Ran n told1 told' r → MatchResult r (FinishesStart config chain a.held.cache.finds (node_of a buffer waiting) (life_started None ∷ []) (heard_by told heard) (heard_by told' heard)) (CutsStart config chain a.held.cache.finds (node_of a buffer waiting) (life_started None ∷ []) (heard_by told heard) (heard_by told' heard))
+      by : (r : Result (Seen P E) Ending) → Ran n told1 told' r → MatchResult r (λ new. FinishesStart config chain a.held.cache.finds (node_of a buffer waiting) (life_started None ∷ []) (heard_by told heard) (heard_by told' heard) new.held new.life) (CutsStart config chain a.held.cache.finds (node_of a buffer waiting) (life_started None ∷ []) (heard_by told heard) (heard_by told' heard))
       by (Ok new) ran = record { begun = node_of (with_cache a n.held.cache) buffer waiting; takes = takes; finishes = steps_on (Ok new) ran }
       by (Err x) ran = record { begun = node_of (with_cache a n.held.cache) buffer waiting; takes = inr takes; cuts = steps_on (Err x) ran }

@@ -87,7 +87,6 @@ module _ {P E : Type 0} (config : Config) (chain : Chain) (a m : Seen P E) (t : 
     sends = refl;
     answers = λ lowest. ap (λ o. map (λ k. to k true_value) (option_to_list o)) (waits-none t a.held.cache.syncs none);
     subscriptions = refl;
-    certified = λ tip. refl;
     no_syncs = λ n'. refl;
   }
 

@@ -185,17 +185,20 @@ abbrev pub certified_covers : ℕ → Bool → Cached → Bool
 certified_covers e is_verified x = is_notarization_of e x || (if is_verified then is_verified_of e x else is_notarized_of e x)
 
 -- the syncs that an event starts, each by the test of what it covers
--- under the lowest epoch and the cache after the event: the block is ingested first, which may apply a floor
-abbrev pub started_syncs : Node → Node → Event → List (Cached → Bool)
-started_syncs n n' (message_told t (verified r b)) = if nat_lt r.epoch n'.lowest then [] else is_verified_of r.epoch ∷ []
-started_syncs n n' (message_told t (proposed r peers b)) = if nat_lt r.epoch n'.lowest then [] else is_verified_of r.epoch ∷ []
-started_syncs n n' (message_told t (certify r b)) =
-    if nat_lt r.epoch n'.lowest then []
-    else certified_covers r.epoch (list_any (verified_at r b) n'.cache.held) ∷ []
-started_syncs n n' (message_told t (report_notarization f)) =
-    if nat_lt f.round.epoch n'.lowest then []
+-- under the lowest epoch and the entries that are held after it: the block is ingested first, which may apply a floor
+abbrev pub started_under : Node → ℕ → List Cached → Event → List (Cached → Bool)
+started_under n lowest held (message_told t (verified r b)) = if nat_lt r.epoch lowest then [] else is_verified_of r.epoch ∷ []
+started_under n lowest held (message_told t (proposed r peers b)) = if nat_lt r.epoch lowest then [] else is_verified_of r.epoch ∷ []
+started_under n lowest held (message_told t (certify r b)) =
+    if nat_lt r.epoch lowest then []
+    else certified_covers r.epoch (list_any (verified_at r b) held) ∷ []
+started_under n lowest held (message_told t (report_notarization f)) =
+    if nat_lt f.round.epoch lowest then []
     else is_notarization_of f.round.epoch ∷ map (λ x. is_notarized_of f.round.epoch) (notarized_at_hand n f.round (at_hand n f.payload))
-started_syncs n n' _ = []
+started_under n lowest held _ = []
+
+abbrev pub started_syncs : Node → Node → Event → List (Cached → Bool)
+started_syncs n n' e = started_under n n'.lowest n'.cache.held e
 
 -- a ticket for each sync that starts, with the entries that it covers
 abbrev pub tickets_from : ℕ → Option ℕ → List Cached → List (Cached → Bool) → List CacheSync

@@ -23,7 +23,7 @@ use Rattle.mar_node.specs.LuckyEntries.{lucky_entries}
 use Rattle.mar_node.specs.Metadata.{Pair, first_pair, lucky_pair}
 use Rattle.mar_node.specs.Faults.{Fault, store_fault, want_of_memory, StoreName, block_store, cert_store, meta_store, cache_store}
 use Rattle.mar_node.specs.Lives.{IsPicked, Picks, round_zero}
-use Rattle.mar_node.specs.Node.{CacheSync, Ended, SureOrWritten}
+use Rattle.mar_node.specs.Node.{CacheSync, CertifiedCommitment, Ended, SureOrWritten}
 use Rattle.mar_writes.specs.Writing.{IsOrdered, Writing, is_open_sync, no_writes}
 
 -- what each store tells of its failures
@@ -166,13 +166,15 @@ first_life provider epocher sizes = record {
   next_ack = 0;
 }
 
--- What contracts see of an actor.
+-- What contracts see of an actor: its stores, what it remembers, and the commitments that it knows as certified.
 pub record Seen (P E : Type 0) : Type 0 where
   pub held : Held
   pub life : Remembered P E
+  pub certified : List CertifiedCommitment
 
+-- as a step sees it that looks at no certified commitment
 abbrev pub seen : {P E : Type 0} → Held → Remembered P E → Seen P E
-seen held life = record { held = held; life = life }
+seen held life = record { held = held; life = life; certified = [] }
 
 -- What is left of the stores, and what each tells of its failures.
 pub record Remains : Type 0 where
@@ -244,8 +246,11 @@ written_cert x = record nothing_written { certs = x ∷ [] }
 abbrev pub written_both : At Block → At Finalization → Written
 written_both x y = record nothing_written { blocks = x ∷ []; certs = y ∷ [] }
 
+abbrev pub written_entries : List Cached → Written
+written_entries xs = record nothing_written { cached = xs }
+
 abbrev pub written_entry : Cached → Written
-written_entry x = record nothing_written { cached = x ∷ [] }
+written_entry x = written_entries (x ∷ [])
 
 abbrev pub written_prune : Round → Written
 written_prune round = record nothing_written { prunes = round ∷ [] }

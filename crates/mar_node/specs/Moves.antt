@@ -5,21 +5,21 @@ use Rattle.std.specs.Option.{option_or}
 use Rattle.mar_types.specs.Round.{Round}
 use Rattle.mar_types.specs.Epochs.{Epochs}
 use Rattle.mar_cert.specs.Block.{Block}
-use Rattle.mar_cert.specs.Finalization.{Finalization}
+use Rattle.mar_cert.specs.Finalization.{Finalization, Notarization}
 use Rattle.mar_key.specs.Cutoff.{Cutoff, greatest_of}
 use Rattle.mar_key.specs.Hears.{Hears}
 use Rattle.mar_key.specs.Processed.{first_unprocessed}
 use Rattle.mar_store.specs.Kept.{At, Kept, has_height, value_at}
 use Rattle.mar_store.specs.Changes.{Puts, Within}
 use Rattle.mar_node.specs.AllEntries.{LoadsEntries, PrunesByAll, PrunesEntries, PutsEntry, soonest}
-use Rattle.mar_node.specs.Cache.{is_below, with_witness}
+use Rattle.mar_node.specs.Cache.{is_below, is_notarization_of, is_notarized_of, verified_at, with_witness}
 use Rattle.mar_node.specs.CacheCalls.{FinishesEntries, KeepsTickets, PutsAndStarts, PutsAndSyncs, StartsSync, is_of_archive, none_goes}
-use Rattle.mar_node.specs.Cached.{Cached, cached_block, finalization_entry}
+use Rattle.mar_node.specs.Cached.{Cached, cached_block, finalization_entry, notarization_entry, notarized_entry}
 use Rattle.mar_node.specs.Entries.{has_commitment}
 use Rattle.mar_node.specs.Stored.{at_own_height, block_of, is_certified, is_held, newest}
 use Rattle.mar_node.specs.Acks.{Outstanding, after_given, after_oldest, dropped_oldest, given_front, given_oldest, height_after}
 use Rattle.mar_node.specs.Event.{Event, acked_to, all_retired, life_started, message_told, round_at}
-use Rattle.mar_node.specs.Messages.{certify, proposed, report_finalization, verified}
+use Rattle.mar_node.specs.Messages.{certify, proposed, report_finalization, report_notarization, verified}
 use Rattle.mar_node.specs.OpenSyncs.{AreStillOpen, covered_by, without_ticket}
 use Rattle.mar_node.specs.Node.{CacheSync}
 use Rattle.mar_node.specs.Faults.{ack_kind, dropped_ack, last_height, sync_kind, ticket_limit}
@@ -117,17 +117,27 @@ HearsUpTo old whole new result = MatchResult result (λ _. Hears old whole new) 
 
 -- LIVING ON
 
--- What a step keeps: no store failed, the settings are what they were, and no more tickets are given than the window has, nor
--- more than one of a sync.
-pub record SameLife {P E : Type 0} (old new : Seen P E) : Type 0 where
+-- how many syncs an event may start: a reported notarization those of it and of its block, another event one at most
+abbrev pub syncs_at_most : Event → ℕ
+syncs_at_most (message_told t (report_notarization f)) = 2
+syncs_at_most _ = 1
+
+-- What a step keeps: no store failed, the settings are what they were, the tip doesn't fall, and no more tickets are given than
+-- the window has, nor more of syncs than this.
+pub record SameLifeGiving {P E : Type 0} (most : ℕ) (old new : Seen P E) : Type 0 where
   pub passed : ArePassed old.held.watches new.held.watches
   pub tickets : new.life.next_ack ≤ old.life.next_ack + old.life.sizes.window
-  pub sync_tickets : new.held.writes.next_sync ≤ old.held.writes.next_sync + 1
+  pub sync_tickets : new.held.writes.next_sync ≤ old.held.writes.next_sync + most
+  pub rises : old.life.tip ≤ new.life.tip
   pub provider : new.life.provider ≡ old.life.provider
   pub epocher : new.life.epocher ≡ old.life.epocher
   pub sizes : new.life.sizes ≡ old.life.sizes
   pub intact : new.held.intact ≡ old.held.intact
   pub loaded : old.held.cache.loaded ≡ true → new.held.cache.loaded ≡ true
+
+-- and no more than one of a sync
+abbrev pub SameLife : {P E : Type 0} → Seen P E → Seen P E → Type 0
+SameLife old new = SameLifeGiving 1 old new
 
 -- a start takes up what a crash left of the cache, and what was taken up stays so
 abbrev pub KeepsTakenUp : {P E : Type 0} → Event → Seen P E → Seen P E → Type 0
@@ -146,18 +156,24 @@ KeepsInCache (message_told t (proposed r peers b)) a = a.held.cache.loaded ≡ t
 KeepsInCache (message_told t (certify r b)) a = a.held.cache.loaded ≡ true
 KeepsInCache _ a = ⊤
 
--- The tickets run out only where fewer are left than a window has, and those of syncs where none is left.
-abbrev pub RunsOut : {P E : Type 0} → Seen P E → Ending → Type 0
-RunsOut a e = (e.fault ≡ ticket_limit ack_kind → 2 ^ 64 - 1 ≤ a.life.next_ack + a.life.sizes.window) × (e.fault ≡ ticket_limit sync_kind → a.held.writes.next_sync ≡ 2 ^ 64 - 1)
+-- The tickets run out only where fewer are left than a window has, and those of syncs where fewer are left than may be started.
+abbrev pub RunsOut : {P E : Type 0} → ℕ → Seen P E → Ending → Type 0
+RunsOut most a e = (e.fault ≡ ticket_limit ack_kind → 2 ^ 64 - 1 ≤ a.life.next_ack + a.life.sizes.window) × (e.fault ≡ ticket_limit sync_kind → 2 ^ 64 ≤ a.held.writes.next_sync + most)
 
 -- Why a step ended a life.
-pub record EndsLife {P E : Type 0} (old : Seen P E) (e : Ending) : Type 0 where
+pub record EndsLifeGiving {P E : Type 0} (most : ℕ) (old : Seen P E) (e : Ending) : Type 0 where
   pub cause : IsEndedBy old.held.watches e
-  pub tickets : RunsOut old e
+  pub tickets : RunsOut most old e
+
+abbrev pub EndsLife : {P E : Type 0} → Seen P E → Ending → Type 0
+EndsLife old e = EndsLifeGiving 1 old e
 
 -- the life goes on with what it was set to, or ends for a cause
+abbrev pub LivesOnGiving : {P E : Type 0} → ℕ → Seen P E → Result (Seen P E) Ending → Type 0
+LivesOnGiving most old result = MatchResult result (SameLifeGiving most old) (EndsLifeGiving most old)
+
 abbrev pub LivesOn : {P E : Type 0} → Seen P E → Result (Seen P E) Ending → Type 0
-LivesOn old result = MatchResult result (SameLife old) (EndsLife old)
+LivesOn old result = LivesOnGiving 1 old result
 
 -- TIPS
 
@@ -291,6 +307,27 @@ pub record KeepsFor (epoch : ℕ) (put : List Cached) (covered : Cached → Bool
   pub done : old.cache.loaded ≡ true → old.lowest ≤ epoch → (ticket ≡ Some old.writes.next_sync) × PutsAll put old.cache.kept new.cache.kept × StartsFor covered answer old new
   pub loaded : new.cache.loaded ≡ old.cache.loaded
   pub same : new ≡ record old { cache = new.cache; writes = ticketed ticket old.writes; watches = new.watches }
+
+-- it was verified at that round
+abbrev pub is_verified_in : Held → Round → Block → Bool
+is_verified_in h r b = list_any (verified_at r b) h.cache.kept.held
+
+-- A notarized block is kept where it wasn't verified at that round: there nothing is done.
+abbrev pub KeepsNotarizedWhere : Bool → Round → Block → Held → Held → Type 0
+KeepsNotarizedWhere true r b old new = new ≡ record old { watches = new.watches }
+KeepsNotarizedWhere false r b old new = (ticket : Option ℕ) × KeepsFor r.epoch (notarized_entry r b ∷ []) (is_notarized_of r.epoch) None ticket old new
+
+-- the notarized block is kept, where one was found
+abbrev pub KeepsFound : Round → Option Block → Held → Held → Type 0
+KeepsFound r None old new = new ≡ record old { watches = new.watches }
+KeepsFound r (Some b) old new = KeepsNotarizedWhere (is_verified_in old r b) r b old new
+
+-- A notarization was kept, and then its block where that was found.
+pub record KeepsNotarization (f : Notarization) (found : Option Block) (old new : Held) : Type 0 where
+  pub ticket : Option ℕ
+  pub mid : Held
+  pub keeps : KeepsFor f.round.epoch (notarization_entry f ∷ []) (is_notarization_of f.round.epoch) None ticket old mid
+  pub block : KeepsFound f.round found mid new
 
 -- the rounds by which these prune the cache as they are witnessed, one after another
 abbrev pub pruned_by : ℕ → Round → List Round → List Round

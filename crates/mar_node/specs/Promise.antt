@@ -1,6 +1,6 @@
 -- An actor as a node, what a step asks of it and of its event, and what a step promises.
 use Rattle.std.specs.List.{AllByRecursion, filter_map}
-use Rattle.std.specs.Prelude.{Bool, Contains, flat_map, List, MatchResult, None, Option, Result, Some, [], false, length, true, ℕ, ⊤, ◌++◌, ◌<◌, ◌∷◌, ◌≡◌, ◌⊎◌}
+use Rattle.std.specs.Prelude.{Bool, Contains, flat_map, IsTrue, List, MatchResult, None, Option, Result, Some, [], false, length, true, ℕ, ⊤, ◌++◌, ◌<◌, ◌∷◌, ◌≡◌, ◌⊎◌}
 use Rattle.mar_types.specs.Epochs.{Epochs, IsPartition}
 use Rattle.mar_cert.specs.Block.{Block}
 use Rattle.mar_cert.specs.Finalization.{Finalization, finalization_bytes}
@@ -10,15 +10,15 @@ use Rattle.mar_key.specs.Hears.{Hears}
 use Rattle.mar_key.specs.Keys.{Call}
 use Rattle.mar_key.specs.PeerQueue.{PeerQueue}
 use Rattle.mar_store.specs.Kept.{At, Reopens}
-use Rattle.mar_node.specs.Answers.{Sent, TicketAnswer}
+use Rattle.mar_node.specs.Answers.{Sent, TicketAnswer, certified_after, is_known}
 use Rattle.mar_node.specs.Cached.{Cached, cached_block}
-use Rattle.mar_node.specs.Messages.{Inbox, certify, message_blocks, proposed, report_finalization, verified}
+use Rattle.mar_node.specs.Messages.{Inbox, certify, message_blocks, proposed, report_finalization, report_notarization, verified}
 use Rattle.mar_node.specs.Metadata.{Pair}
 use Rattle.mar_node.specs.Chain.{Chain, IsBlockAt, IsLawful}
 use Rattle.mar_node.specs.Config.{Config}
-use Rattle.mar_node.specs.Event.{Event, life_started, message_told}
+use Rattle.mar_node.specs.Event.{Event, effect_of, is_query, life_started, message_told}
 use Rattle.mar_node.specs.Faults.{Begin, Fault, from_floor, from_genesis, opening_fault}
-use Rattle.mar_node.specs.Held.{Ending, Remains, Seen, Sizes, picks_of}
+use Rattle.mar_node.specs.Held.{Ending, Held, Remains, Remembered, Seen, Sizes, picks_of, seen}
 use Rattle.mar_node.specs.Lives.{Cuts, CutsReopening, Finds, IsGoodEnded, Picks, TakesUp}
 use Rattle.mar_node.specs.Node.{Awaited, CertifiedCommitment, Ended, IsFinalized, IsGood, Node, Rest, Subscription, empty_inbox, empty_peers}
 use Rattle.mar_node.specs.Step.{Made, Report, Steps, nothing_made}
@@ -29,7 +29,6 @@ pub record Around : Type 0 where
   pub peers : PeerQueue
   pub inbox : Inbox
   pub subscriptions : List Subscription
-  pub certified : List CertifiedCommitment
   pub buffer_closed : Bool
 
 -- Nothing stands there yet, and the queues have this capacity.
@@ -39,27 +38,31 @@ nothing_around capacity = record {
   peers = empty_peers capacity;
   inbox = empty_inbox capacity;
   subscriptions = [];
-  certified = [];
   buffer_closed = false;
 }
 
 -- Who waits beside a life: the requests that are open with the resolver, the answer tickets for which neither an answer nor a
--- closing has come, and the next answer ticket.
+-- closing has come, and the next answer ticket; and the commitments that are known as certified.
 pub record Waiting : Type 0 where
   pub requests : List Asked
   pub unanswered : List ℕ
   pub next_answer : ℕ
+  pub certified : List CertifiedCommitment
 
 -- as a life begins
 abbrev pub none_waiting : Waiting
-none_waiting = record { requests = []; unanswered = []; next_answer = 0 }
+none_waiting = record { requests = []; unanswered = []; next_answer = 0; certified = [] }
+
+-- where these commitments are known as certified
+abbrev pub knowing : List CertifiedCommitment → Waiting → Waiting
+knowing certified waiting = record waiting { certified = certified }
 
 -- after these asks
 abbrev pub asked_since : Waiting → List Call → Waiting
 asked_since waiting asks = record waiting { requests = asked_after waiting.requests [] asks }
 
 abbrev pub waiting_in : Node → Waiting
-waiting_in n = record { requests = n.asked; unanswered = n.unanswered; next_answer = n.next_answer }
+waiting_in n = record { requests = n.asked; unanswered = n.unanswered; next_answer = n.next_answer; certified = n.certified }
 
 -- the node that an actor is, with what stands around it, this buffer and those who wait
 abbrev pub node_around : {P E : Type 0} → Around → Seen P E → List Block → Waiting → Node
@@ -84,7 +87,7 @@ node_around around a buffer waiting = record {
   peers = around.peers;
   inbox = around.inbox;
   subscriptions = around.subscriptions;
-  certified = around.certified;
+  certified = waiting.certified;
   witnessed = a.held.witnessed;
   buffer_closed = around.buffer_closed;
   unanswered = waiting.unanswered;
@@ -173,11 +176,24 @@ pub record HearsMade (before : Heard) (made : Made) (after : Heard) : Type 0 whe
   pub sends : Hears before.sends made.sends after.sends
   pub answers : after.answers ≡ before.answers ++ made.answers
 
--- A step that finished: what was heard is what it made, and what is open with the resolver follows from that.
-pub record FinishesStep {P E : Type 0} (config : Config) (chain : Chain) (n : Node) (events : List Event) (before after : Heard) (new : Seen P E) : Type 0 where
+-- These are the commitments that are known as certified after an event, up to their order and to repeats, where this is the
+-- tip then; a query leaves them as they are.
+pub record IsKnownSince (config : Config) (n : Node) (e : Event) (tip : ℕ) (certified : List CertifiedCommitment) : Type 0 where
+  pub known : (h : ℕ) (c : List ℕ) → is_known certified h c ≡ is_known (certified_after n e (effect_of config n e) tip) h c
+  pub query : IsTrue (is_query e) → certified ≡ n.certified
+
+-- the same of the events of a step; of several nothing is said
+abbrev pub IsKnownAfter : Config → Node → List Event → ℕ → List CertifiedCommitment → Type 0
+IsKnownAfter config n (e ∷ []) tip certified = IsKnownSince config n e tip certified
+IsKnownAfter config n _ tip certified = ⊥
+
+-- A step that finished, and left these: what was heard is what it made, what is open with the resolver follows from that, and
+-- the commitments that are known as certified are those that are known after it.
+pub record FinishesStep {P E : Type 0} (config : Config) (chain : Chain) (n : Node) (events : List Event) (before after : Heard) (held : Held) (life : Remembered P E) : Type 0 where
   pub made : Made
   pub heard : HearsMade before made after
-  pub steps : Steps config chain n events made (node_of new n.buffer (asked_since (waiting_in n) made.asks))
+  pub steps : (certified : List CertifiedCommitment) → IsKnownAfter config n events life.tip certified
+      → Steps config chain n events made (node_of (seen held life) n.buffer (knowing certified (asked_since (waiting_in n) made.asks)))
 
 -- A step that was cut: what was heard is what it made until then.
 pub record CutsStep (config : Config) (chain : Chain) (n : Node) (events : List Event) (before after : Heard) (e : Ending) : Type 0 where
@@ -186,7 +202,7 @@ pub record CutsStep (config : Config) (chain : Chain) (n : Node) (events : List 
   pub cuts : Cuts config chain n events made e.fault e.remains.ended
 
 abbrev pub StepsOrCuts : {P E : Type 0} → Config → Chain → Node → List Event → Heard → Heard → Result (Seen P E) Ending → Type 0
-StepsOrCuts config chain n events before after result = MatchResult result (FinishesStep config chain n events before after) (CutsStep config chain n events before after)
+StepsOrCuts config chain n events before after result = MatchResult result (λ new. FinishesStep config chain n events before after new.held new.life) (CutsStep config chain n events before after)
 
 -- What a step of a life that has begun promises of every chain for which it is lawful, where what a crash left of the cache was
 -- taken up: it is a step of the node, or a cut.
@@ -196,10 +212,10 @@ KeepsStep epochs inner old events buffer before after result =
     → StepsOrCuts config chain (node_of old buffer waiting) events before after result
 
 -- A start that finished: what a crash left of the cache was taken up, and from there it is a step of the node.
-pub record FinishesStart {P E : Type 0} (config : Config) (chain : Chain) (picked : Option (List Cached)) (n : Node) (events : List Event) (before after : Heard) (new : Seen P E) : Type 0 where
+pub record FinishesStart {P E : Type 0} (config : Config) (chain : Chain) (picked : Option (List Cached)) (n : Node) (events : List Event) (before after : Heard) (held : Held) (life : Remembered P E) : Type 0 where
   pub begun : Node
   pub takes : TakesUp picked n begun
-  pub finishes : FinishesStep config chain begun events before after new
+  pub finishes : FinishesStep config chain begun events before after held life
 
 -- A start that was cut, before it took up the cache or behind that.
 pub record CutsStart (config : Config) (chain : Chain) (picked : Option (List Cached)) (n : Node) (events : List Event) (before after : Heard) (e : Ending) : Type 0 where
@@ -211,7 +227,7 @@ pub record CutsStart (config : Config) (chain : Chain) (picked : Option (List Ca
 abbrev pub KeepsStart : {P E : Type 0} → Epochs → (List ℕ → List ℕ) → Seen P E → List Event → List Block → Heard → Heard → Result (Seen P E) Ending → Type 0
 KeepsStart epochs inner old events buffer before after result =
     old.held.cache.fresh ≡ true → (config : Config) (chain : Chain) (waiting : Waiting) → IsSetTo config old.life.sizes epochs inner → IsLawfulStep config chain (node_of old buffer waiting) events
-    → MatchResult result (FinishesStart config chain old.held.cache.finds (node_of old buffer waiting) events before after) (CutsStart config chain old.held.cache.finds (node_of old buffer waiting) events before after)
+    → MatchResult result (λ new. FinishesStart config chain old.held.cache.finds (node_of old buffer waiting) events before after new.held new.life) (CutsStart config chain old.held.cache.finds (node_of old buffer waiting) events before after)
 
 -- what a step promises, be it the start of a life or one of a life that has begun
 abbrev pub KeepsPromise : {P E : Type 0} → List Event → Epochs → (List ℕ → List ℕ) → Seen P E → List Block → Heard → Heard → Result (Seen P E) Ending → Type 0
@@ -221,6 +237,7 @@ KeepsPromise events epochs inner old buffer before after result = KeepsStep epoc
 -- what an event would store is small
 abbrev pub IsSmallEvent : Event → Type 0
 IsSmallEvent (message_told t (report_finalization f)) = IsSmall (finalization_bytes f)
+IsSmallEvent (message_told t (report_notarization f)) = IsSmall (finalization_bytes f)
 IsSmallEvent (message_told t (verified r b)) = IsSmall b.encoded
 IsSmallEvent (message_told t (proposed r peers b)) = IsSmall b.encoded
 IsSmallEvent (message_told t (certify r b)) = IsSmall b.encoded

@@ -1,18 +1,19 @@
 -- What an actor answers: to a query what it finds, where a block of a commitment is looked for by its digest; to a caller whose
 -- block it keeps which sync was started, and that this one has finished.
 use Rattle.std.specs.Option.{option_or}
-use Rattle.std.specs.Prelude.{List, None, Option, Some, [], bytes_eq, find, map, option_and_then, option_map, option_to_list, ℕ}
+use Rattle.std.specs.Prelude.{List, None, Option, Some, [], bytes_eq, filter, find, map, nat_lt, option_and_then, option_map, option_to_list, ℕ, ◌++◌, ◌≡◌}
 use Rattle.mar_types.specs.Round.{Round}
 use Rattle.mar_cert.specs.Block.{Block}
 use Rattle.mar_store.specs.Kept.{value_at}
 use Rattle.mar_node.specs.AllEntries.{soonest}
 use Rattle.mar_node.specs.Cached.{Cached, cached_block}
 use Rattle.mar_node.specs.Entries.{has_digest, is_verified_at}
-use Rattle.mar_node.specs.Answers.{TicketAnswer, Value, anchor, bytes_of, cache_value, finalization_value, finished_answers, info, or_none, processed_value, to}
+use Rattle.mar_node.specs.Answers.{TicketAnswer, Value, anchor, bytes_of, cache_value, finalization_value, finished_answers, info, is_known, or_none, own_and_parent, processed_value, to}
 use Rattle.mar_node.specs.Event.{Event, message_told, sync_finished}
 use Rattle.mar_node.specs.Held.{Held}
-use Rattle.mar_node.specs.Messages.{Identifier, Message, get_anchor, get_block, get_finalization, get_info, get_processed, get_verified, latest, of_digest, of_height}
+use Rattle.mar_node.specs.Messages.{Identifier, Message, get_anchor, get_block, get_finalization, get_info, get_processed, get_verified, latest, of_digest, of_height, report_certification}
 use Rattle.mar_node.specs.Moves.{found_at_hand}
+use Rattle.mar_node.specs.Node.{CertifiedCommitment}
 use Rattle.mar_node.specs.Stored.{block_of, newest}
 
 -- the block of the entry that a search of the cache finds by a digest
@@ -48,3 +49,14 @@ abbrev pub answers_found : (List ℕ → List ℕ) → Held → List Block → E
 answers_found inner h buffer (message_told (Some t) m) = map (to t) (option_to_list (own_found inner h buffer m))
 answers_found inner h buffer (sync_finished t) = finished_answers t h.cache.syncs
 answers_found inner h buffer _ = []
+
+-- CERTIFIED COMMITMENTS
+
+-- the commitments that an event makes known as certified: those of a reported certification's block and of its parent
+abbrev pub commitments_found : (List ℕ → List ℕ) → Held → List Block → Event → List CertifiedCommitment
+commitments_found inner h buffer (message_told t (report_certification f)) = own_and_parent (found_at_hand inner buffer h.cache.kept.held h.blocks.held f.payload)
+commitments_found inner h buffer _ = []
+
+-- these are known besides those before, but for heights up to the tip; compared by look-ups
+abbrev pub Learns : List CertifiedCommitment → List CertifiedCommitment → ℕ → List CertifiedCommitment → Type 0
+Learns old found tip new = (h : ℕ) (c : List ℕ) → is_known new h c ≡ is_known (filter (λ x. nat_lt tip x.height) (old ++ found)) h c

@@ -22,7 +22,7 @@ pub enum StoreName {
 pub enum TicketKind {
     /// Acknowledgements.
     Ack,
-    /// Syncs of the finalized archives.
+    /// Syncs, of the finalized archives and of the cache.
     Sync,
 }
 

@@ -10,13 +10,13 @@ ghost use Rattle.mar_node.specs.Views.{fault_of};
 use crate::fault::Fault;
 use crate::holds::Holds;
 use crate::started::Started;
-use mar_cert::{AsFinalization, Variant};
+use mar_cert::{CommitsTo, Variant};
 
 /// The stores of a life where they cache notarizations of this type. It is a trait of its own so that a rule which puts none
 /// names no such type.
 pub trait HoldsNotarizations<V: Variant>: Holds<V> {
     /// A notarization as it is cached.
-    type Notarization: AsFinalization;
+    type Notarization: CommitsTo<V::Commitment>;
 
     /// Keeps a notarization, and starts a sync of those of its epoch. Nothing is kept of an epoch below the lowest, and there
     /// is nothing to wait for then.

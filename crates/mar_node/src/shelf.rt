@@ -21,7 +21,7 @@ use mar_types::{Epoch, Round};
 
 /// A cache of the blocks of a kind, of their finalizations and of notarizations.
 pub trait Shelf<V: Variant, F: CommitsTo<V::Commitment>>: Cache {
-    type Notarization: AsFinalization;
+    type Notarization: CommitsTo<V::Commitment>;
 
     /// Keeps an entry, and starts a sync of its archive. Nothing is done where its epoch is below the lowest.
     fn put_and_start(

@@ -5,7 +5,7 @@ use Rattle.mar_cert.specs.Block.{Block}
 use Rattle.mar_node.specs.Chain.{Chain}
 use Rattle.mar_node.specs.Config.{Config}
 use Rattle.mar_node.specs.Faults.{Begin, Fault, from_genesis, want_of_memory}
-use Rattle.mar_node.specs.Held.{ArePassed, Ending, Grew, Held, IsEndedBy, IsUsual, Loses, Remains, Remembered, ReopensAs, Sizes, Written, ended_on, first_life, nothing_written, picks_of, written_block}
+use Rattle.mar_node.specs.Held.{ArePassed, Ending, Grew, Held, IsEndedBy, IsUsual, Loses, Remains, Remembered, ReopensAs, Sizes, Written, ended_on, first_life, nothing_written, picks_of, written_block, seen}
 use Rattle.mar_node.specs.Lives.{CutsReopening, Finds}
 use Rattle.mar_node.specs.Opening.{BeginsWith, Derives, IsBeginFault, LosesDeriving, derived_pair, next_fault}
 use Rattle.mar_node.specs.Promise.{Begins, IsLawfulOpening, IsOpeningFault, node_of, none_waiting}
@@ -93,8 +93,8 @@ module _ (epochs : Epochs) (old : Remains) (luck : ℕ) (begin : Begin) (g : Blo
     derives : Derives config.epochs opens.begun new
     derives = subst (λ es. Derives es opens.begun new) (sym same) opens.derives
 
-    pub opened_begins : (chain : Chain) → IsLawfulOpening config chain old.ended begin → Begins config chain old.ended (picks_of old luck) begin (node_of (record { held = new; life = life }) [] none_waiting)
+    pub opened_begins : (chain : Chain) → IsLawfulOpening config chain old.ended begin → Begins config chain old.ended (picks_of old luck) begin (node_of (seen new life) [] none_waiting)
     opened_begins chain asks = begins config chain old luck begin opens.first opens.reopens g is opens.begun opens.begins opens.grew provider epocher sizes new life asks capacity derives life_is
 
-    pub opened_finds : Finds config old.ended (picks_of old luck) begin (node_of (record { held = new; life = life }) [] none_waiting)
+    pub opened_finds : Finds config old.ended (picks_of old luck) begin (node_of (seen new life) [] none_waiting)
     opened_finds = finds old begin luck opens.first opens.reopens g is opens.begun opens.begins config provider epocher sizes new life opens.grew capacity derives life_is

@@ -217,7 +217,7 @@ pub trait LifeCache<V: Variant, F: CommitsTo<V::Commitment>>: Drop {
 /// The cache of a life that keeps notarizations of this type. `Stores` names it only where it puts one.
 pub trait LifeNotarizations<V: Variant, F: CommitsTo<V::Commitment>>: LifeCache<V, F> {
     /// A notarization as it is cached.
-    type Notarization: AsFinalization;
+    type Notarization: CommitsTo<V::Commitment>;
 
     /// Keeps a notarization, and starts a sync of its archive. Nothing is kept of an epoch below the lowest.
     fn put_notarization(
