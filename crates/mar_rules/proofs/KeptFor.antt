@@ -5,12 +5,14 @@ use Rattle.std.proofs.lemmas.Bool.{eq-eqb}
 use Rattle.std.proofs.lemmas.List.Elements.{Contains-append_left, Contains-append_right}
 use Rattle.mar_types.specs.Round.{Round}
 use Rattle.mar_cert.specs.Block.{Block}
-use Rattle.mar_node.specs.Cache.{certified_covers, is_verified_of, notarized_where, same_archive, verified_at}
+use Rattle.mar_cert.specs.Finalization.{Notarization}
+use Rattle.mar_node.specs.Cache.{certified_covers, is_notarization_of, is_notarized_of, is_verified_of, notarized_where, same_archive, verified_at}
 use Rattle.mar_node.specs.CacheCalls.{GivesTicket, JoinsTickets, StartsSync, is_of_archive, none_goes}
 use Rattle.mar_node.specs.AllEntries.{PutsEntry}
-use Rattle.mar_node.specs.Cached.{Cached, certified_entry, finalization_entry, notarization_entry, notarized_entry, verified_entry}
+use Rattle.mar_node.specs.Cached.{Cached, cached_block, certified_entry, epoch_of, finalization_entry, notarization_entry, notarized_entry, verified_entry}
+use Rattle.mar_node.specs.Entries.{has_digest, is_verified_at}
 use Rattle.mar_node.specs.Held.{AreCached, Held}
-use Rattle.mar_node.specs.Moves.{CachesEntry, KeepsFor, PutsAll, StartsCacheSync, with_cache_sync}
+use Rattle.mar_node.specs.Moves.{CachesEntry, KeepsFor, KeepsNotarizedWhere, PutsAll, StartsCacheSync, is_verified_in, with_cache_sync}
 use Rattle.mar_node.specs.OpenSyncs.{AreStillOpen}
 use Rattle.mar_node.specs.declared.CacheTicket.{CacheTicket}
 use Rattle.mar_node.specs.declared.Section.TheVariants.{Notarizations, Notarized, Verified}
@@ -18,9 +20,11 @@ use Rattle.mar_node.specs.declared.Started.{Started}
 use Rattle.mar_node.specs.declared.Started.TheVariants.{Ready, Ticket}
 use Rattle.mar_node.specs.Writing.{with_ticket}
 use Rattle.mar_node.proofs.CacheSteps.{place_epoch}
+use Rattle.mar_node.proofs.CertifiedBlocks.{verified-is}
 use Rattle.mar_node.proofs.EntryLists.{contains_here, contains_more, filter_passed}
+use Rattle.mar_node.proofs.KeptEach.{KeepsNotarizedWhere-unread}
 use Rattle.mar_node.proofs.OpenSyncs.{AreStillOpen-then}
-use Rattle.mar_rules.specs.Keeping.{PutsCertified, block_section, is_verified_in, joined_of, opened_for, ticket_for}
+use Rattle.mar_rules.specs.Keeping.{PutsCertified, block_section, joined_of, opened_for, ticket_for}
 
 -- ENTRIES OF AN ARCHIVE
 
@@ -35,19 +39,33 @@ and_false : (d : Bool) → (d && false) ≡ false
 and_false true = refl
 and_false false = refl
 
-verified_archive : (r : Round) (b : Block) (x : Cached) → is_verified_of r.epoch x ≡ same_archive (verified_entry r b) x
+pub verified_archive : (r : Round) (b : Block) (x : Cached) → is_verified_of r.epoch x ≡ same_archive (verified_entry r b) x
 verified_archive r b (verified_entry s c) = eqb-sym s.epoch r.epoch
 verified_archive r b (finalization_entry f) = refl
 verified_archive r b (notarized_entry s c) = refl
 verified_archive r b (certified_entry k c) = refl
 verified_archive r b (notarization_entry n) = refl
 
-notarized_archive : (r : Round) (b : Block) (x : Cached) → is_of_archive r.epoch Notarized x ≡ same_archive (notarized_entry r b) x
-notarized_archive r b (notarized_entry s c) = and_true (s.epoch == r.epoch) ∙ eqb-sym s.epoch r.epoch
-notarized_archive r b (verified_entry s c) = and_false (s.epoch == r.epoch)
-notarized_archive r b (finalization_entry f) = and_false (f.round.epoch == r.epoch)
-notarized_archive r b (certified_entry k c) = and_false (k == r.epoch)
-notarized_archive r b (notarization_entry n) = and_false (n.round.epoch == r.epoch)
+pub notarized_archive : (r : Round) (b : Block) (x : Cached) → is_notarized_of r.epoch x ≡ same_archive (notarized_entry r b) x
+notarized_archive r b (notarized_entry s c) = eqb-sym s.epoch r.epoch
+notarized_archive r b (verified_entry s c) = refl
+notarized_archive r b (finalization_entry f) = refl
+notarized_archive r b (certified_entry k c) = refl
+notarized_archive r b (notarization_entry n) = refl
+
+pub notarization_archive : (f : Notarization) (x : Cached) → is_notarization_of f.round.epoch x ≡ same_archive (notarization_entry f) x
+notarization_archive f (notarization_entry n) = eqb-sym n.round.epoch f.round.epoch
+notarization_archive f (verified_entry s c) = refl
+notarization_archive f (notarized_entry s c) = refl
+notarization_archive f (finalization_entry g) = refl
+notarization_archive f (certified_entry k c) = refl
+
+notarized_section : (r : Round) (b : Block) (x : Cached) → is_of_archive r.epoch Notarized x ≡ same_archive (notarized_entry r b) x
+notarized_section r b (notarized_entry s c) = and_true (s.epoch == r.epoch) ∙ eqb-sym s.epoch r.epoch
+notarized_section r b (verified_entry s c) = and_false (s.epoch == r.epoch)
+notarized_section r b (finalization_entry f) = and_false (f.round.epoch == r.epoch)
+notarized_section r b (certified_entry k c) = and_false (k == r.epoch)
+notarized_section r b (notarization_entry n) = and_false (n.round.epoch == r.epoch)
 
 -- what the sync of a certified block is to cover stands in one of its two archives
 of_archive : (e : ℕ) (c : Bool) (x : Cached) → certified_covers e c x ≡ true → (is_of_archive e Notarizations x ≡ true) ⊎ (is_of_archive e (block_section c) x ≡ true)
@@ -68,15 +86,15 @@ of_archive e false (finalization_entry f) is = absurd cc
 
 -- A SYNC THAT IS TAKEN IN
 
--- an entry was put, and the sync that was started is taken in
-pub kept_entry : (r : Round) (b : Block) (answer : Option ℕ) (started : Started) (old mid : Held) (covers now : CacheTicket → List Cached) → CachesEntry (verified_entry r b) started old mid covers now → KeepsFor r.epoch (verified_entry r b ∷ []) (is_verified_of r.epoch) answer (ticket_for started mid) old (opened_for now started answer mid)
-kept_entry r b answer Ready old mid covers now caches = record {
+-- an entry was put, and the sync of its archive that was started is taken in
+pub kept_entry : (e : Cached) (covered : Cached → Bool) (answer : Option ℕ) (started : Started) (old mid : Held) (covers now : CacheTicket → List Cached) → ((x : Cached) → covered x ≡ same_archive e x) → CachesEntry e started old mid covers now → KeepsFor (epoch_of e) (e ∷ []) covered answer (ticket_for started mid) old (opened_for now started answer mid)
+kept_entry e covered answer Ready old mid covers now archive caches = record {
   below = λ low. (refl, ap (λ k. k) (caches.puts.ready low).1, caches.still_open);
   done = λ loaded from. absurd (caches.puts.done loaded from).1;
   loaded = caches.loaded;
   same = caches.same;
 }
-kept_entry r b answer (Ticket t) old mid covers now caches = record {
+kept_entry e covered answer (Ticket t) old mid covers now archive caches = record {
   below = λ low. absurd (let is = (caches.puts.ready low).0 in cc);
   done = λ loaded from. let (puts, gives) = caches.puts.done loaded from in (
     ap (λ h. Some h.writes.next_sync) caches.same,
@@ -85,7 +103,7 @@ kept_entry r b answer (Ticket t) old mid covers now caches = record {
       still = mid.cache.syncs;
       still_open = caches.still_open;
       entries = now t;
-      covers = λ x has covered. subst (λ xs. Contains xs x) (sym gives.2) (filter_passed (same_archive (verified_entry r b)) mid.cache.kept.held x has (sym (verified_archive r b x) ∙ covered));
+      covers = λ x has passes. subst (λ xs. Contains xs x) (sym gives.2) (filter_passed (same_archive e) mid.cache.kept.held x has (sym (archive x) ∙ passes));
       are = ap (λ k. mid.cache.syncs ++ record { ticket = k; entries = now t; answer = answer } ∷ []) (ap (λ h. h.writes.next_sync) caches.same);
     },
   );
@@ -157,6 +175,10 @@ kept_certified r b answer started others old mid new covers now later joins puts
               | inr block ↦ Contains-append_left _ _ x (subst (λ xs. Contains xs x) first_is (of_block loaded from x has block))
             ]))
 
+-- what a look for the digest of a block tells
+pub verified_found : (r : Round) (b : Block) (h : Held) (digest : List ℕ) (found is : Bool) → digest ≡ b.digest → found ≡ list_any (λ x. is_verified_at r x && has_digest digest (cached_block x)) h.cache.kept.held → found ≡ is → is_verified_in h r b ≡ is
+verified_found r b h digest found is own found_is is_so = sym (verified-is r b h.cache.kept.held) ∙ subst (λ d. list_any (λ x. is_verified_at r x && has_digest d (cached_block x)) h.cache.kept.held ≡ is) own (sym found_is ∙ is_so)
+
 -- what is said of what a call took in
 pub taken_in : {E : Type 0} (P : Option ℕ → Held → Type 0) (result : Result (Option ℕ) E) (ticket : Option ℕ) (opened new : Held) → OnOk result (new ≡ opened) → IfOk result (λ t. t ≡ ticket) → P ticket opened → IfOk result (λ t. P t new)
 taken_in P (Ok t) ticket opened new same is said = subst (λ o. P o new) (sym is) (subst (P ticket) (sym same) said)
@@ -224,5 +246,11 @@ module _ (r : Round) (b : Block) (old read new : Held) (covers now : CacheTicket
   }
     where
       of_section : (s : Started) → GivesTicket now r.epoch (same_archive (notarized_entry r b)) new.cache.kept.held s → GivesTicket now r.epoch (is_of_archive r.epoch Notarized) new.cache.kept.held s
-      of_section (Ticket t) is = (is.0, is.1, is.2 ∙ filters_alike (same_archive (notarized_entry r b)) (is_of_archive r.epoch Notarized) (λ x. sym (notarized_archive r b x)) new.cache.kept.held)
+      of_section (Ticket t) is = (is.0, is.1, is.2 ∙ filters_alike (same_archive (notarized_entry r b)) (is_of_archive r.epoch Notarized) (λ x. sym (notarized_section r b x)) new.cache.kept.held)
       of_section Ready is = absurd is
+
+-- A NOTARIZED BLOCK
+
+-- the same where a look for it came before, which tells whether it was verified
+pub kept_where : (is : Bool) (r : Round) (b : Block) (old read new : Held) → is_verified_in old r b ≡ is → read ≡ record old { watches = read.watches } → KeepsNotarizedWhere is r b read new → KeepsNotarizedWhere (is_verified_in old r b) r b old new
+kept_where is r b old read new tells same keeps = subst (λ c. KeepsNotarizedWhere c r b old new) (sym tells) (KeepsNotarizedWhere-unread is r b old new read.watches (subst (λ h. KeepsNotarizedWhere is r b h new) same keeps))

@@ -9,7 +9,7 @@ use Rattle.mar_key.specs.Hears.{Hears}
 use Rattle.mar_key.specs.Keys.{Call, above_height, retain}
 use Rattle.mar_key.specs.Processed.{Processed}
 use Rattle.mar_node.specs.Event.{closed_at, retired, round_at}
-use Rattle.mar_node.specs.Held.{Held, Seen, WithinWritten, Written, first_life, written_prunes}
+use Rattle.mar_node.specs.Held.{Held, Seen, WithinWritten, Written, first_life, seen, written_prunes}
 use Rattle.mar_node.specs.Moves.{HearsFront, HearsUpTo, pruned_by, with_cache_of}
 use Rattle.mar_node.specs.Requests.{raise_asks}
 use Rattle.mar_node.proofs.RaiseAsks.{process_asks, unraised_asks}
@@ -28,7 +28,7 @@ on_both (Err e) f said = tt
 
 -- the stores as those of a life of which nothing is said
 abbrev seen_of : Held → Seen ⊤ ⊤
-seen_of h = record { held = h; life = first_life tt tt (record { window = 0; max_repair = 0; retention = 0; capacity = 0 }) }
+seen_of h = seen h (first_life tt tt (record { window = 0; max_repair = 0; retention = 0; capacity = 0 }))
 
 module _ (epochs : Epochs) (old one two : Held) (processed : Option Processed) (height : ℕ) (round : Option Round) (one_is : one ≡ record old { processed = processed; watches = one.watches }) (two_is : two ≡ record one { watches = two.watches }) (round_is : round ≡ round_at one.certs.held height) where
   -- as much may be pruned since the stores that its round was read from

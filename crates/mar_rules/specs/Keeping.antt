@@ -1,13 +1,12 @@
 -- What starts of syncs come to as they are taken in for a caller.
-use Rattle.std.specs.List.{list_any}
 use Rattle.std.specs.Prelude.{Bool, List, None, Option, Some, if◌then◌else◌, true, ℕ, ◌<◌, ◌≡◌, ◌≤◌}
 use Rattle.mar_types.specs.Round.{Round}
 use Rattle.mar_cert.specs.Block.{Block}
-use Rattle.mar_node.specs.Cache.{notarized_where, verified_at}
+use Rattle.mar_node.specs.Cache.{notarized_where}
 use Rattle.mar_node.specs.CacheCalls.{GivesTicket, KeepsTickets, is_of_archive, none_goes}
 use Rattle.mar_node.specs.Cached.{Cached}
 use Rattle.mar_node.specs.Held.{Held}
-use Rattle.mar_node.specs.Moves.{PutsAll, with_cache_sync}
+use Rattle.mar_node.specs.Moves.{PutsAll, is_verified_in, with_cache_sync}
 use Rattle.mar_node.specs.OpenSyncs.{AreStillOpen}
 use Rattle.mar_node.specs.declared.CacheTicket.{CacheTicket}
 use Rattle.mar_node.specs.declared.Section.{Section}
@@ -34,10 +33,6 @@ joined_of (Ticket t) (Ticket u) = Ticket (record { epoch = t.epoch; first = t.fi
 -- the archive that holds a certified block
 abbrev pub block_section : Bool → Section
 block_section is_verified = if is_verified then Verified else Notarized
-
--- it was verified at that round
-abbrev pub is_verified_in : Held → Round → Block → Bool
-is_verified_in h r b = list_any (verified_at r b) h.cache.kept.held
 
 -- A certified block stands in the cache, and a sync of its archive was started, unless its epoch is below the lowest.
 pub record PutsCertified (r : Round) (b : Block) (started : Started) (old new : Held) (covers now : CacheTicket → List Cached) : Type 0 where

@@ -5,9 +5,9 @@ ghost use Rattle.mar_node.specs.Cache.{certified_covers, is_verified_of, notariz
 ghost use Rattle.mar_node.specs.Cached.{notarized_entry, verified_entry};
 ghost use Rattle.mar_node.specs.Faults.{sync_kind, ticket_limit, want_of_memory};
 ghost use Rattle.mar_node.specs.Held.{GoesOn, IsUsual, nothing_written, written_entry};
-ghost use Rattle.mar_node.specs.Moves.{KeepsFor};
+ghost use Rattle.mar_node.specs.Moves.{KeepsFor, is_verified_in};
 ghost use Rattle.mar_node.specs.Views.{fault_of};
-ghost use Rattle.mar_rules.specs.Keeping.{PutsCertified, is_verified_in, joined_of, opened_for, ticket_for};
+ghost use Rattle.mar_rules.specs.Keeping.{PutsCertified, joined_of, opened_for, ticket_for};
 
 use mar_cert::Variant;
 use mar_node::{Fault, Holds, Started, TicketKind};
@@ -34,7 +34,7 @@ pub fn keep_verified<V: Variant, S: Holds<V>>(
         return Err(Fault::TicketLimit(TicketKind::Sync));
     }
     match stores.put_verified(round, block) {
-        Ok(started) => open_started(stores, started, answer),
+        Ok(started) => open_started(stores, started, Some(answer)),
         Err(fault) => Err(fault),
     }
 }
@@ -69,7 +69,7 @@ pub fn keep_certified<V: Variant, S: Holds<V>>(
     match stores.start_sync_notarizations(round.epoch()) {
         Ok(others) => {
             stores.law();
-            open_started(stores, joined(started, others), answer)
+            open_started(stores, joined(started, others), Some(answer))
         }
         Err(fault) => Err(fault),
     }
@@ -107,21 +107,21 @@ fn joined(block: Started, others: Started) -> Started
     }
 }
 
-// Takes in a sync that was started, where one was, for the holder of a ticket.
-fn open_started<V: Variant, S: Holds<V>>(
+/// Takes in a sync that was started, where one was. Whom it answers as it has finished is given.
+pub(crate) fn open_started<V: Variant, S: Holds<V>>(
     stores: &mut S,
     started: Started,
-    answer: u64,
+    answer: Option<u64>,
 ) -> Result<Option<u64>, Fault<V::Commitment>>
     requires { (S.held stores.old).writes.next_sync < 2 ^ 64 - 1 }
-    ensures opened { OnOk result (S.held stores.new ≡ opened_for (S.covers stores.old) started (Some answer) (S.held stores.old)) }
+    ensures opened { OnOk result (S.held stores.new ≡ opened_for (S.covers stores.old) started answer (S.held stores.old)) }
     ensures ticket { IfOk result (λ t. t ≡ ticket_for started (S.held stores.old)) }
     ensures goes_on { GoesOn (fault_of V.Commitment.bytes) (S.held stores.old) nothing_written (S.held stores.new) result }
     ensures memory { IfErr result (λ e. fault_of V.Commitment.bytes e ≡ want_of_memory) }
 {
     match started {
         Started::Ready => Ok(None),
-        Started::Ticket(sync) => match stores.open_cache_sync(sync, Some(answer)) {
+        Started::Ticket(sync) => match stores.open_cache_sync(sync, answer) {
             Ok(ticket) => Ok(Some(ticket)),
             Err(_) => Err(Fault::Memory),
         },

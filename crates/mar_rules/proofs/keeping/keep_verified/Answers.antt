@@ -3,7 +3,7 @@ use Rattle.mar_node.specs.Cache.{is_verified_of}
 use Rattle.mar_node.specs.Cached.{verified_entry}
 use Rattle.mar_node.specs.Moves.{KeepsFor}
 use Rattle.mar_node.proofs.Growing.{WithinWritten-nothing}
-use Rattle.mar_rules.proofs.KeptFor.{kept_entry, taken_in}
+use Rattle.mar_rules.proofs.KeptFor.{kept_entry, taken_in, verified_archive}
 use Rattle.mar_rules.proofs.keeping.keep_verified.Goals as goal
 
 pub returns-in-Ok-clause-keeps : goal.returns-in-Ok-clause-keeps
@@ -11,7 +11,7 @@ returns-in-Ok-clause-keeps g c =
     let old = g.S.HoldsCache.held c.args.stores.now in
     let b = g.V.Variant.plain c.args.block in
     taken_in (λ t. KeepsFor c.args.round.epoch (verified_entry c.args.round b ∷ []) (is_verified_of c.args.round.epoch) (Some c.args.answer) t old) c.open_started.result _ _ _ c.open_started.ensures.opened c.open_started.ensures.ticket
-    (kept_entry c.args.round b (Some c.args.answer) c.in-Ok.started old _ _ _ c.in-Ok.ensures.caches)
+    (kept_entry (verified_entry c.args.round b) (is_verified_of c.args.round.epoch) (Some c.args.answer) c.in-Ok.started old _ _ _ (verified_archive c.args.round b) c.in-Ok.ensures.caches)
 
 pub returns-in-Ok-clause-goes_on : goal.returns-in-Ok-clause-goes_on
 returns-in-Ok-clause-goes_on g c start all grew within = c.open_started.ensures.goes_on start all (c.in-Ok.ensures.goes_on start all grew within) (WithinWritten-nothing all)
