@@ -7,3 +7,6 @@ pub mod Reported
 pub mod Sent
 pub mod Drained
 pub mod Kept
+pub mod Noted
+pub mod Notarized
+pub mod Stepped

@@ -3,7 +3,7 @@ use Rattle.std.proofs.Common.{◌≡◌, ◌⊎◌, ◌∙◌, inl, inr, ℕ, Li
 use Rattle.mar_node.specs.Faults.{Fault, ack_kind, ticket_limit, want_of_memory}
 use Rattle.mar_node.specs.Held.{AreWritten, Held, IsArchiveFault, IsNoStores, MakesSure, Remembered, Seen, outcome, seen}
 use Rattle.mar_node.specs.Metadata.{Pair}
-use Rattle.mar_node.specs.Moves.{FinishesSync, IsRead, LivesOn}
+use Rattle.mar_node.specs.Moves.{FinishesSync, IsRead, LivesOnGiving}
 use Rattle.mar_node.specs.Step.{Report}
 use Rattle.mar_node.proofs.Handing.{Ran}
 use Rattle.mar_node.specs.Writing.{with_finished}
@@ -16,8 +16,8 @@ unhanded fault (inl memory) = (subst IsNoStores (sym memory) tt, inl (subst IsAr
 unhanded fault (inr (limit, last)) = (subst IsNoStores (sym limit) tt, inr (limit, last))
 
 -- the same life over other stores
-pub with_held : {P E : Type 0} (life : Remembered P E) (h k : Held) → h ≡ k → ◌≡◌ {A = Seen P E} (record { held = h; life = life }) (record { held = k; life = life })
-with_held life h k is = ap (λ x. record { held = x; life = life }) is
+pub with_held : {P E : Type 0} (life : Remembered P E) (h k : Held) → h ≡ k → ◌≡◌ {A = Seen P E} (seen h life) (seen k life)
+with_held life h k is = ap (λ x. seen x life) is
 
 -- that were read, or whose metadata was synced
 pub read_over : {P E : Type 0} (life : Remembered P E) (h k : Held) → k ≡ record h { watches = k.watches } → IsRead (seen h life) (seen k life)
@@ -36,6 +36,6 @@ Ran-loaded fault a now told told' (Ok x) (handed, heard, ran) loaded = ap (λ s.
 Ran-loaded fault a now told told' (Err e) ran loaded = tt
 
 -- and so does a life that goes on
-pub lives-loaded : {P E T C : Type 0} (fault : C → Fault) (a now : Seen P E) (result : Result T C) → LivesOn a (outcome fault now result) → OnOk result (a.held.cache.loaded ≡ true → now.held.cache.loaded ≡ true)
-lives-loaded fault a now (Ok x) lives = lives.loaded
-lives-loaded fault a now (Err e) lives = tt
+pub lives-loaded : {P E T C : Type 0} (most : ℕ) (fault : C → Fault) (a now : Seen P E) (result : Result T C) → LivesOnGiving most a (outcome fault now result) → OnOk result (a.held.cache.loaded ≡ true → now.held.cache.loaded ≡ true)
+lives-loaded most fault a now (Ok x) lives = lives.loaded
+lives-loaded most fault a now (Err e) lives = tt

@@ -1,6 +1,5 @@
 -- What a contract sees of the actor's types.
 use Rattle.std.specs.Prelude.{ℕ, List, None, Some, [], ◌∷◌}
-use Rattle.std.specs.declared.convert.Infallible.{Infallible}
 use Rattle.mar_cert.specs.Block.{Block}
 use Rattle.mar_cert.specs.Finalization.{Finalization, Notarization}
 use Rattle.mar_block.specs.Recipients.{named}
@@ -10,7 +9,7 @@ use Rattle.mar_types.specs.Round.{Round}
 use Rattle.mar_block.specs.declared.recipients.Recipients.{Recipients}
 use Rattle.mar_inbox.specs.declared.Message.{Message}
 use Rattle.mar_inbox.specs.declared.Message.TheVariants as message
-use Rattle.mar_node.specs.Messages.{certify, prepared, proposed, report_finalization, verified}
+use Rattle.mar_node.specs.Messages.{certify, prepared, proposed, report_certification, report_finalization, report_notarization, verified}
 use Rattle.mar_node.specs.Event.{Event, life_started, message_told, sync_finished, ack_given}
 use Rattle.mar_node.specs.Faults.{Begin, from_genesis}
 use Rattle.mar_node.specs.Step.{Report, new_tip, handed_over}
@@ -26,16 +25,12 @@ use Rattle.mar_actor.specs.declared.settings.Limits.{Limits}
 use Rattle.mar_actor.specs.declared.settings.Start.{Start}
 use Rattle.mar_actor.specs.declared.settings.Start.TheVariants as start
 
--- no message brings a notarization yet
-abbrev pub no_notarization : Infallible → Notarization
-no_notarization never = elim never [ ]
-
--- an event, by what a digest is as bytes, and a block and a finalization as plain data
-abbrev pub event_of : {D B F : Type 0} → (D → List ℕ) → (B → Block) → (F → Finalization) → EventCode D B F → Event
-event_of digest block plain event.Start = life_started None
-event_of digest block plain (event.Message m) = message_told (ticket_of m) (message_of digest block no_notarization plain m)
-event_of digest block plain (event.Sync t) = sync_finished t
-event_of digest block plain (event.Ack t) = ack_given t
+-- an event, by what a digest is as bytes, and a block, a notarization and a finalization as plain data
+abbrev pub event_of : {D B N F : Type 0} → (D → List ℕ) → (B → Block) → (N → Notarization) → (F → Finalization) → EventCode D B N F → Event
+event_of digest block notarization finalization event.Start = life_started None
+event_of digest block notarization finalization (event.Message m) = message_told (ticket_of m) (message_of digest block notarization finalization m)
+event_of digest block notarization finalization (event.Sync t) = sync_finished t
+event_of digest block notarization finalization (event.Ack t) = ack_given t
 
 -- a block that is sent to these peers
 abbrev pub sending : {B : Type 0} → (B → Block) → Round → Recipients ℕ → B → Sending
@@ -53,33 +48,35 @@ message_first block (message.Proposed t r peers b) = sending block r peers b ∷
 message_first block _ = []
 
 -- the same of what a message tells or asks
-abbrev pub told_sendings : {D B F : Type 0} → (B → Block) → Told D B F → List Sending
+abbrev pub told_sendings : {D B N F : Type 0} → (B → Block) → Told D B N F → List Sending
 told_sendings block (told.Proposed t r peers b) = sending block r peers b ∷ []
 told_sendings block (told.Prepared r peers b) = sending block r peers b ∷ []
 told_sendings block _ = []
 
-abbrev pub told_first : {D B F : Type 0} → (B → Block) → Told D B F → List Sending
+abbrev pub told_first : {D B N F : Type 0} → (B → Block) → Told D B N F → List Sending
 told_first block (told.Proposed t r peers b) = sending block r peers b ∷ []
 told_first block _ = []
 
 -- what an event has the buffer send, in order
-abbrev pub sendings_of : {D B F : Type 0} → (B → Block) → EventCode D B F → List Sending
+abbrev pub sendings_of : {D B N F : Type 0} → (B → Block) → EventCode D B N F → List Sending
 sendings_of block (event.Message m) = message_sendings block m
 sendings_of block _ = []
 
 -- and what of that stays sent where its step ends the life
-abbrev pub sent_first : {D B F : Type 0} → (B → Block) → EventCode D B F → List Sending
+abbrev pub sent_first : {D B N F : Type 0} → (B → Block) → EventCode D B N F → List Sending
 sent_first block (event.Message m) = message_first block m
 sent_first block _ = []
 
 -- what a caller tells, or asks under a ticket
-abbrev pub told_of : {D B F : Type 0} → (D → List ℕ) → (B → Block) → (F → Finalization) → Told D B F → Event
-told_of digest block plain (told.Reported f) = message_told None (report_finalization (plain f))
-told_of digest block plain (told.Asked t q) = message_told (Some t) (query_of digest q)
-told_of digest block plain (told.Verified t r b) = message_told (Some t) (verified r (block b))
-told_of digest block plain (told.Proposed t r peers b) = message_told (Some t) (proposed r (peers_of peers) (block b))
-told_of digest block plain (told.Prepared r peers b) = message_told None (prepared r (peers_of peers) (block b))
-told_of digest block plain (told.Certified t r b) = message_told (Some t) (certify r (block b))
+abbrev pub told_of : {D B N F : Type 0} → (D → List ℕ) → (B → Block) → (N → Notarization) → (F → Finalization) → Told D B N F → Event
+told_of digest block notarization finalization (told.Reported f) = message_told None (report_finalization (finalization f))
+told_of digest block notarization finalization (told.Notarization n) = message_told None (report_notarization (notarization n))
+told_of digest block notarization finalization (told.Certification n) = message_told None (report_certification (notarization n))
+told_of digest block notarization finalization (told.Asked t q) = message_told (Some t) (query_of digest q)
+told_of digest block notarization finalization (told.Verified t r b) = message_told (Some t) (verified r (block b))
+told_of digest block notarization finalization (told.Proposed t r peers b) = message_told (Some t) (proposed r (peers_of peers) (block b))
+told_of digest block notarization finalization (told.Prepared r peers b) = message_told None (prepared r (peers_of peers) (block b))
+told_of digest block notarization finalization (told.Certified t r b) = message_told (Some t) (certify r (block b))
 
 -- what the application is told, by what digests are as bytes and blocks as plain data
 abbrev pub report_of : {D B : Type 0} → (D → List ℕ) → (B → Block) → Update D B → Report

@@ -16,6 +16,11 @@
 //! - **Blocks that aren't final.** A verified, proposed or certified block is kept in the cache, whether or not it is ever final,
 //!   and its caller is answered which sync makes it durable, and once more as that has finished. Of an epoch that was pruned
 //!   nothing is kept, and the answer says at once that there is nothing to wait for.
+//! - **Notarizations.** One that consensus reports is kept in the cache, and with it its block, where that is at hand and wasn't
+//!   verified in that round. Each has a sync, of which nobody is told. Of an epoch that was pruned nothing is kept.
+//! - **Certifications.** Where the block of one that consensus reports is at hand, the commitments of that block and of its
+//!   parent are known as certified, until a tip is at their height or above it or the life ends. Nothing is stored for it, and
+//!   nothing goes by it yet.
 //! - **Sends.** A proposed or a prepared block is handed to the buffer, which sends it, once and in its own step. A prepared one
 //!   is not kept and nobody answered; a proposed one is sent before it is kept.
 //! - **An end says why.** A step that can't go on hands back what is left of the stores, and its fault names the store that
@@ -52,17 +57,20 @@
 //!
 //! # Limits
 //!
-//! A block or a finalization takes at most 1,048,576 bytes. The last height, 2^64 - 1, can't be stored (`HeightLimit`), and
-//! a life gives out fewer than 2^64 tickets of each kind (`TicketLimit`). Certificates are taken as consensus's word.
+//! A block, a notarization or a finalization takes at most 1,048,576 bytes. The last height, 2^64 - 1, can't be stored
+//! (`HeightLimit`), and a life gives out fewer than 2^64 tickets of each kind (`TicketLimit`). Certificates are taken as
+//! consensus's word.
 #![tactic(auto)]
 
 mod acknowledge;
 mod caching;
+mod certified;
 mod dispatch;
 mod event;
 mod life;
 mod messages;
 mod node;
+mod notarize;
 mod open;
 mod report;
 mod reporter;
@@ -73,7 +81,9 @@ mod start;
 mod sync;
 
 pub use event::Event;
-pub use mar_node::{Ended, Fault, Holds, ShownRuins, StoreName, StoresRuin, TicketKind};
+pub use mar_node::{
+    Ended, Fault, Holds, HoldsNotarizations, ShownRuins, StoreName, StoresRuin, TicketKind,
+};
 pub use mar_parts::Shown;
 pub use mar_shelf::{Ruins, Stores};
 pub use node::{Actor, Node};

@@ -53,6 +53,13 @@ impl<P, E> Life<P, E> {
         }
     }
 
+    /// The height of the last reported tip.
+    pub(crate) fn tip(&self) -> Height
+        ensures { result ≡ self.now.tip }
+    {
+        self.tip
+    }
+
     /// How many views below the last witnessed round the cache keeps.
     pub(crate) fn retention(&self) -> u64
         ensures { result ≡ self.now.sizes.retention }

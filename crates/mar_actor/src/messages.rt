@@ -1,20 +1,21 @@
 //! What a message tells or asks.
 ghost use Rattle.std.specs.Prelude.{◌≡◌, List, ℕ};
 ghost use Rattle.mar_cert.specs.Block.{Block};
-ghost use Rattle.mar_cert.specs.Finalization.{Finalization};
+ghost use Rattle.mar_cert.specs.Finalization.{Finalization, Notarization};
 ghost use Rattle.mar_inbox.specs.Views.{message_of, ticket_of};
 ghost use Rattle.mar_node.specs.Event.{message_told};
-ghost use Rattle.mar_actor.specs.Views.{message_first, message_sendings, no_notarization, told_first, told_of, told_sendings};
+ghost use Rattle.mar_actor.specs.Views.{message_first, message_sendings, told_first, told_of, told_sendings};
 
 use mar_block::Recipients;
 use mar_inbox::{Message, Query};
 use mar_types::{Participant, Round};
-use std::convert::Infallible;
 
 /// What a caller tells, or asks under a ticket.
 #[derive(Drop)]
-pub(crate) enum Told<D, B, F> {
+pub(crate) enum Told<D, B, N, F> {
     Reported(F),
+    Notarization(N),
+    Certification(N),
     Asked(u64, Query<D>),
     Verified {
         ticket: u64,
@@ -40,13 +41,16 @@ pub(crate) enum Told<D, B, F> {
 }
 
 /// What a message tells or asks.
-pub(crate) fn told_by<D, B, F>(message: Message<D, B, Infallible, F>) -> Told<D, B, F>
-    ensures told { (digest : D → List ℕ) (block : B → Block) (plain : F → Finalization) → told_of digest block plain result
-        ≡ message_told (ticket_of message) (message_of digest block no_notarization plain message) }
+pub(crate) fn told_by<D, B, N, F>(message: Message<D, B, N, F>) -> Told<D, B, N, F>
+    ensures told { (digest : D → List ℕ) (block : B → Block) (notarization : N → Notarization) (finalization : F → Finalization)
+        → told_of digest block notarization finalization result
+        ≡ message_told (ticket_of message) (message_of digest block notarization finalization message) }
     ensures sends { (block : B → Block) → told_sendings block result ≡ message_sendings block message }
     ensures first { (block : B → Block) → told_first block result ≡ message_first block message }
 {
     match message {
+        Message::Notarization(notarization) => Told::Notarization(notarization),
+        Message::Certification(certification) => Told::Certification(certification),
         Message::Finalization(finalization) => Told::Reported(finalization),
         Message::GetInfo { ticket, identifier } => Told::Asked(ticket, Query::Info(identifier)),
         Message::GetBlock { ticket, identifier } => Told::Asked(ticket, Query::Block(identifier)),

@@ -1,21 +1,22 @@
 //! The node, which each of its steps consumes.
-ghost use Rattle.std.specs.Prelude.{◌≡◌, ◌≤◌, ◌+◌, ◌&&◌, ◌||◌, ◌∷◌, ◌++◌, [], ℕ, IfErr, IfOk, Ok, OnErr, OnOk, false, map, nat_lt, not, true};
+ghost use Rattle.std.specs.Prelude.{◌≡◌, ◌≤◌, ◌+◌, ◌&&◌, ◌||◌, ◌∷◌, ◌++◌, [], ℕ, IfErr, IfOk, IsTrue, Ok, OnErr, OnOk, false, map, nat_lt, not, true};
 ghost use Rattle.std.specs.List.{list_any};
 ghost use Rattle.mar_node.specs.SmallEntries.{AreSmallEntries};
 ghost use Rattle.mar_store.specs.Changes.{IsNested};
 ghost use Rattle.mar_block.specs.Sent.{Sends};
 ghost use Rattle.mar_node.specs.Acks.{is_unmarked};
-ghost use Rattle.mar_node.specs.Event.{sync_finished};
+ghost use Rattle.mar_node.specs.Event.{is_query, sync_finished};
 ghost use Rattle.mar_node.specs.Held.{AreCached, ArePassed, AreWritten, IsEndedBy, outcome, remains_of, seen, with_armed};
-ghost use Rattle.mar_node.specs.Moves.{FindsInCache, KeepsInCache, KeepsTakenUp, LivesOn, RunsOut};
+ghost use Rattle.mar_node.specs.Moves.{FindsInCache, KeepsInCache, KeepsTakenUp, LivesOnGiving, RunsOut, syncs_at_most};
 ghost use Rattle.mar_node.specs.OpenSyncs.{is_cache_sync};
 ghost use Rattle.mar_inbox.specs.Answers.{told};
 ghost use Rattle.mar_inbox.specs.Views.{sent_by, value_of};
 ghost use Rattle.mar_node.specs.Promise.{IsSmallEvent, KeepsPromise, heard_with};
-ghost use Rattle.mar_node.specs.Queries.{answers_found};
+ghost use Rattle.mar_node.specs.Queries.{Learns, answers_found, commitments_found};
 ghost use Rattle.mar_node.specs.Stored.{AreSmall};
 ghost use Rattle.mar_node.specs.Writing.{IsOrdered, is_open_sync};
 ghost use Rattle.mar_node.specs.Views.{fault_of, store_name_of};
+ghost use Rattle.mar_actor.specs.Known.{TakesNote, seen_knowing};
 ghost use Rattle.mar_actor.specs.Due.{EndsWhereDue, due_fault};
 ghost use Rattle.mar_actor.specs.Told.{TellsInOrder, tips_of};
 ghost use Rattle.mar_actor.specs.Kept.{SendsFront};
@@ -23,18 +24,22 @@ ghost use Rattle.mar_actor.specs.Views.{event_of, sendings_of, sent_first};
 
 use crate::acknowledge::acknowledge;
 use crate::caching::{certify, propose, verify};
+use crate::certified::{forget, learn};
 use crate::event::Event;
 use crate::life::Life;
 use crate::messages::{Told, told_by};
+use crate::notarize::notarize;
 use crate::report::report_finalization;
 use crate::reporter::Reporter;
 use crate::send::send;
 use crate::start::start;
 use crate::sync::finish;
 use mar_block::{Buffer, Variant};
+use mar_cert::CommitsTo;
 use mar_inbox::{AnswerTable, Value, answer};
 use mar_key::Resolver;
-use mar_node::{Ended, Fault, Holds, StoreName};
+use mar_node::{Ended, Fault, Holds, HoldsNotarizations, StoreName};
+use mar_parts::Certified;
 use mar_shelf::Stores;
 use mar_types::Epocher;
 use std::alloc::{AllocError, Global};
@@ -46,6 +51,8 @@ pub struct Node<V: Variant, S: Holds<V>, P: Drop, E: Epocher> {
     /// On the heap, so that a step, which takes the node and gives it back, moves little.
     pub(crate) stores: Box<S>,
     pub(crate) life: Life<P, E>,
+    /// The commitments that are known as certified, above the tip.
+    pub(crate) certified: Certified<V::Commitment>,
     pub(crate) of: PhantomData<V>,
 }
 
@@ -55,18 +62,19 @@ pub type Actor<V, F, P, E, FB, FC, M, H> = Node<V, Stores<V, F, FB, FC, M, H>, P
 impl<V: Variant, S: Holds<V>, P: Drop, E: Epocher> Model for Node<V, S, P, E> {
     ghost use Rattle.std.specs.Prelude.{◌≡◌, true};
     ghost use Rattle.mar_node.specs.Held.{Seen};
+    ghost use Rattle.mar_actor.specs.Known.{least_above, seen_knowing};
 
     ghost Value = { Seen P E };
 
-    ghost view = { λ n. record { held = S.held n.stores.value; life = n.life } };
+    ghost view = { λ n. seen_knowing V.Commitment.bytes (S.held n.stores.value) n.life n.certified };
 
-    ghost invariant = { λ n. (S.held n.stores.value).intact ≡ true };
+    ghost invariant = { λ n. ((S.held n.stores.value).intact ≡ true) × (n.certified.min ≡ least_above n.life.tip) };
 }
 
-impl<V: Variant, S: Holds<V>, P: Drop, E: Epocher> Node<V, S, P, E> {
+impl<V: Variant, S: HoldsNotarizations<V>, P: Drop, E: Epocher> Node<V, S, P, E> {
     /// Takes one event, the first of a life being `Event::Start`. An end of the life says why and hands back what is left.
     /// On a lawful chain the step is a step of the node, or a cut; a second start in one life is promised nothing of the
-    /// node. No rule takes memory of its own yet: `_alloc` is for those that wait for a block. The buffer keeps its blocks: of a
+    /// node. No rule takes memory from `_alloc` yet: it is for those that wait for a block. The buffer keeps its blocks: of a
     /// proposed and of a prepared one alone anything is sent, of a proposed one before it is kept.
     ///
     /// The fault of a step is `StoreFault` only where that store has failed, `HeightLimit` where a finalized block stands
@@ -76,25 +84,25 @@ impl<V: Variant, S: Holds<V>, P: Drop, E: Epocher> Node<V, S, P, E> {
     pub fn step<B: Buffer<V>, R: Resolver<V::Commitment>, A: Reporter<V>>(
         self,
         _alloc: Global,
-        event: Event<V::Digest, V::Block, S::Finalization>,
+        event: Event<V::Digest, V::Block, S::Notarization, S::Finalization>,
         answers: &mut AnswerTable<Value<V::Digest, V::Block, S::Finalization>>,
         buffer: &mut B,
         resolver: &mut R,
         application: &mut A,
     ) -> Result<Self, Ended<V, S>>
-        requires small_event { IsSmallEvent (event_of V.Digest.bytes V.plain S.Finalization.plain event) }
+        requires small_event { IsSmallEvent (event_of V.Digest.bytes V.plain S.Notarization.plain S.Finalization.plain event) }
         requires small_buffer { AreSmall (B.blocks buffer.old) }
-        ensures promise { KeepsPromise (event_of V.Digest.bytes V.plain S.Finalization.plain event ∷ []) (E.epochs self.life.epocher) V.inner self
-            (B.blocks buffer.old)
+        ensures promise { KeepsPromise (event_of V.Digest.bytes V.plain S.Notarization.plain S.Finalization.plain event ∷ [])
+            (E.epochs self.life.epocher) V.inner self (B.blocks buffer.old)
             (heard_with (A.told application.old) (R.told resolver.old) (sent_by (B.sent buffer.old))
             (told (value_of V.Digest.bytes V.plain S.Finalization.plain) answers.old))
             (heard_with (A.told application.new) (R.told resolver.new) (sent_by (B.sent buffer.new))
             (told (value_of V.Digest.bytes V.plain S.Finalization.plain) answers.new))
             result }
-        ensures answered { KeepsInCache (event_of V.Digest.bytes V.plain S.Finalization.plain event) self
+        ensures answered { KeepsInCache (event_of V.Digest.bytes V.plain S.Notarization.plain S.Finalization.plain event) self
             → OnOk result (told (value_of V.Digest.bytes V.plain S.Finalization.plain) answers.new
             ≡ told (value_of V.Digest.bytes V.plain S.Finalization.plain) answers.old
-            ++ answers_found V.inner self.held (B.blocks buffer.old) (event_of V.Digest.bytes V.plain S.Finalization.plain event)) }
+            ++ answers_found V.inner self.held (B.blocks buffer.old) (event_of V.Digest.bytes V.plain S.Notarization.plain S.Finalization.plain event)) }
         ensures sends { OnOk result (Sends (B.sent buffer.old) (sendings_of V.plain event) (B.sent buffer.new)) }
         ensures unsent { OnErr result (SendsFront (B.sent buffer.old) (sent_first V.plain event) (B.sent buffer.new)) }
         ensures blocks { B.blocks buffer.new ≡ B.blocks buffer.old }
@@ -103,44 +111,64 @@ impl<V: Variant, S: Holds<V>, P: Drop, E: Epocher> Node<V, S, P, E> {
         ensures unanswered { OnErr result (answers.new ≡ answers.old) }
         ensures watches { IfOk result (λ n. ArePassed self.held.watches n.held.watches) }
         ensures cause { IfErr result (λ e. IsEndedBy self.held.watches e) }
-        ensures idle { (t : ℕ) → event_of V.Digest.bytes V.plain S.Finalization.plain event ≡ sync_finished t
+        ensures idle { (t : ℕ) → event_of V.Digest.bytes V.plain S.Notarization.plain S.Finalization.plain event ≡ sync_finished t
             → is_open_sync self.held.writes.syncs t ≡ false → is_cache_sync self.held.cache.syncs t ≡ false → result ≡ Ok self }
-        ensures by_value { FindsInCache (event_of V.Digest.bytes V.plain S.Finalization.plain event) self
-            → EndsWhereDue (due_fault V.inner self (B.blocks buffer.old) (event_of V.Digest.bytes V.plain S.Finalization.plain event)) result }
-        ensures tells { FindsInCache (event_of V.Digest.bytes V.plain S.Finalization.plain event) self
+        ensures by_value { FindsInCache (event_of V.Digest.bytes V.plain S.Notarization.plain S.Finalization.plain event) self
+            → EndsWhereDue (due_fault V.inner self (B.blocks buffer.old)
+            (event_of V.Digest.bytes V.plain S.Notarization.plain S.Finalization.plain event)) result }
+        ensures tells { FindsInCache (event_of V.Digest.bytes V.plain S.Notarization.plain S.Finalization.plain event) self
             → TellsInOrder (A.told application.old)
-            (tips_of V.inner self (B.blocks buffer.old) (event_of V.Digest.bytes V.plain S.Finalization.plain event))
+            (tips_of V.inner self (B.blocks buffer.old) (event_of V.Digest.bytes V.plain S.Notarization.plain S.Finalization.plain event))
             (A.told application.new) result }
         ensures tickets { IfOk result (λ n. n.life.next_ack ≤ self.life.next_ack + self.life.sizes.window) }
-        ensures sync_tickets { IfOk result (λ n. n.held.writes.next_sync ≤ self.held.writes.next_sync + 1) }
-        ensures runs_out { IfErr result (RunsOut self) }
+        ensures sync_tickets { IfOk result (λ n. n.held.writes.next_sync ≤ self.held.writes.next_sync
+            + syncs_at_most (event_of V.Digest.bytes V.plain S.Notarization.plain S.Finalization.plain event)) }
+        ensures runs_out { IfErr result (RunsOut (syncs_at_most (event_of V.Digest.bytes V.plain S.Notarization.plain S.Finalization.plain event)) self) }
         ensures same_life { IfOk result (λ n. (n.life.provider ≡ self.life.provider) × (n.life.epocher ≡ self.life.epocher)
             × (n.life.sizes ≡ self.life.sizes)) }
-        ensures loaded { IfOk result (KeepsTakenUp (event_of V.Digest.bytes V.plain S.Finalization.plain event) self) }
+        ensures loaded { IfOk result (KeepsTakenUp (event_of V.Digest.bytes V.plain S.Notarization.plain S.Finalization.plain event) self) }
+        ensures rises { IfOk result (λ n. self.life.tip ≤ n.life.tip) }
+        ensures certified { IfOk result (λ n. Learns self.certified (commitments_found V.inner self.held (B.blocks buffer.old)
+            (event_of V.Digest.bytes V.plain S.Notarization.plain S.Finalization.plain event)) n.life.tip n.certified) }
+        ensures unlearned { IsTrue (is_query (event_of V.Digest.bytes V.plain S.Notarization.plain S.Finalization.plain event))
+            → IfOk result (λ n. n.certified ≡ self.certified) }
     {
         self.law();
         let Node {
             mut stores,
             mut life,
+            mut certified,
             of,
         } = self;
+        let tip = life.tip();
         match take::<V, S, P, E, B, R, A>(
             &mut stores,
             &mut life,
+            &mut certified,
             event,
             answers,
             buffer,
             resolver,
             application,
         ) {
-            Ok(()) => Ok(Node { stores, life, of }),
+            Ok(()) => {
+                forget(&mut certified, tip, life.tip());
+                Ok(Node {
+                    stores,
+                    life,
+                    certified,
+                    of,
+                })
+            }
             Err(fault) => {
                 let ruins = Box::into_inner(stores).wreck();
                 Err(Ended { fault, ruins })
             }
         }
     }
+}
 
+impl<V: Variant, S: Holds<V>, P: Drop, E: Epocher> Node<V, S, P, E> {
     /// What the stores promise of what they hold; nothing is done.
     pub(crate) fn law(&self)
         ensures blocks { IsNested self.now.held.blocks }
@@ -208,7 +236,8 @@ impl<V: Variant, S: Holds<V>, P: Drop, E: Epocher> Node<V, S, P, E> {
 fn take<V, S, P, E, B, R, A>(
     stores: &mut S,
     life: &mut Life<P, E>,
-    event: Event<V::Digest, V::Block, S::Finalization>,
+    certified: &mut Certified<V::Commitment>,
+    event: Event<V::Digest, V::Block, S::Notarization, S::Finalization>,
     answers: &mut AnswerTable<Value<V::Digest, V::Block, S::Finalization>>,
     buffer: &mut B,
     resolver: &mut R,
@@ -216,7 +245,7 @@ fn take<V, S, P, E, B, R, A>(
 ) -> Result<(), Fault<V::Commitment>>
 where
     V: Variant,
-    S: Holds<V>,
+    S: HoldsNotarizations<V>,
     E: Epocher,
     B: Buffer<V>,
     R: Resolver<V::Commitment>,
@@ -228,37 +257,50 @@ where
     requires small_cached { AreSmallEntries (S.held stores.old).cache.kept.held }
     requires ordered { IsOrdered (S.held stores.old).writes }
     requires cached { AreCached (S.held stores.old) }
-    requires small_event { IsSmallEvent (event_of V.Digest.bytes V.plain S.Finalization.plain event) }
+    requires small_event { IsSmallEvent (event_of V.Digest.bytes V.plain S.Notarization.plain S.Finalization.plain event) }
     requires small_buffer { AreSmall (B.blocks buffer.old) }
-    ensures promise { KeepsPromise (event_of V.Digest.bytes V.plain S.Finalization.plain event ∷ []) (E.epochs life.old.epocher) V.inner
-        (seen (S.held stores.old) life.old) (B.blocks buffer.old)
+    ensures promise { KeepsPromise (event_of V.Digest.bytes V.plain S.Notarization.plain S.Finalization.plain event ∷ [])
+        (E.epochs life.old.epocher) V.inner (seen_knowing V.Commitment.bytes (S.held stores.old) life.old certified.old) (B.blocks buffer.old)
         (heard_with (A.told application.old) (R.told resolver.old) (sent_by (B.sent buffer.old))
         (told (value_of V.Digest.bytes V.plain S.Finalization.plain) answers.old))
         (heard_with (A.told application.new) (R.told resolver.new) (sent_by (B.sent buffer.new))
         (told (value_of V.Digest.bytes V.plain S.Finalization.plain) answers.new))
         (outcome (fault_of V.Commitment.bytes) (seen (S.held stores.new) life.new) result) }
-    ensures answered { KeepsInCache (event_of V.Digest.bytes V.plain S.Finalization.plain event) (seen (S.held stores.old) life.old)
+    ensures answered { KeepsInCache (event_of V.Digest.bytes V.plain S.Notarization.plain S.Finalization.plain event)
+        (seen_knowing V.Commitment.bytes (S.held stores.old) life.old certified.old)
         → OnOk result (told (value_of V.Digest.bytes V.plain S.Finalization.plain) answers.new
         ≡ told (value_of V.Digest.bytes V.plain S.Finalization.plain) answers.old
-        ++ answers_found V.inner (S.held stores.old) (B.blocks buffer.old) (event_of V.Digest.bytes V.plain S.Finalization.plain event)) }
+        ++ answers_found V.inner (S.held stores.old) (B.blocks buffer.old)
+        (event_of V.Digest.bytes V.plain S.Notarization.plain S.Finalization.plain event)) }
     ensures unanswered { OnErr result (answers.new ≡ answers.old) }
     ensures sends { OnOk result (Sends (B.sent buffer.old) (sendings_of V.plain event) (B.sent buffer.new)) }
     ensures unsent { OnErr result (SendsFront (B.sent buffer.old) (sent_first V.plain event) (B.sent buffer.new)) }
     ensures blocks { B.blocks buffer.new ≡ B.blocks buffer.old }
     ensures notifies { B.notifies buffer.new ≡ B.notifies buffer.old }
     ensures buffer { sendings_of V.plain event ≡ [] → buffer.new ≡ buffer.old }
-    ensures lives { LivesOn (seen (S.held stores.old) life.old) (outcome (fault_of V.Commitment.bytes) (seen (S.held stores.new) life.new) result) }
-    ensures idle { (t : ℕ) → event_of V.Digest.bytes V.plain S.Finalization.plain event ≡ sync_finished t
+    ensures lives { LivesOnGiving (syncs_at_most (event_of V.Digest.bytes V.plain S.Notarization.plain S.Finalization.plain event))
+        (seen (S.held stores.old) life.old) (outcome (fault_of V.Commitment.bytes) (seen (S.held stores.new) life.new) result) }
+    ensures idle { (t : ℕ) → event_of V.Digest.bytes V.plain S.Notarization.plain S.Finalization.plain event ≡ sync_finished t
         → is_open_sync (S.held stores.old).writes.syncs t ≡ false → is_cache_sync (S.held stores.old).cache.syncs t ≡ false
-        → (result ≡ Ok tt) × (S.held stores.new ≡ S.held stores.old) × (life.new ≡ life.old) }
-    ensures loaded { OnOk result (KeepsTakenUp (event_of V.Digest.bytes V.plain S.Finalization.plain event) (seen (S.held stores.old) life.old)
-        (seen (S.held stores.new) life.new)) }
-    ensures by_value { FindsInCache (event_of V.Digest.bytes V.plain S.Finalization.plain event) (seen (S.held stores.old) life.old)
-        → EndsWhereDue (due_fault V.inner (seen (S.held stores.old) life.old) (B.blocks buffer.old)
-        (event_of V.Digest.bytes V.plain S.Finalization.plain event)) (outcome (fault_of V.Commitment.bytes) (seen (S.held stores.new) life.new) result) }
-    ensures tells { FindsInCache (event_of V.Digest.bytes V.plain S.Finalization.plain event) (seen (S.held stores.old) life.old)
-        → TellsInOrder (A.told application.old) (tips_of V.inner (seen (S.held stores.old) life.old) (B.blocks buffer.old)
-        (event_of V.Digest.bytes V.plain S.Finalization.plain event)) (A.told application.new)
+        → (result ≡ Ok tt) × (S.held stores.new ≡ S.held stores.old) × (life.new ≡ life.old) × (certified.new ≡ certified.old) }
+    ensures notes { OnOk result ((tip : ℕ) → certified.old.min ≤ tip + 1 → TakesNote V.Commitment.bytes tip
+        (commitments_found V.inner (S.held stores.old) (B.blocks buffer.old)
+        (event_of V.Digest.bytes V.plain S.Notarization.plain S.Finalization.plain event)) certified.old certified.new) }
+    ensures min { OnOk result (certified.new.min ≡ certified.old.min) }
+    ensures unlearned { IsTrue (is_query (event_of V.Digest.bytes V.plain S.Notarization.plain S.Finalization.plain event))
+        → (certified.new ≡ certified.old) × (life.new ≡ life.old) }
+    ensures loaded { OnOk result (KeepsTakenUp (event_of V.Digest.bytes V.plain S.Notarization.plain S.Finalization.plain event)
+        (seen_knowing V.Commitment.bytes (S.held stores.old) life.old certified.old) (seen (S.held stores.new) life.new)) }
+    ensures by_value { FindsInCache (event_of V.Digest.bytes V.plain S.Notarization.plain S.Finalization.plain event)
+        (seen_knowing V.Commitment.bytes (S.held stores.old) life.old certified.old)
+        → EndsWhereDue (due_fault V.inner (seen_knowing V.Commitment.bytes (S.held stores.old) life.old certified.old) (B.blocks buffer.old)
+        (event_of V.Digest.bytes V.plain S.Notarization.plain S.Finalization.plain event))
+        (outcome (fault_of V.Commitment.bytes) (seen (S.held stores.new) life.new) result) }
+    ensures tells { FindsInCache (event_of V.Digest.bytes V.plain S.Notarization.plain S.Finalization.plain event)
+        (seen_knowing V.Commitment.bytes (S.held stores.old) life.old certified.old)
+        → TellsInOrder (A.told application.old)
+        (tips_of V.inner (seen_knowing V.Commitment.bytes (S.held stores.old) life.old certified.old) (B.blocks buffer.old)
+        (event_of V.Digest.bytes V.plain S.Notarization.plain S.Finalization.plain event)) (A.told application.new)
         (outcome (fault_of V.Commitment.bytes) (seen (S.held stores.new) life.new) result) }
 {
     match event {
@@ -272,6 +314,12 @@ where
                 resolver,
                 application,
             ),
+            Told::Notarization(notarization) => {
+                notarize::<V, S, B>(stores, notarization, &*buffer)
+            }
+            Told::Certification(certification) => {
+                learn::<V, S, B>(stores, certification.payload(), &*buffer, certified)
+            }
             Told::Asked(ticket, query) => {
                 answer::<V, S, B>(stores, ticket, query, &*buffer, answers)
             }

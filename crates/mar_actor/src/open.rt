@@ -1,5 +1,5 @@
 //! Opening the stores of a node that begins.
-ghost use Rattle.std.specs.Prelude.{◌≡◌, ◌⊎◌, IfErr, IfOk, true};
+ghost use Rattle.std.specs.Prelude.{◌≡◌, ◌⊎◌, [], IfErr, IfOk, true};
 ghost use Rattle.mar_node.specs.Held.{ArePassed, IsEndedBy, IsUsual, picks_of};
 ghost use Rattle.mar_node.specs.Promise.{IsFound, IsOpeningFault, IsSmallBegin, KeepsOpening};
 ghost use Rattle.mar_actor.specs.Views.{begin_of, sizes_of};
@@ -10,6 +10,7 @@ use mar_block::Variant;
 use mar_key::Floor;
 use mar_node::{Ended, Fault, Holds};
 use mar_opening::open_stores;
+use mar_parts::Certified;
 use mar_types::Epocher;
 use std::alloc::Global;
 use std::marker::PhantomData;
@@ -44,6 +45,7 @@ impl<V: Variant, S: Holds<V>, P: Drop, E: Epocher> Node<V, S, P, E> {
             (begin_of V.plain config.start) r.0) }
         ensures fresh { IfOk result (λ r. r.0.held.cache.fresh ≡ true) }
         ensures picked { IfOk result (λ r. r.0.held.cache.finds ≡ (picks_of (S.Ruins.left ruins) luck).cache) }
+        ensures known { IfOk result (λ r. r.0.certified ≡ []) }
         ensures floor { IfOk result (λ r. r.1 ≡ record { processed = r.0.held.processed; cutoff = r.0.held.cutoff }) }
     {
         let epocher = config.epocher;
@@ -63,6 +65,7 @@ impl<V: Variant, S: Holds<V>, P: Drop, E: Epocher> Node<V, S, P, E> {
         let node = Node {
             stores,
             life,
+            certified: Certified::new(alloc),
             of: PhantomData,
         };
         Ok((node, floor))
