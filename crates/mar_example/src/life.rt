@@ -7,7 +7,7 @@ ghost use Rattle.mar_node.specs.Stored.{AreSmall};
 
 use crate::chain::{Block, genesis};
 use crate::service::Service;
-use mar_actor::{Config, Ended, Event, Fault, Holds, Node, Start};
+use mar_actor::{Config, Ended, Event, Fault, HoldsNotarizations, Node, Start};
 use mar_block::{MemBuffer, StandardBlocks, Variant};
 use mar_cert::{MockProvider, MockScheme};
 use mar_inbox::{AnswerTable, Value};
@@ -66,7 +66,7 @@ fn config(genesis: Block) -> Config<MockProvider, FixedEpocher, Block, ()>
 }
 
 /// Opens a node over what is left of its stores, and starts it: what isn't acknowledged is handed over again.
-pub(crate) fn begun<S: Holds<StandardBlocks>>(
+pub(crate) fn begun<S: HoldsNotarizations<StandardBlocks>>(
     left: S::Ruins,
     around: &mut Around<S::Finalization>,
 ) -> Life<S> {
@@ -84,12 +84,12 @@ pub(crate) fn begun<S: Holds<StandardBlocks>>(
 }
 
 /// Gives a node one event. A life that has ended stays as it is.
-pub(crate) fn step<S: Holds<StandardBlocks>>(
+pub(crate) fn step<S: HoldsNotarizations<StandardBlocks>>(
     life: Life<S>,
-    event: Event<Sha256Digest, Block, S::Finalization>,
+    event: Event<Sha256Digest, Block, S::Notarization, S::Finalization>,
     around: &mut Around<S::Finalization>,
 ) -> Life<S>
-    requires small_event { IsSmallEvent (event_of (λ d. d.bytes) ⟦<StandardBlocks as Variant>⟧.plain S.Finalization.plain event) }
+    requires small_event { IsSmallEvent (event_of (λ d. d.bytes) ⟦<StandardBlocks as Variant>⟧.plain S.Notarization.plain S.Finalization.plain event) }
 {
     let node = life?;
     let Around {

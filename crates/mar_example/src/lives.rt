@@ -4,7 +4,7 @@ ghost use Rattle.mar_store.specs.Sizes.{IsSmall};
 
 use crate::life::{Around, begun, step};
 use crate::service::Handed;
-use mar_actor::{Ended, Event, Fault, Holds};
+use mar_actor::{Ended, Event, Fault, HoldsNotarizations};
 use mar_block::StandardBlocks;
 use mar_cert::CommitsTo;
 use mar_inbox::{Identifier, Message, Standing, Value};
@@ -35,7 +35,7 @@ pub(crate) struct Outcome {
 
 // A life in which blocks 1 and 2 are finalized and handed over. A crash ends it before block 2 is acknowledged. Says beside
 // what is left whether block 2 was durable and owed.
-fn first_life<S: Holds<StandardBlocks>>(
+fn first_life<S: HoldsNotarizations<StandardBlocks>>(
     nothing: S::Ruins,
     first: S::Finalization,
     second: S::Finalization,
@@ -56,7 +56,7 @@ fn first_life<S: Holds<StandardBlocks>>(
 }
 
 // A life over what that one left. Block 2 is handed over again, and block 3 after it; then someone asks for the newest.
-fn second_life<S: Holds<StandardBlocks>>(
+fn second_life<S: HoldsNotarizations<StandardBlocks>>(
     left: S::Ruins,
     third: S::Finalization,
     around: &mut Around<S::Finalization>,
@@ -84,7 +84,7 @@ fn newest<F: Drop>(around: &Around<F>) -> Option<u64> {
 }
 
 /// Both lives: what they came to, or why one ended, and beside it what they leave.
-pub(crate) fn lives<S: Holds<StandardBlocks>>(
+pub(crate) fn lives<S: HoldsNotarizations<StandardBlocks>>(
     nothing: S::Ruins,
     told: Told<S::Finalization>,
 ) -> (Result<Outcome, Fault<Sha256Digest>>, S::Ruins) {

@@ -7,7 +7,9 @@ use mar_archives::immutable;
 use mar_block::StandardBlocks;
 use mar_cache::{CacheEntry, EpochCache, Epochs, KeptEntry, KeyedEntry, Shelf, empty_shelf};
 use mar_cert::CommitsTo;
-use mar_shelf::{BlockItem, Blocks, CacheInPlace, CertificateItem, Certificates, LifeCache};
+use mar_shelf::{
+    BlockItem, Blocks, CacheInPlace, CertificateItem, Certificates, LifeNotarizations,
+};
 use mar_store::{Archive, LuckHalf, MemArchive, MemMeta, Meta};
 use mar_types::Sha256Digest;
 use std::alloc::Global;
@@ -54,7 +56,7 @@ fn over_shelf<F: CommitsTo<Sha256Digest>, H: Shelf<StandardBlocks, F>>(
 }
 
 // The same over a cache of a life.
-fn over_cache<F: CommitsTo<Sha256Digest>, H: LifeCache<StandardBlocks, F>>(
+fn over_cache<F: CommitsTo<Sha256Digest>, H: LifeNotarizations<StandardBlocks, F>>(
     alloc: Global,
     cache: H,
     told: Told<F>,
@@ -66,7 +68,7 @@ fn over_cache<F: CommitsTo<Sha256Digest>, H: LifeCache<StandardBlocks, F>>(
 fn over_archive<
     F: CommitsTo<Sha256Digest>,
     A: Archive<BlockItem<StandardBlocks>>,
-    H: LifeCache<StandardBlocks, F>,
+    H: LifeNotarizations<StandardBlocks, F>,
 >(alloc: Global, archive: A, cache: H, told: Told<F>) -> Lived {
     let blocks: immutable::Archive<A> = immutable::Archive::new(archive);
     over_blocks(alloc, blocks, cache, told)
@@ -76,7 +78,7 @@ fn over_archive<
 fn over_blocks<
     F: CommitsTo<Sha256Digest>,
     FB: Blocks<StandardBlocks>,
-    H: LifeCache<StandardBlocks, F>,
+    H: LifeNotarizations<StandardBlocks, F>,
 >(alloc: Global, blocks: FB, cache: H, told: Told<F>) -> Lived {
     let certs: CertificateStore<F> = immutable::Archive::new(MemArchive::new(
         alloc,
@@ -90,7 +92,7 @@ fn over_stores<
     F: CommitsTo<Sha256Digest>,
     FB: Blocks<StandardBlocks>,
     FC: Certificates<StandardBlocks, F>,
-    H: LifeCache<StandardBlocks, F>,
+    H: LifeNotarizations<StandardBlocks, F>,
 >(blocks: FB, certs: FC, meta: MemMeta, cache: H, told: Told<F>) -> Lived {
     let nothing = Ruins {
         blocks: blocks.wreck(),

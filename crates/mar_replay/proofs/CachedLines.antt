@@ -1,4 +1,5 @@
--- The blocks that are cached, and that a crash may leave of the cache: over a line none comes to it but those that the line tells.
+-- The blocks that are cached, and that a crash may leave of the cache: over a line none comes to it but those that the line tells
+-- or that might be met before.
 use Rattle.std.proofs.Common.{Bool, Contains, List, None, Option, Some, [], ap, arith, false, fold, if◌then◌else◌, inl, inr, length, nat_lt, refl, subst, sym, true, zero, ℕ, ◌&&◌, ◌++◌, ◌+◌, ◌∙◌, ◌∷◌, ◌≡◌, ◌⊎◌}
 use Rattle.std.specs.List.{filter_map, list_any}
 use Rattle.std.proofs.lemmas.List.Elements.{Contains-append_cases, Contains-append_left, Contains-append_right}
@@ -6,22 +7,25 @@ use Rattle.mar_cert.specs.Block.{Block}
 use Rattle.mar_inbox.specs.declared.Query.TheVariants as query
 use Rattle.mar_store.specs.Changes.{Within}
 use Rattle.mar_store.proofs.Lookups.{AllByRecursion-contains, AllByRecursion-from_contains}
-use Rattle.mar_node.specs.Cache.{MayBeCached, entries_put, notarized_where, verified_at}
-use Rattle.mar_node.specs.Cached.{Cached, cached_block, finalization_entry, notarized_entry, verified_entry, with_entry}
+use Rattle.mar_node.specs.Cache.{MayBeCached, entries_put, notarized_where, verified_at, notarized_at_hand}
+use Rattle.mar_node.specs.Cached.{Cached, cached_block, finalization_entry, notarized_entry, verified_entry, with_entry, notarization_entry}
 use Rattle.mar_node.specs.Chain.{Chain}
 use Rattle.mar_node.specs.Config.{Config}
 use Rattle.mar_node.specs.Event.{Effect, Event, effect_of, message_told}
 use Rattle.mar_node.specs.Faults.{Begin}
 use Rattle.mar_node.specs.Lives.{Finds, Picks, TakesUp}
-use Rattle.mar_node.specs.Node.{Ended, Node, write_count}
-use Rattle.mar_node.specs.Messages.{Message, certify, proposed, verified}
-use Rattle.mar_node.specs.Promise.{told_blocks}
+use Rattle.mar_node.specs.Node.{Ended, Node, write_count, AreBlocksOf, at_hand}
+use Rattle.mar_node.specs.Messages.{Message, message_blocks}
+use Rattle.mar_node.specs.Promise.{told_blocks, Waiting, known_blocks, node_of}
 use Rattle.mar_node.specs.Step.{Made, Steps, with_sync}
 use Rattle.mar_node.proofs.CacheSteps.{with_cases}
 use Rattle.mar_node.proofs.EntryLists.{contains_none, one_of}
 use Rattle.mar_node.proofs.Filtered.{all_found_from, all_found_of, all_found_within}
 use Rattle.mar_replay.specs.Playing.{IsAnswered, asks, certifies, proposes, verifies}
-use Rattle.mar_replay.proofs.Lasting.{IsPlain, acks, answers, finishes, prepares, reports}
+use Rattle.mar_replay.proofs.Lasting.{IsPlain, acks, answers, finishes, prepares, reports, notarizes, reports_certified}
+use Rattle.mar_cert.specs.Finalization.{Notarization}
+use Rattle.mar_node.specs.Held.{Seen}
+use Rattle.mar_node.proofs.KnownBlocks.{at_hand-known}
 
 -- what is found in a list is found in one that has all of it
 pub found_within : {T U : Type 0} (f : T → Option U) (xs ys : List T) → Within xs ys → (y : U) → Contains (filter_map f xs) y → Contains (filter_map f ys) y
@@ -30,9 +34,9 @@ found_within f xs ys within y has =
 
 -- A STEP
 
--- the block that is cached is one that the event tells, if it is a block
-abbrev pub IsTold : Event → Cached → Type 0
-IsTold e x = (b : Block) → cached_block x ≡ Some b → Contains (told_blocks e) b
+-- the block that is cached is one of these, if it is a block
+abbrev pub IsOneOf : List Block → Cached → Type 0
+IsOneOf more x = (b : Block) → cached_block x ≡ Some b → Contains more b
 
 -- a ticket for a sync changes nothing that is cached
 cache-with_sync : (before : ℕ) (n : Node) → (with_sync before n).cache ≡ n.cache
@@ -51,28 +55,28 @@ with_entries held (y ∷ put) x has = elim (with_entries (with_entry held y) put
   | inr more ↦ inr (Contains-append_right (y ∷ []) put x more)
 ]
 
--- of blocks an event puts into the cache those that it tells alone
-abbrev pub PutsToldBlocks : Config → Node → Event → Type 0
-PutsToldBlocks config n e = (fx : Effect) (after : List Cached) (x : Cached) → Contains (entries_put config n after e fx) x → IsTold e x
+-- of blocks an event puts these into the cache alone
+abbrev pub PutsBlocksOf : Config → Node → Event → List Block → Type 0
+PutsBlocksOf config n e more = (fx : Effect) (after : List Cached) (x : Cached) → Contains (entries_put config n after e fx) x → IsOneOf more x
 
--- blocks that are found in what was there, or that the event tells
-blocks_from : (e : Event) (xs ys : List Cached) → ((x : Cached) → Contains xs x → Contains ys x ⊎ IsTold e x) → (b : Block) → Contains (filter_map cached_block xs) b → Contains (filter_map cached_block ys ++ told_blocks e) b
-blocks_from e xs ys from b has = AllByRecursion-contains (Contains (filter_map cached_block ys ++ told_blocks e)) (filter_map cached_block xs) b (all_found_from cached_block (Contains (filter_map cached_block ys ++ told_blocks e)) xs (λ x c there is. elim (from x there) [
-  | inl before ↦ Contains-append_left (filter_map cached_block ys) (told_blocks e) c (there_found x c before is)
-  | inr told ↦ Contains-append_right (filter_map cached_block ys) (told_blocks e) c (told c is)
+-- blocks that are found in what was there, or among these
+blocks_from : (more : List Block) (xs ys : List Cached) → ((x : Cached) → Contains xs x → Contains ys x ⊎ IsOneOf more x) → (b : Block) → Contains (filter_map cached_block xs) b → Contains (filter_map cached_block ys ++ more) b
+blocks_from more xs ys from b has = AllByRecursion-contains (Contains (filter_map cached_block ys ++ more)) (filter_map cached_block xs) b (all_found_from cached_block (Contains (filter_map cached_block ys ++ more)) xs (λ x c there is. elim (from x there) [
+  | inl before ↦ Contains-append_left (filter_map cached_block ys) more c (there_found x c before is)
+  | inr told ↦ Contains-append_right (filter_map cached_block ys) more c (told c is)
 ])) has
   where
     there_found : (x : Cached) (c : Block) → Contains ys x → cached_block x ≡ Some c → Contains (filter_map cached_block ys) c
     there_found x c there is = all_found_of cached_block (Contains (filter_map cached_block ys)) ys x c (AllByRecursion-from_contains (Contains (filter_map cached_block ys)) (filter_map cached_block ys) (λ d in_ys. in_ys)) there is
 
 -- over such an event no others come to it
-pub step_cached : (config : Config) (chain : Chain) (n : Node) (e : Event) (made : Made) (n' : Node) → PutsToldBlocks config n e → Steps config chain n (e ∷ []) made n' → (b : Block) → Contains (filter_map cached_block (n'.cache.held ++ n'.cache.may)) b → Contains (filter_map cached_block (n.cache.held ++ n.cache.may) ++ told_blocks e) b
-step_cached config chain n e made n' puts steps b has = blocks_from e (n'.cache.held ++ n'.cache.may) (n.cache.held ++ n.cache.may) (λ x there. each x (subst (λ c. Contains (c.held ++ c.may) x) same there)) b has
+pub step_cached : (config : Config) (chain : Chain) (n : Node) (e : Event) (more : List Block) (made : Made) (n' : Node) → PutsBlocksOf config n e more → Steps config chain n (e ∷ []) made n' → (b : Block) → Contains (filter_map cached_block (n'.cache.held ++ n'.cache.may)) b → Contains (filter_map cached_block (n.cache.held ++ n.cache.may) ++ more) b
+step_cached config chain n e more made n' puts steps b has = blocks_from more (n'.cache.held ++ n'.cache.may) (n.cache.held ++ n.cache.may) (λ x there. each x (subst (λ c. Contains (c.held ++ c.may) x) same there)) b has
   where
     same : n'.cache ≡ steps.unticketed.cache
     same = ap (λ m. m.cache) steps.ticket ∙ cache-with_sync (write_count n) steps.unticketed
 
-    each : (x : Cached) → Contains (steps.unticketed.cache.held ++ steps.unticketed.cache.may) x → Contains (n.cache.held ++ n.cache.may) x ⊎ IsTold e x
+    each : (x : Cached) → Contains (steps.unticketed.cache.held ++ steps.unticketed.cache.may) x → Contains (n.cache.held ++ n.cache.may) x ⊎ IsOneOf more x
     each x there = elim (Contains-append_cases steps.unticketed.cache.held steps.unticketed.cache.may x there) [
       | inl held ↦ elim (with_entries n.cache.held (entries_put config n steps.unticketed.cache.held e (effect_of config n e)) x (steps.advances.cache.nothing_else x held)) [
         | inl before ↦ inl (Contains-append_left n.cache.held n.cache.may x before)
@@ -85,19 +89,19 @@ step_cached config chain n e made n' puts steps b has = blocks_from e (n'.cache.
     ]
 
 -- nor are others left by a cut
-pub cut_cached : (config : Config) (chain : Chain) (n : Node) (e : Event) (fx : Effect) (left : Ended) → PutsToldBlocks config n e → ((x : Cached) → Contains left.cache_may x → MayBeCached config n e fx x) → (b : Block) → Contains (filter_map cached_block left.cache_may) b → Contains (filter_map cached_block n.cache.may ++ told_blocks e) b
-cut_cached config chain n e fx left puts may b has = blocks_from e left.cache_may n.cache.may (λ x there. elim (may x there) [ inl before ↦ inl before | inr put ↦ inr (puts fx put.0 x put.1) ]) b has
+pub cut_cached : (config : Config) (chain : Chain) (n : Node) (e : Event) (more : List Block) (fx : Effect) (left : Ended) → PutsBlocksOf config n e more → ((x : Cached) → Contains left.cache_may x → MayBeCached config n e fx x) → (b : Block) → Contains (filter_map cached_block left.cache_may) b → Contains (filter_map cached_block n.cache.may ++ more) b
+cut_cached config chain n e more fx left puts may b has = blocks_from more left.cache_may n.cache.may (λ x there. elim (may x there) [ inl before ↦ inl before | inr put ↦ inr (puts fx put.0 x put.1) ]) b has
 
--- what is no block is told by any event
-none_told : (e : Event) (x y : Cached) → y ≡ x → cached_block y ≡ None → IsTold e x
-none_told e x y same none b is = absurd (apart (sym none ∙ (ap cached_block same ∙ is)))
+-- what is no block is none that isn't among these
+no_block : (more : List Block) (x y : Cached) → y ≡ x → cached_block y ≡ None → IsOneOf more x
+no_block more x y same none b is = absurd (apart (sym none ∙ (ap cached_block same ∙ is)))
   where
     apart : ◌≡◌ {A = Option Block} None (Some b) → ⊥
     apart both = cc
 
--- the one block that an event tells
-one_told : (e : Event) (x y : Cached) (b : Block) → y ≡ x → cached_block y ≡ Some b → Contains (told_blocks e) b → IsTold e x
-one_told e x y b same one told c is = subst (Contains (told_blocks e)) (inside (sym one ∙ (ap cached_block same ∙ is))) told
+-- the block of an entry
+one_block : (more : List Block) (x y : Cached) (b : Block) → y ≡ x → cached_block y ≡ Some b → Contains more b → IsOneOf more x
+one_block more x y b same one told c is = subst (Contains more) (inside (sym one ∙ (ap cached_block same ∙ is))) told
   where
     inside : ◌≡◌ {A = Option Block} (Some b) (Some c) → b ≡ c
     inside both = cc
@@ -106,28 +110,49 @@ told_first : (b : Block) (others : List Block) → Contains (b ∷ others) b
 told_first b others = (zero, omega arith, refl)
 
 -- an answered message puts the block that is to be kept, if any
-answered_puts : (config : Config) (n : Node) (t : ℕ) (m : Message) → IsAnswered m → PutsToldBlocks config n (message_told (Some t) m)
+answered_puts : (config : Config) (n : Node) (t : ℕ) (m : Message) → IsAnswered m → PutsBlocksOf config n (message_told (Some t) m) (message_blocks m)
 answered_puts config n t m (asks (query.Info id)) fx after x has = contains_none x has
 answered_puts config n t m (asks (query.Block id)) fx after x has = contains_none x has
 answered_puts config n t m (asks (query.Finalization h)) fx after x has = contains_none x has
 answered_puts config n t m (asks query.Processed) fx after x has = contains_none x has
 answered_puts config n t m (asks query.Anchor) fx after x has = contains_none x has
 answered_puts config n t m (asks (query.Verified r)) fx after x has = contains_none x has
-answered_puts config n t m (verifies r b) fx after x has = one_told (message_told (Some t) (verified r b)) x (verified_entry r b) b (sym (one_of (verified_entry r b) x has)) refl (told_first b [])
-answered_puts config n t m (proposes r peers b) fx after x has = one_told (message_told (Some t) (proposed r peers b)) x (verified_entry r b) b (sym (one_of (verified_entry r b) x has)) refl (told_first b [])
+answered_puts config n t m (verifies r b) fx after x has = one_block (b ∷ []) x (verified_entry r b) b (sym (one_of (verified_entry r b) x has)) refl (told_first b [])
+answered_puts config n t m (proposes r peers b) fx after x has = one_block (b ∷ []) x (verified_entry r b) b (sym (one_of (verified_entry r b) x has)) refl (told_first b [])
 answered_puts config n t m (certifies r b) fx after x has = by (list_any (verified_at r b) after) has
   where
-    by : (is_verified : Bool) → Contains (notarized_where is_verified r b) x → IsTold (message_told (Some t) (certify r b)) x
+    by : (is_verified : Bool) → Contains (notarized_where is_verified r b) x → IsOneOf (b ∷ []) x
     by true there = contains_none x there
-    by false there = one_told (message_told (Some t) (certify r b)) x (notarized_entry r b) b (sym (one_of (notarized_entry r b) x there)) refl (told_first b [])
+    by false there = one_block (b ∷ []) x (notarized_entry r b) b (sym (one_of (notarized_entry r b) x there)) refl (told_first b [])
 
--- events of a script do so
-pub plain_puts : (config : Config) (n : Node) (e : Event) → IsPlain e → PutsToldBlocks config n e
-plain_puts config n e (reports f) fx after x has = none_told e x (finalization_entry f) (sym (one_of (finalization_entry f) x has)) refl
-plain_puts config n e (acks t) fx after x has = contains_none x has
-plain_puts config n e (finishes t) fx after x has = contains_none x has
-plain_puts config n e (answers t m answered) fx after x has = answered_puts config n t m answered fx after x has
-plain_puts config n e (prepares r peers b) fx after x has = contains_none x has
+-- what an event of a script tells, and what might be met before
+abbrev pub told_or_known : Chain → Node → Event → List Block
+told_or_known chain n e = told_blocks e ++ known_blocks chain n
+
+-- events of a script put such blocks alone
+module _ {P E : Type 0} (config : Config) (chain : Chain) (a : Seen P E) (buffer : List Block) (waiting : Waiting) (blocks : AreBlocksOf chain a.held.blocks.held) where
+  abbrev n : Node
+  n = node_of a buffer waiting
+
+  notarized_puts : (f : Notarization) (more : List Block) → ((b : Block) → Contains (known_blocks chain n) b → Contains more b) → (o : Option Block) → at_hand n f.payload ≡ o → (x : Cached) → Contains (notarization_entry f ∷ notarized_at_hand n f.round o) x → IsOneOf more x
+  notarized_puts f more known None is x has = no_block more x (notarization_entry f) (sym (one_of (notarization_entry f) x has)) refl
+  notarized_puts f more known (Some b) is x has = by (list_any (verified_at f.round b) n.cache.held) has
+    where
+      by : (is_verified : Bool) → Contains (notarization_entry f ∷ notarized_where is_verified f.round b) x → IsOneOf more x
+      by true there = no_block more x (notarization_entry f) (sym (one_of (notarization_entry f) x there)) refl
+      by false there = elim (Contains-append_cases (notarization_entry f ∷ []) (notarized_entry f.round b ∷ []) x there) [
+        | inl first ↦ no_block more x (notarization_entry f) (sym (one_of (notarization_entry f) x first)) refl
+        | inr second ↦ one_block more x (notarized_entry f.round b) b (sym (one_of (notarized_entry f.round b) x second)) refl (known b (at_hand-known config.inner chain a buffer waiting blocks f.payload b is))
+      ]
+
+  pub plain_puts : (e : Event) → IsPlain e → PutsBlocksOf config n e (told_or_known chain n e)
+  plain_puts e (reports f) fx after x has = no_block _ x (finalization_entry f) (sym (one_of (finalization_entry f) x has)) refl
+  plain_puts e (notarizes f) fx after x has = notarized_puts f (known_blocks chain n) (λ b there. there) (at_hand n f.payload) refl x has
+  plain_puts e (reports_certified f) fx after x has = contains_none x has
+  plain_puts e (acks t) fx after x has = contains_none x has
+  plain_puts e (finishes t) fx after x has = contains_none x has
+  plain_puts e (answers t m answered) fx after x has = λ b is. Contains-append_left (message_blocks m) (known_blocks chain n) b (answered_puts config n t m answered fx after x has b is)
+  plain_puts e (prepares r peers b) fx after x has = contains_none x has
 
 -- AN OPENING
 

@@ -1,6 +1,6 @@
 -- What the actor's promise makes of one event, where it tells all that was told and asked.
-use Rattle.std.proofs.Common.{Err, List, Ok, Option, Some, [], ap, map, refl, subst, sym, ◌++◌, ◌∙◌, ◌∷◌, ◌≡◌, true}
-use Rattle.std.specs.Prelude.{Result}
+use Rattle.std.proofs.Common.{Err, List, Ok, Option, Some, [], ap, map, refl, subst, sym, ◌++◌, ◌∙◌, ◌∷◌, ◌≡◌, true, false, filter, nat_lt, IsTrue}
+use Rattle.std.specs.Prelude.{Result, flat_map}
 use Rattle.std.proofs.lemmas.Simd.{map-map}
 use Rattle.mar_types.specs.declared.Sha256.{Sha256}
 use Rattle.mar_types.specs.declared.Sha256Digest.{Sha256Digest}
@@ -12,15 +12,15 @@ use Rattle.mar_block.specs.declared.recipients.Sent.{Sent as SentCode}
 use Rattle.mar_inbox.specs.Views.{sent_by, sent_of}
 use Rattle.mar_key.specs.Hears.{Hears}
 use Rattle.mar_key.specs.Keys.{Call}
-use Rattle.mar_node.specs.Answers.{Sent, TicketAnswer}
+use Rattle.mar_node.specs.Answers.{Sent, TicketAnswer, is_known}
 use Rattle.mar_node.specs.Chain.{Chain}
 use Rattle.mar_node.specs.Config.{Config}
-use Rattle.mar_node.specs.Event.{Event, ack_dropped, ack_given, block_buffered, buffer_ended, life_started, message_told, peer_answered, serve_ended, sync_finished}
+use Rattle.mar_node.specs.Event.{Event, ack_dropped, ack_given, block_buffered, buffer_ended, life_started, message_told, peer_answered, serve_ended, sync_finished, is_query}
 use Rattle.mar_node.specs.Held.{ArePassed, Ending, FailsBy, Remains}
 use Rattle.mar_node.specs.Lives.{Cuts}
 use Rattle.mar_node.specs.Node.{Node}
 use Rattle.mar_node.specs.Moves.{KeepsTakenUp}
-use Rattle.mar_node.specs.Promise.{CutsStep, FinishesStep, Heard, HearsMade, IsSetTo, KeepsPromise, KeepsStart, KeepsStep, Waiting, asked_since, heard_with, node_of, waiting_in}
+use Rattle.mar_node.specs.Promise.{CutsStep, FinishesStep, Heard, HearsMade, IsSetTo, KeepsPromise, KeepsStart, KeepsStep, Waiting, asked_since, heard_with, node_of, waiting_in, IsKnownSince, knowing, known_blocks, told_blocks}
 use Rattle.mar_node.specs.Step.{Made, Report, Steps, nothing_made}
 use Rattle.mar_node.specs.Stored.{AreSmall}
 use Rattle.mar_node.specs.declared.fault.Fault.{Fault as FaultCode}
@@ -32,6 +32,18 @@ use Rattle.mar_replay.specs.declared.play.Outcome.TheVariants as outcome
 use Rattle.mar_replay.specs.declared.play.Pending.{Pending}
 use Rattle.mar_replay.specs.declared.play.State.{State as StateCode}
 use Rattle.mar_replay.specs.declared.play.State.TheVariants as state
+use Rattle.mar_node.specs.Queries.{Learns, commitments_found}
+use Rattle.mar_node.proofs.CertificationEvent.{known-since, teaches_parents}
+use Rattle.mar_node.proofs.KnownBlocks.{AreOne-behind}
+use Rattle.mar_node.proofs.Soundness.{untold}
+use Rattle.mar_cert.specs.Finalization.{Finalization}
+
+-- A life that goes on behind an event: it gave few tickets, and knows as certified what it learned besides.
+pub record GoesOnWell (seen : SeenNode) (buffer : Held) (e : Event) (new : SeenNode) : Type 0 where
+  pub tickets : GivesFew e seen new
+  pub no_parents : teaches_parents e ≡ false
+  pub learns : Learns seen.certified (commitments_found (λ commitment. commitment) seen.held buffer.blocks e) new.life.tip new.certified
+  pub unlearned : IsTrue (is_query e) → new.certified ≡ seen.certified
 
 -- all that was told since there was nothing
 told_all : {T : Type 0} (old new more : List T) → old ≡ [] → Hears (Some old) more (Some new) → more ≡ new
@@ -57,12 +69,12 @@ module _ (seen : SeenNode) (buffer : Held) (before now : Made) (silent : before 
       (sym (heard.answers ∙ ap (λ xs. xs ++ made.answers) (ap (λ m. m.answers) silent)))
 
   -- a step of this node that finished
-  finished : (config : Config) (chain : Chain) (n : Node) (waiting : Waiting) (e : Event) (new : SeenNode) (kept : List Block) → n.buffer ≡ kept → asked_since (waiting_in n) now.asks ≡ asked_since waiting now.asks → FinishesStep config chain n (e ∷ []) (heard_of before) (heard_of now) new
-      → Steps config chain n (e ∷ []) now (node_of new kept (asked_since waiting now.asks))
-  finished config chain n waiting e new kept same waits finishes =
-      subst (λ w. Steps config chain n (e ∷ []) now (node_of new kept w)) waits
-      (subst (λ bs. Steps config chain n (e ∷ []) now (node_of new bs (asked_since (waiting_in n) now.asks))) same
-      (subst (λ m. Steps config chain n (e ∷ []) m (node_of new n.buffer (asked_since (waiting_in n) m.asks))) (made_is finishes.made finishes.heard) finishes.steps))
+  finished : (config : Config) (chain : Chain) (n : Node) (waiting : Waiting) (e : Event) (new : SeenNode) (kept : List Block) → n.buffer ≡ kept → asked_since (waiting_in n) now.asks ≡ asked_since waiting now.asks → IsKnownSince config n e new.life.tip new.certified → FinishesStep config chain n (e ∷ []) (heard_of before) (heard_of now) new.held new.life
+      → Steps config chain n (e ∷ []) now (node_of new kept (knowing new.certified (asked_since waiting now.asks)))
+  finished config chain n waiting e new kept same waits known finishes =
+      subst (λ w. Steps config chain n (e ∷ []) now (node_of new kept (knowing new.certified w))) waits
+      (subst (λ bs. Steps config chain n (e ∷ []) now (node_of new bs (knowing new.certified (asked_since (waiting_in n) now.asks)))) same
+      (subst (λ m. Steps config chain n (e ∷ []) m (node_of new n.buffer (knowing new.certified (asked_since (waiting_in n) m.asks)))) (made_is finishes.made finishes.heard) (finishes.steps new.certified known)))
 
   -- one that was cut
   cut_short : (config : Config) (chain : Chain) (n : Node) (e : Event) (x : Ending) → CutsStep config chain n (e ∷ []) (heard_of before) (heard_of now) x → Cuts config chain n (e ∷ []) now x.fault x.remains.ended
@@ -79,39 +91,51 @@ module _ (seen : SeenNode) (buffer : Held) (before now : Made) (silent : before 
   abbrev Promises : Event → Result SeenNode Ending → Type 0
   Promises e = KeepsPromise (e ∷ []) (fixed_epochs seen.life.epocher.length) (λ commitment. commitment) seen buffer.blocks (heard_of before) (heard_of now)
 
-  -- of a start, and of an event of a life that has begun
-  by_event : {H R : Type 0} (after : StateCode H R) (o : Outcome) (result : Result SeenNode Ending) → ((e : Event) → PromisesStart e result → DoesStart seen buffer e now after o) → ((e : Event) → PromisesStep e result → DoesStep seen buffer e now after o) → (e : Event) → Promises e result → DoesEvent seen buffer e now after o
-  by_event after o result start step (life_started f) promise = start (life_started f) promise
-  by_event after o result start step (message_told t m) promise = step (message_told t m) promise
-  by_event after o result start step (ack_given t) promise = step (ack_given t) promise
-  by_event after o result start step (ack_dropped t) promise = step (ack_dropped t) promise
-  by_event after o result start step (sync_finished t) promise = step (sync_finished t) promise
-  by_event after o result start step (peer_answered a) promise = step (peer_answered a) promise
-  by_event after o result start step serve_ended promise = step serve_ended promise
-  by_event after o result start step (block_buffered b) promise = step (block_buffered b) promise
-  by_event after o result start step buffer_ended promise = step buffer_ended promise
+  -- of a start, and of an event of a life that has begun, where something is so of either
+  by_event : {H R : Type 0} (after : StateCode H R) (o : Outcome) (result : Result SeenNode Ending) (IsSo : Event → Type 0) → ((f : Option Finalization) → IsSo (life_started f) → PromisesStart (life_started f) result → DoesStart seen buffer (life_started f) now after o) → ((e : Event) → IsSo e → PromisesStep e result → DoesStep seen buffer e now after o) → (e : Event) → IsSo e → Promises e result → DoesEvent seen buffer e now after o
+  by_event after o result IsSo start step (life_started f) so promise = start f so promise
+  by_event after o result IsSo start step (message_told t m) so promise = step (message_told t m) so promise
+  by_event after o result IsSo start step (ack_given t) so promise = step (ack_given t) so promise
+  by_event after o result IsSo start step (ack_dropped t) so promise = step (ack_dropped t) so promise
+  by_event after o result IsSo start step (sync_finished t) so promise = step (sync_finished t) so promise
+  by_event after o result IsSo start step (peer_answered a) so promise = step (peer_answered a) so promise
+  by_event after o result IsSo start step serve_ended so promise = step serve_ended so promise
+  by_event after o result IsSo start step (block_buffered b) so promise = step (block_buffered b) so promise
+  by_event after o result IsSo start step buffer_ended so promise = step buffer_ended so promise
 
-  module _ (H R : Type 0) (new : SeenNode) (kept : Held) (pending : Pending) (same : kept.blocks ≡ buffer.blocks) (tickets : GivesFew seen new) where
-    started_ok : (e : Event) → PromisesStart e (Ok new) → DoesStart {H = H} {R = R} seen buffer e now (state.Running new kept pending) outcome.Done
-    started_ok e promise fresh config chain waiting set lawful =
-        let start = promise fresh config chain waiting set lawful in (
+  module _ (H R : Type 0) (new : SeenNode) (kept : Held) (pending : Pending) (same : kept.blocks ≡ buffer.blocks) where
+    started_ok : (f : Option Finalization) → GoesOnWell seen buffer (life_started f) new → PromisesStart (life_started f) (Ok new) → DoesStart {H = H} {R = R} seen buffer (life_started f) now (state.Running new kept pending) outcome.Done
+    started_ok f well promise fresh config chain waiting waits set lawful =
+        let start = promise fresh config chain waiting set lawful in
+        let certified : start.begun.certified ≡ seen.certified = ap (λ n. n.certified) start.takes.begun_is ∙ waits in (
           start.begun,
           start.takes,
-          (finished config chain start.begun waiting e new kept.blocks (ap (λ n. n.buffer) start.takes.begun_is ∙ sym same) (ap (λ n. asked_since (waiting_in n) now.asks) start.takes.begun_is) start.finishes, same, tickets),
+          (
+            finished config chain start.begun waiting (life_started f) new kept.blocks (ap (λ n. n.buffer) start.takes.begun_is ∙ sym same) (ap (λ n. asked_since (waiting_in n) now.asks) start.takes.begun_is)
+                (record { known = λ h c. well.learns h c ∙ ap (λ xs. is_known (filter (λ x. nat_lt new.life.tip x.height) (xs ++ [])) h c) (sym certified); query = λ is. absurd cc }) start.finishes,
+            same,
+            well.tickets,
+          ),
         )
 
-    stepped_ok : (e : Event) → PromisesStep e (Ok new) → DoesStep {H = H} {R = R} seen buffer e now (state.Running new kept pending) outcome.Done
-    stepped_ok e promise loaded config chain waiting set lawful = (finished config chain (node_of seen buffer.blocks waiting) waiting e new kept.blocks (sym same) refl (promise loaded config chain waiting set lawful), same, tickets)
+    stepped_ok : (e : Event) → GoesOnWell seen buffer e new → PromisesStep e (Ok new) → DoesStep {H = H} {R = R} seen buffer e now (state.Running new kept pending) outcome.Done
+    stepped_ok e well promise loaded config chain waiting waits set lawful = (finished config chain (node_of seen buffer.blocks waiting) waiting e new kept.blocks (sym same) refl known (promise loaded config chain waiting set lawful), same, well.tickets)
+      where
+        learns : Learns waiting.certified (commitments_found config.inner seen.held buffer.blocks e) new.life.tip new.certified
+        learns = subst (λ i. Learns waiting.certified (commitments_found i seen.held buffer.blocks e) new.life.tip new.certified) (sym set.inner_is) (subst (λ xs. Learns xs (commitments_found (λ commitment. commitment) seen.held buffer.blocks e) new.life.tip new.certified) (sym waits) well.learns)
+
+        known : IsKnownSince config (node_of seen buffer.blocks waiting) e new.life.tip new.certified
+        known = known-since config chain seen buffer.blocks waiting (AreOne-behind config.inner (flat_map told_blocks (e ∷ [])) (known_blocks chain (node_of seen buffer.blocks waiting)) lawful.one) (untold config chain (node_of seen buffer.blocks waiting) e lawful.good).1.of_chain.stores.held_blocks e new.life.tip new.certified well.no_parents learns (λ query. well.unlearned query ∙ sym waits)
 
   abbrev ending : FaultCode Sha256Digest → Remains → Ending
   ending fault left = record { fault = plain_fault fault; remains = left }
 
-  module _ (H R : Type 0) (fault : FaultCode Sha256Digest) (left : Remains) (limit : IsNearLast seen (plain_fault fault)) where
-    started_err : (e : Event) → PromisesStart e (Err (ending fault left)) → DoesStart {H = H} {R = R} seen buffer e now (state.Stopped left 0) (outcome.Fault fault)
-    started_err e promise fresh config chain waiting set lawful = let start = promise fresh config chain waiting set lawful in (start.begun, start.takes, (cut_short config chain start.begun e (ending fault left) start.cuts, limit))
+  module _ (H R : Type 0) (fault : FaultCode Sha256Digest) (left : Remains) where
+    started_err : (f : Option Finalization) → IsNearLast (life_started f) seen (plain_fault fault) → PromisesStart (life_started f) (Err (ending fault left)) → DoesStart {H = H} {R = R} seen buffer (life_started f) now (state.Stopped left 0) (outcome.Fault fault)
+    started_err f limit promise fresh config chain waiting waits set lawful = let start = promise fresh config chain waiting set lawful in (start.begun, start.takes, (cut_short config chain start.begun (life_started f) (ending fault left) start.cuts, limit))
 
-    stepped_err : (e : Event) → PromisesStep e (Err (ending fault left)) → DoesStep {H = H} {R = R} seen buffer e now (state.Stopped left 0) (outcome.Fault fault)
-    stepped_err e promise loaded config chain waiting set lawful = (cut_short config chain (node_of seen buffer.blocks waiting) e (ending fault left) (promise loaded config chain waiting set lawful), limit)
+    stepped_err : (e : Event) → IsNearLast e seen (plain_fault fault) → PromisesStep e (Err (ending fault left)) → DoesStep {H = H} {R = R} seen buffer e now (state.Stopped left 0) (outcome.Fault fault)
+    stepped_err e limit promise loaded config chain waiting waits set lawful = (cut_short config chain (node_of seen buffer.blocks waiting) e (ending fault left) (promise loaded config chain waiting set lawful), limit)
 
 -- ONE EVENT
 
@@ -128,18 +152,18 @@ taken_up (block_buffered b) seen new keeps up = keeps up
 taken_up buffer_ended seen new keeps up = keeps up
 
 module _ (seen : SeenNode) (buffer : Held) (e : Event) (before now : Made) (silent : before ≡ nothing_made) where
-  pub takes_ok : {H R : Type 0} (new : SeenNode) (kept : Held) (pending : Pending) → kept.blocks ≡ buffer.blocks → Promises seen buffer before now silent e (Ok new) → new.life.epocher ≡ seen.life.epocher → new.life.sizes ≡ seen.life.sizes → ArePassed seen.held.watches new.held.watches → GivesFew seen new → KeepsTakenUp e seen new
+  pub takes_ok : {H R : Type 0} (new : SeenNode) (kept : Held) (pending : Pending) → kept.blocks ≡ buffer.blocks → Promises seen buffer before now silent e (Ok new) → new.life.epocher ≡ seen.life.epocher → new.life.sizes ≡ seen.life.sizes → ArePassed seen.held.watches new.held.watches → GoesOnWell seen buffer e new → KeepsTakenUp e seen new
       → TakesEvent {H = H} {R = R} seen buffer pending e now (state.Running new kept pending) outcome.Done
-  takes_ok {H = H} {R = R} new kept pending same promise epocher sizes passed tickets keeps = record {
+  takes_ok {H = H} {R = R} new kept pending same promise epocher sizes passed well keeps = record {
     set = λ config set up. (subst (λ z. IsSetTo config z (fixed_epochs new.life.epocher.length) (λ commitment. commitment)) (sym sizes) (subst (λ p. IsSetTo config seen.life.sizes (fixed_epochs p.length) (λ commitment. commitment)) (sym epocher) set), taken_up e seen new keeps up);
     small = λ small. subst AreSmall (sym same) small;
     calls = passed;
     lucky = λ luck line. tt;
     pending_as = refl;
-    done = by_event seen buffer before now silent {H = H} {R = R} (state.Running new kept pending) outcome.Done (Ok new) (started_ok seen buffer before now silent H R new kept pending same tickets) (stepped_ok seen buffer before now silent H R new kept pending same tickets) e promise;
+    done = by_event seen buffer before now silent {H = H} {R = R} (state.Running new kept pending) outcome.Done (Ok new) (λ d. GoesOnWell seen buffer d new) (started_ok seen buffer before now silent H R new kept pending same) (stepped_ok seen buffer before now silent H R new kept pending same) e well promise;
   }
 
-  pub takes_err : {H R : Type 0} (pending : Pending) (fault : FaultCode Sha256Digest) (left : Remains) (x : Ending) → x ≡ record { fault = plain_fault fault; remains = left } → Promises seen buffer before now silent e (Err x) → FailsBy seen.held.watches (plain_fault fault) left.watches → IsNearLast seen (plain_fault fault)
+  pub takes_err : {H R : Type 0} (pending : Pending) (fault : FaultCode Sha256Digest) (left : Remains) (x : Ending) → x ≡ record { fault = plain_fault fault; remains = left } → Promises seen buffer before now silent e (Err x) → FailsBy seen.held.watches (plain_fault fault) left.watches → IsNearLast e seen (plain_fault fault)
       → TakesEvent {H = H} {R = R} seen buffer pending e now (state.Stopped left 0) (outcome.Fault fault)
   takes_err {H = H} {R = R} pending fault left x is promise fails limit = record {
     set = λ config set up. tt;
@@ -147,7 +171,7 @@ module _ (seen : SeenNode) (buffer : Held) (e : Event) (before now : Made) (sile
     calls = fails;
     lucky = λ luck line. refl;
     pending_as = tt;
-    done = by_event seen buffer before now silent {H = H} {R = R} (state.Stopped left 0) (outcome.Fault fault) (Err (record { fault = plain_fault fault; remains = left })) (started_err seen buffer before now silent H R fault left limit) (stepped_err seen buffer before now silent H R fault left limit) e
+    done = by_event seen buffer before now silent {H = H} {R = R} (state.Stopped left 0) (outcome.Fault fault) (Err (record { fault = plain_fault fault; remains = left })) (λ d. IsNearLast d seen (plain_fault fault)) (started_err seen buffer before now silent H R fault left) (stepped_err seen buffer before now silent H R fault left) e limit
         (subst (λ y. Promises seen buffer before now silent e (Err y)) is promise);
   }
 

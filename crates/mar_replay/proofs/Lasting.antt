@@ -2,10 +2,10 @@
 use Rattle.std.proofs.Common.{Bool, List, None, Option, Some, [], arith, eqb-true, false, if◌then◌else◌, length, map, nat_lt, option_map, refl, subst, sym, true, ℕ, ◌&&◌, ◌*◌, ◌++◌, ◌+◌, ◌-◌, ◌<◌, ◌==◌, ◌^◌, ◌∷◌, ◌≡◌, ◌≤◌}
 use Rattle.std.specs.List.{AllByRecursion}
 use Rattle.mar_cert.specs.Block.{Block}
-use Rattle.mar_cert.specs.Finalization.{Finalization}
+use Rattle.mar_cert.specs.Finalization.{Finalization, Notarization}
 use Rattle.mar_inbox.specs.declared.Query.TheVariants as query
 use Rattle.mar_types.specs.Round.{Round}
-use Rattle.mar_node.specs.Messages.{Message, Peers, prepared, report_finalization}
+use Rattle.mar_node.specs.Messages.{Message, Peers, prepared, report_certification, report_finalization, report_notarization}
 use Rattle.mar_key.specs.Processed.{height_of}
 use Rattle.mar_node.specs.Acks.{Mark, Outstanding, after_given, is_given, is_unmarked, mark_dropped, mark_given, mark_waiting, with_mark}
 use Rattle.mar_store.proofs.Lookups.{AllByRecursion-append}
@@ -14,6 +14,7 @@ use Rattle.mar_node.specs.Config.{Config}
 use Rattle.mar_node.specs.Event.{Event, ack_given, effect_of, kept_blocks, life_started, message_told, met_of, no_floor, sync_finished, undrained_blocks}
 use Rattle.mar_node.specs.Faults.{dropped_first, event_fault, height_limit, last_height, storing_fault}
 use Rattle.mar_node.specs.Held.{Seen}
+use Rattle.mar_node.specs.Moves.{syncs_at_most}
 use Rattle.mar_node.specs.Node.{Node, at_hand, write_count}
 use Rattle.mar_node.specs.Promise.{IsLawfulStep, ReportsFinalized, Waiting, node_of}
 use Rattle.mar_node.specs.Step.{HandedBlock, HandsOver, Made, Steps, handed_blocks, outstanding_of, with_sync}
@@ -28,9 +29,9 @@ use Rattle.mar_replay.specs.Playing.{IsAnswered, asks, certifies, proposes, veri
 pub tickets_after : (k before after window : ℕ) → before ≤ max_window * k → window ≤ max_window → after ≤ before + window → after ≤ max_window * (k + 1)
 tickets_after k before after window low narrow given = omega (arith, low, narrow, given)
 
--- and one of a sync
-pub syncs_after : (k before after : ℕ) → before ≤ k → after ≤ before + 1 → after ≤ k + 1
-syncs_after k before after low given = omega (arith, low, given)
+-- and two of syncs
+pub syncs_after : (k before after most : ℕ) → before ≤ 2 * k → most ≤ 2 → after ≤ before + most → after ≤ 2 * (k + 1)
+syncs_after k before after most low few given = omega (arith, low, few, given)
 
 -- they last for all lines that a script may have
 pub tickets_last : (k before window : ℕ) → before ≤ max_window * k → k ≤ max_lines → window ≤ max_window → 2 ^ 64 - 1 ≤ before + window → ⊥
@@ -40,8 +41,8 @@ tickets_last k before window low few narrow near = omega (arith, low, few, narro
 pub answers_last : (k next : ℕ) → next ≤ k → k ≤ max_lines → next < 2 ^ 64 - 1
 answers_last k next low few = omega (arith, low, few)
 
-pub syncs_last : (k before : ℕ) → before ≤ k → k ≤ max_lines → before ≡ 2 ^ 64 - 1 → ⊥
-syncs_last k before low few last = omega (arith, low, few, last)
+pub syncs_last : (k before most : ℕ) → before ≤ 2 * k → k ≤ max_lines → most ≤ 2 → 2 ^ 64 ≤ before + most → ⊥
+syncs_last k before most low few at_most near = omega (arith, low, few, at_most, near)
 
 -- BLOCKS
 
@@ -95,14 +96,38 @@ answered_reports chain t m (verifies r b) = tt
 answered_reports chain t m (proposes r peers b) = tt
 answered_reports chain t m (certifies r b) = tt
 
--- an event of a life that has begun: a reported finalization, an acknowledgement, a sync that finished, an answered message, a
--- prepared block
+-- an event of a life that has begun: a reported finalization, notarization or certification, an acknowledgement, a sync that
+-- finished, an answered message, a prepared block
 pub data IsPlain : Event → Type 0 where
   reports : (f : Finalization) → IsPlain (message_told None (report_finalization f))
+  notarizes : (f : Notarization) → IsPlain (message_told None (report_notarization f))
+  reports_certified : (f : Notarization) → IsPlain (message_told None (report_certification f))
   acks : (t : ℕ) → IsPlain (ack_given t)
   finishes : (t : ℕ) → IsPlain (sync_finished t)
   answers : (t : ℕ) (m : Message) → IsAnswered m → IsPlain (message_told (Some t) m)
   prepares : (r : Round) (peers : Peers) (b : Block) → IsPlain (message_told None (prepared r peers b))
+
+-- an answered message starts one sync at most
+answered_syncs : (t : Option ℕ) (m : Message) → IsAnswered m → syncs_at_most (message_told t m) ≡ 1
+answered_syncs t m (asks (query.Info id)) = refl
+answered_syncs t m (asks (query.Block id)) = refl
+answered_syncs t m (asks (query.Finalization h)) = refl
+answered_syncs t m (asks query.Processed) = refl
+answered_syncs t m (asks query.Anchor) = refl
+answered_syncs t m (asks (query.Verified r)) = refl
+answered_syncs t m (verifies r b) = refl
+answered_syncs t m (proposes r peers b) = refl
+answered_syncs t m (certifies r b) = refl
+
+-- and any event two
+pub plain_syncs : (e : Event) → IsPlain e → syncs_at_most e ≤ 2
+plain_syncs e (reports f) = omega arith
+plain_syncs e (notarizes f) = omega arith
+plain_syncs e (reports_certified f) = omega arith
+plain_syncs e (acks t) = omega arith
+plain_syncs e (finishes t) = omega arith
+plain_syncs e (answers t m answered) = let one : syncs_at_most (message_told (Some t) m) ≡ 1 = answered_syncs (Some t) m answered in omega arith
+plain_syncs e (prepares r peers b) = omega arith
 
 not_at_limit : (above : Bool) (h : ℕ) → (h ≡ 2 ^ 64 - 1 → ⊥) → (if above && h == last_height then Some (height_limit h) else None) ≡ None
 not_at_limit false h not_last = refl
@@ -133,6 +158,8 @@ module _ {P E : Type 0} (config : Config) (chain : Chain) (a : Seen P E) (buffer
 
   pub undropped-step : (e : Event) → IsPlain e → (made : Made) (n' : Node) → Steps config chain node (e ∷ []) made n' → Undropped node.out → Undropped n'.out
   undropped-step e (reports f) made n' steps undropped = subst (λ m. Undropped m.out) (sym steps.ticket) (undropped-with_sync (write_count node) steps.unticketed (undropped-kept node (message_told None (report_finalization f)) made steps.unticketed steps.advances.hands undropped))
+  undropped-step e (notarizes f) made n' steps undropped = subst (λ m. Undropped m.out) (sym steps.ticket) (undropped-with_sync (write_count node) steps.unticketed (undropped-kept node (message_told None (report_notarization f)) made steps.unticketed steps.advances.hands undropped))
+  undropped-step e (reports_certified f) made n' steps undropped = subst (λ m. Undropped m.out) (sym steps.ticket) (undropped-with_sync (write_count node) steps.unticketed (undropped-kept node (message_told None (report_certification f)) made steps.unticketed steps.advances.hands undropped))
   undropped-step e (acks t) made n' steps undropped = subst (λ m. Undropped m.out) (sym steps.ticket) (undropped-with_sync (write_count node) steps.unticketed
       (undropped-kept node (ack_given t) made steps.unticketed steps.advances.hands (undropped-after (with_mark t mark_given a.life.out) (undropped-marked t a.life.out undropped))))
   undropped-step e (finishes t) made n' steps undropped = subst (λ m. Undropped m.out) (sym steps.ticket) (undropped-with_sync (write_count node) steps.unticketed (undropped-kept node (sync_finished t) made steps.unticketed steps.advances.hands undropped))
@@ -155,6 +182,8 @@ module _ {P E : Type 0} (config : Config) (chain : Chain) (a : Seen P E) (buffer
   no_event_fault e (finishes t) lawful undropped = refl
   no_event_fault e (answers t m answered) lawful undropped = answered_fault t m answered
   no_event_fault e (prepares r peers b) lawful undropped = refl
+  no_event_fault e (notarizes f) lawful undropped = refl
+  no_event_fault e (reports_certified f) lawful undropped = refl
   no_event_fault e (reports f) lawful undropped = by (at_hand node f.payload) refl
     where
       by : (o : Option Block) → at_hand node f.payload ≡ o → storing_fault node (option_map (λ m. record { height = m.block.height; with_certificate = true }) (option_map (λ b. met_of b f) o)) no_floor ≡ None

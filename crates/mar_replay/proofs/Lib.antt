@@ -1,4 +1,5 @@
 pub mod SameWords
+pub mod Events
 pub mod Lasting
 pub mod CachedLines
 pub mod LineTurns

@@ -16,10 +16,11 @@ use Rattle.mar_node.specs.Event.{Event, life_started, message_told}
 use Rattle.mar_node.specs.Faults.{Fault, StoreName, from_genesis, ticket_limit}
 use Rattle.mar_node.specs.Held.{ArePassed, FailsBy, IsUsual, Remains, Sizes, Watches, picks_of, remains_of, with_armed}
 use Rattle.mar_node.specs.Lives.{CutsReopening, Finds}
+use Rattle.mar_node.specs.Moves.{syncs_at_most}
 use Rattle.mar_node.specs.Stored.{AreSmall}
 use Rattle.mar_store.specs.Sizes.{IsSmall}
 use Rattle.mar_store.proofs.Lookups.{AllByRecursion-push}
-use Rattle.mar_node.specs.Promise.{IsGoodUntold, IsLawfulStep, IsOpeningFault, IsSetTo, Waiting, asked_since, node_of, none_waiting, told_blocks}
+use Rattle.mar_node.specs.Promise.{IsGoodUntold, IsLawfulStep, IsOpeningFault, IsSetTo, Waiting, asked_since, knowing, known_blocks, node_of, none_waiting, told_blocks}
 use Rattle.mar_node.specs.Node.{Node}
 use Rattle.mar_node.specs.Step.{Made, Steps, nothing_made}
 use Rattle.mar_node.proofs.Passing.{ArePassed-refl}
@@ -30,7 +31,7 @@ use Rattle.mar_node.specs.declared.fault.TicketKind.TheVariants.{Ack, Sync}
 use Rattle.mar_node.specs.Views.{kind_of}
 use Rattle.mar_script.specs.Refused.{max_lines}
 use Rattle.mar_script.specs.Accounts.{Account, Calls, CallsEnd, luck_after}
-use Rattle.mar_script.specs.Plays.{IsBetween, IsLawfulLine, Plays, cached_blocks_in, max_window}
+use Rattle.mar_script.specs.Plays.{IsBetween, IsLawfulLine, Plays, buffer_in, cached_blocks_in, known_in, max_window}
 use Rattle.mar_replay.specs.Playing.{AfterEvent, DoesEvent, DoesStep, FindsTakenUp, HasLuck, IsNearLast, IsOpenAs, IsPendingAs, IsSetNode, PlaysLine, SeenNode, StartsFrom, TakesEvent, account_in, empty_buffer}
 use Rattle.mar_script.specs.Run.{LineDone, OpenDone, StepDone, line_blocks, still_unanswered}
 use Rattle.mar_script.specs.Script.{Line, Settings, buffer_line, config_of, crash_line, fail_line, open_line, tell_line}
@@ -44,8 +45,8 @@ use Rattle.mar_replay.specs.declared.play.Pending.{Pending}
 use Rattle.mar_replay.specs.declared.play.State.{State as StateCode}
 use Rattle.mar_replay.specs.declared.play.State.TheVariants as state
 use Rattle.mar_script.specs.declared.RemarkShown.{RemarkShown}
-use Rattle.mar_replay.proofs.CachedLines.{found_within, plain_puts, step_cached}
-use Rattle.mar_replay.proofs.Lasting.{IsPlain, acks, answers, finishes, prepares, reports, syncs_after, syncs_last, tickets_after, tickets_last}
+use Rattle.mar_replay.proofs.CachedLines.{found_within, plain_puts, step_cached, told_or_known}
+use Rattle.mar_replay.proofs.Lasting.{IsPlain, acks, answers, finishes, notarizes, plain_syncs, prepares, reports, reports_certified, syncs_after, syncs_last, tickets_after, tickets_last}
 use Rattle.mar_replay.proofs.LineTurns.{cut_between, cut_blocks, cut_usual, lawful_step, only_cut, step_between, step_cut, step_done}
 use Rattle.mar_replay.proofs.Replaying.{between_left}
 use Rattle.mar_replay.proofs.OpeningTurns.{lawful_start, opening_between, opening_cached, opening_cut, opening_done, opening_usual, start_cached, start_cut, start_usual, undropped-found}
@@ -54,9 +55,9 @@ none_in : (b : Block) → Contains [] b → ⊥
 none_in b has = let lt : has.0 < 0 = has.1 in omega arith
 
 -- the tickets of so many lines last
-never_last : (k : ℕ) (seen : SeenNode) (fault : Fault) → seen.life.next_ack ≤ max_window * k → seen.held.writes.next_sync ≤ k → k ≤ max_lines → seen.life.sizes.window ≤ max_window → IsNearLast seen fault → (kind : TicketKind) → fault ≡ ticket_limit (kind_of kind) → ⊥
-never_last k seen fault given started few narrow near Ack is = tickets_last k seen.life.next_ack seen.life.sizes.window given few narrow (near.0 is)
-never_last k seen fault given started few narrow near Sync is = syncs_last k seen.held.writes.next_sync started few (near.1 is)
+never_last : (k : ℕ) (e : Event) (seen : SeenNode) (fault : Fault) → seen.life.next_ack ≤ max_window * k → seen.held.writes.next_sync ≤ 2 * k → syncs_at_most e ≤ 2 → k ≤ max_lines → seen.life.sizes.window ≤ max_window → IsNearLast e seen fault → (kind : TicketKind) → fault ≡ ticket_limit (kind_of kind) → ⊥
+never_last k e seen fault given started most few narrow near Ack is = tickets_last k seen.life.next_ack seen.life.sizes.window given few narrow (near.0 is)
+never_last k e seen fault given started most few narrow near Sync is = syncs_last k seen.held.writes.next_sync (syncs_at_most e) started few most (near.1 is)
 
 -- a state behind one line more
 later_state : (config : Config) (chain : Chain) (k : ℕ) (s : State) → IsBetween config chain k s → IsBetween config chain (k + 1) s
@@ -76,31 +77,34 @@ abbrev pub first_pending : Pending
 first_pending = record { requests = []; next_answer = 0 }
 
 -- who waits between two lines
-abbrev pub between : Pending → Waiting
-between pending = waiting_with pending.requests pending.next_answer
+abbrev pub between : SeenNode → Pending → Waiting
+between seen pending = waiting_with pending.requests pending.next_answer seen.certified
 
 -- a block that may be left of the cache is among those of the state
 may_blocks : (seen : SeenNode) (b : Block) → Contains (filter_map cached_block seen.held.cache.kept.may) b → Contains (filter_map cached_block (seen.held.cache.kept.held ++ seen.held.cache.kept.may)) b
 may_blocks seen = found_within cached_block seen.held.cache.kept.may (seen.held.cache.kept.held ++ seen.held.cache.kept.may) (λ x has. Contains-append_right seen.held.cache.kept.held seen.held.cache.kept.may x has)
 
--- what an event tells, its line brings
-told_or_line : (e : Event) (l : Line) → ((b : Block) → Contains (told_blocks e) b → Contains (line_blocks l) b) → (before : List Block) (b : Block) → Contains (before ++ told_blocks e) b → Contains (before ++ line_blocks l) b
-told_or_line e l brings before b has = by (Contains-append_cases before (told_blocks e) b has)
-  where
-    by : Contains before b ⊎ Contains (told_blocks e) b → Contains (before ++ line_blocks l) b
-    by (inl old) = Contains-append_left before (line_blocks l) b old
-    by (inr told) = Contains-append_right before (line_blocks l) b (brings b told)
+-- what is cached in a state might be met by its next line
+still_known : (chain : Chain) (s : State) (l : Line) (b : Block) → Contains (cached_blocks_in s) b → Contains (line_blocks l ++ known_in chain s) b
+still_known chain s l b has = Contains-append_right (line_blocks l) (known_in chain s) b (Contains-append_right chain.blocks (buffer_in s ++ cached_blocks_in s) b (Contains-append_right (buffer_in s) (cached_blocks_in s) b has))
 
-may_or_line : (seen : SeenNode) (l : Line) (b : Block) → Contains (filter_map cached_block seen.held.cache.kept.may ++ line_blocks l) b → Contains (filter_map cached_block (seen.held.cache.kept.held ++ seen.held.cache.kept.may) ++ line_blocks l) b
-may_or_line seen l b has = by (Contains-append_cases (filter_map cached_block seen.held.cache.kept.may) (line_blocks l) b has)
+-- and so might what an event tells, which its line brings, or might meet
+told_known : (chain : Chain) (n : Node) (e : Event) (l : Line) → ((b : Block) → Contains (told_blocks e) b → Contains (line_blocks l) b) → (before : List Block) → ((b : Block) → Contains before b → Contains (cached_blocks_in (running n)) b) → (b : Block) → Contains (before ++ told_or_known chain n e) b → Contains (line_blocks l ++ known_in chain (running n)) b
+told_known chain n e l brings before cached b has = by (Contains-append_cases before (told_or_known chain n e) b has)
   where
-    by : Contains (filter_map cached_block seen.held.cache.kept.may) b ⊎ Contains (line_blocks l) b → Contains (filter_map cached_block (seen.held.cache.kept.held ++ seen.held.cache.kept.may) ++ line_blocks l) b
-    by (inl may) = Contains-append_left _ (line_blocks l) b (may_blocks seen b may)
-    by (inr of_line) = Contains-append_right _ (line_blocks l) b of_line
+    of_event : Contains (told_blocks e) b ⊎ Contains (known_blocks chain n) b → Contains (line_blocks l ++ known_in chain (running n)) b
+    of_event (inl told) = Contains-append_left (line_blocks l) (known_in chain (running n)) b (brings b told)
+    of_event (inr known) = Contains-append_right (line_blocks l) (known_in chain (running n)) b known
+
+    by : Contains before b ⊎ Contains (told_or_known chain n e) b → Contains (line_blocks l ++ known_in chain (running n)) b
+    by (inl old) = still_known chain (running n) l b (cached b old)
+    by (inr more) = of_event (Contains-append_cases (told_blocks e) (known_blocks chain n) b more)
 
 -- such an event finds what was taken up of the cache
 pub plain_finds : (e : Event) → IsPlain e → (seen : SeenNode) → seen.held.cache.loaded ≡ true → FindsTakenUp e seen
 plain_finds e (reports f) seen loaded = loaded
+plain_finds e (notarizes f) seen loaded = loaded
+plain_finds e (reports_certified f) seen loaded = loaded
 plain_finds e (acks t) seen loaded = loaded
 plain_finds e (finishes t) seen loaded = loaded
 plain_finds e (answers t m answered) seen loaded = loaded
@@ -127,7 +131,7 @@ module _ {H R : Type 0} where
     calls = calls (remains_in s).watches;
     lucky = λ before has. subst (λ k. HasLuck k s) (sym (luck before)) has;
     opened = keeps_open s;
-    plays = λ is before has chain k lawful. record { done = done chain (account_in before s); between = later_state config chain k (state_of s) lawful.between; buffered = λ b has. Contains-append_left _ _ b has; cached = λ b has. Contains-append_left _ _ b has; excused = tt };
+    plays = λ is before has chain k lawful. record { done = done chain (account_in before s); between = later_state config chain k (state_of s) lawful.between; buffered = λ b has. Contains-append_left _ _ b has; cached = λ b has. still_known chain (state_of s) l b has; excused = tt };
   }
 
   -- a store is made to fail
@@ -139,7 +143,7 @@ module _ {H R : Type 0} where
     calls = refl;
     lucky = λ before has. tt;
     opened = refl;
-    plays = λ set before has chain k lawful. record { done = (refl, refl); between = later_state config chain k (running (node_of seen buffer.blocks (between pending))) lawful.between; buffered = λ b has. Contains-append_left _ _ b has; cached = λ b has. Contains-append_left _ _ b has; excused = tt };
+    plays = λ set before has chain k lawful. record { done = (refl, refl); between = later_state config chain k (running (node_of seen buffer.blocks (between seen pending))) lawful.between; buffered = λ b has. Contains-append_left _ _ b has; cached = λ b has. still_known chain (running (node_of seen buffer.blocks (between seen pending))) (fail_line store calls) b has; excused = tt };
   })
 
   pub plays_fail_left : (config : Config) (left new : Remains) (luck : ℕ) (store : StoreName) (calls : ℕ) → new.ended ≡ left.ended → new.watches ≡ with_armed store calls left.watches
@@ -154,7 +158,7 @@ module _ {H R : Type 0} where
       done = (refl, ap stopped ended);
       between = subst (λ e. IsBetween config chain (k + 1) (stopped e)) (sym ended) lawful.between;
       buffered = λ b has. absurd (none_in b has);
-      cached = λ b has. Contains-append_left _ _ b (subst (λ e. Contains (filter_map cached_block e.cache_may) b) ended has);
+      cached = λ b has. still_known chain (stopped left.ended) (fail_line store calls) b (subst (λ e. Contains (filter_map cached_block e.cache_may) b) ended has);
       excused = tt;
     };
   }
@@ -168,10 +172,10 @@ module _ {H R : Type 0} where
     lucky = λ before has. tt;
     opened = refl;
     plays = λ set before has chain k lawful. record {
-      done = (refl, ap (λ bs. running (node_of seen bs (between pending))) is);
-      between = put_between config chain k seen buffer.blocks new.blocks (between pending) lawful.between;
+      done = (refl, ap (λ bs. running (node_of seen bs (between seen pending))) is);
+      between = put_between config chain k seen buffer.blocks new.blocks (between seen pending) lawful.between;
       buffered = λ x has. subst (λ bs. Contains bs x) is has;
-      cached = λ x has. Contains-append_left _ _ x has;
+      cached = λ x has. still_known chain (running (node_of seen buffer.blocks (between seen pending))) (buffer_line b) x has;
       excused = tt;
     };
   }
@@ -186,9 +190,9 @@ module _ {H R : Type 0} where
     opened = tt;
     plays = λ is before has chain k lawful. record {
       done = (refl, refl);
-      between = between_left config chain k (running (node_of seen buffer.blocks (between pending))) lawful.between;
+      between = between_left config chain k (running (node_of seen buffer.blocks (between seen pending))) lawful.between;
       buffered = λ b has. absurd (none_in b has);
-      cached = λ b has. Contains-append_left _ _ b (may_blocks seen b has);
+      cached = λ b has. still_known chain (running (node_of seen buffer.blocks (between seen pending))) (crash_line luck) b (may_blocks seen b has);
       excused = tt;
     };
   }
@@ -201,35 +205,35 @@ module _ {H R : Type 0} where
     calls = ArePassed-refl left.watches;
     lucky = λ was has. refl;
     opened = tt;
-    plays = λ is was has chain k lawful. record { done = (refl, refl); between = lawful.between; buffered = λ b has. absurd (none_in b has); cached = λ b has. Contains-append_left _ _ b has; excused = tt };
+    plays = λ is was has chain k lawful. record { done = (refl, refl); between = lawful.between; buffered = λ b has. absurd (none_in b has); cached = λ b has. still_known chain (stopped left.ended) (crash_line luck) b has; excused = tt };
   }
 
   -- behind an event of the life, whoever waited beside it
   module _ (seen : SeenNode) (buffer : Held) (pending : Pending) (l : Line) (e : Event) (made : Made) (config : Config) (chain : Chain) (k : ℕ) (waiting : Waiting) (plain : IsPlain e) (brings : (b : Block) → Contains (told_blocks e) b → Contains (line_blocks l) b) (set : IsSetNode config seen)
-      (lawful : IsLawfulLine config chain k (running (node_of seen buffer.blocks (between pending))) l) (step : IsLawfulStep config chain (node_of seen buffer.blocks waiting) (e ∷ [])) (few : waiting.next_answer ≤ k + 1) (answered : (n' : Node) → Steps config chain (node_of seen buffer.blocks waiting) (e ∷ []) made n' → still_unanswered made.answers [] waiting.unanswered ≡ [])
-      (account : Account) (line_done : (out : Output) (s : State) → StepDone config chain (node_of seen buffer.blocks waiting) (e ∷ []) [] (λ m. []) out s → LineDone config chain account (running (node_of seen buffer.blocks (between pending))) l out s)
+      (lawful : IsLawfulLine config chain k (running (node_of seen buffer.blocks (between seen pending))) l) (step : IsLawfulStep config chain (node_of seen buffer.blocks waiting) (e ∷ [])) (few : waiting.next_answer ≤ k + 1) (answered : (n' : Node) → Steps config chain (node_of seen buffer.blocks waiting) (e ∷ []) made n' → still_unanswered made.answers [] waiting.unanswered ≡ [])
+      (account : Account) (line_done : (out : Output) (s : State) → StepDone config chain (node_of seen buffer.blocks waiting) (e ∷ []) [] (λ m. []) out s → LineDone config chain account (running (node_of seen buffer.blocks (between seen pending))) l out s)
     where
       pub after_event : (after : StateCode H R) (o : Outcome) (next : ℕ) → waiting.next_answer ≡ next → AfterEvent config chain (node_of seen buffer.blocks waiting) seen buffer.blocks waiting e made after o
           → ((new : SeenNode) (kept : Held) (now : Pending) → after ≡ state.Running new kept now → now.next_answer ≡ next)
-          → Plays config chain k account (running (node_of seen buffer.blocks (between pending))) l (output_of made o) (state_with (asked_after waiting.requests [] made.asks) after)
+          → Plays config chain k account (running (node_of seen buffer.blocks (between seen pending))) l (output_of made o) (state_with (asked_after waiting.requests [] made.asks) after)
       after_event (state.Running new kept now) outcome.Done next is (steps, same, tickets) next_is = record {
-        done = subst (λ t. LineDone config chain account (running (node_of seen buffer.blocks (between pending))) l (output_of made outcome.Done) (running (node_of new kept.blocks (waiting_with (asked_after waiting.requests [] made.asks) t)))) (is ∙ sym (next_is new kept now refl))
+        done = subst (λ t. LineDone config chain account (running (node_of seen buffer.blocks (between seen pending))) l (output_of made outcome.Done) (running (node_of new kept.blocks (waiting_with (asked_after waiting.requests [] made.asks) t new.certified)))) (is ∙ sym (next_is new kept now refl))
             (line_done _ _ (step_done config chain seen buffer.blocks waiting e made new kept.blocks (answered _ steps) steps));
-        between = subst (λ t. IsBetween config chain (k + 1) (running (node_of new kept.blocks (waiting_with (asked_after waiting.requests [] made.asks) t)))) (is ∙ sym (next_is new kept now refl))
+        between = subst (λ t. IsBetween config chain (k + 1) (running (node_of new kept.blocks (waiting_with (asked_after waiting.requests [] made.asks) t new.certified)))) (is ∙ sym (next_is new kept now refl))
             (step_between config chain seen buffer.blocks waiting k e plain made new kept.blocks lawful.between.2.undropped steps
             (tickets_after k seen.life.next_ack new.life.next_ack seen.life.sizes.window lawful.between.2.tickets (subst (λ w. w ≤ max_window) set.window lawful.narrow) tickets.0)
-            (syncs_after k seen.held.writes.next_sync new.held.writes.next_sync lawful.between.2.sync_tickets tickets.1) few);
+            (syncs_after k seen.held.writes.next_sync new.held.writes.next_sync (syncs_at_most e) lawful.between.2.sync_tickets (plain_syncs e plain) tickets.1) few);
         buffered = λ b has. Contains-append_left _ _ b (subst (λ xs. Contains xs b) same has);
-        cached = λ b has. told_or_line e l brings (cached_blocks_in (running (node_of seen buffer.blocks waiting))) b (step_cached config chain (node_of seen buffer.blocks waiting) e made (node_of new kept.blocks (asked_since waiting made.asks)) (plain_puts config (node_of seen buffer.blocks waiting) e plain) steps b has);
+        cached = λ b has. told_known chain (node_of seen buffer.blocks waiting) e l brings (cached_blocks_in (running (node_of seen buffer.blocks waiting))) (λ c there. there) b (step_cached config chain (node_of seen buffer.blocks waiting) e (told_or_known chain (node_of seen buffer.blocks waiting) e) made (node_of new kept.blocks (knowing new.certified (asked_since waiting made.asks))) (plain_puts config chain seen buffer.blocks waiting lawful.between.0.of_chain.stores.held_blocks e plain) steps b has);
         excused = tt;
       }
       after_event (state.Stopped left luck) (outcome.Fault fault) next is (cuts, limit) next_is = record {
         done = line_done _ _ (step_cut config chain seen buffer.blocks waiting e made fault left.ended cuts);
         between = cut_between config chain seen buffer.blocks waiting (k + 1) e made (plain_fault fault) left.ended cuts;
         buffered = λ b has. absurd (none_in b has);
-        cached = λ b has. may_or_line seen l b (told_or_line e l brings (filter_map cached_block seen.held.cache.kept.may) b (cut_blocks config chain (node_of seen buffer.blocks waiting) e made (plain_fault fault) left.ended (plain_puts config (node_of seen buffer.blocks waiting) e plain) cuts b has));
+        cached = λ b has. told_known chain (node_of seen buffer.blocks waiting) e l brings (filter_map cached_block seen.held.cache.kept.may) (may_blocks seen) b (cut_blocks config chain (node_of seen buffer.blocks waiting) e (told_or_known chain (node_of seen buffer.blocks waiting) e) made (plain_fault fault) left.ended (plain_puts config chain seen buffer.blocks waiting lawful.between.0.of_chain.stores.held_blocks e plain) cuts b has);
         excused = cut_usual config chain seen buffer.blocks waiting e plain made fault left.ended step lawful.between.2.undropped cuts
-            (never_last k seen (plain_fault fault) lawful.between.2.tickets lawful.between.2.sync_tickets lawful.few (subst (λ w. w ≤ max_window) set.window lawful.narrow) limit);
+            (never_last k e seen (plain_fault fault) lawful.between.2.tickets lawful.between.2.sync_tickets (plain_syncs e plain) lawful.few (subst (λ w. w ≤ max_window) set.window lawful.narrow) limit);
       }
       after_event (state.Running new kept now) (outcome.Remark r) next is done next_is = absurd done
       after_event (state.Running new kept now) (outcome.Fault fault) next is done next_is = absurd done
@@ -254,6 +258,8 @@ module _ {H R : Type 0} where
   -- what an event of a life that has begun makes of it
   pub done_step : (seen : SeenNode) (buffer : Held) (made : Made) (after : StateCode H R) (o : Outcome) {e : Event} → IsPlain e → DoesEvent seen buffer e made after o → DoesStep seen buffer e made after o
   done_step seen buffer made after o (reports f) done = done
+  done_step seen buffer made after o (notarizes f) done = done
+  done_step seen buffer made after o (reports_certified f) done = done
   done_step seen buffer made after o (acks t) done = done
   done_step seen buffer made after o (finishes t) done = done
   done_step seen buffer made after o (answers t m answered) done = done
@@ -271,9 +277,9 @@ module _ {H R : Type 0} where
     lucky = λ before has. takes.lucky before l;
     opened = opened_as pending after takes.pending_as;
     plays = λ is before has chain k lawful.
-        let step = lawful_step config chain seen buffer.blocks (between pending) [] pending.next_answer k l e plain lawful same brings in
-        after_event seen buffer pending l e made config chain k (between pending) plain brings is.0 lawful step (let low : pending.next_answer ≤ k = lawful.between.2.answer_tickets in omega arith) (λ n' steps. refl) (account_in before (Running seen buffer pending)) (line_done config chain (account_in before (Running seen buffer pending)) (between pending)) after o pending.next_answer refl
-        (done_step seen buffer made after o plain takes.done is.1 config chain (between pending) is.0 step) (pending_next pending after takes.pending_as);
+        let step = lawful_step config chain seen buffer.blocks (between seen pending) [] pending.next_answer k l e plain lawful same brings in
+        after_event seen buffer pending l e made config chain k (between seen pending) plain brings is.0 lawful step (let low : pending.next_answer ≤ k = lawful.between.2.answer_tickets in omega arith) (λ n' steps. refl) (account_in before (Running seen buffer pending)) (line_done config chain (account_in before (Running seen buffer pending)) (between seen pending)) after o pending.next_answer refl
+        (done_step seen buffer made after o plain takes.done is.1 config chain (between seen pending) refl is.0 step) (pending_next pending after takes.pending_as);
   }
 
   -- an opening that was cut before its start
@@ -290,17 +296,17 @@ module _ {H R : Type 0} where
       done = subst (λ j. OpenDone config chain before.ended (picks_of before j) (from_genesis g) (output_of nothing_made (outcome.Fault fault)) (stopped left.ended)) has (opening_cut config chain before.ended (picks_of before luck) g fault left.ended (cuts chain k lawful));
       between = ((cuts chain k lawful).leaves.good, (cuts chain k lawful).leaves.some_pair);
       buffered = λ b has. absurd (none_in b has);
-      cached = λ b has. Contains-append_left _ _ b (found_within cached_block left.ended.cache_may before.ended.cache_may (cuts chain k lawful).may_cached b has);
+      cached = λ b has. still_known chain (stopped before.ended) (open_line (from_genesis g)) b (found_within cached_block left.ended.cache_may before.ended.cache_may (cuts chain k lawful).may_cached b has);
       excused = opening_usual config chain before.ended (picks_of before luck) g fault k lawful kind;
     };
   }
 
   -- an opening, and the start of its life
   pub plays_opening : (config : Config) (before : Remains) (luck : ℕ) (g : Block) (seen : SeenNode) (made : Made) (after : StateCode H R) (o : Outcome) → IsSetNode config seen → ArePassed before.watches seen.held.watches
-      → seen.held.cache.fresh ≡ true → seen.held.cache.finds ≡ (picks_of before luck).cache
+      → seen.certified ≡ [] → seen.held.cache.fresh ≡ true → seen.held.cache.finds ≡ (picks_of before luck).cache
       → ((chain : Chain) (k : ℕ) → IsLawfulLine config chain k (stopped before.ended) (open_line (from_genesis g)) → Finds config before.ended (picks_of before luck) (from_genesis g) (node_of seen [] none_waiting) × IsGoodUntold config chain (node_of seen [] none_waiting))
       → TakesEvent seen empty_buffer first_pending (life_started None) made after o → PlaysLine config (Stopped before luck) (open_line (from_genesis g)) (output_of made o) after
-  plays_opening config before luck g seen made after o set passed fresh picked begins takes = record {
+  plays_opening config before luck g seen made after o set passed unknown fresh picked begins takes = record {
     set = λ is. takes.set config set tt;
     small = λ line small. takes.small tt;
     calls = CallsEnd-then before.watches seen.held.watches (remains_in after).watches (fault_in o) passed takes.calls;
@@ -308,7 +314,7 @@ module _ {H R : Type 0} where
     opened = opened_as first_pending after takes.pending_as;
     plays = λ is was has chain k lawful.
         let begins_so = begins chain k lawful in
-        let started = takes.done fresh config chain none_waiting set (lawful_start config chain before.ended (picks_of before luck) g seen begins_so.0 k lawful begins_so.1) in
+        let started = takes.done fresh config chain none_waiting (sym unknown) set (lawful_start config chain before.ended (picks_of before luck) g seen begins_so.0 k lawful begins_so.1) in
         subst (λ j. Plays config chain k (account_in j (Stopped before luck)) (stopped before.ended) (open_line (from_genesis g)) (output_of made o) (state_with (asked_after [] [] made.asks) after)) has
         (by after o (pending_next first_pending after takes.pending_as) chain k lawful begins_so.0 begins_so.1 started.0 (subst (λ p. StartsFrom o p (node_of seen [] none_waiting) started.0) picked started.1) started.2);
   }
@@ -319,14 +325,14 @@ module _ {H R : Type 0} where
       by (state.Running new kept now) outcome.Done next_is chain k lawful finds good begun takes (steps, same, tickets) =
           let first = undropped-found config before.ended (picks_of before luck) (from_genesis g) (node_of seen [] none_waiting) finds in
           record {
-            done = subst (λ t. OpenDone config chain before.ended (picks_of before luck) (from_genesis g) (output_of made outcome.Done) (running (node_of new kept.blocks (waiting_with (asked_after [] [] made.asks) t)))) (sym (next_is new kept now refl))
+            done = subst (λ t. OpenDone config chain before.ended (picks_of before luck) (from_genesis g) (output_of made outcome.Done) (running (node_of new kept.blocks (waiting_with (asked_after [] [] made.asks) t new.certified)))) (sym (next_is new kept now refl))
                 (opening_done config chain before.ended (picks_of before luck) g seen finds begun takes made new kept.blocks steps);
-            between = subst (λ t. IsBetween config chain (k + 1) (running (node_of new kept.blocks (waiting_with (asked_after [] [] made.asks) t)))) (sym (next_is new kept now refl))
+            between = subst (λ t. IsBetween config chain (k + 1) (running (node_of new kept.blocks (waiting_with (asked_after [] [] made.asks) t new.certified)))) (sym (next_is new kept now refl))
                 (opening_between config chain before.ended (picks_of before luck) g seen finds begun takes made new kept.blocks steps k
                 (tickets_after k seen.life.next_ack new.life.next_ack seen.life.sizes.window (omega (arith, first.1)) (subst (λ w. w ≤ max_window) set.window lawful.narrow) tickets.0)
-                (syncs_after k seen.held.writes.next_sync new.held.writes.next_sync (omega (arith, first.2)) tickets.1));
+                (syncs_after k seen.held.writes.next_sync new.held.writes.next_sync 1 (omega (arith, first.2)) (omega arith) tickets.1));
             buffered = λ b has. absurd (none_in b (subst (λ xs. Contains xs b) same has));
-            cached = λ b has. Contains-append_left _ _ b (opening_cached config chain before.ended (picks_of before luck) g seen finds begun takes made new kept.blocks steps b has);
+            cached = λ b has. still_known chain (stopped before.ended) (open_line (from_genesis g)) b (opening_cached config chain before.ended (picks_of before luck) g seen finds begun takes made new kept.blocks steps b has);
             excused = tt;
           }
       by (state.Stopped left now) (outcome.Fault fault) next_is chain k lawful finds good begun takes (cuts, limit) =
@@ -336,9 +342,9 @@ module _ {H R : Type 0} where
             done = start_cut config chain before.ended (picks_of before luck) g seen finds begun takes made fault left.ended cuts good;
             between = (cut.leaves.good, cut.leaves.some_pair);
             buffered = λ b has. absurd (none_in b has);
-            cached = λ b has. Contains-append_left _ _ b (start_cached config chain before.ended (picks_of before luck) g seen finds begun takes made fault left.ended cuts b has);
+            cached = λ b has. still_known chain (stopped before.ended) (open_line (from_genesis g)) b (start_cached config chain before.ended (picks_of before luck) g seen finds begun takes made fault left.ended cuts b has);
             excused = start_usual config chain before.ended (picks_of before luck) g seen finds begun takes made fault left.ended cuts
-                (never_last k seen (plain_fault fault) (omega (arith, first.1)) (omega (arith, first.2)) lawful.few (subst (λ w. w ≤ max_window) set.window lawful.narrow) limit);
+                (never_last k (life_started None) seen (plain_fault fault) (omega (arith, first.1)) (omega (arith, first.2)) (omega arith) lawful.few (subst (λ w. w ≤ max_window) set.window lawful.narrow) limit);
           }
       by (state.Running new kept old) (outcome.Remark r) next_is chain k lawful finds good begun takes done = absurd done
       by (state.Running new kept old) (outcome.Fault fault) next_is chain k lawful finds good begun takes done = absurd done

@@ -15,9 +15,9 @@ use Rattle.mar_node.specs.Event.{Event, ack_given, effect_of, message_told, sync
 use Rattle.mar_node.specs.Faults.{Fault, event_fault, is_by_value, ticket_limit}
 use Rattle.mar_node.specs.Held.{IsUsual, Seen}
 use Rattle.mar_node.specs.Lives.{Cuts, CutsEvent}
-use Rattle.mar_node.specs.Node.{Ended, IsGood, Node, Rest}
+use Rattle.mar_node.specs.Node.{Ended, IsGood, Node, Rest, CertifiedCommitment}
 use Rattle.mar_node.specs.OpenSyncs.{is_cache_sync}
-use Rattle.mar_node.specs.Promise.{AreOne, IsGoodFor, IsLawfulStep, ReportsFinalized, RestsBefore, Waiting, asked_since, known_blocks, node_of, told_blocks}
+use Rattle.mar_node.specs.Promise.{AreOne, IsGoodFor, IsLawfulStep, ReportsFinalized, RestsBefore, Waiting, asked_since, known_blocks, node_of, told_blocks, knowing}
 use Rattle.mar_node.specs.Step.{AdvancesAll, Made, Steps, joined_made}
 use Rattle.std.proofs.lemmas.List.Elements.{Contains-append_cases, Contains-append_left, Contains-append_right}
 use Rattle.mar_node.proofs.KnownBlocks.{AreOne-within}
@@ -35,8 +35,8 @@ use Rattle.mar_script.specs.Text.{Output, State, remark_ignored, running, stoppe
 use Rattle.mar_script.specs.Shown.{plain_fault}
 use Rattle.mar_replay.specs.Turn.{output_of, waiting_with}
 use Rattle.mar_replay.specs.declared.play.Outcome.TheVariants as outcome
-use Rattle.mar_replay.proofs.CachedLines.{PutsToldBlocks, cut_cached}
-use Rattle.mar_replay.proofs.Lasting.{IsPlain, Undropped, acks, answered_reports, answers, finishes, no_event_fault, prepares, reports, undropped-step}
+use Rattle.mar_replay.proofs.CachedLines.{PutsBlocksOf, cut_cached}
+use Rattle.mar_replay.proofs.Lasting.{IsPlain, Undropped, acks, answered_reports, answers, finishes, no_event_fault, prepares, reports, undropped-step, notarizes, reports_certified}
 
 -- CUTS
 
@@ -62,9 +62,9 @@ only_cut config chain n e made fault left cuts = by cuts.finished cuts.first cut
         (subst (λ x. CutsEvent config chain n.meta (option_map height_in n.processed) mid x later fault left) (head d cuts.others split) cut))
     by (x ∷ xs) first mid d later split advances made_is cut = absurd (none_behind xs cuts.others d (tail x (xs ++ d ∷ cuts.others) split))
 
--- no block may be left cached but what might be, and what the event tells
-pub cut_blocks : (config : Config) (chain : Chain) (n : Node) (e : Event) (made : Made) (fault : Fault) (left : Ended) → PutsToldBlocks config n e → Cuts config chain n (e ∷ []) made fault left → (b : Block) → Contains (filter_map cached_block left.cache_may) b → Contains (filter_map cached_block n.cache.may ++ told_blocks e) b
-cut_blocks config chain n e made fault left puts cuts = cut_cached config chain n e (effect_of config n e) left puts (only_cut config chain n e made fault left cuts).may.cached
+-- no block may be left cached but what might be, and these
+pub cut_blocks : (config : Config) (chain : Chain) (n : Node) (e : Event) (more : List Block) (made : Made) (fault : Fault) (left : Ended) → PutsBlocksOf config n e more → Cuts config chain n (e ∷ []) made fault left → (b : Block) → Contains (filter_map cached_block left.cache_may) b → Contains (filter_map cached_block n.cache.may ++ more) b
+cut_blocks config chain n e more made fault left puts cuts = cut_cached config chain n e more (effect_of config n e) left puts (only_cut config chain n e made fault left cuts).may.cached
 
 -- a fault that no value calls for, and no want of tickets, is want of memory or a store's
 pub usual : (fault : FaultCode Sha256Digest) → (IsTrue (is_by_value (plain_fault fault)) → ⊥) → ((kind : TicketKind) → plain_fault fault ≡ ticket_limit (kind_of kind) → ⊥) → IsUsual (plain_fault fault)
@@ -81,22 +81,22 @@ usual fault.Memory valued limit = tt
 -- A STEP
 
 -- behind a line each caller has its answer
-abbrev pub answered_since : Waiting → Made → Waiting
-answered_since waiting made = waiting_with (asked_after waiting.requests [] made.asks) waiting.next_answer
+abbrev pub answered_since : List CertifiedCommitment → Waiting → Made → Waiting
+answered_since certified waiting made = waiting_with (asked_after waiting.requests [] made.asks) waiting.next_answer certified
 
 module _ {P E : Type 0} (config : Config) (chain : Chain) (a : Seen P E) (buffer : List Block) (waiting : Waiting) where
   abbrev node : Node
   node = node_of a buffer waiting
 
   -- a step that finished
-  pub step_done : (e : Event) (made : Made) (b : Seen P E) (kept : List Block) → still_unanswered made.answers [] waiting.unanswered ≡ [] → Steps config chain node (e ∷ []) made (node_of b kept (asked_since waiting made.asks)) → StepDone config chain node (e ∷ []) [] (λ m. []) (output_of made outcome.Done) (running (node_of b kept (answered_since waiting made)))
+  pub step_done : (e : Event) (made : Made) (b : Seen P E) (kept : List Block) → still_unanswered made.answers [] waiting.unanswered ≡ [] → Steps config chain node (e ∷ []) made (node_of b kept (knowing b.certified (asked_since waiting made.asks))) → StepDone config chain node (e ∷ []) [] (λ m. []) (output_of made outcome.Done) (running (node_of b kept (answered_since b.certified waiting made)))
   step_done e made b kept answered steps = (made, steps, refl, ap (λ xs. output_of (record made { answers = xs }) outcome.Done) (sym (append-nil made.answers)), sym answered)
 
-  pub step_between : (k : ℕ) (e : Event) → IsPlain e → (made : Made) (b : Seen P E) (kept : List Block) → Undropped a.life.out → Steps config chain node (e ∷ []) made (node_of b kept (asked_since waiting made.asks)) → b.life.next_ack ≤ max_window * (k + 1) → b.held.writes.next_sync ≤ k + 1 → waiting.next_answer ≤ k + 1 → IsBetween config chain (k + 1) (running (node_of b kept (answered_since waiting made)))
+  pub step_between : (k : ℕ) (e : Event) → IsPlain e → (made : Made) (b : Seen P E) (kept : List Block) → Undropped a.life.out → Steps config chain node (e ∷ []) made (node_of b kept (knowing b.certified (asked_since waiting made.asks))) → b.life.next_ack ≤ max_window * (k + 1) → b.held.writes.next_sync ≤ 2 * (k + 1) → waiting.next_answer ≤ k + 1 → IsBetween config chain (k + 1) (running (node_of b kept (answered_since b.certified waiting made)))
   step_between k e plain made b kept undropped steps tickets sync_tickets answer_tickets = (
-    IsGood-beside config chain b kept kept (asked_since waiting made.asks) (answered_since waiting made) steps.good.of_chain.asks.requests steps.good,
-    Rest-beside config.window b kept kept (asked_since waiting made.asks) (answered_since waiting made) steps.rests,
-    record { undropped = undropped-step config chain a buffer waiting e plain made (node_of b kept (asked_since waiting made.asks)) steps undropped; tickets = tickets; sync_tickets = sync_tickets; answer_tickets = answer_tickets },
+    IsGood-beside config chain b kept kept (knowing b.certified (asked_since waiting made.asks)) (answered_since b.certified waiting made) steps.good.of_chain.asks.requests steps.good,
+    Rest-beside config.window b kept kept (knowing b.certified (asked_since waiting made.asks)) (answered_since b.certified waiting made) steps.rests,
+    record { undropped = undropped-step config chain a buffer waiting e plain made (node_of b kept (knowing b.certified (asked_since waiting made.asks))) steps undropped; tickets = tickets; sync_tickets = sync_tickets; answer_tickets = answer_tickets },
   )
 
   -- a step that was cut
@@ -124,6 +124,8 @@ lawful_step config chain a buffer between unanswered next k line e plain lawful 
   where
     told : {d : Event} → IsPlain d → ((f : Finalization) → d ≡ message_told None (report_finalization f) → line ≡ tell_line (report_finalization f)) → ReportsFinalized chain d
     told (reports f) is = lawful.reported f (is f refl)
+    told (notarizes f) is = tt
+    told (reports_certified f) is = tt
     told (acks t) is = tt
     told (finishes t) is = tt
     told (answers t m answered) is = answered_reports chain (Some t) m answered
@@ -141,6 +143,8 @@ lawful_step config chain a buffer between unanswered next k line e plain lawful 
 
     good : {d : Event} → IsPlain d → IsGoodFor config chain (node_of a buffer (waits between unanswered next)) (d ∷ [])
     good (reports f) = good_now
+    good (notarizes f) = good_now
+    good (reports_certified f) = good_now
     good (acks t) = good_now
     good (finishes t) = good_now
     good (answers t m answered) = good_now
@@ -151,6 +155,8 @@ lawful_step config chain a buffer between unanswered next k line e plain lawful 
 
     rests : {d : Event} → IsPlain d → RestsBefore config.window (node_of a buffer (waits between unanswered next)) (d ∷ [])
     rests (reports f) = rests_now
+    rests (notarizes f) = rests_now
+    rests (reports_certified f) = rests_now
     rests (acks t) = rests_now
     rests (finishes t) = rests_now
     rests (answers t m answered) = rests_now

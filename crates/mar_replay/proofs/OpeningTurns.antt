@@ -16,7 +16,7 @@ use Rattle.mar_node.specs.Faults.{Begin, Fault, event_fault, from_genesis, ticke
 use Rattle.mar_node.specs.Held.{IsUsual, Seen}
 use Rattle.mar_node.specs.Lives.{Cuts, CutsEvent, CutsReopening, Finds, NotBelow, Picks, TakesUp}
 use Rattle.mar_node.specs.Node.{CacheSync, Ended, Node}
-use Rattle.mar_node.specs.Promise.{IsGoodUntold, IsLawfulOpening, IsLawfulStep, IsOpeningFault, asked_since, known_blocks, node_of, none_waiting}
+use Rattle.mar_node.specs.Promise.{IsGoodUntold, IsLawfulOpening, IsLawfulStep, IsOpeningFault, asked_since, knowing, known_blocks, node_of, none_waiting}
 use Rattle.mar_node.specs.Step.{Made, Steps, nothing_made}
 use Rattle.mar_node.specs.declared.fault.Fault.{Fault as FaultCode}
 use Rattle.mar_node.specs.declared.fault.TicketKind.{TicketKind}
@@ -99,17 +99,17 @@ module _ (config : Config) (chain : Chain) (e : Ended) (picks : Picks) (g : Bloc
       with_kept kept syncs = record a { held = record a.held { cache = record a.held.cache { kept = kept; syncs = syncs } } }
 
       -- an opening that finished
-      module _ (takes : TakesUp picks.cache first begun) (made : Made) (b : Seen P E) (kept : List Block) (steps : Steps config chain begun (life_started None ∷ []) made (node_of b kept (asked_since none_waiting made.asks))) where
-        pub opening_done : OpenDone config chain e picks (from_genesis g) (output_of made outcome.Done) (running (node_of b kept (asked_since none_waiting made.asks)))
+      module _ (takes : TakesUp picks.cache first begun) (made : Made) (b : Seen P E) (kept : List Block) (steps : Steps config chain begun (life_started None ∷ []) made (node_of b kept (knowing b.certified (asked_since none_waiting made.asks)))) where
+        pub opening_done : OpenDone config chain e picks (from_genesis g) (output_of made outcome.Done) (running (node_of b kept (knowing b.certified (asked_since none_waiting made.asks))))
         opening_done = (made, record { first = first; finds = finds; begun = begun; takes = takes; start = steps }, refl, refl)
 
-        pub opening_between : (k : ℕ) → b.life.next_ack ≤ max_window * (k + 1) → b.held.writes.next_sync ≤ k + 1 → IsBetween config chain (k + 1) (running (node_of b kept (asked_since none_waiting made.asks)))
+        pub opening_between : (k : ℕ) → b.life.next_ack ≤ max_window * (k + 1) → b.held.writes.next_sync ≤ 2 * (k + 1) → IsBetween config chain (k + 1) (running (node_of b kept (knowing b.certified (asked_since none_waiting made.asks))))
         opening_between k tickets sync_tickets = (
           steps.good,
           steps.rests,
           record {
-            undropped = begun_has (λ n. Steps config chain n (life_started None ∷ []) made (node_of b kept (asked_since none_waiting made.asks)) → Undropped b.life.out)
-                (λ c syncs started. undropped-start config chain (with_kept c syncs) [] none_waiting made (node_of b kept (asked_since none_waiting made.asks)) started (undropped-found config e picks (from_genesis g) first finds).0) (inr takes) steps;
+            undropped = begun_has (λ n. Steps config chain n (life_started None ∷ []) made (node_of b kept (knowing b.certified (asked_since none_waiting made.asks))) → Undropped b.life.out)
+                (λ c syncs started. undropped-start config chain (with_kept c syncs) [] none_waiting made (node_of b kept (knowing b.certified (asked_since none_waiting made.asks))) started (undropped-found config e picks (from_genesis g) first finds).0) (inr takes) steps;
             tickets = tickets;
             sync_tickets = sync_tickets;
             answer_tickets = omega arith;
@@ -120,7 +120,7 @@ module _ (config : Config) (chain : Chain) (e : Ended) (picks : Picks) (g : Bloc
         pub opening_cached : (c : Block) → Contains (filter_map cached_block (b.held.cache.kept.held ++ b.held.cache.kept.may)) c → Contains (filter_map cached_block e.cache_may) c
         opening_cached c has =
             found_within cached_block (begun.cache.held ++ begun.cache.may) e.cache_may (λ x there. found_cached config e picks (from_genesis g) first finds x (Contains-append_right first.cache.held first.cache.may x (begun_cached picks.cache first begun takes x there))) c
-            (none_more _ c (step_cached config chain begun (life_started None) made (node_of b kept (asked_since none_waiting made.asks)) (λ fx after x put. contains_none x put) steps c has))
+            (none_more _ c (step_cached config chain begun (life_started None) [] made (node_of b kept (knowing b.certified (asked_since none_waiting made.asks))) (λ fx after x put. contains_none x put) steps c has))
 
       -- the pairs of its start
       abbrev later : List Pair
@@ -181,7 +181,7 @@ module _ (config : Config) (chain : Chain) (e : Ended) (picks : Picks) (g : Bloc
         -- and no block more is left cached
         pub start_cached : (c : Block) → Contains (filter_map cached_block left.cache_may) c → Contains (filter_map cached_block e.cache_may) c
         start_cached c has = found_within cached_block begun.cache.may e.cache_may (λ x there. found_cached config e picks (from_genesis g) first finds x (Contains-append_right first.cache.held first.cache.may x (by takes x there))) c
-            (none_more _ c (cut_blocks config chain begun (life_started None) made (plain_fault fault) left (λ fx after x put. contains_none x put) cuts c has))
+            (none_more _ c (cut_blocks config chain begun (life_started None) [] made (plain_fault fault) left (λ fx after x put. contains_none x put) cuts c has))
           where
             by : (begun ≡ first) ⊎ TakesUp picks.cache first begun → (x : Cached) → Contains begun.cache.may x → Contains first.cache.may x
             by (inl is) x may = subst (λ n. Contains n.cache.may x) is may

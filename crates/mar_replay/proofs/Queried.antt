@@ -29,8 +29,8 @@ use Rattle.mar_replay.proofs.LinePlays.{Running, after_event, between, done_step
 use Rattle.mar_replay.proofs.LineTurns.{lawful_step}
 
 -- one caller waits, under the ticket that was next
-abbrev one_waiting : Pending → Waiting
-one_waiting pending = record { requests = pending.requests; unanswered = pending.next_answer ∷ []; next_answer = pending.next_answer + 1 }
+abbrev one_waiting : SeenNode → Pending → Waiting
+one_waiting seen pending = record { requests = pending.requests; unanswered = pending.next_answer ∷ []; next_answer = pending.next_answer + 1; certified = seen.certified }
 
 -- whom it answers waits no more
 none_left : (t : ℕ) (v : Value) → still_unanswered (to t v ∷ []) [] (t ∷ []) ≡ []
@@ -50,10 +50,10 @@ answers_one config seen buffer waiting lowest t m (certifies r b) = (_, refl)
 
 module _ (config : Config) (chain : Chain) (seen : SeenNode) (buffer : List Block) (pending : Pending) where
   abbrev before : Node
-  before = node_of seen buffer (between pending)
+  before = node_of seen buffer (between seen pending)
 
   abbrev asking : Node
-  asking = node_of seen buffer (one_waiting pending)
+  asking = node_of seen buffer (one_waiting seen pending)
 
   -- its ticket is open, so that it is told
   told_done : (m : Message) (out : Output) (s : State) → StepDone config chain asking (message_told (Some pending.next_answer) m ∷ []) [] (λ n. []) out s → OneDone config chain asking (told_events asking (record { ticket = Some pending.next_answer; message = m })) out s
@@ -73,7 +73,7 @@ module _ (config : Config) (chain : Chain) (seen : SeenNode) (buffer : List Bloc
 
   answered : (m : Message) → IsAnswered m → (made : Made) (n' : Node) → Steps config chain asking (message_told (Some pending.next_answer) m ∷ []) made n' → still_unanswered made.answers [] (pending.next_answer ∷ []) ≡ []
   answered m is made n' steps =
-      let one = answers_one config seen buffer (one_waiting pending) steps.unticketed.lowest pending.next_answer m is in
+      let one = answers_one config seen buffer (one_waiting seen pending) steps.unticketed.lowest pending.next_answer m is in
       ap (λ answers. still_unanswered answers [] (pending.next_answer ∷ [])) (steps.advances.beside.answers ∙ one.1) ∙ none_left pending.next_answer one.0
 
 -- a line that is answered
@@ -86,10 +86,10 @@ plays_answered {H = H} {R = R} seen buffer pending next m is_answered made after
   lucky = λ before has. takes.lucky before (tell_line m);
   opened = opened_as (record { requests = pending.requests; next_answer = next }) after takes.pending_as;
   plays = λ is before has chain k lawful.
-      let step = lawful_step config chain seen buffer.blocks (between pending) (pending.next_answer ∷ []) (pending.next_answer + 1) k (tell_line m) (message_told (Some pending.next_answer) m) plain lawful (λ f same. absurd cc) brings in
+      let step = lawful_step config chain seen buffer.blocks (between seen pending) (pending.next_answer ∷ []) (pending.next_answer + 1) k (tell_line m) (message_told (Some pending.next_answer) m) plain lawful (λ f same. absurd cc) brings in
       let low : pending.next_answer ≤ k = lawful.between.2.answer_tickets in
-      after_event seen buffer pending (tell_line m) (message_told (Some pending.next_answer) m) made config chain k (one_waiting pending) plain brings is.0 lawful step (omega arith) (answered config chain seen buffer.blocks pending m is_answered made)
-      (account_in before (Running {H = H} {R = R} seen buffer pending)) (answered_done config chain seen buffer.blocks pending (account_in before (Running {H = H} {R = R} seen buffer pending)) m is_answered) after o next (sym (next_is (answers_last k pending.next_answer low lawful.few))) (done_step seen buffer made after o plain takes.done is.1 config chain (one_waiting pending) is.0 step)
+      after_event seen buffer pending (tell_line m) (message_told (Some pending.next_answer) m) made config chain k (one_waiting seen pending) plain brings is.0 lawful step (omega arith) (answered config chain seen buffer.blocks pending m is_answered made)
+      (account_in before (Running {H = H} {R = R} seen buffer pending)) (answered_done config chain seen buffer.blocks pending (account_in before (Running {H = H} {R = R} seen buffer pending)) m is_answered) after o next (sym (next_is (answers_last k pending.next_answer low lawful.few))) (done_step seen buffer made after o plain takes.done is.1 config chain (one_waiting seen pending) refl is.0 step)
       (pending_next (record { requests = pending.requests; next_answer = next }) after takes.pending_as);
 }
   where

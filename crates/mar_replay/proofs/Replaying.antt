@@ -1,6 +1,6 @@
 -- The lines that were done so far as a run of lives, and what a replay is where it stops.
 use Rattle.std.proofs.Common.{Contains, List, None, Option, Some, [], ap, append_assoc, arith, inl, inr, length, length-append, map, refl, subst, sym, ℕ, ◌++◌, ◌+◌, ◌<◌, ◌∙◌, ◌∷◌, ◌≡◌, ◌≤◌, ◌⊎◌}
-use Rattle.std.specs.List.{AllByRecursion, filter_map, flat_map}
+use Rattle.std.specs.List.{AllByRecursion, flat_map}
 use Rattle.std.specs.Prelude.{Any, ⊤}
 use Rattle.std.proofs.lemmas.Grind.{flat_map-append}
 use Rattle.std.proofs.lemmas.List.{append-nil, map-append}
@@ -14,7 +14,7 @@ use Rattle.mar_node.specs.Faults.{from_floor, from_genesis, want_of_memory}
 use Rattle.mar_node.specs.Held.{Remains, Watches}
 use Rattle.mar_node.specs.Lives.{IsGoodEnded}
 use Rattle.mar_node.specs.Node.{Agrees, Ended, IsFinalized, left_by}
-use Rattle.mar_node.specs.Cached.{cached_block, cached_finalization}
+use Rattle.mar_node.specs.Cached.{cached_block, cached_finalization, Cached}
 use Rattle.mar_node.proofs.Filtered.{all_found_within}
 use Rattle.mar_node.proofs.Soundness.{IsFrom, IsGoodEnded-from_sound, IsSound-from_good}
 use Rattle.mar_script.specs.Accounts.{Account, AccountsFor, first_account}
@@ -37,6 +37,13 @@ last_line f lines l x has = subst (λ xs. Contains xs x) (sym (flat_map-append f
 any_more : {T : Type 0} (P : T → Type 0) (xs ys : List T) → Any P xs → Any P (xs ++ ys)
 any_more P xs ys (i, y, low, is, holds) = let c = Contains-append_left xs ys y (i, low, is) in (c.0, y, c.1, c.2, holds)
 
+-- what appears in lines appears in more of them
+appears_more : (chain : Chain) (lines : List Line) (l : Line) (cached : List Cached) (b : Block) → Appears chain lines cached b → Appears chain (lines ++ l ∷ []) cached b
+appears_more chain lines l cached b (inl of_chain) = inl of_chain
+appears_more chain lines l cached b (inr (inl of_line)) = inr (inl (more_lines line_blocks lines l b of_line))
+appears_more chain lines l cached b (inr (inr (inl at_end))) = inr (inr (inl (any_more (EndsWith b) lines (l ∷ []) at_end)))
+appears_more chain lines l cached b (inr (inr (inr left))) = inr (inr (inr left))
+
 -- a script that is lawful with one more line is lawful
 pub premises_before : (config : Config) (chain : Chain) (lines : List Line) (l : Line) (before : Ended) → Premises config chain (lines ++ l ∷ []) before → Premises config chain lines before
 premises_before config chain lines l before p = record {
@@ -48,18 +55,12 @@ premises_before config chain lines l before p = record {
     floors = λ f has. p.script.floors f (more_lines messages_of lines l (set_floor f) has);
     first_floor = λ f has. p.script.first_floor f (Contains-append_left lines (l ∷ []) (open_line (from_floor f)) has);
     peer_bytes = λ m has. p.script.peer_bytes m (Contains-append_left lines (l ∷ []) m has);
-    inner = λ b appears. p.script.inner b (more b appears);
-    one_block = λ a b first second. p.script.one_block a b (more a first) (more b second);
+    inner = λ b appears. p.script.inner b (appears_more chain lines l before.cache_may b appears);
+    one_block = λ a b first second. p.script.one_block a b (appears_more chain lines l before.cache_may a first) (appears_more chain lines l before.cache_may b second);
   };
   good = p.good;
   some_pair = p.some_pair;
 }
-  where
-    more : (b : Block) → Appears chain lines before.cache_may b → Appears chain (lines ++ l ∷ []) before.cache_may b
-    more b (inl of_chain) = inl of_chain
-    more b (inr (inl of_line)) = inr (inl (more_lines line_blocks lines l b of_line))
-    more b (inr (inr (inl at_end))) = inr (inr (inl (any_more (EndsWith b) lines (l ∷ []) at_end)))
-    more b (inr (inr (inr cached))) = inr (inr (inr cached))
 
 -- SO FAR
 
@@ -72,7 +73,7 @@ pub record RunSoFar (config : Config) (chain : Chain) (before : Remains) (lines 
   pub wrote : bytes ≡ text before.ended run
   pub between : IsBetween config chain (length lines) now
   pub buffered : (b : Block) → Contains (buffer_in now) b → Contains (flat_map line_blocks lines) b
-  pub cached : (b : Block) → Contains (cached_blocks_in now) b → Contains (filter_map cached_block before.ended.cache_may ++ flat_map line_blocks lines) b
+  pub cached : (b : Block) → Contains (cached_blocks_in now) b → Appears chain lines before.ended.cache_may b
   pub no_memory : AllByRecursion (λ d. d.output.fault ≡ Some want_of_memory → ⊥) run
   pub excused : AllByRecursion IsExcused run
 
@@ -85,7 +86,7 @@ first_run config chain before now p is = record {
   wrote = refl;
   between = subst (λ s. IsBetween config chain 0 s) (sym is) (p.good, p.some_pair);
   buffered = λ b has. absurd (none b (subst (λ s. Contains (buffer_in s) b) is has));
-  cached = λ b has. Contains-append_left _ _ b (subst (λ s. Contains (cached_blocks_in s) b) is has);
+  cached = λ b has. inr (inr (inr (subst (λ s. Contains (cached_blocks_in s) b) is has)));
   no_memory = tt;
   excused = tt;
 }
@@ -102,13 +103,9 @@ module _ (config : Config) (chain : Chain) (before : Remains) (lines : List Line
   appears : (b : Block) → Contains (line_blocks l ++ known_in chain now) b → Appears chain (lines ++ l ∷ []) before.ended.cache_may b
   appears b has = known (Contains-append_cases (line_blocks l) (known_in chain now) b has)
     where
-      cached : Contains (filter_map cached_block before.ended.cache_may) b ⊎ Contains (flat_map line_blocks lines) b → Appears chain (lines ++ l ∷ []) before.ended.cache_may b
-      cached (inl left) = inr (inr (inr left))
-      cached (inr of_line) = inr (inl (more_lines line_blocks lines l b of_line))
-
       beside : Contains (buffer_in now) b ⊎ Contains (cached_blocks_in now) b → Appears chain (lines ++ l ∷ []) before.ended.cache_may b
       beside (inl of_buffer) = inr (inl (more_lines line_blocks lines l b (so.buffered b of_buffer)))
-      beside (inr of_cache) = cached (Contains-append_cases (filter_map cached_block before.ended.cache_may) (flat_map line_blocks lines) b (so.cached b of_cache))
+      beside (inr of_cache) = appears_more chain lines l before.ended.cache_may b (so.cached b of_cache)
 
       by : Contains chain.blocks b ⊎ Contains (buffer_in now ++ cached_blocks_in now) b → Appears chain (lines ++ l ∷ []) before.ended.cache_may b
       by (inl of_chain) = inl of_chain
@@ -158,7 +155,7 @@ module _ (config : Config) (chain : Chain) (before : Remains) (lines : List Line
       wrote = ap (λ bs. bs ++ output_text out after) so.wrote ∙ sym (text_push before.ended so.run done);
       between = subst (λ k. IsBetween config chain k after) (sym (length-append lines (l ∷ []))) plays.between;
       buffered = λ b has. by b (Contains-append_cases (buffer_in now) (line_blocks l) b (plays.buffered b has));
-      cached = λ b has. from b (Contains-append_cases (cached_blocks_in now) (line_blocks l) b (plays.cached b has));
+      cached = λ b has. appears b (plays.cached b has);
       no_memory = AllByRecursion-push (λ d. d.output.fault ≡ Some want_of_memory → ⊥) so.run done so.no_memory remembered;
       excused = excused_now;
     }
@@ -166,14 +163,6 @@ module _ (config : Config) (chain : Chain) (before : Remains) (lines : List Line
         by : (b : Block) → Contains (buffer_in now) b ⊎ Contains (line_blocks l) b → Contains (flat_map line_blocks (lines ++ l ∷ [])) b
         by b (inl old) = more_lines line_blocks lines l b (so.buffered b old)
         by b (inr new) = last_line line_blocks lines l b new
-
-        further : (b : Block) → Contains (filter_map cached_block before.ended.cache_may) b ⊎ Contains (flat_map line_blocks lines) b → Contains (filter_map cached_block before.ended.cache_may ++ flat_map line_blocks (lines ++ l ∷ [])) b
-        further b (inl left) = Contains-append_left _ _ b left
-        further b (inr of_line) = Contains-append_right (filter_map cached_block before.ended.cache_may) _ b (more_lines line_blocks lines l b of_line)
-
-        from : (b : Block) → Contains (cached_blocks_in now) b ⊎ Contains (line_blocks l) b → Contains (filter_map cached_block before.ended.cache_may ++ flat_map line_blocks (lines ++ l ∷ [])) b
-        from b (inl old) = further b (Contains-append_cases (filter_map cached_block before.ended.cache_may) (flat_map line_blocks lines) b (so.cached b old))
-        from b (inr new) = Contains-append_right (filter_map cached_block before.ended.cache_may) _ b (last_line line_blocks lines l b new)
 
 -- WHERE IT STOPS
 

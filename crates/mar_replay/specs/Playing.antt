@@ -5,7 +5,6 @@ use Rattle.mar_types.specs.declared.FixedEpocher.{FixedEpocher}
 use Rattle.mar_cert.specs.Block.{Block}
 use Rattle.mar_block.specs.Sent.{Held}
 use Rattle.mar_cert.specs.Provided.{Provided}
-use Rattle.std.specs.declared.convert.Infallible.{Infallible}
 use Rattle.mar_types.specs.Round.{Round}
 use Rattle.mar_types.specs.declared.Sha256.{Sha256}
 use Rattle.mar_types.specs.declared.Sha256Digest.{Sha256Digest}
@@ -15,7 +14,6 @@ use Rattle.mar_cert.specs.declared.MockCertificate.{MockCertificate}
 use Rattle.mar_inbox.specs.Views.{message_of, query_of}
 use Rattle.mar_inbox.specs.declared.Message.{Message as MessageCode}
 use Rattle.mar_inbox.specs.declared.Query.{Query}
-use Rattle.mar_actor.specs.Views.{no_notarization}
 use Rattle.mar_node.specs.Messages.{Message, Peers, certify, proposed, verified}
 use Rattle.mar_script.specs.Lines.{plain_block, plain_finalization}
 use Rattle.mar_key.specs.Asked.{Asked, asked_after}
@@ -26,8 +24,9 @@ use Rattle.mar_node.specs.Event.{Event, life_started}
 use Rattle.mar_node.specs.Faults.{Fault, ack_kind, sync_kind, ticket_limit, want_of_memory}
 use Rattle.mar_node.specs.Held.{Seen}
 use Rattle.mar_node.specs.Lives.{Cuts, TakesUp}
+use Rattle.mar_node.specs.Moves.{syncs_at_most}
 use Rattle.mar_node.specs.Node.{Node}
-use Rattle.mar_node.specs.Promise.{IsLawfulStep, IsSetTo, Waiting, asked_since, node_of}
+use Rattle.mar_node.specs.Promise.{IsLawfulStep, IsSetTo, Waiting, asked_since, knowing, node_of}
 use Rattle.mar_node.specs.Step.{Made, Steps}
 use Rattle.mar_node.specs.Stored.{AreSmall}
 use Rattle.mar_script.specs.Accounts.{Account, Calls, CallsEnd, luck_after}
@@ -123,8 +122,8 @@ TurnsLine config before line sunk after sunk' written = (IsErrOf written status.
 -- MESSAGES THAT ARE ANSWERED
 
 -- a message of a script's node
-abbrev pub plain_message : MessageCode Sha256Digest (EmptyBlock Sha256 Sha256Digest) Infallible (FinalizationCode Sha256Digest MockCertificate) → Message
-plain_message m = message_of (λ digest. digest.bytes) plain_block no_notarization plain_finalization m
+abbrev pub plain_message : MessageCode Sha256Digest (EmptyBlock Sha256 Sha256Digest) (FinalizationCode Sha256Digest MockCertificate) (FinalizationCode Sha256Digest MockCertificate) → Message
+plain_message m = message_of (λ digest. digest.bytes) plain_block plain_finalization plain_finalization m
 
 -- those that are read today and come under an answer ticket: what stands is asked, or a block is to be kept
 pub data IsAnswered : Message → Type 0 where
@@ -139,20 +138,20 @@ pub data IsAnswered : Message → Type 0 where
 abbrev pub empty_buffer : Held
 empty_buffer = record { blocks = []; is_open = true; sent = [] }
 
--- a window of tickets was given at most, and one of a sync
-abbrev pub GivesFew : SeenNode → SeenNode → Type 0
-GivesFew seen new = (new.life.next_ack ≤ seen.life.next_ack + seen.life.sizes.window) × (new.held.writes.next_sync ≤ seen.held.writes.next_sync + 1)
+-- a window of tickets was given at most, and as many of syncs as such an event may start
+abbrev pub GivesFew : Event → SeenNode → SeenNode → Type 0
+GivesFew e seen new = (new.life.next_ack ≤ seen.life.next_ack + seen.life.sizes.window) × (new.held.writes.next_sync ≤ seen.held.writes.next_sync + syncs_at_most e)
 
--- where tickets ran out, no more were left than a window needs, or none of a sync
-abbrev pub IsNearLast : SeenNode → Fault → Type 0
-IsNearLast seen fault = (fault ≡ ticket_limit ack_kind → 2 ^ 64 - 1 ≤ seen.life.next_ack + seen.life.sizes.window) × (fault ≡ ticket_limit sync_kind → seen.held.writes.next_sync ≡ 2 ^ 64 - 1)
+-- where tickets ran out, no more were left than a window needs, or than the syncs of such an event
+abbrev pub IsNearLast : Event → SeenNode → Fault → Type 0
+IsNearLast e seen fault = (fault ≡ ticket_limit ack_kind → 2 ^ 64 - 1 ≤ seen.life.next_ack + seen.life.sizes.window) × (fault ≡ ticket_limit sync_kind → 2 ^ 64 ≤ seen.held.writes.next_sync + syncs_at_most e)
 
 -- A step from this node that finished and gave few tickets, with the buffer as it was; or a cut.
 abbrev pub AfterEvent : {H R : Type 0} → Config → Chain → Node → SeenNode → List Block → Waiting → Event → Made → StateCode H R → Outcome → Type 0
 AfterEvent config chain n seen buffer waiting e made (state.Running new same pending) outcome.Done =
-    Steps config chain n (e ∷ []) made (node_of new same.blocks (asked_since waiting made.asks)) × (same.blocks ≡ buffer) × GivesFew seen new
+    Steps config chain n (e ∷ []) made (node_of new same.blocks (knowing new.certified (asked_since waiting made.asks))) × (same.blocks ≡ buffer) × GivesFew e seen new
 AfterEvent config chain n seen buffer waiting e made (state.Stopped left luck) (outcome.Fault fault) =
-    Cuts config chain n (e ∷ []) made (plain_fault fault) left.ended × IsNearLast seen (plain_fault fault)
+    Cuts config chain n (e ∷ []) made (plain_fault fault) left.ended × IsNearLast e seen (plain_fault fault)
 AfterEvent config chain n seen buffer waiting e made after outcome = ⊥
 
 -- where a start steps from: what a crash left of the cache was taken up, unless it was cut before that
@@ -163,7 +162,7 @@ StartsFrom _ picked n begun = (begun ≡ n) ⊎ TakesUp picked n begun
 -- what a start makes of a life, where nothing was put into the cache nor taken up before it
 abbrev pub DoesStart : {H R : Type 0} → SeenNode → Held → Event → Made → StateCode H R → Outcome → Type 0
 DoesStart seen buffer e made after outcome =
-    seen.held.cache.fresh ≡ true → (config : Config) (chain : Chain) (waiting : Waiting) → IsSetNode config seen → IsLawfulStep config chain (node_of seen buffer.blocks waiting) (e ∷ [])
+    seen.held.cache.fresh ≡ true → (config : Config) (chain : Chain) (waiting : Waiting) → waiting.certified ≡ seen.certified → IsSetNode config seen → IsLawfulStep config chain (node_of seen buffer.blocks waiting) (e ∷ [])
     → (begun : Node) × StartsFrom outcome seen.held.cache.finds (node_of seen buffer.blocks waiting) begun × AfterEvent config chain begun seen buffer.blocks waiting e made after outcome
 
 -- an event but the start finds that taken up
@@ -174,7 +173,7 @@ FindsTakenUp _ seen = seen.held.cache.loaded ≡ true
 -- what an event makes of a life that has begun
 abbrev pub DoesStep : {H R : Type 0} → SeenNode → Held → Event → Made → StateCode H R → Outcome → Type 0
 DoesStep seen buffer e made after outcome =
-    seen.held.cache.loaded ≡ true → (config : Config) (chain : Chain) (waiting : Waiting) → IsSetNode config seen → IsLawfulStep config chain (node_of seen buffer.blocks waiting) (e ∷ [])
+    seen.held.cache.loaded ≡ true → (config : Config) (chain : Chain) (waiting : Waiting) → waiting.certified ≡ seen.certified → IsSetNode config seen → IsLawfulStep config chain (node_of seen buffer.blocks waiting) (e ∷ [])
     → AfterEvent config chain (node_of seen buffer.blocks waiting) seen buffer.blocks waiting e made after outcome
 
 -- the one or the other

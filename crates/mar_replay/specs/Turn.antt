@@ -9,6 +9,7 @@ use Rattle.mar_inbox.specs.Views.{value_of}
 use Rattle.mar_key.specs.Asked.{Asked}
 use Rattle.mar_node.specs.Faults.{Fault}
 use Rattle.mar_node.specs.Held.{Remains, remains_of}
+use Rattle.mar_node.specs.Node.{CertifiedCommitment}
 use Rattle.mar_node.specs.Promise.{Waiting, node_of}
 use Rattle.mar_node.specs.Step.{Made, Report}
 use Rattle.mar_actor.specs.Views.{report_of}
@@ -70,12 +71,12 @@ abbrev pub output_of : Made → Outcome → Output
 output_of made outcome = record { made = made; outcomes = []; remark = remark_in outcome; fault = fault_in outcome }
 
 -- between two lines each caller has its answer
-abbrev pub waiting_with : List Asked → ℕ → Waiting
-waiting_with asked next = record { requests = asked; unanswered = []; next_answer = next }
+abbrev pub waiting_with : List Asked → ℕ → List CertifiedCommitment → Waiting
+waiting_with asked next certified = record { requests = asked; unanswered = []; next_answer = next; certified = certified }
 
 -- the state of a run as plain data, were these requests open
 abbrev pub state_with : {H R : Type 0} → List Asked → StateCode H R → State
-state_with asked (state.Running seen buffer pending) = running (node_of seen buffer.blocks (waiting_with asked pending.next_answer))
+state_with asked (state.Running seen buffer pending) = running (node_of seen buffer.blocks (waiting_with asked pending.next_answer seen.certified))
 state_with asked (state.Stopped left luck) = stopped left.ended
 
 -- the requests that are open in it: none where no life runs

@@ -15,13 +15,10 @@ ghost use Rattle.mar_replay.specs.Playing.{HasSmallBlocks, IsSetAs};
 ghost use Rattle.mar_replay.specs.Turn.{remains_in, state_with};
 
 use crate::heard::Heard;
-use crate::play::{Left, Outcome, State};
+use crate::play::{Left, Outcome, ScriptHolds, State};
 use crate::replays::{Finished, left_of, turn, write_turn};
 use crate::turn::Page;
-use mar_block::StandardBlocks;
-use mar_cert::MockFinalization;
 use mar_gen::{Made, Owed, Planned, finalization, read_text, summary};
-use mar_node::Holds;
 use mar_script::{Line, MAX_LINES, Settings, Sink, Status, write_text};
 use mar_store::Miss;
 use mar_types::Digestible;
@@ -146,7 +143,7 @@ struct Tally {
 
 /// Makes the script of a seed and so many heights line by line, does each line, and writes how it went. What a line makes
 /// is kept until the next one is made of it.
-pub fn generate<K: Sink, H: Holds<StandardBlocks, Finalization = MockFinalization>>(
+pub fn generate<K: Sink, H: ScriptHolds>(
     alloc: Global,
     seed: u64,
     last: u64,
@@ -213,7 +210,7 @@ fn sum_up<K: Sink>(alloc: Global, made: &Made, tally: &Tally, sink: &mut K) -> S
 }
 
 // Does the made lines, from the settings on.
-fn run_made<H: Holds<StandardBlocks, Finalization = MockFinalization>>(
+fn run_made<H: ScriptHolds>(
     alloc: Global,
     made: &Made,
     stores: H::Ruins,
@@ -244,7 +241,7 @@ fn run_made<H: Holds<StandardBlocks, Finalization = MockFinalization>>(
 
 // Makes the lines behind the settings, each of the text of the one before, and does them. The script would be refused
 // where it had more lines than are read; it has far fewer.
-fn made_lines<H: Holds<StandardBlocks, Finalization = MockFinalization>>(
+fn made_lines<H: ScriptHolds>(
     alloc: Global,
     made: &Made,
     state: State<H>,

@@ -5,8 +5,8 @@
 //!
 //! - `run` does what the words of a command line ask for: `replay` does the script that it reads, `gen SEED N` one that it
 //!   makes and reads nothing. It names the four stores of a life, as a caller has them.
-//! - `replay` does a script over the stores of a life of any make (`Holds` of mar_node; `ScriptStores` is one that has four
-//!   stores).
+//! - `replay` does a script over the stores of a life of any make (`HoldsNotarizations` of mar_node; `ScriptStores` is one
+//!   that has four stores).
 //!
 //! Both are given a source (`Source`), a sink (`Sink`) and what is left of stores: of stores that hold nothing, or of those
 //! that an earlier run handed back. Both answer a `Finished`: the `Status` in which the run ended, and what is left now.

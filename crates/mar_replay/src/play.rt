@@ -3,7 +3,7 @@ ghost use Rattle.std.specs.Prelude.{◌≡◌, ◌↔◌, [], IsTrue, List, Ok, 
 ghost use Rattle.mar_key.specs.Asked.{Asked, asked_after};
 ghost use Rattle.mar_key.specs.Recorded.{ask_of};
 ghost use Rattle.mar_node.specs.Event.{message_told};
-ghost use Rattle.mar_node.specs.Messages.{certify, prepared, proposed, report_finalization, verified};
+ghost use Rattle.mar_node.specs.Messages.{certify, prepared, proposed, report_certification, report_finalization, report_notarization, verified};
 ghost use Rattle.mar_node.specs.Config.{Config as PlainConfig};
 ghost use Rattle.mar_node.specs.Faults.{from_genesis, want_of_memory};
 ghost use Rattle.mar_node.specs.Held.{remains_of};
@@ -28,25 +28,40 @@ use mar_block::{EmptyBlock, MemBuffer, Sent, StandardBlocks};
 use mar_cert::{MockFinalization, MockProvider, MockScheme};
 use mar_inbox::{Message, Query};
 use mar_key::{Ask, OpenRequests};
-use mar_node::{Holds, StoresRuin};
+use mar_node::{HoldsNotarizations, StoresRuin};
 use mar_script::{Line, RemarkShown, RoundBlock, Settings};
 use mar_types::{Digested, Epoch, FixedEpocher, Sha256, Sha256Digest, ViewDelta};
 use std::alloc::{AllocError, Global};
-use std::convert::Infallible;
 use std::marker::Model;
 use std::num::NonZeroU64;
+
+/// The stores of a script's node: of the program's blocks, of which a notarization is of the type of a finalization.
+pub trait ScriptHolds: HoldsNotarizations<
+    StandardBlocks,
+    Finalization = MockFinalization,
+    Notarization = MockFinalization,
+> {}
+
+impl<H> ScriptHolds for H
+where
+    H: HoldsNotarizations<
+        StandardBlocks,
+        Finalization = MockFinalization,
+        Notarization = MockFinalization,
+    >,
+{}
 
 /// The node that a script drives, over stores of the kind `H`.
 pub type ScriptNode<H> = Node<StandardBlocks, H, MockProvider, FixedEpocher>;
 
 /// What is left of the stores of a node.
 #[derive(Drop)]
-pub struct Left<H: Holds<StandardBlocks, Finalization = MockFinalization>> {
+pub struct Left<H: ScriptHolds> {
     /// What the next opening is given.
     pub ruins: H::Ruins,
 }
 
-impl<H: Holds<StandardBlocks, Finalization = MockFinalization>> Model for Left<H> {
+impl<H: ScriptHolds> Model for Left<H> {
     ghost use Rattle.mar_node.specs.Held.{Remains};
 
     ghost Value = { Remains };
@@ -65,12 +80,12 @@ pub struct Pending {
 /// A node while a life runs, with the blocks that its buffer has and what is pending; else what is left of its stores, and
 /// the luck of the next opening.
 #[derive(Drop)]
-pub enum State<H: Holds<StandardBlocks, Finalization = MockFinalization>> {
+pub enum State<H: ScriptHolds> {
     Running(ScriptNode<H>, MemBuffer<StandardBlocks>, Pending),
     Stopped(Left<H>, u64),
 }
 
-impl<H: Holds<StandardBlocks, Finalization = MockFinalization>> State<H> {
+impl<H: ScriptHolds> State<H> {
     /// Takes in what a line asked among what is open. Where memory runs out, a first part of it is taken in.
     pub fn take_in(&mut self, asks: &[Ask<Sha256Digest>]) -> Result<(), AllocError>
         ensures ok { OnOk result (self.new ≡ with_open (asked_after (open_in self.old) [] (map (ask_of (λ digest. digest.bytes)) asks.now)) self.old) }
@@ -107,7 +122,7 @@ impl Outcome {
 }
 
 /// Does one line, or answers that memory ran out before anything was done.
-pub fn play<H: Holds<StandardBlocks, Finalization = MockFinalization>>(
+pub fn play<H: ScriptHolds>(
     alloc: Global,
     settings: Settings,
     state: State<H>,
@@ -129,7 +144,7 @@ pub fn play<H: Holds<StandardBlocks, Finalization = MockFinalization>>(
 }
 
 // Does one line where no life runs.
-fn play_stopped<H: Holds<StandardBlocks, Finalization = MockFinalization>>(
+fn play_stopped<H: ScriptHolds>(
     alloc: Global,
     settings: Settings,
     left: Left<H>,
@@ -148,6 +163,8 @@ fn play_stopped<H: Holds<StandardBlocks, Finalization = MockFinalization>>(
         Line::Crash(next) => (State::Stopped(left, next), Ok(Outcome::Done)),
         Line::Buffer(_block) => pass(left, luck),
         Line::Final(_finalization) => pass(left, luck),
+        Line::Notar(_notarization) => pass(left, luck),
+        Line::Certn(_certification) => pass(left, luck),
         Line::Sync(_ticket) => pass(left, luck),
         Line::Ack(_ticket) => pass(left, luck),
         Line::Query(_query) => pass(left, luck),
@@ -159,10 +176,7 @@ fn play_stopped<H: Holds<StandardBlocks, Finalization = MockFinalization>>(
 }
 
 // Does nothing, where no life runs.
-fn pass<H: Holds<StandardBlocks, Finalization = MockFinalization>>(
-    left: Left<H>,
-    luck: u64,
-) -> (State<H>, Result<Outcome, AllocError>)
+fn pass<H: ScriptHolds>(left: Left<H>, luck: u64) -> (State<H>, Result<Outcome, AllocError>)
     ensures state { result.0 ≡ State.Stopped left luck }
     ensures outcome { result.1 ≡ Ok (Outcome.Remark RemarkShown.Stopped) }
 {
@@ -171,7 +185,7 @@ fn pass<H: Holds<StandardBlocks, Finalization = MockFinalization>>(
 }
 
 // Makes a call of a store that is left fail, so many calls away.
-fn arm_left<H: Holds<StandardBlocks, Finalization = MockFinalization>>(
+fn arm_left<H: ScriptHolds>(
     left: Left<H>,
     luck: u64,
     store: StoreName,
@@ -187,7 +201,7 @@ fn arm_left<H: Holds<StandardBlocks, Finalization = MockFinalization>>(
 }
 
 // Does one line while a life runs.
-fn play_running<H: Holds<StandardBlocks, Finalization = MockFinalization>>(
+fn play_running<H: ScriptHolds>(
     alloc: Global,
     actor: ScriptNode<H>,
     buffer: MemBuffer<StandardBlocks>,
@@ -207,6 +221,15 @@ fn play_running<H: Holds<StandardBlocks, Finalization = MockFinalization>>(
         ),
         Line::Buffer(block) => put(alloc, actor, buffer, pending, block),
         Line::Final(finalization) => finalize(alloc, actor, buffer, pending, finalization, heard),
+        Line::Notar(notarization) => notarize(alloc, actor, buffer, pending, notarization, heard),
+        Line::Certn(certification) => note_certification(
+            alloc,
+            actor,
+            buffer,
+            pending,
+            certification,
+            heard,
+        ),
         Line::Sync(ticket) => finish_sync(alloc, actor, buffer, pending, ticket, heard),
         Line::Ack(ticket) => acknowledge(alloc, actor, buffer, pending, ticket, heard),
         Line::Query(query) => ask(alloc, actor, buffer, pending, query, heard),
@@ -220,7 +243,7 @@ fn play_running<H: Holds<StandardBlocks, Finalization = MockFinalization>>(
 }
 
 // Ends the life at once, and its buffer with it; the next opening has this luck.
-fn crash<H: Holds<StandardBlocks, Finalization = MockFinalization>>(
+fn crash<H: ScriptHolds>(
     actor: ScriptNode<H>,
     _buffer: MemBuffer<StandardBlocks>,
     _pending: Pending,
@@ -233,7 +256,7 @@ fn crash<H: Holds<StandardBlocks, Finalization = MockFinalization>>(
 }
 
 // Makes a call of a store fail, so many calls away.
-fn arm<H: Holds<StandardBlocks, Finalization = MockFinalization>>(
+fn arm<H: ScriptHolds>(
     actor: ScriptNode<H>,
     buffer: MemBuffer<StandardBlocks>,
     pending: Pending,
@@ -251,7 +274,7 @@ fn arm<H: Holds<StandardBlocks, Finalization = MockFinalization>>(
 }
 
 // Puts a block into the buffer.
-fn put<H: Holds<StandardBlocks, Finalization = MockFinalization>>(
+fn put<H: ScriptHolds>(
     alloc: Global,
     actor: ScriptNode<H>,
     buffer: MemBuffer<StandardBlocks>,
@@ -272,7 +295,7 @@ fn put<H: Holds<StandardBlocks, Finalization = MockFinalization>>(
 }
 
 // Reports a finalization.
-fn finalize<H: Holds<StandardBlocks, Finalization = MockFinalization>>(
+fn finalize<H: ScriptHolds>(
     alloc: Global,
     actor: ScriptNode<H>,
     buffer: MemBuffer<StandardBlocks>,
@@ -292,8 +315,49 @@ fn finalize<H: Holds<StandardBlocks, Finalization = MockFinalization>>(
     (state, Ok(outcome))
 }
 
+// Reports a notarization.
+fn notarize<H: ScriptHolds>(
+    alloc: Global,
+    actor: ScriptNode<H>,
+    buffer: MemBuffer<StandardBlocks>,
+    pending: Pending,
+    notarization: MockFinalization,
+    heard: &mut Heard,
+) -> (State<H>, Result<Outcome, AllocError>)
+    requires small_event { IsSmall (finalization_bytes (plain_finalization notarization)) }
+    requires small { AreSmall buffer.blocks }
+    requires silent { made_in heard.old ≡ nothing_made }
+    ensures { (config : PlainConfig) → PlaysOrNot config (State.Running actor buffer pending)
+        (tell_line (report_notarization (plain_finalization notarization)))
+        (made_in heard.new) result.0 result.1 }
+{
+    let event = Event::Message(Message::Notarization(notarization));
+    let (state, outcome) = step(alloc, actor, buffer, pending, event, heard);
+    (state, Ok(outcome))
+}
+
+// Reports a certification.
+fn note_certification<H: ScriptHolds>(
+    alloc: Global,
+    actor: ScriptNode<H>,
+    buffer: MemBuffer<StandardBlocks>,
+    pending: Pending,
+    certification: MockFinalization,
+    heard: &mut Heard,
+) -> (State<H>, Result<Outcome, AllocError>)
+    requires small { AreSmall buffer.blocks }
+    requires silent { made_in heard.old ≡ nothing_made }
+    ensures { (config : PlainConfig) → PlaysOrNot config (State.Running actor buffer pending)
+        (tell_line (report_certification (plain_finalization certification)))
+        (made_in heard.new) result.0 result.1 }
+{
+    let event = Event::Message(Message::Certification(certification));
+    let (state, outcome) = step(alloc, actor, buffer, pending, event, heard);
+    (state, Ok(outcome))
+}
+
 // Gives the acknowledgement of this ticket, where it is owed.
-fn acknowledge<H: Holds<StandardBlocks, Finalization = MockFinalization>>(
+fn acknowledge<H: ScriptHolds>(
     alloc: Global,
     actor: ScriptNode<H>,
     buffer: MemBuffer<StandardBlocks>,
@@ -314,12 +378,17 @@ fn acknowledge<H: Holds<StandardBlocks, Finalization = MockFinalization>>(
 }
 
 // Tells a message that is answered, under the next answer ticket.
-fn tell<H: Holds<StandardBlocks, Finalization = MockFinalization>>(
+fn tell<H: ScriptHolds>(
     alloc: Global,
     actor: ScriptNode<H>,
     buffer: MemBuffer<StandardBlocks>,
     pending: Pending,
-    message: Message<Sha256Digest, Digested<EmptyBlock<Sha256>>, Infallible, MockFinalization>,
+    message: Message<
+        Sha256Digest,
+        Digested<EmptyBlock<Sha256>>,
+        MockFinalization,
+        MockFinalization,
+    >,
     heard: &mut Heard,
 ) -> (State<H>, Result<Outcome, AllocError>)
     requires small_event { IsSmallEvent (message_told (ticket_of message) (plain_message message)) }
@@ -344,7 +413,7 @@ fn tell<H: Holds<StandardBlocks, Finalization = MockFinalization>>(
 }
 
 // Asks what stands, under the next answer ticket.
-fn ask<H: Holds<StandardBlocks, Finalization = MockFinalization>>(
+fn ask<H: ScriptHolds>(
     alloc: Global,
     actor: ScriptNode<H>,
     buffer: MemBuffer<StandardBlocks>,
@@ -362,7 +431,7 @@ fn ask<H: Holds<StandardBlocks, Finalization = MockFinalization>>(
 }
 
 // Has a block kept that was verified, under the next answer ticket.
-fn verify<H: Holds<StandardBlocks, Finalization = MockFinalization>>(
+fn verify<H: ScriptHolds>(
     alloc: Global,
     actor: ScriptNode<H>,
     buffer: MemBuffer<StandardBlocks>,
@@ -389,7 +458,7 @@ fn verify<H: Holds<StandardBlocks, Finalization = MockFinalization>>(
 }
 
 // Has a block kept that was certified, under the next answer ticket.
-fn certify<H: Holds<StandardBlocks, Finalization = MockFinalization>>(
+fn certify<H: ScriptHolds>(
     alloc: Global,
     actor: ScriptNode<H>,
     buffer: MemBuffer<StandardBlocks>,
@@ -416,7 +485,7 @@ fn certify<H: Holds<StandardBlocks, Finalization = MockFinalization>>(
 }
 
 // Has a block sent and kept that was proposed, under the next answer ticket.
-fn propose<H: Holds<StandardBlocks, Finalization = MockFinalization>>(
+fn propose<H: ScriptHolds>(
     alloc: Global,
     actor: ScriptNode<H>,
     buffer: MemBuffer<StandardBlocks>,
@@ -445,7 +514,7 @@ fn propose<H: Holds<StandardBlocks, Finalization = MockFinalization>>(
 }
 
 // Sends a block ahead of its proposal.
-fn prepare<H: Holds<StandardBlocks, Finalization = MockFinalization>>(
+fn prepare<H: ScriptHolds>(
     alloc: Global,
     actor: ScriptNode<H>,
     buffer: MemBuffer<StandardBlocks>,
@@ -474,7 +543,7 @@ fn prepare<H: Holds<StandardBlocks, Finalization = MockFinalization>>(
 }
 
 // Lets the sync of this ticket finish, where the node awaits it.
-fn finish_sync<H: Holds<StandardBlocks, Finalization = MockFinalization>>(
+fn finish_sync<H: ScriptHolds>(
     alloc: Global,
     actor: ScriptNode<H>,
     buffer: MemBuffer<StandardBlocks>,
@@ -495,18 +564,18 @@ fn finish_sync<H: Holds<StandardBlocks, Finalization = MockFinalization>>(
 }
 
 // Takes one event.
-fn step<H: Holds<StandardBlocks, Finalization = MockFinalization>>(
+fn step<H: ScriptHolds>(
     alloc: Global,
     actor: ScriptNode<H>,
     buffer: MemBuffer<StandardBlocks>,
     pending: Pending,
-    event: Event<Sha256Digest, Digested<EmptyBlock<Sha256>>, MockFinalization>,
+    event: Event<Sha256Digest, Digested<EmptyBlock<Sha256>>, MockFinalization, MockFinalization>,
     heard: &mut Heard,
 ) -> (State<H>, Outcome)
-    requires small_event { IsSmallEvent (event_of (λ digest. digest.bytes) plain_block plain_finalization event) }
+    requires small_event { IsSmallEvent (event_of (λ digest. digest.bytes) plain_block plain_finalization plain_finalization event) }
     requires small { AreSmall buffer.blocks }
     requires silent { made_in heard.old ≡ nothing_made }
-    ensures { TakesEvent actor buffer pending (event_of (λ digest. digest.bytes) plain_block plain_finalization event) (made_in heard.new) result.0 result.1 }
+    ensures { TakesEvent actor buffer pending (event_of (λ digest. digest.bytes) plain_block plain_finalization plain_finalization event) (made_in heard.new) result.0 result.1 }
 {
     let mut buffer = buffer;
     // What earlier lines sent was told with them.
@@ -531,9 +600,7 @@ fn step<H: Holds<StandardBlocks, Finalization = MockFinalization>>(
 }
 
 // Why a life ended, and what is left of its stores.
-fn parts_of<H: Holds<StandardBlocks, Finalization = MockFinalization>>(
-    ended: Ended<StandardBlocks, H>,
-) -> (Fault<Sha256Digest>, Left<H>)
+fn parts_of<H: ScriptHolds>(ended: Ended<StandardBlocks, H>) -> (Fault<Sha256Digest>, Left<H>)
     ensures { ended ≡ record { fault = plain_fault result.0; remains = result.1 } }
 {
     let Ended { fault, ruins } = ended;
@@ -541,7 +608,7 @@ fn parts_of<H: Holds<StandardBlocks, Finalization = MockFinalization>>(
 }
 
 // Opens a life over what is left of stores.
-fn open<H: Holds<StandardBlocks, Finalization = MockFinalization>>(
+fn open<H: ScriptHolds>(
     alloc: Global,
     settings: Settings,
     left: Left<H>,
@@ -565,7 +632,7 @@ fn open<H: Holds<StandardBlocks, Finalization = MockFinalization>>(
 }
 
 // Opens a life over what is left of stores, from this block.
-fn begin<H: Holds<StandardBlocks, Finalization = MockFinalization>>(
+fn begin<H: ScriptHolds>(
     alloc: Global,
     settings: Settings,
     left: Left<H>,

@@ -15,11 +15,8 @@ ghost use Rattle.mar_script.specs.Text.{output_text, text};
 ghost use Rattle.mar_replay.specs.Turn.{made_in, output_of, remains_in, state_with};
 
 use crate::heard::Heard;
-use crate::play::{Left, Outcome, State, play};
+use crate::play::{Left, Outcome, ScriptHolds, State, play};
 use crate::turn::{Page, push_turn};
-use mar_block::StandardBlocks;
-use mar_cert::MockFinalization;
-use mar_node::Holds;
 use mar_script::{
     Line, MAX_LINES, ScriptReader, Settings, Sink, Source, Status, Why, first_line, next_line,
     write_text,
@@ -35,7 +32,7 @@ pub struct Finished<L> {
 
 /// Reads a script to its end, does its lines one after another, and writes what each makes. All words that ask for it ask
 /// for the same.
-pub fn replay<S: Source, K: Sink, H: Holds<StandardBlocks, Finalization = MockFinalization>>(
+pub fn replay<S: Source, K: Sink, H: ScriptHolds>(
     alloc: Global,
     _words: &[String],
     source: &mut S,
@@ -75,9 +72,7 @@ pub fn replay<S: Source, K: Sink, H: Holds<StandardBlocks, Finalization = MockFi
 }
 
 // What a crash now leaves.
-pub fn left_of<H: Holds<StandardBlocks, Finalization = MockFinalization>>(
-    state: State<H>,
-) -> H::Ruins
+pub fn left_of<H: ScriptHolds>(state: State<H>) -> H::Ruins
     ensures left { H.Ruins.left result ≡ remains_in state }
     ensures hands_back { (asked : List Asked) → HandsBack (state_with asked state) (H.Ruins.left result).ended }
 {
@@ -88,7 +83,7 @@ pub fn left_of<H: Holds<StandardBlocks, Finalization = MockFinalization>>(
 }
 
 // The lines behind the first.
-fn later_lines<S: Source, K: Sink, H: Holds<StandardBlocks, Finalization = MockFinalization>>(
+fn later_lines<S: Source, K: Sink, H: ScriptHolds>(
     alloc: Global,
     settings: Settings,
     reader: &mut ScriptReader,
@@ -131,7 +126,7 @@ fn later_lines<S: Source, K: Sink, H: Holds<StandardBlocks, Finalization = MockF
 }
 
 // Does one line, and writes what it makes. Where no more lines are at hand, all that was written is handed on.
-pub fn turn<K: Sink, H: Holds<StandardBlocks, Finalization = MockFinalization>>(
+pub fn turn<K: Sink, H: ScriptHolds>(
     alloc: Global,
     settings: Settings,
     state: State<H>,
@@ -167,7 +162,7 @@ pub fn turn<K: Sink, H: Holds<StandardBlocks, Finalization = MockFinalization>>(
 }
 
 // Writes what a line made.
-pub fn write_turn<K: Sink, H: Holds<StandardBlocks, Finalization = MockFinalization>>(
+pub fn write_turn<K: Sink, H: ScriptHolds>(
     alloc: Global,
     sink: &mut K,
     page: &mut Page,

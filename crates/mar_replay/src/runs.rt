@@ -13,7 +13,7 @@ use crate::replays::{Finished, replay};
 use mar_block::StandardBlocks;
 use mar_cert::MockFinalization;
 use mar_script::{Sink, Source, Status};
-use mar_shelf::{Blocks, Certificates, LifeCache, Ruins, Stores};
+use mar_shelf::{Blocks, Certificates, LifeNotarizations, Ruins, Stores};
 use mar_store::Meta;
 use std::alloc::Global;
 
@@ -31,7 +31,7 @@ pub fn run<
     FB: Blocks<StandardBlocks>,
     FC: Certificates<StandardBlocks, MockFinalization>,
     M: Meta,
-    H: LifeCache<StandardBlocks, MockFinalization>,
+    H: LifeNotarizations<StandardBlocks, MockFinalization, Notarization = MockFinalization>,
 >(
     _rt: &R,
     alloc: Global,

@@ -6,11 +6,10 @@ ghost use Rattle.mar_script.specs.Text.{line_of, output_text, state_words};
 ghost use Rattle.mar_replay.specs.Turn.{heard_text, made_in, outcome_text, output_of, report_text, state_with};
 
 use crate::heard::Heard;
-use crate::play::{Outcome, State};
+use crate::play::{Outcome, ScriptHolds, State};
 use mar_actor::Update;
 use mar_block::{EmptyBlock, StandardBlocks, Variant};
-use mar_cert::MockFinalization;
-use mar_node::{Holds, StoresRuin};
+use mar_node::StoresRuin;
 use mar_script::{
     RangeTexts, push_answers, push_asks, push_block, push_ended, push_fault, push_node,
     push_remark, push_sends, push_tip,
@@ -40,7 +39,7 @@ impl Page {
 
 /// Appends what a line made: what the application was told, what was asked, what was sent, what callers were answered, a
 /// remark or a fault, and what there is now.
-pub fn push_turn<H: Holds<StandardBlocks, Finalization = MockFinalization>>(
+pub fn push_turn<H: ScriptHolds>(
     alloc: Global,
     text: &mut String,
     ranges: &mut RangeTexts,
@@ -116,7 +115,7 @@ fn push_outcome(alloc: Global, text: &mut String, outcome: Outcome) -> Result<()
     }
 }
 
-fn push_state<H: Holds<StandardBlocks, Finalization = MockFinalization>>(
+fn push_state<H: ScriptHolds>(
     alloc: Global,
     text: &mut String,
     ranges: &mut RangeTexts,

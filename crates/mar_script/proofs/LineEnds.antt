@@ -9,7 +9,7 @@ use Rattle.std.proofs.lemmas.List.Elements.{All-append, All-cons, All-contains, 
 use Rattle.hex.specs.Hex.{IsBytes, encode_lower, encode_with, hex_digit_value, lower_digits}
 use Rattle.hex.proofs.HexLemmas.{IsDigits-lower_digits}
 use Rattle.mar_types.specs.Varint.{IsNumber}
-use Rattle.mar_node.specs.Messages.{Identifier, Peers, certify, get_anchor, get_block, get_finalization, get_info, get_processed, get_verified, latest, of_digest, of_height, prepared, proposed, report_finalization, verified}
+use Rattle.mar_node.specs.Messages.{Identifier, Peers, certify, get_anchor, get_block, get_finalization, get_info, get_processed, get_verified, latest, of_digest, of_height, prepared, proposed, report_certification, report_finalization, report_notarization, verified}
 use Rattle.mar_node.specs.Faults.{StoreName, block_store, cache_store, cert_store, from_genesis, meta_store}
 use Rattle.mar_types.specs.Round.{Round}
 use Rattle.mar_cert.specs.Block.{Block}
@@ -107,6 +107,8 @@ words_inner : (n : ℕ) (l : Line) → n < 2 ^ 64 → IsBuilt l → HasValues n 
 words_inner n (open_line (from_genesis b)) wide built values = (by_test (codes "open") refl, (by_test (codes "genesis") refl, (hex_inner b.encoded (block_is_bytes b values), tt)))
 words_inner n (buffer_line b) wide built values = (by_test (codes "buffer") refl, (hex_inner b.encoded (block_is_bytes b values), tt))
 words_inner n (tell_line (report_finalization f)) wide built values = (by_test (codes "final") refl, (hex_inner (finalization_bytes f) (finalization_is_bytes n f wide values), tt))
+words_inner n (tell_line (report_notarization f)) wide built values = (by_test (codes "notar") refl, (hex_inner (finalization_bytes f) (finalization_is_bytes n f wide values), tt))
+words_inner n (tell_line (report_certification f)) wide built values = (by_test (codes "certn") refl, (hex_inner (finalization_bytes f) (finalization_is_bytes n f wide values), tt))
 words_inner n (tell_line (get_info i)) wide built values = (by_test (codes "info") refl, (identifier_inner i values, tt))
 words_inner n (tell_line (get_block i)) wide built values = (by_test (codes "block") refl, (identifier_inner i values, tt))
 words_inner n (tell_line (get_finalization h)) wide built values = (by_test (codes "finalization") refl, (decimal_inner h values, tt))

@@ -8,7 +8,7 @@ use Rattle.mar_types.specs.Round.{Round}
 use Rattle.mar_cert.specs.Block.{Block}
 use Rattle.mar_cert.specs.Finalization.{finalization_bytes}
 use Rattle.mar_node.specs.Faults.{StoreName, block_store, cache_store, cert_store, from_genesis, meta_store}
-use Rattle.mar_node.specs.Messages.{Peers, certify, get_anchor, get_block, get_finalization, get_info, get_processed, get_verified, prepared, proposed, report_finalization, verified}
+use Rattle.mar_node.specs.Messages.{Peers, certify, get_anchor, get_block, get_finalization, get_info, get_processed, get_verified, prepared, proposed, report_certification, report_finalization, report_notarization, verified}
 use Rattle.mar_node.specs.Views.{store_name_of}
 use Rattle.mar_node.specs.declared.StoreName.{StoreName as StoreNameCode}
 use Rattle.mar_node.specs.declared.StoreName.TheVariants as code
@@ -32,6 +32,8 @@ named_kind : (k : Kind) → named kinds (first_word k) ≡ Some k
 named_kind kind.Open = refl
 named_kind kind.Buffer = refl
 named_kind kind.Final = refl
+named_kind kind.Notar = refl
+named_kind kind.Certn = refl
 named_kind kind.Info = refl
 named_kind kind.Block = refl
 named_kind kind.Finalization = refl
@@ -60,6 +62,8 @@ unfolding line_bytes
 kind_spells n kind.Open rest l of = spelled n (codes "open") rest l of (λ b is. (tt, is)) (λ b. refl)
 kind_spells n kind.Buffer rest l of = spelled n (codes "buffer") rest l of (λ b is. (tt, is)) (λ b. refl)
 kind_spells n kind.Final rest l of = spelled n (codes "final") rest l of (λ f is. (tt, is)) (λ f. refl)
+kind_spells n kind.Notar rest l of = spelled n (codes "notar") rest l of (λ f is. (tt, is)) (λ f. refl)
+kind_spells n kind.Certn rest l of = spelled n (codes "certn") rest l of (λ f is. (tt, is)) (λ f. refl)
 kind_spells n kind.Info rest l of = spelled n (codes "info") rest l of (λ i is. (tt, is)) (λ i. refl)
 kind_spells n kind.Block rest l of = spelled n (codes "block") rest l of (λ i is. (tt, is)) (λ i. refl)
 kind_spells n kind.Finalization rest l of = spelled n (codes "finalization") rest l of (λ h is. (tt, is)) (λ h. refl)
@@ -91,6 +95,8 @@ unfolding line_bytes
 kind_of n bytes (open_line (from_genesis b)) s = inl (of_kind kind.Open (codes "genesis" ++ 32 ∷ hex b.encoded) s.spelled (of_value b s.values))
 kind_of n bytes (buffer_line b) s = inl (of_kind kind.Buffer (hex b.encoded) s.spelled (of_value b s.values))
 kind_of n bytes (tell_line (report_finalization f)) s = inl (of_kind kind.Final (hex (finalization_bytes f)) s.spelled (of_value f s.values))
+kind_of n bytes (tell_line (report_notarization f)) s = inl (of_kind kind.Notar (hex (finalization_bytes f)) s.spelled (of_value f s.values))
+kind_of n bytes (tell_line (report_certification f)) s = inl (of_kind kind.Certn (hex (finalization_bytes f)) s.spelled (of_value f s.values))
 kind_of n bytes (tell_line (get_info i)) s = inl (of_kind kind.Info (identifier_text i) s.spelled (of_value i s.values))
 kind_of n bytes (tell_line (get_block i)) s = inl (of_kind kind.Block (identifier_text i) s.spelled (of_value i s.values))
 kind_of n bytes (tell_line (get_finalization h)) s = inl (of_kind kind.Finalization (decimal h) s.spelled (of_value h s.values))

@@ -7,7 +7,7 @@ use Rattle.mar_types.specs.Round.{Round}
 use Rattle.mar_cert.specs.Block.{Block}
 use Rattle.mar_cert.specs.Finalization.{finalization_bytes}
 use Rattle.mar_store.specs.Sizes.{IsSmall}
-use Rattle.mar_node.specs.Messages.{certify, get_anchor, get_block, get_finalization, get_info, get_processed, get_verified, prepared, proposed, report_finalization, verified}
+use Rattle.mar_node.specs.Messages.{certify, get_anchor, get_block, get_finalization, get_info, get_processed, get_verified, prepared, proposed, report_certification, report_finalization, report_notarization, verified}
 use Rattle.mar_node.specs.Faults.{from_genesis}
 use Rattle.mar_script.specs.Lines.{round_block_text, sent_block_text}
 use Rattle.mar_script.specs.Plays.{IsSmallLine}
@@ -45,6 +45,8 @@ unfolding line_bytes
 small_line n (open_line (from_genesis b)) is = small_word (codes "open genesis") b.encoded is.short
 small_line n (buffer_line b) is = small_word (codes "buffer") b.encoded is.short
 small_line n (tell_line (report_finalization f)) is = small_word (codes "final") (finalization_bytes f) is.short
+small_line n (tell_line (report_notarization f)) is = small_word (codes "notar") (finalization_bytes f) is.short
+small_line n (tell_line (report_certification f)) is = tt
 small_line n (tell_line (get_info i)) is = tt
 small_line n (tell_line (get_block i)) is = tt
 small_line n (tell_line (get_finalization h)) is = tt

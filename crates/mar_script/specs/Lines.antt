@@ -22,7 +22,7 @@ use Rattle.mar_block.specs.Sent.{sending}
 use Rattle.mar_block.specs.declared.recipients.Sent.{Sent as SentCode}
 use Rattle.mar_inbox.specs.Views.{peers_of, query_of, sent_of}
 use Rattle.mar_node.specs.Answers.{Sent}
-use Rattle.mar_node.specs.Messages.{Peers, certify, get_anchor, get_block, get_finalization, get_info, get_processed, get_verified, prepared, proposed, report_finalization, verified}
+use Rattle.mar_node.specs.Messages.{Peers, certify, get_anchor, get_block, get_finalization, get_info, get_processed, get_verified, prepared, proposed, report_certification, report_finalization, report_notarization, verified}
 use Rattle.mar_node.specs.Faults.{StoreName, from_genesis}
 use Rattle.mar_node.specs.Views.{store_name_of}
 use Rattle.mar_node.specs.declared.StoreName.{StoreName as StoreNameCode}
@@ -51,6 +51,8 @@ abbrev pub plain_line : LineCode → Line
 plain_line (line.OpenGenesis b) = open_line (from_genesis (plain_block b))
 plain_line (line.Buffer b) = buffer_line (plain_block b)
 plain_line (line.Final f) = tell_line (report_finalization (plain_finalization f))
+plain_line (line.Notar f) = tell_line (report_notarization (plain_finalization f))
+plain_line (line.Certn f) = tell_line (report_certification (plain_finalization f))
 plain_line (line.Query q) = tell_line (query_of (λ digest. digest.bytes) q)
 plain_line (line.Verified v) = tell_line (verified v.round (plain_block v.block))
 plain_line (line.Certified v) = tell_line (certify v.round (plain_block v.block))
@@ -89,6 +91,8 @@ abbrev pub first_word : Kind → List ℕ
 first_word kind.Open = codes "open"
 first_word kind.Buffer = codes "buffer"
 first_word kind.Final = codes "final"
+first_word kind.Notar = codes "notar"
+first_word kind.Certn = codes "certn"
 first_word kind.Info = codes "info"
 first_word kind.Block = codes "block"
 first_word kind.Finalization = codes "finalization"
@@ -138,6 +142,8 @@ abbrev pub Behind : ℕ → Kind → List ℕ → Line → Type 0
 Behind n kind.Open = MadeOf (λ b. open_line (from_genesis b)) IsBlock (λ b. codes "genesis" ++ 32 ∷ hex b.encoded)
 Behind n kind.Buffer = MadeOf buffer_line IsBlock (λ b. hex b.encoded)
 Behind n kind.Final = MadeOf (λ f. tell_line (report_finalization f)) (IsFinalization n) (λ f. hex (finalization_bytes f))
+Behind n kind.Notar = MadeOf (λ f. tell_line (report_notarization f)) (IsFinalization n) (λ f. hex (finalization_bytes f))
+Behind n kind.Certn = MadeOf (λ f. tell_line (report_certification f)) (IsFinalization n) (λ f. hex (finalization_bytes f))
 Behind n kind.Info = MadeOf (λ i. tell_line (get_info i)) IsIdentifier identifier_text
 Behind n kind.Block = MadeOf (λ i. tell_line (get_block i)) IsIdentifier identifier_text
 Behind n kind.Finalization = MadeOf (λ h. tell_line (get_finalization h)) IsNumber decimal

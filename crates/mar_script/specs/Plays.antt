@@ -5,7 +5,7 @@ use Rattle.mar_types.specs.Epochs.{IsPartition}
 use Rattle.mar_cert.specs.Block.{Block}
 use Rattle.mar_cert.specs.Finalization.{Finalization, finalization_bytes}
 use Rattle.mar_store.specs.Sizes.{IsSmall}
-use Rattle.mar_node.specs.Messages.{certify, proposed, report_finalization, verified}
+use Rattle.mar_node.specs.Messages.{certify, proposed, report_finalization, report_notarization, verified}
 use Rattle.mar_node.specs.Acks.{mark_dropped}
 use Rattle.mar_node.specs.Cached.{Cached, cached_block}
 use Rattle.mar_node.specs.Chain.{Chain, IsBlockAt, IsLawful}
@@ -26,11 +26,11 @@ abbrev pub max_window : ℕ
 max_window = 1024
 
 -- No block was dropped, and the tickets are as few as so many lines can have given: a line hands over at most a window of
--- blocks, and gives at most one ticket of a sync and one of an answer.
+-- blocks, and gives at most two tickets of syncs and one of an answer.
 pub record IsLasting (k : ℕ) (n : Node) : Type 0 where
   pub undropped : AllByRecursion (λ a. a.mark ≡ mark_dropped → ⊥) n.out
   pub tickets : n.next_ack ≤ max_window * k
-  pub sync_tickets : n.next_sync ≤ k
+  pub sync_tickets : n.next_sync ≤ 2 * k
   pub answer_tickets : n.next_answer ≤ k
 
 -- A state behind so many lines: a good node that rests, or what is left good for the chain.
@@ -73,7 +73,7 @@ pub record Plays (config : Config) (chain : Chain) (k : ℕ) (account : Account)
   pub done : LineDone config chain account before line out after
   pub between : IsBetween config chain (k + 1) after
   pub buffered : (b : Block) → Contains (buffer_in after) b → Contains (buffer_in before ++ line_blocks line) b
-  pub cached : (b : Block) → Contains (cached_blocks_in after) b → Contains (cached_blocks_in before ++ line_blocks line) b
+  pub cached : (b : Block) → Contains (cached_blocks_in after) b → Contains (line_blocks line ++ known_in chain before) b
   pub excused : IfSome out.fault IsUsual
 
 -- SIZES
@@ -83,6 +83,7 @@ abbrev pub IsSmallLine : Line → Type 0
 IsSmallLine (open_line (from_genesis b)) = IsSmall b.encoded
 IsSmallLine (buffer_line b) = IsSmall b.encoded
 IsSmallLine (tell_line (report_finalization f)) = IsSmall (finalization_bytes f)
+IsSmallLine (tell_line (report_notarization f)) = IsSmall (finalization_bytes f)
 IsSmallLine (tell_line (verified r b)) = IsSmall b.encoded
 IsSmallLine (tell_line (certify r b)) = IsSmall b.encoded
 IsSmallLine (tell_line (proposed r peers b)) = IsSmall b.encoded

@@ -223,6 +223,8 @@ HasValues n (crash_line luck) = IsNumber luck
 -- The lines that are read today. The others stand in the grammar, and are answered as outside it.
 abbrev pub IsBuiltMessage : Message → Type 0
 IsBuiltMessage (report_finalization f) = ⊤
+IsBuiltMessage (report_notarization f) = ⊤
+IsBuiltMessage (report_certification f) = ⊤
 IsBuiltMessage (get_info id) = ⊤
 IsBuiltMessage (get_block id) = ⊤
 IsBuiltMessage (get_finalization h) = ⊤

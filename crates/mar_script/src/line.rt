@@ -26,6 +26,10 @@ pub enum Line {
     Buffer(EmptyBlock<Sha256>),
     /// Reports a finalization.
     Final(MockFinalization),
+    /// Reports a notarization.
+    Notar(MockFinalization),
+    /// Reports a certification.
+    Certn(MockFinalization),
     /// Asks what stands, under the next answer ticket.
     Query(Query<Sha256Digest>),
     /// A block was verified, under the next answer ticket.
@@ -52,6 +56,8 @@ enum Kind {
     Open,
     Buffer,
     Final,
+    Notar,
+    Certn,
     Info,
     Block,
     Finalization,
@@ -67,10 +73,12 @@ enum Kind {
 }
 
 // The first word of each kind of line.
-const KINDS: [(&[u8], Kind); 15] = [
+const KINDS: [(&[u8], Kind); 17] = [
     (b"open", Kind::Open),
     (b"buffer", Kind::Buffer),
     (b"final", Kind::Final),
+    (b"notar", Kind::Notar),
+    (b"certn", Kind::Certn),
     (b"info", Kind::Info),
     (b"block", Kind::Block),
     (b"finalization", Kind::Finalization),
@@ -143,6 +151,8 @@ fn parse_kind(alloc: Global, members: u32, kind: Kind, rest: &[u8]) -> Result<Li
         Kind::Open => open(alloc, rest),
         Kind::Buffer => block_of(alloc, rest).map(Line::Buffer),
         Kind::Final => finalization_of(alloc, members, rest).map(Line::Final),
+        Kind::Notar => finalization_of(alloc, members, rest).map(Line::Notar),
+        Kind::Certn => finalization_of(alloc, members, rest).map(Line::Certn),
         Kind::Info => identifier(rest).map(Query::Info).map(Line::Query),
         Kind::Block => identifier(rest).map(Query::Block).map(Line::Query),
         Kind::Finalization => height(rest).map(Query::Finalization).map(Line::Query),

@@ -22,6 +22,8 @@ the lines of a script behind its settings, `config` and eight numbers:
   open genesis HEX    begins a life from this block at height zero
   buffer HEX          a block arrives
   final HEX           consensus reports a finalization
+  notar HEX           consensus reports a notarization: it is kept, and so is its block where that is at hand
+  certn HEX           consensus reports a certification: a block that is at hand and its parent are known as certified
   ack T               the application acknowledges the block of ticket T
   sync T              a sync finishes
   info ID             asks for height and digest of a finalized block; ID is hN (a height), dHEX (a digest) or latest

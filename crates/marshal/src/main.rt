@@ -22,7 +22,9 @@ use mar_cache::{CacheEntry, EpochCache, Epochs, KeptEntry, KeyedEntry, Shelf, em
 use mar_cert::MockFinalization;
 use mar_replay::{ScriptRuins, run};
 use mar_script::{Input as InputSource, Output, Sink, Status};
-use mar_shelf::{BlockItem, Blocks, CacheInPlace, CertificateItem, Certificates, LifeCache, Ruins};
+use mar_shelf::{
+    BlockItem, Blocks, CacheInPlace, CertificateItem, Certificates, LifeNotarizations, Ruins,
+};
 use mar_store::{LuckHalf, MemArchive, MemMeta, Meta};
 use std::io::ErrorKind;
 use std::process::ExitCode;
@@ -56,10 +58,9 @@ fn run_words(rt: &(impl AllocGlobal + Input + Print), words: &[String]) -> Statu
 
 /// The same over a cache that keeps such entries. What a cache is made of is put in step by step, since all that a bound
 /// asks for is proved anew wherever it is met at a type with parameters.
-fn run_over_entries<E: KeptEntry<StandardBlocks, MockFinalization> + KeyedEntry>(
-    rt: &(impl AllocGlobal + Input + Print),
-    words: &[String],
-) -> Status
+fn run_over_entries<
+    E: KeptEntry<StandardBlocks, MockFinalization, Notarization = MockFinalization> + KeyedEntry,
+>(rt: &(impl AllocGlobal + Input + Print), words: &[String]) -> Status
     ensures usage { result ≡ Status.Usage ↔ (IsCommand (map string_bytes words.now) → ⊥) }
 {
     run_over_epochs(rt, words, empty_shelf::<E>(rt.alloc()))
@@ -72,7 +73,7 @@ fn run_over_epochs<S: Epochs, M: Meta>(
     cache: EpochCache<S, M>,
 ) -> Status
 where
-    S::Entry: KeptEntry<StandardBlocks, MockFinalization>,
+    S::Entry: KeptEntry<StandardBlocks, MockFinalization, Notarization = MockFinalization>,
     requires kept { kept_of (S.states cache.manager.epochs) (bounds_of (M.current cache.manager.meta)).highest ≡ nothing_kept }
     requires lowest { (bounds_of (M.current cache.manager.meta)).lowest ≡ 0 }
     requires watch { shelf_watch S.keeps cache.manager.alarm (S.calm cache.manager.epochs && (M.watch cache.manager.meta).only_armed)
@@ -83,7 +84,7 @@ where
 }
 
 /// The same over any cache that is new.
-fn run_over_shelf<H: Shelf<StandardBlocks, MockFinalization>>(
+fn run_over_shelf<H: Shelf<StandardBlocks, MockFinalization, Notarization = MockFinalization>>(
     rt: &(impl AllocGlobal + Input + Print),
     words: &[String],
     cache: H,
@@ -97,11 +98,9 @@ fn run_over_shelf<H: Shelf<StandardBlocks, MockFinalization>>(
 }
 
 /// The same over any cache of a life that is new.
-fn run_over_cache<H: LifeCache<StandardBlocks, MockFinalization>>(
-    rt: &(impl AllocGlobal + Input + Print),
-    words: &[String],
-    cache: H,
-) -> Status
+fn run_over_cache<
+    H: LifeNotarizations<StandardBlocks, MockFinalization, Notarization = MockFinalization>,
+>(rt: &(impl AllocGlobal + Input + Print), words: &[String], cache: H) -> Status
     requires kept { (H.held cache).kept ≡ nothing_kept }
     requires lowests { H.lowests cache ≡ 0 ∷ [] }
     requires watch { H.watch cache ≡ fresh_watches.cache }
@@ -119,7 +118,7 @@ fn run_over<
     FB: Blocks<StandardBlocks>,
     FC: Certificates<StandardBlocks, MockFinalization>,
     M: Meta,
-    H: LifeCache<StandardBlocks, MockFinalization>,
+    H: LifeNotarizations<StandardBlocks, MockFinalization, Notarization = MockFinalization>,
 >(
     rt: &(impl AllocGlobal + Input + Print),
     words: &[String],
@@ -168,7 +167,7 @@ fn empty_stores<
     FB: Blocks<StandardBlocks>,
     FC: Certificates<StandardBlocks, MockFinalization>,
     M: Meta,
-    H: LifeCache<StandardBlocks, MockFinalization>,
+    H: LifeNotarizations<StandardBlocks, MockFinalization, Notarization = MockFinalization>,
 >(blocks: FB, certs: FC, meta: M, cache: H) -> ScriptRuins<FB, FC, M, H>
     requires blocks { FB.stored blocks ≡ reopened_store [] }
     requires certs { FC.stored certs ≡ reopened_store [] }

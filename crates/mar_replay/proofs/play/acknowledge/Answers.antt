@@ -8,7 +8,7 @@ use Rattle.mar_replay.proofs.play.acknowledge.Goals as goal
 
 pub returns-then-not-owes_ack : goal.returns-then-not-owes_ack
 returns-then-not-owes_ack g c =
-    rw c.requires.silent (λ config. plays_remark config _ _ remark.Ignored (λ chain account. ack_ignored config chain account c.args.actor c.args.buffer.blocks (between c.args.pending) c.args.ticket _ _ (sym c.owes_ack.ensures ∙ c.if-not-owes_ack.true) (refl, refl)) ArePassed-refl (λ luck. refl))
+    rw c.requires.silent (λ config. plays_remark config _ _ remark.Ignored (λ chain account. ack_ignored config chain account c.args.actor c.args.buffer.blocks (between c.args.actor c.args.pending) c.args.ticket _ _ (sym c.owes_ack.ensures ∙ c.if-not-owes_ack.true) (refl, refl)) ArePassed-refl (λ luck. refl))
 
 pub returns : goal.returns
 returns g c = plays_event c.args.actor c.args.buffer c.args.pending _ _ _ _ _ (acks c.args.ticket) (λ f same. absurd cc) (λ b has. has) (λ before now fault calls. calls) (λ config chain account waiting out s done. ack_done config chain account c.args.actor c.args.buffer.blocks waiting c.args.ticket out s (sym c.owes_ack.ensures ∙ c.if-not-owes_ack.false) done) c.step-state.ensures

@@ -10,7 +10,7 @@ returns-in-Ok g c =
     rw (← c.left.view_is)
     (plays_opening (config_of c.args.settings) _ c.args.luck _ c.in-Ok.actor _ _ _
     (set_node c.args.settings _ c.in-Ok.actor.life.epocher.length (c.in-Ok.ensures.same_life.2 ∙ c.setup.ensures.sizes) (ap (λ e. e.length) c.in-Ok.ensures.same_life.1 ∙ c.setup.ensures.epochs)) c.in-Ok.ensures.watches
-    c.in-Ok.ensures.fresh c.in-Ok.ensures.picked
+    c.in-Ok.ensures.known c.in-Ok.ensures.fresh c.in-Ok.ensures.picked
     (λ chain k lawful. let begun = (rw c.setup.ensures.start at c.in-Ok.ensures.opens) (config_of c.args.settings) chain set (lawful_opening _ chain _ _ k lawful) in (begun.finds, begun.good)) (rw (c.new-buffer.ensures, c.new-requests.ensures) at c.step.ensures))
 
 pub returns-in-Err : goal.returns-in-Err

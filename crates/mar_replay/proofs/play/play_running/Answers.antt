@@ -16,6 +16,12 @@ returns-in-Crash g c = rw (c.requires.silent, c.in-Crash.is, c.crash.ensures) (Î
 pub returns-in-Final : goal.returns-in-Final
 returns-in-Final g c = rw c.in-Final.is c.finalize.ensures
 
+pub returns-in-Notar : goal.returns-in-Notar
+returns-in-Notar g c = rw c.in-Notar.is c.notarize.ensures
+
+pub returns-in-Certn : goal.returns-in-Certn
+returns-in-Certn g c = rw c.in-Certn.is c.note_certification.ensures
+
 pub returns-in-Sync : goal.returns-in-Sync
 returns-in-Sync g c = rw c.in-Sync.is c.finish_sync.ensures
 

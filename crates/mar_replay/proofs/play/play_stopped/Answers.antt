@@ -36,3 +36,9 @@ returns-in-Proposed g c = rw (c.requires.silent, c.in-Proposed.is, c.pass-in-Pro
 
 pub returns-in-Prepared : goal.returns-in-Prepared
 returns-in-Prepared g c = rw (c.requires.silent, c.in-Prepared.is, c.pass-in-Prepared.ensures.state, c.pass-in-Prepared.ensures.outcome) (plays_remark _ _ _ remark.Stopped (λ chain account. (refl, refl)) ArePassed-refl (λ luck. refl))
+
+pub returns-in-Notar : goal.returns-in-Notar
+returns-in-Notar g c = rw (c.requires.silent, c.in-Notar.is, c.pass-in-Notar.ensures.state, c.pass-in-Notar.ensures.outcome) (plays_remark _ _ _ remark.Stopped (λ chain account. (refl, refl)) ArePassed-refl (λ luck. refl))
+
+pub returns-in-Certn : goal.returns-in-Certn
+returns-in-Certn g c = rw (c.requires.silent, c.in-Certn.is, c.pass-in-Certn.ensures.state, c.pass-in-Certn.ensures.outcome) (plays_remark _ _ _ remark.Stopped (λ chain account. (refl, refl)) ArePassed-refl (λ luck. refl))

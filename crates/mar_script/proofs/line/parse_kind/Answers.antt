@@ -16,6 +16,12 @@ returns-in-Buffer c = rw c.in-Buffer.is (line_of _ _ _ _ plain_block line.Buffer
 pub returns-in-Final : goal.returns-in-Final
 returns-in-Final c = rw c.in-Final.is (line_of _ _ _ _ plain_finalization line.Final c.finalization_of.result _ (λ f. refl) c.finalization_of.ensures.is_finalization c.finalization_of.ensures.found c.finalization_of.ensures.only c.map-in-Final.ensures.cases)
 
+pub returns-in-Notar : goal.returns-in-Notar
+returns-in-Notar c = rw c.in-Notar.is (line_of _ _ _ _ plain_finalization line.Notar c.finalization_of-in-Notar.result _ (λ f. refl) c.finalization_of-in-Notar.ensures.is_finalization c.finalization_of-in-Notar.ensures.found c.finalization_of-in-Notar.ensures.only c.map-in-Notar.ensures.cases)
+
+pub returns-in-Certn : goal.returns-in-Certn
+returns-in-Certn c = rw c.in-Certn.is (line_of _ _ _ _ plain_finalization line.Certn c.finalization_of-in-Certn.result _ (λ f. refl) c.finalization_of-in-Certn.ensures.is_finalization c.finalization_of-in-Certn.ensures.found c.finalization_of-in-Certn.ensures.only c.map-in-Certn.ensures.cases)
+
 pub returns-in-Info : goal.returns-in-Info
 returns-in-Info c = rw c.in-Info.is (query_line _ _ _ _ (identifier_of (λ d. d.bytes)) query.Info c.identifier.result c.map-in-Info.result _ (λ i. refl) c.identifier.ensures.is_identifier c.identifier.ensures.found c.identifier.ensures.only c.map-in-Info.ensures.cases c.map-in-Info-2.ensures.cases)
 
