@@ -575,7 +575,9 @@ fn step<H: ScriptHolds>(
     requires small_event { IsSmallEvent (event_of (λ digest. digest.bytes) plain_block plain_finalization plain_finalization event) }
     requires small { AreSmall buffer.blocks }
     requires silent { made_in heard.old ≡ nothing_made }
-    ensures { TakesEvent actor buffer pending (event_of (λ digest. digest.bytes) plain_block plain_finalization plain_finalization event) (made_in heard.new) result.0 result.1 }
+    ensures { TakesEvent actor buffer pending
+        (event_of (λ digest. digest.bytes) plain_block plain_finalization plain_finalization event)
+        (made_in heard.new) result.0 result.1 }
 {
     let mut buffer = buffer;
     // What earlier lines sent was told with them.
