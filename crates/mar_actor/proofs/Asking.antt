@@ -6,20 +6,20 @@ use Rattle.mar_inbox.specs.Views.{message_of, query_of, ticket_of}
 use Rattle.mar_inbox.specs.declared.message.Message.{Message}
 use Rattle.mar_inbox.specs.declared.query.Query.{Query}
 use Rattle.mar_inbox.specs.declared.query.Query.TheVariants as query
-use Rattle.mar_node.specs.Event.{is_query, message_told}
-use Rattle.mar_node.specs.Faults.{Fault}
-use Rattle.mar_node.specs.Held.{Ending, Grew, IsUsual, Loses, Seen, nothing_written, Held}
-use Rattle.mar_node.specs.Moves.{IsRead, LivesOn, syncs_at_most}
-use Rattle.mar_node.specs.Step.{Report}
-use Rattle.mar_node.proofs.Lasting.{EndsLife-usual, IsPart-read, LivesOn-part}
+use Rattle.mar_model.specs.Event.{is_query, message_told}
+use Rattle.mar_model.specs.Faults.{Fault}
+use Rattle.mar_model.specs.Held.{Ending, Grew, IsUsual, Loses, Seen, nothing_written, Held}
+use Rattle.mar_model.specs.Moves.{IsRead, LivesOn, syncs_at_most}
+use Rattle.mar_model.specs.Step.{Report}
+use Rattle.mar_model.proofs.Lasting.{EndsLife-usual, IsPart-read, LivesOn-part}
 use Rattle.mar_actor.specs.Due.{due_fault}
 use Rattle.mar_actor.specs.Told.{tips_of}
 use Rattle.mar_actor.specs.Views.{event_of, message_first, message_sendings, sendings_of, sent_first, told_first, told_of, told_sendings}
 use Rattle.mar_actor.specs.declared.event.Event.{Event as EventCode}
 use Rattle.mar_actor.specs.declared.event.Event.TheVariants as event
 use Rattle.mar_actor.specs.declared.messages.Told.{Told}
-use Rattle.mar_node.specs.Node.{CertifiedCommitment}
-use Rattle.mar_node.specs.Queries.{commitments_found}
+use Rattle.mar_model.specs.Node.{CertifiedCommitment}
+use Rattle.mar_model.specs.Queries.{commitments_found}
 
 module _ {D : Type 0} (digest : D → List ℕ) (t : ℕ) where
   pub asks : (q : Query D) → is_query (message_told (Some t) (query_of digest q)) ≡ true

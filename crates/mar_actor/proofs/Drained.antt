@@ -3,14 +3,14 @@ use Rattle.std.proofs.Common.{◌≡◌, ℕ, List, [], Option, Some, None, opti
 use Rattle.std.specs.List.{cons_option}
 use Rattle.mar_types.specs.Round.{Round}
 use Rattle.mar_store.specs.Changes.{IsNested}
-use Rattle.mar_node.specs.Acks.{Outstanding, after_oldest, dropped_oldest, given_front, given_oldest, mark_given, with_mark}
-use Rattle.mar_node.specs.Event.{round_at}
-use Rattle.mar_node.specs.Held.{Ending, Grew, Held, Loses, Remembered, Seen, WithinWritten, Written, seen, written_prunes}
-use Rattle.mar_node.specs.Metadata.{Pair}
-use Rattle.mar_node.specs.Moves.{DrainsNext, PrunesProcessed, with_processed, processed_prunes, pruned_by, rounds_of}
+use Rattle.mar_model.specs.Acks.{Outstanding, after_oldest, dropped_oldest, given_front, given_oldest, mark_given, with_mark}
+use Rattle.mar_model.specs.Event.{round_at}
+use Rattle.mar_model.specs.Held.{Ending, Grew, Held, Loses, Remembered, Seen, WithinWritten, Written, seen, written_prunes}
+use Rattle.mar_model.specs.Metadata.{Pair}
+use Rattle.mar_model.specs.Moves.{DrainsNext, PrunesProcessed, with_processed, processed_prunes, pruned_by, rounds_of}
 use Rattle.mar_types.specs.Epochs.{Epochs}
-use Rattle.mar_node.proofs.CachePrunes.{PrunesCacheBy-none}
-use Rattle.mar_node.proofs.Growing.{Grew-refl, WithinWritten-refl, WithinWritten-unpaired}
+use Rattle.mar_model.proofs.CachePrunes.{PrunesCacheBy-none}
+use Rattle.mar_model.proofs.Growing.{Grew-refl, WithinWritten-refl, WithinWritten-unpaired}
 
 -- the rounds of the oldest block that is given, where there is one
 pub given_prunes : {P E : Type 0} (a : Seen P E) (o : Outstanding) → given_oldest a.life.out ≡ Some o → pruned_by a.life.sizes.retention a.held.witnessed (option_to_list (round_at a.held.certs.held o.height)) ≡ processed_prunes a (option_to_list (given_oldest a.life.out))

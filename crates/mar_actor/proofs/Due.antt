@@ -2,13 +2,13 @@
 use Rattle.std.proofs.Common.{◌≡◌, ◌⊎◌, inl, inr, ◌^◌, ◌-◌, ◌&&◌, ◌==◌, List, [], ◌∷◌, Bool, true, false, if◌then◌else◌, nat_lt, Option, Some, None, option_map, Result, Ok, Err, IfErr, IsTrue, refl, sym, ◌∙◌, ap, ap₂, eq-eqb, eqb-true}
 use Rattle.mar_cert.specs.Block.{Block}
 use Rattle.mar_key.specs.Processed.{height_of}
-use Rattle.mar_node.specs.Acks.{Mark, Outstanding, after_given, dropped_oldest, mark_dropped, mark_given, mark_waiting}
-use Rattle.mar_node.specs.Faults.{Fault, ack_kind, dropped_ack, dropped_first, height_limit, is_by_value, last_height, ticket_limit}
-use Rattle.mar_node.specs.Held.{Ending, Held, IsArchiveFault, IsUsual, Seen}
-use Rattle.mar_node.specs.Moves.{EndsDropped}
-use Rattle.mar_node.specs.Step.{Report}
-use Rattle.mar_node.proofs.Cutting.{never, usual_from_archive, usual_not_by_value}
-use Rattle.mar_node.proofs.Handing.{Ran}
+use Rattle.mar_model.specs.Acks.{Mark, Outstanding, after_given, dropped_oldest, mark_dropped, mark_given, mark_waiting}
+use Rattle.mar_model.specs.Faults.{Fault, ack_kind, dropped_ack, dropped_first, height_limit, is_by_value, last_height, ticket_limit}
+use Rattle.mar_model.specs.Held.{Ending, Held, IsArchiveFault, IsUsual, Seen}
+use Rattle.mar_model.specs.Moves.{EndsDropped}
+use Rattle.mar_model.specs.Step.{Report}
+use Rattle.mar_model.proofs.Cutting.{never, usual_from_archive, usual_not_by_value}
+use Rattle.mar_model.proofs.Handing.{Ran}
 use Rattle.mar_actor.specs.Due.{EndsWhereDue, storing_due}
 
 -- FAULTS THAT AREN'T BY VALUE

@@ -12,26 +12,26 @@ use Rattle.mar_block.specs.Sent.{Sending, Sends}
 use Rattle.mar_block.specs.declared.recipients.Recipients.{Recipients}
 use Rattle.mar_inbox.specs.Views.{peers_of, sent_by, sent_of}
 use Rattle.mar_key.specs.Keys.{Call}
-use Rattle.mar_node.specs.Answers.{Sent, TicketAnswer, finished_answers, started_value, to, true_value}
-use Rattle.mar_node.specs.Cache.{certified_covers, is_verified_of, notarized_where, verified_at}
-use Rattle.mar_node.specs.Cached.{Cached, notarized_entry, verified_entry}
-use Rattle.mar_node.specs.Event.{message_told, sync_finished}
-use Rattle.mar_node.specs.Faults.{Fault, sync_kind, ticket_limit}
-use Rattle.mar_node.specs.Held.{AreCached, GoesOn, Grew, Held, IsUsual, Loses, Remembered, Written, ended_on, nothing_written, outcome, seen, written_entry}
-use Rattle.mar_node.specs.Messages.{certify, proposed, verified}
-use Rattle.mar_node.specs.Moves.{FinishesCacheSync, KeepsFor, LivesOn}
-use Rattle.mar_node.specs.Node.{CacheSync}
-use Rattle.mar_node.specs.OpenSyncs.{NoneHas, waits_for}
-use Rattle.mar_node.specs.Promise.{KeepsStep, heard_with}
-use Rattle.mar_node.specs.Step.{Report}
-use Rattle.mar_node.specs.Writing.{is_open_sync}
-use Rattle.mar_node.proofs.CacheSyncEvent.{promise-cache_finished, promise-cache_unfinished}
-use Rattle.mar_node.proofs.Cutting.{unkept_plain}
-use Rattle.mar_node.proofs.Growing.{Grew-refl, WithinWritten-refl}
-use Rattle.mar_node.proofs.Handing.{Hears-nothing}
-use Rattle.mar_node.proofs.KeptPromises.{promise-certified, promise-proposed, promise-uncertified, promise-unproposed, promise-unverified, promise-verified}
-use Rattle.mar_node.proofs.Lasting.{EndsLife-unkept, EndsLife-usual, LivesOn-cache_finished, LivesOn-kept}
-use Rattle.mar_node.proofs.OpenSyncs.{waits-none}
+use Rattle.mar_model.specs.Answers.{Sent, TicketAnswer, finished_answers, started_value, to, true_value}
+use Rattle.mar_model.specs.Cache.{certified_covers, is_verified_of, notarized_where, verified_at}
+use Rattle.mar_model.specs.Cached.{Cached, notarized_entry, verified_entry}
+use Rattle.mar_model.specs.Event.{message_told, sync_finished}
+use Rattle.mar_model.specs.Faults.{Fault, sync_kind, ticket_limit}
+use Rattle.mar_model.specs.Held.{AreCached, GoesOn, Grew, Held, IsUsual, Loses, Remembered, Written, ended_on, nothing_written, outcome, seen, written_entry}
+use Rattle.mar_model.specs.Messages.{certify, proposed, verified}
+use Rattle.mar_model.specs.Moves.{FinishesCacheSync, KeepsFor, LivesOn}
+use Rattle.mar_model.specs.Node.{CacheSync}
+use Rattle.mar_model.specs.OpenSyncs.{NoneHas, waits_for}
+use Rattle.mar_model.specs.Promise.{KeepsStep, heard_with}
+use Rattle.mar_model.specs.Step.{Report}
+use Rattle.mar_model.specs.Writing.{is_open_sync}
+use Rattle.mar_model.proofs.CacheSyncEvent.{promise-cache_finished, promise-cache_unfinished}
+use Rattle.mar_model.proofs.Cutting.{unkept_plain}
+use Rattle.mar_model.proofs.Growing.{Grew-refl, WithinWritten-refl}
+use Rattle.mar_model.proofs.Handing.{Hears-nothing}
+use Rattle.mar_model.proofs.KeptPromises.{promise-certified, promise-proposed, promise-uncertified, promise-unproposed, promise-unverified, promise-verified}
+use Rattle.mar_model.proofs.Lasting.{EndsLife-unkept, EndsLife-usual, LivesOn-cache_finished, LivesOn-kept}
+use Rattle.mar_model.proofs.OpenSyncs.{waits-none}
 use Rattle.mar_actor.specs.Due.{EndsWhereDue}
 use Rattle.mar_actor.specs.Kept.{KeepsAndAnswers, SendsFront, kept_value}
 use Rattle.mar_actor.proofs.Sent.{hears_front, hears_one}

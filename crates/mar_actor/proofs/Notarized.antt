@@ -4,24 +4,24 @@ use Rattle.mar_types.specs.Epochs.{Epochs, IsPartition}
 use Rattle.mar_cert.specs.Block.{Block}
 use Rattle.mar_cert.specs.Finalization.{Notarization}
 use Rattle.mar_key.specs.Keys.{Call}
-use Rattle.mar_node.specs.Answers.{Sent, TicketAnswer}
-use Rattle.mar_node.specs.Cache.{is_notarization_of}
-use Rattle.mar_node.specs.Cached.{notarization_entry, Cached}
-use Rattle.mar_node.specs.Event.{message_told}
-use Rattle.mar_node.specs.Faults.{Fault, sync_kind, ticket_limit}
-use Rattle.mar_node.specs.Held.{AreCached, ArePassed, Ending, Held, IsEndedBy, IsUsual, Loses, Remembered, ended_on, outcome, seen, written_entries, GoesOn, Grew, WithinWritten, Written, written_entry}
-use Rattle.mar_node.specs.Messages.{report_notarization}
-use Rattle.mar_node.specs.Moves.{KeepsFor, KeepsNotarization, LivesOnGiving, found_at_hand}
-use Rattle.mar_node.specs.Promise.{KeepsStep, heard_with}
-use Rattle.mar_node.specs.Step.{Report}
-use Rattle.mar_node.proofs.Cutting.{unkept_plain}
-use Rattle.mar_node.proofs.Lasting.{EndsLife-unnotarized, LivesOn-notarized}
-use Rattle.mar_node.proofs.NotarizationEvent.{promise-notarization, promise-unnotarized, promise-unnotarized_block}
+use Rattle.mar_model.specs.Answers.{Sent, TicketAnswer}
+use Rattle.mar_model.specs.Cache.{is_notarization_of}
+use Rattle.mar_model.specs.Cached.{notarization_entry, Cached}
+use Rattle.mar_model.specs.Event.{message_told}
+use Rattle.mar_model.specs.Faults.{Fault, sync_kind, ticket_limit}
+use Rattle.mar_model.specs.Held.{AreCached, ArePassed, Ending, Held, IsEndedBy, IsUsual, Loses, Remembered, ended_on, outcome, seen, written_entries, GoesOn, Grew, WithinWritten, Written, written_entry}
+use Rattle.mar_model.specs.Messages.{report_notarization}
+use Rattle.mar_model.specs.Moves.{KeepsFor, KeepsNotarization, LivesOnGiving, found_at_hand}
+use Rattle.mar_model.specs.Promise.{KeepsStep, heard_with}
+use Rattle.mar_model.specs.Step.{Report}
+use Rattle.mar_model.proofs.Cutting.{unkept_plain}
+use Rattle.mar_model.proofs.Lasting.{EndsLife-unnotarized, LivesOn-notarized}
+use Rattle.mar_model.proofs.NotarizationEvent.{promise-notarization, promise-unnotarized, promise-unnotarized_block}
 use Rattle.mar_actor.specs.Due.{EndsWhereDue}
 use Rattle.mar_actor.specs.Kept.{KeepsReport, LosesReport, notarized_found}
 use Rattle.std.proofs.lemmas.List.Elements.{Contains-append_left, Contains-append_right}
 use Rattle.mar_store.specs.Changes.{IsNested}
-use Rattle.mar_node.proofs.Growing.{Grew-refl}
+use Rattle.mar_model.proofs.Growing.{Grew-refl}
 
 -- WHAT ITS CALLS WROTE
 

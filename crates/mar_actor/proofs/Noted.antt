@@ -4,9 +4,9 @@ use Rattle.std.proofs.Math.Bool.{and-false, or-false, or_assoc}
 use Rattle.std.proofs.lemmas.Bool.Decides.{nat_tests}
 use Rattle.std.proofs.lemmas.List.Folds.{list_any-append}
 use Rattle.std.specs.Prelude.{bytes_eq, nat_le}
-use Rattle.mar_node.specs.Answers.{is_known as is_among}
-use Rattle.mar_node.specs.Node.{CertifiedCommitment}
-use Rattle.mar_node.specs.Queries.{Learns}
+use Rattle.mar_model.specs.Answers.{is_known as is_among}
+use Rattle.mar_model.specs.Node.{CertifiedCommitment}
+use Rattle.mar_model.specs.Queries.{Learns}
 use Rattle.mar_parts.specs.Certified.{Certified, is_known, known_list}
 use Rattle.mar_parts.proofs.KnownList.{known_list-is, masked-is}
 use Rattle.mar_actor.specs.Known.{TakesNote, known_above}

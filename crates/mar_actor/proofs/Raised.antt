@@ -1,12 +1,12 @@
 -- Calls over the stores of a life, one after another.
 use Rattle.std.proofs.Common.{◌≡◌, ◌⊎◌, ◌∙◌, inl, inr, ℕ, List, Option, Result, Ok, Err, OnOk, true, ap, subst, sym}
-use Rattle.mar_node.specs.Faults.{Fault, ack_kind, ticket_limit, want_of_memory}
-use Rattle.mar_node.specs.Held.{AreWritten, Held, IsArchiveFault, IsNoStores, MakesSure, Remembered, Seen, outcome, seen}
-use Rattle.mar_node.specs.Metadata.{Pair}
-use Rattle.mar_node.specs.Moves.{FinishesSync, IsRead, LivesOnGiving}
-use Rattle.mar_node.specs.Step.{Report}
-use Rattle.mar_node.proofs.Handing.{Ran}
-use Rattle.mar_node.specs.Writing.{with_finished}
+use Rattle.mar_model.specs.Faults.{Fault, ack_kind, ticket_limit, want_of_memory}
+use Rattle.mar_model.specs.Held.{AreWritten, Held, IsArchiveFault, IsNoStores, MakesSure, Remembered, Seen, outcome, seen}
+use Rattle.mar_model.specs.Metadata.{Pair}
+use Rattle.mar_model.specs.Moves.{FinishesSync, IsRead, LivesOnGiving}
+use Rattle.mar_model.specs.Step.{Report}
+use Rattle.mar_model.proofs.Handing.{Ran}
+use Rattle.mar_model.specs.Writing.{with_finished}
 
 -- THE RULES END THE LIFE
 

@@ -8,28 +8,28 @@ use Rattle.mar_key.specs.Hears.{Hears}
 use Rattle.mar_key.specs.Keys.{Call}
 use Rattle.mar_key.specs.Processed.{height_of}
 use Rattle.mar_store.specs.Changes.{IsNested}
-use Rattle.mar_node.specs.Event.{message_told}
-use Rattle.mar_node.specs.Faults.{Fault, height_limit, want_of_memory}
-use Rattle.mar_node.specs.Cached.{finalization_entry}
-use Rattle.mar_node.specs.Held.{AreCached, ArePassed, Ending, GoesOn, Grew, Held, IsArchiveFault, IsUsual, Loses, Remembered, Seen, WithinWritten, Written, ended_on, nothing_written, outcome, seen, written_cert, written_entry}
-use Rattle.mar_node.specs.Lives.{later_round}
-use Rattle.mar_node.specs.Messages.{report_finalization}
-use Rattle.mar_node.specs.Moves.{CachesFinalization, CachesReport, EndsLife, HearsUpTo, LivesOn, PrunesCacheBy, RaisesTo, StoresLate, at_height, found_at_hand, lacks_finalization, late_tips, pruned_by, tip_reports, with_cache_of}
-use Rattle.mar_node.specs.Promise.{KeepsPromise, heard_by}
-use Rattle.mar_node.specs.Requests.{raise_asks, want_asks}
-use Rattle.mar_node.specs.Step.{Report}
-use Rattle.mar_node.proofs.EventPromises.{promise-absent}
-use Rattle.mar_node.proofs.CacheOver.{found_cached}
-use Rattle.mar_node.proofs.Growing.{Grew-refl, WithinWritten-entry, WithinWritten-nothing, WithinWritten-refl, WithinWritten-uncached}
-use Rattle.mar_node.proofs.Lasting.{EndsLife-other, IsPart, IsPart-raised, IsPart-read, IsPart-synced, IsPart-then, LivesOn-goes, LivesOn-read, LivesOn-then, parts_late}
-use Rattle.mar_node.proofs.Passing.{ArePassed-refl}
-use Rattle.mar_node.proofs.ProgressPromises.{promise-noted}
-use Rattle.mar_node.proofs.StoreLosses.{Loses-nothing}
+use Rattle.mar_model.specs.Event.{message_told}
+use Rattle.mar_model.specs.Faults.{Fault, height_limit, want_of_memory}
+use Rattle.mar_model.specs.Cached.{finalization_entry}
+use Rattle.mar_model.specs.Held.{AreCached, ArePassed, Ending, GoesOn, Grew, Held, IsArchiveFault, IsUsual, Loses, Remembered, Seen, WithinWritten, Written, ended_on, nothing_written, outcome, seen, written_cert, written_entry}
+use Rattle.mar_model.specs.Lives.{later_round}
+use Rattle.mar_model.specs.Messages.{report_finalization}
+use Rattle.mar_model.specs.Moves.{CachesFinalization, CachesReport, EndsLife, HearsUpTo, LivesOn, PrunesCacheBy, RaisesTo, StoresLate, at_height, found_at_hand, lacks_finalization, late_tips, pruned_by, tip_reports, with_cache_of}
+use Rattle.mar_model.specs.Promise.{KeepsPromise, heard_by}
+use Rattle.mar_model.specs.Requests.{raise_asks, want_asks}
+use Rattle.mar_model.specs.Step.{Report}
+use Rattle.mar_model.proofs.EventPromises.{promise-absent}
+use Rattle.mar_model.proofs.CacheOver.{found_cached}
+use Rattle.mar_model.proofs.Growing.{Grew-refl, WithinWritten-entry, WithinWritten-nothing, WithinWritten-refl, WithinWritten-uncached}
+use Rattle.mar_model.proofs.Lasting.{EndsLife-other, IsPart, IsPart-raised, IsPart-read, IsPart-synced, IsPart-then, LivesOn-goes, LivesOn-read, LivesOn-then, parts_late}
+use Rattle.mar_model.proofs.Passing.{ArePassed-refl}
+use Rattle.mar_model.proofs.ProgressPromises.{promise-noted}
+use Rattle.mar_model.proofs.StoreLosses.{Loses-nothing}
 use Rattle.mar_actor.specs.Due.{EndsWhereDue, storing_due}
 use Rattle.mar_rules.specs.Noted.{noted_pair}
 use Rattle.mar_actor.specs.Told.{TellsInOrder, finalized_tips}
 use Rattle.mar_actor.proofs.Due.{EndsWhereDue-usual, storing_due-low}
-use Rattle.mar_node.proofs.Outcomes.{memory-loses, memory-usual, outcome-both, outcome-err, outcome-ok, outcome-on_err, outcome-on_ok}
+use Rattle.mar_model.proofs.Outcomes.{memory-loses, memory-usual, outcome-both, outcome-err, outcome-ok, outcome-on_err, outcome-on_ok}
 use Rattle.mar_actor.proofs.Told.{TellsInOrder-nothing, TellsInOrder-tips, finalized_tips-above, finalized_tips-low}
 
 -- SINCE THE STORES THAT A CALL BEGAN WITH

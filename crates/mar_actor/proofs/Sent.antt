@@ -9,8 +9,8 @@ use Rattle.mar_block.specs.declared.recipients.Recipients.{Recipients}
 use Rattle.mar_block.specs.declared.recipients.Recipients.TheVariants.{All, Some as Given}
 use Rattle.mar_inbox.specs.Views.{peers_named, peers_of, sent_by, sent_of}
 use Rattle.mar_key.specs.Hears.{Hears}
-use Rattle.mar_node.specs.Step.{IsFront}
-use Rattle.mar_node.proofs.Handing.{Hears-nothing}
+use Rattle.mar_model.specs.Step.{IsFront}
+use Rattle.mar_model.proofs.Handing.{Hears-nothing}
 use Rattle.mar_actor.specs.Kept.{SendsFront}
 
 -- more was sent

@@ -2,11 +2,11 @@
 use Rattle.std.proofs.Common.{List, Ok, [], ◌∷◌, ℕ}
 use Rattle.mar_types.specs.Epochs.{Epochs}
 use Rattle.mar_cert.specs.Block.{Block}
-use Rattle.mar_node.specs.Event.{Event, ack_dropped, ack_given, block_buffered, buffer_ended, life_started, message_told, peer_answered, serve_ended, sync_finished}
-use Rattle.mar_node.specs.Held.{Held, Remembered, Seen, seen}
-use Rattle.mar_node.specs.Moves.{KeepsTakenUp}
-use Rattle.mar_node.specs.Node.{CertifiedCommitment}
-use Rattle.mar_node.specs.Promise.{Heard, KeepsPromise}
+use Rattle.mar_model.specs.Event.{Event, ack_dropped, ack_given, block_buffered, buffer_ended, life_started, message_told, peer_answered, serve_ended, sync_finished}
+use Rattle.mar_model.specs.Held.{Held, Remembered, Seen, seen}
+use Rattle.mar_model.specs.Moves.{KeepsTakenUp}
+use Rattle.mar_model.specs.Node.{CertifiedCommitment}
+use Rattle.mar_model.specs.Promise.{Heard, KeepsPromise}
 
 module _ {P E : Type 0} (held : Held) (life : Remembered P E) (certified : List CertifiedCommitment) where
   abbrev knowing : Seen P E

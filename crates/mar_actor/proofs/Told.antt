@@ -4,10 +4,10 @@ use Rattle.mar_cert.specs.Block.{Block}
 use Rattle.mar_cert.specs.Finalization.{Finalization}
 use Rattle.mar_key.specs.Hears.{Hears}
 use Rattle.mar_key.specs.Processed.{height_of}
-use Rattle.mar_node.specs.Held.{Ending, Seen}
-use Rattle.mar_node.specs.Moves.{handed_report, lacks_finalization, late_tips, tip_reports}
-use Rattle.mar_node.specs.Step.{HandedBlock, Report}
-use Rattle.mar_node.proofs.Handing.{Hears-nothing, Hears-then, Ran}
+use Rattle.mar_model.specs.Held.{Ending, Seen}
+use Rattle.mar_model.specs.Moves.{handed_report, lacks_finalization, late_tips, tip_reports}
+use Rattle.mar_model.specs.Step.{HandedBlock, Report}
+use Rattle.mar_model.proofs.Handing.{Hears-nothing, Hears-then, Ran}
 use Rattle.mar_actor.specs.Told.{TellsInOrder, finalized_tips}
 
 -- nothing was told before the end

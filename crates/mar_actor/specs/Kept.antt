@@ -1,15 +1,15 @@
 -- What is kept for a caller, and what that one is answered; and what may have been sent where it isn't.
 use Rattle.std.specs.Prelude.{Bool, List, None, Option, Some, [], ℕ, ◌++◌, ◌∷◌, ◌≡◌, ◌⊎◌}
 use Rattle.mar_block.specs.Sent.{Sending, Sends}
-use Rattle.mar_node.specs.Answers.{TicketAnswer, Value, sync_value, to, true_value}
+use Rattle.mar_model.specs.Answers.{TicketAnswer, Value, sync_value, to, true_value}
 use Rattle.mar_types.specs.Round.{Round}
 use Rattle.mar_cert.specs.Block.{Block}
 use Rattle.mar_cert.specs.Finalization.{Notarization}
-use Rattle.mar_node.specs.Cache.{is_notarization_of, notarized_where}
-use Rattle.mar_node.specs.Cached.{Cached, notarization_entry}
-use Rattle.mar_node.specs.Held.{Ending, Held, Loses, written_entries, written_entry}
-use Rattle.mar_node.specs.Moves.{KeepsFor, KeepsFound, found_at_hand, is_verified_in}
-use Rattle.mar_node.specs.Step.{IsFront}
+use Rattle.mar_model.specs.Cache.{is_notarization_of, notarized_where}
+use Rattle.mar_model.specs.Cached.{Cached, notarization_entry}
+use Rattle.mar_model.specs.Held.{Ending, Held, Loses, written_entries, written_entry}
+use Rattle.mar_model.specs.Moves.{KeepsFor, KeepsFound, found_at_hand, is_verified_in}
+use Rattle.mar_model.specs.Step.{IsFront}
 
 -- the sync to wait for, or that there is none
 abbrev pub kept_value : Option ℕ → Value

@@ -1,8 +1,8 @@
 -- The commitments that a life knows as certified, and what it takes note of.
 use Rattle.std.specs.Prelude.{List, filter, min, nat_lt, ℕ, ◌+◌, ◌-◌, ◌<◌, ◌^◌, ◌||◌, ◌≡◌}
-use Rattle.mar_node.specs.Answers.{is_known as is_among}
-use Rattle.mar_node.specs.Held.{Held, Remembered, Seen}
-use Rattle.mar_node.specs.Node.{CertifiedCommitment}
+use Rattle.mar_model.specs.Answers.{is_known as is_among}
+use Rattle.mar_model.specs.Held.{Held, Remembered, Seen}
+use Rattle.mar_model.specs.Node.{CertifiedCommitment}
 use Rattle.mar_parts.specs.Certified.{Certified, is_known, known_list}
 
 -- those above a tip

@@ -9,17 +9,17 @@ use Rattle.mar_types.specs.Round.{Round}
 use Rattle.mar_block.specs.declared.recipients.Recipients.{Recipients}
 use Rattle.mar_inbox.specs.declared.Message.{Message}
 use Rattle.mar_inbox.specs.declared.Message.TheVariants as message
-use Rattle.mar_node.specs.Messages.{certify, prepared, proposed, report_certification, report_finalization, report_notarization, verified}
-use Rattle.mar_node.specs.Event.{Event, life_started, message_told, sync_finished, ack_given}
-use Rattle.mar_node.specs.Faults.{Begin, from_genesis}
-use Rattle.mar_node.specs.Step.{Report, new_tip, handed_over}
+use Rattle.mar_model.specs.Messages.{certify, prepared, proposed, report_certification, report_finalization, report_notarization, verified}
+use Rattle.mar_model.specs.Event.{Event, life_started, message_told, sync_finished, ack_given}
+use Rattle.mar_model.specs.Faults.{Begin, from_genesis}
+use Rattle.mar_model.specs.Step.{Report, new_tip, handed_over}
 use Rattle.mar_actor.specs.declared.event.Event.{Event as EventCode}
 use Rattle.mar_actor.specs.declared.event.Event.TheVariants as event
 use Rattle.mar_actor.specs.declared.messages.Told.{Told}
 use Rattle.mar_actor.specs.declared.messages.Told.TheVariants as told
 use Rattle.mar_actor.specs.declared.reporter.Update.{Update}
 use Rattle.mar_actor.specs.declared.reporter.Update.TheVariants as update
-use Rattle.mar_node.specs.Held.{Sizes}
+use Rattle.mar_model.specs.Held.{Sizes}
 use Rattle.mar_actor.specs.declared.settings.Config.{Config}
 use Rattle.mar_actor.specs.declared.settings.Limits.{Limits}
 use Rattle.mar_actor.specs.declared.settings.Start.{Start}

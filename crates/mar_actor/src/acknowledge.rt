@@ -1,14 +1,14 @@
 //! Acknowledgements, and what they let go.
 ghost use Rattle.std.specs.Prelude.{◌≡◌, ◌⊎◌, ◌∷◌, [], IfErr, IfOk, List, option_to_list, true};
-ghost use Rattle.mar_node.specs.Acks.{given_front, given_oldest, mark_given, with_mark};
+ghost use Rattle.mar_model.specs.Acks.{given_front, given_oldest, mark_given, with_mark};
 ghost use Rattle.mar_store.specs.Changes.{IsNested};
 ghost use Rattle.mar_cert.specs.Block.{Block};
-ghost use Rattle.mar_node.specs.Event.{ack_given};
-ghost use Rattle.mar_node.specs.Promise.{KeepsPromise, heard_by};
-ghost use Rattle.mar_node.specs.Held.{AreCached, GoesOn, IsUsual, ended_on, outcome, seen, written_prunes};
-ghost use Rattle.mar_node.specs.Moves.{Drains, DrainsNext, EndsDropped, EndsOldest, HearsUpTo, LivesOn, processed_prunes};
-ghost use Rattle.mar_node.specs.Requests.{retire_asks};
-ghost use Rattle.mar_node.specs.Views.{fault_of};
+ghost use Rattle.mar_model.specs.Event.{ack_given};
+ghost use Rattle.mar_model.specs.Promise.{KeepsPromise, heard_by};
+ghost use Rattle.mar_model.specs.Held.{AreCached, GoesOn, IsUsual, ended_on, outcome, seen, written_prunes};
+ghost use Rattle.mar_model.specs.Moves.{Drains, DrainsNext, EndsDropped, EndsOldest, HearsUpTo, LivesOn, processed_prunes};
+ghost use Rattle.mar_model.specs.Requests.{retire_asks};
+ghost use Rattle.mar_model.specs.Views.{fault_of};
 ghost use Rattle.mar_actor.specs.Due.{EndsWhereDue, dropping_due};
 ghost use Rattle.mar_actor.specs.Told.{TellsInOrder};
 
@@ -17,7 +17,7 @@ use crate::life::Life;
 use crate::reporter::Reporter;
 use mar_block::Variant;
 use mar_key::Resolver;
-use mar_node::{Fault, Holds};
+use mar_model::{Fault, Holds};
 use mar_parts::Oldest;
 use mar_rules::process;
 use mar_types::Epocher;

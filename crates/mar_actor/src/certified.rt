@@ -1,15 +1,15 @@
 //! Commitments that a life knows as certified.
 ghost use Rattle.std.specs.Prelude.{◌≡◌, ◌∷◌, ◌+◌, ◌<◌, ◌≤◌, List, ℕ, [], IfErr, OnOk};
-ghost use Rattle.mar_node.specs.Answers.{own_and_parent, own_commitment, parent_commitment};
-ghost use Rattle.mar_node.specs.Held.{GoesOn, IsUsual, nothing_written};
-ghost use Rattle.mar_node.specs.Moves.{found_at_hand};
-ghost use Rattle.mar_node.specs.Views.{fault_of};
+ghost use Rattle.mar_model.specs.Answers.{own_and_parent, own_commitment, parent_commitment};
+ghost use Rattle.mar_model.specs.Held.{GoesOn, IsUsual, nothing_written};
+ghost use Rattle.mar_model.specs.Moves.{found_at_hand};
+ghost use Rattle.mar_model.specs.Views.{fault_of};
 ghost use Rattle.mar_parts.specs.Certified.{is_known};
 ghost use Rattle.mar_actor.specs.Known.{TakesNote, least_above};
 
 use mar_block::{Buffer, Variant};
 use mar_inbox::block_at_hand;
-use mar_node::{Fault, Holds};
+use mar_model::{Fault, Holds};
 use mar_parts::Certified;
 use mar_types::{Height, Named};
 use std::alloc::AllocError;

@@ -2,16 +2,16 @@
 ghost use Rattle.std.specs.Prelude.{◌≡◌, ◌<◌, ◌≤◌, ◌-◌, ◌^◌, ◌⊎◌, ◌∷◌, [], IfErr, IfNone, IfOk, IfSome, List, MatchResult, OnErr, OnOk, length, map, true};
 ghost use Rattle.mar_key.specs.Hears.{Hears};
 ghost use Rattle.mar_key.specs.Processed.{first_unprocessed};
-ghost use Rattle.mar_node.specs.Faults.{ack_kind, last_height, ticket_limit, want_of_memory};
-ghost use Rattle.mar_node.specs.Held.{GoesOn, Held, IsArchiveFault, nothing_written, outcome, seen};
-ghost use Rattle.mar_node.specs.Moves.{Dispatches, IsNext, IsStill, StopsHanding, handed_report, next_in, with_handed};
-ghost use Rattle.mar_node.specs.Views.{fault_of};
-ghost use Rattle.mar_node.specs.Step.{HandedBlock, handed_over};
+ghost use Rattle.mar_model.specs.Faults.{ack_kind, last_height, ticket_limit, want_of_memory};
+ghost use Rattle.mar_model.specs.Held.{GoesOn, Held, IsArchiveFault, nothing_written, outcome, seen};
+ghost use Rattle.mar_model.specs.Moves.{Dispatches, IsNext, IsStill, StopsHanding, handed_report, next_in, with_handed};
+ghost use Rattle.mar_model.specs.Views.{fault_of};
+ghost use Rattle.mar_model.specs.Step.{HandedBlock, handed_over};
 
 use crate::life::Life;
 use crate::reporter::{Exact, Reporter, Update};
 use mar_block::Variant;
-use mar_node::{Fault, Holds, TicketKind};
+use mar_model::{Fault, Holds, TicketKind};
 use mar_rules::take_ready;
 use mar_types::Height;
 

@@ -81,11 +81,11 @@ mod start;
 mod sync;
 
 pub use event::Event;
-pub use mar_node::{
+pub use mar_life::{Ruins, Stores};
+pub use mar_model::{
     Ended, Fault, Holds, HoldsNotarizations, ShownRuins, StoreName, StoresRuin, TicketKind,
 };
 pub use mar_parts::Shown;
-pub use mar_shelf::{Ruins, Stores};
 pub use node::{Actor, Node};
 pub use reporter::{Exact, Reporter, Update};
 pub use settings::{Config, Start};

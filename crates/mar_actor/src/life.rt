@@ -1,6 +1,6 @@
 //! What a life keeps beside its stores.
 ghost use Rattle.std.specs.Prelude.{◌≡◌, []};
-ghost use Rattle.mar_node.specs.Held.{first_life};
+ghost use Rattle.mar_model.specs.Held.{first_life};
 ghost use Rattle.mar_actor.specs.Views.{sizes_in};
 
 use crate::settings::Limits;
@@ -22,7 +22,7 @@ pub(crate) struct Life<P, E> {
 }
 
 impl<P, E> Model for Life<P, E> {
-    ghost use Rattle.mar_node.specs.Held.{Remembered};
+    ghost use Rattle.mar_model.specs.Held.{Remembered};
     ghost use Rattle.mar_actor.specs.Views.{sizes_in};
 
     ghost Value = { Remembered P E };

@@ -3,7 +3,7 @@ ghost use Rattle.std.specs.Prelude.{◌≡◌, List, ℕ};
 ghost use Rattle.mar_cert.specs.Block.{Block};
 ghost use Rattle.mar_cert.specs.Finalization.{Finalization, Notarization};
 ghost use Rattle.mar_inbox.specs.Views.{message_of, ticket_of};
-ghost use Rattle.mar_node.specs.Event.{message_told};
+ghost use Rattle.mar_model.specs.Event.{message_told};
 ghost use Rattle.mar_actor.specs.Views.{message_first, message_sendings, told_first, told_of, told_sendings};
 
 use mar_block::Recipients;

@@ -1,21 +1,21 @@
 //! The node, which each of its steps consumes.
 ghost use Rattle.std.specs.Prelude.{◌≡◌, ◌≤◌, ◌+◌, ◌&&◌, ◌||◌, ◌∷◌, ◌++◌, [], ℕ, IfErr, IfOk, IsTrue, Ok, OnErr, OnOk, false, map, nat_lt, not, true};
 ghost use Rattle.std.specs.List.{list_any};
-ghost use Rattle.mar_node.specs.SmallEntries.{AreSmallEntries};
+ghost use Rattle.mar_model.specs.SmallEntries.{AreSmallEntries};
 ghost use Rattle.mar_store.specs.Changes.{IsNested};
 ghost use Rattle.mar_block.specs.Sent.{Sends};
-ghost use Rattle.mar_node.specs.Acks.{is_unmarked};
-ghost use Rattle.mar_node.specs.Event.{is_query, sync_finished};
-ghost use Rattle.mar_node.specs.Held.{AreCached, ArePassed, AreWritten, IsEndedBy, outcome, remains_of, seen, with_armed};
-ghost use Rattle.mar_node.specs.Moves.{FindsInCache, KeepsInCache, KeepsTakenUp, LivesOnGiving, RunsOut, syncs_at_most};
-ghost use Rattle.mar_node.specs.OpenSyncs.{is_cache_sync};
+ghost use Rattle.mar_model.specs.Acks.{is_unmarked};
+ghost use Rattle.mar_model.specs.Event.{is_query, sync_finished};
+ghost use Rattle.mar_model.specs.Held.{AreCached, ArePassed, AreWritten, IsEndedBy, outcome, remains_of, seen, with_armed};
+ghost use Rattle.mar_model.specs.Moves.{FindsInCache, KeepsInCache, KeepsTakenUp, LivesOnGiving, RunsOut, syncs_at_most};
+ghost use Rattle.mar_model.specs.OpenSyncs.{is_cache_sync};
 ghost use Rattle.mar_inbox.specs.Answers.{told};
 ghost use Rattle.mar_inbox.specs.Views.{sent_by, value_of};
-ghost use Rattle.mar_node.specs.Promise.{IsSmallEvent, KeepsPromise, heard_with};
-ghost use Rattle.mar_node.specs.Queries.{Learns, answers_found, commitments_found};
-ghost use Rattle.mar_node.specs.Stored.{AreSmall};
-ghost use Rattle.mar_node.specs.Writing.{IsOrdered, is_open_sync};
-ghost use Rattle.mar_node.specs.Views.{fault_of, store_name_of};
+ghost use Rattle.mar_model.specs.Promise.{IsSmallEvent, KeepsPromise, heard_with};
+ghost use Rattle.mar_model.specs.Queries.{Learns, answers_found, commitments_found};
+ghost use Rattle.mar_model.specs.Stored.{AreSmall};
+ghost use Rattle.mar_model.specs.Writing.{IsOrdered, is_open_sync};
+ghost use Rattle.mar_model.specs.Views.{fault_of, store_name_of};
 ghost use Rattle.mar_actor.specs.Known.{TakesNote, seen_knowing};
 ghost use Rattle.mar_actor.specs.Due.{EndsWhereDue, due_fault};
 ghost use Rattle.mar_actor.specs.Told.{TellsInOrder, tips_of};
@@ -38,9 +38,9 @@ use mar_block::{Buffer, Variant};
 use mar_cert::CommitsTo;
 use mar_inbox::{AnswerTable, Value, answer};
 use mar_key::Resolver;
-use mar_node::{Ended, Fault, Holds, HoldsNotarizations, StoreName};
+use mar_life::Stores;
+use mar_model::{Ended, Fault, Holds, HoldsNotarizations, StoreName};
 use mar_parts::Certified;
-use mar_shelf::Stores;
 use mar_types::Epocher;
 use std::alloc::{AllocError, Global};
 use std::marker::{Model, PhantomData};
@@ -61,7 +61,7 @@ pub type Actor<V, F, P, E, FB, FC, M, H> = Node<V, Stores<V, F, FB, FC, M, H>, P
 
 impl<V: Variant, S: Holds<V>, P: Drop, E: Epocher> Model for Node<V, S, P, E> {
     ghost use Rattle.std.specs.Prelude.{◌≡◌, true};
-    ghost use Rattle.mar_node.specs.Held.{Seen};
+    ghost use Rattle.mar_model.specs.Held.{Seen};
     ghost use Rattle.mar_actor.specs.Known.{least_above, seen_knowing};
 
     ghost Value = { Seen P E };

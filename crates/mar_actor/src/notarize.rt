@@ -3,18 +3,18 @@ ghost use Rattle.std.specs.Prelude.{◌≡◌, ◌+◌, ◌≤◌, ◌-◌, ◌^
 ghost use Rattle.mar_cert.specs.Finalization.{finalization_bytes};
 ghost use Rattle.mar_store.specs.Changes.{IsNested};
 ghost use Rattle.mar_store.specs.Sizes.{IsSmall};
-ghost use Rattle.mar_node.specs.Faults.{sync_kind, ticket_limit};
-ghost use Rattle.mar_node.specs.Held.{ArePassed, GoesOn, IsUsual, ended_on, written_entries};
-ghost use Rattle.mar_node.specs.Moves.{KeepsFound, found_at_hand};
-ghost use Rattle.mar_node.specs.SmallEntries.{AreSmallEntries};
-ghost use Rattle.mar_node.specs.Stored.{AreSmall};
-ghost use Rattle.mar_node.specs.Views.{fault_of};
+ghost use Rattle.mar_model.specs.Faults.{sync_kind, ticket_limit};
+ghost use Rattle.mar_model.specs.Held.{ArePassed, GoesOn, IsUsual, ended_on, written_entries};
+ghost use Rattle.mar_model.specs.Moves.{KeepsFound, found_at_hand};
+ghost use Rattle.mar_model.specs.SmallEntries.{AreSmallEntries};
+ghost use Rattle.mar_model.specs.Stored.{AreSmall};
+ghost use Rattle.mar_model.specs.Views.{fault_of};
 ghost use Rattle.mar_actor.specs.Kept.{KeepsReport, LosesReport, notarized_found};
 
 use mar_block::{Buffer, Variant};
 use mar_cert::{AsFinalization, CommitsTo};
 use mar_inbox::block_at_hand;
-use mar_node::{Fault, Holds, HoldsNotarizations};
+use mar_model::{Fault, Holds, HoldsNotarizations};
 use mar_rules::{keep_notarization, keep_notarized};
 use mar_types::Round;
 

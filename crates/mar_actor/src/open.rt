@@ -1,14 +1,14 @@
 //! Opening the stores of a node that begins.
 ghost use Rattle.std.specs.Prelude.{◌≡◌, ◌⊎◌, [], IfErr, IfOk, true};
-ghost use Rattle.mar_node.specs.Held.{ArePassed, IsEndedBy, IsUsual, picks_of};
-ghost use Rattle.mar_node.specs.Promise.{IsFound, IsOpeningFault, IsSmallBegin, KeepsOpening};
+ghost use Rattle.mar_model.specs.Held.{ArePassed, IsEndedBy, IsUsual, picks_of};
+ghost use Rattle.mar_model.specs.Promise.{IsFound, IsOpeningFault, IsSmallBegin, KeepsOpening};
 ghost use Rattle.mar_actor.specs.Views.{begin_of, sizes_of};
 
 use crate::node::Node;
 use crate::settings::{Beginning, Config};
 use mar_block::Variant;
 use mar_key::Floor;
-use mar_node::{Ended, Fault, Holds};
+use mar_model::{Ended, Fault, Holds};
 use mar_opening::open_stores;
 use mar_parts::Certified;
 use mar_types::Epocher;

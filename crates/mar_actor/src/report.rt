@@ -1,22 +1,22 @@
 //! Finalizations that consensus reports.
 ghost use Rattle.std.specs.Prelude.{◌≡◌, ◌∷◌, [], IfErr, List, None, OnErr, OnOk, Option, Some, false, map, nat_lt, true};
 ghost use Rattle.mar_cert.specs.Block.{Block};
-ghost use Rattle.mar_node.specs.SmallEntries.{AreSmallEntries};
-ghost use Rattle.mar_node.specs.Messages.{report_finalization};
+ghost use Rattle.mar_model.specs.SmallEntries.{AreSmallEntries};
+ghost use Rattle.mar_model.specs.Messages.{report_finalization};
 ghost use Rattle.mar_key.specs.Hears.{Hears};
 ghost use Rattle.mar_key.specs.Keys.{Call};
 ghost use Rattle.mar_key.specs.Processed.{height_of};
 ghost use Rattle.mar_store.specs.Changes.{IsNested, Puts};
 ghost use Rattle.mar_store.specs.Sizes.{IsSmall};
 ghost use Rattle.mar_cert.specs.Finalization.{finalization_bytes};
-ghost use Rattle.mar_node.specs.Stored.{AreSmall, at_own_height};
-ghost use Rattle.mar_node.specs.Event.{message_told};
-ghost use Rattle.mar_node.specs.Promise.{KeepsPromise, heard_by};
-ghost use Rattle.mar_node.specs.Faults.{want_of_memory};
-ghost use Rattle.mar_node.specs.Held.{AreCached, GoesOn, Held, IsArchiveFault, IsUsual, outcome, seen, written_both, written_cert};
-ghost use Rattle.mar_node.specs.Views.{fault_of};
-ghost use Rattle.mar_node.specs.Moves.{CachesReport, LivesOn, PutsAbove, StoresLate, at_height, found_at_hand, lacks_finalization, late_tips, risen_to, tip_reports, tips_above};
-ghost use Rattle.mar_node.specs.Writing.{IsOrdered};
+ghost use Rattle.mar_model.specs.Stored.{AreSmall, at_own_height};
+ghost use Rattle.mar_model.specs.Event.{message_told};
+ghost use Rattle.mar_model.specs.Promise.{KeepsPromise, heard_by};
+ghost use Rattle.mar_model.specs.Faults.{want_of_memory};
+ghost use Rattle.mar_model.specs.Held.{AreCached, GoesOn, Held, IsArchiveFault, IsUsual, outcome, seen, written_both, written_cert};
+ghost use Rattle.mar_model.specs.Views.{fault_of};
+ghost use Rattle.mar_model.specs.Moves.{CachesReport, LivesOn, PutsAbove, StoresLate, at_height, found_at_hand, lacks_finalization, late_tips, risen_to, tip_reports, tips_above};
+ghost use Rattle.mar_model.specs.Writing.{IsOrdered};
 ghost use Rattle.mar_actor.specs.Due.{EndsWhereDue, storing_due};
 ghost use Rattle.mar_actor.specs.Told.{TellsInOrder, finalized_tips};
 
@@ -26,7 +26,7 @@ use mar_block::{Buffer, Variant};
 use mar_cert::{AsFinalization, CommitsTo};
 use mar_inbox::block_at_hand;
 use mar_key::Resolver;
-use mar_node::{Fault, Holds};
+use mar_model::{Fault, Holds};
 use mar_rules::{is_above, note_round, put, put_late, request};
 use mar_types::{Epocher, Height, Round};
 

@@ -1,7 +1,7 @@
 //! What the application is told.
 ghost use Rattle.std.specs.Prelude.{◌≡◌, ◌∷◌, [], List, OnErr, OnOk, Option};
 ghost use Rattle.mar_key.specs.Hears.{Hears};
-ghost use Rattle.mar_node.specs.Step.{Report};
+ghost use Rattle.mar_model.specs.Step.{Report};
 ghost use Rattle.mar_actor.specs.Views.{report_of};
 
 use mar_block::Variant;

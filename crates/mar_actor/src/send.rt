@@ -2,11 +2,11 @@
 ghost use Rattle.std.specs.Prelude.{◌≡◌, ◌∷◌, [], IfErr, OnErr, OnOk};
 ghost use Rattle.mar_block.specs.Recipients.{named};
 ghost use Rattle.mar_block.specs.Sent.{Sends};
-ghost use Rattle.mar_node.specs.Faults.{want_of_memory};
-ghost use Rattle.mar_node.specs.Views.{fault_of};
+ghost use Rattle.mar_model.specs.Faults.{want_of_memory};
+ghost use Rattle.mar_model.specs.Views.{fault_of};
 
 use mar_block::{Buffer, Recipients, Variant};
-use mar_node::Fault;
+use mar_model::Fault;
 use mar_types::{Participant, Round};
 
 /// Has the buffer send a block of a round to these peers.

@@ -1,8 +1,8 @@
 //! What an actor is set to, and what a life begins with by it.
 ghost use Rattle.std.specs.Prelude.{◌≡◌, ◌*◌, ◌-◌, ◌^◌, IfOk, min};
 ghost use Rattle.mar_cert.specs.Block.{Block};
-ghost use Rattle.mar_node.specs.Faults.{from_genesis};
-ghost use Rattle.mar_node.specs.Held.{first_life};
+ghost use Rattle.mar_model.specs.Faults.{from_genesis};
+ghost use Rattle.mar_model.specs.Held.{first_life};
 ghost use Rattle.mar_actor.specs.Views.{begin_of, sizes_of};
 
 use crate::life::Life;

@@ -1,13 +1,13 @@
 //! What a node shows of itself.
 ghost use Rattle.std.specs.Prelude.{◌≡◌, map, option_map};
 ghost use Rattle.mar_key.specs.Views.{cutoff_of, processed_of};
-ghost use Rattle.mar_node.specs.Pool.{writing_of};
+ghost use Rattle.mar_model.specs.Pool.{writing_of};
 ghost use Rattle.mar_store.specs.Changes.{heights};
 ghost use Rattle.mar_store.specs.Ranges.{ranges};
 
 use crate::node::Node;
 use mar_block::Variant;
-use mar_node::Holds;
+use mar_model::Holds;
 use mar_parts::Shown;
 use mar_types::Epocher;
 

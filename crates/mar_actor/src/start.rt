@@ -4,12 +4,12 @@ ghost use Rattle.mar_cert.specs.Block.{Block};
 ghost use Rattle.mar_key.specs.Hears.{Hears};
 ghost use Rattle.mar_key.specs.Keys.{Call};
 ghost use Rattle.mar_store.specs.Changes.{IsNested};
-ghost use Rattle.mar_node.specs.Event.{life_started};
-ghost use Rattle.mar_node.specs.Held.{AreCached, GoesOn, IsUsual, nothing_written, outcome, seen};
-ghost use Rattle.mar_node.specs.Moves.{IsRead, LivesOn, newest_tips, with_newest};
-ghost use Rattle.mar_node.specs.Stored.{newest};
-ghost use Rattle.mar_node.specs.Promise.{KeepsPromise, heard_by};
-ghost use Rattle.mar_node.specs.Views.{fault_of};
+ghost use Rattle.mar_model.specs.Event.{life_started};
+ghost use Rattle.mar_model.specs.Held.{AreCached, GoesOn, IsUsual, nothing_written, outcome, seen};
+ghost use Rattle.mar_model.specs.Moves.{IsRead, LivesOn, newest_tips, with_newest};
+ghost use Rattle.mar_model.specs.Stored.{newest};
+ghost use Rattle.mar_model.specs.Promise.{KeepsPromise, heard_by};
+ghost use Rattle.mar_model.specs.Views.{fault_of};
 ghost use Rattle.mar_actor.specs.Due.{EndsWhereDue};
 ghost use Rattle.mar_actor.specs.Told.{TellsInOrder};
 
@@ -19,7 +19,7 @@ use crate::report::report_tip;
 use crate::reporter::Reporter;
 use mar_block::Variant;
 use mar_cert::{AsFinalization, CommitsTo};
-use mar_node::{Fault, Holds, newest_certificate};
+use mar_model::{Fault, Holds, newest_certificate};
 use mar_types::Epocher;
 
 /// Reports the newest stored finalization as the tip, takes up what a crash left of the cache, and hands over what may follow.

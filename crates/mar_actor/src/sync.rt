@@ -3,16 +3,16 @@ ghost use Rattle.std.specs.Prelude.{◌≡◌, ◌++◌, ◌∷◌, [], List, Ok
 ghost use Rattle.mar_cert.specs.Block.{Block};
 ghost use Rattle.mar_key.specs.Keys.{Call};
 ghost use Rattle.mar_store.specs.Changes.{IsNested};
-ghost use Rattle.mar_node.specs.Event.{sync_finished};
-ghost use Rattle.mar_node.specs.Held.{AreCached, outcome, seen};
-ghost use Rattle.mar_node.specs.Moves.{LivesOn};
+ghost use Rattle.mar_model.specs.Event.{sync_finished};
+ghost use Rattle.mar_model.specs.Held.{AreCached, outcome, seen};
+ghost use Rattle.mar_model.specs.Moves.{LivesOn};
 ghost use Rattle.mar_inbox.specs.Answers.{told};
 ghost use Rattle.mar_inbox.specs.Views.{value_of};
-ghost use Rattle.mar_node.specs.Answers.{Sent, finished_answers};
-ghost use Rattle.mar_node.specs.OpenSyncs.{NoneHas, is_cache_sync};
-ghost use Rattle.mar_node.specs.Promise.{KeepsPromise, heard_by, heard_with};
-ghost use Rattle.mar_node.specs.Writing.{is_open_sync};
-ghost use Rattle.mar_node.specs.Views.{fault_of};
+ghost use Rattle.mar_model.specs.Answers.{Sent, finished_answers};
+ghost use Rattle.mar_model.specs.OpenSyncs.{NoneHas, is_cache_sync};
+ghost use Rattle.mar_model.specs.Promise.{KeepsPromise, heard_by, heard_with};
+ghost use Rattle.mar_model.specs.Writing.{is_open_sync};
+ghost use Rattle.mar_model.specs.Views.{fault_of};
 ghost use Rattle.mar_actor.specs.Due.{EndsWhereDue};
 ghost use Rattle.mar_actor.specs.Told.{TellsInOrder};
 
@@ -22,7 +22,7 @@ use crate::life::Life;
 use crate::reporter::Reporter;
 use mar_block::Variant;
 use mar_inbox::{AnswerTable, Value};
-use mar_node::{Fault, Holds};
+use mar_model::{Fault, Holds};
 use mar_rules::let_go;
 use mar_types::Epocher;
 

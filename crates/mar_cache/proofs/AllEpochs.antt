@@ -5,11 +5,11 @@ use Rattle.std.proofs.lemmas.Bool.{cases_eq, leb-false, leb-true}
 use Rattle.std.proofs.lemmas.List.Elements.{Contains-append_cases, Contains-append_left, Contains-append_right}
 use Rattle.mar_types.specs.Round.{Round}
 use Rattle.mar_store.specs.Changes.{Within}
-use Rattle.mar_node.specs.AllEntries.{LeavesEntries}
-use Rattle.mar_node.specs.CacheCalls.{FinishesEntries, GoesOn, LosesCache, none_goes}
-use Rattle.mar_node.specs.Cached.{Cached, epoch_of}
-use Rattle.mar_node.specs.declared.CacheTicket.{CacheTicket}
-use Rattle.mar_node.specs.declared.SectionSync.{SectionSync}
+use Rattle.mar_model.specs.AllEntries.{LeavesEntries}
+use Rattle.mar_model.specs.CacheCalls.{FinishesEntries, GoesOn, LosesCache, none_goes}
+use Rattle.mar_model.specs.Cached.{Cached, epoch_of}
+use Rattle.mar_model.specs.declared.CacheTicket.{CacheTicket}
+use Rattle.mar_model.specs.declared.SectionSync.{SectionSync}
 use Rattle.mar_epochs.specs.EpochStates.{ChangesEpoch, EpochState, EpochStates, HasSome, IsNestedEpoch, KeepsOtherEpochs, held_in, is_opened, may_in, opened, shut, sure_in}
 use Rattle.mar_epochs.specs.declared.Change.TheVariants.{Finish}
 use Rattle.mar_cache.specs.AsOne.{covered_part, covered_with, covers_of, kept_of, left_of_ways, lowests_of}

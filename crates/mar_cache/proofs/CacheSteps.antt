@@ -8,15 +8,15 @@ use Rattle.mar_store.specs.Alarms.{fresh_watch}
 use Rattle.mar_store.specs.Watch.{Follows, Watch}
 use Rattle.mar_store.specs.declared.Alarm.{Alarm}
 use Rattle.mar_store.proofs.Lookups.{AllByRecursion-contains}
-use Rattle.mar_node.specs.AllEntries.{FirstsStay, LoadsEntries, PrunesEntries, PutsEntry, PutsEntryNow, soonest}
-use Rattle.mar_node.specs.Cache.{is_below, is_certified_below}
-use Rattle.mar_node.specs.CacheCalls.{FinishesEntries, GoesOn, PutsAndStarts, PutsAndSyncs, ReopensCache, StartsSync, UnopensCache, is_of_archive, none_goes}
-use Rattle.mar_node.specs.Cached.{Cached, epoch_of}
-use Rattle.mar_node.specs.Sections.{first_found, section_of}
-use Rattle.mar_node.specs.declared.CacheTicket.{CacheTicket}
-use Rattle.mar_node.specs.declared.Section.{Section}
-use Rattle.mar_node.specs.declared.Started.{Started}
-use Rattle.mar_node.specs.declared.Started.TheVariants.{Ready}
+use Rattle.mar_model.specs.AllEntries.{FirstsStay, LoadsEntries, PrunesEntries, PutsEntry, PutsEntryNow, soonest}
+use Rattle.mar_model.specs.Cache.{is_below, is_certified_below}
+use Rattle.mar_model.specs.CacheCalls.{FinishesEntries, GoesOn, PutsAndStarts, PutsAndSyncs, ReopensCache, StartsSync, UnopensCache, is_of_archive, none_goes}
+use Rattle.mar_model.specs.Cached.{Cached, epoch_of}
+use Rattle.mar_model.specs.Sections.{first_found, section_of}
+use Rattle.mar_model.specs.declared.CacheTicket.{CacheTicket}
+use Rattle.mar_model.specs.declared.Section.{Section}
+use Rattle.mar_model.specs.declared.Started.{Started}
+use Rattle.mar_model.specs.declared.Started.TheVariants.{Ready}
 use Rattle.mar_epochs.specs.EpochStates.{ChangesEpoch, EpochState, EpochStates, HasSome, IsBare, IsNestedEpoch, IsNewest, KeepsOtherEpochs, MightBe, OpensEpoch, held_in, is_opened, left_of_epoch, may_in, opened, shut, sure_in}
 use Rattle.mar_epochs.specs.declared.Change.{Change}
 use Rattle.mar_epochs.specs.declared.Change.TheVariants.{PruneBelow, Put, Sync}
@@ -32,7 +32,7 @@ use Rattle.mar_cache.specs.declared.stage.Stage.TheVariants.{Begun, Fresh, Loade
 use Rattle.mar_cache.proofs.AllEpochs.{at_each, finish_goes_on, finishes_all, goes_as, goes_on}
 use Rattle.mar_cache.proofs.BoundsKept.{within_map}
 use Rattle.mar_cache.proofs.EpochLists.{filter_up_to, up_to_none, up_to_same}
-use Rattle.mar_node.proofs.EntryLists.{firsts_stay}
+use Rattle.mar_model.proofs.EntryLists.{firsts_stay}
 use Rattle.mar_cache.proofs.ListPrunes.{older_below}
 use Rattle.mar_cache.proofs.Shelving.{changes_grows, grows_itself, grows_then, opens_grows, stays_grow}
 use Rattle.mar_cache.proofs.StateLoads.{loads_all}

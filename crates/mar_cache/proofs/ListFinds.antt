@@ -1,10 +1,10 @@
 -- What a search finds in the newest epoch that has it, seen over all epochs.
 use Rattle.std.proofs.Common.{◌≡◌, ◌⊎◌, inl, inr, ◌≤◌, ◌<◌, ◌==◌, ◌&&◌, ◌||◌, nat_lt, ℕ, zero, suc, List, [], ◌∷◌, ◌++◌, Bool, true, false, Contains, Option, Some, None, cond, refl, ap, ap₂, sym, subst, arith, ◌∙◌}
 use Rattle.std.proofs.lemmas.Bool.{cases_eq, lt-ltb}
-use Rattle.mar_node.specs.Cached.{Cached, epoch_of}
-use Rattle.mar_node.specs.Sections.{stands_before}
+use Rattle.mar_model.specs.Cached.{Cached, epoch_of}
+use Rattle.mar_model.specs.Sections.{stands_before}
 use Rattle.mar_cache.specs.AsOne.{up_to}
-use Rattle.mar_node.specs.AllEntries.{is_sooner, sooner_of, soonest}
+use Rattle.mar_model.specs.AllEntries.{is_sooner, sooner_of, soonest}
 use Rattle.mar_cache.specs.Nested.{of_up_to}
 
 or_true : (a b : Bool) → a ≡ true → (a || b) ≡ true

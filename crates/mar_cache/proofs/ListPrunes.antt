@@ -2,8 +2,8 @@
 use Rattle.std.proofs.Common.{◌≡◌, inl, inr, ◌<◌, ◌==◌, ◌&&◌, ◌||◌, nat_lt, not, ℕ, zero, suc, List, [], ◌∷◌, Bool, true, false, Contains, cond, refl, ap, ap₂, sym, subst, filter, arith, ◌∙◌}
 use Rattle.std.proofs.lemmas.Bool.{cases_lt, le-ltb, lt-ltb, ne_eqb}
 use Rattle.mar_types.specs.Round.{Round, round_lt}
-use Rattle.mar_node.specs.Cached.{Cached, certified_entry, epoch_of, finalization_entry, notarization_entry, notarized_entry, verified_entry}
-use Rattle.mar_node.specs.Cache.{is_below}
+use Rattle.mar_model.specs.Cached.{Cached, certified_entry, epoch_of, finalization_entry, notarization_entry, notarized_entry, verified_entry}
+use Rattle.mar_model.specs.Cache.{is_below}
 use Rattle.mar_cache.specs.AsOne.{up_to}
 use Rattle.mar_cache.proofs.EpochLists.{filter_up_to, up_to_same}
 

@@ -7,12 +7,12 @@ use Rattle.std.proofs.lemmas.List.Elements.{Contains-append_cases, Contains-appe
 use Rattle.std.proofs.lemmas.List.Folds.{list_any-append}
 use Rattle.mar_types.specs.Round.{Round}
 use Rattle.mar_cert.specs.Block.{Block}
-use Rattle.mar_node.specs.Cached.{Cached, epoch_of, same_place, with_entry}
-use Rattle.mar_node.specs.Cache.{first_of, first_verified, verified_in}
+use Rattle.mar_model.specs.Cached.{Cached, epoch_of, same_place, with_entry}
+use Rattle.mar_model.specs.Cache.{first_of, first_verified, verified_in}
 use Rattle.mar_cache.specs.AsOne.{up_to}
-use Rattle.mar_node.specs.AllEntries.{is_in_place, with_own_entry}
+use Rattle.mar_model.specs.AllEntries.{is_in_place, with_own_entry}
 use Rattle.mar_cache.specs.Nested.{in_up_to, of_up_to}
-use Rattle.mar_node.proofs.EntryLists.{contains_here, contains_more, none_verified, one_of, passes_alike}
+use Rattle.mar_model.proofs.EntryLists.{contains_here, contains_more, none_verified, one_of, passes_alike}
 use Rattle.mar_cache.proofs.EpochLists.{filter_map_up_to, filter_up_to, only_in, up_to_none, up_to_same}
 
 pub and_false_left : (a b : Bool) → a ≡ false → (a && b) ≡ false

@@ -4,10 +4,10 @@ use Rattle.std.proofs.lemmas.Bool.{cases_eq, eq-eqb, ne_eqb}
 use Rattle.mar_store.specs.Changes.{Left, left_of}
 use Rattle.mar_store.specs.Luck.{keeps_by}
 use Rattle.mar_store.specs.Watch.{Follows}
-use Rattle.mar_node.specs.AllEntries.{is_in_place}
-use Rattle.mar_node.specs.Cache.{same_archive}
-use Rattle.mar_node.specs.Cached.{Cached, certified_entry, epoch_of, finalization_entry, notarization_entry, notarized_entry, same_place, verified_entry, with_entry}
-use Rattle.mar_node.specs.LuckyEntries.{count_beside, is_sure_in, lucky_behind, lucky_entries}
+use Rattle.mar_model.specs.AllEntries.{is_in_place}
+use Rattle.mar_model.specs.Cache.{same_archive}
+use Rattle.mar_model.specs.Cached.{Cached, certified_entry, epoch_of, finalization_entry, notarization_entry, notarized_entry, same_place, verified_entry, with_entry}
+use Rattle.mar_model.specs.LuckyEntries.{count_beside, is_sure_in, lucky_behind, lucky_entries}
 use Rattle.mar_epochs.specs.EpochStates.{EpochState, EpochStates, HasSome, KeepsOtherEpochs, MightBe, held_in, is_opened, may_in, opened, shut, sure_in}
 use Rattle.mar_epochs.specs.Picks.{PicksEpoch, picks_by}
 use Rattle.mar_cache.specs.AsOne.{greatest_highest, kept_of, left_of_ways, up_to}
@@ -18,7 +18,7 @@ use Rattle.mar_cache.specs.Shelved.{AllLieWithin, AreOf, LieWithin, OpensOrStays
 use Rattle.mar_cache.specs.Stages.{IsAtStage, is_fresh}
 use Rattle.mar_cache.specs.declared.stage.Stage.{Stage}
 use Rattle.mar_cache.proofs.EpochLists.{up_to_same}
-use Rattle.mar_node.proofs.EntryLists.{one_of, passes_alike}
+use Rattle.mar_model.proofs.EntryLists.{one_of, passes_alike}
 use Rattle.mar_cache.proofs.ListPuts.{placed}
 use Rattle.mar_cache.proofs.StateLosses.{up_to_greatest}
 use Rattle.mar_cache.proofs.StatePuts.{may_more, sure_more}

@@ -1,15 +1,15 @@
 -- Changes of plain entries instead of what keeps them.
 use Rattle.std.proofs.Common.{List, [], ◌∷◌, None, Some, map, Option}
-use Rattle.mar_node.specs.Cached.{Cached, epoch_of}
+use Rattle.mar_model.specs.Cached.{Cached, epoch_of}
 use Rattle.mar_cache.specs.Calls.{IsPut, IsPutAndSynced}
-use Rattle.mar_node.specs.Sections.{section_of}
+use Rattle.mar_model.specs.Sections.{section_of}
 use Rattle.mar_cache.specs.Shelved.{AllChanges, DoesAt, finishes, finishes_second}
 use Rattle.mar_epochs.specs.EpochStates.{ChangesEpoch, EpochState, EpochStates, opened, shut}
 use Rattle.mar_epochs.specs.EpochArchives.{Book, ChangesArchives}
 use Rattle.mar_epochs.specs.declared.Change.{Change}
 use Rattle.mar_epochs.specs.declared.Change.TheVariants.{Finish, PruneBelow, PruneCertified, Put, Sync}
-use Rattle.mar_node.specs.declared.CacheTicket.{CacheTicket}
-use Rattle.mar_node.specs.declared.SectionSync.{SectionSync}
+use Rattle.mar_model.specs.declared.CacheTicket.{CacheTicket}
+use Rattle.mar_model.specs.declared.SectionSync.{SectionSync}
 
 module _ {E : Type 0} (plain : E → Cached) where
   abbrev pub plain_change : Change E → Change Cached

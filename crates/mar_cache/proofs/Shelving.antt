@@ -7,10 +7,10 @@ use Rattle.mar_store.specs.Changes.{Within}
 use Rattle.mar_store.specs.Lost.{wreck_of}
 use Rattle.mar_store.specs.declared.Lost.{Lost}
 use Rattle.mar_store.proofs.Lookups.{AllByRecursion-weaker}
-use Rattle.mar_node.specs.Cached.{Cached, same_place}
+use Rattle.mar_model.specs.Cached.{Cached, same_place}
 use Rattle.mar_epochs.specs.EpochArchives.{Book, held_after, is_kept, puts_of}
-use Rattle.mar_node.specs.declared.Section.{Section}
-use Rattle.mar_node.specs.declared.Started.TheVariants.{Ready, Ticket}
+use Rattle.mar_model.specs.declared.Section.{Section}
+use Rattle.mar_model.specs.declared.Started.TheVariants.{Ready, Ticket}
 use Rattle.mar_epochs.specs.EpochStates.{ChangesEpoch, IsTicket, IsNestedEpoch, MightBe, is_opened, KeepsOtherEpochs, LeavesEpoch, LosesEpoch, OpensEpoch, EpochState, EpochStates, left_of_epoch, opened, shut}
 use Rattle.mar_cache.specs.Shelved.{AllChanges, at_epoch, IsStarted, DoesAt, OpensOrStays, GrowsEpoch, GrowsEpochs, LeavesEpochs}
 use Rattle.mar_epochs.specs.declared.Change.{Change}

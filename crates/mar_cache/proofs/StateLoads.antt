@@ -4,16 +4,16 @@ use Rattle.std.specs.List.{list_any}
 use Rattle.std.proofs.lemmas.Bool.{ne_eqb}
 use Rattle.std.proofs.lemmas.List.Folds.{list_any-append}
 use Rattle.mar_store.specs.Changes.{Left, Within}
-use Rattle.mar_node.specs.Cached.{Cached, EachPlaceOnce, epoch_of, same_place}
+use Rattle.mar_model.specs.Cached.{Cached, EachPlaceOnce, epoch_of, same_place}
 use Rattle.mar_epochs.specs.EpochArchives.{nothing_left}
 use Rattle.mar_cache.specs.Bounds.{Bounds}
 use Rattle.mar_cache.specs.AsOne.{IsLoaded, kept_of, up_to}
-use Rattle.mar_node.specs.AllEntries.{EachOnce, LoadsEntries, is_in_place}
+use Rattle.mar_model.specs.AllEntries.{EachOnce, LoadsEntries, is_in_place}
 use Rattle.mar_epochs.specs.EpochStates.{EpochState, EpochStates, HasSome, IsBare, IsNestedEpoch, OpensEpoch, held_in, is_opened, may_in, opened, shut, sure_in}
 use Rattle.mar_cache.specs.Laws.{LoadsAll}
 use Rattle.mar_cache.specs.Shelved.{LieWithin}
 use Rattle.mar_cache.specs.Nested.{of_up_to, within_up_to}
-use Rattle.mar_node.proofs.EntryLists.{contains_none}
+use Rattle.mar_model.proofs.EntryLists.{contains_none}
 use Rattle.mar_cache.proofs.ListPuts.{and_false_left, none_passes}
 
 -- what is taken up of one epoch

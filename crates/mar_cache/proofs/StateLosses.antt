@@ -6,20 +6,20 @@ use Rattle.std.proofs.lemmas.List.Elements.{Contains-append_cases, Contains-appe
 use Rattle.mar_types.specs.Round.{Round, round_lt}
 use Rattle.mar_store.specs.Changes.{Within}
 use Rattle.mar_store.proofs.Lookups.{AllByRecursion-contains}
-use Rattle.mar_node.specs.Cached.{Cached, epoch_of}
-use Rattle.mar_node.specs.Cache.{is_below}
-use Rattle.mar_node.specs.Sections.{earlier_of, first_found, is_in, stands_before}
-use Rattle.mar_node.specs.declared.Section.{Section}
+use Rattle.mar_model.specs.Cached.{Cached, epoch_of}
+use Rattle.mar_model.specs.Cache.{is_below}
+use Rattle.mar_model.specs.Sections.{earlier_of, first_found, is_in, stands_before}
+use Rattle.mar_model.specs.declared.Section.{Section}
 use Rattle.mar_epochs.specs.declared.Change.TheVariants.{PruneBelow}
 use Rattle.mar_cache.specs.Bounds.{Bounds}
 use Rattle.mar_cache.specs.AsOne.{IsLoaded, greatest_highest, kept_of, may_of_some, sure_of_all, up_to}
-use Rattle.mar_node.specs.AllEntries.{FirstsStay, LeavesEntries, PrunesEntries, is_sooner, sooner_of, soonest}
+use Rattle.mar_model.specs.AllEntries.{FirstsStay, LeavesEntries, PrunesEntries, is_sooner, sooner_of, soonest}
 use Rattle.mar_epochs.specs.EpochStates.{ChangesEpoch, EpochState, EpochStates, HasSome, IsBare, IsNewest, held_in, is_opened, may_in, opened, shut, sure_in}
 use Rattle.mar_cache.specs.Laws.{PrunesByView}
 use Rattle.mar_cache.specs.SameEntries.{same_entry}
 use Rattle.mar_cache.specs.Shelved.{AllLieWithin, LeavesEpochs, LieWithin, pruned_bounds}
 use Rattle.mar_cache.specs.Nested.{in_up_to, may_some, of_up_to}
-use Rattle.mar_node.proofs.EntryLists.{contains_none, filter_passed, filtered, firsts_stay}
+use Rattle.mar_model.proofs.EntryLists.{contains_none, filter_passed, filtered, firsts_stay}
 use Rattle.mar_cache.proofs.EpochLists.{filter_up_to, only_in}
 use Rattle.mar_cache.proofs.ListPrunes.{filter_none, older_below, prunes_all}
 use Rattle.mar_cache.proofs.ListFinds.{soonest_in, soonest_newest, soonest_none}

@@ -4,19 +4,19 @@ use Rattle.std.proofs.lemmas.Bool.{cases_eq, eqb-true, leb-true}
 use Rattle.std.proofs.lemmas.List.Elements.{Contains-append_cases, Contains-append_left, Contains-append_right}
 use Rattle.mar_store.specs.Changes.{Within}
 use Rattle.mar_store.specs.Kept.{reopened_store}
-use Rattle.mar_node.specs.Cached.{Cached, certified_entry, epoch_of, finalization_entry, notarization_entry, notarized_entry, verified_entry, with_entry}
-use Rattle.mar_node.specs.Cache.{first_verified, same_archive}
+use Rattle.mar_model.specs.Cached.{Cached, certified_entry, epoch_of, finalization_entry, notarization_entry, notarized_entry, verified_entry, with_entry}
+use Rattle.mar_model.specs.Cache.{first_verified, same_archive}
 use Rattle.mar_epochs.specs.EpochArchives.{Book, nothing_left}
-use Rattle.mar_node.specs.Sections.{is_in, section_of}
-use Rattle.mar_node.specs.declared.Section.{Section}
+use Rattle.mar_model.specs.Sections.{is_in, section_of}
+use Rattle.mar_model.specs.declared.Section.{Section}
 use Rattle.mar_epochs.specs.declared.Change.TheVariants.{Put, Sync}
 use Rattle.mar_cache.specs.Bounds.{Bounds, includes}
 use Rattle.mar_cache.specs.AsOne.{IsLoaded, kept_of, up_to}
-use Rattle.mar_node.specs.AllEntries.{PutsEntry, PutsEntryNow, with_own_entry}
+use Rattle.mar_model.specs.AllEntries.{PutsEntry, PutsEntryNow, with_own_entry}
 use Rattle.mar_epochs.specs.EpochStates.{ChangesEpoch, EpochState, EpochStates, HasSome, IsBare, KeepsOtherEpochs, OpensEpoch, held_in, is_opened, may_in, opened, shut, sure_in}
 use Rattle.mar_cache.specs.Shelved.{DoesAt, LieWithin, raised}
 use Rattle.mar_cache.specs.Nested.{in_up_to, may_some, of_up_to, within_up_to}
-use Rattle.mar_node.proofs.EntryLists.{contains_none, filter_passed}
+use Rattle.mar_model.proofs.EntryLists.{contains_none, filter_passed}
 use Rattle.mar_cache.proofs.EpochLists.{up_to_more}
 use Rattle.mar_cache.proofs.ListPuts.{puts_firsts, puts_held, puts_only, puts_others}
 

@@ -6,8 +6,8 @@ use Rattle.std.proofs.lemmas.Slice.Eq.{bytes_eq-Decides}
 use Rattle.mar_types.specs.Round.{Round, round_eq}
 use Rattle.mar_cert.specs.Block.{Block}
 use Rattle.mar_cert.specs.Finalization.{Finalization}
-use Rattle.mar_node.specs.Cached.{Cached, certified_entry, finalization_entry, notarization_entry, notarized_entry, verified_entry}
-use Rattle.mar_node.proofs.EntryLists.{rounds_same}
+use Rattle.mar_model.specs.Cached.{Cached, certified_entry, finalization_entry, notarization_entry, notarized_entry, verified_entry}
+use Rattle.mar_model.proofs.EntryLists.{rounds_same}
 use Rattle.mar_cache.specs.SameEntries.{same_block, same_entry, same_finalization}
 
 and_both : (p q : Bool) → (p && q) ≡ true → (p ≡ true) × (q ≡ true)

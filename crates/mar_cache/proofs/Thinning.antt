@@ -1,8 +1,8 @@
 -- Prunes of one epoch after another.
 use Rattle.std.proofs.Common.{◌≡◌, ◌⊎◌, inl, inr, ◌≤◌, ◌<◌, ◌+◌, ℕ, zero, suc, List, [], ◌∷◌, Bool, true, false, not, IsTrue, Contains, cond, get_or, length, refl, ap, sym, ◌∙◌, subst, filter, Result, Ok, Err, IfOk, arith}
 use Rattle.std.proofs.lemmas.Bool.{cases_eq}
-use Rattle.mar_node.specs.Cached.{Cached}
-use Rattle.mar_node.specs.Cache.{is_certified_below}
+use Rattle.mar_model.specs.Cached.{Cached}
+use Rattle.mar_model.specs.Cache.{is_certified_below}
 use Rattle.mar_epochs.specs.EpochArchives.{held_after, is_kept, puts_of}
 use Rattle.mar_epochs.specs.EpochStates.{ChangesEpoch, EpochState, EpochStates, HasSome, KeepsOtherEpochs, held_in, is_opened, opened, shut}
 use Rattle.mar_cache.specs.Shelved.{IsClear, KeepsTickets, ThinsEpoch}

@@ -6,15 +6,15 @@ use Rattle.std.proofs.lemmas.Bool.{cases_eq, eq-eqb, eqb-true, le-leb, leb-true}
 use Rattle.std.proofs.lemmas.List.Elements.{Contains-append_cases, Contains-append_left, Contains-append_right}
 use Rattle.mar_store.specs.Changes.{Within}
 use Rattle.mar_store.specs.Tickets.{last_number}
-use Rattle.mar_node.specs.Cache.{same_archive}
-use Rattle.mar_node.specs.CacheCalls.{GivesTicket, KeepsTickets, StartsSync, is_of_archive}
-use Rattle.mar_node.specs.Cached.{Cached, certified_entry, epoch_of, finalization_entry, notarization_entry, notarized_entry, verified_entry}
-use Rattle.mar_node.specs.Sections.{is_in, section_of}
-use Rattle.mar_node.specs.declared.CacheTicket.{CacheTicket}
-use Rattle.mar_node.specs.declared.Section.{Section}
-use Rattle.mar_node.specs.declared.SectionSync.{SectionSync}
-use Rattle.mar_node.specs.declared.Started.{Started}
-use Rattle.mar_node.specs.declared.Started.TheVariants.{Ready, Ticket}
+use Rattle.mar_model.specs.Cache.{same_archive}
+use Rattle.mar_model.specs.CacheCalls.{GivesTicket, KeepsTickets, StartsSync, is_of_archive}
+use Rattle.mar_model.specs.Cached.{Cached, certified_entry, epoch_of, finalization_entry, notarization_entry, notarized_entry, verified_entry}
+use Rattle.mar_model.specs.Sections.{is_in, section_of}
+use Rattle.mar_model.specs.declared.CacheTicket.{CacheTicket}
+use Rattle.mar_model.specs.declared.Section.{Section}
+use Rattle.mar_model.specs.declared.SectionSync.{SectionSync}
+use Rattle.mar_model.specs.declared.Started.{Started}
+use Rattle.mar_model.specs.declared.Started.TheVariants.{Ready, Ticket}
 use Rattle.mar_epochs.specs.EpochArchives.{Book, CoversAllLast, is_kept, puts_of}
 use Rattle.mar_epochs.specs.EpochStates.{ChangesEpoch, EpochState, EpochStates, IsNestedEpoch, OpensEpoch, held_in, is_opened, opened, shut}
 use Rattle.mar_epochs.specs.declared.Change.{Change}
@@ -24,7 +24,7 @@ use Rattle.mar_cache.specs.Bounds.{Bounds}
 use Rattle.mar_cache.specs.Nested.{in_nothing}
 use Rattle.mar_cache.specs.Shelved.{AllChanges, GrowsEpoch, IsStarted, LieWithin, OpensOrStays, ThinsEpoch}
 use Rattle.mar_cache.proofs.Shelving.{changes_grows, filter_contains, grows_itself, grows_then, held_kept}
-use Rattle.mar_node.proofs.EntryLists.{filter_passed, filtered}
+use Rattle.mar_model.proofs.EntryLists.{filter_passed, filtered}
 use Rattle.mar_cache.proofs.StateLosses.{held_of_archive}
 
 -- what each ticket covers of an epoch stays, but for what the test passes

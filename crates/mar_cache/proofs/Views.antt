@@ -9,8 +9,8 @@ use Rattle.mar_store.specs.Lost.{wreck_of}
 use Rattle.mar_store.specs.declared.Lost.{Lost}
 use Rattle.mar_epochs.specs.declared.Change.TheVariants.{PruneBelow}
 use Rattle.mar_store.proofs.Lookups.{AllByRecursion-weaker}
-use Rattle.mar_node.specs.Cached.{Cached}
-use Rattle.mar_node.specs.Cache.{is_below}
+use Rattle.mar_model.specs.Cached.{Cached}
+use Rattle.mar_model.specs.Cache.{is_below}
 use Rattle.mar_epochs.specs.EpochStates.{ChangesEpoch, DestroysOrNot, EpochState, EpochStates, HasSome, IsBare, IsLeftOrBare, IsNestedEpoch, KeepsOtherEpochs, LeavesEpoch, LosesEpoch, left_of_epoch, opened, shut}
 use Rattle.mar_cache.specs.Shelved.{DropsOlder, LeavesEpochs, is_pruned_by, pruned_bounds}
 use Rattle.mar_cache.specs.Bounds.{Bounds, LeavesBounds}

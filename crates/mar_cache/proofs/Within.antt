@@ -11,8 +11,8 @@ use Rattle.mar_store.specs.Watch.{IsCalm, Watch}
 use Rattle.mar_store.specs.declared.Lost.{Lost}
 use Rattle.mar_store.specs.declared.Lost.TheVariants.{Fault, Memory}
 use Rattle.mar_store.proofs.Lookups.{AllByRecursion-contains, AllByRecursion-weaker}
-use Rattle.mar_node.specs.Cached.{Cached, epoch_of}
-use Rattle.mar_node.proofs.EntryLists.{one_of}
+use Rattle.mar_model.specs.Cached.{Cached, epoch_of}
+use Rattle.mar_model.proofs.EntryLists.{one_of}
 use Rattle.mar_cache.specs.Bounds.{Bounds, includes}
 use Rattle.mar_cache.specs.Shelved.{AllLieWithin, AreOf, DropsOlder, LiesWithin, LieWithin, pruned_bounds, raised}
 use Rattle.mar_epochs.specs.EpochStates.{ChangesEpoch, DestroysOrNot, EpochState, EpochStates, HasSome, IsBare, IsNestedEpoch, KeepsOtherEpochs, LeavesOtherEpochs, LosesEpoch, MightBe, OpensEpoch, is_opened, left_of_epoch, may_in, opened, shut}

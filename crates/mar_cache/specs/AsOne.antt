@@ -3,9 +3,9 @@ use Rattle.std.specs.Prelude.{List, None, Option, Some, [], false, filter, if◌
 use Rattle.std.specs.List.{list_any}
 use Rattle.mar_store.specs.Changes.{Left}
 use Rattle.mar_store.specs.Kept.{Kept}
-use Rattle.mar_node.specs.Cached.{Cached}
-use Rattle.mar_node.specs.declared.CacheTicket.{CacheTicket}
-use Rattle.mar_node.specs.declared.SectionSync.{SectionSync}
+use Rattle.mar_model.specs.Cached.{Cached}
+use Rattle.mar_model.specs.declared.CacheTicket.{CacheTicket}
+use Rattle.mar_model.specs.declared.SectionSync.{SectionSync}
 use Rattle.mar_cache.specs.Bounds.{Bounds}
 use Rattle.mar_epochs.specs.EpochStates.{EpochState, EpochStates, IsBare, held_in, is_opened, may_in, opened, sure_in}
 use Rattle.mar_cache.specs.SameEntries.{same_entry}

@@ -2,9 +2,9 @@
 use Rattle.std.specs.Prelude.{List, [], if◌then◌else◌, nat_le, ℕ, ◌++◌, ◌∷◌, ◌≡◌}
 use Rattle.std.specs.List.{AllByRecursion}
 use Rattle.mar_store.specs.Changes.{Within}
-use Rattle.mar_node.specs.Cached.{Cached, epoch_of}
+use Rattle.mar_model.specs.Cached.{Cached, epoch_of}
 use Rattle.mar_cache.specs.Bounds.{Bounds}
-use Rattle.mar_node.specs.Sections.{section_of}
+use Rattle.mar_model.specs.Sections.{section_of}
 use Rattle.mar_cache.specs.Shelved.{DoesAt, LeavesEpochs, at_epoch, nothing_gone, raised}
 use Rattle.mar_epochs.specs.EpochStates.{EpochStates}
 use Rattle.mar_epochs.specs.declared.Change.TheVariants.{Put, Sync}

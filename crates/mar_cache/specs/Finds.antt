@@ -1,8 +1,8 @@
 -- What a cache would hold that takes up what a crash left.
 use Rattle.std.specs.Prelude.{Bool, List, Option, option_map, ℕ}
 use Rattle.mar_store.specs.Changes.{left_of}
-use Rattle.mar_node.specs.Cached.{Cached}
-use Rattle.mar_node.specs.LuckyEntries.{lucky_entries}
+use Rattle.mar_model.specs.Cached.{Cached}
+use Rattle.mar_model.specs.LuckyEntries.{lucky_entries}
 use Rattle.mar_epochs.specs.EpochStates.{EpochStates}
 use Rattle.mar_cache.specs.AsOne.{kept_of}
 

@@ -3,13 +3,13 @@ use Rattle.std.specs.List.{AllByRecursion}
 use Rattle.std.specs.Prelude.{Bool, List, Option, false, true, filter, length, ℕ, ◌&&◌, ◌<◌, ◌==◌, ◌≡◌}
 use Rattle.mar_types.specs.Round.{Round}
 use Rattle.mar_store.specs.Changes.{Within}
-use Rattle.mar_node.specs.Cached.{Cached, epoch_of}
-use Rattle.mar_node.specs.Cache.{is_below}
+use Rattle.mar_model.specs.Cached.{Cached, epoch_of}
+use Rattle.mar_model.specs.Cache.{is_below}
 use Rattle.mar_epochs.specs.EpochStates.{ChangesEpoch, EpochStates, HasSome, IsBare, IsNestedEpoch, IsNewest, held_in, is_opened}
-use Rattle.mar_node.specs.Sections.{is_in}
+use Rattle.mar_model.specs.Sections.{is_in}
 use Rattle.mar_epochs.specs.declared.Change.TheVariants.{PruneBelow}
-use Rattle.mar_node.specs.declared.Section.{Section}
-use Rattle.mar_node.specs.AllEntries.{FirstsStay, LeavesEntries, LoadsEntries, PrunesEntries, PutsEntry, PutsEntryNow, soonest}
+use Rattle.mar_model.specs.declared.Section.{Section}
+use Rattle.mar_model.specs.AllEntries.{FirstsStay, LeavesEntries, LoadsEntries, PrunesEntries, PutsEntry, PutsEntryNow, soonest}
 use Rattle.mar_cache.specs.AsOne.{IsLoaded, greatest_highest, kept_of, may_of_some, sure_of_all}
 use Rattle.mar_cache.specs.Bounds.{Bounds}
 use Rattle.mar_cache.specs.Calls.{IsPut, IsPutAndSynced}

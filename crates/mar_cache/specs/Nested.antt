@@ -5,8 +5,8 @@ use Rattle.std.proofs.Common.{inl, inr, arith, cond, refl, subst}
 use Rattle.std.proofs.lemmas.Bool.{cases_eq, leb-true}
 use Rattle.std.proofs.lemmas.List.Elements.{Contains-append_cases, Contains-append_left, Contains-append_right}
 use Rattle.mar_store.specs.Changes.{Within}
-use Rattle.mar_node.specs.CacheCalls.{IsNestedCache}
-use Rattle.mar_node.specs.Cached.{Cached}
+use Rattle.mar_model.specs.CacheCalls.{IsNestedCache}
+use Rattle.mar_model.specs.Cached.{Cached}
 use Rattle.mar_epochs.specs.EpochStates.{EpochState, EpochStates, HasSome, IsNestedEpoch, held_in, is_opened, may_in, opened, shut, sure_in}
 use Rattle.mar_cache.specs.AsOne.{kept_of, may_of_some, sure_of_all, up_to}
 use Rattle.mar_cache.specs.Bounds.{Bounds, includes}

@@ -3,7 +3,7 @@ use Rattle.std.specs.Prelude.{Bool, bytes_eq, false, ◌&&◌, ◌==◌}
 use Rattle.mar_types.specs.Round.{round_eq}
 use Rattle.mar_cert.specs.Block.{Block}
 use Rattle.mar_cert.specs.Finalization.{Finalization}
-use Rattle.mar_node.specs.Cached.{Cached, certified_entry, finalization_entry, notarization_entry, notarized_entry, verified_entry}
+use Rattle.mar_model.specs.Cached.{Cached, certified_entry, finalization_entry, notarization_entry, notarized_entry, verified_entry}
 
 abbrev pub same_block : Block → Block → Bool
 same_block a b = bytes_eq a.digest b.digest && (bytes_eq a.commitment b.commitment && (a.height == b.height && (bytes_eq a.parent b.parent && (bytes_eq a.parent_commitment b.parent_commitment && bytes_eq a.encoded b.encoded))))

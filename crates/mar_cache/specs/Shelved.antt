@@ -5,18 +5,18 @@ use Rattle.mar_store.specs.Changes.{Within}
 use Rattle.mar_store.specs.Tickets.{last_number}
 use Rattle.mar_store.specs.Watch.{Follows, Watch}
 use Rattle.mar_store.specs.declared.Alarm.{Alarm}
-use Rattle.mar_node.specs.Cached.{Cached, epoch_of}
-use Rattle.mar_node.specs.Cache.{is_below}
+use Rattle.mar_model.specs.Cached.{Cached, epoch_of}
+use Rattle.mar_model.specs.Cache.{is_below}
 use Rattle.mar_cache.specs.Bounds.{Bounds, includes}
 use Rattle.mar_epochs.specs.EpochStates.{ChangesEpoch, EpochState, EpochStates, HasSome, IsBare, KeepsOtherEpochs, LeavesEpoch, OpensEpoch, held_in, is_opened, may_in, opened, sure_in}
 use Rattle.mar_epochs.specs.declared.Change.{Change}
 use Rattle.mar_epochs.specs.declared.Change.TheVariants.{Finish}
-use Rattle.mar_node.specs.declared.Section.{Section}
-use Rattle.mar_node.specs.declared.Started.{Started}
-use Rattle.mar_node.specs.declared.Started.TheVariants.{Ready, Ticket}
-use Rattle.mar_node.specs.declared.CacheTicket.{CacheTicket}
-use Rattle.mar_node.specs.declared.SectionSync.{SectionSync}
-use Rattle.mar_node.specs.Sections.{is_in}
+use Rattle.mar_model.specs.declared.Section.{Section}
+use Rattle.mar_model.specs.declared.Started.{Started}
+use Rattle.mar_model.specs.declared.Started.TheVariants.{Ready, Ticket}
+use Rattle.mar_model.specs.declared.CacheTicket.{CacheTicket}
+use Rattle.mar_model.specs.declared.SectionSync.{SectionSync}
+use Rattle.mar_model.specs.Sections.{is_in}
 
 -- what an alarm tells; other calls than armed ones fail unless the stores below are calm
 abbrev pub shelf_watch : Option Follows → Alarm → Bool → Watch

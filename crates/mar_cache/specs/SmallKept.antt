@@ -2,7 +2,7 @@
 use Rattle.std.specs.Prelude.{Contains, List, [], suc, zero, ℕ, ◌∷◌}
 use Rattle.std.proofs.Common.{inl, inr, arith, refl}
 use Rattle.std.proofs.lemmas.List.Elements.{Contains-append_cases}
-use Rattle.mar_node.specs.SmallEntries.{AreSmallEntries}
+use Rattle.mar_model.specs.SmallEntries.{AreSmallEntries}
 use Rattle.mar_epochs.specs.EpochStates.{EpochStates, may_in}
 use Rattle.mar_epochs.specs.SmallStates.{AreSmallEpochs, small_none}
 use Rattle.mar_cache.specs.AsOne.{kept_of, may_of_some, up_to}

@@ -1,6 +1,6 @@
 -- How far a cache has come since its reopening, and what its epochs are like then.
 use Rattle.std.specs.Prelude.{Bool, Contains, false, true, ℕ, ◌≡◌}
-use Rattle.mar_node.specs.Cached.{Cached}
+use Rattle.mar_model.specs.Cached.{Cached}
 use Rattle.mar_epochs.specs.EpochStates.{EpochStates, is_opened, may_in}
 use Rattle.mar_cache.specs.declared.stage.Stage.{Stage}
 use Rattle.mar_cache.specs.declared.stage.Stage.TheVariants.{Begun, Fresh, Loaded}

@@ -16,7 +16,7 @@ pub use laws::{
 };
 pub use manager::{Manager, ManagerWreck};
 pub use mar_epochs::{CacheEntry, Epochs, EpochsRuin, KeptEntry, KeyedEntry};
-pub use mar_node::{
+pub use mar_model::{
     BlockName, Cache, CacheTicket, Entry, Section, SectionSync, Shelf, ShelfRuin, Sought, Started,
 };
 pub use mem_shelf::{MemEpochs, empty_shelf};

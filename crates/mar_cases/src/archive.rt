@@ -5,8 +5,8 @@ use crate::marks::Mark;
 use crate::mem_disk::MemDisk;
 use crate::store::Store;
 use crate::text::both_text;
-use mar_durable::{JournalArchive, JournalArchiveWreck};
 use mar_journal::Unopened;
+use mar_journal_stores::{JournalArchive, JournalArchiveWreck};
 use mar_store::{Archive, Identifier, Lost, SyncTicket};
 use std::alloc::{AllocError, Global};
 

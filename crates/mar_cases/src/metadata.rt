@@ -4,8 +4,8 @@ ghost use Rattle.mar_store.specs.Values.{others_of, with_key};
 
 use crate::mem_disk::MemDisk;
 use crate::store::Store;
-use mar_durable::{JournalMeta, JournalMetaWreck};
 use mar_journal::Unopened;
+use mar_journal_stores::{JournalMeta, JournalMetaWreck};
 use mar_store::{Lost, Meta};
 use std::alloc::Global;
 

@@ -3,7 +3,7 @@ use Rattle.std.proofs.Common.{◌≡◌, ◌≤◌, ◌<◌, ◌+◌, ◌∙◌,
 use Rattle.std.proofs.Math.ListN.{get_or-map}
 use Rattle.std.proofs.lemmas.List.{length-map, map-set}
 use Rattle.mar_epochs.specs.EntryLogs.{Logged, count_next, drawn, with_draw}
-use Rattle.mar_node.specs.declared.Section.{Section}
+use Rattle.mar_model.specs.declared.Section.{Section}
 
 -- the first so many drawn, and the bit of the next
 abbrev pub drawn_front : Section → ℕ → ℕ → ℕ → List Logged → List Logged

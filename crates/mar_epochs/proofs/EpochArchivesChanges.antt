@@ -10,13 +10,13 @@ use Rattle.mar_store.specs.Changes.{Within, left_of}
 use Rattle.mar_store.specs.Luck.{is_lucky}
 use Rattle.mar_store.specs.Tickets.{last_number}
 use Rattle.mar_store.proofs.Lookups.{AllByRecursion-push, AllByRecursion-weaker}
-use Rattle.mar_node.specs.Cached.{Cached, EachPlaceOnce, same_place}
-use Rattle.mar_node.specs.Sections.{is_in}
+use Rattle.mar_model.specs.Cached.{Cached, EachPlaceOnce, same_place}
+use Rattle.mar_model.specs.Sections.{is_in}
 use Rattle.mar_epochs.specs.EntryLogs.{AreNumbered, Logged, book_of, covered_in, drawn, drawn_in_all, entries, is_covered, is_drawn, is_numbered, kept_in, log_of, logged_of, sure_entries, with_draw, with_mark, count_next}
 use Rattle.mar_epochs.specs.declared.logged_entry.LoggedEntry.{LoggedEntry}
 use Rattle.mar_epochs.specs.EpochArchives.{ChangesArchives, FindsArchives, KeepsCovered, LosesArchives, held_after, is_kept, newly_sure}
-use Rattle.mar_node.specs.declared.Section.{Section}
-use Rattle.mar_node.specs.declared.Section.TheVariants.{Certified, Finalizations, Notarizations, Notarized, Verified}
+use Rattle.mar_model.specs.declared.Section.{Section}
+use Rattle.mar_model.specs.declared.Section.TheVariants.{Certified, Finalizations, Notarizations, Notarized, Verified}
 use Rattle.mar_epochs.specs.declared.change.Change.{Change}
 use Rattle.mar_epochs.specs.declared.change.Change.TheVariants.{Put}
 use Rattle.mar_epochs.specs.Laws.{covers_last, filter_within}

@@ -2,7 +2,7 @@
 use Rattle.std.proofs.Common.{◌≡◌, ◌∙◌, ◌<◌, ◌+◌, ℕ, zero, suc, List, [], ◌∷◌, ◌++◌, Bool, Option, Some, None, cond, refl, sym, ap, map, take, length, get_or, arith}
 use Rattle.std.specs.Prelude.{option_map, slice_get}
 use Rattle.std.proofs.lemmas.List.{map_push, length-map, take_more, length-take-le}
-use Rattle.mar_node.specs.Cached.{Cached}
+use Rattle.mar_model.specs.Cached.{Cached}
 use Rattle.mar_epochs.specs.EntryLogs.{entries, log_of, logged_of}
 use Rattle.mar_epochs.specs.Spots.{sooner, spot_at, spot_found}
 use Rattle.mar_epochs.specs.declared.logged_entry.LoggedEntry.{LoggedEntry}

@@ -20,7 +20,7 @@ use Rattle.mar_store.specs.Lost.{wreck_of}
 use Rattle.mar_store.specs.declared.Lost.{Lost}
 use Rattle.mar_store.specs.Names.{IsDestroyedOrNot, IsOpenedOrNot, Names, Opens, SetsName}
 use Rattle.mar_store.proofs.Lookups.{AllByRecursion-contains, AllByRecursion-from_contains, AllByRecursion-push, AllByRecursion-weaker}
-use Rattle.mar_node.specs.Cached.{Cached}
+use Rattle.mar_model.specs.Cached.{Cached}
 use Rattle.mar_epochs.specs.EpochArchives.{Book, ChangesArchives, FindsArchives, IsOfMemory, KeepsArchives, LosesArchives, is_kept, nothing_left, puts_of}
 use Rattle.mar_epochs.specs.EpochStates.{ChangesEpoch, DestroysOrNot, EpochState, EpochStates, HasSome, IsBare, IsLeftOrBare, KeepsOtherEpochs, LeavesEpoch, LeavesOtherEpochs, LosesEpoch, MightBe, OpensEpoch, PutsBack, held_in, is_opened, is_upto, left_of_epoch, newer_of, none_gone, opened, shut, state_at, state_of_slot, state_under, states_of}
 use Rattle.mar_epochs.specs.declared.change.Change.{Change}

@@ -8,13 +8,13 @@ use Rattle.std.proofs.lemmas.Slice.Eq.{bytes_eq-Decides}
 use Rattle.mar_types.specs.Round.{Round, round_eq}
 use Rattle.mar_store.specs.Changes.{left_of}
 use Rattle.mar_store.specs.Luck.{is_lucky}
-use Rattle.mar_node.specs.AllEntries.{is_in_place}
-use Rattle.mar_node.specs.Cache.{same_archive}
-use Rattle.mar_node.specs.Cached.{Cached, EachPlaceOnce, certified_entry, epoch_of, finalization_entry, notarization_entry, notarized_entry, same_place, verified_entry}
-use Rattle.mar_node.specs.LuckyEntries.{count_beside, is_sure_in, lucky_behind, lucky_entries}
-use Rattle.mar_node.specs.Sections.{is_in, rank, section_of}
-use Rattle.mar_node.specs.declared.Section.{Section}
-use Rattle.mar_node.specs.declared.Section.TheVariants.{Certified, Finalizations, Notarizations, Notarized, Verified}
+use Rattle.mar_model.specs.AllEntries.{is_in_place}
+use Rattle.mar_model.specs.Cache.{same_archive}
+use Rattle.mar_model.specs.Cached.{Cached, EachPlaceOnce, certified_entry, epoch_of, finalization_entry, notarization_entry, notarized_entry, same_place, verified_entry}
+use Rattle.mar_model.specs.LuckyEntries.{count_beside, is_sure_in, lucky_behind, lucky_entries}
+use Rattle.mar_model.specs.Sections.{is_in, rank, section_of}
+use Rattle.mar_model.specs.declared.Section.{Section}
+use Rattle.mar_model.specs.declared.Section.TheVariants.{Certified, Finalizations, Notarizations, Notarized, Verified}
 use Rattle.mar_epochs.specs.EntryLogs.{Logged, drawn, drawn_in_all, entries, kept_in, sure_entries}
 use Rattle.mar_epochs.proofs.Filtering.{contains_here, contains_more, contains_none, none_of_filter, or_false_left, or_false_right}
 

@@ -3,7 +3,7 @@ use Rattle.std.proofs.Common.{◌≡◌, ◌∙◌, ℕ, Bool, true, false, List
 use Rattle.mar_store.specs.Changes.{Left}
 use Rattle.mar_store.specs.Watch.{Follows}
 use Rattle.mar_store.specs.declared.Lost.{Lost}
-use Rattle.mar_node.specs.Cached.{Cached}
+use Rattle.mar_model.specs.Cached.{Cached}
 use Rattle.mar_epochs.specs.EpochArchives.{Book}
 use Rattle.mar_epochs.specs.EpochStates.{EpochState, EpochStates, PutsBack, shut}
 use Rattle.mar_epochs.specs.Picks.{PicksEpoch, PicksHeld, follows_if, picks_by}

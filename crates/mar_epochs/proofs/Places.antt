@@ -4,7 +4,7 @@ use Rattle.std.specs.List.{list_any}
 use Rattle.std.proofs.lemmas.Bool.Decides.{same_from_decides, Decides-eqb}
 use Rattle.std.proofs.lemmas.Slice.Eq.{bytes_eq-Decides}
 use Rattle.mar_types.specs.Round.{Round, round_eq}
-use Rattle.mar_node.specs.Cached.{Cached, EachPlaceOnce, certified_entry, finalization_entry, notarization_entry, notarized_entry, same_place, verified_entry}
+use Rattle.mar_model.specs.Cached.{Cached, EachPlaceOnce, certified_entry, finalization_entry, notarization_entry, notarized_entry, same_place, verified_entry}
 use Rattle.mar_epochs.proofs.Filtering.{none_of_filter, or_false_left, or_false_right}
 
 decides_sym : {A : Type 0} (test : A → A → Bool) (says : (x y : A) → Decides (test x y) (x ≡ y)) (x y : A) → test x y ≡ test y x

@@ -3,8 +3,8 @@ use Rattle.std.proofs.Common.{◌≡◌, ◌∙◌, ◌+◌, ◌||◌, ◌&&◌,
 use Rattle.std.specs.Prelude.{slice_get, ⊤}
 use Rattle.std.proofs.lemmas.Bool.Decides.{nat_tests}
 use Rattle.std.specs.List.{list_any}
-use Rattle.mar_node.specs.Cached.{Cached}
-use Rattle.mar_node.specs.Sections.{earlier_of, first_found, index_of, rank, section_of, stands_before}
+use Rattle.mar_model.specs.Cached.{Cached}
+use Rattle.mar_model.specs.Sections.{earlier_of, first_found, index_of, rank, section_of, stands_before}
 use Rattle.mar_epochs.specs.Spots.{at_spot, found_from, sooner, spot_at, spot_before, spot_found}
 use Rattle.mar_epochs.specs.declared.index.Spot.{Spot}
 

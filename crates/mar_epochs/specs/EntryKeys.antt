@@ -1,10 +1,10 @@
 -- What the entries over blocks of a kind are found by.
 use Rattle.std.specs.Prelude.{Bool, List, bytes_eq, false, ℕ, ◌&&◌, ◌==◌}
 use Rattle.mar_types.specs.Round.{Round, round_eq}
-use Rattle.mar_node.specs.Cached.{Cached, cached_block, certified_entry, finalization_entry, notarized_entry}
-use Rattle.mar_node.specs.Entries.{has_commitment, has_digest, is_for, is_notarization_at, is_verified_at}
-use Rattle.mar_node.specs.declared.Sought.{Sought}
-use Rattle.mar_node.specs.declared.Sought.TheVariants as Looked
+use Rattle.mar_model.specs.Cached.{Cached, cached_block, certified_entry, finalization_entry, notarized_entry}
+use Rattle.mar_model.specs.Entries.{has_commitment, has_digest, is_for, is_notarization_at, is_verified_at}
+use Rattle.mar_model.specs.declared.Sought.{Sought}
+use Rattle.mar_model.specs.declared.Sought.TheVariants as Looked
 use Rattle.mar_epochs.specs.declared.entry_key.EntryKey.{EntryKey}
 use Rattle.mar_epochs.specs.declared.entry_key.EntryKey.TheVariants.{BlockOf, CertifiedBlock, CommittedTo, FinalizationAt, FinalizationFor, NotarizationAt, NotarizedAt, VerifiedAt, VerifiedBlock}
 

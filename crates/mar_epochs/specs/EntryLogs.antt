@@ -4,11 +4,11 @@ use Rattle.std.specs.List.{AllByRecursion}
 use Rattle.mar_store.specs.Kept.{Kept}
 use Rattle.mar_store.specs.Luck.{is_lucky}
 use Rattle.mar_store.specs.Tickets.{last_number}
-use Rattle.mar_node.specs.Cached.{Cached}
-use Rattle.mar_node.specs.Sections.{is_in}
+use Rattle.mar_model.specs.Cached.{Cached}
+use Rattle.mar_model.specs.Sections.{is_in}
 use Rattle.mar_epochs.specs.EpochArchives.{Book}
-use Rattle.mar_node.specs.declared.Section.{Section}
-use Rattle.mar_node.specs.declared.Section.TheVariants.{Certified, Finalizations, Notarizations, Notarized, Verified}
+use Rattle.mar_model.specs.declared.Section.{Section}
+use Rattle.mar_model.specs.declared.Section.TheVariants.{Certified, Finalizations, Notarizations, Notarized, Verified}
 use Rattle.mar_epochs.specs.declared.logged_entry.LoggedEntry.{LoggedEntry}
 
 pub record Logged : Type 0 where

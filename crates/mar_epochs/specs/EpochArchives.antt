@@ -5,10 +5,10 @@ use Rattle.mar_store.specs.Changes.{Left, Within}
 use Rattle.mar_store.specs.Tickets.{last_number}
 use Rattle.mar_store.specs.declared.Lost.{Lost}
 use Rattle.mar_store.specs.declared.Lost.TheVariants.{Fault, Memory}
-use Rattle.mar_node.specs.Cached.{CacheReopens, Cached, EachPlaceOnce, with_entry}
-use Rattle.mar_node.specs.Cache.{is_below, is_certified_below}
-use Rattle.mar_node.specs.Sections.{is_in}
-use Rattle.mar_node.specs.declared.Section.{Section}
+use Rattle.mar_model.specs.Cached.{CacheReopens, Cached, EachPlaceOnce, with_entry}
+use Rattle.mar_model.specs.Cache.{is_below, is_certified_below}
+use Rattle.mar_model.specs.Sections.{is_in}
+use Rattle.mar_model.specs.declared.Section.{Section}
 use Rattle.mar_epochs.specs.declared.change.Change.{Change}
 use Rattle.mar_epochs.specs.declared.change.Change.TheVariants.{Finish, PruneBelow, PruneCertified, Put, Sync}
 

@@ -8,10 +8,10 @@ use Rattle.mar_store.specs.Changes.{Left, Within, left_of}
 use Rattle.mar_store.specs.Lost.{wreck_of}
 use Rattle.mar_store.specs.declared.Lost.{Lost}
 use Rattle.mar_store.specs.Names.{Names}
-use Rattle.mar_node.specs.Cached.{Cached}
-use Rattle.mar_node.specs.Sections.{first_found, is_in}
+use Rattle.mar_model.specs.Cached.{Cached}
+use Rattle.mar_model.specs.Sections.{first_found, is_in}
 use Rattle.mar_epochs.specs.EpochArchives.{AreNestedArchives, Book, ChangesArchives, FindsArchives, is_fault, nothing_left}
-use Rattle.mar_node.specs.declared.Section.{Section}
+use Rattle.mar_model.specs.declared.Section.{Section}
 use Rattle.mar_epochs.specs.declared.change.Change.{Change}
 use Rattle.mar_epochs.specs.declared.slot.Slot.{Slot}
 use Rattle.mar_epochs.specs.declared.slot.Slot.TheVariants.{Away, Leftover, Standing}

@@ -3,9 +3,9 @@ use Rattle.std.specs.Prelude.{Bool, Contains, IsTrue, List, [], filter, length, 
 use Rattle.std.proofs.Common.{ap, arith, cond, eqb-true, refl, true, false, ◌∙◌}
 use Rattle.mar_store.specs.Changes.{Within, left_of}
 use Rattle.mar_store.specs.Tickets.{last_number}
-use Rattle.mar_node.specs.Cached.{Cached, EachPlaceOnce}
-use Rattle.mar_node.specs.Sections.{is_in}
-use Rattle.mar_node.specs.declared.Section.{Section}
+use Rattle.mar_model.specs.Cached.{Cached, EachPlaceOnce}
+use Rattle.mar_model.specs.Sections.{is_in}
+use Rattle.mar_model.specs.declared.Section.{Section}
 use Rattle.mar_epochs.specs.EntryLogs.{Logged, book_of, covered_in, entries, is_covered, kept_in, log_of}
 use Rattle.mar_epochs.specs.declared.logged_entry.LoggedEntry.{LoggedEntry}
 use Rattle.mar_epochs.specs.EpochArchives.{AreNestedArchives, nothing_left}

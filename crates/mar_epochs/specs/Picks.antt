@@ -5,8 +5,8 @@ use Rattle.std.proofs.lemmas.List.{length-map}
 use Rattle.mar_store.specs.Changes.{Left}
 use Rattle.mar_store.specs.Luck.{keeps_by}
 use Rattle.mar_store.specs.Watch.{Follows}
-use Rattle.mar_node.specs.Cached.{Cached, epoch_of}
-use Rattle.mar_node.specs.LuckyEntries.{lucky_entries}
+use Rattle.mar_model.specs.Cached.{Cached, epoch_of}
+use Rattle.mar_model.specs.LuckyEntries.{lucky_entries}
 use Rattle.mar_epochs.specs.EpochStates.{EpochState, opened, shut}
 
 -- the numbers that a luck keeps, where archives go by luck

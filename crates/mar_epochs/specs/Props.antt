@@ -2,7 +2,7 @@
 use Rattle.std.specs.Prelude.{List, [], ℕ, ◌∷◌}
 use Rattle.std.specs.Coded.{Coded-set, coded_bool, ×_prop, Unit-prop}
 use Rattle.std.specs.List.{AllByRecursion-prop}
-use Rattle.mar_node.specs.Cached.{Cached, EachPlaceOnce}
+use Rattle.mar_model.specs.Cached.{Cached, EachPlaceOnce}
 use Rattle.mar_epochs.specs.EntryLogs.{AreNumbered, Logged}
 
 pub EachPlaceOnce-prop : (xs : List Cached) → IsProp (EachPlaceOnce xs)

@@ -6,8 +6,8 @@ use Rattle.std.specs.Prelude.{Bool, Contains, List, None, Option, Some, [], fals
 use Rattle.std.proofs.Common.{arith, subst}
 use Rattle.mar_store.specs.Changes.{Left, left_of}
 use Rattle.mar_store.specs.Names.{Names}
-use Rattle.mar_node.specs.Cached.{Cached, certified_entry, finalization_entry, notarization_entry, notarized_entry, verified_entry}
-use Rattle.mar_node.specs.SmallEntries.{AreSmallEntries, IsSmallEntry}
+use Rattle.mar_model.specs.Cached.{Cached, certified_entry, finalization_entry, notarization_entry, notarized_entry, verified_entry}
+use Rattle.mar_model.specs.SmallEntries.{AreSmallEntries, IsSmallEntry}
 use Rattle.mar_epochs.specs.EntryLogs.{entries, log_of}
 use Rattle.mar_epochs.specs.EpochArchives.{Book}
 use Rattle.mar_epochs.specs.EpochStates.{EpochState, EpochStates, left_of_epoch, may_in, opened, shut, state_at, state_under, states_of}

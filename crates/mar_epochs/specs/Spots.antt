@@ -1,7 +1,7 @@
 -- Where the entry stands that a search finds, as an index keeps it.
 use Rattle.std.specs.Prelude.{Bool, List, None, Option, Some, [], false, if◌then◌else◌, nat_lt, slice_get, suc, ℕ, ◌&&◌, ◌==◌, ◌||◌, ◌∷◌}
-use Rattle.mar_node.specs.Cached.{Cached}
-use Rattle.mar_node.specs.Sections.{index_of, rank, section_of}
+use Rattle.mar_model.specs.Cached.{Cached}
+use Rattle.mar_model.specs.Sections.{index_of, rank, section_of}
 use Rattle.mar_epochs.specs.declared.index.Spot.{Spot}
 use Rattle.mar_epochs.specs.declared.keys.Keys.{Keys}
 

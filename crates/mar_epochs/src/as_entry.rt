@@ -2,14 +2,14 @@
 ghost use Rattle.std.specs.Prelude.{◌≡◌, Bool, IfErr, IfOk, option_map};
 ghost use Rattle.std.specs.Option.{option_copied};
 ghost use Rattle.std.specs.Ordering.{eq_by_cmp};
-ghost use Rattle.mar_node.specs.Cached.{Cached, epoch_of, same_place};
-ghost use Rattle.mar_node.specs.Cache.{is_below, is_certified_below};
-ghost use Rattle.mar_node.specs.SmallEntries.{IsSmallEntry};
-ghost use Rattle.mar_node.specs.Sections.{index_of, section_of};
+ghost use Rattle.mar_model.specs.Cached.{Cached, epoch_of, same_place};
+ghost use Rattle.mar_model.specs.Cache.{is_below, is_certified_below};
+ghost use Rattle.mar_model.specs.SmallEntries.{IsSmallEntry};
+ghost use Rattle.mar_model.specs.Sections.{index_of, section_of};
 ghost use Rattle.mar_epochs.specs.Spots.{is_among};
 
 use crate::keys::Keys;
-use mar_node::Section;
+use mar_model::Section;
 use mar_store::Miss;
 use mar_types::{Epoch, Height, Round};
 use std::alloc::AllocError;

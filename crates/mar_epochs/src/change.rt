@@ -1,5 +1,5 @@
 //! What changes the archives of an epoch.
-use mar_node::Section;
+use mar_model::Section;
 use mar_types::{Height, Round};
 
 /// A change of the archives of an epoch.

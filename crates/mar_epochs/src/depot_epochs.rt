@@ -5,7 +5,7 @@ ghost use Rattle.std.specs.List.{AllByRecursion};
 ghost use Rattle.std.specs.Ordering.{nat_cmp};
 ghost use Rattle.std.specs.BTreeMap.{get};
 ghost use Rattle.mar_store.specs.Lost.{wreck_of};
-ghost use Rattle.mar_node.specs.Sections.{first_found};
+ghost use Rattle.mar_model.specs.Sections.{first_found};
 ghost use Rattle.mar_epochs.specs.EpochArchives.{IsOfMemory, is_kept, puts_of};
 ghost use Rattle.mar_epochs.specs.EpochStates.{ChangesEpoch, KeepsOtherEpochs, LosesEpoch, OpensEpoch, PutsBack, held_in, is_opened, is_upto, left_of_epoch, nested_states, nested_ways, newer_of, none_gone, opened, shut, some_ways, state_of_slot, state_under, states_of};
 ghost use Rattle.mar_epochs.specs.SmallStates.{small_states, small_ways};

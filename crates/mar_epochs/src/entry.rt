@@ -1,8 +1,8 @@
 //! What keeps the entries of a cache, over blocks of a kind and certificates.
 ghost use Rattle.std.specs.Prelude.{◌≡◌};
 ghost use Rattle.mar_types.specs.Round.{round_lt};
-ghost use Rattle.mar_node.specs.Entries.{cached_of, is_sought};
-ghost use Rattle.mar_node.specs.SmallEntries.{IsSmallEntry};
+ghost use Rattle.mar_model.specs.Entries.{cached_of, is_sought};
+ghost use Rattle.mar_model.specs.SmallEntries.{IsSmallEntry};
 ghost use Rattle.mar_epochs.specs.EntryKeys.{has_key};
 ghost use Rattle.mar_epochs.specs.SmallStates.{IsSmallEntry-prop};
 
@@ -11,7 +11,7 @@ use crate::entry_key::{EntryKey, block_keys, certificate_keys, key_of, keys_comp
 use crate::keys::Keys;
 use mar_block::Variant;
 use mar_cert::{AsFinalization, CommitsTo};
-use mar_node::{Entry, Section, Sought};
+use mar_model::{Entry, Section, Sought};
 use mar_types::{Epoch, Height, Round};
 use std::alloc::AllocError;
 use std::marker::PhantomData;

@@ -5,7 +5,7 @@ ghost use Rattle.mar_epochs.specs.EntryKeys.{key_of, same_key};
 ghost use Rattle.mar_epochs.specs.declared.entry_key.EntryKey.{EntryKey as KeyOf};
 
 use crate::keys::Keys;
-use mar_node::Sought;
+use mar_model::Sought;
 use mar_types::{Height, Named, Round};
 
 /// What an entry is found by: its place in its archive, or what it shares with others.

@@ -3,8 +3,8 @@ ghost use Rattle.std.specs.Prelude.{◌≡◌, ◌++◌, ◌∷◌, [], false, f
 ghost use Rattle.std.specs.Option.{option_copied};
 ghost use Rattle.std.specs.List.{list_all, list_any};
 ghost use Rattle.mar_store.specs.Tickets.{last_number};
-ghost use Rattle.mar_node.specs.Cached.{EachPlaceOnce, same_place};
-ghost use Rattle.mar_node.specs.Cache.{is_below, is_certified_below};
+ghost use Rattle.mar_model.specs.Cached.{EachPlaceOnce, same_place};
+ghost use Rattle.mar_model.specs.Cache.{is_below, is_certified_below};
 ghost use Rattle.mar_epochs.specs.EntryLogs.{AreNumbered, drawn_in_all, entries, log_of, with_mark};
 ghost use Rattle.mar_epochs.specs.Props.{AreNumbered-prop, EachPlaceOnce-prop};
 
@@ -12,7 +12,7 @@ use crate::as_entry::AsEntry;
 use crate::logged_entry::{
     LoggedEntry, are_sure, copies_of, mark, settle, take_below, take_certified,
 };
-use mar_node::Section;
+use mar_model::Section;
 use mar_types::{Height, Round};
 use std::alloc::{AllocError, Global};
 

@@ -4,15 +4,15 @@ ghost use Rattle.std.specs.Option.{option_copied};
 ghost use Rattle.mar_store.specs.Changes.{Left, Within, left_of};
 ghost use Rattle.mar_store.specs.Lost.{wreck_of};
 ghost use Rattle.mar_store.specs.Watch.{Follows};
-ghost use Rattle.mar_node.specs.Cached.{Cached};
-ghost use Rattle.mar_node.specs.Sections.{first_found, is_in};
-ghost use Rattle.mar_node.specs.SmallEntries.{AreSmallEntries};
+ghost use Rattle.mar_model.specs.Cached.{Cached};
+ghost use Rattle.mar_model.specs.Sections.{first_found, is_in};
+ghost use Rattle.mar_model.specs.SmallEntries.{AreSmallEntries};
 ghost use Rattle.mar_epochs.specs.EpochArchives.{AreNestedArchives, Book, ChangesArchives, FindsArchives, IsOfMemory, KeepsArchives, LosesArchives, nothing_left};
 ghost use Rattle.mar_epochs.specs.Picks.{PicksHeld, picks_by};
 
 use crate::as_entry::AsEntry;
 use crate::change::Change;
-use mar_node::Section;
+use mar_model::Section;
 use mar_store::{Depot, Lost};
 
 /// What is left of the archives of an epoch.

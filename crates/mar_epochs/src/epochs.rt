@@ -4,7 +4,7 @@ ghost use Rattle.std.specs.Option.{option_copied};
 ghost use Rattle.std.specs.List.{AllByRecursion};
 ghost use Rattle.mar_store.specs.Lost.{wreck_of};
 ghost use Rattle.mar_store.specs.Watch.{Follows};
-ghost use Rattle.mar_node.specs.Sections.{first_found};
+ghost use Rattle.mar_model.specs.Sections.{first_found};
 ghost use Rattle.mar_epochs.specs.EpochArchives.{IsOfMemory, is_kept, puts_of};
 ghost use Rattle.mar_epochs.specs.EpochStates.{ChangesEpoch, DestroysOrNot, EpochStates, HasSome, IsBare, IsNestedEpoch, IsNewest, IsTicket, KeepsOtherEpochs, LosesEpoch, MightBe, OpensEpoch, SameEpochs, held_in, is_opened, left_of_epoch, none_gone};
 ghost use Rattle.mar_epochs.specs.SmallStates.{AreSmallEpochs};

@@ -26,5 +26,5 @@ pub use epoch_archives::{EpochArchives, EpochArchivesDepot, EpochArchivesRuin};
 pub use epochs::{Epochs, EpochsRuin};
 pub use keys::Keys;
 pub use losses::{lost_by, parts_of};
-pub use mar_node::{BlockName, Entry, Section, Sought, sought_block};
+pub use mar_model::{BlockName, Entry, Section, Sought, sought_block};
 pub use mem_epoch_archives::{MemEpochArchives, MemEpochArchivesWreck};

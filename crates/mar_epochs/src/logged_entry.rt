@@ -3,13 +3,13 @@ ghost use Rattle.std.specs.Prelude.{◌≡◌, ◌==◌, ◌||◌, ◌<◌, IfOk
 ghost use Rattle.std.specs.List.{list_all};
 ghost use Rattle.std.specs.BTreeMap.{get};
 ghost use Rattle.mar_store.specs.Tickets.{last_number};
-ghost use Rattle.mar_node.specs.Cache.{is_below, is_certified_below};
+ghost use Rattle.mar_model.specs.Cache.{is_below, is_certified_below};
 ghost use Rattle.mar_epochs.specs.EntryLogs.{count_next, drawn, drawn_in_all, entries, log_of, logged_of, with_draw, with_mark};
 ghost use Rattle.mar_epochs.specs.Spots.{sooner, spot_at, spot_found};
 
 use crate::as_entry::{AsEntry, KeyedEntry};
 use crate::index::{Index, Spot};
-use mar_node::Section;
+use mar_model::Section;
 use mar_store::is_lucky;
 use mar_types::{Height, Round};
 use std::alloc::{AllocError, Global};

@@ -7,7 +7,7 @@ ghost use Rattle.mar_store.specs.Changes.{left_of};
 ghost use Rattle.mar_store.specs.Lost.{wreck_of};
 ghost use Rattle.mar_store.specs.Watch.{by_half};
 ghost use Rattle.mar_store.specs.declared.LuckHalf.TheVariants.{Low};
-ghost use Rattle.mar_node.specs.Cached.{same_place};
+ghost use Rattle.mar_model.specs.Cached.{same_place};
 ghost use Rattle.mar_epochs.specs.EntryLogs.{book_of, drawn_in_all, entries, kept_in, log_of, with_mark};
 ghost use Rattle.mar_epochs.specs.Spots.{spot_found};
 ghost use Rattle.mar_epochs.specs.EpochArchives.{ChangesArchives, IsOfMemory, LosesArchives};
@@ -20,7 +20,7 @@ use crate::entry_log::EntryLog;
 use crate::epoch_archives::{EpochArchives, EpochArchivesDepot, EpochArchivesRuin};
 use crate::index::Index;
 use crate::logged_entry::{index_of, note};
-use mar_node::Section;
+use mar_model::Section;
 use mar_store::{EmptyStore, Lost, LuckHalf, MemDepot};
 use std::alloc::{AllocError, Global};
 

@@ -2,8 +2,8 @@
 ghost use Rattle.std.specs.Prelude.{◌≡◌};
 ghost use Rattle.std.proofs.Props.{props};
 ghost use Rattle.mar_actor.specs.Views.{event_of};
-ghost use Rattle.mar_node.specs.Promise.{IsSmallEvent};
-ghost use Rattle.mar_node.specs.Stored.{AreSmall};
+ghost use Rattle.mar_model.specs.Promise.{IsSmallEvent};
+ghost use Rattle.mar_model.specs.Stored.{AreSmall};
 
 use crate::chain::{Block, genesis};
 use crate::service::Service;

@@ -3,13 +3,11 @@
 //! function that names it, and all of them at once are more than the check covers.
 use crate::lives::{Outcome, Told, lives};
 use mar_actor::{Fault, Ruins, Stores};
-use mar_archives::immutable;
 use mar_block::StandardBlocks;
 use mar_cache::{CacheEntry, EpochCache, Epochs, KeptEntry, KeyedEntry, Shelf, empty_shelf};
 use mar_cert::CommitsTo;
-use mar_shelf::{
-    BlockItem, Blocks, CacheInPlace, CertificateItem, Certificates, LifeNotarizations,
-};
+use mar_life::{BlockItem, Blocks, CacheInPlace, CertificateItem, Certificates, LifeNotarizations};
+use mar_shelf::immutable;
 use mar_store::{Archive, LuckHalf, MemArchive, MemMeta, Meta};
 use mar_types::Sha256Digest;
 use std::alloc::Global;

@@ -10,8 +10,8 @@ use Rattle.mar_types.specs.Round.{round_lt}
 use Rattle.mar_types.proofs.Partitions.{fixed_found}
 use Rattle.mar_types.specs.Fixed.{exists}
 use Rattle.mar_cert.specs.Block.{Block}
-use Rattle.mar_node.specs.Chain.{Final, IsBlockAt, IsLawful}
-use Rattle.mar_node.specs.Node.{IsFinalized}
+use Rattle.mar_model.specs.Chain.{Final, IsBlockAt, IsLawful}
+use Rattle.mar_model.specs.Node.{IsFinalized}
 use Rattle.mar_gen.specs.Chain.{made_block, made_blocks, made_chain, made_finals, round_of}
 use Rattle.mar_gen.proofs.FirstSteps.{block_next}
 

@@ -15,7 +15,7 @@ use Rattle.mar_types.specs.declared.Sha256.{Sha256}
 use Rattle.mar_types.specs.declared.Sha256Digest.{Sha256Digest}
 use Rattle.mar_block.specs.EmptyBlock.{block_bytes, block_message, standard_block}
 use Rattle.mar_block.specs.declared.EmptyBlock.{EmptyBlock}
-use Rattle.mar_node.specs.Chain.{Chain, Final}
+use Rattle.mar_model.specs.Chain.{Chain, Final}
 use Rattle.mar_gen.specs.Draws.{drawn}
 
 -- the blocks and finalizations of the code as plain data

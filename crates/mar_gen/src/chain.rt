@@ -2,7 +2,7 @@
 ghost use Rattle.std.specs.Prelude.{◌≡◌, ◌≤◌, ℕ, IfOk, map};
 ghost use Rattle.mar_gen.specs.Chain.{finalized, made_chain, made_finalization, made_blocks as blocks_made, plain_block, plain_finalization};
 ghost use Rattle.mar_types.specs.Epochs.{fixed_epochs};
-ghost use Rattle.mar_node.specs.Chain.{IsLawful};
+ghost use Rattle.mar_model.specs.Chain.{IsLawful};
 ghost use Rattle.mar_cert.specs.Finalization.{finalize};
 ghost use Rattle.mar_cert.specs.MockScheme.{Verifies, tag_over};
 ghost use Rattle.mar_cert.specs.Views.{plain_subject, proposal_of, spelling_of};

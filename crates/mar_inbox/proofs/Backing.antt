@@ -3,8 +3,8 @@ use Rattle.std.proofs.Common.{◌≡◌, ℕ, ◌<◌, List, Option, Some, None,
 use Rattle.mar_cert.specs.Block.{Block}
 use Rattle.mar_inbox.specs.Asking.{backed_value}
 use Rattle.mar_key.specs.Processed.{Processed, anchor_of}
-use Rattle.mar_node.specs.Answers.{anchor, anchor_value, or_none}
-use Rattle.mar_node.proofs.Queries.{none_past}
+use Rattle.mar_model.specs.Answers.{anchor, anchor_value, or_none}
+use Rattle.mar_model.proofs.Queries.{none_past}
 use Rattle.mar_store.specs.Kept.{At, value_at}
 use Rattle.mar_store.specs.Named.{last_index}
 

@@ -1,8 +1,8 @@
 -- What came for tickets, in order, and what stands for one of them.
 use Rattle.std.specs.Prelude.{Bool, IfSome, List, None, Option, Some, false, fold, if◌then◌else◌, length, map, option_map, true, ℕ, ◌<◌, ◌==◌, ◌≡◌}
 use Rattle.mar_types.specs.Places.{at_place}
-use Rattle.mar_node.specs.Answers.{TicketAnswer, closed_value, to}
-use Rattle.mar_node.specs.Answers.{Value as PlainValue}
+use Rattle.mar_model.specs.Answers.{TicketAnswer, closed_value, to}
+use Rattle.mar_model.specs.Answers.{Value as PlainValue}
 use Rattle.mar_inbox.specs.declared.answers.Answer.{Answer}
 use Rattle.mar_inbox.specs.declared.answers.Answer.TheVariants.{Closed, Value}
 use Rattle.mar_inbox.specs.declared.answers.Answered.{Answered}

@@ -2,7 +2,7 @@
 use Rattle.std.specs.Prelude.{None, Option, Some}
 use Rattle.mar_cert.specs.Block.{Block}
 use Rattle.mar_key.specs.Processed.{Processed}
-use Rattle.mar_node.specs.Answers.{Value, anchor_value}
+use Rattle.mar_model.specs.Answers.{Value, anchor_value}
 
 -- the processed height with the block that backs it, where there are both
 abbrev pub backed_value : Option Processed → Option Block → Option Value

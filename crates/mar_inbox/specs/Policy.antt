@@ -3,7 +3,7 @@ use Rattle.std.specs.List.{list_any}
 use Rattle.std.specs.Prelude.{Bool, List, None, Option, Some, [], false, filter, if◌then◌else◌, is_some, length, nat_le, nat_lt, not, set, slice_get, true, ℕ, ⊤, ◌&&◌, ◌++◌, ◌+◌, ◌-◌, ◌==◌, ◌∷◌, ◌≡◌}
 use Rattle.mar_types.specs.Round.{round_le}
 use Rattle.mar_cert.specs.Finalization.{Finalization}
-use Rattle.mar_node.specs.Messages.{Inbox, Message, Queued, close_ticket, get_anchor, get_block, get_finalization, get_info, get_processed, get_verified, hint_finalized, of_height, prune_below, set_floor, subscribe_commitment, subscribe_digest}
+use Rattle.mar_model.specs.Messages.{Inbox, Message, Queued, close_ticket, get_anchor, get_block, get_finalization, get_info, get_processed, get_verified, hint_finalized, of_height, prune_below, set_floor, subscribe_commitment, subscribe_digest}
 
 -- what an enqueue is answered
 pub data Feedback : Type 0 where

@@ -9,8 +9,8 @@ use Rattle.mar_block.specs.declared.recipients.Recipients.{Recipients}
 use Rattle.mar_block.specs.declared.recipients.Recipients.TheVariants.{All, Some}
 use Rattle.mar_store.specs.declared.identifier.Identifier.{Identifier as StoreIdentifier}
 use Rattle.mar_store.specs.declared.identifier.Identifier.TheVariants.{Index, Key}
-use Rattle.mar_node.specs.Answers.{Sent, Value as PlainValue, anchor_value, bytes_value, info_value, no_value, processed_value, sync_value, true_value}
-use Rattle.mar_node.specs.Messages.{Identifier as PlainIdentifier, Message as PlainMessage, Peers, all_peers, certify, get_anchor, get_block, get_finalization, get_info, get_processed, get_verified, latest, of_digest, of_height, prepared, proposed, report_certification, report_finalization, report_notarization, some_peers, verified}
+use Rattle.mar_model.specs.Answers.{Sent, Value as PlainValue, anchor_value, bytes_value, info_value, no_value, processed_value, sync_value, true_value}
+use Rattle.mar_model.specs.Messages.{Identifier as PlainIdentifier, Message as PlainMessage, Peers, all_peers, certify, get_anchor, get_block, get_finalization, get_info, get_processed, get_verified, latest, of_digest, of_height, prepared, proposed, report_certification, report_finalization, report_notarization, some_peers, verified}
 use Rattle.mar_inbox.specs.declared.identifier.Identifier.{Identifier}
 use Rattle.mar_inbox.specs.declared.identifier.Identifier.TheVariants as identifier
 use Rattle.mar_inbox.specs.declared.message.Message.{Message}

@@ -8,13 +8,13 @@ ghost use Rattle.mar_inbox.specs.Asking.{backed_value};
 ghost use Rattle.mar_inbox.specs.Views.{identifier_of, query_of, value_of};
 ghost use Rattle.mar_key.specs.Processed.{anchor_of};
 ghost use Rattle.mar_key.specs.Views.{processed_of};
-ghost use Rattle.mar_node.specs.Answers.{anchor, block_info, bytes_of, certificate_info, finalization_value, info, or_none, processed_value};
-ghost use Rattle.mar_node.specs.Event.{message_told};
-ghost use Rattle.mar_node.specs.Held.{GoesOn, IsUsual, nothing_written};
-ghost use Rattle.mar_node.specs.Queries.{answers_found, block_found, cached_by_digest, value_found};
-ghost use Rattle.mar_node.specs.Stored.{block_of};
-ghost use Rattle.mar_node.specs.Messages.{of_height};
-ghost use Rattle.mar_node.specs.Views.{entry_of, fault_of};
+ghost use Rattle.mar_model.specs.Answers.{anchor, block_info, bytes_of, certificate_info, finalization_value, info, or_none, processed_value};
+ghost use Rattle.mar_model.specs.Event.{message_told};
+ghost use Rattle.mar_model.specs.Held.{GoesOn, IsUsual, nothing_written};
+ghost use Rattle.mar_model.specs.Queries.{answers_found, block_found, cached_by_digest, value_found};
+ghost use Rattle.mar_model.specs.Stored.{block_of};
+ghost use Rattle.mar_model.specs.Messages.{of_height};
+ghost use Rattle.mar_model.specs.Views.{entry_of, fault_of};
 
 use crate::answers::AnswerTable;
 use crate::at_hand::block_at_hand;
@@ -24,7 +24,7 @@ use crate::value::Value;
 use mar_block::Buffer;
 use mar_cert::{AsFinalization, CommitsTo, Variant};
 use mar_key::Processed;
-use mar_node::{BlockName, Fault, Holds, newest_certificate};
+use mar_model::{BlockName, Fault, Holds, newest_certificate};
 use mar_types::Height;
 
 /// Answers a query from what stands.

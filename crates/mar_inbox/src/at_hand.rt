@@ -1,14 +1,14 @@
 //! The block that is at hand. A read that fails ends the life.
 ghost use Rattle.std.specs.Option.{option_or};
 ghost use Rattle.std.specs.Prelude.{◌≡◌, IfErr, IfOk, OnOk, option_map};
-ghost use Rattle.mar_node.specs.Held.{GoesOn, IsUsual, nothing_written};
-ghost use Rattle.mar_node.specs.Moves.{cached_by_commitment, found_at_hand, of_commitment};
-ghost use Rattle.mar_node.specs.Stored.{block_of};
-ghost use Rattle.mar_node.specs.Views.{fault_of};
+ghost use Rattle.mar_model.specs.Held.{GoesOn, IsUsual, nothing_written};
+ghost use Rattle.mar_model.specs.Moves.{cached_by_commitment, found_at_hand, of_commitment};
+ghost use Rattle.mar_model.specs.Stored.{block_of};
+ghost use Rattle.mar_model.specs.Views.{fault_of};
 
 use mar_block::Buffer;
 use mar_cert::Variant;
-use mar_node::{BlockName, Fault, Holds, is_same};
+use mar_model::{BlockName, Fault, Holds, is_same};
 
 /// The block of a commitment: from the buffer, from the cache, or from the store.
 pub fn block_at_hand<V: Variant, S: Holds<V>, B: Buffer<V>>(

@@ -2,9 +2,9 @@
 ghost use Rattle.std.specs.Prelude.{◌≡◌, ℕ, List, None};
 ghost use Rattle.mar_cert.specs.Block.{Block};
 ghost use Rattle.mar_cert.specs.Finalization.{Finalization, Notarization};
-ghost use Rattle.mar_node.specs.Answers.{own_value};
-ghost use Rattle.mar_node.specs.Config.{Config};
-ghost use Rattle.mar_node.specs.Node.{Node};
+ghost use Rattle.mar_model.specs.Answers.{own_value};
+ghost use Rattle.mar_model.specs.Config.{Config};
+ghost use Rattle.mar_model.specs.Node.{Node};
 ghost use Rattle.mar_inbox.specs.Views.{message_of, ticket_of};
 
 use crate::identifier::Identifier;

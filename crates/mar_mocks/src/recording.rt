@@ -8,10 +8,10 @@ ghost use Rattle.mar_store.specs.Sizes.{IsSmall};
 ghost use Rattle.mar_store.specs.Tickets.{KeepsCovers, KeepsCoversFrom};
 ghost use Rattle.mar_store.specs.Watch.{armed, Heeds, HeedsOrNot, HeedsRead, LostHeeds, LostOrNot, Watch};
 ghost use Rattle.mar_mocks.specs.Recorded.{KeepsAll, KeepsPut, KeepsRead};
-ghost use Rattle.mar_node.specs.Stored.{at_own_height, block_of, is_held};
+ghost use Rattle.mar_model.specs.Stored.{at_own_height, block_of, is_held};
 
 use mar_block::Variant;
-use mar_shelf::{BlockItem, Blocks, Keeps};
+use mar_life::{BlockItem, Blocks, Keeps};
 use mar_store::{ArchiveRuin, Lost, Miss, RangeSet, SyncTicket};
 use mar_types::Height;
 use std::alloc::{AllocError, Global};

@@ -2,19 +2,19 @@
 use Rattle.std.proofs.Common.{◌≡◌, ◌⊎◌, ◌∷◌, inl, inr, ℕ, [], None, Some, Result, Ok, Err, IfErr, OnOk, true, refl, ap, ◌∙◌, subst, sym}
 use Rattle.mar_types.specs.Epochs.{Epochs}
 use Rattle.mar_cert.specs.Block.{Block}
-use Rattle.mar_node.specs.Chain.{Chain}
-use Rattle.mar_node.specs.Config.{Config}
-use Rattle.mar_node.specs.Faults.{Begin, Fault, from_genesis, want_of_memory}
-use Rattle.mar_node.specs.Held.{ArePassed, Ending, Grew, Held, IsEndedBy, IsUsual, Loses, Remains, Remembered, ReopensAs, Sizes, Written, ended_on, first_life, nothing_written, picks_of, written_block, seen}
-use Rattle.mar_node.specs.Lives.{CutsReopening, Finds}
-use Rattle.mar_node.specs.Opening.{BeginsWith, Derives, IsBeginFault, LosesDeriving, derived_pair, next_fault}
-use Rattle.mar_node.specs.Promise.{Begins, IsLawfulOpening, IsOpeningFault, node_of, none_waiting}
-use Rattle.mar_node.specs.Step.{nothing_made}
-use Rattle.mar_node.specs.Stored.{at_own_height}
-use Rattle.mar_node.proofs.OpeningEvent.{begin_by_value, begins, cut_begun, cut_deriving, cut_early, deriving_cause, deriving_keeps, finds, next_by_value}
-use Rattle.mar_node.proofs.Passing.{ArePassed-then}
-use Rattle.mar_node.proofs.Reopenings.{Grew-opened, LosesOpening-then}
-use Rattle.mar_node.proofs.StoreLosses.{Loses-nothing}
+use Rattle.mar_model.specs.Chain.{Chain}
+use Rattle.mar_model.specs.Config.{Config}
+use Rattle.mar_model.specs.Faults.{Begin, Fault, from_genesis, want_of_memory}
+use Rattle.mar_model.specs.Held.{ArePassed, Ending, Grew, Held, IsEndedBy, IsUsual, Loses, Remains, Remembered, ReopensAs, Sizes, Written, ended_on, first_life, nothing_written, picks_of, written_block, seen}
+use Rattle.mar_model.specs.Lives.{CutsReopening, Finds}
+use Rattle.mar_model.specs.Opening.{BeginsWith, Derives, IsBeginFault, LosesDeriving, derived_pair, next_fault}
+use Rattle.mar_model.specs.Promise.{Begins, IsLawfulOpening, IsOpeningFault, node_of, none_waiting}
+use Rattle.mar_model.specs.Step.{nothing_made}
+use Rattle.mar_model.specs.Stored.{at_own_height}
+use Rattle.mar_model.proofs.OpeningEvent.{begin_by_value, begins, cut_begun, cut_deriving, cut_early, deriving_cause, deriving_keeps, finds, next_by_value}
+use Rattle.mar_model.proofs.Passing.{ArePassed-then}
+use Rattle.mar_model.proofs.Reopenings.{Grew-opened, LosesOpening-then}
+use Rattle.mar_model.proofs.StoreLosses.{Loses-nothing}
 use Rattle.mar_opening.specs.Opened.{FailsToOpen, OpensAs}
 
 -- WHAT WAS MADE OF THEM

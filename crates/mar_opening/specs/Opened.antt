@@ -3,9 +3,9 @@ use Rattle.std.specs.Prelude.{None, Some, [], ◌∷◌, ◌≡◌, ◌⊎◌, �
 use Rattle.mar_types.specs.Epochs.{Epochs}
 use Rattle.mar_cert.specs.Block.{Block}
 use Rattle.mar_store.specs.Changes.{KeepsValues}
-use Rattle.mar_node.specs.Held.{ArePassed, Ending, Grew, Held, IsUsual, Loses, LosesOpening, Remains, ReopensAs, nothing_written, written_block}
-use Rattle.mar_node.specs.Opening.{BeginsWith, Derives, IsBeginFault, derived_pair, next_fault}
-use Rattle.mar_node.specs.Stored.{at_own_height}
+use Rattle.mar_model.specs.Held.{ArePassed, Ending, Grew, Held, IsUsual, Loses, LosesOpening, Remains, ReopensAs, nothing_written, written_block}
+use Rattle.mar_model.specs.Opening.{BeginsWith, Derives, IsBeginFault, derived_pair, next_fault}
+use Rattle.mar_model.specs.Stored.{at_own_height}
 
 -- They were reopened, a life may begin on them, and the cutoff is the derived one.
 pub record OpensAs (epochs : Epochs) (old : Remains) (luck : ℕ) (g : Block) (new : Held) : Type 0 where

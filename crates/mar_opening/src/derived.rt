@@ -5,16 +5,16 @@ ghost use Rattle.mar_key.specs.Cutoff.{at_epoch, at_round, greatest_of};
 ghost use Rattle.mar_key.specs.Processed.{first_unprocessed};
 ghost use Rattle.mar_key.specs.Views.{cutoff_of};
 ghost use Rattle.mar_store.specs.Kept.{EachHeightOnce, newest_upto};
-ghost use Rattle.mar_node.specs.Metadata.{pair_of};
-ghost use Rattle.mar_node.specs.Faults.{next_after, successor_fault};
-ghost use Rattle.mar_node.specs.Held.{ArePassed, GoesOn, IsNoStores, IsUsual, LosesSince, nothing_written, written_pair};
-ghost use Rattle.mar_node.specs.Lives.{closed_epoch_at, later_round, processed_round, round_zero, successor_round};
-ghost use Rattle.mar_node.specs.Opening.{Derives, LosesDeriving, next_fault, pair_in};
-ghost use Rattle.mar_node.specs.Views.{fault_of};
+ghost use Rattle.mar_model.specs.Metadata.{pair_of};
+ghost use Rattle.mar_model.specs.Faults.{next_after, successor_fault};
+ghost use Rattle.mar_model.specs.Held.{ArePassed, GoesOn, IsNoStores, IsUsual, LosesSince, nothing_written, written_pair};
+ghost use Rattle.mar_model.specs.Lives.{closed_epoch_at, later_round, processed_round, round_zero, successor_round};
+ghost use Rattle.mar_model.specs.Opening.{Derives, LosesDeriving, next_fault, pair_in};
+ghost use Rattle.mar_model.specs.Views.{fault_of};
 
 use mar_cert::{AsFinalization, CommitsTo, Variant};
 use mar_key::Cutoff;
-use mar_node::{Fault, Holds, closed_epoch, is_same, last_upto, round_at};
+use mar_model::{Fault, Holds, closed_epoch, is_same, last_upto, round_at};
 use mar_types::{Epoch, Epocher, Height, Round};
 
 /// Raises the cutoff to what the archives show, and makes it durable. The later of the rounds that show it is witnessed.

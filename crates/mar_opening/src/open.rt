@@ -1,10 +1,10 @@
 //! Opening the stores of a life.
 ghost use Rattle.std.specs.Prelude.{◌≡◌, ◌∷◌, [], IfErr, IfOk, OnOk, option_map, true, ℕ};
 ghost use Rattle.mar_key.specs.Processed.{at_block};
-ghost use Rattle.mar_node.specs.Held.{Remains, ReopensAs, ended_on};
-ghost use Rattle.mar_node.specs.Lives.{round_zero};
-ghost use Rattle.mar_node.specs.Opening.{pair_in};
-ghost use Rattle.mar_node.specs.Views.{fault_of};
+ghost use Rattle.mar_model.specs.Held.{Remains, ReopensAs, ended_on};
+ghost use Rattle.mar_model.specs.Lives.{round_zero};
+ghost use Rattle.mar_model.specs.Opening.{pair_in};
+ghost use Rattle.mar_model.specs.Views.{fault_of};
 ghost use Rattle.mar_store.specs.Kept.{EachHeightOnce};
 ghost use Rattle.mar_store.specs.Sizes.{IsSmall};
 ghost use Rattle.mar_opening.specs.Opened.{FailsToOpen, OpensAs};
@@ -12,7 +12,7 @@ ghost use Rattle.mar_opening.specs.Opened.{FailsToOpen, OpensAs};
 use crate::derived::derive;
 use crate::reopened::begin;
 use mar_cert::Variant;
-use mar_node::{Ended, Fault, Holds, StoresRuin};
+use mar_model::{Ended, Fault, Holds, StoresRuin};
 use mar_types::Epocher;
 use std::alloc::Global;
 

@@ -2,16 +2,16 @@
 ghost use Rattle.std.specs.Prelude.{◌≡◌, ◌<◌, ◌≤◌, ◌^◌, ◌⊎◌, ◌||◌, ◌+◌, IfErr, IfSome, None, OnOk, Some, false, option_map};
 ghost use Rattle.mar_key.specs.Processed.{at_block, first_unprocessed};
 ghost use Rattle.mar_store.specs.Kept.{has_height};
-ghost use Rattle.mar_node.specs.Stored.{at_own_height};
-ghost use Rattle.mar_node.specs.Faults.{anchor_fault, from_genesis, genesis_fault, is_at_limit, last_height, stored_mismatch};
-ghost use Rattle.mar_node.specs.Held.{GoesOn, IsNoStores, IsUsual, nothing_written, written_block};
+ghost use Rattle.mar_model.specs.Stored.{at_own_height};
+ghost use Rattle.mar_model.specs.Faults.{anchor_fault, from_genesis, genesis_fault, is_at_limit, last_height, stored_mismatch};
+ghost use Rattle.mar_model.specs.Held.{GoesOn, IsNoStores, IsUsual, nothing_written, written_block};
 ghost use Rattle.mar_store.specs.Sizes.{IsSmall};
-ghost use Rattle.mar_node.specs.Lives.{processed_at};
-ghost use Rattle.mar_node.specs.Opening.{BeginsWith, Enters, IsBeginFault, is_begun, pair_in};
-ghost use Rattle.mar_node.specs.Views.{fault_of};
+ghost use Rattle.mar_model.specs.Lives.{processed_at};
+ghost use Rattle.mar_model.specs.Opening.{BeginsWith, Enters, IsBeginFault, is_begun, pair_in};
+ghost use Rattle.mar_model.specs.Views.{fault_of};
 
 use mar_cert::Variant;
-use mar_node::{Fault, Holds, is_same};
+use mar_model::{Fault, Holds, is_same};
 use mar_types::Height;
 
 /// Judges what was found: no height is the last one, block zero is the genesis, which is stored where it is missing, and

@@ -6,7 +6,7 @@ use Rattle.std.proofs.lemmas.List.{length-map}
 use Rattle.std.proofs.lemmas.List.Folds.{list_any_more}
 use Rattle.std.specs.List.{AllByRecursion, list_any}
 use Rattle.mar_key.specs.Fronts.{entry_here, list_any-map, mapped_front}
-use Rattle.mar_node.specs.Acks.{HasNextHeight, Mark, Outstanding, height_after, is_unmarked, with_mark}
+use Rattle.mar_model.specs.Acks.{HasNextHeight, Mark, Outstanding, height_after, is_unmarked, with_mark}
 
 -- a loop over `ys`, which writes an entry at a time and tells whether one passed, where the first `i` of them are written
 pub entry_found : {A B : Type 0} (f : A → B) (g : B → B) (i : ℕ) (xs ys : List A) (d : A) → map f ys ≡ mapped_front g i (map f xs) → (p : B → Bool) (found hit : Bool) → i < length xs → found ≡ list_any p (take i (map f xs)) → hit ≡ p (f (get_or ys i d)) → (found || hit) ≡ list_any p (take (i + 1) (map f xs))

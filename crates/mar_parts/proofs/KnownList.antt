@@ -11,8 +11,8 @@ use Rattle.std.specs.Map.{lookup}
 use Rattle.std.specs.Option.{unwrap_or}
 use Rattle.std.specs.Prelude.{bytes_eq}
 use Rattle.mar_key.specs.Fronts.{list_any-map}
-use Rattle.mar_node.specs.Answers as node
-use Rattle.mar_node.specs.Node.{CertifiedCommitment}
+use Rattle.mar_model.specs.Answers as node
+use Rattle.mar_model.specs.Node.{CertifiedCommitment}
 use Rattle.mar_parts.specs.Certified.{Certified, is_known, is_listed, known_at, known_list}
 
 -- a commitment of a list is among it by its bytes

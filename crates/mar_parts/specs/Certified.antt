@@ -4,7 +4,7 @@ use Rattle.std.specs.Map.{lookup}
 use Rattle.std.specs.Option.{unwrap_or}
 use Rattle.std.specs.Prelude.{Bool, List, None, Option, Some, [], bytes_eq, map, ℕ, ◌==◌}
 use Rattle.std.specs.declared.vec.Vec.{Vec}
-use Rattle.mar_node.specs.Node.{CertifiedCommitment}
+use Rattle.mar_model.specs.Node.{CertifiedCommitment}
 
 -- What contracts see of the commitments that are known: those of each height, and the least height that is kept.
 pub record Certified (C : Type 0) : Type 0 where

@@ -1,6 +1,6 @@
 -- The parts as the definitions see them.
 use Rattle.std.specs.Prelude.{None, Option, Some}
-use Rattle.mar_node.specs.Acks.{Mark, Outstanding, mark_dropped, mark_given, mark_waiting}
+use Rattle.mar_model.specs.Acks.{Mark, Outstanding, mark_dropped, mark_given, mark_waiting}
 use Rattle.mar_parts.specs.declared.acks.Mark.{Mark as AckMark}
 use Rattle.mar_parts.specs.declared.acks.Mark.TheVariants.{Waiting, Given, Dropped}
 use Rattle.mar_parts.specs.declared.acks.Oldest.{Oldest}

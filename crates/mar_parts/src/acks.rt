@@ -1,7 +1,7 @@
 //! Acknowledgements that the application owes.
 ghost use Rattle.std.specs.Prelude.{◌≡◌, ℕ, ◌+◌, ◌^◌, ◌<◌, ◌≤◌, ◌↔◌, ◌++◌, ◌∷◌, [], IfOk, IsTrue, false, length, map, slice_get, option_map, option_to_list};
 ghost use Rattle.std.specs.List.{list_any};
-ghost use Rattle.mar_node.specs.Acks.{with_mark, marked_entry, is_unmarked, height_after, given_front, after_given, given_oldest, dropped_oldest, after_oldest, mark_given, mark_dropped, mark_waiting};
+ghost use Rattle.mar_model.specs.Acks.{with_mark, marked_entry, is_unmarked, height_after, given_front, after_given, given_oldest, dropped_oldest, after_oldest, mark_given, mark_dropped, mark_waiting};
 ghost use Rattle.mar_parts.specs.Views.{mark_of, outstanding_of, given_of, dropped_of};
 
 use mar_types::Height;
@@ -54,7 +54,7 @@ impl Model for PendingAcks {
     ghost use Rattle.std.specs.Prelude.{◌≤◌, map};
     ghost use Rattle.std.specs.List.{AllByRecursion};
     ghost use Rattle.std.specs.VecDeque.{deque_len, deque_capacity};
-    ghost use Rattle.mar_node.specs.Acks.{Acks, HasNextHeight};
+    ghost use Rattle.mar_model.specs.Acks.{Acks, HasNextHeight};
 
     ghost Value = { Acks };
 

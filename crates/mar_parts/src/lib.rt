@@ -12,7 +12,7 @@ mod waiters;
 pub use acks::{Mark, Oldest, PendingAck, PendingAcks};
 pub use certified::Certified;
 pub use laws::{acks_compared, waits_compared};
-pub use mar_node::{
+pub use mar_model::{
     DispatchGate, FetchAdmission, Staged, State, Stream, closed_epoch, synced_cutoff, synced_height,
 };
 pub use shown::Shown;

@@ -1,7 +1,7 @@
 //! What a node shows of itself while a life runs.
 use crate::acks::PendingAcks;
 use mar_key::{Cutoff, Processed};
-use mar_node::{OpenTicket, Writes};
+use mar_model::{OpenTicket, Writes};
 use mar_store::RangeSet;
 
 /// What a node shows while a life runs.

@@ -7,25 +7,25 @@ use Rattle.mar_cert.specs.Block.{Block}
 use Rattle.mar_inbox.specs.declared.Query.TheVariants as query
 use Rattle.mar_store.specs.Changes.{Within}
 use Rattle.mar_store.proofs.Lookups.{AllByRecursion-contains, AllByRecursion-from_contains}
-use Rattle.mar_node.specs.Cache.{MayBeCached, entries_put, notarized_where, verified_at, notarized_at_hand}
-use Rattle.mar_node.specs.Cached.{Cached, cached_block, finalization_entry, notarized_entry, verified_entry, with_entry, notarization_entry}
-use Rattle.mar_node.specs.Chain.{Chain}
-use Rattle.mar_node.specs.Config.{Config}
-use Rattle.mar_node.specs.Event.{Effect, Event, effect_of, message_told}
-use Rattle.mar_node.specs.Faults.{Begin}
-use Rattle.mar_node.specs.Lives.{Finds, Picks, TakesUp}
-use Rattle.mar_node.specs.Node.{Ended, Node, write_count, AreBlocksOf, at_hand}
-use Rattle.mar_node.specs.Messages.{Message, message_blocks}
-use Rattle.mar_node.specs.Promise.{told_blocks, Waiting, known_blocks, node_of}
-use Rattle.mar_node.specs.Step.{Made, Steps, with_sync}
-use Rattle.mar_node.proofs.CacheSteps.{with_cases}
-use Rattle.mar_node.proofs.EntryLists.{contains_none, one_of}
-use Rattle.mar_node.proofs.Filtered.{all_found_from, all_found_of, all_found_within}
+use Rattle.mar_model.specs.Cache.{MayBeCached, entries_put, notarized_where, verified_at, notarized_at_hand}
+use Rattle.mar_model.specs.Cached.{Cached, cached_block, finalization_entry, notarized_entry, verified_entry, with_entry, notarization_entry}
+use Rattle.mar_model.specs.Chain.{Chain}
+use Rattle.mar_model.specs.Config.{Config}
+use Rattle.mar_model.specs.Event.{Effect, Event, effect_of, message_told}
+use Rattle.mar_model.specs.Faults.{Begin}
+use Rattle.mar_model.specs.Lives.{Finds, Picks, TakesUp}
+use Rattle.mar_model.specs.Node.{Ended, Node, write_count, AreBlocksOf, at_hand}
+use Rattle.mar_model.specs.Messages.{Message, message_blocks}
+use Rattle.mar_model.specs.Promise.{told_blocks, Waiting, known_blocks, node_of}
+use Rattle.mar_model.specs.Step.{Made, Steps, with_sync}
+use Rattle.mar_model.proofs.CacheSteps.{with_cases}
+use Rattle.mar_model.proofs.EntryLists.{contains_none, one_of}
+use Rattle.mar_model.proofs.Filtered.{all_found_from, all_found_of, all_found_within}
 use Rattle.mar_replay.specs.Playing.{IsAnswered, asks, certifies, proposes, verifies}
 use Rattle.mar_replay.proofs.Lasting.{IsPlain, acks, answers, finishes, prepares, reports, notarizes, reports_certified}
 use Rattle.mar_cert.specs.Finalization.{Notarization}
-use Rattle.mar_node.specs.Held.{Seen}
-use Rattle.mar_node.proofs.KnownBlocks.{at_hand-known}
+use Rattle.mar_model.specs.Held.{Seen}
+use Rattle.mar_model.proofs.KnownBlocks.{at_hand-known}
 
 -- what is found in a list is found in one that has all of it
 pub found_within : {T U : Type 0} (f : T → Option U) (xs ys : List T) → Within xs ys → (y : U) → Contains (filter_map f xs) y → Contains (filter_map f ys) y

@@ -12,18 +12,18 @@ use Rattle.mar_block.specs.declared.recipients.Sent.{Sent as SentCode}
 use Rattle.mar_inbox.specs.Views.{sent_by, sent_of}
 use Rattle.mar_key.specs.Hears.{Hears}
 use Rattle.mar_key.specs.Keys.{Call}
-use Rattle.mar_node.specs.Answers.{Sent, TicketAnswer, is_known}
-use Rattle.mar_node.specs.Chain.{Chain}
-use Rattle.mar_node.specs.Config.{Config}
-use Rattle.mar_node.specs.Event.{Event, ack_dropped, ack_given, block_buffered, buffer_ended, life_started, message_told, peer_answered, serve_ended, sync_finished, is_query}
-use Rattle.mar_node.specs.Held.{ArePassed, Ending, FailsBy, Remains}
-use Rattle.mar_node.specs.Lives.{Cuts}
-use Rattle.mar_node.specs.Node.{Node}
-use Rattle.mar_node.specs.Moves.{KeepsTakenUp}
-use Rattle.mar_node.specs.Promise.{CutsStep, FinishesStep, Heard, HearsMade, IsSetTo, KeepsPromise, KeepsStart, KeepsStep, Waiting, asked_since, heard_with, node_of, waiting_in, IsKnownSince, knowing, known_blocks, told_blocks}
-use Rattle.mar_node.specs.Step.{Made, Report, Steps, nothing_made}
-use Rattle.mar_node.specs.Stored.{AreSmall}
-use Rattle.mar_node.specs.declared.fault.Fault.{Fault as FaultCode}
+use Rattle.mar_model.specs.Answers.{Sent, TicketAnswer, is_known}
+use Rattle.mar_model.specs.Chain.{Chain}
+use Rattle.mar_model.specs.Config.{Config}
+use Rattle.mar_model.specs.Event.{Event, ack_dropped, ack_given, block_buffered, buffer_ended, life_started, message_told, peer_answered, serve_ended, sync_finished, is_query}
+use Rattle.mar_model.specs.Held.{ArePassed, Ending, FailsBy, Remains}
+use Rattle.mar_model.specs.Lives.{Cuts}
+use Rattle.mar_model.specs.Node.{Node}
+use Rattle.mar_model.specs.Moves.{KeepsTakenUp}
+use Rattle.mar_model.specs.Promise.{CutsStep, FinishesStep, Heard, HearsMade, IsSetTo, KeepsPromise, KeepsStart, KeepsStep, Waiting, asked_since, heard_with, node_of, waiting_in, IsKnownSince, knowing, known_blocks, told_blocks}
+use Rattle.mar_model.specs.Step.{Made, Report, Steps, nothing_made}
+use Rattle.mar_model.specs.Stored.{AreSmall}
+use Rattle.mar_model.specs.declared.fault.Fault.{Fault as FaultCode}
 use Rattle.mar_replay.specs.Playing.{DoesEvent, DoesStart, DoesStep, FindsTakenUp, GivesFew, IsNearLast, SeenNode, TakesEvent}
 use Rattle.mar_script.specs.Lines.{plain_block, plain_sent}
 use Rattle.mar_script.specs.Shown.{plain_fault}
@@ -32,10 +32,10 @@ use Rattle.mar_replay.specs.declared.play.Outcome.TheVariants as outcome
 use Rattle.mar_replay.specs.declared.play.Pending.{Pending}
 use Rattle.mar_replay.specs.declared.play.State.{State as StateCode}
 use Rattle.mar_replay.specs.declared.play.State.TheVariants as state
-use Rattle.mar_node.specs.Queries.{Learns, commitments_found}
-use Rattle.mar_node.proofs.CertificationEvent.{known-since, teaches_parents}
-use Rattle.mar_node.proofs.KnownBlocks.{AreOne-behind}
-use Rattle.mar_node.proofs.Soundness.{untold}
+use Rattle.mar_model.specs.Queries.{Learns, commitments_found}
+use Rattle.mar_model.proofs.CertificationEvent.{known-since, teaches_parents}
+use Rattle.mar_model.proofs.KnownBlocks.{AreOne-behind}
+use Rattle.mar_model.proofs.Soundness.{untold}
 use Rattle.mar_cert.specs.Finalization.{Finalization}
 
 -- A life that goes on behind an event: it gave few tickets, and knows as certified what it learned besides.

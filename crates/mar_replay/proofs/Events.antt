@@ -6,7 +6,7 @@ use Rattle.mar_inbox.specs.declared.Message.TheVariants as message
 use Rattle.mar_actor.specs.Views.{event_of}
 use Rattle.mar_actor.specs.declared.event.Event.{Event as EventCode}
 use Rattle.mar_actor.specs.declared.event.Event.TheVariants as event
-use Rattle.mar_node.proofs.CertificationEvent.{teaches_parents}
+use Rattle.mar_model.proofs.CertificationEvent.{teaches_parents}
 
 module _ {D B N F : Type 0} (digest : D → List ℕ) (block : B → Block) (notarization : N → Notarization) (finalization : F → Finalization) where
   pub no_parents : (e : EventCode D B N F) → teaches_parents (event_of digest block notarization finalization e) ≡ false

@@ -6,10 +6,10 @@ use Rattle.std.proofs.lemmas.Grind.{flat_map-append}
 use Rattle.std.proofs.lemmas.List.{append-nil, map-append}
 use Rattle.mar_key.specs.Asked.{Asked}
 use Rattle.mar_store.proofs.Lookups.{AllByRecursion-push}
-use Rattle.mar_node.specs.Faults.{want_of_memory}
-use Rattle.mar_node.specs.Held.{Remains}
-use Rattle.mar_node.specs.Chain.{Chain}
-use Rattle.mar_node.specs.Config.{Config}
+use Rattle.mar_model.specs.Faults.{want_of_memory}
+use Rattle.mar_model.specs.Held.{Remains}
+use Rattle.mar_model.specs.Chain.{Chain}
+use Rattle.mar_model.specs.Config.{Config}
 use Rattle.mar_script.specs.Streams.{Takes}
 use Rattle.mar_script.proofs.Streams.{takes_none}
 use Rattle.mar_types.specs.Varint.{IsNumber}
@@ -18,7 +18,7 @@ use Rattle.mar_script.specs.Lines.{plain_line}
 use Rattle.mar_script.specs.Accounts.{AccountsFor, first_account, luck_after}
 use Rattle.mar_script.specs.Plays.{Plays}
 use Rattle.mar_script.specs.Refused.{max_lines}
-use Rattle.mar_node.specs.Step.{IsFront}
+use Rattle.mar_model.specs.Step.{IsFront}
 use Rattle.mar_script.specs.Run.{HandsBack, IsLineBytes, MemoryEnds, Premises, Replays, Status, StopsAt, out_of_memory, read_to_end}
 use Rattle.mar_script.specs.Script.{Line, config_of}
 use Rattle.mar_script.specs.Text.{State, Done, output_text, stopped, text}

@@ -6,13 +6,13 @@ use Rattle.mar_block.specs.Sent.{Held}
 use Rattle.mar_key.specs.Asked.{Asked}
 use Rattle.mar_store.specs.Changes.{IsNested}
 use Rattle.mar_store.proofs.Lookups.{has_height-within}
-use Rattle.mar_node.specs.Chain.{Chain}
-use Rattle.mar_node.specs.Config.{Config}
-use Rattle.mar_node.specs.Faults.{want_of_memory}
-use Rattle.mar_node.specs.Held.{Remains, remains_of}
-use Rattle.mar_node.specs.Promise.{Waiting, node_of}
-use Rattle.mar_node.specs.Node.{Ended}
-use Rattle.mar_node.specs.Step.{IsFront, Made, nothing_made}
+use Rattle.mar_model.specs.Chain.{Chain}
+use Rattle.mar_model.specs.Config.{Config}
+use Rattle.mar_model.specs.Faults.{want_of_memory}
+use Rattle.mar_model.specs.Held.{Remains, remains_of}
+use Rattle.mar_model.specs.Promise.{Waiting, node_of}
+use Rattle.mar_model.specs.Node.{Ended}
+use Rattle.mar_model.specs.Step.{IsFront, Made, nothing_made}
 use Rattle.mar_script.specs.Endings.{IsReadersEnd, IsWritersEnd}
 use Rattle.mar_script.specs.Lines.{plain_line}
 use Rattle.mar_script.specs.Accounts.{AccountsFor, luck_after}

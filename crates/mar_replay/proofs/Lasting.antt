@@ -5,20 +5,20 @@ use Rattle.mar_cert.specs.Block.{Block}
 use Rattle.mar_cert.specs.Finalization.{Finalization, Notarization}
 use Rattle.mar_inbox.specs.declared.Query.TheVariants as query
 use Rattle.mar_types.specs.Round.{Round}
-use Rattle.mar_node.specs.Messages.{Message, Peers, prepared, report_certification, report_finalization, report_notarization}
+use Rattle.mar_model.specs.Messages.{Message, Peers, prepared, report_certification, report_finalization, report_notarization}
 use Rattle.mar_key.specs.Processed.{height_of}
-use Rattle.mar_node.specs.Acks.{Mark, Outstanding, after_given, is_given, is_unmarked, mark_dropped, mark_given, mark_waiting, with_mark}
+use Rattle.mar_model.specs.Acks.{Mark, Outstanding, after_given, is_given, is_unmarked, mark_dropped, mark_given, mark_waiting, with_mark}
 use Rattle.mar_store.proofs.Lookups.{AllByRecursion-append}
-use Rattle.mar_node.specs.Chain.{Chain}
-use Rattle.mar_node.specs.Config.{Config}
-use Rattle.mar_node.specs.Event.{Event, ack_given, effect_of, kept_blocks, life_started, message_told, met_of, no_floor, sync_finished, undrained_blocks}
-use Rattle.mar_node.specs.Faults.{dropped_first, event_fault, height_limit, last_height, storing_fault}
-use Rattle.mar_node.specs.Held.{Seen}
-use Rattle.mar_node.specs.Moves.{syncs_at_most}
-use Rattle.mar_node.specs.Node.{Node, at_hand, write_count}
-use Rattle.mar_node.specs.Promise.{IsLawfulStep, ReportsFinalized, Waiting, node_of}
-use Rattle.mar_node.specs.Step.{HandedBlock, HandsOver, Made, Steps, handed_blocks, outstanding_of, with_sync}
-use Rattle.mar_node.proofs.FinalizationEvent.{not_last}
+use Rattle.mar_model.specs.Chain.{Chain}
+use Rattle.mar_model.specs.Config.{Config}
+use Rattle.mar_model.specs.Event.{Event, ack_given, effect_of, kept_blocks, life_started, message_told, met_of, no_floor, sync_finished, undrained_blocks}
+use Rattle.mar_model.specs.Faults.{dropped_first, event_fault, height_limit, last_height, storing_fault}
+use Rattle.mar_model.specs.Held.{Seen}
+use Rattle.mar_model.specs.Moves.{syncs_at_most}
+use Rattle.mar_model.specs.Node.{Node, at_hand, write_count}
+use Rattle.mar_model.specs.Promise.{IsLawfulStep, ReportsFinalized, Waiting, node_of}
+use Rattle.mar_model.specs.Step.{HandedBlock, HandsOver, Made, Steps, handed_blocks, outstanding_of, with_sync}
+use Rattle.mar_model.proofs.FinalizationEvent.{not_last}
 use Rattle.mar_script.specs.Plays.{max_window}
 use Rattle.mar_script.specs.Refused.{max_lines}
 use Rattle.mar_replay.specs.Playing.{IsAnswered, asks, certifies, proposes, verifies}

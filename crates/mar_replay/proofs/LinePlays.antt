@@ -7,28 +7,28 @@ use Rattle.std.specs.List.{filter_map}
 use Rattle.mar_cert.specs.Block.{Block}
 use Rattle.mar_block.specs.Sent.{Held}
 use Rattle.mar_cert.specs.Finalization.{Finalization}
-use Rattle.mar_node.specs.Messages.{report_finalization}
+use Rattle.mar_model.specs.Messages.{report_finalization}
 use Rattle.mar_key.specs.Asked.{asked_after}
-use Rattle.mar_node.specs.Cached.{cached_block}
-use Rattle.mar_node.specs.Chain.{Chain}
-use Rattle.mar_node.specs.Config.{Config}
-use Rattle.mar_node.specs.Event.{Event, life_started, message_told}
-use Rattle.mar_node.specs.Faults.{Fault, StoreName, from_genesis, ticket_limit}
-use Rattle.mar_node.specs.Held.{ArePassed, FailsBy, IsUsual, Remains, Sizes, Watches, picks_of, remains_of, with_armed}
-use Rattle.mar_node.specs.Lives.{CutsReopening, Finds}
-use Rattle.mar_node.specs.Moves.{syncs_at_most}
-use Rattle.mar_node.specs.Stored.{AreSmall}
+use Rattle.mar_model.specs.Cached.{cached_block}
+use Rattle.mar_model.specs.Chain.{Chain}
+use Rattle.mar_model.specs.Config.{Config}
+use Rattle.mar_model.specs.Event.{Event, life_started, message_told}
+use Rattle.mar_model.specs.Faults.{Fault, StoreName, from_genesis, ticket_limit}
+use Rattle.mar_model.specs.Held.{ArePassed, FailsBy, IsUsual, Remains, Sizes, Watches, picks_of, remains_of, with_armed}
+use Rattle.mar_model.specs.Lives.{CutsReopening, Finds}
+use Rattle.mar_model.specs.Moves.{syncs_at_most}
+use Rattle.mar_model.specs.Stored.{AreSmall}
 use Rattle.mar_store.specs.Sizes.{IsSmall}
 use Rattle.mar_store.proofs.Lookups.{AllByRecursion-push}
-use Rattle.mar_node.specs.Promise.{IsGoodUntold, IsLawfulStep, IsOpeningFault, IsSetTo, Waiting, asked_since, knowing, known_blocks, node_of, none_waiting, told_blocks}
-use Rattle.mar_node.specs.Node.{Node}
-use Rattle.mar_node.specs.Step.{Made, Steps, nothing_made}
-use Rattle.mar_node.proofs.Passing.{ArePassed-refl}
-use Rattle.mar_node.proofs.Reaching.{IsGood-beside, Rest-beside}
-use Rattle.mar_node.specs.declared.fault.Fault.{Fault as FaultCode}
-use Rattle.mar_node.specs.declared.fault.TicketKind.{TicketKind}
-use Rattle.mar_node.specs.declared.fault.TicketKind.TheVariants.{Ack, Sync}
-use Rattle.mar_node.specs.Views.{kind_of}
+use Rattle.mar_model.specs.Promise.{IsGoodUntold, IsLawfulStep, IsOpeningFault, IsSetTo, Waiting, asked_since, knowing, known_blocks, node_of, none_waiting, told_blocks}
+use Rattle.mar_model.specs.Node.{Node}
+use Rattle.mar_model.specs.Step.{Made, Steps, nothing_made}
+use Rattle.mar_model.proofs.Passing.{ArePassed-refl}
+use Rattle.mar_model.proofs.Reaching.{IsGood-beside, Rest-beside}
+use Rattle.mar_model.specs.declared.fault.Fault.{Fault as FaultCode}
+use Rattle.mar_model.specs.declared.fault.TicketKind.{TicketKind}
+use Rattle.mar_model.specs.declared.fault.TicketKind.TheVariants.{Ack, Sync}
+use Rattle.mar_model.specs.Views.{kind_of}
 use Rattle.mar_script.specs.Refused.{max_lines}
 use Rattle.mar_script.specs.Accounts.{Account, Calls, CallsEnd, luck_after}
 use Rattle.mar_script.specs.Plays.{IsBetween, IsLawfulLine, Plays, buffer_in, cached_blocks_in, known_in, max_window}

@@ -4,32 +4,32 @@ use Rattle.std.specs.List.{filter_map, list_any}
 use Rattle.mar_types.specs.declared.Sha256Digest.{Sha256Digest}
 use Rattle.mar_cert.specs.Block.{Block}
 use Rattle.mar_cert.specs.Finalization.{Finalization}
-use Rattle.mar_node.specs.Messages.{report_finalization}
+use Rattle.mar_model.specs.Messages.{report_finalization}
 use Rattle.mar_key.specs.Asked.{asked_after}
 use Rattle.mar_key.specs.Processed.{height_in}
-use Rattle.mar_node.specs.Acks.{is_unmarked}
-use Rattle.mar_node.specs.Chain.{Chain}
-use Rattle.mar_node.specs.Config.{Config}
-use Rattle.mar_node.specs.Cached.{cached_block}
-use Rattle.mar_node.specs.Event.{Event, ack_given, effect_of, message_told, sync_finished}
-use Rattle.mar_node.specs.Faults.{Fault, event_fault, is_by_value, ticket_limit}
-use Rattle.mar_node.specs.Held.{IsUsual, Seen}
-use Rattle.mar_node.specs.Lives.{Cuts, CutsEvent}
-use Rattle.mar_node.specs.Node.{Ended, IsGood, Node, Rest, CertifiedCommitment}
-use Rattle.mar_node.specs.OpenSyncs.{is_cache_sync}
-use Rattle.mar_node.specs.Promise.{AreOne, IsGoodFor, IsLawfulStep, ReportsFinalized, RestsBefore, Waiting, asked_since, known_blocks, node_of, told_blocks, knowing}
-use Rattle.mar_node.specs.Step.{AdvancesAll, Made, Steps, joined_made}
+use Rattle.mar_model.specs.Acks.{is_unmarked}
+use Rattle.mar_model.specs.Chain.{Chain}
+use Rattle.mar_model.specs.Config.{Config}
+use Rattle.mar_model.specs.Cached.{cached_block}
+use Rattle.mar_model.specs.Event.{Event, ack_given, effect_of, message_told, sync_finished}
+use Rattle.mar_model.specs.Faults.{Fault, event_fault, is_by_value, ticket_limit}
+use Rattle.mar_model.specs.Held.{IsUsual, Seen}
+use Rattle.mar_model.specs.Lives.{Cuts, CutsEvent}
+use Rattle.mar_model.specs.Node.{Ended, IsGood, Node, Rest, CertifiedCommitment}
+use Rattle.mar_model.specs.OpenSyncs.{is_cache_sync}
+use Rattle.mar_model.specs.Promise.{AreOne, IsGoodFor, IsLawfulStep, ReportsFinalized, RestsBefore, Waiting, asked_since, known_blocks, node_of, told_blocks, knowing}
+use Rattle.mar_model.specs.Step.{AdvancesAll, Made, Steps, joined_made}
 use Rattle.std.proofs.lemmas.List.Elements.{Contains-append_cases, Contains-append_left, Contains-append_right}
-use Rattle.mar_node.proofs.KnownBlocks.{AreOne-within}
-use Rattle.mar_node.proofs.Reaching.{IsGood-beside, Rest-beside}
-use Rattle.mar_node.specs.declared.fault.Fault.{Fault as FaultCode}
-use Rattle.mar_node.specs.declared.fault.Fault.TheVariants as fault
-use Rattle.mar_node.specs.declared.fault.TicketKind.{TicketKind}
-use Rattle.mar_node.specs.Views.{kind_of}
+use Rattle.mar_model.proofs.KnownBlocks.{AreOne-within}
+use Rattle.mar_model.proofs.Reaching.{IsGood-beside, Rest-beside}
+use Rattle.mar_model.specs.declared.fault.Fault.{Fault as FaultCode}
+use Rattle.mar_model.specs.declared.fault.Fault.TheVariants as fault
+use Rattle.mar_model.specs.declared.fault.TicketKind.{TicketKind}
+use Rattle.mar_model.specs.Views.{kind_of}
 use Rattle.mar_script.specs.Accounts.{Account}
 use Rattle.mar_script.specs.Plays.{IsBetween, IsLawfulLine, max_window}
 use Rattle.mar_script.specs.Run.{LineDone, RunningDone, StepDone, line_blocks, still_unanswered}
-use Rattle.mar_node.specs.Writing.{is_open_sync}
+use Rattle.mar_model.specs.Writing.{is_open_sync}
 use Rattle.mar_script.specs.Script.{Line, ack_line, sync_line, tell_line}
 use Rattle.mar_script.specs.Text.{Output, State, remark_ignored, running, stopped}
 use Rattle.mar_script.specs.Shown.{plain_fault}

@@ -11,12 +11,12 @@ use Rattle.mar_types.specs.Varint.{IsNumber}
 use Rattle.mar_types.specs.Fixed.{fixed_partition}
 use Rattle.mar_cert.specs.Block.{Block}
 use Rattle.mar_cert.specs.Finalization.{Finalization, finalization_bytes}
-use Rattle.mar_node.specs.Cached.{Cached, cached_block}
-use Rattle.mar_node.specs.Chain.{IsBlockAt}
-use Rattle.mar_node.specs.Faults.{from_floor, from_genesis}
-use Rattle.mar_node.specs.Lives.{IsGoodEnded}
-use Rattle.mar_node.specs.Messages.{Message, report_finalization, set_floor}
-use Rattle.mar_node.specs.Node.{Agrees, BlocksAgree, Ended, IsFinalized}
+use Rattle.mar_model.specs.Cached.{Cached, cached_block}
+use Rattle.mar_model.specs.Chain.{IsBlockAt}
+use Rattle.mar_model.specs.Faults.{from_floor, from_genesis}
+use Rattle.mar_model.specs.Lives.{IsGoodEnded}
+use Rattle.mar_model.specs.Messages.{Message, report_finalization, set_floor}
+use Rattle.mar_model.specs.Node.{Agrees, BlocksAgree, Ended, IsFinalized}
 use Rattle.mar_store.proofs.Lookups.{AllByRecursion-contains}
 use Rattle.mar_script.specs.Plays.{IsSmallLine}
 use Rattle.mar_script.specs.Refused.{max_lines}

@@ -3,8 +3,8 @@ use Rattle.std.proofs.Common.{Err, List, Ok, OnErr, Option, Result, [], ap, refl
 use Rattle.std.specs.Result.{is_err}
 use Rattle.mar_key.specs.Asked.{Asked, asked_after}
 use Rattle.mar_key.specs.Keys.{Call}
-use Rattle.mar_node.specs.Chain.{Chain}
-use Rattle.mar_node.specs.Config.{Config}
+use Rattle.mar_model.specs.Chain.{Chain}
+use Rattle.mar_model.specs.Config.{Config}
 use Rattle.mar_script.specs.Accounts.{AccountsFor, luck_after}
 use Rattle.mar_script.specs.Plays.{IsLawfulLine, IsSmallLine, Plays}
 use Rattle.mar_script.specs.Script.{Line}

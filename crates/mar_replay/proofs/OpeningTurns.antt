@@ -5,24 +5,24 @@ use Rattle.std.proofs.lemmas.List.Elements.{Contains-append_cases, Contains-appe
 use Rattle.mar_types.specs.declared.Sha256Digest.{Sha256Digest}
 use Rattle.mar_cert.specs.Block.{Block}
 use Rattle.mar_key.specs.Processed.{height_in}
-use Rattle.mar_node.specs.Metadata.{Pair, pair_of}
+use Rattle.mar_model.specs.Metadata.{Pair, pair_of}
 use Rattle.mar_store.specs.Kept.{Kept}
 use Rattle.mar_store.proofs.Lookups.{AllByRecursion-weaker}
-use Rattle.mar_node.specs.Cached.{Cached, cached_block}
-use Rattle.mar_node.specs.Chain.{Chain, IsBlockAt}
-use Rattle.mar_node.specs.Config.{Config}
-use Rattle.mar_node.specs.Event.{cutoff_after, effect_of, life_started, processed_after}
-use Rattle.mar_node.specs.Faults.{Begin, Fault, event_fault, from_genesis, ticket_limit}
-use Rattle.mar_node.specs.Held.{IsUsual, Seen}
-use Rattle.mar_node.specs.Lives.{Cuts, CutsEvent, CutsReopening, Finds, NotBelow, Picks, TakesUp}
-use Rattle.mar_node.specs.Node.{CacheSync, Ended, Node}
-use Rattle.mar_node.specs.Promise.{IsGoodUntold, IsLawfulOpening, IsLawfulStep, IsOpeningFault, asked_since, knowing, known_blocks, node_of, none_waiting}
-use Rattle.mar_node.specs.Step.{Made, Steps, nothing_made}
-use Rattle.mar_node.specs.declared.fault.Fault.{Fault as FaultCode}
-use Rattle.mar_node.specs.declared.fault.TicketKind.{TicketKind}
-use Rattle.mar_node.specs.Views.{kind_of}
-use Rattle.mar_node.proofs.Cutting.{only_one}
-use Rattle.mar_node.proofs.GoodOpenings.{IsOpeningFault-none}
+use Rattle.mar_model.specs.Cached.{Cached, cached_block}
+use Rattle.mar_model.specs.Chain.{Chain, IsBlockAt}
+use Rattle.mar_model.specs.Config.{Config}
+use Rattle.mar_model.specs.Event.{cutoff_after, effect_of, life_started, processed_after}
+use Rattle.mar_model.specs.Faults.{Begin, Fault, event_fault, from_genesis, ticket_limit}
+use Rattle.mar_model.specs.Held.{IsUsual, Seen}
+use Rattle.mar_model.specs.Lives.{Cuts, CutsEvent, CutsReopening, Finds, NotBelow, Picks, TakesUp}
+use Rattle.mar_model.specs.Node.{CacheSync, Ended, Node}
+use Rattle.mar_model.specs.Promise.{IsGoodUntold, IsLawfulOpening, IsLawfulStep, IsOpeningFault, asked_since, knowing, known_blocks, node_of, none_waiting}
+use Rattle.mar_model.specs.Step.{Made, Steps, nothing_made}
+use Rattle.mar_model.specs.declared.fault.Fault.{Fault as FaultCode}
+use Rattle.mar_model.specs.declared.fault.TicketKind.{TicketKind}
+use Rattle.mar_model.specs.Views.{kind_of}
+use Rattle.mar_model.proofs.Cutting.{only_one}
+use Rattle.mar_model.proofs.GoodOpenings.{IsOpeningFault-none}
 use Rattle.mar_script.specs.Plays.{IsBetween, IsLawfulLine, known_in, max_window}
 use Rattle.mar_script.specs.Run.{OpenDone}
 use Rattle.mar_script.specs.Script.{open_line}
@@ -30,8 +30,8 @@ use Rattle.mar_script.specs.Text.{running, stopped}
 use Rattle.mar_script.specs.Shown.{plain_fault}
 use Rattle.mar_replay.specs.Turn.{output_of}
 use Rattle.mar_replay.specs.declared.play.Outcome.TheVariants as outcome
-use Rattle.mar_node.proofs.EntryLists.{contains_none}
-use Rattle.mar_node.proofs.KnownBlocks.{AreOne-within}
+use Rattle.mar_model.proofs.EntryLists.{contains_none}
+use Rattle.mar_model.proofs.KnownBlocks.{AreOne-within}
 use Rattle.mar_replay.proofs.CachedLines.{begun_cached, found_cached, found_within, step_cached}
 use Rattle.mar_replay.proofs.Lasting.{Undropped, undropped-start}
 use Rattle.mar_replay.proofs.LineTurns.{cut_blocks, only_cut, usual}

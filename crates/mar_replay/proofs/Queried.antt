@@ -7,14 +7,14 @@ use Rattle.mar_block.specs.Sent.{Held}
 use Rattle.mar_inbox.specs.Policy.{drops_closed}
 use Rattle.mar_inbox.specs.declared.Query.TheVariants as query
 use Rattle.mar_cert.specs.Block.{Block}
-use Rattle.mar_node.specs.Answers.{Value, answers_of, to}
-use Rattle.mar_node.specs.Chain.{Chain}
-use Rattle.mar_node.specs.Config.{Config}
-use Rattle.mar_node.specs.Event.{effect_of, message_told}
-use Rattle.mar_node.specs.Messages.{Message, message_blocks}
-use Rattle.mar_node.specs.Node.{Node}
-use Rattle.mar_node.specs.Promise.{Waiting, node_of}
-use Rattle.mar_node.specs.Step.{Made, Steps}
+use Rattle.mar_model.specs.Answers.{Value, answers_of, to}
+use Rattle.mar_model.specs.Chain.{Chain}
+use Rattle.mar_model.specs.Config.{Config}
+use Rattle.mar_model.specs.Event.{effect_of, message_told}
+use Rattle.mar_model.specs.Messages.{Message, message_blocks}
+use Rattle.mar_model.specs.Node.{Node}
+use Rattle.mar_model.specs.Promise.{Waiting, node_of}
+use Rattle.mar_model.specs.Step.{Made, Steps}
 use Rattle.mar_script.specs.Accounts.{Account}
 use Rattle.mar_script.specs.Run.{EventsDone, LineDone, OneDone, StepDone, still_unanswered, told_events}
 use Rattle.mar_script.specs.Script.{tell_line}

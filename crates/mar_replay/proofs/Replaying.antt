@@ -6,21 +6,21 @@ use Rattle.std.proofs.lemmas.Grind.{flat_map-append}
 use Rattle.std.proofs.lemmas.List.{append-nil, map-append}
 use Rattle.std.proofs.lemmas.List.Elements.{Contains-append_cases, Contains-append_left, Contains-append_right}
 use Rattle.mar_cert.specs.Block.{Block}
-use Rattle.mar_node.specs.Messages.{report_finalization, set_floor}
+use Rattle.mar_model.specs.Messages.{report_finalization, set_floor}
 use Rattle.mar_store.proofs.Lookups.{AllByRecursion-from_contains, AllByRecursion-push}
-use Rattle.mar_node.specs.Chain.{Chain}
-use Rattle.mar_node.specs.Config.{Config}
-use Rattle.mar_node.specs.Faults.{from_floor, from_genesis, want_of_memory}
-use Rattle.mar_node.specs.Held.{Remains, Watches}
-use Rattle.mar_node.specs.Lives.{IsGoodEnded}
-use Rattle.mar_node.specs.Node.{Agrees, Ended, IsFinalized, left_by}
-use Rattle.mar_node.specs.Cached.{cached_block, cached_finalization, Cached}
-use Rattle.mar_node.proofs.Filtered.{all_found_within}
-use Rattle.mar_node.proofs.Soundness.{IsFrom, IsGoodEnded-from_sound, IsSound-from_good}
+use Rattle.mar_model.specs.Chain.{Chain}
+use Rattle.mar_model.specs.Config.{Config}
+use Rattle.mar_model.specs.Faults.{from_floor, from_genesis, want_of_memory}
+use Rattle.mar_model.specs.Held.{Remains, Watches}
+use Rattle.mar_model.specs.Lives.{IsGoodEnded}
+use Rattle.mar_model.specs.Node.{Agrees, Ended, IsFinalized, left_by}
+use Rattle.mar_model.specs.Cached.{cached_block, cached_finalization, Cached}
+use Rattle.mar_model.proofs.Filtered.{all_found_within}
+use Rattle.mar_model.proofs.Soundness.{IsFrom, IsGoodEnded-from_sound, IsSound-from_good}
 use Rattle.mar_script.specs.Accounts.{Account, AccountsFor, first_account}
 use Rattle.mar_script.specs.Plays.{IsBetween, IsLawfulLine, Plays, buffer_in, cached_blocks_in, known_in, max_window}
 use Rattle.mar_script.specs.Refused.{max_lines}
-use Rattle.mar_node.specs.Step.{IsFront}
+use Rattle.mar_model.specs.Step.{IsFront}
 use Rattle.mar_script.specs.Run.{Appears, AreSmooth, EndsWith, HandsBack, IsExcused, IsFaultFree, IsOutput, IsQuiet, LineDone, MemoryEnds, Premises, Replays, Run, Status, account_after, line_blocks, messages_of, out_of_memory, outside_grammar, read_failed, read_to_end, write_failed}
 use Rattle.mar_script.specs.Script.{Line, open_line}
 use Rattle.mar_script.proofs.Accounts.{account-push, quiet_run, run_push}

@@ -6,12 +6,12 @@ use Rattle.std.specs.List.{flat_map}
 use Rattle.std.specs.Prelude.{OnOk, codes, decimal}
 use Rattle.mar_key.specs.Asked.{Asked}
 use Rattle.mar_store.specs.Changes.{heights}
-use Rattle.mar_node.specs.Metadata.{Pair, first_pair}
-use Rattle.mar_node.specs.Node.{Ended}
-use Rattle.mar_node.specs.Writing.{Writing}
+use Rattle.mar_model.specs.Metadata.{Pair, first_pair}
+use Rattle.mar_model.specs.Node.{Ended}
+use Rattle.mar_model.specs.Writing.{Writing}
 use Rattle.mar_key.specs.Cutoff.{Cutoff}
 use Rattle.mar_key.specs.Processed.{Processed}
-use Rattle.mar_node.specs.Acks.{Outstanding}
+use Rattle.mar_model.specs.Acks.{Outstanding}
 use Rattle.mar_store.specs.Ranges.{Range, ranges}
 use Rattle.mar_script.specs.Shown.{ended_shown_words, shown_words}
 use Rattle.mar_script.specs.Text.{State, cutoff_text, ended_words, fault_words, line_of, or_dash, output_text, pair_words, ranges_text, remark_words, report_words, some_words, state_words}

@@ -3,12 +3,12 @@
 use Rattle.std.specs.List.{AllByRecursion, count_by, filter_map, flat_map}
 use Rattle.std.specs.Prelude.{List, None, Option, Some, [], drop, length, map, min, ℕ, ◌++◌, ◌+◌, ◌-◌, ◌<◌, ◌^◌, ◌∷◌, ◌≡◌, ◌≤◌, ◌⊎◌}
 use Rattle.mar_types.specs.Varint.{IsNumber}
-use Rattle.mar_node.specs.Cached.{Cached, cached_block}
-use Rattle.mar_node.specs.Faults.{from_genesis}
-use Rattle.mar_node.specs.Held.{Remains}
-use Rattle.mar_node.specs.Lives.{IsGoodEnded}
-use Rattle.mar_node.specs.Messages.{report_finalization}
-use Rattle.mar_node.specs.Promise.{AreOne}
+use Rattle.mar_model.specs.Cached.{Cached, cached_block}
+use Rattle.mar_model.specs.Faults.{from_genesis}
+use Rattle.mar_model.specs.Held.{Remains}
+use Rattle.mar_model.specs.Lives.{IsGoodEnded}
+use Rattle.mar_model.specs.Messages.{report_finalization}
+use Rattle.mar_model.specs.Promise.{AreOne}
 use Rattle.mar_script.specs.Run.{Premises, ReadsLines, RunsLines, Status, out_of_memory, read_to_end}
 use Rattle.mar_script.specs.Script.{Line, Settings, ack_line, buffer_line, config_of, crash_line, open_line, script_bytes, sync_line, tell_line}
 use Rattle.mar_script.specs.Streams.{Takes, TakesFront}

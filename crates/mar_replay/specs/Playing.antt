@@ -14,21 +14,21 @@ use Rattle.mar_cert.specs.declared.MockCertificate.{MockCertificate}
 use Rattle.mar_inbox.specs.Views.{message_of, query_of}
 use Rattle.mar_inbox.specs.declared.Message.{Message as MessageCode}
 use Rattle.mar_inbox.specs.declared.Query.{Query}
-use Rattle.mar_node.specs.Messages.{Message, Peers, certify, proposed, verified}
+use Rattle.mar_model.specs.Messages.{Message, Peers, certify, proposed, verified}
 use Rattle.mar_script.specs.Lines.{plain_block, plain_finalization}
 use Rattle.mar_key.specs.Asked.{Asked, asked_after}
-use Rattle.mar_node.specs.Cached.{Cached}
-use Rattle.mar_node.specs.Chain.{Chain}
-use Rattle.mar_node.specs.Config.{Config}
-use Rattle.mar_node.specs.Event.{Event, life_started}
-use Rattle.mar_node.specs.Faults.{Fault, ack_kind, sync_kind, ticket_limit, want_of_memory}
-use Rattle.mar_node.specs.Held.{Seen}
-use Rattle.mar_node.specs.Lives.{Cuts, TakesUp}
-use Rattle.mar_node.specs.Moves.{syncs_at_most}
-use Rattle.mar_node.specs.Node.{Node}
-use Rattle.mar_node.specs.Promise.{IsLawfulStep, IsSetTo, Waiting, asked_since, knowing, node_of}
-use Rattle.mar_node.specs.Step.{Made, Steps}
-use Rattle.mar_node.specs.Stored.{AreSmall}
+use Rattle.mar_model.specs.Cached.{Cached}
+use Rattle.mar_model.specs.Chain.{Chain}
+use Rattle.mar_model.specs.Config.{Config}
+use Rattle.mar_model.specs.Event.{Event, life_started}
+use Rattle.mar_model.specs.Faults.{Fault, ack_kind, sync_kind, ticket_limit, want_of_memory}
+use Rattle.mar_model.specs.Held.{Seen}
+use Rattle.mar_model.specs.Lives.{Cuts, TakesUp}
+use Rattle.mar_model.specs.Moves.{syncs_at_most}
+use Rattle.mar_model.specs.Node.{Node}
+use Rattle.mar_model.specs.Promise.{IsLawfulStep, IsSetTo, Waiting, asked_since, knowing, node_of}
+use Rattle.mar_model.specs.Step.{Made, Steps}
+use Rattle.mar_model.specs.Stored.{AreSmall}
 use Rattle.mar_script.specs.Accounts.{Account, Calls, CallsEnd, luck_after}
 use Rattle.mar_script.specs.Plays.{IsLawfulLine, IsSmallLine, Plays}
 use Rattle.mar_script.specs.Script.{Line}

@@ -7,11 +7,11 @@ use Rattle.mar_block.specs.declared.EmptyBlock.{EmptyBlock}
 use Rattle.mar_inbox.specs.Answers.{told}
 use Rattle.mar_inbox.specs.Views.{value_of}
 use Rattle.mar_key.specs.Asked.{Asked}
-use Rattle.mar_node.specs.Faults.{Fault}
-use Rattle.mar_node.specs.Held.{Remains, remains_of}
-use Rattle.mar_node.specs.Node.{CertifiedCommitment}
-use Rattle.mar_node.specs.Promise.{Waiting, node_of}
-use Rattle.mar_node.specs.Step.{Made, Report}
+use Rattle.mar_model.specs.Faults.{Fault}
+use Rattle.mar_model.specs.Held.{Remains, remains_of}
+use Rattle.mar_model.specs.Node.{CertifiedCommitment}
+use Rattle.mar_model.specs.Promise.{Waiting, node_of}
+use Rattle.mar_model.specs.Step.{Made, Report}
 use Rattle.mar_actor.specs.Views.{report_of}
 use Rattle.mar_actor.specs.declared.Update.{Update}
 use Rattle.mar_script.specs.Lines.{plain_block, plain_finalization, plain_sent}

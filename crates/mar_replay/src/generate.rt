@@ -5,7 +5,7 @@ ghost use Rattle.mar_types.specs.Causes.{Rose};
 ghost use Rattle.mar_key.specs.Asked.{Asked};
 ghost use Rattle.mar_gen.specs.Output.{IsOwed, blocks_in, node_words, processed_in, summary as summary_of};
 ghost use Rattle.mar_gen.specs.Plan.{IsStepWithin, is_open, plan};
-ghost use Rattle.mar_node.specs.Held.{Remains};
+ghost use Rattle.mar_model.specs.Held.{Remains};
 ghost use Rattle.mar_script.specs.Lines.{plain_line};
 ghost use Rattle.mar_script.specs.Run.{HandsBack};
 ghost use Rattle.mar_script.specs.Script.{config_of};

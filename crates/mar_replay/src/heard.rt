@@ -1,7 +1,7 @@
 //! What a node tells the application, asks of its peers, sends and answers callers while one line is done.
 ghost use Rattle.std.specs.Prelude.{◌≡◌, ◌∷◌, [], OnErr, OnOk, Some, map};
 ghost use Rattle.mar_key.specs.Hears.{Hears};
-ghost use Rattle.mar_node.specs.Step.{nothing_made};
+ghost use Rattle.mar_model.specs.Step.{nothing_made};
 ghost use Rattle.mar_replay.specs.Turn.{made_in, plain_report};
 
 use mar_actor::{Reporter, Update};

@@ -5,7 +5,7 @@
 //!
 //! - `run` does what the words of a command line ask for: `replay` does the script that it reads, `gen SEED N` one that it
 //!   makes and reads nothing. It names the four stores of a life, as a caller has them.
-//! - `replay` does a script over the stores of a life of any make (`HoldsNotarizations` of mar_node; `ScriptStores` is one
+//! - `replay` does a script over the stores of a life of any make (`HoldsNotarizations` of mar_model; `ScriptStores` is one
 //!   that has four stores).
 //!
 //! Both are given a source (`Source`), a sink (`Sink`) and what is left of stores: of stores that hold nothing, or of those

@@ -2,19 +2,19 @@
 ghost use Rattle.std.specs.Prelude.{◌≡◌, ◌↔◌, [], IsTrue, List, Ok, OnErr, OnOk, Some, map};
 ghost use Rattle.mar_key.specs.Asked.{Asked, asked_after};
 ghost use Rattle.mar_key.specs.Recorded.{ask_of};
-ghost use Rattle.mar_node.specs.Event.{message_told};
-ghost use Rattle.mar_node.specs.Messages.{certify, prepared, proposed, report_certification, report_finalization, report_notarization, verified};
-ghost use Rattle.mar_node.specs.Config.{Config as PlainConfig};
-ghost use Rattle.mar_node.specs.Faults.{from_genesis, want_of_memory};
-ghost use Rattle.mar_node.specs.Held.{remains_of};
-ghost use Rattle.mar_node.specs.Promise.{IsSmallEvent};
-ghost use Rattle.mar_node.specs.Step.{nothing_made};
-ghost use Rattle.mar_node.specs.Stored.{AreSmall};
+ghost use Rattle.mar_model.specs.Event.{message_told};
+ghost use Rattle.mar_model.specs.Messages.{certify, prepared, proposed, report_certification, report_finalization, report_notarization, verified};
+ghost use Rattle.mar_model.specs.Config.{Config as PlainConfig};
+ghost use Rattle.mar_model.specs.Faults.{from_genesis, want_of_memory};
+ghost use Rattle.mar_model.specs.Held.{remains_of};
+ghost use Rattle.mar_model.specs.Promise.{IsSmallEvent};
+ghost use Rattle.mar_model.specs.Step.{nothing_made};
+ghost use Rattle.mar_model.specs.Stored.{AreSmall};
 ghost use Rattle.mar_store.specs.Sizes.{IsSmall};
 ghost use Rattle.mar_cert.specs.Finalization.{finalization_bytes};
 ghost use Rattle.mar_script.specs.Plays.{IsSmallLine};
 ghost use Rattle.mar_actor.specs.Views.{begin_of, event_of, sizes_of};
-ghost use Rattle.mar_node.specs.Views.{store_name_of};
+ghost use Rattle.mar_model.specs.Views.{store_name_of};
 ghost use Rattle.mar_script.specs.Lines.{plain_block, plain_finalization, plain_line};
 ghost use Rattle.mar_replay.specs.Playing.{HasSmallBlocks, IsAnswered, PlaysLine, PlaysOrNot, TakesEvent, plain_message};
 ghost use Rattle.mar_script.specs.Shown.{plain_fault};
@@ -28,7 +28,7 @@ use mar_block::{EmptyBlock, MemBuffer, Sent, StandardBlocks};
 use mar_cert::{MockFinalization, MockProvider, MockScheme};
 use mar_inbox::{Message, Query};
 use mar_key::{Ask, OpenRequests};
-use mar_node::{HoldsNotarizations, StoresRuin};
+use mar_model::{HoldsNotarizations, StoresRuin};
 use mar_script::{Line, RemarkShown, RoundBlock, Settings};
 use mar_types::{Digested, Epoch, FixedEpocher, Sha256, Sha256Digest, ViewDelta};
 use std::alloc::{AllocError, Global};
@@ -62,7 +62,7 @@ pub struct Left<H: ScriptHolds> {
 }
 
 impl<H: ScriptHolds> Model for Left<H> {
-    ghost use Rattle.mar_node.specs.Held.{Remains};
+    ghost use Rattle.mar_model.specs.Held.{Remains};
 
     ghost Value = { Remains };
 

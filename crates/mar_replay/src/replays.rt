@@ -2,7 +2,7 @@
 ghost use Rattle.std.specs.Prelude.{◌≡◌, ◌+◌, ◌++◌, ◌<◌, ℕ, List, Option, Some, [], false, IfErr, IsErrOf, OnOk};
 ghost use Rattle.mar_types.specs.Causes.{Rose};
 ghost use Rattle.mar_key.specs.Asked.{Asked};
-ghost use Rattle.mar_node.specs.Held.{Remains};
+ghost use Rattle.mar_model.specs.Held.{Remains};
 ghost use Rattle.mar_script.specs.Endings.{IsWritersEnd};
 ghost use Rattle.mar_script.specs.Lines.{plain_line};
 ghost use Rattle.mar_script.specs.Plays.{IsSmallLine};

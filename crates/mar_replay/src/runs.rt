@@ -12,8 +12,8 @@ use crate::generate::generate;
 use crate::replays::{Finished, replay};
 use mar_block::StandardBlocks;
 use mar_cert::MockFinalization;
+use mar_life::{Blocks, Certificates, LifeNotarizations, Ruins, Stores};
 use mar_script::{Sink, Source, Status};
-use mar_shelf::{Blocks, Certificates, LifeNotarizations, Ruins, Stores};
 use mar_store::Meta;
 use std::alloc::Global;
 

@@ -9,7 +9,7 @@ use crate::heard::Heard;
 use crate::play::{Outcome, ScriptHolds, State};
 use mar_actor::Update;
 use mar_block::{EmptyBlock, StandardBlocks, Variant};
-use mar_node::StoresRuin;
+use mar_model::StoresRuin;
 use mar_script::{
     RangeTexts, push_answers, push_asks, push_block, push_ended, push_fault, push_node,
     push_remark, push_sends, push_tip,

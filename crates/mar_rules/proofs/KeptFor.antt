@@ -6,24 +6,24 @@ use Rattle.std.proofs.lemmas.List.Elements.{Contains-append_left, Contains-appen
 use Rattle.mar_types.specs.Round.{Round}
 use Rattle.mar_cert.specs.Block.{Block}
 use Rattle.mar_cert.specs.Finalization.{Notarization}
-use Rattle.mar_node.specs.Cache.{certified_covers, is_notarization_of, is_notarized_of, is_verified_of, notarized_where, same_archive, verified_at}
-use Rattle.mar_node.specs.CacheCalls.{GivesTicket, JoinsTickets, StartsSync, is_of_archive, none_goes}
-use Rattle.mar_node.specs.AllEntries.{PutsEntry}
-use Rattle.mar_node.specs.Cached.{Cached, cached_block, certified_entry, epoch_of, finalization_entry, notarization_entry, notarized_entry, verified_entry}
-use Rattle.mar_node.specs.Entries.{has_digest, is_verified_at}
-use Rattle.mar_node.specs.Held.{AreCached, Held}
-use Rattle.mar_node.specs.Moves.{CachesEntry, KeepsFor, KeepsNotarizedWhere, PutsAll, StartsCacheSync, is_verified_in, with_cache_sync}
-use Rattle.mar_node.specs.OpenSyncs.{AreStillOpen}
-use Rattle.mar_node.specs.declared.CacheTicket.{CacheTicket}
-use Rattle.mar_node.specs.declared.Section.TheVariants.{Notarizations, Notarized, Verified}
-use Rattle.mar_node.specs.declared.Started.{Started}
-use Rattle.mar_node.specs.declared.Started.TheVariants.{Ready, Ticket}
-use Rattle.mar_node.specs.Writing.{with_ticket}
-use Rattle.mar_node.proofs.CacheSteps.{place_epoch}
-use Rattle.mar_node.proofs.CertifiedBlocks.{verified-is}
-use Rattle.mar_node.proofs.EntryLists.{contains_here, contains_more, filter_passed}
-use Rattle.mar_node.proofs.KeptEach.{KeepsNotarizedWhere-unread}
-use Rattle.mar_node.proofs.OpenSyncs.{AreStillOpen-then}
+use Rattle.mar_model.specs.Cache.{certified_covers, is_notarization_of, is_notarized_of, is_verified_of, notarized_where, same_archive, verified_at}
+use Rattle.mar_model.specs.CacheCalls.{GivesTicket, JoinsTickets, StartsSync, is_of_archive, none_goes}
+use Rattle.mar_model.specs.AllEntries.{PutsEntry}
+use Rattle.mar_model.specs.Cached.{Cached, cached_block, certified_entry, epoch_of, finalization_entry, notarization_entry, notarized_entry, verified_entry}
+use Rattle.mar_model.specs.Entries.{has_digest, is_verified_at}
+use Rattle.mar_model.specs.Held.{AreCached, Held}
+use Rattle.mar_model.specs.Moves.{CachesEntry, KeepsFor, KeepsNotarizedWhere, PutsAll, StartsCacheSync, is_verified_in, with_cache_sync}
+use Rattle.mar_model.specs.OpenSyncs.{AreStillOpen}
+use Rattle.mar_model.specs.declared.CacheTicket.{CacheTicket}
+use Rattle.mar_model.specs.declared.Section.TheVariants.{Notarizations, Notarized, Verified}
+use Rattle.mar_model.specs.declared.Started.{Started}
+use Rattle.mar_model.specs.declared.Started.TheVariants.{Ready, Ticket}
+use Rattle.mar_model.specs.Writing.{with_ticket}
+use Rattle.mar_model.proofs.CacheSteps.{place_epoch}
+use Rattle.mar_model.proofs.CertifiedBlocks.{verified-is}
+use Rattle.mar_model.proofs.EntryLists.{contains_here, contains_more, filter_passed}
+use Rattle.mar_model.proofs.KeptEach.{KeepsNotarizedWhere-unread}
+use Rattle.mar_model.proofs.OpenSyncs.{AreStillOpen-then}
 use Rattle.mar_rules.specs.Keeping.{PutsCertified, block_section, joined_of, opened_for, ticket_for}
 
 -- ENTRIES OF AN ARCHIVE

@@ -1,12 +1,12 @@
 -- What is pruned as a round is witnessed.
 use Rattle.std.proofs.Common.{◌≡◌, ℕ, List, [], ◌∷◌, Bool, true, false, if◌then◌else◌, refl, subst}
 use Rattle.mar_types.specs.Round.{Round, round_lt}
-use Rattle.mar_node.specs.Cache.{Witnessing, prunes_by}
-use Rattle.mar_node.specs.Held.{Held, WithinWritten, Written, written_pair, written_prunes}
-use Rattle.mar_node.specs.Metadata.{Pair}
-use Rattle.mar_node.specs.Moves.{PrunesCache, PrunesCacheBy, pruned_by}
-use Rattle.mar_node.proofs.CachePrunes.{PrunesCacheBy-none, PrunesCacheBy-one}
-use Rattle.mar_node.proofs.Growing.{WithinWritten-nothing}
+use Rattle.mar_model.specs.Cache.{Witnessing, prunes_by}
+use Rattle.mar_model.specs.Held.{Held, WithinWritten, Written, written_pair, written_prunes}
+use Rattle.mar_model.specs.Metadata.{Pair}
+use Rattle.mar_model.specs.Moves.{PrunesCache, PrunesCacheBy, pruned_by}
+use Rattle.mar_model.proofs.CachePrunes.{PrunesCacheBy-none, PrunesCacheBy-one}
+use Rattle.mar_model.proofs.Growing.{WithinWritten-nothing}
 
 -- one that is newer prunes by the one before it
 pub PrunesCacheBy-newer : (retention : ℕ) (last round from : Round) (old new : Held) → round_lt last round ≡ true → from ≡ prunes_by retention last → PrunesCache from old new → PrunesCacheBy (pruned_by retention last (round ∷ [])) old new

@@ -8,11 +8,11 @@ use Rattle.mar_key.specs.Cutoff.{at_round, greatest_of}
 use Rattle.mar_key.specs.Hears.{Hears}
 use Rattle.mar_key.specs.Keys.{Call, above_height, retain}
 use Rattle.mar_key.specs.Processed.{Processed}
-use Rattle.mar_node.specs.Event.{closed_at, retired, round_at}
-use Rattle.mar_node.specs.Held.{Held, Seen, WithinWritten, Written, first_life, seen, written_prunes}
-use Rattle.mar_node.specs.Moves.{HearsFront, HearsUpTo, pruned_by, with_cache_of}
-use Rattle.mar_node.specs.Requests.{raise_asks}
-use Rattle.mar_node.proofs.RaiseAsks.{process_asks, unraised_asks}
+use Rattle.mar_model.specs.Event.{closed_at, retired, round_at}
+use Rattle.mar_model.specs.Held.{Held, Seen, WithinWritten, Written, first_life, seen, written_prunes}
+use Rattle.mar_model.specs.Moves.{HearsFront, HearsUpTo, pruned_by, with_cache_of}
+use Rattle.mar_model.specs.Requests.{raise_asks}
+use Rattle.mar_model.proofs.RaiseAsks.{process_asks, unraised_asks}
 
 -- what is said of a call that went well
 pub on_ok : {T E A : Type 0} (result : Result T E) → is_err result ≡ false → OnOk result A → A

@@ -2,8 +2,8 @@
 use Rattle.std.proofs.Common.{◌≡◌, ◌⊎◌, inl, inr, ℕ, ◌<◌, ◌≤◌, List, Option, Some, None, option_map, Contains, IfNone, IfOk, IfSome, Result, Ok, Err, subst, sym}
 use Rattle.std.specs.List.{AllByRecursion}
 use Rattle.mar_cert.specs.Block.{Block}
-use Rattle.mar_node.specs.Faults.{last_height}
-use Rattle.mar_node.specs.Held.{Held}
+use Rattle.mar_model.specs.Faults.{last_height}
+use Rattle.mar_model.specs.Held.{Held}
 use Rattle.mar_rules.specs.Next.{IsReady, IsUnready}
 use Rattle.mar_store.specs.Kept.{value_at}
 

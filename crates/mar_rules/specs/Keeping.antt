@@ -2,17 +2,17 @@
 use Rattle.std.specs.Prelude.{Bool, List, None, Option, Some, if◌then◌else◌, true, ℕ, ◌<◌, ◌≡◌, ◌≤◌}
 use Rattle.mar_types.specs.Round.{Round}
 use Rattle.mar_cert.specs.Block.{Block}
-use Rattle.mar_node.specs.Cache.{notarized_where}
-use Rattle.mar_node.specs.CacheCalls.{GivesTicket, KeepsTickets, is_of_archive, none_goes}
-use Rattle.mar_node.specs.Cached.{Cached}
-use Rattle.mar_node.specs.Held.{Held}
-use Rattle.mar_node.specs.Moves.{PutsAll, is_verified_in, with_cache_sync}
-use Rattle.mar_node.specs.OpenSyncs.{AreStillOpen}
-use Rattle.mar_node.specs.declared.CacheTicket.{CacheTicket}
-use Rattle.mar_node.specs.declared.Section.{Section}
-use Rattle.mar_node.specs.declared.Section.TheVariants.{Notarized, Verified}
-use Rattle.mar_node.specs.declared.Started.{Started}
-use Rattle.mar_node.specs.declared.Started.TheVariants.{Ready, Ticket}
+use Rattle.mar_model.specs.Cache.{notarized_where}
+use Rattle.mar_model.specs.CacheCalls.{GivesTicket, KeepsTickets, is_of_archive, none_goes}
+use Rattle.mar_model.specs.Cached.{Cached}
+use Rattle.mar_model.specs.Held.{Held}
+use Rattle.mar_model.specs.Moves.{PutsAll, is_verified_in, with_cache_sync}
+use Rattle.mar_model.specs.OpenSyncs.{AreStillOpen}
+use Rattle.mar_model.specs.declared.CacheTicket.{CacheTicket}
+use Rattle.mar_model.specs.declared.Section.{Section}
+use Rattle.mar_model.specs.declared.Section.TheVariants.{Notarized, Verified}
+use Rattle.mar_model.specs.declared.Started.{Started}
+use Rattle.mar_model.specs.declared.Started.TheVariants.{Ready, Ticket}
 
 -- the stores with the sync that was started, where one was
 abbrev pub opened_for : (CacheTicket → List Cached) → Started → Option ℕ → Held → Held

@@ -2,8 +2,8 @@
 use Rattle.std.specs.List.{AllByRecursion}
 use Rattle.std.specs.Prelude.{Contains, None, Some, ℕ, ◌<◌, ◌≡◌, ◌≤◌, ◌⊎◌}
 use Rattle.mar_cert.specs.Block.{Block}
-use Rattle.mar_node.specs.Faults.{last_height}
-use Rattle.mar_node.specs.Held.{Held}
+use Rattle.mar_model.specs.Faults.{last_height}
+use Rattle.mar_model.specs.Held.{Held}
 use Rattle.mar_store.specs.Kept.{value_at}
 
 -- a write at or below this height is not yet covered

@@ -1,15 +1,15 @@
 //! What may be handed over: the block of a height, and what a finished sync lets go. A call that fails ends the life.
 ghost use Rattle.std.specs.List.{AllByRecursion};
 ghost use Rattle.std.specs.Prelude.{◌≡◌, ◌<◌, ◌≤◌, ◌⊎◌, ℕ, Contains, IfErr, IfNone, IfOk, IfSome, OnOk, false, true};
-ghost use Rattle.mar_node.specs.Faults.{last_height};
-ghost use Rattle.mar_node.specs.Held.{AreWritten, GoesOn, IsArchiveFault, IsUsual, MakesSure, nothing_written};
-ghost use Rattle.mar_node.specs.Views.{fault_of};
-ghost use Rattle.mar_node.specs.Writing.{is_open_sync, with_finished};
+ghost use Rattle.mar_model.specs.Faults.{last_height};
+ghost use Rattle.mar_model.specs.Held.{AreWritten, GoesOn, IsArchiveFault, IsUsual, MakesSure, nothing_written};
+ghost use Rattle.mar_model.specs.Views.{fault_of};
+ghost use Rattle.mar_model.specs.Writing.{is_open_sync, with_finished};
 ghost use Rattle.mar_rules.specs.Next.{IsReady, IsUnready};
 ghost use Rattle.mar_store.specs.Changes.{IsNested};
 
 use mar_cert::Variant;
-use mar_node::{Fault, Holds, Writes};
+use mar_model::{Fault, Holds, Writes};
 use mar_types::Height;
 
 /// Takes the block of a height, where it is below the last height, no write bars it and it is held.

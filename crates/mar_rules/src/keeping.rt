@@ -1,16 +1,16 @@
 //! How blocks are kept in the cache for callers, each with a sync that is to make it sure. A call that fails ends the life.
 ghost use Rattle.std.specs.Prelude.{◌≡◌, ◌∷◌, ◌<◌, ◌-◌, ◌^◌, ◌⊎◌, [], IfErr, IfOk, OnOk, Some, true};
 ghost use Rattle.mar_store.specs.Sizes.{IsSmall};
-ghost use Rattle.mar_node.specs.Cache.{certified_covers, is_verified_of, notarized_where};
-ghost use Rattle.mar_node.specs.Cached.{notarized_entry, verified_entry};
-ghost use Rattle.mar_node.specs.Faults.{sync_kind, ticket_limit, want_of_memory};
-ghost use Rattle.mar_node.specs.Held.{GoesOn, IsUsual, nothing_written, written_entry};
-ghost use Rattle.mar_node.specs.Moves.{KeepsFor, is_verified_in};
-ghost use Rattle.mar_node.specs.Views.{fault_of};
+ghost use Rattle.mar_model.specs.Cache.{certified_covers, is_verified_of, notarized_where};
+ghost use Rattle.mar_model.specs.Cached.{notarized_entry, verified_entry};
+ghost use Rattle.mar_model.specs.Faults.{sync_kind, ticket_limit, want_of_memory};
+ghost use Rattle.mar_model.specs.Held.{GoesOn, IsUsual, nothing_written, written_entry};
+ghost use Rattle.mar_model.specs.Moves.{KeepsFor, is_verified_in};
+ghost use Rattle.mar_model.specs.Views.{fault_of};
 ghost use Rattle.mar_rules.specs.Keeping.{PutsCertified, joined_of, opened_for, ticket_for};
 
 use mar_cert::Variant;
-use mar_node::{Fault, Holds, Started, TicketKind};
+use mar_model::{Fault, Holds, Started, TicketKind};
 use mar_types::Round;
 
 /// Keeps a block that was verified in a round, and starts a sync of the verified blocks of its epoch. It gives the ticket of

@@ -3,16 +3,16 @@
 ghost use Rattle.std.specs.Prelude.{◌≡◌, ◌∷◌, ◌-◌, ◌^◌, ◌⊎◌, [], IfErr, IfOk, None, OnOk, false};
 ghost use Rattle.mar_cert.specs.Finalization.{finalization_bytes};
 ghost use Rattle.mar_store.specs.Sizes.{IsSmall};
-ghost use Rattle.mar_node.specs.Cache.{is_notarization_of, notarized_where};
-ghost use Rattle.mar_node.specs.Cached.{notarization_entry, notarized_entry};
-ghost use Rattle.mar_node.specs.Faults.{sync_kind, ticket_limit};
-ghost use Rattle.mar_node.specs.Held.{GoesOn, IsUsual, written_entries, written_entry};
-ghost use Rattle.mar_node.specs.Moves.{KeepsFor, KeepsNotarizedWhere, is_verified_in};
-ghost use Rattle.mar_node.specs.Views.{fault_of};
+ghost use Rattle.mar_model.specs.Cache.{is_notarization_of, notarized_where};
+ghost use Rattle.mar_model.specs.Cached.{notarization_entry, notarized_entry};
+ghost use Rattle.mar_model.specs.Faults.{sync_kind, ticket_limit};
+ghost use Rattle.mar_model.specs.Held.{GoesOn, IsUsual, written_entries, written_entry};
+ghost use Rattle.mar_model.specs.Moves.{KeepsFor, KeepsNotarizedWhere, is_verified_in};
+ghost use Rattle.mar_model.specs.Views.{fault_of};
 
 use crate::keeping::open_started;
 use mar_cert::Variant;
-use mar_node::{Fault, Holds, HoldsNotarizations, TicketKind};
+use mar_model::{Fault, Holds, HoldsNotarizations, TicketKind};
 use mar_types::Round;
 
 /// Keeps a notarization, and starts a sync of those of its epoch, which nobody waits for. It gives the ticket of that sync,

@@ -1,12 +1,12 @@
 //! How the cache is pruned as a round is witnessed. A call that fails ends the life.
 ghost use Rattle.std.specs.Prelude.{◌≡◌, ◌∷◌, [], IfErr, OnOk};
-ghost use Rattle.mar_node.specs.Cache.{prunes_by};
-ghost use Rattle.mar_node.specs.Held.{GoesOn, IsUsual, written_prunes};
-ghost use Rattle.mar_node.specs.Moves.{PrunesCacheBy, pruned_by, with_cache_of};
-ghost use Rattle.mar_node.specs.Views.{fault_of};
+ghost use Rattle.mar_model.specs.Cache.{prunes_by};
+ghost use Rattle.mar_model.specs.Held.{GoesOn, IsUsual, written_prunes};
+ghost use Rattle.mar_model.specs.Moves.{PrunesCacheBy, pruned_by, with_cache_of};
+ghost use Rattle.mar_model.specs.Views.{fault_of};
 
 use mar_cert::Variant;
-use mar_node::{Fault, Holds};
+use mar_model::{Fault, Holds};
 use mar_types::{EpochDelta, Round, ViewDelta};
 
 /// Prunes the cache by the last round witnessed, where this one is newer: what lies up to `retention` views below that last

@@ -4,18 +4,18 @@ ghost use Rattle.mar_key.specs.Keys.{above_height, retain};
 ghost use Rattle.mar_key.specs.Cutoff.{at_round, greatest_of};
 ghost use Rattle.mar_key.specs.Processed.{at_block};
 ghost use Rattle.mar_key.specs.Views.{cutoff_of};
-ghost use Rattle.mar_node.specs.Event.{closed_at, retired, round_at};
-ghost use Rattle.mar_node.specs.Held.{ArePassed, GoesOn, IsUsual, LosesSince, nothing_written, written_pair, written_prunes};
-ghost use Rattle.mar_node.specs.Lives.{later_round};
-ghost use Rattle.mar_node.specs.Moves.{HearsUpTo, PrunesCacheBy, pruned_by, with_cache_of};
-ghost use Rattle.mar_node.specs.Requests.{raise_asks};
-ghost use Rattle.mar_node.specs.Views.{fault_of};
+ghost use Rattle.mar_model.specs.Event.{closed_at, retired, round_at};
+ghost use Rattle.mar_model.specs.Held.{ArePassed, GoesOn, IsUsual, LosesSince, nothing_written, written_pair, written_prunes};
+ghost use Rattle.mar_model.specs.Lives.{later_round};
+ghost use Rattle.mar_model.specs.Moves.{HearsUpTo, PrunesCacheBy, pruned_by, with_cache_of};
+ghost use Rattle.mar_model.specs.Requests.{raise_asks};
+ghost use Rattle.mar_model.specs.Views.{fault_of};
 ghost use Rattle.mar_rules.specs.Noted.{noted_pair};
 
 use crate::pruning::prune_before;
 use mar_cert::Variant;
 use mar_key::{Cutoff, Resolver, Retain};
-use mar_node::{Fault, Holds, closed_epoch, round_at};
+use mar_model::{Fault, Holds, closed_epoch, round_at};
 use mar_types::{Epocher, Height, Round};
 
 /// Witnesses a finalized round, to which the cutoff rises, and makes the processed height and the cutoff durable. Where the

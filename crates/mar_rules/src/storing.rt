@@ -2,20 +2,20 @@
 ghost use Rattle.std.specs.Prelude.{◌≡◌, ◌&&◌, IfErr, IfOk, OnOk, nat_lt, not};
 ghost use Rattle.mar_cert.specs.Finalization.{finalization_bytes};
 ghost use Rattle.mar_key.specs.Processed.{height_of};
-ghost use Rattle.mar_node.specs.Faults.{want_of_memory};
-ghost use Rattle.mar_node.specs.Held.{GoesOn, IsArchiveFault, IsUsual, nothing_written, written_both, written_cert};
-ghost use Rattle.mar_node.specs.Moves.{HearsUpTo, StoresWhere, at_height, lacks_finalization};
-ghost use Rattle.mar_node.specs.Requests.{want_asks};
-ghost use Rattle.mar_node.specs.Stored.{at_own_height, is_certified, is_held};
-ghost use Rattle.mar_node.specs.Views.{fault_of};
-ghost use Rattle.mar_node.specs.Writing.{IsOrdered, with_write};
+ghost use Rattle.mar_model.specs.Faults.{want_of_memory};
+ghost use Rattle.mar_model.specs.Held.{GoesOn, IsArchiveFault, IsUsual, nothing_written, written_both, written_cert};
+ghost use Rattle.mar_model.specs.Moves.{HearsUpTo, StoresWhere, at_height, lacks_finalization};
+ghost use Rattle.mar_model.specs.Requests.{want_asks};
+ghost use Rattle.mar_model.specs.Stored.{at_own_height, is_certified, is_held};
+ghost use Rattle.mar_model.specs.Views.{fault_of};
+ghost use Rattle.mar_model.specs.Writing.{IsOrdered, with_write};
 ghost use Rattle.mar_store.specs.Changes.{Puts};
 ghost use Rattle.mar_store.specs.Kept.{has_height};
 ghost use Rattle.mar_store.specs.Sizes.{IsSmall};
 
 use mar_cert::{AsFinalization, CommitsTo, Variant};
 use mar_key::{Request, Resolver};
-use mar_node::{Fault, Holds};
+use mar_model::{Fault, Holds};
 use mar_types::Height;
 
 /// Requests the block of a finalization by commitment and round, unless the cutoff covers the round.

@@ -4,11 +4,11 @@ use Rattle.std.specs.List.{AllByRecursion}
 use Rattle.std.specs.Prelude.{IfSome}
 use Rattle.mar_types.specs.Causes.{Rose}
 use Rattle.mar_store.specs.Watch.{Strikes, Watch, armed}
-use Rattle.mar_node.specs.Chain.{Chain}
-use Rattle.mar_node.specs.Config.{Config}
-use Rattle.mar_node.specs.Faults.{Fault, StoreName, block_store, cache_store, cert_store, meta_store, store_fault, want_of_memory}
-use Rattle.mar_node.specs.Held.{ArePassed, Breaks, FailsBy, IsUsual, Passes, StrikesUncounted, Watches, watch_of, with_armed}
-use Rattle.mar_node.proofs.Passing.{ArePassed-then, Breaks-then, Passes-then, faults-passed}
+use Rattle.mar_model.specs.Chain.{Chain}
+use Rattle.mar_model.specs.Config.{Config}
+use Rattle.mar_model.specs.Faults.{Fault, StoreName, block_store, cache_store, cert_store, meta_store, store_fault, want_of_memory}
+use Rattle.mar_model.specs.Held.{ArePassed, Breaks, FailsBy, IsUsual, Passes, StrikesUncounted, Watches, watch_of, with_armed}
+use Rattle.mar_model.proofs.Passing.{ArePassed-then, Breaks-then, Passes-then, faults-passed}
 use Rattle.mar_script.specs.Accounts.{Account, AccountsFor, Calls, CallsEnd}
 use Rattle.mar_script.specs.Run.{AreSmooth, IsExcused, IsFaultFree, IsQuiet, IsSmooth, LineDone, Run, account_after}
 use Rattle.mar_script.specs.Script.{Line, fail_line}

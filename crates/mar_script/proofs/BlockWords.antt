@@ -6,7 +6,7 @@ use Rattle.std.specs.Prelude.{codes}
 use Rattle.std.proofs.lemmas.List.Elements.{All-append, All-contains, All-cons}
 use Rattle.mar_types.specs.Round.{IsRound, Round}
 use Rattle.mar_cert.specs.Block.{Block}
-use Rattle.mar_node.specs.Messages.{Peers, all_peers, some_peers}
+use Rattle.mar_model.specs.Messages.{Peers, all_peers, some_peers}
 use Rattle.mar_script.specs.Lines.{IsWord, behind_round}
 use Rattle.mar_script.specs.Script.{IsPeers, hex, peers_text}
 use Rattle.mar_script.proofs.FirstWords.{inked, no_sentence, one_split}

@@ -7,11 +7,11 @@ use Rattle.mar_types.specs.Varint.{IsNumber}
 use Rattle.mar_types.specs.Round.{Round}
 use Rattle.mar_cert.specs.Block.{Block}
 use Rattle.mar_cert.specs.Finalization.{finalization_bytes}
-use Rattle.mar_node.specs.Faults.{StoreName, block_store, cache_store, cert_store, from_genesis, meta_store}
-use Rattle.mar_node.specs.Messages.{Peers, certify, get_anchor, get_block, get_finalization, get_info, get_processed, get_verified, prepared, proposed, report_certification, report_finalization, report_notarization, verified}
-use Rattle.mar_node.specs.Views.{store_name_of}
-use Rattle.mar_node.specs.declared.StoreName.{StoreName as StoreNameCode}
-use Rattle.mar_node.specs.declared.StoreName.TheVariants as code
+use Rattle.mar_model.specs.Faults.{StoreName, block_store, cache_store, cert_store, from_genesis, meta_store}
+use Rattle.mar_model.specs.Messages.{Peers, certify, get_anchor, get_block, get_finalization, get_info, get_processed, get_verified, prepared, proposed, report_certification, report_finalization, report_notarization, verified}
+use Rattle.mar_model.specs.Views.{store_name_of}
+use Rattle.mar_model.specs.declared.StoreName.{StoreName as StoreNameCode}
+use Rattle.mar_model.specs.declared.StoreName.TheVariants as code
 use Rattle.mar_script.specs.Lines.{Behind, IsLone, IsWord, MadeOf, Parses, Spells, first_word, kinds, named, plain_line, round_block_text, sent_block_text, stores}
 use Rattle.mar_script.specs.Script.{HasValues, IsBuilt, Line, ack_line, buffer_line, crash_line, fail_line, hex, identifier_text, line_bytes, open_line, store_name, sync_line, tell_line}
 use Rattle.mar_script.specs.Words.{Yields}

@@ -10,7 +10,7 @@ use Rattle.std.proofs.lemmas.List.Elements.{All-cons, All-nil, All-push, All-wea
 use Rattle.std.proofs.lemmas.List.Quantifiers.{all_pairs_push}
 use Rattle.std.proofs.lemmas.Map.Made.{is_member-Decides}
 use Rattle.std.proofs.lemmas.List.Splits.{join_with_byte-slice_split, length-slice_split, slice_split_at, slice_split_none}
-use Rattle.mar_node.specs.Messages.{Peers, all_peers, some_peers}
+use Rattle.mar_model.specs.Messages.{Peers, all_peers, some_peers}
 use Rattle.mar_store.proofs.Lookups.{AllByRecursion-push}
 use Rattle.mar_script.specs.Script.{ArePeers, IsPeers, comma_numbers, peers_text}
 use Rattle.mar_script.specs.Words.{parts_in}

@@ -6,9 +6,9 @@ use Rattle.std.specs.Prelude.{codes, ◌==◌}
 use Rattle.std.proofs.lemmas.Bool.Decides.{nat_tests}
 use Rattle.std.proofs.lemmas.Fmt.{decimal_by_steps}
 use Rattle.std.proofs.lemmas.Grind.{common_steps, flat_map-append}
-use Rattle.mar_node.specs.Pool.{syncs_of}
-use Rattle.mar_node.specs.Views.{pooled_of}
-use Rattle.mar_node.specs.declared.OpenSync.{OpenSync}
+use Rattle.mar_model.specs.Pool.{syncs_of}
+use Rattle.mar_model.specs.Views.{pooled_of}
+use Rattle.mar_model.specs.declared.OpenSync.{OpenSync}
 use Rattle.mar_script.specs.Text.{comma_list, sync_text}
 use Rattle.std.proofs.lemmas.List.{append-nil, append_cancel_right, map-id}
 use Rattle.std.proofs.lemmas.List.Elements.{All-cons, All-nil, All-push, All-weaker}

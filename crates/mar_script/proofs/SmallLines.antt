@@ -7,8 +7,8 @@ use Rattle.mar_types.specs.Round.{Round}
 use Rattle.mar_cert.specs.Block.{Block}
 use Rattle.mar_cert.specs.Finalization.{finalization_bytes}
 use Rattle.mar_store.specs.Sizes.{IsSmall}
-use Rattle.mar_node.specs.Messages.{certify, get_anchor, get_block, get_finalization, get_info, get_processed, get_verified, prepared, proposed, report_certification, report_finalization, report_notarization, verified}
-use Rattle.mar_node.specs.Faults.{from_genesis}
+use Rattle.mar_model.specs.Messages.{certify, get_anchor, get_block, get_finalization, get_info, get_processed, get_verified, prepared, proposed, report_certification, report_finalization, report_notarization, verified}
+use Rattle.mar_model.specs.Faults.{from_genesis}
 use Rattle.mar_script.specs.Lines.{round_block_text, sent_block_text}
 use Rattle.mar_script.specs.Plays.{IsSmallLine}
 use Rattle.mar_script.specs.Script.{IsLine, Line, ack_line, buffer_line, crash_line, fail_line, hex, line_bytes, open_line, peers_text, sync_line, tell_line}

@@ -1,7 +1,7 @@
 -- What the stores tell beside a script's state, and what each line makes of it.
 use Rattle.std.specs.Prelude.{None, Option, Some, ℕ, ◌≡◌}
-use Rattle.mar_node.specs.Faults.{Fault}
-use Rattle.mar_node.specs.Held.{ArePassed, FailsBy, Watches, with_armed}
+use Rattle.mar_model.specs.Faults.{Fault}
+use Rattle.mar_model.specs.Held.{ArePassed, FailsBy, Watches, with_armed}
 use Rattle.mar_store.specs.Alarms.{fresh_watch}
 use Rattle.mar_store.specs.Watch.{by_half, by_lowest_bit}
 use Rattle.mar_store.specs.declared.LuckHalf.TheVariants.{High, Low}

@@ -21,11 +21,11 @@ use Rattle.mar_block.specs.declared.EmptyBlock.{EmptyBlock}
 use Rattle.mar_block.specs.Sent.{sending}
 use Rattle.mar_block.specs.declared.recipients.Sent.{Sent as SentCode}
 use Rattle.mar_inbox.specs.Views.{peers_of, query_of, sent_of}
-use Rattle.mar_node.specs.Answers.{Sent}
-use Rattle.mar_node.specs.Messages.{Peers, certify, get_anchor, get_block, get_finalization, get_info, get_processed, get_verified, prepared, proposed, report_certification, report_finalization, report_notarization, verified}
-use Rattle.mar_node.specs.Faults.{StoreName, from_genesis}
-use Rattle.mar_node.specs.Views.{store_name_of}
-use Rattle.mar_node.specs.declared.StoreName.{StoreName as StoreNameCode}
+use Rattle.mar_model.specs.Answers.{Sent}
+use Rattle.mar_model.specs.Messages.{Peers, certify, get_anchor, get_block, get_finalization, get_info, get_processed, get_verified, prepared, proposed, report_certification, report_finalization, report_notarization, verified}
+use Rattle.mar_model.specs.Faults.{StoreName, from_genesis}
+use Rattle.mar_model.specs.Views.{store_name_of}
+use Rattle.mar_model.specs.declared.StoreName.{StoreName as StoreNameCode}
 use Rattle.mar_script.specs.Script.{HasValues, IsBuilt, IsIdentifier, IsPeers, Line, ack_line, buffer_line, crash_line, fail_line, hex, identifier_text, line_bytes, open_line, peers_text, store_name, sync_line, tell_line}
 use Rattle.mar_script.specs.Words.{Yields}
 use Rattle.mar_script.specs.declared.block_line.RoundBlock.{RoundBlock}

@@ -5,16 +5,16 @@ use Rattle.mar_types.specs.Epochs.{IsPartition}
 use Rattle.mar_cert.specs.Block.{Block}
 use Rattle.mar_cert.specs.Finalization.{Finalization, finalization_bytes}
 use Rattle.mar_store.specs.Sizes.{IsSmall}
-use Rattle.mar_node.specs.Messages.{certify, proposed, report_finalization, report_notarization, verified}
-use Rattle.mar_node.specs.Acks.{mark_dropped}
-use Rattle.mar_node.specs.Cached.{Cached, cached_block}
-use Rattle.mar_node.specs.Chain.{Chain, IsBlockAt, IsLawful}
-use Rattle.mar_node.specs.Config.{Config}
-use Rattle.mar_node.specs.Faults.{from_genesis}
-use Rattle.mar_node.specs.Held.{IsUsual}
-use Rattle.mar_node.specs.Lives.{IsGoodEnded}
-use Rattle.mar_node.specs.Node.{IsFinalized, IsGood, Node, Rest}
-use Rattle.mar_node.specs.Promise.{AreOne}
+use Rattle.mar_model.specs.Messages.{certify, proposed, report_finalization, report_notarization, verified}
+use Rattle.mar_model.specs.Acks.{mark_dropped}
+use Rattle.mar_model.specs.Cached.{Cached, cached_block}
+use Rattle.mar_model.specs.Chain.{Chain, IsBlockAt, IsLawful}
+use Rattle.mar_model.specs.Config.{Config}
+use Rattle.mar_model.specs.Faults.{from_genesis}
+use Rattle.mar_model.specs.Held.{IsUsual}
+use Rattle.mar_model.specs.Lives.{IsGoodEnded}
+use Rattle.mar_model.specs.Node.{IsFinalized, IsGood, Node, Rest}
+use Rattle.mar_model.specs.Promise.{AreOne}
 use Rattle.mar_script.specs.Accounts.{Account}
 use Rattle.mar_script.specs.Refused.{max_lines}
 use Rattle.mar_script.specs.Run.{LineDone, line_blocks}

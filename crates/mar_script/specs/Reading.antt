@@ -1,6 +1,6 @@
 -- How far a script is read, and which line is the first outside the grammar.
 use Rattle.std.specs.Prelude.{Err, IfSome, if◌then◌else◌, List, nat_lt, None, Ok, Option, Result, Some, [], ℕ, ⊤, ◌++◌, ◌≡◌, ◌≤◌}
-use Rattle.mar_node.specs.Held.{Remains}
+use Rattle.mar_model.specs.Held.{Remains}
 use Rattle.mar_script.specs.Lines.{plain_line}
 use Rattle.mar_script.specs.Refused.{max_lines}
 use Rattle.mar_script.specs.Run.{HeadlineWhereTold, IsConfigBytes, IsLineBytes, IsShownAs, ReadsLines, Status, StopsAt, out_of_memory, outside_grammar, read_failed, read_to_end, write_failed}

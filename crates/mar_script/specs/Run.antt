@@ -6,29 +6,29 @@ use Rattle.mar_cert.specs.Block.{Block, IsBlock}
 use Rattle.mar_cert.specs.Finalization.{Finalization, finalization_bytes}
 use Rattle.mar_key.specs.Cutoff.{covers, cutoff_zero}
 use Rattle.mar_types.specs.Epochs.{IsPartition}
-use Rattle.mar_node.specs.Cached.{Cached, cached_block}
-use Rattle.mar_node.specs.Chain.{Chain, IsBlockAt, IsLawful}
+use Rattle.mar_model.specs.Cached.{Cached, cached_block}
+use Rattle.mar_model.specs.Chain.{Chain, IsBlockAt, IsLawful}
 use Rattle.mar_store.specs.Kept.{At, has_height}
 use Rattle.mar_key.specs.Keys.{Annotation}
 use Rattle.mar_key.specs.Asked.{Judged, annotations_of, asked_after}
-use Rattle.mar_node.specs.Messages.{Message, Queued, certify, close_ticket, get_anchor, get_block, get_finalization, get_info, get_processed, get_verified, message_blocks, proposed, report_finalization, set_floor, subscribe_commitment, subscribe_digest, verified}
+use Rattle.mar_model.specs.Messages.{Message, Queued, certify, close_ticket, get_anchor, get_block, get_finalization, get_info, get_processed, get_verified, message_blocks, proposed, report_finalization, set_floor, subscribe_commitment, subscribe_digest, verified}
 use Rattle.mar_key.specs.PeerQueue.{PeerMessage, after_peer_close, after_peer_enqueue, after_peer_take, deliver, is_open, peer_room, produce}
-use Rattle.mar_node.specs.Config.{Config}
-use Rattle.mar_node.specs.Acks.{is_unmarked}
-use Rattle.mar_node.specs.Held.{IsUsual, Remains, Watches, picks_of, watch_of}
-use Rattle.mar_node.specs.Node.{Awaited, Ended, IsFinalized, Node, left_by}
-use Rattle.mar_node.specs.Event.{Event, ack_dropped, ack_given, block_buffered, buffer_ended, message_told, sync_finished}
+use Rattle.mar_model.specs.Config.{Config}
+use Rattle.mar_model.specs.Acks.{is_unmarked}
+use Rattle.mar_model.specs.Held.{IsUsual, Remains, Watches, picks_of, watch_of}
+use Rattle.mar_model.specs.Node.{Awaited, Ended, IsFinalized, Node, left_by}
+use Rattle.mar_model.specs.Event.{Event, ack_dropped, ack_given, block_buffered, buffer_ended, message_told, sync_finished}
 use Rattle.mar_cert.specs.MockScheme.{IsFinalization}
-use Rattle.mar_node.specs.Faults.{Begin, Fault, StoreName, from_floor, from_genesis, want_of_memory}
-use Rattle.mar_node.specs.Answers.{TicketAnswer, is_wanted, no_value, produced_value, to}
-use Rattle.mar_node.specs.Step.{IsFront, Made, Steps, nothing_made}
-use Rattle.mar_node.specs.Lives.{Cuts, CutsOpening, Finds, IsGoodEnded, Opens, Picks}
+use Rattle.mar_model.specs.Faults.{Begin, Fault, StoreName, from_floor, from_genesis, want_of_memory}
+use Rattle.mar_model.specs.Answers.{TicketAnswer, is_wanted, no_value, produced_value, to}
+use Rattle.mar_model.specs.Step.{IsFront, Made, Steps, nothing_made}
+use Rattle.mar_model.specs.Lives.{Cuts, CutsOpening, Finds, IsGoodEnded, Opens, Picks}
 use Rattle.mar_script.specs.Accounts.{Account, AccountsFor, first_account, fresh_watches}
 use Rattle.mar_script.specs.Refused.{IsRefused, IsUnended, max_lines}
 use Rattle.mar_script.specs.Script.{IsLine, IsSettings, Line, Settings, ack_line, ask_line, bufclose_line, buffer_line, config_of, crash_line, drop_line, fail_line, line_bytes, open_line, peer_line, put_line, script_bytes, serve_line, settings_bytes, sync_line, take_line, tell_line}
 use Rattle.mar_script.specs.Text.{Done, Output, Remark, State, remark_empty, remark_ignored, remark_ok, remark_output, remark_overflowed, remark_running, remark_stopped, remark_unasked, running, silent_output, stopped, text}
 use Rattle.mar_inbox.specs.Policy.{Feedback, after_enqueue, after_take, drops_closed, feedback, feedback_accepted, feedback_overflowed, feedback_refused}
-use Rattle.mar_node.specs.Judge.{Delivery, Reads, in_turn, judged_of, serve_events}
+use Rattle.mar_model.specs.Judge.{Delivery, Reads, in_turn, judged_of, serve_events}
 use Rattle.mar_script.specs.declared.status.Why.{Why}
 
 -- LINES

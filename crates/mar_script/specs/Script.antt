@@ -7,12 +7,12 @@ use Rattle.mar_cert.specs.Block.{Block, IsBlock}
 use Rattle.mar_cert.specs.Finalization.{finalization_bytes, finalize, notarize}
 use Rattle.mar_types.specs.Epochs.{fixed_epochs}
 use Rattle.mar_key.specs.Keys.{IsKey, Key, key_bytes}
-use Rattle.mar_node.specs.Messages.{Fallback, Identifier, Message, Peers, all_peers, certify, close_ticket, fetch_by_commitment, fetch_by_round, forward, get_anchor, get_block, get_finalization, get_info, get_processed, get_verified, hint_finalized, hint_notarized, latest, of_digest, of_height, prepared, proposed, prune_below, report_certification, report_finalization, report_notarization, set_floor, some_peers, subscribe_commitment, subscribe_digest, verified, wait}
-use Rattle.mar_node.specs.Config.{Config}
+use Rattle.mar_model.specs.Messages.{Fallback, Identifier, Message, Peers, all_peers, certify, close_ticket, fetch_by_commitment, fetch_by_round, forward, get_anchor, get_block, get_finalization, get_info, get_processed, get_verified, hint_finalized, hint_notarized, latest, of_digest, of_height, prepared, proposed, prune_below, report_certification, report_finalization, report_notarization, set_floor, some_peers, subscribe_commitment, subscribe_digest, verified, wait}
+use Rattle.mar_model.specs.Config.{Config}
 use Rattle.mar_types.specs.Varint.{IsNumber}
 use Rattle.mar_types.specs.Digest.{IsByte, IsDigest}
 use Rattle.mar_cert.specs.MockScheme.{IsFinalization, mock_verifies}
-use Rattle.mar_node.specs.Faults.{Begin, StoreName, block_store, cache_store, cert_store, from_floor, from_genesis, meta_store}
+use Rattle.mar_model.specs.Faults.{Begin, StoreName, block_store, cache_store, cert_store, from_floor, from_genesis, meta_store}
 
 -- the first line
 pub record Settings : Type 0 where

@@ -2,13 +2,13 @@
 use Rattle.std.specs.Prelude.{List, Option, [], codes, decimal, map, option_map, ℕ, ◌++◌, ◌∷◌}
 use Rattle.mar_key.specs.Cutoff.{Cutoff}
 use Rattle.mar_key.specs.Processed.{Processed}
-use Rattle.mar_node.specs.Acks.{Outstanding}
-use Rattle.mar_node.specs.Faults.{Fault}
-use Rattle.mar_node.specs.Node.{OpenSync}
+use Rattle.mar_model.specs.Acks.{Outstanding}
+use Rattle.mar_model.specs.Faults.{Fault}
+use Rattle.mar_model.specs.Node.{OpenSync}
 use Rattle.mar_store.specs.Ranges.{Range}
 use Rattle.mar_types.specs.declared.Sha256Digest.{Sha256Digest}
-use Rattle.mar_node.specs.Views.{fault_of}
-use Rattle.mar_node.specs.declared.Fault.{Fault as FaultCode}
+use Rattle.mar_model.specs.Views.{fault_of}
+use Rattle.mar_model.specs.declared.Fault.{Fault as FaultCode}
 use Rattle.mar_script.specs.Script.{comma_numbers}
 use Rattle.mar_script.specs.Text.{Remark, comma_list, cutoff_text, or_dash, outstanding_text, processed_text, range_text, remark_ignored, remark_running, remark_stopped, sync_text}
 use Rattle.mar_script.specs.declared.text.RemarkShown.{RemarkShown}

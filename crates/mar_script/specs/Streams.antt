@@ -5,7 +5,7 @@ use Rattle.mar_types.specs.Causes.{Rose}
 use Rattle.mar_store.specs.declared.Miss.{Miss}
 use Rattle.mar_store.specs.declared.Miss.TheVariants.{Fault as Missed, Memory as Forgot}
 use Rattle.mar_script.specs.Refused.{IsUnended, max_line}
-use Rattle.mar_node.specs.Step.{IsFront}
+use Rattle.mar_model.specs.Step.{IsFront}
 use Rattle.mar_script.specs.Run.{IsShownAs}
 use Rattle.mar_script.specs.declared.reader.LineError.{LineError}
 use Rattle.mar_script.specs.declared.reader.LineError.TheVariants.{Memory, ReadFault, TooLong, Unended}

@@ -7,12 +7,12 @@ use Rattle.mar_key.specs.Processed.{Processed, at_absent, at_block}
 use Rattle.mar_store.specs.Kept.{At}
 use Rattle.mar_key.specs.Keys.{Annotation, Call, Retain, above_height, above_round, certified_at, fetch, finalized_by_height, finalized_by_round, for_notarization, key_bytes, retain, untrusted_at}
 use Rattle.mar_key.specs.Asked.{Judged, Outcome, judged_complete, judged_ignored, judged_invalid}
-use Rattle.mar_node.specs.Acks.{Mark, Outstanding, mark_dropped, mark_given, mark_waiting}
-use Rattle.mar_node.specs.Node.{Ended, Node, OpenSync}
-use Rattle.mar_node.specs.Metadata.{Pair}
-use Rattle.mar_node.specs.Faults.{Fault, TicketKind, ack_kind, answer_kind, corrupt, damaged, dropped_ack, floor_epoch_unavailable, floor_invalid, floor_parent_mismatch, genesis_height, genesis_mismatch, height_limit, store_fault, sync_kind, ticket_limit, unbacked, want_of_memory}
-use Rattle.mar_node.specs.Answers.{Sent, TicketAnswer, Value, anchor_value, bytes_value, closed_value, info_value, no_value, processed_value, sync_value, true_value}
-use Rattle.mar_node.specs.Step.{Made, Report, handed_over, new_tip, nothing_made}
+use Rattle.mar_model.specs.Acks.{Mark, Outstanding, mark_dropped, mark_given, mark_waiting}
+use Rattle.mar_model.specs.Node.{Ended, Node, OpenSync}
+use Rattle.mar_model.specs.Metadata.{Pair}
+use Rattle.mar_model.specs.Faults.{Fault, TicketKind, ack_kind, answer_kind, corrupt, damaged, dropped_ack, floor_epoch_unavailable, floor_invalid, floor_parent_mismatch, genesis_height, genesis_mismatch, height_limit, store_fault, sync_kind, ticket_limit, unbacked, want_of_memory}
+use Rattle.mar_model.specs.Answers.{Sent, TicketAnswer, Value, anchor_value, bytes_value, closed_value, info_value, no_value, processed_value, sync_value, true_value}
+use Rattle.mar_model.specs.Step.{Made, Report, handed_over, new_tip, nothing_made}
 use Rattle.mar_script.specs.Accounts.{Account}
 use Rattle.mar_script.specs.Script.{Line, comma_numbers, hex, peers_text, sentence, store_name}
 use Rattle.mar_store.specs.Ranges.{Range, ranges}

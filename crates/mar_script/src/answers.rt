@@ -4,7 +4,7 @@ ghost use Rattle.std.specs.List.{flat_map};
 ghost use Rattle.mar_inbox.specs.Answers.{answer_of, told};
 ghost use Rattle.mar_inbox.specs.Views.{value_of};
 ghost use Rattle.mar_cert.specs.Finalization.{finalization_bytes};
-ghost use Rattle.mar_node.specs.Answers.{to};
+ghost use Rattle.mar_model.specs.Answers.{to};
 ghost use Rattle.mar_script.specs.Lines.{plain_block, plain_finalization};
 ghost use Rattle.mar_script.specs.Text.{answer_words, line_of};
 

@@ -2,7 +2,7 @@
 ghost use Rattle.std.specs.Prelude.{◌≡◌, ℕ, List, IfOk};
 ghost use Rattle.mar_types.specs.Round.{IsRound, Round as PlainRound};
 ghost use Rattle.mar_cert.specs.Block.{Block as PlainBlock, IsBlock};
-ghost use Rattle.mar_node.specs.Messages.{Peers};
+ghost use Rattle.mar_model.specs.Messages.{Peers};
 ghost use Rattle.mar_script.specs.Lines.{IsRoundBlock, IsSentBlock, behind_round, plain_block, round_block_of, round_block_text, sent_block_of, sent_block_text};
 ghost use Rattle.mar_script.specs.Script.{hex};
 ghost use Rattle.mar_script.specs.Words.{Yields};

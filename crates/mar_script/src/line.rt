@@ -13,7 +13,7 @@ use crate::words::{ParseError, bytes_of, look_up, number, refusal, split_word};
 use mar_block::{EmptyBlock, Sent};
 use mar_cert::MockFinalization;
 use mar_inbox::Query;
-use mar_node::StoreName;
+use mar_model::StoreName;
 use mar_types::{Decode, Sha256, Sha256Digest};
 use std::alloc::Global;
 

@@ -1,8 +1,8 @@
 //! Lists in the lines of the output: with a comma between, or `-` for none.
 ghost use Rattle.std.specs.Prelude.{◌≡◌, ◌++◌, ◌∷◌, OnOk, decimal, map, string_bytes};
 ghost use Rattle.std.specs.List.{flat_map};
-ghost use Rattle.mar_node.specs.Pool.{syncs_of};
-ghost use Rattle.mar_node.specs.Views.{pooled_of};
+ghost use Rattle.mar_model.specs.Pool.{syncs_of};
+ghost use Rattle.mar_model.specs.Views.{pooled_of};
 ghost use Rattle.mar_parts.specs.Views.{mark_of, outstanding_of};
 ghost use Rattle.mar_inbox.specs.Views.{peers_of};
 ghost use Rattle.mar_script.specs.Script.{comma_numbers, peers_text};
@@ -10,7 +10,7 @@ ghost use Rattle.mar_script.specs.Text.{comma_list, mark_text, outstanding_text,
 
 use crate::pieces::push_number;
 use mar_block::Recipients;
-use mar_node::{OpenSync, OpenTicket};
+use mar_model::{OpenSync, OpenTicket};
 use mar_parts::{Mark, PendingAck};
 use mar_types::{Height, Participant};
 use std::alloc::AllocError;

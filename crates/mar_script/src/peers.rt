@@ -2,7 +2,7 @@
 ghost use Rattle.std.specs.Prelude.{◌≡◌, ◌<◌, ◌^◌, ℕ, List, IfOk, decimal, length, map};
 ghost use Rattle.std.specs.List.{join_with_byte};
 ghost use Rattle.mar_inbox.specs.Views.{peers_of};
-ghost use Rattle.mar_node.specs.Messages.{Peers};
+ghost use Rattle.mar_model.specs.Messages.{Peers};
 ghost use Rattle.mar_script.specs.Script.{ArePeers, IsPeers, comma_numbers, peers_text};
 ghost use Rattle.mar_script.specs.Words.{Yields, words_of};
 

@@ -3,7 +3,7 @@ ghost use Rattle.std.specs.Prelude.{◌≡◌, ◌++◌, ◌∷◌, ℕ, List, I
 ghost use Rattle.mar_types.specs.Digest.{IsDigest};
 ghost use Rattle.mar_types.specs.Varint.{IsNumber};
 ghost use Rattle.mar_inbox.specs.Views.{identifier_of};
-ghost use Rattle.mar_node.specs.Messages.{Identifier as PlainIdentifier};
+ghost use Rattle.mar_model.specs.Messages.{Identifier as PlainIdentifier};
 ghost use Rattle.mar_types.specs.Round.{IsRound, Round as PlainRound};
 ghost use Rattle.mar_script.specs.Script.{IsIdentifier, hex, identifier_text};
 ghost use Rattle.mar_script.specs.Words.{Yields};

@@ -1,7 +1,7 @@
 //! The line that shows a node, and the one that shows what is left of it.
 ghost use Rattle.std.specs.Prelude.{◌≡◌, ◌++◌, ◌∷◌, IfOk, OnOk, codes, decimal, map, option_map, string_bytes};
 ghost use Rattle.mar_key.specs.Views.{cutoff_of, processed_of};
-ghost use Rattle.mar_node.specs.Pool.{syncs_of};
+ghost use Rattle.mar_model.specs.Pool.{syncs_of};
 ghost use Rattle.mar_parts.specs.Views.{outstanding_of};
 ghost use Rattle.mar_script.specs.Script.{comma_numbers};
 ghost use Rattle.mar_script.specs.Text.{comma_list, cutoff_text, line_of, or_dash, outstanding_text, processed_text, sync_text};
@@ -10,7 +10,7 @@ ghost use Rattle.mar_script.specs.Shown.{ended_shown_words, ranges_shown, shown_
 use crate::lists::{push_ack_list, push_heights, push_numbers, push_syncs};
 use crate::pieces::{push_cutoff, push_height, push_processed};
 use crate::range_text::RangeText;
-use mar_node::{OpenTicket, ShownRuins, Writes};
+use mar_model::{OpenTicket, ShownRuins, Writes};
 use mar_parts::{PendingAck, PendingAcks, Shown};
 use mar_store::RangeSet;
 use std::alloc::{AllocError, Global};

@@ -1,13 +1,13 @@
 //! The lines of the output.
 ghost use Rattle.std.specs.Prelude.{◌≡◌, ◌++◌, ◌∷◌, [], OnOk, codes, decimal, string_bytes};
-ghost use Rattle.mar_node.specs.Step.{new_tip};
+ghost use Rattle.mar_model.specs.Step.{new_tip};
 ghost use Rattle.mar_script.specs.Script.{hex, store_name};
 ghost use Rattle.mar_script.specs.Text.{fault_words, kind_name, line_of, remark_words, report_words};
-ghost use Rattle.mar_node.specs.Views.{kind_of, store_name_of};
+ghost use Rattle.mar_model.specs.Views.{kind_of, store_name_of};
 ghost use Rattle.mar_script.specs.Shown.{plain_fault, remark_of};
 
 use crate::word::{Word, push_line};
-use mar_node::{Fault, StoreName, TicketKind};
+use mar_model::{Fault, StoreName, TicketKind};
 use mar_types::{Height, Round, Sha256Digest};
 use std::alloc::{AllocError, Global};
 use std::convert::AsSlice;

@@ -1,10 +1,1 @@
-pub mod Awaiting
-pub mod InPlace
-pub mod Answered
-pub mod Placed
-pub mod Both
-pub mod Opened
-pub mod Reading
-pub mod Changed
-pub mod Caches
-pub mod CacheSyncs
+pub mod Archives

@@ -1,26 +1,11 @@
-//! Stores of finalized blocks and of their certificates, and the four stores of a life.
+//! Stores of finalized blocks and of their certificates over archives.
 #![tactic(auto)]
 
-mod blocks;
-mod blocks_in_place;
-mod cache_in_place;
-mod cache_syncs;
-mod certificates;
-mod certificates_in_place;
-mod in_place;
-mod item;
-mod keeps;
-mod life_cache;
-mod opening;
-mod ruins;
-mod stores;
-mod syncs;
+mod archive;
+mod archive_blocks;
+mod archive_certificates;
+mod archive_keeps;
+pub mod immutable;
+pub mod prunable;
 
-pub use blocks::Blocks;
-pub use cache_in_place::CacheInPlace;
-pub use certificates::Certificates;
-pub use item::{BlockItem, CertificateItem};
-pub use keeps::Keeps;
-pub use life_cache::{LifeCache, LifeNotarizations};
-pub use ruins::Ruins;
-pub use stores::Stores;
+pub use archive::{Archived, Immutable, Prunable, Pruning};

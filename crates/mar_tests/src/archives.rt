@@ -2,9 +2,9 @@
 //! in its own words. A store that keeps all is one of mar_example. Each function makes few calls, and none has a clause.
 use crate::light::{Plates, plate_at};
 use crate::tell::*;
-use mar_archives::prunable;
+use mar_life::{BlockItem, Blocks, Keeps};
 use mar_mocks::Recording;
-use mar_shelf::{BlockItem, Blocks, Keeps};
+use mar_shelf::prunable;
 use mar_store::{Archive, ArchiveRuin, LuckHalf, MemArchive, RangeSet};
 use mar_types::Height;
 use std::alloc::Global;

@@ -5,7 +5,7 @@ use crate::cache_in_place::is_gone_once_lost;
 use crate::light::{Plates, Vote, plate_at, vote_over};
 use crate::tell::round;
 use mar_cache::{Cache, Shelf, Sought, Started};
-use mar_shelf::CacheInPlace;
+use mar_life::CacheInPlace;
 use mar_types::{Epoch, Hasher, Height, Round, Sha256};
 
 // Puts what isn't sure: a verified block at height 1, a notarization of view 2, and a notarized block at height 3.

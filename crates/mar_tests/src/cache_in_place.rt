@@ -3,8 +3,8 @@
 use crate::light::{Plates, Vote, vote_over};
 use crate::tell::round;
 use mar_cache::BlockName;
-use mar_node::{Fault, StoreName};
-use mar_shelf::LifeCache;
+use mar_life::LifeCache;
+use mar_model::{Fault, StoreName};
 use mar_types::{Hasher, Sha256};
 
 // Whether each look-up for the block at height 1 wants for memory.

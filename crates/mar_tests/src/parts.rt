@@ -1,7 +1,7 @@
 //! Parts of a node: what the program doesn't call, and how they are compared and show themselves.
 use crate::tell::*;
 use mar_key::Cutoff;
-use mar_node::Writes;
+use mar_model::Writes;
 use mar_parts::*;
 use mar_store::{MemMeta, Miss};
 use mar_types::Height;

@@ -16,15 +16,15 @@ ghost use Rattle.marshal.specs.Empty.{nothing_kept};
 mod help;
 
 use crate::help::{show, text_for};
-use mar_archives::prunable::Archive;
 use mar_block::StandardBlocks;
 use mar_cache::{CacheEntry, EpochCache, Epochs, KeptEntry, KeyedEntry, Shelf, empty_shelf};
 use mar_cert::MockFinalization;
-use mar_replay::{ScriptRuins, run};
-use mar_script::{Input as InputSource, Output, Sink, Status};
-use mar_shelf::{
+use mar_life::{
     BlockItem, Blocks, CacheInPlace, CertificateItem, Certificates, LifeNotarizations, Ruins,
 };
+use mar_replay::{ScriptRuins, run};
+use mar_script::{Input as InputSource, Output, Sink, Status};
+use mar_shelf::prunable::Archive;
 use mar_store::{LuckHalf, MemArchive, MemMeta, Meta};
 use std::io::ErrorKind;
 use std::process::ExitCode;

@@ -1,11 +1,11 @@
 use Rattle.std.proofs.Common.{[], ◌∷◌, inl}
 use Rattle.std.proofs.lemmas.Result.{err_from_is_err_and}
-use Rattle.mar_node.specs.Held.{seen}
-use Rattle.mar_node.specs.Metadata.{pair_of}
-use Rattle.mar_node.proofs.Growing.{WithinWritten-unpruned}
-use Rattle.mar_node.proofs.Handing.{Hears-nothing}
-use Rattle.mar_node.proofs.Lasting.{EndsLife-drained, EndsLife-usual, IsPart-drained, IsPart-synced, IsPart-then, LivesOn-part, LivesOn-ran, LivesOn-then}
-use Rattle.mar_node.proofs.ProgressPromises.{promise-ack_unsynced, promise-acked, promise-not_drained, promise-undrained}
+use Rattle.mar_model.specs.Held.{seen}
+use Rattle.mar_model.specs.Metadata.{pair_of}
+use Rattle.mar_model.proofs.Growing.{WithinWritten-unpruned}
+use Rattle.mar_model.proofs.Handing.{Hears-nothing}
+use Rattle.mar_model.proofs.Lasting.{EndsLife-drained, EndsLife-usual, IsPart-drained, IsPart-synced, IsPart-then, LivesOn-part, LivesOn-ran, LivesOn-then}
+use Rattle.mar_model.proofs.ProgressPromises.{promise-ack_unsynced, promise-acked, promise-not_drained, promise-undrained}
 use Rattle.mar_actor.proofs.Drained.{all_with, front_grown, front_lost}
 use Rattle.mar_actor.proofs.Due.{EndsWhereDue-ran, dropped-due, dropped_first-none, usual-due}
 use Rattle.mar_actor.proofs.Raised.{synced_over}

@@ -1,7 +1,7 @@
 use Rattle.std.proofs.Common.{arith, length, ◌≡◌}
 use Rattle.std.proofs.lemmas.Result.{err_from_is_err_and}
-use Rattle.mar_node.specs.Held.{seen}
-use Rattle.mar_node.proofs.Draining.{Drains-all, Drains-still, DrainsSoFar-first, DrainsSoFar-more, front_heard, next_written}
+use Rattle.mar_model.specs.Held.{seen}
+use Rattle.mar_model.proofs.Draining.{Drains-all, Drains-still, DrainsSoFar-first, DrainsSoFar-more, front_heard, next_written}
 use Rattle.mar_actor.proofs.acknowledge.drain.Goals as goal
 
 pub entries-preserved : goal.entries-preserved

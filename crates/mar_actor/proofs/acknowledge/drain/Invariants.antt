@@ -1,5 +1,5 @@
-use Rattle.mar_node.specs.Held.{seen}
-use Rattle.mar_node.proofs.Draining.{DrainsSoFar}
+use Rattle.mar_model.specs.Held.{seen}
+use Rattle.mar_model.proofs.Draining.{DrainsSoFar}
 use Rattle.mar_actor.proofs.acknowledge.drain.Given as goal
 
 abbrev pub invariant-entries : goal.invariant-entries

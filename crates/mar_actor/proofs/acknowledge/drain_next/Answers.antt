@@ -1,8 +1,8 @@
 use Rattle.std.proofs.Common.{ap, inr, refl, sym, ◌∙◌}
 use Rattle.std.proofs.lemmas.Result.{err_from_is_err_and}
 use Rattle.mar_parts.specs.Views.{outstanding_of}
-use Rattle.mar_node.specs.Held.{seen}
-use Rattle.mar_node.proofs.Handing.{Hears-nothing, HearsFront-nothing}
+use Rattle.mar_model.specs.Held.{seen}
+use Rattle.mar_model.proofs.Handing.{Hears-nothing, HearsFront-nothing}
 use Rattle.mar_actor.proofs.Drained.{DrainsNext-none, given_prunes}
 use Rattle.mar_actor.proofs.acknowledge.drain_next.Goals as goal
 

@@ -1,7 +1,7 @@
 use Rattle.std.proofs.Common.{refl, subst}
-use Rattle.mar_node.specs.Answers.{own_and_parent}
-use Rattle.mar_node.specs.Faults.{want_of_memory}
-use Rattle.mar_node.proofs.Outcomes.{memory-loses}
+use Rattle.mar_model.specs.Answers.{own_and_parent}
+use Rattle.mar_model.specs.Faults.{want_of_memory}
+use Rattle.mar_model.proofs.Outcomes.{memory-loses}
 use Rattle.mar_actor.specs.Known.{TakesNote}
 use Rattle.mar_actor.proofs.certified.learn.Goals as goal
 

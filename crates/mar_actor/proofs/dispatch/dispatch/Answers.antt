@@ -1,7 +1,7 @@
-use Rattle.mar_node.specs.Held.{nothing_written, seen}
-use Rattle.mar_node.proofs.Growing.{WithinWritten-refl}
-use Rattle.mar_node.proofs.Handing.{HandsSoFar-first, HandsSoFar-more, Ran-ended, Ran-failed, Ran-still}
-use Rattle.mar_node.proofs.StoreLosses.{Loses-nothing}
+use Rattle.mar_model.specs.Held.{nothing_written, seen}
+use Rattle.mar_model.proofs.Growing.{WithinWritten-refl}
+use Rattle.mar_model.proofs.Handing.{HandsSoFar-first, HandsSoFar-more, Ran-ended, Ran-failed, Ran-still}
+use Rattle.mar_model.proofs.StoreLosses.{Loses-nothing}
 use Rattle.mar_actor.proofs.Raised.{read_over, unhanded}
 use Rattle.mar_actor.proofs.dispatch.dispatch.Goals as goal
 

@@ -1,5 +1,5 @@
-use Rattle.mar_node.specs.Held.{seen}
-use Rattle.mar_node.proofs.Handing.{HandsSoFar}
+use Rattle.mar_model.specs.Held.{seen}
+use Rattle.mar_model.proofs.Handing.{HandsSoFar}
 use Rattle.mar_actor.proofs.dispatch.dispatch.Given as goal
 
 abbrev pub invariant-window : goal.invariant-window

@@ -1,4 +1,4 @@
-use Rattle.mar_node.specs.Held.{seen}
+use Rattle.mar_model.specs.Held.{seen}
 use Rattle.mar_actor.proofs.Nexts.{nexts, still_full, stills}
 use Rattle.mar_actor.proofs.dispatch.next_block.Goals as goal
 

@@ -1,25 +1,25 @@
 use Rattle.std.proofs.Common.{refl, subst, sym, false, ℕ, ◌≡◌, ◌∷◌, [], OnOk, ◌+◌, ◌≤◌}
 use Rattle.std.specs.List.{list_any}
-use Rattle.mar_node.specs.Cache.{certified_covers, is_verified_of, notarized_where, verified_at}
-use Rattle.mar_node.specs.Cached.{notarized_entry, verified_entry}
-use Rattle.mar_node.specs.OpenSyncs.{is_cache_sync}
+use Rattle.mar_model.specs.Cache.{certified_covers, is_verified_of, notarized_where, verified_at}
+use Rattle.mar_model.specs.Cached.{notarized_entry, verified_entry}
+use Rattle.mar_model.specs.OpenSyncs.{is_cache_sync}
 use Rattle.mar_inbox.specs.Answers.{told}
 use Rattle.mar_inbox.specs.Views.{peers_of, value_of}
-use Rattle.mar_node.specs.Event.{sync_finished}
-use Rattle.mar_node.specs.Held.{Grew, IsUsual, Loses, nothing_written, outcome, seen, written_entry}
-use Rattle.mar_node.specs.Writing.{is_open_sync}
-use Rattle.mar_node.proofs.Handing.{Hears-nothing}
-use Rattle.mar_node.proofs.Growing.{Grew-refl, WithinWritten-refl}
-use Rattle.mar_node.proofs.Heard.{KeepsStart-beside, KeepsStep-beside, unanswered-err, unanswered-ok}
-use Rattle.mar_node.proofs.Queries.{promise-asked}
-use Rattle.mar_node.proofs.Sending.{promise-prepared}
+use Rattle.mar_model.specs.Event.{sync_finished}
+use Rattle.mar_model.specs.Held.{Grew, IsUsual, Loses, nothing_written, outcome, seen, written_entry}
+use Rattle.mar_model.specs.Writing.{is_open_sync}
+use Rattle.mar_model.proofs.Handing.{Hears-nothing}
+use Rattle.mar_model.proofs.Growing.{Grew-refl, WithinWritten-refl}
+use Rattle.mar_model.proofs.Heard.{KeepsStart-beside, KeepsStep-beside, unanswered-err, unanswered-ok}
+use Rattle.mar_model.proofs.Queries.{promise-asked}
+use Rattle.mar_model.proofs.Sending.{promise-prepared}
 use Rattle.std.proofs.lemmas.Result.{IfErr-weaker}
-use Rattle.mar_node.specs.Views.{fault_of}
+use Rattle.mar_model.specs.Views.{fault_of}
 use Rattle.mar_actor.specs.Due.{EndsWhereDue}
 use Rattle.mar_actor.specs.Told.{TellsInOrder}
 use Rattle.mar_actor.proofs.Asking.{asks, event_is, firsts_are, lives_asked, no_tips, none_due, on_err, sendings_are, one_sync, none_learned}
 use Rattle.mar_actor.proofs.Due.{EndsWhereDue-usual}
-use Rattle.mar_node.proofs.Outcomes.{goes_on_memory, memory-usual, outcome-both, outcome-err, outcome-on_err, outcome-on_ok, outcome-read, outcome-unasked}
+use Rattle.mar_model.proofs.Outcomes.{goes_on_memory, memory-usual, outcome-both, outcome-err, outcome-on_err, outcome-on_ok, outcome-read, outcome-unasked}
 use Rattle.mar_actor.proofs.Raised.{lives-loaded}
 use Rattle.mar_actor.proofs.Sent.{front_none, hears_block, hears_none, unsent-err, unsent-ok}
 use Rattle.mar_actor.proofs.Told.{TellsInOrder-nothing}
@@ -27,8 +27,8 @@ use Rattle.mar_actor.proofs.Kept.{certified_promise, kept_answers, kept_due, kep
 use Rattle.mar_actor.proofs.node.take.Goals as goal
 use Rattle.mar_actor.proofs.Noted.{unnoted, still_least}
 use Rattle.mar_actor.proofs.Notarized.{notarized_lives, notarized_promise, notarized_due}
-use Rattle.mar_node.proofs.CertificationEvent.{promise-certification}
-use Rattle.mar_node.specs.Moves.{LivesOnGiving}
+use Rattle.mar_model.proofs.CertificationEvent.{promise-certification}
+use Rattle.mar_model.specs.Moves.{LivesOnGiving}
 use Rattle.mar_actor.specs.Known.{TakesNote}
 
 -- an event names one ticket

@@ -1,9 +1,9 @@
 use Rattle.std.proofs.Common.{subst, sym}
-use Rattle.mar_node.specs.Cache.{notarized_where}
-use Rattle.mar_node.specs.Held.{WithinWritten, written_entries}
-use Rattle.mar_node.specs.Moves.{is_verified_in}
-use Rattle.mar_node.proofs.FoundBlocks.{found_small}
-use Rattle.mar_node.proofs.Growing.{WithinWritten-nothing}
+use Rattle.mar_model.specs.Cache.{notarized_where}
+use Rattle.mar_model.specs.Held.{WithinWritten, written_entries}
+use Rattle.mar_model.specs.Moves.{is_verified_in}
+use Rattle.mar_model.proofs.FoundBlocks.{found_small}
+use Rattle.mar_model.proofs.Growing.{WithinWritten-nothing}
 use Rattle.mar_actor.specs.Kept.{notarized_found}
 use Rattle.mar_actor.proofs.notarize.keep_found.Goals as goal
 

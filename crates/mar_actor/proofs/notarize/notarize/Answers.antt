@@ -1,9 +1,9 @@
 use Rattle.std.proofs.Common.{inl}
 use Rattle.std.proofs.lemmas.Result.{on_ok_weaker}
-use Rattle.mar_node.specs.Cached.{notarization_entry}
-use Rattle.mar_node.specs.Held.{written_entry}
-use Rattle.mar_node.specs.Views.{fault_of}
-use Rattle.mar_node.proofs.Growing.{Grew-refl, WithinWritten-refl}
+use Rattle.mar_model.specs.Cached.{notarization_entry}
+use Rattle.mar_model.specs.Held.{written_entry}
+use Rattle.mar_model.specs.Views.{fault_of}
+use Rattle.mar_model.proofs.Growing.{Grew-refl, WithinWritten-refl}
 use Rattle.mar_actor.proofs.Notarized.{found_lost, found_passed}
 use Rattle.mar_actor.proofs.notarize.notarize.Goals as goal
 

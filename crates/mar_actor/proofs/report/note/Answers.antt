@@ -1,11 +1,11 @@
 use Rattle.std.proofs.Common.{None, [], ◌∷◌}
 use Rattle.std.proofs.lemmas.Result.{err_from_is_err_and}
-use Rattle.mar_node.specs.Held.{seen, written_pair}
-use Rattle.mar_node.specs.Moves.{pruned_by}
-use Rattle.mar_node.proofs.Handing.{Hears-nothing}
-use Rattle.mar_node.proofs.Lasting.{EndsLife-usual}
-use Rattle.mar_node.proofs.ProgressPromises.{promise-unnoted}
-use Rattle.mar_node.specs.Views.{fault_of}
+use Rattle.mar_model.specs.Held.{seen, written_pair}
+use Rattle.mar_model.specs.Moves.{pruned_by}
+use Rattle.mar_model.proofs.Handing.{Hears-nothing}
+use Rattle.mar_model.proofs.Lasting.{EndsLife-usual}
+use Rattle.mar_model.proofs.ProgressPromises.{promise-unnoted}
+use Rattle.mar_model.specs.Views.{fault_of}
 use Rattle.mar_rules.specs.Noted.{noted_pair}
 use Rattle.mar_actor.proofs.Due.{usual-due}
 use Rattle.mar_actor.proofs.Reported.{lost, noted-due, noted-lives, noted-promise, noted-tells, report_lost}

@@ -1,5 +1,5 @@
-use Rattle.mar_node.specs.Views.{fault_of}
-use Rattle.mar_node.proofs.Outcomes.{goes_on_memory}
+use Rattle.mar_model.specs.Views.{fault_of}
+use Rattle.mar_model.proofs.Outcomes.{goes_on_memory}
 use Rattle.mar_actor.proofs.report.put_above.Goals as goal
 
 pub returns-clause-goes_on : goal.returns-clause-goes_on

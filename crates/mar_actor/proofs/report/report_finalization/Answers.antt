@@ -1,15 +1,15 @@
 use Rattle.std.proofs.Common.{ap, map, refl, subst, sym, ◌∙◌}
 use Rattle.std.proofs.lemmas.Result.{err_from_is_err_and}
 use Rattle.mar_store.specs.Changes.{IsNested}
-use Rattle.mar_node.specs.Held.{outcome, seen}
-use Rattle.mar_node.specs.Moves.{CachesReport}
-use Rattle.mar_node.specs.Stored.{AreSmall}
-use Rattle.mar_node.specs.Views.{fault_of}
-use Rattle.mar_node.specs.Writing.{IsOrdered}
-use Rattle.mar_node.proofs.EventPromises.{promise-unread}
-use Rattle.mar_node.proofs.Growing.{Grew-refl}
-use Rattle.mar_node.proofs.Handing.{Hears-nothing}
-use Rattle.mar_node.proofs.Lasting.{EndsLife-usual, IsPart-cached, LivesOn-then}
+use Rattle.mar_model.specs.Held.{outcome, seen}
+use Rattle.mar_model.specs.Moves.{CachesReport}
+use Rattle.mar_model.specs.Stored.{AreSmall}
+use Rattle.mar_model.specs.Views.{fault_of}
+use Rattle.mar_model.specs.Writing.{IsOrdered}
+use Rattle.mar_model.proofs.EventPromises.{promise-unread}
+use Rattle.mar_model.proofs.Growing.{Grew-refl}
+use Rattle.mar_model.proofs.Handing.{Hears-nothing}
+use Rattle.mar_model.proofs.Lasting.{EndsLife-usual, IsPart-cached, LivesOn-then}
 use Rattle.mar_actor.specs.Due.{EndsWhereDue}
 use Rattle.mar_actor.specs.Told.{TellsInOrder}
 use Rattle.mar_actor.proofs.Due.{usual-due}

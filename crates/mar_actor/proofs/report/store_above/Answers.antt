@@ -1,13 +1,13 @@
 use Rattle.std.proofs.Common.{Some, ap, arith, sym, ◌∙◌}
 use Rattle.std.proofs.lemmas.Result.{err_from_is_err_and}
-use Rattle.mar_node.specs.Faults.{height_limit}
-use Rattle.mar_node.specs.Held.{Seen, seen, written_both}
-use Rattle.mar_node.specs.Moves.{at_height}
-use Rattle.mar_node.specs.Stored.{at_own_height}
-use Rattle.mar_node.proofs.Cutting.{unstarted_plain}
-use Rattle.mar_node.proofs.EventPromises.{promise-limit, promise-stored, promise-unstarted, promise-unstored}
-use Rattle.mar_node.proofs.Handing.{Hears-nothing}
-use Rattle.mar_node.proofs.Lasting.{EndsLife-unstarted, EndsLife-usual, IsPart-stored, LivesOn-started}
+use Rattle.mar_model.specs.Faults.{height_limit}
+use Rattle.mar_model.specs.Held.{Seen, seen, written_both}
+use Rattle.mar_model.specs.Moves.{at_height}
+use Rattle.mar_model.specs.Stored.{at_own_height}
+use Rattle.mar_model.proofs.Cutting.{unstarted_plain}
+use Rattle.mar_model.proofs.EventPromises.{promise-limit, promise-stored, promise-unstarted, promise-unstored}
+use Rattle.mar_model.proofs.Handing.{Hears-nothing}
+use Rattle.mar_model.proofs.Lasting.{EndsLife-unstarted, EndsLife-usual, IsPart-stored, LivesOn-started}
 use Rattle.mar_actor.proofs.Due.{plain-due, storing_due-below, storing_due-last, usual-due}
 use Rattle.mar_actor.proofs.Reported.{grown, grown-then, limit-ends, lost, lost-then, report_grown, report_lost, report_lost-then}
 use Rattle.mar_actor.proofs.Told.{TellsInOrder-cut, TellsInOrder-ended, TellsInOrder-told}

@@ -1,6 +1,6 @@
 use Rattle.std.proofs.lemmas.Result.{err_from_is_err_and}
-use Rattle.mar_node.specs.Views.{fault_of}
-use Rattle.mar_node.proofs.Outcomes.{goes_on_memory}
+use Rattle.mar_model.specs.Views.{fault_of}
+use Rattle.mar_model.proofs.Outcomes.{goes_on_memory}
 use Rattle.mar_actor.proofs.report.store_late.Goals as goal
 
 pub returns-in_err-put_late-clause-goes_on : goal.returns-in_err-put_late-clause-goes_on

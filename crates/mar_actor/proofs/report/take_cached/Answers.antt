@@ -1,12 +1,12 @@
 use Rattle.std.proofs.Common.{subst, sym, ◌∙◌}
 use Rattle.std.proofs.lemmas.Result.{err_from_is_err_and}
-use Rattle.mar_node.specs.Held.{nothing_written, outcome, seen}
-use Rattle.mar_node.proofs.EventPromises.{promise-unread}
-use Rattle.mar_node.proofs.FoundBlocks.{found_small}
-use Rattle.mar_node.proofs.Growing.{CachesReport-read}
-use Rattle.mar_node.proofs.Handing.{Hears-nothing}
-use Rattle.mar_node.proofs.Lasting.{EndsLife-usual, LivesOn-then}
-use Rattle.mar_node.specs.Views.{fault_of}
+use Rattle.mar_model.specs.Held.{nothing_written, outcome, seen}
+use Rattle.mar_model.proofs.EventPromises.{promise-unread}
+use Rattle.mar_model.proofs.FoundBlocks.{found_small}
+use Rattle.mar_model.proofs.Growing.{CachesReport-read}
+use Rattle.mar_model.proofs.Handing.{Hears-nothing}
+use Rattle.mar_model.proofs.Lasting.{EndsLife-usual, LivesOn-then}
+use Rattle.mar_model.specs.Views.{fault_of}
 use Rattle.mar_actor.specs.Due.{EndsWhereDue, storing_due}
 use Rattle.mar_actor.proofs.Due.{usual-due}
 use Rattle.mar_actor.proofs.Reported.{above-tells, absent-due, absent-lives, absent-promise, absent-tells, grown, lost, low-due, low-tells, read-part, report_lost}

@@ -1,5 +1,5 @@
 use Rattle.std.proofs.lemmas.Result.{err_from_is_err_and}
-use Rattle.mar_node.proofs.Outcomes.{goes_on_memory}
+use Rattle.mar_model.proofs.Outcomes.{goes_on_memory}
 use Rattle.mar_actor.proofs.start.report_newest.Goals as goal
 
 pub returns-in_err-newest_certificate-clause-goes_on : goal.returns-in_err-newest_certificate-clause-goes_on

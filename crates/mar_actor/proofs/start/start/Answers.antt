@@ -1,10 +1,10 @@
 use Rattle.std.proofs.Common.{None, ap, refl}
 use Rattle.std.proofs.lemmas.Result.{err_from_is_err_and}
-use Rattle.mar_node.specs.Held.{nothing_written, seen}
-use Rattle.mar_node.specs.Moves.{LoadsCache}
-use Rattle.mar_node.proofs.Growing.{Grew-refl, WithinWritten-refl}
-use Rattle.mar_node.proofs.Lasting.{EndsLife-usual}
-use Rattle.mar_node.proofs.StartEvent.{LivesOn-start, promise-start, promise-unloaded, promise-untold}
+use Rattle.mar_model.specs.Held.{nothing_written, seen}
+use Rattle.mar_model.specs.Moves.{LoadsCache}
+use Rattle.mar_model.proofs.Growing.{Grew-refl, WithinWritten-refl}
+use Rattle.mar_model.proofs.Lasting.{EndsLife-usual}
+use Rattle.mar_model.proofs.StartEvent.{LivesOn-start, promise-start, promise-unloaded, promise-untold}
 use Rattle.mar_actor.proofs.Due.{EndsWhereDue-ran, usual-due}
 use Rattle.mar_actor.proofs.Raised.{Ran-loaded}
 use Rattle.mar_actor.proofs.Told.{TellsInOrder-cut, TellsInOrder-ended, TellsInOrder-ran}

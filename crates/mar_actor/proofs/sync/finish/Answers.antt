@@ -1,13 +1,13 @@
 use Rattle.std.proofs.Common.{sym, true, false, ◌≡◌, ◌∙◌}
 use Rattle.mar_inbox.specs.Answers.{told}
 use Rattle.mar_inbox.specs.Views.{value_of}
-use Rattle.mar_node.specs.Held.{seen}
-use Rattle.mar_node.specs.OpenSyncs.{NoneHas, is_cache_sync, waits_for}
-use Rattle.mar_node.specs.Views.{fault_of}
-use Rattle.mar_node.specs.Writing.{is_open_sync}
-use Rattle.mar_node.proofs.Handing.{Hears-nothing}
-use Rattle.mar_node.proofs.Heard.{KeepsStep-beside}
-use Rattle.mar_node.proofs.OpenSyncs.{IsFound-opened, NoneHas-unfound, open-found, own-found}
+use Rattle.mar_model.specs.Held.{seen}
+use Rattle.mar_model.specs.OpenSyncs.{NoneHas, is_cache_sync, waits_for}
+use Rattle.mar_model.specs.Views.{fault_of}
+use Rattle.mar_model.specs.Writing.{is_open_sync}
+use Rattle.mar_model.proofs.Handing.{Hears-nothing}
+use Rattle.mar_model.proofs.Heard.{KeepsStep-beside}
+use Rattle.mar_model.proofs.OpenSyncs.{IsFound-opened, NoneHas-unfound, open-found, own-found}
 use Rattle.mar_actor.proofs.Asking.{on_err}
 use Rattle.mar_actor.proofs.Kept.{finished_lives, finished_promise, on_answers, on_none}
 use Rattle.mar_actor.proofs.Told.{TellsInOrder-nothing}

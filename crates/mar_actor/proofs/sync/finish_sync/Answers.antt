@@ -1,11 +1,11 @@
 use Rattle.std.proofs.Common.{None, [], refl, subst, sym, ap, true, false, ◌≡◌, ◌∙◌}
 use Rattle.std.proofs.lemmas.Result.{err_from_is_err_and}
 use Rattle.mar_store.specs.Changes.{IsNested}
-use Rattle.mar_node.specs.Held.{nothing_written, seen}
-use Rattle.mar_node.proofs.EventPromises.{promise-closed, promise-finished, promise-unfinished}
-use Rattle.mar_node.proofs.Growing.{Grew-refl, WithinWritten-refl}
-use Rattle.mar_node.proofs.Handing.{Hears-nothing}
-use Rattle.mar_node.proofs.Lasting.{EndsLife-usual, IsPart-finished, LivesOn-part, LivesOn-ran, LivesOn-then}
+use Rattle.mar_model.specs.Held.{nothing_written, seen}
+use Rattle.mar_model.proofs.EventPromises.{promise-closed, promise-finished, promise-unfinished}
+use Rattle.mar_model.proofs.Growing.{Grew-refl, WithinWritten-refl}
+use Rattle.mar_model.proofs.Handing.{Hears-nothing}
+use Rattle.mar_model.proofs.Lasting.{EndsLife-usual, IsPart-finished, LivesOn-part, LivesOn-ran, LivesOn-then}
 use Rattle.mar_actor.proofs.Due.{EndsWhereDue-ran, usual-due}
 use Rattle.mar_actor.proofs.Raised.{finished}
 use Rattle.mar_actor.proofs.Told.{TellsInOrder-ended, TellsInOrder-ran}

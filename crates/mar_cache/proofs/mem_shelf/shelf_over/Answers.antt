@@ -1,6 +1,6 @@
 use Rattle.std.proofs.Common.{[], ◌∷◌, ap, map, refl, subst, sym, ℕ, ◌∙◌, ◌≡◌}
 use Rattle.mar_store.specs.Kept.{Kept}
-use Rattle.mar_node.specs.Cached.{Cached}
+use Rattle.mar_model.specs.Cached.{Cached}
 use Rattle.mar_epochs.specs.EpochStates.{EpochState, EpochStates, IsBare, held_in, may_in, opened, shut, sure_in}
 use Rattle.mar_epochs.specs.Picks.{follows_if}
 use Rattle.mar_cache.specs.AsOne.{kept_of}

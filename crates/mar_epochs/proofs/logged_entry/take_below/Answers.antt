@@ -1,7 +1,7 @@
 use Rattle.std.proofs.Common.{not, rules}
 use Rattle.std.proofs.lemmas.Fn.{filter_same}
 use Rattle.mar_key.specs.Fronts.{filter-map}
-use Rattle.mar_node.specs.Cache.{is_below}
+use Rattle.mar_model.specs.Cache.{is_below}
 use Rattle.mar_epochs.proofs.logged_entry.take_below.Goals as goal
 
 pub returns : goal.returns

@@ -1,6 +1,6 @@
 use Rattle.std.proofs.lemmas.Result.{err_from_is_err_and}
-use Rattle.mar_node.specs.Faults.{want_of_memory}
-use Rattle.mar_node.proofs.StoreLosses.{Loses-nothing}
+use Rattle.mar_model.specs.Faults.{want_of_memory}
+use Rattle.mar_model.proofs.StoreLosses.{Loses-nothing}
 use Rattle.mar_inbox.proofs.answering.answer.Goals as goal
 
 pub returns-in_err-value-clause-goes_on : goal.returns-in_err-value-clause-goes_on

@@ -1,11 +1,11 @@
 use Rattle.std.proofs.Common.{◌≡◌, ◌∷◌, inl, inr, rules, subst, sym}
 use Rattle.std.proofs.lemmas.Result.{err_from_is_err_and}
 use Rattle.mar_key.specs.Views.{cutoff_of}
-use Rattle.mar_node.specs.Held.{WithinWritten, nothing_written, written_pair}
-use Rattle.mar_node.specs.Metadata.{pair_of}
-use Rattle.mar_node.specs.Opening.{derived_pair}
-use Rattle.mar_node.proofs.Growing.{Grew-refl, Grew-wider, WithinWritten-nothing, WithinWritten-pair, WithinWritten-refl}
-use Rattle.mar_node.proofs.Passing.{ArePassed-then}
+use Rattle.mar_model.specs.Held.{WithinWritten, nothing_written, written_pair}
+use Rattle.mar_model.specs.Metadata.{pair_of}
+use Rattle.mar_model.specs.Opening.{derived_pair}
+use Rattle.mar_model.proofs.Growing.{Grew-refl, Grew-wider, WithinWritten-nothing, WithinWritten-pair, WithinWritten-refl}
+use Rattle.mar_model.proofs.Passing.{ArePassed-then}
 use Rattle.mar_opening.proofs.derived.derive.Goals as goal
 
 pub returns-in_err-successor-clause-lost : goal.returns-in_err-successor-clause-lost

@@ -1,6 +1,6 @@
 use Rattle.std.proofs.Common.{IfOk, ap, refl, subst, sym, ◌≡◌, ◌∙◌}
-use Rattle.mar_node.specs.Newest.{upto}
-use Rattle.mar_node.proofs.Newest.{newest_round, no_newest_round}
+use Rattle.mar_model.specs.Newest.{upto}
+use Rattle.mar_model.proofs.Newest.{newest_round, no_newest_round}
 use Rattle.mar_opening.proofs.derived.newest_round.Goals as goal
 
 pub returns-in-None-clause-round : goal.returns-in-None-clause-round

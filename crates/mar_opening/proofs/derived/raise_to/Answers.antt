@@ -1,9 +1,9 @@
 use Rattle.std.proofs.Common.{ap, subst, sym}
 use Rattle.std.proofs.lemmas.Result.{err_from_is_err_and}
-use Rattle.mar_node.specs.Held.{nothing_written, written_pair, WithinWritten}
-use Rattle.mar_node.specs.Metadata.{pair_of}
-use Rattle.mar_node.proofs.Growing.{Grew-refl, WithinWritten-nothing, WithinWritten-refl}
-use Rattle.mar_node.proofs.Outcomes.{passed_then}
+use Rattle.mar_model.specs.Held.{nothing_written, written_pair, WithinWritten}
+use Rattle.mar_model.specs.Metadata.{pair_of}
+use Rattle.mar_model.proofs.Growing.{Grew-refl, WithinWritten-nothing, WithinWritten-refl}
+use Rattle.mar_model.proofs.Outcomes.{passed_then}
 use Rattle.mar_opening.proofs.derived.raise_to.Goals as goal
 
 pub returns-in_err-set_cutoff-clause-lost : goal.returns-in_err-set_cutoff-clause-lost

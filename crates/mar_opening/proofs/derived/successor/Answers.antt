@@ -1,5 +1,5 @@
 use Rattle.std.proofs.lemmas.Result.{err_from_is_err_and}
-use Rattle.mar_node.proofs.Outcomes.{judged}
+use Rattle.mar_model.proofs.Outcomes.{judged}
 use Rattle.mar_opening.proofs.derived.successor.Goals as goal
 
 pub returns-in_err-block-clause-goes_on : goal.returns-in_err-block-clause-goes_on

@@ -1,6 +1,6 @@
 use Rattle.std.proofs.Common.{◌≡◌, ◌∙◌, subst, sym}
-use Rattle.mar_node.specs.Held.{ReopensAs, ended_on}
-use Rattle.mar_node.specs.Views.{fault_of}
+use Rattle.mar_model.specs.Held.{ReopensAs, ended_on}
+use Rattle.mar_model.specs.Views.{fault_of}
 use Rattle.mar_opening.specs.Opened.{FailsToOpen}
 use Rattle.mar_opening.proofs.Opened.{fails_unhoused}
 use Rattle.mar_opening.proofs.open.open_stores.Goals as goal

@@ -1,10 +1,10 @@
 use Rattle.std.proofs.Common.{ap, ◌∙◌}
 use Rattle.std.proofs.lemmas.Result.{err_from_is_err_and}
-use Rattle.mar_node.specs.Held.{written_block}
-use Rattle.mar_node.specs.Stored.{at_own_height}
-use Rattle.mar_node.proofs.Growing.{Grew-refl, WithinWritten-refl}
-use Rattle.mar_node.proofs.Reopenings.{Grew-opened}
-use Rattle.mar_node.specs.Views.{fault_of}
+use Rattle.mar_model.specs.Held.{written_block}
+use Rattle.mar_model.specs.Stored.{at_own_height}
+use Rattle.mar_model.proofs.Growing.{Grew-refl, WithinWritten-refl}
+use Rattle.mar_model.proofs.Reopenings.{Grew-opened}
+use Rattle.mar_model.specs.Views.{fault_of}
 use Rattle.mar_opening.proofs.Opened.{fails_beginning, settled_fails, settled_opens}
 use Rattle.mar_opening.proofs.open.settle.Goals as goal
 

@@ -1,7 +1,7 @@
 use Rattle.std.proofs.lemmas.Result.{err_from_is_err_and}
-use Rattle.mar_node.specs.Faults.{unbacked}
-use Rattle.mar_node.proofs.Growing.{Grew-noted}
-use Rattle.mar_node.proofs.StoreLosses.{Loses-nothing}
+use Rattle.mar_model.specs.Faults.{unbacked}
+use Rattle.mar_model.proofs.Growing.{Grew-noted}
+use Rattle.mar_model.proofs.StoreLosses.{Loses-nothing}
 use Rattle.mar_opening.proofs.reopened.anchor_above.Goals as goal
 
 pub returns-in_err-_block-clause-goes_on : goal.returns-in_err-_block-clause-goes_on

@@ -1,4 +1,4 @@
-use Rattle.mar_node.proofs.Growing.{WithinWritten-nothing}
+use Rattle.mar_model.proofs.Growing.{WithinWritten-nothing}
 use Rattle.mar_opening.proofs.reopened.begin.Goals as goal
 
 pub returns-clause-goes_on : goal.returns-clause-goes_on

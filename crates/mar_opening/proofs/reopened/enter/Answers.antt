@@ -1,6 +1,6 @@
 use Rattle.std.proofs.lemmas.Result.{err_from_is_err_and}
-use Rattle.mar_node.proofs.Growing.{WithinWritten-nothing}
-use Rattle.mar_node.proofs.Outcomes.{judged}
+use Rattle.mar_model.proofs.Growing.{WithinWritten-nothing}
+use Rattle.mar_model.proofs.Outcomes.{judged}
 use Rattle.mar_opening.proofs.reopened.enter.Goals as goal
 
 pub returns-in_err-stored-clause-goes_on : goal.returns-in_err-stored-clause-goes_on

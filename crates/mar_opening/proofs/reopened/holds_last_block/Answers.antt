@@ -1,5 +1,5 @@
 use Rattle.std.proofs.Common.{sym, ◌∙◌}
-use Rattle.mar_node.proofs.OpeningJudged.{holds_last}
+use Rattle.mar_model.proofs.OpeningJudged.{holds_last}
 use Rattle.mar_opening.proofs.reopened.holds_last_block.Goals as goal
 
 pub returns : goal.returns

@@ -1,4 +1,4 @@
-use Rattle.mar_node.specs.Acks.{is_unmarked}
+use Rattle.mar_model.specs.Acks.{is_unmarked}
 use Rattle.mar_key.specs.Fronts.{entries_written, entry_written}
 use Rattle.mar_parts.proofs.Entries.{entry_found}
 use Rattle.mar_parts.proofs.acks.mark_entries.Goals as goal

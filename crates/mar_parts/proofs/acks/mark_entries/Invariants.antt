@@ -1,6 +1,6 @@
 use Rattle.std.proofs.Common.{map, take, ◌≡◌}
 use Rattle.std.specs.List.{list_any}
-use Rattle.mar_node.specs.Acks.{is_unmarked, marked_entry}
+use Rattle.mar_model.specs.Acks.{is_unmarked, marked_entry}
 use Rattle.mar_parts.specs.Views.{mark_of, outstanding_of}
 use Rattle.mar_key.specs.Fronts.{mapped_front}
 use Rattle.mar_parts.proofs.acks.mark_entries.Given as goal

@@ -1,5 +1,5 @@
 use Rattle.std.proofs.Common.{[], refl}
-use Rattle.mar_node.specs.Held.{Remains}
+use Rattle.mar_model.specs.Held.{Remains}
 use Rattle.mar_script.specs.Text.{text}
 use Rattle.mar_replay.proofs.Generating.{gen_nothing, writes_nothing}
 use Rattle.mar_replay.proofs.generate.generate.Goals as goal

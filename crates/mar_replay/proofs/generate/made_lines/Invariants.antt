@@ -1,5 +1,5 @@
 use Rattle.std.proofs.Common.{[], ◌≡◌}
-use Rattle.mar_node.specs.Held.{Remains}
+use Rattle.mar_model.specs.Held.{Remains}
 use Rattle.mar_script.specs.Script.{config_of}
 use Rattle.mar_script.specs.Text.{text}
 use Rattle.mar_replay.specs.Gen.{gen_settings}

@@ -1,5 +1,5 @@
 use Rattle.std.proofs.Common.{ap, sym, ℕ, ◌∙◌, ◌≡◌}
-use Rattle.mar_node.specs.Messages.{report_finalization}
+use Rattle.mar_model.specs.Messages.{report_finalization}
 use Rattle.mar_script.specs.Lines.{plain_finalization}
 use Rattle.mar_script.specs.Script.{tell_line}
 use Rattle.mar_gen.specs.Chain.{finalized, made_block}

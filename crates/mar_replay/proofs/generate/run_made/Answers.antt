@@ -1,6 +1,6 @@
 use Rattle.std.proofs.Common.{Err, Ok, Some, [], refl, ◌≡◌}
 use Rattle.mar_script.specs.Text.{text}
-use Rattle.mar_node.specs.Held.{Remains}
+use Rattle.mar_model.specs.Held.{Remains}
 use Rattle.mar_replay.proofs.Generating.{gen_nothing}
 use Rattle.mar_replay.proofs.Headlines.{shown_first}
 use Rattle.mar_replay.proofs.generate.run_made.Goals as goal

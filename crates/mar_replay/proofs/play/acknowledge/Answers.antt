@@ -1,6 +1,6 @@
 use Rattle.std.proofs.Common.{refl, sym, ◌∙◌}
 use Rattle.mar_script.specs.declared.RemarkShown.TheVariants as remark
-use Rattle.mar_node.proofs.Passing.{ArePassed-refl}
+use Rattle.mar_model.proofs.Passing.{ArePassed-refl}
 use Rattle.mar_replay.proofs.Lasting.{acks}
 use Rattle.mar_replay.proofs.LinePlays.{between, plays_event, plays_remark}
 use Rattle.mar_replay.proofs.LineTurns.{ack_done, ack_ignored}

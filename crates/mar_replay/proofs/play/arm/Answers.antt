@@ -1,4 +1,4 @@
-use Rattle.mar_node.specs.Views.{store_name_of}
+use Rattle.mar_model.specs.Views.{store_name_of}
 use Rattle.mar_replay.proofs.LinePlays.{plays_fail}
 use Rattle.mar_replay.proofs.play.arm.Goals as goal
 

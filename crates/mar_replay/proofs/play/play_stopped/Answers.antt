@@ -1,6 +1,6 @@
 use Rattle.std.proofs.Common.{refl}
 use Rattle.mar_script.specs.declared.RemarkShown.TheVariants as remark
-use Rattle.mar_node.proofs.Passing.{ArePassed-refl}
+use Rattle.mar_model.proofs.Passing.{ArePassed-refl}
 use Rattle.mar_replay.proofs.LinePlays.{plays_crash_left, plays_remark}
 use Rattle.mar_replay.proofs.play.play_stopped.Goals as goal
 

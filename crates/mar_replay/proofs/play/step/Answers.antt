@@ -2,7 +2,7 @@ use Rattle.std.proofs.Common.{Err, Ok, ap, ◌∙◌, subst}
 use Rattle.mar_replay.proofs.EventTurns.{promise_since, sent_taken, takes_err, takes_ok}
 use Rattle.mar_replay.proofs.play.step.Goals as goal
 use Rattle.mar_replay.proofs.Events.{no_parents}
-use Rattle.mar_node.specs.Queries.{Learns, commitments_found}
+use Rattle.mar_model.specs.Queries.{Learns, commitments_found}
 use Rattle.mar_actor.specs.Views.{event_of}
 use Rattle.mar_script.specs.Lines.{plain_block, plain_finalization}
 

@@ -1,5 +1,5 @@
 use Rattle.std.proofs.Common.{List, Option, [], ℕ, ◌++◌, ◌≡◌}
-use Rattle.mar_node.specs.Held.{Remains}
+use Rattle.mar_model.specs.Held.{Remains}
 use Rattle.mar_replay.specs.Playing.{HasSmallBlocks, IsSetAs}
 use Rattle.mar_replay.specs.declared.play.State.TheVariants as state
 use Rattle.mar_script.specs.Script.{config_of, settings_bytes}

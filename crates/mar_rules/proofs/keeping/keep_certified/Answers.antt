@@ -1,7 +1,7 @@
 use Rattle.std.proofs.Common.{Some}
-use Rattle.mar_node.specs.Cache.{certified_covers, notarized_where}
-use Rattle.mar_node.specs.Moves.{KeepsFor, is_verified_in}
-use Rattle.mar_node.proofs.Growing.{WithinWritten-nothing}
+use Rattle.mar_model.specs.Cache.{certified_covers, notarized_where}
+use Rattle.mar_model.specs.Moves.{KeepsFor, is_verified_in}
+use Rattle.mar_model.proofs.Growing.{WithinWritten-nothing}
 use Rattle.mar_rules.proofs.KeptFor.{kept_certified, taken_in}
 use Rattle.mar_rules.proofs.keeping.keep_certified.Goals as goal
 

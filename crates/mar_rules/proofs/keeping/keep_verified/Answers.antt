@@ -1,8 +1,8 @@
 use Rattle.std.proofs.Common.{Some, ◌∷◌, []}
-use Rattle.mar_node.specs.Cache.{is_verified_of}
-use Rattle.mar_node.specs.Cached.{verified_entry}
-use Rattle.mar_node.specs.Moves.{KeepsFor}
-use Rattle.mar_node.proofs.Growing.{WithinWritten-nothing}
+use Rattle.mar_model.specs.Cache.{is_verified_of}
+use Rattle.mar_model.specs.Cached.{verified_entry}
+use Rattle.mar_model.specs.Moves.{KeepsFor}
+use Rattle.mar_model.proofs.Growing.{WithinWritten-nothing}
 use Rattle.mar_rules.proofs.KeptFor.{kept_entry, taken_in, verified_archive}
 use Rattle.mar_rules.proofs.keeping.keep_verified.Goals as goal
 

@@ -1,6 +1,6 @@
 use Rattle.std.proofs.Common.{true, false}
 use Rattle.std.proofs.lemmas.Result.{IfOk-weaker}
-use Rattle.mar_node.proofs.Growing.{WithinWritten-nothing}
+use Rattle.mar_model.proofs.Growing.{WithinWritten-nothing}
 use Rattle.mar_rules.proofs.KeptFor.{puts_notarized, puts_verified, verified_found}
 use Rattle.mar_rules.proofs.keeping.put_certified.Goals as goal
 

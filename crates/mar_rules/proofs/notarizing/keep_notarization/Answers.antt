@@ -1,8 +1,8 @@
 use Rattle.std.proofs.Common.{None, ◌∷◌, []}
-use Rattle.mar_node.specs.Cache.{is_notarization_of}
-use Rattle.mar_node.specs.Cached.{notarization_entry}
-use Rattle.mar_node.specs.Moves.{KeepsFor}
-use Rattle.mar_node.proofs.Growing.{WithinWritten-nothing}
+use Rattle.mar_model.specs.Cache.{is_notarization_of}
+use Rattle.mar_model.specs.Cached.{notarization_entry}
+use Rattle.mar_model.specs.Moves.{KeepsFor}
+use Rattle.mar_model.proofs.Growing.{WithinWritten-nothing}
 use Rattle.mar_rules.proofs.KeptFor.{kept_entry, notarization_archive, taken_in}
 use Rattle.mar_rules.proofs.notarizing.keep_notarization.Goals as goal
 

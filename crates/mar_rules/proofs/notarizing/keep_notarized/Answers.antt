@@ -1,9 +1,9 @@
 use Rattle.std.proofs.Common.{subst, sym, true, false}
 use Rattle.std.proofs.lemmas.Result.{on_ok_weaker}
-use Rattle.mar_node.specs.Cache.{notarized_where}
-use Rattle.mar_node.specs.Held.{WithinWritten, written_entries}
-use Rattle.mar_node.specs.Moves.{KeepsNotarizedWhere}
-use Rattle.mar_node.proofs.Growing.{WithinWritten-nothing}
+use Rattle.mar_model.specs.Cache.{notarized_where}
+use Rattle.mar_model.specs.Held.{WithinWritten, written_entries}
+use Rattle.mar_model.specs.Moves.{KeepsNotarizedWhere}
+use Rattle.mar_model.proofs.Growing.{WithinWritten-nothing}
 use Rattle.mar_rules.proofs.KeptFor.{kept_where, verified_found}
 use Rattle.mar_rules.proofs.notarizing.keep_notarized.Goals as goal
 

@@ -1,9 +1,9 @@
 use Rattle.std.proofs.Common.{None, Ok, ◌∷◌, []}
 use Rattle.std.specs.Prelude.{⊤}
-use Rattle.mar_node.specs.Cache.{is_notarized_of}
-use Rattle.mar_node.specs.Cached.{notarized_entry}
-use Rattle.mar_node.specs.Moves.{KeepsFor}
-use Rattle.mar_node.proofs.Growing.{WithinWritten-nothing}
+use Rattle.mar_model.specs.Cache.{is_notarized_of}
+use Rattle.mar_model.specs.Cached.{notarized_entry}
+use Rattle.mar_model.specs.Moves.{KeepsFor}
+use Rattle.mar_model.proofs.Growing.{WithinWritten-nothing}
 use Rattle.mar_rules.proofs.KeptFor.{kept_entry, notarized_archive, taken_in}
 use Rattle.mar_rules.proofs.notarizing.keep_unverified.Goals as goal
 

@@ -1,6 +1,6 @@
 use Rattle.std.proofs.Common.{rules, ◌≡◌, false, true}
 use Rattle.mar_types.specs.Round.{round_lt}
-use Rattle.mar_node.specs.Cache.{prunes_by}
+use Rattle.mar_model.specs.Cache.{prunes_by}
 use Rattle.mar_rules.proofs.Pruned.{PrunesCacheBy-newer, PrunesCacheBy-older}
 use Rattle.mar_rules.proofs.Raised.{on_both}
 use Rattle.mar_rules.proofs.pruning.prune_before.Goals as goal

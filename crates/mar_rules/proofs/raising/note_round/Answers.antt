@@ -1,9 +1,9 @@
 use Rattle.std.proofs.Common.{ap, subst, sym}
 use Rattle.std.proofs.lemmas.Result.{err_from_is_err_and}
-use Rattle.mar_node.specs.Held.{WithinWritten, written_pair, written_prunes}
-use Rattle.mar_node.specs.Metadata.{pair_of}
-use Rattle.mar_node.proofs.Growing.{Grew-refl, WithinWritten-refl}
-use Rattle.mar_node.proofs.Passing.{ArePassed-then}
+use Rattle.mar_model.specs.Held.{WithinWritten, written_pair, written_prunes}
+use Rattle.mar_model.specs.Metadata.{pair_of}
+use Rattle.mar_model.proofs.Growing.{Grew-refl, WithinWritten-refl}
+use Rattle.mar_model.proofs.Passing.{ArePassed-then}
 use Rattle.mar_rules.proofs.Pruned.{WithinWritten-noted_pair, WithinWritten-noted_prunes}
 use Rattle.mar_rules.proofs.Raised.{on_both}
 use Rattle.mar_rules.proofs.raising.note_round.Goals as goal

@@ -1,8 +1,8 @@
 use Rattle.std.proofs.Common.{Some, sym, ◌∙◌}
 use Rattle.std.proofs.lemmas.Result.{err_from_is_err_and}
 use Rattle.mar_key.specs.Processed.{at_block}
-use Rattle.mar_node.specs.Lives.{later_round}
-use Rattle.mar_node.proofs.Growing.{WithinWritten-nothing}
+use Rattle.mar_model.specs.Lives.{later_round}
+use Rattle.mar_model.proofs.Growing.{WithinWritten-nothing}
 use Rattle.mar_rules.proofs.Raised.{on_ok, raised, unraised, within_read}
 use Rattle.mar_rules.proofs.raising.process.Goals as goal
 

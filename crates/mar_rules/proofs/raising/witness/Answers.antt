@@ -1,6 +1,6 @@
 use Rattle.std.proofs.Common.{refl}
-use Rattle.mar_node.proofs.CachePrunes.{PrunesCacheBy-none}
-use Rattle.mar_node.proofs.Growing.{Grew-noted, WithinWritten-nothing}
+use Rattle.mar_model.proofs.CachePrunes.{PrunesCacheBy-none}
+use Rattle.mar_model.proofs.Growing.{Grew-noted, WithinWritten-nothing}
 use Rattle.mar_rules.proofs.raising.witness.Goals as goal
 
 pub returns-in_ok-prune_before-in-Some-clause-goes_on : goal.returns-in_ok-prune_before-in-Some-clause-goes_on

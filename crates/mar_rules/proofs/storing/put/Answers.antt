@@ -1,4 +1,4 @@
-use Rattle.mar_node.proofs.Growing.{WithinWritten-block, WithinWritten-cert}
+use Rattle.mar_model.proofs.Growing.{WithinWritten-block, WithinWritten-cert}
 use Rattle.mar_rules.proofs.storing.put.Goals as goal
 
 pub returns-clause-goes_on : goal.returns-clause-goes_on

@@ -1,5 +1,5 @@
 use Rattle.std.proofs.lemmas.Result.{err_from_is_err_and}
-use Rattle.mar_node.proofs.Growing.{WithinWritten-nothing}
+use Rattle.mar_model.proofs.Growing.{WithinWritten-nothing}
 use Rattle.mar_rules.proofs.storing.put_late.Goals as goal
 
 pub returns-in_err-is_lacking-clause-goes_on : goal.returns-in_err-is_lacking-clause-goes_on

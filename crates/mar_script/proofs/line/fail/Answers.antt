@@ -1,5 +1,5 @@
 use Rattle.std.proofs.Common.{Some, ap, arith, refl, sym, ◌∙◌, ◌≡◌, ◌≤◌}
-use Rattle.mar_node.specs.Views.{store_name_of}
+use Rattle.mar_model.specs.Views.{store_name_of}
 use Rattle.mar_script.specs.Script.{fail_line}
 use Rattle.mar_script.proofs.FirstWords.{no_sentence}
 use Rattle.mar_script.proofs.LineKinds.{fails_with, makes_fail, positive, refused}

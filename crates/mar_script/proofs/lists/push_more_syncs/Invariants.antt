@@ -1,6 +1,6 @@
 use Rattle.std.proofs.Common.{string_bytes, take, ◌++◌, ◌∷◌, ◌≡◌}
 use Rattle.std.specs.List.{flat_map}
-use Rattle.mar_node.specs.Views.{pooled_of}
+use Rattle.mar_model.specs.Views.{pooled_of}
 use Rattle.mar_script.specs.Text.{sync_text}
 use Rattle.mar_script.proofs.lists.push_more_syncs.Given as goal
 

@@ -1,6 +1,6 @@
 use Rattle.std.proofs.Common.{ap, rules, sym, ◌∙◌, ◌≡◌}
 use Rattle.std.specs.Prelude.{codes}
-use Rattle.mar_node.specs.Messages.{some_peers}
+use Rattle.mar_model.specs.Messages.{some_peers}
 use Rattle.mar_script.proofs.Numbers.{not_other}
 use Rattle.mar_script.proofs.PeerWords.{means_all, means_none, means_some}
 use Rattle.mar_script.proofs.peers.recipients.Goals as goal

@@ -1,6 +1,6 @@
 use Rattle.std.proofs.Common.{ap, ◌∙◌}
-use Rattle.mar_node.specs.OpenSyncs.{is_cache_sync}
-use Rattle.mar_node.proofs.OpenSyncs.{open-listed}
+use Rattle.mar_model.specs.OpenSyncs.{is_cache_sync}
+use Rattle.mar_model.proofs.OpenSyncs.{open-listed}
 use Rattle.mar_actor.proofs.node.Node.awaits_cache.Goals as goal
 
 pub returns : goal.returns

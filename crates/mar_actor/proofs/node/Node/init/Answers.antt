@@ -1,9 +1,9 @@
 use Rattle.std.proofs.Common.{inl}
 use Rattle.std.proofs.lemmas.Result.{err_from_is_err_and}
-use Rattle.mar_node.specs.Faults.{want_of_memory}
+use Rattle.mar_model.specs.Faults.{want_of_memory}
 use Rattle.mar_actor.specs.Views.{sizes_of}
-use Rattle.mar_node.proofs.OpeningEvent.{cut_early}
-use Rattle.mar_node.proofs.Reopenings.{LosesOpening-nothing}
+use Rattle.mar_model.proofs.OpeningEvent.{cut_early}
+use Rattle.mar_model.proofs.Reopenings.{LosesOpening-nothing}
 use Rattle.mar_opening.proofs.Opened.{failed_by_value, failed_cause, failed_cut, opened_begins, opened_finds, opened_fresh, opened_passed, opened_picked}
 use Rattle.mar_actor.proofs.node.Node.init.Goals as goal
 

@@ -1,5 +1,5 @@
 use Rattle.std.proofs.Common.{ap, map, ◌∙◌}
-use Rattle.mar_node.proofs.OpenSyncs.{numbers-are}
+use Rattle.mar_model.proofs.OpenSyncs.{numbers-are}
 use Rattle.mar_actor.proofs.node.Node.shown.Goals as goal
 
 pub returns-clause-tickets : goal.returns-clause-tickets

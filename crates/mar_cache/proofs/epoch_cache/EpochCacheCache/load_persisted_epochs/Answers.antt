@@ -1,6 +1,6 @@
 use Rattle.std.proofs.Common.{[], ap, map, refl, ◌∙◌}
 use Rattle.mar_store.specs.Lost.{wreck_of}
-use Rattle.mar_node.specs.CacheCalls.{none_goes}
+use Rattle.mar_model.specs.CacheCalls.{none_goes}
 use Rattle.mar_epochs.specs.EpochStates.{some_ways}
 use Rattle.mar_cache.specs.Bounds.{bounds_of}
 use Rattle.mar_cache.specs.Shelved.{nothing_gone}

@@ -1,6 +1,6 @@
 use Rattle.std.proofs.Common.{[], ap, map, refl, ◌∙◌}
 use Rattle.mar_store.specs.Lost.{wreck_of}
-use Rattle.mar_node.specs.Cache.{is_below}
+use Rattle.mar_model.specs.Cache.{is_below}
 use Rattle.mar_epochs.specs.EpochStates.{some_ways}
 use Rattle.mar_cache.specs.Bounds.{bounds_of}
 use Rattle.mar_cache.specs.Laws.{PrunesByView}

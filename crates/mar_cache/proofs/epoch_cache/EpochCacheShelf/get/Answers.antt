@@ -1,6 +1,6 @@
 use Rattle.std.proofs.Common.{Some, ap, sym, ◌∙◌}
 use Rattle.std.specs.Prelude.{option_map}
-use Rattle.mar_node.specs.Entries.{is_sought}
+use Rattle.mar_model.specs.Entries.{is_sought}
 use Rattle.mar_cache.specs.Bounds.{bounds_of}
 use Rattle.mar_cache.proofs.CacheSteps.{look_found}
 use Rattle.mar_cache.proofs.epoch_cache.EpochCacheShelf.get.Goals as goal

@@ -1,11 +1,11 @@
 use Rattle.std.proofs.Common.{◌<◌, ◌≡◌, ◌≤◌, [], ◌∷◌, ap, map, subst, sym, ◌∙◌}
 use Rattle.mar_store.specs.Lost.{wreck_of}
-use Rattle.mar_node.specs.CacheCalls.{GoesOn, LosesCache, PutsAndStarts, none_goes}
+use Rattle.mar_model.specs.CacheCalls.{GoesOn, LosesCache, PutsAndStarts, none_goes}
 use Rattle.mar_epochs.specs.EpochStates.{some_ways}
 use Rattle.mar_cache.specs.Bounds.{bounds_of}
-use Rattle.mar_node.specs.Cached.{epoch_of}
-use Rattle.mar_node.specs.Sections.{section_of}
-use Rattle.mar_node.specs.declared.Started.TheVariants.{Ready}
+use Rattle.mar_model.specs.Cached.{epoch_of}
+use Rattle.mar_model.specs.Sections.{section_of}
+use Rattle.mar_model.specs.declared.Started.TheVariants.{Ready}
 use Rattle.mar_epochs.specs.declared.Change.TheVariants.{Put}
 use Rattle.mar_cache.specs.AsOne.{covers_of, kept_of, left_of_ways, lowests_of}
 use Rattle.mar_cache.specs.Calls.{IsPut}

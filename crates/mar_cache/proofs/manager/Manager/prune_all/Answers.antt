@@ -1,6 +1,6 @@
 use Rattle.std.proofs.Common.{[], refl, arith, ◌∙◌}
 use Rattle.std.proofs.lemmas.Result.{err_from_is_err_and}
-use Rattle.mar_node.specs.Cache.{is_certified_below}
+use Rattle.mar_model.specs.Cache.{is_certified_below}
 use Rattle.mar_epochs.specs.declared.Change.TheVariants.{PruneCertified}
 use Rattle.mar_epochs.proofs.Filtering.{contains_none}
 use Rattle.mar_cache.proofs.Shelving.{grown_leaves, loses_leaves}

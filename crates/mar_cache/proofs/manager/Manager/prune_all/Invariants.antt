@@ -1,5 +1,5 @@
 use Rattle.std.proofs.Common.{◌≡◌, ◌≤◌, ◌<◌, ◌-◌, ℕ, get_or, length, ◌&&◌}
-use Rattle.mar_node.specs.Cache.{is_certified_below}
+use Rattle.mar_model.specs.Cache.{is_certified_below}
 use Rattle.mar_cache.specs.Shelved.{IsClear, ThinsEpoch, shelf_watch}
 use Rattle.mar_cache.proofs.manager.Manager.prune_all.Given as goal
 

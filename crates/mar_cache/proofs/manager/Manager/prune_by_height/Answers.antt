@@ -1,6 +1,6 @@
 use Rattle.std.proofs.Common.{[], ap, subst, ◌∙◌, ◌&&◌}
 use Rattle.std.proofs.lemmas.Result.{IfErr-weaker, IfOk-weaker}
-use Rattle.mar_node.specs.Cache.{is_certified_below}
+use Rattle.mar_model.specs.Cache.{is_certified_below}
 use Rattle.mar_cache.specs.Shelved.{ThinsEpoch, shelf_watch}
 use Rattle.mar_cache.proofs.Exits.{err_is, no_ok}
 use Rattle.mar_cache.proofs.Shelving.{fallen_leaves, same_leaves}

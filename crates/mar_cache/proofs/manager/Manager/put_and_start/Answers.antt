@@ -1,5 +1,5 @@
 use Rattle.std.proofs.Common.{[], ◌∷◌, map, ◌∙◌, ◌&&◌, ap, refl}
-use Rattle.mar_node.specs.Cached.{epoch_of}
+use Rattle.mar_model.specs.Cached.{epoch_of}
 use Rattle.mar_cache.specs.Bounds.{bounds_of}
 use Rattle.mar_cache.specs.Shelved.{at_epoch, nothing_gone, shelf_watch}
 use Rattle.mar_cache.proofs.Exits.{err_is, no_ok, not_above, not_below}

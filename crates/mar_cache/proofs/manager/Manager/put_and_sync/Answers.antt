@@ -1,6 +1,6 @@
 use Rattle.std.proofs.Common.{[], ◌∷◌, ◌∙◌, ap, map, refl, ◌&&◌}
 use Rattle.std.proofs.lemmas.Result.{IfErr-weaker, IfOk-weaker}
-use Rattle.mar_node.specs.Cached.{epoch_of}
+use Rattle.mar_model.specs.Cached.{epoch_of}
 use Rattle.mar_cache.specs.Bounds.{bounds_of}
 use Rattle.mar_cache.specs.Shelved.{at_epoch, nothing_gone, raised, shelf_watch}
 use Rattle.mar_epochs.specs.declared.Change.TheVariants.{Put}

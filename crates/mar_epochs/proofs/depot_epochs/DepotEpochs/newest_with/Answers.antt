@@ -3,7 +3,7 @@ use Rattle.std.specs.Map.Iter.{deref}
 use Rattle.std.specs.BTreeMap.{keys}
 use Rattle.std.proofs.lemmas.List.{map_push}
 use Rattle.std.proofs.lemmas.Map.Iter.{iter_end}
-use Rattle.mar_node.specs.Sections.{first_found}
+use Rattle.mar_model.specs.Sections.{first_found}
 use Rattle.mar_epochs.specs.EpochStates.{held_in, states_of}
 use Rattle.mar_epochs.proofs.Leaving.{NewestOf, key_or_none, newest_all, newest_push, some_copied, unslotted}
 use Rattle.mar_epochs.proofs.depot_epochs.DepotEpochs.newest_with.Goals as goal

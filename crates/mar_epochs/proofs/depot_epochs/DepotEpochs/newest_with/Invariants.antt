@@ -1,6 +1,6 @@
 use Rattle.std.proofs.Common.{is_some, map}
 use Rattle.std.specs.Map.Iter.{deref}
-use Rattle.mar_node.specs.Sections.{first_found}
+use Rattle.mar_model.specs.Sections.{first_found}
 use Rattle.mar_epochs.specs.EpochStates.{held_in, states_of}
 use Rattle.mar_epochs.proofs.Leaving.{NewestOf}
 use Rattle.mar_epochs.proofs.depot_epochs.DepotEpochs.newest_with.Given as goal

@@ -1,5 +1,5 @@
 use Rattle.std.proofs.Common.{◌∙◌}
-use Rattle.mar_node.specs.Cached.{same_place}
+use Rattle.mar_model.specs.Cached.{same_place}
 use Rattle.mar_epochs.specs.EntryLogs.{entries, log_of}
 use Rattle.mar_epochs.proofs.Spotting.{held_at}
 use Rattle.mar_epochs.proofs.mem_epoch_archives.MemEpochArchives.holds.Goals as goal

@@ -1,5 +1,5 @@
 use Rattle.std.proofs.Common.{Bool, ap, false, sym, true, ◌||◌, ◌∙◌, ◌≡◌}
-use Rattle.mar_node.specs.Acks.{is_unmarked}
+use Rattle.mar_model.specs.Acks.{is_unmarked}
 use Rattle.mar_parts.specs.Views.{outstanding_of}
 use Rattle.mar_parts.proofs.Entries.{list_any-parts}
 use Rattle.mar_parts.proofs.acks.PendingAcks.is_unmarked.Goals as goal

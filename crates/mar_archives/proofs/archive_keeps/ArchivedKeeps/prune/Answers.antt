@@ -1,4 +1,0 @@
-use Rattle.mar_archives.proofs.archive_keeps.ArchivedKeeps.prune.Goals as goal
-
-pub returns-clause-covers : goal.returns-clause-covers
-returns-clause-covers g c = rw (← c.self.view_is, c.wrapped.ensures) (rw c.get.ensures.value at c.prune.ensures.covers)

@@ -1,5 +1,0 @@
-use Rattle.mar_durable.proofs.Marks.{parted}
-use Rattle.mar_durable.proofs.laws.tickets_write_what_came_before.Goals as goal
-
-pub returns : goal.returns
-returns c = λ t count before later old new front upto. parted t count before later old new upto front.later front.within

@@ -1,0 +1,53 @@
+use Rattle.std.proofs.Common.{ap, arith, map, refl, take, ◌++◌, ◌∙◌, ◌≡◌}
+use Rattle.std.proofs.lemmas.List.{map-append, take_at}
+use Rattle.mar_store.specs.Entries.{seen}
+use Rattle.mar_store.proofs.Settled.{fails_still}
+use Rattle.mar_journal_stores.proofs.ArchiveSteps.{nothing_lost, ordered_of, prune_backed, prune_ranges, prunes_with_gone}
+use Rattle.mar_journal_stores.proofs.Marks.{newest_ordered}
+use Rattle.mar_journal_stores.proofs.journal_archive.JournalArchive.cut.Goals as goal
+
+pub invariant_of-result : goal.invariant_of-result
+invariant_of-result g c = rw (c.into_pile.ensures, c.in-Err.ensures.still, c.into_disk.ensures, c.set_aside.ensures.disk) (record {
+  may_is = c.args.self.may_is;
+  is_left = nothing_lost g.T.Item.name g.T.JournalItem.spelled g.T.Item.fits g.D.Disk.seen g.D.Disk.may_leave c.args.self.log.disk c.args.self.log.end c.args.self.aside.gone.items c.args.self.entries.pile.items.items c.args.self.entries.pile.synced c.args.self.entries.pile.accepted c.args.self.log.waiting.items c.args.self.log.marks.items c.args.self.entries.pile.once c.args.self.backed;
+})
+
+pub returns-in-Err-clause-done : goal.returns-in-Err-clause-done
+returns-in-Err-clause-done g c = rw (c.into_pile.ensures, c.in-Err.ensures.still) (fails_still _ _ refl)
+
+pub invariant_of-result-in-Ok-prune : goal.invariant_of-result-in-Ok-prune
+invariant_of-result-in-Ok-prune g c =
+    let more_is = ap (map seen) c.in-Ok.ensures.gone ∙ map-append seen c.args.self.aside.gone.items c.args.more.items in
+    let aside = more_is ∙ ap (λ l. map seen c.args.self.aside.gone.items ++ l) c.requires.more in
+    rw (c.set_aside.ensures.disk, c.set_aside.ensures.end) (record {
+      may_is = prune_ranges c.args.min c.args.self.aside.gone.items c.set_aside.new.gone.items c.args.self.entries.pile.items.items c.in-Ok-prune.entries.pile.items.items c.args.self.entries.pile.synced c.in-Ok-prune.entries.pile.synced c.args.self.entries.pile.once c.in-Ok-prune.ensures.items c.in-Ok-prune.ensures.synced aside c.args.self.aside.may c.args.self.may_is;
+      backed = prune_backed c.args.min c.args.self.aside.gone.items c.set_aside.new.gone.items c.args.self.entries.pile.items.items c.in-Ok-prune.entries.pile.items.items c.args.self.entries.pile.synced c.in-Ok-prune.entries.pile.synced c.args.self.entries.pile.once c.in-Ok-prune.ensures.items c.in-Ok-prune.ensures.synced aside g.T.Item.name g.T.JournalItem.spelled g.T.Item.fits g.D.Disk.seen g.D.Disk.may_leave c.args.self.log.disk c.args.self.log.end c.args.self.entries.pile.accepted c.in-Ok-prune.entries.pile.accepted c.args.self.log.waiting.items c.set_aside.new.log.waiting.items c.args.self.log.marks.items c.set_aside.new.log.marks.items c.number.result c.newest-mark.result c.requires.min c.in-Ok.ensures.waiting c.in-Ok.ensures.marks c.in-Ok-prune.ensures.tickets (omega (arith, c.number.ensures, c.ticket.ensures.made)) (rw c.deref.ensures.value at c.newest-mark.ensures) (omega arith) c.args.self.backed;
+    })
+
+pub returns-in-Ok-prune-clause-done : goal.returns-in-Ok-prune-clause-done
+returns-in-Ok-prune-clause-done g c =
+    let more_is = ap (map seen) c.in-Ok.ensures.gone ∙ map-append seen c.args.self.aside.gone.items c.args.more.items in
+    let aside = more_is ∙ ap (λ l. map seen c.args.self.aside.gone.items ++ l) c.requires.more in
+    prunes_with_gone c.args.min c.args.self.aside.gone.items c.set_aside.new.gone.items c.args.self.entries.pile.items.items c.in-Ok-prune.entries.pile.items.items c.args.self.entries.pile.synced c.in-Ok-prune.entries.pile.synced c.args.self.entries.pile.once c.in-Ok-prune.ensures.items c.in-Ok-prune.ensures.synced aside
+
+pub returns-in-Ok-prune-clause-marked : goal.returns-in-Ok-prune-clause-marked
+returns-in-Ok-prune-clause-marked g c = (
+  c.newest-mark.result,
+  c.in-Ok.ensures.waiting,
+  c.in-Ok.ensures.marks,
+  (newest_ordered c.args.self.entries.pile.accepted c.number.result c.newest-mark.result c.args.self.log.marks.items (omega (arith, c.number.ensures, c.ticket.ensures.made)) (rw c.deref.ensures.value at c.newest-mark.ensures) (omega arith)
+      (ordered_of g.T.Item.name g.T.JournalItem.spelled g.T.Item.fits g.D.Disk.seen g.D.Disk.may_leave c.args.self.log.disk c.args.self.log.end c.args.self.aside.gone.items c.args.self.entries.pile.items.items c.args.self.entries.pile.synced c.args.self.entries.pile.accepted c.args.self.log.waiting.items c.args.self.log.marks.items c.args.self.backed)).0,
+)
+
+pub invariant_of-result-in-Err-prune : goal.invariant_of-result-in-Err-prune
+invariant_of-result-in-Err-prune g c =
+    let gone : c.truncate.new.self.items ≡ c.args.self.aside.gone.items = c.truncate.ensures.items ∙ ap (take c.len-count.result) c.in-Ok.ensures.gone ∙ take_at c.args.self.aside.gone.items c.args.more.items c.len-count.result (omega (arith, c.len-count.ensures, c.args.self.aside.gone.ok.0)) in
+    rw (c.in-Err-prune.ensures.err, gone, c.into_disk-in-Err-prune.ensures, c.set_aside.ensures.disk) (record {
+      may_is = c.args.self.may_is;
+      is_left = nothing_lost g.T.Item.name g.T.JournalItem.spelled g.T.Item.fits g.D.Disk.seen g.D.Disk.may_leave c.args.self.log.disk c.args.self.log.end c.args.self.aside.gone.items c.args.self.entries.pile.items.items c.args.self.entries.pile.synced c.args.self.entries.pile.accepted c.args.self.log.waiting.items c.args.self.log.marks.items c.args.self.entries.pile.once c.args.self.backed;
+    })
+
+pub returns-in-Err-prune-clause-done : goal.returns-in-Err-prune-clause-done
+returns-in-Err-prune-clause-done g c =
+    let gone : c.truncate.new.self.items ≡ c.args.self.aside.gone.items = c.truncate.ensures.items ∙ ap (take c.len-count.result) c.in-Ok.ensures.gone ∙ take_at c.args.self.aside.gone.items c.args.more.items c.len-count.result (omega (arith, c.len-count.ensures, c.args.self.aside.gone.ok.0)) in
+    rw (c.in-Err-prune.ensures.err, gone) (fails_still _ _ refl)

@@ -1,5 +1,0 @@
-use Rattle.mar_laws.proofs.laws.hands_over_the_chain.Goals as goal
-use Rattle.mar_laws.proofs.ChainHandovers.{run_hands_chain}
-
-pub returns : goal.returns
-returns c = run_hands_chain

@@ -1,0 +1,14 @@
+use Rattle.mar_model.specs.Faults.{block_store}
+use Rattle.mar_model.proofs.FoundBlocks.{own_height}
+use Rattle.mar_model.specs.Views.{fault_of}
+use Rattle.mar_life.proofs.Answered.{answer_failed, answer_passed, answer_so}
+use Rattle.mar_life.proofs.blocks_in_place.at.Goals as goal
+
+pub returns-clause-own : goal.returns-clause-own
+returns-clause-own g c = answer_so (fault_of g.V.Commitment.Named.bytes) block_store c.get.result c.answered.result c.answered.ensures c.get.ensures.found (λ o found. own_height g.V.Variant.plain o _ _ found (g.met.FB.Blocks.own c.in-Open.blocks).heights)
+
+pub returns-clause-passed : goal.returns-clause-passed
+returns-clause-passed g c = rw c.in-Open.is (answer_passed (fault_of g.V.Commitment.Named.bytes) block_store _ _ c.get.result c.answered.result c.answered.ensures c.get.ensures.watched)
+
+pub returns-clause-failed : goal.returns-clause-failed
+returns-clause-failed g c = rw c.in-Open.is (answer_failed (fault_of g.V.Commitment.Named.bytes) block_store _ _ c.get.result c.answered.result c.answered.ensures c.get.ensures.watched)

@@ -1,0 +1,13 @@
+use Rattle.mar_model.specs.Faults.{cache_store}
+use Rattle.mar_model.specs.Views.{fault_of}
+use Rattle.mar_life.proofs.Answered.{answer_failed, answer_passed, answer_so}
+use Rattle.mar_life.proofs.cache_in_place.CacheInPlaceLifeCache.has_verified.Goals as goal
+
+pub returns-clause-found : goal.returns-clause-found
+returns-clause-found g c = rw c.in-Open.is (answer_so (fault_of g.V.Commitment.Named.bytes) cache_store c.has_verified.result c.answered.result c.answered.ensures c.has_verified.ensures.found (λ b is. is))
+
+pub returns-clause-passed : goal.returns-clause-passed
+returns-clause-passed g c = rw c.in-Open.is (answer_passed (fault_of g.V.Commitment.Named.bytes) cache_store _ _ c.has_verified.result c.answered.result c.answered.ensures c.has_verified.ensures.watched)
+
+pub returns-clause-failed : goal.returns-clause-failed
+returns-clause-failed g c = rw c.in-Open.is (answer_failed (fault_of g.V.Commitment.Named.bytes) cache_store _ _ c.has_verified.result c.answered.result c.answered.ensures c.has_verified.ensures.watched)

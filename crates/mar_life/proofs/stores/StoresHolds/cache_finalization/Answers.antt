@@ -1,0 +1,42 @@
+use Rattle.std.proofs.Common.{Contains, refl, subst}
+use Rattle.mar_model.specs.Cached.{finalization_entry}
+use Rattle.mar_model.specs.Faults.{cache_store}
+use Rattle.mar_model.specs.Held.{written_entry}
+use Rattle.mar_model.specs.Places.{is_open}
+use Rattle.mar_model.specs.Views.{fault_of}
+use Rattle.mar_life.proofs.Changed.{cache_goes_on, keeps_entry}
+use Rattle.mar_life.proofs.Placed.{both_done, done_so, failed_so, usual_fault}
+use Rattle.mar_life.proofs.Reading.{cache_changed}
+use Rattle.mar_model.specs.CacheCalls.{none_goes}
+use Rattle.mar_model.proofs.OpenSyncs.{AreStillOpen-kept}
+use Rattle.mar_life.proofs.stores.StoresHolds.cache_finalization.Goals as goal
+
+pub invariant_of-self : goal.invariant_of-self
+invariant_of-self g c = c.self.invariant
+
+pub returns-clause-staged : goal.returns-clause-staged
+returns-clause-staged g c = rw (← c.self.view_is) refl
+
+pub returns-clause-tickets : goal.returns-clause-tickets
+returns-clause-tickets g c = rw (← c.self.view_is) c.put_finalization.ensures.tickets
+
+pub returns-clause-caches : goal.returns-clause-caches
+returns-clause-caches g c =
+    let both = both_done _ _ c.put_finalization.result (both_done _ _ c.put_finalization.result c.put_finalization.ensures.done c.put_finalization.ensures.tickets) c.put_finalization.ensures.stays in
+    rw (← c.self.view_is) (done_so c.put_finalization.result both (λ is. record {
+      puts = is.0.0.puts;
+      loaded = is.0.0.loaded;
+      still_open = AreStillOpen-kept none_goes _ _ is.0.1 c.self.inside.syncs;
+      same = cache_changed (is_open c.self.inside.blocks) (is_open c.self.inside.certs) c.self.inside.progress.intact is.1.0 is.1.1 is.1.2;
+    }))
+
+pub returns-clause-goes_on : goal.returns-clause-goes_on
+returns-clause-goes_on g c =
+    let x = finalization_entry (g.F.AsFinalization.plain c.args.finalization.now) in
+    let both = both_done _ _ c.put_finalization.result c.put_finalization.ensures.done c.put_finalization.ensures.stays in
+    rw (← c.self.view_is) (cache_goes_on (fault_of g.V.Commitment.Named.bytes) (written_entry x) c.put_finalization.result _ _ _ _ _ _ _ _
+    (done_so c.put_finalization.result both (λ is. keeps_entry x _ _ _ _ is.0.leaves (λ k has. subst (λ ks. Contains ks k) is.1.1 has))) c.put_finalization.ensures.passed
+    (failed_so c.put_finalization.result c.put_finalization.ensures.failed (λ e how. (keeps_entry x _ _ _ _ how.loses.leaves how.loses.lowests, how.cause))))
+
+pub returns-clause-usual : goal.returns-clause-usual
+returns-clause-usual g c = failed_so c.put_finalization.result c.put_finalization.ensures.failed (λ e how. usual_fault cache_store _ _ _ how.cause)

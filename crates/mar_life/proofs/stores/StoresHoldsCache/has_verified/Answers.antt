@@ -1,0 +1,28 @@
+use Rattle.std.proofs.Common.{refl}
+use Rattle.mar_model.specs.Faults.{cache_store}
+use Rattle.mar_model.specs.Places.{is_open}
+use Rattle.mar_model.specs.Views.{fault_of}
+use Rattle.mar_life.proofs.Placed.{always_done, failed_so, usual_fault}
+use Rattle.mar_life.proofs.Reading.{cache_read, read_goes_on}
+use Rattle.mar_life.proofs.stores.StoresHoldsCache.has_verified.Goals as goal
+
+pub invariant_of-self : goal.invariant_of-self
+invariant_of-self g c = c.self.invariant
+
+pub returns-clause-staged : goal.returns-clause-staged
+returns-clause-staged g c = rw (← c.self.view_is) refl
+
+pub returns-clause-tickets : goal.returns-clause-tickets
+returns-clause-tickets g c = rw (← c.self.view_is) c.has_verified.ensures.tickets
+
+pub returns-clause-found : goal.returns-clause-found
+returns-clause-found g c = rw (← c.self.view_is) c.has_verified.ensures.found
+
+pub returns-clause-same : goal.returns-clause-same
+returns-clause-same g c = rw (← c.self.view_is) (always_done c.has_verified.result (cache_read c.self.inside.syncs (is_open c.self.inside.blocks) (is_open c.self.inside.certs) c.self.inside.progress.intact c.has_verified.ensures.tickets c.has_verified.ensures.same))
+
+pub returns-clause-goes_on : goal.returns-clause-goes_on
+returns-clause-goes_on g c = rw (← c.self.view_is) (read_goes_on (fault_of g.V.Commitment.Named.bytes) cache_store _ _ _ c.has_verified.result (cache_read c.self.inside.syncs (is_open c.self.inside.blocks) (is_open c.self.inside.certs) c.self.inside.progress.intact c.has_verified.ensures.tickets c.has_verified.ensures.same) c.has_verified.ensures.passed c.has_verified.ensures.failed)
+
+pub returns-clause-usual : goal.returns-clause-usual
+returns-clause-usual g c = failed_so c.has_verified.result c.has_verified.ensures.failed (λ e how. usual_fault cache_store _ _ _ how)

@@ -1,0 +1,185 @@
+-- An event that reached some node, and handed over from there, is a step or a cut.
+use Rattle.std.proofs.Common.{◌≡◌, ◌⊎◌, inl, inr, ℕ, ◌+◌, ◌<◌, ◌≤◌, List, [], ◌∷◌, ◌++◌, length, map, false, Option, Some, None, option_map, Result, Ok, Err, IsTrue, Contains, refl, sym, ◌∙◌, ap, ap₂, subst, arith, append-nil}
+use Rattle.std.specs.List.{AllByRecursion}
+use Rattle.mar_cert.specs.Block.{Block}
+use Rattle.mar_key.specs.Hears.{Hears}
+use Rattle.mar_key.specs.Keys.{Call}
+use Rattle.mar_key.specs.Processed.{first_unprocessed, height_in}
+use Rattle.mar_store.specs.Kept.{At, has_height, value_at}
+use Rattle.mar_store.specs.Changes.{KeepsValues, left_of}
+use Rattle.mar_store.proofs.Lookups.{AllByRecursion-value_at, has_height-from_value}
+use Rattle.mar_model.specs.Metadata.{Pair, first_pair, pair_of}
+use Rattle.mar_model.specs.Chain.{Chain, IsBlockAt}
+use Rattle.mar_model.specs.Answers.{sends_of}
+use Rattle.mar_model.specs.Config.{Config}
+use Rattle.mar_model.specs.Event.{Event, cutoff_after, no_floor, processed_after, undrained_blocks}
+use Rattle.mar_model.specs.Faults.{Fault, ack_kind, is_by_value, meta_store, next_after, store_fault, ticket_limit}
+use Rattle.mar_model.specs.Held.{Ending, IsArchiveFault, LeavesStore, Seen, blocks_left, cache_left, certs_left, seen}
+use Rattle.mar_model.specs.Lives.{Cuts, NotBelow, Reached, is_dropped_ack, is_refused_floor, reached_after}
+use Rattle.mar_model.specs.Moves.{IsLastTicket, IsStarted, IsStill, StopsHanding, handed_report, next_in, with_handed}
+use Rattle.mar_model.specs.Step.{HeldFrom}
+use Rattle.mar_model.specs.Node.{AreBlocksOf, Ended, IsGood, Node, Rest}
+use Rattle.mar_gate.specs.Writing.{total_writes}
+use Rattle.mar_model.specs.Promise.{FinishesStep, IsGoodUntold, IsLawfulStep, StepsOrCuts, Waiting, asked_since, heard_by, made_of, node_of, knowing, IsKnownSince}
+use Rattle.mar_model.specs.Requests.{own_asks}
+use Rattle.mar_model.specs.Sound.{IsSafePair}
+use Rattle.mar_model.specs.Step.{AreHandedOf, HandedBlock, HandedFrom, Report, Steps, handed_blocks}
+use Rattle.mar_model.proofs.Cutting.{Cuts-left, LeavesStores, MayBeLeft, contains_first, keeps_heights, keeps_sure, never, only_one, some_from_first, usual_from_archive, usual_not_by_value, usual_not_dropped}
+use Rattle.mar_model.proofs.CacheOver.{LeavesCache-still}
+use Rattle.mar_model.proofs.FloorSafety.{next_after-is}
+use Rattle.mar_model.proofs.Growing.{LeavesStore-then}
+use Rattle.mar_model.proofs.Handing.{HandedFrom-held, Hears-then, Ran, sure_below, sure_value, with_handed-none}
+use Rattle.mar_model.proofs.OutstandingLemmas.{first_unprocessed-rises}
+use Rattle.mar_model.proofs.Reaching.{HandsSure-next, HandsSure-none, IsGood-handed, Reaches, Rest-still, Steps-reached, Steps-started, handed_after_tips, next_is, tips_before_handed, tips_of_both}
+use Rattle.mar_model.proofs.Soundness.{IsFrom, IsSafePair-kept, own_pair_safe, untold}
+
+-- each held block that is handed over is sure with its value
+AreHandedOf-values : (chain : Chain) (held sure : List (At Block)) (uncovered : List ℕ) (ticket height : ℕ) (xs : List HandedBlock) → AreBlocksOf chain held → ((h : ℕ) (b : Block) → AllByRecursion (λ k. h < k) uncovered → value_at held h ≡ Some b → value_at sure h ≡ Some b) → AllByRecursion (λ x. AllByRecursion (λ k. x.block.height < k) uncovered) xs → HeldFrom held ticket height xs → AreHandedOf chain sure xs
+AreHandedOf-values chain held sure uncovered ticket height [] blocks all below line = tt
+AreHandedOf-values chain held sure uncovered ticket height (x ∷ xs) blocks all below line = ((subst (λ k. IsBlockAt chain k x.block) (sym line.1) (AllByRecursion-value_at (λ y. IsBlockAt chain y.height y.value) held height x.block blocks line.2), subst (λ k. value_at sure k ≡ Some x.block) (sym line.1) (all height x.block (subst (λ h. AllByRecursion (λ k. h < k) uncovered) line.1 below.0) line.2)), AreHandedOf-values chain held sure uncovered (ticket + 1) (height + 1) xs blocks all below.1 line.3)
+
+module _ {P E : Type 0} (config : Config) (chain : Chain) (a m : Seen P E) (e : Event) (buffer : List Block) (waiting : Waiting) (tips : List Report)
+    (window : config.window ≡ m.life.sizes.window) (step : IsLawfulStep config chain (node_of a buffer waiting) (e ∷ [])) (unrefused : (fault : Fault) → is_refused_floor e fault ≡ false)
+    (reach : Reaches config chain a e buffer waiting tips m) (good : IsGood config chain (node_of m buffer waiting)) (unwritten : total_writes m.held.writes ≤ total_writes a.held.writes) (sure_held : KeepsValues m.held.blocks.sure m.held.blocks.held)
+  where
+    abbrev pub n : Node
+    n = node_of a buffer waiting
+
+    -- the node before, once some tip is told
+    good_before : IsGoodUntold config chain n
+    good_before = untold config chain n e step.good
+
+    -- the pair of the reached node is what the event gives to the metadata
+    pub pair_is : pair_of (processed_after n e no_floor) (cutoff_after config n e no_floor) ≡ pair_of m.held.processed m.held.cutoff
+    pair_is = ap₂ pair_of (sym reach.processed) (sym reach.cutoff)
+
+    not_below : NotBelow (option_map height_in a.held.processed) (option_map height_in m.held.processed)
+    not_below =
+        let before : next_after (option_map height_in a.held.processed) ≡ first_unprocessed a.held.processed = next_after-is a.held.processed in
+        let after : next_after (option_map height_in m.held.processed) ≡ first_unprocessed m.held.processed = next_after-is m.held.processed in
+        let rises : first_unprocessed a.held.processed ≤ first_unprocessed m.held.processed = subst (λ p. first_unprocessed a.held.processed ≤ first_unprocessed p) (sym reach.processed) (first_unprocessed-rises n e no_floor good_before.1.heights.delivery.consecutive) in
+        omega arith
+
+    module _ (handed : List HandedBlock) (x : Ending) (stops : StopsHanding m handed x) where
+      abbrev left : Ended
+      left = x.remains.ended
+
+      m_blocks : LeavesStore m.held.blocks 0 [] (blocks_left left)
+      m_blocks = stops.lost.leaves.blocks
+
+      leaves : LeavesStores config chain n e left
+      leaves = record {
+        put_blocks = reach.put_blocks;
+        put_certs = reach.put_certs;
+        blocks = LeavesStore-then a.held.blocks reach.put_blocks m.held.blocks (blocks_left left) reach.blocks_grown m_blocks;
+        certs = LeavesStore-then a.held.certs reach.put_certs m.held.certs (certs_left left) reach.certs_grown stops.lost.leaves.certs;
+        of_blocks = reach.of_blocks;
+        of_certs = reach.of_certs;
+        own_blocks = reach.own_blocks;
+        own_certs = reach.own_certs;
+        put_cached = reach.cache.put;
+        prunes = reach.cache.prunes;
+        own_cache = reach.cache.own;
+        cache = LeavesCache-still (left_of a.held.cache.kept) a.held.lowests reach.cache.put reach.cache.prunes (left_of m.held.cache.kept) m.held.lowests (cache_left left) left.lowests reach.cache.leaves stops.lost.leaves.cache;
+      }
+
+      kept : KeepsValues m.held.blocks.sure left.blocks_sure
+      kept = keeps_sure m.held.blocks [] (blocks_left left) m_blocks
+
+      sure_from_held : (h : ℕ) → AllByRecursion (λ k. h < k) m.held.writes.uncovered → IsTrue (has_height m.held.blocks.held h) → IsTrue (has_height left.blocks_sure h)
+      sure_from_held h low has = keeps_heights m.held.blocks.sure left.blocks_sure kept h (sure_below m.held.blocks m.held.writes.uncovered h good.heights.stores.sure_blocks low has)
+
+      value_from_held : (h : ℕ) (b : Block) → AllByRecursion (λ k. h < k) m.held.writes.uncovered → value_at m.held.blocks.held h ≡ Some b → value_at left.blocks_sure h ≡ Some b
+      value_from_held h b low is = kept h b (sure_value m.held.blocks.held m.held.blocks.sure h b sure_held (sure_below m.held.blocks m.held.writes.uncovered h good.heights.stores.sure_blocks low (has_height-from_value m.held.blocks.held h b is)) is)
+
+      blocks_are : handed_blocks (tips ++ map handed_report handed) ≡ handed
+      blocks_are = handed_after_tips tips handed reach.are_tips
+
+      first : first_pair left.meta ≡ Some (pair_of m.held.processed m.held.cutoff)
+      first = stops.lost.leaves.pairs.first ∙ ap first_pair good.heights.own_pair
+
+      in_order : HandedFrom left.blocks_sure a.life.next_ack (next_after (option_map height_in m.held.processed) + length (undrained_blocks n e)) handed
+      in_order =
+          subst (λ k. HandedFrom left.blocks_sure a.life.next_ack (k + length (undrained_blocks n e)) handed) (sym (next_after-is m.held.processed))
+          (subst (λ o. HandedFrom left.blocks_sure a.life.next_ack (first_unprocessed m.held.processed + length o) handed) reach.kept
+          (subst (λ t. HandedFrom left.blocks_sure t (first_unprocessed m.held.processed + length m.life.out) handed) reach.next_ack
+          (subst (λ k. HandedFrom left.blocks_sure m.life.next_ack k handed) (next_is config chain m buffer waiting good)
+          (HandedFrom-held m.held.blocks.held left.blocks_sure m.held.writes.uncovered m.life.next_ack (next_in m) handed sure_from_held stops.below_barrier stops.next))))
+
+      each : (p : Pair) → Contains left.meta p → MayBeLeft config chain a e buffer waiting left.blocks_sure p
+      each p has = inr (pair_is ∙ is, subst (IsSafePair chain left.blocks_sure) is safe, subst (λ q. NotBelow (option_map height_in a.held.processed) q.processed) is not_below)
+        where
+          is : pair_of m.held.processed m.held.cutoff ≡ p
+          is = only_one (pair_of m.held.processed m.held.cutoff) p (subst (λ ps. Contains ps p) (append-nil m.held.pairs ∙ good.heights.own_pair) (stops.lost.leaves.pairs.within p has))
+
+          from : (o : Option ℕ) → IsFrom 0 o
+          from None = tt
+          from (Some h) = omega arith
+
+          safe : IsSafePair chain left.blocks_sure (pair_of m.held.processed m.held.cutoff)
+          safe = IsSafePair-kept chain 0 m.held.blocks.sure left.blocks_sure (pair_of m.held.processed m.held.cutoff) (λ h low there. keeps_heights m.held.blocks.sure left.blocks_sure kept h there) (from (option_map height_in m.held.processed)) (own_pair_safe chain (node_of m buffer waiting) good.heights.delivery.anchored good.of_chain.floor_safe)
+
+      by_kind : IsArchiveFault x.fault ⊎ ((x.fault ≡ ticket_limit ack_kind) × IsLastTicket m (length handed)) → (is_by_value x.fault ≡ false) × (is_dropped_ack x.fault ≡ false) × (x.fault ≡ store_fault meta_store → ⊥)
+      by_kind (inl of_blocks) = (usual_not_by_value x.fault (usual_from_archive x.fault of_blocks), usual_not_dropped x.fault (usual_from_archive x.fault of_blocks), λ is. absurd (subst IsArchiveFault is of_blocks))
+      by_kind (inr limit) = (ap is_by_value limit.0, ap is_dropped_ack limit.0, λ is. let both : ticket_limit ack_kind ≡ store_fault meta_store = sym limit.0 ∙ is in cc)
+
+      abbrev reached : Reached
+      reached = reached_after n e no_floor
+
+      processed_is : reached.processed ≡ option_map height_in m.held.processed
+      processed_is = ap (option_map height_in) (sym reach.processed)
+
+      -- a life that ended while blocks were handed over is cut there
+      pub Cuts-handing : Cuts config chain n (e ∷ []) (made_of (tips ++ map handed_report handed) (own_asks config n e no_floor)) x.fault left
+      Cuts-handing =
+          Cuts-left config chain a e buffer waiting good_before.0 good_before.1 reach.no_effect [] (sends_of n e, refl) (tips ++ map handed_report handed) (own_asks config n e no_floor) m.life.tip reached x.fault left
+          (tips_before_handed a.life.tip m.life.tip tips handed reach.are_tips reach.tips_rise) (tips_of_both chain tips handed reach.are_tips reach.tips_chain)
+          (inr (refl, subst (Contains (map (λ p. p.processed) left.meta)) (sym processed_is) (contains_first left.meta (pair_of m.held.processed m.held.cutoff) first)))
+          (subst (λ p. HandedFrom left.blocks_sure a.life.next_ack (next_after p + length (undrained_blocks n e)) (handed_blocks (tips ++ map handed_report handed))) (sym processed_is)
+          (subst (λ xs. HandedFrom left.blocks_sure a.life.next_ack (next_after (option_map height_in m.held.processed) + length (undrained_blocks n e)) xs) (sym blocks_are) in_order))
+          (subst (AreHandedOf chain left.blocks_sure) (sym blocks_are) (AreHandedOf-values chain m.held.blocks.held left.blocks_sure m.held.writes.uncovered m.life.next_ack (next_in m) handed good.of_chain.stores.held_blocks value_from_held stops.below_barrier stops.next))
+          leaves (some_from_first left.meta (pair_of m.held.processed m.held.cutoff) first)
+          (inr ((by_kind stops.kind).2, first ∙ ap Some (sym pair_is)))
+          each
+          (λ is. absurd (never (is_by_value x.fault) (by_kind stops.kind).0 is))
+          (never (is_refused_floor e x.fault) (unrefused x.fault))
+          (λ is. absurd (never (is_dropped_ack x.fault) (by_kind stops.kind).1 is))
+          ([], sym (append-nil (own_asks config n e no_floor)))
+
+    -- what a dispatch from the reached node makes of the step
+    pub dispatched : (told told1 told' : Option (List Report)) (heard heard' : Option (List Call)) (result : Result (Seen P E) Ending) → Hears told tips told1 → Ran m told1 told' result → Hears heard (own_asks config n e no_floor) heard' → StepsOrCuts config chain n (e ∷ []) (heard_by told heard) (heard_by told' heard') result
+    dispatched told told1 told' heard heard' (Ok d) tips_heard (handed, handed_heard, ran) asks_heard = record {
+      made = made_of (tips ++ map handed_report handed) (own_asks config n e no_floor);
+      heard = record { reports = Hears-then told told1 told' tips (map handed_report handed) tips_heard handed_heard; asks = asks_heard; sends = refl; answers = refl };
+      steps = λ certified known. subst (λ s. Steps config chain n (e ∷ []) (made_of (tips ++ map handed_report handed) (own_asks config n e no_floor)) (node_of (seen s.held s.life) buffer (knowing certified (asked_since waiting (own_asks config n e no_floor))))) (sym ran.same)
+          (Steps-reached config chain a m e buffer waiting tips handed step.reported.0 good_before.1.of_chain.asks.requests reach (HandsSure-next config chain m buffer waiting handed good sure_held ran.next ran.below_barrier) certified (subst (λ s. IsKnownSince config n e s.life.tip certified) ran.same known) unwritten handed_good
+          (Rest-still config chain (with_handed m handed) buffer waiting step.lawful window handed_good (subst IsStill ran.same ran.still)));
+    }
+      where
+        handed_good : IsGood config chain (node_of (with_handed m handed) buffer waiting)
+        handed_good = IsGood-handed config chain m buffer waiting handed window good ran.next ran.below_barrier ran.room
+    dispatched told told1 told' heard heard' (Err x) tips_heard (handed, handed_heard, stops) asks_heard = record {
+      made = made_of (tips ++ map handed_report handed) (own_asks config n e no_floor);
+      heard = record { reports = Hears-then told told1 told' tips (map handed_report handed) tips_heard handed_heard; asks = asks_heard; sends = refl; answers = refl };
+      cuts = Cuts-handing handed x stops;
+    }
+
+    -- what a step without a dispatch makes of it, where the reached node rests
+    pub undispatched : (told told' : Option (List Report)) (heard heard' : Option (List Call)) → Hears told tips told' → Hears heard (own_asks config n e no_floor) heard' → Rest config.window (node_of m buffer waiting) → FinishesStep config chain n (e ∷ []) (heard_by told heard) (heard_by told' heard') m.held m.life
+    undispatched told told' heard heard' tips_heard asks_heard rests = record {
+      made = made_of tips (own_asks config n e no_floor);
+      heard = record { reports = tips_heard; asks = asks_heard; sends = refl; answers = refl };
+      steps = λ certified known. subst (λ rs. Steps config chain n (e ∷ []) (made_of rs (own_asks config n e no_floor)) (node_of (seen m.held m.life) buffer (knowing certified (asked_since waiting (own_asks config n e no_floor))))) (append-nil tips)
+          (subst (λ s. Steps config chain n (e ∷ []) (made_of (tips ++ []) (own_asks config n e no_floor)) (node_of (seen s.held s.life) buffer (knowing certified (asked_since waiting (own_asks config n e no_floor))))) (with_handed-none m)
+          (Steps-reached config chain a m e buffer waiting tips [] step.reported.0 good_before.1.of_chain.asks.requests reach (HandsSure-none chain m) certified known unwritten (subst (λ s. IsGood config chain (node_of s buffer waiting)) (sym (with_handed-none m)) good) (subst (λ s. Rest config.window (node_of s buffer waiting)) (sym (with_handed-none m)) rests)));
+    }
+
+-- An event that wrote ends with a sync that covers what it wrote.
+module _ {P E : Type 0} (config : Config) (chain : Chain) (a m : Seen P E) (e : Event) (buffer : List Block) (waiting : Waiting) (tips : List Report) (step : IsLawfulStep config chain (node_of a buffer waiting) (e ∷ [])) (reach : Reaches config chain a e buffer waiting tips m) where
+  pub started : (new : Seen P E) → IsStarted m new → total_writes a.held.writes < total_writes m.held.writes → 0 < length m.held.writes.uncovered → IsGood config chain (node_of new buffer waiting) → Rest config.window (node_of new buffer waiting) → (told told' : Option (List Report)) (heard heard' : Option (List Call)) → Hears told tips told' → Hears heard (own_asks config (node_of a buffer waiting) e no_floor) heard' → FinishesStep config chain (node_of a buffer waiting) (e ∷ []) (heard_by told heard) (heard_by told' heard') new.held new.life
+  started new is written some good rests told told' heard heard' tips_heard asks_heard = record {
+    made = made_of tips (own_asks config (node_of a buffer waiting) e no_floor);
+    heard = record { reports = tips_heard; asks = asks_heard; sends = refl; answers = refl };
+    steps = λ certified known. subst (λ rs. Steps config chain (node_of a buffer waiting) (e ∷ []) (made_of rs (own_asks config (node_of a buffer waiting) e no_floor)) (node_of (seen new.held new.life) buffer (knowing certified (asked_since waiting (own_asks config (node_of a buffer waiting) e no_floor))))) (append-nil tips)
+        (Steps-started config chain a m e buffer waiting tips [] step.reported.0 (untold config chain (node_of a buffer waiting) e step.good).1.of_chain.asks.requests reach (HandsSure-none chain m) certified (subst (λ s. IsKnownSince config (node_of a buffer waiting) e s.life.tip certified) is known) new (subst (λ s. IsStarted s new) (sym (with_handed-none m)) is) written some good rests);
+  }

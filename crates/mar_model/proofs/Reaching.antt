@@ -1,0 +1,352 @@
+-- An event in two parts: what it does first, and then the blocks that it hands over.
+use Rattle.std.proofs.Common.{◌≡◌, ◌⊎◌, inl, inr, ⊎_elim, ℕ, zero, suc, ◌+◌, ◌-◌, ◌<◌, ◌≤◌, ◌^◌, List, [], ◌∷◌, ◌++◌, length, map, true, false, Option, Some, None, option_to_list, IfSome, IsTrue, Contains, slice_get, ◌==◌, refl, sym, ◌∙◌, ap, subst, arith, length-append}
+use Rattle.std.specs.Bool.{⊤}
+use Rattle.std.specs.List.{AllByRecursion, filter_map, list_any}
+use Rattle.std.proofs.lemmas.List.Elements.{Contains-append_cases}
+use Rattle.mar_cert.specs.Block.{Block}
+use Rattle.mar_cert.specs.Finalization.{Finalization}
+use Rattle.mar_key.specs.Keys.{Call}
+use Rattle.mar_key.specs.Processed.{first_unprocessed}
+use Rattle.mar_store.specs.Kept.{At, has_height, value_at}
+use Rattle.mar_store.specs.Changes.{KeepsValues}
+use Rattle.mar_store.proofs.Lookups.{AllByRecursion-append, AllByRecursion-value_at}
+use Rattle.mar_model.specs.Answers.{answers_of, certified_after, is_known, sends_of, subscriptions_after}
+use Rattle.mar_model.specs.Cache.{started_syncs}
+use Rattle.mar_model.specs.Chain.{Chain, IsBlockAt, IsLawful}
+use Rattle.mar_model.specs.Cached.{cached_block, cached_finalization}
+use Rattle.mar_model.specs.Config.{Config}
+use Rattle.mar_model.specs.Event.{Event, acked_to, blocks_from, brought_block, certs_from, cutoff_after, drained_blocks, effect_of, is_query, no_floor, storing_of, told_finalization, undrained_blocks}
+use Rattle.mar_model.specs.Faults.{event_fault, last_height}
+use Rattle.mar_model.specs.Held.{Seen}
+use Rattle.mar_model.specs.Moves.{AreNextHeld, HasRoom, IsBelowWrites, IsStarted, IsStill, handed_report, next_in, with_handed}
+use Rattle.mar_model.specs.Node.{AreBlocksOf, AreFinalizationsOf, AreHonest, CertifiedCommitment, IsGood, Node, Rest, block_missing, empty_inbox, empty_peers, floor_awaited, window_full, write_count, write_uncovered}
+use Rattle.mar_model.specs.Promise.{IsKnownSince, ReportsFinalized, Waiting, asked_since, knowing, made_of, node_of}
+use Rattle.mar_gate.specs.Writing.{total_writes}
+use Rattle.mar_model.specs.Requests.{own_asks}
+use Rattle.mar_model.specs.Step.{AdvancesBy, AreHandedOf, AreTipsOf, CertificatesFrom, HandedBlock, HandedFrom, HandsOver, IsBlockFrom, IsCertFrom, IsStored, IsStoredLate, KeepsFrom, Report, Steps, TipsFrom, Writes, handed_blocks, handed_over, new_tip, outstanding_of}
+use Rattle.mar_model.proofs.CacheBeside.{AdvancesCache-beside}
+use Rattle.mar_model.proofs.CacheOver.{MovesCache}
+use Rattle.mar_model.proofs.Growing.{Grown}
+use Rattle.mar_model.proofs.Handing.{AreHandedOf-held, HandedFrom-held, handed_blocks-is, height_after-consecutive, sure_below}
+use Rattle.mar_model.proofs.HonestAsks.{AreHonest-asked_after, own_asks-honest}
+use Rattle.mar_model.proofs.OutstandingLemmas.{ConsecutiveFrom-append, ConsecutiveFrom-handed}
+use Rattle.mar_model.proofs.SyncTickets.{with_sync-unwritten, with_sync-written}
+
+-- REPORTS
+
+-- no block is handed over in these
+abbrev pub AreTips : List Report → Type 0
+AreTips [] = ⊤
+AreTips (new_tip r h d ∷ reports) = AreTips reports
+AreTips (handed_over t b ∷ reports) = ⊥
+
+pub handed_after_tips : (tips : List Report) (xs : List HandedBlock) → AreTips tips → handed_blocks (tips ++ map handed_report xs) ≡ xs
+handed_after_tips [] xs only = handed_blocks-is xs
+handed_after_tips (new_tip r h d ∷ tips) xs only = handed_after_tips tips xs only
+handed_after_tips (handed_over t b ∷ tips) xs only = absurd only
+
+tips_from_handed : (tip : ℕ) (xs : List HandedBlock) → TipsFrom tip (map handed_report xs) tip
+tips_from_handed tip [] = refl
+tips_from_handed tip (x ∷ xs) = tips_from_handed tip xs
+
+pub tips_before_handed : (tip last : ℕ) (tips : List Report) (xs : List HandedBlock) → AreTips tips → TipsFrom tip tips last → TipsFrom tip (tips ++ map handed_report xs) last
+tips_before_handed tip last [] xs only is = subst (λ k. TipsFrom tip (map handed_report xs) k) (sym is) (tips_from_handed tip xs)
+tips_before_handed tip last (new_tip r h d ∷ tips) xs only is = (is.0, tips_before_handed h last tips xs only is.1)
+tips_before_handed tip last (handed_over t b ∷ tips) xs only is = absurd only
+
+tips_of_handed : (chain : Chain) (xs : List HandedBlock) → AreTipsOf chain (map handed_report xs)
+tips_of_handed chain [] = tt
+tips_of_handed chain (x ∷ xs) = tips_of_handed chain xs
+
+pub tips_of_both : (chain : Chain) (tips : List Report) (xs : List HandedBlock) → AreTips tips → AreTipsOf chain tips → AreTipsOf chain (tips ++ map handed_report xs)
+tips_of_both chain [] xs only is = tips_of_handed chain xs
+tips_of_both chain (new_tip r h d ∷ tips) xs only is = (is.0, is.1, tips_of_both chain tips xs only is.2)
+tips_of_both chain (handed_over t b ∷ tips) xs only is = absurd only
+
+-- HANDING OVER FROM A GOOD NODE
+
+all_out_sure : (sure : List (At Block)) (ticket height : ℕ) (xs : List HandedBlock) → HandedFrom sure ticket height xs → AllByRecursion (λ o. IsTrue (has_height sure o.height)) (map outstanding_of xs)
+all_out_sure sure ticket height [] line = tt
+all_out_sure sure ticket height (x ∷ xs) line = (subst (λ k. IsTrue (has_height sure k)) (sym line.1) line.2, all_out_sure sure (ticket + 1) (height + 1) xs line.3)
+
+room_for : (out window k : ℕ) → out ≤ window → (0 < k → out + k ≤ window) → out + k ≤ window
+room_for out window zero within room = omega arith
+room_for out window (suc k) within room = room (omega arith)
+
+pub next_is : {P E : Type 0} (config : Config) (chain : Chain) (m : Seen P E) (buffer : List Block) (waiting : Waiting) → IsGood config chain (node_of m buffer waiting) → next_in m ≡ first_unprocessed m.held.processed + length m.life.out
+next_is config chain m buffer waiting good = height_after-consecutive (first_unprocessed m.held.processed) m.life.out good.heights.delivery.consecutive
+
+-- the first part's node stays good as blocks are handed over
+pub IsGood-handed : {P E : Type 0} (config : Config) (chain : Chain) (m : Seen P E) (buffer : List Block) (waiting : Waiting) (handed : List HandedBlock) → config.window ≡ m.life.sizes.window → IsGood config chain (node_of m buffer waiting) → AreNextHeld m handed → AllByRecursion (λ x. IsBelowWrites m x.block) handed → HasRoom m handed → IsGood config chain (node_of (with_handed m handed) buffer waiting)
+IsGood-handed config chain m buffer waiting handed window good next below room = record {
+  heights = record {
+    stores = good.heights.stores;
+    delivery = record {
+      consecutive = ConsecutiveFrom-append (first_unprocessed m.held.processed) m.life.out (map outstanding_of handed) good.heights.delivery.consecutive (ConsecutiveFrom-handed m.held.blocks.sure m.life.next_ack (first_unprocessed m.held.processed + length m.life.out) handed (subst (λ k. HandedFrom m.held.blocks.sure m.life.next_ack k handed) (next_is config chain m buffer waiting good) handed_sure));
+      out_sure = AllByRecursion-append (λ o. IsTrue (has_height m.held.blocks.sure o.height)) m.life.out (map outstanding_of handed) good.heights.delivery.out_sure (all_out_sure m.held.blocks.sure m.life.next_ack (next_in m) handed handed_sure);
+      within_window = subst (λ w. length (m.life.out ++ map outstanding_of handed) ≤ w) (sym window) (subst (λ k. k ≤ m.life.sizes.window) (sym counted) (room_for (length m.life.out) m.life.sizes.window (length handed) (subst (λ w. length m.life.out ≤ w) window good.heights.delivery.within_window) room));
+      anchored = good.heights.delivery.anchored;
+    };
+    floor_clears = λ some. absurd cc;
+    own_pair = good.heights.own_pair;
+    sync_open = good.heights.sync_open;
+  };
+  of_chain = record {
+    stores = good.of_chain.stores;
+    cache = good.of_chain.cache;
+    asks = good.of_chain.asks;
+    awaits = good.of_chain.awaits;
+    not_at_hand = good.of_chain.not_at_hand;
+    floor_safe = good.of_chain.floor_safe;
+    tip_reported = good.of_chain.tip_reported;
+  };
+}
+  where
+    handed_sure : HandedFrom m.held.blocks.sure m.life.next_ack (next_in m) handed
+    handed_sure = HandedFrom-held m.held.blocks.held m.held.blocks.sure m.held.writes.uncovered m.life.next_ack (next_in m) handed (λ h low has. sure_below m.held.blocks m.held.writes.uncovered h good.heights.stores.sure_blocks low has) below next
+
+    length_mapped : (xs : List HandedBlock) → length (map outstanding_of xs) ≡ length xs
+    length_mapped [] = refl
+    length_mapped (x ∷ xs) = ap (λ k. suc k) (length_mapped xs)
+
+    counted : length (m.life.out ++ map outstanding_of handed) ≡ length m.life.out + length handed
+    counted = length-append m.life.out (map outstanding_of handed) ∙ ap (λ k. length m.life.out + k) (length_mapped handed)
+
+pub in_list : (blocks : List Block) (i : ℕ) (b : Block) → slice_get blocks i ≡ Some b → i < length blocks
+in_list [] i b at = absurd cc
+in_list (c ∷ blocks) zero b at = omega arith
+in_list (c ∷ blocks) (suc i) b at = let low : i < length blocks = in_list blocks i b at in omega arith
+
+-- a good node that can hand over no more rests
+pub Rest-still : {P E : Type 0} (config : Config) (chain : Chain) (m : Seen P E) (buffer : List Block) (waiting : Waiting) → IsLawful config.epochs chain → config.window ≡ m.life.sizes.window → IsGood config chain (node_of m buffer waiting) → IsStill m → Rest config.window (node_of m buffer waiting)
+Rest-still config chain m buffer waiting lawful window good (inl full) = window_full (let within : length m.life.out ≤ config.window = good.heights.delivery.within_window in omega arith)
+Rest-still config chain m buffer waiting lawful window good (inr (inl (h, waits, low))) = write_uncovered h waits (subst (λ k. h ≤ k) (next_is config chain m buffer waiting good) low)
+Rest-still config chain m buffer waiting lawful window good (inr (inr (inl missing))) = block_missing (subst (λ k. value_at m.held.blocks.held k ≡ None) (next_is config chain m buffer waiting good) missing)
+Rest-still config chain m buffer waiting lawful window good (inr (inr (inr end))) = block_missing (beyond (value_at m.held.blocks.held next) refl (high end))
+  where
+    next : ℕ
+    next = first_unprocessed m.held.processed + length m.life.out
+
+    same : next_in m ≡ next
+    same = next_is config chain m buffer waiting good
+
+    high : (last_height ≤ next_in m) ⊎ (2 ^ 64 ≤ first_unprocessed m.held.processed) → 2 ^ 64 - 1 ≤ next
+    high (inl last) = subst (λ k. 2 ^ 64 - 1 ≤ k) same last
+    high (inr past) = omega arith
+
+    beyond : (o : Option Block) → value_at m.held.blocks.held next ≡ o → 2 ^ 64 - 1 ≤ next → value_at m.held.blocks.held next ≡ None
+    beyond None is end = is
+    beyond (Some b) is end = absurd (let at : IsBlockAt chain next b = AllByRecursion-value_at (λ x. IsBlockAt chain x.height x.value) m.held.blocks.held next b good.of_chain.stores.held_blocks is in let low : next < length chain.blocks = in_list chain.blocks next b at in let bound : length chain.blocks < 2 ^ 64 - 1 = lawful.bounded in omega (arith, end))
+
+-- THE FIRST PART
+
+-- What an event does before it hands over: from `a` to `m`, with these tips and asks.
+pub record Reaches {P E : Type 0} (config : Config) (chain : Chain) (a : Seen P E) (e : Event) (buffer : List Block) (waiting : Waiting) (tips : List Report) (m : Seen P E) : Type 0 where
+  pub no_effect : effect_of config (node_of a buffer waiting) e ≡ no_floor
+  pub kept : m.life.out ≡ undrained_blocks (node_of a buffer waiting) e
+  pub next_ack : m.life.next_ack ≡ a.life.next_ack
+  pub next_sync : m.held.writes.next_sync ≡ a.held.writes.next_sync
+  pub sizes : m.life.sizes ≡ a.life.sizes
+  pub processed : m.held.processed ≡ acked_to a.held.processed (drained_blocks (node_of a buffer waiting) e)
+  pub cutoff : m.held.cutoff ≡ cutoff_after config (node_of a buffer waiting) e no_floor
+  pub blocks : KeepsFrom (blocks_from (node_of a buffer waiting) e no_floor) a.held.blocks m.held.blocks
+  pub certs : KeepsFrom (certs_from (node_of a buffer waiting) e no_floor) a.held.certs m.held.certs
+  pub put_blocks : List (At Block)
+  pub put_certs : List (At Finalization)
+  pub blocks_grown : Grown a.held.blocks put_blocks m.held.blocks
+  pub certs_grown : Grown a.held.certs put_certs m.held.certs
+  pub of_blocks : AreBlocksOf chain put_blocks
+  pub of_certs : AreFinalizationsOf chain put_certs
+  pub own_blocks : (x : At Block) → Contains put_blocks x → brought_block (node_of a buffer waiting) e ≡ Some x.value
+  pub own_certs : (x : At Finalization) → Contains put_certs x → told_finalization (node_of a buffer waiting) e ≡ Some x.value
+  pub certificates : CertificatesFrom (node_of a buffer waiting) e (node_of m buffer waiting)
+  pub writes : Writes (node_of a buffer waiting) e no_floor (node_of m buffer waiting)
+  pub no_repair : writes.repaired ≡ []
+  pub are_tips : AreTips tips
+  pub tips_rise : TipsFrom a.life.tip tips m.life.tip
+  pub tips_chain : AreTipsOf chain tips
+  pub cache : MovesCache config chain a m e buffer waiting
+  pub stored : IfSome (storing_of (node_of a buffer waiting) e) (IsStored (node_of m buffer waiting))
+  pub stored_late : IfSome (storing_of (node_of a buffer waiting) e) (IsStoredLate (node_of a buffer waiting) no_floor (node_of m buffer waiting))
+  pub no_query : is_query e ≡ false
+  pub no_fault : event_fault config (node_of a buffer waiting) e ≡ None
+  pub sends : sends_of (node_of a buffer waiting) e ≡ []
+  pub answers : (lowest : ℕ) → answers_of config (node_of a buffer waiting) lowest e no_floor ≡ []
+  pub subscriptions : subscriptions_after (node_of a buffer waiting) e no_floor ≡ []
+  pub no_syncs : (n' : Node) → started_syncs (node_of a buffer waiting) n' e ≡ []
+
+-- BOTH PARTS
+
+pub some_first : {T : Type 0} (o : Option T) (others : List T) (x : T) → o ≡ Some x → Contains (option_to_list o ++ others) x
+some_first o others x is = subst (λ p. Contains (option_to_list p ++ others) x) (sym is) (zero, omega arith, refl)
+
+-- what was put is the event's
+pub block_from : (n : Node) (e : Event) (may put : List (At Block)) → ((x : At Block) → Contains put x → brought_block n e ≡ Some x.value) → (x : At Block) → Contains (may ++ put) x → Contains may x ⊎ IsBlockFrom n e x
+block_from n e may put own x has = ⊎_elim (λ before. inl before) (λ new. inr (some_first (brought_block n e) (n.buffer ++ filter_map cached_block n.cache.held) x.value (own x new))) (Contains-append_cases may put x has)
+
+pub cert_from : (n : Node) (e : Event) (may put : List (At Finalization)) → ((x : At Finalization) → Contains put x → told_finalization n e ≡ Some x.value) → (x : At Finalization) → Contains (may ++ put) x → Contains may x ⊎ IsCertFrom n e x
+cert_from n e may put own x has = ⊎_elim (λ before. inl before) (λ new. inr (some_first (told_finalization n e) (filter_map cached_finalization n.cache.held) x.value (own x new))) (Contains-append_cases may put x has)
+
+IfSome-more : {T : Type 0} (P Q : T → Type 0) → ((x : T) → P x → Q x) → (o : Option T) → IfSome o P → IfSome o Q
+IfSome-more P Q more None is = tt
+IfSome-more P Q more (Some x) is = more x is
+
+plus_none : (k : ℕ) → k + 0 ≡ k
+plus_none k = omega arith
+
+-- another buffer and other requests stand beside it
+pub Rest-beside : {P E : Type 0} (window : ℕ) (m : Seen P E) (buffer buffer' : List Block) (waiting waiting' : Waiting) → Rest window (node_of m buffer waiting) → Rest window (node_of m buffer' waiting')
+Rest-beside window m buffer buffer' waiting waiting' (floor_awaited some) = absurd cc
+Rest-beside window m buffer buffer' waiting waiting' (window_full full) = window_full full
+Rest-beside window m buffer buffer' waiting waiting' (block_missing missing) = block_missing missing
+Rest-beside window m buffer buffer' waiting waiting' (write_uncovered h waits low) = write_uncovered h waits low
+
+pub IsGood-beside : {P E : Type 0} (config : Config) (chain : Chain) (m : Seen P E) (buffer buffer' : List Block) (waiting waiting' : Waiting) → AreHonest chain waiting'.requests → IsGood config chain (node_of m buffer waiting) → IsGood config chain (node_of m buffer' waiting')
+IsGood-beside config chain m buffer buffer' waiting waiting' honest good = record {
+  heights = record {
+    stores = good.heights.stores;
+    delivery = good.heights.delivery;
+    floor_clears = good.heights.floor_clears;
+    own_pair = good.heights.own_pair;
+    sync_open = good.heights.sync_open;
+  };
+  of_chain = record {
+    stores = good.of_chain.stores;
+    cache = good.of_chain.cache;
+    asks = record { requests = honest; ready = good.of_chain.asks.ready; overflow = good.of_chain.asks.overflow };
+    awaits = tt;
+    not_at_hand = tt;
+    floor_safe = good.of_chain.floor_safe;
+    tip_reported = good.of_chain.tip_reported;
+  };
+}
+
+-- What is handed over from a good node: each the next held block, and sure.
+pub record HandsSure {P E : Type 0} (chain : Chain) (m : Seen P E) (handed : List HandedBlock) : Type 0 where
+  pub in_order : HandedFrom m.held.blocks.sure m.life.next_ack (first_unprocessed m.held.processed + length m.life.out) handed
+  pub of_chain : AreHandedOf chain m.held.blocks.sure handed
+  pub below_barrier : AllByRecursion (λ x. IsBelowWrites m x.block) handed
+
+pub HandsSure-none : {P E : Type 0} (chain : Chain) (m : Seen P E) → HandsSure chain m []
+HandsSure-none chain m = record { in_order = tt; of_chain = tt; below_barrier = tt }
+
+pub HandsSure-next : {P E : Type 0} (config : Config) (chain : Chain) (m : Seen P E) (buffer : List Block) (waiting : Waiting) (handed : List HandedBlock) → IsGood config chain (node_of m buffer waiting) → KeepsValues m.held.blocks.sure m.held.blocks.held → AreNextHeld m handed → AllByRecursion (λ x. IsBelowWrites m x.block) handed → HandsSure chain m handed
+HandsSure-next config chain m buffer waiting handed good sure_is_held next below = record {
+  in_order = subst (λ k. HandedFrom m.held.blocks.sure m.life.next_ack k handed) (next_is config chain m buffer waiting good) (HandedFrom-held m.held.blocks.held m.held.blocks.sure m.held.writes.uncovered m.life.next_ack (next_in m) handed sure below next);
+  of_chain = AreHandedOf-held chain m.held.blocks.held m.held.blocks.sure m.held.writes.uncovered m.life.next_ack (next_in m) handed good.of_chain.stores.held_blocks sure_is_held sure below next;
+  below_barrier = below;
+}
+  where
+    sure : (h : ℕ) → AllByRecursion (λ k. h < k) m.held.writes.uncovered → IsTrue (has_height m.held.blocks.held h) → IsTrue (has_height m.held.blocks.sure h)
+    sure h low has = sure_below m.held.blocks m.held.writes.uncovered h good.heights.stores.sure_blocks low has
+
+module _ {P E : Type 0} (config : Config) (chain : Chain) (a m : Seen P E) (e : Event) (buffer : List Block) (waiting : Waiting) (tips : List Report) (handed : List HandedBlock)
+    (reported : ReportsFinalized chain e) (honest : AreHonest chain waiting.requests) (reach : Reaches config chain a e buffer waiting tips m) (hands_sure : HandsSure chain m handed) (certified : List CertifiedCommitment) (known : IsKnownSince config (node_of a buffer waiting) e m.life.tip certified)
+  where
+    abbrev pub n : Node
+    n = node_of a buffer waiting
+
+    abbrev pub reports : List Report
+    reports = tips ++ map handed_report handed
+
+    abbrev pub asks : List Call
+    asks = own_asks config n e no_floor
+
+    abbrev pub after : Waiting
+    after = knowing certified (asked_since waiting asks)
+
+    abbrev pub n' : Node
+    n' = node_of (with_handed m handed) buffer after
+
+    blocks_are : handed_blocks reports ≡ handed
+    blocks_are = handed_after_tips tips handed reach.are_tips
+
+    in_order : HandedFrom m.held.blocks.sure a.life.next_ack (first_unprocessed m.held.processed + length (undrained_blocks n e)) handed
+    in_order =
+        subst (λ o. HandedFrom m.held.blocks.sure a.life.next_ack (first_unprocessed m.held.processed + length o) handed) reach.kept
+        (subst (λ t. HandedFrom m.held.blocks.sure t (first_unprocessed m.held.processed + length m.life.out) handed) reach.next_ack hands_sure.in_order)
+
+    hands : HandsOver n (undrained_blocks n e) reports n'
+    hands = record {
+      in_order = subst (λ xs. HandedFrom m.held.blocks.sure a.life.next_ack (first_unprocessed m.held.processed + length (undrained_blocks n e)) xs) (sym blocks_are) in_order;
+      counted = ap (λ k. k + length handed) reach.next_ack ∙ ap (λ xs. a.life.next_ack + length xs) (sym blocks_are);
+      out = ap (λ o. o ++ map outstanding_of handed) reach.kept ∙ ap (λ xs. undrained_blocks n e ++ map outstanding_of xs) (sym blocks_are);
+      below_barrier = subst (AllByRecursion (λ x. AllByRecursion (λ h. x.block.height < h) m.held.writes.uncovered)) (sym blocks_are) hands_sure.below_barrier;
+    }
+
+    hands_chain : AreHandedOf chain m.held.blocks.sure (handed_blocks reports)
+    hands_chain = subst (AreHandedOf chain m.held.blocks.sure) (sym blocks_are) hands_sure.of_chain
+
+    none_repaired : (h : ℕ) → IsTrue (list_any (λ k. k == h) reach.writes.repaired) → ⊥
+    none_repaired h any = let none : false ≡ true = subst (λ xs. IsTrue (list_any (λ k. k == h) xs)) reach.no_repair any in cc
+
+    untouched : n' ≡ record n' { buffer = n.buffer; buffer_closed = n.buffer_closed; unanswered = n.unanswered; peers = n.peers; inbox = n.inbox; next_answer = n.next_answer }
+    untouched = ap (λ (k : ℕ). record n' { peers = empty_peers k; inbox = empty_inbox k }) (ap (λ s. s.capacity) reach.sizes)
+
+    advances_unfloored : AdvancesBy config chain n e no_floor (made_of reports asks) n'
+    advances_unfloored = record {
+      hands = hands;
+      hands_chain = hands_chain;
+      processed = reach.processed;
+      cutoff = reach.cutoff;
+      blocks = reach.blocks;
+      certs = reach.certs;
+      may_blocks = λ x has. block_from n e a.held.blocks.may reach.put_blocks reach.own_blocks x (reach.blocks_grown.leaves.may x has);
+      may_certs = λ x has. cert_from n e a.held.certs.may reach.put_certs reach.own_certs x (reach.certs_grown.leaves.may x has);
+      certificates = record { entered = reach.certificates.entered; own = reach.certificates.own };
+      writes = record {
+        repaired = reach.writes.repaired;
+        by_repair = reach.writes.by_repair;
+        each_once = reach.writes.each_once;
+        blocking = reach.writes.blocking;
+        within = reach.writes.within;
+        at_least = reach.writes.at_least;
+        covered = reach.writes.covered;
+        uncovered = reach.writes.uncovered;
+        syncs = reach.writes.syncs;
+      };
+      repairs = record { at_hand = λ h b any is. absurd (none_repaired h any); with_finalization = λ h b any is some. absurd (none_repaired h any) };
+      tips = tips_before_handed a.life.tip m.life.tip tips handed reach.are_tips reach.tips_rise;
+      tips_chain = tips_of_both chain tips handed reach.are_tips reach.tips_chain;
+      awaited = refl;
+      cache = AdvancesCache-beside config n e no_floor m (with_handed m handed) buffer buffer waiting after refl reach.cache.advances;
+      may_cached = λ x has. ⊎_elim (λ before. inl before) (λ new. inr (reach.cache.own.own x new)) (Contains-append_cases a.held.cache.kept.may reach.cache.put x (reach.cache.leaves.may x has));
+      stored = IfSome-more (IsStored (node_of m buffer waiting)) (IsStored n') (λ s is. record { block = is.block; certificate = is.certificate }) (storing_of n e) reach.stored;
+      stored_late = IfSome-more (IsStoredLate n no_floor (node_of m buffer waiting)) (IsStoredLate n no_floor n') (λ s is. is) (storing_of n e) reach.stored_late;
+      floor_stored = tt;
+      query = λ is. absurd (let none : false ≡ true = sym reach.no_query ∙ is in cc);
+      no_fault = reach.no_fault;
+      beside = record {
+        asks = refl;
+        sends = sym reach.sends;
+        answers = sym (reach.answers m.held.lowest);
+        subscriptions = sym reach.subscriptions;
+        certified = λ h c. subst (λ fx. is_known certified h c ≡ is_known (certified_after n e fx m.life.tip) h c) reach.no_effect (known.known h c);
+        next_sync = reach.next_sync ∙ sym (ap (λ xs. a.held.writes.next_sync + length xs) (reach.no_syncs n') ∙ plus_none a.held.writes.next_sync);
+        untouched = untouched;
+      };
+    }
+
+    -- The node that a step leaves: this one, or with a ticket.
+    honest_after : AreHonest chain after.requests
+    honest_after = AreHonest-asked_after chain waiting.requests [] asks (own_asks-honest config chain n e no_floor reported tt) honest
+
+    -- an event that reached some node, and handed over from there until it rests, is a step where it wrote nothing
+    pub Steps-reached : total_writes m.held.writes ≤ total_writes a.held.writes → IsGood config chain (node_of (with_handed m handed) buffer waiting) → Rest config.window (node_of (with_handed m handed) buffer waiting) → Steps config chain n (e ∷ []) (made_of reports asks) n'
+    Steps-reached unwritten good rests = record {
+      unticketed = n';
+      advances = subst (λ fx. AdvancesBy config chain n e fx (made_of reports asks) n') (sym reach.no_effect) advances_unfloored;
+      ticket = sym (with_sync-unwritten (write_count n) n' unwritten);
+      rests = Rest-beside config.window (with_handed m handed) buffer buffer waiting after rests;
+      good = IsGood-beside config chain (with_handed m handed) buffer buffer waiting after honest_after good;
+    }
+
+    -- where it wrote, it ends with a sync that covers what it wrote
+    pub Steps-started : (new : Seen P E) → IsStarted (with_handed m handed) new → total_writes a.held.writes < total_writes m.held.writes → 0 < length m.held.writes.uncovered → IsGood config chain (node_of new buffer waiting) → Rest config.window (node_of new buffer waiting) → Steps config chain n (e ∷ []) (made_of reports asks) (node_of new buffer after)
+    Steps-started new started written some good rests = record {
+      unticketed = n';
+      advances = subst (λ fx. AdvancesBy config chain n e fx (made_of reports asks) n') (sym reach.no_effect) advances_unfloored;
+      ticket = ap (λ s. node_of s buffer after) started ∙ sym (with_sync-written (write_count n) n' written some);
+      rests = Rest-beside config.window new buffer buffer waiting after rests;
+      good = IsGood-beside config chain new buffer buffer waiting after honest_after good;
+    }

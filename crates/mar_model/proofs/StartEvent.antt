@@ -1,0 +1,223 @@
+-- The start of a life: the newest stored finalization is told as the tip, what a crash left of the cache is taken up, and then
+-- blocks are handed over.
+use Rattle.std.proofs.Common.{ℕ, ◌≡◌, inl, inr, ⊎_elim, arith, List, [], ◌∷◌, ◌++◌, None, Option, Contains, Result, Ok, Err, MatchResult, refl, sym, ◌∙◌, ap, subst, ◌≤◌}
+use Rattle.std.specs.List.{filter_map}
+use Rattle.std.proofs.lemmas.List.Elements.{Contains-append_cases, Contains-append_left, Contains-append_right}
+use Rattle.mar_types.specs.Epochs.{Epochs, IsPartition}
+use Rattle.mar_cert.specs.Block.{Block}
+use Rattle.mar_key.specs.Hears.{Hears}
+use Rattle.mar_key.specs.Keys.{Call}
+use Rattle.mar_store.specs.Changes.{IsNested, KeepsValues}
+use Rattle.mar_store.proofs.Lookups.{AllByRecursion-contains, AllByRecursion-from_contains}
+use Rattle.mar_model.specs.AllEntries.{LoadsEntries}
+use Rattle.mar_model.specs.Cached.{Cached, cached_block, cached_finalization}
+use Rattle.mar_model.specs.Chain.{Chain}
+use Rattle.mar_model.specs.Config.{Config}
+use Rattle.mar_model.specs.Event.{life_started}
+use Rattle.mar_model.specs.Held.{AreCached, ArePassed, Ending, HeldCache, IsUsual, Loses, Seen, nothing_written}
+use Rattle.mar_model.specs.Lives.{ArePicked, TakesUp}
+use Rattle.mar_model.specs.Moves.{IsRead, LivesOn, LoadsCache, newest_tip, newest_tips, with_newest, with_watches}
+use Rattle.mar_model.specs.Stored.{newest}
+use Rattle.mar_model.specs.Node.{Agrees, IsFinalized, IsGood}
+use Rattle.mar_model.specs.Promise.{AreOne, CutsStart, FinishesStart, IsGoodUntold, IsLawfulStep, KeepsPromise, StepsOrCuts, Waiting, heard_by, known_blocks, node_of}
+use Rattle.mar_gate.specs.Writing.{total_writes}
+use Rattle.mar_model.specs.Step.{AreTipsOf, Report}
+use Rattle.mar_model.proofs.CacheOver.{moves_none, own_none}
+use Rattle.mar_model.proofs.Cutting.{usual_not_by_value, usual_not_dropped}
+use Rattle.mar_model.proofs.EventPromises.{quiet_cut, told_cut}
+use Rattle.mar_model.proofs.Filtered.{all_found_within}
+use Rattle.mar_model.proofs.KnownBlocks.{AreOne-within}
+use Rattle.mar_model.specs.OpenSyncs.{AreStillOpen}
+use Rattle.std.specs.Prelude.{false}
+use Rattle.mar_model.proofs.Growing.{Grown-same}
+use Rattle.mar_model.proofs.Handing.{Hears-nothing, HearsFront-nothing, Ran}
+use Rattle.mar_model.proofs.Lasting.{IsPart, LivesOn-ran, LivesOn-then, newest_from}
+use Rattle.mar_model.proofs.PlainEvents.{Certificates-same, KeepsFrom-same, Writes-same, nothing_put}
+use Rattle.mar_model.proofs.Promises.{dispatched}
+use Rattle.mar_model.proofs.Reaching.{Reaches}
+use Rattle.mar_model.proofs.Tips.{newest_tip-high, newest_tips-chain, newest_tips-rise, newest_tips-tips}
+
+module _ {P E : Type 0} (config : Config) (chain : Chain) (a : Seen P E) (buffer : List Block) (waiting : Waiting) (nested : IsNested a.held.blocks) (certs_nested : IsNested a.held.certs) (untold : IsGoodUntold config chain (node_of a buffer waiting)) where
+  -- once its newest finalization is told, a node is good
+  pub IsGood-told : IsGood config chain (node_of (with_newest a) buffer waiting)
+  IsGood-told = record {
+    heights = record {
+      stores = untold.1.heights.stores;
+      delivery = untold.1.heights.delivery;
+      floor_clears = untold.1.heights.floor_clears;
+      own_pair = untold.1.heights.own_pair;
+      sync_open = untold.1.heights.sync_open;
+    };
+    of_chain = record {
+      stores = untold.1.of_chain.stores;
+      cache = untold.1.of_chain.cache;
+      asks = untold.1.of_chain.asks;
+      awaits = untold.1.of_chain.awaits;
+      not_at_hand = untold.1.of_chain.not_at_hand;
+      floor_safe = untold.1.of_chain.floor_safe;
+      tip_reported = newest_tip-high a.life.tip a.held.certs.held;
+    };
+  }
+
+  pub Reaches-start : (m : Seen P E) → a.held.lowests ≡ a.held.lowest ∷ [] → IsRead (with_newest a) m → AreOne config.inner (known_blocks chain (node_of a buffer waiting)) → Reaches config chain a (life_started None) buffer waiting (newest_tips config.inner a.life.tip (newest a.held.certs.held)) m
+  Reaches-start m own_lowest same one = subst (Reaches config chain a (life_started None) buffer waiting (newest_tips config.inner a.life.tip (newest a.held.certs.held))) (sym same) (record {
+    no_effect = refl;
+    kept = refl;
+    next_ack = refl;
+    next_sync = refl;
+    sizes = refl;
+    processed = refl;
+    cutoff = refl;
+    blocks = KeepsFrom-same _ a.held.blocks;
+    certs = KeepsFrom-same _ a.held.certs;
+    put_blocks = [];
+    put_certs = [];
+    blocks_grown = Grown-same a.held.blocks a.held.blocks nested refl;
+    certs_grown = Grown-same a.held.certs a.held.certs certs_nested refl;
+    of_blocks = tt;
+    of_certs = tt;
+    own_blocks = λ x has. nothing_put x has;
+    own_certs = λ x has. nothing_put x has;
+    certificates = Certificates-same a (with_newest a) (life_started None) buffer waiting refl;
+    writes = (Writes-same a (with_newest a) (life_started None) buffer waiting refl refl refl (λ syncs. refl) (λ syncs. refl)).0;
+    no_repair = (Writes-same a (with_newest a) (life_started None) buffer waiting refl refl refl (λ syncs. refl) (λ syncs. refl)).1;
+    are_tips = newest_tips-tips config.inner a.life.tip (newest a.held.certs.held);
+    tips_rise = newest_tips-rise config.inner a.life.tip (newest a.held.certs.held);
+    tips_chain = newest_tips-chain config.inner chain (buffer ++ filter_map cached_block (a.held.cache.kept.held ++ a.held.cache.kept.may)) one a.life.tip a.held.certs.held untold.1.of_chain.stores.held_certs;
+    cache = moves_none config chain a (with_watches (with_newest a) m.held.watches) (life_started None) buffer waiting refl refl refl refl own_lowest refl refl refl refl refl;
+    stored = tt;
+    stored_late = tt;
+    no_query = refl;
+    no_fault = refl;
+    sends = refl;
+    answers = λ lowest. refl;
+    subscriptions = refl;
+    no_syncs = λ n'. refl;
+  })
+
+-- the cache and the tip alone move
+IsPart-begun : {P E : Type 0} (a m n : Seen P E) → IsRead (with_newest a) m → LoadsCache m n → ArePassed a.held.watches n.held.watches → IsPart a n
+IsPart-begun a m n same loads passed = record {
+  passed = passed;
+  provider = ap (λ s. s.life.provider) loads.same ∙ ap (λ s. s.life.provider) same;
+  epocher = ap (λ s. s.life.epocher) loads.same ∙ ap (λ s. s.life.epocher) same;
+  sizes = ap (λ s. s.life.sizes) loads.same ∙ ap (λ s. s.life.sizes) same;
+  next_ack = ap (λ s. s.life.next_ack) loads.same ∙ ap (λ s. s.life.next_ack) same;
+  next_sync = ap (λ s. s.held.writes.next_sync) loads.same ∙ ap (λ s. s.held.writes.next_sync) same;
+  intact = ap (λ s. s.held.intact) loads.same ∙ ap (λ s. s.held.intact) same;
+  loaded = λ was. loads.loaded;
+  rises = let same : n.life.tip ≡ newest_tip a.life.tip (newest a.held.certs.held) = ap (λ s. s.life.tip) loads.same ∙ ap (λ s. s.life.tip) same in let up : a.life.tip ≤ newest_tip a.life.tip (newest a.held.certs.held) = newest_from a.life.tip (newest a.held.certs.held) in omega arith;
+}
+
+pub LivesOn-start : {P E : Type 0} (a m n : Seen P E) (told told' : Option (List Report)) (result : Result (Seen P E) Ending) → IsRead (with_newest a) m → LoadsCache m n → ArePassed a.held.watches n.held.watches → Ran n told told' result → LivesOn a result
+LivesOn-start a m n told told' result same loads passed ran = LivesOn-then a n result (IsPart-begun a m n same loads passed) (LivesOn-ran n told told' result ran)
+
+-- an actor that took up what a crash left of its cache
+abbrev with_cache : {P E : Type 0} → Seen P E → HeldCache → Seen P E
+with_cache a cache = record a { held = record a.held { cache = cache } }
+
+module _ {P E : Type 0} (config : Config) (chain : Chain) (a : Seen P E) (cache : HeldCache) (buffer : List Block) (waiting : Waiting) (loads : LoadsEntries a.held.cache.kept cache.kept) where
+  -- what was taken up might be left before
+  within : (x : Cached) → Contains (cache.kept.held ++ cache.kept.may) x → Contains (a.held.cache.kept.held ++ a.held.cache.kept.may) x
+  within x has = Contains-append_right a.held.cache.kept.held a.held.cache.kept.may x (⊎_elim (λ held. loads.within_may x held) (λ may. loads.within_may x (loads.may x may)) (Contains-append_cases cache.kept.held cache.kept.may x has))
+
+  abbrev olds : List Cached
+  olds = a.held.cache.kept.held ++ a.held.cache.kept.may
+
+  abbrev news : List Cached
+  news = cache.kept.held ++ cache.kept.may
+
+  cached_within : (b : Block) → Contains (filter_map cached_block news) b → Contains (filter_map cached_block olds) b
+  cached_within b has = AllByRecursion-contains (Contains (filter_map cached_block olds)) (filter_map cached_block news) b (all_found_within cached_block (Contains (filter_map cached_block olds)) news olds within (AllByRecursion-from_contains (Contains (filter_map cached_block olds)) (filter_map cached_block olds) (λ x there. there))) has
+
+  beside_within : (b : Block) → Contains (buffer ++ filter_map cached_block news) b → Contains (buffer ++ filter_map cached_block olds) b
+  beside_within b has = ⊎_elim (λ own. Contains-append_left buffer (filter_map cached_block olds) b own) (λ cached. Contains-append_right buffer (filter_map cached_block olds) b (cached_within b cached)) (Contains-append_cases buffer (filter_map cached_block news) b has)
+
+  known_within : (b : Block) → Contains (known_blocks chain (node_of (with_cache a cache) buffer waiting)) b → Contains (known_blocks chain (node_of a buffer waiting)) b
+  known_within b has = ⊎_elim (λ own. Contains-append_left chain.blocks (buffer ++ filter_map cached_block olds) b own) (λ others. Contains-append_right chain.blocks (buffer ++ filter_map cached_block olds) b (beside_within b others)) (Contains-append_cases chain.blocks (buffer ++ filter_map cached_block news) b has)
+
+  -- a start may be asked to go on from there
+  pub IsLawfulStep-begun : IsLawfulStep config chain (node_of a buffer waiting) (life_started None ∷ []) → IsLawfulStep config chain (node_of (with_cache a cache) buffer waiting) (life_started None ∷ [])
+  IsLawfulStep-begun step = record {
+    lawful = step.lawful;
+    one = AreOne-within config.inner (known_blocks chain (node_of (with_cache a cache) buffer waiting)) (known_blocks chain (node_of a buffer waiting)) known_within step.one;
+    reported = step.reported;
+    good = (
+      step.good.0,
+      record {
+        heights = record {
+          stores = step.good.1.heights.stores;
+          delivery = step.good.1.heights.delivery;
+          floor_clears = step.good.1.heights.floor_clears;
+          own_pair = step.good.1.heights.own_pair;
+          sync_open = step.good.1.heights.sync_open;
+        };
+        of_chain = record {
+          stores = step.good.1.of_chain.stores;
+          cache = record {
+            finalizations = all_found_within cached_finalization (λ f. IsFinalized chain f.round f.payload) (cache.kept.held ++ cache.kept.may) (a.held.cache.kept.held ++ a.held.cache.kept.may) within step.good.1.of_chain.cache.finalizations;
+            blocks = all_found_within cached_block (Agrees chain) (cache.kept.held ++ cache.kept.may) (a.held.cache.kept.held ++ a.held.cache.kept.may) within step.good.1.of_chain.cache.blocks;
+          };
+          asks = step.good.1.of_chain.asks;
+          awaits = tt;
+          not_at_hand = tt;
+          floor_safe = step.good.1.of_chain.floor_safe;
+          tip_reported = step.good.1.of_chain.tip_reported;
+        };
+      },
+    );
+    rests = tt;
+  }
+
+module _ {P E : Type 0} (epochs : Epochs) (inner : List ℕ → List ℕ) (partition : IsPartition epochs) (a : Seen P E) (buffer : List Block) where
+  -- nothing could be told
+  pub promise-untold : (told told' : Option (List Report)) (heard : Option (List Call)) (x : Ending) → Hears told [] told' → Loses a.held nothing_written x → IsUsual x.fault → KeepsPromise (life_started None ∷ []) epochs inner a buffer (heard_by told heard) (heard_by told' heard) (Err x)
+  promise-untold told told' heard x silent lost usual fresh config chain waiting set step = record {
+    begun = node_of a buffer waiting;
+    takes = inl refl;
+    cuts = quiet_cut epochs inner partition a buffer config chain waiting (life_started None) step refl (λ fault. refl) told told' heard heard nothing_written x silent (HearsFront-nothing heard _ heard (Hears-nothing heard)) refl refl (own_none config chain (node_of a buffer waiting) (life_started None)) tt tt (λ y has. nothing_put y has) (λ y has. nothing_put y has) lost (λ p has. nothing_put p has) usual;
+  }
+
+  -- the cache could not be taken up
+  pub promise-unloaded : (told told' : Option (List Report)) (heard : Option (List Call)) (x : Ending) → Hears told (newest_tips inner a.life.tip (newest a.held.certs.held)) told' → Loses a.held nothing_written x → IsUsual x.fault → KeepsPromise (life_started None ∷ []) epochs inner a buffer (heard_by told heard) (heard_by told' heard) (Err x)
+  promise-unloaded told told' heard x tips lost usual fresh config chain waiting set step = record {
+    begun = node_of a buffer waiting;
+    takes = inl refl;
+    cuts = told_cut epochs inner partition a buffer config chain waiting (life_started None) step refl (λ fault. refl) (newest_tips inner a.life.tip (newest a.held.certs.held)) (newest_tip a.life.tip (newest a.held.certs.held))
+        (newest_tips-tips inner a.life.tip (newest a.held.certs.held)) (newest_tips-rise inner a.life.tip (newest a.held.certs.held))
+        (subst (λ i. AreTipsOf chain (newest_tips i a.life.tip (newest a.held.certs.held))) set.inner_is (newest_tips-chain config.inner chain (buffer ++ filter_map cached_block (a.held.cache.kept.held ++ a.held.cache.kept.may)) step.one a.life.tip a.held.certs.held step.good.1.of_chain.stores.held_certs))
+        told told' heard heard nothing_written x tips (HearsFront-nothing heard _ heard (Hears-nothing heard)) refl refl (own_none config chain (node_of a buffer waiting) (life_started None)) tt tt (λ y has. nothing_put y has) (λ y has. nothing_put y has) lost (λ p has. nothing_put p has) (usual_not_by_value x.fault usual) (usual_not_dropped x.fault usual);
+  }
+
+  -- it was, and blocks were handed over
+  pub promise-start : (told told1 told' : Option (List Report)) (heard : Option (List Call)) (m n : Seen P E) (result : Result (Seen P E) Ending) → IsNested a.held.blocks → IsNested a.held.certs → AreCached a.held → IsRead (with_newest a) m → LoadsCache m n → Hears told (newest_tips inner a.life.tip (newest a.held.certs.held)) told1 → Ran n told1 told' result → KeepsPromise (life_started None ∷ []) epochs inner a buffer (heard_by told heard) (heard_by told' heard) result
+  promise-start told told1 told' heard m n result nested certs_nested cached same loads tips ran fresh config chain waiting set step = by result ran
+    where
+      cache_is : m.held.cache ≡ a.held.cache
+      cache_is = ap (λ s. s.held.cache) same
+
+      loaded : LoadsEntries a.held.cache.kept n.held.cache.kept
+      loaded = subst (λ c. LoadsEntries c.kept n.held.cache.kept) cache_is (loads.loads (ap (λ c. c.fresh) cache_is ∙ fresh))
+
+      picked : ArePicked a.held.cache.finds n.held.cache.kept.held
+      picked = subst (λ c. ArePicked c.finds n.held.cache.kept.held) cache_is (loads.by_luck (ap (λ c. c.fresh) cache_is ∙ fresh))
+
+      begun_same : IsRead (with_newest (with_cache a n.held.cache)) n
+      begun_same = loads.same ∙ ap (λ (s : Seen P E). record s { held = record s.held { cache = n.held.cache; watches = n.held.watches } }) same
+
+      takes : TakesUp a.held.cache.finds (node_of a buffer waiting) (node_of (with_cache a n.held.cache) buffer waiting)
+      takes = record { cache = n.held.cache.kept; loads = loaded; by_luck = picked; syncs = n.held.cache.syncs; still_open = subst (λ c. AreStillOpen (λ x. false) c.syncs n.held.cache.syncs) cache_is loads.still_open; begun_is = refl }
+
+      begun_step : IsLawfulStep config chain (node_of (with_cache a n.held.cache) buffer waiting) (life_started None ∷ [])
+      begun_step = IsLawfulStep-begun config chain a n.held.cache buffer waiting loaded step
+
+      steps_on : (r : Result (Seen P E) Ending) → Ran n told1 told' r → StepsOrCuts config chain (node_of (with_cache a n.held.cache) buffer waiting) (life_started None ∷ []) (heard_by told heard) (heard_by told' heard) r
+      steps_on r ran =
+          dispatched config chain (with_cache a n.held.cache) n (life_started None) buffer waiting (newest_tips config.inner a.life.tip (newest a.held.certs.held)) (set.window ∙ sym (ap (λ s. s.life.sizes.window) begun_same)) begun_step (λ fault. refl) (Reaches-start config chain (with_cache a n.held.cache) buffer waiting nested certs_nested begun_step.good n cached.own_lowest begun_same begun_step.one)
+          (subst (λ s. IsGood config chain (node_of s buffer waiting)) (sym begun_same) (IsGood-told config chain (with_cache a n.held.cache) buffer waiting nested certs_nested begun_step.good)) (let writes : total_writes n.held.writes ≡ total_writes a.held.writes = ap (λ s. total_writes s.held.writes) begun_same in omega arith)
+          (subst (λ s. KeepsValues s.held.blocks.sure s.held.blocks.held) (sym begun_same) nested.sure_held) told told1 told' heard heard r
+          (subst (λ i. Hears told (newest_tips i a.life.tip (newest a.held.certs.held)) told1) (sym set.inner_is) tips) ran (Hears-nothing heard)
+
+      by : (r : Result (Seen P E) Ending) → Ran n told1 told' r → MatchResult r (λ new. FinishesStart config chain a.held.cache.finds (node_of a buffer waiting) (life_started None ∷ []) (heard_by told heard) (heard_by told' heard) new.held new.life) (CutsStart config chain a.held.cache.finds (node_of a buffer waiting) (life_started None ∷ []) (heard_by told heard) (heard_by told' heard))
+      by (Ok new) ran = record { begun = node_of (with_cache a n.held.cache) buffer waiting; takes = takes; finishes = steps_on (Ok new) ran }
+      by (Err x) ran = record { begun = node_of (with_cache a n.held.cache) buffer waiting; takes = inr takes; cuts = steps_on (Err x) ran }

@@ -1,0 +1,7 @@
+use Rattle.std.proofs.Common.{rules, ◌==◌}
+use Rattle.std.proofs.lemmas.Fn.{filter_same}
+use Rattle.std.specs.Prelude.{not}
+use Rattle.mar_model.proofs.open_tickets.OpenTickets.close.Goals as goal
+
+pub returns : goal.returns
+returns c = rw (← c.self.view_is) (filter_same _ (λ o. not (o.number == c.args.number)) _ (λ x b f k. search rules) _ _ c.retain.ensures.filtered)

@@ -1,0 +1,9 @@
+use Rattle.mar_model.proofs.Keys.{room_for}
+use Rattle.mar_model.proofs.Pairs.{leaves_pairs}
+use Rattle.mar_model.proofs.stream.Stream.acknowledge.Goals as goal
+
+pub returns-in-Err-clause-done : goal.returns-in-Err-clause-done
+returns-in-Err-clause-done g c = rw (← c.self.view_is) (leaves_pairs _ _ _ (g.met.M.Meta.some c.self.inside.meta) c.in-Err.ensures.done)
+
+pub put-requires : goal.put-requires
+put-requires g c = record { room = room_for 0xFF _ c.self.invariant.1 }

@@ -1,4 +1,0 @@
-use Rattle.mar_shelf.proofs.stores.StoresHolds.blocks_sure.Goals as goal
-
-pub returns : goal.returns
-returns g c = rw (← c.self.view_is) (λ intact. c.sure.ensures)

@@ -1,5 +1,0 @@
-use Rattle.std.proofs.Common.{refl}
-use Rattle.mar_shelf.proofs.stores.StoresHoldsCache.cache_syncs.Goals as goal
-
-pub returns : goal.returns
-returns g c = rw (← c.self.view_is) refl

@@ -1,5 +1,0 @@
-use Rattle.mar_writes.proofs.Gating.{gated_barrier}
-use Rattle.mar_writes.proofs.writes.Writes.barrier.Goals as goal
-
-pub returns : goal.returns
-returns c = rw (← c.self.view_is) (gated_barrier _ _ _ _ _ c.self.invariant.3 c.barrier.ensures)

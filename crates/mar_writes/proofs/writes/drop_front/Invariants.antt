@@ -1,5 +1,0 @@
-use Rattle.std.proofs.Common.{drop, ◌≡◌}
-use Rattle.mar_writes.proofs.writes.drop_front.Given as goal
-
-abbrev pub invariant-loop : goal.invariant-loop
-invariant-loop l = l.heights.items ≡ drop l.counter l.initial.heights.items
