@@ -61,3 +61,14 @@ pub mod Permitted
 pub mod OpenSyncs
 pub mod Outcomes
 pub mod Looking
+pub mod Running
+pub mod Planned
+pub mod Living
+pub mod Fitting
+pub mod SyncPromise
+pub mod Since
+pub mod CutsRan
+pub mod EventCuts
+pub mod GoodRan
+pub mod EventGood
+pub mod EventSteps

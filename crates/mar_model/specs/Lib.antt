@@ -36,3 +36,8 @@ pub mod Stored
 pub mod Acks
 pub mod Metadata
 pub mod Floors
+pub mod Scene
+pub mod Acts
+pub mod Ran
+pub mod Plans
+pub mod Owns
