@@ -1,25 +1,28 @@
 -- Queries, of which no rule of a fault or a tip speaks, and events that are messages.
-use Rattle.std.proofs.Common.{◌≡◌, ℕ, List, [], Option, Some, None, Result, Ok, Err, IfErr, IfOk, OnErr, MatchResult, true, refl, sym, ◌∙◌, ap}
+use Rattle.std.proofs.Common.{◌≡◌, ◌++◌, ℕ, List, [], Option, Some, None, Result, IfErr, OnErr, OnOk, false, map, option_to_list, true, refl, sym, ◌∙◌, ap, subst}
 use Rattle.mar_cert.specs.Block.{Block}
 use Rattle.mar_cert.specs.Finalization.{Finalization, Notarization}
 use Rattle.mar_inbox.specs.Views.{message_of, query_of, ticket_of}
 use Rattle.mar_inbox.specs.declared.message.Message.{Message}
 use Rattle.mar_inbox.specs.declared.query.Query.{Query}
 use Rattle.mar_inbox.specs.declared.query.Query.TheVariants as query
+use Rattle.mar_key.specs.Keys.{Call}
+use Rattle.mar_model.specs.Answers.{Sent, TicketAnswer, to}
 use Rattle.mar_model.specs.Event.{is_query, message_told}
 use Rattle.mar_model.specs.Faults.{Fault}
-use Rattle.mar_model.specs.Held.{Ending, Grew, IsUsual, Loses, Seen, nothing_written, Held}
-use Rattle.mar_model.specs.Moves.{IsRead, LivesOn, syncs_at_most}
+use Rattle.mar_model.specs.Held.{GoesOn, Held, IsReadFault, nothing_written}
+use Rattle.mar_model.specs.Node.{CertifiedCommitment}
+use Rattle.mar_model.specs.Plans.{Found, answer_plan, message_plan}
+use Rattle.mar_model.specs.Promise.{heard_with}
+use Rattle.mar_model.specs.Queries.{answers_found, commitments_found, own_found, value_found}
+use Rattle.mar_model.specs.Ran.{Does}
+use Rattle.mar_model.specs.Scene.{Standing, Window, scene}
 use Rattle.mar_model.specs.Step.{Report}
-use Rattle.mar_model.proofs.Lasting.{EndsLife-usual, IsPart-read, LivesOn-part}
-use Rattle.mar_actor.specs.Due.{due_fault}
-use Rattle.mar_actor.specs.Told.{tips_of}
+use Rattle.mar_model.proofs.Doing.{Does-replied}
 use Rattle.mar_actor.specs.Views.{event_of, message_first, message_sendings, sendings_of, sent_first, told_first, told_of, told_sendings}
 use Rattle.mar_actor.specs.declared.event.Event.{Event as EventCode}
 use Rattle.mar_actor.specs.declared.event.Event.TheVariants as event
 use Rattle.mar_actor.specs.declared.messages.Told.{Told}
-use Rattle.mar_model.specs.Node.{CertifiedCommitment}
-use Rattle.mar_model.specs.Queries.{commitments_found}
 
 module _ {D : Type 0} (digest : D → List ℕ) (t : ℕ) where
   pub asks : (q : Query D) → is_query (message_told (Some t) (query_of digest q)) ≡ true
@@ -30,14 +33,6 @@ module _ {D : Type 0} (digest : D → List ℕ) (t : ℕ) where
   asks query.Anchor = refl
   asks (query.Verified r) = refl
 
-  pub one_sync : (q : Query D) → syncs_at_most (message_told (Some t) (query_of digest q)) ≡ 1
-  one_sync (query.Info id) = refl
-  one_sync (query.Block id) = refl
-  one_sync (query.Finalization h) = refl
-  one_sync query.Processed = refl
-  one_sync query.Anchor = refl
-  one_sync (query.Verified r) = refl
-
   pub none_learned : (inner : List ℕ → List ℕ) (h : Held) (buffer : List Block) (q : Query D) → ◌≡◌ {A = List CertifiedCommitment} (commitments_found inner h buffer (message_told (Some t) (query_of digest q))) []
   none_learned inner h buffer (query.Info id) = refl
   none_learned inner h buffer (query.Block id) = refl
@@ -46,22 +41,28 @@ module _ {D : Type 0} (digest : D → List ℕ) (t : ℕ) where
   none_learned inner h buffer query.Anchor = refl
   none_learned inner h buffer (query.Verified r) = refl
 
-  module _ {P E : Type 0} (inner : List ℕ → List ℕ) (a : Seen P E) (buffer : List Block) where
-    pub none_due : (q : Query D) → ◌≡◌ {A = Option Fault} (due_fault inner a buffer (message_told (Some t) (query_of digest q))) None
-    none_due (query.Info id) = refl
-    none_due (query.Block id) = refl
-    none_due (query.Finalization h) = refl
-    none_due query.Processed = refl
-    none_due query.Anchor = refl
-    none_due (query.Verified r) = refl
+  -- its answer is what stands, whatever a block that is kept would be answered
+  pub own-value : (inner : List ℕ → List ℕ) (h : Held) (buffer : List Block) (q : Query D) → own_found inner h buffer (query_of digest q) ≡ value_found inner h buffer (query_of digest q)
+  own-value inner h buffer (query.Info id) = refl
+  own-value inner h buffer (query.Block id) = refl
+  own-value inner h buffer (query.Finalization k) = refl
+  own-value inner h buffer query.Processed = refl
+  own-value inner h buffer query.Anchor = refl
+  own-value inner h buffer (query.Verified r) = refl
 
-    pub no_tips : (q : Query D) → ◌≡◌ {A = List Report} (tips_of inner a buffer (message_told (Some t) (query_of digest q))) []
-    no_tips (query.Info id) = refl
-    no_tips (query.Block id) = refl
-    no_tips (query.Finalization h) = refl
-    no_tips query.Processed = refl
-    no_tips query.Anchor = refl
-    no_tips (query.Verified r) = refl
+  pub query-plan : (inner : List ℕ → List ℕ) (buffer : List Block) (h : Held) (found : Found) (q : Query D) → message_plan inner buffer h (Some t) (query_of digest q) found ≡ answer_plan (map (to t) (option_to_list (value_found inner h buffer (query_of digest q))))
+  query-plan inner buffer h found (query.Info id) = refl
+  query-plan inner buffer h found (query.Block id) = refl
+  query-plan inner buffer h found (query.Finalization k) = refl
+  query-plan inner buffer h found query.Processed = refl
+  query-plan inner buffer h found query.Anchor = refl
+  query-plan inner buffer h found (query.Verified r) = refl
+
+  -- a query reads, and answers
+  pub asked : (q : Query D) {T C : Type 0} (inner : List ℕ → List ℕ) (fault : C → Fault) (buffer : List Block) (old new : Held) (life : Window) (standing : Standing) (reports : Option (List Report)) (asks : Option (List Call)) (sends : Option (List Sent)) (answers answers' : List TicketAnswer) (found : Found) (result : Result T C)
+      → OnOk result (answers' ≡ answers ++ answers_found inner old buffer (message_told (Some t) (query_of digest q))) → OnErr result (answers' ≡ answers) → OnOk result (new ≡ record old { watches = new.watches }) → GoesOn fault old nothing_written new result → IfErr result (λ c. IsReadFault (fault c))
+      → Does inner fault (message_plan inner buffer old (Some t) (query_of digest q) found) (scene old life standing (heard_with reports asks sends answers)) (scene new life standing (heard_with reports asks sends answers')) result
+  asked q inner fault buffer old new life standing reports asks sends answers answers' found result answered unanswered same goes read = subst (λ p. Does inner fault p (scene old life standing (heard_with reports asks sends answers)) (scene new life standing (heard_with reports asks sends answers')) result) (sym (query-plan inner buffer old found q)) (Does-replied inner fault old new life standing reports asks sends answers answers' _ result (subst (λ o. OnOk result (answers' ≡ answers ++ map (to t) (option_to_list o))) (own-value inner old buffer q) answered) unanswered same goes read)
 
 -- AN EVENT THAT IS A MESSAGE
 
@@ -75,12 +76,3 @@ sendings_are block e m r x is told same = ap (sendings_of block) is ∙ (sym tol
 
 pub firsts_are : {D B N F : Type 0} (block : B → Block) (e : EventCode D B N F) (m : Message D B N F) (r x : Told D B N F) → e ≡ event.Message m → told_first block r ≡ message_first block m → r ≡ x → sent_first block e ≡ told_first block x
 firsts_are block e m r x is told same = ap (sent_first block) is ∙ (sym told ∙ ap (told_first block) same)
-
--- answering reads, and may find no memory
-pub lives_asked : {P E : Type 0} (a : Seen P E) (result : Result (Seen P E) Ending) → IfOk result (IsRead a) → MatchResult result (λ new. Grew a.held nothing_written new.held) (Loses a.held nothing_written) → IfErr result (λ x. IsUsual x.fault) → LivesOn a result
-lives_asked a (Ok new) read goes usual = LivesOn-part a new (IsPart-read a new read goes.passed)
-lives_asked a (Err x) read goes usual = EndsLife-usual a x goes.cause usual
-
-pub on_err : {A B C D : Type 0} (f : A → B) (result : Result C D) (x y : A) → OnErr result (x ≡ y) → OnErr result (f x ≡ f y)
-on_err f (Ok r) x y is = tt
-on_err f (Err e) x y is = ap f is

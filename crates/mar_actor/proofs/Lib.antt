@@ -1,12 +1,9 @@
 pub mod Asking
-pub mod Due
 pub mod Nexts
 pub mod Raised
-pub mod Told
-pub mod Reported
 pub mod Sent
 pub mod Drained
 pub mod Kept
 pub mod Noted
-pub mod Notarized
+pub mod Taken
 pub mod Stepped

@@ -23,6 +23,10 @@ pub still_least : {T E : Type 0} (least : ℕ) (result : Result T E) → OnOk re
 still_least least (Ok x) = refl
 still_least least (Err e) = tt
 
+-- what is the same isn't above
+pub never_above : (a b : ℕ) → a ≡ b → a ≤ b
+never_above a b is = omega (arith, is)
+
 -- what was found is known besides what was known before, above the tip, which doesn't fall
 pub learns : {C : Type 0} (bytes : C → List ℕ) (before tip : ℕ) (found : List CertifiedCommitment) (old mid new : Certified C) → before ≤ tip → TakesNote bytes tip found old mid → ((h : ℕ) (c : List ℕ) → tip < h → is_known bytes new h c ≡ is_known bytes mid h c) → Learns (known_above bytes before old) found tip (known_above bytes tip new)
 learns bytes before tip found old mid new rises notes forgets h c =

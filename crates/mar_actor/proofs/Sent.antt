@@ -9,6 +9,17 @@ use Rattle.mar_block.specs.declared.recipients.Recipients.{Recipients}
 use Rattle.mar_block.specs.declared.recipients.Recipients.TheVariants.{All, Some as Given}
 use Rattle.mar_inbox.specs.Views.{peers_named, peers_of, sent_by, sent_of}
 use Rattle.mar_key.specs.Hears.{Hears}
+use Rattle.mar_key.specs.Keys.{Call}
+use Rattle.mar_model.specs.Acts.{says, send}
+use Rattle.mar_model.specs.Answers.{TicketAnswer}
+use Rattle.mar_model.specs.Faults.{want_of_memory}
+use Rattle.mar_model.specs.Held.{Held, ended_on}
+use Rattle.mar_model.specs.Plans.{sent_block}
+use Rattle.mar_model.specs.Promise.{heard_with}
+use Rattle.mar_model.specs.Ran.{Breaks, Reached, Task, does}
+use Rattle.mar_model.specs.Scene.{Scene, Standing, Window, scene}
+use Rattle.mar_model.specs.Step.{Report}
+use Rattle.mar_model.proofs.Running.{Breaks-now, Reached-more}
 use Rattle.mar_model.specs.Step.{IsFront}
 use Rattle.mar_model.proofs.Handing.{Hears-nothing}
 use Rattle.mar_actor.specs.Kept.{SendsFront}
@@ -58,3 +69,16 @@ hears_front old new r peers b front (rest, is) sends = ((map sent_of rest, subst
 pub front_none : {A E : Type 0} (old new : Option (List Sending)) (result : Result A E) → OnErr result (Sends old [] new) → OnErr result (SendsFront old [] new)
 front_none old new (Ok x) sends = tt
 front_none old new (Err e) sends = ([], ([], refl), sends)
+
+-- a block is sent, or memory runs out before
+module _ (inner : List ℕ → List ℕ) (held : Held) (life : Window) (standing : Standing) (told : Option (List Report)) (asks : Option (List Call)) (answers : List TicketAnswer) (old new : Option (List Sending)) (r : Round) (peers : Recipients ℕ) (b : Block) (start : Scene) (whole rest : List Task)
+    (reached : Reached inner start whole (does (says (send (sent_block r (peers_of peers) b))) ∷ rest) (scene held life standing (heard_with told asks (sent_by old) answers))) where
+  pub sent-done : Sends old (record { round = r; block = b; peers = named peers } ∷ []) new → Reached inner start whole rest (scene held life standing (heard_with told asks (sent_by new) answers))
+  sent-done sends = Reached-more inner start whole _ rest _ _ reached (hears_one old new r peers b sends, refl)
+
+  pub sent-failed : Sends old [] new → Breaks inner start whole (ended_on want_of_memory held) (heard_with told asks (sent_by new) answers)
+  sent-failed silent = Breaks-now inner start whole _ rest _ _ _ reached (refl, hears_sent old new [] silent, refl)
+
+  -- there was no memory for a copy of it
+  pub uncopied : Breaks inner start whole (ended_on want_of_memory held) (heard_with told asks (sent_by old) answers)
+  uncopied = Breaks-now inner start whole _ rest _ _ _ reached (refl, hears_sent old old [] (sends_nothing old), refl)

@@ -1,35 +1,50 @@
--- What an event promises and takes up, of the same stores and the same life, whatever is known as certified.
-use Rattle.std.proofs.Common.{List, Ok, [], ◌∷◌, ℕ}
-use Rattle.mar_types.specs.Epochs.{Epochs}
+-- The clauses of a step, by the plan that its event ran.
+use Rattle.std.proofs.Common.{◌≡◌, ◌∷◌, [], List, Result, Ok, Err, IfOk, ap, refl, ℕ}
+use Rattle.mar_types.specs.Epochs.{Epochs, IsPartition}
 use Rattle.mar_cert.specs.Block.{Block}
-use Rattle.mar_model.specs.Event.{Event, ack_dropped, ack_given, block_buffered, buffer_ended, life_started, message_told, peer_answered, serve_ended, sync_finished}
-use Rattle.mar_model.specs.Held.{Held, Remembered, Seen, seen}
-use Rattle.mar_model.specs.Moves.{KeepsTakenUp}
-use Rattle.mar_model.specs.Node.{CertifiedCommitment}
-use Rattle.mar_model.specs.Promise.{Heard, KeepsPromise}
+use Rattle.mar_model.specs.Acts.{AreLawful}
+use Rattle.mar_model.specs.Due.{EndsWhereDue, due_fault}
+use Rattle.mar_model.specs.Event.{Event}
+use Rattle.mar_model.specs.Held.{Ending, Held, Remembered, Seen}
+use Rattle.mar_model.specs.Moves.{FindsInCache, LivesOnGiving, syncs_at_most}
+use Rattle.mar_model.specs.Plans.{RunsPlan}
+use Rattle.mar_model.specs.Promise.{Heard, KeepsPromise, none_waiting}
+use Rattle.mar_model.specs.Scene.{Scene, Standing, scene, window_of}
+use Rattle.mar_model.specs.Told.{TellsInOrder, tips_of}
+use Rattle.mar_parts.specs.Certified.{Certified}
+use Rattle.mar_actor.specs.Known.{seen_knowing}
+use Rattle.mar_model.proofs.Promised.{IsTaken, keeps_promise, taken_built}
+use Rattle.mar_model.proofs.Stepping.{step_by_value, step_lives, step_tells}
 
-module _ {P E : Type 0} (held : Held) (life : Remembered P E) (certified : List CertifiedCommitment) where
-  abbrev knowing : Seen P E
-  knowing = record { held = held; life = life; certified = certified }
+-- what else stands as a step begins
+abbrev pub standing_in : {P E : Type 0} → Epochs → Seen P E → Standing
+standing_in epochs old = record { epochs = epochs; known = old.certified; waits = [] }
 
-  pub promise-knowing : (e : Event) (epochs : Epochs) (inner : List ℕ → List ℕ) (old : Seen P E) (buffer : List Block) (before after : Heard) → KeepsPromise (e ∷ []) epochs inner old buffer before after (Ok (seen held life)) → KeepsPromise (e ∷ []) epochs inner old buffer before after (Ok knowing)
-  promise-knowing (life_started f) epochs inner old buffer before after keeps = keeps
-  promise-knowing (message_told t m) epochs inner old buffer before after keeps = keeps
-  promise-knowing (ack_given t) epochs inner old buffer before after keeps = keeps
-  promise-knowing (ack_dropped t) epochs inner old buffer before after keeps = keeps
-  promise-knowing (sync_finished t) epochs inner old buffer before after keeps = keeps
-  promise-knowing (peer_answered a) epochs inner old buffer before after keeps = keeps
-  promise-knowing serve_ended epochs inner old buffer before after keeps = keeps
-  promise-knowing (block_buffered b) epochs inner old buffer before after keeps = keeps
-  promise-knowing buffer_ended epochs inner old buffer before after keeps = keeps
+abbrev pub scene_in : {P E : Type 0} → Epochs → Seen P E → Heard → Scene
+scene_in epochs old before = scene old.held (window_of old.life) (standing_in epochs old) before
 
-  pub loaded-knowing : (e : Event) (old : Seen P E) → KeepsTakenUp e old (seen held life) → KeepsTakenUp e old knowing
-  loaded-knowing (life_started f) old keeps = keeps
-  loaded-knowing (message_told t m) old keeps = keeps
-  loaded-knowing (ack_given t) old keeps = keeps
-  loaded-knowing (ack_dropped t) old keeps = keeps
-  loaded-knowing (sync_finished t) old keeps = keeps
-  loaded-knowing (peer_answered a) old keeps = keeps
-  loaded-knowing serve_ended old keeps = keeps
-  loaded-knowing (block_buffered b) old keeps = keeps
-  loaded-knowing buffer_ended old keeps = keeps
+-- What a step promises, however it ended.
+pub record Stepped {P E : Type 0} (epochs : Epochs) (inner : List ℕ → List ℕ) (buffer : List Block) (old : Seen P E) (before after : Heard) (e : Event) (result : Result (Seen P E) Ending) : Type 0 where
+  pub promise : KeepsPromise (e ∷ []) epochs inner old buffer before after result
+  pub lives : LivesOnGiving (syncs_at_most e) old result
+  pub by_value : FindsInCache e old → EndsWhereDue (due_fault inner old buffer e) result
+  pub tells : FindsInCache e old → TellsInOrder before.reports (tips_of inner old buffer e) after.reports result
+
+pub stepped : {P E : Type 0} (epochs : Epochs) (inner : List ℕ → List ℕ) → IsPartition epochs → (buffer : List Block) (old : Seen P E) (before after : Heard) → AreLawful old.held → (e : Event) → IsTaken e → (result : Result (Seen P E) Ending)
+    → RunsPlan inner buffer e (scene_in epochs old before) after result → IfOk result (λ n. (n.life.provider ≡ old.life.provider) × (n.life.epocher ≡ old.life.epocher)) → Stepped epochs inner buffer old before after e result
+stepped epochs inner partition buffer old before after law e taken result plan same = record {
+  promise = keeps_promise epochs inner partition buffer old (standing_in epochs old) refl before after law e taken result plan;
+  lives = step_lives old.life inner buffer e (scene_in epochs old before) law after result plan same;
+  by_value = step_by_value old.life inner buffer e (scene_in epochs old before) law after result plan (taken_built e taken);
+  tells = step_tells old.life inner buffer e (scene_in epochs old before) law after result plan;
+}
+
+-- the same node, by what it is made of
+pub same_seen : {P E C : Type 0} (bytes : C → List ℕ) (h h' : Held) (l l' : Remembered P E) (c c' : Certified C) → h ≡ h' → l ≡ l' → c ≡ c' → seen_knowing bytes h l c ≡ seen_knowing bytes h' l' c'
+same_seen bytes h h' l l' c c' held life certified = rw (held, life, certified) refl
+
+pub same_result : {P E : Type 0} (new old : Seen P E) → new ≡ old → ◌≡◌ {A = Result (Seen P E) Ending} (Ok new) (Ok old)
+same_result new old is = ap Ok is
+
+pub no_ok : {T C : Type 0} (c : C) (x : T) → ◌≡◌ {A = Result T C} (Err c) (Ok x) → ⊥
+no_ok c x is = cc

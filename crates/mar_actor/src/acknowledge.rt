@@ -1,19 +1,18 @@
 //! Acknowledgements, and what they let go.
-ghost use Rattle.std.specs.Prelude.{◌≡◌, ◌⊎◌, ◌∷◌, [], IfErr, IfOk, List, option_to_list, true};
-ghost use Rattle.mar_model.specs.Acks.{given_front, given_oldest, mark_given, with_mark};
-ghost use Rattle.mar_store.specs.Changes.{IsNested};
-ghost use Rattle.mar_cert.specs.Block.{Block};
-ghost use Rattle.mar_model.specs.Event.{ack_given};
-ghost use Rattle.mar_model.specs.Promise.{KeepsPromise, heard_by};
-ghost use Rattle.mar_model.specs.Held.{AreCached, GoesOn, IsUsual, ended_on, outcome, seen, written_prunes};
-ghost use Rattle.mar_model.specs.Moves.{Drains, DrainsNext, EndsDropped, EndsOldest, HearsUpTo, LivesOn, processed_prunes};
-ghost use Rattle.mar_model.specs.Requests.{retire_asks};
+ghost use Rattle.std.specs.Prelude.{◌≡◌, IfOk, List, OnOk, Option, is_some, true};
+ghost use Rattle.mar_key.specs.Keys.{Call};
+ghost use Rattle.mar_model.specs.Acks.{after_oldest, dropped_oldest, given_oldest, mark_given, with_mark};
+ghost use Rattle.mar_parts.specs.Views.{dropped_of, given_of};
+ghost use Rattle.mar_model.specs.Answers.{Sent, TicketAnswer};
+ghost use Rattle.mar_model.specs.Plans.{ack_plan, drain_plan, next_plan, settle_plan};
+ghost use Rattle.mar_model.specs.Promise.{heard_with};
+ghost use Rattle.mar_model.specs.Ran.{Does};
+ghost use Rattle.mar_model.specs.Scene.{Standing, in_epochs, scene};
+ghost use Rattle.mar_model.specs.Step.{Report};
 ghost use Rattle.mar_model.specs.Views.{fault_of};
-ghost use Rattle.mar_actor.specs.Due.{EndsWhereDue, dropping_due};
-ghost use Rattle.mar_actor.specs.Told.{TellsInOrder};
 
 use crate::dispatch::dispatch;
-use crate::life::Life;
+use crate::life::Window;
 use crate::reporter::Reporter;
 use mar_block::Variant;
 use mar_key::Resolver;
@@ -24,9 +23,10 @@ use mar_types::Epocher;
 
 /// Marks a block as acknowledged. Where the oldest ones are, they are processed together: one sync of the metadata, then
 /// the next blocks are handed over.
-pub(crate) fn acknowledge<V, S, P, E, R, A>(
+pub(crate) fn acknowledge<V, S, E, R, A>(
     stores: &mut S,
-    life: &mut Life<P, E>,
+    window: &mut Window,
+    epocher: &E,
     ticket: u64,
     resolver: &mut R,
     application: &mut A,
@@ -38,38 +38,58 @@ where
     R: Resolver<V::Commitment>,
     A: Reporter<V>,
     requires intact { (S.held stores.old).intact ≡ true }
-    ensures promise { IsNested (S.held stores.old).blocks → IsNested (S.held stores.old).certs → AreCached (S.held stores.old)
-        → (buffer : List Block)
-        → KeepsPromise (ack_given ticket ∷ []) (E.epochs life.old.epocher) V.inner (seen (S.held stores.old) life.old) buffer
-        (heard_by (A.told application.old) (R.told resolver.old)) (heard_by (A.told application.new) (R.told resolver.new))
-        (outcome (fault_of V.Commitment.bytes) (seen (S.held stores.new) life.new) result) }
-    ensures lives { IsNested (S.held stores.old).blocks → IsNested (S.held stores.old).certs
-        → LivesOn (seen (S.held stores.old) life.old) (outcome (fault_of V.Commitment.bytes) (seen (S.held stores.new) life.new) result) }
-    ensures by_value { EndsWhereDue (dropping_due life.old.out ticket)
-        (outcome (fault_of V.Commitment.bytes) (seen (S.held stores.new) life.new) result) }
-    ensures tells { TellsInOrder (A.told application.old) [] (A.told application.new)
-        (outcome (fault_of V.Commitment.bytes) (seen (S.held stores.new) life.new) result) }
+    ensures runs { (standing : Standing) (sends : Option (List Sent)) (answers : List TicketAnswer)
+        → Does V.inner (fault_of V.Commitment.bytes) (ack_plan window.old.out ticket mark_given)
+        (scene (S.held stores.old) window.old (in_epochs (E.epochs epocher.now) standing)
+        (heard_with (A.told application.old) (R.told resolver.old) sends answers))
+        (scene (S.held stores.new) window.new (in_epochs (E.epochs epocher.now) standing)
+        (heard_with (A.told application.new) (R.told resolver.new) sends answers)) result }
 {
-    give(life, ticket);
-    if !drain::<V, S, P, E, R>(stores, life, resolver)? {
-        return Ok(());
+    give(window, ticket);
+    match drain::<V, S, E, R>(stores, window, epocher, resolver) {
+        Ok(true) => settle::<V, S, A>(stores, window, application),
+        Ok(false) => Ok(()),
+        Err(fault) => Err(fault),
     }
-    stores.sync_metadata()?;
-    dispatch::<V, S, P, E, A>(stores, life, application)
 }
 
 /// Marks a block as acknowledged.
-fn give<P, E>(life: &mut Life<P, E>, ticket: u64)
-    ensures { life.new ≡ record life.old { out = with_mark ticket mark_given life.old.out } }
+fn give(window: &mut Window, ticket: u64)
+    ensures { window.new ≡ record window.old { out = with_mark ticket mark_given window.old.out } }
 {
-    life.acks.give(ticket);
+    window.acks.give(ticket);
+}
+
+/// Makes durable what was processed, and hands over the next blocks.
+fn settle<V, S, A>(
+    stores: &mut S,
+    window: &mut Window,
+    application: &mut A,
+) -> Result<(), Fault<V::Commitment>>
+where
+    V: Variant,
+    S: Holds<V>,
+    A: Reporter<V>,
+    requires intact { (S.held stores.old).intact ≡ true }
+    ensures runs { (standing : Standing) (asks : Option (List Call)) (sends : Option (List Sent)) (answers : List TicketAnswer)
+        → Does V.inner (fault_of V.Commitment.bytes) (settle_plan true)
+        (scene (S.held stores.old) window.old standing (heard_with (A.told application.old) asks sends answers))
+        (scene (S.held stores.new) window.new standing (heard_with (A.told application.new) asks sends answers)) result }
+{
+    let synced = stores.sync_metadata();
+    stores.law();
+    match synced {
+        Ok(()) => dispatch::<V, S, A>(stores, window, application),
+        Err(fault) => Err(fault),
+    }
 }
 
 /// Processes the acknowledged blocks at the front, and says whether there were any. A dropped one behind them ends the
 /// life.
-fn drain<V, S, P, E, R>(
+fn drain<V, S, E, R>(
     stores: &mut S,
-    life: &mut Life<P, E>,
+    window: &mut Window,
+    epocher: &E,
     resolver: &mut R,
 ) -> Result<bool, Fault<V::Commitment>>
 where
@@ -77,28 +97,31 @@ where
     S: Holds<V>,
     E: Epocher,
     R: Resolver<V::Commitment>,
-    ensures ok { IfOk result (λ r. Drains (E.epochs life.old.epocher) (seen (S.held stores.old) life.old) r (seen (S.held stores.new) life.new)) }
-    ensures asks { HearsUpTo (R.told resolver.old) (retire_asks (E.epochs life.old.epocher) (S.held stores.old).certs.held (S.held stores.old).cutoff
-        (given_front life.old.out)) (R.told resolver.new) result }
-    ensures goes_on { GoesOn (fault_of V.Commitment.bytes) (S.held stores.old)
-        (written_prunes (processed_prunes (seen (S.held stores.old) life.old) (given_front life.old.out))) (S.held stores.new) result }
-    ensures kind { IfErr result (λ e. IsUsual (fault_of V.Commitment.bytes e)
-        ⊎ EndsDropped (seen (S.held stores.old) life.old) (ended_on (fault_of V.Commitment.bytes e) (S.held stores.new))) }
+    requires intact { (S.held stores.old).intact ≡ true }
+    ensures drained { IfOk result (λ r. r ≡ is_some (given_oldest window.old.out)) }
+    ensures whole { OnOk result ((S.held stores.new).intact ≡ true) }
+    ensures runs { (standing : Standing) (told : Option (List Report)) (sends : Option (List Sent)) (answers : List TicketAnswer)
+        → Does V.inner (fault_of V.Commitment.bytes) (drain_plan window.old.out)
+        (scene (S.held stores.old) window.old (in_epochs (E.epochs epocher.now) standing) (heard_with told (R.told resolver.old) sends answers))
+        (scene (S.held stores.new) window.new (in_epochs (E.epochs epocher.now) standing) (heard_with told (R.told resolver.new) sends answers))
+        result }
 {
     let mut is_drained = false;
-    'entries: for _drained in 0..life.acks.len() {
-        if !drain_next::<V, S, P, E, R>(stores, life, resolver)? {
-            return Ok(is_drained);
+    'entries: for _drained in 0..window.acks.len() {
+        match drain_next::<V, S, E, R>(stores, window, epocher, resolver) {
+            Ok(true) => is_drained = true,
+            Ok(false) => return Ok(is_drained),
+            Err(fault) => return Err(fault),
         }
-        is_drained = true;
     }
     Ok(is_drained)
 }
 
 /// Processes the oldest block where it is acknowledged, and says whether it was. Where it is dropped the life ends.
-fn drain_next<V, S, P, E, R>(
+fn drain_next<V, S, E, R>(
     stores: &mut S,
-    life: &mut Life<P, E>,
+    window: &mut Window,
+    epocher: &E,
     resolver: &mut R,
 ) -> Result<bool, Fault<V::Commitment>>
 where
@@ -106,19 +129,34 @@ where
     S: Holds<V>,
     E: Epocher,
     R: Resolver<V::Commitment>,
-    ensures ok { IfOk result (λ r. DrainsNext (E.epochs life.old.epocher) (seen (S.held stores.old) life.old) r (seen (S.held stores.new) life.new)) }
-    ensures asks { HearsUpTo (R.told resolver.old) (retire_asks (E.epochs life.old.epocher) (S.held stores.old).certs.held (S.held stores.old).cutoff
-        (option_to_list (given_oldest life.old.out))) (R.told resolver.new) result }
-    ensures goes_on { GoesOn (fault_of V.Commitment.bytes) (S.held stores.old)
-        (written_prunes (processed_prunes (seen (S.held stores.old) life.old) (option_to_list (given_oldest life.old.out)))) (S.held stores.new) result }
-    ensures kind { IfErr result (λ e. IsUsual (fault_of V.Commitment.bytes e)
-        ⊎ EndsOldest (seen (S.held stores.old) life.old) (ended_on (fault_of V.Commitment.bytes e) (S.held stores.new))) }
+    requires intact { (S.held stores.old).intact ≡ true }
+    ensures drained { IfOk result (λ r. r ≡ is_some (given_oldest window.old.out)) }
+    ensures left { OnOk result (window.new.out ≡ after_oldest window.old.out) }
+    ensures whole { OnOk result ((S.held stores.new).intact ≡ true) }
+    ensures runs { (standing : Standing) (told : Option (List Report)) (sends : Option (List Sent)) (answers : List TicketAnswer)
+        → Does V.inner (fault_of V.Commitment.bytes) (next_plan window.old.out)
+        (scene (S.held stores.old) window.old (in_epochs (E.epochs epocher.now) standing) (heard_with told (R.told resolver.old) sends answers))
+        (scene (S.held stores.new) window.new (in_epochs (E.epochs epocher.now) standing) (heard_with told (R.told resolver.new) sends answers))
+        result }
 {
-    let height = match life.acks.pop_ready() {
+    let height = match pop(window) {
         Oldest::Given(ack) => ack.height,
         Oldest::Unresolved => return Ok(false),
         Oldest::Dropped(ack) => return Err(Fault::AckDropped(ack.height)),
     };
-    process::<V, S, E, R>(stores, &life.epocher, height, life.retention(), resolver)?;
-    Ok(true)
+    let processed = process::<V, S, E, R>(stores, epocher, height, window.retention(), resolver);
+    stores.law();
+    match processed {
+        Ok(()) => Ok(true),
+        Err(fault) => Err(fault),
+    }
+}
+
+/// Takes the oldest block out where it is acknowledged.
+fn pop(window: &mut Window) -> Oldest
+    ensures given { given_of result ≡ given_oldest window.old.out }
+    ensures dropped { dropped_of result ≡ dropped_oldest window.old.out }
+    ensures popped { window.new ≡ record window.old { out = after_oldest window.old.out } }
+{
+    window.acks.pop_ready()
 }

@@ -1,7 +1,7 @@
 //! Commitments that a life knows as certified.
 ghost use Rattle.std.specs.Prelude.{◌≡◌, ◌∷◌, ◌+◌, ◌<◌, ◌≤◌, List, ℕ, [], IfErr, OnOk};
 ghost use Rattle.mar_model.specs.Answers.{own_and_parent, own_commitment, parent_commitment};
-ghost use Rattle.mar_model.specs.Held.{GoesOn, IsUsual, nothing_written};
+ghost use Rattle.mar_model.specs.Held.{GoesOn, IsReadFault, nothing_written};
 ghost use Rattle.mar_model.specs.Moves.{found_at_hand};
 ghost use Rattle.mar_model.specs.Views.{fault_of};
 ghost use Rattle.mar_parts.specs.Certified.{is_known};
@@ -27,7 +27,7 @@ pub(crate) fn learn<V: Variant, S: Holds<V>, B: Buffer<V>>(
     ensures min { OnOk result (certified.new.min ≡ certified.old.min) }
     ensures same { OnOk result (S.held stores.new ≡ record (S.held stores.old) { watches = (S.held stores.new).watches }) }
     ensures goes_on { GoesOn (fault_of V.Commitment.bytes) (S.held stores.old) nothing_written (S.held stores.new) result }
-    ensures usual { IfErr result (λ e. IsUsual (fault_of V.Commitment.bytes e)) }
+    ensures read { IfErr result (λ e. IsReadFault (fault_of V.Commitment.bytes e)) }
 {
     match block_at_hand::<V, S, B>(stores, commitment, buffer) {
         Ok(Some(block)) => match note_block::<V>(certified, &block) {

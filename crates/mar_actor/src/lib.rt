@@ -4,7 +4,8 @@
 //! # What is promised
 //!
 //! - **In order, and durable first.** The application is handed the finalized blocks one height after the other, from the
-//!   genesis on. Each is durable, together with its finalization, before it is handed over.
+//!   genesis on. Each is durable before it is handed over, and its finalization with it in the life that stores both. After a
+//!   crash a block may stand whose finalization was lost; it is handed over all the same.
 //! - **At least once.** A block is handed over again after each opening until its acknowledgement is durable. So an
 //!   application must tolerate repeats: it stores, in one write, what a block made and the block's height, and passes over
 //!   a height that it has. What it counted in memory alone is gone with the life.
@@ -79,6 +80,7 @@ mod settings;
 mod shown;
 mod start;
 mod sync;
+mod take;
 
 pub use event::Event;
 pub use mar_life::{Ruins, Stores};

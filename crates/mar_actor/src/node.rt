@@ -5,41 +5,36 @@ ghost use Rattle.mar_model.specs.SmallEntries.{AreSmallEntries};
 ghost use Rattle.mar_store.specs.Changes.{IsNested};
 ghost use Rattle.mar_block.specs.Sent.{Sends};
 ghost use Rattle.mar_model.specs.Acks.{is_unmarked};
+ghost use Rattle.mar_model.specs.Acts.{AreLawful};
 ghost use Rattle.mar_model.specs.Event.{is_query, sync_finished};
-ghost use Rattle.mar_model.specs.Held.{AreCached, ArePassed, AreWritten, IsEndedBy, outcome, remains_of, seen, with_armed};
-ghost use Rattle.mar_model.specs.Moves.{FindsInCache, KeepsInCache, KeepsTakenUp, LivesOnGiving, RunsOut, syncs_at_most};
+ghost use Rattle.mar_model.specs.Held.{AreCached, ArePassed, AreWritten, IsEndedBy, remains_of, with_armed};
+ghost use Rattle.mar_model.specs.Plans.{RunsPlan};
+ghost use Rattle.mar_model.specs.Scene.{Standing, in_epochs, scene, window_of};
+ghost use Rattle.mar_model.specs.Moves.{FindsInCache, KeepsInCache, KeepsTakenUp, RunsOut, syncs_at_most};
 ghost use Rattle.mar_model.specs.OpenSyncs.{is_cache_sync};
 ghost use Rattle.mar_inbox.specs.Answers.{told};
 ghost use Rattle.mar_inbox.specs.Views.{sent_by, value_of};
 ghost use Rattle.mar_model.specs.Promise.{IsSmallEvent, KeepsPromise, heard_with};
 ghost use Rattle.mar_model.specs.Queries.{Learns, answers_found, commitments_found};
 ghost use Rattle.mar_model.specs.Stored.{AreSmall};
-ghost use Rattle.mar_model.specs.Writing.{IsOrdered, is_open_sync};
-ghost use Rattle.mar_model.specs.Views.{fault_of, store_name_of};
-ghost use Rattle.mar_actor.specs.Known.{TakesNote, seen_knowing};
-ghost use Rattle.mar_actor.specs.Due.{EndsWhereDue, due_fault};
-ghost use Rattle.mar_actor.specs.Told.{TellsInOrder, tips_of};
+ghost use Rattle.mar_model.specs.Writing.{is_open_sync};
+ghost use Rattle.mar_model.specs.Views.{store_name_of};
+ghost use Rattle.mar_actor.specs.Known.{seen_knowing};
+ghost use Rattle.mar_model.specs.Due.{EndsWhereDue, due_fault};
+ghost use Rattle.mar_model.specs.Told.{TellsInOrder, tips_of};
 ghost use Rattle.mar_actor.specs.Kept.{SendsFront};
 ghost use Rattle.mar_actor.specs.Views.{event_of, sendings_of, sent_first};
 
-use crate::acknowledge::acknowledge;
-use crate::caching::{certify, propose, verify};
-use crate::certified::{forget, learn};
+use crate::certified::forget;
 use crate::event::Event;
 use crate::life::Life;
-use crate::messages::{Told, told_by};
-use crate::notarize::notarize;
-use crate::report::report_finalization;
 use crate::reporter::Reporter;
-use crate::send::send;
-use crate::start::start;
-use crate::sync::finish;
+use crate::take::take;
 use mar_block::{Buffer, Variant};
-use mar_cert::CommitsTo;
-use mar_inbox::{AnswerTable, Value, answer};
+use mar_inbox::{AnswerTable, Value};
 use mar_key::Resolver;
 use mar_life::Stores;
-use mar_model::{Ended, Fault, Holds, HoldsNotarizations, StoreName};
+use mar_model::{Ended, Holds, HoldsNotarizations, StoreName};
 use mar_parts::Certified;
 use mar_types::Epocher;
 use std::alloc::{AllocError, Global};
@@ -92,6 +87,13 @@ impl<V: Variant, S: HoldsNotarizations<V>, P: Drop, E: Epocher> Node<V, S, P, E>
     ) -> Result<Self, Ended<V, S>>
         requires small_event { IsSmallEvent (event_of V.Digest.bytes V.plain S.Notarization.plain S.Finalization.plain event) }
         requires small_buffer { AreSmall (B.blocks buffer.old) }
+        ensures ran { (standing : Standing) → RunsPlan V.inner (B.blocks buffer.old)
+            (event_of V.Digest.bytes V.plain S.Notarization.plain S.Finalization.plain event)
+            (scene self.held (window_of self.life) (in_epochs (E.epochs self.life.epocher) standing)
+            (heard_with (A.told application.old) (R.told resolver.old) (sent_by (B.sent buffer.old))
+            (told (value_of V.Digest.bytes V.plain S.Finalization.plain) answers.old)))
+            (heard_with (A.told application.new) (R.told resolver.new) (sent_by (B.sent buffer.new))
+            (told (value_of V.Digest.bytes V.plain S.Finalization.plain) answers.new)) result }
         ensures promise { KeepsPromise (event_of V.Digest.bytes V.plain S.Notarization.plain S.Finalization.plain event ∷ [])
             (E.epochs self.life.epocher) V.inner self (B.blocks buffer.old)
             (heard_with (A.told application.old) (R.told resolver.old) (sent_by (B.sent buffer.old))
@@ -177,6 +179,7 @@ impl<V: Variant, S: Holds<V>, P: Drop, E: Epocher> Node<V, S, P, E> {
         ensures small_cached { AreSmallEntries self.now.held.cache.kept.held }
         ensures written { AreWritten self.now.held }
         ensures cached { AreCached self.now.held }
+        ensures lawful { AreLawful self.now.held }
     {
         self.stores.law();
     }
@@ -205,7 +208,7 @@ impl<V: Variant, S: Holds<V>, P: Drop, E: Epocher> Node<V, S, P, E> {
     pub fn owes_ack(&self, ticket: u64) -> bool
         ensures { result ≡ list_any (is_unmarked ticket) self.now.life.out }
     {
-        self.life.acks.is_unmarked(ticket)
+        self.life.window.acks.is_unmarked(ticket)
     }
 
     /// Whether the sync of that ticket is open, of finalized blocks or of the cache: it was started in this life and hasn't
@@ -229,127 +232,5 @@ impl<V: Variant, S: Holds<V>, P: Drop, E: Epocher> Node<V, S, P, E> {
             && not (is_open_sync self.now.held.writes.syncs ticket || is_cache_sync self.now.held.cache.syncs ticket)) }
     {
         ticket < self.stores.writes().next_ticket() && !self.awaits_sync(ticket)
-    }
-}
-
-/// Takes one event, in place.
-fn take<V, S, P, E, B, R, A>(
-    stores: &mut S,
-    life: &mut Life<P, E>,
-    certified: &mut Certified<V::Commitment>,
-    event: Event<V::Digest, V::Block, S::Notarization, S::Finalization>,
-    answers: &mut AnswerTable<Value<V::Digest, V::Block, S::Finalization>>,
-    buffer: &mut B,
-    resolver: &mut R,
-    application: &mut A,
-) -> Result<(), Fault<V::Commitment>>
-where
-    V: Variant,
-    S: HoldsNotarizations<V>,
-    E: Epocher,
-    B: Buffer<V>,
-    R: Resolver<V::Commitment>,
-    A: Reporter<V>,
-    requires intact { (S.held stores.old).intact ≡ true }
-    requires blocks { IsNested (S.held stores.old).blocks }
-    requires certs { IsNested (S.held stores.old).certs }
-    requires small { AreSmall (map (λ x. x.value) (S.held stores.old).blocks.held) }
-    requires small_cached { AreSmallEntries (S.held stores.old).cache.kept.held }
-    requires ordered { IsOrdered (S.held stores.old).writes }
-    requires cached { AreCached (S.held stores.old) }
-    requires small_event { IsSmallEvent (event_of V.Digest.bytes V.plain S.Notarization.plain S.Finalization.plain event) }
-    requires small_buffer { AreSmall (B.blocks buffer.old) }
-    ensures promise { KeepsPromise (event_of V.Digest.bytes V.plain S.Notarization.plain S.Finalization.plain event ∷ [])
-        (E.epochs life.old.epocher) V.inner (seen_knowing V.Commitment.bytes (S.held stores.old) life.old certified.old) (B.blocks buffer.old)
-        (heard_with (A.told application.old) (R.told resolver.old) (sent_by (B.sent buffer.old))
-        (told (value_of V.Digest.bytes V.plain S.Finalization.plain) answers.old))
-        (heard_with (A.told application.new) (R.told resolver.new) (sent_by (B.sent buffer.new))
-        (told (value_of V.Digest.bytes V.plain S.Finalization.plain) answers.new))
-        (outcome (fault_of V.Commitment.bytes) (seen (S.held stores.new) life.new) result) }
-    ensures answered { KeepsInCache (event_of V.Digest.bytes V.plain S.Notarization.plain S.Finalization.plain event)
-        (seen_knowing V.Commitment.bytes (S.held stores.old) life.old certified.old)
-        → OnOk result (told (value_of V.Digest.bytes V.plain S.Finalization.plain) answers.new
-        ≡ told (value_of V.Digest.bytes V.plain S.Finalization.plain) answers.old
-        ++ answers_found V.inner (S.held stores.old) (B.blocks buffer.old)
-        (event_of V.Digest.bytes V.plain S.Notarization.plain S.Finalization.plain event)) }
-    ensures unanswered { OnErr result (answers.new ≡ answers.old) }
-    ensures sends { OnOk result (Sends (B.sent buffer.old) (sendings_of V.plain event) (B.sent buffer.new)) }
-    ensures unsent { OnErr result (SendsFront (B.sent buffer.old) (sent_first V.plain event) (B.sent buffer.new)) }
-    ensures blocks { B.blocks buffer.new ≡ B.blocks buffer.old }
-    ensures notifies { B.notifies buffer.new ≡ B.notifies buffer.old }
-    ensures buffer { sendings_of V.plain event ≡ [] → buffer.new ≡ buffer.old }
-    ensures lives { LivesOnGiving (syncs_at_most (event_of V.Digest.bytes V.plain S.Notarization.plain S.Finalization.plain event))
-        (seen (S.held stores.old) life.old) (outcome (fault_of V.Commitment.bytes) (seen (S.held stores.new) life.new) result) }
-    ensures idle { (t : ℕ) → event_of V.Digest.bytes V.plain S.Notarization.plain S.Finalization.plain event ≡ sync_finished t
-        → is_open_sync (S.held stores.old).writes.syncs t ≡ false → is_cache_sync (S.held stores.old).cache.syncs t ≡ false
-        → (result ≡ Ok tt) × (S.held stores.new ≡ S.held stores.old) × (life.new ≡ life.old) × (certified.new ≡ certified.old) }
-    ensures notes { OnOk result ((tip : ℕ) → certified.old.min ≤ tip + 1 → TakesNote V.Commitment.bytes tip
-        (commitments_found V.inner (S.held stores.old) (B.blocks buffer.old)
-        (event_of V.Digest.bytes V.plain S.Notarization.plain S.Finalization.plain event)) certified.old certified.new) }
-    ensures min { OnOk result (certified.new.min ≡ certified.old.min) }
-    ensures unlearned { IsTrue (is_query (event_of V.Digest.bytes V.plain S.Notarization.plain S.Finalization.plain event))
-        → (certified.new ≡ certified.old) × (life.new ≡ life.old) }
-    ensures loaded { OnOk result (KeepsTakenUp (event_of V.Digest.bytes V.plain S.Notarization.plain S.Finalization.plain event)
-        (seen_knowing V.Commitment.bytes (S.held stores.old) life.old certified.old) (seen (S.held stores.new) life.new)) }
-    ensures by_value { FindsInCache (event_of V.Digest.bytes V.plain S.Notarization.plain S.Finalization.plain event)
-        (seen_knowing V.Commitment.bytes (S.held stores.old) life.old certified.old)
-        → EndsWhereDue (due_fault V.inner (seen_knowing V.Commitment.bytes (S.held stores.old) life.old certified.old) (B.blocks buffer.old)
-        (event_of V.Digest.bytes V.plain S.Notarization.plain S.Finalization.plain event))
-        (outcome (fault_of V.Commitment.bytes) (seen (S.held stores.new) life.new) result) }
-    ensures tells { FindsInCache (event_of V.Digest.bytes V.plain S.Notarization.plain S.Finalization.plain event)
-        (seen_knowing V.Commitment.bytes (S.held stores.old) life.old certified.old)
-        → TellsInOrder (A.told application.old)
-        (tips_of V.inner (seen_knowing V.Commitment.bytes (S.held stores.old) life.old certified.old) (B.blocks buffer.old)
-        (event_of V.Digest.bytes V.plain S.Notarization.plain S.Finalization.plain event)) (A.told application.new)
-        (outcome (fault_of V.Commitment.bytes) (seen (S.held stores.new) life.new) result) }
-{
-    match event {
-        Event::Start => start::<V, S, P, E, A>(stores, life, application),
-        Event::Message(message) => match told_by(message) {
-            Told::Reported(finalization) => report_finalization::<V, S, P, E, B, R, A>(
-                stores,
-                life,
-                &finalization,
-                &*buffer,
-                resolver,
-                application,
-            ),
-            Told::Notarization(notarization) => {
-                notarize::<V, S, B>(stores, notarization, &*buffer)
-            }
-            Told::Certification(certification) => {
-                learn::<V, S, B>(stores, certification.payload(), &*buffer, certified)
-            }
-            Told::Asked(ticket, query) => {
-                answer::<V, S, B>(stores, ticket, query, &*buffer, answers)
-            }
-            Told::Verified {
-                ticket,
-                round,
-                block,
-            } => verify::<V, S>(stores, ticket, round, block, answers),
-            Told::Proposed {
-                ticket,
-                round,
-                recipients,
-                block,
-            } => propose::<V, S, B>(stores, ticket, round, recipients, block, buffer, answers),
-            Told::Prepared {
-                round,
-                recipients,
-                block,
-            } => send::<V, B>(buffer, round, block, recipients),
-            Told::Certified {
-                ticket,
-                round,
-                block,
-            } => certify::<V, S>(stores, ticket, round, block, answers),
-        },
-        Event::Sync(ticket) => {
-            finish::<V, S, P, E, A>(stores, life, ticket, answers, application)
-        }
-        Event::Ack(ticket) => {
-            acknowledge::<V, S, P, E, R, A>(stores, life, ticket, resolver, application)
-        }
     }
 }

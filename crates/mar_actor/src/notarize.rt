@@ -1,15 +1,17 @@
 //! Notarizations that consensus reports.
-ghost use Rattle.std.specs.Prelude.{◌≡◌, ◌+◌, ◌≤◌, ◌-◌, ◌^◌, ◌⊎◌, IfErr, OnOk, map, true};
+ghost use Rattle.std.specs.Prelude.{◌≡◌, None, map, true};
 ghost use Rattle.mar_cert.specs.Finalization.{finalization_bytes};
-ghost use Rattle.mar_store.specs.Changes.{IsNested};
 ghost use Rattle.mar_store.specs.Sizes.{IsSmall};
-ghost use Rattle.mar_model.specs.Faults.{sync_kind, ticket_limit};
-ghost use Rattle.mar_model.specs.Held.{ArePassed, GoesOn, IsUsual, ended_on, written_entries};
-ghost use Rattle.mar_model.specs.Moves.{KeepsFound, found_at_hand};
+ghost use Rattle.mar_model.specs.Event.{message_told};
+ghost use Rattle.mar_model.specs.Messages.{report_notarization};
+ghost use Rattle.mar_model.specs.Moves.{found_at_hand};
+ghost use Rattle.mar_model.specs.Plans.{DoesEvent, found_of, kept_plan};
+ghost use Rattle.mar_model.specs.Promise.{Heard};
+ghost use Rattle.mar_model.specs.Ran.{Does};
+ghost use Rattle.mar_model.specs.Scene.{Standing, Window, scene};
 ghost use Rattle.mar_model.specs.SmallEntries.{AreSmallEntries};
 ghost use Rattle.mar_model.specs.Stored.{AreSmall};
 ghost use Rattle.mar_model.specs.Views.{fault_of};
-ghost use Rattle.mar_actor.specs.Kept.{KeepsReport, LosesReport, notarized_found};
 
 use mar_block::{Buffer, Variant};
 use mar_cert::{AsFinalization, CommitsTo};
@@ -28,22 +30,16 @@ pub(crate) fn notarize<V: Variant, S: HoldsNotarizations<V>, B: Buffer<V>>(
     requires intact { (S.held stores.old).intact ≡ true }
     requires small { IsSmall (finalization_bytes (S.Notarization.plain notarization)) }
     requires small_buffer { AreSmall (B.blocks buffer.now) }
-    ensures keeps { OnOk result (KeepsReport V.inner (B.blocks buffer.now) (S.Notarization.plain notarization) (S.held stores.old) (S.held stores.new)) }
-    ensures passed { IsNested (S.held stores.old).blocks → IsNested (S.held stores.old).certs
-        → OnOk result (ArePassed (S.held stores.old).watches (S.held stores.new).watches) }
-    ensures lost { IsNested (S.held stores.old).blocks → IsNested (S.held stores.old).certs
-        → IfErr result (λ e. LosesReport V.inner (B.blocks buffer.now) (S.Notarization.plain notarization) (S.held stores.old)
-        (ended_on (fault_of V.Commitment.bytes e) (S.held stores.new))) }
-    ensures kind { IfErr result (λ e. IsUsual (fault_of V.Commitment.bytes e)
-        ⊎ ((fault_of V.Commitment.bytes e ≡ ticket_limit sync_kind) × (2 ^ 64 - 1 ≤ (S.held stores.old).writes.next_sync + 1))) }
+    ensures runs { (life : Window) (standing : Standing) (heard : Heard) → DoesEvent V.inner (fault_of V.Commitment.bytes) (B.blocks buffer.now)
+        (message_told None (report_notarization (S.Notarization.plain notarization)))
+        (scene (S.held stores.old) life standing heard) (scene (S.held stores.new) life standing heard) result }
 {
     let round = notarization.round();
     let commitment = notarization.payload();
-    match keep_notarization::<V, S>(stores, notarization) {
-        Ok(_) => {
-            stores.law();
-            keep_found::<V, S, B>(stores, round, commitment, buffer)
-        }
+    let kept = keep_notarization::<V, S>(stores, notarization);
+    stores.law();
+    match kept {
+        Ok(_) => keep_found::<V, S, B>(stores, round, commitment, buffer),
         Err(fault) => Err(fault),
     }
 }
@@ -59,16 +55,17 @@ fn keep_found<V: Variant, S: Holds<V>, B: Buffer<V>>(
     requires small_buffer { AreSmall (B.blocks buffer.now) }
     requires small_cached { AreSmallEntries (S.held stores.old).cache.kept.held }
     requires small_held { AreSmall (map (λ x. x.value) (S.held stores.old).blocks.held) }
-    ensures keeps { OnOk result (KeepsFound round (found_at_hand V.inner (B.blocks buffer.now) (S.held stores.old).cache.kept.held
-        (S.held stores.old).blocks.held (V.Commitment.bytes commitment)) (S.held stores.old) (S.held stores.new)) }
-    ensures goes_on { GoesOn (fault_of V.Commitment.bytes) (S.held stores.old) (written_entries (notarized_found (S.held stores.old) round
-        (found_at_hand V.inner (B.blocks buffer.now) (S.held stores.old).cache.kept.held (S.held stores.old).blocks.held
-        (V.Commitment.bytes commitment)))) (S.held stores.new) result }
-    ensures kind { IfErr result (λ e. IsUsual (fault_of V.Commitment.bytes e)
-        ⊎ ((fault_of V.Commitment.bytes e ≡ ticket_limit sync_kind) × ((S.held stores.old).writes.next_sync ≡ 2 ^ 64 - 1))) }
+    ensures runs { (life : Window) (standing : Standing) (heard : Heard) → Does V.inner (fault_of V.Commitment.bytes)
+        (kept_plan round (found_of (S.held stores.old) round (found_at_hand V.inner (B.blocks buffer.now) (S.held stores.old).cache.kept.held
+        (S.held stores.old).blocks.held (V.Commitment.bytes commitment))))
+        (scene (S.held stores.old) life standing heard) (scene (S.held stores.new) life standing heard) result }
 {
     match block_at_hand::<V, S, B>(stores, commitment, buffer) {
-        Ok(Some(block)) => keep_notarized::<V, S>(stores, round, block),
+        Ok(Some(block)) => {
+            let kept = keep_notarized::<V, S>(stores, round, block);
+            stores.law();
+            kept
+        }
         Ok(None) => Ok(()),
         Err(fault) => Err(fault),
     }

@@ -28,7 +28,7 @@ impl<V: Variant, S: Holds<V>, P: Drop, E: Epocher> Node<V, S, P, E> {
         let floor = stores.floor();
         Shown {
             processed: floor.processed(),
-            acks: &self.life.acks,
+            acks: &self.life.window.acks,
             cutoff: floor.cutoff(),
             blocks_held: stores.blocks_held(),
             blocks_sure: stores.blocks_sure(),

@@ -1,36 +1,31 @@
 //! Syncs that are finished.
-ghost use Rattle.std.specs.Prelude.{◌≡◌, ◌++◌, ◌∷◌, [], List, Ok, OnErr, OnOk, Option, None, false, true};
-ghost use Rattle.mar_cert.specs.Block.{Block};
-ghost use Rattle.mar_key.specs.Keys.{Call};
-ghost use Rattle.mar_store.specs.Changes.{IsNested};
-ghost use Rattle.mar_model.specs.Event.{sync_finished};
-ghost use Rattle.mar_model.specs.Held.{AreCached, outcome, seen};
-ghost use Rattle.mar_model.specs.Moves.{LivesOn};
+ghost use Rattle.std.specs.Prelude.{◌≡◌, List, Ok, OnErr, Option, false, true};
 ghost use Rattle.mar_inbox.specs.Answers.{told};
 ghost use Rattle.mar_inbox.specs.Views.{value_of};
-ghost use Rattle.mar_model.specs.Answers.{Sent, finished_answers};
-ghost use Rattle.mar_model.specs.OpenSyncs.{NoneHas, is_cache_sync};
-ghost use Rattle.mar_model.specs.Promise.{KeepsPromise, heard_by, heard_with};
-ghost use Rattle.mar_model.specs.Writing.{is_open_sync};
+ghost use Rattle.mar_key.specs.Keys.{Call};
+ghost use Rattle.mar_model.specs.Answers.{Sent, TicketAnswer};
+ghost use Rattle.mar_model.specs.OpenSyncs.{is_cache_sync};
+ghost use Rattle.mar_model.specs.Plans.{finish_plan, sync_plan};
+ghost use Rattle.mar_model.specs.Promise.{heard_with};
+ghost use Rattle.mar_model.specs.Ran.{Does};
+ghost use Rattle.mar_model.specs.Scene.{Standing, scene};
 ghost use Rattle.mar_model.specs.Views.{fault_of};
-ghost use Rattle.mar_actor.specs.Due.{EndsWhereDue};
-ghost use Rattle.mar_actor.specs.Told.{TellsInOrder};
+ghost use Rattle.mar_model.specs.Writing.{is_open_sync};
 
 use crate::caching::finish_kept;
 use crate::dispatch::dispatch;
-use crate::life::Life;
+use crate::life::Window;
 use crate::reporter::Reporter;
 use mar_block::Variant;
 use mar_inbox::{AnswerTable, Value};
 use mar_model::{Fault, Holds};
 use mar_rules::let_go;
-use mar_types::Epocher;
 
 /// Finishes the sync of a ticket: of blocks that were kept for a caller, who is answered, or of finalized ones, of which more
 /// may be handed over. A ticket that isn't open changes nothing.
-pub(crate) fn finish<V, S, P, E, A>(
+pub(crate) fn finish<V, S, A>(
     stores: &mut S,
-    life: &mut Life<P, E>,
+    window: &mut Window,
     ticket: u64,
     answers: &mut AnswerTable<Value<V::Digest, V::Block, S::Finalization>>,
     application: &mut A,
@@ -38,62 +33,46 @@ pub(crate) fn finish<V, S, P, E, A>(
 where
     V: Variant,
     S: Holds<V>,
-    E: Epocher,
     A: Reporter<V>,
     requires intact { (S.held stores.old).intact ≡ true }
-    requires cached { AreCached (S.held stores.old) }
-    ensures promise { IsNested (S.held stores.old).blocks → IsNested (S.held stores.old).certs
-        → (heard : Option (List Call)) (sends : Option (List Sent)) (buffer : List Block)
-        → KeepsPromise (sync_finished ticket ∷ []) (E.epochs life.old.epocher) V.inner (seen (S.held stores.old) life.old) buffer
-        (heard_with (A.told application.old) heard sends (told (value_of V.Digest.bytes V.plain S.Finalization.plain) answers.old))
-        (heard_with (A.told application.new) heard sends (told (value_of V.Digest.bytes V.plain S.Finalization.plain) answers.new))
-        (outcome (fault_of V.Commitment.bytes) (seen (S.held stores.new) life.new) result) }
-    ensures answered { OnOk result (told (value_of V.Digest.bytes V.plain S.Finalization.plain) answers.new
-        ≡ told (value_of V.Digest.bytes V.plain S.Finalization.plain) answers.old ++ finished_answers ticket (S.held stores.old).cache.syncs) }
+    ensures runs { (standing : Standing) (asks : Option (List Call)) (sends : Option (List Sent))
+        → Does V.inner (fault_of V.Commitment.bytes) (finish_plan (S.held stores.old) ticket)
+        (scene (S.held stores.old) window.old standing (heard_with (A.told application.old) asks sends
+        (told (value_of V.Digest.bytes V.plain S.Finalization.plain) answers.old)))
+        (scene (S.held stores.new) window.new standing (heard_with (A.told application.new) asks sends
+        (told (value_of V.Digest.bytes V.plain S.Finalization.plain) answers.new))) result }
     ensures unanswered { OnErr result (answers.new ≡ answers.old) }
-    ensures lives { IsNested (S.held stores.old).blocks → IsNested (S.held stores.old).certs
-        → LivesOn (seen (S.held stores.old) life.old) (outcome (fault_of V.Commitment.bytes) (seen (S.held stores.new) life.new) result) }
     ensures idle { is_open_sync (S.held stores.old).writes.syncs ticket ≡ false → is_cache_sync (S.held stores.old).cache.syncs ticket ≡ false
-        → (result ≡ Ok tt) × (S.held stores.new ≡ S.held stores.old) × (life.new ≡ life.old) }
-    ensures by_value { EndsWhereDue None (outcome (fault_of V.Commitment.bytes) (seen (S.held stores.new) life.new) result) }
-    ensures tells { TellsInOrder (A.told application.old) [] (A.told application.new)
-        (outcome (fault_of V.Commitment.bytes) (seen (S.held stores.new) life.new) result) }
+        → (result ≡ Ok tt) × (S.held stores.new ≡ S.held stores.old) × (window.new ≡ window.old) }
 {
     match stores.cache_syncs().find(ticket) {
         Some(open) => finish_kept::<V, S>(stores, ticket, open.answer, answers),
-        None => finish_sync::<V, S, P, E, A>(stores, life, ticket, application),
+        None => finish_sync::<V, S, A>(stores, window, ticket, application),
     }
 }
 
 /// Finishes the sync of both archives of a ticket, which lets go the writes that it covers, and hands over what may follow. A
 /// ticket that isn't open changes nothing; it is none of the cache.
-fn finish_sync<V, S, P, E, A>(
+fn finish_sync<V, S, A>(
     stores: &mut S,
-    life: &mut Life<P, E>,
+    window: &mut Window,
     ticket: u64,
     application: &mut A,
 ) -> Result<(), Fault<V::Commitment>>
 where
     V: Variant,
     S: Holds<V>,
-    E: Epocher,
     A: Reporter<V>,
     requires intact { (S.held stores.old).intact ≡ true }
-    ensures promise { IsNested (S.held stores.old).blocks → IsNested (S.held stores.old).certs → AreCached (S.held stores.old)
-        → NoneHas ticket (S.held stores.old).cache.syncs → (heard : Option (List Call)) (buffer : List Block)
-        → KeepsPromise (sync_finished ticket ∷ []) (E.epochs life.old.epocher) V.inner (seen (S.held stores.old) life.old) buffer
-        (heard_by (A.told application.old) heard) (heard_by (A.told application.new) heard)
-        (outcome (fault_of V.Commitment.bytes) (seen (S.held stores.new) life.new) result) }
-    ensures lives { IsNested (S.held stores.old).blocks → IsNested (S.held stores.old).certs
-        → LivesOn (seen (S.held stores.old) life.old) (outcome (fault_of V.Commitment.bytes) (seen (S.held stores.new) life.new) result) }
+    ensures runs { (standing : Standing) (asks : Option (List Call)) (sends : Option (List Sent)) (answers : List TicketAnswer)
+        → Does V.inner (fault_of V.Commitment.bytes) (sync_plan (is_open_sync (S.held stores.old).writes.syncs ticket) ticket)
+        (scene (S.held stores.old) window.old standing (heard_with (A.told application.old) asks sends answers))
+        (scene (S.held stores.new) window.new standing (heard_with (A.told application.new) asks sends answers)) result }
     ensures idle { is_open_sync (S.held stores.old).writes.syncs ticket ≡ false
-        → (result ≡ Ok tt) × (S.held stores.new ≡ S.held stores.old) × (life.new ≡ life.old) }
-    ensures by_value { EndsWhereDue None (outcome (fault_of V.Commitment.bytes) (seen (S.held stores.new) life.new) result) }
-    ensures tells { TellsInOrder (A.told application.old) [] (A.told application.new)
-        (outcome (fault_of V.Commitment.bytes) (seen (S.held stores.new) life.new) result) }
+        → (result ≡ Ok tt) × (S.held stores.new ≡ S.held stores.old) × (window.new ≡ window.old) }
 {
     if !let_go::<V, S>(stores, ticket)? {
         return Ok(());
     }
-    dispatch::<V, S, P, E, A>(stores, life, application)
+    dispatch::<V, S, A>(stores, window, application)
 }

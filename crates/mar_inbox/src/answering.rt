@@ -10,7 +10,7 @@ ghost use Rattle.mar_key.specs.Processed.{anchor_of};
 ghost use Rattle.mar_key.specs.Views.{processed_of};
 ghost use Rattle.mar_model.specs.Answers.{anchor, block_info, bytes_of, certificate_info, finalization_value, info, or_none, processed_value};
 ghost use Rattle.mar_model.specs.Event.{message_told};
-ghost use Rattle.mar_model.specs.Held.{GoesOn, IsUsual, nothing_written};
+ghost use Rattle.mar_model.specs.Held.{GoesOn, IsReadFault, IsUsual, nothing_written};
 ghost use Rattle.mar_model.specs.Queries.{answers_found, block_found, cached_by_digest, value_found};
 ghost use Rattle.mar_model.specs.Stored.{block_of};
 ghost use Rattle.mar_model.specs.Messages.{of_height};
@@ -41,6 +41,7 @@ pub fn answer<V: Variant, S: Holds<V>, B: Buffer<V>>(
     ensures unanswered { OnErr result (answers.new ≡ answers.old) }
     ensures same { OnOk result (S.held stores.new ≡ record (S.held stores.old) { watches = (S.held stores.new).watches }) }
     ensures goes_on { GoesOn (fault_of V.Commitment.bytes) (S.held stores.old) nothing_written (S.held stores.new) result }
+    ensures read { IfErr result (λ e. IsReadFault (fault_of V.Commitment.bytes e)) }
     ensures usual { IfErr result (λ e. IsUsual (fault_of V.Commitment.bytes e)) }
 {
     let value = value_for::<V, S, B>(stores, query, buffer)?;
@@ -60,6 +61,7 @@ fn value_for<V: Variant, S: Holds<V>, B: Buffer<V>>(
         ≡ Some (value_of V.Digest.bytes V.plain S.Finalization.plain r)) }
     ensures same { OnOk result (S.held stores.new ≡ record (S.held stores.old) { watches = (S.held stores.new).watches }) }
     ensures goes_on { GoesOn (fault_of V.Commitment.bytes) (S.held stores.old) nothing_written (S.held stores.new) result }
+    ensures read { IfErr result (λ e. IsReadFault (fault_of V.Commitment.bytes e)) }
     ensures usual { IfErr result (λ e. IsUsual (fault_of V.Commitment.bytes e)) }
 {
     match query {
@@ -94,6 +96,7 @@ fn info_of<V: Variant, S: Holds<V>>(
         ≡ value_of V.Digest.bytes V.plain S.Finalization.plain r) }
     ensures same { OnOk result (S.held stores.new ≡ record (S.held stores.old) { watches = (S.held stores.new).watches }) }
     ensures goes_on { GoesOn (fault_of V.Commitment.bytes) (S.held stores.old) nothing_written (S.held stores.new) result }
+    ensures read { IfErr result (λ e. IsReadFault (fault_of V.Commitment.bytes e)) }
     ensures usual { IfErr result (λ e. IsUsual (fault_of V.Commitment.bytes e)) }
 {
     match identifier {
@@ -118,6 +121,7 @@ fn info_at<V: Variant, S: Holds<V>>(
         ≡ value_of V.Digest.bytes V.plain S.Finalization.plain r) }
     ensures same { OnOk result (S.held stores.new ≡ record (S.held stores.old) { watches = (S.held stores.new).watches }) }
     ensures goes_on { GoesOn (fault_of V.Commitment.bytes) (S.held stores.old) nothing_written (S.held stores.new) result }
+    ensures read { IfErr result (λ e. IsReadFault (fault_of V.Commitment.bytes e)) }
     ensures usual { IfErr result (λ e. IsUsual (fault_of V.Commitment.bytes e)) }
 {
     match stores.certificate_at(height) {
@@ -145,6 +149,7 @@ fn block_for<V: Variant, S: Holds<V>, B: Buffer<V>>(
         ≡ block_found V.inner (S.held stores.old) (B.blocks buffer.now) (identifier_of V.Digest.bytes identifier)) }
     ensures same { OnOk result (S.held stores.new ≡ record (S.held stores.old) { watches = (S.held stores.new).watches }) }
     ensures goes_on { GoesOn (fault_of V.Commitment.bytes) (S.held stores.old) nothing_written (S.held stores.new) result }
+    ensures read { IfErr result (λ e. IsReadFault (fault_of V.Commitment.bytes e)) }
     ensures usual { IfErr result (λ e. IsUsual (fault_of V.Commitment.bytes e)) }
 {
     match identifier {
@@ -175,6 +180,7 @@ fn kept_block<V: Variant, S: Holds<V>>(
         (block_of (S.held stores.old).blocks.held (V.Digest.bytes digest))) }
     ensures same { OnOk result (S.held stores.new ≡ record (S.held stores.old) { watches = (S.held stores.new).watches }) }
     ensures goes_on { GoesOn (fault_of V.Commitment.bytes) (S.held stores.old) nothing_written (S.held stores.new) result }
+    ensures read { IfErr result (λ e. IsReadFault (fault_of V.Commitment.bytes e)) }
     ensures usual { IfErr result (λ e. IsUsual (fault_of V.Commitment.bytes e)) }
 {
     match stores.cached_block(BlockName::Digest(digest)) {
@@ -192,6 +198,7 @@ fn backing_block<V: Variant, S: Holds<V>>(
         ≡ value_of V.Digest.bytes V.plain S.Finalization.plain r) }
     ensures same { OnOk result (S.held stores.new ≡ record (S.held stores.old) { watches = (S.held stores.new).watches }) }
     ensures goes_on { GoesOn (fault_of V.Commitment.bytes) (S.held stores.old) nothing_written (S.held stores.new) result }
+    ensures read { IfErr result (λ e. IsReadFault (fault_of V.Commitment.bytes e)) }
     ensures usual { IfErr result (λ e. IsUsual (fault_of V.Commitment.bytes e)) }
 {
     match anchor_height::<V, S>(stores) {

@@ -1,7 +1,7 @@
 //! The block that is at hand. A read that fails ends the life.
 ghost use Rattle.std.specs.Option.{option_or};
 ghost use Rattle.std.specs.Prelude.{◌≡◌, IfErr, IfOk, OnOk, option_map};
-ghost use Rattle.mar_model.specs.Held.{GoesOn, IsUsual, nothing_written};
+ghost use Rattle.mar_model.specs.Held.{GoesOn, IsReadFault, IsUsual, nothing_written};
 ghost use Rattle.mar_model.specs.Moves.{cached_by_commitment, found_at_hand, of_commitment};
 ghost use Rattle.mar_model.specs.Stored.{block_of};
 ghost use Rattle.mar_model.specs.Views.{fault_of};
@@ -20,6 +20,7 @@ pub fn block_at_hand<V: Variant, S: Holds<V>, B: Buffer<V>>(
     ensures found { IfOk result (λ r. option_map V.plain r ≡ found_at_hand V.inner (B.blocks buffer.now) (S.held stores.old).cache.kept.held
         (S.held stores.old).blocks.held (V.Commitment.bytes commitment)) }
     ensures goes_on { GoesOn (fault_of V.Commitment.bytes) (S.held stores.old) nothing_written (S.held stores.new) result }
+    ensures read { IfErr result (λ e. IsReadFault (fault_of V.Commitment.bytes e)) }
     ensures usual { IfErr result (λ e. IsUsual (fault_of V.Commitment.bytes e)) }
 {
     match buffer.find_by_commitment(&commitment) {
@@ -39,6 +40,7 @@ fn kept_block<V: Variant, S: Holds<V>>(
         ≡ option_or (cached_by_commitment (V.Commitment.bytes commitment) (S.held stores.old).cache.kept.held)
         (of_commitment (V.Commitment.bytes commitment) (block_of (S.held stores.old).blocks.held (V.inner (V.Commitment.bytes commitment))))) }
     ensures goes_on { GoesOn (fault_of V.Commitment.bytes) (S.held stores.old) nothing_written (S.held stores.new) result }
+    ensures read { IfErr result (λ e. IsReadFault (fault_of V.Commitment.bytes e)) }
     ensures usual { IfErr result (λ e. IsUsual (fault_of V.Commitment.bytes e)) }
 {
     if let Some(block) = stores.cached_block(BlockName::Commitment(commitment))? {

@@ -9,7 +9,7 @@ use Rattle.mar_store.specs.Kept.{At, Kept, value_at}
 use Rattle.mar_store.specs.Tickets.{last_number}
 use Rattle.mar_store.specs.Watch.{Watch}
 use Rattle.mar_model.specs.Faults.{Fault, StoreName, store_fault, want_of_memory}
-use Rattle.mar_model.specs.Held.{IsArchiveFault, IsUsual, MakesSure, Passes}
+use Rattle.mar_model.specs.Held.{IsArchiveFault, IsReadFault, IsUsual, MakesSure, Passes}
 use Rattle.mar_model.specs.Moves.{StoresValue}
 use Rattle.mar_model.specs.Places.{is_open, is_there, kept_at, watch_at}
 use Rattle.mar_model.specs.Pool.{Pool, Pooled, pool_deferred, pool_finished, pool_started, pooled_at, writing_of}
@@ -27,6 +27,11 @@ use Rattle.mar_life.specs.Pooling.{AreHeldIn, AwaitsIn, FailsIn, FinishesIn, Hol
 pub archive_fault : (s : StoreName) (before now : Watch) (fault : Fault) → IsArchiveFault (store_fault s) → IsFaultOf s before fault now → IsArchiveFault fault
 archive_fault s before now fault of_store (inl how) = subst IsArchiveFault (sym how.0) of_store
 archive_fault s before now fault of_store (inr how) = subst IsArchiveFault (sym how.0) tt
+
+-- and one of a store that is read one of those that a read has
+pub read_fault : (s : StoreName) (before now : Watch) (fault : Fault) → IsReadFault (store_fault s) → IsFaultOf s before fault now → IsReadFault fault
+read_fault s before now fault of_store (inl how) = subst IsReadFault (sym how.0) of_store
+read_fault s before now fault of_store (inr how) = subst IsReadFault (sym how.0) tt
 
 pub usual_fault : (s : StoreName) (before now : Watch) (fault : Fault) → IsFaultOf s before fault now → IsUsual fault
 usual_fault s before now fault (inl how) = subst IsUsual (sym how.0) tt

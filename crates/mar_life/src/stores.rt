@@ -3,7 +3,7 @@ ghost use Rattle.std.specs.Prelude.{◌≡◌, IfErr, IfOk, OnOk, option_and_the
 ghost use Rattle.mar_model.specs.AllEntries.{soonest};
 ghost use Rattle.mar_model.specs.Cached.{cached_block};
 ghost use Rattle.mar_model.specs.Entries.{is_sought, sought_block};
-ghost use Rattle.mar_model.specs.Held.{GoesOn, IsUsual, nothing_written};
+ghost use Rattle.mar_model.specs.Held.{GoesOn, IsReadFault, IsUsual, nothing_written};
 ghost use Rattle.mar_model.specs.Views.{fault_of};
 
 use crate::in_place::{self, answered};
@@ -169,6 +169,7 @@ impl<
             (sought_block name)) self.old.held.cache.kept.held)) }
         ensures same { OnOk result (self.new.held ≡ record self.old.held { watches = self.new.held.watches }) }
         ensures goes_on { GoesOn (fault_of V.Commitment.bytes) self.old.held nothing_written self.new.held result }
+        ensures read { IfErr result (λ e. IsReadFault (fault_of V.Commitment.bytes e)) }
         ensures usual { IfErr result (λ e. IsUsual (fault_of V.Commitment.bytes e)) }
     {
         self.cache.find_block(name)

@@ -35,8 +35,8 @@ use Rattle.mar_model.proofs.Growing.{Grew-refl, WithinWritten-nothing, WithinWri
 use Rattle.mar_model.proofs.Handing.{Hears-nothing, Hears-then, HearsFront-nothing, HearsFront-then, HearsFront-more, HandedFrom-held, height_after-consecutive, sure_below, sure_value}
 use Rattle.mar_model.proofs.Reaching.{AreTips, handed_after_tips, tips_before_handed, tips_of_both}
 use Rattle.mar_model.proofs.Soundness.{IsFrom, IsSafePair-kept}
-use Rattle.mar_model.specs.Acts.{AreLawful, Act, IsFaultIn, IsLost, LosesOver, StoreAct, ask, caches, finish_sync, note, progresses, says, send, start_sync, store, store_late, stores, tell, written_cached, written_stored, IsDone, Joins, put_finalization}
-use Rattle.mar_model.specs.Owns.{Course, Owns, after_task, course_of, node_at, own_pair, pair_after, sends_in, noted_cutoff}
+use Rattle.mar_model.specs.Acts.{Act, AreLawful, CacheAct, IsCacheFault, IsDone, IsFaultIn, IsLost, Joins, LosesOver, StoreAct, reply, ask, caches, finish_sync, keep_notarization, keep_notarized, keeps_for, load_cache, mark, note, process, progresses, put_finalization, says, send, start_sync, store, store_late, stores, sync_progress, tell, written_cached, written_stored}
+use Rattle.mar_model.proofs.Owns.{Course, Owns, after_task, course_of, node_at, own_pair, pair_after, sends_in, noted_cutoff}
 use Rattle.mar_model.specs.Ran.{Breaks, FailsRead, Reads, Task, does, dispatches, ends}
 use Rattle.mar_model.specs.Scene.{Scene, seen_of}
 use Rattle.mar_model.proofs.Fitting.{asks_in}
@@ -236,6 +236,15 @@ module _ (config : Config) (chain : Chain) (start : Scene) (e : Event) (buffer :
     started_fits c held start_sync fault (inl archive) = usual_fits c fault (usual_from_archive fault archive) (inr (archive_apart fault archive))
     started_fits c held start_sync fault (inr limit) = record { cause = λ is. absurd (never (is_by_value fault) (ap is_by_value limit.0) is); undropped = ap is_dropped_ack limit.0; unsynced = inr (λ is. let both : ticket_limit sync_kind ≡ store_fault meta_store = sym limit.0 ∙ is in cc) }
 
+    -- a sync that is started for what is kept may find no ticket
+    kept_fits : (c : Course) (a : CacheAct) (held : Held) (fault : Fault) → IsCacheFault a held fault → c.pair ≡ own_pair start → FaultFits c fault
+    kept_fits c (put_finalization f) held fault usual own = usual_fits c fault usual (inl own)
+    kept_fits c (keep_notarization f) held fault (inl usual) own = usual_fits c fault usual (inl own)
+    kept_fits c (keep_notarization f) held fault (inr limit) own = record { cause = λ is. absurd (never (is_by_value fault) (ap is_by_value limit.0) is); undropped = ap is_dropped_ack limit.0; unsynced = inl own }
+    kept_fits c (keep_notarized r b) held fault (inl usual) own = usual_fits c fault usual (inl own)
+    kept_fits c (keep_notarized r b) held fault (inr limit) own = record { cause = λ is. absurd (never (is_by_value fault) (ap is_by_value limit.0) is); undropped = ap is_dropped_ack limit.0; unsynced = inl own }
+    kept_fits c load_cache held fault usual own = usual_fits c fault usual (inl own)
+
     memory_fits : (c : Course) (x : Ending) (held : Held) → x ≡ ended_on want_of_memory held → FaultFits c x.fault
     memory_fits c x held is = usual_fits c x.fault (subst (λ (y : Ending). IsUsual y.fault) (sym is) tt) (inr (λ at. let both : want_of_memory ≡ store_fault meta_store = sym (ap (λ (y : Ending). y.fault) is) ∙ at in cc))
 
@@ -251,7 +260,7 @@ module _ (config : Config) (chain : Chain) (start : Scene) (e : Event) (buffer :
     -- LOST-ACT: a call that fails leaves a cut
     pub Lost-act : (a : Act) (c : Course) (plan : List Task) (s : Scene) → SoFar c (does a ∷ plan) s → Owns config chain n e all start.life.sizes.retention (own_pair start) c (does a ∷ plan) → (x : Ending) (heard : Heard) → IsLost a s x heard → CutsStep config chain n (e ∷ []) start.heard heard x
     Lost-act (caches a) c plan s so (own, within, owns) x heard (loses, usual, same) =
-        Cuts-silent c (does (caches a) ∷ plan) s so x heard (written_cached a) within (over_leaves s (written_cached a) x so.lawful loses) (usual_fits c x.fault usual (inl own)) same
+        Cuts-silent c (does (caches a) ∷ plan) s so x heard (written_cached a) within (over_leaves s (written_cached a) x so.lawful loses) (kept_fits c a s.held x.fault usual own) same
     Lost-act (stores a) c plan s so (within, owns) x heard (loses, fault, same) =
         Cuts-silent c (does (stores a) ∷ plan) s so x heard (written_stored a) within (over_leaves s (written_stored a) x so.lawful loses) (started_fits c s.held a x.fault fault) same
     Lost-act (progresses (note r)) c plan s so (own, is_after, prunes, among, owns) x heard (loses, usual, (front, (rest, whole), asks), same) =
@@ -277,6 +286,11 @@ module _ (config : Config) (chain : Chain) (start : Scene) (e : Event) (buffer :
           blocks_from = omega arith;
           certs_from = omega arith;
         }
+    Lost-act (keeps_for a) c plan s so owns x heard fails = absurd owns
+    Lost-act (progresses (mark ticket m)) c plan s so owns x heard fails = absurd owns
+    Lost-act (progresses (process h)) c plan s so owns x heard fails = absurd owns
+    Lost-act (progresses sync_progress) c plan s so owns x heard fails = absurd owns
+    Lost-act (says (reply y)) c plan s so owns x heard fails = absurd owns
     Lost-act (says (tell r h d)) c plan s so owns x heard (is, reports, same) =
         Cuts-undelivered c (does (says (tell r h d)) ∷ plan) s so x heard nothing_written (WithinWritten-nothing all) (ended_leaves s x want_of_memory so.lawful is) (memory_fits c x s.held is) reports
         (subst (λ (h : Heard). HearsFront s.heard.asks (asks_in c.cutoff plan) h.asks) (sym same) (HearsFront-nothing s.heard.asks (asks_in c.cutoff plan) s.heard.asks (Hears-nothing s.heard.asks)))
@@ -357,6 +371,17 @@ module _ (config : Config) (chain : Chain) (start : Scene) (e : Event) (buffer :
     pub Sound-act : (inner : List ℕ → List ℕ) (a : Act) (c : Course) (plan : List Task) (s t : Scene) → SoFar c (does a ∷ plan) s → Owns config chain n e all start.life.sizes.retention (own_pair start) c (does a ∷ plan) → IsDone inner a s t → SoFar (after_task c (does a)) plan t
     Sound-act inner (caches (put_finalization f)) c plan s t so (own, within, owns) (is, joins, law, same) =
         SoFar-stored c (does (caches (put_finalization f)) ∷ plan) plan s t (written_cached (put_finalization f)) so within joins law same (is.loaded ∙ so.loaded) (ap (λ h. h.pairs) is.same) (ap (λ h. h.processed) is.same) (ap (λ h. h.cutoff) is.same) (ap (λ h. h.witnessed) is.same) refl refl
+    Sound-act inner (caches (keep_notarization f)) c plan s t so (own, within, owns) ((ticket, is), joins, law, same) =
+        SoFar-stored c (does (caches (keep_notarization f)) ∷ plan) plan s t (written_cached (keep_notarization f)) so within joins law same (is.loaded ∙ so.loaded) (ap (λ h. h.pairs) is.same) (ap (λ h. h.processed) is.same) (ap (λ h. h.cutoff) is.same) (ap (λ h. h.witnessed) is.same) refl refl
+    Sound-act inner (caches (keep_notarized r b)) c plan s t so (own, within, owns) ((ticket, is), joins, law, same) =
+        SoFar-stored c (does (caches (keep_notarized r b)) ∷ plan) plan s t (written_cached (keep_notarized r b)) so within joins law same (is.loaded ∙ so.loaded) (ap (λ h. h.pairs) is.same) (ap (λ h. h.processed) is.same) (ap (λ h. h.cutoff) is.same) (ap (λ h. h.witnessed) is.same) refl refl
+    Sound-act inner (caches load_cache) c plan s t so (own, within, owns) (is, joins, law, same) =
+        SoFar-stored c (does (caches load_cache) ∷ plan) plan s t nothing_written so within joins law same is.loaded (ap (λ h. h.pairs) is.same) (ap (λ h. h.processed) is.same) (ap (λ h. h.cutoff) is.same) (ap (λ h. h.witnessed) is.same) refl refl
+    Sound-act inner (keeps_for a) c plan s t so owns done = absurd owns
+    Sound-act inner (progresses (mark ticket m)) c plan s t so owns done = absurd owns
+    Sound-act inner (progresses (process h)) c plan s t so owns done = absurd owns
+    Sound-act inner (progresses sync_progress) c plan s t so owns done = absurd owns
+    Sound-act inner (says (reply y)) c plan s t so owns done = absurd owns
     Sound-act inner (stores (store f b)) c plan s t so (within, owns) (is, joins, law, same) =
         SoFar-stored c (does (stores (store f b)) ∷ plan) plan s t (written_stored (store f b)) so within joins law same (ap (λ h. h.cache.loaded) is.same ∙ so.loaded) (ap (λ h. h.pairs) is.same) (ap (λ h. h.processed) is.same) (ap (λ h. h.cutoff) is.same) (ap (λ h. h.witnessed) is.same) refl refl
     Sound-act inner (stores (store_late f b)) c plan s t so (within, owns) (is, joins, law, same) =
@@ -549,6 +574,11 @@ module _ (config : Config) (chain : Chain) (start : Scene) (e : Event) (buffer :
 
     pub owns_rest : (a : Act) (c : Course) (plan : List Task) → Owns config chain n e all start.life.sizes.retention (own_pair start) c (does a ∷ plan) → Owns config chain n e all start.life.sizes.retention (own_pair start) (after_task c (does a)) plan
     owns_rest (caches a) c plan owns = owns.2
+    owns_rest (keeps_for a) c plan owns = absurd owns
+    owns_rest (progresses (mark ticket m)) c plan owns = absurd owns
+    owns_rest (progresses (process h)) c plan owns = absurd owns
+    owns_rest (progresses sync_progress) c plan owns = absurd owns
+    owns_rest (says (reply y)) c plan owns = absurd owns
     owns_rest (stores a) c plan owns = owns.1
     owns_rest (progresses (note r)) c plan owns = owns.4
     owns_rest (says (tell r h d)) c plan owns = owns.2

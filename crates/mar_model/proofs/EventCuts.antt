@@ -33,7 +33,7 @@ use Rattle.mar_model.proofs.PlainEvents.{nothing_put}
 use Rattle.mar_model.proofs.Soundness.{own_pair_safe, untold}
 use Rattle.mar_model.specs.Moves.{found_at_hand}
 use Rattle.mar_model.specs.Acts.{AreLawful, caches, note, progresses, put_finalization, says, start_sync, store, stores, tell}
-use Rattle.mar_model.specs.Owns.{Owns, course_of, node_at, own_pair, pair_after, sends_in}
+use Rattle.mar_model.proofs.Owns.{Owns, course_of, node_at, own_pair, pair_after, sends_in}
 use Rattle.mar_model.specs.Plans.{at_hand_plan, final_plan, late_plan, note_plan, store_plan, sync_plan}
 use Rattle.mar_model.specs.Ran.{Breaks, Task, does, ends}
 use Rattle.mar_model.specs.Scene.{Scene, seen_of}
@@ -237,7 +237,7 @@ module _ {P E : Type 0} (life : Remembered P E) (epochs : Epochs) (inner : List 
   pub sync_cut : (was_open : Bool) (t : ℕ) → Breaks inner start (sync_plan was_open t) x heard → KeepsStep epochs inner (at life start) (sync_finished t ∷ []) buffer start.heard heard (Err x)
   sync_cut was_open t breaks loaded config chain waiting set step = Cuts-sync config chain start t buffer waiting step inner was_open law loaded x heard breaks
 
-  pub final_cut : (f : Finalization) → Breaks inner start (final_plan inner buffer start.held f) x heard → KeepsStep epochs inner (at life start) (message_told None (report_finalization f) ∷ []) buffer start.heard heard (Err x)
+  pub final_cut : (f : Finalization) → Breaks inner start (final_plan start.held f (found_at_hand inner buffer start.held.cache.kept.held start.held.blocks.held f.payload)) x heard → KeepsStep epochs inner (at life start) (message_told None (report_finalization f) ∷ []) buffer start.heard heard (Err x)
   final_cut f breaks loaded config chain waiting set step =
       Cuts-final config chain start f buffer waiting (subst IsPartition (sym set.epochs_are) partition) set.retention step inner law loaded x heard
       (subst (λ o. Breaks inner start (does (caches (put_finalization f)) ∷ at_hand_plan start.held f o) x heard)

@@ -21,7 +21,7 @@ use Rattle.mar_model.specs.Event.{no_floor}
 use Rattle.mar_model.proofs.FinalizationEvent as final
 use Rattle.mar_model.proofs.Tips.{risen_to-high}
 use Rattle.mar_model.specs.Acts.{AreLawful, caches, note, progresses, put_finalization, says, start_sync, store, stores, tell}
-use Rattle.mar_model.specs.Owns.{node_at, sends_in}
+use Rattle.mar_model.proofs.Owns.{node_at, sends_in}
 use Rattle.mar_model.specs.Plans.{at_hand_plan, late_plan, note_plan, store_plan}
 use Rattle.mar_model.specs.Ran.{Runs, Task, does, ends}
 use Rattle.mar_model.specs.Scene.{Scene, seen_of}

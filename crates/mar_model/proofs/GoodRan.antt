@@ -27,8 +27,8 @@ use Rattle.mar_model.proofs.FloorSafety.{KeepsHeightsFrom}
 use Rattle.mar_model.proofs.PairsAfter.{HasAnchor-kept}
 use Rattle.mar_model.proofs.Soundness.{IsFrom, IsSafePair-kept, own_pair_safe}
 use Rattle.mar_model.proofs.StoredValues.{all_held, held_due}
-use Rattle.mar_model.specs.Acts.{Act, IsDone, ask, caches, finish_sync, note, progresses, put_finalization, says, send, start_sync, store, store_late, stores, tell}
-use Rattle.mar_model.specs.Owns.{Course, Owns, after_task, course_of, node_at, own_pair}
+use Rattle.mar_model.specs.Acts.{Act, IsDone, reply, ask, caches, finish_sync, keep_notarization, keep_notarized, keeps_for, load_cache, mark, process, sync_progress, note, progresses, put_finalization, says, send, start_sync, store, store_late, stores, tell}
+use Rattle.mar_model.proofs.Owns.{Course, Owns, after_task, course_of, node_at, own_pair}
 use Rattle.mar_model.specs.Ran.{Reads, Runs, Task, dispatches, does, ends}
 use Rattle.mar_model.specs.Scene.{Scene}
 use Rattle.mar_model.proofs.CutsRan.{IsOwned, SoFar, SoFar-read, Sound-act, owns_rest}
@@ -67,6 +67,14 @@ abbrev pub Tells : Held → ℕ → Ledger → List Task → Type 0
 Tells start top l [] = ⊤
 Tells start top l (does (stores (store f b)) ∷ plan) = (b.height ≤ top) × Tells start top (after_act l (stores (store f b))) plan
 Tells start top l (does (stores (store_late f b)) ∷ plan) = ((b.height ≤ top) ⊎ ((lacks_finalization start b ≡ false) × (l.unstored ≡ true))) × Tells start top (after_act l (stores (store_late f b))) plan
+Tells start top l (does (caches (keep_notarization f)) ∷ plan) = ⊥
+Tells start top l (does (caches (keep_notarized r b)) ∷ plan) = ⊥
+Tells start top l (does (caches load_cache) ∷ plan) = ⊥
+Tells start top l (does (keeps_for a) ∷ plan) = ⊥
+Tells start top l (does (progresses (mark ticket m)) ∷ plan) = ⊥
+Tells start top l (does (progresses (process h)) ∷ plan) = ⊥
+Tells start top l (does (progresses sync_progress) ∷ plan) = ⊥
+Tells start top l (does (says (reply a)) ∷ plan) = ⊥
 Tells start top l (does a ∷ plan) = Tells start top (after_act l a) plan
 Tells start top l (k ∷ plan) = Tells start top l plan
 
@@ -86,7 +94,11 @@ IsSyncOpen w = 0 < length w.uncovered → Contains (map (λ s. s.position) w.syn
 coherent_act : (a : Act) (c : Course) → c.pair ≡ pair_of c.processed c.cutoff → (after_task c (does a)).pair ≡ pair_of (after_task c (does a)).processed (after_task c (does a)).cutoff
 coherent_act (caches a) c is = is
 coherent_act (stores a) c is = is
+coherent_act (keeps_for a) c is = is
 coherent_act (progresses (note r)) c is = refl
+coherent_act (progresses (mark ticket m)) c is = is
+coherent_act (progresses (process h)) c is = is
+coherent_act (progresses sync_progress) c is = is
 coherent_act (says w) c is = is
 
 coherent_in : (plan : List Task) (c : Course) → c.pair ≡ pair_of c.processed c.cutoff → (course_in c plan).pair ≡ pair_of (course_in c plan).processed (course_in c plan).cutoff
@@ -98,7 +110,11 @@ coherent_in (ends fault ∷ plan) c is = coherent_in plan c is
 processed_act : (a : Act) (c : Course) → (after_task c (does a)).processed ≡ c.processed
 processed_act (caches a) c = refl
 processed_act (stores a) c = refl
+processed_act (keeps_for a) c = refl
 processed_act (progresses (note r)) c = refl
+processed_act (progresses (mark ticket m)) c = refl
+processed_act (progresses (process h)) c = refl
+processed_act (progresses sync_progress) c = refl
 processed_act (says w) c = refl
 
 processed_in : (plan : List Task) (c : Course) → (course_in c plan).processed ≡ c.processed
@@ -138,6 +154,14 @@ module _ (config : Config) (chain : Chain) (start : Scene) (e : Event) (buffer :
 
   Counts-act : (inner : List ℕ → List ℕ) (a : Act) (l : Ledger) (plan : List Task) (s t : Scene) → Counts l s → Tells start.held top l (does a ∷ plan) → IsDone inner a s t → Counts (after_act l a) t
   Counts-act inner (caches (put_finalization f)) l plan s t counts tells (is, joins, law, same) = over l s t counts (ap (λ (x : Scene). x.life) same) (ap (λ h. h.writes) is.same) (ap (λ h. h.blocks) is.same) (ap (λ h. h.certs) is.same)
+  Counts-act inner (caches (keep_notarization f)) l plan s t counts tells did = absurd tells
+  Counts-act inner (caches (keep_notarized r b)) l plan s t counts tells did = absurd tells
+  Counts-act inner (caches load_cache) l plan s t counts tells did = absurd tells
+  Counts-act inner (keeps_for a) l plan s t counts tells did = absurd tells
+  Counts-act inner (progresses (mark ticket m)) l plan s t counts tells did = absurd tells
+  Counts-act inner (progresses (process h)) l plan s t counts tells did = absurd tells
+  Counts-act inner (progresses sync_progress) l plan s t counts tells did = absurd tells
+  Counts-act inner (says (reply a)) l plan s t counts tells did = absurd tells
   Counts-act inner (stores (store f b)) l plan s t counts tells (is, joins, law, same) = record {
     writes = ap (λ h. h.writes) is.same ∙ ap (with_write b.height) counts.writes;
     tip = ap (λ (x : Scene). x.life.tip) same ∙ counts.tip;
@@ -172,12 +196,20 @@ module _ (config : Config) (chain : Chain) (start : Scene) (e : Event) (buffer :
   Counts-act inner (says (send y)) l plan s t counts tells (sends, same) = subst (Counts l) (sym same) (record { writes = counts.writes; tip = counts.tip; same = counts.same; below = counts.below })
 
   tells_rest : (a : Act) (l : Ledger) (plan : List Task) → Tells start.held top l (does a ∷ plan) → Tells start.held top (after_act l a) plan
-  tells_rest (caches a) l plan tells = tells
+  tells_rest (caches (put_finalization f)) l plan tells = tells
+  tells_rest (caches (keep_notarization f)) l plan tells = absurd tells
+  tells_rest (caches (keep_notarized r b)) l plan tells = absurd tells
+  tells_rest (caches load_cache) l plan tells = absurd tells
+  tells_rest (keeps_for a) l plan tells = absurd tells
+  tells_rest (progresses (mark ticket m)) l plan tells = absurd tells
+  tells_rest (progresses (process h)) l plan tells = absurd tells
+  tells_rest (progresses sync_progress) l plan tells = absurd tells
+  tells_rest (says (reply a)) l plan tells = absurd tells
   tells_rest (stores (store f b)) l plan tells = tells.1
   tells_rest (stores (store_late f b)) l plan tells = tells.1
   tells_rest (stores start_sync) l plan tells = tells
   tells_rest (stores (finish_sync k)) l plan tells = tells
-  tells_rest (progresses a) l plan tells = tells
+  tells_rest (progresses (note r)) l plan tells = tells
   tells_rest (says (tell r h d)) l plan tells = tells
   tells_rest (says (ask calls)) l plan tells = tells
   tells_rest (says (send x)) l plan tells = tells

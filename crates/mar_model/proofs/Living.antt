@@ -1,17 +1,19 @@
 -- What a plan keeps of a life, and why it ends one: read off the plan.
 use Rattle.std.specs.Prelude.{⊤}
-use Rattle.std.proofs.Common.{◌≡◌, ◌⊎◌, inl, inr, ◌∷◌, [], List, Bool, true, false, cond, nat_lt, length, ℕ, zero, suc, ◌+◌, ◌-◌, ◌^◌, ◌<◌, ◌≤◌, arith, refl, sym, ◌∙◌, ap, subst}
+use Rattle.std.proofs.Common.{Option, None, Some, ◌≡◌, ◌⊎◌, inl, inr, ◌∷◌, [], List, Bool, true, false, cond, nat_lt, length, ℕ, zero, suc, ◌+◌, ◌-◌, ◌^◌, ◌<◌, ◌≤◌, arith, refl, sym, ◌∙◌, ap, subst}
 use Rattle.std.proofs.lemmas.Bool.Decides.{nat_tests}
 use Rattle.mar_model.specs.Faults.{Fault, TicketKind, ack_kind, corrupt, damaged, dropped_ack, floor_epoch_unavailable, floor_invalid, floor_parent_mismatch, genesis_height, genesis_mismatch, height_limit, is_by_value, store_fault, sync_kind, ticket_limit, unbacked, want_of_memory}
 use Rattle.mar_model.specs.Held.{ArePassed, Ending, IsArchiveFault, IsEndedBy, IsNoStores, IsUsual, Written, ended_on, nothing_written}
 use Rattle.mar_model.specs.Step.{HandedBlock}
 use Rattle.mar_model.specs.Held.{Held, Seen}
-use Rattle.mar_model.specs.Moves.{HasRoom, IsLastTicket, risen_to}
+use Rattle.mar_model.specs.Moves.{HasRoom, IsLastTicket, KeepsFor, risen_to, ticketed}
 use Rattle.mar_model.specs.Promise.{Heard}
 use Rattle.mar_model.proofs.Cutting.{usual_from_archive}
 use Rattle.mar_model.proofs.Growing.{Grew-refl, WithinWritten-refl}
 use Rattle.mar_model.proofs.Passing.{ArePassed-refl, ArePassed-then, FailsBy-nothing, FailsBy-then}
-use Rattle.mar_model.specs.Acts.{Act, AreLawful, Joins, LosesOver, ask, caches, finish_sync, note, progresses, put_finalization, says, send, start_sync, store, store_late, stores, tell}
+use Rattle.mar_model.specs.Acts.{Act, AreLawful, IsKeepFault, Joins, LosesOver, reply, ask, caches, finish_kept, finish_sync, keep_certified, keep_notarization, keep_notarized, keep_verified, keeps_for, load_cache, mark, note, process, progresses, put_finalization, says, send, start_sync, store, store_late, stores, sync_progress, tell}
+use Rattle.mar_model.specs.Cached.{Cached}
+use Rattle.mar_gate.specs.Writing.{Writing}
 use Rattle.mar_model.specs.Ran.{Breaks, DoesTask, FailsTask, Reads, Runs, Task, dispatches, does, ends}
 use Rattle.mar_model.specs.Scene.{Scene, seen_of}
 
@@ -28,7 +30,13 @@ syncs (does (stores start_sync) ∷ plan) = 1 + syncs plan
 syncs (does (stores (store f b)) ∷ plan) = syncs plan
 syncs (does (stores (store_late f b)) ∷ plan) = syncs plan
 syncs (does (stores (finish_sync t)) ∷ plan) = syncs plan
-syncs (does (caches a) ∷ plan) = syncs plan
+syncs (does (caches (put_finalization f)) ∷ plan) = syncs plan
+syncs (does (caches (keep_notarization f)) ∷ plan) = 1 + syncs plan
+syncs (does (caches (keep_notarized r b)) ∷ plan) = 1 + syncs plan
+syncs (does (caches load_cache) ∷ plan) = syncs plan
+syncs (does (keeps_for (keep_verified r b t)) ∷ plan) = 1 + syncs plan
+syncs (does (keeps_for (keep_certified r b t)) ∷ plan) = 1 + syncs plan
+syncs (does (keeps_for (finish_kept t)) ∷ plan) = syncs plan
 syncs (does (progresses a) ∷ plan) = syncs plan
 syncs (does (says a) ∷ plan) = syncs plan
 syncs (dispatches ∷ plan) = syncs plan
@@ -109,9 +117,29 @@ room_within a handed room = by (length handed) room
     by zero fits = omega arith
     by (suc k) fits = let low : length a.life.out + suc k ≤ a.life.sizes.window = fits (omega arith) in omega arith
 
+-- a sync that is started takes one ticket
+ticketed-next : (ticket : Option ℕ) (w : Writing) → (ticketed ticket w).next_sync ≤ w.next_sync + 1
+ticketed-next None w = omega arith
+ticketed-next (Some t) w = omega arith
+
 module _ (inner : List ℕ → List ℕ) (s t : Scene) where
+  -- an entry was put with a sync of its archive
+  kept-over : (life : t.life ≡ s.life) (written : Written) (epoch : ℕ) (put : List Cached) (covered : Cached → Bool) (answer ticket : Option ℕ) → KeepsFor epoch put covered answer ticket s.held t.held → Joins s.held written t.held → AreLawful t.held → Keeps 0 1 s t
+  kept-over life written epoch put covered answer ticket kept joins law =
+      over s t life (λ before. law) (λ before. joined-passed s t written joins before) 1
+      (subst (λ (h : Held). h.writes.next_sync ≤ s.held.writes.next_sync + 1) (sym kept.same) (ticketed-next ticket s.held.writes))
+      (ap (λ h. h.intact) kept.same) (λ was. kept.loaded ∙ was)
+
   Keeps-act : (a : Act) → DoesTask inner (does a) s t → Keeps 0 (syncs (does a ∷ [])) s t
   Keeps-act (caches (put_finalization f)) (is, joins, law, same) = over s t (ap (λ (x : Scene). x.life) same) (λ before. law) (λ before. joined-passed s t _ joins before) 0 (let n : t.held.writes.next_sync ≡ s.held.writes.next_sync = ap (λ h. h.writes.next_sync) is.same in omega arith) (ap (λ h. h.intact) is.same) (λ was. is.loaded ∙ was)
+  Keeps-act (caches (keep_notarization f)) ((ticket, kept), joins, law, same) = kept-over (ap (λ (x : Scene). x.life) same) _ _ _ _ _ ticket kept joins law
+  Keeps-act (caches (keep_notarized r b)) ((ticket, kept), joins, law, same) = kept-over (ap (λ (x : Scene). x.life) same) _ _ _ _ _ ticket kept joins law
+  Keeps-act (caches load_cache) (is, joins, law, same) =
+      over s t (ap (λ (x : Scene). x.life) same) (λ before. law) (λ before. joined-passed s t _ joins before) 0 (let n : t.held.writes.next_sync ≡ s.held.writes.next_sync = ap (λ h. h.writes.next_sync) is.same in omega arith) (ap (λ h. h.intact) is.same) (λ was. is.loaded)
+  Keeps-act (keeps_for (keep_verified r b k)) (answered, is, joins, law, same) = kept-over (ap (λ (x : Scene). x.life) same) _ _ _ _ _ is.sync is.kept joins law
+  Keeps-act (keeps_for (keep_certified r b k)) (answered, is, joins, law, same) = kept-over (ap (λ (x : Scene). x.life) same) _ _ _ _ _ is.sync is.kept joins law
+  Keeps-act (keeps_for (finish_kept k)) (answered, is, joins, law, same) =
+      over s t (ap (λ (x : Scene). x.life) same) (λ before. law) (λ before. joined-passed s t _ joins before) 0 (let n : t.held.writes.next_sync ≡ s.held.writes.next_sync = ap (λ h. h.writes.next_sync) is.0.same in omega arith) (ap (λ h. h.intact) is.0.same) (λ was. is.0.loaded ∙ was)
   Keeps-act (stores (store f b)) (is, joins, law, same) = over s t (ap (λ (x : Scene). x.life) same) (λ before. law) (λ before. joined-passed s t _ joins before) 0 (let n : t.held.writes.next_sync ≡ s.held.writes.next_sync = ap (λ h. h.writes.next_sync) is.same in omega arith) (ap (λ h. h.intact) is.same) (λ was. ap (λ h. h.cache.loaded) is.same ∙ was)
   Keeps-act (stores (store_late f b)) (is, joins, law, same) = over s t (ap (λ (x : Scene). x.life) same) (λ before. law) (λ before. joined-passed s t _ joins before) 0 (let n : t.held.writes.next_sync ≡ s.held.writes.next_sync = ap (λ h. h.writes.next_sync) is.same in omega arith) (ap (λ h. h.intact) is.same) (λ was. ap (λ h. h.cache.loaded) is.same ∙ was)
   Keeps-act (stores start_sync) (is, joins, law, same) = over s t (ap (λ (x : Scene). x.life) same) (λ before. law) (λ before. joined-passed s t _ joins before) 1 (let n : t.held.writes.next_sync ≡ s.held.writes.next_sync + 1 = ap (λ h. h.writes.next_sync) is in omega arith) (ap (λ h. h.intact) is) (λ was. ap (λ h. h.cache.loaded) is ∙ was)
@@ -126,6 +154,28 @@ module _ (inner : List ℕ → List ℕ) (s t : Scene) where
     intact = ap (λ h. h.intact) is.same;
     loaded = λ was. is.prunes.loaded ∙ was;
   }
+  Keeps-act (progresses (mark ticket m)) same = beside s t (ap (λ (x : Scene). x.held) same) (ap (λ (x : Scene). x.life.next_ack) same) (ap (λ (x : Scene). x.life.sizes) same) (let n : t.life.tip ≡ s.life.tip = ap (λ (x : Scene). x.life.tip) same in omega arith)
+  Keeps-act (progresses (process h)) (is, joins, law, heard, same) = record {
+    lawful = λ before. law;
+    passed = λ before. joined-passed s t _ joins before;
+    tickets = let n : t.life.next_ack ≡ s.life.next_ack = ap (λ (x : Scene). x.life.next_ack) same in omega arith;
+    sync_tickets = let n : t.held.writes.next_sync ≡ s.held.writes.next_sync = ap (λ h. h.writes.next_sync) is.same in omega arith;
+    rises = let n : t.life.tip ≡ s.life.tip = ap (λ (x : Scene). x.life.tip) same in omega arith;
+    sizes = ap (λ (x : Scene). x.life.sizes) same;
+    intact = ap (λ h. h.intact) is.same;
+    loaded = λ was. is.prunes.loaded ∙ was;
+  }
+  Keeps-act (progresses sync_progress) (is, law, same) = record {
+    lawful = λ before. law;
+    passed = λ before. is.passed;
+    tickets = let n : t.life.next_ack ≡ s.life.next_ack = ap (λ (x : Scene). x.life.next_ack) same in omega arith;
+    sync_tickets = let n : t.held.writes.next_sync ≡ s.held.writes.next_sync = ap (λ h. h.writes.next_sync) is.same in omega arith;
+    rises = let n : t.life.tip ≡ s.life.tip = ap (λ (x : Scene). x.life.tip) same in omega arith;
+    sizes = ap (λ (x : Scene). x.life.sizes) same;
+    intact = ap (λ h. h.intact) is.same;
+    loaded = λ was. ap (λ h. h.cache.loaded) is.same ∙ was;
+  }
+  Keeps-act (says (reply a)) same = beside s t (ap (λ (x : Scene). x.held) same) (ap (λ (x : Scene). x.life.next_ack) same) (ap (λ (x : Scene). x.life.sizes) same) (let n : t.life.tip ≡ s.life.tip = ap (λ (x : Scene). x.life.tip) same in omega arith)
   Keeps-act (says (tell r h d)) (heard, same) = beside s t (ap (λ (x : Scene). x.held) same) (ap (λ (x : Scene). x.life.next_ack) same) (ap (λ (x : Scene). x.life.sizes) same) (subst (λ (x : Scene). s.life.tip ≤ x.life.tip) (sym same) (risen_from s.life.tip h))
   Keeps-act (says (ask calls)) (heard, same) = beside s t (ap (λ (x : Scene). x.held) same) (ap (λ (x : Scene). x.life.next_ack) same) (ap (λ (x : Scene). x.life.sizes) same) (let n : t.life.tip ≡ s.life.tip = ap (λ (x : Scene). x.life.tip) same in omega arith)
   Keeps-act (says (send x)) (heard, same) = beside s t (ap (λ (y : Scene). y.held) same) (ap (λ (y : Scene). y.life.next_ack) same) (ap (λ (y : Scene). y.life.sizes) same) (let n : t.life.tip ≡ s.life.tip = ap (λ (y : Scene). y.life.tip) same in omega arith)
@@ -156,7 +206,13 @@ syncs-one (does (stores start_sync)) plan = omega arith
 syncs-one (does (stores (store f b))) plan = omega arith
 syncs-one (does (stores (store_late f b))) plan = omega arith
 syncs-one (does (stores (finish_sync t))) plan = omega arith
-syncs-one (does (caches a)) plan = omega arith
+syncs-one (does (caches (put_finalization f))) plan = omega arith
+syncs-one (does (caches (keep_notarization f))) plan = omega arith
+syncs-one (does (caches (keep_notarized r b))) plan = omega arith
+syncs-one (does (caches load_cache)) plan = omega arith
+syncs-one (does (keeps_for (keep_verified r b t))) plan = omega arith
+syncs-one (does (keeps_for (keep_certified r b t))) plan = omega arith
+syncs-one (does (keeps_for (finish_kept t))) plan = omega arith
 syncs-one (does (progresses a)) plan = omega arith
 syncs-one (does (says a)) plan = omega arith
 syncs-one dispatches plan = omega arith
@@ -234,8 +290,23 @@ module _ (s : Scene) (e : Ending) (heard : Heard) (law : AreLawful s.held) where
   memory-ends : e ≡ ended_on want_of_memory s.held → Ends 0 0 s e
   memory-ends is = Ends-usual 0 0 s e (unstored-cause s e want_of_memory is tt) (subst (λ x. IsUsual x.fault) (sym is) tt)
 
+  -- what is kept for a sync finds no ticket where none is left
+  unkept-ends : (written : Written) → LosesOver s.held written e → IsKeepFault s.held e.fault → Ends 0 1 s e
+  unkept-ends written loses (inl usual) = Ends-usual _ _ s e (lost-cause s written e law loses) usual
+  unkept-ends written loses (inr (limit, last)) = record { cause = lost-cause s written e law loses; acks_out = λ is. absurd (let no : ticket_limit sync_kind ≡ ticket_limit ack_kind = sym limit ∙ is in cc); syncs_out = λ is. omega (arith, last) }
+
   Ends-act : (a : Act) → FailsTask (does a) s e heard → Ends 0 (syncs (does a ∷ [])) s e
-  Ends-act (caches a) (loses, usual, same) = Ends-usual _ _ s e (lost-cause s _ e law loses) usual
+  Ends-act (caches (put_finalization f)) (loses, usual, same) = Ends-usual _ _ s e (lost-cause s _ e law loses) usual
+  Ends-act (caches (keep_notarization f)) (loses, kind, same) = unkept-ends _ loses kind
+  Ends-act (caches (keep_notarized r b)) (loses, kind, same) = unkept-ends _ loses kind
+  Ends-act (caches load_cache) (loses, usual, same) = Ends-usual _ _ s e (lost-cause s _ e law loses) usual
+  Ends-act (keeps_for (keep_verified r b t)) (loses, kind, same) = unkept-ends _ loses kind
+  Ends-act (keeps_for (keep_certified r b t)) (loses, kind, same) = unkept-ends _ loses kind
+  Ends-act (keeps_for (finish_kept t)) (loses, usual, same) = Ends-usual _ _ s e (lost-cause s _ e law loses) usual
+  Ends-act (progresses (mark ticket m)) fails = absurd fails
+  Ends-act (progresses (process h)) (loses, usual, asks, same) = Ends-usual _ _ s e (lost-cause s _ e law loses) usual
+  Ends-act (progresses sync_progress) (loses, usual, same) = Ends-usual _ _ s e (lost-cause s _ e law loses) usual
+  Ends-act (says (reply a)) (is, same) = memory-ends is
   Ends-act (stores (store f b)) (loses, archive, same) = Ends-usual _ _ s e (lost-cause s _ e law loses) (usual_from_archive e.fault archive)
   Ends-act (stores (store_late f b)) (loses, archive, same) = Ends-usual _ _ s e (lost-cause s _ e law loses) (usual_from_archive e.fault archive)
   Ends-act (stores (finish_sync t)) (loses, archive, same) = Ends-usual _ _ s e (lost-cause s _ e law loses) (usual_from_archive e.fault archive)

@@ -24,7 +24,7 @@ use Rattle.mar_model.specs.Writing.{with_finished, with_write}
 use Rattle.mar_model.specs.Acts.{AreLawful, IsFaultIn, IsStored, Joins, LosesOver, StoreAct, caches, ask, finish_sync, note, progresses, put_finalization, says, store, store_late, stores, tell, written_stored}
 use Rattle.mar_model.specs.Plans.{let_go_plan}
 use Rattle.mar_model.specs.Ran.{Breaks, Does, DoesTask, FailsRead, FailsTask, Reached, Reads, Runs, Task, dispatches, does, ends}
-use Rattle.mar_model.specs.Scene.{Scene, Waits, Window, scene, seen_of, window_of}
+use Rattle.mar_model.specs.Scene.{Scene, Standing, Window, scene, seen_of, windowed}
 
 pub Reads-refl : (s : Scene) → Reads s s
 Reads-refl s = record { joins = λ start all grew within. grew; same = refl }
@@ -91,83 +91,83 @@ lawful_then new left (Err c) is whole blocks certs written cached = tt
 
 -- A CALL OF THE STORES ALONE
 
-module _ {T C : Type 0} (inner : List ℕ → List ℕ) (fault : C → Fault) (old new : Held) (life : Window) (waits : Waits) (heard : Heard) where
-  pub Does-stored : (a : StoreAct) (result : Result T C) → OnOk result (IsStored inner a old new) → OnOk result (AreLawful new) → GoesOn fault old (written_stored a) new result → IfErr result (λ c. IsFaultIn a old (fault c)) → Does inner fault (does (stores a) ∷ []) (scene old life waits heard) (scene new life waits heard) result
+module _ {T C : Type 0} (inner : List ℕ → List ℕ) (fault : C → Fault) (old new : Held) (life : Window) (standing : Standing) (heard : Heard) where
+  pub Does-stored : (a : StoreAct) (result : Result T C) → OnOk result (IsStored inner a old new) → OnOk result (AreLawful new) → GoesOn fault old (written_stored a) new result → IfErr result (λ c. IsFaultIn a old (fault c)) → Does inner fault (does (stores a) ∷ []) (scene old life standing heard) (scene new life standing heard) result
   Does-stored a (Ok x) is lawful goes usual = Does-task inner fault (does (stores a)) _ _ (Ok x) (is, goes, lawful, refl) tt
-  Does-stored a (Err c) is lawful goes usual = Does-task {T = T} inner fault (does (stores a)) (scene old life waits heard) (scene new life waits heard) (Err c) tt (goes, usual, refl)
+  Does-stored a (Err c) is lawful goes usual = Does-task {T = T} inner fault (does (stores a)) (scene old life standing heard) (scene new life standing heard) (Err c) tt (goes, usual, refl)
 
   -- the sync of a ticket, by the clauses of its call
-  pub Does-finished : (t : ℕ) (result : Result T C) → OnOk result (MakesSure old.blocks new.blocks) → OnOk result (MakesSure old.certs new.certs) → OnOk result (AreWritten new) → OnOk result (new ≡ record old { blocks = new.blocks; certs = new.certs; writes = with_finished t old.writes; watches = new.watches }) → OnOk result (AreLawful new) → GoesOn fault old nothing_written new result → IfErr result (λ c. IsArchiveFault (fault c)) → Does inner fault (does (stores (finish_sync t)) ∷ []) (scene old life waits heard) (scene new life waits heard) result
+  pub Does-finished : (t : ℕ) (result : Result T C) → OnOk result (MakesSure old.blocks new.blocks) → OnOk result (MakesSure old.certs new.certs) → OnOk result (AreWritten new) → OnOk result (new ≡ record old { blocks = new.blocks; certs = new.certs; writes = with_finished t old.writes; watches = new.watches }) → OnOk result (AreLawful new) → GoesOn fault old nothing_written new result → IfErr result (λ c. IsArchiveFault (fault c)) → Does inner fault (does (stores (finish_sync t)) ∷ []) (scene old life standing heard) (scene new life standing heard) result
   Does-finished t (Ok x) blocks certs written same lawful goes archive = Does-stored (finish_sync t) (Ok x) (record { blocks = blocks; certs = certs; written = written; same = same }) lawful goes archive
   Does-finished t (Err c) blocks certs written same lawful goes archive = Does-stored (finish_sync t) (Err c) tt tt goes archive
 
-  pub Does-put : (f : Finalization) (b : Block) (result : Result T C) → OnOk result (Puts (is_held old.blocks.held b) old.blocks (at_own_height b) new.blocks) → OnOk result (Puts (is_certified inner old.certs.held b.height (inner f.payload)) old.certs (at_height b.height f) new.certs) → OnOk result (new ≡ record old { blocks = new.blocks; certs = new.certs; writes = with_write b.height old.writes; watches = new.watches }) → OnOk result (AreLawful new) → GoesOn fault old (written_both (at_own_height b) (at_height b.height f)) new result → IfErr result (λ c. IsArchiveFault (fault c)) → Does inner fault (does (stores (store f b)) ∷ []) (scene old life waits heard) (scene new life waits heard) result
+  pub Does-put : (f : Finalization) (b : Block) (result : Result T C) → OnOk result (Puts (is_held old.blocks.held b) old.blocks (at_own_height b) new.blocks) → OnOk result (Puts (is_certified inner old.certs.held b.height (inner f.payload)) old.certs (at_height b.height f) new.certs) → OnOk result (new ≡ record old { blocks = new.blocks; certs = new.certs; writes = with_write b.height old.writes; watches = new.watches }) → OnOk result (AreLawful new) → GoesOn fault old (written_both (at_own_height b) (at_height b.height f)) new result → IfErr result (λ c. IsArchiveFault (fault c)) → Does inner fault (does (stores (store f b)) ∷ []) (scene old life standing heard) (scene new life standing heard) result
   Does-put f b (Ok x) blocks certs same lawful goes archive = Does-stored (store f b) (Ok x) (record { blocks = blocks; certs = certs; same = same }) lawful goes archive
   Does-put f b (Err c) blocks certs same lawful goes archive = Does-stored (store f b) (Err c) tt tt goes archive
 
   -- the stores were read
-  pub Does-read : (result : Result T C) → OnOk result (new ≡ record old { watches = new.watches }) → GoesOn fault old nothing_written new result → IfErr result (λ c. IsUsual (fault c)) → IfErr result (λ c. fault c ≡ store_fault meta_store → ⊥) → Does inner fault [] (scene old life waits heard) (scene new life waits heard) result
-  Does-read (Ok x) same goes usual apart = λ start whole rest reached. Reached-read inner start whole rest _ _ reached (record { joins = goes; same = ap (λ h. scene h life waits heard) same })
+  pub Does-read : (result : Result T C) → OnOk result (new ≡ record old { watches = new.watches }) → GoesOn fault old nothing_written new result → IfErr result (λ c. IsUsual (fault c)) → IfErr result (λ c. fault c ≡ store_fault meta_store → ⊥) → Does inner fault [] (scene old life standing heard) (scene new life standing heard) result
+  Does-read (Ok x) same goes usual apart = λ start whole rest reached. Reached-read inner start whole rest _ _ reached (record { joins = goes; same = ap (λ h. scene h life standing heard) same })
   Does-read (Err c) same goes usual apart = λ start whole rest reached. reached.breaks _ _ (Breaks-unread inner rest (record { loses = goes; usual = usual; unsynced = apart; same = refl }))
 
-module _ (inner : List ℕ → List ℕ) (start : Scene) (whole rest : List Task) (old : Held) (life : Window) (waits : Waits) (heard : Heard) where
-  pub failed-read : {e : Ending} → Reached inner start whole rest (scene old life waits heard) → LosesOver old nothing_written e → IsUsual e.fault → (e.fault ≡ store_fault meta_store → ⊥) → Breaks inner start whole e heard
+module _ (inner : List ℕ → List ℕ) (start : Scene) (whole rest : List Task) (old : Held) (life : Window) (standing : Standing) (heard : Heard) where
+  pub failed-read : {e : Ending} → Reached inner start whole rest (scene old life standing heard) → LosesOver old nothing_written e → IsUsual e.fault → (e.fault ≡ store_fault meta_store → ⊥) → Breaks inner start whole e heard
   failed-read reached goes usual apart = reached.breaks _ _ (Breaks-unread inner rest (record { loses = goes; usual = usual; unsynced = apart; same = refl }))
 
-  pub cached-done : (f : Finalization) (new : Held) → Reached inner start whole (does (caches (put_finalization f)) ∷ rest) (scene old life waits heard) → CachesFinalization f old new → AreLawful new → Joins old (written_entry (finalization_entry f)) new → Reached inner start whole rest (scene new life waits heard)
+  pub cached-done : (f : Finalization) (new : Held) → Reached inner start whole (does (caches (put_finalization f)) ∷ rest) (scene old life standing heard) → CachesFinalization f old new → AreLawful new → Joins old (written_entry (finalization_entry f)) new → Reached inner start whole rest (scene new life standing heard)
   cached-done f new reached is lawful joins = Reached-more inner start whole _ rest _ _ reached (is, joins, lawful, refl)
 
-  pub cached-failed : (f : Finalization) {e : Ending} → Reached inner start whole (does (caches (put_finalization f)) ∷ rest) (scene old life waits heard) → LosesOver old (written_entry (finalization_entry f)) e → IsUsual e.fault → Breaks inner start whole e heard
+  pub cached-failed : (f : Finalization) {e : Ending} → Reached inner start whole (does (caches (put_finalization f)) ∷ rest) (scene old life standing heard) → LosesOver old (written_entry (finalization_entry f)) e → IsUsual e.fault → Breaks inner start whole e heard
   cached-failed f reached goes usual = Breaks-now inner start whole _ rest _ _ _ reached (goes, usual, refl)
 
-module _ {C : Type 0} (inner : List ℕ → List ℕ) (fault : C → Fault) (old new : Held) (life : Window) (waits : Waits) (heard : Heard) where
-  pub Does-late : (f : Finalization) (b : Block) (result : Result Bool C) → IfOk result (λ r. r ≡ lacks_finalization old b) → IfOk result (λ r. StoresWhere r (is_certified inner old.certs.held b.height (inner f.payload)) old.certs (at_height b.height f) new.certs) → OnOk result (new ≡ record old { certs = new.certs; watches = new.watches }) → OnOk result (AreLawful new) → GoesOn fault old (written_cert (at_height b.height f)) new result → IfErr result (λ c. IsArchiveFault (fault c)) → Does inner fault (does (stores (store_late f b)) ∷ []) (scene old life waits heard) (scene new life waits heard) result
-  Does-late f b (Ok r) lacked certs same lawful goes archive = Does-stored inner fault old new life waits heard (store_late f b) (Ok r) (record { certs = subst (λ c. StoresWhere c (is_certified inner old.certs.held b.height (inner f.payload)) old.certs (at_height b.height f) new.certs) lacked certs; same = same }) lawful goes archive
-  Does-late f b (Err c) lacked certs same lawful goes archive = Does-stored {T = Bool} inner fault old new life waits heard (store_late f b) (Err c) tt tt goes archive
+module _ {C : Type 0} (inner : List ℕ → List ℕ) (fault : C → Fault) (old new : Held) (life : Window) (standing : Standing) (heard : Heard) where
+  pub Does-late : (f : Finalization) (b : Block) (result : Result Bool C) → IfOk result (λ r. r ≡ lacks_finalization old b) → IfOk result (λ r. StoresWhere r (is_certified inner old.certs.held b.height (inner f.payload)) old.certs (at_height b.height f) new.certs) → OnOk result (new ≡ record old { certs = new.certs; watches = new.watches }) → OnOk result (AreLawful new) → GoesOn fault old (written_cert (at_height b.height f)) new result → IfErr result (λ c. IsArchiveFault (fault c)) → Does inner fault (does (stores (store_late f b)) ∷ []) (scene old life standing heard) (scene new life standing heard) result
+  Does-late f b (Ok r) lacked certs same lawful goes archive = Does-stored inner fault old new life standing heard (store_late f b) (Ok r) (record { certs = subst (λ c. StoresWhere c (is_certified inner old.certs.held b.height (inner f.payload)) old.certs (at_height b.height f) new.certs) lacked certs; same = same }) lawful goes archive
+  Does-late f b (Err c) lacked certs same lawful goes archive = Does-stored {T = Bool} inner fault old new life standing heard (store_late f b) (Err c) tt tt goes archive
 
 -- WORDS
 
-module _ {T C : Type 0} (inner : List ℕ → List ℕ) (fault : C → Fault) (waits : Waits) (told : Option (List Report)) (asks asks' : Option (List Call)) (sends : Option (List Sent)) (answers : List TicketAnswer) where
-  pub Does-asked : (held : Held) (life : Window) (calls : List Call) (result : Result T C) → HearsUpTo asks calls asks' result → IfErr result (λ c. fault c ≡ want_of_memory) → Does inner fault (does (says (ask calls)) ∷ []) (scene held life waits (heard_with told asks sends answers)) (scene held life waits (heard_with told asks' sends answers)) result
+module _ {T C : Type 0} (inner : List ℕ → List ℕ) (fault : C → Fault) (standing : Standing) (told : Option (List Report)) (asks asks' : Option (List Call)) (sends : Option (List Sent)) (answers : List TicketAnswer) where
+  pub Does-asked : (held : Held) (life : Window) (calls : List Call) (result : Result T C) → HearsUpTo asks calls asks' result → IfErr result (λ c. fault c ≡ want_of_memory) → Does inner fault (does (says (ask calls)) ∷ []) (scene held life standing (heard_with told asks sends answers)) (scene held life standing (heard_with told asks' sends answers)) result
   Does-asked held life calls (Ok x) hears memory = Does-task inner fault (does (says (ask calls))) _ _ (Ok x) (hears, refl) tt
-  Does-asked held life calls (Err c) hears memory = Does-task {T = T} inner fault (does (says (ask calls))) (scene held life waits (heard_with told asks sends answers)) (scene held life waits (heard_with told asks' sends answers)) (Err c) tt (ap (λ f. ended_on f held) memory, hears, refl)
+  Does-asked held life calls (Err c) hears memory = Does-task {T = T} inner fault (does (says (ask calls))) (scene held life standing (heard_with told asks sends answers)) (scene held life standing (heard_with told asks' sends answers)) (Err c) tt (ap (λ f. ended_on f held) memory, hears, refl)
 
-  pub Does-noted : (old new : Held) (life : Window) (r : Round) (retention : ℕ) (result : Result T C) → life.sizes.retention ≡ retention → OnOk result (new ≡ record (with_cache_of new old) { cutoff = greatest_of old.cutoff (at_round r ∷ []); witnessed = later_round old.witnessed (Some r); pairs = pair_of old.processed (greatest_of old.cutoff (at_round r ∷ [])) ∷ [] }) → OnOk result (PrunesCacheBy (pruned_by retention old.witnessed (r ∷ [])) old new) → OnOk result (ArePassed old.watches new.watches) → OnOk result (AreLawful new) → HearsUpTo asks (raise_asks old.cutoff (at_round r ∷ [])) asks' result → LosesSince fault old (record (written_pair (pair_of old.processed (greatest_of old.cutoff (at_round r ∷ [])))) { prunes = pruned_by retention old.witnessed (r ∷ []) }) new result → IfErr result (λ c. IsUsual (fault c)) → Does inner fault (does (progresses (note r)) ∷ []) (scene old life waits (heard_with told asks sends answers)) (scene new life waits (heard_with told asks' sends answers)) result
+  pub Does-noted : (old new : Held) (life : Window) (r : Round) (retention : ℕ) (result : Result T C) → life.sizes.retention ≡ retention → OnOk result (new ≡ record (with_cache_of new old) { cutoff = greatest_of old.cutoff (at_round r ∷ []); witnessed = later_round old.witnessed (Some r); pairs = pair_of old.processed (greatest_of old.cutoff (at_round r ∷ [])) ∷ [] }) → OnOk result (PrunesCacheBy (pruned_by retention old.witnessed (r ∷ [])) old new) → OnOk result (ArePassed old.watches new.watches) → OnOk result (AreLawful new) → HearsUpTo asks (raise_asks old.cutoff (at_round r ∷ [])) asks' result → LosesSince fault old (record (written_pair (pair_of old.processed (greatest_of old.cutoff (at_round r ∷ [])))) { prunes = pruned_by retention old.witnessed (r ∷ []) }) new result → IfErr result (λ c. IsUsual (fault c)) → Does inner fault (does (progresses (note r)) ∷ []) (scene old life standing (heard_with told asks sends answers)) (scene new life standing (heard_with told asks' sends answers)) result
   Does-noted old new life r retention (Ok x) is same prunes passed lawful hears lost usual = Does-task inner fault (does (progresses (note r))) _ _ (Ok x) (record { prunes = subst (λ k. PrunesCacheBy (pruned_by k old.witnessed (r ∷ [])) old new) (sym is) prunes; passed = passed; same = same }, lawful, hears, refl) tt
-  Does-noted old new life r retention (Err c) is same prunes passed lawful hears lost usual = Does-task {T = T} inner fault (does (progresses (note r))) (scene old life waits (heard_with told asks sends answers)) (scene new life waits (heard_with told asks' sends answers)) (Err c) tt (subst (λ k. LosesOver old (record (written_pair (pair_of old.processed (greatest_of old.cutoff (at_round r ∷ [])))) { prunes = pruned_by k old.witnessed (r ∷ []) }) (ended_on (fault c) new)) (sym is) lost, usual, hears, refl)
+  Does-noted old new life r retention (Err c) is same prunes passed lawful hears lost usual = Does-task {T = T} inner fault (does (progresses (note r))) (scene old life standing (heard_with told asks sends answers)) (scene new life standing (heard_with told asks' sends answers)) (Err c) tt (subst (λ k. LosesOver old (record (written_pair (pair_of old.processed (greatest_of old.cutoff (at_round r ∷ [])))) { prunes = pruned_by k old.witnessed (r ∷ []) }) (ended_on (fault c) new)) (sym is) lost, usual, hears, refl)
 
 -- a tip is told where it is above the last one
-module _ (inner : List ℕ → List ℕ) (held : Held) (life : Window) (waits : Waits) (told : Option (List Report)) (asks : Option (List Call)) (sends : Option (List Sent)) (answers : List TicketAnswer) (r : Round) (h : ℕ) (d : List ℕ) (start : Scene) (whole rest : List Task) (reached : Reached inner start whole (does (says (tell r h d)) ∷ rest) (scene held life waits (heard_with told asks sends answers))) where
-  pub told-low : h ≤ life.tip → Reached inner start whole rest (scene held life waits (heard_with told asks sends answers))
-  told-low low = Reached-more inner start whole _ rest _ _ reached (subst (λ c. Hears told (cond c (new_tip r h d ∷ []) []) told) (sym is) (Hears-nothing told), ap (λ c. scene held (record life { tip = cond c h life.tip }) waits (heard_with told asks sends answers)) (sym is))
+module _ (inner : List ℕ → List ℕ) (held : Held) (life : Window) (standing : Standing) (told : Option (List Report)) (asks : Option (List Call)) (sends : Option (List Sent)) (answers : List TicketAnswer) (r : Round) (h : ℕ) (d : List ℕ) (start : Scene) (whole rest : List Task) (reached : Reached inner start whole (does (says (tell r h d)) ∷ rest) (scene held life standing (heard_with told asks sends answers))) where
+  pub told-low : h ≤ life.tip → Reached inner start whole rest (scene held life standing (heard_with told asks sends answers))
+  told-low low = Reached-more inner start whole _ rest _ _ reached (subst (λ c. Hears told (cond c (new_tip r h d ∷ []) []) told) (sym is) (Hears-nothing told), ap (λ c. scene held (record life { tip = cond c h life.tip }) standing (heard_with told asks sends answers)) (sym is))
     where
       is : nat_lt life.tip h ≡ false
       is = grind (arith, nat_tests)
 
-  pub told-high : (told' : Option (List Report)) → life.tip < h → Hears told (new_tip r h d ∷ []) told' → Reached inner start whole rest (scene held (record life { tip = h }) waits (heard_with told' asks sends answers))
-  told-high told' high hears = Reached-more inner start whole _ rest _ _ reached (subst (λ c. Hears told (cond c (new_tip r h d ∷ []) []) told') (sym is) hears, ap (λ c. scene held (record life { tip = cond c h life.tip }) waits (heard_with told' asks sends answers)) (sym is))
+  pub told-high : (told' : Option (List Report)) → life.tip < h → Hears told (new_tip r h d ∷ []) told' → Reached inner start whole rest (scene held (record life { tip = h }) standing (heard_with told' asks sends answers))
+  told-high told' high hears = Reached-more inner start whole _ rest _ _ reached (subst (λ c. Hears told (cond c (new_tip r h d ∷ []) []) told') (sym is) hears, ap (λ c. scene held (record life { tip = cond c h life.tip }) standing (heard_with told' asks sends answers)) (sym is))
     where
       is : nat_lt life.tip h ≡ true
       is = grind (arith, nat_tests)
 
 -- the sync of a ticket, where it was open
-module _ {C : Type 0} (inner : List ℕ → List ℕ) (fault : C → Fault) (old new : Held) (life : Window) (waits : Waits) (heard : Heard) where
-  pub Does-let_go : (t : ℕ) (was_open : Bool) (result : Result Bool C) → IfOk result (λ r. r ≡ was_open) → IfOk result (λ r. r ≡ false → new ≡ old) → IfErr result (λ c. was_open ≡ true) → OnOk result (MakesSure old.blocks new.blocks) → OnOk result (MakesSure old.certs new.certs) → OnOk result (AreWritten new) → OnOk result (new ≡ record old { blocks = new.blocks; certs = new.certs; writes = with_finished t old.writes; watches = new.watches }) → OnOk result (AreLawful new) → GoesOn fault old nothing_written new result → IfErr result (λ c. IsArchiveFault (fault c)) → Does inner fault (let_go_plan was_open t) (scene old life waits heard) (scene new life waits heard) result
-  Does-let_go t true result is closed failed blocks certs written same lawful goes archive = Does-finished inner fault old new life waits heard t result blocks certs written same lawful goes archive
-  Does-let_go t false (Ok r) is closed failed blocks certs written same lawful goes archive = λ start whole rest reached. subst (λ h. Reached inner start whole rest (scene h life waits heard)) (sym (closed is)) reached
+module _ {C : Type 0} (inner : List ℕ → List ℕ) (fault : C → Fault) (old new : Held) (life : Window) (standing : Standing) (heard : Heard) where
+  pub Does-let_go : (t : ℕ) (was_open : Bool) (result : Result Bool C) → IfOk result (λ r. r ≡ was_open) → IfOk result (λ r. r ≡ false → new ≡ old) → IfErr result (λ c. was_open ≡ true) → OnOk result (MakesSure old.blocks new.blocks) → OnOk result (MakesSure old.certs new.certs) → OnOk result (AreWritten new) → OnOk result (new ≡ record old { blocks = new.blocks; certs = new.certs; writes = with_finished t old.writes; watches = new.watches }) → OnOk result (AreLawful new) → GoesOn fault old nothing_written new result → IfErr result (λ c. IsArchiveFault (fault c)) → Does inner fault (let_go_plan was_open t) (scene old life standing heard) (scene new life standing heard) result
+  Does-let_go t true result is closed failed blocks certs written same lawful goes archive = Does-finished inner fault old new life standing heard t result blocks certs written same lawful goes archive
+  Does-let_go t false (Ok r) is closed failed blocks certs written same lawful goes archive = λ start whole rest reached. subst (λ h. Reached inner start whole rest (scene h life standing heard)) (sym (closed is)) reached
   Does-let_go t false (Err c) is closed failed blocks certs written same lawful goes archive = absurd (let no : false ≡ true = failed in cc)
 
 -- BLOCKS ARE HANDED OVER
 
-module _ {P E : Type 0} (old new : Held) (life life' : Remembered P E) (waits : Waits) (asks : Option (List Call)) (sends : Option (List Sent)) (answers : List TicketAnswer) (told told' : Option (List Report)) where
+module _ (old new : Held) (life life' : Window) (standing : Standing) (asks : Option (List Call)) (sends : Option (List Sent)) (answers : List TicketAnswer) (told told' : Option (List Report)) where
   abbrev before : Scene
-  before = scene old (window_of life) waits (heard_with told asks sends answers)
+  before = scene old life standing (heard_with told asks sends answers)
 
   abbrev after : Scene
-  after = scene new (window_of life') waits (heard_with told' asks sends answers)
+  after = scene new life' standing (heard_with told' asks sends answers)
 
   module _ (inner : List ℕ → List ℕ) (start : Scene) (whole rest : List Task) (reached : Reached inner start whole (dispatches ∷ rest) before) where
-    pub handed-done : Dispatched (seen old life) told told' (Ok (seen new life')) → Reached inner start whole rest after
+    pub handed-done : Dispatched (windowed old life) told told' (Ok (windowed new life')) → Reached inner start whole rest after
     handed-done (handed, heard, ran) = Reached-more inner start whole dispatches rest before after reached (record {
       handed = handed;
       heard = heard;
@@ -175,14 +175,14 @@ module _ {P E : Type 0} (old new : Held) (life life' : Remembered P E) (waits : 
         next = ran.next;
         below_barrier = ran.below_barrier;
         room = ran.room;
-        same = ap (λ s. record (seen_of before) { held = s.held; life = record (seen_of before).life { sizes = s.life.sizes; out = s.life.out; tip = s.life.tip; next_ack = s.life.next_ack } }) ran.same;
+        same = ap (λ s. record (seen_of before) { held = s.held; life = s.life }) ran.same;
         grew = ran.grew;
         still = ran.still;
       };
       same = refl;
     })
 
-    pub handed-stopped : (fault : Fault) → Dispatched (seen old life) told told' (Err (ended_on fault new)) → Breaks inner start whole (ended_on fault new) (heard_with told' asks sends answers)
+    pub handed-stopped : (fault : Fault) → Dispatched (windowed old life) told told' (Err (ended_on fault new)) → Breaks inner start whole (ended_on fault new) (heard_with told' asks sends answers)
     handed-stopped fault (handed, heard, stops) = Breaks-now inner start whole dispatches rest before _ _ reached (record {
       handed = handed;
       told = heard;

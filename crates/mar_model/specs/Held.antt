@@ -398,6 +398,14 @@ IsArchiveFault (store_fault cert_store) = ⊤
 IsArchiveFault want_of_memory = ⊤
 IsArchiveFault _ = ⊥
 
+-- a fault that a read may have: of an archive or of the cache, or want of memory; the metadata is read in memory
+abbrev pub IsReadFault : Fault → Type 0
+IsReadFault (store_fault block_store) = ⊤
+IsReadFault (store_fault cert_store) = ⊤
+IsReadFault (store_fault cache_store) = ⊤
+IsReadFault want_of_memory = ⊤
+IsReadFault _ = ⊥
+
 -- no store's fault
 abbrev pub IsNoStores : Fault → Type 0
 IsNoStores (store_fault s) = ⊥

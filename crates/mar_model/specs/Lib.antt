@@ -40,4 +40,5 @@ pub mod Scene
 pub mod Acts
 pub mod Ran
 pub mod Plans
-pub mod Owns
+pub mod Due
+pub mod Told

@@ -6,9 +6,10 @@ ghost use Rattle.mar_store.specs.Kept.{has_height, value_at};
 ghost use Rattle.mar_store.specs.Named.{last_index};
 ghost use Rattle.mar_store.specs.Ranges.{ranges};
 ghost use Rattle.mar_store.specs.Sizes.{IsSmall};
+ghost use Rattle.mar_model.specs.Acts.{AreLawful};
 ghost use Rattle.mar_model.specs.CacheCalls.{JoinsTickets, KeepsTickets, none_goes};
 ghost use Rattle.mar_model.specs.Cached.{finalization_entry};
-ghost use Rattle.mar_model.specs.Held.{AreCached, AreWritten, GoesOn, IsArchiveFault, IsUsual, LosesOpening, MakesSure, Remains, ReopensAs};
+ghost use Rattle.mar_model.specs.Held.{AreCached, AreWritten, GoesOn, IsArchiveFault, IsReadFault, IsUsual, LosesOpening, MakesSure, Remains, ReopensAs};
 ghost use Rattle.mar_model.specs.Held.{nothing_written, remains_of, with_armed, written_block, written_cert, written_entry};
 ghost use Rattle.mar_model.specs.Metadata.{first_pair};
 ghost use Rattle.mar_model.specs.Faults.{sync_kind, ticket_limit};
@@ -95,6 +96,7 @@ pub trait Holds<V: Variant>: HoldsProgress<V> {
         ensures small_cached { (Self.held self.now).intact ≡ true → AreSmallEntries (Self.held self.now).cache.kept.held }
         ensures written { (Self.held self.now).intact ≡ true → AreWritten (Self.held self.now) }
         ensures cached { (Self.held self.now).intact ≡ true → AreCached (Self.held self.now) }
+        ensures lawful { (Self.held self.now).intact ≡ true → AreLawful (Self.held self.now) }
         ensures joins { JoinsTickets (Self.covers self.now) };
 
     /// Makes the counted call of a store fail that is so many calls away, 1 being the next.
@@ -149,6 +151,7 @@ pub trait Holds<V: Variant>: HoldsProgress<V> {
         ensures same { OnOk result (Self.held self.new ≡ record (Self.held self.old) { watches = (Self.held self.new).watches }) }
         ensures goes_on { GoesOn (fault_of V.Commitment.bytes) (Self.held self.old) nothing_written (Self.held self.new) result }
         ensures archive { IfErr result (λ e. IsArchiveFault (fault_of V.Commitment.bytes e)) }
+        ensures read { IfErr result (λ e. IsReadFault (fault_of V.Commitment.bytes e)) }
         ensures usual { IfErr result (λ e. IsUsual (fault_of V.Commitment.bytes e)) };
 
     /// The block that is held at a height.
@@ -160,6 +163,7 @@ pub trait Holds<V: Variant>: HoldsProgress<V> {
         ensures same { OnOk result (Self.held self.new ≡ record (Self.held self.old) { watches = (Self.held self.new).watches }) }
         ensures goes_on { GoesOn (fault_of V.Commitment.bytes) (Self.held self.old) nothing_written (Self.held self.new) result }
         ensures archive { IfErr result (λ e. IsArchiveFault (fault_of V.Commitment.bytes e)) }
+        ensures read { IfErr result (λ e. IsReadFault (fault_of V.Commitment.bytes e)) }
         ensures usual { IfErr result (λ e. IsUsual (fault_of V.Commitment.bytes e)) };
 
     /// A held block of this digest.
@@ -170,6 +174,7 @@ pub trait Holds<V: Variant>: HoldsProgress<V> {
         ensures same { OnOk result (Self.held self.new ≡ record (Self.held self.old) { watches = (Self.held self.new).watches }) }
         ensures goes_on { GoesOn (fault_of V.Commitment.bytes) (Self.held self.old) nothing_written (Self.held self.new) result }
         ensures archive { IfErr result (λ e. IsArchiveFault (fault_of V.Commitment.bytes e)) }
+        ensures read { IfErr result (λ e. IsReadFault (fault_of V.Commitment.bytes e)) }
         ensures usual { IfErr result (λ e. IsUsual (fault_of V.Commitment.bytes e)) };
 
     /// Keeps a finalization in the cache and makes it sure. Nothing is kept of an epoch below the lowest.
@@ -196,6 +201,7 @@ pub trait Holds<V: Variant>: HoldsProgress<V> {
         ensures same { OnOk result (Self.held self.new ≡ record (Self.held self.old) { watches = (Self.held self.new).watches }) }
         ensures goes_on { GoesOn (fault_of V.Commitment.bytes) (Self.held self.old) nothing_written (Self.held self.new) result }
         ensures archive { IfErr result (λ e. IsArchiveFault (fault_of V.Commitment.bytes e)) }
+        ensures read { IfErr result (λ e. IsReadFault (fault_of V.Commitment.bytes e)) }
         ensures usual { IfErr result (λ e. IsUsual (fault_of V.Commitment.bytes e)) };
 
     /// Whether a finalization is held at a height.
@@ -206,6 +212,7 @@ pub trait Holds<V: Variant>: HoldsProgress<V> {
         ensures same { OnOk result (Self.held self.new ≡ record (Self.held self.old) { watches = (Self.held self.new).watches }) }
         ensures goes_on { GoesOn (fault_of V.Commitment.bytes) (Self.held self.old) nothing_written (Self.held self.new) result }
         ensures archive { IfErr result (λ e. IsArchiveFault (fault_of V.Commitment.bytes e)) }
+        ensures read { IfErr result (λ e. IsReadFault (fault_of V.Commitment.bytes e)) }
         ensures usual { IfErr result (λ e. IsUsual (fault_of V.Commitment.bytes e)) };
 
     /// Stores a block above the processed height. The write waits for a sync, below which nothing is handed over, and the
@@ -225,6 +232,7 @@ pub trait Holds<V: Variant>: HoldsProgress<V> {
         }) }
         ensures goes_on { GoesOn (fault_of V.Commitment.bytes) (Self.held self.old) (written_block (at_own_height (V.plain block)))
             (Self.held self.new) result }
+        ensures archive { IfErr result (λ e. IsArchiveFault (fault_of V.Commitment.bytes e)) }
         ensures usual { IfErr result (λ e. IsUsual (fault_of V.Commitment.bytes e)) };
 
     /// Stores the finalization of the block that was put last, with which it waits for a sync.
@@ -258,6 +266,7 @@ pub trait Holds<V: Variant>: HoldsProgress<V> {
             ≡ record (Self.held self.old) { blocks = (Self.held self.new).blocks; watches = (Self.held self.new).watches }) }
         ensures goes_on { GoesOn (fault_of V.Commitment.bytes) (Self.held self.old) (written_block (at_own_height (V.plain block.now)))
             (Self.held self.new) result }
+        ensures archive { IfErr result (λ e. IsArchiveFault (fault_of V.Commitment.bytes e)) }
         ensures usual { IfErr result (λ e. IsUsual (fault_of V.Commitment.bytes e)) };
 
     /// Stores a finalization at a height and makes it durable at once; the writes that wait for a sync go on waiting.

@@ -7,7 +7,7 @@ ghost use Rattle.mar_model.specs.CacheCalls.{none_goes};
 ghost use Rattle.mar_model.specs.Cached.{Cached, cached_block, notarized_entry, verified_entry};
 ghost use Rattle.mar_model.specs.Entries.{has_digest, is_sought, is_verified_at, sought_block};
 ghost use Rattle.mar_model.specs.Queries.{cached_at};
-ghost use Rattle.mar_model.specs.Held.{GoesOn, Held, IsUsual, nothing_written, written_entry, written_prune};
+ghost use Rattle.mar_model.specs.Held.{GoesOn, Held, IsReadFault, IsUsual, nothing_written, written_entry, written_prune};
 ghost use Rattle.mar_model.specs.Lives.{ArePicked};
 ghost use Rattle.mar_model.specs.Moves.{CachesEntry, FinishesCacheSync, PrunesCache, StartsCacheSync, with_cache_sync};
 ghost use Rattle.mar_model.specs.OpenSyncs.{AreStillOpen, syncs_by};
@@ -149,6 +149,7 @@ pub trait HoldsCache<V: Variant> {
             (sought_block name)) (held self.old).cache.kept.held)) }
         ensures same { OnOk result (held self.new ≡ record (held self.old) { watches = (held self.new).watches }) }
         ensures goes_on { GoesOn (fault_of V.Commitment.bytes) (held self.old) nothing_written (held self.new) result }
+        ensures read { IfErr result (λ e. IsReadFault (fault_of V.Commitment.bytes e)) }
         ensures usual { IfErr result (λ e. IsUsual (fault_of V.Commitment.bytes e)) };
 
     /// The cached block that was verified in a round, of several the one put first.
@@ -158,6 +159,7 @@ pub trait HoldsCache<V: Variant> {
         ensures found { IfOk result (λ r. option_map V.plain r ≡ cached_at round (held self.old).cache.kept.held) }
         ensures same { OnOk result (held self.new ≡ record (held self.old) { watches = (held self.new).watches }) }
         ensures goes_on { GoesOn (fault_of V.Commitment.bytes) (held self.old) nothing_written (held self.new) result }
+        ensures read { IfErr result (λ e. IsReadFault (fault_of V.Commitment.bytes e)) }
         ensures usual { IfErr result (λ e. IsUsual (fault_of V.Commitment.bytes e)) };
 
     /// Whether the block of a digest is cached as verified in a round.
@@ -172,5 +174,6 @@ pub trait HoldsCache<V: Variant> {
             (held self.old).cache.kept.held) }
         ensures same { OnOk result (held self.new ≡ record (held self.old) { watches = (held self.new).watches }) }
         ensures goes_on { GoesOn (fault_of V.Commitment.bytes) (held self.old) nothing_written (held self.new) result }
+        ensures read { IfErr result (λ e. IsReadFault (fault_of V.Commitment.bytes e)) }
         ensures usual { IfErr result (λ e. IsUsual (fault_of V.Commitment.bytes e)) };
 }

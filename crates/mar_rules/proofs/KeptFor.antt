@@ -1,5 +1,5 @@
 -- What the calls of a rule that keeps a block come to.
-use Rattle.std.proofs.Common.{◌≡◌, ◌⊎◌, inl, inr, ◌<◌, ◌≤◌, ◌==◌, ◌&&◌, ◌||◌, ℕ, List, [], ◌∷◌, ◌++◌, Bool, true, false, cond, filter, Option, Some, None, Result, Ok, Err, IfOk, OnOk, Contains, refl, sym, ◌∙◌, ap, subst, arith}
+use Rattle.std.proofs.Common.{IfErr, ◌≡◌, ◌⊎◌, inl, inr, ◌<◌, ◌≤◌, ◌==◌, ◌&&◌, ◌||◌, ℕ, List, [], ◌∷◌, ◌++◌, Bool, true, false, cond, filter, Option, Some, None, Result, Ok, Err, IfOk, OnOk, Contains, refl, sym, ◌∙◌, ap, subst, arith}
 use Rattle.std.specs.List.{list_any}
 use Rattle.std.proofs.lemmas.Bool.{eq-eqb}
 use Rattle.std.proofs.lemmas.List.Elements.{Contains-append_left, Contains-append_right}
@@ -178,6 +178,11 @@ kept_certified r b answer started others old mid new covers now later joins puts
 -- what a look for the digest of a block tells
 pub verified_found : (r : Round) (b : Block) (h : Held) (digest : List ℕ) (found is : Bool) → digest ≡ b.digest → found ≡ list_any (λ x. is_verified_at r x && has_digest digest (cached_block x)) h.cache.kept.held → found ≡ is → is_verified_in h r b ≡ is
 verified_found r b h digest found is own found_is is_so = sym (verified-is r b h.cache.kept.held) ∙ subst (λ d. list_any (λ x. is_verified_at r x && has_digest d (cached_block x)) h.cache.kept.held ≡ is) own (sym found_is ∙ is_so)
+
+-- nothing is owed of a block that was verified where this one wasn't
+pub unverified_owes : {T E : Type 0} (result : Result T E) (P : E → Type 0) (v : Bool) → v ≡ false → IfErr result (λ e. v ≡ true → P e)
+unverified_owes (Ok x) P v is = tt
+unverified_owes (Err e) P v is = λ was. absurd (let both : false ≡ true = sym is ∙ was in cc)
 
 -- what is said of what a call took in
 pub taken_in : {E : Type 0} (P : Option ℕ → Held → Type 0) (result : Result (Option ℕ) E) (ticket : Option ℕ) (opened new : Held) → OnOk result (new ≡ opened) → IfOk result (λ t. t ≡ ticket) → P ticket opened → IfOk result (λ t. P t new)

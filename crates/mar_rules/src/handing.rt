@@ -2,11 +2,14 @@
 ghost use Rattle.std.specs.List.{AllByRecursion};
 ghost use Rattle.std.specs.Prelude.{◌≡◌, ◌<◌, ◌≤◌, ◌⊎◌, ℕ, Contains, IfErr, IfNone, IfOk, IfSome, OnOk, false, true};
 ghost use Rattle.mar_model.specs.Faults.{last_height};
-ghost use Rattle.mar_model.specs.Held.{AreWritten, GoesOn, IsArchiveFault, IsUsual, MakesSure, nothing_written};
+ghost use Rattle.mar_model.specs.Held.{GoesOn, IsArchiveFault, nothing_written};
+ghost use Rattle.mar_model.specs.Plans.{let_go_plan};
+ghost use Rattle.mar_model.specs.Promise.{Heard};
+ghost use Rattle.mar_model.specs.Ran.{Does};
+ghost use Rattle.mar_model.specs.Scene.{Standing, Window, scene};
 ghost use Rattle.mar_model.specs.Views.{fault_of};
-ghost use Rattle.mar_model.specs.Writing.{is_open_sync, with_finished};
+ghost use Rattle.mar_model.specs.Writing.{is_open_sync};
 ghost use Rattle.mar_rules.specs.Next.{IsReady, IsUnready};
-ghost use Rattle.mar_store.specs.Changes.{IsNested};
 
 use mar_cert::Variant;
 use mar_model::{Fault, Holds, Writes};
@@ -51,23 +54,12 @@ pub fn let_go<V: Variant, S: Holds<V>>(
     ensures was_open { IfOk result (λ r. r ≡ is_open_sync (S.held stores.old).writes.syncs ticket) }
     ensures closed { IfOk result (λ r. r ≡ false → S.held stores.new ≡ S.held stores.old) }
     ensures failed { IfErr result (λ e. is_open_sync (S.held stores.old).writes.syncs ticket ≡ true) }
-    ensures blocks { OnOk result (MakesSure (S.held stores.old).blocks (S.held stores.new).blocks) }
-    ensures certs { OnOk result (MakesSure (S.held stores.old).certs (S.held stores.new).certs) }
-    ensures same { OnOk result (S.held stores.new ≡ record (S.held stores.old) {
-      blocks = (S.held stores.new).blocks;
-      certs = (S.held stores.new).certs;
-      writes = with_finished ticket (S.held stores.old).writes;
-      watches = (S.held stores.new).watches;
-    }) }
-    ensures written_before { AreWritten (S.held stores.old) }
-    ensures written { OnOk result (AreWritten (S.held stores.new)) }
-    ensures nested_blocks { OnOk result (IsNested (S.held stores.new).blocks) }
-    ensures nested_certs { OnOk result (IsNested (S.held stores.new).certs) }
-    ensures goes_on { GoesOn (fault_of V.Commitment.bytes) (S.held stores.old) nothing_written (S.held stores.new) result }
-    ensures usual { IfErr result (λ e. IsUsual (fault_of V.Commitment.bytes e)) }
+    ensures whole { OnOk result ((S.held stores.new).intact ≡ true) }
+    ensures runs { (life : Window) (standing : Standing) (heard : Heard) → Does V.inner (fault_of V.Commitment.bytes)
+        (let_go_plan (is_open_sync (S.held stores.old).writes.syncs ticket) ticket)
+        (scene (S.held stores.old) life standing heard) (scene (S.held stores.new) life standing heard) result }
 {
+    let was_open = stores.finish_sync(ticket);
     stores.law();
-    let was_open = stores.finish_sync(ticket)?;
-    stores.law();
-    Ok(was_open)
+    was_open
 }

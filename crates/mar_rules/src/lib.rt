@@ -14,4 +14,4 @@ pub use handing::{let_go, take_ready};
 pub use keeping::{keep_certified, keep_verified};
 pub use notarizing::{keep_notarization, keep_notarized};
 pub use raising::{note_round, process};
-pub use storing::{is_above, put, put_late, request};
+pub use storing::{is_above, put, put_late, request, start};

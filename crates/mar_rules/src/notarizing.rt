@@ -1,12 +1,12 @@
 //! How a notarization and its block are kept in the cache, each with a sync that is to make it sure and that nobody waits
 //! for. A call that fails ends the life.
-ghost use Rattle.std.specs.Prelude.{◌≡◌, ◌∷◌, ◌-◌, ◌^◌, ◌⊎◌, [], IfErr, IfOk, None, OnOk, false};
+ghost use Rattle.std.specs.Prelude.{◌≡◌, ◌∷◌, ◌-◌, ◌^◌, ◌⊎◌, [], IfErr, IfOk, None, OnOk, false, true};
 ghost use Rattle.mar_cert.specs.Finalization.{finalization_bytes};
 ghost use Rattle.mar_store.specs.Sizes.{IsSmall};
 ghost use Rattle.mar_model.specs.Cache.{is_notarization_of, notarized_where};
 ghost use Rattle.mar_model.specs.Cached.{notarization_entry, notarized_entry};
 ghost use Rattle.mar_model.specs.Faults.{sync_kind, ticket_limit};
-ghost use Rattle.mar_model.specs.Held.{GoesOn, IsUsual, written_entries, written_entry};
+ghost use Rattle.mar_model.specs.Held.{GoesOn, IsReadFault, IsUsual, written_entries, written_entry};
 ghost use Rattle.mar_model.specs.Moves.{KeepsFor, KeepsNotarizedWhere, is_verified_in};
 ghost use Rattle.mar_model.specs.Views.{fault_of};
 
@@ -53,6 +53,8 @@ pub fn keep_notarized<V: Variant, S: Holds<V>>(
         (written_entries (notarized_where (is_verified_in (S.held stores.old) round (V.plain block)) round (V.plain block))) (S.held stores.new) result }
     ensures kind { IfErr result (λ e. IsUsual (fault_of V.Commitment.bytes e)
         ⊎ ((fault_of V.Commitment.bytes e ≡ ticket_limit sync_kind) × ((S.held stores.old).writes.next_sync ≡ 2 ^ 64 - 1))) }
+    ensures read { IfErr result (λ e. is_verified_in (S.held stores.old) round (V.plain block) ≡ true
+        → IsReadFault (fault_of V.Commitment.bytes e)) }
 {
     match stores.has_verified(round, V::digest(&block)) {
         Ok(true) => Ok(()),

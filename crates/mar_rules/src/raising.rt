@@ -1,14 +1,20 @@
 //! How the processed height and the cutoff rise, and a round is witnessed. A call that fails ends the life.
-ghost use Rattle.std.specs.Prelude.{◌≡◌, ◌∷◌, [], IfErr, OnOk, Some, option_map, option_to_list, true};
+ghost use Rattle.std.specs.Prelude.{◌≡◌, ◌∷◌, [], IfErr, List, OnOk, Option, Some, option_map, option_to_list, true};
 ghost use Rattle.mar_key.specs.Keys.{above_height, retain};
 ghost use Rattle.mar_key.specs.Cutoff.{at_round, greatest_of};
 ghost use Rattle.mar_key.specs.Processed.{at_block};
 ghost use Rattle.mar_key.specs.Views.{cutoff_of};
+ghost use Rattle.mar_model.specs.Acts.{note, progresses};
+ghost use Rattle.mar_model.specs.Answers.{Sent, TicketAnswer};
 ghost use Rattle.mar_model.specs.Event.{closed_at, retired, round_at};
 ghost use Rattle.mar_model.specs.Held.{ArePassed, GoesOn, IsUsual, LosesSince, nothing_written, written_pair, written_prunes};
 ghost use Rattle.mar_model.specs.Lives.{later_round};
 ghost use Rattle.mar_model.specs.Moves.{HearsUpTo, PrunesCacheBy, pruned_by, with_cache_of};
+ghost use Rattle.mar_model.specs.Promise.{heard_with};
+ghost use Rattle.mar_model.specs.Ran.{Does, does};
 ghost use Rattle.mar_model.specs.Requests.{raise_asks};
+ghost use Rattle.mar_model.specs.Scene.{Standing, Window, scene};
+ghost use Rattle.mar_model.specs.Step.{Report};
 ghost use Rattle.mar_model.specs.Views.{fault_of};
 ghost use Rattle.mar_rules.specs.Noted.{noted_pair};
 
@@ -22,6 +28,27 @@ use mar_types::{Epocher, Height, Round};
 /// round is newer than the last one witnessed, the cache is pruned first: what lies up to `retention` views below that last one
 /// stays.
 pub fn note_round<V: Variant, S: Holds<V>, R: Resolver<V::Commitment>>(
+    stores: &mut S,
+    round: Round,
+    retention: u64,
+    resolver: &mut R,
+) -> Result<(), Fault<V::Commitment>>
+    requires intact { (S.held stores.old).intact ≡ true }
+    ensures whole { OnOk result ((S.held stores.new).intact ≡ true) }
+    ensures blocks { OnOk result ((S.held stores.new).blocks ≡ (S.held stores.old).blocks) }
+    ensures certs { OnOk result ((S.held stores.new).certs ≡ (S.held stores.old).certs) }
+    ensures runs { (life : Window) (standing : Standing) (told : Option (List Report)) (sends : Option (List Sent)) (answers : List TicketAnswer)
+        → life.sizes.retention ≡ retention → Does V.inner (fault_of V.Commitment.bytes) (does (progresses (note round)) ∷ [])
+        (scene (S.held stores.old) life standing (heard_with told (R.told resolver.old) sends answers))
+        (scene (S.held stores.new) life standing (heard_with told (R.told resolver.new) sends answers)) result }
+{
+    let noted = witness_durably::<V, S, R>(stores, round, retention, resolver);
+    stores.law();
+    noted
+}
+
+// Witnesses the round, and syncs the metadata.
+fn witness_durably<V: Variant, S: Holds<V>, R: Resolver<V::Commitment>>(
     stores: &mut S,
     round: Round,
     retention: u64,

@@ -1,27 +1,47 @@
-use Rattle.std.proofs.Common.{inl}
-use Rattle.std.proofs.lemmas.Result.{on_ok_weaker}
-use Rattle.mar_model.specs.Cached.{notarization_entry}
-use Rattle.mar_model.specs.Held.{written_entry}
-use Rattle.mar_model.specs.Views.{fault_of}
-use Rattle.mar_model.proofs.Growing.{Grew-refl, WithinWritten-refl}
-use Rattle.mar_actor.proofs.Notarized.{found_lost, found_passed}
+use Rattle.std.proofs.Common.{None, ap, refl, ◌∙◌, ◌≡◌, true}
+use Rattle.mar_model.specs.Acts.{keep_notarization}
+use Rattle.mar_model.specs.Moves.{found_at_hand}
+use Rattle.mar_model.specs.Plans.{found_by, found_of}
+use Rattle.mar_model.specs.Event.{message_told}
+use Rattle.mar_model.specs.Messages.{report_notarization}
+use Rattle.mar_model.proofs.Doing.{cache-done, cache-failed}
+use Rattle.mar_model.proofs.Found.{notarized_finds}
 use Rattle.mar_actor.proofs.notarize.notarize.Goals as goal
 
-pub returns-in-Ok-clause-keeps : goal.returns-in-Ok-clause-keeps
-returns-in-Ok-clause-keeps g c = on_ok_weaker c.keep_found.result (λ block. record { ticket = c.in-Ok.field-0; mid = g.S.HoldsCache.held c.keep_notarization.new.stores; keeps = c.in-Ok.ensures.keeps; block = block }) (rw (c.round-round.ensures, c.payload-commitment.ensures) at c.keep_found.ensures.keeps)
+pub keep_found-requires-clause-intact : goal.keep_found-requires-clause-intact
+keep_found-requires-clause-intact g c = ap (λ h. h.intact) c.in-Ok.ensures.keeps.same ∙ c.requires.intact
 
-pub returns-in-Ok-clause-passed : goal.returns-in-Ok-clause-passed
-returns-in-Ok-clause-passed g c nested certs =
-    let f = g.S.Notarization.AsFinalization.plain c.args.notarization in
-    found_passed (fault_of g.V.Commitment.Named.bytes) (g.S.HoldsCache.held c.args.stores.now) (g.S.HoldsCache.held c.keep_notarization.new.stores) (g.S.HoldsCache.held c.keep_found.new.stores) c.keep_found.result g.V.Variant.inner (g.B.Buffer.blocks c.args.buffer.now) f nested certs c.in-Ok.ensures.goes_on (rw (c.round-round.ensures, c.payload-commitment.ensures) at c.keep_found.ensures.goes_on)
+pub keep_found-requires-clause-small_cached : goal.keep_found-requires-clause-small_cached
+keep_found-requires-clause-small_cached g c = c.law.ensures.small_cached (ap (λ h. h.intact) c.in-Ok.ensures.keeps.same ∙ c.requires.intact)
 
-pub returns-in-Ok-clause-lost : goal.returns-in-Ok-clause-lost
-returns-in-Ok-clause-lost g c nested certs =
-    let f = g.S.Notarization.AsFinalization.plain c.args.notarization in
-    found_lost (fault_of g.V.Commitment.Named.bytes) (g.S.HoldsCache.held c.args.stores.now) (g.S.HoldsCache.held c.keep_notarization.new.stores) (g.S.HoldsCache.held c.keep_found.new.stores) c.keep_found.result g.V.Variant.inner (g.B.Buffer.blocks c.args.buffer.now) f nested certs c.in-Ok.ensures.goes_on (rw (c.round-round.ensures, c.payload-commitment.ensures) at c.keep_found.ensures.goes_on) c.in-Ok.field-0 c.in-Ok.ensures.keeps
+pub keep_found-requires-clause-small_held : goal.keep_found-requires-clause-small_held
+keep_found-requires-clause-small_held g c = c.law.ensures.small (ap (λ h. h.intact) c.in-Ok.ensures.keeps.same ∙ c.requires.intact)
 
-pub returns-in-Err-clause-lost : goal.returns-in-Err-clause-lost
-returns-in-Err-clause-lost g c nested certs =
+pub returns-in-Ok : goal.returns-in-Ok
+returns-in-Ok g c =
     let old = g.S.HoldsCache.held c.args.stores.now in
-    let wrote = written_entry (notarization_entry (g.S.Notarization.AsFinalization.plain c.args.notarization)) in
-    inl (c.in-Err.ensures.goes_on old wrote (Grew-refl old wrote nested certs) (WithinWritten-refl wrote))
+    let mid = g.S.HoldsCache.held c.keep_notarization-kept.new.stores in
+    let f = g.S.Notarization.AsFinalization.plain c.args.notarization in
+    let blocks = g.B.Buffer.blocks c.args.buffer.now in
+    let whole = ap (λ h. h.intact) c.in-Ok.ensures.keeps.same ∙ c.requires.intact in
+    let runs = rw (c.round-round.ensures, c.payload-commitment.ensures) at c.keep_found.ensures.runs in
+    record {
+      runs = λ life standing heard. record {
+        found = found_of mid f.round (found_at_hand g.V.Variant.inner blocks mid.cache.kept.held mid.blocks.held f.payload);
+        finds = notarized_finds g.V.Variant.inner blocks f old mid _ c.in-Ok.ensures.keeps;
+        runs = λ start whole_plan rest reached. runs life standing heard start whole_plan rest (cache-done g.V.Variant.inner start whole_plan _ old life standing heard (keep_notarization f) reached mid (_, c.in-Ok.ensures.keeps) (c.law.ensures.lawful whole) c.in-Ok.ensures.goes_on);
+      };
+    }
+
+pub returns-in-Err : goal.returns-in-Err
+returns-in-Err g c =
+    let old = g.S.HoldsCache.held c.args.stores.now in
+    let f = g.S.Notarization.AsFinalization.plain c.args.notarization in
+    let blocks = g.B.Buffer.blocks c.args.buffer.now in
+    record {
+      runs = λ life standing heard. record {
+        found = found_by g.V.Variant.inner blocks old (message_told None (report_notarization f));
+        finds = λ loaded. refl;
+        runs = λ start whole rest reached. cache-failed g.V.Variant.inner start whole _ old life standing heard (keep_notarization f) reached c.in-Err.ensures.goes_on c.in-Err.ensures.kind;
+      };
+    }

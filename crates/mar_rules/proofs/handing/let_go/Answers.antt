@@ -1,27 +1,12 @@
-use Rattle.std.proofs.Common.{subst, sym, true, ◌≡◌}
-use Rattle.std.proofs.lemmas.Result.{err_from_is_err_and}
+use Rattle.std.proofs.Common.{ap, ◌∙◌}
+use Rattle.mar_model.specs.Views.{fault_of}
+use Rattle.mar_model.proofs.Doing.{law_behind}
+use Rattle.mar_model.proofs.Running.{Does-let_go}
+use Rattle.mar_rules.proofs.Raised.{on_both}
 use Rattle.mar_rules.proofs.handing.let_go.Goals as goal
 
-pub returns-in_err-was_open-clause-goes_on : goal.returns-in_err-was_open-clause-goes_on
-returns-in_err-was_open-clause-goes_on g c =
-    let p = err_from_is_err_and c.from_residual.result c.from_residual.ensures.1 in
-    rw (p.1, p.2) c.in_err-was_open.ensures.goes_on
+pub returns-clause-whole : goal.returns-clause-whole
+returns-clause-whole g c = on_both c.finish_sync-was_open.result (λ same. ap (λ h. h.intact) same ∙ c.requires.intact) c.finish_sync-was_open.ensures.same
 
-pub returns : goal.returns
-returns g c =
-    let after = c.in_ok-was_open.ensures in
-    let whole = subst (λ h. h.intact ≡ true) (sym after.same) c.requires.intact in
-    record {
-      was_open = after.was_open;
-      closed = after.closed;
-      failed = tt;
-      blocks = after.blocks;
-      certs = after.certs;
-      same = after.same;
-      written_before = c.law.ensures.written c.requires.intact;
-      written = after.written c.requires.intact;
-      nested_blocks = c.law-2.ensures.blocks whole;
-      nested_certs = c.law-2.ensures.certs whole;
-      goes_on = after.goes_on;
-      usual = tt;
-    }
+pub returns-clause-runs : goal.returns-clause-runs
+returns-clause-runs g c = λ life standing heard. Does-let_go g.V.Variant.inner (fault_of g.V.Commitment.Named.bytes) _ _ life standing heard c.args.ticket _ c.finish_sync-was_open.result c.finish_sync-was_open.ensures.was_open c.finish_sync-was_open.ensures.closed c.finish_sync-was_open.ensures.failed c.finish_sync-was_open.ensures.blocks c.finish_sync-was_open.ensures.certs (c.finish_sync-was_open.ensures.written c.requires.intact) c.finish_sync-was_open.ensures.same (law_behind _ c.finish_sync-was_open.result (returns-clause-whole g c) c.law.ensures.lawful) c.finish_sync-was_open.ensures.goes_on c.finish_sync-was_open.ensures.archive

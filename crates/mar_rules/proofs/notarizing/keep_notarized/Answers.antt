@@ -4,7 +4,7 @@ use Rattle.mar_model.specs.Cache.{notarized_where}
 use Rattle.mar_model.specs.Held.{WithinWritten, written_entries}
 use Rattle.mar_model.specs.Moves.{KeepsNotarizedWhere}
 use Rattle.mar_model.proofs.Growing.{WithinWritten-nothing}
-use Rattle.mar_rules.proofs.KeptFor.{kept_where, verified_found}
+use Rattle.mar_rules.proofs.KeptFor.{kept_where, unverified_owes, verified_found}
 use Rattle.mar_rules.proofs.notarizing.keep_notarized.Goals as goal
 
 pub returns-in-Ok-true-clause-keeps : goal.returns-in-Ok-true-clause-keeps
@@ -32,3 +32,6 @@ returns-in-Ok-false-clause-goes_on g c start all grew within =
 
 pub returns-in-Err-clause-goes_on : goal.returns-in-Err-clause-goes_on
 returns-in-Err-clause-goes_on g c start all grew within = c.in-Err.ensures.goes_on start all grew (WithinWritten-nothing all)
+
+pub returns-in-Ok-false-clause-read : goal.returns-in-Ok-false-clause-read
+returns-in-Ok-false-clause-read g c = unverified_owes c.keep_unverified.result _ _ (verified_found c.args.round (g.V.Variant.plain c.args.block) (g.S.HoldsCache.held c.args.stores.now) _ _ false c.digest.ensures c.in-Ok-false.ensures.found c.in-Ok-false.field-0-test)

@@ -1,22 +1,9 @@
-use Rattle.std.proofs.lemmas.Result.{err_from_is_err_and}
-use Rattle.mar_model.proofs.Growing.{WithinWritten-nothing}
+use Rattle.std.proofs.Common.{ap, ◌∙◌}
+use Rattle.mar_model.specs.Views.{fault_of}
+use Rattle.mar_model.proofs.Doing.{law_behind}
+use Rattle.mar_model.proofs.Running.{Does-late}
+use Rattle.mar_rules.proofs.Raised.{on_both}
 use Rattle.mar_rules.proofs.storing.put_late.Goals as goal
 
-pub returns-in_err-is_lacking-clause-goes_on : goal.returns-in_err-is_lacking-clause-goes_on
-returns-in_err-is_lacking-clause-goes_on g c =
-    let p = err_from_is_err_and c.from_residual.result c.from_residual.ensures.1 in
-    rw (p.1, p.2) (λ start all grew within. c.in_err-is_lacking.ensures.goes_on start all grew (WithinWritten-nothing all))
-
-pub returns-then-not-is_lacking-clause-goes_on : goal.returns-then-not-is_lacking-clause-goes_on
-returns-then-not-is_lacking-clause-goes_on g c = λ start all grew within. c.in_ok-is_lacking.ensures.goes_on start all grew (WithinWritten-nothing all)
-
-pub returns-in_err-store_certificate-clause-goes_on : goal.returns-in_err-store_certificate-clause-goes_on
-returns-in_err-store_certificate-clause-goes_on g c =
-    let p = err_from_is_err_and c.from_residual-in_err-store_certificate.result c.from_residual-in_err-store_certificate.ensures.1 in
-    let stored = rw c.height-height.ensures at c.in_err-store_certificate.ensures.goes_on in
-    rw (p.1, p.2) (λ start all grew within. stored start all (c.in_ok-is_lacking.ensures.goes_on start all grew (WithinWritten-nothing all)) within)
-
-pub returns-clause-goes_on : goal.returns-clause-goes_on
-returns-clause-goes_on g c =
-    let stored = rw c.height-height.ensures at c.in_ok-store_certificate.ensures.goes_on in
-    λ start all grew within. stored start all (c.in_ok-is_lacking.ensures.goes_on start all grew (WithinWritten-nothing all)) within
+pub returns-clause-runs : goal.returns-clause-runs
+returns-clause-runs g c = λ whole life standing heard. Does-late g.V.Variant.inner (fault_of g.V.Commitment.Named.bytes) _ _ life standing heard _ _ c.put_missing-put.result c.put_missing-put.ensures.lacked c.put_missing-put.ensures.certs c.put_missing-put.ensures.same (law_behind _ c.put_missing-put.result (on_both c.put_missing-put.result (λ same. ap (λ h. h.intact) same ∙ whole) c.put_missing-put.ensures.same) c.law.ensures.lawful) c.put_missing-put.ensures.goes_on c.put_missing-put.ensures.archive

@@ -2,7 +2,7 @@ use Rattle.std.proofs.Common.{refl}
 use Rattle.mar_model.specs.Faults.{cert_store}
 use Rattle.mar_model.specs.Views.{fault_of}
 use Rattle.mar_life.specs.Pooling.{of_certs}
-use Rattle.mar_life.proofs.Placed.{always_done, archive_fault, failed_so, usual_fault, waits_read}
+use Rattle.mar_life.proofs.Placed.{always_done, archive_fault, failed_so, read_fault, usual_fault, waits_read}
 use Rattle.mar_life.proofs.Reading.{certs_read, read_goes_on}
 use Rattle.mar_life.proofs.stores.StoresHolds.certificate_at.Goals as goal
 
@@ -29,3 +29,6 @@ returns-clause-archive g c = failed_so c.at.result c.at.ensures.failed (λ e how
 
 pub returns-clause-usual : goal.returns-clause-usual
 returns-clause-usual g c = failed_so c.at.result c.at.ensures.failed (λ e how. usual_fault cert_store _ _ _ how)
+
+pub returns-clause-read : goal.returns-clause-read
+returns-clause-read g c = failed_so c.at.result c.at.ensures.failed (λ e how. read_fault cert_store _ _ _ tt how)

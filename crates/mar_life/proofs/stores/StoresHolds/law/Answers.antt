@@ -33,3 +33,6 @@ returns-clause-cached g c = rw (← c.self.view_is) (λ intact. record { nested 
 
 pub returns-clause-joins : goal.returns-clause-joins
 returns-clause-joins g c = rw (← c.self.view_is) (g.met.H.LifeCache.joins c.self.inside.cache)
+
+pub returns-clause-lawful : goal.returns-clause-lawful
+returns-clause-lawful g c = λ intact. record { blocks = returns-clause-blocks g c intact; certs = returns-clause-certs g c intact; written = returns-clause-written g c intact; cached = returns-clause-cached g c intact }

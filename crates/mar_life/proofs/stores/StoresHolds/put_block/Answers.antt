@@ -4,7 +4,7 @@ use Rattle.mar_model.specs.Pool.{writing_of}
 use Rattle.mar_model.specs.Views.{fault_of}
 use Rattle.mar_life.specs.Pooling.{of_certs}
 use Rattle.mar_life.proofs.Changed.{put_block_goes_on}
-use Rattle.mar_life.proofs.Placed.{both_done, done_so, failed_so, usual_fault, waits_either}
+use Rattle.mar_life.proofs.Placed.{archive_fault, both_done, done_so, failed_so, usual_fault, waits_either}
 use Rattle.mar_life.proofs.Reading.{blocks_still}
 use Rattle.mar_life.proofs.CacheSyncs.{own_after_write}
 use Rattle.mar_life.proofs.stores.StoresHolds.put_block.Goals as goal
@@ -29,3 +29,6 @@ returns-clause-goes_on g c = rw (← c.self.view_is) (put_block_goes_on (fault_o
 
 pub returns-clause-usual : goal.returns-clause-usual
 returns-clause-usual g c = failed_so c.put.result c.put.ensures.failed (λ e failed. usual_fault block_store _ _ _ failed.cause)
+
+pub returns-clause-archive : goal.returns-clause-archive
+returns-clause-archive g c = failed_so c.put.result c.put.ensures.failed (λ e failed. archive_fault block_store _ _ _ tt failed.cause)

@@ -3,7 +3,7 @@ use Rattle.mar_model.specs.Faults.{block_store}
 use Rattle.mar_model.specs.Views.{fault_of}
 use Rattle.mar_life.specs.Pooling.{of_blocks}
 use Rattle.mar_life.proofs.Changed.{store_block_goes_on}
-use Rattle.mar_life.proofs.Placed.{done_so, failed_so, held_stored, open_in, usual_fault, waits_stored_so, waits_there}
+use Rattle.mar_life.proofs.Placed.{archive_fault, done_so, failed_so, held_stored, open_in, usual_fault, waits_stored_so, waits_there}
 use Rattle.mar_life.proofs.Reading.{blocks_still}
 use Rattle.mar_life.proofs.stores.StoresHolds.store_block.Goals as goal
 
@@ -32,3 +32,6 @@ returns-clause-goes_on g c = rw (← c.self.view_is) (store_block_goes_on (fault
 
 pub returns-clause-usual : goal.returns-clause-usual
 returns-clause-usual g c = failed_so c.store.result c.store.ensures.failed (λ e failed. usual_fault block_store _ _ _ failed.cause)
+
+pub returns-clause-archive : goal.returns-clause-archive
+returns-clause-archive g c = failed_so c.store.result c.store.ensures.failed (λ e failed. archive_fault block_store _ _ _ tt failed.cause)

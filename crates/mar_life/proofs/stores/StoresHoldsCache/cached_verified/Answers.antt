@@ -2,7 +2,7 @@ use Rattle.std.proofs.Common.{refl}
 use Rattle.mar_model.specs.Faults.{cache_store}
 use Rattle.mar_model.specs.Places.{is_open}
 use Rattle.mar_model.specs.Views.{fault_of}
-use Rattle.mar_life.proofs.Placed.{always_done, failed_so, usual_fault}
+use Rattle.mar_life.proofs.Placed.{always_done, failed_so, read_fault, usual_fault}
 use Rattle.mar_life.proofs.Reading.{cache_read, read_goes_on}
 use Rattle.mar_life.proofs.stores.StoresHoldsCache.cached_verified.Goals as goal
 
@@ -26,3 +26,6 @@ returns-clause-goes_on g c = rw (← c.self.view_is) (read_goes_on (fault_of g.V
 
 pub returns-clause-usual : goal.returns-clause-usual
 returns-clause-usual g c = failed_so c.find_verified.result c.find_verified.ensures.failed (λ e how. usual_fault cache_store _ _ _ how)
+
+pub returns-clause-read : goal.returns-clause-read
+returns-clause-read g c = failed_so c.find_verified.result c.find_verified.ensures.failed (λ e how. read_fault cache_store _ _ _ tt how)

@@ -16,7 +16,7 @@ use Rattle.mar_model.specs.Metadata.{Pair, pair_of}
 use Rattle.mar_model.specs.Moves.{pruned_by}
 use Rattle.mar_model.specs.Node.{Node}
 use Rattle.mar_model.specs.Promise.{Waiting, node_of}
-use Rattle.mar_model.specs.Acts.{ask, caches, note, progresses, says, send, stores, tell, written_cached, written_stored}
+use Rattle.mar_model.specs.Acts.{reply, ask, caches, keeps_for, mark, note, process, progresses, says, send, stores, sync_progress, tell, written_cached, written_kept, written_stored}
 use Rattle.mar_model.specs.Ran.{Task, dispatches, does, ends}
 use Rattle.mar_model.specs.Scene.{Scene, seen_of}
 
@@ -62,6 +62,11 @@ Owns config chain n e all retention own c (does (progresses (note r)) ∷ plan) 
     × Owns config chain n e all retention own (after_task c (does (progresses (note r)))) plan
 Owns config chain n e all retention own c (does (says (tell r h d)) ∷ plan) = IsFinal chain r h × (digest_at chain h ≡ Some d) × Owns config chain n e all retention own c plan
 Owns config chain n e all retention own c (does (says (ask calls)) ∷ plan) = Owns config chain n e all retention own c plan
+Owns config chain n e all retention own c (does (keeps_for a) ∷ plan) = ⊥
+Owns config chain n e all retention own c (does (progresses (mark ticket m)) ∷ plan) = ⊥
+Owns config chain n e all retention own c (does (progresses (process h)) ∷ plan) = ⊥
+Owns config chain n e all retention own c (does (progresses sync_progress) ∷ plan) = ⊥
+Owns config chain n e all retention own c (does (says (reply a)) ∷ plan) = ⊥
 Owns config chain n e all retention own c (does (says (send x)) ∷ plan) = Owns config chain n e all retention own c plan
 Owns config chain n e all retention own c (dispatches ∷ plan) = (plan ≡ []) × (c.pair ≡ pair_after config n e) × (c.processed ≡ processed_after n e no_floor) × (n.out ≡ kept_blocks n e no_floor)
 Owns config chain n e all retention own c (ends fault ∷ plan) = (c.pair ≡ own) × (event_fault config n e ≡ Some fault) × (is_dropped_ack fault ≡ false) × Owns config chain n e all retention own c plan

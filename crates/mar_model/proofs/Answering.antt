@@ -1,0 +1,296 @@
+-- What a step answers, and what it takes up of the cache: read off its plan.
+use Rattle.std.specs.Prelude.{⊤}
+use Rattle.std.proofs.Common.{◌≡◌, inl, inr, ◌∷◌, [], List, Option, None, Some, Bool, true, false, cond, nat_lt, map, option_to_list, Ok, ◌++◌, ◌<◌, ◌≤◌, ◌==◌, ℕ, arith, refl, sym, ◌∙◌, ap, subst, append-nil, append_assoc, is_some}
+use Rattle.std.proofs.lemmas.Bool.{cases_lt}
+use Rattle.std.proofs.lemmas.Bool.Decides.{nat_tests}
+use Rattle.mar_types.specs.Round.{Round}
+use Rattle.mar_cert.specs.Block.{Block}
+use Rattle.mar_cert.specs.Finalization.{Finalization}
+use Rattle.mar_gate.specs.Writing.{is_open_sync}
+use Rattle.mar_key.specs.Processed.{height_of}
+use Rattle.mar_store.specs.Kept.{At}
+use Rattle.mar_model.specs.Acks.{Mark, Outstanding, given_oldest, is_given, mark_dropped, mark_given, mark_waiting, with_mark}
+use Rattle.mar_model.specs.Answers.{TicketAnswer, finished_answers, started_value, to, true_value}
+use Rattle.mar_model.specs.Cached.{Cached}
+use Rattle.mar_model.specs.Event.{Event, ack_dropped, ack_given, block_buffered, buffer_ended, life_started, message_told, peer_answered, serve_ended, sync_finished}
+use Rattle.mar_model.specs.Faults.{height_limit, last_height}
+use Rattle.mar_model.specs.Held.{Ending, Held, Remembered, Seen}
+use Rattle.mar_model.specs.Messages.{Message, certify, close_ticket, forward, get_anchor, get_block, get_finalization, get_info, get_processed, get_verified, hint_finalized, hint_notarized, prepared, proposed, prune_below, report_certification, report_finalization, report_notarization, set_floor, subscribe_commitment, subscribe_digest, verified}
+use Rattle.mar_model.specs.Moves.{KeepsFor, KeepsInCache, KeepsTakenUp, lacks_finalization}
+use Rattle.mar_model.specs.OpenSyncs.{is_cache_sync}
+use Rattle.mar_model.specs.Promise.{Heard}
+use Rattle.mar_model.specs.Queries.{answers_found, value_found}
+use Rattle.mar_model.specs.Stored.{newest}
+use Rattle.mar_model.proofs.Living.{Runs-keeps}
+use Rattle.mar_model.proofs.OpenSyncs.{waits-none}
+use Rattle.mar_model.proofs.Shapes.{seen_at}
+use Rattle.mar_model.specs.Acts.{AreLawful, KeepAct, KeepsAndTells, ask, caches, finish_kept, keep_certified, keep_notarization, keep_verified, kept_value, keeps_for, load_cache, mark, note, process, progresses, put_finalization, reply, says, send, start_sync, store, stores, sync_progress, tell}
+use Rattle.mar_model.specs.Plans.{Found, RunsPlan, ack_plan, answer_plan, drain_plan, final_plan, keep_plan, late_plan, newest_plan, oldest_plan, plan_of, sent_block, settle_plan, sync_plan}
+use Rattle.mar_model.specs.Ran.{Breaks, DoesTask, FailsTask, Runs, Task, dispatches, does, ends}
+use Rattle.mar_model.specs.Scene.{Scene, scene, window_of}
+use Rattle.mar_model.proofs.PromisedFinalization.{none_of}
+use Rattle.mar_model.proofs.Unread.{runs_first}
+
+-- WHO IS ANSWERED
+
+abbrev pub answers_by : Task → Bool
+answers_by (does (caches a)) = false
+answers_by (does (keeps_for a)) = true
+answers_by (does (stores a)) = false
+answers_by (does (progresses a)) = false
+answers_by (does (says (tell r h d))) = false
+answers_by (does (says (ask calls))) = false
+answers_by (does (says (send x))) = false
+answers_by (does (says (reply a))) = true
+answers_by dispatches = false
+answers_by (ends fault) = false
+
+-- nobody is
+abbrev pub Unanswering : List Bool → Type 0
+Unanswering [] = ⊤
+Unanswering (true ∷ xs) = ⊥
+Unanswering (false ∷ xs) = Unanswering xs
+
+unanswering_first : (b : Bool) (rest : List Bool) → Unanswering (b ∷ rest) → (b ≡ false) × Unanswering rest
+unanswering_first true rest none = absurd none
+unanswering_first false rest none = (refl, none)
+
+task_unanswered : (inner : List ℕ → List ℕ) (k : Task) (s t : Scene) → answers_by k ≡ false → DoesTask inner k s t → t.heard.answers ≡ s.heard.answers
+task_unanswered inner (does (caches a)) s t none (is, joins, law, same) = ap (λ (y : Scene). y.heard.answers) same
+task_unanswered inner (does (keeps_for a)) s t none did = absurd (let both : true ≡ false = none in cc)
+task_unanswered inner (does (stores a)) s t none (is, joins, law, same) = ap (λ (y : Scene). y.heard.answers) same
+task_unanswered inner (does (progresses (note r))) s t none (is, law, heard, same) = ap (λ (y : Scene). y.heard.answers) same
+task_unanswered inner (does (progresses (mark ticket m))) s t none same = ap (λ (y : Scene). y.heard.answers) same
+task_unanswered inner (does (progresses (process h))) s t none (is, joins, law, heard, same) = ap (λ (y : Scene). y.heard.answers) same
+task_unanswered inner (does (progresses sync_progress)) s t none (is, law, same) = ap (λ (y : Scene). y.heard.answers) same
+task_unanswered inner (does (says (tell r h d))) s t none (heard, same) = ap (λ (y : Scene). y.heard.answers) same
+task_unanswered inner (does (says (ask calls))) s t none (heard, same) = ap (λ (y : Scene). y.heard.answers) same
+task_unanswered inner (does (says (send x))) s t none (heard, same) = ap (λ (y : Scene). y.heard.answers) same
+task_unanswered inner (does (says (reply a))) s t none same = absurd (let both : true ≡ false = none in cc)
+task_unanswered inner dispatches s t none hands = ap (λ (y : Scene). y.heard.answers) hands.same
+task_unanswered inner (ends fault) s t none did = absurd did
+
+task_lost_unanswered : (k : Task) (s : Scene) (x : Ending) (heard : Heard) → FailsTask k s x heard → heard.answers ≡ s.heard.answers
+task_lost_unanswered (does (caches a)) s x heard (loses, kind, same) = ap (λ (h : Heard). h.answers) same
+task_lost_unanswered (does (keeps_for a)) s x heard (loses, kind, same) = ap (λ (h : Heard). h.answers) same
+task_lost_unanswered (does (stores a)) s x heard (loses, kind, same) = ap (λ (h : Heard). h.answers) same
+task_lost_unanswered (does (progresses (note r))) s x heard (loses, kind, asks, same) = ap (λ (h : Heard). h.answers) same
+task_lost_unanswered (does (progresses (mark ticket m))) s x heard fails = absurd fails
+task_lost_unanswered (does (progresses (process h))) s x heard (loses, kind, asks, same) = ap (λ (h : Heard). h.answers) same
+task_lost_unanswered (does (progresses sync_progress)) s x heard (loses, kind, same) = ap (λ (h : Heard). h.answers) same
+task_lost_unanswered (does (says (tell r h d))) s x heard (is, told, same) = ap (λ (h : Heard). h.answers) same
+task_lost_unanswered (does (says (ask calls))) s x heard (is, asked, same) = ap (λ (h : Heard). h.answers) same
+task_lost_unanswered (does (says (send y))) s x heard (is, sent, same) = ap (λ (h : Heard). h.answers) same
+task_lost_unanswered (does (says (reply a))) s x heard (is, same) = ap (λ (h : Heard). h.answers) same
+task_lost_unanswered dispatches s x heard stops = ap (λ (h : Heard). h.answers) stops.same
+task_lost_unanswered (ends fault) s x heard (is, same) = ap (λ (h : Heard). h.answers) same
+
+pub Runs-unanswered : (inner : List ℕ → List ℕ) (plan : List Task) (s t : Scene) → Unanswering (map answers_by plan) → Runs inner s plan t → t.heard.answers ≡ s.heard.answers
+Runs-unanswered inner [] s t none reads = ap (λ (y : Scene). y.heard.answers) reads.same
+Runs-unanswered inner (k ∷ plan) s t none (mid, after, reads, did, runs) =
+    let (first, rest) = unanswering_first (answers_by k) (map answers_by plan) none in
+    Runs-unanswered inner plan after t rest runs ∙ (task_unanswered inner k mid after first did ∙ ap (λ (y : Scene). y.heard.answers) reads.same)
+
+-- a plan that answers nobody answers nobody where it broke either
+pub Breaks-unanswered : (inner : List ℕ → List ℕ) (plan : List Task) (s : Scene) (x : Ending) (heard : Heard) → Unanswering (map answers_by plan) → Breaks inner s plan x heard
+    → heard.answers ≡ s.heard.answers
+Breaks-unanswered inner [] s x heard none fails = ap (λ (h : Heard). h.answers) fails.same
+Breaks-unanswered inner (k ∷ plan) s x heard none (inl fails) = ap (λ (h : Heard). h.answers) fails.same
+Breaks-unanswered inner (k ∷ plan) s x heard none (inr (mid, reads, inl fails)) = task_lost_unanswered k mid x heard fails ∙ ap (λ (y : Scene). y.heard.answers) reads.same
+Breaks-unanswered inner (k ∷ plan) s x heard none (inr (mid, reads, inr (after, did, breaks))) =
+    let (first, rest) = unanswering_first (answers_by k) (map answers_by plan) none in
+    Breaks-unanswered inner plan after x heard rest breaks ∙ (task_unanswered inner k mid after first did ∙ ap (λ (y : Scene). y.heard.answers) reads.same)
+
+-- those of a plan of answers
+Runs-answers : (inner : List ℕ → List ℕ) (answers : List TicketAnswer) (s t : Scene) → Runs inner s (answer_plan answers) t → t.heard.answers ≡ s.heard.answers ++ answers
+Runs-answers inner [] s t reads = ap (λ (y : Scene). y.heard.answers) reads.same ∙ sym (append-nil s.heard.answers)
+Runs-answers inner (a ∷ answers) s t (mid, after, reads, did, runs) =
+    Runs-answers inner answers after t runs ∙ (ap (λ (y : Scene). y.heard.answers ++ answers) did ∙
+    (append_assoc mid.heard.answers (a ∷ []) answers ∙ ap (λ (y : Scene). y.heard.answers ++ a ∷ answers) reads.same))
+
+-- PLANS THAT ANSWER NOBODY
+
+settle-none : (b : Bool) → Unanswering (map answers_by (settle_plan b))
+settle-none true = tt
+settle-none false = tt
+
+drain-none : (out : List Outstanding) (rest : List Task) → Unanswering (map answers_by rest) → Unanswering (map answers_by (drain_plan out ++ rest))
+drain-none [] rest none = none
+drain-none (o ∷ out) rest none = by o.mark (drain-none out rest none)
+  where
+    by : (m : Mark) → Unanswering (map answers_by (drain_plan out ++ rest)) → Unanswering (map answers_by ((oldest_plan m o.height ++ cond (is_given m) (drain_plan out) []) ++ rest))
+    by mark_waiting left = none
+    by mark_given left = left
+    by mark_dropped left = none
+
+marked-none : (out : List Outstanding) (t : ℕ) (m : Mark) → Unanswering (map answers_by (ack_plan out t m))
+marked-none out t m = drain-none (with_mark t m out) (settle_plan (is_some (given_oldest (with_mark t m out)))) (settle-none (is_some (given_oldest (with_mark t m out))))
+
+start-none : (inner : List ℕ → List ℕ) (o : Option (At Finalization)) → Unanswering (map answers_by (newest_plan inner o ++ does (caches load_cache) ∷ dispatches ∷ []))
+start-none inner None = tt
+start-none inner (Some x) = tt
+
+sync-none : (b : Bool) (t : ℕ) → Unanswering (map answers_by (sync_plan b t))
+sync-none true t = tt
+sync-none false t = tt
+
+keep-none : (r : Round) (o : Option Block) (c : Bool) → Unanswering (map answers_by (keep_plan r o c))
+keep-none r None c = tt
+keep-none r (Some b) true = tt
+keep-none r (Some b) false = tt
+
+final-none : (h : Held) (f : Finalization) (o : Option Block) → Unanswering (map answers_by (final_plan h f o))
+final-none h f None = tt
+final-none h f (Some b) = by (nat_lt (height_of h.processed) b.height) (b.height == last_height) (lacks_finalization h b)
+  where
+    by : (c last lacking : Bool) → Unanswering (map answers_by
+        (does (caches (put_finalization f)) ∷ cond c
+        (cond last (ends (height_limit b.height) ∷ []) (does (stores (store f b)) ∷ does (says (tell f.round b.height b.digest)) ∷ does (stores start_sync) ∷ []))
+        (does (progresses (note f.round)) ∷ late_plan lacking f b)))
+    by true true lacking = tt
+    by true false lacking = tt
+    by false last true = tt
+    by false last false = tt
+
+-- WHAT IS KEPT FOR A CALLER
+
+kept_value-is : (r : Round) (put : List Cached) (covered : Cached → Bool) (answer sync : Option ℕ) (old new : Held) → KeepsFor r.epoch put covered answer sync old new
+    → old.cache.loaded ≡ true → kept_value sync ≡ started_value old.writes.next_sync old.lowest r
+kept_value-is r put covered answer sync old new keeps loaded = elim (cases_lt r.epoch old.lowest) [
+  | inl low ↦ ap kept_value (keeps.below low).0 ∙ sym (ap (λ c. cond c (kept_value None) (kept_value (Some old.writes.next_sync))) (is_low low))
+  | inr from ↦ ap kept_value (keeps.done loaded from).0 ∙ sym (ap (λ c. cond c (kept_value None) (kept_value (Some old.writes.next_sync))) (not_low from))
+]
+  where
+    is_low : r.epoch < old.lowest → nat_lt r.epoch old.lowest ≡ true
+    is_low low = grind (arith, nat_tests)
+
+    not_low : old.lowest ≤ r.epoch → nat_lt r.epoch old.lowest ≡ false
+    not_low from = grind (arith, nat_tests)
+
+told_kept : (r : Round) (put : List Cached) (covered : Cached → Bool) (t : ℕ) (old new : Held) (answered : List TicketAnswer) → KeepsAndTells r.epoch put covered t old new answered
+    → old.cache.loaded ≡ true → answered ≡ to t (started_value old.writes.next_sync old.lowest r) ∷ []
+told_kept r put covered t old new answered is loaded = is.told ∙ ap (λ v. to t v ∷ []) (kept_value-is r put covered (Some t) is.sync old new is.kept loaded)
+
+module _ {P E : Type 0} (life : Remembered P E) (inner : List ℕ → List ℕ) (buffer : List Block) (s : Scene) (found : Found) (law : AreLawful s.held) (t : Scene) where
+  abbrev Answered : Event → Type 0
+  Answered e = Runs inner s (plan_of inner buffer s e found) t → KeepsInCache e (seen_at life s) → t.heard.answers ≡ s.heard.answers ++ answers_found inner s.held buffer e
+
+  -- nobody is
+  nobody : (plan : List Task) → Unanswering (map answers_by plan) → Runs inner s plan t → t.heard.answers ≡ s.heard.answers ++ []
+  nobody plan none runs = Runs-unanswered inner plan s t none runs ∙ sym (append-nil s.heard.answers)
+
+  -- the holder of a ticket is, by what was kept
+  holder : (a : KeepAct) (answers : List TicketAnswer) (begun : Scene) → begun.heard.answers ≡ s.heard.answers → AreLawful begun.held
+      → ((new : Scene) (answered : List TicketAnswer) → (did : DoesTask inner (does (keeps_for a)) begun new) → did.0 ≡ answers) → Runs inner begun (does (keeps_for a) ∷ []) t
+      → t.heard.answers ≡ s.heard.answers ++ answers
+  holder a answers begun before lawful are runs =
+      let (m, did, reads) = runs_first inner (does (keeps_for a)) [] begun t lawful runs in
+      ap (λ (y : Scene). y.heard.answers) reads.same ∙ (ap (λ (y : Scene). y.heard.answers) did.4 ∙ (ap (λ xs. xs ++ did.0) before ∙ ap (λ xs. s.heard.answers ++ xs) (are m did.0 did)))
+
+  answered-message : (k : Option ℕ) (m : Message) → Answered (message_told k m)
+  answered-message None (report_finalization f) runs in_cache = nobody (final_plan s.held f found.block) (final-none s.held f found.block) runs
+  answered-message (Some k) (report_finalization f) runs in_cache = nobody (final_plan s.held f found.block) (final-none s.held f found.block) runs
+  answered-message None (report_notarization n) runs in_cache = nobody (does (caches (keep_notarization n)) ∷ keep_plan n.round found.block found.is_verified)
+      (keep-none n.round found.block found.is_verified) runs
+  answered-message (Some k) (report_notarization n) runs in_cache = nobody (does (caches (keep_notarization n)) ∷ keep_plan n.round found.block found.is_verified)
+      (keep-none n.round found.block found.is_verified) runs
+  answered-message None (prepared r peers b) runs in_cache = nobody (does (says (send (sent_block r peers b))) ∷ []) tt runs
+  answered-message (Some k) (prepared r peers b) runs in_cache = nobody (does (says (send (sent_block r peers b))) ∷ []) tt runs
+  answered-message (Some k) (verified r b) runs loaded = holder (keep_verified r b k) (to k (started_value s.held.writes.next_sync s.held.lowest r) ∷ []) s refl law
+      (λ new answered did. told_kept r _ _ k s.held new.held did.0 did.1 loaded) runs
+  answered-message (Some k) (certify r b) runs loaded = holder (keep_certified r b k) (to k (started_value s.held.writes.next_sync s.held.lowest r) ∷ []) s refl law
+      (λ new answered did. told_kept r _ _ k s.held new.held did.0 did.1 loaded) runs
+  answered-message (Some k) (proposed r peers b) runs loaded =
+      let (m, did, rest) = runs_first inner (does (says (send (sent_block r peers b)))) (does (keeps_for (keep_verified r b k)) ∷ []) s t law runs in
+      let held_is : m.held ≡ s.held = ap (λ (y : Scene). y.held) did.1 in
+      holder (keep_verified r b k) (to k (started_value s.held.writes.next_sync s.held.lowest r) ∷ []) m (ap (λ (y : Scene). y.heard.answers) did.1) (subst AreLawful (sym held_is) law)
+      (λ new answered kept. told_kept r _ _ k m.held new.held kept.0 kept.1 (ap (λ h. h.cache.loaded) held_is ∙ loaded) ∙ ap (λ h. to k (started_value h.writes.next_sync h.lowest r) ∷ [])
+      held_is) rest
+  answered-message (Some k) (report_certification n) runs in_cache = Runs-answers inner (map (to k) (option_to_list (value_found inner s.held buffer (report_certification n)))) s t runs
+  answered-message (Some k) (get_info id) runs in_cache = Runs-answers inner (map (to k) (option_to_list (value_found inner s.held buffer (get_info id)))) s t runs
+  answered-message (Some k) (get_block id) runs in_cache = Runs-answers inner (map (to k) (option_to_list (value_found inner s.held buffer (get_block id)))) s t runs
+  answered-message (Some k) (get_finalization h) runs in_cache = Runs-answers inner (map (to k) (option_to_list (value_found inner s.held buffer (get_finalization h)))) s t runs
+  answered-message (Some k) get_processed runs in_cache = Runs-answers inner (map (to k) (option_to_list (value_found inner s.held buffer get_processed))) s t runs
+  answered-message (Some k) get_anchor runs in_cache = Runs-answers inner (map (to k) (option_to_list (value_found inner s.held buffer get_anchor))) s t runs
+  answered-message (Some k) (get_verified r) runs in_cache = Runs-answers inner (map (to k) (option_to_list (value_found inner s.held buffer (get_verified r)))) s t runs
+  answered-message (Some k) (hint_finalized h ps) runs in_cache = Runs-answers inner (map (to k) (option_to_list (value_found inner s.held buffer (hint_finalized h ps)))) s t runs
+  answered-message (Some k) (set_floor f) runs in_cache = Runs-answers inner (map (to k) (option_to_list (value_found inner s.held buffer (set_floor f)))) s t runs
+  answered-message (Some k) (prune_below h) runs in_cache = Runs-answers inner (map (to k) (option_to_list (value_found inner s.held buffer (prune_below h)))) s t runs
+  answered-message (Some k) (hint_notarized r c) runs in_cache = Runs-answers inner (map (to k) (option_to_list (value_found inner s.held buffer (hint_notarized r c)))) s t runs
+  answered-message (Some k) (subscribe_digest d c) runs in_cache = Runs-answers inner (map (to k) (option_to_list (value_found inner s.held buffer (subscribe_digest d c)))) s t runs
+  answered-message (Some k) (subscribe_commitment c d) runs in_cache = Runs-answers inner (map (to k) (option_to_list (value_found inner s.held buffer (subscribe_commitment c d)))) s t runs
+  answered-message (Some k) (forward r d ps) runs in_cache = Runs-answers inner (map (to k) (option_to_list (value_found inner s.held buffer (forward r d ps)))) s t runs
+  answered-message (Some k) (close_ticket c) runs in_cache = Runs-answers inner (map (to k) (option_to_list (value_found inner s.held buffer (close_ticket c)))) s t runs
+  answered-message None (report_certification n) runs in_cache = nobody [] tt runs
+  answered-message None (get_info id) runs in_cache = nobody [] tt runs
+  answered-message None (get_block id) runs in_cache = nobody [] tt runs
+  answered-message None (get_finalization h) runs in_cache = nobody [] tt runs
+  answered-message None get_processed runs in_cache = nobody [] tt runs
+  answered-message None get_anchor runs in_cache = nobody [] tt runs
+  answered-message None (get_verified r) runs in_cache = nobody [] tt runs
+  answered-message None (hint_finalized h ps) runs in_cache = nobody [] tt runs
+  answered-message None (set_floor f) runs in_cache = nobody [] tt runs
+  answered-message None (prune_below h) runs in_cache = nobody [] tt runs
+  answered-message None (hint_notarized r c) runs in_cache = nobody [] tt runs
+  answered-message None (subscribe_digest d c) runs in_cache = nobody [] tt runs
+  answered-message None (subscribe_commitment c d) runs in_cache = nobody [] tt runs
+  answered-message None (forward r d ps) runs in_cache = nobody [] tt runs
+  answered-message None (close_ticket c) runs in_cache = nobody [] tt runs
+  answered-message None (verified r b) runs in_cache = nobody [] tt runs
+  answered-message None (proposed r peers b) runs in_cache = nobody [] tt runs
+  answered-message None (certify r b) runs in_cache = nobody [] tt runs
+
+  answered-sync : (k : ℕ) → Answered (sync_finished k)
+  answered-sync k runs in_cache = by (is_cache_sync s.held.cache.syncs k) refl runs
+    where
+      by : (c : Bool) → is_cache_sync s.held.cache.syncs k ≡ c → Runs inner s (cond c (does (keeps_for (finish_kept k)) ∷ []) (sync_plan (is_open_sync s.held.writes.syncs k) k)) t
+          → t.heard.answers ≡ s.heard.answers ++ finished_answers k s.held.cache.syncs
+      by true is runs = holder (finish_kept k) (finished_answers k s.held.cache.syncs) s refl law (λ new answered did. did.1.1) runs
+      by false is runs = nobody (sync_plan (is_open_sync s.held.writes.syncs k) k) (sync-none (is_open_sync s.held.writes.syncs k) k) runs ∙ ap
+          (λ o. s.heard.answers ++ map (λ a. to a true_value) (option_to_list o)) (sym (waits-none k s.held.cache.syncs (none_of k s.held.cache.syncs is)))
+
+  answered : (e : Event) → Answered e
+  answered (life_started f) runs in_cache = nobody (newest_plan inner (newest s.held.certs.held) ++ does (caches load_cache) ∷ dispatches ∷ []) (start-none inner (newest s.held.certs.held))
+      runs
+  answered (message_told k m) runs in_cache = answered-message k m runs in_cache
+  answered (sync_finished k) runs in_cache = answered-sync k runs in_cache
+  answered (ack_given k) runs in_cache = nobody (ack_plan s.life.out k mark_given) (marked-none s.life.out k mark_given) runs
+  answered (ack_dropped k) runs in_cache = nobody (ack_plan s.life.out k mark_dropped) (marked-none s.life.out k mark_dropped) runs
+  answered (peer_answered x) runs in_cache = nobody [] tt runs
+  answered serve_ended runs in_cache = nobody [] tt runs
+  answered (block_buffered b) runs in_cache = nobody [] tt runs
+  answered buffer_ended runs in_cache = nobody [] tt runs
+
+-- WHAT IS TAKEN UP
+
+loads_rest : (inner : List ℕ → List ℕ) (m t : Scene) → AreLawful m.held → Runs inner m (does (caches load_cache) ∷ dispatches ∷ []) t → t.held.cache.loaded ≡ true
+loads_rest inner m t law runs =
+    let (u, did, rest) = runs_first inner (does (caches load_cache)) (dispatches ∷ []) m t law runs in
+    (Runs-keeps inner u.life.sizes.window (dispatches ∷ []) u t refl rest).loaded did.0.loaded
+
+loads : (inner : List ℕ → List ℕ) (s t : Scene) (o : Option (At Finalization)) → AreLawful s.held → Runs inner s (newest_plan inner o ++ does (caches load_cache) ∷ dispatches ∷ []) t
+    → t.held.cache.loaded ≡ true
+loads inner s t None law runs = loads_rest inner s t law runs
+loads inner s t (Some x) law runs =
+    let (m, did, rest) = runs_first inner (does (says (tell x.value.round x.height (inner x.value.payload)))) (does (caches load_cache) ∷ dispatches ∷ []) s t law runs in
+    loads_rest inner m t (subst AreLawful (sym (ap (λ (y : Scene). y.held) did.1)) law) rest
+
+-- THE CLAUSES OF A STEP
+
+module _ {P E : Type 0} (life : Remembered P E) (inner : List ℕ → List ℕ) (buffer : List Block) (s : Scene) (law : AreLawful s.held) (heard : Heard) (n : Seen P E) where
+  pub step_answered : (e : Event) → RunsPlan inner buffer e s heard (Ok n) → KeepsInCache e (seen_at life s) → heard.answers ≡ s.heard.answers ++ answers_found inner s.held buffer e
+  step_answered e plan in_cache = answered life inner buffer s plan.found law (scene n.held (window_of n.life) s.standing heard) e plan.ran in_cache
+
+  kept_loaded : (e : Event) → RunsPlan inner buffer e s heard (Ok n) → s.held.cache.loaded ≡ true → n.held.cache.loaded ≡ true
+  kept_loaded e plan was = (Runs-keeps inner s.life.sizes.window (plan_of inner buffer s e plan.found) s (scene n.held (window_of n.life) s.standing heard) refl plan.ran).loaded was
+
+  pub step_loaded : (e : Event) → RunsPlan inner buffer e s heard (Ok n) → KeepsTakenUp e (seen_at life s) n
+  step_loaded (life_started f) plan = loads inner s (scene n.held (window_of n.life) s.standing heard) (newest s.held.certs.held) law plan.ran
+  step_loaded (message_told t m) plan = kept_loaded (message_told t m) plan
+  step_loaded (ack_given t) plan = kept_loaded (ack_given t) plan
+  step_loaded (ack_dropped t) plan = kept_loaded (ack_dropped t) plan
+  step_loaded (sync_finished t) plan = kept_loaded (sync_finished t) plan
+  step_loaded (peer_answered x) plan = kept_loaded (peer_answered x) plan
+  step_loaded serve_ended plan = kept_loaded serve_ended plan
+  step_loaded (block_buffered b) plan = kept_loaded (block_buffered b) plan
+  step_loaded buffer_ended plan = kept_loaded buffer_ended plan
