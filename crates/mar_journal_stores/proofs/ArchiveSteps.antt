@@ -1,5 +1,5 @@
 -- The calls of an archive that is a journal, by its entries.
-use Rattle.std.proofs.Common.{Bool, Contains, List, Some, [], ap, append_assoc, arith, cond, drop, filter, max, min, nat_le, bytes_eq, not, inl, inr, length, length-append, map, false, refl, subst, suc, sym, take, true, zero, ℕ, ◌&&◌, ◌++◌, ◌<◌, ◌==◌, ◌^◌, ◌∙◌, ◌∷◌, ◌≡◌, ◌≤◌}
+use Rattle.std.proofs.Common.{Bool, Contains, List, Some, [], ap, append_assoc, arith, cond, drop, filter, min, nat_le, bytes_eq, not, inl, inr, length, length-append, map, false, refl, subst, suc, sym, take, true, zero, ℕ, ◌&&◌, ◌++◌, ◌<◌, ◌==◌, ◌^◌, ◌∙◌, ◌∷◌, ◌≡◌, ◌≤◌}
 use Rattle.std.proofs.Math.Logic.{∥∥₁_elim, ∥∥₁_map, ∥∥₁_map₂}
 use Rattle.std.specs.Coded.{Coded, Coded-set, coded_bool, coded_option, le_prop}
 use Rattle.std.proofs.lemmas.Bool.{and_from, eq-eqb, eqb-true, false≢true, true≢false}
@@ -7,7 +7,7 @@ use Rattle.std.proofs.lemmas.Slice.Eq.{bytes_eq-Decides}
 use Rattle.std.specs.List.{AllByRecursion, AllByRecursion-prop}
 use Rattle.std.proofs.lemmas.List.{map-append}
 use Rattle.mar_store.specs.Changes.{Fails, Finishes, IsReopened, IsStillOr, KeepsValues, Left, Prunes, Puts, Within, heights, left_of}
-use Rattle.mar_store.specs.Entries.{AreCounted, covered_by, is_covered, kept_of, seen}
+use Rattle.mar_store.specs.Entries.{AreCounted, covered_by, is_covered, kept_of, next_number, seen}
 use Rattle.mar_store.specs.Kept.{At, EachHeightOnce, Reopens, reopened_store, value_at}
 use Rattle.mar_store.specs.Named.{is_taken}
 use Rattle.mar_store.specs.RangeLemmas.{ranges_push}
@@ -19,7 +19,7 @@ use Rattle.mar_store.proofs.Stores.{covers_pruned, filter_within, prunes}
 use Rattle.mar_types.specs.Varint.{varint}
 use Rattle.mar_types.specs.VarintLemmas.{length-varint}
 use Rattle.mar_journal.specs.ArchiveRecords.{IsArchived, archive_bytes, kept_by, kept_from}
-use Rattle.mar_journal_stores.specs.ArchiveStore.{IsArchiveFile, IsArchiveLeft, IsBacked, IsMarkOf, IsMarked, Ordered, StaysFound, archive_kept, last_mark, left_may, within_right}
+use Rattle.mar_journal_stores.specs.ArchiveStore.{IsArchiveFile, IsArchiveLeft, IsBacked, IsMarkOf, IsMarked, Ordered, StaysFound, archive_kept, left_may, within_right}
 use Rattle.mar_journal.specs.Disk.{Elapses, LeavesOnly, Narrows}
 use Rattle.mar_journal.specs.Format.{IsBatch, IsDamaged, IsJournal, Stands, StandsUpto, joined}
 use Rattle.mar_journal.specs.Journal.{Adds, IsOldOrNew, IsSettled}
@@ -27,7 +27,7 @@ use Rattle.mar_journal.specs.Records.{IsWritable}
 use Rattle.mar_journal.specs.declared.ArchiveRecord.{ArchiveRecord}
 use Rattle.mar_journal.specs.declared.ArchiveRecord.TheVariants.{Prune, Put}
 use Rattle.mar_journal.proofs.Crash.{end_within}
-use Rattle.mar_journal_stores.proofs.Marks.{Ordered-prop, covered_before, mark_above, mark_last, mark_upto, newest_ordered, ordered_later, ordered_none, put_ordered}
+use Rattle.mar_journal_stores.proofs.Marks.{Ordered-prop, covered_before, mark_above, mark_last, mark_upto, counted_above, counted_ordered, ordered_later, ordered_none, put_ordered}
 use Rattle.mar_journal.proofs.Moments.{and_then, goes_on, stayed, weaker}
 use Rattle.mar_journal_stores.proofs.SameRanges.{ranges_same}
 use Rattle.mar_journal_stores.proofs.Replays.{CoversLess, backed_front, backed_left, backed_more, narrowed_left, old_or_new, opening_finds, opening_left, pending_long, pending_none, pending_same, pending_sure, reopens_held, reopens_weaker, undamaged, writing_left, writing_moments}
@@ -362,27 +362,31 @@ module _ {T : Type 0} (min : ℕ) (gone aside items new : List (Entry T)) (n m :
   pub prune_ranges : (set : List Range) → set ≡ ranges (heights (left_may gone items)) → set ≡ ranges (heights (left_may aside new))
   prune_ranges set is = is ∙ ranges_same (left_may gone items) (left_may aside new) wider_prune narrower_prune
 
-  pub prune_backed : {D : Type 0} (name spelled : T → List ℕ) (fits : ℕ → T → Bool) (seen_bytes : D → List ℕ) (may_leave : D → List ℕ → Type 0) (disk : D) (end accepted later : ℕ) (waiting after : List (ArchiveRecord T)) (marks ends : List ℕ) (number mark : ℕ) → min < 2 ^ 64
-      → after ≡ waiting ++ Prune min ∷ [] → ends ≡ marks ++ mark ∷ [] → later ≡ accepted → number ≤ accepted → mark ≡ max number (last_mark marks) → mark ≤ last_number
+  pub prune_backed : {D : Type 0} (name spelled : T → List ℕ) (fits : ℕ → T → Bool) (seen_bytes : D → List ℕ) (may_leave : D → List ℕ → Type 0) (disk : D) (end accepted later : ℕ) (waiting after : List (ArchiveRecord T)) (marks ends : List ℕ) (mark : ℕ) → min < 2 ^ 64
+      → after ≡ waiting ++ Prune min ∷ [] → ends ≡ marks ++ mark ∷ [] → later ≡ next_number accepted → mark ≡ next_number accepted → accepted ≤ last_number
       → ∥ IsBacked name spelled fits seen_bytes may_leave disk end (take n (map seen items)) (left_may gone items) items accepted waiting marks ∥₁
       → ∥ IsBacked name spelled fits seen_bytes may_leave disk end (take m (map seen new)) (left_may aside new) new later after ends ∥₁
-  prune_backed name spelled fits seen_bytes may_leave disk end accepted later waiting after marks ends number mark min_fits is marks_are same within mark_is mark_last backed = ∥∥₁_map backed (λ b. let next = newest_ordered accepted number mark marks within mark_is mark_last b.ordered in backed_more name spelled fits seen_bytes may_leave disk end (take n (map seen items)) (left_may gone items) (take m (map seen new)) (left_may aside new) items new accepted later waiting after marks ends (Prune min) mark b inner.sure.only wider_prune
-      (omega (arith, same)) covers
+  prune_backed name spelled fits seen_bytes may_leave disk end accepted later waiting after marks ends mark min_fits is marks_are later_is mark_is within backed = ∥∥₁_map backed (λ b. backed_more name spelled fits seen_bytes may_leave disk end (take n (map seen items)) (left_may gone items) (take m (map seen new)) (left_may aside new) items new accepted later waiting after marks ends (Prune min) mark b inner.sure.only wider_prune
+      (omega (arith, later_is, within)) covers
       (record {
         found = reopens_weaker (take n (map seen items)) (left_may gone items) (take m (map seen new)) (left_may aside new) (map seen items) inner.sure.only wider_prune (reopens_held n (map seen items) (left_may gone items) once (within_right (map seen gone) (map seen items)));
-        covered = λ t below h v has. covered_held items t once h v (covers t (omega (arith, below, next.0)) (omega (arith, below, mark_last)) h v has);
-        upto = omega (arith, next.0, same);
-        last = mark_last;
+        covered = λ t below h v has. covered_held items t once h v (covers t (omega (arith, below, mark_is)) (omega (arith, below, mark_is)) h v has);
+        upto = omega (arith, later_is, mark_is);
+        last = omega (arith, mark_is);
       })
       (ap (map seen) new_is ∙ filter_seen min items)
       (record { valid = min_fits; small = omega (arith, length-varint min) })
       (AllByRecursion-within (λ y. fits y.height y.value ≡ true) (left_may aside new) (left_may gone items) narrower_prune b.fit)
       is
       marks_are
-      (ordered_later accepted later _ (omega (arith, same)) next.1))
+      (counted_ordered accepted later mark marks later_is mark_is within b.ordered))
     where
       covers : CoversLess accepted items new
       covers t within below = (covers_pruned min accepted items new once new_is t within).only
+
+-- no ticket that was given out before a prune writes it
+pub prune_marked : {T : Type 0} (min accepted later mark : ℕ) (waiting after : List (ArchiveRecord T)) (marks ends : List ℕ) → after ≡ waiting ++ Prune min ∷ [] → ends ≡ marks ++ mark ∷ [] → later ≡ next_number accepted → mark ≡ next_number accepted → IsMarked accepted later (Prune min) waiting marks after ends
+prune_marked min accepted later mark waiting after marks ends waits marks_are later_is mark_is = record { mark = mark; waits = waits; marked = marks_are; above = counted_above accepted mark mark_is; upto = omega (arith, later_is, mark_is) }
 
 -- what was left is left, whatever was to be written
 pub fails_left : {T : Type 0} (gone items aside new : List (Entry T)) (n m : ℕ) (more : List (At T)) → aside ≡ gone → new ≡ items → m ≡ n → Fails (left_of (archive_kept gone items n)) more (left_of (archive_kept aside new m))

@@ -1,5 +1,5 @@
 -- The marks of what waits: they ascend, and tell which tickets write a record.
-use Rattle.std.proofs.Common.{Bool, Contains, List, None, Some, [], ap, append-nil, arith, cond, drop, false, filter, get_or, inl, inr, length, length-append, map, max, nat_lt, refl, subst, suc, sym, take, true, zero, ℕ, ⊎_elim, ◌++◌, ◌+◌, ◌-◌, ◌==◌, ◌<◌, ◌∙◌, ◌∷◌, ◌≡◌, ◌≤◌, ◌⊎◌}
+use Rattle.std.proofs.Common.{Bool, Contains, List, None, Some, [], ap, append-nil, arith, cond, drop, false, filter, get_or, inl, inr, length, length-append, map, nat_lt, refl, subst, suc, sym, take, true, zero, ℕ, ⊎_elim, ◌++◌, ◌+◌, ◌-◌, ◌==◌, ◌<◌, ◌∙◌, ◌∷◌, ◌≡◌, ◌≤◌, ◌⊎◌}
 use Rattle.std.proofs.lemmas.Bool.{cases_lt, eq-eqb, eqb-true, lt-ltb, ltb-false, ltb-true, ne_eqb, or_cases, or_from, or_left, or_parts, or_right}
 use Rattle.std.proofs.lemmas.List.{length-map, map-append, take_all}
 use Rattle.std.proofs.lemmas.List.Elements.{Contains-append_right, filter-append}
@@ -71,11 +71,18 @@ pub ordered_none : (accepted : ℕ) (ns : List ℕ) → length ns ≡ 0 → Orde
 ordered_none accepted [] none = tt
 ordered_none accepted (n ∷ ns) none = absurd (omega (arith, none))
 
--- a mark that is at least the last one
-pub newest_ordered : (accepted number mark : ℕ) (ns : List ℕ) → number ≤ accepted → mark ≡ max number (last_mark ns) → mark ≤ last_number → Ordered accepted ns → (mark ≤ accepted) × Ordered accepted (ns ++ mark ∷ [])
-newest_ordered accepted number mark ns within is small o =
-    let upto : mark ≤ accepted = omega (arith, is, within, last_upto accepted ns (all_upto accepted accepted ns (omega arith) o)) in
-    (upto, ordered_push accepted mark ns (last_most accepted mark ns o (omega (arith, is))) upto small o)
+-- THE MARK OF A PRUNE
+
+-- it is counted itself, so that it is above the marks before it
+pub counted_ordered : (accepted later mark : ℕ) (ns : List ℕ) → later ≡ next_number accepted → mark ≡ next_number accepted → accepted ≤ last_number → Ordered accepted ns → Ordered later (ns ++ mark ∷ [])
+counted_ordered accepted later mark ns later_is mark_is within o =
+    ordered_push later mark ns (all_upto accepted mark ns (omega (arith, mark_is, within)) o) (omega (arith, later_is, mark_is)) (omega (arith, mark_is)) (ordered_later accepted later ns (omega (arith, later_is, within)) o)
+
+pub counted_above : (accepted mark : ℕ) → mark ≡ next_number accepted → (accepted < mark) ⊎ (mark ≡ last_number)
+counted_above accepted mark is = elim (cases_lt accepted last_number) [
+  | inl lt ↦ inl (omega (arith, is, lt))
+  | inr le ↦ inr (omega (arith, is, le))
+]
 
 -- the last entry
 pub at_end : {X : Type 0} (front : List X) (e d : X) (xs : List X) (i : ℕ) → xs ≡ front ++ e ∷ [] → i + 1 ≡ length xs → get_or xs i d ≡ e

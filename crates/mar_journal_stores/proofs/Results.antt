@@ -30,3 +30,8 @@ module _ {S L : Type 0} where
   pub kept : {X : Type 0} (r : Result S L) (new well ill : X) → new ≡ cond (is_ok r) well ill → OnErr r (new ≡ ill)
   kept (Ok s) new well ill is = tt
   kept (Err l) new well ill is = is
+
+  -- of both ways, from what is said of each
+  pub match_from : (r : Result S L) (P Q : S → Type 0) (R T : L → Type 0) → ((s : S) → P s → Q s) → ((l : L) → R l → T l) → IfOk r P → IfErr r R → MatchResult r Q T
+  match_from (Ok s) P Q R T leads lost is other = leads s is
+  match_from (Err l) P Q R T leads lost is other = lost l other

@@ -1,10 +1,10 @@
 //! The calls of an archive, by a journal.
-ghost use Rattle.std.specs.Prelude.{◌≡◌, ◌<◌, ◌≤◌, [], ◌++◌, ◌∷◌, List, ℕ, None, is_some, map, take, true, false, IfErr, IfOk, IfSome, MatchResult, OnErr, OnOk, drop};
+ghost use Rattle.std.specs.Prelude.{◌≡◌, ◌<◌, ◌≤◌, ◌+◌, max, false, [], ◌++◌, ◌∷◌, List, ℕ, None, is_some, map, take, true, IfErr, IfOk, IfSome, MatchResult, OnErr, OnOk, drop};
 ghost use Rattle.std.specs.List.{AllByRecursion};
-ghost use Rattle.mar_store.specs.Changes.{Fails, Finishes, IsReopened, IsStillOr, Prunes, Puts, Syncs, left_of};
+ghost use Rattle.mar_store.specs.Changes.{Fails, Finishes, IsReopened, IsStillOr, Prunes, Puts, Syncs, left_of, pruned_store};
 ghost use Rattle.mar_store.specs.Entries.{covered_by, seen};
 ghost use Rattle.mar_store.specs.Kept.{reopened_store};
-ghost use Rattle.mar_store.specs.Lost.{wreck_of};
+ghost use Rattle.mar_store.specs.Lost.{LeavesPut, wreck_of};
 ghost use Rattle.mar_store.specs.Luck.{keeps_by, lucky_found};
 ghost use Rattle.mar_store.specs.Named.{is_taken, value_found};
 ghost use Rattle.mar_store.specs.Nested.{covers_last};
@@ -33,6 +33,8 @@ impl<T: JournalItem, D: Disk> Archive<T> for JournalArchive<T, D> {
     ghost number = { λ s. s.entries.pile.accepted };
 
     ghost covers = { λ s. covered_by s.entries.pile.items.items };
+
+    ghost queued = { λ s. tt };
 
     ghost nested = { λ s. archive_nested s.aside.gone.items s.entries.pile.items.items s.entries.pile.synced s.entries.pile.once };
 
@@ -96,6 +98,15 @@ impl<T: JournalItem, D: Disk> Archive<T> for JournalArchive<T, D> {
             (λ _. IsStillOr (left_of (archive_kept self.aside.gone.items self.entries.pile.items.items self.entries.pile.synced))
             (record { height = index; value = item })
             (left_of (archive_kept (wreck_of l).aside.gone.items (wreck_of l).pile.items.items (wreck_of l).pile.synced)))) }
+        ensures written { IfErr result (λ l. IfSome (journal_watch self.alarm.faults self.alarm.due.items).keeps
+            (λ _. LeavesPut (λ w. left_of (archive_kept w.aside.gone.items w.pile.items.items w.pile.synced)) (λ w. false)
+            (is_taken T.name (map seen self.entries.pile.items.items) (record { height = index; value = item }))
+            (left_of (archive_kept self.aside.gone.items self.entries.pile.items.items self.entries.pile.synced)) (record { height = index; value = item }) l)) }
+        ensures unchanged { is_taken T.name (map seen self.entries.pile.items.items) (record { height = index; value = item }) ≡ true → MatchResult result
+            (λ s. archive_kept s.aside.gone.items s.entries.pile.items.items s.entries.pile.synced ≡ archive_kept self.aside.gone.items self.entries.pile.items.items self.entries.pile.synced)
+            (λ l. Fails (left_of (archive_kept self.aside.gone.items self.entries.pile.items.items self.entries.pile.synced)) [] (left_of (archive_kept (wreck_of l).aside.gone.items (wreck_of l).pile.items.items (wreck_of l).pile.synced))) }
+        ensures counted { MatchResult result (λ s. s.entries.pile.accepted ≤ self.entries.pile.accepted + 1)
+            (λ l. (wreck_of l).pile.accepted ≤ self.entries.pile.accepted + 1) }
         ensures tickets { IfOk result (λ s. self.entries.pile.accepted ≤ s.entries.pile.accepted) }
         ensures covers { IfOk result (λ s. KeepsCovers self.entries.pile.accepted (covered_by self.entries.pile.items.items)
             (covered_by s.entries.pile.items.items)) }
@@ -128,6 +139,8 @@ impl<T: JournalItem, D: Disk> Archive<T> for JournalArchive<T, D> {
         ensures still { IfErr result (λ l. IfSome (journal_watch self.alarm.faults self.alarm.due.items).keeps
             (λ _. left_of (archive_kept (wreck_of l).aside.gone.items (wreck_of l).pile.items.items (wreck_of l).pile.synced)
             ≡ left_of (archive_kept self.aside.gone.items self.entries.pile.items.items self.entries.pile.synced))) }
+        ensures counted { MatchResult result (λ s. s.entries.pile.accepted ≤ self.entries.pile.accepted)
+            (λ l. (wreck_of l).pile.accepted ≤ self.entries.pile.accepted) }
         ensures tickets { IfOk result (λ s. self.entries.pile.accepted ≤ s.entries.pile.accepted) }
         ensures covers { IfOk result (λ s. KeepsCovers self.entries.pile.accepted (covered_by self.entries.pile.items.items)
             (covered_by s.entries.pile.items.items)) }
@@ -172,6 +185,8 @@ impl<T: JournalItem, D: Disk> Archive<T> for JournalArchive<T, D> {
         ensures covered { IfOk result (λ s. covered_by s.0.entries.pile.items.items s.1.number ≡ map seen self.entries.pile.items.items) }
         ensures waiting { IfOk result (λ s. (s.0.log.waiting ≡ self.log.waiting) × (s.0.log.marks ≡ self.log.marks)
             × AllByRecursion (λ n. n ≤ s.1.number) s.0.log.marks.items) }
+        ensures counted { MatchResult result (λ s. s.0.entries.pile.accepted ≤ self.entries.pile.accepted)
+            (λ l. (wreck_of l).pile.accepted ≤ self.entries.pile.accepted) }
         ensures tickets { IfOk result (λ s. self.entries.pile.accepted ≤ s.0.entries.pile.accepted) }
         ensures covers { IfOk result (λ s. KeepsCovers self.entries.pile.accepted (covered_by self.entries.pile.items.items)
             (covered_by s.0.entries.pile.items.items)) }
@@ -199,6 +214,8 @@ impl<T: JournalItem, D: Disk> Archive<T> for JournalArchive<T, D> {
         ensures still { IfErr result (λ l. IfSome (journal_watch self.alarm.faults self.alarm.due.items).keeps
             (λ _. left_of (archive_kept (wreck_of l).aside.gone.items (wreck_of l).pile.items.items (wreck_of l).pile.synced)
             ≡ left_of (archive_kept self.aside.gone.items self.entries.pile.items.items self.entries.pile.synced))) }
+        ensures counted { MatchResult result (λ s. s.entries.pile.accepted ≤ self.entries.pile.accepted)
+            (λ l. (wreck_of l).pile.accepted ≤ self.entries.pile.accepted) }
         ensures tickets { IfOk result (λ s. self.entries.pile.accepted ≤ s.entries.pile.accepted) }
         ensures covers { IfOk result (λ s. KeepsCovers self.entries.pile.accepted (covered_by self.entries.pile.items.items)
             (covered_by s.entries.pile.items.items)) }
@@ -239,11 +256,15 @@ impl<T: JournalItem, D: Disk> Archive<T> for JournalArchive<T, D> {
         ensures still { IfErr result (λ l. IfSome (journal_watch self.alarm.faults self.alarm.due.items).keeps
             (λ _. left_of (archive_kept (wreck_of l).aside.gone.items (wreck_of l).pile.items.items (wreck_of l).pile.synced)
             ≡ left_of (archive_kept self.aside.gone.items self.entries.pile.items.items self.entries.pile.synced))) }
+        ensures exact { IfOk result (λ s. IfSome (journal_watch self.alarm.faults self.alarm.due.items).keeps
+            (λ _. archive_kept s.aside.gone.items s.entries.pile.items.items s.entries.pile.synced ≡ pruned_store min (archive_kept self.aside.gone.items self.entries.pile.items.items self.entries.pile.synced))) }
+        ensures counted { MatchResult result (λ s. s.entries.pile.accepted ≤ self.entries.pile.accepted + 1)
+            (λ l. (wreck_of l).pile.accepted ≤ self.entries.pile.accepted + 1) }
         ensures tickets { IfOk result (λ s. self.entries.pile.accepted ≤ s.entries.pile.accepted) }
         ensures covers { IfOk result (λ s. KeepsCoversFrom min self.entries.pile.accepted (covered_by self.entries.pile.items.items)
             (covered_by s.entries.pile.items.items)) }
-        ensures marked { IfOk result (λ s. (mark : ℕ) × (s.log.waiting.items ≡ self.log.waiting.items ++ ArchiveRecord.Prune min ∷ [])
-            × (s.log.marks.items ≡ self.log.marks.items ++ mark ∷ []) × (mark ≤ self.entries.pile.accepted)) }
+        ensures marked { IfOk result (λ s. IsMarked self.entries.pile.accepted s.entries.pile.accepted (ArchiveRecord.Prune min)
+            self.log.waiting.items self.log.marks.items s.log.waiting.items s.log.marks.items) }
         ensures watched { Heeds (λ s. journal_watch s.alarm.faults s.alarm.due.items) (λ w. journal_watch w.alarm.faults w.alarm.due.items)
             (journal_watch self.alarm.faults self.alarm.due.items) result }
         ensures disk { MatchResult result (λ s. s.log.disk ≡ self.log.disk) (λ l. (wreck_of l).disk ≡ self.log.disk) }
@@ -262,6 +283,7 @@ impl<T: JournalItem, D: Disk> Archive<T> for JournalArchive<T, D> {
     fn wreck(self) -> JournalArchiveWreck<T, D>
         ensures left { left_of (archive_kept result.aside.gone.items result.pile.items.items result.pile.synced)
             ≡ left_of (archive_kept self.aside.gone.items self.entries.pile.items.items self.entries.pile.synced) }
+        ensures number { result.pile.accepted ≡ self.entries.pile.accepted }
         ensures watch { journal_watch result.alarm.faults result.alarm.due.items ≡ journal_watch self.alarm.faults self.alarm.due.items }
         ensures disk { result.disk ≡ self.log.disk }
     {
@@ -283,6 +305,8 @@ impl<T: JournalItem, D: Disk> Archive<T> for JournalArchive<T, D> {
         ensures lucky { IfOk result (λ s. IfSome (journal_watch wreck.alarm.faults wreck.alarm.due.items).keeps
             (λ keeps. map seen s.entries.pile.items.items ≡ lucky_found (keeps_by keeps luck)
             (left_of (archive_kept wreck.aside.gone.items wreck.pile.items.items wreck.pile.synced)))) }
+        ensures counted { MatchResult result (λ s. s.entries.pile.accepted ≤ max 1 wreck.pile.accepted)
+            (λ l. (wreck_of l).pile.accepted ≤ wreck.pile.accepted) }
         ensures watched { Heeds (λ s. journal_watch s.alarm.faults s.alarm.due.items) (λ w. journal_watch w.alarm.faults w.alarm.due.items)
             (journal_watch wreck.alarm.faults wreck.alarm.due.items) result }
         ensures found { IfOk result (λ s. (file : List ℕ) × (records : List (ArchiveRecord T)) × D.may_leave wreck.disk file

@@ -1,5 +1,5 @@
 //! How an archive is read back from its journal.
-ghost use Rattle.std.specs.Prelude.{◌≡◌, [], List, map, take, IfErr, IfOk};
+ghost use Rattle.std.specs.Prelude.{◌≡◌, ◌≤◌, [], List, map, take, IfErr, IfOk};
 ghost use Rattle.std.specs.List.{AllByRecursion};
 ghost use Rattle.mar_store.specs.Changes.{heights};
 ghost use Rattle.mar_store.specs.Entries.{seen};
@@ -43,16 +43,17 @@ fn replay<T: JournalItem>(
     Ok(entries)
 }
 
-// All of it made sure, and the ranges of it.
+// All of it made sure and numbered anew, and the ranges of it.
 fn settled<T: JournalItem>(entries: Entries<T>) -> Result<(Entries<T>, RangeSet), Pile<T>>
-    ensures items { IfOk result (λ s. s.0.pile.items.items ≡ entries.pile.items.items) }
+    ensures items { IfOk result (λ s. map seen s.0.pile.items.items ≡ map seen entries.pile.items.items) }
     ensures sure { IfOk result (λ s. take s.0.pile.synced (map seen s.0.pile.items.items) ≡ map seen s.0.pile.items.items) }
     ensures held { IfOk result (λ s. s.1 ≡ ranges (heights (map seen s.0.pile.items.items))) }
+    ensures counted { IfOk result (λ s. s.0.pile.accepted ≤ 1) }
 {
     match entries.sync() {
         Err(pile) => Err(pile),
         Ok(entries) => match entries.pile.held().try_clone() {
-            Ok(held) => Ok((entries, held)),
+            Ok(held) => Ok((entries.restart(), held)),
             Err(_) => Err(entries.into_pile()),
         },
     }
@@ -70,6 +71,7 @@ pub fn open_entries<T: JournalItem, D: Disk>(
         × (map seen o.0.pile.items.items ≡ kept_from T.name [] records)
         × (take o.0.pile.synced (map seen o.0.pile.items.items) ≡ map seen o.0.pile.items.items)
         × (o.1 ≡ ranges (heights (map seen o.0.pile.items.items)))) }
+    ensures counted { IfOk result (λ o. o.0.pile.accepted ≤ 1) }
     ensures any_moment { LeavesOnly D.moment D.left_since disk.old disk.new (IsOldOrNew (D.seen disk.old) (D.may_leave disk.old)) }
     ensures reason { IfErr result (HasReason (archive_bytes T.name T.spelled) (IsArchived T.fits T.spelled)
         (D.faults disk.old) (D.faults disk.new) (D.seen disk.old)) }

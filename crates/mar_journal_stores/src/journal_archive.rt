@@ -1,8 +1,8 @@
 //! An archive that is a journal.
-ghost use Rattle.std.specs.Prelude.{◌≡◌, ◌<◌, ◌≤◌, ◌^◌, [], ◌++◌, ◌∷◌, List, ℕ, None, not, filter, map, nat_le, take, true, false, IfErr, IfOk, MatchResult, drop, length};
+ghost use Rattle.std.specs.Prelude.{◌≡◌, ◌<◌, ◌≤◌, ◌+◌, max, ◌^◌, [], ◌++◌, ◌∷◌, List, ℕ, None, not, filter, map, nat_le, take, true, false, IfErr, IfOk, MatchResult, drop, length};
 ghost use Rattle.std.specs.List.{AllByRecursion};
 ghost use Rattle.mar_store.specs.Changes.{Fails, Finishes, IsReopened, Prunes, Puts, Syncs, heights, left_of};
-ghost use Rattle.mar_store.specs.Entries.{covered_by, seen};
+ghost use Rattle.mar_store.specs.Entries.{covered_by, next_number, seen};
 ghost use Rattle.mar_store.specs.Kept.{reopened_store};
 ghost use Rattle.mar_store.specs.Lost.{wreck_of};
 ghost use Rattle.mar_store.specs.Named.{is_taken};
@@ -18,7 +18,7 @@ ghost use Rattle.mar_types.specs.Causes.{Rose};
 ghost use Rattle.mar_journal_stores.specs.ArchiveStore.{IsArchiveLeft, IsBacked, IsMarked, StaysFound, archive_kept, archive_within, left_may};
 ghost use Rattle.mar_journal_stores.specs.Watches.{CountsLost, HasFaultCause, journal_watch};
 
-use crate::archive_drafts::{mark_of, newest};
+use crate::archive_drafts::mark_of;
 use crate::archive_opening::open_entries;
 use crate::aside::{Aside, set_aside};
 use crate::log::Log;
@@ -60,6 +60,7 @@ impl<T: JournalItem, D: Disk> JournalArchive<T, D> {
             × Stands (archive_bytes T.name T.spelled) (IsArchived T.fits T.spelled) records (D.seen disk)
             × (archive_kept s.aside.gone.items s.entries.pile.items.items s.entries.pile.synced ≡ reopened_store (kept_from T.name [] records))
             × (s.alarm.faults ≡ 0) × (s.alarm.due.items ≡ [])) }
+        ensures counted { IfOk result (λ s. s.entries.pile.accepted ≤ 1) }
         ensures reason { IfErr result (λ e. HasReason (archive_bytes T.name T.spelled) (IsArchived T.fits T.spelled)
             (D.faults disk) (D.faults e.1) (D.seen disk) e.0) }
         ensures any_moment { MatchResult result
@@ -136,6 +137,11 @@ impl<T: JournalItem, D: Disk> JournalArchive<T, D> {
             (λ l. Fails (left_of (archive_kept self.aside.gone.items self.entries.pile.items.items self.entries.pile.synced))
             (record { height = index; value = item } ∷ [])
             (left_of (archive_kept (wreck_of l).aside.gone.items (wreck_of l).pile.items.items (wreck_of l).pile.synced))) }
+        ensures unchanged { is_taken T.name (map seen self.entries.pile.items.items) (record { height = index; value = item }) ≡ true → MatchResult result
+            (λ s. archive_kept s.aside.gone.items s.entries.pile.items.items s.entries.pile.synced ≡ archive_kept self.aside.gone.items self.entries.pile.items.items self.entries.pile.synced)
+            (λ l. Fails (left_of (archive_kept self.aside.gone.items self.entries.pile.items.items self.entries.pile.synced)) [] (left_of (archive_kept (wreck_of l).aside.gone.items (wreck_of l).pile.items.items (wreck_of l).pile.synced))) }
+        ensures counted { MatchResult result (λ s. s.entries.pile.accepted ≤ self.entries.pile.accepted + 1)
+            (λ l. (wreck_of l).pile.accepted ≤ self.entries.pile.accepted + 1) }
         ensures tickets { IfOk result (λ s. self.entries.pile.accepted ≤ s.entries.pile.accepted) }
         ensures covers { IfOk result (λ s. KeepsCovers self.entries.pile.accepted (covered_by self.entries.pile.items.items)
             (covered_by s.entries.pile.items.items)) }
@@ -212,7 +218,8 @@ impl<T: JournalItem, D: Disk> JournalArchive<T, D> {
             (λ l. Fails (left_of (archive_kept self.aside.gone.items self.entries.pile.items.items self.entries.pile.synced)) []
             (left_of (archive_kept (wreck_of l).aside.gone.items (wreck_of l).pile.items.items (wreck_of l).pile.synced))) }
         ensures items { IfOk result (λ s. s.entries.pile.items.items ≡ self.entries.pile.items.items) }
-        ensures tickets { IfOk result (λ s. s.entries.pile.accepted ≡ self.entries.pile.accepted) }
+        ensures tickets { MatchResult result (λ s. s.entries.pile.accepted ≡ self.entries.pile.accepted)
+            (λ l. (wreck_of l).pile.accepted ≡ self.entries.pile.accepted) }
         ensures log { IfOk result (λ s. s.log ≡ self.log) }
         ensures watched { IsCalm (λ s. journal_watch s.alarm.faults s.alarm.due.items) (λ w. journal_watch w.alarm.faults w.alarm.due.items)
             (journal_watch self.alarm.faults self.alarm.due.items) result }
@@ -259,7 +266,8 @@ impl<T: JournalItem, D: Disk> JournalArchive<T, D> {
             (λ l. Fails (left_of (archive_kept self.aside.gone.items self.entries.pile.items.items self.entries.pile.synced)) []
             (left_of (archive_kept (wreck_of l).aside.gone.items (wreck_of l).pile.items.items (wreck_of l).pile.synced))) }
         ensures items { IfOk result (λ s. s.entries.pile.items.items ≡ self.entries.pile.items.items) }
-        ensures tickets { IfOk result (λ s. s.entries.pile.accepted ≡ self.entries.pile.accepted) }
+        ensures tickets { MatchResult result (λ s. s.entries.pile.accepted ≡ self.entries.pile.accepted)
+            (λ l. (wreck_of l).pile.accepted ≡ self.entries.pile.accepted) }
         ensures log { IfOk result (λ s. s.log ≡ self.log) }
         ensures watched { IsCalm (λ s. journal_watch s.alarm.faults s.alarm.due.items) (λ w. journal_watch w.alarm.faults w.alarm.due.items)
             (journal_watch self.alarm.faults self.alarm.due.items) result }
@@ -303,9 +311,10 @@ impl<T: JournalItem, D: Disk> JournalArchive<T, D> {
             (λ l. Fails (left_of (archive_kept self.aside.gone.items self.entries.pile.items.items self.entries.pile.synced)) []
             (left_of (archive_kept (wreck_of l).aside.gone.items (wreck_of l).pile.items.items (wreck_of l).pile.synced))) }
         ensures cut { IfOk result (λ s. s.entries.pile.items.items ≡ filter (λ e. nat_le min e.index) self.entries.pile.items.items) }
-        ensures tickets { IfOk result (λ s. s.entries.pile.accepted ≡ self.entries.pile.accepted) }
-        ensures marked { IfOk result (λ s. (mark : ℕ) × (s.log.waiting.items ≡ self.log.waiting.items ++ ArchiveRecord.Prune min ∷ [])
-            × (s.log.marks.items ≡ self.log.marks.items ++ mark ∷ []) × (mark ≤ self.entries.pile.accepted)) }
+        ensures tickets { IfOk result (λ s. s.entries.pile.accepted ≡ next_number self.entries.pile.accepted) }
+        ensures counted { IfErr result (λ l. (wreck_of l).pile.accepted ≡ self.entries.pile.accepted) }
+        ensures marked { IfOk result (λ s. IsMarked self.entries.pile.accepted s.entries.pile.accepted (ArchiveRecord.Prune min)
+            self.log.waiting.items self.log.marks.items s.log.waiting.items s.log.marks.items) }
         ensures watched { IsCalm (λ s. journal_watch s.alarm.faults s.alarm.due.items) (λ w. journal_watch w.alarm.faults w.alarm.due.items)
             (journal_watch self.alarm.faults self.alarm.due.items) result }
         ensures disk { MatchResult result (λ s. s.log.disk ≡ self.log.disk) (λ l. (wreck_of l).disk ≡ self.log.disk) }
@@ -318,8 +327,8 @@ impl<T: JournalItem, D: Disk> JournalArchive<T, D> {
             alarm,
         } = self;
         let count = aside.gone.len();
-        // Tickets count puts alone, so a prune goes with the put before it.
-        let mark = newest(&log.marks, entries.pile.ticket().number());
+        // A prune is counted, so that no ticket that was given out before it writes it.
+        let mark = entries.pile.ticket().number().saturating_add(1);
         match set_aside(&mut log, &mut aside.gone, more, min, mark) {
             Err(_) => Err(Lost::Memory(JournalArchiveWreck {
                 pile: entries.into_pile(),
@@ -330,7 +339,7 @@ impl<T: JournalItem, D: Disk> JournalArchive<T, D> {
             })),
             Ok(()) => match entries.prune(min) {
                 Ok(entries) => Ok(JournalArchive {
-                    entries,
+                    entries: entries.count(),
                     aside,
                     log,
                     alarm,
@@ -436,6 +445,7 @@ impl<T: JournalItem, D: Disk> JournalArchiveWreck<T, D> {
             (archive_kept s.aside.gone.items s.entries.pile.items.items s.entries.pile.synced))
             (λ l. Fails (left_of (archive_kept self.aside.gone.items self.pile.items.items self.pile.synced)) []
             (left_of (archive_kept (wreck_of l).aside.gone.items (wreck_of l).pile.items.items (wreck_of l).pile.synced))) }
+        ensures counted { MatchResult result (λ s. s.entries.pile.accepted ≤ 1) (λ l. (wreck_of l).pile.accepted ≡ self.pile.accepted) }
         ensures watched { IsCalm (λ s. journal_watch s.alarm.faults s.alarm.due.items) (λ w. journal_watch w.alarm.faults w.alarm.due.items)
             (journal_watch self.alarm.faults self.alarm.due.items) result }
         ensures cause { (due : List ℕ) → IfErr result (HasFaultCause (λ w. D.faults w.disk) due (D.faults self.disk)) }
@@ -482,6 +492,12 @@ impl<T: JournalItem, D: Disk> ArchiveRuin<T> for JournalArchiveWreck<T, D> {
     ghost left = { λ w. left_of (archive_kept w.aside.gone.items w.pile.items.items w.pile.synced) };
 
     ghost watch = { λ w. journal_watch w.alarm.faults w.alarm.due.items };
+
+    ghost number = { λ w. w.pile.accepted };
+
+    ghost short = { λ w. false };
+
+    ghost front = { λ w. tt };
 
     ghost within = { λ w. archive_within w.aside.gone.items w.pile.items.items w.pile.synced };
 

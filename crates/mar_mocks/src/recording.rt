@@ -99,6 +99,12 @@ impl<T, W: ArchiveRuin<T>> ArchiveRuin<T> for RecordingWreck<W> {
 
     ghost watch = { λ w. W.watch w.inner };
 
+    ghost number = { λ w. W.number w.inner };
+
+    ghost short = { λ w. W.short w.inner };
+
+    ghost front = { λ w. W.front w.inner };
+
     ghost within = { λ w. W.within w.inner };
 
     fn sure_ranges(&self) -> &RangeSet {
@@ -113,6 +119,7 @@ impl<T, W: ArchiveRuin<T>> ArchiveRuin<T> for RecordingWreck<W> {
         ensures armed { OnOk result (W.watch self.new.inner ≡ armed calls (W.watch self.old.inner)) }
         ensures unarmed { OnErr result (W.watch self.new.inner ≡ W.watch self.old.inner) }
         ensures left { W.left self.new.inner ≡ W.left self.old.inner }
+        ensures number { W.number self.new.inner ≡ W.number self.old.inner }
         ensures recorded { self.new.recorded.items ≡ self.old.recorded.items }
     {
         self.inner.arm(calls)

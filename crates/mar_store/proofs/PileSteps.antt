@@ -1,15 +1,17 @@
 -- What a pile keeps as entries come.
-use Rattle.std.proofs.Common.{◌≡◌, ◌∙◌, ◌≤◌, ◌<◌, ◌+◌, ◌^◌, ◌-◌, ℕ, zero, suc, List, [], ◌∷◌, ◌++◌, Bool, true, false, refl, sym, ap, map, take, drop, length, get_or, arith, le-leb, leb-true}
+use Rattle.std.proofs.Common.{◌≡◌, ◌∙◌, ◌≤◌, ◌<◌, ◌+◌, ◌^◌, ◌-◌, ℕ, zero, suc, List, [], ◌∷◌, ◌++◌, Bool, true, false, Some, cond, option_map, refl, sym, ap, map, slice_set, take, drop, length, get_or, arith, le-leb, leb-true}
 use Rattle.std.proofs.lemmas.List.{map_push, take-append-le, length-map, length-append, take-map, map-append}
 use Rattle.std.proofs.lemmas.List.Sums.{fold-append, fold_push}
 use Rattle.std.proofs.Math.Seq.{take-add}
 use Rattle.std.specs.Prelude.{fold}
+use Rattle.std.specs.List.{AllByRecursion}
 use Rattle.std.specs.Prelude.{nat_lt, ◌==◌, ◌||◌, ◌⊎◌, ◌≢◌}
 use Rattle.std.proofs.Common.{inl, inr}
 use Rattle.std.proofs.lemmas.Bool.{cases_lt}
 use Rattle.std.proofs.lemmas.Bool.{or_left, or_right, eq-eqb, eqb-true, eqb-false, lt-ltb, ltb-true}
 use Rattle.mar_store.specs.Tickets.{last_number}
-use Rattle.mar_store.specs.Kept.{EachHeightOnce}
+use Rattle.mar_types.specs.Places.{first_place}
+use Rattle.mar_store.specs.Kept.{At, EachHeightOnce}
 use Rattle.mar_store.specs.Changes.{heights}
 use Rattle.mar_store.specs.Named.{EachNameOnce, is_taken}
 use Rattle.mar_store.specs.Ranges.{Range, ranges, with_height}
@@ -43,34 +45,78 @@ push_upto items new e n are next small upto =
     let more : e.number ≤ n = omega arith in
     rw are (AllByRecursion-push _ items e (AllByRecursion-weaker _ _ (λ f below. le-leb f.number n (omega (arith, leb-true f.number e.number below, more))) items upto) (le-leb e.number n more))
 
-pub push_counted : {T : Type 0} (items new : List (Entry T)) (e : Entry T) (n : ℕ) → new ≡ items ++ e ∷ [] → n ≡ next_number e.number → e.number ≤ 2 ^ 64 - 1 → AreCounted e.number items → AreCounted n new
-push_counted {T} items new e n are next small counted = rw are (AllByRecursion-push _ items e (AllByRecursion-weaker _ _ (λ f was. later f (e.number == last_number) refl was) items counted) (here (e.number == last_number) refl))
+-- what a ticket covers the next one covers
+covered_next : {T : Type 0} (k n : ℕ) (f : Entry T) → n ≡ next_number k → k ≤ 2 ^ 64 - 1 → is_covered k f ≡ true → is_covered n f ≡ true
+covered_next {T} k n f next small was = later (k == last_number) refl
   where
-    at_end : e.number ≡ last_number → n ≡ last_number
-    at_end same = omega (arith, same, next)
+    only : (a c : Bool) → (a || c) ≡ true → c ≡ false → a ≡ true
+    only true c is no_c = refl
+    only false true is no_c = absurd cc
+    only false false is no_c = is
 
-    here : (b : Bool) → (e.number == last_number) ≡ b → is_covered n e ≡ true
-    here true same = or_right (nat_lt e.number n) (n == last_number) (eq-eqb n last_number (at_end (eqb-true e.number last_number same)))
-    here false other = by (cases_lt e.number n)
-      where
-        by : (e.number < n) ⊎ (n ≤ e.number) → is_covered n e ≡ true
-        by (inl less) = or_left (nat_lt e.number n) (n == last_number) (lt-ltb e.number n less)
-        by (inr more) = or_right (nat_lt e.number n) (n == last_number) (eq-eqb n last_number (omega (arith, more, next)))
+    later : (b : Bool) → (k == last_number) ≡ b → is_covered n f ≡ true
+    later true same = or_right (nat_lt f.number n) (n == last_number) (eq-eqb n last_number (omega (arith, eqb-true k last_number same, next)))
+    later false other =
+        let under : f.number < k = ltb-true f.number k (only (nat_lt f.number k) (k == last_number) was other) in
+        let apart : k ≢ last_number = eqb-false k last_number other in
+        or_left (nat_lt f.number n) (n == last_number) (lt-ltb f.number n (omega (arith, under, next, small, apart)))
 
-    later : (f : Entry T) (b : Bool) → (e.number == last_number) ≡ b → is_covered e.number f ≡ true → is_covered n f ≡ true
-    later f true same was = or_right (nat_lt f.number n) (n == last_number) (eq-eqb n last_number (at_end (eqb-true e.number last_number same)))
-    later f false other was = or_left (nat_lt f.number n) (n == last_number) (lt-ltb f.number n (less (ltb-true f.number e.number (only (nat_lt f.number e.number) (e.number == last_number) was other))))
-      where
-        only : (a c : Bool) → (a || c) ≡ true → c ≡ false → a ≡ true
-        only true c is no_c = refl
-        only false true is no_c = absurd cc
-        only false false is no_c = is
+pub push_counted : {T : Type 0} (items new : List (Entry T)) (e : Entry T) (n : ℕ) → new ≡ items ++ e ∷ [] → n ≡ next_number e.number → e.number ≤ 2 ^ 64 - 1 → AreCounted e.number items → AreCounted n new
+push_counted {T} items new e n are next small counted = rw are (AllByRecursion-push _ items e (AllByRecursion-weaker _ _ (λ f was. covered_next e.number n f next small was) items counted) (by (cases_lt e.number n)))
+  where
+    by : (e.number < n) ⊎ (n ≤ e.number) → is_covered n e ≡ true
+    by (inl less) = or_left (nat_lt e.number n) (n == last_number) (lt-ltb e.number n less)
+    by (inr more) = or_right (nat_lt e.number n) (n == last_number) (eq-eqb n last_number (omega (arith, more, next)))
 
-        less : f.number < e.number → f.number < n
-        less lt = omega (arith, lt, next, small, other_than)
-          where
-            other_than : e.number ≢ last_number
-            other_than = eqb-false e.number last_number other
+-- one more change is counted
+pub count_upto : {T : Type 0} (items : List (Entry T)) (k n : ℕ) → n ≡ next_number k → k ≤ 2 ^ 64 - 1 → AreUpto k items → AreUpto n items
+count_upto items k n next small upto = AllByRecursion-weaker _ _ (λ f below. le-leb f.number n (omega (arith, leb-true f.number k below, next, small))) items upto
+
+pub count_counted : {T : Type 0} (items : List (Entry T)) (k n : ℕ) → n ≡ next_number k → k ≤ 2 ^ 64 - 1 → AreCounted k items → AreCounted n items
+count_counted items k n next small counted = AllByRecursion-weaker _ _ (λ f was. covered_next k n f next small was) items counted
+
+-- entries that are numbered anew
+abbrev pub AreFirst : {T : Type 0} → List (Entry T) → Type 0
+AreFirst items = AllByRecursion (λ e. e.number ≡ 0) items
+
+pub first_ascend : {T : Type 0} (items : List (Entry T)) → AreFirst items → Ascend items
+first_ascend [] first = tt
+first_ascend (e ∷ es) first = (AllByRecursion-weaker _ _ (λ f is. le-leb e.number f.number (omega (arith, first.0, is))) es first.1, first_ascend es first.1)
+
+pub first_upto : {T : Type 0} (items : List (Entry T)) (n : ℕ) → AreFirst items → AreUpto n items
+first_upto items n first = AllByRecursion-weaker _ _ (λ f is. le-leb f.number n (omega (arith, is))) items first
+
+pub first_counted : {T : Type 0} (items : List (Entry T)) (n : ℕ) → (0 < length items → n ≡ 1) → AreFirst items → AreCounted n items
+first_counted [] n one first = tt
+first_counted (e ∷ es) n one first = let is : n ≡ 1 = one (omega arith) in (under e is first.0, first_counted es n (λ some. is) first.1)
+  where
+    under : {T : Type 0} (f : Entry T) → n ≡ 1 → f.number ≡ 0 → is_covered n f ≡ true
+    under f one none = or_left (nat_lt f.number n) (n == last_number) (lt-ltb f.number n (omega (arith, one, none)))
+
+-- the first place where a test passes, by entries as they are seen
+seen_place : {T : Type 0} (p : At T → Bool) (items : List (Entry T)) → first_place (λ e. p (seen e)) items ≡ first_place p (map seen items)
+seen_place p [] = refl
+seen_place p (e ∷ es) = ap (λ o. cond (p (seen e)) (Some 0) (option_map suc o)) (seen_place p es)
+
+pub same_places : {T : Type 0} (p : At T → Bool) (items new : List (Entry T)) → map seen new ≡ map seen items → first_place (λ e. p (seen e)) new ≡ first_place (λ e. p (seen e)) items
+same_places p items new are = seen_place p new ∙ (ap (first_place p) are ∙ sym (seen_place p items))
+
+-- one entry more gets the number 0
+abbrev anew : {T : Type 0} → Entry T → Entry T
+anew e = record { index = e.index; number = 0; item = e.item }
+
+pub anew_seen : {T : Type 0} (items : List (Entry T)) (i : ℕ) (e : Entry T) → i < length items → e ≡ get_or items i e → map seen (slice_set items i (anew e)) ≡ map seen items
+anew_seen [] i e lt at = absurd (omega (arith, lt))
+anew_seen (x ∷ xs) zero e lt at = ap (λ y. seen y ∷ map seen xs) at
+anew_seen (x ∷ xs) (suc i) e lt at = ap (λ ys. seen x ∷ ys) (anew_seen xs i e (omega (arith, lt)) at)
+
+pub anew_first : {T : Type 0} (items : List (Entry T)) (i : ℕ) (e : Entry T) → i < length items → AreFirst (take i items) → AreFirst (take (suc i) (slice_set items i (anew e)))
+anew_first [] i e lt first = absurd (omega (arith, lt))
+anew_first (x ∷ xs) zero e lt first = (refl, tt)
+anew_first (x ∷ xs) (suc i) e lt first = (first.0, anew_first xs i e (omega (arith, lt)) first.1)
+
+pub same_length : {T : Type 0} (items new : List (Entry T)) → map seen new ≡ map seen items → length new ≡ length items
+same_length items new are = omega (arith, ap length are, length-map new seen, length-map items seen)
 
 pub push_held : {T : Type 0} (items new : List (Entry T)) (e : Entry T) (old held : List Range) → new ≡ items ++ e ∷ [] → old ≡ ranges (heights (map seen items)) → held ≡ with_height e.index old → held ≡ ranges (heights (map seen new))
 push_held items new e old held are was is =

@@ -1,12 +1,12 @@
 -- What the calls of a store over entries change.
-use Rattle.std.proofs.Common.{◌≡◌, ◌∙◌, ◌≤◌, ◌<◌, ◌⊎◌, inl, inr, ◌||◌, ℕ, zero, suc, List, [], ◌∷◌, ◌++◌, Bool, true, false, Option, Some, is_some, Contains, cond, refl, ap, map, take, length, min, nat_le, nat_lt, arith, append-nil, le-leb}
+use Rattle.std.proofs.Common.{◌≡◌, ◌∙◌, ◌≤◌, ◌<◌, ◌⊎◌, inl, inr, ◌||◌, ℕ, zero, suc, List, [], ◌∷◌, ◌++◌, Bool, true, false, Option, Some, is_some, Contains, cond, refl, sym, ap, map, take, length, min, nat_le, nat_lt, arith, append-nil, le-leb}
 use Rattle.std.specs.Prelude.{bytes_eq, filter, find, option_map, ◌==◌}
 use Rattle.std.specs.List.{AllByRecursion, list_any}
 use Rattle.std.proofs.lemmas.Bool.{both_ways, or_from, ne_eqb, ltb-true, eqb-true}
 use Rattle.std.proofs.lemmas.List.{map_push, take-append-le, take_all, length-map, take-map}
 use Rattle.std.proofs.lemmas.List.Elements.{Contains-append_left, Contains-append_right, filter-append}
 use Rattle.mar_store.specs.Kept.{At, EachHeightOnce, Kept, value_at}
-use Rattle.mar_store.specs.Changes.{Fails, IsStillOr, KeepsFrom, KeepsValues, Prunes, Puts, Syncs, Within, left_of}
+use Rattle.mar_store.specs.Changes.{Fails, IsStillOr, KeepsFrom, KeepsValues, Prunes, Puts, Syncs, Within, from_bound, left_of, left_put, pruned_store}
 use Rattle.mar_store.specs.Named.{is_taken, value_named}
 use Rattle.mar_store.specs.Tickets.{KeepsCovers, KeepsCoversFrom, last_number}
 use Rattle.mar_store.specs.Nested.{front_once}
@@ -72,6 +72,11 @@ still_put items new n m e within are same = elim are [
   | inl stayed ↦ inl (rw (stayed, same) refl)
   | inr put ↦ still_done items new n m (seen e) false (puts_entry items new n m e false within refl put same)
 ]
+
+-- a put that was done leaves just what it was to write
+pub left_done : {T : Type 0} (items new : List (Entry T)) (n m : ℕ) (x : At T) (ignored : Bool) → Puts ignored (kept_of items n) x (kept_of new m) → left_of (kept_of new m) ≡ left_put ignored (left_of (kept_of items n)) x
+left_done items new n m x true puts = rw (puts.sure, puts.held) refl
+left_done items new n m x false puts = rw (puts.sure, puts.held) refl
 
 -- SYNCS
 
@@ -158,16 +163,32 @@ filter_has min [] x has le = has
 filter_has min (e ∷ es) x (zero, lt, same) le = first_has (nat_le min e.index) e (filter (λ f. nat_le min f.index) es) x (le-leb min e.index (rw (ap (λ (y : At _). y.height) same) le)) same
 filter_has min (e ∷ es) x (suc i, lt, same) le = more_has (nat_le min e.index) e (filter (λ f. nat_le min f.index) es) x (filter_has min es x (i, omega arith, same) le)
 
+pruned_front : {T : Type 0} (min : ℕ) (items new : List (Entry T)) (n m : ℕ) → new ≡ filter (λ e. nat_le min e.index) items → m ≡ length (filter (λ e. nat_le min e.index) (take n items)) → take m (map seen new) ≡ map seen (filter (λ e. nat_le min e.index) (take n items))
+pruned_front min items new n m are is =
+    ap (λ es. take m (map seen es)) are ∙ (ap (λ k. take k (map seen (filter (λ e. nat_le min e.index) items))) is ∙ (take-map seen (length (filter (λ e. nat_le min e.index) (take n items))) (filter (λ e. nat_le min e.index) items) ∙ ap (map seen) (front_filter (λ e. nat_le min e.index) n items)))
+
 pub prunes : {T : Type 0} (min : ℕ) (items new : List (Entry T)) (n m : ℕ) → EachHeightOnce (map seen items) → new ≡ filter (λ e. nat_le min e.index) items → m ≡ length (filter (λ e. nat_le min e.index) (take n items)) → Prunes min (kept_of items n) (kept_of new m)
 prunes min items new n m once are is =
-    let front : take m (map seen new) ≡ map seen (filter (λ e. nat_le min e.index) (take n items)) =
-    ap (λ es. take m (map seen es)) are ∙ (ap (λ k. take k (map seen (filter (λ e. nat_le min e.index) items))) is ∙ (take-map seen (length (filter (λ e. nat_le min e.index) (take n items))) (filter (λ e. nat_le min e.index) items) ∙ ap (map seen) (front_filter (λ e. nat_le min e.index) n items))) in
+    let front = pruned_front min items new n m are is in
     record {
       held = rw are (keeps_from min items once);
       sure = rw (front, take-map seen n items) (keeps_from min (take n items) (rw (← take-map seen n items) (front_once n (map seen items) once)));
       may_from = λ x there le. rw are (filter_has min items x there le);
       may = λ x there. filter_within (λ e. nat_le min e.index) items x (rw are at there);
     }
+
+seen_from : {T : Type 0} (min : ℕ) (es : List (Entry T)) → map seen (filter (λ e. nat_le min e.index) es) ≡ from_bound min (map seen es)
+seen_from min [] = refl
+seen_from {T} min (e ∷ es) =
+    elim (nat_le min e.index) as (λ b. map seen (cond b (e ∷ filter (λ (f : Entry T). nat_le min f.index) es) (filter (λ f. nat_le min f.index) es)) ≡ cond b (seen e ∷ from_bound min (map seen es)) (from_bound min (map seen es)))
+    [ true ↦ ap (λ xs. seen e ∷ xs) (seen_from min es) | false ↦ seen_from min es ]
+
+-- a prune that takes out all below its bound
+pub pruned_exact : {T : Type 0} (min : ℕ) (items new : List (Entry T)) (n m : ℕ) → new ≡ filter (λ e. nat_le min e.index) items → m ≡ length (filter (λ e. nat_le min e.index) (take n items)) → kept_of new m ≡ pruned_store min (kept_of items n)
+pruned_exact min items new n m are is =
+    let held : map seen new ≡ from_bound min (map seen items) = ap (map seen) are ∙ seen_from min items in
+    let sure : take m (map seen new) ≡ from_bound min (take n (map seen items)) = pruned_front min items new n m are is ∙ (seen_from min (take n items) ∙ ap (from_bound min) (sym (take-map seen n items))) in
+    rw (sure, held) refl
 
 pub covers_pruned : {T : Type 0} (min number : ℕ) (items new : List (Entry T)) → EachHeightOnce (map seen items) → new ≡ filter (λ e. nat_le min e.index) items → KeepsCoversFrom min number (covered_by items) (covered_by new)
 covers_pruned min number items new once are t le =

@@ -1,5 +1,5 @@
 -- What the calls of a store change, over what it holds and what a crash leaves of it.
-use Rattle.std.specs.Prelude.{◌≡◌, ◌≤◌, ◌⊎◌, ℕ, List, [], ◌∷◌, ◌++◌, Some, Bool, if◌then◌else◌, Contains, map}
+use Rattle.std.specs.Prelude.{◌≡◌, ◌≤◌, ◌⊎◌, ℕ, List, [], ◌∷◌, ◌++◌, Some, Bool, if◌then◌else◌, Contains, filter, length, map, nat_le, take}
 use Rattle.mar_store.specs.Kept.{At, Kept, value_at, EachHeightOnce, Reopens, reopened_store}
 
 -- what is left of a store: what every crash leaves, and all that a crash can leave
@@ -41,6 +41,10 @@ left_of kept = record { sure = kept.sure; may = kept.may }
 abbrev pub IsStillOr : {T : Type 0} → Left (At T) → At T → Left (At T) → Type 0
 IsStillOr old x left = (left ≡ old) ⊎ (left ≡ record { sure = old.sure; may = old.may ++ x ∷ [] })
 
+-- what is left of a put that was written as its call failed: the value behind the others, unless it is ignored
+abbrev pub left_put : {T : Type 0} → Bool → Left (At T) → At T → Left (At T)
+left_put ignored old x = if ignored then old else record { sure = old.sure; may = old.may ++ x ∷ [] }
+
 -- A reopening finds one list with all that was sure, of what may be left.
 pub record IsReopened {T : Type 0} (old : Left (At T)) (new : Kept (At T)) : Type 0 where
   pub found : List (At T)
@@ -78,3 +82,20 @@ pub record Finishes {T : Type 0} (more : List (At T)) (old new : Kept (At T)) : 
   pub only : (h : ℕ) (v : T) → value_at new.sure h ≡ Some v → (value_at old.sure h ≡ Some v) ⊎ (value_at more h ≡ Some v)
   pub may : Within new.may old.may
   pub same : KeepsValues more old.sure → new ≡ old
+
+-- the second list begins with the first
+abbrev pub BeginsWith : {T : Type 0} → List T → List T → Type 0
+BeginsWith front whole = take (length front) whole ≡ front
+
+-- Just what is held may be left, in the order of the puts, and what is sure stands in front of the rest.
+pub record IsQueue {T : Type 0} (kept : Kept (At T)) : Type 0 where
+  pub may : kept.may ≡ kept.held
+  pub front : BeginsWith kept.sure kept.held
+
+-- the values at or above a bound, in their order
+abbrev pub from_bound : {T : Type 0} → ℕ → List (At T) → List (At T)
+from_bound min xs = filter (λ x. nat_le min x.height) xs
+
+-- a store of which a prune took out all below its bound, and nothing else
+abbrev pub pruned_store : {T : Type 0} → ℕ → Kept (At T) → Kept (At T)
+pruned_store min kept = record { held = from_bound min kept.held; sure = from_bound min kept.sure; may = from_bound min kept.may }

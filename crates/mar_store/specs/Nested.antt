@@ -3,7 +3,7 @@ use Rattle.std.specs.Prelude.{List, None, Option, Some, [], filter, nat_lt, is_s
 use Rattle.std.proofs.Common.{Bool, ap, arith, cond, refl, true, false}
 use Rattle.std.proofs.lemmas.Bool.{or_right}
 use Rattle.mar_store.specs.Kept.{At, EachHeightOnce, value_at}
-use Rattle.mar_store.specs.Changes.{IsNested, KeepsValues, Within}
+use Rattle.mar_store.specs.Changes.{BeginsWith, IsNested, IsQueue, KeepsValues, Within}
 use Rattle.mar_store.specs.Entries.{covered_by, is_covered, kept_of, seen}
 use Rattle.mar_store.specs.Tickets.{last_number}
 use Rattle.mar_store.specs.declared.entry.Entry.{Entry}
@@ -53,3 +53,12 @@ covers_last items = ap (map seen) (all items)
     all : {T : Type 0} (es : List (Entry T)) → filter (is_covered last_number) es ≡ es
     all [] = refl
     all (e ∷ es) = rw (or_right (nat_lt e.number last_number) (last_number == last_number) refl) (ap (λ ys. e ∷ ys) (all es))
+
+-- a list begins with each of its fronts
+pub front_begins : {T : Type 0} (n : ℕ) (xs : List T) → BeginsWith (take n xs) xs
+front_begins zero xs = refl
+front_begins (suc n) [] = refl
+front_begins (suc n) (x ∷ xs) = ap (λ ys. x ∷ ys) (front_begins n xs)
+
+pub kept_queue : {T : Type 0} (items : List (Entry T)) (n : ℕ) → IsQueue (kept_of items n)
+kept_queue items n = record { may = refl; front = front_begins n (map seen items) }

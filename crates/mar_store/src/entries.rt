@@ -1,9 +1,9 @@
 //! Entries that are found by index and by key.
-ghost use Rattle.std.specs.Prelude.{◌≡◌, ◌==◌, ◌≤◌, ◌||◌, ℕ, [], ◌∷◌, ◌++◌, ◌⊎◌, bytes_eq, drop, filter, length, map, nat_le, option_map, take, true, false, IfOk, IfErr, MatchResult};
+ghost use Rattle.std.specs.Prelude.{◌≡◌, ◌==◌, ◌≤◌, ◌+◌, ◌||◌, ℕ, [], ◌∷◌, ◌++◌, ◌⊎◌, bytes_eq, drop, filter, length, map, nat_le, option_map, take, true, false, IfOk, IfErr, MatchResult};
 ghost use Rattle.std.specs.Option.{option_copied};
 ghost use Rattle.std.specs.Ordering.{nat_cmp};
 ghost use Rattle.std.specs.BTreeMap.{get};
-ghost use Rattle.mar_store.specs.Changes.{Fails, Finishes, IsStillOr, Puts, Syncs, left_of};
+ghost use Rattle.mar_store.specs.Changes.{Fails, Finishes, IsStillOr, Puts, Syncs, left_of, left_put};
 ghost use Rattle.mar_store.specs.Kept.{reopened_store, value_at};
 ghost use Rattle.mar_store.specs.Named.{is_taken, value_found, value_named};
 ghost use Rattle.mar_store.specs.Luck.{is_lucky, lucky_found};
@@ -96,6 +96,9 @@ impl<T: Item> Entries<T> {
             (left_of (kept_of p.items.items p.synced))) }
         ensures tickets { IfOk result (λ s. self.pile.accepted ≤ s.pile.accepted) }
         ensures covers { IfOk result (λ s. KeepsCovers self.pile.accepted (covered_by self.pile.items.items) (covered_by s.pile.items.items)) }
+        ensures ignored { is_taken T.name (map seen self.pile.items.items) (record { height = index; value = item }) ≡ true
+            → MatchResult result (λ s. s.pile ≡ self.pile) (λ p. ⊥) }
+        ensures counted { MatchResult result (λ s. s.pile.accepted ≤ self.pile.accepted + 1) (λ p. p.accepted ≤ self.pile.accepted + 1) }
     {
         if self.holds(index, &item) {
             return Ok(self);
@@ -106,17 +109,24 @@ impl<T: Item> Entries<T> {
         }
     }
 
-    /// What a put leaves that fails: the pile with the value, or without it.
-    pub fn put_in_part(self, index: u64, item: T) -> Pile<T>
+    /// What a put leaves that fails: the pile with the value. It says whether memory ran out over that; then the value may
+    /// be missing.
+    pub fn put_in_part(self, index: u64, item: T) -> (Pile<T>, bool)
         requires fits { T.fits index item ≡ true }
         ensures left { Fails (left_of (kept_of self.pile.items.items self.pile.synced)) (record { height = index; value = item } ∷ [])
-            (left_of (kept_of result.items.items result.synced)) }
+            (left_of (kept_of result.0.items.items result.0.synced)) }
         ensures still { IsStillOr (left_of (kept_of self.pile.items.items self.pile.synced)) (record { height = index; value = item })
-            (left_of (kept_of result.items.items result.synced)) }
+            (left_of (kept_of result.0.items.items result.0.synced)) }
+        ensures written { result.1 ≡ false → left_of (kept_of result.0.items.items result.0.synced)
+            ≡ left_put (is_taken T.name (map seen self.pile.items.items) (record { height = index; value = item }))
+            (left_of (kept_of self.pile.items.items self.pile.synced)) (record { height = index; value = item }) }
+        ensures ignored { is_taken T.name (map seen self.pile.items.items) (record { height = index; value = item }) ≡ true
+            → result.0 ≡ self.pile }
+        ensures counted { result.0.accepted ≤ self.pile.accepted + 1 }
     {
         match self.put(index, item) {
-            Ok(entries) => entries.pile,
-            Err(pile) => pile,
+            Ok(entries) => (entries.pile, false),
+            Err(pile) => (pile, true),
         }
     }
 
@@ -131,6 +141,7 @@ impl<T: Item> Entries<T> {
         ensures synced { MatchResult result (λ s. s.pile.synced ≡ self.pile.synced) (λ p. p.synced ≡ self.pile.synced) }
         ensures tickets { IfOk result (λ s. s.pile.accepted ≡ next_number self.pile.accepted) }
         ensures goes_on { IfOk result (λ s. self.pile.accepted ≤ s.pile.accepted) }
+        ensures counted { MatchResult result (λ s. s.pile.accepted ≤ self.pile.accepted + 1) (λ p. p.accepted ≤ self.pile.accepted + 1) }
     {
         let Entries { pile, mut places } = self;
         let place = pile.items.len();
@@ -151,7 +162,7 @@ impl<T: Item> Entries<T> {
             (λ p. Fails (left_of (kept_of self.pile.items.items self.pile.synced)) [] (left_of (kept_of p.items.items p.synced))) }
         ensures still { IfErr result (λ p. left_of (kept_of p.items.items p.synced) ≡ left_of (kept_of self.pile.items.items self.pile.synced)) }
         ensures items { IfOk result (λ s. s.pile.items.items ≡ self.pile.items.items) }
-        ensures tickets { IfOk result (λ s. s.pile.accepted ≡ self.pile.accepted) }
+        ensures tickets { MatchResult result (λ s. s.pile.accepted ≡ self.pile.accepted) (λ p. p.accepted ≡ self.pile.accepted) }
     {
         let Entries { pile, places } = self;
         match pile.sync() {
@@ -168,7 +179,7 @@ impl<T: Item> Entries<T> {
             (λ p. Fails (left_of (kept_of self.pile.items.items self.pile.synced)) [] (left_of (kept_of p.items.items p.synced))) }
         ensures still { IfErr result (λ p. left_of (kept_of p.items.items p.synced) ≡ left_of (kept_of self.pile.items.items self.pile.synced)) }
         ensures items { IfOk result (λ s. s.pile.items.items ≡ self.pile.items.items) }
-        ensures tickets { IfOk result (λ s. s.pile.accepted ≡ self.pile.accepted) }
+        ensures tickets { MatchResult result (λ s. s.pile.accepted ≡ self.pile.accepted) (λ p. p.accepted ≡ self.pile.accepted) }
     {
         let Entries { pile, places } = self;
         match pile.finish(number) {
@@ -199,6 +210,7 @@ impl<T: Item> Entries<T> {
     pub fn open(pile: Pile<T>, half: u64) -> Result<Self, Pile<T>>
         ensures found { IfOk result (λ s. kept_of s.pile.items.items s.pile.synced
             ≡ reopened_store (lucky_found (is_lucky half) (left_of (kept_of pile.items.items pile.synced)))) }
+        ensures tickets { IfOk result (λ s. s.pile.accepted ≡ pile.accepted) }
         ensures err { IfErr result (λ p. p ≡ pile) }
     {
         let choice = Choice::Lucky(pile.sure_count(), half);
@@ -216,6 +228,7 @@ impl<T: Item> Entries<T> {
     pub fn drawn(self, half: u64) -> Result<Self, Pile<T>>
         ensures found { IfOk result (λ s. kept_of s.pile.items.items s.pile.synced
             ≡ reopened_store (lucky_found (is_lucky half) (left_of (kept_of self.pile.items.items self.pile.synced)))) }
+        ensures tickets { IfOk result (λ s. s.pile.accepted ≡ self.pile.accepted) }
         ensures err { IfErr result (λ p. p ≡ self.pile) }
     {
         let sure = self.pile.sure_count();
@@ -230,6 +243,32 @@ impl<T: Item> Entries<T> {
                 Err(pile) => Err(pile),
                 Ok(pile) => Ok(Entries { pile, places }),
             },
+        }
+    }
+
+    /// Counts a change that tickets tell apart and that is no put, as a prune.
+    pub fn count(self) -> Self
+        ensures items { result.pile.items.items ≡ self.pile.items.items }
+        ensures synced { result.pile.synced ≡ self.pile.synced }
+        ensures tickets { result.pile.accepted ≡ next_number self.pile.accepted }
+    {
+        let Entries { pile, places } = self;
+        Entries {
+            pile: pile.count(),
+            places,
+        }
+    }
+
+    /// Numbers all entries anew, as those that were there before the first put: so tickets begin anew.
+    pub fn restart(self) -> Self
+        ensures seen { map seen result.pile.items.items ≡ map seen self.pile.items.items }
+        ensures synced { result.pile.synced ≡ self.pile.synced }
+        ensures tickets { result.pile.accepted ≤ 1 }
+    {
+        let Entries { pile, places } = self;
+        Entries {
+            pile: pile.restart(),
+            places,
         }
     }
 

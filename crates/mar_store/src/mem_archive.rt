@@ -1,10 +1,10 @@
 //! An archive in memory.
-ghost use Rattle.std.specs.Prelude.{◌≡◌, ◌==◌, ◌≤◌, ℕ, IfErr, IfOk, MatchResult, [], bytes_eq, filter, is_some, length, map, nat_le, take, Some};
+ghost use Rattle.std.specs.Prelude.{◌≡◌, ◌==◌, ◌≤◌, ◌+◌, ℕ, IfErr, IfOk, MatchResult, [], bytes_eq, filter, is_some, length, map, nat_le, take, Some};
 ghost use Rattle.std.specs.Option.{ForSome};
 ghost use Rattle.std.specs.Ordering.{nat_cmp};
 ghost use Rattle.std.specs.BTreeMap.{get};
 ghost use Rattle.mar_types.specs.Places.{first_place};
-ghost use Rattle.mar_store.specs.Changes.{Fails, Prunes, left_of};
+ghost use Rattle.mar_store.specs.Changes.{Fails, Prunes, left_of, pruned_store};
 ghost use Rattle.mar_store.specs.Kept.{reopened_store};
 ghost use Rattle.mar_store.specs.Entries.{covered_by, kept_of, seen};
 ghost use Rattle.mar_store.specs.Named.{value_found};
@@ -13,7 +13,7 @@ ghost use Rattle.mar_store.specs.Lost.{wreck_of};
 ghost use Rattle.mar_store.specs.Watch.{Heeds, HeedsRead};
 ghost use Rattle.mar_store.specs.Alarms.{alarm_watch, fresh_watch};
 ghost use Rattle.mar_store.specs.Watch.{by_half};
-ghost use Rattle.mar_store.specs.Nested.{covers_last, front_within, kept_nested};
+ghost use Rattle.mar_store.specs.Nested.{covers_last, front_begins, front_within, kept_nested, kept_queue};
 
 use crate::alarm::Alarm;
 use crate::entries::Entries;
@@ -32,11 +32,13 @@ pub struct MemArchive<T: Item> {
     alarm: Alarm,
 }
 
-/// What is left of a `MemArchive`, with the places of its entries where memory didn't run out.
+/// What is left of a `MemArchive`, with the places of its entries where memory didn't run out,
+/// and whether it ran out as a put that failed was to leave its value.
 #[derive(Drop)]
 pub struct MemArchiveWreck<T: Item> {
     pile: Pile<T>,
     places: Option<EntryPlaces<T::Key>>,
+    short: bool,
     half: LuckHalf,
     alarm: Alarm,
     ghost by_index: { ForSome places (λ p. (h : ℕ) → get nat_cmp p.by_index h ≡ first_place (λ e. e.index == h) pile.items.items) },
@@ -64,6 +66,7 @@ impl<T: Item> MemArchive<T> {
             (left_of (kept_of result.pile.items.items result.pile.synced)) }
         ensures still { left_of (kept_of result.pile.items.items result.pile.synced)
             ≡ left_of (kept_of self.entries.pile.items.items self.entries.pile.synced) }
+        ensures number { result.pile.accepted ≡ self.entries.pile.accepted }
         ensures half { result.half ≡ self.half }
         ensures alarm { result.alarm ≡ self.alarm }
     {
@@ -71,6 +74,7 @@ impl<T: Item> MemArchive<T> {
         MemArchiveWreck {
             pile,
             places: Some(places),
+            short: false,
             half: self.half,
             alarm: self.alarm,
         }
@@ -87,6 +91,7 @@ impl<T: Item> MemArchiveWreck<T> {
         let MemArchiveWreck {
             pile,
             places,
+            short,
             half,
             alarm,
         } = self;
@@ -99,6 +104,7 @@ impl<T: Item> MemArchiveWreck<T> {
             None => Err(MemArchiveWreck {
                 pile,
                 places: None,
+                short,
                 half,
                 alarm,
             }),
@@ -110,6 +116,12 @@ impl<T: Item> ArchiveRuin<T> for MemArchiveWreck<T> {
     ghost left = { λ w. left_of (kept_of w.pile.items.items w.pile.synced) };
 
     ghost watch = { λ w. alarm_watch (Some (by_half w.half)) w.alarm };
+
+    ghost number = { λ w. w.pile.accepted };
+
+    ghost short = { λ w. w.short };
+
+    ghost front = { λ w. front_begins w.pile.synced (map seen w.pile.items.items) };
 
     ghost within = { λ w. front_within w.pile.synced (map seen w.pile.items.items) };
 
@@ -138,6 +150,8 @@ impl<T: Item> Archive<T> for MemArchive<T> {
     ghost covers = { λ s. covered_by s.entries.pile.items.items };
 
     ghost nested = { λ s. kept_nested s.entries.pile.items.items s.entries.pile.synced s.entries.pile.once };
+
+    ghost queued = { λ s. kept_queue s.entries.pile.items.items s.entries.pile.synced };
 
     ghost named = { λ s. s.entries.pile.named };
 
@@ -186,9 +200,11 @@ impl<T: Item> Archive<T> for MemArchive<T> {
     fn put(self, index: u64, item: T) -> Result<Self, Lost<MemArchiveWreck<T>>> {
         let mut archive = self;
         if archive.alarm.rings() {
+            let (pile, short) = archive.entries.put_in_part(index, item);
             return Err(Lost::Fault(MemArchiveWreck {
-                pile: archive.entries.put_in_part(index, item),
+                pile,
                 places: None,
+                short,
                 half: archive.half,
                 alarm: archive.alarm,
             }));
@@ -198,6 +214,7 @@ impl<T: Item> Archive<T> for MemArchive<T> {
             Err(pile) => Err(Lost::Memory(MemArchiveWreck {
                 pile,
                 places: None,
+                short: false,
                 half: archive.half,
                 alarm: archive.alarm,
             })),
@@ -214,6 +231,7 @@ impl<T: Item> Archive<T> for MemArchive<T> {
             Err(pile) => Err(Lost::Memory(MemArchiveWreck {
                 pile,
                 places: None,
+                short: false,
                 half: archive.half,
                 alarm: archive.alarm,
             })),
@@ -239,6 +257,7 @@ impl<T: Item> Archive<T> for MemArchive<T> {
             Err(pile) => Err(Lost::Memory(MemArchiveWreck {
                 pile,
                 places: None,
+                short: false,
                 half: archive.half,
                 alarm: archive.alarm,
             })),
@@ -252,6 +271,10 @@ impl<T: Item> Archive<T> for MemArchive<T> {
             (left_of (kept_of (wreck_of l).pile.items.items (wreck_of l).pile.synced))) }
         ensures still { IfErr result (λ l. left_of (kept_of (wreck_of l).pile.items.items (wreck_of l).pile.synced)
             ≡ left_of (kept_of self.entries.pile.items.items self.entries.pile.synced)) }
+        ensures exact { IfOk result (λ s. kept_of s.entries.pile.items.items s.entries.pile.synced
+            ≡ pruned_store min (kept_of self.entries.pile.items.items self.entries.pile.synced)) }
+        ensures counted { MatchResult result (λ s. s.entries.pile.accepted ≤ self.entries.pile.accepted + 1)
+            (λ l. (wreck_of l).pile.accepted ≤ self.entries.pile.accepted + 1) }
         ensures tickets { IfOk result (λ s. self.entries.pile.accepted ≤ s.entries.pile.accepted) }
         ensures covers { IfOk result (λ s. KeepsCoversFrom min self.entries.pile.accepted (covered_by self.entries.pile.items.items)
             (covered_by s.entries.pile.items.items)) }
@@ -270,6 +293,7 @@ impl<T: Item> Archive<T> for MemArchive<T> {
             Err(pile) => Err(Lost::Memory(MemArchiveWreck {
                 pile,
                 places: None,
+                short: false,
                 half: archive.half,
                 alarm: archive.alarm,
             })),
@@ -281,6 +305,7 @@ impl<T: Item> Archive<T> for MemArchive<T> {
         MemArchiveWreck {
             pile,
             places: Some(places),
+            short: false,
             half: self.half,
             alarm: self.alarm,
         }
@@ -301,6 +326,7 @@ impl<T: Item> Archive<T> for MemArchive<T> {
                 Err(pile) => Err(Lost::Memory(MemArchiveWreck {
                     pile,
                     places: None,
+                    short: false,
                     half: archive.half,
                     alarm: archive.alarm,
                 })),
@@ -314,6 +340,7 @@ impl<T: Item> Archive<T> for MemArchive<T> {
                 Err(pile) => Err(Lost::Memory(MemArchiveWreck {
                     pile,
                     places: None,
+                    short: false,
                     half: wreck.half,
                     alarm: wreck.alarm,
                 })),

@@ -61,6 +61,7 @@ impl<T: Item> Pile<T> {
 
     /// A ticket that covers all entries.
     pub fn ticket(&self) -> SyncTicket
+        ensures exact { result.number ≡ self.now.accepted }
         ensures made { result.number ≤ self.now.accepted }
         ensures covered { covered_by self.now.items.items result.number ≡ map seen self.now.items.items }
     {
@@ -202,6 +203,52 @@ impl<T: Item> Pile<T> {
         self.keep_sure(until)
     }
 
+    /// Counts a change that tickets tell apart and that is no put, as a prune.
+    pub fn count(self) -> Self
+        ensures items { result.items.items ≡ self.items.items }
+        ensures synced { result.synced ≡ self.synced }
+        ensures accepted { result.accepted ≡ next_number self.accepted }
+    {
+        let Pile {
+            items,
+            synced,
+            held,
+            sure,
+            accepted,
+        } = self;
+        Pile {
+            items,
+            synced,
+            held,
+            sure,
+            accepted: accepted.saturating_add(1),
+        }
+    }
+
+    /// Numbers all entries anew, as those that were there before the first put: so tickets begin anew.
+    pub fn restart(self) -> Self
+        ensures seen { map seen result.items.items ≡ map seen self.items.items }
+        ensures synced { result.synced ≡ self.synced }
+        ensures accepted { result.accepted ≤ 1 }
+    {
+        let Pile {
+            mut items,
+            synced,
+            held,
+            sure,
+            ..
+        } = self;
+        number_anew(&mut items);
+        let accepted = items.len().min(1) as u64;
+        Pile {
+            items,
+            synced,
+            held,
+            sure,
+            accepted,
+        }
+    }
+
     /// How many entries are sure.
     pub fn sure_count(&self) -> usize
         ensures { result ≡ self.now.synced }
@@ -243,6 +290,7 @@ impl<T: Item> Pile<T> {
     pub fn settle(self, half: u64) -> Result<Self, Self>
         ensures items { IfOk result (λ p. p.items.items ≡ chosen (stays (Choice.Lucky self.synced half)) 0 self.items.items) }
         ensures synced { IfOk result (λ p. p.synced ≡ length p.items.items) }
+        ensures accepted { IfOk result (λ p. p.accepted ≡ self.accepted) }
         ensures err { IfErr result (λ p. p ≡ self) }
     {
         if self.synced == self.items.as_slice().len() {
@@ -292,6 +340,18 @@ impl<T: Item> Pile<T> {
             sure,
             accepted,
         }
+    }
+}
+
+// Gives each entry the number 0.
+fn number_anew<T>(items: &mut Vec<Entry<T>>)
+    ensures seen { map seen items.new.items ≡ map seen items.old.items }
+    ensures first { AllByRecursion (λ e. e.number ≡ 0) items.new.items }
+{
+    let mut place = 0;
+    while place < items.len() {
+        items[place].number = 0;
+        place += 1;
     }
 }
 

@@ -4,7 +4,7 @@ use Rattle.mar_store.specs.Entries.{covered_by}
 use Rattle.mar_journal_stores.proofs.ArchiveSteps.{fails_left, idle_moments, marked, ordered_of}
 use Rattle.mar_journal_stores.proofs.Fronts.{none_written}
 use Rattle.mar_journal_stores.proofs.Marks.{front_exact}
-use Rattle.mar_journal_stores.proofs.Results.{any_err}
+use Rattle.mar_journal_stores.proofs.Results.{any_err, ok_from}
 use Rattle.mar_journal_stores.proofs.Watching.{heeds_calm, lost_calm, struck}
 use Rattle.mar_journal_stores.proofs.archive_calls.JournalArchiveArchive.finish.Goals as goal
 
@@ -42,7 +42,10 @@ pub returns-in-Ok-clause-done : goal.returns-in-Ok-clause-done
 returns-in-Ok-clause-done g c = rw (c.in-Ok.ensures.entries, c.in-Ok.ensures.aside, c.number-number.ensures) at c.make_covered_sure.ensures.done
 
 pub returns-in-Ok-clause-tickets : goal.returns-in-Ok-clause-tickets
-returns-in-Ok-clause-tickets g c = IfOk-weaker c.make_covered_sure.result _ _ (λ s is. omega (arith, is, ap (λ e. e.pile.accepted) c.in-Ok.ensures.entries)) c.make_covered_sure.ensures.tickets
+returns-in-Ok-clause-tickets g c = ok_from c.make_covered_sure.result _ _ _ (λ s is. omega (arith, is, ap (λ e. e.pile.accepted) c.in-Ok.ensures.entries)) c.make_covered_sure.ensures.tickets
+
+pub returns-in-Ok-clause-counted : goal.returns-in-Ok-clause-counted
+returns-in-Ok-clause-counted g c = MatchResult-weaker c.make_covered_sure.result c.make_covered_sure.ensures.tickets (λ s is. omega (arith, is, ap (λ e. e.pile.accepted) c.in-Ok.ensures.entries)) (λ l is. omega (arith, is, ap (λ e. e.pile.accepted) c.in-Ok.ensures.entries))
 
 pub returns-in-Ok-clause-covers : goal.returns-in-Ok-clause-covers
 returns-in-Ok-clause-covers g c = IfOk-weaker c.make_covered_sure.result _ _ (λ s is t under last. ap (λ l. covered_by l t) (is ∙ ap (λ e. e.pile.items.items) c.in-Ok.ensures.entries)) c.make_covered_sure.ensures.items

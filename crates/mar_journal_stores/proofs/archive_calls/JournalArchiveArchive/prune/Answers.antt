@@ -2,7 +2,7 @@ use Rattle.std.proofs.Common.{[], ap, arith, inl, sym, ◌∙◌}
 use Rattle.mar_store.proofs.Stores.{covers_pruned}
 use Rattle.std.proofs.lemmas.Result.{IfOk-weaker}
 use Rattle.mar_journal_stores.proofs.ArchiveSteps.{fails_left}
-use Rattle.mar_journal_stores.proofs.Results.{any_err}
+use Rattle.mar_journal_stores.proofs.Results.{any_err, any_gone_well, match_from}
 use Rattle.mar_journal_stores.proofs.Watching.{heeds_calm, struck, unstruck}
 use Rattle.mar_journal_stores.proofs.archive_calls.JournalArchiveArchive.prune.Goals as goal
 
@@ -50,3 +50,9 @@ returns-in-Ok-clause-disk g c = c.cut.ensures.disk
 
 pub returns-in-Err-clause-cause : goal.returns-in-Err-clause-cause
 returns-in-Err-clause-cause g c = tt
+
+pub returns-in-Ok-clause-exact : goal.returns-in-Ok-clause-exact
+returns-in-Ok-clause-exact g c = any_gone_well c.cut.result _ (λ s. tt)
+
+pub returns-in-Ok-clause-counted : goal.returns-in-Ok-clause-counted
+returns-in-Ok-clause-counted g c = match_from c.cut.result _ _ _ _ (λ s is. omega (arith, is)) (λ l is. omega (arith, is)) c.cut.ensures.tickets c.cut.ensures.counted

@@ -45,3 +45,18 @@ returns-in-Ok-clause-covers g c = c.place.ensures.covers
 
 pub returns-in-Ok-clause-disk : goal.returns-in-Ok-clause-disk
 returns-in-Ok-clause-disk g c = c.place.ensures.disk
+
+pub returns-then-rings-clause-unchanged : goal.returns-then-rings-clause-unchanged
+returns-then-rings-clause-unchanged g c = λ taken. fails_left c.args.self.aside.gone.items c.args.self.entries.pile.items.items _ _ c.args.self.entries.pile.synced _ [] (ap (λ a. a.gone.items) c.left.ensures.aside) (ap (λ p. p.items.items) c.left.ensures.pile) (ap (λ p. p.synced) c.left.ensures.pile)
+
+pub returns-in-Err-clause-unchanged : goal.returns-in-Err-clause-unchanged
+returns-in-Err-clause-unchanged g c = λ taken. fails_left c.args.self.aside.gone.items c.args.self.entries.pile.items.items _ _ c.args.self.entries.pile.synced _ [] (ap (λ a. a.gone.items) c.left-in-Err.ensures.aside) (ap (λ p. p.items.items) c.left-in-Err.ensures.pile) (ap (λ p. p.synced) c.left-in-Err.ensures.pile)
+
+pub returns-in-Ok-clause-unchanged : goal.returns-in-Ok-clause-unchanged
+returns-in-Ok-clause-unchanged g c = c.place.ensures.unchanged
+
+pub returns-in-Ok-clause-counted : goal.returns-in-Ok-clause-counted
+returns-in-Ok-clause-counted g c = c.place.ensures.counted
+
+pub returns-in-Ok-clause-written : goal.returns-in-Ok-clause-written
+returns-in-Ok-clause-written g c = any_err c.place.result _ (λ l. tt)

@@ -1,4 +1,5 @@
-use Rattle.std.proofs.Common.{inl, refl, sym, ◌∙◌}
+use Rattle.std.proofs.lemmas.Result.{MatchResult-weaker}
+use Rattle.std.proofs.Common.{arith, inl, refl, sym, ◌∙◌}
 use Rattle.mar_store.proofs.Settled.{fails_still}
 use Rattle.mar_journal_stores.proofs.ArchiveSteps.{still_moments}
 use Rattle.mar_journal_stores.proofs.Results.{any_err, any_gone_well}
@@ -40,3 +41,6 @@ returns-clause-undamaged g c = c.find.ensures.undamaged
 
 pub returns-clause-any_moment : goal.returns-clause-any_moment
 returns-clause-any_moment g c = c.find.ensures.any_moment
+
+pub returns-clause-counted : goal.returns-clause-counted
+returns-clause-counted g c = MatchResult-weaker c.find.result c.find.ensures.counted (λ s is. omega (arith, is)) (λ l is. omega (arith, is))

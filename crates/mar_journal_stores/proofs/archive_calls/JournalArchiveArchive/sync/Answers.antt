@@ -3,7 +3,7 @@ use Rattle.mar_store.specs.Entries.{covered_by}
 use Rattle.std.proofs.lemmas.List.{drop_all, take_all}
 use Rattle.std.proofs.lemmas.Result.{IfOk-weaker, MatchResult-weaker}
 use Rattle.mar_journal_stores.proofs.ArchiveSteps.{fails_left, idle_moments}
-use Rattle.mar_journal_stores.proofs.Results.{any_err}
+use Rattle.mar_journal_stores.proofs.Results.{any_err, ok_from}
 use Rattle.mar_journal_stores.proofs.Watching.{heeds_calm, lost_calm, struck, unstruck}
 use Rattle.mar_journal_stores.proofs.archive_calls.JournalArchiveArchive.sync.Goals as goal
 
@@ -50,7 +50,10 @@ pub returns-in-Ok-flush-clause-done : goal.returns-in-Ok-flush-clause-done
 returns-in-Ok-flush-clause-done g c = rw (c.in-Ok-flush.ensures.entries, c.in-Ok-flush.ensures.aside) at c.make_sure.ensures.done
 
 pub returns-in-Ok-flush-clause-tickets : goal.returns-in-Ok-flush-clause-tickets
-returns-in-Ok-flush-clause-tickets g c = IfOk-weaker c.make_sure.result _ _ (λ s is. omega (arith, is, ap (λ e. e.pile.accepted) c.in-Ok-flush.ensures.entries)) c.make_sure.ensures.tickets
+returns-in-Ok-flush-clause-tickets g c = ok_from c.make_sure.result _ _ _ (λ s is. omega (arith, is, ap (λ e. e.pile.accepted) c.in-Ok-flush.ensures.entries)) c.make_sure.ensures.tickets
+
+pub returns-in-Ok-flush-clause-counted : goal.returns-in-Ok-flush-clause-counted
+returns-in-Ok-flush-clause-counted g c = MatchResult-weaker c.make_sure.result c.make_sure.ensures.tickets (λ s is. omega (arith, is, ap (λ e. e.pile.accepted) c.in-Ok-flush.ensures.entries)) (λ l is. omega (arith, is, ap (λ e. e.pile.accepted) c.in-Ok-flush.ensures.entries))
 
 pub returns-in-Ok-flush-clause-covers : goal.returns-in-Ok-flush-clause-covers
 returns-in-Ok-flush-clause-covers g c = IfOk-weaker c.make_sure.result _ _ (λ s is t under last. ap (λ l. covered_by l t) (is ∙ ap (λ e. e.pile.items.items) c.in-Ok-flush.ensures.entries)) c.make_sure.ensures.items

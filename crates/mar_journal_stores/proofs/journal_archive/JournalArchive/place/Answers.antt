@@ -1,5 +1,8 @@
 use Rattle.std.proofs.Common.{[], ap, arith, sym, ◌++◌, ◌∙◌, ◌∷◌}
+use Rattle.mar_store.proofs.Settled.{fails_still}
 use Rattle.mar_store.proofs.Stores.{fails_done}
+use Rattle.mar_store.specs.Changes.{left_of}
+use Rattle.mar_journal_stores.specs.ArchiveStore.{archive_kept}
 use Rattle.std.proofs.lemmas.Bool.{true≢false}
 use Rattle.std.proofs.lemmas.List.{length-map}
 use Rattle.mar_journal.specs.declared.ArchiveRecord.TheVariants.{Put}
@@ -77,3 +80,18 @@ returns-in-Ok-add-clause-marked g c =
 
 pub returns-clause-done : goal.returns-clause-done
 returns-clause-done g c = rw c.into_pile.ensures (fails_done _ _ (record { height = c.args.index; value = c.args.item }) _ (puts_with_gone c.args.self.aside.gone.items c.args.self.entries.pile.items.items c.in-Ok.entries.pile.items.items c.args.self.entries.pile.synced c.in-Ok.entries.pile.synced (record { height = c.args.index; value = c.args.item }) _ c.in-Ok.ensures.done))
+
+pub returns-in-Err-clause-unchanged : goal.returns-in-Err-clause-unchanged
+returns-in-Err-clause-unchanged g c = λ taken. absurd (c.in-Err.ensures.ignored taken)
+
+pub returns-in-Err-2-clause-unchanged : goal.returns-in-Err-2-clause-unchanged
+returns-in-Err-2-clause-unchanged g c = λ taken. absurd (c.in-Err.ensures.ignored taken)
+
+pub returns-in-Ok-clause-unchanged : goal.returns-in-Ok-clause-unchanged
+returns-in-Ok-clause-unchanged g c = λ taken. ap (λ p. archive_kept c.args.self.aside.gone.items p.items.items p.synced) (c.in-Ok.ensures.ignored taken)
+
+pub returns-in-Ok-add-clause-unchanged : goal.returns-in-Ok-add-clause-unchanged
+returns-in-Ok-add-clause-unchanged g c = λ taken. ap (λ p. archive_kept c.args.self.aside.gone.items p.items.items p.synced) (c.in-Ok.ensures.ignored taken)
+
+pub returns-clause-unchanged : goal.returns-clause-unchanged
+returns-clause-unchanged g c = λ taken. rw c.into_pile.ensures (fails_still _ _ (ap (λ p. left_of (archive_kept c.args.self.aside.gone.items p.items.items p.synced)) (c.in-Ok.ensures.ignored taken)))
