@@ -18,3 +18,4 @@ pub mod LuckyLoads
 pub mod Ticketing
 pub mod AllEpochs
 pub mod CacheSteps
+pub mod PutsInPart

@@ -1,13 +1,13 @@
 -- What tickets cover, from one call to the next.
-use Rattle.std.proofs.Common.{◌≡◌, ◌⊎◌, inl, inr, ◌≤◌, ◌==◌, ◌&&◌, nat_le, ℕ, List, [], ◌∷◌, Bool, true, false, IsTrue, Contains, Option, Some, None, cond, filter, refl, ap, sym, subst, arith, ◌∙◌}
+use Rattle.std.proofs.Common.{◌≡◌, ◌⊎◌, inl, inr, ◌≤◌, ◌==◌, ◌&&◌, ◌<◌, nat_le, nat_lt, not, ℕ, List, [], ◌∷◌, Bool, true, false, IsTrue, Contains, Option, Some, None, cond, filter, refl, ap, sym, subst, arith, ◌∙◌}
 use Rattle.std.specs.Prelude.{⊤}
 use Rattle.std.specs.List.{AllByRecursion}
-use Rattle.std.proofs.lemmas.Bool.{cases_eq, eq-eqb, eqb-true, le-leb, leb-true}
+use Rattle.std.proofs.lemmas.Bool.{cases_eq, eq-eqb, eqb-true, le-leb, leb-true, ltb-false, ltb-true}
 use Rattle.std.proofs.lemmas.List.Elements.{Contains-append_cases, Contains-append_left, Contains-append_right}
 use Rattle.mar_store.specs.Changes.{Within}
 use Rattle.mar_store.specs.Tickets.{last_number}
 use Rattle.mar_model.specs.Cache.{same_archive}
-use Rattle.mar_model.specs.CacheCalls.{GivesTicket, KeepsTickets, StartsSync, is_of_archive}
+use Rattle.mar_model.specs.CacheCalls.{GivesTicket, KeepsTickets, StartsSync, is_of_archive, is_ready}
 use Rattle.mar_model.specs.Cached.{Cached, certified_entry, epoch_of, finalization_entry, notarization_entry, notarized_entry, verified_entry}
 use Rattle.mar_model.specs.Sections.{is_in, section_of}
 use Rattle.mar_model.specs.declared.CacheTicket.{CacheTicket}
@@ -21,11 +21,13 @@ use Rattle.mar_epochs.specs.declared.Change.{Change}
 use Rattle.mar_epochs.proofs.Filtering.{filter_agree}
 use Rattle.mar_cache.specs.AsOne.{covered_part, covered_with, covers_of, kept_of}
 use Rattle.mar_cache.specs.Bounds.{Bounds}
+use Rattle.mar_cache.specs.Calls.{IsPut}
 use Rattle.mar_cache.specs.Nested.{in_nothing}
 use Rattle.mar_cache.specs.Shelved.{AllChanges, GrowsEpoch, IsStarted, LieWithin, OpensOrStays, ThinsEpoch}
 use Rattle.mar_cache.proofs.Shelving.{changes_grows, filter_contains, grows_itself, grows_then, held_kept}
 use Rattle.mar_model.proofs.EntryLists.{filter_passed, filtered}
 use Rattle.mar_cache.proofs.StateLosses.{held_of_archive}
+use Rattle.mar_cache.proofs.StatePuts.{still_open}
 
 -- what each ticket covers of an epoch stays, but for what the test passes
 abbrev pub TicketsStay : (Cached → Bool) → EpochState → EpochState → Type 0
@@ -193,3 +195,21 @@ gives x states b lie open_now started given = by started (gives_here (epoch_of x
     by : (r : Started) → GivesTicket (covers_of states) (epoch_of x) (is_of_archive (epoch_of x) (section_of x)) (kept_of states b.highest).held r → GivesTicket (covers_of states) (epoch_of x) (same_archive x) (kept_of states b.highest).held r
     by (Ticket t) (at, none, covered) = (at, none, covered ∙ filter_agree (is_of_archive (epoch_of x) (section_of x)) (same_archive x) (archive_is x) (kept_of states b.highest).held)
     by Ready given' = absurd given'
+
+-- WHETHER THERE IS NOTHING TO WAIT FOR
+
+pub ready_as : (t : EpochState) (e : ℕ) (s : Section) (started : Started) → IsStarted t e s started → is_ready started ≡ not (is_opened t)
+ready_as (opened c) e s (Ticket t) given = refl
+ready_as (opened c) e s Ready given = absurd given
+ready_as (shut l) e s (Ticket t) given = absurd given
+ready_as (shut l) e s Ready given = refl
+
+-- a put answers so just where its epoch is below the lowest
+pub ready_below : (x : Cached) (old new : EpochStates) (lowest : ℕ) (s : Section) (started : Started) → (epoch_of x < lowest → started ≡ Ready) → (lowest ≤ epoch_of x → IsPut x old new × IsStarted (new (epoch_of x)) (epoch_of x) s started) → is_ready started ≡ nat_lt (epoch_of x) lowest
+ready_below x old new lowest s started ready done = by (nat_lt (epoch_of x) lowest) refl
+  where
+    by : (c : Bool) → nat_lt (epoch_of x) lowest ≡ c → is_ready started ≡ c
+    by true is = ap is_ready (ready (ltb-true (epoch_of x) lowest is))
+    by false is =
+        let (put, given) = done (ltb-false (epoch_of x) lowest is) in
+        ready_as (new (epoch_of x)) (epoch_of x) s started given ∙ ap not (ap is_opened put.done.2 ∙ still_open x (old (epoch_of x)) put.mid put.done.0 put.opens put.done.1)

@@ -1,5 +1,5 @@
 -- What a cache tells of its failures where the stores below it failed.
-use Rattle.std.proofs.Common.{sym, subst, ◌≡◌, ◌+◌, ◌-◌, ◌^◌, ℕ, Bool, true, false, Option, Ok, Err, Result, cond, min, refl, ap, ap₂, arith, ◌∙◌}
+use Rattle.std.proofs.Common.{sym, subst, ◌≡◌, ◌+◌, ◌-◌, ◌^◌, ℕ, Bool, true, false, Option, Ok, Err, Result, IfErr, cond, min, refl, ap, ap₂, arith, ◌∙◌}
 use Rattle.std.specs.Result.{IsErrAnd}
 use Rattle.mar_store.specs.Lost.{wreck_of}
 use Rattle.mar_store.specs.Watch.{Follows, Heeds, IsCalm, LostHeeds, Strikes, counted, Watch, after_call, is_due}
@@ -67,6 +67,16 @@ heeds_then now left old mid (Err (Memory w)) none begun calm = (none, calm ∙ b
 pub heeds_lost : {W : Type 0} (left : W → Watch) (old mid : Watch) (l : Lost W) → is_due old.due ≡ false → mid ≡ counted old → IsCalmLost left mid l → LostHeeds left old l
 heeds_lost left old mid (Fault w) none begun calm = heeds_then {S = Watch} (λ s. s) left old mid (Err (Fault w)) none begun calm
 heeds_lost left old mid (Memory w) none begun calm = heeds_then {S = Watch} (λ s. s) left old mid (Err (Memory w)) none begun calm
+
+-- a call behind it never answers a fault where only armed calls fail
+pub never_faults : {W : Type 0} (left : W → Watch) (old mid : Watch) (l : Lost W) → mid ≡ counted old → IsCalmLost left mid l → is_fault l ≡ true → old.only_armed ≡ true → ⊥
+never_faults left old mid (Fault w) begun calm fault only = calm.1 (ap (λ x. x.only_armed) begun ∙ only)
+never_faults left old mid (Memory w) begun calm fault only = absurd cc
+
+pub ends_calmly : {S W : Type 0} (now : S → Watch) (left : W → Watch) (old mid : Watch) (r : Result S (Lost W)) (P : Lost W → Type 0) → mid ≡ counted old → IsCalm now left mid r → IfErr r (λ l. is_fault l ≡ true → old.only_armed ≡ true → P l)
+ends_calmly now left old mid (Ok s) P begun calm = tt
+ends_calmly now left old mid (Err (Fault w)) P begun calm = λ fault only. absurd (calm.1 (ap (λ x. x.only_armed) begun ∙ only))
+ends_calmly now left old mid (Err (Memory w)) P begun calm = λ fault only. absurd cc
 
 -- where a `?` hands on how a call failed: one that was counted itself, or one behind it
 pub heeds_exit : {S W : Type 0} (now : S → Watch) (left : W → Watch) (old : Watch) (r : Result S (Lost W)) (lost : Lost W) → IsErrAnd r (λ l. l ≡ lost) → LostHeeds left old lost → Heeds now left old r

@@ -1,12 +1,12 @@
 -- What is held and sure of all epochs together may be left, and is of no epoch below the lowest.
 use Rattle.std.specs.Prelude.{Bool, Contains, List, [], false, filter, nat_le, suc, true, zero, ℕ, ◌&&◌, ◌∷◌, ◌≡◌, ◌≤◌}
 use Rattle.std.specs.List.{list_any}
-use Rattle.std.proofs.Common.{inl, inr, arith, cond, refl, subst}
+use Rattle.std.proofs.Common.{inl, inr, arith, cond, refl, subst, sym}
 use Rattle.std.proofs.lemmas.Bool.{cases_eq, leb-true}
 use Rattle.std.proofs.lemmas.List.Elements.{Contains-append_cases, Contains-append_left, Contains-append_right}
 use Rattle.mar_store.specs.Changes.{Within}
 use Rattle.mar_model.specs.CacheCalls.{IsNestedCache}
-use Rattle.mar_model.specs.Cached.{Cached}
+use Rattle.mar_model.specs.Cached.{Cached, epoch_of}
 use Rattle.mar_epochs.specs.EpochStates.{EpochState, EpochStates, HasSome, IsNestedEpoch, held_in, is_opened, may_in, opened, shut, sure_in}
 use Rattle.mar_cache.specs.AsOne.{kept_of, may_of_some, sure_of_all, up_to}
 use Rattle.mar_cache.specs.Bounds.{Bounds, includes}
@@ -82,3 +82,11 @@ pub nested_left : (ways : List EpochStates) (h : ℕ) → ((states : EpochStates
 nested_left [] h nested x has = has
 nested_left (way ∷ []) h nested x has = within_up_to (λ k. sure_in (way k)) (λ k. may_in (way k)) h (λ k within. sure_may_in (way k) (nested way (zero, omega arith, refl) k)) x has
 nested_left (way ∷ other ∷ ways) h nested x has = Contains-append_left (up_to (λ k. may_in (way k)) h) (may_of_some (other ∷ ways) h) x (within_up_to (λ k. sure_in (way k)) (λ k. may_in (way k)) h (λ k within. sure_may_in (way k) (nested way (zero, omega arith, refl) k)) x (within_filter (λ y. list_any (same_entry y) (sure_of_all (other ∷ ways) h)) (up_to (λ k. sure_in (way k)) h) x has))
+
+held_open : (t : EpochState) (x : Cached) → Contains (held_in t) x → is_opened t ≡ true
+held_open (opened b) x has = refl
+held_open (shut l) x has = in_nothing x has
+
+-- what is held is of open epochs
+pub opens_held : (states : EpochStates) (b : Bounds) → LieWithin states b → (x : Cached) → Contains (kept_of states b.highest).held x → is_opened (states (epoch_of x)) ≡ true
+opens_held states b lie x has = let (k, within, found) = of_up_to (λ k. held_in (states k)) b.highest x has in subst (λ e. is_opened (states e) ≡ true) (sym ((lie k).held x found)) (held_open (states k) x found)

@@ -1,5 +1,6 @@
 -- The epochs of a cache as plain data, and what its calls make of them.
-use Rattle.std.specs.Prelude.{Bool, Contains, List, None, Option, Some, [], false, filter, if◌then◌else◌, max, nat_le, nat_lt, not, true, ℕ, ⊤, ◌&&◌, ◌<◌, ◌==◌, ◌||◌, ◌∷◌, ◌≡◌, ◌≢◌, ◌≤◌, ◌⊎◌}
+use Rattle.std.specs.List.{AllByRecursion}
+use Rattle.std.specs.Prelude.{Bool, Contains, List, None, Option, Some, [], false, filter, if◌then◌else◌, is_some, length, max, min, nat_le, nat_lt, not, true, ℕ, ⊤, ◌&&◌, ◌-◌, ◌^◌, ◌<◌, ◌==◌, ◌||◌, ◌∷◌, ◌≡◌, ◌≢◌, ◌≤◌, ◌⊎◌}
 use Rattle.mar_types.specs.Round.{Round}
 use Rattle.mar_store.specs.Changes.{Within}
 use Rattle.mar_store.specs.Tickets.{last_number}
@@ -8,9 +9,9 @@ use Rattle.mar_store.specs.declared.Alarm.{Alarm}
 use Rattle.mar_model.specs.Cached.{Cached, epoch_of}
 use Rattle.mar_model.specs.Cache.{is_below}
 use Rattle.mar_cache.specs.Bounds.{Bounds, includes}
-use Rattle.mar_epochs.specs.EpochStates.{ChangesEpoch, EpochState, EpochStates, HasSome, IsBare, KeepsOtherEpochs, LeavesEpoch, OpensEpoch, held_in, is_opened, may_in, opened, sure_in}
+use Rattle.mar_epochs.specs.EpochStates.{ChangesEpoch, EpochState, EpochStates, HasSome, IsBare, IsWholeEpoch, KeepsOtherEpochs, LeavesEpoch, OpensEpoch, held_in, is_opened, left_of_epoch, may_in, opened, sure_in}
 use Rattle.mar_epochs.specs.declared.Change.{Change}
-use Rattle.mar_epochs.specs.declared.Change.TheVariants.{Finish}
+use Rattle.mar_epochs.specs.declared.Change.TheVariants.{Finish, Put}
 use Rattle.mar_model.specs.declared.Section.{Section}
 use Rattle.mar_model.specs.declared.Started.{Started}
 use Rattle.mar_model.specs.declared.Started.TheVariants.{Ready, Ticket}
@@ -78,6 +79,24 @@ pub record DoesAt {E : Type 0} (plain : E → Cached) (e : ℕ) (changes : List 
   pub opens : OpensEpoch (old e) mid
   pub done : AllChanges plain changes mid (new e)
   pub others : KeepsOtherEpochs e old new
+
+-- the epochs are left as they are, in each way
+abbrev pub AllLeft : EpochStates → List EpochStates → Type 0
+AllLeft states ways = AllByRecursion (λ left. (k : ℕ) → left k ≡ left_of_epoch (states k)) ways
+
+-- What an armed put leaves, which is done but for its sync; nothing is done where its epoch is below the lowest.
+pub record IsDoneInPart {E : Type 0} (plain : E → Cached) (entry : E) (keeps : Option Follows) (b : Bounds) (old : EpochStates) (ways : List EpochStates) (lefts : List Bounds) : Type 0 where
+  pub new : EpochStates
+  pub ready : epoch_of (plain entry) < b.lowest → (new ≡ old) × (lefts ≡ b ∷ [])
+  pub done : b.lowest ≤ epoch_of (plain entry) → DoesAt plain (epoch_of (plain entry)) (Put entry ∷ []) old new × (lefts ≡ raised (epoch_of (plain entry)) b ∷ [])
+  pub whole : is_some keeps ≡ true → (k : ℕ) → IsWholeEpoch (new k)
+  pub left : AllLeft new ways
+  pub one : length ways ≡ 1
+
+-- What is told after a call that was counted may have failed once more.
+pub record FailsAgain (old new : Watch) : Type 0 where
+  pub later : min old.faults (2 ^ 64 - 1) ≤ new.faults
+  pub same : new ≡ record old { faults = new.faults }
 
 -- What a start of a sync answers: a ticket that covers all that the archive holds, where the epoch is open.
 abbrev pub IsStarted : EpochState → ℕ → Section → Started → Type 0

@@ -1,17 +1,17 @@
 //! The epoch cache as a node sees it: all its epochs as one list of entries.
-ghost use Rattle.std.specs.Prelude.{◌&&◌, ◌==◌, ◌≡◌, ◌∷◌, ℕ, [], IfErr, IfOk, map, option_map, refl, true};
+ghost use Rattle.std.specs.Prelude.{◌&&◌, ◌==◌, ◌≡◌, ◌∷◌, ℕ, [], IfErr, IfOk, map, nat_lt, option_map, refl, true};
 ghost use Rattle.mar_store.specs.Lost.{wreck_of};
 ghost use Rattle.mar_store.specs.Watch.{Heeds, HeedsRead};
 ghost use Rattle.mar_model.specs.AllEntries.{soonest};
-ghost use Rattle.mar_model.specs.CacheCalls.{GoesOn, LosesCache, PutsAndStarts, PutsAndSyncs, none_goes};
+ghost use Rattle.mar_model.specs.CacheCalls.{GoesOn, LeavesFailedPut, LosesCache, PutsAndStarts, PutsAndSyncs, is_ready, none_goes};
 ghost use Rattle.mar_model.specs.Cached.{epoch_of};
 ghost use Rattle.mar_model.specs.Entries.{cached_of, is_sought};
 ghost use Rattle.mar_model.specs.SmallEntries.{IsSmallEntry};
-ghost use Rattle.mar_epochs.specs.EpochStates.{IsBare};
+ghost use Rattle.mar_epochs.specs.EpochStates.{IsBare, is_opened};
 ghost use Rattle.mar_cache.specs.AsOne.{covers_of, greatest_highest, kept_of, left_of_ways, lowests_of};
 ghost use Rattle.mar_cache.specs.Bounds.{bounds_of};
 ghost use Rattle.mar_cache.specs.Finds.{finds_of};
-ghost use Rattle.mar_cache.specs.Nested.{nested_cache, nested_left};
+ghost use Rattle.mar_cache.specs.Nested.{nested_cache, nested_left, opens_held};
 ghost use Rattle.mar_cache.specs.Shelved.{shelf_watch};
 ghost use Rattle.mar_cache.specs.SmallKept.{small_kept, small_left};
 ghost use Rattle.mar_cache.specs.Stages.{IsAtStage, is_fresh, is_loaded};
@@ -55,6 +55,8 @@ impl<S: Epochs, M: Meta> ShelfRuin for ManagerWreck<S, M> {
 
     ghost watch = { λ w. shelf_watch S.keeps w.alarm (S.Wreck.calm w.epochs && (M.Wreck.watch w.meta).only_armed) };
 
+    ghost short = { λ w. w.short };
+
     ghost within = { λ w. nested_left (S.Wreck.left w.epochs) _ (S.nested_left w.epochs) };
 
     ghost small = { λ w. small_left (S.Wreck.left w.epochs) (greatest_highest (map bounds_of (M.Wreck.left w.meta))) (S.small_left w.epochs) };
@@ -73,6 +75,8 @@ impl<S: Epochs, M: Meta> Cache for EpochCache<S, M> {
 
     ghost loaded = { λ m. is_loaded m.stage };
 
+    ghost is_open = { λ m e. is_opened (S.states m.manager.epochs e) };
+
     ghost fresh = { λ m. is_fresh m.stage };
 
     ghost finds = { λ m. finds_of (S.picks m.manager.epochs) (S.states m.manager.epochs) (bounds_of (M.current m.manager.meta)).highest };
@@ -83,6 +87,10 @@ impl<S: Epochs, M: Meta> Cache for EpochCache<S, M> {
 
     ghost nested = { λ m. nested_cache (S.states m.manager.epochs) (bounds_of (M.current m.manager.meta)) m.stage m.manager.within
         (S.nested m.manager.epochs) m.staged };
+
+    ghost opens = { λ m. opens_held (S.states m.manager.epochs) (bounds_of (M.current m.manager.meta)) m.manager.within };
+
+    ghost closed = { λ m. m.staged.fresh };
 
     ghost small = { λ m. small_kept (S.states m.manager.epochs) (bounds_of (M.current m.manager.meta)).highest (S.small m.manager.epochs) };
 
@@ -172,6 +180,8 @@ where
             (kept_of (S.states self.manager.epochs) (bounds_of (M.current self.manager.meta)).highest)
             (kept_of (S.states r.0.manager.epochs) (bounds_of (M.current r.0.manager.meta)).highest)
             (covers_of (S.states r.0.manager.epochs)) r.1) }
+        ensures ready { IfOk result (λ r. is_ready r.1 ≡ nat_lt (epoch_of (cached_of V.plain S.Entry.Notarization.plain F.plain entry))
+            (bounds_of (M.current self.manager.meta)).lowest) }
         ensures goes_on { IfOk result (λ r. GoesOn ((cached_of V.plain S.Entry.Notarization.plain F.plain entry) ∷ []) none_goes
             (kept_of (S.states self.manager.epochs) (bounds_of (M.current self.manager.meta)).highest)
             (kept_of (S.states r.0.manager.epochs) (bounds_of (M.current r.0.manager.meta)).highest)
@@ -182,6 +192,10 @@ where
             (kept_of (S.states self.manager.epochs) (bounds_of (M.current self.manager.meta)).highest) ((bounds_of (M.current self.manager.meta)).lowest ∷ [])
             (left_of_ways (S.Wreck.left (wreck_of l).epochs) (map bounds_of (M.Wreck.left (wreck_of l).meta)))
             (lowests_of (map bounds_of (M.Wreck.left (wreck_of l).meta)))) }
+        ensures written { IfErr result (LeavesFailedPut (λ w. left_of_ways (S.Wreck.left w.epochs) (map bounds_of (M.Wreck.left w.meta))) (λ w. w.short)
+            (cached_of V.plain S.Entry.Notarization.plain F.plain entry) (bounds_of (M.current self.manager.meta)).lowest (is_loaded self.stage)
+            (shelf_watch S.keeps self.manager.alarm (S.calm self.manager.epochs && (M.watch self.manager.meta).only_armed))
+            (kept_of (S.states self.manager.epochs) (bounds_of (M.current self.manager.meta)).highest)) }
         ensures watched { Heeds (λ r. shelf_watch S.keeps r.0.manager.alarm (S.calm r.0.manager.epochs && (M.watch r.0.manager.meta).only_armed))
             (λ w. shelf_watch S.keeps w.alarm (S.Wreck.calm w.epochs && (M.Wreck.watch w.meta).only_armed))
             (shelf_watch S.keeps self.manager.alarm (S.calm self.manager.epochs && (M.watch self.manager.meta).only_armed)) result }
@@ -218,6 +232,10 @@ where
             (kept_of (S.states self.manager.epochs) (bounds_of (M.current self.manager.meta)).highest) ((bounds_of (M.current self.manager.meta)).lowest ∷ [])
             (left_of_ways (S.Wreck.left (wreck_of l).epochs) (map bounds_of (M.Wreck.left (wreck_of l).meta)))
             (lowests_of (map bounds_of (M.Wreck.left (wreck_of l).meta)))) }
+        ensures written { IfErr result (LeavesFailedPut (λ w. left_of_ways (S.Wreck.left w.epochs) (map bounds_of (M.Wreck.left w.meta))) (λ w. w.short)
+            (cached_of V.plain S.Entry.Notarization.plain F.plain entry) (bounds_of (M.current self.manager.meta)).lowest (is_loaded self.stage)
+            (shelf_watch S.keeps self.manager.alarm (S.calm self.manager.epochs && (M.watch self.manager.meta).only_armed))
+            (kept_of (S.states self.manager.epochs) (bounds_of (M.current self.manager.meta)).highest)) }
         ensures watched { Heeds (λ r. shelf_watch S.keeps r.manager.alarm (S.calm r.manager.epochs && (M.watch r.manager.meta).only_armed))
             (λ w. shelf_watch S.keeps w.alarm (S.Wreck.calm w.epochs && (M.Wreck.watch w.meta).only_armed))
             (shelf_watch S.keeps self.manager.alarm (S.calm self.manager.epochs && (M.watch self.manager.meta).only_armed)) result }

@@ -11,7 +11,7 @@ ghost use Rattle.mar_cache.specs.Bounds.{Bounds, LeavesBounds, bounds_of, includ
 ghost use Rattle.mar_epochs.specs.EpochStates.{ChangesEpoch, KeepsOtherEpochs, HasSome, IsBare, IsLeftOrBare, IsNewest, LosesEpoch, MightBe, OpensEpoch, SameEpochs, held_in, is_opened, left_of_epoch, none_gone};
 ghost use Rattle.mar_epochs.specs.Picks.{PicksEpoch, picks_by};
 ghost use Rattle.mar_epochs.specs.EpochArchives.{is_fault, is_kept, puts_of};
-ghost use Rattle.mar_cache.specs.Shelved.{AllChanges, AllLieWithin, DoesAt, DropsOlder, IsStarted, LeavesEpochs, LieWithin, IsClear, OpensOrStays, ThinsEpoch, at_epoch, finishes, is_pruned_by, nothing_gone, pruned_bounds, raised, shelf_watch};
+ghost use Rattle.mar_cache.specs.Shelved.{AllChanges, AllLieWithin, DoesAt, DropsOlder, FailsAgain, IsDoneInPart, IsStarted, LeavesEpochs, LieWithin, IsClear, OpensOrStays, ThinsEpoch, at_epoch, finishes, is_pruned_by, nothing_gone, pruned_bounds, raised, shelf_watch};
 
 use crate::bounds::{highest, includes, lowest, write_bounds};
 use crate::losses::{alarm_after, lost_for};
@@ -39,6 +39,7 @@ pub struct ManagerWreck<S: Epochs, M: Meta> {
     epochs: S::Wreck,
     meta: M::Wreck,
     alarm: Alarm,
+    short: bool,
     pub ghost quiet: { (M.Wreck.watch meta).due ≡ [] },
     pub ghost within: { AllLieWithin (S.Wreck.left epochs) (map bounds_of (M.Wreck.left meta)) },
 }
@@ -227,6 +228,61 @@ impl<S: Epochs, M: Meta> Manager<S, M> {
         manager.change(epoch, Change::Put(entry))
     }
 
+    // Counts a put, which fails where it is armed: then it is done, but for its sync.
+    fn begin_put(self, entry: S::Entry) -> Result<(Self, S::Entry), Lost<ManagerWreck<S, M>>>
+        ensures epochs { IfOk result (λ r. r.0.epochs ≡ self.epochs) }
+        ensures meta { IfOk result (λ r. r.0.meta ≡ self.meta) }
+        ensures entry { IfOk result (λ r. r.1 ≡ entry) }
+        ensures ways { IfErr result (λ l. AllByRecursion
+            (LeavesEpochs (at_epoch (epoch_of (S.Entry.plain entry)) (S.Entry.plain entry ∷ [])) nothing_gone (S.states self.epochs))
+            (S.Wreck.left (wreck_of l).epochs)) }
+        ensures bounds { IfErr result (λ l. Within (map bounds_of (M.Wreck.left (wreck_of l).meta))
+            (map bounds_of (M.left self.meta) ++ raised (epoch_of (S.Entry.plain entry)) (bounds_of (M.current self.meta)) ∷ [])) }
+        ensures written { IfErr result (λ l. (wreck_of l).short ≡ false → IsDoneInPart S.Entry.plain entry S.keeps (bounds_of (M.current self.meta))
+            (S.states self.epochs) (S.Wreck.left (wreck_of l).epochs) (map bounds_of (M.Wreck.left (wreck_of l).meta))) }
+        ensures watched { Heeds (λ r. shelf_watch S.keeps r.0.alarm (S.calm r.0.epochs && (M.watch r.0.meta).only_armed))
+            (λ w. shelf_watch S.keeps w.alarm (S.Wreck.calm w.epochs && (M.Wreck.watch w.meta).only_armed))
+            (shelf_watch S.keeps self.alarm (S.calm self.epochs && (M.watch self.meta).only_armed)) result }
+    {
+        let Manager {
+            epochs,
+            meta,
+            mut alarm,
+        } = self;
+        let rings = alarm.rings();
+        let manager = Manager {
+            epochs,
+            meta,
+            alarm,
+        };
+        if rings {
+            return Err(Lost::Fault(manager.put_in_part(entry)));
+        }
+        Ok((manager, entry))
+    }
+
+    // What an armed put leaves: it is done, but for its sync. Nothing is done where its epoch is below the lowest.
+    fn put_in_part(self, entry: S::Entry) -> ManagerWreck<S, M>
+        ensures ways { AllByRecursion
+            (LeavesEpochs (at_epoch (epoch_of (S.Entry.plain entry)) (S.Entry.plain entry ∷ [])) nothing_gone (S.states self.epochs))
+            (S.Wreck.left result.epochs) }
+        ensures bounds { Within (map bounds_of (M.Wreck.left result.meta))
+            (map bounds_of (M.left self.meta) ++ raised (epoch_of (S.Entry.plain entry)) (bounds_of (M.current self.meta)) ∷ []) }
+        ensures written { result.short ≡ false → IsDoneInPart S.Entry.plain entry S.keeps (bounds_of (M.current self.meta))
+            (S.states self.epochs) (S.Wreck.left result.epochs) (map bounds_of (M.Wreck.left result.meta)) }
+        ensures watch { FailsAgain (shelf_watch S.keeps self.alarm (S.calm self.epochs && (M.watch self.meta).only_armed))
+            (shelf_watch S.keeps result.alarm (S.Wreck.calm result.epochs && (M.Wreck.watch result.meta).only_armed)) }
+    {
+        let epoch = entry.epoch().get();
+        if epoch < lowest(&self.meta) {
+            return self.wreck();
+        }
+        match self.put(entry) {
+            Ok(manager) => manager.wreck(),
+            Err(lost) => cut_short(lost),
+        }
+    }
+
     // A sync of an archive that starts now, where its epoch is open.
     fn started(&self, epoch: u64, section: Section) -> Started
         ensures { IsStarted (S.states self.now.epochs epoch) epoch section result }
@@ -258,11 +314,14 @@ impl<S: Epochs, M: Meta> Manager<S, M> {
             (S.Wreck.left (wreck_of l).epochs)) }
         ensures bounds { IfErr result (λ l. Within (map bounds_of (M.Wreck.left (wreck_of l).meta))
             (map bounds_of (M.left self.meta) ++ raised (epoch_of (S.Entry.plain entry)) (bounds_of (M.current self.meta)) ∷ [])) }
+        ensures written { IfErr result (λ l. is_fault l ≡ true → (S.calm self.epochs && (M.watch self.meta).only_armed) ≡ true → (wreck_of l).short ≡ false
+            → IsDoneInPart S.Entry.plain entry S.keeps (bounds_of (M.current self.meta)) (S.states self.epochs)
+            (S.Wreck.left (wreck_of l).epochs) (map bounds_of (M.Wreck.left (wreck_of l).meta))) }
         ensures watched { Heeds (λ r. shelf_watch S.keeps r.0.alarm (S.calm r.0.epochs && (M.watch r.0.meta).only_armed))
             (λ w. shelf_watch S.keeps w.alarm (S.Wreck.calm w.epochs && (M.Wreck.watch w.meta).only_armed))
             (shelf_watch S.keeps self.alarm (S.calm self.epochs && (M.watch self.meta).only_armed)) result }
     {
-        let manager = self.begin()?;
+        let (manager, entry) = self.begin_put(entry)?;
         let (epoch, section) = (entry.epoch().get(), entry.section());
         if epoch < lowest(&manager.meta) {
             return Ok((manager, Started::Ready));
@@ -289,11 +348,14 @@ impl<S: Epochs, M: Meta> Manager<S, M> {
             (S.Wreck.left (wreck_of l).epochs)) }
         ensures bounds { IfErr result (λ l. Within (map bounds_of (M.Wreck.left (wreck_of l).meta))
             (map bounds_of (M.left self.meta) ++ raised (epoch_of (S.Entry.plain entry)) (bounds_of (M.current self.meta)) ∷ [])) }
+        ensures written { IfErr result (λ l. is_fault l ≡ true → (S.calm self.epochs && (M.watch self.meta).only_armed) ≡ true → (wreck_of l).short ≡ false
+            → IsDoneInPart S.Entry.plain entry S.keeps (bounds_of (M.current self.meta)) (S.states self.epochs)
+            (S.Wreck.left (wreck_of l).epochs) (map bounds_of (M.Wreck.left (wreck_of l).meta))) }
         ensures watched { Heeds (λ m. shelf_watch S.keeps m.alarm (S.calm m.epochs && (M.watch m.meta).only_armed))
             (λ w. shelf_watch S.keeps w.alarm (S.Wreck.calm w.epochs && (M.Wreck.watch w.meta).only_armed))
             (shelf_watch S.keeps self.alarm (S.calm self.epochs && (M.watch self.meta).only_armed)) result }
     {
-        let manager = self.begin()?;
+        let (manager, entry) = self.begin_put(entry)?;
         let (epoch, section) = (entry.epoch().get(), entry.section());
         if epoch < lowest(&manager.meta) {
             return Ok(manager);
@@ -638,6 +700,7 @@ impl<S: Epochs, M: Meta> Manager<S, M> {
             epochs: self.epochs.wreck(),
             meta: self.meta.wreck(),
             alarm: self.alarm,
+            short: false,
         }
     }
 
@@ -657,12 +720,14 @@ impl<S: Epochs, M: Meta> Manager<S, M> {
             epochs,
             meta,
             mut alarm,
+            short,
         } = wreck;
         if alarm.rings() {
             return Err(Lost::Fault(ManagerWreck {
                 epochs,
                 meta,
                 alarm,
+                short,
             }));
         }
         match S::reopen(epochs, luck) {
@@ -673,6 +738,7 @@ impl<S: Epochs, M: Meta> Manager<S, M> {
                     epochs,
                     meta,
                     alarm: alarm_after(alarm, failed),
+                    short: false,
                 };
                 Err(lost_by(failed, wreck))
             }
@@ -702,8 +768,31 @@ impl<S: Epochs, M: Meta> ManagerWreck<S, M> {
             ≡ shelf_watch S.keeps self.old.alarm (S.Wreck.calm self.old.epochs && (M.Wreck.watch self.old.meta).only_armed)) }
         ensures epochs { self.new.epochs ≡ self.old.epochs }
         ensures meta { self.new.meta ≡ self.old.meta }
+        ensures short { self.new.short ≡ self.old.short }
     {
         self.alarm.arm(calls)
+    }
+}
+
+// What is left of the cache where an armed put could not leave its entry.
+fn cut_short<S: Epochs, M: Meta>(lost: Lost<ManagerWreck<S, M>>) -> ManagerWreck<S, M>
+    ensures epochs { result.epochs ≡ (wreck_of lost).epochs }
+    ensures meta { result.meta ≡ (wreck_of lost).meta }
+    ensures alarm { result.alarm ≡ (wreck_of lost).alarm }
+    ensures short { result.short ≡ true }
+{
+    let (_, wreck) = parts_of(lost);
+    let ManagerWreck {
+        epochs,
+        meta,
+        alarm,
+        short: _short,
+    } = wreck;
+    ManagerWreck {
+        epochs,
+        meta,
+        alarm,
+        short: true,
     }
 }
 
@@ -727,6 +816,7 @@ fn lost_epochs<S: Epochs, M: Meta>(
         epochs,
         meta: meta.wreck(),
         alarm: alarm_after(alarm, failed),
+        short: false,
     };
     lost_by(failed, wreck)
 }
@@ -751,6 +841,7 @@ fn lost_meta<S: Epochs, M: Meta>(
         epochs: epochs.wreck(),
         meta,
         alarm: alarm_after(alarm, failed),
+        short: false,
     };
     lost_by(failed, wreck)
 }

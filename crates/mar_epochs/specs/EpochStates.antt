@@ -39,6 +39,11 @@ abbrev pub IsNestedEpoch : EpochState → Type 0
 IsNestedEpoch (opened b) = AreNestedArchives b
 IsNestedEpoch (shut l) = Within l.sure l.may
 
+-- a crash can leave all that is held of it, in the order of the puts, and nothing else, where it is open
+abbrev pub IsWholeEpoch : EpochState → Type 0
+IsWholeEpoch (opened b) = b.kept.may ≡ b.kept.held
+IsWholeEpoch (shut l) = ⊤
+
 -- what is held, what is sure and what may be left of an epoch
 abbrev pub held_in : EpochState → List Cached
 held_in (opened b) = b.kept.held
@@ -195,3 +200,21 @@ module _ {A W : Type 0} (book : A → Book) (left : W → Left Cached) (nested :
       after (opened b) both = λ x has. both.held_may x (both.sure_held x has)
       after (shut l) both = both
   nested_ways (names ∷ ways) states (suc n, less, is) k = nested_ways ways states (n, omega (arith, less), is) k
+
+-- as each epoch's archives are whole
+pub whole_states : {A W : Type 0} (book : A → Book) (left : W → Left Cached) (whole : (v : A) → (book v).kept.may ≡ (book v).kept.held) (opening : ℕ) (slots : BTreeMap ℕ (Slot A W)) (names : Names W) (k : ℕ) → IsWholeEpoch (states_of book left opening slots names k)
+whole_states {A} {W} book left whole opening slots names k = at_slot (get nat_cmp slots k) (names k)
+  where
+    by : (v : A) (b : Bool) → IsWholeEpoch (if b then opened (book v) else shut (left_of (book v).kept))
+    by v true = whole v
+    by v false = tt
+
+    under : (name : Option W) → IsWholeEpoch (state_under left name)
+    under None = tt
+    under (Some w) = tt
+
+    at_slot : (slot : Option (Slot A W)) (name : Option W) → IsWholeEpoch (state_at book left opening slot name)
+    at_slot (Some (Standing v o)) name = by v (o == opening)
+    at_slot (Some (Leftover w)) name = tt
+    at_slot (Some Away) name = under name
+    at_slot None name = under name

@@ -30,3 +30,8 @@ follows_if is_certain keeps = if is_certain then keeps else None
 pub one_certain : {A B : Type 0} (f : A → B) (ways : List A) (is_certain : Bool) (keeps : Option Follows) → (is_certain ≡ true → length ways ≡ 1) → is_some (follows_if is_certain keeps) ≡ true → length (map f ways) ≡ 1
 one_certain f ways true keeps one goes = length-map ways f ∙ one refl
 one_certain f ways false keeps one goes = absurd cc
+
+-- they go by luck only where their archives do
+pub goes_below : (is_certain : Bool) (keeps : Option Follows) → is_some (follows_if is_certain keeps) ≡ true → is_some keeps ≡ true
+goes_below true keeps goes = goes
+goes_below false keeps goes = absurd cc

@@ -7,9 +7,9 @@ ghost use Rattle.std.specs.BTreeMap.{get};
 ghost use Rattle.mar_store.specs.Lost.{wreck_of};
 ghost use Rattle.mar_model.specs.Sections.{first_found};
 ghost use Rattle.mar_epochs.specs.EpochArchives.{IsOfMemory, is_kept, puts_of};
-ghost use Rattle.mar_epochs.specs.EpochStates.{ChangesEpoch, KeepsOtherEpochs, LosesEpoch, OpensEpoch, PutsBack, held_in, is_opened, is_upto, left_of_epoch, nested_states, nested_ways, newer_of, none_gone, opened, shut, some_ways, state_of_slot, state_under, states_of};
+ghost use Rattle.mar_epochs.specs.EpochStates.{ChangesEpoch, KeepsOtherEpochs, LosesEpoch, OpensEpoch, PutsBack, held_in, is_opened, is_upto, left_of_epoch, nested_states, nested_ways, newer_of, none_gone, opened, shut, some_ways, state_of_slot, state_under, states_of, whole_states};
 ghost use Rattle.mar_epochs.specs.SmallStates.{small_states, small_ways};
-ghost use Rattle.mar_epochs.specs.Picks.{PicksEpoch, follows_if, one_certain, picks_by};
+ghost use Rattle.mar_epochs.specs.Picks.{PicksEpoch, follows_if, goes_below, one_certain, picks_by};
 
 use crate::as_entry::AsEntry;
 use crate::change::Change;
@@ -288,6 +288,8 @@ impl<A: EpochArchives, D: EpochArchivesDepot<A::Wreck>> Epochs for DepotEpochs<A
     ghost small = { λ s. small_states A.book A.Wreck.left A.small A.small_left s.opening s.slots (D.names s.depot) };
 
     ghost small_left = { λ w. small_ways A.book A.Wreck.left A.small A.small_left w.opening w.slots (D.Wreck.left w.depot) };
+
+    ghost whole = { λ s goes. whole_states A.book A.Wreck.left (λ v. A.whole v (goes_below D.is_certain A.keeps goes)) s.opening s.slots (D.names s.depot) };
 
     ghost one_left = { λ w. one_certain (λ names k. left_of_epoch (states_of A.book A.Wreck.left w.opening w.slots names k)) (D.Wreck.left w.depot)
         D.is_certain A.keeps (D.one_way w.depot) };

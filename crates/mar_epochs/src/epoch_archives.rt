@@ -1,5 +1,5 @@
 //! The archives that a cache keeps of an epoch, as one store.
-ghost use Rattle.std.specs.Prelude.{◌≡◌, ◌≤◌, Bool, Option, true, IsTrue, List, filter, length, IfErr, IfOk, MatchResult, option_map};
+ghost use Rattle.std.specs.Prelude.{◌≡◌, ◌≤◌, Bool, Option, true, IsTrue, List, filter, is_some, length, IfErr, IfOk, MatchResult, option_map};
 ghost use Rattle.std.specs.Option.{option_copied};
 ghost use Rattle.mar_store.specs.Changes.{Left, Within, left_of};
 ghost use Rattle.mar_store.specs.Lost.{wreck_of};
@@ -78,6 +78,9 @@ pub trait EpochArchives: Drop {
     ghost nested_left: { (w : Self.Wreck) → Within (Self.Wreck.left w).sure (Self.Wreck.left w).may };
 
     ghost small: { (s : Self) → AreSmallEntries (book s).kept.may };
+
+    // Where it goes by luck, a crash can leave all that is held, in the order of the puts, and nothing else.
+    ghost whole: { (s : Self) → is_some keeps ≡ true → (book s).kept.may ≡ (book s).kept.held };
 
     ghost small_left: { (w : Self.Wreck) → AreSmallEntries (Self.Wreck.left w).may };
 }

@@ -6,7 +6,7 @@ ghost use Rattle.mar_store.specs.Lost.{wreck_of};
 ghost use Rattle.mar_store.specs.Watch.{Follows};
 ghost use Rattle.mar_model.specs.Sections.{first_found};
 ghost use Rattle.mar_epochs.specs.EpochArchives.{IsOfMemory, is_kept, puts_of};
-ghost use Rattle.mar_epochs.specs.EpochStates.{ChangesEpoch, DestroysOrNot, EpochStates, HasSome, IsBare, IsNestedEpoch, IsNewest, IsTicket, KeepsOtherEpochs, LosesEpoch, MightBe, OpensEpoch, SameEpochs, held_in, is_opened, left_of_epoch, none_gone};
+ghost use Rattle.mar_epochs.specs.EpochStates.{ChangesEpoch, DestroysOrNot, EpochStates, HasSome, IsBare, IsNestedEpoch, IsNewest, IsTicket, IsWholeEpoch, KeepsOtherEpochs, LosesEpoch, MightBe, OpensEpoch, SameEpochs, held_in, is_opened, left_of_epoch, none_gone};
 ghost use Rattle.mar_epochs.specs.SmallStates.{AreSmallEpochs};
 ghost use Rattle.mar_epochs.specs.Picks.{PicksEpoch, picks_by};
 
@@ -129,6 +129,9 @@ pub trait Epochs: Drop {
     ghost small: { (s : Self) → AreSmallEpochs (states s) };
 
     ghost small_left: { (w : Self.Wreck) (left : EpochStates) → Contains (Self.Wreck.left w) left → AreSmallEpochs left };
+
+    // Where they go by luck, a crash can leave all that is held of an open epoch, in that order, and nothing else.
+    ghost whole: { (s : Self) → is_some keeps ≡ true → (k : ℕ) → IsWholeEpoch (states s k) };
 
     ghost one_left: { (w : Self.Wreck) → is_some keeps ≡ true → length (Self.Wreck.left w) ≡ 1 };
 }

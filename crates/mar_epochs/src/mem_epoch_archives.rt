@@ -155,6 +155,8 @@ impl<E: KeyedEntry> EpochArchives for MemEpochArchives<E> {
 
     ghost small = { λ s. small_log E.plain E.small s.log.items.items };
 
+    ghost whole = { λ s goes. refl };
+
     ghost small_left = { λ w. small_log E.plain E.small w.log.items.items };
 
     fn find(&self, wanted: &E::Wanted) -> Option<&E> {

@@ -1,8 +1,12 @@
 -- What the calls of a cache make of it: of its entries, those of all epochs together, and of what its tickets cover.
-use Rattle.std.specs.Prelude.{Bool, Contains, List, None, Some, [], false, filter, true, ℕ, ◌&&◌, ◌++◌, ◌<◌, ◌==◌, ◌≡◌, ◌≤◌}
+use Rattle.std.specs.List.{list_any}
+use Rattle.std.specs.Prelude.{Bool, Contains, List, None, Some, [], false, filter, if◌then◌else◌, is_some, nat_le, nat_lt, true, ℕ, ⊤, ◌&&◌, ◌++◌, ◌<◌, ◌==◌, ◌||◌, ◌∷◌, ◌≡◌, ◌≤◌}
 use Rattle.mar_store.specs.Changes.{Left, Within}
 use Rattle.mar_store.specs.Kept.{Kept}
-use Rattle.mar_model.specs.AllEntries.{LeavesEntries, PutsEntry, PutsEntryNow}
+use Rattle.mar_store.specs.Watch.{Watch}
+use Rattle.mar_store.specs.declared.lost.Lost.{Lost}
+use Rattle.mar_store.specs.declared.lost.Lost.TheVariants.{Fault as Broke, Memory as NoRoom}
+use Rattle.mar_model.specs.AllEntries.{LeavesEntries, PutsEntry, PutsEntryNow, is_in_place}
 use Rattle.mar_model.specs.Cache.{same_archive}
 use Rattle.mar_model.specs.Cached.{Cached, epoch_of}
 use Rattle.mar_model.specs.Sections.{is_in}
@@ -24,6 +28,11 @@ is_of_archive e s x = epoch_of x == e && is_in s x
 abbrev pub GivesTicket : (CacheTicket → List Cached) → ℕ → (Cached → Bool) → List Cached → Started → Type 0
 GivesTicket covers e passes held (Ticket t) = (t.epoch ≡ e) × (t.second ≡ None) × (covers t ≡ filter passes held)
 GivesTicket covers e passes held Ready = ⊥
+
+-- there is nothing to wait for
+abbrev pub is_ready : Started → Bool
+is_ready Ready = true
+is_ready (Ticket t) = false
 
 -- A put that starts a sync of its archive. Nothing is done where its epoch is below the lowest; what a put makes of a cache
 -- that isn't loaded is said by `GoesOn` alone.
@@ -60,6 +69,26 @@ pub record GoesOn (put : List Cached) (gone : Cached → Bool) (old new : Kept C
 pub record LosesCache (put : List Cached) (gone : Cached → Bool) (old : Kept Cached) (were : List ℕ) (left : Left Cached) (now : List ℕ) : Type 0 where
   pub leaves : LeavesEntries put gone old left.sure left.may
   pub lowests : Within now were
+
+-- where an entry comes that is put: behind those of its epoch and of older ones
+abbrev pub put_behind : Cached → List Cached → List Cached
+put_behind x xs = filter (λ y. nat_le (epoch_of y) (epoch_of x)) xs ++ x ∷ filter (λ y. nat_lt (epoch_of x) (epoch_of y)) xs
+
+-- nothing is done of a put whose epoch is below the lowest, or whose place is taken
+abbrev pub is_ignored : Cached → ℕ → Kept Cached → Bool
+is_ignored x lowest kept = nat_lt (epoch_of x) lowest || list_any (is_in_place x) kept.held
+
+-- What an armed put leaves, which is done but for its sync: what might be left may be left, and the entry; what was sure is
+-- sure, and nothing else.
+pub record LeavesPut (x : Cached) (lowest : ℕ) (old : Kept Cached) (left : Left Cached) : Type 0 where
+  pub may : left.may ≡ (if is_ignored x lowest old then old.may else put_behind x old.may)
+  pub sure : Within left.sure old.sure
+
+-- A put that failed leaves just that, where it answers a fault: of a loaded cache that goes by luck and in which only armed
+-- calls fail, unless memory ran out for it.
+abbrev pub LeavesFailedPut : {W : Type 0} → (W → Left Cached) → (W → Bool) → Cached → ℕ → Bool → Watch → Kept Cached → Lost W → Type 0
+LeavesFailedPut left short x lowest loaded watch old (Broke w) = loaded ≡ true → watch.only_armed ≡ true → is_some watch.keeps ≡ true → short w ≡ false → LeavesPut x lowest old (left w)
+LeavesFailedPut left short x lowest loaded watch old (NoRoom w) = ⊤
 
 -- A ticket was finished: what it covers is sure.
 pub record FinishesEntries (covered : List Cached) (old new : Kept Cached) : Type 0 where

@@ -1,5 +1,5 @@
 //! A cache of entries by epoch, seen as one list of entries.
-ghost use Rattle.std.specs.Prelude.{◌≡◌, ◌++◌, ◌∷◌, Bool, ℕ, [], Contains, IfErr, IfOk, IfSome, List, None, OnErr, OnOk, Option, Some, true, false, max, option_map};
+ghost use Rattle.std.specs.Prelude.{◌≡◌, ◌++◌, ◌∷◌, Bool, ℕ, [], Contains, IfErr, IfOk, IfSome, List, None, OnErr, OnOk, Option, Some, true, false, max, not, option_map};
 ghost use Rattle.mar_store.specs.Changes.{Left, Within, left_of};
 ghost use Rattle.mar_store.specs.Kept.{Kept};
 ghost use Rattle.mar_store.specs.Lost.{wreck_of};
@@ -8,8 +8,8 @@ ghost use Rattle.mar_store.specs.Watch.{Heeds, Watch, armed};
 ghost use Rattle.mar_model.specs.AllEntries.{FirstsStay, LoadsEntries, PrunesEntries};
 ghost use Rattle.mar_model.specs.Cache.{is_below, is_certified_below};
 ghost use Rattle.mar_model.specs.CacheCalls.{FinishesEntries, GoesOn, IsNestedCache, LosesCache, ReopensCache};
-ghost use Rattle.mar_model.specs.CacheCalls.{StartsSync, UnopensCache, is_of_archive, none_goes};
-ghost use Rattle.mar_model.specs.Cached.{Cached};
+ghost use Rattle.mar_model.specs.CacheCalls.{StartsSync, UnopensCache, is_of_archive, is_ready, none_goes};
+ghost use Rattle.mar_model.specs.Cached.{Cached, epoch_of};
 ghost use Rattle.mar_model.specs.SmallEntries.{AreSmallEntries};
 ghost use Rattle.mar_model.specs.LuckyEntries.{lucky_entries};
 ghost use Rattle.mar_model.specs.declared.started.CacheTicket.{CacheTicket as CacheTicketOf};
@@ -32,11 +32,15 @@ pub trait ShelfRuin: Drop {
     /// What it tells of its failures.
     ghost watch: { Self → Watch };
 
+    /// Whether memory ran out as an armed put was to leave its entry.
+    ghost short: { Self → Bool };
+
     /// Makes the counted call fail that is so many calls away, 1 being the next, which is the reopening.
     fn arm(&mut self, calls: u64) -> Result<(), AllocError>
         ensures armed { OnOk result (watch self.new ≡ armed calls (watch self.old)) }
         ensures unarmed { OnErr result (watch self.new ≡ watch self.old) }
-        ensures same { (left self.new ≡ left self.old) × (lowests self.new ≡ lowests self.old) };
+        ensures same { (left self.new ≡ left self.old) × (lowests self.new ≡ lowests self.old) }
+        ensures short { short self.new ≡ short self.old };
 
     ghost within: { (w : Self) → Within (left w).sure (left w).may };
 
@@ -57,6 +61,9 @@ pub trait Cache: Drop {
 
     /// What a crash left was taken up.
     ghost loaded: { Self → Bool };
+
+    /// Whether an epoch is open: a put opens its own, and a start each of which something is left.
+    ghost is_open: { Self → ℕ → Bool };
 
     /// Nothing was put since the reopening, and nothing taken up.
     ghost fresh: { Self → Bool };
@@ -80,6 +87,7 @@ pub trait Cache: Drop {
         Self: Sized,
         ensures same { IfOk result (λ r. kept r.0 ≡ kept self) }
         ensures started { IfOk result (λ r. StartsSync (covers r.0) epoch (is_of_archive epoch section) (kept self).held r.1) }
+        ensures ready { IfOk result (λ r. is_ready r.1 ≡ not (is_open self epoch)) }
         ensures goes_on { IfOk result (λ r. GoesOn [] none_goes (kept self) (kept r.0) (covers self) (covers r.0)) }
         ensures stays { IfOk result (λ r. (lowest r.0 ≡ lowest self) × (loaded r.0 ≡ loaded self) × (fresh r.0 ≡ fresh self)) }
         ensures lost { IfErr result (λ l. LosesCache [] none_goes (kept self) (lowest self ∷ [])
@@ -92,6 +100,7 @@ pub trait Cache: Drop {
         Self: Sized,
         ensures same { IfOk result (λ r. kept r.0 ≡ kept self) }
         ensures started { IfOk result (λ r. StartsSync (covers r.0) epoch (is_of_archive epoch Section.Verified) (kept self).held r.1) }
+        ensures ready { IfOk result (λ r. is_ready r.1 ≡ not (is_open self epoch)) }
         ensures goes_on { IfOk result (λ r. GoesOn [] none_goes (kept self) (kept r.0) (covers self) (covers r.0)) }
         ensures stays { IfOk result (λ r. (lowest r.0 ≡ lowest self) × (loaded r.0 ≡ loaded self) × (fresh r.0 ≡ fresh self)) }
         ensures lost { IfErr result (λ l. LosesCache [] none_goes (kept self) (lowest self ∷ [])
@@ -110,6 +119,7 @@ pub trait Cache: Drop {
         Self: Sized,
         ensures same { IfOk result (λ r. kept r.0 ≡ kept self) }
         ensures started { IfOk result (λ r. StartsSync (covers r.0) epoch (is_of_archive epoch Section.Notarizations) (kept self).held r.1) }
+        ensures ready { IfOk result (λ r. is_ready r.1 ≡ not (is_open self epoch)) }
         ensures goes_on { IfOk result (λ r. GoesOn [] none_goes (kept self) (kept r.0) (covers self) (covers r.0)) }
         ensures stays { IfOk result (λ r. (lowest r.0 ≡ lowest self) × (loaded r.0 ≡ loaded self) × (fresh r.0 ≡ fresh self)) }
         ensures lost { IfErr result (λ l. LosesCache [] none_goes (kept self) (lowest self ∷ [])
@@ -197,6 +207,11 @@ pub trait Cache: Drop {
             × (fresh self.new ≡ fresh self.old) × (finds self.new ≡ finds self.old) × (covers self.new ≡ covers self.old) };
 
     ghost nested: { (s : Self) → IsNestedCache (kept s) (lowest s) (loaded s) };
+
+    /// What is held is of open epochs, and none is open before the first put.
+    ghost opens: { (s : Self) (x : Cached) → Contains (kept s).held x → is_open s (epoch_of x) ≡ true };
+
+    ghost closed: { (s : Self) → fresh s ≡ true → (e : ℕ) → is_open s e ≡ false };
 
     ghost small: { (s : Self) → AreSmallEntries (kept s).may };
 

@@ -1,12 +1,12 @@
 //! The cache of what consensus and peers report before it is final.
-ghost use Rattle.std.specs.Prelude.{◌≡◌, ◌∷◌, ◌&&◌, ◌==◌, [], IfErr, IfOk, option_and_then, option_map};
+ghost use Rattle.std.specs.Prelude.{◌≡◌, ◌∷◌, ◌&&◌, ◌==◌, [], IfErr, IfOk, nat_lt, option_and_then, option_map};
 ghost use Rattle.std.specs.List.{list_any};
 ghost use Rattle.mar_cert.specs.Finalization.{finalization_bytes};
 ghost use Rattle.mar_store.specs.Lost.{wreck_of};
 ghost use Rattle.mar_store.specs.Sizes.{IsSmall};
 ghost use Rattle.mar_store.specs.Watch.{Heeds, HeedsRead};
 ghost use Rattle.mar_model.specs.AllEntries.{soonest};
-ghost use Rattle.mar_model.specs.CacheCalls.{GoesOn, LosesCache, PutsAndStarts, PutsAndSyncs, none_goes};
+ghost use Rattle.mar_model.specs.CacheCalls.{GoesOn, LeavesFailedPut, LosesCache, PutsAndStarts, PutsAndSyncs, is_ready, none_goes};
 ghost use Rattle.mar_model.specs.Cached.{cached_block, certified_entry, epoch_of, finalization_entry, notarization_entry};
 ghost use Rattle.mar_model.specs.Cached.{notarized_entry, verified_entry};
 ghost use Rattle.mar_model.specs.SmallEntries.{IsSmallEntry};
@@ -19,7 +19,8 @@ use mar_cert::{AsFinalization, CommitsTo, Variant};
 use mar_store::{Lost, Miss};
 use mar_types::{Epoch, Round};
 
-/// A cache of the blocks of a kind, of their finalizations and of notarizations.
+/// A cache of the blocks of a kind, of their finalizations and of notarizations. A put that is armed to fail is done, but for
+/// its sync: the entry is left, where it isn't ignored (`written`).
 pub trait Shelf<V: Variant, F: CommitsTo<V::Commitment>>: Cache {
     type Notarization: CommitsTo<V::Commitment>;
 
@@ -33,11 +34,14 @@ pub trait Shelf<V: Variant, F: CommitsTo<V::Commitment>>: Cache {
         requires small { IsSmallEntry (cached_of V.plain Self.Notarization.plain F.plain entry) }
         ensures puts { IfOk result (λ r. PutsAndStarts (cached_of V.plain Self.Notarization.plain F.plain entry)
             (Self.lowest self) (Self.loaded self) (Self.kept self) (Self.kept r.0) (Self.covers r.0) r.1) }
+        ensures ready { IfOk result (λ r. is_ready r.1 ≡ nat_lt (epoch_of (cached_of V.plain Self.Notarization.plain F.plain entry)) (Self.lowest self)) }
         ensures goes_on { IfOk result (λ r. GoesOn ((cached_of V.plain Self.Notarization.plain F.plain entry) ∷ []) none_goes
             (Self.kept self) (Self.kept r.0) (Self.covers self) (Self.covers r.0)) }
         ensures stays { IfOk result (λ r. (Self.lowest r.0 ≡ Self.lowest self) × (Self.loaded r.0 ≡ Self.loaded self)) }
         ensures lost { IfErr result (λ l. LosesCache ((cached_of V.plain Self.Notarization.plain F.plain entry) ∷ []) none_goes
             (Self.kept self) (Self.lowest self ∷ []) (Self.Wreck.left (wreck_of l)) (Self.Wreck.lowests (wreck_of l))) }
+        ensures written { IfErr result (LeavesFailedPut Self.Wreck.left Self.Wreck.short (cached_of V.plain Self.Notarization.plain F.plain entry)
+            (Self.lowest self) (Self.loaded self) (Self.watch self) (Self.kept self)) }
         ensures watched { Heeds (λ r. Self.watch r.0) Self.Wreck.watch (Self.watch self) result };
 
     /// Keeps an entry, and makes it sure. Nothing is done where its epoch is below the lowest.
@@ -55,6 +59,8 @@ pub trait Shelf<V: Variant, F: CommitsTo<V::Commitment>>: Cache {
         ensures stays { IfOk result (λ r. (Self.lowest r ≡ Self.lowest self) × (Self.loaded r ≡ Self.loaded self)) }
         ensures lost { IfErr result (λ l. LosesCache ((cached_of V.plain Self.Notarization.plain F.plain entry) ∷ []) none_goes
             (Self.kept self) (Self.lowest self ∷ []) (Self.Wreck.left (wreck_of l)) (Self.Wreck.lowests (wreck_of l))) }
+        ensures written { IfErr result (LeavesFailedPut Self.Wreck.left Self.Wreck.short (cached_of V.plain Self.Notarization.plain F.plain entry)
+            (Self.lowest self) (Self.loaded self) (Self.watch self) (Self.kept self)) }
         ensures watched { Heeds Self.watch Self.Wreck.watch (Self.watch self) result };
 
     /// Keeps a block that was verified in a round, and starts a sync. Nothing is done where the epoch is below the lowest.
@@ -68,11 +74,14 @@ pub trait Shelf<V: Variant, F: CommitsTo<V::Commitment>>: Cache {
         requires small { IsSmall (V.plain block).encoded }
         ensures puts { IfOk result (λ r. PutsAndStarts (verified_entry round (V.plain block))
             (Self.lowest self) (Self.loaded self) (Self.kept self) (Self.kept r.0) (Self.covers r.0) r.1) }
+        ensures ready { IfOk result (λ r. is_ready r.1 ≡ nat_lt (epoch_of (verified_entry round (V.plain block))) (Self.lowest self)) }
         ensures goes_on { IfOk result (λ r. GoesOn ((verified_entry round (V.plain block)) ∷ []) none_goes
             (Self.kept self) (Self.kept r.0) (Self.covers self) (Self.covers r.0)) }
         ensures stays { IfOk result (λ r. (Self.lowest r.0 ≡ Self.lowest self) × (Self.loaded r.0 ≡ Self.loaded self)) }
         ensures lost { IfErr result (λ l. LosesCache ((verified_entry round (V.plain block)) ∷ []) none_goes
             (Self.kept self) (Self.lowest self ∷ []) (Self.Wreck.left (wreck_of l)) (Self.Wreck.lowests (wreck_of l))) }
+        ensures written { IfErr result (LeavesFailedPut Self.Wreck.left Self.Wreck.short (verified_entry round (V.plain block))
+            (Self.lowest self) (Self.loaded self) (Self.watch self) (Self.kept self)) }
         ensures watched { Heeds (λ r. Self.watch r.0) Self.Wreck.watch (Self.watch self) result }
     {
         self.put_and_start(Entry::Verified(round, block))
@@ -89,11 +98,14 @@ pub trait Shelf<V: Variant, F: CommitsTo<V::Commitment>>: Cache {
         requires small { IsSmall (V.plain block).encoded }
         ensures puts { IfOk result (λ r. PutsAndStarts (notarized_entry round (V.plain block))
             (Self.lowest self) (Self.loaded self) (Self.kept self) (Self.kept r.0) (Self.covers r.0) r.1) }
+        ensures ready { IfOk result (λ r. is_ready r.1 ≡ nat_lt (epoch_of (notarized_entry round (V.plain block))) (Self.lowest self)) }
         ensures goes_on { IfOk result (λ r. GoesOn ((notarized_entry round (V.plain block)) ∷ []) none_goes
             (Self.kept self) (Self.kept r.0) (Self.covers self) (Self.covers r.0)) }
         ensures stays { IfOk result (λ r. (Self.lowest r.0 ≡ Self.lowest self) × (Self.loaded r.0 ≡ Self.loaded self)) }
         ensures lost { IfErr result (λ l. LosesCache ((notarized_entry round (V.plain block)) ∷ []) none_goes
             (Self.kept self) (Self.lowest self ∷ []) (Self.Wreck.left (wreck_of l)) (Self.Wreck.lowests (wreck_of l))) }
+        ensures written { IfErr result (LeavesFailedPut Self.Wreck.left Self.Wreck.short (notarized_entry round (V.plain block))
+            (Self.lowest self) (Self.loaded self) (Self.watch self) (Self.kept self)) }
         ensures watched { Heeds (λ r. Self.watch r.0) Self.Wreck.watch (Self.watch self) result }
     {
         self.put_and_start(Entry::Notarized(round, block))
@@ -109,11 +121,14 @@ pub trait Shelf<V: Variant, F: CommitsTo<V::Commitment>>: Cache {
         requires small { IsSmall (finalization_bytes (Self.Notarization.plain notarization)) }
         ensures puts { IfOk result (λ r. PutsAndStarts (notarization_entry (Self.Notarization.plain notarization))
             (Self.lowest self) (Self.loaded self) (Self.kept self) (Self.kept r.0) (Self.covers r.0) r.1) }
+        ensures ready { IfOk result (λ r. is_ready r.1 ≡ nat_lt (epoch_of (notarization_entry (Self.Notarization.plain notarization))) (Self.lowest self)) }
         ensures goes_on { IfOk result (λ r. GoesOn ((notarization_entry (Self.Notarization.plain notarization)) ∷ []) none_goes
             (Self.kept self) (Self.kept r.0) (Self.covers self) (Self.covers r.0)) }
         ensures stays { IfOk result (λ r. (Self.lowest r.0 ≡ Self.lowest self) × (Self.loaded r.0 ≡ Self.loaded self)) }
         ensures lost { IfErr result (λ l. LosesCache ((notarization_entry (Self.Notarization.plain notarization)) ∷ []) none_goes
             (Self.kept self) (Self.lowest self ∷ []) (Self.Wreck.left (wreck_of l)) (Self.Wreck.lowests (wreck_of l))) }
+        ensures written { IfErr result (LeavesFailedPut Self.Wreck.left Self.Wreck.short (notarization_entry (Self.Notarization.plain notarization))
+            (Self.lowest self) (Self.loaded self) (Self.watch self) (Self.kept self)) }
         ensures watched { Heeds (λ r. Self.watch r.0) Self.Wreck.watch (Self.watch self) result }
     {
         self.put_and_start(Entry::Notarization(notarization))
@@ -131,6 +146,8 @@ pub trait Shelf<V: Variant, F: CommitsTo<V::Commitment>>: Cache {
         ensures stays { IfOk result (λ r. (Self.lowest r ≡ Self.lowest self) × (Self.loaded r ≡ Self.loaded self)) }
         ensures lost { IfErr result (λ l. LosesCache ((certified_entry epoch (V.plain block)) ∷ []) none_goes
             (Self.kept self) (Self.lowest self ∷ []) (Self.Wreck.left (wreck_of l)) (Self.Wreck.lowests (wreck_of l))) }
+        ensures written { IfErr result (LeavesFailedPut Self.Wreck.left Self.Wreck.short (certified_entry epoch (V.plain block))
+            (Self.lowest self) (Self.loaded self) (Self.watch self) (Self.kept self)) }
         ensures watched { Heeds Self.watch Self.Wreck.watch (Self.watch self) result }
     {
         self.put_and_sync(Entry::Certified(epoch, block))
@@ -148,6 +165,8 @@ pub trait Shelf<V: Variant, F: CommitsTo<V::Commitment>>: Cache {
         ensures stays { IfOk result (λ r. (Self.lowest r ≡ Self.lowest self) × (Self.loaded r ≡ Self.loaded self)) }
         ensures lost { IfErr result (λ l. LosesCache ((finalization_entry (F.plain finalization)) ∷ []) none_goes
             (Self.kept self) (Self.lowest self ∷ []) (Self.Wreck.left (wreck_of l)) (Self.Wreck.lowests (wreck_of l))) }
+        ensures written { IfErr result (LeavesFailedPut Self.Wreck.left Self.Wreck.short (finalization_entry (F.plain finalization))
+            (Self.lowest self) (Self.loaded self) (Self.watch self) (Self.kept self)) }
         ensures watched { Heeds Self.watch Self.Wreck.watch (Self.watch self) result }
     {
         self.put_and_sync(Entry::Finalization(finalization))

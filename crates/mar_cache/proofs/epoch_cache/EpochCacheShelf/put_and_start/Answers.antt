@@ -1,6 +1,6 @@
-use Rattle.std.proofs.Common.{◌<◌, ◌≡◌, ◌≤◌, [], ◌∷◌, ap, map, subst, sym, ◌∙◌}
+use Rattle.std.proofs.Common.{◌<◌, ◌≡◌, ◌≤◌, ◌&&◌, [], ◌∷◌, ap, map, nat_lt, refl, subst, sym, ◌∙◌}
 use Rattle.mar_store.specs.Lost.{wreck_of}
-use Rattle.mar_model.specs.CacheCalls.{GoesOn, LosesCache, PutsAndStarts, none_goes}
+use Rattle.mar_model.specs.CacheCalls.{GoesOn, LeavesFailedPut, LosesCache, PutsAndStarts, is_ready, none_goes}
 use Rattle.mar_epochs.specs.EpochStates.{some_ways}
 use Rattle.mar_cache.specs.Bounds.{bounds_of}
 use Rattle.mar_model.specs.Cached.{epoch_of}
@@ -9,12 +9,14 @@ use Rattle.mar_model.specs.declared.Started.TheVariants.{Ready}
 use Rattle.mar_epochs.specs.declared.Change.TheVariants.{Put}
 use Rattle.mar_cache.specs.AsOne.{covers_of, kept_of, left_of_ways, lowests_of}
 use Rattle.mar_cache.specs.Calls.{IsPut}
-use Rattle.mar_cache.specs.Shelved.{IsStarted, at_epoch, nothing_gone, raised}
+use Rattle.mar_cache.specs.Shelved.{IsStarted, at_epoch, nothing_gone, raised, shelf_watch}
 use Rattle.mar_cache.specs.Stages.{IsAtStage, is_loaded}
 use Rattle.mar_cache.proofs.AllEpochs.{raised_lowests}
-use Rattle.mar_cache.proofs.CacheSteps.{at_epoch_within, one_put, put_goes_on, put_lowest, puts_and_starts, staged_start, still_loaded}
+use Rattle.mar_cache.proofs.CacheSteps.{at_epoch_within, loaded_all, one_put, put_goes_on, put_lowest, puts_and_starts, staged_start, still_loaded}
 use Rattle.mar_cache.proofs.Plainly.{put_plain}
+use Rattle.mar_cache.proofs.PutsInPart.{left_of_failed}
 use Rattle.mar_cache.proofs.StateLosses.{leaves_flat}
+use Rattle.mar_cache.proofs.Ticketing.{ready_below}
 use Rattle.mar_cache.proofs.epoch_cache.EpochCacheShelf.put_and_start.Goals as goal
 
 pub invariant_of-cache : goal.invariant_of-cache
@@ -43,9 +45,11 @@ returns-in-Ok g c =
     let raises : b.lowest ≤ epoch_of x → d ≡ raised (epoch_of x) b = λ low. (c.in-Ok.ensures.raises low).0 in
     record {
       puts = subst (λ y. PutsAndStarts y b.lowest (is_loaded stage) (kept_of (states old.epochs) b.highest) (kept_of (states new.epochs) d.highest) (covers_of (states new.epochs)) c.in-Ok.started) c.of.ensures (puts_and_starts x (states old.epochs) (states new.epochs) b d old.within new.within (g.met.S.Epochs.nested old.epochs) (g.met.S.Epochs.nested new.epochs) stage c.in-Ok.started c.args.self.staged ready done raises);
+      ready = subst (λ y. is_ready c.in-Ok.started ≡ nat_lt (epoch_of y) b.lowest) c.of.ensures (ready_below x (states old.epochs) (states new.epochs) b.lowest (section_of x) c.in-Ok.started (λ less. (ready less).0) done);
       goes_on = subst (λ y. GoesOn (y ∷ []) none_goes (kept_of (states old.epochs) b.highest) (kept_of (states new.epochs) d.highest) (covers_of (states old.epochs)) (covers_of (states new.epochs))) c.of.ensures (put_goes_on x (states old.epochs) (states new.epochs) b d old.within new.within (g.met.S.Epochs.nested old.epochs) (g.met.S.Epochs.nested new.epochs) (Put x ∷ []) (one_put x (states old.epochs) (states new.epochs) b d old.within new.within (g.met.S.Epochs.nested old.epochs) (g.met.S.Epochs.nested new.epochs)) (λ less. let (none, same, bounds) = ready less in (same, bounds)) (λ low. (done low).0));
       stays = (put_lowest x (states old.epochs) (states new.epochs) b d old.within new.within (g.met.S.Epochs.nested old.epochs) (g.met.S.Epochs.nested new.epochs) (λ less. (ready less).2) raises, ap is_loaded c.after_put.ensures ∙ still_loaded stage);
       lost = tt;
+      written = tt;
       watched = c.in-Ok.ensures.watched;
     }
 
@@ -58,13 +62,16 @@ returns-in-Err g c =
     let some_bounds = some_ways bounds_of (g.M.Wreck.MetaRuin.left left.meta) (g.met.M.Wreck.MetaRuin.some left.meta) in
     let b = bounds_of (g.M.Meta.current old.meta) in
     let x = g.S.Entry.AsEntry.plain c.of.result in
+    let watch = shelf_watch g.S.Epochs.keeps old.alarm (g.S.Epochs.calm old.epochs && (g.M.Meta.watch old.meta).only_armed) in
     record {
       puts = tt;
+      ready = tt;
       goes_on = tt;
       stays = tt;
       lost = subst (λ y. LosesCache (y ∷ []) none_goes (kept_of (states old.epochs) b.highest) (b.lowest ∷ []) (left_of_ways (g.S.Wreck.EpochsRuin.left left.epochs) (map bounds_of (g.M.Wreck.MetaRuin.left left.meta))) (lowests_of (map bounds_of (g.M.Wreck.MetaRuin.left left.meta)))) c.of.ensures (record {
         leaves = leaves_flat (at_epoch (epoch_of x) (x ∷ [])) nothing_gone (x ∷ []) none_goes (states old.epochs) b old.within (g.S.Wreck.EpochsRuin.left left.epochs) (map bounds_of (g.M.Wreck.MetaRuin.left left.meta)) left.within some some_bounds (at_epoch_within (epoch_of x) (x ∷ [])) (λ k y own stays. stays) c.in-Err.ensures.ways;
         lowests = raised_lowests (epoch_of x) b (map bounds_of (g.M.Meta.left old.meta)) (map bounds_of (g.M.Wreck.MetaRuin.left left.meta)) old.durable c.in-Err.ensures.bounds;
       });
+      written = subst (λ y. LeavesFailedPut (λ w. left_of_ways (g.S.Wreck.EpochsRuin.left w.epochs) (map bounds_of (g.M.Wreck.MetaRuin.left w.meta))) (λ w. w.short) y b.lowest (is_loaded c.args.self.stage) watch (kept_of (states old.epochs) b.highest) c.in-Err.lost) c.of.ensures (left_of_failed (λ w. left_of_ways (g.S.Wreck.EpochsRuin.left w.epochs) (map bounds_of (g.M.Wreck.MetaRuin.left w.meta))) (λ w. w.short) g.S.Entry.AsEntry.plain c.of.result g.S.Epochs.keeps b (is_loaded c.args.self.stage) watch (states old.epochs) (λ w. g.S.Wreck.EpochsRuin.left w.epochs) (λ w. map bounds_of (g.M.Wreck.MetaRuin.left w.meta)) (λ w. refl) refl old.within (loaded_all c.args.self.stage (states old.epochs) (g.met.S.Epochs.nested old.epochs) c.args.self.staged) (λ goes. g.met.S.Epochs.whole old.epochs goes) c.in-Err.lost c.in-Err.ensures.written);
       watched = c.in-Err.ensures.watched;
     }

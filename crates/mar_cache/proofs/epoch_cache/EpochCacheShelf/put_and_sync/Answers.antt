@@ -1,6 +1,6 @@
-use Rattle.std.proofs.Common.{◌<◌, ◌≡◌, ◌≤◌, [], ◌∷◌, ap, map, subst, sym, ◌∙◌}
+use Rattle.std.proofs.Common.{◌<◌, ◌≡◌, ◌≤◌, ◌&&◌, [], ◌∷◌, ap, map, refl, subst, sym, ◌∙◌}
 use Rattle.mar_store.specs.Lost.{wreck_of}
-use Rattle.mar_model.specs.CacheCalls.{GoesOn, LosesCache, PutsAndSyncs, none_goes}
+use Rattle.mar_model.specs.CacheCalls.{GoesOn, LeavesFailedPut, LosesCache, PutsAndSyncs, none_goes}
 use Rattle.mar_epochs.specs.EpochStates.{some_ways}
 use Rattle.mar_cache.specs.Bounds.{bounds_of}
 use Rattle.mar_model.specs.Cached.{epoch_of}
@@ -8,11 +8,12 @@ use Rattle.mar_model.specs.Sections.{section_of}
 use Rattle.mar_epochs.specs.declared.Change.TheVariants.{Put, Sync}
 use Rattle.mar_cache.specs.AsOne.{covers_of, kept_of, left_of_ways, lowests_of}
 use Rattle.mar_cache.specs.Calls.{IsPutAndSynced}
-use Rattle.mar_cache.specs.Shelved.{at_epoch, nothing_gone, raised}
+use Rattle.mar_cache.specs.Shelved.{at_epoch, nothing_gone, raised, shelf_watch}
 use Rattle.mar_cache.specs.Stages.{IsAtStage, is_loaded}
 use Rattle.mar_cache.proofs.AllEpochs.{raised_lowests}
-use Rattle.mar_cache.proofs.CacheSteps.{at_epoch_within, put_and_sync, put_goes_on, put_lowest, puts_and_syncs, staged_synced, still_loaded}
+use Rattle.mar_cache.proofs.CacheSteps.{at_epoch_within, loaded_all, put_and_sync, put_goes_on, put_lowest, puts_and_syncs, staged_synced, still_loaded}
 use Rattle.mar_cache.proofs.Plainly.{sync_plain}
+use Rattle.mar_cache.proofs.PutsInPart.{left_of_failed}
 use Rattle.mar_cache.proofs.StateLosses.{leaves_flat}
 use Rattle.mar_cache.proofs.epoch_cache.EpochCacheShelf.put_and_sync.Goals as goal
 
@@ -45,6 +46,7 @@ returns-in-Ok g c =
       goes_on = subst (λ y. GoesOn (y ∷ []) none_goes (kept_of (states old.epochs) b.highest) (kept_of (states new.epochs) d.highest) (covers_of (states old.epochs)) (covers_of (states new.epochs))) c.of.ensures (put_goes_on x (states old.epochs) (states new.epochs) b d old.within new.within (g.met.S.Epochs.nested old.epochs) (g.met.S.Epochs.nested new.epochs) (Put x ∷ Sync (section_of x) ∷ []) (put_and_sync x (states old.epochs) (states new.epochs) b d old.within new.within (g.met.S.Epochs.nested old.epochs) (g.met.S.Epochs.nested new.epochs)) ready done);
       stays = (put_lowest x (states old.epochs) (states new.epochs) b d old.within new.within (g.met.S.Epochs.nested old.epochs) (g.met.S.Epochs.nested new.epochs) (λ less. (ready less).1) raises, ap is_loaded c.after_put.ensures ∙ still_loaded stage);
       lost = tt;
+      written = tt;
       watched = c.in-Ok.ensures.watched;
     }
 
@@ -57,6 +59,7 @@ returns-in-Err g c =
     let some_bounds = some_ways bounds_of (g.M.Wreck.MetaRuin.left left.meta) (g.met.M.Wreck.MetaRuin.some left.meta) in
     let b = bounds_of (g.M.Meta.current old.meta) in
     let x = g.S.Entry.AsEntry.plain c.of.result in
+    let watch = shelf_watch g.S.Epochs.keeps old.alarm (g.S.Epochs.calm old.epochs && (g.M.Meta.watch old.meta).only_armed) in
     record {
       puts = tt;
       goes_on = tt;
@@ -65,5 +68,6 @@ returns-in-Err g c =
         leaves = leaves_flat (at_epoch (epoch_of x) (x ∷ [])) nothing_gone (x ∷ []) none_goes (states old.epochs) b old.within (g.S.Wreck.EpochsRuin.left left.epochs) (map bounds_of (g.M.Wreck.MetaRuin.left left.meta)) left.within some some_bounds (at_epoch_within (epoch_of x) (x ∷ [])) (λ k y own stays. stays) c.in-Err.ensures.ways;
         lowests = raised_lowests (epoch_of x) b (map bounds_of (g.M.Meta.left old.meta)) (map bounds_of (g.M.Wreck.MetaRuin.left left.meta)) old.durable c.in-Err.ensures.bounds;
       });
+      written = subst (λ y. LeavesFailedPut (λ w. left_of_ways (g.S.Wreck.EpochsRuin.left w.epochs) (map bounds_of (g.M.Wreck.MetaRuin.left w.meta))) (λ w. w.short) y b.lowest (is_loaded c.args.self.stage) watch (kept_of (states old.epochs) b.highest) c.in-Err.lost) c.of.ensures (left_of_failed (λ w. left_of_ways (g.S.Wreck.EpochsRuin.left w.epochs) (map bounds_of (g.M.Wreck.MetaRuin.left w.meta))) (λ w. w.short) g.S.Entry.AsEntry.plain c.of.result g.S.Epochs.keeps b (is_loaded c.args.self.stage) watch (states old.epochs) (λ w. g.S.Wreck.EpochsRuin.left w.epochs) (λ w. map bounds_of (g.M.Wreck.MetaRuin.left w.meta)) (λ w. refl) refl old.within (loaded_all c.args.self.stage (states old.epochs) (g.met.S.Epochs.nested old.epochs) c.args.self.staged) (λ goes. g.met.S.Epochs.whole old.epochs goes) c.in-Err.lost c.in-Err.ensures.written);
       watched = c.in-Err.ensures.watched;
     }
