@@ -1,8 +1,12 @@
 -- The queue policy of the inbox, and the legal logs.
+use Rattle.std.specs.BTreeSet.{insert_key}
 use Rattle.std.specs.List.{list_any}
-use Rattle.std.specs.Prelude.{Bool, List, None, Option, Some, [], false, filter, if◌then◌else◌, is_some, length, nat_le, nat_lt, not, set, slice_get, true, ℕ, ⊤, ◌&&◌, ◌++◌, ◌+◌, ◌-◌, ◌==◌, ◌∷◌, ◌≡◌}
+use Rattle.std.specs.Ordering.{nat_cmp}
+use Rattle.std.specs.Prelude.{Bool, List, None, Option, Some, [], false, filter, if◌then◌else◌, is_some, length, nat_le, nat_lt, not, set, slice_get, true, ℕ, ⊤, ◌&&◌, ◌||◌, ◌++◌, ◌+◌, ◌-◌, ◌==◌, ◌∷◌, ◌≡◌}
 use Rattle.mar_types.specs.Round.{round_le}
 use Rattle.mar_cert.specs.Finalization.{Finalization}
+use Rattle.mar_key.specs.Places.{filled, next_kept}
+use Rattle.mar_key.specs.Places as places
 use Rattle.mar_model.specs.Messages.{Inbox, Message, Queued, close_ticket, get_anchor, get_block, get_finalization, get_info, get_processed, get_verified, hint_finalized, of_height, prune_below, set_floor, subscribe_commitment, subscribe_digest}
 
 -- what an enqueue is answered
@@ -11,7 +15,7 @@ pub data Feedback : Type 0 where
   feedback_overflowed : Feedback
   feedback_refused : Feedback  -- shut
 
--- INBOX
+-- MESSAGES
 
 -- kinds that are dropped from the overflow where their ticket is closed
 abbrev pub drops_closed : Message → Bool
@@ -29,16 +33,37 @@ abbrev pub is_in : List ℕ → Option ℕ → Bool
 is_in tickets None = false
 is_in tickets (Some t) = list_any (λ k. k == t) tickets
 
+-- the ticket whose closing drops it, if there is one
+abbrev pub waits_for : Queued → Option ℕ
+waits_for q = if drops_closed q.message then q.ticket else None
+
 abbrev pub is_closed : List ℕ → Queued → Bool
-is_closed closed q = drops_closed q.message && is_in closed q.ticket
+is_closed closed q = is_in closed (waits_for q)
+
+-- the height by which it reads
+abbrev pub read_of : Message → Option ℕ
+read_of (get_info (of_height h)) = Some h
+read_of (get_block (of_height h)) = Some h
+read_of (get_finalization h) = Some h
+read_of _ = None
+
+abbrev pub hint_of : Message → Option ℕ
+hint_of (hint_finalized h peers) = Some h
+hint_of _ = None
+
+-- the ticket that it closes
+abbrev pub closing_of : Message → Option ℕ
+closing_of (close_ticket t) = Some t
+closing_of _ = None
+
+-- there is a number, and it passes
+abbrev pub passes : (ℕ → Bool) → Option ℕ → Bool
+passes test None = false
+passes test (Some n) = test n
 
 -- a prune drops reads by a height below it, and hints at or below it
 abbrev pub is_stale : ℕ → Message → Bool
-is_stale p (get_info (of_height h)) = nat_lt h p
-is_stale p (get_block (of_height h)) = nat_lt h p
-is_stale p (get_finalization h) = nat_lt h p
-is_stale p (hint_finalized h peers) = nat_le h p
-is_stale p _ = false
+is_stale p m = passes (λ h. nat_lt h p) (read_of m) || passes (λ h. nat_le h p) (hint_of m)
 
 abbrev pub stale_by : Option ℕ → Message → Bool
 stale_by None m = false
@@ -57,16 +82,8 @@ abbrev pub with_targets : List ℕ → List ℕ → List ℕ
 with_targets targets [] = targets
 with_targets targets (p ∷ peers) = with_targets (if list_any (λ q. q == p) targets then targets else targets ++ p ∷ []) peers
 
-abbrev pub hint_of : Message → Option ℕ
-hint_of (hint_finalized h peers) = Some h
-hint_of _ = None
-
 abbrev pub is_hint : ℕ → Queued → Bool
-is_hint h q = is_height (hint_of q.message)
-  where
-    is_height : Option ℕ → Bool
-    is_height None = false
-    is_height (Some k) = k == h
+is_hint h q = passes (λ k. k == h) (hint_of q.message)
 
 abbrev pub with_hint_targets : List ℕ → Queued → Queued
 with_hint_targets peers q = record q { message = merged q.message }
@@ -75,34 +92,74 @@ with_hint_targets peers q = record q { message = merged q.message }
     merged (hint_finalized h targets) = hint_finalized h (with_targets targets peers)
     merged m = m
 
+-- a message without a ticket
+abbrev pub told : Message → Queued
+told m = record { ticket = None; message = m }
+
 -- one hint a height
 abbrev pub with_hint : ℕ → List ℕ → List Queued → List Queued
-with_hint h peers [] = record { ticket = None; message = hint_finalized h (with_targets [] peers) } ∷ []
+with_hint h peers [] = told (hint_finalized h (with_targets [] peers)) ∷ []
 with_hint h peers (q ∷ others) = if is_hint h q then with_hint_targets peers q ∷ others else q ∷ with_hint h peers others
 
-abbrev pub overflow_is_empty : Inbox → Bool
-overflow_is_empty i = not (is_some i.floor) && (not (is_some i.prune) && length i.overflow == 0)
+-- WHAT WAITS
 
--- the overflow with one more message
-abbrev pub with_overflow : Inbox → Option ℕ → Message → Inbox
-with_overflow i ticket (set_floor f) = record i { floor = Some (later_floor i.floor f) }
-with_overflow i ticket (prune_below h) =
-    if covers_prune i.prune h then i
-    else record i { prune = Some h; overflow = filter (λ q. not (is_stale h q.message)) i.overflow }
-with_overflow i ticket (hint_finalized h peers) = if covers_prune i.prune h then i else record i { overflow = with_hint h peers i.overflow }
-with_overflow i ticket m =
-    if stale_by i.prune m then i else record i { overflow = i.overflow ++ record { ticket = ticket; message = m } ∷ [] }
+-- behind the ready list: the newest floor, the highest prune, all others in order, and the closed tickets
+pub record Backlog : Type 0 where
+  pub floor : Option Finalization
+  pub prune : Option ℕ
+  pub others : List Queued
+  pub closed : List ℕ
+
+abbrev pub nothing_waits : Backlog → Bool
+nothing_waits b = not (is_some b.floor) && (not (is_some b.prune) && length b.others == 0)
+
+abbrev pub joined_by : Backlog → Queued → Message → Backlog
+joined_by b q (set_floor f) = record b { floor = Some (later_floor b.floor f) }
+joined_by b q (prune_below h) = if covers_prune b.prune h then b else record b { prune = Some h; others = filter (λ x. not (is_stale h x.message)) b.others }
+joined_by b q (hint_finalized h peers) = if covers_prune b.prune h then b else record b { others = with_hint h peers b.others }
+joined_by b q m = if stale_by b.prune m then b else record b { others = b.others ++ q ∷ [] }
+
+-- with one more message
+abbrev pub joined : Backlog → Queued → Backlog
+joined b q = joined_by b q q.message
+
+abbrev pub closed_by : List ℕ → Option ℕ → List ℕ
+closed_by closed None = closed
+closed_by closed (Some t) = insert_key nat_cmp closed t
+
+abbrev pub next_other : Backlog → Option Queued × Backlog
+next_other b = let given = next_kept (λ q. not (is_closed b.closed q)) b.others in (given.0, record b { others = given.1 })
+
+abbrev pub next_prune : Backlog → Option ℕ → Option Queued × Backlog
+next_prune b (Some h) = (Some (told (prune_below h)), record b { prune = None })
+next_prune b None = next_other b
+
+abbrev pub next_floor : Backlog → Option Finalization → Option Queued × Backlog
+next_floor b (Some f) = (Some (told (set_floor f)), record b { floor = None })
+next_floor b None = next_prune b b.prune
+
+-- what comes into a free place: floor, prune, then the others in order, without those whose ticket is closed
+abbrev pub next_waiting : Backlog → Option Queued × Backlog
+next_waiting b = next_floor b b.floor
+
+-- INBOX
+
+abbrev pub backlog_of : Inbox → Backlog
+backlog_of i = record { floor = i.floor; prune = i.prune; others = i.overflow; closed = i.closed }
+
+abbrev pub with_backlog : Inbox → List Queued × Backlog → Inbox
+with_backlog i parts = record i { ready = parts.0; floor = parts.1.floor; prune = parts.1.prune; overflow = parts.1.others; closed = parts.1.closed }
+
+abbrev pub has_room : Inbox → Bool
+has_room i = places.has_room (nothing_waits (backlog_of i)) i.capacity i.ready
 
 -- each enqueued `close_ticket` adds its ticket as it comes
 abbrev pub with_closed : Inbox → Message → Inbox
-with_closed i (close_ticket t) = record i { closed = t ∷ i.closed }
-with_closed i _ = i
+with_closed i m = record i { closed = closed_by i.closed (closing_of m) }
 
-abbrev pub has_room : Inbox → Bool
-has_room i = overflow_is_empty i && nat_lt (length i.ready) i.capacity
-
+-- a message is ready at once where there is room, else it joins what waits
 abbrev pub after_open_enqueue : Inbox → Queued → Inbox
-after_open_enqueue i q = if has_room i then record i { ready = i.ready ++ q ∷ [] } else with_overflow i q.ticket q.message
+after_open_enqueue i q = if has_room i then record i { ready = i.ready ++ q ∷ [] } else with_backlog i (i.ready, joined (backlog_of i) q)
 
 abbrev pub after_enqueue : Inbox → Queued → Inbox
 after_enqueue i q = if i.shut then i else after_open_enqueue (with_closed i q.message) q
@@ -110,32 +167,10 @@ after_enqueue i q = if i.shut then i else after_open_enqueue (with_closed i q.me
 abbrev pub feedback : Inbox → Feedback
 feedback i = if i.shut then feedback_refused else if has_room i then feedback_accepted else feedback_overflowed
 
--- free places are filled: floor, prune, then the others in order, without those whose ticket is closed
-abbrev pub fill_others : ℕ → List ℕ → List Queued → List Queued → List Queued × List Queued
-fill_others capacity closed ready [] = (ready, [])
-fill_others capacity closed ready (q ∷ others) =
-    if not (nat_lt (length ready) capacity) then (ready, q ∷ others)
-    else if is_closed closed q then fill_others capacity closed ready others
-    else fill_others capacity closed (ready ++ q ∷ []) others
-
-abbrev pub fill_rest : Inbox → Inbox
-fill_rest i = let parts = fill_others i.capacity i.closed i.ready i.overflow in record i { ready = parts.0; overflow = parts.1 }
-
-abbrev pub fill_prune : Inbox → Option ℕ → Inbox
-fill_prune i None = i
-fill_prune i (Some h) = if nat_lt (length i.ready) i.capacity then record i { ready = i.ready ++ record { ticket = None; message = prune_below h } ∷ []; prune = None } else i
-
-abbrev pub fill_floor : Inbox → Option Finalization → Inbox
-fill_floor i None = i
-fill_floor i (Some f) = if nat_lt (length i.ready) i.capacity then record i { ready = i.ready ++ record { ticket = None; message = set_floor f } ∷ []; floor = None } else i
-
-abbrev pub filled_inbox : Inbox → Inbox
-filled_inbox i = let j = fill_floor i i.floor in fill_rest (fill_prune j j.prune)
-
--- what a take gives, and the inbox after it
+-- what a take gives, and the inbox after it: the free places are filled
 abbrev pub after_take_from : Inbox → List Queued → Option Queued × Inbox
 after_take_from i [] = (None, i)
-after_take_from i (q ∷ ready) = (Some q, filled_inbox (record i { ready = ready }))
+after_take_from i (q ∷ ready) = (Some q, with_backlog i (filled next_waiting (i.capacity - length ready) ready (backlog_of i)))
 
 abbrev pub after_take : Inbox → Option Queued × Inbox
 after_take i = after_take_from i i.ready

@@ -6,7 +6,6 @@ ghost use Rattle.mar_inbox.specs.Answers.{came_of, is_waiting, standing, stood_a
 use std::alloc::{AllocError, Global};
 use std::collections::BTreeMap;
 use std::marker::Model;
-use std::mem;
 
 /// What comes for a ticket.
 #[derive(Drop)]
@@ -115,13 +114,13 @@ impl<V: Drop> AnswerTable<V> {
         self.answers.as_slice()
     }
 
-    /// Hands over all that came, in order, and keeps nothing of it: each ticket waits again.
-    pub fn take(&mut self) -> Vec<Answered<V>>
-        ensures taken { result.items ≡ self.old }
-        ensures rest { self.new ≡ [] }
+    /// Hands over all that came, in order. Nothing is left behind that could be asked how a ticket stands, so that no
+    /// ticket that was answered waits again.
+    pub fn into_answers(self) -> Vec<Answered<V>>
+        ensures { result.items ≡ self }
     {
-        self.places = BTreeMap::new(self.alloc);
-        mem::replace(&mut self.answers, Vec::new(self.alloc))
+        let AnswerTable { answers, .. } = self;
+        answers
     }
 
     // What stands for a ticket.

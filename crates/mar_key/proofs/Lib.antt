@@ -2,3 +2,5 @@ pub mod CutoffOrder
 pub mod OpenKeys
 pub mod OpenLists
 pub mod KeyReads
+pub mod Filling
+pub mod PeerTakes

@@ -5,9 +5,11 @@ pub mod SpelledKeys
 pub mod KeyBytes
 pub mod KeyOrder
 pub mod Asked
+pub mod Places
 pub mod PeerQueue
 pub mod Recorded
 pub mod Fronts
 pub mod Hears
 pub mod Order
 pub mod Views
+pub mod Received

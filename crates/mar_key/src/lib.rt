@@ -1,4 +1,5 @@
-//! What is asked of peers and for whom, what stays open of it, and who takes what peers send.
+//! What is asked of peers and for whom, what stays open of it, and who takes what peers send: a queue of places with what waits
+//! behind it.
 #![tactic(auto)]
 
 mod annotations;
@@ -8,7 +9,11 @@ mod keys;
 mod laws;
 mod open_requests;
 mod outcomes;
+mod overflow;
 mod peers;
+mod pending;
+mod queue;
+mod receiver;
 mod recorder;
 mod requests;
 mod resolvers;
@@ -23,7 +28,11 @@ pub use laws::{
 };
 pub use open_requests::{Asked, Judged, OpenRequests, same_key};
 pub use outcomes::{Delivery, Outcome};
+pub use overflow::Overflow;
 pub use peers::{Consumer, Producer};
+pub use pending::{Message, Pending};
+pub use queue::Queue;
+pub use receiver::{Handler, Receiver, init};
 pub use recorder::{Ask, Recorder};
 pub use requests::{Fetch, Request};
 pub use resolvers::{Resolver, TargetedResolver};

@@ -5,7 +5,7 @@ use mar_types::Height;
 use std::alloc::Global;
 use std::process::Abort;
 
-// Whether an answer and a closing stand up to the time that they are taken.
+// Whether an answer and a closing stand, another ticket waits, and both are handed over.
 fn answers_stand(rt: &impl Abort, alloc: Global) -> bool {
     let mut table: AnswerTable<u64> = AnswerTable::new(alloc);
     given(rt, table.put(7, 70));
@@ -13,8 +13,7 @@ fn answers_stand(rt: &impl Abort, alloc: Global) -> bool {
     let are_there = matches!(table.poll(7), Standing::Value(value) if *value == 70)
         & matches!(table.poll(8), Standing::Closed)
         & (table.answers().len() == 2);
-    let taken = table.take();
-    are_there & (taken.len() == 2) & matches!(table.poll(7), Standing::Waiting)
+    are_there & matches!(table.poll(9), Standing::Waiting) & (table.into_answers().len() == 2)
 }
 
 type Plain = Message<u64, u64, u64, u64>;

@@ -42,6 +42,8 @@ mod numbers;
 #[cfg(test)]
 mod parts;
 #[cfg(test)]
+mod peer_queue;
+#[cfg(test)]
 mod peers;
 #[cfg(test)]
 mod requests;
