@@ -16,7 +16,7 @@ ghost use Rattle.mar_journal_stores.specs.Watches.{CountsLost, HasFaultCause};
 use crate::meta_map::{batch_of, open_maps, set, unset};
 use crate::told::told_by;
 use mar_journal::{Disk, MetaRecord, Unopened, append};
-use mar_store::{Alarm, Lost, Meta, MetaRuin, Miss};
+use mar_store::{Alarm, Lost, Meta, MetaRuin, Miss, greatest_key};
 use std::alloc::{AllocError, Global};
 use std::collections::BTreeMap;
 use std::marker::Model;
@@ -234,6 +234,10 @@ impl<D: Disk> Meta for JournalMeta<D> {
 
     fn get(&self, key: u64) -> Option<u64> {
         self.values.get(&key).copied()
+    }
+
+    fn last_key(&self) -> Option<u64> {
+        greatest_key(&self.values)
     }
 
     fn put(self, key: u64, value: u64) -> Result<Self, Lost<JournalMetaWreck<D>>>

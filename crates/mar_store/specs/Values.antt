@@ -1,5 +1,5 @@
 -- What a metadata store holds: values of some keys, and the maps that a crash may leave.
-use Rattle.std.specs.Prelude.{◌≡◌, ℕ, ◌<◌, ◌==◌, if◌then◌else◌, filter, List, [], ◌∷◌, ◌++◌, length, not, Option, None}
+use Rattle.std.specs.Prelude.{◌≡◌, ℕ, ◌<◌, ◌==◌, if◌then◌else◌, filter, List, [], ◌∷◌, ◌++◌, length, not, Option, None, Some}
 use Rattle.std.specs.List.{list_any}
 use Rattle.mar_store.specs.Changes.{Within}
 
@@ -9,6 +9,11 @@ Values = ℕ → Option ℕ
 
 abbrev pub no_values : Values
 no_values key = None
+
+-- the greatest key that has a value, where one has
+abbrev pub IsLastKey : Values → Option ℕ → Type 0
+IsLastKey values None = (key : ℕ) → values key ≡ None
+IsLastKey values (Some last) = (values last ≡ None → ⊥) × ((key : ℕ) → last < key → values key ≡ None)
 
 -- the value of one key is set or removed, each other stays
 abbrev pub SetsValue : Values → ℕ → Option ℕ → Values → Type 0

@@ -35,7 +35,7 @@ pub use luck::{LuckHalf, is_lucky};
 pub use mar_types::SyncTicket;
 pub use mem_archive::{MemArchive, MemArchiveWreck};
 pub use mem_depot::{MemDepot, MemDepotWreck};
-pub use mem_meta::{MemMeta, MemMetaWreck};
+pub use mem_meta::{MemMeta, MemMetaWreck, greatest_key};
 pub use meta::{Meta, MetaRuin};
 pub use pile::Pile;
 pub use range_set::{HeightSpan, RangeSet};

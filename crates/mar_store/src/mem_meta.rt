@@ -4,7 +4,7 @@ ghost use Rattle.mar_store.specs.Alarms.{alarm_watch, fresh_watch};
 ghost use Rattle.mar_store.specs.Luck.{keeps_by, lucky_values};
 ghost use Rattle.mar_store.specs.Watch.{by_lowest_bit};
 ghost use Rattle.mar_store.specs.MemMeta.{values_of, left_with, some_left};
-ghost use Rattle.mar_store.specs.Values.{no_values, with_key};
+ghost use Rattle.mar_store.specs.Values.{IsLastKey, no_values, with_key};
 
 use crate::alarm::Alarm;
 use crate::{Lost, Meta, MetaRuin};
@@ -86,6 +86,16 @@ fn note(changed: &mut Vec<u64>, key: u64) -> Result<(), AllocError>
     Ok(())
 }
 
+/// The greatest key of a map.
+pub fn greatest_key(values: &BTreeMap<u64, u64>) -> Option<u64>
+    ensures { IsLastKey (values_of values.now) result }
+{
+    match values.last_key_value() {
+        Some((key, _)) => Some(*key),
+        None => None,
+    }
+}
+
 impl MetaRuin for MemMetaWreck {
     ghost left = { λ w. left_with w.synced w.failed };
 
@@ -117,6 +127,10 @@ impl Meta for MemMeta {
 
     fn get(&self, key: u64) -> Option<u64> {
         self.values.get(&key).copied()
+    }
+
+    fn last_key(&self) -> Option<u64> {
+        greatest_key(&self.values)
     }
 
     fn put(self, key: u64, value: u64) -> Result<Self, Lost<MemMetaWreck>> {

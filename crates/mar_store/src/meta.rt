@@ -1,6 +1,6 @@
 //! A few numbers that become durable together.
 ghost use Rattle.std.specs.Prelude.{◌≡◌, ◌<◌, ◌++◌, ℕ, List, [], ◌∷◌, length, Some, None, Contains, IfErr, IfOk, IfSome, OnOk, OnErr, MatchResult};
-ghost use Rattle.mar_store.specs.Values.{Values, SetsValue, synced_values, LeavesValues, others_of, with_key};
+ghost use Rattle.mar_store.specs.Values.{Values, IsLastKey, SetsValue, synced_values, LeavesValues, others_of, with_key};
 ghost use Rattle.mar_store.specs.Lost.{wreck_of};
 ghost use Rattle.mar_store.specs.Luck.{keeps_by, lucky_values};
 ghost use Rattle.mar_store.specs.Watch.{armed, Heeds, IsCalm, Watch};
@@ -49,6 +49,10 @@ pub trait Meta: Drop {
     /// The value of a key, as it was put last.
     fn get(&self, key: u64) -> Option<u64>
         ensures { result ≡ current self.now key };
+
+    /// The greatest key that has a value, as it is read now.
+    fn last_key(&self) -> Option<u64>
+        ensures { IsLastKey (current self.now) result };
 
     /// Sets the value of a key; it is durable after the next sync. Between two syncs at most 2048 keys change.
     fn put(self, key: u64, value: u64) -> Result<Self, Lost<Self::Wreck>>

@@ -1,0 +1,5 @@
+pub mod ArchiveLaws
+pub mod Fronts
+pub mod Judged
+pub mod Checked
+pub mod Strangers

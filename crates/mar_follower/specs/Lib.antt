@@ -1,0 +1,5 @@
+pub mod Segments
+pub mod Chains
+pub mod Plain
+pub mod Reading
+pub mod Reports

@@ -1,0 +1,5 @@
+pub mod Balances
+pub mod Entering
+pub mod FoundLedgers
+pub mod PutKeys
+pub mod Kept

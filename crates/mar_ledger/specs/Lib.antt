@@ -1,0 +1,5 @@
+pub mod Books
+pub mod Entries
+pub mod Ledger
+pub mod Writing
+pub mod Ends
