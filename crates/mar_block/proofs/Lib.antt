@@ -1,2 +1,9 @@
 pub mod BlockSteps
 pub mod SameDigests
+pub mod Linking
+pub mod Asking
+pub mod Lasts
+pub mod PayloadBounds
+pub mod Rows
+pub mod Sorting
+pub mod ParentLines

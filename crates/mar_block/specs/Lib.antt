@@ -1,9 +1,14 @@
 pub mod EmptyBlock
 pub mod EmptyBlockLemmas
 pub mod Expected
+pub mod Links
 pub mod MockBlock
 pub mod MockBlockLemmas
 pub mod Parents
+pub mod PayloadSizes
+pub mod Prefixes
+pub mod Provided
 pub mod Standard
+pub mod Streams
 pub mod Recipients
 pub mod Sent

@@ -1,28 +1,52 @@
-//! Blocks, what the node must know of them, and buffers that find them.
+//! Blocks, what the node must know of them, buffers that find them, and streams of their ancestors.
 #![tactic(auto)]
 
+mod ancestor_stream;
+mod ancestry;
+mod block_provider;
 mod blocks;
+mod bounded_ancestry;
+mod boxed_ancestry;
 mod buffer;
 mod empty_block;
 mod expected;
 mod laws;
+mod lines;
+mod linked;
 mod mem_buffer;
+mod mem_provider;
 pub mod mocks;
+mod payload_sizes;
 mod places;
+mod polled;
+mod prefixed_ancestry;
 mod recipients;
+mod refusals;
 mod standard;
 mod standard_blocks;
 mod wire_variant;
 
+pub use ancestor_stream::{Ahead, AncestorStream};
+pub use ancestry::{Ancestry, ForkAncestry};
+pub use block_provider::{BlockProvider, Fetched, ForkProvider};
 pub use blocks::{Block, BoundedBlock, CertifiableBlock, Heightable};
+pub use bounded_ancestry::{BoundedAncestry, are_linked, from_iter};
+pub use boxed_ancestry::{BoxedAncestry, ErasedAncestry};
 pub use buffer::{Buffer, NoBuffer};
 pub use empty_block::EmptyBlock;
 pub use expected::ExpectedCommitment;
 pub use laws::{empty_blocks_compared, mock_blocks_compared, sent_compared};
+pub use lines::lines_are_parents;
+pub use linked::Linked;
 pub use mar_cert::Variant;
 pub use mar_key::Subscription;
 pub use mem_buffer::MemBuffer;
+pub use mem_provider::{MemProvider, Row};
+pub use payload_sizes::{TooLarge, max_backfill_size, max_payload_size};
+pub use polled::{Peeked, Polled};
+pub use prefixed_ancestry::{PrefixedAncestry, with_prefix};
 pub use recipients::{Recipients, Sent};
+pub use refusals::{NotContiguous, Refusal, Refused};
 pub use standard::Standard;
 pub use standard_blocks::StandardBlocks;
 pub use wire_variant::WireVariant;

@@ -6,6 +6,8 @@
 #[cfg(test)]
 mod acknowledgements;
 #[cfg(test)]
+mod ancestry;
+#[cfg(test)]
 mod archives;
 #[cfg(test)]
 mod blocks;
@@ -41,6 +43,8 @@ mod light;
 mod numbers;
 #[cfg(test)]
 mod parts;
+#[cfg(test)]
+mod payload_sizes;
 #[cfg(test)]
 mod peer_queue;
 #[cfg(test)]
