@@ -112,16 +112,16 @@ are_settings = record { members = (lit≤ tt, lit≤ tt); epoch_length = (lit≤
 are_lines : AllByRecursion (IsLine 4) lines
 unfolding line_bytes digits encode_with varint_within
 are_lines = (
-  record { built = tt; values = is_block_0; short = lit≤ tt },
+  record { built = tt; values = (tt, (tt, (is_block_0, tt))); short = lit≤ tt },
   (
-    record { built = tt; values = is_block_1; short = lit≤ tt },
+    record { built = tt; values = (tt, (is_block_1, tt)); short = lit≤ tt },
     (
-      record { built = tt; values = is_final_1; short = lit≤ tt },
+      record { built = tt; values = (tt, (is_final_1, tt)); short = lit≤ tt },
       (
-        record { built = tt; values = lit< tt; short = lit≤ tt },
+        record { built = tt; values = (tt, (lit< tt, tt)); short = lit≤ tt },
         (
-          record { built = tt; values = lit< tt; short = lit≤ tt },
-          (record { built = tt; values = lit< tt; short = lit≤ tt }, tt),
+          record { built = tt; values = (tt, (lit< tt, tt)); short = lit≤ tt },
+          (record { built = tt; values = (tt, (lit< tt, tt)); short = lit≤ tt }, tt),
         ),
       ),
     ),

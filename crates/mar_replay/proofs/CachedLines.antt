@@ -4,7 +4,6 @@ use Rattle.std.proofs.Common.{Bool, Contains, List, None, Option, Some, [], ap, 
 use Rattle.std.specs.List.{filter_map, list_any}
 use Rattle.std.proofs.lemmas.List.Elements.{Contains-append_cases, Contains-append_left, Contains-append_right}
 use Rattle.mar_cert.specs.Block.{Block}
-use Rattle.mar_inbox.specs.declared.Query.TheVariants as query
 use Rattle.mar_store.specs.Changes.{Within}
 use Rattle.mar_store.proofs.Lookups.{AllByRecursion-contains, AllByRecursion-from_contains}
 use Rattle.mar_model.specs.Cache.{MayBeCached, entries_put, notarized_where, verified_at, notarized_at_hand}
@@ -15,14 +14,14 @@ use Rattle.mar_model.specs.Event.{Effect, Event, effect_of, message_told}
 use Rattle.mar_model.specs.Faults.{Begin}
 use Rattle.mar_model.specs.Lives.{Finds, Picks, TakesUp}
 use Rattle.mar_model.specs.Node.{Ended, Node, write_count, AreBlocksOf, at_hand}
-use Rattle.mar_model.specs.Messages.{Message, message_blocks}
+use Rattle.mar_model.specs.Messages.{Message, certify, get_anchor, get_block, get_finalization, get_info, get_processed, get_verified, message_blocks, prepared, proposed, report_certification, report_finalization, report_notarization, verified}
 use Rattle.mar_model.specs.Promise.{told_blocks, Waiting, known_blocks, node_of}
 use Rattle.mar_model.specs.Step.{Made, Steps, with_sync}
 use Rattle.mar_model.proofs.CacheSteps.{with_cases}
 use Rattle.mar_model.proofs.EntryLists.{contains_none, one_of}
 use Rattle.mar_model.proofs.Filtered.{all_found_from, all_found_of, all_found_within}
-use Rattle.mar_replay.specs.Playing.{IsAnswered, asks, certifies, proposes, verifies}
-use Rattle.mar_replay.proofs.Lasting.{IsPlain, acks, answers, finishes, prepares, reports, notarizes, reports_certified}
+use Rattle.mar_script.specs.Script.{IsBuiltMessage}
+use Rattle.mar_replay.proofs.Lasting.{IsPlain, acks, finishes, tells}
 use Rattle.mar_cert.specs.Finalization.{Notarization}
 use Rattle.mar_model.specs.Held.{Seen}
 use Rattle.mar_model.proofs.KnownBlocks.{at_hand-known}
@@ -109,22 +108,6 @@ one_block more x y b same one told c is = subst (Contains more) (inside (sym one
 told_first : (b : Block) (others : List Block) → Contains (b ∷ others) b
 told_first b others = (zero, omega arith, refl)
 
--- an answered message puts the block that is to be kept, if any
-answered_puts : (config : Config) (n : Node) (t : ℕ) (m : Message) → IsAnswered m → PutsBlocksOf config n (message_told (Some t) m) (message_blocks m)
-answered_puts config n t m (asks (query.Info id)) fx after x has = contains_none x has
-answered_puts config n t m (asks (query.Block id)) fx after x has = contains_none x has
-answered_puts config n t m (asks (query.Finalization h)) fx after x has = contains_none x has
-answered_puts config n t m (asks query.Processed) fx after x has = contains_none x has
-answered_puts config n t m (asks query.Anchor) fx after x has = contains_none x has
-answered_puts config n t m (asks (query.Verified r)) fx after x has = contains_none x has
-answered_puts config n t m (verifies r b) fx after x has = one_block (b ∷ []) x (verified_entry r b) b (sym (one_of (verified_entry r b) x has)) refl (told_first b [])
-answered_puts config n t m (proposes r peers b) fx after x has = one_block (b ∷ []) x (verified_entry r b) b (sym (one_of (verified_entry r b) x has)) refl (told_first b [])
-answered_puts config n t m (certifies r b) fx after x has = by (list_any (verified_at r b) after) has
-  where
-    by : (is_verified : Bool) → Contains (notarized_where is_verified r b) x → IsOneOf (b ∷ []) x
-    by true there = contains_none x there
-    by false there = one_block (b ∷ []) x (notarized_entry r b) b (sym (one_of (notarized_entry r b) x there)) refl (told_first b [])
-
 -- what an event of a script tells, and what might be met before
 abbrev pub told_or_known : Chain → Node → Event → List Block
 told_or_known chain n e = told_blocks e ++ known_blocks chain n
@@ -145,14 +128,34 @@ module _ {P E : Type 0} (config : Config) (chain : Chain) (a : Seen P E) (buffer
         | inr second ↦ one_block more x (notarized_entry f.round b) b (sym (one_of (notarized_entry f.round b) x second)) refl (known b (at_hand-known config.inner chain a buffer waiting blocks f.payload b is))
       ]
 
+  -- the block that a message brings
+  brought : (b : Block) (x y : Cached) → Contains (y ∷ []) x → cached_block y ≡ Some b → IsOneOf (b ∷ known_blocks chain n) x
+  brought b x y has is = one_block (b ∷ known_blocks chain n) x y b (sym (one_of y x has)) is (told_first b (known_blocks chain n))
+
+  told_puts : (t : Option ℕ) (m : Message) → IsBuiltMessage m → PutsBlocksOf config n (message_told t m) (message_blocks m ++ known_blocks chain n)
+  told_puts t (report_finalization f) built fx after x has = no_block _ x (finalization_entry f) (sym (one_of (finalization_entry f) x has)) refl
+  told_puts t (report_notarization f) built fx after x has = notarized_puts f (known_blocks chain n) (λ b there. there) (at_hand n f.payload) refl x has
+  told_puts t (report_certification f) built fx after x has = contains_none x has
+  told_puts t (get_info id) built fx after x has = contains_none x has
+  told_puts t (get_block id) built fx after x has = contains_none x has
+  told_puts t (get_finalization h) built fx after x has = contains_none x has
+  told_puts t get_processed built fx after x has = contains_none x has
+  told_puts t get_anchor built fx after x has = contains_none x has
+  told_puts t (get_verified r) built fx after x has = contains_none x has
+  told_puts t (verified r b) built fx after x has = brought b x (verified_entry r b) has refl
+  told_puts t (proposed r peers b) built fx after x has = brought b x (verified_entry r b) has refl
+  told_puts t (prepared r peers b) built fx after x has = contains_none x has
+  told_puts t (certify r b) built fx after x has = by (list_any (verified_at r b) after) has
+    where
+      by : (is_verified : Bool) → Contains (notarized_where is_verified r b) x → IsOneOf (b ∷ known_blocks chain n) x
+      by true there = contains_none x there
+      by false there = brought b x (notarized_entry r b) there refl
+  told_puts t m built fx after x has = absurd built
+
   pub plain_puts : (e : Event) → IsPlain e → PutsBlocksOf config n e (told_or_known chain n e)
-  plain_puts e (reports f) fx after x has = no_block _ x (finalization_entry f) (sym (one_of (finalization_entry f) x has)) refl
-  plain_puts e (notarizes f) fx after x has = notarized_puts f (known_blocks chain n) (λ b there. there) (at_hand n f.payload) refl x has
-  plain_puts e (reports_certified f) fx after x has = contains_none x has
+  plain_puts e (tells t m built) fx after x has = told_puts t m built fx after x has
   plain_puts e (acks t) fx after x has = contains_none x has
   plain_puts e (finishes t) fx after x has = contains_none x has
-  plain_puts e (answers t m answered) fx after x has = λ b is. Contains-append_left (message_blocks m) (known_blocks chain n) b (answered_puts config n t m answered fx after x has b is)
-  plain_puts e (prepares r peers b) fx after x has = contains_none x has
 
 -- AN OPENING
 

@@ -2,10 +2,8 @@
 use Rattle.std.proofs.Common.{Bool, List, None, Option, Some, [], arith, eqb-true, false, if◌then◌else◌, length, map, nat_lt, option_map, refl, subst, sym, true, ℕ, ◌&&◌, ◌*◌, ◌++◌, ◌+◌, ◌-◌, ◌<◌, ◌==◌, ◌^◌, ◌∷◌, ◌≡◌, ◌≤◌}
 use Rattle.std.specs.List.{AllByRecursion}
 use Rattle.mar_cert.specs.Block.{Block}
-use Rattle.mar_cert.specs.Finalization.{Finalization, Notarization}
-use Rattle.mar_inbox.specs.declared.Query.TheVariants as query
-use Rattle.mar_types.specs.Round.{Round}
-use Rattle.mar_model.specs.Messages.{Message, Peers, prepared, report_certification, report_finalization, report_notarization}
+use Rattle.mar_cert.specs.Finalization.{Finalization}
+use Rattle.mar_model.specs.Messages.{Message, report_finalization, report_notarization, set_floor}
 use Rattle.mar_key.specs.Processed.{height_of}
 use Rattle.mar_model.specs.Acks.{Mark, Outstanding, after_given, is_given, is_unmarked, mark_dropped, mark_given, mark_waiting, with_mark}
 use Rattle.mar_store.proofs.Lookups.{AllByRecursion-append}
@@ -15,13 +13,12 @@ use Rattle.mar_model.specs.Event.{Event, ack_given, effect_of, kept_blocks, life
 use Rattle.mar_model.specs.Faults.{dropped_first, event_fault, height_limit, last_height, storing_fault}
 use Rattle.mar_model.specs.Held.{Seen}
 use Rattle.mar_model.specs.Moves.{syncs_at_most}
-use Rattle.mar_model.specs.Node.{Node, at_hand, write_count}
+use Rattle.mar_model.specs.Node.{IsFinalized, Node, at_hand, write_count}
 use Rattle.mar_model.specs.Promise.{IsLawfulStep, ReportsFinalized, Waiting, node_of}
 use Rattle.mar_model.specs.Step.{HandedBlock, HandsOver, Made, Steps, handed_blocks, outstanding_of, with_sync}
 use Rattle.mar_model.proofs.FinalizationEvent.{not_last}
-use Rattle.mar_script.specs.Plays.{max_window}
-use Rattle.mar_script.specs.Refused.{max_lines}
-use Rattle.mar_replay.specs.Playing.{IsAnswered, asks, certifies, proposes, verifies}
+use Rattle.mar_script.specs.Plays.{max_window, most_turns}
+use Rattle.mar_script.specs.Script.{IsBuiltMessage}
 
 -- TICKETS
 
@@ -34,14 +31,14 @@ pub syncs_after : (k before after most : ℕ) → before ≤ 2 * k → most ≤ 
 syncs_after k before after most low few given = omega (arith, low, few, given)
 
 -- they last for all lines that a script may have
-pub tickets_last : (k before window : ℕ) → before ≤ max_window * k → k ≤ max_lines → window ≤ max_window → 2 ^ 64 - 1 ≤ before + window → ⊥
+pub tickets_last : (k before window : ℕ) → before ≤ max_window * k → k ≤ most_turns → window ≤ max_window → 2 ^ 64 - 1 ≤ before + window → ⊥
 tickets_last k before window low few narrow near = omega (arith, low, few, narrow, near)
 
 -- nor can they when callers are answered
-pub answers_last : (k next : ℕ) → next ≤ k → k ≤ max_lines → next < 2 ^ 64 - 1
+pub answers_last : (k next : ℕ) → next ≤ k → k ≤ most_turns → next < 2 ^ 64 - 1
 answers_last k next low few = omega (arith, low, few)
 
-pub syncs_last : (k before most : ℕ) → before ≤ 2 * k → k ≤ max_lines → most ≤ 2 → 2 ^ 64 ≤ before + most → ⊥
+pub syncs_last : (k before most : ℕ) → before ≤ 2 * k → k ≤ most_turns → most ≤ 2 → 2 ^ 64 ≤ before + most → ⊥
 syncs_last k before most low few at_most near = omega (arith, low, few, at_most, near)
 
 -- BLOCKS
@@ -84,50 +81,26 @@ undropped-with_sync before n undropped = by (nat_lt before (write_count n)) (nat
     by true false = undropped
     by false c = undropped
 
--- an answered message, as a caller tells it under a ticket, reports nothing
-pub answered_reports : (chain : Chain) (t : Option ℕ) (m : Message) → IsAnswered m → ReportsFinalized chain (message_told t m)
-answered_reports chain t m (asks (query.Info id)) = tt
-answered_reports chain t m (asks (query.Block id)) = tt
-answered_reports chain t m (asks (query.Finalization h)) = tt
-answered_reports chain t m (asks query.Processed) = tt
-answered_reports chain t m (asks query.Anchor) = tt
-answered_reports chain t m (asks (query.Verified r)) = tt
-answered_reports chain t m (verifies r b) = tt
-answered_reports chain t m (proposes r peers b) = tt
-answered_reports chain t m (certifies r b) = tt
-
--- an event of a life that has begun: a reported finalization, notarization or certification, an acknowledgement, a sync that
--- finished, an answered message, a prepared block
+-- an event of a life that has begun: a message is told that lines tell, an acknowledgement given, or a sync finishes
 pub data IsPlain : Event → Type 0 where
-  reports : (f : Finalization) → IsPlain (message_told None (report_finalization f))
-  notarizes : (f : Notarization) → IsPlain (message_told None (report_notarization f))
-  reports_certified : (f : Notarization) → IsPlain (message_told None (report_certification f))
+  tells : (t : Option ℕ) (m : Message) → IsBuiltMessage m → IsPlain (message_told t m)
   acks : (t : ℕ) → IsPlain (ack_given t)
   finishes : (t : ℕ) → IsPlain (sync_finished t)
-  answers : (t : ℕ) (m : Message) → IsAnswered m → IsPlain (message_told (Some t) m)
-  prepares : (r : Round) (peers : Peers) (b : Block) → IsPlain (message_told None (prepared r peers b))
 
--- an answered message starts one sync at most
-answered_syncs : (t : Option ℕ) (m : Message) → IsAnswered m → syncs_at_most (message_told t m) ≡ 1
-answered_syncs t m (asks (query.Info id)) = refl
-answered_syncs t m (asks (query.Block id)) = refl
-answered_syncs t m (asks (query.Finalization h)) = refl
-answered_syncs t m (asks query.Processed) = refl
-answered_syncs t m (asks query.Anchor) = refl
-answered_syncs t m (asks (query.Verified r)) = refl
-answered_syncs t m (verifies r b) = refl
-answered_syncs t m (proposes r peers b) = refl
-answered_syncs t m (certifies r b) = refl
+-- it starts two syncs at most
+told_syncs : (t : Option ℕ) (m : Message) → syncs_at_most (message_told t m) ≤ 2
+told_syncs t (report_notarization f) = omega arith
+told_syncs t m = omega arith
 
--- and any event two
 pub plain_syncs : (e : Event) → IsPlain e → syncs_at_most e ≤ 2
-plain_syncs e (reports f) = omega arith
-plain_syncs e (notarizes f) = omega arith
-plain_syncs e (reports_certified f) = omega arith
+plain_syncs e (tells t m built) = told_syncs t m
 plain_syncs e (acks t) = omega arith
 plain_syncs e (finishes t) = omega arith
-plain_syncs e (answers t m answered) = let one : syncs_at_most (message_told (Some t) m) ≡ 1 = answered_syncs (Some t) m answered in omega arith
-plain_syncs e (prepares r peers b) = omega arith
+
+-- only a reported finalization is one
+pub told_reports : (chain : Chain) (t : Option ℕ) (m : Message) → ((f : Finalization) → m ≡ report_finalization f → IsFinalized chain f.round f.payload) → ReportsFinalized chain (message_told t m)
+told_reports chain t (report_finalization f) lawful = lawful f refl
+told_reports chain t m lawful = tt
 
 not_at_limit : (above : Bool) (h : ℕ) → (h ≡ 2 ^ 64 - 1 → ⊥) → (if above && h == last_height then Some (height_limit h) else None) ≡ None
 not_at_limit false h not_last = refl
@@ -144,51 +117,31 @@ module _ {P E : Type 0} (config : Config) (chain : Chain) (a : Seen P E) (buffer
   pub undropped-start : (made : Made) (n' : Node) → Steps config chain node (life_started None ∷ []) made n' → Undropped node.out → Undropped n'.out
   undropped-start made n' steps undropped = subst (λ m. Undropped m.out) (sym steps.ticket) (undropped-with_sync (write_count node) steps.unticketed (undropped-kept node (life_started None) made steps.unticketed steps.advances.hands undropped))
 
-  -- it touches no floor
-  no_effect : (t : ℕ) (m : Message) → IsAnswered m → effect_of config node (message_told (Some t) m) ≡ no_floor
-  no_effect t m (asks (query.Info id)) = refl
-  no_effect t m (asks (query.Block id)) = refl
-  no_effect t m (asks (query.Finalization h)) = refl
-  no_effect t m (asks query.Processed) = refl
-  no_effect t m (asks query.Anchor) = refl
-  no_effect t m (asks (query.Verified r)) = refl
-  no_effect t m (verifies r b) = refl
-  no_effect t m (proposes r peers b) = refl
-  no_effect t m (certifies r b) = refl
+  -- a message that lines tell touches no floor
+  no_effect : (t : Option ℕ) (m : Message) → IsBuiltMessage m → effect_of config node (message_told t m) ≡ no_floor
+  no_effect t (set_floor f) built = absurd built
+  no_effect t m built = refl
 
   pub undropped-step : (e : Event) → IsPlain e → (made : Made) (n' : Node) → Steps config chain node (e ∷ []) made n' → Undropped node.out → Undropped n'.out
-  undropped-step e (reports f) made n' steps undropped = subst (λ m. Undropped m.out) (sym steps.ticket) (undropped-with_sync (write_count node) steps.unticketed (undropped-kept node (message_told None (report_finalization f)) made steps.unticketed steps.advances.hands undropped))
-  undropped-step e (notarizes f) made n' steps undropped = subst (λ m. Undropped m.out) (sym steps.ticket) (undropped-with_sync (write_count node) steps.unticketed (undropped-kept node (message_told None (report_notarization f)) made steps.unticketed steps.advances.hands undropped))
-  undropped-step e (reports_certified f) made n' steps undropped = subst (λ m. Undropped m.out) (sym steps.ticket) (undropped-with_sync (write_count node) steps.unticketed (undropped-kept node (message_told None (report_certification f)) made steps.unticketed steps.advances.hands undropped))
+  undropped-step e (tells t m built) made n' steps undropped = subst (λ x. Undropped x.out) (sym steps.ticket) (undropped-with_sync (write_count node) steps.unticketed
+      (undropped-kept node (message_told t m) made steps.unticketed (subst (λ fx. HandsOver node (kept_blocks node (message_told t m) fx) made.reports steps.unticketed) (no_effect t m built) steps.advances.hands) undropped))
   undropped-step e (acks t) made n' steps undropped = subst (λ m. Undropped m.out) (sym steps.ticket) (undropped-with_sync (write_count node) steps.unticketed
       (undropped-kept node (ack_given t) made steps.unticketed steps.advances.hands (undropped-after (with_mark t mark_given a.life.out) (undropped-marked t a.life.out undropped))))
   undropped-step e (finishes t) made n' steps undropped = subst (λ m. Undropped m.out) (sym steps.ticket) (undropped-with_sync (write_count node) steps.unticketed (undropped-kept node (sync_finished t) made steps.unticketed steps.advances.hands undropped))
-  undropped-step e (answers t m answered) made n' steps undropped = subst (λ x. Undropped x.out) (sym steps.ticket) (undropped-with_sync (write_count node) steps.unticketed
-      (undropped-kept node (message_told (Some t) m) made steps.unticketed (subst (λ fx. HandsOver node (kept_blocks node (message_told (Some t) m) fx) made.reports steps.unticketed) (no_effect t m answered) steps.advances.hands) undropped))
-  undropped-step e (prepares r peers b) made n' steps undropped = subst (λ m. Undropped m.out) (sym steps.ticket) (undropped-with_sync (write_count node) steps.unticketed (undropped-kept node (message_told None (prepared r peers b)) made steps.unticketed steps.advances.hands undropped))
 
-  answered_fault : (t : ℕ) (m : Message) → IsAnswered m → event_fault config node (message_told (Some t) m) ≡ None
-  answered_fault t m (asks (query.Info id)) = refl
-  answered_fault t m (asks (query.Block id)) = refl
-  answered_fault t m (asks (query.Finalization h)) = refl
-  answered_fault t m (asks query.Processed) = refl
-  answered_fault t m (asks query.Anchor) = refl
-  answered_fault t m (asks (query.Verified r)) = refl
-  answered_fault t m (verifies r b) = refl
-  answered_fault t m (proposes r peers b) = refl
-  answered_fault t m (certifies r b) = refl
-
-  pub no_event_fault : (e : Event) → IsPlain e → IsLawfulStep config chain node (e ∷ []) → Undropped node.out → event_fault config node e ≡ None
-  no_event_fault e (finishes t) lawful undropped = refl
-  no_event_fault e (answers t m answered) lawful undropped = answered_fault t m answered
-  no_event_fault e (prepares r peers b) lawful undropped = refl
-  no_event_fault e (notarizes f) lawful undropped = refl
-  no_event_fault e (reports_certified f) lawful undropped = refl
-  no_event_fault e (reports f) lawful undropped = by (at_hand node f.payload) refl
+  -- nor ends the life, but for a finalization that stores its block at the last height
+  told_fault : (t : Option ℕ) (m : Message) → IsBuiltMessage m → IsLawfulStep config chain node (message_told t m ∷ []) → event_fault config node (message_told t m) ≡ None
+  told_fault t (set_floor f) built lawful = absurd built
+  told_fault t (report_finalization f) built lawful = by (at_hand node f.payload) refl
     where
       by : (o : Option Block) → at_hand node f.payload ≡ o → storing_fault node (option_map (λ m. record { height = m.block.height; with_certificate = true }) (option_map (λ b. met_of b f) o)) no_floor ≡ None
       by None is = refl
       by (Some b) is = not_at_limit (nat_lt (height_of a.held.processed) b.height) b.height (not_last config chain a f buffer waiting lawful.lawful lawful.one lawful.good lawful.reported.0 b is)
+  told_fault t m built lawful = refl
+
+  pub no_event_fault : (e : Event) → IsPlain e → IsLawfulStep config chain node (e ∷ []) → Undropped node.out → event_fault config node e ≡ None
+  no_event_fault e (tells t m built) lawful undropped = told_fault t m built lawful
+  no_event_fault e (finishes t) lawful undropped = refl
   no_event_fault e (acks t) lawful undropped = none_first (after_given (with_mark t mark_given a.life.out)) (undropped-after (with_mark t mark_given a.life.out) (undropped-marked t a.life.out undropped))
     where
       none_first : (out : List Outstanding) → Undropped out → dropped_first out ≡ None

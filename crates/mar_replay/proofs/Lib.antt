@@ -6,7 +6,7 @@ pub mod LineTurns
 pub mod OpeningTurns
 pub mod EventTurns
 pub mod LinePlays
-pub mod Queried
+pub mod Told
 pub mod OpenStates
 pub mod Replaying
 pub mod Headlines

@@ -1,5 +1,5 @@
 -- What `play` makes of each line.
-use Rattle.std.proofs.Common.{Contains, List, None, Option, [], ap, arith, refl, subst, sym, true, inl, inr, ℕ, ◌++◌, ◌+◌, ◌<◌, ◌∷◌, ◌≡◌, ◌≤◌, ◌⊎◌, ◌*◌, ◌∙◌}
+use Rattle.std.proofs.Common.{Contains, List, None, Option, [], ap, arith, refl, subst, sym, true, inl, inr, ℕ, ◌++◌, ◌+◌, ◌-◌, ◌<◌, ◌^◌, ◌∷◌, ◌≡◌, ◌≤◌, ◌⊎◌, ◌*◌, ◌∙◌}
 use Rattle.std.proofs.lemmas.List.Elements.{Contains-append_cases, Contains-append_left, Contains-append_right}
 use Rattle.mar_types.specs.declared.Sha256Digest.{Sha256Digest}
 use Rattle.mar_types.specs.Epochs.{fixed_epochs}
@@ -7,7 +7,7 @@ use Rattle.std.specs.List.{filter_map}
 use Rattle.mar_cert.specs.Block.{Block}
 use Rattle.mar_block.specs.Sent.{Held}
 use Rattle.mar_cert.specs.Finalization.{Finalization}
-use Rattle.mar_model.specs.Messages.{report_finalization}
+use Rattle.mar_model.specs.Messages.{Message, report_finalization}
 use Rattle.mar_key.specs.Asked.{asked_after}
 use Rattle.mar_model.specs.Cached.{cached_block}
 use Rattle.mar_model.specs.Chain.{Chain}
@@ -29,9 +29,8 @@ use Rattle.mar_model.specs.declared.fault.Fault.{Fault as FaultCode}
 use Rattle.mar_model.specs.declared.fault.TicketKind.{TicketKind}
 use Rattle.mar_model.specs.declared.fault.TicketKind.TheVariants.{Ack, Sync}
 use Rattle.mar_model.specs.Views.{kind_of}
-use Rattle.mar_script.specs.Refused.{max_lines}
 use Rattle.mar_script.specs.Accounts.{Account, Calls, CallsEnd, luck_after}
-use Rattle.mar_script.specs.Plays.{IsBetween, IsLawfulLine, Plays, buffer_in, cached_blocks_in, known_in, max_window}
+use Rattle.mar_script.specs.Plays.{IsBetween, IsLawfulLine, Plays, buffer_in, cached_blocks_in, known_in, max_window, most_turns}
 use Rattle.mar_replay.specs.Playing.{AfterEvent, DoesEvent, DoesStep, FindsTakenUp, HasLuck, IsNearLast, IsOpenAs, IsPendingAs, IsSetNode, PlaysLine, SeenNode, StartsFrom, TakesEvent, account_in, empty_buffer}
 use Rattle.mar_script.specs.Run.{LineDone, OpenDone, StepDone, line_blocks, still_unanswered}
 use Rattle.mar_script.specs.Script.{Line, Settings, buffer_line, config_of, crash_line, fail_line, open_line, tell_line}
@@ -46,8 +45,8 @@ use Rattle.mar_replay.specs.declared.play.State.{State as StateCode}
 use Rattle.mar_replay.specs.declared.play.State.TheVariants as state
 use Rattle.mar_script.specs.declared.RemarkShown.{RemarkShown}
 use Rattle.mar_replay.proofs.CachedLines.{found_within, plain_puts, step_cached, told_or_known}
-use Rattle.mar_replay.proofs.Lasting.{IsPlain, acks, answers, finishes, notarizes, plain_syncs, prepares, reports, reports_certified, syncs_after, syncs_last, tickets_after, tickets_last}
-use Rattle.mar_replay.proofs.LineTurns.{cut_between, cut_blocks, cut_usual, lawful_step, only_cut, step_between, step_cut, step_done}
+use Rattle.mar_replay.proofs.Lasting.{IsPlain, acks, answers_last, finishes, plain_syncs, tells, syncs_after, syncs_last, tickets_after, tickets_last}
+use Rattle.mar_replay.proofs.LineTurns.{cut_between, cut_blocks, cut_usual, lawful_step, only_cut, step_between, step_cut, step_done, waits}
 use Rattle.mar_replay.proofs.Replaying.{between_left}
 use Rattle.mar_replay.proofs.OpeningTurns.{lawful_start, opening_between, opening_cached, opening_cut, opening_done, opening_usual, start_cached, start_cut, start_usual, undropped-found}
 
@@ -55,7 +54,7 @@ none_in : (b : Block) → Contains [] b → ⊥
 none_in b has = let lt : has.0 < 0 = has.1 in omega arith
 
 -- the tickets of so many lines last
-never_last : (k : ℕ) (e : Event) (seen : SeenNode) (fault : Fault) → seen.life.next_ack ≤ max_window * k → seen.held.writes.next_sync ≤ 2 * k → syncs_at_most e ≤ 2 → k ≤ max_lines → seen.life.sizes.window ≤ max_window → IsNearLast e seen fault → (kind : TicketKind) → fault ≡ ticket_limit (kind_of kind) → ⊥
+never_last : (k : ℕ) (e : Event) (seen : SeenNode) (fault : Fault) → seen.life.next_ack ≤ max_window * k → seen.held.writes.next_sync ≤ 2 * k → syncs_at_most e ≤ 2 → k ≤ most_turns → seen.life.sizes.window ≤ max_window → IsNearLast e seen fault → (kind : TicketKind) → fault ≡ ticket_limit (kind_of kind) → ⊥
 never_last k e seen fault given started most few narrow near Ack is = tickets_last k seen.life.next_ack seen.life.sizes.window given few narrow (near.0 is)
 never_last k e seen fault given started most few narrow near Sync is = syncs_last k seen.held.writes.next_sync (syncs_at_most e) started few most (near.1 is)
 
@@ -102,13 +101,9 @@ told_known chain n e l brings before cached b has = by (Contains-append_cases be
 
 -- such an event finds what was taken up of the cache
 pub plain_finds : (e : Event) → IsPlain e → (seen : SeenNode) → seen.held.cache.loaded ≡ true → FindsTakenUp e seen
-plain_finds e (reports f) seen loaded = loaded
-plain_finds e (notarizes f) seen loaded = loaded
-plain_finds e (reports_certified f) seen loaded = loaded
+plain_finds e (tells t m built) seen loaded = loaded
 plain_finds e (acks t) seen loaded = loaded
 plain_finds e (finishes t) seen loaded = loaded
-plain_finds e (answers t m answered) seen loaded = loaded
-plain_finds e (prepares r peers b) seen loaded = loaded
 
 module _ {H R : Type 0} where
   abbrev Stopped : Remains → ℕ → StateCode H R
@@ -167,7 +162,7 @@ module _ {H R : Type 0} where
   pub plays_put : (config : Config) (seen : SeenNode) (buffer new : Held) (pending : Pending) (b : Block) → new.blocks ≡ buffer.blocks ++ b ∷ [] → PlaysLine config (Running seen buffer pending) (buffer_line b) (output_of nothing_made outcome.Done) (Running seen new pending)
   plays_put config seen buffer new pending b is = record {
     set = λ set. set;
-    small = λ line small. subst AreSmall (sym is) (AllByRecursion-push (λ x. IsSmall x.encoded) buffer.blocks b small line);
+    small = λ line small. subst AreSmall (sym is) (AllByRecursion-push (λ x. IsSmall x.encoded) buffer.blocks b small line.1.0);
     calls = ArePassed-refl seen.held.watches;
     lucky = λ before has. tt;
     opened = refl;
@@ -257,30 +252,38 @@ module _ {H R : Type 0} where
 
   -- what an event of a life that has begun makes of it
   pub done_step : (seen : SeenNode) (buffer : Held) (made : Made) (after : StateCode H R) (o : Outcome) {e : Event} → IsPlain e → DoesEvent seen buffer e made after o → DoesStep seen buffer e made after o
-  done_step seen buffer made after o (reports f) done = done
-  done_step seen buffer made after o (notarizes f) done = done
-  done_step seen buffer made after o (reports_certified f) done = done
+  done_step seen buffer made after o (tells t m built) done = done
   done_step seen buffer made after o (acks t) done = done
   done_step seen buffer made after o (finishes t) done = done
-  done_step seen buffer made after o (answers t m answered) done = done
-  done_step seen buffer made after o (prepares r peers b) done = done
 
-  -- a line that is one event of the life
-  pub plays_event : (seen : SeenNode) (buffer : Held) (pending : Pending) (l : Line) (e : Event) (made : Made) (after : StateCode H R) (o : Outcome) → IsPlain e → ((f : Finalization) → e ≡ message_told None (report_finalization f) → l ≡ tell_line (report_finalization f)) → ((b : Block) → Contains (told_blocks e) b → Contains (line_blocks l) b)
-      → ((before now : Watches) (fault : Option Fault) → CallsEnd before fault now → Calls before l fault now)
-      → ((config : Config) (chain : Chain) (account : Account) (waiting : Waiting) (out : Output) (s : State) → StepDone config chain (node_of seen buffer.blocks waiting) (e ∷ []) [] (λ m. []) out s → LineDone config chain account (running (node_of seen buffer.blocks waiting)) l out s)
-      → TakesEvent seen buffer pending e made after o → (config : Config) → PlaysLine config (Running seen buffer pending) l (output_of made o) after
-  plays_event seen buffer pending l e made after o plain same brings calls line_done takes config = record {
+  -- A line that is one event of the life, which these callers await, the next of whom has this ticket: `now` is pending beside it.
+  pub plays_event : (seen : SeenNode) (buffer : Held) (pending now : Pending) (unanswered : List ℕ) (next : ℕ) (l : Line) (e : Event) (made : Made) (after : StateCode H R) (o : Outcome) → IsPlain e → ((t : Option ℕ) (f : Finalization) → e ≡ message_told t (report_finalization f) → l ≡ tell_line (report_finalization f)) → ((b : Block) → Contains (told_blocks e) b → Contains (line_blocks l) b)
+      → ((before now : Watches) (fault : Option Fault) → CallsEnd before fault now → Calls before l fault now) → next ≤ pending.next_answer + 1 → now.requests ≡ pending.requests → (pending.next_answer < 2 ^ 64 - 1 → now.next_answer ≡ next)
+      → ((config : Config) (chain : Chain) (n' : Node) → Steps config chain (node_of seen buffer.blocks (waits (between seen pending) unanswered next)) (e ∷ []) made n' → still_unanswered made.answers [] unanswered ≡ [])
+      → ((config : Config) (chain : Chain) (account : Account) (out : Output) (s : State) → StepDone config chain (node_of seen buffer.blocks (waits (between seen pending) unanswered next)) (e ∷ []) [] (λ m. []) out s → LineDone config chain account (running (node_of seen buffer.blocks (between seen pending))) l out s)
+      → TakesEvent seen buffer now e made after o → (config : Config) → PlaysLine config (Running seen buffer pending) l (output_of made o) after
+  plays_event seen buffer pending now unanswered next l e made after o plain same brings calls one_more requests next_is answered line_done takes config = record {
     set = λ is. takes.set config is.0 (plain_finds e plain seen is.1);
     small = λ line small. takes.small small;
     calls = calls seen.held.watches (remains_in after).watches (fault_in o) takes.calls;
     lucky = λ before has. takes.lucky before l;
-    opened = opened_as pending after takes.pending_as;
+    opened = subst (λ rs. IsOpenAs rs after) requests (opened_as now after takes.pending_as);
     plays = λ is before has chain k lawful.
-        let step = lawful_step config chain seen buffer.blocks (between seen pending) [] pending.next_answer k l e plain lawful same brings in
-        after_event seen buffer pending l e made config chain k (between seen pending) plain brings is.0 lawful step (let low : pending.next_answer ≤ k = lawful.between.2.answer_tickets in omega arith) (λ n' steps. refl) (account_in before (Running seen buffer pending)) (line_done config chain (account_in before (Running seen buffer pending)) (between seen pending)) after o pending.next_answer refl
-        (done_step seen buffer made after o plain takes.done is.1 config chain (between seen pending) refl is.0 step) (pending_next pending after takes.pending_as);
+        let waiting = waits (between seen pending) unanswered next in
+        let step = lawful_step config chain seen buffer.blocks (between seen pending) unanswered next k l e plain lawful same brings in
+        let low : pending.next_answer ≤ k = lawful.between.2.answer_tickets in
+        after_event seen buffer pending l e made config chain k waiting plain brings is.0 lawful step (omega (arith, low, one_more)) (answered config chain) (account_in before (Running seen buffer pending)) (line_done config chain (account_in before (Running seen buffer pending))) after o now.next_answer (sym (next_is (answers_last k pending.next_answer low lawful.few)))
+        (done_step seen buffer made after o plain takes.done is.1 config chain waiting refl is.0 step) (pending_next now after takes.pending_as);
   }
+
+  -- an event that is no message
+  pub plays_alone : (seen : SeenNode) (buffer : Held) (pending : Pending) (l : Line) (e : Event) (made : Made) (after : StateCode H R) (o : Outcome) → IsPlain e → ((t : Option ℕ) (m : Message) → e ≡ message_told t m → ⊥) → told_blocks e ≡ []
+      → ((before now : Watches) (fault : Option Fault) → CallsEnd before fault now → Calls before l fault now)
+      → ((config : Config) (chain : Chain) (account : Account) (waiting : Waiting) (out : Output) (s : State) → StepDone config chain (node_of seen buffer.blocks waiting) (e ∷ []) [] (λ m. []) out s → LineDone config chain account (running (node_of seen buffer.blocks waiting)) l out s)
+      → TakesEvent seen buffer pending e made after o → (config : Config) → PlaysLine config (Running seen buffer pending) l (output_of made o) after
+  plays_alone seen buffer pending l e made after o plain no_message no_blocks calls line_done takes =
+      plays_event seen buffer pending pending [] pending.next_answer l e made after o plain (λ t f is. absurd (no_message t (report_finalization f) is)) (λ b has. absurd (none_in b (subst (λ bs. Contains bs b) no_blocks has))) calls (omega arith) refl (λ low. refl) (λ config chain n' steps. refl)
+      (λ config chain account. line_done config chain account (between seen pending)) takes
 
   -- an opening that was cut before its start
   pub plays_unopened : (config : Config) (before left : Remains) (luck : ℕ) (g : Block) (fault : FaultCode Sha256Digest)

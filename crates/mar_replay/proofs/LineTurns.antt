@@ -36,7 +36,7 @@ use Rattle.mar_script.specs.Shown.{plain_fault}
 use Rattle.mar_replay.specs.Turn.{output_of, waiting_with}
 use Rattle.mar_replay.specs.declared.play.Outcome.TheVariants as outcome
 use Rattle.mar_replay.proofs.CachedLines.{PutsBlocksOf, cut_cached}
-use Rattle.mar_replay.proofs.Lasting.{IsPlain, Undropped, acks, answered_reports, answers, finishes, no_event_fault, prepares, reports, undropped-step, notarizes, reports_certified}
+use Rattle.mar_replay.proofs.Lasting.{IsPlain, Undropped, acks, finishes, no_event_fault, tells, told_reports, undropped-step}
 
 -- CUTS
 
@@ -114,22 +114,18 @@ module _ {P E : Type 0} (config : Config) (chain : Chain) (a : Seen P E) (buffer
       never o f p q = absurd cc
 
 -- these callers wait, and this is the next ticket
-abbrev waits : Waiting → List ℕ → ℕ → Waiting
+abbrev pub waits : Waiting → List ℕ → ℕ → Waiting
 waits between unanswered next = record between { unanswered = unanswered; next_answer = next }
 
 -- what is asked of a step is what was asked of its line, whoever waits beside it
 pub lawful_step : {P E : Type 0} (config : Config) (chain : Chain) (a : Seen P E) (buffer : List Block) (between : Waiting) (unanswered : List ℕ) (next : ℕ) (k : ℕ) (line : Line) (e : Event) → IsPlain e → IsLawfulLine config chain k (running (node_of a buffer between)) line
-    → ((f : Finalization) → e ≡ message_told None (report_finalization f) → line ≡ tell_line (report_finalization f)) → ((b : Block) → Contains (told_blocks e) b → Contains (line_blocks line) b) → IsLawfulStep config chain (node_of a buffer (waits between unanswered next)) (e ∷ [])
+    → ((t : Option ℕ) (f : Finalization) → e ≡ message_told t (report_finalization f) → line ≡ tell_line (report_finalization f)) → ((b : Block) → Contains (told_blocks e) b → Contains (line_blocks line) b) → IsLawfulStep config chain (node_of a buffer (waits between unanswered next)) (e ∷ [])
 lawful_step config chain a buffer between unanswered next k line e plain lawful same brings = record { lawful = lawful.lawful; one = one; reported = (told plain same, tt); good = good plain; rests = rests plain }
   where
-    told : {d : Event} → IsPlain d → ((f : Finalization) → d ≡ message_told None (report_finalization f) → line ≡ tell_line (report_finalization f)) → ReportsFinalized chain d
-    told (reports f) is = lawful.reported f (is f refl)
-    told (notarizes f) is = tt
-    told (reports_certified f) is = tt
+    told : {d : Event} → IsPlain d → ((t : Option ℕ) (f : Finalization) → d ≡ message_told t (report_finalization f) → line ≡ tell_line (report_finalization f)) → ReportsFinalized chain d
+    told (tells t m built) is = told_reports chain t m (λ f same. lawful.reported f (is t f (ap (message_told t) same)))
     told (acks t) is = tt
     told (finishes t) is = tt
-    told (answers t m answered) is = answered_reports chain (Some t) m answered
-    told (prepares r peers b) is = tt
 
     within : (b : Block) → Contains (told_blocks e ++ []) b ⊎ Contains (known_blocks chain (node_of a buffer (waits between unanswered next))) b → Contains (line_blocks line ++ known_blocks chain (node_of a buffer (waits between unanswered next))) b
     within b (inl of_event) = Contains-append_left (line_blocks line) (known_blocks chain (node_of a buffer (waits between unanswered next))) b (brings b (subst (λ xs. Contains xs b) (append-nil (told_blocks e)) of_event))
@@ -142,25 +138,17 @@ lawful_step config chain a buffer between unanswered next k line e plain lawful 
     good_now = IsGood-beside config chain a buffer buffer between (waits between unanswered next) lawful.between.0.of_chain.asks.requests lawful.between.0
 
     good : {d : Event} → IsPlain d → IsGoodFor config chain (node_of a buffer (waits between unanswered next)) (d ∷ [])
-    good (reports f) = good_now
-    good (notarizes f) = good_now
-    good (reports_certified f) = good_now
+    good (tells t m built) = good_now
     good (acks t) = good_now
     good (finishes t) = good_now
-    good (answers t m answered) = good_now
-    good (prepares r peers b) = good_now
 
     rests_now : Rest config.window (node_of a buffer (waits between unanswered next))
     rests_now = Rest-beside config.window a buffer buffer between (waits between unanswered next) lawful.between.1
 
     rests : {d : Event} → IsPlain d → RestsBefore config.window (node_of a buffer (waits between unanswered next)) (d ∷ [])
-    rests (reports f) = rests_now
-    rests (notarizes f) = rests_now
-    rests (reports_certified f) = rests_now
+    rests (tells t m built) = rests_now
     rests (acks t) = rests_now
     rests (finishes t) = rests_now
-    rests (answers t m answered) = rests_now
-    rests (prepares r peers b) = rests_now
 
 -- THE ACKNOWLEDGEMENT LINE
 

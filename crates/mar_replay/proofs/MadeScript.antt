@@ -18,10 +18,11 @@ use Rattle.mar_model.specs.Lives.{IsGoodEnded}
 use Rattle.mar_model.specs.Messages.{Message, report_finalization, set_floor}
 use Rattle.mar_model.specs.Node.{Agrees, BlocksAgree, Ended, IsFinalized}
 use Rattle.mar_store.proofs.Lookups.{AllByRecursion-contains}
+use Rattle.mar_script.specs.Lines.{fields_text}
 use Rattle.mar_script.specs.Plays.{IsSmallLine}
 use Rattle.mar_script.specs.Refused.{max_lines}
 use Rattle.mar_script.specs.Run.{Appears, EndsWith, HonestBytes, IsLawfulScript, IsLineBytes, Premises, ReadsLines, Status, StopsAt, line_blocks, messages_of}
-use Rattle.mar_script.specs.Script.{IsLine, IsSettings, Line, ack_line, buffer_line, config_of, crash_line, hex, line_bytes, line_words, open_line, script_bytes, sentence, sync_line, tell_line}
+use Rattle.mar_script.specs.Script.{IsLine, IsSettings, Line, ack_line, buffer_line, config_of, crash_line, hex, line_bytes, line_fields, open_line, script_bytes, sync_line, tell_line}
 use Rattle.mar_gen.specs.Chain.{made_block, made_chain, made_finalization}
 use Rattle.mar_gen.specs.Plan.{IsWithin}
 use Rattle.mar_gen.specs.declared.Owed.TheVariants.{Ack, Sync}
@@ -47,38 +48,38 @@ number_short n fits = length-decimal-le 20 n (omega arith) (omega (arith, fits))
 
 open_short : (b : Block) → length b.encoded ≤ 52 → length (line_bytes (open_line (from_genesis b))) ≤ 65_537
 unfolding line_bytes
-open_short b short = omega (arith, short, text_short b.encoded, length-append (sentence (line_words (open_line (from_genesis b)))) (10 ∷ []), length-append (codes "open") (32 ∷ (codes "genesis" ++ 32 ∷ hex b.encoded)), length-append (codes "genesis") (32 ∷ hex b.encoded))
+open_short b short = omega (arith, short, text_short b.encoded, length-append (fields_text (line_fields (open_line (from_genesis b)))) (10 ∷ []), length-append (codes "open") (32 ∷ (codes "genesis" ++ 32 ∷ hex b.encoded)), length-append (codes "genesis") (32 ∷ hex b.encoded))
 
 buffer_short : (b : Block) → length b.encoded ≤ 52 → length (line_bytes (buffer_line b)) ≤ 65_537
 unfolding line_bytes
-buffer_short b short = omega (arith, short, text_short b.encoded, length-append (sentence (line_words (buffer_line b))) (10 ∷ []), length-append (codes "buffer") (32 ∷ hex b.encoded))
+buffer_short b short = omega (arith, short, text_short b.encoded, length-append (fields_text (line_fields (buffer_line b))) (10 ∷ []), length-append (codes "buffer") (32 ∷ hex b.encoded))
 
 final_short : (f : Finalization) → length (finalization_bytes f) ≤ 1_000 → length (line_bytes (tell_line (report_finalization f))) ≤ 65_537
 unfolding line_bytes
-final_short f short = omega (arith, short, text_short (finalization_bytes f), length-append (sentence (line_words (tell_line (report_finalization f)))) (10 ∷ []), length-append (codes "final") (32 ∷ hex (finalization_bytes f)))
+final_short f short = omega (arith, short, text_short (finalization_bytes f), length-append (fields_text (line_fields (tell_line (report_finalization f)))) (10 ∷ []), length-append (codes "final") (32 ∷ hex (finalization_bytes f)))
 
 crash_short : (luck : ℕ) → IsNumber luck → length (line_bytes (crash_line luck)) ≤ 65_537
 unfolding line_bytes
-crash_short luck fits = omega (arith, number_short luck fits, length-append (sentence (line_words (crash_line luck))) (10 ∷ []), length-append (codes "crash") (32 ∷ decimal luck))
+crash_short luck fits = omega (arith, number_short luck fits, length-append (fields_text (line_fields (crash_line luck))) (10 ∷ []), length-append (codes "crash") (32 ∷ decimal luck))
 
 sync_short : (t : ℕ) → IsNumber t → length (line_bytes (sync_line t)) ≤ 65_537
 unfolding line_bytes
-sync_short t fits = omega (arith, number_short t fits, length-append (sentence (line_words (sync_line t))) (10 ∷ []), length-append (codes "sync") (32 ∷ decimal t))
+sync_short t fits = omega (arith, number_short t fits, length-append (fields_text (line_fields (sync_line t))) (10 ∷ []), length-append (codes "sync") (32 ∷ decimal t))
 
 ack_short : (t : ℕ) → IsNumber t → length (line_bytes (ack_line t)) ≤ 65_537
 unfolding line_bytes
-ack_short t fits = omega (arith, number_short t fits, length-append (sentence (line_words (ack_line t))) (10 ∷ []), length-append (codes "ack") (32 ∷ decimal t))
+ack_short t fits = omega (arith, number_short t fits, length-append (fields_text (line_fields (ack_line t))) (10 ∷ []), length-append (codes "ack") (32 ∷ decimal t))
 
 -- THEY ARE LINES
 
 is_line : (seed n : ℕ) (l : Line) → IsNumber seed → n ≤ 10_000 → IsMadeLine seed n l → IsLine 4 l
-is_line seed n l fits few (inl (Open, within, is)) = subst (IsLine 4) (sym is) (record { built = tt; values = block_is seed 0 fits (omega arith); short = open_short (made_block seed 0) (block_short seed 0) })
-is_line seed n l fits few (inl (Buffer h, within, is)) = subst (IsLine 4) (sym is) (record { built = tt; values = block_is seed h fits (omega (arith, few, within.within)); short = buffer_short (made_block seed h) (block_short seed h) })
+is_line seed n l fits few (inl (Open, within, is)) = subst (IsLine 4) (sym is) (record { built = tt; values = (tt, (tt, (block_is seed 0 fits (omega arith), tt))); short = open_short (made_block seed 0) (block_short seed 0) })
+is_line seed n l fits few (inl (Buffer h, within, is)) = subst (IsLine 4) (sym is) (record { built = tt; values = (tt, (block_is seed h fits (omega (arith, few, within.within)), tt)); short = buffer_short (made_block seed h) (block_short seed h) })
 is_line seed n l fits few (inl (Final h, within, is)) =
-    subst (IsLine 4) (sym is) (record { built = tt; values = finalization_is seed h (omega (arith, few, within.within)); short = final_short (made_finalization seed h) (finalization_short seed h) })
-is_line seed n l fits few (inl (Crash luck, within, is)) = subst (IsLine 4) (sym is) (record { built = tt; values = within; short = crash_short luck within })
-is_line seed n l fits few (inr (Sync t, ticket, is)) = subst (IsLine 4) (sym is) (record { built = tt; values = ticket; short = sync_short t ticket })
-is_line seed n l fits few (inr (Ack t, ticket, is)) = subst (IsLine 4) (sym is) (record { built = tt; values = ticket; short = ack_short t ticket })
+    subst (IsLine 4) (sym is) (record { built = tt; values = (tt, (finalization_is seed h (omega (arith, few, within.within)), tt)); short = final_short (made_finalization seed h) (finalization_short seed h) })
+is_line seed n l fits few (inl (Crash luck, within, is)) = subst (IsLine 4) (sym is) (record { built = tt; values = (tt, (within, tt)); short = crash_short luck within })
+is_line seed n l fits few (inr (Sync t, ticket, is)) = subst (IsLine 4) (sym is) (record { built = tt; values = (tt, (ticket, tt)); short = sync_short t ticket })
+is_line seed n l fits few (inr (Ack t, ticket, is)) = subst (IsLine 4) (sym is) (record { built = tt; values = (tt, (ticket, tt)); short = ack_short t ticket })
 
 -- what a made line brings is small enough for a store
 pub small_made : (seed n : ℕ) (l : Line) → IsNumber seed → n ≤ 10_000 → IsMadeLine seed n l → IsSmallLine l

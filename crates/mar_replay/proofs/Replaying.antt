@@ -121,7 +121,7 @@ module _ (config : Config) (chain : Chain) (before : Remains) (lines : List Line
     partition = p.partition;
     lawful = p.lawful;
     between = so.between;
-    few = few;
+    few = omega (arith, few);
     narrow = narrow;
     one = record { names = λ b has. p.script.inner b (appears b has); one = λ a b has other same. p.script.one_block a b (appears a has) (appears b other) same };
     genesis = λ b is. p.script.genesis b (subst (λ x. Contains (lines ++ x ∷ []) (open_line (from_genesis b))) (sym is) (Contains-append_right lines (open_line (from_genesis b) ∷ []) (open_line (from_genesis b)) (0, omega arith, refl)));

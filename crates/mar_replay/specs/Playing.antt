@@ -5,17 +5,6 @@ use Rattle.mar_types.specs.declared.FixedEpocher.{FixedEpocher}
 use Rattle.mar_cert.specs.Block.{Block}
 use Rattle.mar_block.specs.Sent.{Held}
 use Rattle.mar_cert.specs.Provided.{Provided}
-use Rattle.mar_types.specs.Round.{Round}
-use Rattle.mar_types.specs.declared.Sha256.{Sha256}
-use Rattle.mar_types.specs.declared.Sha256Digest.{Sha256Digest}
-use Rattle.mar_block.specs.declared.EmptyBlock.{EmptyBlock}
-use Rattle.mar_cert.specs.declared.Finalization.{Finalization as FinalizationCode}
-use Rattle.mar_cert.specs.declared.MockCertificate.{MockCertificate}
-use Rattle.mar_inbox.specs.Views.{message_of, query_of}
-use Rattle.mar_inbox.specs.declared.Message.{Message as MessageCode}
-use Rattle.mar_inbox.specs.declared.Query.{Query}
-use Rattle.mar_model.specs.Messages.{Message, Peers, certify, proposed, verified}
-use Rattle.mar_script.specs.Lines.{plain_block, plain_finalization}
 use Rattle.mar_key.specs.Asked.{Asked, asked_after}
 use Rattle.mar_model.specs.Cached.{Cached}
 use Rattle.mar_model.specs.Chain.{Chain}
@@ -118,19 +107,6 @@ pub record Turned {H R U : Type 0} (config : Config) (before : StateCode H R) (l
 
 abbrev pub TurnsLine : {H R U : Type 0} → Config → StateCode H R → Line → Option (List ℕ) → StateCode H R → Option (List ℕ) → Result U StatusCode → Type 0
 TurnsLine config before line sunk after sunk' written = (IsErrOf written status.Memory × (after ≡ before) × Takes sunk [] sunk') ⊎ Turned config before line sunk after sunk' written
-
--- MESSAGES THAT ARE ANSWERED
-
--- a message of a script's node
-abbrev pub plain_message : MessageCode Sha256Digest (EmptyBlock Sha256 Sha256Digest) (FinalizationCode Sha256Digest MockCertificate) (FinalizationCode Sha256Digest MockCertificate) → Message
-plain_message m = message_of (λ digest. digest.bytes) plain_block plain_finalization plain_finalization m
-
--- those that are read today and come under an answer ticket: what stands is asked, or a block is to be kept
-pub data IsAnswered : Message → Type 0 where
-  asks : (q : Query Sha256Digest) → IsAnswered (query_of (λ digest. digest.bytes) q)
-  verifies : (r : Round) (b : Block) → IsAnswered (verified r b)
-  proposes : (r : Round) (peers : Peers) (b : Block) → IsAnswered (proposed r peers b)
-  certifies : (r : Round) (b : Block) → IsAnswered (certify r b)
 
 -- ONE EVENT
 

@@ -16,7 +16,7 @@ use Rattle.mar_actor.specs.Views.{report_of}
 use Rattle.mar_actor.specs.declared.Update.{Update}
 use Rattle.mar_script.specs.Lines.{plain_block, plain_finalization, plain_sent}
 use Rattle.mar_script.specs.Shown.{plain_fault, remark_of}
-use Rattle.mar_script.specs.Text.{Output, Remark, State, answer_words, ask_words, fault_words, line_of, remark_words, report_words, running, sent_words, some_words, stopped}
+use Rattle.mar_script.specs.Text.{Output, Remark, State, answer_words, ask_words, fault_words, line_of, remark_words, report_words, running, sent_words, silent_output, some_words, stopped}
 use Rattle.mar_replay.specs.declared.heard.Heard.{Heard}
 use Rattle.mar_replay.specs.declared.play.Outcome.{Outcome}
 use Rattle.mar_replay.specs.declared.play.Outcome.TheVariants as outcome
@@ -68,7 +68,7 @@ heard_text heard o = flat_map report_text heard.told.updates.items ++ (asks_text
 
 -- what a line writes of, but for the node
 abbrev pub output_of : Made → Outcome → Output
-output_of made outcome = record { made = made; outcomes = []; remark = remark_in outcome; fault = fault_in outcome }
+output_of made outcome = record silent_output { made = made; remark = remark_in outcome; fault = fault_in outcome }
 
 -- between two lines each caller has its answer
 abbrev pub waiting_with : List Asked → ℕ → List CertifiedCommitment → Waiting

@@ -19,9 +19,10 @@ use crate::play::{Left, Outcome, ScriptHolds, State};
 use crate::replays::{Finished, left_of, turn, write_turn};
 use crate::turn::Page;
 use mar_gen::{Made, Owed, Planned, finalization, read_text, summary};
+use mar_inbox::Message;
 use mar_script::{Line, MAX_LINES, Settings, Sink, Status, write_text};
 use mar_store::Miss;
-use mar_types::Digestible;
+use mar_types::{Digested, Digestible};
 use std::alloc::{AllocError, Global};
 
 // The settings of each made script.
@@ -83,11 +84,18 @@ fn planned_line(alloc: Global, made: &Made, step: Planned) -> Result<Line, Alloc
     ensures { IfOk result (λ line. plain_line line ≡ line_planned made.now.seed step) }
 {
     match step {
-        Planned::Open => Ok(Line::OpenGenesis(made.block(0).clone()?)),
-        Planned::Buffer(height) => Ok(Line::Buffer(made.block(height).clone()?)),
+        Planned::Open => {
+            let block = made.block(0).clone()?;
+            Ok(Line::OpenGenesis(Digested::compute(alloc, block)?))
+        }
+        Planned::Buffer(height) => {
+            let block = made.block(height).clone()?;
+            Ok(Line::Buffer(Digested::compute(alloc, block)?))
+        }
         Planned::Final(height) => {
             let digest = made.block(height).digest();
-            Ok(Line::Final(finalization(alloc, height, digest)?))
+            let finalization = finalization(alloc, height, digest)?;
+            Ok(Line::Tell(Message::Finalization(finalization)))
         }
         Planned::Crash(luck) => Ok(Line::Crash(luck)),
     }

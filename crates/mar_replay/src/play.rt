@@ -1,9 +1,7 @@
 //! What one line of a script makes of a node.
-ghost use Rattle.std.specs.Prelude.{◌≡◌, ◌↔◌, [], IsTrue, List, Ok, OnErr, OnOk, Some, map};
+ghost use Rattle.std.specs.Prelude.{◌≡◌, ◌↔◌, ◌+◌, ◌-◌, ◌<◌, ◌^◌, [], IsTrue, List, Ok, OnErr, OnOk, Some, false, map, true};
 ghost use Rattle.mar_key.specs.Asked.{Asked, asked_after};
 ghost use Rattle.mar_key.specs.Recorded.{ask_of};
-ghost use Rattle.mar_model.specs.Event.{message_told};
-ghost use Rattle.mar_model.specs.Messages.{certify, prepared, proposed, report_certification, report_finalization, report_notarization, verified};
 ghost use Rattle.mar_model.specs.Config.{Config as PlainConfig};
 ghost use Rattle.mar_model.specs.Faults.{from_genesis, want_of_memory};
 ghost use Rattle.mar_model.specs.Held.{remains_of};
@@ -11,25 +9,22 @@ ghost use Rattle.mar_model.specs.Promise.{IsSmallEvent};
 ghost use Rattle.mar_model.specs.Step.{nothing_made};
 ghost use Rattle.mar_model.specs.Stored.{AreSmall};
 ghost use Rattle.mar_store.specs.Sizes.{IsSmall};
-ghost use Rattle.mar_cert.specs.Finalization.{finalization_bytes};
 ghost use Rattle.mar_script.specs.Plays.{IsSmallLine};
 ghost use Rattle.mar_actor.specs.Views.{begin_of, event_of, sizes_of};
 ghost use Rattle.mar_model.specs.Views.{store_name_of};
-ghost use Rattle.mar_script.specs.Lines.{plain_block, plain_finalization, plain_line};
-ghost use Rattle.mar_replay.specs.Playing.{HasSmallBlocks, IsAnswered, PlaysLine, PlaysOrNot, TakesEvent, plain_message};
+ghost use Rattle.mar_script.specs.Lines.{plain_block, plain_finalization, plain_line, plain_message};
+ghost use Rattle.mar_replay.specs.Playing.{HasSmallBlocks, PlaysLine, PlaysOrNot, TakesEvent};
 ghost use Rattle.mar_script.specs.Shown.{plain_fault};
 ghost use Rattle.mar_script.specs.Script.{IsSettings, ack_line, buffer_line, config_of, fail_line, open_line, sync_line, tell_line};
-ghost use Rattle.mar_inbox.specs.Views.{peers_of, query_of, ticket_of};
 ghost use Rattle.mar_replay.specs.Turn.{fault_in, made_in, open_in, output_of, with_open};
 
 use crate::heard::Heard;
 use mar_actor::{Config, Ended, Event, Fault, Node, Start, StoreName};
-use mar_block::{EmptyBlock, MemBuffer, Sent, StandardBlocks};
+use mar_block::{EmptyBlock, MemBuffer, StandardBlocks};
 use mar_cert::{MockFinalization, MockProvider, MockScheme};
-use mar_inbox::{Message, Query};
 use mar_key::{Ask, OpenRequests};
 use mar_model::{HoldsNotarizations, StoresRuin};
-use mar_script::{Line, RemarkShown, RoundBlock, Settings};
+use mar_script::{Line, RemarkShown, ScriptMessage, Settings, set_ticket};
 use mar_types::{Digested, Epoch, FixedEpocher, Sha256, Sha256Digest, ViewDelta};
 use std::alloc::{AllocError, Global};
 use std::marker::Model;
@@ -75,6 +70,31 @@ impl<H: ScriptHolds> Model for Left<H> {
 pub struct Pending {
     pub requests: OpenRequests<Sha256Digest>,
     pub next_answer: u64,
+}
+
+impl Pending {
+    // What is pending behind a message that took the next answer ticket, or none.
+    fn behind(self, took: bool) -> Pending
+        ensures requests { result.requests ≡ self.requests }
+        ensures kept { took ≡ false → result.next_answer ≡ self.next_answer }
+        ensures taken { took ≡ true → self.next_answer < 2 ^ 64 - 1 → result.next_answer ≡ self.next_answer + 1 }
+    {
+        let Pending {
+            requests,
+            next_answer,
+        } = self;
+        if took {
+            Pending {
+                requests,
+                next_answer: next_answer.saturating_add(1),
+            }
+        } else {
+            Pending {
+                requests,
+                next_answer,
+            }
+        }
+    }
 }
 
 /// A node while a life runs, with the blocks that its buffer has and what is pending; else what is left of its stores, and
@@ -158,20 +178,16 @@ fn play_stopped<H: ScriptHolds>(
     ensures { PlaysOrNot (config_of settings) (State.Stopped left luck) (plain_line line) (made_in heard.new) result.0 result.1 }
 {
     match line {
-        Line::OpenGenesis(genesis) => open(alloc, settings, left, luck, genesis, heard),
+        Line::OpenGenesis(genesis) => {
+            let (state, outcome) = open(alloc, settings, left, luck, genesis, heard);
+            (state, Ok(outcome))
+        }
         Line::Fail(store, calls) => arm_left(left, luck, store, calls),
         Line::Crash(next) => (State::Stopped(left, next), Ok(Outcome::Done)),
         Line::Buffer(_block) => pass(left, luck),
-        Line::Final(_finalization) => pass(left, luck),
-        Line::Notar(_notarization) => pass(left, luck),
-        Line::Certn(_certification) => pass(left, luck),
+        Line::Tell(_message) => pass(left, luck),
         Line::Sync(_ticket) => pass(left, luck),
         Line::Ack(_ticket) => pass(left, luck),
-        Line::Query(_query) => pass(left, luck),
-        Line::Verified(_verified) => pass(left, luck),
-        Line::Certified(_certified) => pass(left, luck),
-        Line::Proposed(_sending) => pass(left, luck),
-        Line::Prepared(_sending) => pass(left, luck),
     }
 }
 
@@ -219,24 +235,10 @@ fn play_running<H: ScriptHolds>(
             State::Running(actor, buffer, pending),
             Ok(Outcome::Remark(RemarkShown::Running)),
         ),
-        Line::Buffer(block) => put(alloc, actor, buffer, pending, block),
-        Line::Final(finalization) => finalize(alloc, actor, buffer, pending, finalization, heard),
-        Line::Notar(notarization) => notarize(alloc, actor, buffer, pending, notarization, heard),
-        Line::Certn(certification) => note_certification(
-            alloc,
-            actor,
-            buffer,
-            pending,
-            certification,
-            heard,
-        ),
+        Line::Buffer(block) => put(actor, buffer, pending, block),
+        Line::Tell(message) => tell(alloc, actor, buffer, pending, message, heard),
         Line::Sync(ticket) => finish_sync(alloc, actor, buffer, pending, ticket, heard),
         Line::Ack(ticket) => acknowledge(alloc, actor, buffer, pending, ticket, heard),
-        Line::Query(query) => ask(alloc, actor, buffer, pending, query, heard),
-        Line::Verified(verified) => verify(alloc, actor, buffer, pending, verified, heard),
-        Line::Certified(certified) => certify(alloc, actor, buffer, pending, certified, heard),
-        Line::Proposed(sending) => propose(alloc, actor, buffer, pending, sending, heard),
-        Line::Prepared(sending) => prepare(alloc, actor, buffer, pending, sending, heard),
         Line::Fail(store, calls) => arm(actor, buffer, pending, store, calls),
         Line::Crash(luck) => (crash(actor, buffer, pending, luck), Ok(Outcome::Done)),
     }
@@ -275,84 +277,45 @@ fn arm<H: ScriptHolds>(
 
 // Puts a block into the buffer.
 fn put<H: ScriptHolds>(
-    alloc: Global,
     actor: ScriptNode<H>,
     buffer: MemBuffer<StandardBlocks>,
     pending: Pending,
-    block: EmptyBlock<Sha256>,
+    block: Digested<EmptyBlock<Sha256>>,
 ) -> (State<H>, Result<Outcome, AllocError>)
     ensures { (config : PlainConfig) → PlaysOrNot config (State.Running actor buffer pending) (buffer_line (plain_block block)) nothing_made result.0 result.1 }
 {
     let mut buffer = buffer;
-    let block = match Digested::compute(alloc, block) {
-        Ok(block) => block,
-        Err(error) => return (State::Running(actor, buffer, pending), Err(error)),
-    };
     match buffer.put(block) {
         Ok(()) => (State::Running(actor, buffer, pending), Ok(Outcome::Done)),
         Err(error) => (State::Running(actor, buffer, pending), Err(error)),
     }
 }
 
-// Reports a finalization.
-fn finalize<H: ScriptHolds>(
+// Tells the node a message, under the next answer ticket where it takes one.
+fn tell<H: ScriptHolds>(
     alloc: Global,
     actor: ScriptNode<H>,
     buffer: MemBuffer<StandardBlocks>,
     pending: Pending,
-    finalization: MockFinalization,
+    message: ScriptMessage,
     heard: &mut Heard,
 ) -> (State<H>, Result<Outcome, AllocError>)
-    requires small_event { IsSmall (finalization_bytes (plain_finalization finalization)) }
+    requires small_line { IsSmallLine (tell_line (plain_message message)) }
     requires small { AreSmall buffer.blocks }
     requires silent { made_in heard.old ≡ nothing_made }
-    ensures { (config : PlainConfig) → PlaysOrNot config (State.Running actor buffer pending)
-        (tell_line (report_finalization (plain_finalization finalization)))
-        (made_in heard.new) result.0 result.1 }
+    ensures { (config : PlainConfig) → PlaysOrNot config (State.Running actor buffer pending) (tell_line (plain_message message)) (made_in heard.new) result.0 result.1 }
 {
-    let event = Event::Message(Message::Finalization(finalization));
-    let (state, outcome) = step(alloc, actor, buffer, pending, event, heard);
-    (state, Ok(outcome))
-}
-
-// Reports a notarization.
-fn notarize<H: ScriptHolds>(
-    alloc: Global,
-    actor: ScriptNode<H>,
-    buffer: MemBuffer<StandardBlocks>,
-    pending: Pending,
-    notarization: MockFinalization,
-    heard: &mut Heard,
-) -> (State<H>, Result<Outcome, AllocError>)
-    requires small_event { IsSmall (finalization_bytes (plain_finalization notarization)) }
-    requires small { AreSmall buffer.blocks }
-    requires silent { made_in heard.old ≡ nothing_made }
-    ensures { (config : PlainConfig) → PlaysOrNot config (State.Running actor buffer pending)
-        (tell_line (report_notarization (plain_finalization notarization)))
-        (made_in heard.new) result.0 result.1 }
-{
-    let event = Event::Message(Message::Notarization(notarization));
-    let (state, outcome) = step(alloc, actor, buffer, pending, event, heard);
-    (state, Ok(outcome))
-}
-
-// Reports a certification.
-fn note_certification<H: ScriptHolds>(
-    alloc: Global,
-    actor: ScriptNode<H>,
-    buffer: MemBuffer<StandardBlocks>,
-    pending: Pending,
-    certification: MockFinalization,
-    heard: &mut Heard,
-) -> (State<H>, Result<Outcome, AllocError>)
-    requires small { AreSmall buffer.blocks }
-    requires silent { made_in heard.old ≡ nothing_made }
-    ensures { (config : PlainConfig) → PlaysOrNot config (State.Running actor buffer pending)
-        (tell_line (report_certification (plain_finalization certification)))
-        (made_in heard.new) result.0 result.1 }
-{
-    let event = Event::Message(Message::Certification(certification));
-    let (state, outcome) = step(alloc, actor, buffer, pending, event, heard);
+    let mut message = message;
+    set_ticket(&mut message, pending.next_answer);
+    let pending = pending.behind(message.ticket().is_some());
+    let (state, outcome) = step(
+        alloc,
+        actor,
+        buffer,
+        pending,
+        Event::Message(message),
+        heard,
+    );
     (state, Ok(outcome))
 }
 
@@ -374,171 +337,6 @@ fn acknowledge<H: ScriptHolds>(
         return (State::Running(actor, buffer, pending), Ok(remark));
     }
     let (state, outcome) = step(alloc, actor, buffer, pending, Event::Ack(ticket), heard);
-    (state, Ok(outcome))
-}
-
-// Tells a message that is answered, under the next answer ticket.
-fn tell<H: ScriptHolds>(
-    alloc: Global,
-    actor: ScriptNode<H>,
-    buffer: MemBuffer<StandardBlocks>,
-    pending: Pending,
-    message: Message<
-        Sha256Digest,
-        Digested<EmptyBlock<Sha256>>,
-        MockFinalization,
-        MockFinalization,
-    >,
-    heard: &mut Heard,
-) -> (State<H>, Result<Outcome, AllocError>)
-    requires small_event { IsSmallEvent (message_told (ticket_of message) (plain_message message)) }
-    requires small { AreSmall buffer.blocks }
-    requires silent { made_in heard.old ≡ nothing_made }
-    ensures { ticket_of message ≡ Some pending.next_answer → IsAnswered (plain_message message) → (config : PlainConfig)
-        → PlaysOrNot config (State.Running actor buffer pending) (tell_line (plain_message message)) (made_in heard.new) result.0 result.1 }
-{
-    let pending = Pending {
-        requests: pending.requests,
-        next_answer: pending.next_answer.saturating_add(1),
-    };
-    let (state, outcome) = step(
-        alloc,
-        actor,
-        buffer,
-        pending,
-        Event::Message(message),
-        heard,
-    );
-    (state, Ok(outcome))
-}
-
-// Asks what stands, under the next answer ticket.
-fn ask<H: ScriptHolds>(
-    alloc: Global,
-    actor: ScriptNode<H>,
-    buffer: MemBuffer<StandardBlocks>,
-    pending: Pending,
-    query: Query<Sha256Digest>,
-    heard: &mut Heard,
-) -> (State<H>, Result<Outcome, AllocError>)
-    requires small { AreSmall buffer.blocks }
-    requires silent { made_in heard.old ≡ nothing_made }
-    ensures { (config : PlainConfig) → PlaysOrNot config (State.Running actor buffer pending) (tell_line (query_of (λ digest. digest.bytes) query))
-        (made_in heard.new) result.0 result.1 }
-{
-    let message = query.under(pending.next_answer);
-    tell(alloc, actor, buffer, pending, message, heard)
-}
-
-// Has a block kept that was verified, under the next answer ticket.
-fn verify<H: ScriptHolds>(
-    alloc: Global,
-    actor: ScriptNode<H>,
-    buffer: MemBuffer<StandardBlocks>,
-    pending: Pending,
-    brought: RoundBlock,
-    heard: &mut Heard,
-) -> (State<H>, Result<Outcome, AllocError>)
-    requires small_block { IsSmall (plain_block brought.block).encoded }
-    requires small { AreSmall buffer.blocks }
-    requires silent { made_in heard.old ≡ nothing_made }
-    ensures { (config : PlainConfig) → PlaysOrNot config (State.Running actor buffer pending)
-        (tell_line (verified brought.round (plain_block brought.block))) (made_in heard.new) result.0 result.1 }
-{
-    let block = match Digested::compute(alloc, brought.block) {
-        Ok(block) => block,
-        Err(error) => return (State::Running(actor, buffer, pending), Err(error)),
-    };
-    let message = Message::Verified {
-        ticket: pending.next_answer,
-        round: brought.round,
-        block,
-    };
-    tell(alloc, actor, buffer, pending, message, heard)
-}
-
-// Has a block kept that was certified, under the next answer ticket.
-fn certify<H: ScriptHolds>(
-    alloc: Global,
-    actor: ScriptNode<H>,
-    buffer: MemBuffer<StandardBlocks>,
-    pending: Pending,
-    brought: RoundBlock,
-    heard: &mut Heard,
-) -> (State<H>, Result<Outcome, AllocError>)
-    requires small_block { IsSmall (plain_block brought.block).encoded }
-    requires small { AreSmall buffer.blocks }
-    requires silent { made_in heard.old ≡ nothing_made }
-    ensures { (config : PlainConfig) → PlaysOrNot config (State.Running actor buffer pending)
-        (tell_line (certify brought.round (plain_block brought.block))) (made_in heard.new) result.0 result.1 }
-{
-    let block = match Digested::compute(alloc, brought.block) {
-        Ok(block) => block,
-        Err(error) => return (State::Running(actor, buffer, pending), Err(error)),
-    };
-    let message = Message::Certified {
-        ticket: pending.next_answer,
-        round: brought.round,
-        block,
-    };
-    tell(alloc, actor, buffer, pending, message, heard)
-}
-
-// Has a block sent and kept that was proposed, under the next answer ticket.
-fn propose<H: ScriptHolds>(
-    alloc: Global,
-    actor: ScriptNode<H>,
-    buffer: MemBuffer<StandardBlocks>,
-    pending: Pending,
-    sending: Sent<EmptyBlock<Sha256>>,
-    heard: &mut Heard,
-) -> (State<H>, Result<Outcome, AllocError>)
-    requires small_block { IsSmall (plain_block sending.block).encoded }
-    requires small { AreSmall buffer.blocks }
-    requires silent { made_in heard.old ≡ nothing_made }
-    ensures { (config : PlainConfig) → PlaysOrNot config (State.Running actor buffer pending)
-        (tell_line (proposed sending.round (peers_of sending.recipients) (plain_block sending.block)))
-        (made_in heard.new) result.0 result.1 }
-{
-    let block = match Digested::compute(alloc, sending.block) {
-        Ok(block) => block,
-        Err(error) => return (State::Running(actor, buffer, pending), Err(error)),
-    };
-    let message = Message::Proposed {
-        ticket: pending.next_answer,
-        round: sending.round,
-        recipients: sending.recipients,
-        block,
-    };
-    tell(alloc, actor, buffer, pending, message, heard)
-}
-
-// Sends a block ahead of its proposal.
-fn prepare<H: ScriptHolds>(
-    alloc: Global,
-    actor: ScriptNode<H>,
-    buffer: MemBuffer<StandardBlocks>,
-    pending: Pending,
-    sending: Sent<EmptyBlock<Sha256>>,
-    heard: &mut Heard,
-) -> (State<H>, Result<Outcome, AllocError>)
-    requires small { AreSmall buffer.blocks }
-    requires silent { made_in heard.old ≡ nothing_made }
-    ensures { (config : PlainConfig) → PlaysOrNot config (State.Running actor buffer pending)
-        (tell_line (prepared sending.round (peers_of sending.recipients) (plain_block sending.block)))
-        (made_in heard.new) result.0 result.1 }
-{
-    let block = match Digested::compute(alloc, sending.block) {
-        Ok(block) => block,
-        Err(error) => return (State::Running(actor, buffer, pending), Err(error)),
-    };
-    let message = Message::Prepared {
-        round: sending.round,
-        recipients: sending.recipients,
-        block,
-    };
-    let event = Event::Message(message);
-    let (state, outcome) = step(alloc, actor, buffer, pending, event, heard);
     (state, Ok(outcome))
 }
 
@@ -609,32 +407,8 @@ fn parts_of<H: ScriptHolds>(ended: Ended<StandardBlocks, H>) -> (Fault<Sha256Dig
     (fault, Left { ruins })
 }
 
-// Opens a life over what is left of stores.
-fn open<H: ScriptHolds>(
-    alloc: Global,
-    settings: Settings,
-    left: Left<H>,
-    luck: u64,
-    genesis: EmptyBlock<Sha256>,
-    heard: &mut Heard,
-) -> (State<H>, Result<Outcome, AllocError>)
-    requires settings { IsSettings settings }
-    requires small { IsSmall (plain_block genesis).encoded }
-    requires silent { made_in heard.old ≡ nothing_made }
-    ensures { PlaysOrNot (config_of settings) (State.Stopped left luck) (open_line (from_genesis (plain_block genesis)))
-        (made_in heard.new) result.0 result.1 }
-{
-    match Digested::compute(alloc, genesis) {
-        Ok(genesis) => {
-            let (state, outcome) = begin(alloc, settings, left, luck, genesis, heard);
-            (state, Ok(outcome))
-        }
-        Err(error) => (State::Stopped(left, luck), Err(error)),
-    }
-}
-
 // Opens a life over what is left of stores, from this block.
-fn begin<H: ScriptHolds>(
+fn open<H: ScriptHolds>(
     alloc: Global,
     settings: Settings,
     left: Left<H>,

@@ -8,7 +8,7 @@ pub mod SpanTexts
 pub mod QueryWords
 pub mod ReadBytes
 pub mod FirstWords
-pub mod LineKinds
+pub mod Rows
 pub mod PeerWords
 pub mod BlockWords
 pub mod LineEnds

@@ -9,19 +9,19 @@ use Rattle.std.proofs.lemmas.List.Elements.{All-append, All-cons, All-contains, 
 use Rattle.hex.specs.Hex.{IsBytes, encode_lower, encode_with, hex_digit_value, lower_digits}
 use Rattle.hex.proofs.HexLemmas.{IsDigits-lower_digits}
 use Rattle.mar_types.specs.Varint.{IsNumber}
-use Rattle.mar_model.specs.Messages.{Identifier, Peers, certify, get_anchor, get_block, get_finalization, get_info, get_processed, get_verified, latest, of_digest, of_height, prepared, proposed, report_certification, report_finalization, report_notarization, verified}
-use Rattle.mar_model.specs.Faults.{StoreName, block_store, cache_store, cert_store, from_genesis, meta_store}
-use Rattle.mar_types.specs.Round.{Round}
-use Rattle.mar_cert.specs.Block.{Block}
+use Rattle.mar_model.specs.Messages.{Identifier, latest, of_digest, of_height, some_peers}
+use Rattle.mar_model.specs.Faults.{StoreName, block_store, cache_store, cert_store, meta_store}
+use Rattle.mar_types.specs.DigestLemmas.{below_from_all}
 use Rattle.mar_cert.specs.Finalization.{finalization_bytes}
-use Rattle.mar_script.specs.Lines.{IsRoundBlock, IsSentBlock}
+use Rattle.mar_script.specs.Lines.{AreFields, fields_text, is_ink}
 use Rattle.mar_script.specs.Run.{IsConfigBytes, IsLineBytes}
-use Rattle.mar_script.specs.Script.{HasValues, IsBuilt, IsIdentifier, IsLine, IsSettings, Line, Settings, ack_line, buffer_line, crash_line, fail_line, hex, identifier_text, line_bytes, line_words, open_line, peers_text, sentence, settings_bytes, settings_words, store_name, sync_line, tell_line}
+use Rattle.mar_script.specs.Script.{Field, IsField, IsIdentifier, IsLine, IsSettings, Line, Settings, as_block, as_bytes, as_count, as_digest, as_finalization, as_identifier, as_key, as_letters, as_none, as_number, as_peers, as_recipients, as_store, comma_numbers, field_text, hex, identifier_text, line_bytes, line_fields, peers_text, sentence, settings_bytes, settings_words, store_name}
 use Rattle.mar_script.specs.Refused.{IsUnended}
 use Rattle.mar_script.specs.Words.{numbers_of}
-use Rattle.mar_script.proofs.FirstWords.{heads}
+use Rattle.mar_script.proofs.FirstWords.{heads, inked}
 use Rattle.mar_script.proofs.BlockWords.{peers_ink}
 use Rattle.mar_script.proofs.ReadBytes.{block_is_bytes, digest_is_bytes, finalization_is_bytes}
+use Rattle.mar_script.proofs.Rows.{line_ink}
 use Rattle.mar_script.proofs.Sentences.{IsInk, digits_are_ink, settings_numbers}
 
 -- no line's end
@@ -96,42 +96,37 @@ identifier_inner (of_height h) is = All-cons IsInner 104 (decimal h) (λ e. omeg
 identifier_inner (of_digest d) is = All-cons IsInner 100 (hex d) (λ e. omega (arith, e)) (hex_inner d (digest_is_bytes d is))
 identifier_inner latest is = by_test (codes "latest") refl
 
-round_block_inner : (word : List ℕ) (r : Round) (b : Block) → All IsInner word → IsRoundBlock (r, b) → AllByRecursion (All IsInner) (word ∷ decimal r.epoch ∷ decimal r.view ∷ hex b.encoded ∷ [])
-round_block_inner word r b inner is = (inner, (decimal_inner r.epoch is.0.0, (decimal_inner r.view is.0.1, (hex_inner b.encoded (block_is_bytes b is.1), tt))))
+ink_inner : (word : List ℕ) → All IsInk word → All IsInner word
+ink_inner word ink = All-weaker IsInk IsInner (λ b ink is. omega (arith, ink)) word ink
 
-sent_block_inner : (word : List ℕ) (r : Round) (peers : Peers) (b : Block) → All IsInner word → IsSentBlock (r, peers, b) → AllByRecursion (All IsInner) (word ∷ decimal r.epoch ∷ decimal r.view ∷ peers_text peers ∷ hex b.encoded ∷ [])
-sent_block_inner word r peers b inner is =
-    (inner, (decimal_inner r.epoch is.0.0, (decimal_inner r.view is.0.1, (All-weaker IsInk IsInner (λ c ink e. omega (arith, ink)) (peers_text peers) (peers_ink peers is.1), (hex_inner b.encoded (block_is_bytes b is.2), tt)))))
+field_inner : (n : ℕ) (field : Field) → n < 2 ^ 64 → IsField n field → is_ink field ≡ true → All IsInner (field_text field)
+field_inner n (as_letters word) wide is ink = ink_inner word (inked word ink)
+field_inner n (as_number k) wide is ink = decimal_inner k is
+field_inner n (as_count k) wide is ink = decimal_inner k is.1
+field_inner n (as_digest d) wide is ink = hex_inner d (digest_is_bytes d is)
+field_inner n (as_bytes bytes) wide is ink = hex_inner bytes (below_from_all bytes is)
+field_inner n (as_key key) wide is ink = absurd cc
+field_inner n (as_identifier id) wide is ink = identifier_inner id is
+field_inner n (as_block b) wide is ink = hex_inner b.encoded (block_is_bytes b is)
+field_inner n (as_finalization f) wide is ink = hex_inner (finalization_bytes f) (finalization_is_bytes n f wide is)
+field_inner n (as_recipients peers) wide is ink = ink_inner (peers_text peers) (peers_ink peers is)
+field_inner n (as_peers peers) wide is ink = ink_inner (comma_numbers peers) (peers_ink (some_peers peers) is.0)
+field_inner n (as_store store) wide is ink = store_inner store
+field_inner n as_none wide is ink = absurd is
 
-words_inner : (n : ℕ) (l : Line) → n < 2 ^ 64 → IsBuilt l → HasValues n l → AllByRecursion (All IsInner) (line_words l)
-words_inner n (open_line (from_genesis b)) wide built values = (by_test (codes "open") refl, (by_test (codes "genesis") refl, (hex_inner b.encoded (block_is_bytes b values), tt)))
-words_inner n (buffer_line b) wide built values = (by_test (codes "buffer") refl, (hex_inner b.encoded (block_is_bytes b values), tt))
-words_inner n (tell_line (report_finalization f)) wide built values = (by_test (codes "final") refl, (hex_inner (finalization_bytes f) (finalization_is_bytes n f wide values), tt))
-words_inner n (tell_line (report_notarization f)) wide built values = (by_test (codes "notar") refl, (hex_inner (finalization_bytes f) (finalization_is_bytes n f wide values), tt))
-words_inner n (tell_line (report_certification f)) wide built values = (by_test (codes "certn") refl, (hex_inner (finalization_bytes f) (finalization_is_bytes n f wide values), tt))
-words_inner n (tell_line (get_info i)) wide built values = (by_test (codes "info") refl, (identifier_inner i values, tt))
-words_inner n (tell_line (get_block i)) wide built values = (by_test (codes "block") refl, (identifier_inner i values, tt))
-words_inner n (tell_line (get_finalization h)) wide built values = (by_test (codes "finalization") refl, (decimal_inner h values, tt))
-words_inner n (tell_line get_processed) wide built values = (by_test (codes "processed") refl, tt)
-words_inner n (tell_line get_anchor) wide built values = (by_test (codes "anchor") refl, tt)
-words_inner n (tell_line (get_verified r)) wide built values = (by_test (codes "getverified") refl, (decimal_inner r.epoch values.0, (decimal_inner r.view values.1, tt)))
-words_inner n (tell_line (verified r b)) wide built values = round_block_inner (codes "verified") r b (by_test (codes "verified") refl) values
-words_inner n (tell_line (certify r b)) wide built values = round_block_inner (codes "certified") r b (by_test (codes "certified") refl) values
-words_inner n (tell_line (proposed r peers b)) wide built values = sent_block_inner (codes "proposed") r peers b (by_test (codes "proposed") refl) values
-words_inner n (tell_line (prepared r peers b)) wide built values = sent_block_inner (codes "prepared") r peers b (by_test (codes "prepared") refl) values
-words_inner n (sync_line t) wide built values = (by_test (codes "sync") refl, (decimal_inner t values, tt))
-words_inner n (ack_line t) wide built values = (by_test (codes "ack") refl, (decimal_inner t values, tt))
-words_inner n (fail_line store k) wide built values = (by_test (codes "fail") refl, (store_inner store, (decimal_inner k values.1, tt)))
-words_inner n (crash_line luck) wide built values = (by_test (codes "crash") refl, (decimal_inner luck values, tt))
-words_inner n l wide built values = absurd built
+fields_inner : (n : ℕ) (fields : List Field) → n < 2 ^ 64 → AreFields n fields → list_all is_ink fields ≡ true → AllByRecursion (All IsInner) (map field_text fields)
+fields_inner n [] wide are ink = tt
+fields_inner n (field ∷ fields) wide are ink =
+    let parts = and_parts (is_ink field) (list_all is_ink fields) ink in
+    (field_inner n field wide are.0 parts.0, fields_inner n fields wide are.1 parts.1)
 
 pub line_ends : (n : ℕ) (l : Line) → n < 2 ^ 64 → IsLine n l → EndsOnce (line_bytes l)
 unfolding line_bytes
 line_ends n l wide is = record {
-  front = sentence (line_words l);
+  front = fields_text (line_fields l);
   spelled = refl;
-  inner = unended (sentence (line_words l)) (sentence_inner (line_words l) (words_inner n l wide is.built is.values));
-  short = omega (arith, is.short, length-append (sentence (line_words l)) (10 ∷ []));
+  inner = unended (fields_text (line_fields l)) (sentence_inner (map field_text (line_fields l)) (fields_inner n (line_fields l) wide is.values (line_ink l is.built)));
+  short = omega (arith, is.short, length-append (fields_text (line_fields l)) (10 ∷ []));
 }
 
 pub settings_end : (s : Settings) → IsSettings s → EndsOnce (settings_bytes s)

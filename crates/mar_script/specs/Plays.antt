@@ -1,11 +1,11 @@
 -- What is asked of one line of a script and of the state before it, and what a line that was done makes of that state.
 use Rattle.std.specs.List.{AllByRecursion, filter_map}
-use Rattle.std.specs.Prelude.{Contains, IfSome, List, [], length, ℕ, ⊤, ◌*◌, ◌++◌, ◌+◌, ◌<◌, ◌≡◌, ◌≤◌}
+use Rattle.std.specs.Prelude.{Contains, IfSome, List, [], length, ℕ, ⊤, ◌*◌, ◌++◌, ◌+◌, ◌<◌, ◌^◌, ◌≡◌, ◌≤◌}
 use Rattle.mar_types.specs.Epochs.{IsPartition}
 use Rattle.mar_cert.specs.Block.{Block}
 use Rattle.mar_cert.specs.Finalization.{Finalization, finalization_bytes}
 use Rattle.mar_store.specs.Sizes.{IsSmall}
-use Rattle.mar_model.specs.Messages.{certify, proposed, report_finalization, report_notarization, verified}
+use Rattle.mar_model.specs.Messages.{report_finalization}
 use Rattle.mar_model.specs.Acks.{mark_dropped}
 use Rattle.mar_model.specs.Cached.{Cached, cached_block}
 use Rattle.mar_model.specs.Chain.{Chain, IsBlockAt, IsLawful}
@@ -16,14 +16,17 @@ use Rattle.mar_model.specs.Lives.{IsGoodEnded}
 use Rattle.mar_model.specs.Node.{IsFinalized, IsGood, Node, Rest}
 use Rattle.mar_model.specs.Promise.{AreOne}
 use Rattle.mar_script.specs.Accounts.{Account}
-use Rattle.mar_script.specs.Refused.{max_lines}
 use Rattle.mar_script.specs.Run.{LineDone, line_blocks}
-use Rattle.mar_script.specs.Script.{Line, buffer_line, open_line, tell_line}
+use Rattle.mar_script.specs.Script.{Field, Line, as_block, as_finalization, line_fields, open_line, tell_line}
 use Rattle.mar_script.specs.Text.{Output, State, running, stopped}
 
 -- the greatest window of a script's settings
 abbrev pub max_window : ℕ
 max_window = 1024
+
+-- the most lines behind which tickets are sure to be left; a script has fewer
+abbrev pub most_turns : ℕ
+most_turns = 2 ^ 40
 
 -- No block was dropped, and the tickets are as few as so many lines can have given: a line hands over at most a window of
 -- blocks, and gives at most two tickets of syncs and one of an answer.
@@ -56,13 +59,13 @@ abbrev pub known_in : Chain → State → List Block
 known_in chain s = chain.blocks ++ (buffer_in s ++ cached_blocks_in s)
 
 -- What is asked of the chain, of the state behind k lines and of the next one: a digest names one block of those that the line
--- brings or may meet, a genesis is the chain's block 0, a reported finalization is the chain's; lines and window are no more than
--- a script may have.
+-- brings or may meet, a genesis is the chain's block 0, a reported finalization is the chain's; the window is no more than a
+-- script may have, and lines are as few as tickets last for.
 pub record IsLawfulLine (config : Config) (chain : Chain) (k : ℕ) (before : State) (line : Line) : Type 0 where
   pub partition : IsPartition config.epochs
   pub lawful : IsLawful config.epochs chain
   pub between : IsBetween config chain k before
-  pub few : k ≤ max_lines
+  pub few : k ≤ most_turns
   pub narrow : config.window ≤ max_window
   pub one : AreOne config.inner (line_blocks line ++ known_in chain before)
   pub genesis : (b : Block) → line ≡ open_line (from_genesis b) → IsBlockAt chain 0 b
@@ -78,13 +81,12 @@ pub record Plays (config : Config) (chain : Chain) (k : ℕ) (account : Account)
 
 -- SIZES
 
--- what a line brings is small enough for a store
+-- what a word brings is small enough for a store
+abbrev pub IsSmallField : Field → Type 0
+IsSmallField (as_block b) = IsSmall b.encoded
+IsSmallField (as_finalization f) = IsSmall (finalization_bytes f)
+IsSmallField field = ⊤
+
+-- and what a line brings
 abbrev pub IsSmallLine : Line → Type 0
-IsSmallLine (open_line (from_genesis b)) = IsSmall b.encoded
-IsSmallLine (buffer_line b) = IsSmall b.encoded
-IsSmallLine (tell_line (report_finalization f)) = IsSmall (finalization_bytes f)
-IsSmallLine (tell_line (report_notarization f)) = IsSmall (finalization_bytes f)
-IsSmallLine (tell_line (verified r b)) = IsSmall b.encoded
-IsSmallLine (tell_line (certify r b)) = IsSmall b.encoded
-IsSmallLine (tell_line (proposed r peers b)) = IsSmall b.encoded
-IsSmallLine line = ⊤
+IsSmallLine line = AllByRecursion IsSmallField (line_fields line)

@@ -111,7 +111,7 @@ is_subscribed n b = is_awaited n.awaited b || list_any (λ s. s.through_buffer &
 abbrev pub StepDone : Config → Chain → Node → List Event → List Judged → (Node → List TicketAnswer) → Output → State → Type 0
 StepDone config chain n events outcomes at_end out (running n') =
     (made : Made) × Steps config chain n events made (record n' { unanswered = n.unanswered }) × (n'.asked ≡ asked_after n.asked outcomes made.asks)
-    × (out ≡ record { made = record made { answers = made.answers ++ at_end n' }; outcomes = outcomes; remark = None; fault = None })
+    × (out ≡ record silent_output { made = record made { answers = made.answers ++ at_end n' }; outcomes = outcomes })
     × (n'.unanswered ≡ still_unanswered out.made.answers outcomes n.unanswered)
 StepDone config chain n events outcomes at_end out (stopped left) =
     (fault : Fault) × (out.remark ≡ None) × (out.fault ≡ Some fault) × Cuts config chain n events out.made fault left × IsFront out.outcomes outcomes
@@ -129,7 +129,7 @@ OneDone config chain n events out after = EventsDone config chain n events [] (�
 abbrev pub OpenDone : Config → Chain → Ended → Picks → Begin → Output → State → Type 0
 OpenDone config chain e picks begin out (running n) =
     (made : Made) × Opens config chain e picks begin made n × (n.asked ≡ asked_after [] [] made.asks)
-    × (out ≡ record { made = made; outcomes = []; remark = None; fault = None })
+    × (out ≡ record silent_output { made = made })
 OpenDone config chain e picks begin out (stopped left) =
     (fault : Fault) × (out.remark ≡ None) × (out.fault ≡ Some fault) × CutsOpening config chain e picks begin out.made fault left × (out.outcomes ≡ [])
 

@@ -2,9 +2,9 @@
 use Rattle.std.specs.List.{AllByRecursion, flat_map, join_with_byte}
 use Rattle.std.specs.Prelude.{AllPairs, List, [], codes, decimal, length, map, nat_le, ℕ, ⊤, ◌&&◌, ◌++◌, ◌-◌, ◌<◌, ◌^◌, ◌∷◌, ◌≢◌, ◌≤◌}
 use Rattle.hex.specs.Hex.{encode_lower}
-use Rattle.mar_types.specs.Round.{IsRound}
+use Rattle.mar_types.specs.Round.{Round}
 use Rattle.mar_cert.specs.Block.{Block, IsBlock}
-use Rattle.mar_cert.specs.Finalization.{finalization_bytes, finalize, notarize}
+use Rattle.mar_cert.specs.Finalization.{Finalization, finalization_bytes, finalize, notarize}
 use Rattle.mar_types.specs.Epochs.{fixed_epochs}
 use Rattle.mar_key.specs.Keys.{IsKey, Key, key_bytes}
 use Rattle.mar_model.specs.Messages.{Fallback, Identifier, Message, Peers, all_peers, certify, close_ticket, fetch_by_commitment, fetch_by_round, forward, get_anchor, get_block, get_finalization, get_info, get_processed, get_verified, hint_finalized, hint_notarized, latest, of_digest, of_height, prepared, proposed, prune_below, report_certification, report_finalization, report_notarization, set_floor, some_peers, subscribe_commitment, subscribe_digest, verified, wait}
@@ -66,58 +66,98 @@ identifier_text (of_height h) = codes "h" ++ decimal h
 identifier_text (of_digest d) = codes "d" ++ hex d
 identifier_text latest = codes "latest"
 
-abbrev pub fallback_words : Fallback → List (List ℕ)
-fallback_words wait = codes "wait" ∷ []
-fallback_words (fetch_by_round r) = codes "round" ∷ decimal r.epoch ∷ decimal r.view ∷ []
-fallback_words (fetch_by_commitment h) = codes "height" ∷ decimal h ∷ []
-
--- a message as words
-abbrev pub message_words : Message → List (List ℕ)
-message_words (report_finalization f) = codes "final" ∷ hex (finalization_bytes f) ∷ []
-message_words (report_notarization f) = codes "notar" ∷ hex (finalization_bytes f) ∷ []
-message_words (report_certification f) = codes "certn" ∷ hex (finalization_bytes f) ∷ []
-message_words (verified r b) = codes "verified" ∷ decimal r.epoch ∷ decimal r.view ∷ hex b.encoded ∷ []
-message_words (proposed r peers b) = codes "proposed" ∷ decimal r.epoch ∷ decimal r.view ∷ peers_text peers ∷ hex b.encoded ∷ []
-message_words (prepared r peers b) = codes "prepared" ∷ decimal r.epoch ∷ decimal r.view ∷ peers_text peers ∷ hex b.encoded ∷ []
-message_words (certify r b) = codes "certified" ∷ decimal r.epoch ∷ decimal r.view ∷ hex b.encoded ∷ []
-message_words (set_floor f) = codes "floor" ∷ hex (finalization_bytes f) ∷ []
-message_words (prune_below h) = codes "prune" ∷ decimal h ∷ []
-message_words (hint_finalized h peers) = codes "hint" ∷ decimal h ∷ comma_numbers peers ∷ []
-message_words (hint_notarized r d) = codes "hintn" ∷ decimal r.epoch ∷ decimal r.view ∷ hex d ∷ []
-message_words (get_info id) = codes "info" ∷ identifier_text id ∷ []
-message_words (get_block id) = codes "block" ∷ identifier_text id ∷ []
-message_words (get_finalization h) = codes "finalization" ∷ decimal h ∷ []
-message_words get_processed = codes "processed" ∷ []
-message_words get_anchor = codes "anchor" ∷ []
-message_words (get_verified r) = codes "getverified" ∷ decimal r.epoch ∷ decimal r.view ∷ []
-message_words (subscribe_digest d fallback) = codes "subd" ∷ hex d ∷ fallback_words fallback
-message_words (subscribe_commitment c fallback) = codes "subc" ∷ hex c ∷ fallback_words fallback
-message_words (forward r d peers) = codes "forward" ∷ decimal r.epoch ∷ decimal r.view ∷ hex d ∷ peers_text peers ∷ []
-message_words (close_ticket t) = codes "close" ∷ decimal t ∷ []
-
 abbrev pub store_name : StoreName → List ℕ
 store_name block_store = codes "blocks"
 store_name cert_store = codes "certs"
 store_name meta_store = codes "meta"
 store_name cache_store = codes "cache"
 
--- a line as words
-abbrev pub line_words : Line → List (List ℕ)
-line_words (open_line (from_genesis b)) = codes "open" ∷ codes "genesis" ∷ hex b.encoded ∷ []
-line_words (open_line (from_floor f)) = codes "open" ∷ codes "floor" ∷ hex (finalization_bytes f) ∷ []
-line_words (tell_line m) = message_words m
-line_words (peer_line key value) = codes "peer" ∷ hex (key_bytes key) ∷ hex value ∷ []
-line_words (ask_line key) = codes "ask" ∷ hex (key_bytes key) ∷ []
-line_words serve_line = codes "serve" ∷ []
-line_words (buffer_line b) = codes "buffer" ∷ hex b.encoded ∷ []
-line_words bufclose_line = codes "bufclose" ∷ []
-line_words (put_line m) = codes "put" ∷ message_words m
-line_words take_line = codes "take" ∷ []
-line_words (sync_line t) = codes "sync" ∷ decimal t ∷ []
-line_words (ack_line t) = codes "ack" ∷ decimal t ∷ []
-line_words (drop_line t) = codes "drop" ∷ decimal t ∷ []
-line_words (fail_line store n) = codes "fail" ∷ store_name store ∷ decimal n ∷ []
-line_words (crash_line luck) = codes "crash" ∷ decimal luck ∷ []
+-- One word of a line, by its value.
+pub data Field : Type 0 where
+  as_letters : List ℕ → Field  -- just these
+  as_number : ℕ → Field
+  as_count : ℕ → Field  -- from 1 on
+  as_digest : List ℕ → Field
+  as_bytes : List ℕ → Field
+  as_key : Key → Field
+  as_identifier : Identifier → Field
+  as_block : Block → Field
+  as_finalization : Finalization → Field
+  as_recipients : Peers → Field
+  as_peers : List ℕ → Field  -- one at least
+  as_store : StoreName → Field
+  as_none : Field  -- no word may stand here
+
+abbrev pub field_text : Field → List ℕ
+field_text (as_letters word) = word
+field_text (as_number n) = decimal n
+field_text (as_count n) = decimal n
+field_text (as_digest d) = hex d
+field_text (as_bytes bytes) = hex bytes
+field_text (as_key key) = hex (key_bytes key)
+field_text (as_identifier id) = identifier_text id
+field_text (as_block b) = hex b.encoded
+field_text (as_finalization f) = hex (finalization_bytes f)
+field_text (as_recipients peers) = peers_text peers
+field_text (as_peers peers) = comma_numbers peers
+field_text (as_store store) = store_name store
+field_text as_none = []
+
+-- a round, and what stands behind it
+abbrev pub in_round : Round → List Field → List Field
+in_round r more = as_number r.epoch ∷ as_number r.view ∷ more
+
+abbrev pub fallback_fields : Fallback → List Field
+fallback_fields wait = as_letters (codes "wait") ∷ []
+fallback_fields (fetch_by_round r) = as_letters (codes "round") ∷ in_round r []
+fallback_fields (fetch_by_commitment h) = as_letters (codes "height") ∷ as_number h ∷ []
+
+-- `height H` is for `subc` alone
+abbrev pub digest_fallback_fields : Fallback → List Field
+digest_fallback_fields (fetch_by_commitment h) = as_none ∷ []
+digest_fallback_fields fallback = fallback_fields fallback
+
+-- a message, word by word
+abbrev pub message_fields : Message → List Field
+message_fields (report_finalization f) = as_letters (codes "final") ∷ as_finalization f ∷ []
+message_fields (report_notarization f) = as_letters (codes "notar") ∷ as_finalization f ∷ []
+message_fields (report_certification f) = as_letters (codes "certn") ∷ as_finalization f ∷ []
+message_fields (verified r b) = as_letters (codes "verified") ∷ in_round r (as_block b ∷ [])
+message_fields (proposed r peers b) = as_letters (codes "proposed") ∷ in_round r (as_recipients peers ∷ as_block b ∷ [])
+message_fields (prepared r peers b) = as_letters (codes "prepared") ∷ in_round r (as_recipients peers ∷ as_block b ∷ [])
+message_fields (certify r b) = as_letters (codes "certified") ∷ in_round r (as_block b ∷ [])
+message_fields (set_floor f) = as_letters (codes "floor") ∷ as_finalization f ∷ []
+message_fields (prune_below h) = as_letters (codes "prune") ∷ as_number h ∷ []
+message_fields (hint_finalized h peers) = as_letters (codes "hint") ∷ as_number h ∷ as_peers peers ∷ []
+message_fields (hint_notarized r d) = as_letters (codes "hintn") ∷ in_round r (as_digest d ∷ [])
+message_fields (get_info id) = as_letters (codes "info") ∷ as_identifier id ∷ []
+message_fields (get_block id) = as_letters (codes "block") ∷ as_identifier id ∷ []
+message_fields (get_finalization h) = as_letters (codes "finalization") ∷ as_number h ∷ []
+message_fields get_processed = as_letters (codes "processed") ∷ []
+message_fields get_anchor = as_letters (codes "anchor") ∷ []
+message_fields (get_verified r) = as_letters (codes "getverified") ∷ in_round r []
+message_fields (subscribe_digest d fallback) = as_letters (codes "subd") ∷ as_digest d ∷ digest_fallback_fields fallback
+message_fields (subscribe_commitment c fallback) = as_letters (codes "subc") ∷ as_digest c ∷ fallback_fields fallback
+message_fields (forward r d peers) = as_letters (codes "forward") ∷ in_round r (as_digest d ∷ as_recipients peers ∷ [])
+message_fields (close_ticket t) = as_letters (codes "close") ∷ as_number t ∷ []
+
+-- a line, word by word
+abbrev pub line_fields : Line → List Field
+line_fields (open_line (from_genesis b)) = as_letters (codes "open") ∷ as_letters (codes "genesis") ∷ as_block b ∷ []
+line_fields (open_line (from_floor f)) = as_letters (codes "open") ∷ as_letters (codes "floor") ∷ as_finalization f ∷ []
+line_fields (tell_line m) = message_fields m
+line_fields (peer_line key value) = as_letters (codes "peer") ∷ as_key key ∷ as_bytes value ∷ []
+line_fields (ask_line key) = as_letters (codes "ask") ∷ as_key key ∷ []
+line_fields serve_line = as_letters (codes "serve") ∷ []
+line_fields (buffer_line b) = as_letters (codes "buffer") ∷ as_block b ∷ []
+line_fields bufclose_line = as_letters (codes "bufclose") ∷ []
+line_fields (put_line m) = as_letters (codes "put") ∷ message_fields m
+line_fields take_line = as_letters (codes "take") ∷ []
+line_fields (sync_line t) = as_letters (codes "sync") ∷ as_number t ∷ []
+line_fields (ack_line t) = as_letters (codes "ack") ∷ as_number t ∷ []
+line_fields (drop_line t) = as_letters (codes "drop") ∷ as_number t ∷ []
+line_fields (fail_line store n) = as_letters (codes "fail") ∷ as_store store ∷ as_count n ∷ []
+line_fields (crash_line luck) = as_letters (codes "crash") ∷ as_number luck ∷ []
 
 abbrev pub settings_words : Settings → List (List ℕ)
 settings_words s =
@@ -126,7 +166,7 @@ settings_words s =
 
 -- each line ended by LF
 unfoldable pub line_bytes : Line → List ℕ
-line_bytes line = sentence (line_words line) ++ 10 ∷ []
+line_bytes line = sentence (map field_text (line_fields line)) ++ 10 ∷ []
 
 unfoldable pub settings_bytes : Settings → List ℕ
 settings_bytes s = sentence (settings_words s) ++ 10 ∷ []
@@ -164,78 +204,33 @@ IsIdentifier (of_height h) = IsNumber h
 IsIdentifier (of_digest d) = IsDigest d
 IsIdentifier latest = ⊤
 
--- `height H` is for `subc` alone
-abbrev pub IsDigestFallback : Fallback → Type 0
-IsDigestFallback wait = ⊤
-IsDigestFallback (fetch_by_round r) = IsRound r
-IsDigestFallback (fetch_by_commitment h) = ⊥
+-- the value is within its type, with n members
+abbrev pub IsField : ℕ → Field → Type 0
+IsField n (as_letters word) = ⊤
+IsField n (as_number k) = IsNumber k
+IsField n (as_count k) = (1 ≤ k) × IsNumber k
+IsField n (as_digest d) = IsDigest d
+IsField n (as_bytes bytes) = AllByRecursion IsByte bytes
+IsField n (as_key key) = IsKey key
+IsField n (as_identifier id) = IsIdentifier id
+IsField n (as_block b) = IsBlock b
+IsField n (as_finalization f) = IsFinalization n f
+IsField n (as_recipients peers) = IsPeers peers
+IsField n (as_peers peers) = ArePeers peers × (1 ≤ length peers)
+IsField n (as_store store) = ⊤
+IsField n as_none = ⊥
 
-abbrev pub IsFallback : Fallback → Type 0
-IsFallback wait = ⊤
-IsFallback (fetch_by_round r) = IsRound r
-IsFallback (fetch_by_commitment h) = IsNumber h
-
--- the values of a message are within their types, with n members
-abbrev pub IsMessage : ℕ → Message → Type 0
-IsMessage n (report_finalization f) = IsFinalization n f
-IsMessage n (report_notarization f) = IsFinalization n f
-IsMessage n (report_certification f) = IsFinalization n f
-IsMessage n (verified r b) = IsRound r × IsBlock b
-IsMessage n (proposed r peers b) = IsRound r × IsPeers peers × IsBlock b
-IsMessage n (prepared r peers b) = IsRound r × IsPeers peers × IsBlock b
-IsMessage n (certify r b) = IsRound r × IsBlock b
-IsMessage n (set_floor f) = IsFinalization n f
-IsMessage n (prune_below h) = IsNumber h
-IsMessage n (hint_finalized h peers) = IsNumber h × ArePeers peers × (1 ≤ length peers)
-IsMessage n (hint_notarized r d) = IsRound r × IsDigest d
-IsMessage n (get_info id) = IsIdentifier id
-IsMessage n (get_block id) = IsIdentifier id
-IsMessage n (get_finalization h) = IsNumber h
-IsMessage n get_processed = ⊤
-IsMessage n get_anchor = ⊤
-IsMessage n (get_verified r) = IsRound r
-IsMessage n (subscribe_digest d fallback) = IsDigest d × IsDigestFallback fallback
-IsMessage n (subscribe_commitment c fallback) = IsDigest c × IsFallback fallback
-IsMessage n (forward r d peers) = IsRound r × IsDigest d × IsPeers peers
-IsMessage n (close_ticket t) = IsNumber t
-
-abbrev pub IsBegin : ℕ → Begin → Type 0
-IsBegin n (from_genesis b) = IsBlock b
-IsBegin n (from_floor f) = IsFinalization n f
-
--- the line's values, with n members
-abbrev pub HasValues : ℕ → Line → Type 0
-HasValues n (open_line begin) = IsBegin n begin
-HasValues n (tell_line m) = IsMessage n m
-HasValues n (peer_line key value) = IsKey key × AllByRecursion IsByte value
-HasValues n (ask_line key) = IsKey key
-HasValues n serve_line = ⊤
-HasValues n (buffer_line b) = IsBlock b
-HasValues n bufclose_line = ⊤
-HasValues n (put_line m) = IsMessage n m
-HasValues n take_line = ⊤
-HasValues n (sync_line t) = IsNumber t
-HasValues n (ack_line t) = IsNumber t
-HasValues n (drop_line t) = IsNumber t
-HasValues n (fail_line store k) = (1 ≤ k) × IsNumber k
-HasValues n (crash_line luck) = IsNumber luck
-
--- The lines that are read today. The others stand in the grammar, and are answered as outside it.
+-- The messages that are not read yet stand in the grammar, and are answered as outside it.
 abbrev pub IsBuiltMessage : Message → Type 0
-IsBuiltMessage (report_finalization f) = ⊤
-IsBuiltMessage (report_notarization f) = ⊤
-IsBuiltMessage (report_certification f) = ⊤
-IsBuiltMessage (get_info id) = ⊤
-IsBuiltMessage (get_block id) = ⊤
-IsBuiltMessage (get_finalization h) = ⊤
-IsBuiltMessage get_processed = ⊤
-IsBuiltMessage get_anchor = ⊤
-IsBuiltMessage (get_verified r) = ⊤
-IsBuiltMessage (verified r b) = ⊤
-IsBuiltMessage (certify r b) = ⊤
-IsBuiltMessage (proposed r peers b) = ⊤
-IsBuiltMessage (prepared r peers b) = ⊤
-IsBuiltMessage _ = ⊥
+IsBuiltMessage (set_floor f) = ⊥
+IsBuiltMessage (prune_below h) = ⊥
+IsBuiltMessage (hint_finalized h peers) = ⊥
+IsBuiltMessage (hint_notarized r d) = ⊥
+IsBuiltMessage (subscribe_digest d fallback) = ⊥
+IsBuiltMessage (subscribe_commitment c fallback) = ⊥
+IsBuiltMessage (forward r d peers) = ⊥
+IsBuiltMessage (close_ticket t) = ⊥
+IsBuiltMessage _ = ⊤
 
 -- a line that is read
 abbrev pub IsBuilt : Line → Type 0
@@ -251,7 +246,7 @@ IsBuilt _ = ⊥
 -- at most 65,536 bytes without the LF
 pub record IsLine (n : ℕ) (line : Line) : Type 0 where
   pub built : IsBuilt line
-  pub values : HasValues n line
+  pub values : AllByRecursion (IsField n) (line_fields line)
   pub short : length (line_bytes line) ≤ 65_537
 
 -- the settings as the node has them: epochs of one length, a commitment is the digest, the mock scheme in

@@ -11,18 +11,34 @@ use crate::peers::recipients;
 use crate::query_line::round_of;
 use crate::words::{ParseError, bytes_of, refusal, split_word};
 use mar_block::{EmptyBlock, Sent};
-use mar_types::{Decode, Round, Sha256};
+use mar_types::{Decode, Digested, Round, Sha256};
 use std::alloc::Global;
 
 /// A block, and the round in which something was done with it.
 #[derive(Drop)]
 pub struct RoundBlock {
     pub round: Round,
-    pub block: EmptyBlock<Sha256>,
+    pub block: Digested<EmptyBlock<Sha256>>,
 }
 
-/// The block that a word spells, whole.
-pub fn block_of(alloc: Global, word: &[u8]) -> Result<EmptyBlock<Sha256>, ParseError>
+/// The block that a word spells, whole, beside its digest.
+pub fn block_of(alloc: Global, word: &[u8]) -> Result<Digested<EmptyBlock<Sha256>>, ParseError>
+    ensures is_block { IfOk result (λ b. IsBlock (plain_block b)) }
+    ensures found { IfOk result (λ b. word.now ≡ hex (plain_block b).encoded) }
+    ensures only { (b : PlainBlock) → IsBlock b → word.now ≡ hex b.encoded → Yields (λ found. plain_block found ≡ b) result }
+{
+    let block = match decoded_block(alloc, word) {
+        Ok(block) => block,
+        Err(error) => return Err(error),
+    };
+    match Digested::compute(alloc, block) {
+        Ok(block) => Ok(block),
+        Err(_error) => Err(ParseError::Memory),
+    }
+}
+
+// The same without its digest.
+fn decoded_block(alloc: Global, word: &[u8]) -> Result<EmptyBlock<Sha256>, ParseError>
     ensures is_block { IfOk result (λ b. IsBlock (plain_block b)) }
     ensures found { IfOk result (λ b. word.now ≡ hex (plain_block b).encoded) }
     ensures only { (b : PlainBlock) → IsBlock b → word.now ≡ hex b.encoded → Yields (λ found. plain_block found ≡ b) result }
@@ -76,7 +92,10 @@ pub fn round_and_block(alloc: Global, words: &[u8]) -> Result<RoundBlock, ParseE
 }
 
 /// The round, the peers and the block that these words spell.
-pub fn sent_block(alloc: Global, words: &[u8]) -> Result<Sent<EmptyBlock<Sha256>>, ParseError>
+pub fn sent_block(
+    alloc: Global,
+    words: &[u8],
+) -> Result<Sent<Digested<EmptyBlock<Sha256>>>, ParseError>
     ensures is { IfOk result (λ found. IsSentBlock (sent_block_of found)) }
     ensures found { IfOk result (λ found. words.now ≡ sent_block_text (sent_block_of found)) }
     ensures only { (v : PlainRound × Peers × PlainBlock) → IsSentBlock v → words.now ≡ sent_block_text v → Yields (λ found. sent_block_of found ≡ v) result }

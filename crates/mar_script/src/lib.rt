@@ -4,8 +4,10 @@
 mod answers;
 mod asks;
 mod block_line;
+mod certificate_line;
 mod line;
 mod lists;
+mod message_line;
 mod peers;
 mod pieces;
 mod query_line;
@@ -25,9 +27,9 @@ mod writing;
 
 pub use answers::push_answers;
 pub use asks::push_asks;
-pub use block_line::RoundBlock;
 pub use line::{Line, parse_line};
 pub use lists::push_ack_list;
+pub use message_line::{ScriptMessage, set_ticket};
 pub use pieces::{push_cutoff, push_hex, push_processed};
 pub use range_text::RangeText;
 pub use reader::{LineError, ScriptReader};

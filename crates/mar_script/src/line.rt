@@ -1,45 +1,28 @@
 //! The lines of a script behind the first.
 ghost use Rattle.std.specs.Prelude.{◌≡◌, ℕ, IfOk};
-ghost use Rattle.mar_cert.specs.Finalization.{Finalization as PlainFinalization, finalization_bytes};
-ghost use Rattle.mar_cert.specs.MockScheme.{IsFinalization};
-ghost use Rattle.mar_script.specs.Lines.{Behind, IsLone, Parses, Spells, kinds, named, plain_finalization, plain_line, stores};
-ghost use Rattle.mar_script.specs.Script.{IsSettings, Line as PlainLine, hex};
+ghost use Rattle.mar_script.specs.Lines.{IsLone, MadeOf, Parses, Spells, plain_line, row};
+ghost use Rattle.mar_script.specs.Script.{IsSettings, Line as PlainLine};
 ghost use Rattle.mar_script.specs.Words.{Yields};
 
-use crate::block_line::{RoundBlock, block_of, round_and_block, sent_block};
-use crate::query_line::{height, identifier, round};
+use crate::block_line::block_of;
+use crate::message_line::{MessageKind, ScriptMessage, parse_message};
 use crate::settings::Settings;
-use crate::words::{ParseError, bytes_of, look_up, number, refusal, split_word};
-use mar_block::{EmptyBlock, Sent};
-use mar_cert::MockFinalization;
-use mar_inbox::Query;
+use crate::words::{ParseError, look_up_first, number};
+use mar_block::EmptyBlock;
+use mar_inbox::Message;
 use mar_model::StoreName;
-use mar_types::{Decode, Sha256, Sha256Digest};
+use mar_types::{Digested, Sha256};
 use std::alloc::Global;
 
 /// A line of a script behind the first.
 #[derive(Drop)]
 pub enum Line {
     /// Opens a life from this block at height zero.
-    OpenGenesis(EmptyBlock<Sha256>),
+    OpenGenesis(Digested<EmptyBlock<Sha256>>),
     /// Puts a block into the buffer.
-    Buffer(EmptyBlock<Sha256>),
-    /// Reports a finalization.
-    Final(MockFinalization),
-    /// Reports a notarization.
-    Notar(MockFinalization),
-    /// Reports a certification.
-    Certn(MockFinalization),
-    /// Asks what stands, under the next answer ticket.
-    Query(Query<Sha256Digest>),
-    /// A block was verified, under the next answer ticket.
-    Verified(RoundBlock),
-    /// A block was certified, under the next answer ticket.
-    Certified(RoundBlock),
-    /// A block was proposed, under the next answer ticket: it is to be sent so.
-    Proposed(Sent<EmptyBlock<Sha256>>),
-    /// A block was built ahead of its proposal: it is to be sent so.
-    Prepared(Sent<EmptyBlock<Sha256>>),
+    Buffer(Digested<EmptyBlock<Sha256>>),
+    /// Tells the node a message, under the next answer ticket where it takes one.
+    Tell(ScriptMessage),
     /// The sync of this ticket finishes.
     Sync(u64),
     /// The block of this ticket is acknowledged.
@@ -55,17 +38,7 @@ pub enum Line {
 enum Kind {
     Open,
     Buffer,
-    Final,
-    Notar,
-    Certn,
-    Info,
-    Block,
-    Finalization,
-    GetVerified,
-    Verified,
-    Certified,
-    Proposed,
-    Prepared,
+    Tell(MessageKind),
     Sync,
     Ack,
     Fail,
@@ -76,22 +49,25 @@ enum Kind {
 const KINDS: [(&[u8], Kind); 17] = [
     (b"open", Kind::Open),
     (b"buffer", Kind::Buffer),
-    (b"final", Kind::Final),
-    (b"notar", Kind::Notar),
-    (b"certn", Kind::Certn),
-    (b"info", Kind::Info),
-    (b"block", Kind::Block),
-    (b"finalization", Kind::Finalization),
-    (b"getverified", Kind::GetVerified),
-    (b"verified", Kind::Verified),
-    (b"certified", Kind::Certified),
-    (b"proposed", Kind::Proposed),
-    (b"prepared", Kind::Prepared),
+    (b"final", Kind::Tell(MessageKind::Final)),
+    (b"notar", Kind::Tell(MessageKind::Notar)),
+    (b"certn", Kind::Tell(MessageKind::Certn)),
+    (b"info", Kind::Tell(MessageKind::Info)),
+    (b"block", Kind::Tell(MessageKind::Block)),
+    (b"finalization", Kind::Tell(MessageKind::Finalization)),
+    (b"getverified", Kind::Tell(MessageKind::GetVerified)),
+    (b"verified", Kind::Tell(MessageKind::Verified)),
+    (b"certified", Kind::Tell(MessageKind::Certified)),
+    (b"proposed", Kind::Tell(MessageKind::Proposed)),
+    (b"prepared", Kind::Tell(MessageKind::Prepared)),
     (b"sync", Kind::Sync),
     (b"ack", Kind::Ack),
     (b"fail", Kind::Fail),
     (b"crash", Kind::Crash),
 ];
+
+// What a life is opened from, by its word.
+const BEGINS: [(&[u8], ()); 1] = [(b"genesis", ())];
 
 // The stores, by their names.
 const STORES: [(&[u8], StoreName); 4] = [
@@ -107,60 +83,35 @@ pub fn parse_line(alloc: Global, settings: Settings, line: &[u8]) -> Result<Line
     ensures found { IfOk result (λ l. Spells settings.members line.now (plain_line l)) }
     ensures only { (l : PlainLine) → Spells settings.members line.now l → Yields (λ found. plain_line found ≡ l) result }
 {
-    let Some((word, rest)) = split_word(line) else {
-        return lone_line(line);
-    };
-    let Some(kind) = kind_named(word) else {
-        return Err(ParseError::Grammar);
-    };
-    parse_kind(alloc, settings.members as u32, kind, rest)
+    match look_up_first(&KINDS, line) {
+        Some((kind, rest)) => parse_kind(alloc, settings.members as u32, kind, rest),
+        None => lone_line(line),
+    }
 }
 
 // The line of this one word.
 fn lone_line(word: &[u8]) -> Result<Line, ParseError>
-    ensures { Parses (IsLone word.now) result }
+    ensures { Parses plain_line (IsLone word.now) result }
 {
     if word == b"processed".as_slice() {
-        return Ok(Line::Query(Query::Processed));
+        return Ok(Line::Tell(Message::GetProcessed { ticket: 0 }));
     }
     if word == b"anchor".as_slice() {
-        return Ok(Line::Query(Query::Anchor));
+        return Ok(Line::Tell(Message::GetAnchor { ticket: 0 }));
     }
     Err(ParseError::Grammar)
 }
 
-// The kind of a line with this first word.
-fn kind_named(word: &[u8]) -> Option<Kind>
-    ensures { result ≡ named kinds word.now }
-{
-    look_up(&KINDS, word)
-}
-
-// The store with this name.
-fn store_named(word: &[u8]) -> Option<StoreName>
-    ensures { result ≡ named stores word.now }
-{
-    look_up(&STORES, word)
-}
-
 // The line of this kind, with these bytes behind its first word and a space.
 fn parse_kind(alloc: Global, members: u32, kind: Kind, rest: &[u8]) -> Result<Line, ParseError>
-    ensures { Parses (Behind members kind rest.now) result }
+    ensures { Parses plain_line (MadeOf members (row kind) rest.now) result }
 {
     match kind {
         Kind::Open => open(alloc, rest),
-        Kind::Buffer => block_of(alloc, rest).map(Line::Buffer),
-        Kind::Final => finalization_of(alloc, members, rest).map(Line::Final),
-        Kind::Notar => finalization_of(alloc, members, rest).map(Line::Notar),
-        Kind::Certn => finalization_of(alloc, members, rest).map(Line::Certn),
-        Kind::Info => identifier(rest).map(Query::Info).map(Line::Query),
-        Kind::Block => identifier(rest).map(Query::Block).map(Line::Query),
-        Kind::Finalization => height(rest).map(Query::Finalization).map(Line::Query),
-        Kind::GetVerified => round(rest).map(Query::Verified).map(Line::Query),
-        Kind::Verified => round_and_block(alloc, rest).map(Line::Verified),
-        Kind::Certified => round_and_block(alloc, rest).map(Line::Certified),
-        Kind::Proposed => sent_block(alloc, rest).map(Line::Proposed),
-        Kind::Prepared => sent_block(alloc, rest).map(Line::Prepared),
+        Kind::Buffer => block_of(alloc, rest).map(|block| Line::Buffer(block)),
+        Kind::Tell(kind) => parse_message(alloc, members, kind, rest).map(|message| Line::Tell(
+            message,
+        )),
         Kind::Sync => number(rest).map(Line::Sync),
         Kind::Ack => number(rest).map(Line::Ack),
         Kind::Fail => fail(rest),
@@ -170,25 +121,19 @@ fn parse_kind(alloc: Global, members: u32, kind: Kind, rest: &[u8]) -> Result<Li
 
 // The line `open` with these words.
 fn open(alloc: Global, words: &[u8]) -> Result<Line, ParseError>
-    ensures { (n : ℕ) → Parses (Behind n Kind.Open words.now) result }
+    ensures { (n : ℕ) → Parses plain_line (MadeOf n (row Kind.Open) words.now) result }
 {
-    let Some((word, rest)) = split_word(words) else {
-        return Err(ParseError::Grammar);
-    };
-    if word == b"genesis".as_slice() {
-        return block_of(alloc, rest).map(Line::OpenGenesis);
+    match look_up_first(&BEGINS, words) {
+        Some((_genesis, rest)) => block_of(alloc, rest).map(|block| Line::OpenGenesis(block)),
+        None => Err(ParseError::Grammar),
     }
-    Err(ParseError::Grammar)
 }
 
 // The line `fail` with these words.
 fn fail(words: &[u8]) -> Result<Line, ParseError>
-    ensures { (n : ℕ) → Parses (Behind n Kind.Fail words.now) result }
+    ensures { (n : ℕ) → Parses plain_line (MadeOf n (row Kind.Fail) words.now) result }
 {
-    let Some((word, rest)) = split_word(words) else {
-        return Err(ParseError::Grammar);
-    };
-    let Some(store) = store_named(word) else {
+    let Some((store, rest)) = look_up_first(&STORES, words) else {
         return Err(ParseError::Grammar);
     };
     match number(rest) {
@@ -199,25 +144,5 @@ fn fail(words: &[u8]) -> Result<Line, ParseError>
             Ok(Line::Fail(store, calls))
         }
         Err(error) => Err(error),
-    }
-}
-
-// The finalization of so many members that a word spells, whole.
-fn finalization_of(alloc: Global, members: u32, word: &[u8]) -> Result<MockFinalization, ParseError>
-    ensures is_finalization { IfOk result (λ f. IsFinalization members (plain_finalization f)) }
-    ensures found { IfOk result (λ f. word.now ≡ hex (finalization_bytes (plain_finalization f))) }
-    ensures only { (f : PlainFinalization) → IsFinalization members f → word.now ≡ hex (finalization_bytes f)
-        → Yields (λ found. plain_finalization found ≡ f) result }
-{
-    let bytes = match bytes_of(alloc, word) {
-        Ok(bytes) => bytes,
-        Err(error) => return Err(error),
-    };
-    match MockFinalization::decode_cfg(alloc, bytes.as_slice(), &members) {
-        Ok(finalization) => {
-            finalization.is_finalization(members);
-            Ok(finalization)
-        }
-        Err(error) => Err(refusal(error)),
     }
 }

@@ -3,7 +3,7 @@ ghost use Rattle.std.specs.Prelude.{◌≡◌, ◌↔◌, ◌/◌, ◌%◌, ◌<
 ghost use Rattle.std.specs.List.{AllByRecursion, slice_split};
 ghost use Rattle.hex.specs.Hex.{IsBytes, lower_digits};
 ghost use Rattle.mar_types.specs.Varint.{IsNumber};
-ghost use Rattle.mar_script.specs.Lines.{IsWord, named};
+ghost use Rattle.mar_script.specs.Lines.{IsWord, NamesFirst, named};
 ghost use Rattle.mar_script.specs.Refused.{HasFirstWord};
 ghost use Rattle.mar_script.specs.Script.{hex};
 ghost use Rattle.mar_script.specs.Words.{Yields, words_of};
@@ -82,8 +82,8 @@ pub fn split_word(line: &[u8]) -> Option<(&[u8], &[u8])>
     Some((word, rest.split_at(1).1))
 }
 
-/// What a table of words has for this one.
-pub fn look_up<K: Copy>(table: &[(&[u8], K)], word: &[u8]) -> Option<K>
+// What a table of words has for this one.
+fn look_up<K: Copy>(table: &[(&[u8], K)], word: &[u8]) -> Option<K>
     ensures { result ≡ named (map (λ row. (row.0.now, row.1)) table.now) word.now }
 {
     for (name, value) in table {
@@ -92,6 +92,20 @@ pub fn look_up<K: Copy>(table: &[(&[u8], K)], word: &[u8]) -> Option<K>
         }
     }
     None
+}
+
+/// What a table of words has for the first word of a line, and what stands behind that word and a space.
+pub fn look_up_first<'a, K: Copy>(table: &[(&[u8], K)], line: &'a [u8]) -> Option<(K, &'a [u8])>
+    ensures found { IfSome result (λ parts. NamesFirst (map (λ row. (row.0.now, row.1)) table.now) line.now parts.0 parts.1.now) }
+    ensures none { result ≡ None → (k : K) (rest : List ℕ) → NamesFirst (map (λ row. (row.0.now, row.1)) table.now) line.now k rest → ⊥ }
+{
+    let Some((word, rest)) = split_word(line) else {
+        return None;
+    };
+    match look_up(table, word) {
+        Some(value) => Some((value, rest)),
+        None => None,
+    }
 }
 
 /// Whether this is the first word of the line.

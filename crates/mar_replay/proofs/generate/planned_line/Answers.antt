@@ -11,5 +11,5 @@ returns-in_ok-finalization-in-Final c =
     let seed : ℕ = c.args.made.now.seed in
     let h : ℕ = c.in-Final.height in
     let digest : c.digest-digest.result.bytes ≡ (made_block seed h).digest = c.digest-digest.ensures ∙ ap (λ b. b.digest) c.block-in-Final.ensures in
-    let finalization : plain_finalization c.in_ok-finalization-in-Final.field-0 ≡ finalized h c.digest-digest.result.bytes = c.in_ok-finalization-in-Final.ensures in
+    let finalization : plain_finalization c.in_ok-finalization-in-Final.finalization ≡ finalized h c.digest-digest.result.bytes = c.in_ok-finalization-in-Final.ensures in
     ap (λ f. tell_line (report_finalization f)) (finalization ∙ ap (finalized h) digest) ∙ ap (planned_line seed) (sym c.in-Final.is)

@@ -1,24 +1,18 @@
-use Rattle.std.proofs.Common.{ap, refl, rules, sym, ◌++◌, ◌∙◌, ◌∷◌, ◌≡◌}
+use Rattle.std.proofs.Common.{ap, refl, rules, ◌++◌, ◌∙◌, ◌∷◌, ◌≡◌}
 use Rattle.std.specs.Prelude.{codes}
-use Rattle.mar_script.specs.Lines.{plain_block}
-use Rattle.mar_script.specs.Script.{hex}
+use Rattle.std.proofs.lemmas.Result.{IfOk-weaker}
+use Rattle.mar_script.specs.Lines.{plain_block, plain_line, row}
+use Rattle.mar_script.specs.declared.line.Kind.TheVariants as kind
 use Rattle.mar_script.specs.declared.line.Line.TheVariants as line
-use Rattle.mar_script.proofs.FirstWords.{inked_word, no_sentence, one_split}
-use Rattle.mar_script.proofs.LineKinds.{line_of, refused, second_word}
-use Rattle.mar_script.proofs.Numbers.{not_other}
+use Rattle.mar_script.proofs.Rows.{first_genesis, genesis_first, made_by, reads, refused}
 use Rattle.mar_script.proofs.line.open.Goals as goal
 
-pub returns-in_default : goal.returns-in_default
-returns-in_default c = λ n. refused (λ l of. no_sentence c.args.words.now (codes "genesis") _ (c.in_default.ensures.none refl) of.spelled)
+pub returns-in-Some : goal.returns-in-Some
+returns-in-Some c = λ n.
+    let genesis = genesis_first c.args.words.now _ _ c.in-Some.ensures.found in
+    made_by (row kind.Open) plain_block
+    (reads (λ b is. (tt, (is, tt))) (λ b are. are.1.0) c.block_of.ensures.is_block (IfOk-weaker c.block_of.result _ _ (λ b is. genesis.0 ∙ ap (λ r. codes "genesis" ++ 32 ∷ r) is) c.block_of.ensures.found)
+    (λ b is same. c.block_of.ensures.only b is (genesis.1 _ same))) c.map.ensures.cases (λ x y is. let same : y ≡ line.OpenGenesis x = search rules in ap plain_line same)
 
-pub returns-then-eq : goal.returns-then-eq
-returns-then-eq c = λ n.
-    let is : c.in-Some.word.now ≡ codes "genesis" = search rules in
-    second_word _ _ (λ b. hex b.encoded) c.args.words.now (codes "genesis") c.in-Some.rest.now _ (c.in-Some.ensures.found.0 ∙ ap (λ w. w ++ 32 ∷ c.in-Some.rest.now) is) (inked_word (codes "genesis") refl)
-    (line_of _ _ _ _ plain_block line.OpenGenesis c.block_of.result _ (λ b. refl) c.block_of.ensures.is_block c.block_of.ensures.found c.block_of.ensures.only c.map.ensures.cases)
-
-pub returns : goal.returns
-returns c = λ n. refused (λ l of.
-    let is : c.in-Some.word.now ≡ codes "genesis" = (one_split c.in-Some.word.now (codes "genesis") c.in-Some.rest.now _ c.in-Some.ensures.found.1 (inked_word (codes "genesis") refl) (sym c.in-Some.ensures.found.0 ∙ of.spelled)).0 in
-    let text : c.as_slice.result.now ≡ codes "genesis" = search rules in
-    not_other _ _ (sym c.eq.ensures ∙ c.if-eq.false) (is ∙ sym text))
+pub returns-in-None : goal.returns-in-None
+returns-in-None c = λ n. refused (λ l of. c.in-None.ensures.none refl _ _ (first_genesis c.args.words.now _ of.spelled))

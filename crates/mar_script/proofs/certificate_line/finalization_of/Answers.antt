@@ -4,7 +4,7 @@ use Rattle.mar_cert.specs.Grammar.{SpellsMockFinalization, same_finalization, sp
 use Rattle.mar_script.specs.Script.{hex}
 use Rattle.mar_script.proofs.ReadBytes.{finalization_is_bytes, finalization_some_bytes, refused}
 use Rattle.mar_script.proofs.Spelled.{withheld}
-use Rattle.mar_script.proofs.line.finalization_of.Goals as goal
+use Rattle.mar_script.proofs.certificate_line.finalization_of.Goals as goal
 
 pub returns-in-Err-clause-only : goal.returns-in-Err-clause-only
 returns-in-Err-clause-only c = λ f is same. c.in-Err.ensures.only (finalization_bytes f) (finalization_is_bytes c.args.members f (omega arith) is) (finalization_some_bytes c.args.members f is) same

@@ -5,7 +5,7 @@ use Rattle.mar_block.specs.EmptyBlockLemmas.{same_block, spelled_block}
 use Rattle.mar_script.specs.Script.{hex}
 use Rattle.mar_script.proofs.ReadBytes.{block_is_bytes, block_some_bytes, refused}
 use Rattle.mar_script.proofs.Spelled.{withheld}
-use Rattle.mar_script.proofs.block_line.block_of.Goals as goal
+use Rattle.mar_script.proofs.block_line.decoded_block.Goals as goal
 
 pub returns-in-Err-clause-only : goal.returns-in-Err-clause-only
 returns-in-Err-clause-only c = λ b is same. c.in-Err.ensures.only b.encoded (block_is_bytes b is) (block_some_bytes b is) same

@@ -2,7 +2,7 @@ use Rattle.std.proofs.Common.{ap, ◌∙◌}
 use Rattle.mar_script.specs.Script.{config_of}
 use Rattle.mar_replay.proofs.LinePlays.{plays_opening, plays_unopened, set_node}
 use Rattle.mar_replay.proofs.OpeningTurns.{lawful_opening}
-use Rattle.mar_replay.proofs.play.begin.Goals as goal
+use Rattle.mar_replay.proofs.play.open.Goals as goal
 
 pub returns-in-Ok : goal.returns-in-Ok
 returns-in-Ok g c =
