@@ -7,7 +7,8 @@ use Rattle.mar_store.proofs.Lookups.{AllByRecursion-push}
 use Rattle.mar_journal.specs.Format.{IsBatch, IsJournal, IsNoBatch, IsTornAt, behind_gate, body, four, frames, joined, magic}
 use Rattle.mar_journal.specs.Records.{BatchStandsFirst, StandsFirst}
 use Rattle.mar_journal.proofs.WritingAll.{fronts}
-use Rattle.mar_journal.proofs.Frames.{Follow, body_follows, body_some, four_one, frames-push, joined-push, length-four, length-frames-push}
+use Rattle.mar_journal.proofs.Frames.{four_one, frames-push, length-four, length-frames-push}
+use Rattle.mar_journal.proofs.Framings.{Follow, body_follows, body_some, joined-push}
 
 module _ {R : Type 0} (spelled : R → List ℕ) (Valid : R → Type 0)
     (one : (r s : R) (a b : List ℕ) → Valid r → Valid s → spelled r ++ a ≡ spelled s ++ b → r ≡ s) (some : (r : R) → 0 < length (spelled r)) where

@@ -5,7 +5,8 @@ use Rattle.std.proofs.lemmas.List.{drop_at, drop_more, take_at}
 use Rattle.mar_store.proofs.Lookups.{AllByRecursion-push}
 use Rattle.mar_journal.specs.Disk.{Follows, Holds, Only, Torn}
 use Rattle.mar_journal.specs.Format.{IsBatch, IsJournal, Stands, behind_gate, frames, magic}
-use Rattle.mar_journal.proofs.Frames.{frames-push, joined-push, length-frames-push}
+use Rattle.mar_journal.proofs.Frames.{frames-push, length-frames-push}
+use Rattle.mar_journal.proofs.Framings.{joined-push}
 
 -- what is written behind a closed gate: a batch, and a closed gate behind it
 abbrev pub stage : {R : Type 0} → (R → List ℕ) → List R → List ℕ

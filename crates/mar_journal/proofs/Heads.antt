@@ -40,7 +40,7 @@ head_first key_size index key size more bytes f long s = record {
       ∙ ap (λ (l : List ℕ). varint index ++ l) (sym (take-append-drop key_size (drop key bytes)) ∙ ap (λ (l : List ℕ). take key_size (drop key bytes) ++ l) (drop-drop key_size key bytes ∙ s.bytes_are ∙ ap (λ (l : List ℕ). varint size ++ l) (drop-drop more (key + key_size) bytes)));
 }
 
-module _ {T : Type 0} (name spelled : T → List ℕ) (fits : ℕ → T → Bool) (key_size : ℕ) (keyed : (v : T) → length (name v) ≡ key_size)
+module _ {T : Type 0} (name spelled : T → List ℕ) (fits : ℕ → T → Bool) (key_size : ℕ) (keyed : (index : ℕ) (v : T) → fits index v ≡ true → length (name v) ≡ key_size)
     (one : (index : ℕ) (v w : T) → fits index v ≡ true → fits index w ≡ true → spelled v ≡ spelled w → v ≡ w)
     (index key size at : ℕ) (bytes : List ℕ) (h : HeadStandsFirst key_size index key size at bytes) where
   -- a put that stands first has this head
@@ -50,18 +50,18 @@ module _ {T : Type 0} (name spelled : T → List ℕ) (fits : ℕ → T → Bool
     sized : size ≡ length (spelled value)
     behind : drop at bytes ≡ spelled value ++ rest
 
-  has_head : (other : ℕ) (value : T) (rest : List ℕ) → bytes ≡ put_bytes name spelled other value ++ rest → HasHead other value rest
-  has_head other value rest e =
+  has_head : (other : ℕ) (value : T) (rest : List ℕ) → fits other value ≡ true → bytes ≡ put_bytes name spelled other value ++ rest → HasHead other value rest
+  has_head other value rest fit e =
       let whole = sym h.bytes_are ∙ e ∙ put_split name spelled fits key_size keyed one other value rest in
       let indexes = after_number index other _ _ whole in
-      let long : length (take key_size (drop key bytes)) ≡ length (name value) = omega (arith, length-take key_size (drop key bytes), length-drop key bytes, h.within, h.value_at, keyed value) in
+      let long : length (take key_size (drop key bytes)) ≡ length (name value) = omega (arith, length-take key_size (drop key bytes), length-drop key bytes, h.within, h.value_at, keyed other value fit) in
       let names = after_front (take key_size (drop key bytes)) (name value) _ _ long indexes.1 in
       let sizes = after_number size (length (spelled value)) _ _ names.1 in
       record { same = indexes.0; named = names.0; sized = sizes.0; behind = sizes.1 }
 
   pub no_room : length bytes - at < size → HasNoPut name spelled fits bytes
   no_room short other value rest valid e =
-      let f = has_head other value rest e in
+      let f = has_head other value rest valid.1 e in
       omega (arith, ap length f.behind, length-drop at bytes, length-append (spelled value) rest, f.sized, short)
 
   value_here : (other : ℕ) (value : T) (rest : List ℕ) → HasHead other value rest → spelled value ≡ take size (drop at bytes)
@@ -69,12 +69,12 @@ module _ {T : Type 0} (name spelled : T → List ℕ) (fits : ℕ → T → Bool
 
   pub no_value : ((value : T) → fits index value ≡ true → spelled value ≡ take size (drop at bytes) → ⊥) → HasNoPut name spelled fits bytes
   no_value none other value rest valid e =
-      let f = has_head other value rest e in
+      let f = has_head other value rest valid.1 e in
       none value (ap (λ n. fits n value) f.same ∙ valid.1) (value_here other value rest f)
 
   pub no_name : (item : T) → fits index item ≡ true → spelled item ≡ take size (drop at bytes) → bytes_eq (name item) (take key_size (drop key bytes)) ≡ false → HasNoPut name spelled fits bytes
   no_name item fit is differs other value rest valid e =
-      let f = has_head other value rest e in
+      let f = has_head other value rest valid.1 e in
       let same : item ≡ value = one index item value fit (ap (λ n. fits n value) f.same ∙ valid.1) (is ∙ sym (value_here other value rest f)) in
       let named : name item ≡ take key_size (drop key bytes) = ap name same ∙ sym f.named in
       let found : bytes_eq (name item) (take key_size (drop key bytes)) ≡ true = (bytes_eq-Decides (name item) (take key_size (drop key bytes))).1 named in
@@ -97,7 +97,7 @@ module _ {T : Type 0} (name spelled : T → List ℕ) (fits : ℕ → T → Bool
           h.key_at,
           long,
           ap length (ap (λ n. varint n) long),
-          keyed item,
+          keyed index item fit,
           length-append (varint index) (name item ++ (varint (length (spelled item)) ++ spelled item)),
           length-append (name item) (varint (length (spelled item)) ++ spelled item),
           length-append (varint (length (spelled item))) (spelled item),

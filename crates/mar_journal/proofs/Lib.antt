@@ -1,3 +1,4 @@
+pub mod Framings
 pub mod Frames
 pub mod Crash
 pub mod Moments

@@ -20,7 +20,7 @@ after_front x y a b long e =
     let same : x ≡ y = same_front x y a b long e in
     (same, append_cancel_left x a b (e ∙ ap (λ z. z ++ b) (sym same)))
 
-module _ {T : Type 0} (name spelled : T → List ℕ) (fits : ℕ → T → Bool) (size : ℕ) (keyed : (v : T) → length (name v) ≡ size)
+module _ {T : Type 0} (name spelled : T → List ℕ) (fits : ℕ → T → Bool) (size : ℕ) (keyed : (index : ℕ) (v : T) → fits index v ≡ true → length (name v) ≡ size)
     (one : (index : ℕ) (v w : T) → fits index v ≡ true → fits index w ≡ true → spelled v ≡ spelled w → v ≡ w) where
   pub put_split : (index : ℕ) (value : T) (rest : List ℕ) → put_bytes name spelled index value ++ rest ≡ varint index ++ (name value ++ (varint (length (spelled value)) ++ (spelled value ++ rest)))
   put_split index value rest =
@@ -30,7 +30,7 @@ module _ {T : Type 0} (name spelled : T → List ℕ) (fits : ℕ → T → Bool
   put_one : (h k : ℕ) (v w : T) (a b : List ℕ) → fits h v ≡ true → fits k w ≡ true → put_bytes name spelled h v ++ a ≡ put_bytes name spelled k w ++ b → Put h v ≡ Put k w
   put_one h k v w a b fit fit_too e =
       let indexes = after_number h k _ _ (sym (put_split h v a) ∙ e ∙ put_split k w b) in
-      let names = after_front (name v) (name w) _ _ (keyed v ∙ sym (keyed w)) indexes.1 in
+      let names = after_front (name v) (name w) _ _ (keyed h v fit ∙ sym (keyed k w fit_too)) indexes.1 in
       let sizes = after_number (length (spelled v)) (length (spelled w)) _ _ names.1 in
       let values = after_front (spelled v) (spelled w) a b sizes.0 sizes.1 in
       let fit_here : fits h w ≡ true = ap (λ n. fits n w) indexes.0 ∙ fit_too in

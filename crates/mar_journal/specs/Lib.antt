@@ -1,4 +1,5 @@
 pub mod Disk
+pub mod Framing
 pub mod Format
 pub mod Records
 pub mod Journal

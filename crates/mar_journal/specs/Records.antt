@@ -1,6 +1,6 @@
 -- Records at the front of bytes, and batches of them.
-use Rattle.std.specs.Prelude.{List, length, drop, ℕ, ◌++◌, ◌<◌, ◌≡◌, ◌≤◌}
-use Rattle.mar_journal.specs.Format.{IsBatch, IsDamaged, IsJournal, behind_gate}
+use Rattle.std.specs.Prelude.{List, length, drop, ℕ, ◌++◌, ◌+◌, ◌<◌, ◌≡◌, ◌≤◌}
+use Rattle.mar_journal.specs.Format.{IsBatch, IsDamaged, IsJournal, behind_gate, first_version}
 use Rattle.mar_journal.specs.declared.file.Scan.{Scan}
 use Rattle.mar_journal.specs.declared.file.Scan.TheVariants.{Damaged, Found}
 
@@ -25,4 +25,4 @@ Shows spelled Valid file (Damaged at) = IsDamaged spelled Valid at file
 -- a record that may be written: 2,048 of them have fewer bytes than a length can say
 pub record IsWritable {R : Type 0} (spelled : R → List ℕ) (Valid : R → Type 0) (r : R) : Type 0 where
   pub valid : Valid r
-  pub small : length (spelled r) ≤ 1048640
+  pub small : length (spelled r) ≤ first_version.value + 64

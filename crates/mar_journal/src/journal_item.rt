@@ -4,7 +4,8 @@ ghost use Rattle.std.specs.Prelude.{◌≡◌, ◌++◌, ℕ, List, true, length
 use mar_store::Item;
 use std::alloc::{AllocError, Global};
 
-/// A value that has bytes, from which it is read back, and a name of 32 bytes.
+/// A value that has bytes, from which it is read back, and a name of 32 bytes. All that is said of its bytes and its name is
+/// said of a value that fits at an index, so that `fits` can say which of the plain records are values at all.
 pub trait JournalItem: Item {
     /// Its bytes.
     ghost spelled: { Self → List ℕ };
@@ -21,10 +22,10 @@ pub trait JournalItem: Item {
             ((value : Self) → Self.fits index value ≡ true → spelled value ≡ bytes.now → ⊥)
             (λ value. (Self.fits index value ≡ true) × (spelled value ≡ bytes.now))) };
 
-    ghost sized: { (value : Self) → length (spelled value) ≡ Self.size value };
+    ghost sized: { (index : ℕ) (value : Self) → Self.fits index value ≡ true → length (spelled value) ≡ Self.size value };
 
     ghost one: { (index : ℕ) (value other : Self) → Self.fits index value ≡ true → Self.fits index other ≡ true
         → spelled value ≡ spelled other → value ≡ other };
 
-    ghost keyed: { (value : Self) → length (Self.name value) ≡ 32 };
+    ghost keyed: { (index : ℕ) (value : Self) → Self.fits index value ≡ true → length (Self.name value) ≡ 32 };
 }

@@ -16,6 +16,6 @@ pub use disk::Disk;
 pub use file::{MAX_BATCH, Scan};
 pub use journal::{Opened, Unopened, append, open, write_all};
 pub use journal_item::JournalItem;
-pub use laws::files_have_one_meaning;
+pub use laws::{files_have_one_meaning, versions_have_one_meaning};
 pub use meta_record::MetaRecord;
 pub use record::Record;

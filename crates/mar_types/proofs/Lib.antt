@@ -2,6 +2,7 @@ pub mod VarintSteps
 pub mod Rereads
 pub mod Partitions
 pub mod Spread
+pub mod TableSteps
 pub mod NextTerms
 pub mod Partition
 pub mod Joins

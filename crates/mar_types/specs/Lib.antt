@@ -14,6 +14,10 @@ pub mod PlacesLemmas
 pub mod Round
 pub mod Epochs
 pub mod Fixed
+pub mod Tables
+pub mod TableLemmas
+pub mod TableEpochs
+pub mod ScriptEpochs
 pub mod Terms
 pub mod RoundBytes
 pub mod Coding
