@@ -78,10 +78,10 @@ impl JournalItem for Mark {
         }))
     }
 
-    ghost sized = { λ v. v.digest.is_digest.0 };
+    ghost sized = { λ index v fit. v.digest.is_digest.0 };
 
     ghost one = { λ index v w fits other same i.
         record { digest = record { bytes = same i; is_digest = same_proof 32 _ _ same v.digest.is_digest w.digest.is_digest i } } };
 
-    ghost keyed = { λ v. v.digest.is_digest.0 };
+    ghost keyed = { λ index v fit. v.digest.is_digest.0 };
 }

@@ -1,15 +1,17 @@
 -- The calls of an archive that is a journal, by its entries.
-use Rattle.std.proofs.Common.{Bool, Contains, List, Some, [], ap, append_assoc, arith, cond, drop, filter, min, nat_le, bytes_eq, not, inl, inr, length, length-append, map, false, refl, subst, suc, sym, take, true, zero, ℕ, ◌&&◌, ◌++◌, ◌<◌, ◌==◌, ◌^◌, ◌∙◌, ◌∷◌, ◌≡◌, ◌≤◌}
+use Rattle.std.proofs.Common.{Bool, Contains, List, None, Option, Some, [], ap, append_assoc, arith, cond, drop, filter, min, nat_le, bytes_eq, not, inl, inr, length, length-append, length-take, map, false, option_map, refl, subst, suc, sym, take, true, zero, ℕ, ◌&&◌, ◌++◌, ◌<◌, ◌==◌, ◌^◌, ◌∙◌, ◌∷◌, ◌≡◌, ◌≤◌}
 use Rattle.std.proofs.Math.Logic.{∥∥₁_elim, ∥∥₁_map, ∥∥₁_map₂}
 use Rattle.std.specs.Coded.{Coded, Coded-set, coded_bool, coded_option, le_prop}
 use Rattle.std.proofs.lemmas.Bool.{and_from, eq-eqb, eqb-true, false≢true, true≢false}
 use Rattle.std.proofs.lemmas.Slice.Eq.{bytes_eq-Decides}
 use Rattle.std.specs.List.{AllByRecursion, AllByRecursion-prop}
-use Rattle.std.proofs.lemmas.List.{map-append}
+use Rattle.std.proofs.lemmas.List.{length-map, map-append}
+use Rattle.std.proofs.lemmas.List.Sums.{fold-append}
 use Rattle.mar_store.specs.Changes.{Fails, Finishes, IsReopened, IsStillOr, KeepsValues, Left, Prunes, Puts, Within, heights, left_of}
-use Rattle.mar_store.specs.Entries.{AreCounted, covered_by, is_covered, kept_of, next_number, seen}
+use Rattle.mar_store.specs.Entries.{AreCounted, AreUpto, covered_by, is_covered, kept_of, next_number, seen}
 use Rattle.mar_store.specs.Kept.{At, EachHeightOnce, Reopens, reopened_store, value_at}
 use Rattle.mar_store.specs.Named.{is_taken}
+use Rattle.mar_store.specs.Props.{AreUpto-prop}
 use Rattle.mar_store.specs.RangeLemmas.{ranges_push}
 use Rattle.mar_store.specs.Ranges.{Range, ranges, with_height}
 use Rattle.mar_store.specs.declared.Entry.{Entry}
@@ -19,7 +21,7 @@ use Rattle.mar_store.proofs.Stores.{covers_pruned, filter_within, prunes}
 use Rattle.mar_types.specs.Varint.{varint}
 use Rattle.mar_types.specs.VarintLemmas.{length-varint}
 use Rattle.mar_journal.specs.ArchiveRecords.{IsArchived, archive_bytes, kept_by, kept_from}
-use Rattle.mar_journal_stores.specs.ArchiveStore.{IsArchiveFile, IsArchiveLeft, IsBacked, IsMarkOf, IsMarked, Ordered, StaysFound, archive_kept, left_may, within_right}
+use Rattle.mar_journal_stores.specs.ArchiveStore.{AreLeftRanges, IsArchiveFile, IsArchiveLeft, IsBacked, IsMarkOf, IsMarked, LeavesAside, Ordered, SetsAside, StaysFound, archive_kept, aside_after, left_after, left_may, ranges_or, ranges_with, within_right}
 use Rattle.mar_journal.specs.Disk.{Elapses, LeavesOnly, Narrows}
 use Rattle.mar_journal.specs.Format.{IsBatch, IsDamaged, IsJournal, Stands, StandsUpto, joined}
 use Rattle.mar_journal.specs.Journal.{Adds, IsOldOrNew, IsSettled}
@@ -29,6 +31,7 @@ use Rattle.mar_journal.specs.declared.ArchiveRecord.TheVariants.{Prune, Put}
 use Rattle.mar_journal.proofs.Crash.{end_within}
 use Rattle.mar_journal_stores.proofs.Marks.{Ordered-prop, covered_before, mark_above, mark_last, mark_upto, counted_above, counted_ordered, ordered_later, ordered_none, put_ordered}
 use Rattle.mar_journal.proofs.Moments.{and_then, goes_on, stayed, weaker}
+use Rattle.mar_journal_stores.proofs.Asides.{aside_seen, aside_stays, is_held, left_before, left_both, left_less, upto_later, upto_less, upto_set, within_both, within_left}
 use Rattle.mar_journal_stores.proofs.SameRanges.{ranges_same}
 use Rattle.mar_journal_stores.proofs.Replays.{CoversLess, backed_front, backed_left, backed_more, narrowed_left, old_or_new, opening_finds, opening_left, pending_long, pending_none, pending_same, pending_sure, reopens_held, reopens_weaker, undamaged, writing_left, writing_moments}
 
@@ -39,12 +42,6 @@ IsArchived-prop fits spelled (Prune min) = le_prop
 IsWritable-prop : {T : Type 0} (name spelled : T → List ℕ) (fits : ℕ → T → Bool) (r : ArchiveRecord T) → IsProp (IsWritable (archive_bytes name spelled) (IsArchived fits spelled) r)
 IsWritable-prop name spelled fits r = λ a b i. record { valid = IsArchived-prop fits spelled r a.valid b.valid i; small = le_prop a.small b.small i }
 
--- a front before both
-pub within_both : {X : Type 0} (front xs ys : List X) → Within xs ys → Within (front ++ xs) (front ++ ys)
-within_both [] xs ys within x has = within x has
-within_both (y ∷ front) xs ys within x (zero, lt, e) = (zero, omega arith, e)
-within_both (y ∷ front) xs ys within x (suc k, lt, e) = let more = within_both front xs ys within x (k, omega (arith, lt), e) in (suc more.0, omega (arith, more.1), more.2)
-
 module _ {T D : Type 0} (name spelled : T → List ℕ) (fits : ℕ → T → Bool) (seen_bytes : D → List ℕ) (may_leave : D → List ℕ → Type 0) (disk : D) (end : ℕ) (gone items : List (Entry T)) (n accepted : ℕ) (waiting : List (ArchiveRecord T)) (marks : List ℕ) where
   abbrev sure : List (At T)
   sure = take n (map seen items)
@@ -53,7 +50,7 @@ module _ {T D : Type 0} (name spelled : T → List ℕ) (fits : ℕ → T → Bo
   may = left_may gone items
 
   abbrev Backed : Type 0
-  Backed = IsBacked name spelled fits seen_bytes may_leave disk end sure may items accepted waiting marks
+  Backed = IsBacked name spelled fits seen_bytes may_leave disk end sure gone items accepted waiting marks
 
   found_now : EachHeightOnce (map seen items) → Reopens sure may (map seen items)
   found_now once = reopens_held n (map seen items) may once (within_right (map seen gone) (map seen items))
@@ -65,7 +62,7 @@ module _ {T D : Type 0} (name spelled : T → List ℕ) (fits : ℕ → T → Bo
   are_good backed = ∥∥₁_elim backed (AllByRecursion-prop _ (IsWritable-prop name spelled fits) waiting) (λ b. b.good)
 
   pub nothing_lost : EachHeightOnce (map seen items) → ∥ Backed ∥₁ → ∥ IsArchiveLeft name spelled fits may_leave disk sure may ∥₁
-  nothing_lost once backed = ∥∥₁_map backed (λ b. backed_left name spelled fits seen_bytes may_leave disk end sure may items accepted waiting marks b (found_now once))
+  nothing_lost once backed = ∥∥₁_map backed (λ b. backed_left name spelled fits seen_bytes may_leave disk end sure gone items accepted waiting marks b (found_now once))
 
   -- what a crash at any moment leaves where no call was made
   pub idle_moments : (moment : D → ℕ) (left_since : D → ℕ → List ℕ → Type 0) (only_now : (d : D) (c : List ℕ) → left_since d (moment d) c → may_leave d c) → EachHeightOnce (map seen items) → ∥ Backed ∥₁
@@ -74,13 +71,16 @@ module _ {T D : Type 0} (name spelled : T → List ℕ) (fits : ℕ → T → Bo
 
   -- each waiting record has a mark
   pub marked : ∥ Backed ∥₁ → length marks ≤ length waiting
-  marked backed = ∥∥₁_elim backed le_prop (λ b. omega (arith, pending_long name sure may items accepted (kept_from name [] b.records) waiting marks b.pending))
+  marked backed = ∥∥₁_elim backed le_prop (λ b. omega (arith, pending_long name sure may (left_after gone items) items accepted (kept_from name [] b.records) waiting marks b.pending))
 
   pub marked_all : ∥ Backed ∥₁ → length waiting ≤ length marks
-  marked_all backed = ∥∥₁_elim backed le_prop (λ b. omega (arith, pending_long name sure may items accepted (kept_from name [] b.records) waiting marks b.pending))
+  marked_all backed = ∥∥₁_elim backed le_prop (λ b. omega (arith, pending_long name sure may (left_after gone items) items accepted (kept_from name [] b.records) waiting marks b.pending))
 
   pub ordered_of : ∥ Backed ∥₁ → Ordered accepted marks
   ordered_of backed = ∥∥₁_elim backed (Ordered-prop accepted marks) (λ b. b.ordered)
+
+  pub upto_of : ∥ Backed ∥₁ → AreUpto accepted gone
+  upto_of backed = ∥∥₁_elim backed (AreUpto-prop accepted gone) (λ b. b.aside)
 
   -- of the first waiting records
   module _ (k : ℕ) where
@@ -93,11 +93,11 @@ module _ {T D : Type 0} (name spelled : T → List ℕ) (fits : ℕ → T → Bo
         → LeavesOnly moment left_since disk later (StandsUpto (archive_bytes name spelled) (IsArchived fits spelled) before (take k waiting))
 
     pub front_written : ∥ Backed ∥₁ → (later : D) (new : ℕ) → Written later new → (after : List (ArchiveRecord T)) (ends : List ℕ) → after ≡ drop k waiting → ends ≡ drop k marks
-        → ∥ IsBacked name spelled fits seen_bytes may_leave later new sure may items accepted after ends ∥₁
+        → ∥ IsBacked name spelled fits seen_bytes may_leave later new sure gone items accepted after ends ∥₁
     front_written backed later new written after ends are marks_are =
-        subst (λ l. ∥ IsBacked name spelled fits seen_bytes may_leave later new sure may items accepted l ends ∥₁) (sym are)
-        (subst (λ l. ∥ IsBacked name spelled fits seen_bytes may_leave later new sure may items accepted (drop k waiting) l ∥₁) (sym marks_are)
-        (∥∥₁_map backed (λ b. backed_front name spelled fits seen_bytes may_leave disk later end new sure may items accepted waiting marks k b (written b.records b.settled))))
+        subst (λ l. ∥ IsBacked name spelled fits seen_bytes may_leave later new sure gone items accepted l ends ∥₁) (sym are)
+        (subst (λ l. ∥ IsBacked name spelled fits seen_bytes may_leave later new sure gone items accepted (drop k waiting) l ∥₁) (sym marks_are)
+        (∥∥₁_map backed (λ b. backed_front name spelled fits seen_bytes may_leave disk later end new sure gone items accepted waiting marks k b (written b.records b.settled))))
 
     -- they are behind what the file had
     pub wrote : ∥ Backed ∥₁ → (later : D) (new : ℕ) → Written later new → ∥ Adds (archive_bytes name spelled) (IsArchived fits spelled) seen_bytes may_leave (take k waiting) disk later ∥₁
@@ -105,12 +105,12 @@ module _ {T D : Type 0} (name spelled : T → List ℕ) (fits : ℕ → T → Bo
 
     pub write_moments : (moment : D → ℕ) (left_since : D → ℕ → List ℕ → Type 0) → EachHeightOnce (map seen items) → ∥ Backed ∥₁ → (later : D) → Unwritten moment left_since later → StaysFound name spelled fits moment left_since disk later sure may
     write_moments moment left_since once backed later any =
-        ∥∥₁_map backed (λ b. writing_moments name spelled fits seen_bytes may_leave moment left_since disk later end sure may items accepted waiting marks k b (found_now once) (any b.records b.settled))
+        ∥∥₁_map backed (λ b. writing_moments name spelled fits seen_bytes may_leave moment left_since disk later end sure gone items accepted waiting marks k b (found_now once) (any b.records b.settled))
 
     pub part_written : (moment : D → ℕ) (left_since : D → ℕ → List ℕ → Type 0) (counts_now : (d : D) (t : ℕ) (c : List ℕ) → t ≤ moment d → may_leave d c → left_since d t c) → EachHeightOnce (map seen items) → ∥ Backed ∥₁ → (later : D)
         → Unwritten moment left_since later → ∥ IsArchiveLeft name spelled fits may_leave later sure may ∥₁
     part_written moment left_since counts_now once backed later any =
-        ∥∥₁_map backed (λ b. writing_left name spelled fits seen_bytes may_leave moment left_since counts_now disk later end sure may items accepted waiting marks k b (found_now once) (any b.records b.settled))
+        ∥∥₁_map backed (λ b. writing_left name spelled fits seen_bytes may_leave moment left_since counts_now disk later end sure gone items accepted waiting marks k b (found_now once) (any b.records b.settled))
 
 -- a put that is taken in has its mark
 pub put_marked : {T : Type 0} (name : T → List ℕ) (items new : List (Entry T)) (index : ℕ) (item : T) (accepted later mark : ℕ) (waiting after : List (ArchiveRecord T)) (marks ends : List ℕ) → EachHeightOnce (map seen items) → is_taken name (map seen items) (record { height = index; value = item }) ≡ false
@@ -149,12 +149,35 @@ pub more_by_still : {T : Type 0} (old left : Left (At T)) (x : At T) → IsStill
 more_by_still old left x (inl is) long = absurd (long (ap length (ap (λ l. l.may) is)))
 more_by_still old left x (inr is) long = is
 
+within_append : {X : Type 0} (xs ys zs : List X) → Within xs zs → Within ys zs → Within (xs ++ ys) zs
+within_append [] ys zs first second x has = second x has
+within_append (y ∷ xs) ys zs first second x (zero, lt, e) = first x (zero, omega arith, e)
+within_append (y ∷ xs) ys zs first second x (suc k, lt, e) = within_append xs ys zs (λ z has. first z (suc has.0, omega (arith, has.1), has.2)) second x (k, omega (arith, lt), e)
+
 -- the ranges of one index more
-pub grown_ranges : {T : Type 0} (gone items new : List (Entry T)) (x : At T) (set grown : List Range) → set ≡ ranges (heights (left_may gone items)) → grown ≡ with_height x.height set → map seen new ≡ map seen items ++ x ∷ []
-    → grown ≡ ranges (heights (left_may gone new))
-grown_ranges gone items new x set grown is grows are =
-    grows ∙ ap (with_height x.height) is ∙ sym (ranges_push (heights (left_may gone items)) x.height)
+pushed_ranges : {T : Type 0} (gone items new : List (Entry T)) (x : At T) → map seen new ≡ map seen items ++ x ∷ [] → with_height x.height (ranges (heights (left_may gone items))) ≡ ranges (heights (left_may gone new))
+pushed_ranges gone items new x are =
+    sym (ranges_push (heights (left_may gone items)) x.height)
     ∙ ap ranges (sym (map-append (λ y. y.height) (left_may gone items) (x ∷ [])) ∙ ap heights (append_assoc (map seen gone) (map seen items) (x ∷ []) ∙ ap (λ l. map seen gone ++ l) (sym are)))
+
+pub grown_ranges : {T : Type 0} (gone items new : List (Entry T)) (x : At T) (may grown : Option (List Range)) → AreLeftRanges may gone items → grown ≡ option_map (with_height x.height) may → map seen new ≡ map seen items ++ x ∷ [] → AreLeftRanges grown gone new
+grown_ranges gone items new x may grown is grows are = subst (λ g. AreLeftRanges g gone new) (sym grows) (by may is)
+  where
+    by : (m : Option (List Range)) → AreLeftRanges m gone items → AreLeftRanges (option_map (with_height x.height) m) gone new
+    by None here = sym (pushed_ranges [] items new x are) ∙ ap (with_height x.height) here ∙ pushed_ranges gone items new x are
+    by (Some set) here = ap (with_height x.height) here ∙ pushed_ranges gone items new x are
+
+-- the ranges where a ticket has finished
+pub ranges_let_go : {T : Type 0} (t : ℕ) (gone aside items new : List (Entry T)) (held : List Range) (may : Option (List Range)) → held ≡ ranges (heights (map seen items)) → aside ≡ aside_after t gone → ranges_or held may ≡ ranges_with held t gone
+    → map seen new ≡ map seen items → AreLeftRanges may aside new
+ranges_let_go t gone aside items new held may held_is less is are =
+    ap (λ l. ranges_or (ranges (heights l)) may) are ∙ ap (λ r. ranges_or r may) (sym held_is) ∙ is ∙ ap (λ r. ranges_with r t gone) held_is
+    ∙ sym (fold-append (λ rs h. with_height h rs) [] (heights (map seen items)) (heights (map seen (aside_after t gone)))) ∙ ap ranges (sym (map-append (λ y. y.height) (map seen items) (map seen (aside_after t gone))))
+    ∙ ranges_same (map seen items ++ map seen (aside_after t gone)) (left_may (aside_after t gone) items) (swapped (map seen items) (map seen (aside_after t gone))) (swapped (map seen (aside_after t gone)) (map seen items))
+    ∙ ap (λ l. ranges (heights (map seen l ++ map seen items))) (sym less) ∙ ap (λ l. ranges (heights (map seen aside ++ l))) (sym are)
+  where
+    swapped : {X : Type 0} (xs ys : List X) → Within (xs ++ ys) (ys ++ xs)
+    swapped xs ys = within_append xs ys (ys ++ xs) (within_right ys xs) (within_left ys xs)
 
 -- what is left beside what was pruned
 pub left_with_gone : {T : Type 0} (gone items new : List (Entry T)) (n m : ℕ) (x : At T) → Fails (left_of (kept_of items n)) (x ∷ []) (left_of (kept_of new m))
@@ -176,13 +199,8 @@ puts_with_gone gone items new n m x ignored p = record {
   may = λ y has. subst (λ l. Contains l y) (sym (append_assoc (map seen gone) (map seen items) (x ∷ []))) (within_both (map seen gone) (map seen new) (map seen items ++ x ∷ []) p.may y has);
 }
 
-pub keeps_ranges : {T : Type 0} (gone items new : List (Entry T)) (set : List Range) → map seen new ≡ map seen items → set ≡ ranges (heights (left_may gone items)) → set ≡ ranges (heights (left_may gone new))
-keeps_ranges gone items new set same is = is ∙ ap (λ l. ranges (heights (map seen gone ++ l))) (sym same)
-
-within_left : {X : Type 0} (xs ys : List X) → Within xs (xs ++ ys)
-within_left [] ys x (k, lt, e) = absurd (omega (arith, lt))
-within_left (y ∷ xs) ys x (zero, lt, e) = (zero, omega arith, e)
-within_left (y ∷ xs) ys x (suc k, lt, e) = let more = within_left xs ys x (k, omega (arith, lt), e) in (suc more.0, omega (arith, more.1), more.2)
+pub keeps_ranges : {T : Type 0} (gone items new : List (Entry T)) (may : Option (List Range)) → map seen new ≡ map seen items → AreLeftRanges may gone items → AreLeftRanges may gone new
+keeps_ranges gone items new may same is = subst (λ l. ranges_or (ranges (heights l)) may ≡ ranges (heights (map seen gone ++ l))) (sym same) is
 
 -- what may be left after a put
 wider : {T : Type 0} (gone items new : List (Entry T)) (x : At T) → map seen new ≡ map seen items ++ x ∷ [] → Within (left_may gone items) (left_may gone new)
@@ -239,73 +257,87 @@ module _ {T D : Type 0} (name spelled : T → List ℕ) (fits : ℕ → T → Bo
 
   module _ (seen_bytes : D → List ℕ) (end accepted later : ℕ) (waiting : List (ArchiveRecord T)) (marks : List ℕ) where
     abbrev Was : Type 0
-    Was = IsBacked name spelled fits seen_bytes may_leave disk end (take n (map seen items)) (left_may gone items) items accepted waiting marks
+    Was = IsBacked name spelled fits seen_bytes may_leave disk end (take n (map seen items)) gone items accepted waiting marks
 
     pub keeps_backed : take m (map seen new) ≡ take n (map seen items) → map seen new ≡ map seen items → accepted ≤ later → KeepsCovers accepted (covered_by items) (covered_by new) → ∥ Was ∥₁
-        → ∥ IsBacked name spelled fits seen_bytes may_leave disk end (take m (map seen new)) (left_may gone new) new later waiting marks ∥₁
+        → ∥ IsBacked name spelled fits seen_bytes may_leave disk end (take m (map seen new)) gone new later waiting marks ∥₁
     keeps_backed sure_is are up covers backed = ∥∥₁_map backed (λ b. record {
       records = b.records;
       settled = b.settled;
-      pending = pending_same name (take n (map seen items)) (left_may gone items) (take m (map seen new)) (left_may gone new) items new accepted later (kept_from name [] b.records) waiting marks (same_values _ _ sure_is)
-          (within_both (map seen gone) (map seen items) (map seen new) (λ x has. subst (λ l. Contains l x) (sym are) has)) up (covers_less accepted items new covers) are b.pending;
+      pending = pending_same name (take n (map seen items)) (left_may gone items) (take m (map seen new)) (left_may gone new) (left_after gone items) (left_after gone new) items new accepted later (kept_from name [] b.records) waiting marks (same_values _ _ sure_is)
+          (within_both (map seen gone) (map seen items) (map seen new) (λ x has. subst (λ l. Contains l x) (sym are) has))
+          (λ t upto below. within_both (map seen (aside_after t gone)) (map seen items) (map seen new) (λ x has. subst (λ l. Contains l x) (sym are) has)) up (covers_less accepted items new covers) are b.pending;
       good = b.good;
       fit = subst (λ l. AllByRecursion (λ y. fits y.height y.value ≡ true) (map seen gone ++ l)) (sym are) b.fit;
+      aside = upto_later accepted later gone up b.aside;
       ordered = ordered_later accepted later marks up b.ordered;
     })
 
     pub put_backed : (index : ℕ) (item : T) (after : List (ArchiveRecord T)) (ends : List ℕ) (mark : ℕ) → EachHeightOnce (map seen items) → take m (map seen new) ≡ take n (map seen items) → map seen new ≡ map seen items ++ record { height = index; value = item } ∷ []
         → map seen new ≡ kept_by name (map seen items) (Put index item) → IsWritable (archive_bytes name spelled) (IsArchived fits spelled) (Put index item) → after ≡ waiting ++ Put index item ∷ [] → ends ≡ marks ++ mark ∷ []
         → accepted ≤ later → KeepsCovers accepted (covered_by items) (covered_by new) → is_taken name (map seen items) (record { height = index; value = item }) ≡ false → AreCounted later new → IsMarkOf new mark → ∥ Was ∥₁
-        → ∥ IsBacked name spelled fits seen_bytes may_leave disk end (take m (map seen new)) (left_may gone new) new later after ends ∥₁
-    put_backed index item after ends mark once sure_is are is_later good is marks_are up covers free counted mark_is backed = ∥∥₁_map backed (λ b. backed_more name spelled fits seen_bytes may_leave disk end (take n (map seen items)) (left_may gone items) (take m (map seen new)) (left_may gone new) items new accepted later waiting after marks ends
-        (Put index item) mark b (same_values _ _ sure_is) (wider gone items new _ are) up (covers_less accepted items new covers)
+        → ∥ IsBacked name spelled fits seen_bytes may_leave disk end (take m (map seen new)) gone new later after ends ∥₁
+    put_backed index item after ends mark once sure_is are is_later good is marks_are up covers free counted mark_is backed = ∥∥₁_map backed (λ b. backed_more name spelled fits seen_bytes may_leave disk end (take n (map seen items)) (take m (map seen new)) gone items gone new accepted later waiting after marks ends
+        (Put index item) mark b (same_values _ _ sure_is) (wider gone items new _ are) (λ t upto below. wider (aside_after t gone) items new _ are) up (covers_less accepted items new covers)
         (record {
           found = reopens_weaker (take n (map seen items)) (left_may gone items) (take m (map seen new)) (left_may gone new) (map seen items) (same_values _ _ sure_is) (wider gone items new _ are) (reopens_held n (map seen items) (left_may gone items) once (within_right (map seen gone) (map seen items)));
+          beyond = λ t below h v is. wider (aside_after t gone) items new _ are _ (is_held (aside_after t gone) items h v is);
           covered = covered_before name items new _ accepted later mark once free are covers counted mark_is;
           upto = omega (arith, mark_upto name items new _ accepted later mark once free are covers counted mark_is);
           last = mark_last name items new _ accepted later mark once free are covers counted mark_is;
         })
-        is_later good (fit_more fits gone items new _ are good.valid.1 b.fit) is marks_are (put_ordered name items new _ accepted later mark once free are covers counted mark_is marks up b.ordered))
+        is_later good (fit_more fits gone items new _ are good.valid.1 b.fit) (upto_later accepted later gone up b.aside) is marks_are (put_ordered name items new _ accepted later mark once free are covers counted mark_is marks up b.ordered))
 
     -- where nothing waits, other values are sure
-    pub sure_backed : (other : List (Entry T)) → waiting ≡ [] → map seen new ≡ map seen items → AllByRecursion (λ y. fits y.height y.value ≡ true) (left_may other new) → ∥ Was ∥₁
-        → ∥ IsBacked name spelled fits seen_bytes may_leave disk end (take m (map seen new)) (left_may other new) new later waiting marks ∥₁
-    sure_backed other none are fit backed = ∥∥₁_map backed (λ b. record {
+    pub sure_backed : (other : List (Entry T)) → waiting ≡ [] → map seen new ≡ map seen items → AllByRecursion (λ y. fits y.height y.value ≡ true) (left_may other new) → AreUpto later other → ∥ Was ∥₁
+        → ∥ IsBacked name spelled fits seen_bytes may_leave disk end (take m (map seen new)) other new later waiting marks ∥₁
+    sure_backed other none are fit upto backed = ∥∥₁_map backed (λ b. record {
       records = b.records;
       settled = b.settled;
-      pending = pending_none name (take n (map seen items)) (left_may gone items) (take m (map seen new)) (left_may other new) items new accepted later (kept_from name [] b.records) waiting marks none are b.pending;
+      pending = pending_none name (take n (map seen items)) (left_may gone items) (take m (map seen new)) (left_may other new) (left_after gone items) (left_after other new) items new accepted later (kept_from name [] b.records) waiting marks none are b.pending;
       good = b.good;
       fit = fit;
-      ordered = ordered_none later marks (pending_long name (take n (map seen items)) (left_may gone items) items accepted (kept_from name [] b.records) waiting marks b.pending ∙ ap length none);
+      aside = upto;
+      ordered = ordered_none later marks (pending_long name (take n (map seen items)) (left_may gone items) (left_after gone items) items accepted (kept_from name [] b.records) waiting marks b.pending ∙ ap length none);
     })
 
     pub fit_of_backed : ∥ Was ∥₁ → AllByRecursion (λ y. fits y.height y.value ≡ true) (left_may gone items)
     fit_of_backed backed = ∥∥₁_elim backed (AllByRecursion-prop _ (λ y. Coded-set coded_bool _ _) (left_may gone items)) (λ b. b.fit)
 
-    -- where only records above a ticket's number wait, what it covers is sure
-    pub covered_backed : (t : ℕ) → new ≡ items → later ≡ accepted → AllByRecursion (λ k. t < k) marks → Finishes (covered_by items t) (kept_of items n) (kept_of new m) → ∥ Was ∥₁
-        → ∥ IsBacked name spelled fits seen_bytes may_leave disk end (take m (map seen new)) (left_may gone new) new later waiting marks ∥₁
-    covered_backed t are same above finishes backed =
-        subst (λ l. ∥ IsBacked name spelled fits seen_bytes may_leave disk end (take m (map seen new)) (left_may gone l) l later waiting marks ∥₁) (sym are)
-        (subst (λ k. ∥ IsBacked name spelled fits seen_bytes may_leave disk end (take m (map seen new)) (left_may gone items) items k waiting marks ∥₁) (sym same)
+    -- Where only records above a ticket's number wait, what it covers is sure; it may let go what was pruned before it.
+    pub covered_backed : (t : ℕ) (others : List (Entry T)) → new ≡ items → later ≡ accepted → LeavesAside t gone others → AllByRecursion (λ k. t < k) marks → Finishes (covered_by items t) (kept_of items n) (kept_of new m) → ∥ Was ∥₁
+        → ∥ IsBacked name spelled fits seen_bytes may_leave disk end (take m (map seen new)) others new later waiting marks ∥₁
+    covered_backed t others are same leaves above finishes backed =
+        subst (λ l. ∥ IsBacked name spelled fits seen_bytes may_leave disk end (take m (map seen new)) others l later waiting marks ∥₁) (sym are)
+        (subst (λ k. ∥ IsBacked name spelled fits seen_bytes may_leave disk end (take m (map seen new)) others items k waiting marks ∥₁) (sym same)
         (∥∥₁_map backed (λ b. record {
           records = b.records;
           settled = b.settled;
-          pending = pending_sure name (take n (map seen items)) (left_may gone items) (take m (map seen new)) items accepted t (kept_from name [] b.records) waiting marks finishes.only above b.pending;
+          pending = pending_sure name (take n (map seen items)) (left_may gone items) (take m (map seen new)) (left_may others items) (left_after gone items) (left_after others items) items accepted t (kept_from name [] b.records) waiting marks finishes.only
+              (left_before t gone others items leaves) (left_both t gone others items leaves) above b.pending;
           good = b.good;
-          fit = b.fit;
+          fit = AllByRecursion-within (λ y. fits y.height y.value ≡ true) (left_may others items) (left_may gone items) (left_less t gone others items leaves) b.fit;
+          aside = upto_less t gone others items leaves accepted b.aside;
           ordered = b.ordered;
         })))
 
-pub finishes_with_gone : {T : Type 0} (gone items new : List (Entry T)) (n m : ℕ) (more : List (At T)) → Finishes more (kept_of items n) (kept_of new m) → Finishes more (archive_kept gone items n) (archive_kept gone new m)
-finishes_with_gone gone items new n m more f = record {
+-- Where a ticket lets go what was pruned before it, more is sure than was.
+pub finishes_with_gone : {T : Type 0} (t : ℕ) (gone aside items new : List (Entry T)) (n m : ℕ) (more : List (At T)) → new ≡ items → n ≤ length items → m ≤ length items → LeavesAside t gone aside → (n ≡ m → aside ≡ gone) → Finishes more (kept_of items n) (kept_of new m)
+    → Finishes more (archive_kept gone items n) (archive_kept aside new m)
+finishes_with_gone {T} t gone aside items new n m more are within within_too leaves rests f = record {
   held = f.held;
   sure = f.sure;
   covered = f.covered;
   only = f.only;
-  may = within_both (map seen gone) (map seen new) (map seen items) f.may;
-  same = λ kept. ap (λ k. record { held = k.held; sure = k.sure; may = map seen gone ++ k.may }) (f.same kept);
+  may = λ x has. left_less t gone aside items leaves x (subst (λ l. Contains (left_may aside l) x) are has);
+  same = λ kept. whole (f.same kept);
 }
+  where
+    whole : kept_of new m ≡ kept_of items n → archive_kept aside new m ≡ archive_kept gone items n
+    whole is =
+        let sizes : length (take m (map seen items)) ≡ length (take n (map seen items)) = ap length (subst (λ (l : List (Entry T)). take m (map seen l) ≡ take n (map seen items)) are (ap (λ k. k.sure) is)) in
+        let counts : n ≡ m = omega (arith, sizes, length-take m (map seen items), length-take n (map seen items), length-map items seen, within, within_too) in
+        ap (λ l. archive_kept l new m) (rests counts) ∙ ap (λ k. record { held = k.held; sure = k.sure; may = map seen gone ++ k.may }) is
 
 by_parts : {T : Type 0} (y : Entry T) (items below above : List (Entry T)) (b : Bool) (x : At T) → (Contains (map seen items) x → Contains (map seen below ++ map seen above) x) → Contains (seen y ∷ map seen items) x
     → Contains (map seen (cond (not b) (y ∷ below) below) ++ map seen (cond b (y ∷ above) above)) x
@@ -319,11 +351,6 @@ within_parts : {T : Type 0} (p : Entry T → Bool) (items : List (Entry T)) → 
 within_parts p [] x (k, lt, e) = absurd (omega (arith, lt))
 within_parts p (y ∷ items) x has = by_parts y items (filter (λ e. not (p e)) items) (filter p items) (p y) x (within_parts p items x) has
 
-within_append : {X : Type 0} (xs ys zs : List X) → Within xs zs → Within ys zs → Within (xs ++ ys) zs
-within_append [] ys zs first second x has = second x has
-within_append (y ∷ xs) ys zs first second x (zero, lt, e) = first x (zero, omega arith, e)
-within_append (y ∷ xs) ys zs first second x (suc k, lt, e) = within_append xs ys zs (λ z has. first z (suc has.0, omega (arith, has.1), has.2)) second x (k, omega (arith, lt), e)
-
 pub filter_seen : {T : Type 0} (min : ℕ) (items : List (Entry T)) → map seen (filter (λ e. nat_le min e.index) items) ≡ filter (λ x. nat_le min x.height) (map seen items)
 filter_seen min [] = refl
 filter_seen min (e ∷ items) = by_test (nat_le min e.index) (filter_seen min items)
@@ -333,14 +360,22 @@ filter_seen min (e ∷ items) = by_test (nat_le min e.index) (filter_seen min it
     by_test true same = ap (λ l. seen e ∷ l) same
     by_test false same = same
 
-module _ {T : Type 0} (min : ℕ) (gone aside items new : List (Entry T)) (n m : ℕ) (once : EachHeightOnce (map seen items)) (new_is : new ≡ filter (λ e. nat_le min e.index) items) (m_is : m ≡ length (filter (λ e. nat_le min e.index) (take n items)))
-    (aside_is : map seen aside ≡ map seen gone ++ map seen (filter (λ e. not (nat_le min e.index)) items)) where
+module _ {T : Type 0} (min number : ℕ) (gone aside items new : List (Entry T)) (n m : ℕ) (once : EachHeightOnce (map seen items)) (new_is : new ≡ filter (λ e. nat_le min e.index) items) (m_is : m ≡ length (filter (λ e. nat_le min e.index) (take n items)))
+    (aside_is : SetsAside min number items gone aside) where
   may_is : left_may aside new ≡ map seen gone ++ (map seen (filter (λ e. not (nat_le min e.index)) items) ++ map seen (filter (λ e. nat_le min e.index) items))
-  may_is = ap (λ l. l ++ map seen new) aside_is ∙ ap (λ l. (map seen gone ++ map seen (filter (λ e. not (nat_le min e.index)) items)) ++ map seen l) new_is
+  may_is = ap (λ l. l ++ map seen new) (aside_seen min number items gone aside aside_is) ∙ ap (λ l. (map seen gone ++ map seen (filter (λ e. not (nat_le min e.index)) items)) ++ map seen l) new_is
       ∙ append_assoc (map seen gone) (map seen (filter (λ e. not (nat_le min e.index)) items)) (map seen (filter (λ e. nat_le min e.index) items))
 
   wider_prune : Within (left_may gone items) (left_may aside new)
   wider_prune = λ x has. subst (λ l. Contains l x) (sym may_is) (within_both (map seen gone) (map seen items) _ (within_parts (λ e. nat_le min e.index) items) x has)
+
+  -- the same where a ticket has finished that was given out before
+  goes_prune : (t : ℕ) → t < number → Within (left_after gone items t) (left_after aside new t)
+  goes_prune t lt = λ x has. subst (λ l. Contains l x) (sym left_is) (within_both (map seen (aside_after t gone)) (map seen items) _ (within_parts (λ e. nat_le min e.index) items) x has)
+    where
+      left_is : left_after aside new t ≡ map seen (aside_after t gone) ++ (map seen (filter (λ e. not (nat_le min e.index)) items) ++ map seen (filter (λ e. nat_le min e.index) items))
+      left_is = ap (λ l. l ++ map seen new) (aside_stays min number items gone aside aside_is t lt) ∙ ap (λ l. (map seen (aside_after t gone) ++ map seen (filter (λ e. not (nat_le min e.index)) items)) ++ map seen l) new_is
+          ∙ append_assoc (map seen (aside_after t gone)) (map seen (filter (λ e. not (nat_le min e.index)) items)) (map seen (filter (λ e. nat_le min e.index) items))
 
   narrower_prune : Within (left_may aside new) (left_may gone items)
   narrower_prune = λ x has. within_both (map seen gone) _ (map seen items)
@@ -362,14 +397,15 @@ module _ {T : Type 0} (min : ℕ) (gone aside items new : List (Entry T)) (n m :
   pub prune_ranges : (set : List Range) → set ≡ ranges (heights (left_may gone items)) → set ≡ ranges (heights (left_may aside new))
   prune_ranges set is = is ∙ ranges_same (left_may gone items) (left_may aside new) wider_prune narrower_prune
 
-  pub prune_backed : {D : Type 0} (name spelled : T → List ℕ) (fits : ℕ → T → Bool) (seen_bytes : D → List ℕ) (may_leave : D → List ℕ → Type 0) (disk : D) (end accepted later : ℕ) (waiting after : List (ArchiveRecord T)) (marks ends : List ℕ) (mark : ℕ) → min < 2 ^ 64
-      → after ≡ waiting ++ Prune min ∷ [] → ends ≡ marks ++ mark ∷ [] → later ≡ next_number accepted → mark ≡ next_number accepted → accepted ≤ last_number
-      → ∥ IsBacked name spelled fits seen_bytes may_leave disk end (take n (map seen items)) (left_may gone items) items accepted waiting marks ∥₁
-      → ∥ IsBacked name spelled fits seen_bytes may_leave disk end (take m (map seen new)) (left_may aside new) new later after ends ∥₁
-  prune_backed name spelled fits seen_bytes may_leave disk end accepted later waiting after marks ends mark min_fits is marks_are later_is mark_is within backed = ∥∥₁_map backed (λ b. backed_more name spelled fits seen_bytes may_leave disk end (take n (map seen items)) (left_may gone items) (take m (map seen new)) (left_may aside new) items new accepted later waiting after marks ends (Prune min) mark b inner.sure.only wider_prune
-      (omega (arith, later_is, within)) covers
+  pub prune_backed : {D : Type 0} (name spelled : T → List ℕ) (fits : ℕ → T → Bool) (seen_bytes : D → List ℕ) (may_leave : D → List ℕ → Type 0) (disk : D) (end accepted later : ℕ) (waiting after : List (ArchiveRecord T)) (marks ends : List ℕ) → min < 2 ^ 64
+      → after ≡ waiting ++ Prune min ∷ [] → ends ≡ marks ++ number ∷ [] → later ≡ next_number accepted → number ≡ next_number accepted → accepted ≤ last_number
+      → ∥ IsBacked name spelled fits seen_bytes may_leave disk end (take n (map seen items)) gone items accepted waiting marks ∥₁
+      → ∥ IsBacked name spelled fits seen_bytes may_leave disk end (take m (map seen new)) aside new later after ends ∥₁
+  prune_backed name spelled fits seen_bytes may_leave disk end accepted later waiting after marks ends min_fits is marks_are later_is mark_is within backed = ∥∥₁_map backed (λ b. backed_more name spelled fits seen_bytes may_leave disk end (take n (map seen items)) (take m (map seen new)) gone items aside new accepted later waiting after
+      marks ends (Prune min) number b inner.sure.only wider_prune (λ t upto below. goes_prune t (omega (arith, upto, below, mark_is))) (omega (arith, later_is, within)) covers
       (record {
         found = reopens_weaker (take n (map seen items)) (left_may gone items) (take m (map seen new)) (left_may aside new) (map seen items) inner.sure.only wider_prune (reopens_held n (map seen items) (left_may gone items) once (within_right (map seen gone) (map seen items)));
+        beyond = λ t below h v has. goes_prune t below _ (is_held (aside_after t gone) items h v has);
         covered = λ t below h v has. covered_held items t once h v (covers t (omega (arith, below, mark_is)) (omega (arith, below, mark_is)) h v has);
         upto = omega (arith, later_is, mark_is);
         last = omega (arith, mark_is);
@@ -377,9 +413,10 @@ module _ {T : Type 0} (min : ℕ) (gone aside items new : List (Entry T)) (n m :
       (ap (map seen) new_is ∙ filter_seen min items)
       (record { valid = min_fits; small = omega (arith, length-varint min) })
       (AllByRecursion-within (λ y. fits y.height y.value ≡ true) (left_may aside new) (left_may gone items) narrower_prune b.fit)
+      (upto_set min number items gone aside aside_is accepted later (omega (arith, later_is, within)) (omega (arith, later_is, mark_is)) b.aside)
       is
       marks_are
-      (counted_ordered accepted later mark marks later_is mark_is within b.ordered))
+      (counted_ordered accepted later number marks later_is mark_is within b.ordered))
     where
       covers : CoversLess accepted items new
       covers t within below = (covers_pruned min accepted items new once new_is t within).only
@@ -465,7 +502,7 @@ module _ {T : Type 0} (coded : Coded T) (spelled : T → List ℕ) (fits : ℕ �
   }
 
 module _ {T D : Type 0} (name spelled : T → List ℕ) (fits : ℕ → T → Bool) (seen_bytes : D → List ℕ) (may_leave : D → List ℕ → Type 0) (moment : D → ℕ) (left_since : D → ℕ → List ℕ → Type 0) (counts_now : (d : D) (t : ℕ) (c : List ℕ) → t ≤ moment d → may_leave d c → left_since d t c)
-    (keyed : (v : T) → length (name v) ≡ 32) (one : (index : ℕ) (v w : T) → fits index v ≡ true → fits index w ≡ true → spelled v ≡ spelled w → v ≡ w) (first disk later : D) (gone items : List (Entry T)) (n : ℕ) (narrows : Narrows (may_leave first) (may_leave disk))
+    (keyed : (index : ℕ) (v : T) → fits index v ≡ true → length (name v) ≡ 32) (one : (index : ℕ) (v w : T) → fits index v ≡ true → fits index w ≡ true → spelled v ≡ spelled w → v ≡ w) (first disk later : D) (gone items : List (Entry T)) (n : ℕ) (narrows : Narrows (may_leave first) (may_leave disk))
     (left : ∥ IsArchiveLeft name spelled fits may_leave first (take n (map seen items)) (left_may gone items) ∥₁) where
   -- what a crash leaves
   pub crash_left : ∥ IsArchiveLeft name spelled fits may_leave disk (take n (map seen items)) (left_may gone items) ∥₁
@@ -510,14 +547,14 @@ module _ {T D : Type 0} (name spelled : T → List ℕ) (fits : ℕ → T → Bo
     }
 
     pub reopened_backed : (end accepted : ℕ) → IsSettled (archive_bytes name spelled) (IsArchived fits spelled) seen_bytes may_leave records end later → AllByRecursion (λ y. fits y.height y.value ≡ true) (map seen new)
-        → ∥ IsBacked name spelled fits seen_bytes may_leave later end (take m (map seen new)) (map seen new) new accepted [] [] ∥₁
-    reopened_backed end accepted settled fit = ∣ record { records = records; settled = settled; pending = sym held; good = tt; fit = fit; ordered = tt } ∣₁
+        → ∥ IsBacked name spelled fits seen_bytes may_leave later end (take m (map seen new)) [] new accepted [] [] ∥₁
+    reopened_backed end accepted settled fit = ∣ record { records = records; settled = settled; pending = sym held; good = tt; fit = fit; aside = tt; ordered = tt } ∣₁
 
 -- a store just opened
 pub opened_backed : {T D : Type 0} (name spelled : T → List ℕ) (fits : ℕ → T → Bool) (seen_bytes : D → List ℕ) (may_leave : D → List ℕ → Type 0) (later : D) (records : List (ArchiveRecord T)) (new : List (Entry T)) (m end accepted : ℕ) → map seen new ≡ kept_from name [] records
     → IsSettled (archive_bytes name spelled) (IsArchived fits spelled) seen_bytes may_leave records end later → AllByRecursion (λ y. fits y.height y.value ≡ true) (map seen new)
-    → ∥ IsBacked name spelled fits seen_bytes may_leave later end (take m (map seen new)) (map seen new) new accepted [] [] ∥₁
-opened_backed name spelled fits seen_bytes may_leave later records new m end accepted held settled fit = ∣ record { records = records; settled = settled; pending = sym held; good = tt; fit = fit; ordered = tt } ∣₁
+    → ∥ IsBacked name spelled fits seen_bytes may_leave later end (take m (map seen new)) [] new accepted [] [] ∥₁
+opened_backed name spelled fits seen_bytes may_leave later records new m end accepted held settled fit = ∣ record { records = records; settled = settled; pending = sym held; good = tt; fit = fit; aside = tt; ordered = tt } ∣₁
 
 pub opened_kept : {T : Type 0} (new : List (Entry T)) (m : ℕ) (kept : List (At T)) → map seen new ≡ kept → take m (map seen new) ≡ map seen new → archive_kept [] new m ≡ reopened_store kept
 opened_kept new m kept held all_sure = ap (λ l. record { held = map seen new; sure = l; may = map seen new }) all_sure ∙ ap reopened_store held

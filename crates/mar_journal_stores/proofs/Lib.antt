@@ -4,6 +4,7 @@ mod Copies
 mod SameRanges
 mod Watching
 mod MetaSteps
+mod Asides
 mod Replays
 mod ArchiveSteps
 mod Fronts

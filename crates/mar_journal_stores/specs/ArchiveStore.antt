@@ -1,12 +1,13 @@
 -- An archive that is a journal: how what waits leads from the values on the disk to those that are held.
-use Rattle.std.specs.Prelude.{Bool, List, [], drop, get_or, length, map, suc, take, true, ℕ, ⊤, ◌++◌, ◌+◌, ◌-◌, ◌<◌, ◌∷◌, ◌≡◌, ◌≤◌, ◌⊎◌}
+use Rattle.std.specs.Prelude.{Bool, Contains, List, None, Option, Some, [], drop, filter, fold, get_or, length, map, nat_le, nat_lt, not, suc, take, true, ℕ, ⊤, ◌++◌, ◌+◌, ◌-◌, ◌<◌, ◌∷◌, ◌≡◌, ◌≤◌, ◌⊎◌}
 use Rattle.std.proofs.Common.{arith}
 use Rattle.std.specs.List.{AllByRecursion}
-use Rattle.mar_store.specs.Entries.{covered_by, next_number, seen}
+use Rattle.mar_store.specs.Entries.{AreUpto, covered_by, next_number, seen}
 use Rattle.mar_store.specs.Tickets.{last_number}
-use Rattle.mar_store.specs.Changes.{IsNested, KeepsValues, Within}
-use Rattle.mar_store.specs.Kept.{At, EachHeightOnce, Kept, Reopens}
+use Rattle.mar_store.specs.Changes.{IsNested, KeepsValues, Within, heights}
+use Rattle.mar_store.specs.Kept.{At, EachHeightOnce, Kept, Reopens, value_at}
 use Rattle.mar_store.specs.Nested.{front_within, kept_nested}
+use Rattle.mar_store.specs.Ranges.{Range, ranges, with_height}
 use Rattle.mar_store.specs.declared.Entry.{Entry}
 use Rattle.mar_journal.specs.ArchiveRecords.{IsArchived, archive_bytes, kept_by, kept_from}
 use Rattle.mar_journal.specs.Disk.{LeavesOnly}
@@ -19,24 +20,62 @@ use Rattle.mar_journal.specs.declared.ArchiveRecord.{ArchiveRecord}
 abbrev pub left_may : {T : Type 0} → List (Entry T) → List (Entry T) → List (At T)
 left_may gone items = map seen gone ++ map seen items
 
+-- of what was pruned, what stays aside where the ticket of a number has finished: what was pruned behind it
+abbrev pub aside_after : {T : Type 0} → ℕ → List (Entry T) → List (Entry T)
+aside_after t gone = filter (λ e. nat_lt t e.number) gone
+
+-- what a crash can leave where that ticket has finished
+abbrev pub left_after : {T : Type 0} → List (Entry T) → List (Entry T) → ℕ → List (At T)
+left_after gone items t = left_may (aside_after t gone) items
+
+-- A ticket that has finished leaves what was pruned aside as it was, or lets go what was pruned before it.
+abbrev pub LeavesAside : {T : Type 0} → ℕ → List (Entry T) → List (Entry T) → Type 0
+LeavesAside t gone aside = (aside ≡ gone) ⊎ (aside ≡ aside_after t gone)
+
+-- Where a ticket makes more sure, it lets go what was pruned before it; else nothing goes.
+pub record LetsGo {T : Type 0} (t before sure : ℕ) (gone aside : List (Entry T)) : Type 0 where
+  pub goes : before < sure → aside ≡ aside_after t gone
+  pub stays : before ≡ sure → aside ≡ gone
+
+-- What a prune takes out stands aside behind what was pruned before, under one number.
+pub record SetsAside {T : Type 0} (min number : ℕ) (items gone aside : List (Entry T)) : Type 0 where
+  pub more : List (Entry T)
+  pub behind : aside ≡ gone ++ more
+  pub taken : map seen more ≡ map seen (filter (λ e. not (nat_le min e.index)) items)
+  pub numbered : AllByRecursion (λ e. e.number ≡ number) more
+
+-- the ranges that are there, or else those of what is held
+abbrev pub ranges_or : List Range → Option (List Range) → List Range
+ranges_or held None = held
+ranges_or held (Some may) = may
+
+-- These are the ranges of what a crash can leave.
+abbrev pub AreLeftRanges : {T : Type 0} → Option (List Range) → List (Entry T) → List (Entry T) → Type 0
+AreLeftRanges may gone items = ranges_or (ranges (heights (map seen items))) may ≡ ranges (heights (left_may gone items))
+
+-- ranges with the indexes of what stays aside where the ticket of a number has finished
+abbrev pub ranges_with : {T : Type 0} → List Range → ℕ → List (Entry T) → List Range
+ranges_with held t gone = fold (λ rs h. with_height h rs) held (heights (map seen (aside_after t gone)))
+
 -- entries of which so many are sure
 abbrev pub archive_kept : {T : Type 0} → List (Entry T) → List (Entry T) → ℕ → Kept (At T)
 archive_kept gone items synced = record { held = map seen items; sure = take synced (map seen items); may = left_may gone items }
 
--- Before a waiting record the file's values are ones that a reopening may find, and all that a ticket below its mark covers
--- is among them.
-pub record Waits {T : Type 0} (sure may : List (At T)) (items : List (Entry T)) (accepted mark : ℕ) (kept : List (At T)) : Type 0 where
+-- Before a waiting record the file's values are ones that a reopening may find, all that a ticket below its mark covers is
+-- among them, and none that such a ticket lets go.
+pub record Waits {T : Type 0} (sure may : List (At T)) (after : ℕ → List (At T)) (items : List (Entry T)) (accepted mark : ℕ) (kept : List (At T)) : Type 0 where
   pub found : Reopens sure may kept
+  pub beyond : (t : ℕ) → t < mark → (h : ℕ) (v : T) → value_at kept h ≡ Some v → Contains (after t) (record { height = h; value = v })
   pub covered : (t : ℕ) → t < mark → KeepsValues (covered_by items t) kept
   pub upto : mark ≤ accepted + 1
   pub last : mark ≤ last_number
 
 -- So it is before each waiting record, and after all of them the file's values are those that are held.
-abbrev pub Pending : {T : Type 0} → (T → List ℕ) → List (At T) → List (At T) → List (Entry T) → ℕ → List (At T) → List (ArchiveRecord T) → List ℕ → Type 0
-Pending name sure may items accepted kept [] [] = kept ≡ map seen items
-Pending name sure may items accepted kept [] (n ∷ ns) = ⊥
-Pending name sure may items accepted kept (r ∷ rs) [] = ⊥
-Pending name sure may items accepted kept (r ∷ rs) (n ∷ ns) = Waits sure may items accepted n kept × Pending name sure may items accepted (kept_by name kept r) rs ns
+abbrev pub Pending : {T : Type 0} → (T → List ℕ) → List (At T) → List (At T) → (ℕ → List (At T)) → List (Entry T) → ℕ → List (At T) → List (ArchiveRecord T) → List ℕ → Type 0
+Pending name sure may after items accepted kept [] [] = kept ≡ map seen items
+Pending name sure may after items accepted kept [] (n ∷ ns) = ⊥
+Pending name sure may after items accepted kept (r ∷ rs) [] = ⊥
+Pending name sure may after items accepted kept (r ∷ rs) (n ∷ ns) = Waits sure may after items accepted n kept × Pending name sure may after items accepted (kept_by name kept r) rs ns
 
 -- Marks ascend, and none is above the number of puts that were accepted.
 abbrev pub Ordered : ℕ → List ℕ → Type 0
@@ -62,12 +101,13 @@ pub record IsMarked {R : Type 0} (given accepted : ℕ) (r : R) (waiting : List 
 
 -- The journal's records and those that wait lead to what is held.
 pub record IsBacked {T D : Type 0} (name spelled : T → List ℕ) (fits : ℕ → T → Bool) (seen_bytes : D → List ℕ) (may_leave : D → List ℕ → Type 0) (disk : D) (end : ℕ)
-    (sure may : List (At T)) (items : List (Entry T)) (accepted : ℕ) (waiting : List (ArchiveRecord T)) (marks : List ℕ) : Type 0 where
+    (sure : List (At T)) (gone items : List (Entry T)) (accepted : ℕ) (waiting : List (ArchiveRecord T)) (marks : List ℕ) : Type 0 where
   pub records : List (ArchiveRecord T)
   pub settled : IsSettled (archive_bytes name spelled) (IsArchived fits spelled) seen_bytes may_leave records end disk
-  pub pending : Pending name sure may items accepted (kept_from name [] records) waiting marks
+  pub pending : Pending name sure (left_may gone items) (left_after gone items) items accepted (kept_from name [] records) waiting marks
   pub good : AllByRecursion (IsWritable (archive_bytes name spelled) (IsArchived fits spelled)) waiting
-  pub fit : AllByRecursion (λ x. fits x.height x.value ≡ true) may
+  pub fit : AllByRecursion (λ x. fits x.height x.value ≡ true) (left_may gone items)
+  pub aside : AreUpto accepted gone
   pub ordered : Ordered accepted marks
 
 -- How many of the waiting records a ticket has written: all up to the last whose mark isn't above its number.

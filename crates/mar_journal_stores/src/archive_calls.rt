@@ -11,13 +11,14 @@ ghost use Rattle.mar_store.specs.Nested.{covers_last};
 ghost use Rattle.mar_store.specs.Tickets.{KeepsCovers, KeepsCoversFrom};
 ghost use Rattle.mar_store.specs.Watch.{Heeds, HeedsRead, armed};
 ghost use Rattle.mar_journal.specs.ArchiveRecords.{IsArchived, archive_bytes, kept_from};
-ghost use Rattle.mar_journal_stores.specs.ArchiveStore.{IsFront, IsMarked, StaysFound, archive_kept, archive_nested, left_may};
+ghost use Rattle.mar_journal_stores.specs.ArchiveStore.{IsFront, IsMarked, LetsGo, SetsAside, StaysFound, archive_kept, archive_nested, left_may};
 ghost use Rattle.mar_journal.specs.Format.{Stands};
 ghost use Rattle.mar_journal.specs.Journal.{Adds};
 ghost use Rattle.mar_journal.specs.declared.ArchiveRecord.{ArchiveRecord};
 ghost use Rattle.mar_journal_stores.specs.Watches.{HasFaultCause, journal_watch};
 
 use crate::archive_drafts::{copies_below, front_of, newest, prepare_put};
+use crate::aside::ranges_left;
 use crate::{JournalArchive, JournalArchiveWreck};
 use mar_journal::{Disk, JournalItem};
 use mar_store::{Archive, Identifier, Lost, Miss, RangeSet, SyncTicket};
@@ -154,6 +155,7 @@ impl<T: JournalItem, D: Disk> Archive<T> for JournalArchive<T, D> {
         ensures written { IfOk result (λ s. ∥ Adds (archive_bytes T.name T.spelled) (IsArchived T.fits T.spelled) D.seen D.may_leave
             self.log.waiting.items self.log.disk s.log.disk ∥₁) }
         ensures none_waits { IfOk result (λ s. s.log.waiting.items ≡ []) }
+        ensures none_aside { IfOk result (λ s. s.aside.gone.items ≡ []) }
         ensures idle { self.log.waiting.items ≡ [] → MatchResult result (λ s. s.log.disk ≡ self.log.disk) (λ l. (wreck_of l).disk ≡ self.log.disk) }
         ensures cause { IfErr result (HasFaultCause (λ w. D.faults w.disk) self.alarm.due.items (D.faults self.log.disk)) }
     {
@@ -161,14 +163,10 @@ impl<T: JournalItem, D: Disk> Archive<T> for JournalArchive<T, D> {
         if archive.alarm.rings() {
             return Err(Lost::Fault(archive.left()));
         }
-        let held = match archive.entries.pile.held().try_clone() {
-            Ok(held) => held,
-            Err(_) => return Err(Lost::Memory(archive.left())),
-        };
         let count = archive.log.waiting.len();
         match archive.flush(count) {
             Err(lost) => Err(lost),
-            Ok(archive) => archive.make_sure(held),
+            Ok(archive) => archive.make_sure(),
         }
     }
 
@@ -185,6 +183,8 @@ impl<T: JournalItem, D: Disk> Archive<T> for JournalArchive<T, D> {
         ensures covered { IfOk result (λ s. covered_by s.0.entries.pile.items.items s.1.number ≡ map seen self.entries.pile.items.items) }
         ensures waiting { IfOk result (λ s. (s.0.log.waiting ≡ self.log.waiting) × (s.0.log.marks ≡ self.log.marks)
             × AllByRecursion (λ n. n ≤ s.1.number) s.0.log.marks.items) }
+        ensures aside { IfOk result (λ s. (s.0.aside.gone ≡ self.aside.gone)
+            × AllByRecursion (λ e. e.number ≤ s.1.number) s.0.aside.gone.items) }
         ensures counted { MatchResult result (λ s. s.0.entries.pile.accepted ≤ self.entries.pile.accepted)
             (λ l. (wreck_of l).pile.accepted ≤ self.entries.pile.accepted) }
         ensures tickets { IfOk result (λ s. self.entries.pile.accepted ≤ s.0.entries.pile.accepted) }
@@ -231,6 +231,7 @@ impl<T: JournalItem, D: Disk> Archive<T> for JournalArchive<T, D> {
             × (s.log.waiting.items ≡ drop count self.log.waiting.items) × (s.log.marks.items ≡ drop count self.log.marks.items)
             × ∥ Adds (archive_bytes T.name T.spelled) (IsArchived T.fits T.spelled) D.seen D.may_leave (take count self.log.waiting.items)
             self.log.disk s.log.disk ∥₁) }
+        ensures let_go { IfOk result (λ s. LetsGo ticket.number self.entries.pile.synced s.entries.pile.synced self.aside.gone.items s.aside.gone.items) }
         ensures idle { AllByRecursion (λ n. ticket.number < n) self.log.marks.items
             → MatchResult result (λ s. s.log.disk ≡ self.log.disk) (λ l. (wreck_of l).disk ≡ self.log.disk) }
         ensures cause { IfErr result (HasFaultCause (λ w. D.faults w.disk) self.alarm.due.items (D.faults self.log.disk)) }
@@ -263,6 +264,7 @@ impl<T: JournalItem, D: Disk> Archive<T> for JournalArchive<T, D> {
         ensures tickets { IfOk result (λ s. self.entries.pile.accepted ≤ s.entries.pile.accepted) }
         ensures covers { IfOk result (λ s. KeepsCoversFrom min self.entries.pile.accepted (covered_by self.entries.pile.items.items)
             (covered_by s.entries.pile.items.items)) }
+        ensures aside { IfOk result (λ s. SetsAside min s.entries.pile.accepted self.entries.pile.items.items self.aside.gone.items s.aside.gone.items) }
         ensures marked { IfOk result (λ s. IsMarked self.entries.pile.accepted s.entries.pile.accepted (ArchiveRecord.Prune min)
             self.log.waiting.items self.log.marks.items s.log.waiting.items s.log.marks.items) }
         ensures watched { Heeds (λ s. journal_watch s.alarm.faults s.alarm.due.items) (λ w. journal_watch w.alarm.faults w.alarm.due.items)
@@ -274,9 +276,15 @@ impl<T: JournalItem, D: Disk> Archive<T> for JournalArchive<T, D> {
         if archive.alarm.rings() {
             return Err(Lost::Fault(archive.left()));
         }
-        match copies_below(archive.aside.alloc, &archive.entries.pile.items, min) {
+        // A prune is counted, so that no ticket that was given out before it writes it or lets go what it takes out.
+        let mark = archive.entries.pile.ticket().number().saturating_add(1);
+        let may = match ranges_left(&archive.aside.may, archive.entries.pile.held()).try_clone() {
+            Ok(may) => may,
+            Err(_) => return Err(Lost::Memory(archive.left())),
+        };
+        match copies_below(archive.aside.alloc, &archive.entries.pile.items, min, mark) {
             Err(_) => Err(Lost::Memory(archive.left())),
-            Ok(more) => archive.cut(min, more),
+            Ok(more) => archive.cut(min, mark, more, may),
         }
     }
 

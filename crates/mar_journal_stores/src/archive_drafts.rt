@@ -1,5 +1,6 @@
 //! What the calls of an archive that is a journal prepare before they change it.
-ghost use Rattle.std.specs.Prelude.{◌≡◌, not, filter, map, nat_le, IfOk, max};
+ghost use Rattle.std.specs.Prelude.{◌≡◌, not, filter, map, nat_le, option_map, IfOk, max};
+ghost use Rattle.std.specs.List.{AllByRecursion};
 ghost use Rattle.mar_store.specs.Entries.{seen};
 ghost use Rattle.mar_store.specs.Ranges.{with_height};
 ghost use Rattle.mar_journal_stores.specs.ArchiveStore.{IsFront, IsMarkOf, last_mark};
@@ -7,35 +8,50 @@ ghost use Rattle.mar_journal_stores.specs.ArchiveStore.{IsFront, IsMarkOf, last_
 use mar_store::{Entry, Item, RangeSet};
 use std::alloc::{AllocError, Global};
 
-/// A copy of what is put, and the ranges with its index.
+/// A copy of what is put, and the ranges with its index where there are any.
 pub fn prepare_put<T: Item>(
-    may: &RangeSet,
+    may: &Option<RangeSet>,
     index: u64,
     item: &T,
-) -> Result<(T, RangeSet), AllocError>
+) -> Result<(T, Option<RangeSet>), AllocError>
     ensures copy { IfOk result (λ p. p.0 ≡ item.now) }
-    ensures grown { IfOk result (λ p. p.1 ≡ with_height index may.now) }
+    ensures grown { IfOk result (λ p. p.1 ≡ option_map (with_height index) may.now) }
 {
     let copy = item.try_clone()?;
-    let mut grown = may.try_clone()?;
-    grown.insert(index)?;
+    let grown = grown_by(may, index)?;
     Ok((copy, grown))
 }
 
-/// Copies of the entries below an index, which a prune sets aside.
+// The ranges with an index, where there are any.
+fn grown_by(may: &Option<RangeSet>, index: u64) -> Result<Option<RangeSet>, AllocError>
+    ensures { IfOk result (λ grown. grown ≡ option_map (with_height index) may.now) }
+{
+    match may {
+        None => Ok(None),
+        Some(ranges) => {
+            let mut grown = ranges.try_clone()?;
+            grown.insert(index)?;
+            Ok(Some(grown))
+        }
+    }
+}
+
+/// Copies of the entries below an index, which a prune sets aside under its mark.
 pub fn copies_below<T: Item>(
     alloc: Global,
     items: &[Entry<T>],
     min: u64,
+    mark: u64,
 ) -> Result<Vec<Entry<T>>, AllocError>
-    ensures { IfOk result (λ v. map seen v.items ≡ map seen (filter (λ e. not (nat_le min e.index)) items.now)) }
+    ensures copies { IfOk result (λ v. map seen v.items ≡ map seen (filter (λ e. not (nat_le min e.index)) items.now)) }
+    ensures numbered { IfOk result (λ v. AllByRecursion (λ e. e.number ≡ mark) v.items) }
 {
     let mut below = Vec::new(alloc);
     for entry in items {
         if entry.index < min {
             below.push(Entry {
                 index: entry.index,
-                number: entry.number,
+                number: mark,
                 item: entry.item.try_clone()?,
             })?;
         }

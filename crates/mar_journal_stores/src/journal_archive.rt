@@ -1,5 +1,5 @@
 //! An archive that is a journal.
-ghost use Rattle.std.specs.Prelude.{◌≡◌, ◌<◌, ◌≤◌, ◌+◌, max, ◌^◌, [], ◌++◌, ◌∷◌, List, ℕ, None, not, filter, map, nat_le, take, true, false, IfErr, IfOk, MatchResult, drop, length};
+ghost use Rattle.std.specs.Prelude.{◌≡◌, ◌<◌, ◌≤◌, ◌+◌, max, ◌^◌, [], ◌++◌, ◌∷◌, List, ℕ, None, not, filter, map, nat_le, option_map, take, true, false, IfErr, IfOk, MatchResult, drop, length};
 ghost use Rattle.std.specs.List.{AllByRecursion};
 ghost use Rattle.mar_store.specs.Changes.{Fails, Finishes, IsReopened, Prunes, Puts, Syncs, heights, left_of};
 ghost use Rattle.mar_store.specs.Entries.{covered_by, next_number, seen};
@@ -15,29 +15,29 @@ ghost use Rattle.mar_journal.specs.Format.{Stands};
 ghost use Rattle.mar_journal.specs.Journal.{Adds, HasReason, IsOldOrNew};
 ghost use Rattle.mar_journal.specs.declared.ArchiveRecord.{ArchiveRecord};
 ghost use Rattle.mar_types.specs.Causes.{Rose};
-ghost use Rattle.mar_journal_stores.specs.ArchiveStore.{IsArchiveLeft, IsBacked, IsMarked, StaysFound, archive_kept, archive_within, left_may};
+ghost use Rattle.mar_journal_stores.specs.ArchiveStore.{AreLeftRanges, IsArchiveLeft, IsBacked, IsMarked, LetsGo, SetsAside, StaysFound, archive_kept, archive_within, left_may, ranges_or, ranges_with};
 ghost use Rattle.mar_journal_stores.specs.Watches.{CountsLost, HasFaultCause, journal_watch};
 
 use crate::archive_drafts::mark_of;
 use crate::archive_opening::open_entries;
-use crate::aside::{Aside, set_aside};
+use crate::aside::{Aside, ranges_after, ranges_left, set_aside};
 use crate::log::Log;
 use crate::told::told_by;
 use mar_journal::{ArchiveRecord, Disk, JournalItem, Unopened};
 use mar_store::{Alarm, ArchiveRuin, Entries, Entry, Lost, Miss, Pile, RangeSet};
 use std::alloc::{AllocError, Global};
 
-/// Values in memory and in a journal, and the records that wait until a sync writes them. What was pruned since the last
-/// sync is kept aside, since a crash may bring it back.
+/// Values in memory and in a journal, and the records that wait until a sync writes them. What was pruned is kept aside, since
+/// a crash may bring it back, until a sync has finished that was started later.
 #[derive(Drop)]
 pub struct JournalArchive<T: JournalItem, D: Disk> {
     pub(crate) entries: Entries<T>,
     pub(crate) aside: Aside<T>,
     pub(crate) log: Log<ArchiveRecord<T>, D>,
     pub(crate) alarm: Alarm,
-    ghost may_is: { aside.may ≡ ranges (heights (left_may aside.gone.items entries.pile.items.items)) },
+    ghost may_is: { AreLeftRanges aside.may aside.gone.items entries.pile.items.items },
     ghost backed: { ∥ IsBacked T.name T.spelled T.fits D.seen D.may_leave log.disk log.end (take entries.pile.synced (map seen entries.pile.items.items))
-        (left_may aside.gone.items entries.pile.items.items) entries.pile.items.items entries.pile.accepted log.waiting.items log.marks.items ∥₁ },
+        aside.gone.items entries.pile.items.items entries.pile.accepted log.waiting.items log.marks.items ∥₁ },
 }
 
 /// What is left of a `JournalArchive`: a disk, and what it may have.
@@ -48,7 +48,7 @@ pub struct JournalArchiveWreck<T: JournalItem, D: Disk> {
     disk: D,
     pub(crate) damage: Option<usize>,
     pub(crate) alarm: Alarm,
-    ghost may_is: { aside.may ≡ ranges (heights (left_may aside.gone.items pile.items.items)) },
+    ghost may_is: { AreLeftRanges aside.may aside.gone.items pile.items.items },
     ghost is_left: { ∥ IsArchiveLeft T.name T.spelled T.fits D.may_leave disk (take pile.synced (map seen pile.items.items))
         (left_may aside.gone.items pile.items.items) ∥₁ },
 }
@@ -69,9 +69,9 @@ impl<T: JournalItem, D: Disk> JournalArchive<T, D> {
     {
         let mut disk = disk;
         match open_entries(alloc, &mut disk) {
-            Ok((entries, held, end)) => Ok(JournalArchive {
+            Ok((entries, end)) => Ok(JournalArchive {
                 entries,
-                aside: Aside::new(alloc, held),
+                aside: Aside::new(alloc),
                 log: Log::new(alloc, disk, end),
                 alarm: Alarm::new(alloc),
             }),
@@ -123,13 +123,13 @@ impl<T: JournalItem, D: Disk> JournalArchive<T, D> {
         index: u64,
         item: T,
         copy: T,
-        grown: RangeSet,
+        grown: Option<RangeSet>,
     ) -> Result<Self, Lost<JournalArchiveWreck<T, D>>>
         requires index { index < 2 ^ 64 }
         requires size { T.size item ≤ 1048576 }
         requires fits { T.fits index item ≡ true }
         requires copy { copy ≡ item }
-        requires grown { grown ≡ with_height index self.aside.may }
+        requires grown { grown ≡ option_map (with_height index) self.aside.may }
         ensures done { MatchResult result
             (λ s. Puts (is_taken T.name (map seen self.entries.pile.items.items) (record { height = index; value = item }))
             (archive_kept self.aside.gone.items self.entries.pile.items.items self.entries.pile.synced) (record { height = index; value = item })
@@ -208,16 +208,16 @@ impl<T: JournalItem, D: Disk> JournalArchive<T, D> {
         }
     }
 
-    // Makes all sure that is held, when it is written. It is given the ranges of what is held.
-    pub(crate) fn make_sure(self, held: RangeSet) -> Result<Self, Lost<JournalArchiveWreck<T, D>>>
+    // Makes all sure that is held, when it is written.
+    pub(crate) fn make_sure(self) -> Result<Self, Lost<JournalArchiveWreck<T, D>>>
         requires waiting { self.log.waiting.items ≡ [] }
-        requires held { held ≡ ranges (heights (map seen self.entries.pile.items.items)) }
         ensures done { MatchResult result
             (λ s. Syncs (archive_kept self.aside.gone.items self.entries.pile.items.items self.entries.pile.synced)
             (archive_kept s.aside.gone.items s.entries.pile.items.items s.entries.pile.synced))
             (λ l. Fails (left_of (archive_kept self.aside.gone.items self.entries.pile.items.items self.entries.pile.synced)) []
             (left_of (archive_kept (wreck_of l).aside.gone.items (wreck_of l).pile.items.items (wreck_of l).pile.synced))) }
         ensures items { IfOk result (λ s. s.entries.pile.items.items ≡ self.entries.pile.items.items) }
+        ensures aside { IfOk result (λ s. s.aside.gone.items ≡ []) }
         ensures tickets { MatchResult result (λ s. s.entries.pile.accepted ≡ self.entries.pile.accepted)
             (λ l. (wreck_of l).pile.accepted ≡ self.entries.pile.accepted) }
         ensures log { IfOk result (λ s. s.log ≡ self.log) }
@@ -234,8 +234,7 @@ impl<T: JournalItem, D: Disk> JournalArchive<T, D> {
         } = self;
         match entries.sync() {
             Ok(entries) => {
-                aside.gone.clear();
-                aside.may = held;
+                aside.let_all_go();
                 Ok(JournalArchive {
                     entries,
                     aside,
@@ -253,7 +252,8 @@ impl<T: JournalItem, D: Disk> JournalArchive<T, D> {
         }
     }
 
-    // Makes sure what the ticket of a number covers, when it is written.
+    // Makes sure what the ticket of a number covers, when it is written. Where that makes more sure, what was pruned before
+    // goes; else nothing changes.
     pub(crate) fn make_covered_sure(
         self,
         number: u64,
@@ -266,6 +266,38 @@ impl<T: JournalItem, D: Disk> JournalArchive<T, D> {
             (λ l. Fails (left_of (archive_kept self.aside.gone.items self.entries.pile.items.items self.entries.pile.synced)) []
             (left_of (archive_kept (wreck_of l).aside.gone.items (wreck_of l).pile.items.items (wreck_of l).pile.synced))) }
         ensures items { IfOk result (λ s. s.entries.pile.items.items ≡ self.entries.pile.items.items) }
+        ensures let_go { IfOk result (λ s. LetsGo number self.entries.pile.synced s.entries.pile.synced self.aside.gone.items s.aside.gone.items) }
+        ensures tickets { MatchResult result (λ s. s.entries.pile.accepted ≡ self.entries.pile.accepted)
+            (λ l. (wreck_of l).pile.accepted ≡ self.entries.pile.accepted) }
+        ensures log { IfOk result (λ s. s.log ≡ self.log) }
+        ensures watched { IsCalm (λ s. journal_watch s.alarm.faults s.alarm.due.items) (λ w. journal_watch w.alarm.faults w.alarm.due.items)
+            (journal_watch self.alarm.faults self.alarm.due.items) result }
+        ensures disk { MatchResult result (λ s. s.log.disk ≡ self.log.disk) (λ l. (wreck_of l).disk ≡ self.log.disk) }
+        ensures cause { (due : List ℕ) (before : ℕ) → IfErr result (HasFaultCause (λ w. D.faults w.disk) due before) }
+    {
+        match ranges_after(&self.aside.gone, self.entries.pile.held(), number) {
+            Err(_) => Err(Lost::Memory(self.left())),
+            Ok(may) => self.finish_entries(number, may),
+        }
+    }
+
+    // The same, with the ranges of what may be left where it lets go what was pruned before.
+    fn finish_entries(
+        self,
+        number: u64,
+        may: Option<RangeSet>,
+    ) -> Result<Self, Lost<JournalArchiveWreck<T, D>>>
+        requires later { AllByRecursion (λ n. number < n) self.log.marks.items }
+        requires may { ranges_or (ranges (heights (map seen self.entries.pile.items.items))) may
+            ≡ ranges_with (ranges (heights (map seen self.entries.pile.items.items))) number self.aside.gone.items }
+        ensures done { MatchResult result
+            (λ s. Finishes (covered_by self.entries.pile.items.items number)
+            (archive_kept self.aside.gone.items self.entries.pile.items.items self.entries.pile.synced)
+            (archive_kept s.aside.gone.items s.entries.pile.items.items s.entries.pile.synced))
+            (λ l. Fails (left_of (archive_kept self.aside.gone.items self.entries.pile.items.items self.entries.pile.synced)) []
+            (left_of (archive_kept (wreck_of l).aside.gone.items (wreck_of l).pile.items.items (wreck_of l).pile.synced))) }
+        ensures items { IfOk result (λ s. s.entries.pile.items.items ≡ self.entries.pile.items.items) }
+        ensures let_go { IfOk result (λ s. LetsGo number self.entries.pile.synced s.entries.pile.synced self.aside.gone.items s.aside.gone.items) }
         ensures tickets { MatchResult result (λ s. s.entries.pile.accepted ≡ self.entries.pile.accepted)
             (λ l. (wreck_of l).pile.accepted ≡ self.entries.pile.accepted) }
         ensures log { IfOk result (λ s. s.log ≡ self.log) }
@@ -276,17 +308,12 @@ impl<T: JournalItem, D: Disk> JournalArchive<T, D> {
     {
         let JournalArchive {
             entries,
-            aside,
+            mut aside,
             log,
             alarm,
         } = self;
+        let sure = entries.pile.sure_count();
         match entries.finish(number) {
-            Ok(entries) => Ok(JournalArchive {
-                entries,
-                aside,
-                log,
-                alarm,
-            }),
             Err(pile) => Err(Lost::Memory(JournalArchiveWreck {
                 pile,
                 aside,
@@ -294,23 +321,39 @@ impl<T: JournalItem, D: Disk> JournalArchive<T, D> {
                 damage: None,
                 alarm,
             })),
+            Ok(entries) => {
+                aside.let_go(number, sure, entries.pile.sure_count(), may);
+                Ok(JournalArchive {
+                    entries,
+                    aside,
+                    log,
+                    alarm,
+                })
+            }
         }
     }
 
-    // Takes out what is below an index, and sets it aside. It is given copies of that. The same may be left as before.
+    // Takes out what is below an index, and sets it aside. It is given copies of that, numbered by the prune's mark, and the
+    // ranges of what may be left, which stay as they were.
     pub(crate) fn cut(
         self,
         min: u64,
+        mark: u64,
         more: Vec<Entry<T>>,
+        may: RangeSet,
     ) -> Result<Self, Lost<JournalArchiveWreck<T, D>>>
         requires min { min < 2 ^ 64 }
+        requires mark { mark ≡ next_number self.entries.pile.accepted }
         requires more { map seen more.items ≡ map seen (filter (λ e. not (nat_le min e.index)) self.entries.pile.items.items) }
+        requires numbered { AllByRecursion (λ e. e.number ≡ mark) more.items }
+        requires may { may ≡ ranges (heights (left_may self.aside.gone.items self.entries.pile.items.items)) }
         ensures done { MatchResult result
             (λ s. Prunes min (archive_kept self.aside.gone.items self.entries.pile.items.items self.entries.pile.synced)
             (archive_kept s.aside.gone.items s.entries.pile.items.items s.entries.pile.synced))
             (λ l. Fails (left_of (archive_kept self.aside.gone.items self.entries.pile.items.items self.entries.pile.synced)) []
             (left_of (archive_kept (wreck_of l).aside.gone.items (wreck_of l).pile.items.items (wreck_of l).pile.synced))) }
         ensures cut { IfOk result (λ s. s.entries.pile.items.items ≡ filter (λ e. nat_le min e.index) self.entries.pile.items.items) }
+        ensures aside { IfOk result (λ s. SetsAside min s.entries.pile.accepted self.entries.pile.items.items self.aside.gone.items s.aside.gone.items) }
         ensures tickets { IfOk result (λ s. s.entries.pile.accepted ≡ next_number self.entries.pile.accepted) }
         ensures counted { IfErr result (λ l. (wreck_of l).pile.accepted ≡ self.entries.pile.accepted) }
         ensures marked { IfOk result (λ s. IsMarked self.entries.pile.accepted s.entries.pile.accepted (ArchiveRecord.Prune min)
@@ -327,8 +370,6 @@ impl<T: JournalItem, D: Disk> JournalArchive<T, D> {
             alarm,
         } = self;
         let count = aside.gone.len();
-        // A prune is counted, so that no ticket that was given out before it writes it.
-        let mark = entries.pile.ticket().number().saturating_add(1);
         match set_aside(&mut log, &mut aside.gone, more, min, mark) {
             Err(_) => Err(Lost::Memory(JournalArchiveWreck {
                 pile: entries.into_pile(),
@@ -338,12 +379,15 @@ impl<T: JournalItem, D: Disk> JournalArchive<T, D> {
                 alarm,
             })),
             Ok(()) => match entries.prune(min) {
-                Ok(entries) => Ok(JournalArchive {
-                    entries: entries.count(),
-                    aside,
-                    log,
-                    alarm,
-                }),
+                Ok(entries) => {
+                    aside.may = Some(may);
+                    Ok(JournalArchive {
+                        entries: entries.count(),
+                        aside,
+                        log,
+                        alarm,
+                    })
+                }
                 Err(pile) => {
                     aside.gone.truncate(count);
                     Err(Lost::Memory(JournalArchiveWreck {
@@ -465,7 +509,7 @@ impl<T: JournalItem, D: Disk> JournalArchiveWreck<T, D> {
             return Err(Lost::Memory(wreck));
         }
         match open_entries(wreck.aside.alloc, &mut wreck.disk) {
-            Ok((entries, held, end)) => {
+            Ok((entries, end)) => {
                 let JournalArchiveWreck {
                     aside,
                     disk,
@@ -474,7 +518,7 @@ impl<T: JournalItem, D: Disk> JournalArchiveWreck<T, D> {
                 } = wreck;
                 Ok(JournalArchive {
                     entries,
-                    aside: Aside::new(aside.alloc, held),
+                    aside: Aside::new(aside.alloc),
                     log: Log::new(aside.alloc, disk, end),
                     alarm,
                 })
@@ -506,7 +550,7 @@ impl<T: JournalItem, D: Disk> ArchiveRuin<T> for JournalArchiveWreck<T, D> {
     }
 
     fn may_ranges(&self) -> &RangeSet {
-        &self.aside.may
+        ranges_left(&self.aside.may, self.pile.held())
     }
 
     fn arm(&mut self, calls: u64) -> Result<(), AllocError> {

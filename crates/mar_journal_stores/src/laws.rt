@@ -4,8 +4,9 @@ ghost use Rattle.std.specs.List.{AllByRecursion};
 ghost use Rattle.mar_store.specs.Changes.{KeepsValues, Within};
 ghost use Rattle.mar_store.specs.Kept.{At};
 ghost use Rattle.mar_store.specs.Values.{Values};
+ghost use Rattle.mar_store.specs.declared.Entry.{Entry};
 ghost use Rattle.mar_journal.specs.Disk.{LeavesOnly};
-ghost use Rattle.mar_journal_stores.specs.ArchiveStore.{IsFront, StaysFound};
+ghost use Rattle.mar_journal_stores.specs.ArchiveStore.{IsFront, StaysFound, aside_after};
 ghost use Rattle.mar_journal_stores.specs.MetaStore.{IsMetaFile};
 
 use mar_journal::{Disk, JournalItem};
@@ -25,6 +26,14 @@ pub fn metadata_moments_add_up<D: Disk>()
     ensures { (old mid new : D) (left later all : List Values) → LeavesOnly D.moment D.left_since old mid (IsMetaFile left)
         → LeavesOnly D.moment D.left_since mid new (IsMetaFile later) → Within left all → Within later all
         → LeavesOnly D.moment D.left_since old new (IsMetaFile all) }
+{}
+
+/// Of what was pruned a ticket that finishes lets go what was so before it was made, and nothing that was pruned later, where
+/// it makes something sure (`finish`: `let_go`). What stood aside as it was made has numbers up to its own (`start_sync`:
+/// `aside`), and what a prune sets aside later has a number above it (`prune`: `aside`).
+pub fn tickets_let_go_what_was_pruned_before<T: JournalItem>()
+    ensures { (t : ℕ) (before later : List (Entry T)) → AllByRecursion (λ e. e.number ≤ t) before → AllByRecursion (λ e. t < e.number) later
+        → aside_after t (before ++ later) ≡ later }
 {}
 
 /// A ticket that finishes writes the records that waited when it was given out, and no more. Of those before it the marks

@@ -14,4 +14,7 @@ mod told;
 
 pub use journal_archive::{JournalArchive, JournalArchiveWreck};
 pub use journal_meta::{JournalMeta, JournalMetaWreck};
-pub use laws::{archive_moments_add_up, metadata_moments_add_up, tickets_write_what_came_before};
+pub use laws::{
+    archive_moments_add_up, metadata_moments_add_up, tickets_let_go_what_was_pruned_before,
+    tickets_write_what_came_before,
+};

@@ -41,6 +41,9 @@ make_covered_sure-requires g c = record { later = rw (c.in-Ok.ensures.marks, ←
 pub returns-in-Ok-clause-done : goal.returns-in-Ok-clause-done
 returns-in-Ok-clause-done g c = rw (c.in-Ok.ensures.entries, c.in-Ok.ensures.aside, c.number-number.ensures) at c.make_covered_sure.ensures.done
 
+pub returns-in-Ok-clause-let_go : goal.returns-in-Ok-clause-let_go
+returns-in-Ok-clause-let_go g c = rw (c.in-Ok.ensures.entries, c.in-Ok.ensures.aside, c.number-number.ensures) at c.make_covered_sure.ensures.let_go
+
 pub returns-in-Ok-clause-tickets : goal.returns-in-Ok-clause-tickets
 returns-in-Ok-clause-tickets g c = ok_from c.make_covered_sure.result _ _ _ (λ s is. omega (arith, is, ap (λ e. e.pile.accepted) c.in-Ok.ensures.entries)) c.make_covered_sure.ensures.tickets
 

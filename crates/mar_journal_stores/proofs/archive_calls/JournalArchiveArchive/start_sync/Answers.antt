@@ -1,6 +1,7 @@
 use Rattle.std.proofs.Common.{[], ap, arith, inl, refl, sym, ◌∙◌, ◌≤◌}
 use Rattle.mar_journal_stores.specs.ArchiveStore.{last_mark}
-use Rattle.mar_journal_stores.proofs.ArchiveSteps.{fails_left, ordered_of}
+use Rattle.mar_journal_stores.proofs.Asides.{aside_upto}
+use Rattle.mar_journal_stores.proofs.ArchiveSteps.{fails_left, ordered_of, upto_of}
 use Rattle.mar_journal_stores.proofs.Watching.{struck}
 use Rattle.mar_journal_stores.proofs.Marks.{all_upto, covers_all, last_most, last_upto}
 use Rattle.mar_journal_stores.proofs.archive_calls.JournalArchiveArchive.start_sync.Goals as goal
@@ -27,4 +28,10 @@ returns-clause-waiting g c = (
   refl,
   refl,
   rw c.new.ensures (last_most c.args.self.entries.pile.accepted c.newest-number.result c.args.self.log.marks.items (ordered_of g.T.Item.name g.T.JournalItem.spelled g.T.Item.fits g.D.Disk.seen g.D.Disk.may_leave c.args.self.log.disk c.args.self.log.end c.args.self.aside.gone.items c.args.self.entries.pile.items.items c.args.self.entries.pile.synced c.args.self.entries.pile.accepted c.args.self.log.waiting.items c.args.self.log.marks.items c.args.self.backed) (omega (arith, c.newest-number.ensures, ap last_mark c.deref.ensures.value))),
+)
+
+pub returns-clause-aside : goal.returns-clause-aside
+returns-clause-aside g c = (
+  refl,
+  rw c.new.ensures (aside_upto c.args.self.entries.pile.accepted c.newest-number.result c.args.self.aside.gone.items (omega (arith, c.newest-number.ensures, c.number.ensures, c.ticket.ensures.exact)) (upto_of g.T.Item.name g.T.JournalItem.spelled g.T.Item.fits g.D.Disk.seen g.D.Disk.may_leave c.args.self.log.disk c.args.self.log.end c.args.self.aside.gone.items c.args.self.entries.pile.items.items c.args.self.entries.pile.synced c.args.self.entries.pile.accepted c.args.self.log.waiting.items c.args.self.log.marks.items c.args.self.backed)),
 )

@@ -35,7 +35,7 @@ invariant_of-result-in-Ok g c =
 
 pub invariant_of-result-in-Ok-add : goal.invariant_of-result-in-Ok-add
 invariant_of-result-in-Ok-add g c =
-    let good = put_is_writable g.T.Item.name g.T.JournalItem.spelled g.T.Item.fits c.args.index c.args.item c.requires.index c.requires.fits (g.met.T.JournalItem.keyed c.args.item) (omega (arith, g.met.T.JournalItem.sized c.args.item, c.requires.size)) in
+    let good = put_is_writable g.T.Item.name g.T.JournalItem.spelled g.T.Item.fits c.args.index c.args.item c.requires.index c.requires.fits (g.met.T.JournalItem.keyed c.args.index c.args.item c.requires.fits) (omega (arith, g.met.T.JournalItem.sized c.args.index c.args.item c.requires.fits, c.requires.size)) in
     let are = more_by_length _ _ _ (record { height = c.args.index; value = c.args.item }) c.in-Ok.ensures.done.held (λ e. c.if-len-count-2.false (let long = simp length-map at e in omega (arith, c.len-count.ensures, long, c.in-Ok.entries.pile.items.ok.0, c.args.self.entries.pile.items.ok.0))) in
     let free = free_by_length _ _ _ (record { height = c.args.index; value = c.args.item }) c.in-Ok.ensures.done.held (λ e. c.if-len-count-2.false (let long = simp length-map at e in omega (arith, c.len-count.ensures, long, c.in-Ok.entries.pile.items.ok.0, c.args.self.entries.pile.items.ok.0))) in
     rw (c.add.ensures.disk, c.add.ensures.end) (record {

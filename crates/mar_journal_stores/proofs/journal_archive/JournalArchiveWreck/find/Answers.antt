@@ -24,7 +24,7 @@ pub invariant_of-result : goal.invariant_of-result
 invariant_of-result g c =
     let done = c.in-Ok.ensures.done in
     rw (c.new.ensures.gone, c.new.ensures.may, c.new-in-Ok.ensures.disk, c.new-in-Ok.ensures.end, c.new-in-Ok.ensures.waiting, c.new-in-Ok.ensures.marks) (record {
-      may_is = done.5;
+      may_is = refl;
       backed = reopened_backed g.T.Item.name g.T.JournalItem.spelled g.T.Item.fits g.D.Disk.seen g.D.Disk.may_leave g.D.Disk.moment g.D.Disk.left_since g.met.D.Disk.counts_now g.met.T.JournalItem.keyed g.met.T.JournalItem.one c.args.self.disk c.crash.new.self c.open_entries.new.disk c.args.self.aside.gone.items c.args.self.pile.items.items c.args.self.pile.synced c.crash.ensures.crash c.args.self.is_left g.row.T.coded (g.met.D.Disk.is_image c.crash.new.self) done.0 done.2 c.in-Ok.entries.pile.items.items c.in-Ok.entries.pile.synced c.in-Ok.entries.pile.once done.3 done.4 c.in-Ok.end c.in-Ok.entries.pile.accepted done.1 c.in-Ok.entries.pile.fits;
     })
 
