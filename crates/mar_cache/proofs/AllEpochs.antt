@@ -107,14 +107,10 @@ finishes_part : {E : Type 0} (plain : E → Cached) (p : SectionSync) (t u : Epo
 finishes_part plain p (opened b) u (c, does, is) = subst (FinishesPart p (opened b)) (sym is) (record {
   held = does.held;
   sure = λ x has. does.sure x has refl;
-  finished = λ x has. by (nat_le p.number b.number) x has;
+  finished = does.made_sure;
   may = λ x has. elim (Contains-append_cases b.kept.may [] x (does.may x has)) [ inl before ↦ before | inr none ↦ in_nothing x none ];
   opened = refl;
 })
-  where
-    by : (q : Bool) (x : Cached) → Contains (cond q (b.covers p.section p.number) []) x → Contains c.kept.sure x
-    by true x has = does.made_sure x has
-    by false x has = in_nothing x has
 finishes_part plain p (shut l) u is = subst (FinishesPart p (shut l)) (sym is) (record { held = refl; sure = λ x has. has; finished = λ x has. in_nothing x has; may = λ x has. has; opened = refl })
 
 -- what the end of a ticket makes of its epoch

@@ -218,6 +218,9 @@ index_default [] j a b less = absurd (omega (arith, less))
 index_default (x ∷ xs) zero a b less = refl
 index_default (x ∷ xs) (suc j) a b less = index_default xs j a b (omega (arith, less))
 
+pub get_contains : (xs : List ℕ) (j k : ℕ) → j < length xs → get_or xs j 0 ≡ k → Contains xs k
+get_contains xs j k less is = (j, less, index_default xs j k 0 less ∙ is)
+
 pub opened_all : (states : EpochStates) (es : List ℕ) (place : ℕ) (test : ℕ → Bool) → length es ≤ place → ((j : ℕ) → j < place → test (get_or es j 0) ≡ true → is_opened (states (get_or es j 0)) ≡ true) → (k : ℕ) → test k ≡ true → Contains es k → is_opened (states k) ≡ true
 opened_all states es place test over all k passes (j, less, is) =
     let at : get_or es j 0 ≡ k = index_default es j 0 k less ∙ is in

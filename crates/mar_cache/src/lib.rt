@@ -4,10 +4,14 @@
 mod bounds;
 mod epoch_cache;
 mod laws;
+mod loads;
 mod losses;
 mod manager;
 mod mem_shelf;
+mod prunes;
+mod puts;
 mod stage;
+mod steps;
 
 pub use epoch_cache::EpochCache;
 pub use laws::{

@@ -114,12 +114,25 @@ module _ {E : Type 0} (plain : E → Cached) (entry : E) (fs new : List Logged) 
       by true taken is' = put_ignored is' taken
       by false free is' = put_behind is' free
 
+-- a change that does nothing
+pub does_nothing : {E : Type 0} (plain : E → Cached) (change : Change E) (number : ℕ) (fs : List Logged) → ((held : List Cached) → held_after plain change held ≡ held) → newly_sure number (covered_in fs) change (entries fs) ≡ [] → ((x : Cached) → is_kept change x ≡ true) → ChangesArchives plain change (book_of number fs) (book_of number fs)
+does_nothing plain change number fs same makes keeps = record {
+  held = sym (same (entries fs));
+  sure = λ y sure kept. sure;
+  made_sure = λ y has. contains_none y (subst (λ ys. Contains ys y) makes has);
+  only = λ y sure. inl sure;
+  may = λ y has. Contains-append_left (entries fs) _ y has;
+  number = omega arith;
+  covers = λ s t below less. sym (filter_agree (is_kept change) (λ x. true) keeps (covered_in fs s t) ∙ filter_all (covered_in fs s t));
+  last = covers_last fs;
+}
+
 -- a call that did nothing
 pub loses_nothing : {E : Type 0} (plain : E → Cached) (change : Change E) (fs : List Logged) → LosesArchives plain change (kept_in fs) (left_of (kept_in fs))
 loses_nothing plain change fs = record {
   sure = λ y has kept. has;
   only = λ y has. has;
-  held = λ y has kept. has;
+  stays = λ y has kept. has;
   may = λ y has. Contains-append_left (entries fs) _ y has;
 }
 
@@ -149,7 +162,7 @@ module _ {E : Type 0} (plain : E → Cached) (change : Change E) (s : Section) (
   sure_with : sure_entries new ≡ entries (filter (λ f. f.is_sure || is_covered s n f) fs)
   sure_with = ap sure_entries is ∙ sure_marked s n fs
 
-  pub marks : ((held : List Cached) → held_after plain change held ≡ held) → newly_sure (covered_in fs) change (entries fs) ≡ covered_in fs s n → ((x : Cached) → is_kept change x ≡ true) → ChangesArchives plain change (book_of number fs) (book_of number new)
+  pub marks : ((held : List Cached) → held_after plain change held ≡ held) → newly_sure number (covered_in fs) change (entries fs) ≡ covered_in fs s n → ((x : Cached) → is_kept change x ≡ true) → ChangesArchives plain change (book_of number fs) (book_of number new)
   marks same makes keeps = record {
     held = same_entries ∙ sym (same (entries fs));
     sure = λ y sure keeps'. subst (λ ys. Contains ys y) (sym sure_with) (filter_more (λ f. f.entry) (λ f. f.is_sure) (λ f. f.is_sure || is_covered s n f) (λ f. or_left f.is_sure (is_covered s n f)) fs y sure);
@@ -173,7 +186,7 @@ module _ {E : Type 0} (plain : E → Cached) (change : Change E) (number : ℕ) 
   sure_left : sure_entries new ≡ entries (filter (λ f. is_kept change f.entry) (filter (λ f. f.is_sure) fs))
   sure_left = ap sure_entries is ∙ ap entries (filter_twice (λ f. f.is_sure) (λ f. is_kept change f.entry) fs)
 
-  pub prunes : ((held : List Cached) → held_after plain change held ≡ filter (is_kept change) held) → newly_sure (covered_in fs) change (entries fs) ≡ [] → ChangesArchives plain change (book_of number fs) (book_of number new)
+  pub prunes : ((held : List Cached) → held_after plain change held ≡ filter (is_kept change) held) → newly_sure number (covered_in fs) change (entries fs) ≡ [] → ChangesArchives plain change (book_of number fs) (book_of number new)
   prunes keeps makes = record {
     held = entries_left ∙ sym (keeps (entries fs));
     sure = λ y sure kept. subst (λ ys. Contains ys y) (sym (ap sure_entries is)) (filter_both (λ f. f.entry) (λ f. f.is_sure) (is_kept change) fs y sure kept);
@@ -195,7 +208,7 @@ module _ {E : Type 0} (plain : E → Cached) (change : Change E) (number : ℕ) 
   loses_pruned = record {
     sure = λ y sure kept. subst (λ ys. Contains ys y) (sym (ap sure_entries is)) (filter_both (λ f. f.entry) (λ f. f.is_sure) (is_kept change) fs y sure kept);
     only = λ y sure. filter_within (λ f. f.entry) (λ f. is_kept change f.entry) (filter (λ f. f.is_sure) fs) y (subst (λ ys. Contains ys y) sure_left sure);
-    held = held_left;
+    stays = held_left;
     may = λ y has. Contains-append_left (entries fs) _ y (filter_within (λ f. f.entry) (λ f. is_kept change f.entry) fs y (subst (λ ys. Contains ys y) (ap entries is) has));
   }
 

@@ -1,5 +1,5 @@
 -- What is left of epochs where a call fails, and what a reopening takes up.
-use Rattle.std.proofs.Common.{◌≡◌, ◌≢◌, ◌⊎◌, inl, inr, ◌==◌, ◌<◌, ◌+◌, ℕ, zero, suc, List, [], ◌∷◌, ◌++◌, Bool, true, false, not, IsTrue, Option, Some, None, is_some, Contains, cond, refl, ap, sym, ◌∙◌, subst, map, length, option_map, nat_le, Result, Ok, Err, IfErr, MatchResult, MatchOption, IsSome, ◌↔◌, arith}
+use Rattle.std.proofs.Common.{◌≡◌, ◌≢◌, ◌⊎◌, inl, inr, ◌==◌, ◌<◌, ◌+◌, ℕ, zero, suc, List, [], ◌∷◌, ◌++◌, Bool, true, false, not, IsTrue, Option, Some, None, is_some, Contains, cond, refl, ap, sym, ◌∙◌, subst, map, length, option_map, nat_le, Result, Ok, Err, IfErr, IfOk, MatchResult, MatchOption, IsSome, ◌↔◌, arith}
 use Rattle.std.specs.Prelude.{IsSomeAnd, if◌then◌else◌}
 use Rattle.std.specs.Bool.{OnTrue}
 use Rattle.std.specs.Ordering.{nat_cmp}
@@ -21,12 +21,12 @@ use Rattle.mar_store.specs.declared.Lost.{Lost}
 use Rattle.mar_store.specs.Names.{IsDestroyedOrNot, IsOpenedOrNot, Names, Opens, SetsName}
 use Rattle.mar_store.proofs.Lookups.{AllByRecursion-contains, AllByRecursion-from_contains, AllByRecursion-push, AllByRecursion-weaker}
 use Rattle.mar_model.specs.Cached.{Cached}
-use Rattle.mar_epochs.specs.EpochArchives.{Book, ChangesArchives, FindsArchives, IsOfMemory, KeepsArchives, LosesArchives, is_kept, nothing_left, puts_of}
-use Rattle.mar_epochs.specs.EpochStates.{ChangesEpoch, DestroysOrNot, EpochState, EpochStates, HasSome, IsBare, IsLeftOrBare, KeepsOtherEpochs, LeavesEpoch, LeavesOtherEpochs, LosesEpoch, MightBe, OpensEpoch, PutsBack, held_in, is_opened, is_upto, left_of_epoch, newer_of, none_gone, opened, shut, state_at, state_of_slot, state_under, states_of}
+use Rattle.mar_epochs.specs.EpochArchives.{AreNestedArchives, Book, ChangesArchives, FindsArchives, IsOfMemory, IsSettled, KeepsArchives, LosesArchives, is_kept, nothing_left, puts_of}
+use Rattle.mar_epochs.specs.EpochStates.{ChangesEpoch, DestroysOrNot, EpochState, EpochStates, HasSome, IsBare, IsLeftOrBare, IsSettledEpoch, KeepsOtherEpochs, LeavesEpoch, LeavesOtherEpochs, LosesEpoch, MightBe, OpensEpoch, PutsBack, StaysEpoch, held_in, is_opened, is_there, is_upto, left_of_epoch, newer_of, none_gone, opened, shut, state_at, state_of_slot, state_under, states_of}
 use Rattle.mar_epochs.specs.declared.change.Change.{Change}
 use Rattle.mar_epochs.specs.declared.slot.Slot.{Slot}
 use Rattle.mar_epochs.specs.declared.slot.Slot.TheVariants.{Away, Leftover, Standing}
-use Rattle.mar_epochs.proofs.Filtering.{contains_more, contains_none}
+use Rattle.mar_epochs.proofs.Filtering.{contains_more, contains_none, or_left, or_right}
 
 pub all_map : {A B : Type 0} (P : B → Type 0) (f : A → B) (xs : List A) → ((x : A) → P (f x)) → AllByRecursion P (map f xs)
 all_map P f [] all = tt
@@ -46,12 +46,15 @@ kept_from_not true is = refl
 kept_from_not false is = absurd cc
 
 -- a change of archives that failed
-pub leaves_lost : {E : Type 0} (plain : E → Cached) (change : Change E) (b : Book) (l : Left Cached) → LosesArchives plain change b.kept l → LeavesEpoch (puts_of plain change) (λ x. not (is_kept change x)) (opened b) (shut l)
-leaves_lost plain change b l lost = record {
+pub leaves_lost : {E : Type 0} (plain : E → Cached) (change : Change E) (b : Book) (l : Left Cached) → AreNestedArchives b → LosesArchives plain change b.kept l → LeavesEpoch (puts_of plain change) (λ x. not (is_kept change x)) (opened b) (shut l)
+leaves_lost plain change b l nested lost = record {
   sure = λ x has stays. lost.sure x has (kept_from_not (is_kept change x) stays);
-  held = λ x has stays. lost.held x has (kept_from_not (is_kept change x) stays);
+  held = λ x has stays. lost.stays x (nested.held_may x has) (kept_from_not (is_kept change x) stays);
   may = λ x has. Contains-append_cases b.kept.may (puts_of plain change) x (lost.may x has);
 }
+
+pub stays_lost : {E : Type 0} (plain : E → Cached) (change : Change E) (b : Book) (l : Left Cached) → LosesArchives plain change b.kept l → StaysEpoch (λ x. not (is_kept change x)) (opened b) (shut l)
+stays_lost plain change b l lost = record { may = λ x has stays. lost.stays x has (kept_from_not (is_kept change x) stays); only = lost.only }
 
 -- a reopening of archives that failed
 pub leaves_kept : (l r : Left Cached) → KeepsArchives l r → LeavesEpoch [] none_gone (shut l) (shut r)
@@ -61,10 +64,19 @@ leaves_kept l r kept = record {
   may = λ x has. inl (kept.may x has);
 }
 
+pub stays_kept : (l r : Left Cached) → KeepsArchives l r → StaysEpoch none_gone (shut l) (shut r)
+stays_kept l r kept = record { may = λ x has stays. kept.kept x has; only = kept.only }
+
+-- a crash keeps what might be left and what is sure
+pub stays_itself : (t : EpochState) → StaysEpoch none_gone t (left_of_epoch t)
+stays_itself (opened b) = record { may = λ x has stays. has; only = λ x has. has }
+stays_itself (shut l) = record { may = λ x has stays. has; only = λ x has. has }
+
 -- where one epoch changed and then all was left as a crash leaves it
-pub loses_left : (e : ℕ) (was now : EpochState) (put : List Cached) (gone : Cached → Bool) (old mid : EpochStates) (lefts : List EpochStates) → mid e ≡ now → ((k : ℕ) → k ≢ e → mid k ≡ old k) → LeavesEpoch put gone was (left_of_epoch now) → AllByRecursion (λ l. (k : ℕ) → l k ≡ left_of_epoch (mid k)) lefts → AllByRecursion (LosesEpoch e was put gone old) lefts
-loses_left e was now put gone old mid lefts here others leaves all = AllByRecursion-weaker _ _ (λ l same. record {
+pub loses_left : (e : ℕ) (was now : EpochState) (put : List Cached) (gone : Cached → Bool) (old mid : EpochStates) (lefts : List EpochStates) → mid e ≡ now → ((k : ℕ) → k ≢ e → mid k ≡ old k) → LeavesEpoch put gone was (left_of_epoch now) → StaysEpoch gone was (left_of_epoch now) → AllByRecursion (λ l. (k : ℕ) → l k ≡ left_of_epoch (mid k)) lefts → AllByRecursion (LosesEpoch e was put gone old) lefts
+loses_left e was now put gone old mid lefts here others leaves stays all = AllByRecursion-weaker _ _ (λ l same. record {
   here = subst (LeavesEpoch put gone was) (sym (same e ∙ ap left_of_epoch here)) leaves;
+  stays = subst (StaysEpoch gone was) (sym (same e ∙ ap left_of_epoch here)) stays;
   others = λ k other. same k ∙ ap left_of_epoch (others k other);
 }) lefts all
 
@@ -141,10 +153,14 @@ module _ {A W : Type 0} (book : A → Book) (left : W → Left Cached) (opening 
 
     pub loses_name : (ways : List (Names W)) → AllByRecursion (IsOpenedOrNot is_empty names e) ways → AllByRecursion (LosesEpoch e (state_under left (names e)) [] none_gone (states_of book left opening slots names)) (left_ways removed ways)
     loses_name ways all = all_mapped _ (IsOpenedOrNot is_empty names e) _ ways (λ ns way. record {
-      here = subst (LeavesEpoch [] none_gone (state_under left (names e))) (sym (ap (λ s. left_of_epoch (state_at book left opening s (ns e))) gone_here ∙ ap left_of_epoch (same_under ns way (ns e) refl (names e) refl))) (leaves_under (names e));
+      here = subst (LeavesEpoch [] none_gone (state_under left (names e))) (sym (left_there ns way)) (leaves_under (names e));
+      stays = subst (StaysEpoch none_gone (state_under left (names e))) (sym (left_there ns way)) (stays_itself (state_under left (names e)));
       others = λ k other. ap (λ s. left_of_epoch (state_at book left opening s (ns k))) (others k other) ∙ ap (λ n. left_of_epoch (state_at book left opening (get nat_cmp slots k) n)) (elsewhere ns way k other);
     }) all
       where
+        left_there : (ns : Names W) → IsOpenedOrNot is_empty names e ns → left_of_epoch (states_of book left opening removed ns e) ≡ left_of_epoch (state_under left (names e))
+        left_there ns way = ap (λ s. left_of_epoch (state_at book left opening s (ns e))) gone_here ∙ ap left_of_epoch (same_under ns way (ns e) refl (names e) refl)
+
         elsewhere : (ns : Names W) → IsOpenedOrNot is_empty names e ns → (k : ℕ) → k ≢ e → ns k ≡ names k
         elsewhere ns (inl keeps) k other = keeps k
         elsewhere ns (inr adds) k other = adds.others k other
@@ -181,13 +197,17 @@ module _ {A W : Type 0} (book : A → Book) (left : W → Left Cached) (opening 
 
 module _ {A W S L : Type 0} (book : A → Book) (left : W → Left Cached) (states : S → EpochStates) (lefts : L → List EpochStates) (e : ℕ) (old : EpochStates) where
   -- a change of archives, which were put back
-  pub changes_back : {E : Type 0} (plain : E → Cached) (change : Change E) (b : Book) (answer : Result A (Lost W)) (r : Result S (Lost L)) → PutsBack book left states lefts e old answer r
+  pub changes_back : {E : Type 0} (plain : E → Cached) (change : Change E) (b : Book) (nested : AreNestedArchives b) (answer : Result A (Lost W)) (r : Result S (Lost L)) → PutsBack book left states lefts e old answer r
       → MatchResult answer (λ v. ChangesArchives plain change b (book v)) (λ l. LosesArchives plain change b.kept (left (wreck_of l)))
       → MatchResult r (λ s. ChangesEpoch plain change (opened b) (states s e) × KeepsOtherEpochs e old (states s)) (λ l. AllByRecursion (LosesEpoch e (opened b) (puts_of plain change) (λ x. not (is_kept change x)) old) (lefts (wreck_of l)))
-  changes_back plain change b (Ok v) (Ok s) back done = ((book v, done, back.0), back.1)
-  changes_back plain change b (Ok v) (Err m) back done = absurd back
-  changes_back plain change b (Err l) (Ok s) back done = absurd back
-  changes_back plain change b (Err l) (Err m) back done = AllByRecursion-weaker _ _ (λ x is. record { here = subst (LeavesEpoch (puts_of plain change) (λ y. not (is_kept change y)) (opened b)) (sym is.0) (leaves_lost plain change b (left (wreck_of l)) done); others = is.1 }) (lefts (wreck_of m)) back.1
+  changes_back plain change b nested (Ok v) (Ok s) back done = ((book v, done, back.0), back.1)
+  changes_back plain change b nested (Ok v) (Err m) back done = absurd back
+  changes_back plain change b nested (Err l) (Ok s) back done = absurd back
+  changes_back plain change b nested (Err l) (Err m) back done = AllByRecursion-weaker _ _ (λ x is. record {
+    here = subst (LeavesEpoch (puts_of plain change) (λ y. not (is_kept change y)) (opened b)) (sym is.0) (leaves_lost plain change b (left (wreck_of l)) nested done);
+    stays = subst (StaysEpoch (λ y. not (is_kept change y)) (opened b)) (sym is.0) (stays_lost plain change b (left (wreck_of l)) done);
+    others = is.1;
+  }) (lefts (wreck_of m)) back.1
 
   -- an opening of archives
   pub opens_back : (l : Left Cached) (answer : Result A (Lost W)) (r : Result S (Lost L)) → PutsBack book left states lefts e old answer r
@@ -196,7 +216,19 @@ module _ {A W S L : Type 0} (book : A → Book) (left : W → Left Cached) (stat
   opens_back l (Ok v) (Ok s) back done = ((book v, done, back.0), back.1)
   opens_back l (Ok v) (Err m) back done = absurd back
   opens_back l (Err w) (Ok s) back done = absurd back
-  opens_back l (Err w) (Err m) back done = AllByRecursion-weaker _ _ (λ x is. record { here = subst (LeavesEpoch [] none_gone (shut l)) (sym is.0) (leaves_kept l (left (wreck_of w)) done); others = is.1 }) (lefts (wreck_of m)) back.1
+  opens_back l (Err w) (Err m) back done = AllByRecursion-weaker _ _ (λ x is. record {
+    here = subst (LeavesEpoch [] none_gone (shut l)) (sym is.0) (leaves_kept l (left (wreck_of w)) done);
+    stays = subst (StaysEpoch none_gone (shut l)) (sym is.0) (stays_kept l (left (wreck_of w)) done);
+    others = is.1;
+  }) (lefts (wreck_of m)) back.1
+
+  -- where what is finished was sure, the archives are put back as they were
+  pub settles_back : {E : Type 0} (change : Change E) (b : Book) (t : EpochState) (answer : Result A (Lost W)) (r : Result S (Lost L)) → t ≡ opened b → PutsBack book left states lefts e old answer r
+      → (IsSettled change b → IfOk answer (λ v. book v ≡ b)) → IsSettledEpoch change t → IfOk r (λ s. states s e ≡ t)
+  settles_back change b t (Ok v) (Ok s) is back settled sure = back.0 ∙ ap (λ c. opened c) (settled (subst (IsSettledEpoch change) is sure)) ∙ sym is
+  settles_back change b t (Ok v) (Err m) is back settled sure = tt
+  settles_back change b t (Err l) (Ok s) is back settled sure = absurd back
+  settles_back change b t (Err l) (Err m) is back settled sure = tt
 
   pub memory_back : (answer : Result A (Lost W)) (r : Result S (Lost L)) → PutsBack book left states lefts e old answer r → IfErr answer IsOfMemory → IfErr r IsOfMemory
   memory_back (Ok v) (Ok s) back of = tt
@@ -222,7 +254,7 @@ pub loses_unslotted : {A W : Type 0} (book : A → Book) (left : W → Left Cach
 loses_unslotted book left opening old new names e lefts same none all =
     loses_left e _ (state_under left (names e)) [] none_gone _ (states_of book left opening new names) lefts
     (ap (λ s. state_at book left opening s (names e)) (same e ∙ none)) (λ k other. ap (λ s. state_at book left opening s (names k)) (same k))
-    (leaves_under book left opening (names e)) all
+    (leaves_under book left opening (names e)) (stays_itself (state_under left (names e))) all
 
 -- WALKS OVER EPOCHS
 
@@ -258,7 +290,7 @@ pub same_view : {S L : Type 0} (R : EpochState → EpochState → Type 0) (put :
     → MatchResult r (λ s. R t (states s e) × KeepsOtherEpochs e mid (states s)) (λ l. AllByRecursion (LosesEpoch e t put gone mid) (lefts (wreck_of l)))
     → MatchResult r (λ s. R u (states s e) × KeepsOtherEpochs e old (states s)) (λ l. AllByRecursion (LosesEpoch e u put gone old) (lefts (wreck_of l)))
 same_view R put gone states lefts e t u old mid (Ok s) is same done = (subst (λ v. R v (states s e)) (sym is) done.0, λ k other. done.1 k other ∙ same k other)
-same_view R put gone states lefts e t u old mid (Err l) is same done = AllByRecursion-weaker _ _ (λ x lost. record { here = subst (λ v. LeavesEpoch put gone v (x e)) (sym is) lost.here; others = λ k other. lost.others k other ∙ ap left_of_epoch (same k other) }) (lefts (wreck_of l)) done
+same_view R put gone states lefts e t u old mid (Err l) is same done = AllByRecursion-weaker _ _ (λ x lost. record { here = subst (λ v. LeavesEpoch put gone v (x e)) (sym is) lost.here; stays = subst (λ v. StaysEpoch gone v (x e)) (sym is) lost.stays; others = λ k other. lost.others k other ∙ ap left_of_epoch (same k other) }) (lefts (wreck_of l)) done
 
 module _ {A W : Type 0} (book : A → Book) (left : W → Left Cached) (opening : ℕ) where
   pub exchanged_elsewhere : (now : ℕ) (old new : BTreeMap ℕ (Slot A W)) (names names' : Names W) (e : ℕ) (slot : Slot A W) → now ≡ opening → names' ≡ names → ((k : ℕ) → get nat_cmp new k ≡ (if k == e then option_map (λ _. slot) (get nat_cmp old k) else get nat_cmp old k))
@@ -340,3 +372,10 @@ module _ {A W : Type 0} (book : A → Book) (left : W → Left Cached) (opening 
       by (Some s) is n name some' = Contains-append_right list (keys slots) k (has_key k (ap is_some is))
       by None is (Some w) name some' = Contains-append_left list (keys slots) k ((listed k).0 (ap is_some name))
       by None is None name some' = absurd (some' refl)
+
+  -- what is listed stands under its name, or is at hand
+  pub only_there : (list epochs : List ℕ) → ((n : ℕ) → IsSome (names n) ↔ Contains list n) → epochs ≡ list ++ keys slots → (k : ℕ) → Contains epochs k → is_there slots names k ≡ true
+  only_there list epochs listed are k has = elim (Contains-append_cases list (keys slots) k (subst (λ es. Contains es k) are has)) [
+    | inl named ↦ or_left (is_some (names k)) (is_some (get nat_cmp slots k)) ((listed k).1 named)
+    | inr held ↦ or_right (is_some (names k)) (is_some (get nat_cmp slots k)) ((btree_map_contains_key_iff nat_cmp_total exact_unsigned slots k).1 held)
+  ]

@@ -9,3 +9,5 @@ pub mod Unarmed
 pub mod Spotting
 pub mod Indexing
 pub mod Noting
+pub mod Settling
+pub mod Failing

@@ -165,7 +165,7 @@ round_itself r = and_both (r.epoch == r.epoch) (r.view == r.view) (eq-eqb r.epoc
 bytes_itself : (b : List ℕ) → bytes_eq b b ≡ true
 bytes_itself b = (bytes_eq-Decides b b).1 refl
 
-place_itself : (x : Cached) → same_place x x ≡ true
+pub place_itself : (x : Cached) → same_place x x ≡ true
 place_itself (finalization_entry f) = round_itself f.round
 place_itself (notarization_entry f) = round_itself f.round
 place_itself (notarized_entry r b) = round_itself r

@@ -1,5 +1,5 @@
 -- What a change of an epoch's archives makes of what they hold, what is sure and what a crash can leave.
-use Rattle.std.specs.Prelude.{Bool, Contains, IsTrue, List, [], filter, false, not, true, ℕ, ◌++◌, ◌∷◌, ◌≡◌, ◌≢◌, ◌≤◌, ◌⊎◌}
+use Rattle.std.specs.Prelude.{Bool, Contains, IsTrue, List, [], filter, false, if◌then◌else◌, nat_le, not, true, ℕ, ◌++◌, ◌∷◌, ◌≡◌, ◌≢◌, ◌≤◌, ◌⊎◌}
 use Rattle.mar_store.specs.Kept.{Kept, reopened_store}
 use Rattle.mar_store.specs.Changes.{Left, Within}
 use Rattle.mar_store.specs.Tickets.{last_number}
@@ -29,11 +29,12 @@ held_after plain (PruneBelow r) held = filter (λ x. not (is_below r x)) held
 held_after plain (PruneCertified h) held = filter (λ x. not (is_certified_below h x)) held
 held_after plain _ held = held
 
--- what a sync makes sure, or the end of one that was started, by what its ticket covers
-abbrev pub newly_sure : {E : Type 0} → (Section → ℕ → List Cached) → Change E → List Cached → List Cached
-newly_sure covers (Sync s) held = filter (is_in s) held
-newly_sure covers (Finish s n) held = covers s n
-newly_sure covers _ held = []
+-- What a sync makes sure, or the end of one that was started, by what its ticket covers. A ticket above the greatest number
+-- that this life has given is none of its own, and makes nothing sure.
+abbrev pub newly_sure : {E : Type 0} → ℕ → (Section → ℕ → List Cached) → Change E → List Cached → List Cached
+newly_sure number covers (Sync s) held = filter (is_in s) held
+newly_sure number covers (Finish s n) held = if nat_le n number then covers s n else []
+newly_sure number covers _ held = []
 
 -- What is seen of the archives of an epoch: what they hold, what is sure and what a crash can leave; the greatest number
 -- that a ticket of this life has; and what the ticket of a number makes sure in an archive.
@@ -54,20 +55,25 @@ KeepsCovered change number old new = (s : Section) (t : ℕ) → t ≤ number �
 pub record ChangesArchives {E : Type 0} (plain : E → Cached) (change : Change E) (old new : Book) : Type 0 where
   pub held : new.kept.held ≡ held_after plain change old.kept.held
   pub sure : (x : Cached) → Contains old.kept.sure x → IsTrue (is_kept change x) → Contains new.kept.sure x
-  pub made_sure : Within (newly_sure old.covers change old.kept.held) new.kept.sure
-  pub only : (x : Cached) → Contains new.kept.sure x → Contains old.kept.sure x ⊎ Contains (newly_sure old.covers change old.kept.held) x
+  pub made_sure : Within (newly_sure old.number old.covers change old.kept.held) new.kept.sure
+  pub only : (x : Cached) → Contains new.kept.sure x → Contains old.kept.sure x ⊎ Contains (newly_sure old.number old.covers change old.kept.held) x
   pub may : Within new.kept.may (old.kept.may ++ puts_of plain change)
   pub number : old.number ≤ new.number
   pub covers : KeepsCovered change old.number old.covers new.covers
   pub last : CoversAllLast new
 
--- A change that failed: what was sure is sure, and nothing may be left but what might be, and what was to be put. A prune
--- may have let go what it covers.
+-- A change that failed: what was sure is sure and nothing else, what might be left may be left, and nothing else but what was
+-- to be put. A prune may have let go what it covers.
 pub record LosesArchives {E : Type 0} (plain : E → Cached) (change : Change E) (old : Kept Cached) (left : Left Cached) : Type 0 where
   pub sure : (x : Cached) → Contains old.sure x → IsTrue (is_kept change x) → Contains left.sure x
   pub only : Within left.sure old.sure
-  pub held : (x : Cached) → Contains old.held x → IsTrue (is_kept change x) → Contains left.may x
+  pub stays : (x : Cached) → Contains old.may x → IsTrue (is_kept change x) → Contains left.may x
   pub may : Within left.may (old.may ++ puts_of plain change)
+
+-- what a ticket covers is sure already, where a change finishes one
+abbrev pub IsSettled : {E : Type 0} → Change E → Book → Type 0
+IsSettled (Finish s n) book = Within (if nat_le n book.number then book.covers s n else []) book.kept.sure
+IsSettled _ book = ⊥
 
 -- A reopening finds one list with all that was sure, of what might be left.
 pub record FindsArchives (old : Left Cached) (new : Kept Cached) : Type 0 where

@@ -2,7 +2,7 @@
 use Rattle.std.specs.List.{AllByRecursion}
 use Rattle.std.specs.Ordering.{nat_cmp}
 use Rattle.std.specs.BTreeMap.{BTreeMap, get}
-use Rattle.std.specs.Prelude.{Bool, Contains, Err, List, None, Ok, Option, Result, Some, [], false, filter, if◌then◌else◌, length, map, nat_le, suc, true, zero, ℕ, ⊤, ◌<◌, ◌==◌, ◌∷◌, ◌≡◌, ◌≢◌, ◌≤◌, ◌⊎◌}
+use Rattle.std.specs.Prelude.{Bool, Contains, Err, List, None, Ok, Option, Result, Some, [], false, filter, if◌then◌else◌, is_some, length, map, nat_le, suc, true, zero, ℕ, ⊤, ◌||◌, ◌<◌, ◌==◌, ◌∷◌, ◌≡◌, ◌≢◌, ◌≤◌, ◌⊎◌}
 use Rattle.std.proofs.Common.{arith, subst}
 use Rattle.mar_store.specs.Changes.{Left, Within, left_of}
 use Rattle.mar_store.specs.Lost.{wreck_of}
@@ -10,7 +10,7 @@ use Rattle.mar_store.specs.declared.Lost.{Lost}
 use Rattle.mar_store.specs.Names.{Names}
 use Rattle.mar_model.specs.Cached.{Cached}
 use Rattle.mar_model.specs.Sections.{first_found, is_in}
-use Rattle.mar_epochs.specs.EpochArchives.{AreNestedArchives, Book, ChangesArchives, FindsArchives, is_fault, nothing_left}
+use Rattle.mar_epochs.specs.EpochArchives.{AreNestedArchives, Book, ChangesArchives, FindsArchives, IsSettled, is_fault, nothing_left}
 use Rattle.mar_model.specs.declared.Section.{Section}
 use Rattle.mar_epochs.specs.declared.change.Change.{Change}
 use Rattle.mar_epochs.specs.declared.slot.Slot.{Slot}
@@ -81,15 +81,27 @@ pub record LeavesEpoch (put : List Cached) (gone : Cached → Bool) (old left : 
 abbrev pub none_gone : Cached → Bool
 none_gone x = false
 
+-- What a call that failed keeps of an epoch: what might be left may be left, but for what the call takes, and nothing is sure
+-- that wasn't.
+pub record StaysEpoch (gone : Cached → Bool) (old left : EpochState) : Type 0 where
+  pub may : (x : Cached) → Contains (may_in old) x → gone x ≡ false → Contains (may_in left) x
+  pub only : Within (sure_in left) (sure_in old)
+
 -- What is left where a call failed that opens an epoch or changes it, of which there was this before.
 pub record LosesEpoch (e : ℕ) (was : EpochState) (put : List Cached) (gone : Cached → Bool) (old left : EpochStates) : Type 0 where
   pub here : LeavesEpoch put gone was (left e)
+  pub stays : StaysEpoch gone was (left e)
   pub others : LeavesOtherEpochs e old left
 
 -- A change of an epoch that is open; of another nothing changes.
 abbrev pub ChangesEpoch : {E : Type 0} → (E → Cached) → Change E → EpochState → EpochState → Type 0
 ChangesEpoch plain change (opened b) new = (c : Book) × ChangesArchives plain change b c × (new ≡ opened c)
 ChangesEpoch plain change old new = new ≡ old
+
+-- what a ticket covers is sure already, where a change finishes one of an epoch that is open
+abbrev pub IsSettledEpoch : {E : Type 0} → Change E → EpochState → Type 0
+IsSettledEpoch change (opened b) = IsSettled change b
+IsSettledEpoch change _ = ⊤
 
 -- nothing is open or left of it
 abbrev pub IsBare : EpochState → Type 0
@@ -104,6 +116,10 @@ IsLeftOrBare old left = (left ≡ left_of_epoch old) ⊎ IsBare left
 pub record DestroysOrNot (e : ℕ) (old left : EpochStates) : Type 0 where
   pub here : IsLeftOrBare (old e) (left e)
   pub others : LeavesOtherEpochs e old left
+
+-- whether something stands under an epoch's name, or is at hand of it
+abbrev pub is_there : {A W : Type 0} → BTreeMap ℕ (Slot A W) → Names W → ℕ → Bool
+is_there slots names k = is_some (names k) || is_some (get nat_cmp slots k)
 
 -- something is open or left of it
 abbrev pub HasSome : EpochState → Type 0

@@ -3,6 +3,7 @@ pub mod EntryLogs
 pub mod Props
 pub mod Laws
 pub mod EpochStates
+pub mod Failures
 pub mod SmallStates
 pub mod Picks
 pub mod Spots

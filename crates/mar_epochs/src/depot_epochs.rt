@@ -7,7 +7,8 @@ ghost use Rattle.std.specs.BTreeMap.{get};
 ghost use Rattle.mar_store.specs.Lost.{wreck_of};
 ghost use Rattle.mar_model.specs.Sections.{first_found};
 ghost use Rattle.mar_epochs.specs.EpochArchives.{IsOfMemory, is_kept, puts_of};
-ghost use Rattle.mar_epochs.specs.EpochStates.{ChangesEpoch, KeepsOtherEpochs, LosesEpoch, OpensEpoch, PutsBack, held_in, is_opened, is_upto, left_of_epoch, nested_states, nested_ways, newer_of, none_gone, opened, shut, some_ways, state_of_slot, state_under, states_of, whole_states};
+ghost use Rattle.mar_epochs.specs.EpochStates.{ChangesEpoch, IsSettledEpoch, KeepsOtherEpochs, LosesEpoch, OpensEpoch, PutsBack, held_in, is_opened, is_there, is_upto, left_of_epoch, nested_states, nested_ways, newer_of, none_gone, opened, shut, some_ways, state_of_slot, state_under, states_of, whole_states};
+ghost use Rattle.mar_epochs.specs.Failures.{CountsAt, PutsCounts, count_under, failures_of, first_way};
 ghost use Rattle.mar_epochs.specs.SmallStates.{small_states, small_ways};
 ghost use Rattle.mar_epochs.specs.Picks.{PicksEpoch, follows_if, goes_below, one_certain, picks_by};
 
@@ -48,6 +49,8 @@ pub struct DepotEpochsWreck<A: EpochArchives, D: EpochArchivesDepot<A::Wreck>> {
 
 impl<A: EpochArchives, D: EpochArchivesDepot<A::Wreck>> EpochsRuin for DepotEpochsWreck<A, D> {
     ghost left = { λ w. map (λ names k. left_of_epoch (states_of A.book A.Wreck.left w.opening w.slots names k)) (D.Wreck.left w.depot) };
+
+    ghost failures = { λ w. failures_of A.faults A.Wreck.faults (D.Wreck.watch w.depot).faults w.slots (first_way (D.Wreck.left w.depot)) };
 
     ghost calm = { λ w. A.unfailing && (D.Wreck.watch w.depot).only_armed };
 }
@@ -133,6 +136,8 @@ impl<A: EpochArchives, D: EpochArchivesDepot<A::Wreck>> DepotEpochs<A, D> {
         requires there { is_some (get nat_cmp self.slots epoch) ≡ true }
         ensures done { PutsBack A.book A.Wreck.left ⟦<DepotEpochs<A, D> as Epochs>⟧.states ⟦<DepotEpochsWreck<A, D> as EpochsRuin>⟧.left epoch
             (⟦<DepotEpochs<A, D> as Epochs>⟧.states self) answer result }
+        ensures counts { PutsCounts A.faults A.Wreck.faults ⟦<DepotEpochs<A, D> as Epochs>⟧.failures ⟦<DepotEpochsWreck<A, D> as EpochsRuin>⟧.failures epoch
+            (⟦<DepotEpochs<A, D> as Epochs>⟧.failures self) answer result }
         ensures calm { MatchResult result
             (λ s. ⟦<DepotEpochs<A, D> as Epochs>⟧.calm s ≡ ⟦<DepotEpochs<A, D> as Epochs>⟧.calm self)
             (λ l. ⟦<DepotEpochsWreck<A, D> as EpochsRuin>⟧.calm (wreck_of l) ≡ ⟦<DepotEpochs<A, D> as Epochs>⟧.calm self) }
@@ -162,6 +167,8 @@ impl<A: EpochArchives, D: EpochArchivesDepot<A::Wreck>> DepotEpochs<A, D> {
             (⟦<DepotEpochsWreck<A, D> as EpochsRuin>⟧.left (wreck_of l))) }
         ensures picked { IfOk result (λ s. PicksEpoch (⟦<DepotEpochs<A, D> as Epochs>⟧.picks self) (shut (A.Wreck.left ruin))
             (⟦<DepotEpochs<A, D> as Epochs>⟧.states s epoch) × (s.luck ≡ self.luck)) }
+        ensures counts { CountsAt ⟦<DepotEpochs<A, D> as Epochs>⟧.failures ⟦<DepotEpochsWreck<A, D> as EpochsRuin>⟧.failures epoch (A.Wreck.faults ruin)
+            (⟦<DepotEpochs<A, D> as Epochs>⟧.failures self) result }
         ensures calm { MatchResult result
             (λ s. ⟦<DepotEpochs<A, D> as Epochs>⟧.calm s ≡ ⟦<DepotEpochs<A, D> as Epochs>⟧.calm self)
             (λ l. ⟦<DepotEpochsWreck<A, D> as EpochsRuin>⟧.calm (wreck_of l) ≡ ⟦<DepotEpochs<A, D> as Epochs>⟧.calm self) }
@@ -181,6 +188,8 @@ impl<A: EpochArchives, D: EpochArchivesDepot<A::Wreck>> DepotEpochs<A, D> {
             (⟦<DepotEpochs<A, D> as Epochs>⟧.states self)) (⟦<DepotEpochsWreck<A, D> as EpochsRuin>⟧.left (wreck_of l))) }
         ensures picked { IfOk result (λ s. PicksEpoch (⟦<DepotEpochs<A, D> as Epochs>⟧.picks self) (state_under A.Wreck.left (D.names self.depot epoch))
             (⟦<DepotEpochs<A, D> as Epochs>⟧.states s epoch) × (s.luck ≡ self.luck)) }
+        ensures counts { CountsAt ⟦<DepotEpochs<A, D> as Epochs>⟧.failures ⟦<DepotEpochsWreck<A, D> as EpochsRuin>⟧.failures epoch (count_under A.Wreck.faults (D.names self.depot epoch))
+            (⟦<DepotEpochs<A, D> as Epochs>⟧.failures self) result }
         ensures calm { MatchResult result
             (λ s. ⟦<DepotEpochs<A, D> as Epochs>⟧.calm s ≡ ⟦<DepotEpochs<A, D> as Epochs>⟧.calm self)
             (λ l. ⟦<DepotEpochsWreck<A, D> as EpochsRuin>⟧.calm (wreck_of l) ≡ ⟦<DepotEpochs<A, D> as Epochs>⟧.calm self) }
@@ -228,6 +237,8 @@ impl<A: EpochArchives, D: EpochArchivesDepot<A::Wreck>> DepotEpochs<A, D> {
             (⟦<DepotEpochs<A, D> as Epochs>⟧.states self)) (⟦<DepotEpochsWreck<A, D> as EpochsRuin>⟧.left (wreck_of l))) }
         ensures picked { IfOk result (λ s. PicksEpoch (⟦<DepotEpochs<A, D> as Epochs>⟧.picks self) (state_under A.Wreck.left (D.names self.depot epoch))
             (⟦<DepotEpochs<A, D> as Epochs>⟧.states s epoch) × (s.luck ≡ self.luck)) }
+        ensures counts { CountsAt ⟦<DepotEpochs<A, D> as Epochs>⟧.failures ⟦<DepotEpochsWreck<A, D> as EpochsRuin>⟧.failures epoch (count_under A.Wreck.faults (D.names self.depot epoch))
+            (⟦<DepotEpochs<A, D> as Epochs>⟧.failures self) result }
         ensures calm { MatchResult result
             (λ s. ⟦<DepotEpochs<A, D> as Epochs>⟧.calm s ≡ ⟦<DepotEpochs<A, D> as Epochs>⟧.calm self)
             (λ l. ⟦<DepotEpochsWreck<A, D> as EpochsRuin>⟧.calm (wreck_of l) ≡ ⟦<DepotEpochs<A, D> as Epochs>⟧.calm self) }
@@ -271,6 +282,10 @@ impl<A: EpochArchives, D: EpochArchivesDepot<A::Wreck>> Epochs for DepotEpochs<A
     type Wreck = DepotEpochsWreck<A, D>;
 
     ghost states = { λ s. states_of A.book A.Wreck.left s.opening s.slots (D.names s.depot) };
+
+    ghost lists = { λ s. is_there s.slots (D.names s.depot) };
+
+    ghost failures = { λ s. failures_of A.faults A.Wreck.faults (D.watch s.depot).faults s.slots (D.names s.depot) };
 
     ghost calm = { λ s. A.unfailing && (D.watch s.depot).only_armed };
 
@@ -340,6 +355,10 @@ impl<A: EpochArchives, D: EpochArchivesDepot<A::Wreck>> Epochs for DepotEpochs<A
             (λ l. AllByRecursion (LosesEpoch epoch (⟦<DepotEpochs<A, D> as Epochs>⟧.states self epoch) (puts_of A.Entry.plain change)
             (λ x. not (is_kept change x)) (⟦<DepotEpochs<A, D> as Epochs>⟧.states self)) (⟦<DepotEpochsWreck<A, D> as EpochsRuin>⟧.left (wreck_of l))) }
         ensures shut { is_opened (⟦<DepotEpochs<A, D> as Epochs>⟧.states self epoch) ≡ false → IfErr result (λ l. ⊥) }
+        ensures settled { IsSettledEpoch change (⟦<DepotEpochs<A, D> as Epochs>⟧.states self epoch)
+            → IfOk result (λ s. ⟦<DepotEpochs<A, D> as Epochs>⟧.states s epoch ≡ ⟦<DepotEpochs<A, D> as Epochs>⟧.states self epoch) }
+        ensures counts { CountsAt ⟦<DepotEpochs<A, D> as Epochs>⟧.failures ⟦<DepotEpochsWreck<A, D> as EpochsRuin>⟧.failures epoch ((⟦<DepotEpochs<A, D> as Epochs>⟧.failures self).archives epoch)
+            (⟦<DepotEpochs<A, D> as Epochs>⟧.failures self) result }
         ensures calm { MatchResult result
             (λ s. ⟦<DepotEpochs<A, D> as Epochs>⟧.calm s ≡ ⟦<DepotEpochs<A, D> as Epochs>⟧.calm self)
             (λ l. ⟦<DepotEpochsWreck<A, D> as EpochsRuin>⟧.calm (wreck_of l) ≡ ⟦<DepotEpochs<A, D> as Epochs>⟧.calm self) }

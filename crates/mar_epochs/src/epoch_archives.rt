@@ -1,5 +1,5 @@
 //! The archives that a cache keeps of an epoch, as one store.
-ghost use Rattle.std.specs.Prelude.{◌≡◌, ◌≤◌, Bool, Option, true, IsTrue, List, filter, is_some, length, IfErr, IfOk, MatchResult, option_map};
+ghost use Rattle.std.specs.Prelude.{◌≡◌, ◌≤◌, ℕ, Bool, Option, true, IsTrue, List, filter, is_some, length, IfErr, IfOk, MatchResult, option_map};
 ghost use Rattle.std.specs.Option.{option_copied};
 ghost use Rattle.mar_store.specs.Changes.{Left, Within, left_of};
 ghost use Rattle.mar_store.specs.Lost.{wreck_of};
@@ -7,7 +7,8 @@ ghost use Rattle.mar_store.specs.Watch.{Follows};
 ghost use Rattle.mar_model.specs.Cached.{Cached};
 ghost use Rattle.mar_model.specs.Sections.{first_found, is_in};
 ghost use Rattle.mar_model.specs.SmallEntries.{AreSmallEntries};
-ghost use Rattle.mar_epochs.specs.EpochArchives.{AreNestedArchives, Book, ChangesArchives, FindsArchives, IsOfMemory, KeepsArchives, LosesArchives, nothing_left};
+ghost use Rattle.mar_epochs.specs.EpochArchives.{AreNestedArchives, Book, ChangesArchives, FindsArchives, IsOfMemory, IsSettled, KeepsArchives, LosesArchives, nothing_left};
+ghost use Rattle.mar_epochs.specs.Failures.{CountsFaults};
 ghost use Rattle.mar_epochs.specs.Picks.{PicksHeld, picks_by};
 
 use crate::as_entry::AsEntry;
@@ -19,6 +20,9 @@ use mar_store::{Depot, Lost};
 pub trait EpochArchivesRuin: Drop {
     // What every crash leaves, and all that a crash can leave.
     ghost left: { Self → Left Cached };
+
+    // How often they have failed.
+    ghost faults: { Self → ℕ };
 }
 
 /// The five archives of an epoch. Each keeps its entries by view or by height; verified and certified blocks several of
@@ -31,6 +35,9 @@ pub trait EpochArchives: Drop {
 
     // What it holds, what is sure, what a crash can leave, and what its tickets cover.
     ghost book: { Self → Book };
+
+    // How often they have failed.
+    ghost faults: { Self → ℕ };
 
     // A call fails only where memory runs out.
     ghost unfailing: { Bool };
@@ -48,20 +55,24 @@ pub trait EpochArchives: Drop {
         ensures made { result ≤ (book self.now).number }
         ensures covered { (s : Section) → (book self.now).covers s result ≡ filter (is_in s) (book self.now).kept.held };
 
-    /// Changes what is held or what is sure. A ticket of an earlier life is none.
+    /// Changes what is held or what is sure. A ticket of an earlier life is none. Where all that a ticket covers is sure,
+    /// finishing it changes nothing.
     fn change(self, change: Change<Self::Entry>) -> Result<Self, Lost<Self::Wreck>>
     where
         Self: Sized,
         ensures done { MatchResult result
             (λ s. ChangesArchives Self.Entry.plain change (book self) (book s))
             (λ l. LosesArchives Self.Entry.plain change (book self).kept (Self.Wreck.left (wreck_of l))) }
+        ensures settled { IsSettled change (book self) → IfOk result (λ s. book s ≡ book self) }
+        ensures counts { CountsFaults faults Self.Wreck.faults (faults self) result }
         ensures unfailing { unfailing ≡ true → IfErr result IsOfMemory };
 
     /// What a crash now leaves.
     fn wreck(self) -> Self::Wreck
     where
         Self: Sized,
-        ensures { Self.Wreck.left result ≡ left_of (book self).kept };
+        ensures left { Self.Wreck.left result ≡ left_of (book self).kept }
+        ensures count { Self.Wreck.faults result ≡ faults self };
 
     /// Opens what a crash left; luck picks among what may be left: of each archive the entries whose numbers it keeps.
     fn reopen(wreck: Self::Wreck, luck: u64) -> Result<Self, Lost<Self::Wreck>>
@@ -71,6 +82,7 @@ pub trait EpochArchives: Drop {
             (λ s. FindsArchives (Self.Wreck.left wreck) (book s).kept)
             (λ l. KeepsArchives (Self.Wreck.left wreck) (Self.Wreck.left (wreck_of l))) }
         ensures picked { IfOk result (λ s. PicksHeld (picks_by keeps luck) (Self.Wreck.left wreck) (book s).kept.held) }
+        ensures counts { CountsFaults faults Self.Wreck.faults (Self.Wreck.faults wreck) result }
         ensures unfailing { unfailing ≡ true → IfErr result IsOfMemory };
 
     ghost nested: { (s : Self) → AreNestedArchives (book s) };

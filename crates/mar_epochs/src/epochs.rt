@@ -6,7 +6,8 @@ ghost use Rattle.mar_store.specs.Lost.{wreck_of};
 ghost use Rattle.mar_store.specs.Watch.{Follows};
 ghost use Rattle.mar_model.specs.Sections.{first_found};
 ghost use Rattle.mar_epochs.specs.EpochArchives.{IsOfMemory, is_kept, puts_of};
-ghost use Rattle.mar_epochs.specs.EpochStates.{ChangesEpoch, DestroysOrNot, EpochStates, HasSome, IsBare, IsNestedEpoch, IsNewest, IsTicket, IsWholeEpoch, KeepsOtherEpochs, LosesEpoch, MightBe, OpensEpoch, SameEpochs, held_in, is_opened, left_of_epoch, none_gone};
+ghost use Rattle.mar_epochs.specs.EpochStates.{ChangesEpoch, DestroysOrNot, EpochStates, HasSome, IsBare, IsNestedEpoch, IsNewest, IsSettledEpoch, IsTicket, IsWholeEpoch, KeepsOtherEpochs, LosesEpoch, MightBe, OpensEpoch, SameEpochs, held_in, is_opened, left_of_epoch, none_gone};
+ghost use Rattle.mar_epochs.specs.Failures.{CountsAt, CountsNames, CountsOthers, CountsRead, Failures};
 ghost use Rattle.mar_epochs.specs.SmallStates.{AreSmallEpochs};
 ghost use Rattle.mar_epochs.specs.Picks.{PicksEpoch, picks_by};
 
@@ -20,6 +21,9 @@ pub trait EpochsRuin: Drop {
     // What may be left of the epochs after a crash.
     ghost left: { Self → List EpochStates };
 
+    // How often what they stand on has failed.
+    ghost failures: { Self → Failures };
+
     // It fails only where memory runs out.
     ghost calm: { Self → Bool };
 }
@@ -32,6 +36,12 @@ pub trait Epochs: Drop {
 
     // What there is of each epoch.
     ghost states: { Self → EpochStates };
+
+    // Whether an epoch is listed: something stands under its name.
+    ghost lists: { Self → ℕ → Bool };
+
+    // How often what they stand on has failed.
+    ghost failures: { Self → Failures };
 
     // It fails only where memory runs out.
     ghost calm: { Self → Bool };
@@ -67,10 +77,12 @@ pub trait Epochs: Drop {
             (λ s. OpensEpoch (states self epoch) (states s epoch) × KeepsOtherEpochs epoch (states self) (states s))
             (λ l. AllByRecursion (LosesEpoch epoch (states self epoch) [] none_gone (states self)) (Self.Wreck.left (wreck_of l))) }
         ensures picked { IfOk result (λ s. PicksEpoch (picks self) (states self epoch) (states s epoch) × (picks s ≡ picks self)) }
+        ensures counts { CountsAt failures Self.Wreck.failures epoch ((failures self).archives epoch) (failures self) result }
         ensures calm { MatchResult result (λ s. calm s ≡ calm self) (λ l. Self.Wreck.calm (wreck_of l) ≡ calm self) }
         ensures memory { calm self ≡ true → IfErr result IsOfMemory };
 
-    /// Changes an epoch, where it is open; where it isn't, nothing changes and nothing fails.
+    /// Changes an epoch, where it is open; where it isn't, nothing changes and nothing fails. Where all that a ticket covers is
+    /// sure, finishing it changes nothing.
     fn change(self, epoch: u64, change: Change<Self::Entry>) -> Result<Self, Lost<Self::Wreck>>
     where
         Self: Sized,
@@ -79,6 +91,8 @@ pub trait Epochs: Drop {
             (λ l. AllByRecursion (LosesEpoch epoch (states self epoch) (puts_of Self.Entry.plain change) (λ x. not (is_kept change x)) (states self))
             (Self.Wreck.left (wreck_of l))) }
         ensures shut { is_opened (states self epoch) ≡ false → IfErr result (λ l. ⊥) }
+        ensures settled { IsSettledEpoch change (states self epoch) → IfOk result (λ s. states s epoch ≡ states self epoch) }
+        ensures counts { CountsAt failures Self.Wreck.failures epoch ((failures self).archives epoch) (failures self) result }
         ensures calm { MatchResult result (λ s. calm s ≡ calm self) (λ l. Self.Wreck.calm (wreck_of l) ≡ calm self) }
         ensures memory { calm self ≡ true → IfErr result IsOfMemory };
 
@@ -89,14 +103,17 @@ pub trait Epochs: Drop {
         ensures done { MatchResult result
             (λ s. IsBare (states s epoch) × KeepsOtherEpochs epoch (states self) (states s))
             (λ l. AllByRecursion (DestroysOrNot epoch (states self)) (Self.Wreck.left (wreck_of l))) }
+        ensures counts { CountsOthers failures Self.Wreck.failures epoch (failures self) result }
         ensures calm { MatchResult result (λ s. calm s ≡ calm self) (λ l. Self.Wreck.calm (wreck_of l) ≡ calm self) }
         ensures memory { calm self ≡ true → IfErr result IsOfMemory };
 
-    /// The epochs of which something is open or left; some may stand there twice, and others too.
+    /// The epochs that are listed, among them each of which something is open or left; some may stand there twice.
     fn list(&mut self) -> Result<Vec<u64>, Miss>
         ensures found { IfOk result (λ es. (k : ℕ) → HasSome (states self.old k) → Contains es.items k) }
+        ensures only { IfOk result (λ es. (k : ℕ) → Contains es.items k → lists self.old k ≡ true) }
         ensures same { SameEpochs (states self.old) (states self.new) }
         ensures picks { picks self.new ≡ picks self.old }
+        ensures counts { CountsRead (failures self.old) (failures self.new) result }
         ensures calm { calm self.new ≡ calm self.old }
         ensures memory { calm self.old ≡ true → IfErr result (λ m. m ≡ Miss.Memory) };
 
@@ -106,6 +123,7 @@ pub trait Epochs: Drop {
         Self: Sized,
         ensures left { AllByRecursion (λ left. (k : ℕ) → left k ≡ left_of_epoch (states self k)) (Self.Wreck.left result) }
         ensures one { length (Self.Wreck.left result) ≡ 1 }
+        ensures failures { Self.Wreck.failures result ≡ failures self }
         ensures calm { Self.Wreck.calm result ≡ calm self };
 
     /// Takes up what a crash left; no epoch is open. Luck picks among what may be left, now and where an epoch is opened.
@@ -117,6 +135,7 @@ pub trait Epochs: Drop {
             (λ l. AllByRecursion (MightBe (Self.Wreck.left wreck)) (Self.Wreck.left (wreck_of l))) }
         ensures shut { IfOk result (λ s. (k : ℕ) → is_opened (states s k) ≡ false) }
         ensures picks { IfOk result (λ s. picks s ≡ picks_by keeps luck) }
+        ensures counts { CountsNames failures Self.Wreck.failures (Self.Wreck.failures wreck) result }
         ensures calm { MatchResult result (λ s. calm s ≡ Self.Wreck.calm wreck) (λ l. Self.Wreck.calm (wreck_of l) ≡ Self.Wreck.calm wreck) }
         ensures memory { Self.Wreck.calm wreck ≡ true → IfErr result IsOfMemory };
 

@@ -1,16 +1,17 @@
 //! The archives of an epoch in memory.
-ghost use Rattle.std.specs.Prelude.{◌≡◌, ◌++◌, ◌==◌, ◌∷◌, ◌≤◌, [], false, true, filter, if◌then◌else◌, length, map, refl, IfErr, IfOk, MatchResult, Some};
+ghost use Rattle.std.specs.Prelude.{◌≡◌, ◌++◌, ◌==◌, ◌∷◌, ◌≤◌, [], false, true, filter, if◌then◌else◌, length, map, nat_le, refl, IfErr, IfOk, MatchResult, Some};
 ghost use Rattle.std.specs.Option.{ForSome};
 ghost use Rattle.std.specs.List.{list_all, list_any};
 ghost use Rattle.std.specs.BTreeMap.{get};
-ghost use Rattle.mar_store.specs.Changes.{left_of};
+ghost use Rattle.mar_store.specs.Changes.{Within, left_of};
 ghost use Rattle.mar_store.specs.Lost.{wreck_of};
 ghost use Rattle.mar_store.specs.Watch.{by_half};
 ghost use Rattle.mar_store.specs.declared.LuckHalf.TheVariants.{Low};
 ghost use Rattle.mar_model.specs.Cached.{same_place};
-ghost use Rattle.mar_epochs.specs.EntryLogs.{book_of, drawn_in_all, entries, kept_in, log_of, with_mark};
+ghost use Rattle.mar_epochs.specs.EntryLogs.{book_of, covered_in, drawn_in_all, entries, kept_in, log_of, with_mark};
 ghost use Rattle.mar_epochs.specs.Spots.{spot_found};
-ghost use Rattle.mar_epochs.specs.EpochArchives.{ChangesArchives, IsOfMemory, LosesArchives};
+ghost use Rattle.mar_epochs.specs.EpochArchives.{ChangesArchives, IsOfMemory, IsSettled, LosesArchives};
+ghost use Rattle.mar_epochs.specs.Failures.{CountsFaults};
 ghost use Rattle.mar_epochs.specs.Laws.{kept_nested, left_nested, nothing_logged};
 ghost use Rattle.mar_epochs.specs.SmallStates.{small_log};
 
@@ -95,6 +96,20 @@ impl<E: KeyedEntry> MemEpochArchives<E> {
         }
     }
 
+    // The same, where this life has given that ticket; another makes nothing sure.
+    fn finished(self, section: Section, number: u64) -> Self
+        ensures done { ChangesArchives E.plain (Change.Finish section number) (book_of self.log.accepted (log_of E.plain self.log.items.items))
+            (book_of result.log.accepted (log_of E.plain result.log.items.items)) }
+        ensures settled { Within (if nat_le number self.log.accepted then covered_in (log_of E.plain self.log.items.items) section number else [])
+            (kept_in (log_of E.plain self.log.items.items)).sure → book_of result.log.accepted (log_of E.plain result.log.items.items)
+            ≡ book_of self.log.accepted (log_of E.plain self.log.items.items) }
+    {
+        if number > self.log.accepted {
+            return self;
+        }
+        self.marked(section, number)
+    }
+
     // What is sure of these entries, with what the bits of `half` keep of the rest; all of it is sure.
     fn settled(log: &EntryLog<E>, half: u64) -> Result<Self, AllocError>
         ensures log { IfOk result (λ s. log_of E.plain s.log.items.items
@@ -125,6 +140,8 @@ impl<E: KeyedEntry> MemEpochArchivesWreck<E> {
 
 impl<E: KeyedEntry> EpochArchivesRuin for MemEpochArchivesWreck<E> {
     ghost left = { λ w. left_of (kept_in (log_of E.plain w.log.items.items)) };
+
+    ghost faults = { λ w. 0 };
 }
 
 impl<E: KeyedEntry> EmptyStore for MemEpochArchivesWreck<E> {
@@ -144,6 +161,8 @@ impl<E: KeyedEntry> EpochArchives for MemEpochArchives<E> {
     type Wreck = MemEpochArchivesWreck<E>;
 
     ghost book = { λ s. book_of s.log.accepted (log_of E.plain s.log.items.items) };
+
+    ghost faults = { λ s. 0 };
 
     ghost unfailing = { true };
 
@@ -176,6 +195,10 @@ impl<E: KeyedEntry> EpochArchives for MemEpochArchives<E> {
             (book_of s.log.accepted (log_of E.plain s.log.items.items)))
             (λ l. LosesArchives E.plain change (kept_in (log_of E.plain self.log.items.items))
             (left_of (kept_in (log_of E.plain (wreck_of l).log.items.items)))) }
+        ensures settled { IsSettled change (book_of self.log.accepted (log_of E.plain self.log.items.items))
+            → IfOk result (λ s. book_of s.log.accepted (log_of E.plain s.log.items.items)
+            ≡ book_of self.log.accepted (log_of E.plain self.log.items.items)) }
+        ensures counts { CountsFaults (λ s. 0) (λ w. 0) 0 result }
         ensures unfailing { IfErr result IsOfMemory }
     {
         match change {
@@ -184,7 +207,7 @@ impl<E: KeyedEntry> EpochArchives for MemEpochArchives<E> {
                 Err(log) => Err(Lost::Memory(MemEpochArchivesWreck { log, index: None })),
             },
             Change::Sync(section) => Ok(self.marked(section, u64::MAX)),
-            Change::Finish(section, number) => Ok(self.marked(section, number)),
+            Change::Finish(section, number) => Ok(self.finished(section, number)),
             Change::PruneBelow(round) => match MemEpochArchives::of(self.log.without_below(round)) {
                 Ok(archives) => Ok(archives),
                 Err(log) => Err(Lost::Memory(MemEpochArchivesWreck { log, index: None })),

@@ -1,4 +1,4 @@
-use Rattle.std.proofs.Common.{[], ap, refl, ◌∙◌, ◌&&◌}
+use Rattle.std.proofs.Common.{None, [], ap, refl, ◌∙◌, ◌&&◌}
 use Rattle.std.proofs.lemmas.Result.{IfErr-weaker, IfOk-weaker}
 use Rattle.mar_cache.specs.Shelved.{at_epoch, nothing_gone, shelf_watch}
 use Rattle.mar_epochs.specs.declared.Change.TheVariants.{Finish}

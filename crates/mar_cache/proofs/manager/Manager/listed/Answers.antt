@@ -32,3 +32,6 @@ returns-in-Err-clause-watched g c = lost_calm g.S.Epochs.keeps (λ w. w.alarm) (
 
 pub returns-in-Ok-clause-picks : goal.returns-in-Ok-clause-picks
 returns-in-Ok-clause-picks g c = c.list.ensures.picks
+
+pub returns-in-Ok-clause-only : goal.returns-in-Ok-clause-only
+returns-in-Ok-clause-only g c = c.in-Ok.ensures.only

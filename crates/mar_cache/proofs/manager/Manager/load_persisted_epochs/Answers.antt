@@ -1,4 +1,4 @@
-use Rattle.std.proofs.Common.{◌≡◌, ◌∙◌, ◌&&◌, [], ap, false, subst, sym}
+use Rattle.std.proofs.Common.{◌≡◌, ◌∙◌, ◌&&◌, [], ap, false, subst, sym, true}
 use Rattle.std.proofs.lemmas.Result.{IfErr-weaker, IfOk-weaker}
 use Rattle.mar_cache.specs.Bounds.{bounds_of, includes}
 use Rattle.mar_epochs.specs.EpochStates.{HasSome}
@@ -15,6 +15,7 @@ returns-in_err-manager g c = record {
   opened = λ k some. no_ok c.from_residual.result _ _ c.from_residual.ensures.1;
   picked = no_ok c.from_residual.result _ _ c.from_residual.ensures.1;
   stays = λ k outside. no_ok c.from_residual.result _ _ c.from_residual.ensures.1;
+  shut = λ k unlisted. no_ok c.from_residual.result _ _ c.from_residual.ensures.1;
   meta = no_ok c.from_residual.result _ _ c.from_residual.ensures.1;
   ways = err_is c.from_residual.result _ _ c.from_residual.ensures.1 (fallen_leaves (λ k. []) nothing_gone (g.S.Epochs.states c.args.self.epochs) (g.met.S.Epochs.nested c.args.self.epochs) _ c.in_err-manager.ensures.ways);
   bounds = err_is c.from_residual.result _ _ c.from_residual.ensures.1 c.in_err-manager.ensures.bounds;
@@ -27,6 +28,7 @@ returns-in_err-manager-2 g c = record {
   opened = λ k some. no_ok c.from_residual-in_err-manager-2.result _ _ c.from_residual-in_err-manager-2.ensures.1;
   picked = no_ok c.from_residual-in_err-manager-2.result _ _ c.from_residual-in_err-manager-2.ensures.1;
   stays = λ k outside. no_ok c.from_residual-in_err-manager-2.result _ _ c.from_residual-in_err-manager-2.ensures.1;
+  shut = λ k unlisted. no_ok c.from_residual-in_err-manager-2.result _ _ c.from_residual-in_err-manager-2.ensures.1;
   meta = no_ok c.from_residual-in_err-manager-2.result _ _ c.from_residual-in_err-manager-2.ensures.1;
   ways =
       let m = c.in_ok-manager.manager in
@@ -46,6 +48,10 @@ returns g c = record {
   stays = λ k outside.
       let meta = c.in_ok-manager-2.ensures.same.1 ∙ c.in_ok-manager.ensures.meta in
       IfOk-weaker c.open_all.result _ _ (λ m same. same ∙ c.in_ok-manager-2.ensures.same.0 k ∙ ap (λ s. g.S.Epochs.states s k) c.in_ok-manager.ensures.epochs) (c.open_all.ensures.stays k (subst (λ t. includes (bounds_of (g.M.Meta.current t)) k ≡ false) (sym meta) outside));
+  shut = λ k unlisted.
+      let only = (rw (← c.deref.ensures.value) at c.in_ok-manager-2.ensures.only) in
+      let none : g.S.Epochs.lists c.in_ok-manager.manager.epochs k ≡ false = ap (λ s. g.S.Epochs.lists s k) c.in_ok-manager.ensures.epochs ∙ unlisted in
+      IfOk-weaker c.open_all.result _ _ (λ m same. same ∙ c.in_ok-manager-2.ensures.same.0 k ∙ ap (λ s. g.S.Epochs.states s k) c.in_ok-manager.ensures.epochs) (c.open_all.ensures.others k (λ has. let clash : true ≡ false = sym (only k has) ∙ none in cc));
   meta = IfOk-weaker c.open_all.result _ _ (λ m same. same ∙ c.in_ok-manager-2.ensures.same.1 ∙ c.in_ok-manager.ensures.meta) c.open_all.ensures.meta;
   ways =
       let m = c.in_ok-manager.manager.epochs in

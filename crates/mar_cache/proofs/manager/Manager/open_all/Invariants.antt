@@ -1,4 +1,4 @@
-use Rattle.std.proofs.Common.{◌≡◌, ◌≤◌, ◌<◌, ◌-◌, ℕ, true, false, get_or, length, ◌&&◌}
+use Rattle.std.proofs.Common.{◌≡◌, ◌≤◌, ◌<◌, ◌-◌, ℕ, true, false, Contains, get_or, length, ◌&&◌}
 use Rattle.mar_cache.specs.Bounds.{bounds_of, includes}
 use Rattle.mar_epochs.specs.EpochStates.{is_opened}
 use Rattle.mar_epochs.specs.Picks.{PicksEpoch}
@@ -11,6 +11,7 @@ invariant-loop-place g l = record {
   stays : (k : ℕ) → OpensOrStays (g.S.Epochs.states l.initial.manager.epochs k) (g.S.Epochs.states l.manager.epochs k);
   opened : (j : ℕ) → j < l.place → includes (bounds_of (g.M.Meta.current l.initial.manager.meta)) (get_or l.listed j 0) ≡ true → is_opened (g.S.Epochs.states l.manager.epochs (get_or l.listed j 0)) ≡ true;
   outside : (k : ℕ) → includes (bounds_of (g.M.Meta.current l.initial.manager.meta)) k ≡ false → g.S.Epochs.states l.manager.epochs k ≡ g.S.Epochs.states l.initial.manager.epochs k;
+  others : (k : ℕ) → (Contains l.listed k → ⊥) → g.S.Epochs.states l.manager.epochs k ≡ g.S.Epochs.states l.initial.manager.epochs k;
   picked : (k : ℕ) → PicksEpoch (g.S.Epochs.picks l.initial.manager.epochs) (g.S.Epochs.states l.initial.manager.epochs k) (g.S.Epochs.states l.manager.epochs k);
   picks : g.S.Epochs.picks l.manager.epochs ≡ g.S.Epochs.picks l.initial.manager.epochs;
   meta : l.manager.meta ≡ l.initial.manager.meta;

@@ -15,7 +15,7 @@ pub returns-in-Sync-clause-done : goal.returns-in-Sync-clause-done
 returns-in-Sync-clause-done g c = rw (c.in-Sync.is, c.marked.ensures.accepted) (marks g.E.AsEntry.plain (Sync c.in-Sync.section) c.in-Sync.section _ _ _ _ c.marked.ensures.log (λ held. refl) (sym (covers_last (log_of g.E.AsEntry.plain c.args.self.log.items.items) c.in-Sync.section)) (λ x. refl))
 
 pub returns-in-Finish-clause-done : goal.returns-in-Finish-clause-done
-returns-in-Finish-clause-done g c = rw (c.in-Finish.is, c.marked-in-Finish.ensures.accepted) (marks g.E.AsEntry.plain _ c.in-Finish.section c.in-Finish.number _ _ _ c.marked-in-Finish.ensures.log (λ held. refl) refl (λ x. refl))
+returns-in-Finish-clause-done g c = rw c.in-Finish.is c.finished.ensures.done
 
 pub returns-in-Ok-of-clause-done : goal.returns-in-Ok-of-clause-done
 returns-in-Ok-of-clause-done g c = rw (c.in-PruneBelow.is, c.in-Ok-of.ensures.ok, c.without_below.ensures.accepted) (prunes g.E.AsEntry.plain _ _ _ _ c.without_below.ensures.log (λ held. refl) refl)
@@ -28,3 +28,6 @@ returns-in-Ok-of-2-clause-done g c = rw (c.in-PruneCertified.is, c.in-Ok-of-2.en
 
 pub returns-clause-done : goal.returns-clause-done
 returns-clause-done g c = rw (c.in-PruneCertified.is, c.in-Err-of-2.ensures.err) (loses_pruned g.E.AsEntry.plain _ c.args.self.log.accepted _ _ c.without_certified.ensures.log)
+
+pub returns-in-Finish-clause-settled : goal.returns-in-Finish-clause-settled
+returns-in-Finish-clause-settled g c = rw c.in-Finish.is c.finished.ensures.settled

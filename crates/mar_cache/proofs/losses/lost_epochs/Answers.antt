@@ -1,5 +1,5 @@
 use Rattle.std.proofs.Common.{ap, ◌∙◌}
-use Rattle.mar_cache.proofs.manager.lost_epochs.Goals as goal
+use Rattle.mar_cache.proofs.losses.lost_epochs.Goals as goal
 
 pub invariant_of-wreck : goal.invariant_of-wreck
 invariant_of-wreck g c = record {

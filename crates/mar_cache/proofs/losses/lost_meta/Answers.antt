@@ -2,7 +2,7 @@ use Rattle.std.proofs.Common.{map, ◌∙◌}
 use Rattle.mar_cache.specs.Bounds.{bounds_of}
 use Rattle.mar_store.specs.Lost.{wreck_of}
 use Rattle.mar_cache.proofs.Within.{left_within}
-use Rattle.mar_cache.proofs.manager.lost_meta.Goals as goal
+use Rattle.mar_cache.proofs.losses.lost_meta.Goals as goal
 
 pub invariant_of-wreck : goal.invariant_of-wreck
 invariant_of-wreck g c = rw c.parts_of-failed.ensures.wreck (record {
