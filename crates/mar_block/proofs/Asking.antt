@@ -14,7 +14,8 @@ asked_wants asked_of x ahead asked l may = by_height (x.height == 0) asked
     by_height true is = absurd (subst (λ a. MayComeAhead a l) is may)
     by_height false is = subst (λ a. MayComeAhead a l) is.1 may
 
-fetched : {B : Type 0} (plain : B → PlainBlock) (asked_of : ℕ → Option PlainBlock) (b : PlainBlock) (p : Polled B) (old new : Ahead) → MayComeAhead old b → coming_of plain p ≡ block_comes b → IsAskedBehind asked_of b new
+fetched : {B : Type 0} (plain : B → PlainBlock) (asked_of : ℕ → Option PlainBlock) (b : PlainBlock) (p : Polled B) (old new : Ahead)
+    → MayComeAhead old b → coming_of plain p ≡ block_comes b → IsAskedBehind asked_of b new
     → Yields plain (MayComeAhead old) p (MayComeAhead new)
 fetched plain asked_of b (Block x) old new may came asked =
     let same : plain x ≡ b = cc in (subst (MayComeAhead old) (sym same) may, λ l w. subst (λ c. IsDirectParent c l) (sym same) (asked_wants asked_of b new asked l w))

@@ -7,7 +7,8 @@ use Rattle.mar_block.specs.Links.{AreLinked, Ends, HaveOwnDigests, IsDirectParen
 use Rattle.mar_block.specs.Parents.{is_parent, parents, parents_below}
 
 -- the only one of these that passes a test is found
-find_only : (p : Block → Bool) (xs : List Block) (x : Block) (k : ℕ) → k < length xs → slice_index_or xs k x ≡ x → IsTrue (p x) → ((y : Block) → Contains xs y → IsTrue (p y) → y ≡ x) → find p xs ≡ Some x
+find_only : (p : Block → Bool) (xs : List Block) (x : Block) (k : ℕ) → k < length xs → slice_index_or xs k x ≡ x → IsTrue (p x)
+    → ((y : Block) → Contains xs y → IsTrue (p y) → y ≡ x) → find p xs ≡ Some x
 find_only p [] x k below at passes only = absurd (omega (arith, below))
 find_only p (z ∷ xs) x zero below at passes only = let is : p z ≡ true = ap p at ∙ passes in rw is (ap Some at)
 find_only p (z ∷ xs) x (suc k) below at passes only = by_test (p z) refl (find_only p xs x k (omega (arith, below)) at passes (λ y is. only y (suc is.0, omega (arith, is.1), is.2)))
@@ -36,7 +37,8 @@ passes_direct child parent h high is = grind (arith, high, is)
 named : (child parent : Block) → IsDirectParent child parent → parent.digest ≡ child.parent
 named child parent is = let same : bytes_eq parent.digest child.parent ≡ true = grind (arith, is) in (bytes_eq-Decides parent.digest child.parent).0 same
 
-parent_found : (child parent : Block) (h : ℕ) (blocks : List Block) → child.height ≡ suc h → IsDirectParent child parent → Contains blocks parent → HaveOwnDigests blocks → find (is_parent child h) blocks ≡ Some parent
+parent_found : (child parent : Block) (h : ℕ) (blocks : List Block) → child.height ≡ suc h → IsDirectParent child parent → Contains blocks parent
+    → HaveOwnDigests blocks → find (is_parent child h) blocks ≡ Some parent
 parent_found child parent h blocks high is in_blocks own =
     find_only (is_parent child h) blocks parent in_blocks.0 in_blocks.1 in_blocks.2 (parent_passes child parent h high is)
     (λ y among passes. own y parent among in_blocks (named child y (passes_direct child y h high passes) ∙ sym (named child parent is)))
@@ -44,7 +46,8 @@ parent_found child parent h blocks high is in_blocks own =
 parent_height : (child parent : Block) (h : ℕ) → child.height ≡ suc h → IsDirectParent child parent → parent.height ≡ h
 parent_height child parent h high is = omega (arith, high, one_below child parent is)
 
-front_below : (n : ℕ) (b : Block) (rest blocks : List Block) → b.height ≡ n → AreLinked (b ∷ rest) → ((x : Block) → Contains rest x → Contains blocks x) → HaveOwnDigests blocks → IsFront (b ∷ rest) (parents_below n b blocks)
+front_below : (n : ℕ) (b : Block) (rest blocks : List Block) → b.height ≡ n → AreLinked (b ∷ rest)
+    → ((x : Block) → Contains rest x → Contains blocks x) → HaveOwnDigests blocks → IsFront (b ∷ rest) (parents_below n b blocks)
 front_below zero b [] blocks high linked among own = ([], refl)
 front_below zero b (x ∷ rest) blocks high linked among own = absurd (omega (arith, high, one_below b x linked.0))
 front_below (suc h) b [] blocks high linked among own = (_, refl)
@@ -53,7 +56,8 @@ front_below (suc h) b (x ∷ rest) blocks high linked among own =
     let behind = front_below h x rest blocks (parent_height b x h high linked.0) linked.1 (λ y is. among y (suc is.0, omega (arith, is.1), is.2)) own in
     rw found (behind.0, ap (λ l. b ∷ l) behind.1)
 
-whole_below : (n : ℕ) (b : Block) (rest blocks : List Block) → b.height ≡ n → AreLinked (b ∷ rest) → ((x : Block) → Contains rest x → Contains blocks x) → HaveOwnDigests blocks → Ends blocks b rest → parents_below n b blocks ≡ b ∷ rest
+whole_below : (n : ℕ) (b : Block) (rest blocks : List Block) → b.height ≡ n → AreLinked (b ∷ rest)
+    → ((x : Block) → Contains rest x → Contains blocks x) → HaveOwnDigests blocks → Ends blocks b rest → parents_below n b blocks ≡ b ∷ rest
 whole_below zero b [] blocks high linked among own ends = refl
 whole_below zero b (x ∷ rest) blocks high linked among own ends = absurd (omega (arith, high, one_below b x linked.0))
 whole_below (suc h) b [] blocks high linked among own (inl low) = absurd (omega (arith, high, low))
@@ -65,5 +69,6 @@ whole_below (suc h) b (x ∷ rest) blocks high linked among own ends =
 pub line_front : (b : Block) (rest blocks : List Block) → AreLinked (b ∷ rest) → ((x : Block) → Contains rest x → Contains blocks x) → HaveOwnDigests blocks → IsFront (b ∷ rest) (parents b blocks)
 line_front b rest blocks = front_below b.height b rest blocks refl
 
-pub line_whole : (b : Block) (rest blocks : List Block) → AreLinked (b ∷ rest) → ((x : Block) → Contains rest x → Contains blocks x) → HaveOwnDigests blocks → Ends blocks b rest → parents b blocks ≡ b ∷ rest
+pub line_whole : (b : Block) (rest blocks : List Block) → AreLinked (b ∷ rest) → ((x : Block) → Contains rest x → Contains blocks x)
+    → HaveOwnDigests blocks → Ends blocks b rest → parents b blocks ≡ b ∷ rest
 line_whole b rest blocks = whole_below b.height b rest blocks refl

@@ -13,9 +13,12 @@ pub not_stopped : (keys' keys signed' signed blocks' blocks size n most : ℕ) �
     → n ≡ longest_backfill keys' (longest_value signed' blocks' size) → longest_value signed' blocks' size ≤ value_limit → n ≡ longest_backfill keys (longest_value signed blocks size)
 not_stopped keys' keys signed' signed blocks' blocks size n most key_is signed_is far block_is is fits = omega (arith, key_is, signed_is, far, block_is, is, fits)
 
-module _ {K F N A : Type 0} (key : K → List ℕ) (finalization : F → List ℕ) (IsShortF : F → Type 0) (notarization : N → List ℕ) (IsShortN : N → Type 0) (application : A → List ℕ) (Commits : A → List ℕ → Type 0) (made : A → List ℕ → Block) where
+module _ {K F N A : Type 0} (key : K → List ℕ) (finalization : F → List ℕ) (IsShortF : F → Type 0)
+    (notarization : N → List ℕ) (IsShortN : N → Type 0) (application : A → List ℕ) (Commits : A → List ℕ → Type 0) (made : A → List ℕ → Block) where
   pub sizes_enough : (IsShort : A → Type 0) (keys signed blocks size n : ℕ) → ((k : K) → length (key k) ≤ keys) → ((f : F) → IsShortF f → length (finalization f) ≤ signed)
-      → ((m : N) → IsShortN m → length (notarization m) ≤ signed) → ((a : A) (c : List ℕ) → Commits a c → IsShort a → length (made a c).encoded ≤ blocks) → ((a : A) → IsShort a → length (application a) ≤ size)
+      → ((m : N) → IsShortN m → length (notarization m) ≤ signed)
+      → ((a : A) (c : List ℕ) → Commits a c → IsShort a → length (made a c).encoded ≤ blocks)
+      → ((a : A) → IsShort a → length (application a) ≤ size)
       → n ≡ longest_backfill keys (longest_value signed blocks size)
       → AreEnough key finalization IsShortF notarization IsShortN application Commits made IsShort n
   sizes_enough IsShort keys signed blocks size n of_key of_finalization of_notarization of_block of_application is = record {

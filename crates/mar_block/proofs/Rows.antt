@@ -34,11 +34,13 @@ module _ {X : Type 0} where
         → (u : ℕ) → came (slice_get (slice_set xs i new) u) ≡ came_after (λ t. asked (slice_get xs t)) (λ t. came (slice_get xs t)) i answer u
     came_given xs i old new answer below at given u = by_test (u == i) refl
       where
-        by_test : (b : Bool) → u == i ≡ b → came (slice_get (slice_set xs i new) u) ≡ (if b && is_some (asked (slice_get xs u)) && is_none (came (slice_get xs u)) then Some answer else came (slice_get xs u))
+        by_test : (b : Bool) → u == i ≡ b → came (slice_get (slice_set xs i new) u)
+            ≡ (if b && is_some (asked (slice_get xs u)) && is_none (came (slice_get xs u)) then Some answer else came (slice_get xs u))
         by_test true is = let same : u ≡ i = grind (arith, is) in rw (same, got_same xs i new below, at) given
         by_test false is = let other : u ≢ i = grind (arith, is) in ap came (got_other xs i u new other)
 
-    pub asked_given : (xs : List X) (i : ℕ) (old new : X) → i < length xs → slice_get xs i ≡ Some old → asked (Some new) ≡ asked (Some old) → (u : ℕ) → asked (slice_get (slice_set xs i new) u) ≡ asked (slice_get xs u)
+    pub asked_given : (xs : List X) (i : ℕ) (old new : X) → i < length xs → slice_get xs i ≡ Some old → asked (Some new) ≡ asked (Some old)
+        → (u : ℕ) → asked (slice_get (slice_set xs i new) u) ≡ asked (slice_get xs u)
     asked_given xs i old new below at kept u = by_test (u == i) refl
       where
         by_test : (b : Bool) → u == i ≡ b → asked (slice_get (slice_set xs i new) u) ≡ asked (slice_get xs u)

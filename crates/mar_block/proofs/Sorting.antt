@@ -122,7 +122,8 @@ module _ {B : Type 0} (plain : B → Block) where
       subst Falls (sym (ap (map plain) (reverse-cons b rest) ∙ map-append plain (reverse rest) (b ∷ []))) pushed
 
   -- what was sorted and turned round is the line of the same blocks, where there is one
-  pub only_line : (bs sorted : List B) → IsPermutation bs sorted → IsNonDecreasingBy height_of sorted → (line : List Block) → IsPermutation (map plain bs) line → AreLinked line → map plain (reverse sorted) ≡ line
+  pub only_line : (bs sorted : List B) → IsPermutation bs sorted → IsNonDecreasingBy height_of sorted → (line : List Block)
+      → IsPermutation (map plain bs) line → AreLinked line → map plain (reverse sorted) ≡ line
   only_line bs sorted shuffled rises line of_these linked =
       same_order line (map plain (reverse sorted)) (linked_drops line linked) (falls_back sorted rises) (carried _ _ to_sorted) (omega (arith, length_permutation _ _ to_sorted))
     where

@@ -78,7 +78,19 @@ Keeps plain (block_shown l) _ = ⊥
 Keeps plain not_contiguous_shown NotContiguous = ⊤
 Keeps plain not_contiguous_shown _ = ⊥
 
+-- a stream is as it was: no other block may come, and it shows and gives the same
+abbrev pub IsAsBefore : {S : Type 0} → (S → PlainBlock → Type 0) → (S → Shown) → (S → Coming) → S → S → Type 0
+IsAsBefore wants shows comes old new = ((l : PlainBlock) → wants new l → wants old l)
+    × (shows new ≡ shows old) × (comes new ≡ comes old)
+
+-- a fork: what may come may come of the stream that it was made of, and it shows the same
+abbrev pub IsFork : {S : Type 0} → (S → PlainBlock → Type 0) → (S → Shown) → S → S → Type 0
+IsFork wants shows old fork = ((l : PlainBlock) → wants fork l → wants old l) × (shows fork ≡ shows old)
+
 -- GIVEN BLOCKS
+
+abbrev pub IsFirst : List PlainBlock → PlainBlock → Type 0
+IsFirst blocks l = first blocks ≡ Some l
 
 -- exactly the next of these, and the end behind the last
 abbrev pub Gives : {B : Type 0} → (B → PlainBlock) → List PlainBlock → Polled B → List PlainBlock → Type 0

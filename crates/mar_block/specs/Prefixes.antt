@@ -1,5 +1,5 @@
 -- Given blocks before a stream.
-use Rattle.std.specs.Prelude.{Bool, IsTrue, List, None, Option, Some, [], if◌then◌else◌, true, false, ⊤, ◌∷◌, ◌≡◌}
+use Rattle.std.specs.Prelude.{Bool, IsTrue, List, None, Option, Some, [], if◌then◌else◌, map, option_map, true, false, ⊤, ◌∷◌, ◌≡◌}
 use Rattle.mar_cert.specs.Block.{Block as PlainBlock}
 use Rattle.mar_block.specs.declared.polled.Polled.{Polled}
 use Rattle.mar_block.specs.declared.polled.Polled.TheVariants.{Block, NotContiguous}
@@ -17,6 +17,15 @@ abbrev pub last : List PlainBlock → Option PlainBlock
 last [] = None
 last (x ∷ []) = Some x
 last (x ∷ y ∷ rest) = last (y ∷ rest)
+
+-- of these blocks, with this boundary
+abbrev pub prefixed : {A B : Type 0} → (B → PlainBlock) → List B → Option B → Bool → A → Prefixed A
+prefixed plain prefix boundary ended tail = record {
+  prefix = map plain prefix;
+  boundary = option_map plain boundary;
+  ended = ended;
+  tail = tail;
+}
 
 -- the last of the given blocks, while there is one, is the boundary
 abbrev pub IsBoundary : List PlainBlock → Option PlainBlock → Type 0
@@ -58,6 +67,20 @@ abbrev pub coming_prefixed : List PlainBlock → Bool → Option PlainBlock → 
 coming_prefixed [] true boundary c = end_comes
 coming_prefixed [] false boundary c = coming_behind boundary c
 coming_prefixed (x ∷ rest) ended boundary c = block_comes x
+
+-- what may come next, what it shows and what it gives, by those of the stream behind
+abbrev pub MayComePrefixed : {A : Type 0} → (A → PlainBlock → Type 0) → Prefixed A → PlainBlock → Type 0
+MayComePrefixed wants s l = MayFollow s.prefix s.ended s.boundary (wants s.tail) l
+
+abbrev pub shown_of_prefixed : {A : Type 0} → (A → Shown) → Prefixed A → Shown
+shown_of_prefixed shows s = shown_prefixed s.prefix s.ended s.boundary (shows s.tail)
+
+abbrev pub coming_of_prefixed : {A : Type 0} → (A → Coming) → Prefixed A → Coming
+coming_of_prefixed comes s = coming_prefixed s.prefix s.ended s.boundary (comes s.tail)
+
+-- two have the same but for the stream behind
+abbrev pub SameButTail : {A : Type 0} → Prefixed A → Prefixed A → Type 0
+SameButTail s t = (t.prefix ≡ s.prefix) × (t.boundary ≡ s.boundary) × (t.ended ≡ s.ended)
 
 -- what a poll that gives this leaves of the prefix, of the boundary and of whether it ended
 abbrev pub LeavesBehind : {B : Type 0} → Bool → Option PlainBlock → Polled B → Bool → Option PlainBlock → Type 0

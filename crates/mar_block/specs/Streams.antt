@@ -1,7 +1,7 @@
 -- A stream that asks a provider for each parent.
-use Rattle.std.specs.Prelude.{Bool, List, None, Option, Some, [], false, is_none, is_some, option_map, true, if◌then◌else◌, ℕ, ⊤, ◌&&◌, ◌==◌, ◌∷◌, ◌≡◌}
+use Rattle.std.specs.Prelude.{Bool, List, None, Option, Some, [], false, is_none, is_some, map, option_map, true, if◌then◌else◌, ℕ, ⊤, ◌&&◌, ◌==◌, ◌∷◌, ◌≡◌}
 use Rattle.mar_cert.specs.Block.{Block as PlainBlock}
-use Rattle.mar_block.specs.Links.{Coming, IsDirectParent, block_comes, end_comes, is_direct_parent, pending_comes}
+use Rattle.mar_block.specs.Links.{Coming, IsDirectParent, Shown, block_comes, end_comes, is_direct_parent, pending_comes, shown_first}
 use Rattle.mar_block.specs.declared.polled.Polled.{Polled}
 use Rattle.mar_block.specs.declared.polled.Polled.TheVariants.{Block, End, NotContiguous, Pending}
 use Rattle.mar_block.specs.declared.block_provider.Fetched.{Fetched}
@@ -15,9 +15,9 @@ abbrev pub fetched_block : {B : Type 0} → (B → PlainBlock) → Fetched B →
 fetched_block plain fetched.Pending = None
 fetched_block plain (fetched.Came b) = Some (option_map plain b)
 
--- two providers know the same of a ticket
-abbrev pub KnowsSame : (ℕ → Option PlainBlock) → (ℕ → Option (Option PlainBlock)) → (ℕ → Option PlainBlock) → (ℕ → Option (Option PlainBlock)) → ℕ → Type 0
-KnowsSame asked came asked' came' t = (asked' t ≡ asked t) × (came' t ≡ came t)
+-- a provider knows the same of a ticket as before
+abbrev pub KnowsSame : {P : Type 0} → (P → ℕ → Option PlainBlock) → (P → ℕ → Option (Option PlainBlock)) → P → P → ℕ → Type 0
+KnowsSame asked came old new t = (asked new t ≡ asked old t) × (came new t ≡ came old t)
 
 -- what came for a ticket once this answer was given for one: a ticket that was asked under and waits takes it
 abbrev pub came_after : (ℕ → Option PlainBlock) → (ℕ → Option (Option PlainBlock)) → ℕ → Option PlainBlock → ℕ → Option (Option PlainBlock)
@@ -41,6 +41,14 @@ pub record Streamed (P : Type 0) : Type 0 where
   pub buffered : List PlainBlock
   pub ahead : Ahead
   pub provider : P
+
+-- what a stream keeps: the blocks that are buffered and what is ahead of them, as plain data
+abbrev pub streamed : {B P : Type 0} → (B → PlainBlock) → List B → CodeAhead B → P → Streamed P
+streamed plain buffered ahead provider = record {
+  buffered = map plain buffered;
+  ahead = ahead_of plain ahead;
+  provider = provider;
+}
 
 -- the ticket under which a parent is awaited
 abbrev pub awaited : Ahead → Option ℕ
@@ -77,6 +85,16 @@ abbrev pub coming_streamed : (ℕ → Option (Option PlainBlock)) → List Plain
 coming_streamed came [] ahead = coming_ahead came ahead
 coming_streamed came (x ∷ rest) ahead = block_comes x
 
+-- what may come next in a stream, what it shows, and what it gives
+abbrev pub MayStream : {P : Type 0} → Streamed P → PlainBlock → Type 0
+MayStream s l = MayCome s.buffered s.ahead l
+
+abbrev pub shown_stream : {P : Type 0} → Streamed P → Shown
+shown_stream s = shown_first s.buffered
+
+abbrev pub coming_stream : {P : Type 0} → (P → ℕ → Option (Option PlainBlock)) → Streamed P → Coming
+coming_stream came s = coming_streamed (came s.provider) s.buffered s.ahead
+
 -- a block was yielded, the last one buffered: behind height zero nothing comes, else its parent was asked for
 abbrev pub IsAskedOf : Bool → (ℕ → Option PlainBlock) → PlainBlock → Ahead → Type 0
 IsAskedOf true asked x ahead = ahead ≡ nothing_ahead
@@ -98,6 +116,14 @@ Leaves plain asked [] ahead p buffered' ahead' = (buffered' ≡ []) × LeavesAhe
 Leaves plain asked (x ∷ []) ahead p buffered' ahead' = (buffered' ≡ []) × IsAskedBehind asked x ahead'
 Leaves plain asked (x ∷ y ∷ rest) ahead p buffered' ahead' = (buffered' ≡ y ∷ rest) × (ahead' ≡ ahead)
 
+abbrev pub LeavesStream : {B P : Type 0} → (B → PlainBlock) → (P → ℕ → Option PlainBlock) → Streamed P → Polled B → Streamed P → Type 0
+LeavesStream plain asked old p new = Leaves plain (asked new.provider) old.buffered old.ahead p new.buffered new.ahead
+
+-- what stands ahead is as it was, by what came for each ticket: no other block may come, and the same is given
+abbrev pub IsAheadAsBefore : (ℕ → Option (Option PlainBlock)) → Ahead → (ℕ → Option (Option PlainBlock)) → Ahead → Type 0
+IsAheadAsBefore came ahead came' ahead' = ((l : PlainBlock) → MayComeAhead ahead' l → MayComeAhead ahead l)
+    × (coming_ahead came' ahead' ≡ coming_ahead came ahead)
+
 -- FORKS
 
 -- what stands ahead of a fork: the same, but that an awaited parent is asked for anew, of the fork's own provider
@@ -108,3 +134,6 @@ IsForkedAhead asked ahead ahead' = ahead' ≡ ahead
 pub record IsForkOf (asked : ℕ → Option PlainBlock) (old : List PlainBlock) (ahead : Ahead) (new : List PlainBlock) (ahead' : Ahead) : Type 0 where
   pub buffered : new ≡ old
   pub ahead_is : IsForkedAhead asked ahead ahead'
+
+abbrev pub IsForkOfStream : {P : Type 0} → (P → ℕ → Option PlainBlock) → Streamed P → Streamed P → Type 0
+IsForkOfStream asked old fork = IsForkOf (asked fork.provider) old.buffered old.ahead fork.buffered fork.ahead

@@ -1,9 +1,12 @@
 //! A stream that asks a provider for each parent.
-ghost use Rattle.std.specs.Prelude.{IfErr, IfOk, IsTrue, List, None, OnErr, OnOk, Option, Some, [], false, map, option_map, true, ℕ, ◌==◌, ◌≡◌};
+ghost use Rattle.std.specs.Prelude.{IfErr, IfOk, List, OnErr, map, option_map, ℕ, ◌≡◌};
 ghost use Rattle.std.specs.List.Sorted.{IsPermutation};
 ghost use Rattle.mar_cert.specs.Block.{Block as PlainBlock};
-ghost use Rattle.mar_block.specs.Links.{AreLinked, Coming, Keeps, Shown, Yields, block_comes, coming_of, shown_first, shown_of};
-ghost use Rattle.mar_block.specs.Streams.{IsAskedBehind, IsForkOf, IsForkedAhead, KnowsSame, Leaves, LeavesAhead, MayCome, MayComeAhead, ahead_of, awaited, came_after, coming_ahead, coming_streamed, has_fetched, nothing_ahead};
+ghost use Rattle.mar_block.specs.Links.{AreLinked, IsAsBefore, IsFork, Keeps, Yields, block_comes, coming_of};
+ghost use Rattle.mar_block.specs.Streams.{IsAheadAsBefore, IsAskedBehind, IsForkOfStream, IsForkedAhead, KnowsSame};
+ghost use Rattle.mar_block.specs.Streams.{LeavesAhead, LeavesStream, MayComeAhead, MayStream, ahead_of, awaited};
+ghost use Rattle.mar_block.specs.Streams.{came_after, coming_ahead, coming_stream, has_fetched, nothing_ahead};
+ghost use Rattle.mar_block.specs.Streams.{shown_stream};
 
 use crate::ancestry::{Ancestry, ForkAncestry};
 use crate::block_provider::{BlockProvider, Fetched, ForkProvider};
@@ -37,18 +40,19 @@ pub struct AncestorStream<B: Linked, P: Drop> {
 impl<B: Linked, P: Drop> Model for AncestorStream<B, P> {
     ghost use Rattle.std.specs.Prelude.{map};
     ghost use Rattle.mar_block.specs.Links.{AreLinked};
-    ghost use Rattle.mar_block.specs.Streams.{IsAheadOf, Streamed, ahead_of};
+    ghost use Rattle.mar_block.specs.Streams.{IsAheadOf, Streamed, ahead_of, streamed};
 
     ghost Value = { Streamed P };
 
-    ghost view = { λ s. record { buffered = map B.plain s.buffered.items; ahead = ahead_of B.plain s.ahead; provider = s.provider } };
+    ghost view = { λ s. streamed B.plain s.buffered.items s.ahead s.provider };
 
-    ghost invariant = { λ s. AreLinked (map B.plain s.buffered.items) × IsAheadOf (map B.plain s.buffered.items) (ahead_of B.plain s.ahead) };
+    ghost invariant = { λ s. AreLinked (map B.plain s.buffered.items)
+        × IsAheadOf (map B.plain s.buffered.items) (ahead_of B.plain s.ahead) };
 }
 
 impl<B: Linked, P: BlockProvider<B>> AncestorStream<B, P> {
-    /// A stream that begins with these blocks, in whichever order they come, and then asks that provider for each parent. Newest
-    /// first they have to be a line of parents, else they are dropped and the provider comes back.
+    /// A stream that begins with these blocks, in whichever order they come, and then asks that provider for each
+    /// parent. Newest first they have to be a line of parents, else they are dropped and the provider comes back.
     pub fn new(provider: P, initial: Vec<B>) -> Result<Self, Refused<P>>
         ensures ok { IfOk result (λ s. IsPermutation (map B.plain initial.items) s.buffered × AreLinked s.buffered
             × (s.ahead ≡ nothing_ahead) × (s.provider ≡ provider)) }
@@ -112,14 +116,13 @@ fn sort_newest_first<B: Linked>(blocks: &mut Vec<B>)
 }
 
 impl<B: Linked, P: BlockProvider<B>> Ancestry<B> for AncestorStream<B, P> {
-    ghost use Rattle.mar_block.specs.Links.{shown_first};
-    ghost use Rattle.mar_block.specs.Streams.{MayCome, coming_streamed};
+    ghost use Rattle.mar_block.specs.Streams.{MayStream, coming_stream, shown_stream};
 
-    ghost wants = { λ s l. MayCome s.buffered s.ahead l };
+    ghost wants = { MayStream };
 
-    ghost shows = { λ s. shown_first s.buffered };
+    ghost shows = { shown_stream };
 
-    ghost comes = { λ s. coming_streamed (P.came s.provider) s.buffered s.ahead };
+    ghost comes = { coming_stream P.came };
 
     fn peek(&self) -> Peeked<'_, B> {
         match self.buffered.front() {
@@ -129,13 +132,11 @@ impl<B: Linked, P: BlockProvider<B>> Ancestry<B> for AncestorStream<B, P> {
     }
 
     fn poll(&mut self, alloc: Global) -> Result<Polled<B>, AllocError>
-        ensures yields { IfOk result (λ p. Yields B.plain (MayCome self.old.buffered self.old.ahead) p (MayCome self.new.buffered self.new.ahead)) }
-        ensures keeps { IfOk result (λ p. Keeps B.plain (shown_first self.old.buffered) p) }
-        ensures comes { IfOk result (λ p. coming_of B.plain p ≡ coming_streamed (P.came self.old.provider) self.old.buffered self.old.ahead) }
-        ensures err { OnErr result (((l : PlainBlock) → MayCome self.new.buffered self.new.ahead l → MayCome self.old.buffered self.old.ahead l)
-            × (shown_first self.new.buffered ≡ shown_first self.old.buffered)
-            × (coming_streamed (P.came self.new.provider) self.new.buffered self.new.ahead ≡ coming_streamed (P.came self.old.provider) self.old.buffered self.old.ahead)) }
-        ensures leaves { IfOk result (λ p. Leaves B.plain (P.asked self.new.provider) self.old.buffered self.old.ahead p self.new.buffered self.new.ahead) }
+        ensures yields { IfOk result (λ p. Yields B.plain (MayStream self.old) p (MayStream self.new)) }
+        ensures keeps { IfOk result (λ p. Keeps B.plain (shown_stream self.old) p) }
+        ensures comes { IfOk result (λ p. coming_of B.plain p ≡ coming_stream P.came self.old) }
+        ensures err { OnErr result (IsAsBefore MayStream shown_stream (coming_stream P.came) self.old self.new) }
+        ensures leaves { IfOk result (λ p. LeavesStream B.plain P.asked self.old p self.new) }
     {
         let AncestorStream {
             buffered,
@@ -168,7 +169,7 @@ fn ask_behind<B: Linked, P: BlockProvider<B>>(
     block: &B,
 ) -> Result<Ahead<B>, AllocError>
     ensures asked { IfOk result (λ a. IsAskedBehind (P.asked provider.new) (B.plain block.now) (ahead_of B.plain a)) }
-    ensures same { OnErr result ((t : ℕ) → KnowsSame (P.asked provider.old) (P.came provider.old) (P.asked provider.new) (P.came provider.new) t) }
+    ensures same { OnErr result ((t : ℕ) → KnowsSame P.asked P.came provider.old provider.new t) }
 {
     if block.height().is_zero() {
         return Ok(Ahead::Nothing);
@@ -184,11 +185,14 @@ fn poll_ahead<B: Linked, P: BlockProvider<B>>(
     ahead: &mut Ahead<B>,
     provider: &mut P,
 ) -> Result<Polled<B>, AllocError>
-    ensures yields { IfOk result (λ p. Yields B.plain (MayComeAhead (ahead_of B.plain ahead.old)) p (MayComeAhead (ahead_of B.plain ahead.new))) }
-    ensures leaves { IfOk result (λ p. LeavesAhead B.plain (P.asked provider.new) (ahead_of B.plain ahead.old) p (ahead_of B.plain ahead.new)) }
-    ensures comes { IfOk result (λ p. coming_of B.plain p ≡ coming_ahead (P.came provider.old) (ahead_of B.plain ahead.old)) }
-    ensures err { OnErr result (((l : PlainBlock) → MayComeAhead (ahead_of B.plain ahead.new) l → MayComeAhead (ahead_of B.plain ahead.old) l)
-        × (coming_ahead (P.came provider.new) (ahead_of B.plain ahead.new) ≡ coming_ahead (P.came provider.old) (ahead_of B.plain ahead.old))) }
+    ensures yields { IfOk result (λ p. Yields B.plain
+        (MayComeAhead (ahead_of B.plain ahead.old)) p (MayComeAhead (ahead_of B.plain ahead.new))) }
+    ensures leaves { IfOk result (λ p. LeavesAhead B.plain (P.asked provider.new)
+        (ahead_of B.plain ahead.old) p (ahead_of B.plain ahead.new)) }
+    ensures comes { IfOk result (λ p. coming_of B.plain p
+        ≡ coming_ahead (P.came provider.old) (ahead_of B.plain ahead.old)) }
+    ensures err { OnErr result (IsAheadAsBefore (P.came provider.old) (ahead_of B.plain ahead.old)
+        (P.came provider.new) (ahead_of B.plain ahead.new)) }
 {
     match mem::replace(ahead, Ahead::Nothing) {
         Ahead::Nothing => Ok(Polled::End),
@@ -217,7 +221,8 @@ fn yield_fetched<B: Linked, P: BlockProvider<B>>(
     provider: &mut P,
     block: B,
 ) -> Result<Polled<B>, AllocError>
-    ensures ok { IfOk result (λ p. (coming_of B.plain p ≡ block_comes (B.plain block)) × IsAskedBehind (P.asked provider.new) (B.plain block) (ahead_of B.plain ahead.new)) }
+    ensures ok { IfOk result (λ p. (coming_of B.plain p ≡ block_comes (B.plain block))
+        × IsAskedBehind (P.asked provider.new) (B.plain block) (ahead_of B.plain ahead.new)) }
     ensures err { OnErr result (ahead_of B.plain ahead.new ≡ has_fetched (B.plain block)) }
 {
     match ask_behind(alloc, provider, &block) {
@@ -234,14 +239,11 @@ fn yield_fetched<B: Linked, P: BlockProvider<B>>(
 
 impl<B: Linked, P: ForkProvider<B>> ForkAncestry<B> for AncestorStream<B, P> {
     fn fork(&mut self, alloc: Global) -> Result<Self, AllocError>
-        ensures same { ((l : PlainBlock) → MayCome self.new.buffered self.new.ahead l → MayCome self.old.buffered self.old.ahead l)
-            × (shown_first self.new.buffered ≡ shown_first self.old.buffered)
-            × (coming_streamed (P.came self.new.provider) self.new.buffered self.new.ahead ≡ coming_streamed (P.came self.old.provider) self.old.buffered self.old.ahead) }
-        ensures fork { IfOk result (λ fork. ((l : PlainBlock) → MayCome fork.buffered fork.ahead l → MayCome self.old.buffered self.old.ahead l)
-            × (shown_first fork.buffered ≡ shown_first self.old.buffered)) }
-        ensures own { IfOk result (λ fork. IsForkOf (P.asked fork.provider) self.old.buffered self.old.ahead fork.buffered fork.ahead) }
+        ensures same { IsAsBefore MayStream shown_stream (coming_stream P.came) self.old self.new }
+        ensures fork { IfOk result (IsFork MayStream shown_stream self.old) }
+        ensures own { IfOk result (IsForkOfStream P.asked self.old) }
         ensures stays { (self.new.buffered ≡ self.old.buffered) × (self.new.ahead ≡ self.old.ahead) }
-        ensures provider { (u : ℕ) → KnowsSame (P.asked self.old.provider) (P.came self.old.provider) (P.asked self.new.provider) (P.came self.new.provider) u }
+        ensures provider { (u : ℕ) → KnowsSame P.asked P.came self.old.provider self.new.provider u }
     {
         let buffered = copies(alloc, &self.buffered)?;
         let mut provider = self.provider.fork(alloc)?;
@@ -260,7 +262,8 @@ fn fork_ahead<B: Linked, P: BlockProvider<B>>(
     provider: &mut P,
     ahead: &Ahead<B>,
 ) -> Result<Ahead<B>, AllocError>
-    ensures { IfOk result (λ a. IsForkedAhead (P.asked provider.new) (ahead_of B.plain ahead.now) (ahead_of B.plain a)) }
+    ensures { IfOk result (λ a. IsForkedAhead (P.asked provider.new)
+        (ahead_of B.plain ahead.now) (ahead_of B.plain a)) }
 {
     match ahead {
         Ahead::Nothing => Ok(Ahead::Nothing),

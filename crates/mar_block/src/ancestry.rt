@@ -1,7 +1,7 @@
 //! Streams of ancestors.
 ghost use Rattle.std.specs.Prelude.{IfOk, OnErr, ◌≡◌};
 ghost use Rattle.mar_cert.specs.Block.{Block as PlainBlock};
-ghost use Rattle.mar_block.specs.Links.{Coming, Keeps, Shown, Yields, coming_of, shown_of};
+ghost use Rattle.mar_block.specs.Links.{Coming, IsAsBefore, IsFork, Keeps, Shown, Yields, coming_of, shown_of};
 
 use crate::linked::Linked;
 use crate::polled::{Peeked, Polled};
@@ -27,8 +27,7 @@ pub trait Ancestry<B: Linked>: Drop {
         ensures yields { IfOk result (λ p. Yields B.plain (wants self.old) p (wants self.new)) }
         ensures keeps { IfOk result (λ p. Keeps B.plain (shows self.old) p) }
         ensures comes { IfOk result (λ p. coming_of B.plain p ≡ comes self.old) }
-        ensures err { OnErr result (((l : PlainBlock) → wants self.new l → wants self.old l)
-            × (shows self.new ≡ shows self.old) × (comes self.new ≡ comes self.old)) };
+        ensures err { OnErr result (IsAsBefore wants shows comes self.old self.new) };
 }
 
 /// A stream that can be had once more from where it stands.
@@ -38,8 +37,6 @@ pub trait ForkAncestry<B: Linked>: Ancestry<B> {
     fn fork(&mut self, alloc: Global) -> Result<Self, AllocError>
     where
         Self: Sized,
-        ensures same { ((l : PlainBlock) → Self.wants self.new l → Self.wants self.old l)
-            × (Self.shows self.new ≡ Self.shows self.old) × (Self.comes self.new ≡ Self.comes self.old) }
-        ensures fork { IfOk result (λ fork. ((l : PlainBlock) → Self.wants fork l → Self.wants self.old l)
-            × (Self.shows fork ≡ Self.shows self.old)) };
+        ensures same { IsAsBefore Self.wants Self.shows Self.comes self.old self.new }
+        ensures fork { IfOk result (IsFork Self.wants Self.shows self.old) };
 }

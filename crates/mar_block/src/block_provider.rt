@@ -1,5 +1,5 @@
 //! Where the parents of blocks come from.
-ghost use Rattle.std.specs.Prelude.{IfNone, IfOk, None, OnErr, OnOk, Option, Some, option_map, ℕ, ◌≡◌, ◌≢◌};
+ghost use Rattle.std.specs.Prelude.{IfOk, None, OnErr, Option, Some, option_map, ℕ, ◌≡◌, ◌≢◌};
 ghost use Rattle.mar_cert.specs.Block.{Block as PlainBlock};
 ghost use Rattle.mar_block.specs.Streams.{KnowsSame, came_after, fetched_block};
 
@@ -23,23 +23,25 @@ pub trait BlockProvider<B: Linked>: Drop {
     // What came for a ticket: nothing yet, or a block or none.
     ghost came: { Self → ℕ → Option (Option PlainBlock) };
 
-    /// Asks for the parent of a block, and answers the ticket under which it comes. Where memory runs out all is as before.
+    /// Asks for the parent of a block, and answers the ticket under which it comes. Where memory runs out all is as
+    /// before.
     fn subscribe_parent(&mut self, alloc: Global, child: &B) -> Result<u64, AllocError>
         ensures asks { IfOk result (λ t. asked self.new t ≡ Some (B.plain child.now)) }
-        ensures others { IfOk result (λ t. (u : ℕ) → u ≢ t
-            → KnowsSame (asked self.old) (came self.old) (asked self.new) (came self.new) u) }
-        ensures same { OnErr result ((u : ℕ) → KnowsSame (asked self.old) (came self.old) (asked self.new) (came self.new) u) };
+        ensures others { IfOk result (λ t. (u : ℕ) → u ≢ t → KnowsSame asked came self.old self.new u) }
+        ensures same { OnErr result ((u : ℕ) → KnowsSame asked came self.old self.new u) };
 
     /// What came for a ticket. An answer is fetched once; until one comes nothing changes.
     fn poll_fetch(&mut self, ticket: u64) -> Fetched<B>
         ensures fetched { fetched_block B.plain result ≡ came self.old ticket }
         ensures pending { fetched_block B.plain result ≡ None
-            → (u : ℕ) → KnowsSame (asked self.old) (came self.old) (asked self.new) (came self.new) u }
-        ensures others { (u : ℕ) → u ≢ ticket → KnowsSame (asked self.old) (came self.old) (asked self.new) (came self.new) u };
+            → (u : ℕ) → KnowsSame asked came self.old self.new u }
+        ensures others { (u : ℕ) → u ≢ ticket → KnowsSame asked came self.old self.new u };
 
-    /// Hands over the answer for a ticket: the parent, or none. It counts where the ticket is out and has no answer yet.
+    /// Hands over the answer for a ticket: the parent, or none. It counts where the ticket is out and has no answer
+    /// yet.
     fn give(&mut self, ticket: u64, block: Option<B>)
-        ensures came { (u : ℕ) → came self.new u ≡ came_after (asked self.old) (came self.old) ticket (option_map B.plain block) u }
+        ensures came { (u : ℕ) → came self.new u
+            ≡ came_after (asked self.old) (came self.old) ticket (option_map B.plain block) u }
         ensures asked { (u : ℕ) → asked self.new u ≡ asked self.old u };
 }
 
@@ -50,5 +52,5 @@ pub trait ForkProvider<B: Linked>: BlockProvider<B> {
     where
         Self: Sized,
         ensures fresh { IfOk result (λ fork. (u : ℕ) → Self.asked fork u ≡ None) }
-        ensures same { (u : ℕ) → KnowsSame (Self.asked self.old) (Self.came self.old) (Self.asked self.new) (Self.came self.new) u };
+        ensures same { (u : ℕ) → KnowsSame Self.asked Self.came self.old self.new u };
 }

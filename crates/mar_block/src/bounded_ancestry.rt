@@ -1,7 +1,8 @@
 //! A stream of given blocks.
-ghost use Rattle.std.specs.Prelude.{IfErr, IfOk, IsErr, IsTrue, List, None, OnErr, OnOk, Option, Some, [], map, ◌↔◌, ◌++◌, ◌∷◌, ◌≡◌};
+ghost use Rattle.std.specs.Prelude.{IfOk, IsErr, IsTrue, OnErr, map, ◌↔◌, ◌≡◌};
 ghost use Rattle.mar_cert.specs.Block.{Block as PlainBlock};
-ghost use Rattle.mar_block.specs.Links.{AreBehind, AreLinked, Gives, Keeps, Yields, coming_first, coming_of, first, shown_first};
+ghost use Rattle.mar_block.specs.Links.{AreBehind, AreLinked, Gives, IsAsBefore, IsFirst, Keeps, Yields};
+ghost use Rattle.mar_block.specs.Links.{coming_first, coming_of, shown_first};
 
 use crate::ancestry::{Ancestry, ForkAncestry};
 use crate::linked::Linked;
@@ -29,7 +30,8 @@ impl<B: Linked> Model for BoundedAncestry<B> {
     ghost invariant = { λ s. AreLinked (map B.plain s.blocks.items) };
 }
 
-/// A stream of these blocks, newest first, which ends behind the last. Each has to be the direct parent of the one before it.
+/// A stream of these blocks, newest first, which ends behind the last. Each has to be the direct parent of the one
+/// before it.
 pub fn from_iter<B: Linked>(blocks: Vec<B>) -> Result<BoundedAncestry<B>, NotContiguous>
     ensures ok { IfOk result (λ s. s ≡ map B.plain blocks.items) }
     ensures err { IsErr result → AreLinked (map B.plain blocks.items) → ⊥ }
@@ -81,10 +83,9 @@ pub(crate) fn copies<B: Linked>(
 }
 
 impl<B: Linked> Ancestry<B> for BoundedAncestry<B> {
-    ghost use Rattle.std.specs.Prelude.{List, Some, [], ◌++◌, ◌∷◌, ◌≡◌};
-    ghost use Rattle.mar_block.specs.Links.{coming_first, first, shown_first};
+    ghost use Rattle.mar_block.specs.Links.{IsFirst, coming_first, shown_first};
 
-    ghost wants = { λ s l. first s ≡ Some l };
+    ghost wants = { IsFirst };
 
     ghost shows = { shown_first };
 
@@ -98,11 +99,10 @@ impl<B: Linked> Ancestry<B> for BoundedAncestry<B> {
     }
 
     fn poll(&mut self, _alloc: Global) -> Result<Polled<B>, AllocError>
-        ensures yields { IfOk result (λ p. Yields B.plain (λ l. first self.old ≡ Some l) p (λ l. first self.new ≡ Some l)) }
+        ensures yields { IfOk result (λ p. Yields B.plain (IsFirst self.old) p (IsFirst self.new)) }
         ensures keeps { IfOk result (λ p. Keeps B.plain (shown_first self.old) p) }
         ensures comes { IfOk result (λ p. coming_of B.plain p ≡ coming_first self.old) }
-        ensures err { OnErr result (((l : PlainBlock) → first self.new ≡ Some l → first self.old ≡ Some l)
-            × (shown_first self.new ≡ shown_first self.old) × (coming_first self.new ≡ coming_first self.old)) }
+        ensures err { OnErr result (IsAsBefore IsFirst shown_first coming_first self.old self.new) }
         ensures gives { IfOk result (λ p. Gives B.plain self.old p self.new) }
     {
         match self.blocks.pop_front() {

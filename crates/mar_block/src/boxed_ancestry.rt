@@ -1,7 +1,7 @@
 //! Streams in boxes.
 ghost use Rattle.std.specs.Prelude.{IfOk, OnErr, ◌≡◌};
 ghost use Rattle.mar_cert.specs.Block.{Block as PlainBlock};
-ghost use Rattle.mar_block.specs.Links.{Coming, Keeps, Shown, Yields, coming_of, shown_of};
+ghost use Rattle.mar_block.specs.Links.{Coming, IsAsBefore, Keeps, Shown, Yields, coming_of, shown_of};
 
 use crate::ancestry::Ancestry;
 use crate::empty_block::EmptyBlock;
@@ -30,11 +30,12 @@ pub trait ErasedAncestry: Drop {
 
     /// As `Ancestry::poll`.
     fn poll_erased(&mut self, alloc: Global) -> Result<Polled<Block>, AllocError>
-        ensures yields { IfOk result (λ p. Yields ⟦<Digested<EmptyBlock<Sha256>> as Linked>⟧.plain (wants self.old) p (wants self.new)) }
+        ensures yields { IfOk result (λ p. Yields ⟦<Digested<EmptyBlock<Sha256>> as Linked>⟧.plain
+            (wants self.old) p (wants self.new)) }
         ensures keeps { IfOk result (λ p. Keeps ⟦<Digested<EmptyBlock<Sha256>> as Linked>⟧.plain (shows self.old) p) }
-        ensures comes { IfOk result (λ p. coming_of ⟦<Digested<EmptyBlock<Sha256>> as Linked>⟧.plain p ≡ comes self.old) }
-        ensures err { OnErr result (((l : PlainBlock) → wants self.new l → wants self.old l)
-            × (shows self.new ≡ shows self.old) × (comes self.new ≡ comes self.old)) };
+        ensures comes { IfOk result (λ p. coming_of ⟦<Digested<EmptyBlock<Sha256>> as Linked>⟧.plain p
+            ≡ comes self.old) }
+        ensures err { OnErr result (IsAsBefore wants shows comes self.old self.new) };
 }
 
 impl<A: Ancestry<Digested<EmptyBlock<Sha256>>>> ErasedAncestry for A {

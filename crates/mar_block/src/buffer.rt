@@ -1,5 +1,6 @@
 //! Blocks that were received and are not yet stored.
-ghost use Rattle.std.specs.Prelude.{◌≡◌, ℕ, Bool, false, List, [], ◌∷◌, IfOk, IfSome, IsOk, None, OnErr, OnOk, Option, find, bytes_eq, is_some, option_map};
+ghost use Rattle.std.specs.Prelude.{◌≡◌, ℕ, Bool, false, List, [], ◌∷◌, IfOk, IfSome, IsOk, None};
+ghost use Rattle.std.specs.Prelude.{OnErr, OnOk, Option, find, bytes_eq, is_some, option_map};
 ghost use Rattle.mar_cert.specs.Block.{Block as PlainBlock};
 ghost use Rattle.mar_block.specs.Recipients.{named};
 ghost use Rattle.mar_block.specs.Sent.{Sending, Sends};

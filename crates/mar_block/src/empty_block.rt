@@ -136,9 +136,11 @@ impl<H: Hasher> Block for EmptyBlock<H> {
         self.parent
     }
 
-    ghost identified = { λ b other e. block_identified H.digest_of (H.Digest.encoded b.parent) (H.Digest.encoded other.parent)
+    ghost identified = { λ b other e. block_identified H.digest_of
+        (H.Digest.encoded b.parent) (H.Digest.encoded other.parent)
         b.height b.timestamp other.height other.timestamp (H.Digest.bytes b.parent) (H.Digest.bytes other.parent)
-        (H.Digest.sized b.parent ∙ sym (H.Digest.sized other.parent)) (H.Digest.spelled b.parent) (H.Digest.spelled other.parent) e };
+        (H.Digest.sized b.parent ∙ sym (H.Digest.sized other.parent))
+        (H.Digest.spelled b.parent) (H.Digest.spelled other.parent) e };
 }
 
 /// Its parent stands for its context.
@@ -162,7 +164,8 @@ impl<H: Hasher> BoundedBlock for EmptyBlock<H> {
         H::Digest::SIZE + 20
     }
 
-    ghost bounded = { λ cfg b _. length-block_bytes-within (H.Digest.encoded b.parent) b.height b.timestamp H.Digest.SIZE (H.Digest.sized b.parent) };
+    ghost bounded = { λ cfg b _. length-block_bytes-within
+        (H.Digest.encoded b.parent) b.height b.timestamp H.Digest.SIZE (H.Digest.sized b.parent) };
 }
 
 impl MaxEncodeSize for EmptyBlock<Sha256> {

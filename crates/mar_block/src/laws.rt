@@ -1,5 +1,5 @@
-//! How blocks, what is expected of them and what was sent are compared: laws that callers rest on, each the contract of a
-//! function.
+//! How blocks, what is expected of them and what was sent are compared: laws that callers rest on, each the contract of
+//! a function.
 ghost use Rattle.std.specs.Prelude.{nat_eq, ◌&&◌, ◌≡◌};
 ghost use Rattle.mar_types.specs.Equal.{TellsApart};
 ghost use Rattle.mar_types.specs.Round.{round_eq};
@@ -13,8 +13,9 @@ use crate::mocks::Block;
 use crate::recipients::{Recipients, Sent};
 use mar_types::Hasher;
 
-/// Where commitments are equal exactly where they are the same, so is what is expected of a block. What was sent is equal
-/// where its round, its block and its recipients are, and recipients where they are all peers or the same ones in order.
+/// Where commitments are equal exactly where they are the same, so is what is expected of a block. What was sent is
+/// equal where its round, its block and its recipients are, and recipients where they are all peers or the same ones in
+/// order.
 pub fn sent_compared<T: PartialEq>()
     ensures expected { TellsApart T.eq → TellsApart ⟦<ExpectedCommitment<T> as PartialEq>⟧.eq }
     ensures recipients { (a b : RecipientsOf T) → ⟦<Recipients<T> as PartialEq>⟧.eq a b ≡ recipients_eq T.eq a b }

@@ -38,10 +38,16 @@ where
 
     ghost Value = { Held };
 
-    ghost view = { λ b. record { blocks = map V.plain b.blocks.items; is_open = b.is_open; sent = map (sending V.plain) b.sent.items } };
+    ghost view = { λ b. record {
+      blocks = map V.plain b.blocks.items;
+      is_open = b.is_open;
+      sent = map (sending V.plain) b.sent.items;
+    } };
 
-    ghost invariant = { λ b. PlacesFirst V.Digest.bytes (λ x. x.digest) (map V.plain b.blocks.items) (get V.Digest.cmp b.places.digests.places)
-        × PlacesFirst V.Commitment.bytes (λ x. x.commitment) (map V.plain b.blocks.items) (get V.Commitment.cmp b.places.commitments.places) };
+    ghost invariant = { λ b. PlacesFirst V.Digest.bytes (λ x. x.digest)
+        (map V.plain b.blocks.items) (get V.Digest.cmp b.places.digests.places)
+        × PlacesFirst V.Commitment.bytes (λ x. x.commitment)
+        (map V.plain b.blocks.items) (get V.Commitment.cmp b.places.commitments.places) };
 }
 
 impl<V: Variant> MemBuffer<V>

@@ -1,7 +1,7 @@
 //! A provider of parents in memory.
-ghost use Rattle.std.specs.Prelude.{None, Option, Some, [], if◌then◌else◌, is_none, is_some, option_map, slice_get, ℕ, ◌&&◌, ◌≡◌};
+ghost use Rattle.std.specs.Prelude.{None, Some, [], option_map, ℕ, ◌≡◌};
 ghost use Rattle.mar_cert.specs.Block.{Block as PlainBlock};
-ghost use Rattle.mar_block.specs.Provided.{asked_by, came_by};
+ghost use Rattle.mar_block.specs.Provided.{asked_at, asked_by, came_at, came_by, came_in};
 ghost use Rattle.mar_block.specs.Streams.{came_after, fetched_block};
 
 use crate::block_provider::{BlockProvider, Fetched, ForkProvider};
@@ -39,12 +39,11 @@ impl<B: Linked> MemProvider<B> {
 }
 
 impl<B: Linked> BlockProvider<B> for MemProvider<B> {
-    ghost use Rattle.std.specs.Prelude.{slice_get};
-    ghost use Rattle.mar_block.specs.Provided.{asked_by, came_by};
+    ghost use Rattle.mar_block.specs.Provided.{asked_at, came_at};
 
-    ghost asked = { λ p t. asked_by B.plain (slice_get p.rows.items t) };
+    ghost asked = { λ p. asked_at B.plain p.rows.items };
 
-    ghost came = { λ p t. came_by B.plain (slice_get p.rows.items t) };
+    ghost came = { λ p. came_at B.plain p.rows.items };
 
     fn subscribe_parent(&mut self, _alloc: Global, child: &B) -> Result<u64, AllocError> {
         let ticket = self.rows.len() as u64;
@@ -61,10 +60,10 @@ impl<B: Linked> BlockProvider<B> for MemProvider<B> {
     }
 
     fn give(&mut self, ticket: u64, block: Option<B>)
-        ensures came { (u : ℕ) → came_by B.plain (slice_get self.new.rows.items u)
-            ≡ came_after (λ t. asked_by B.plain (slice_get self.old.rows.items t)) (λ t. came_by B.plain (slice_get self.old.rows.items t))
+        ensures came { (u : ℕ) → came_at B.plain self.new.rows.items u
+            ≡ came_after (asked_at B.plain self.old.rows.items) (came_at B.plain self.old.rows.items)
             ticket (option_map B.plain block) u }
-        ensures asked { (u : ℕ) → asked_by B.plain (slice_get self.new.rows.items u) ≡ asked_by B.plain (slice_get self.old.rows.items u) }
+        ensures asked { (u : ℕ) → asked_at B.plain self.new.rows.items u ≡ asked_at B.plain self.old.rows.items u }
     {
         let index = ticket as usize;
         if self.rows.len() <= index {
@@ -97,8 +96,7 @@ fn fetch<B: Linked>(row: &mut Row<B>) -> Fetched<B>
 // Puts an answer into a row that waits for one.
 fn answer<B: Linked>(row: &mut Row<B>, block: Option<B>)
     ensures asked { asked_by B.plain (Some row.new) ≡ asked_by B.plain (Some row.old) }
-    ensures came { came_by B.plain (Some row.new) ≡ (if is_some (asked_by B.plain (Some row.old)) && is_none (came_by B.plain (Some row.old))
-        then Some (option_map B.plain block) else came_by B.plain (Some row.old)) }
+    ensures came { came_by B.plain (Some row.new) ≡ came_in B.plain row.old block }
 {
     *row = match mem::replace(row, Row::Done) {
         Row::Asked(child) => Row::Came(child, block),

@@ -65,7 +65,8 @@ impl<D: Digest, C: Write + Drop> Block<D, C> {
 }
 
 impl<D: Digest, C: Write> Write for Block<D, C> {
-    ghost encoded = { λ b. mock_bytes (C.encoded b.context) (D.encoded b.parent) b.height b.timestamp (D.encoded b.digest) };
+    ghost encoded = { λ b. mock_bytes
+        (C.encoded b.context) (D.encoded b.parent) b.height b.timestamp (D.encoded b.digest) };
 
     fn write<B: BufMut>(&self, buf: &mut B) -> Result<(), AllocError> {
         let rest = (
@@ -107,7 +108,8 @@ impl<D: Digest, C: Read<Cfg = ()>> Read for Block<D, C> {
         })
     }
 
-    ghost unambiguous = { λ cfg. mock_unambiguous (C.in_grammar cfg) (D.in_grammar cfg) (C.unambiguous cfg) (D.unambiguous cfg) };
+    ghost unambiguous = { λ cfg. mock_unambiguous
+        (C.in_grammar cfg) (D.in_grammar cfg) (C.unambiguous cfg) (D.unambiguous cfg) };
 }
 
 impl<D: Digest, C> Digestible for Block<D, C> {

@@ -34,7 +34,8 @@ impl<D: Digest> FirstPlaces<D> {
     /// Notes the place of a name that has none, and says whether it did.
     pub fn note(&mut self, name: D, place: usize) -> Result<bool, AllocError>
         ensures ok { OnOk result ((d : D) → get D.cmp self.new.places d
-            ≡ or_place (get D.cmp self.old.places d) (if bytes_eq (D.bytes name) (D.bytes d) then Some place else None)) }
+            ≡ or_place (get D.cmp self.old.places d)
+            (if bytes_eq (D.bytes name) (D.bytes d) then Some place else None)) }
         ensures noted { IfOk result (λ noted. noted ≡ not (is_some (get D.cmp self.old.places name))) }
         ensures err { OnErr result ((d : D) → get D.cmp self.new.places d ≡ get D.cmp self.old.places d) }
     {
@@ -89,11 +90,13 @@ where
         place: usize,
     ) -> Result<(), AllocError>
         ensures digests { OnOk result ((d : V.Digest) → get V.Digest.cmp self.new.digests.places d
-            ≡ or_place (get V.Digest.cmp self.old.digests.places d) (if bytes_eq (V.Digest.bytes digest) (V.Digest.bytes d) then Some place else None)) }
+            ≡ or_place (get V.Digest.cmp self.old.digests.places d)
+            (if bytes_eq (V.Digest.bytes digest) (V.Digest.bytes d) then Some place else None)) }
         ensures commitments { OnOk result ((c : V.Commitment) → get V.Commitment.cmp self.new.commitments.places c
-            ≡ or_place (get V.Commitment.cmp self.old.commitments.places c) (if bytes_eq (V.Commitment.bytes commitment) (V.Commitment.bytes c) then Some
-            place else None)) }
-        ensures no_digest { OnErr result ((d : V.Digest) → get V.Digest.cmp self.new.digests.places d ≡ get V.Digest.cmp self.old.digests.places d) }
+            ≡ or_place (get V.Commitment.cmp self.old.commitments.places c)
+            (if bytes_eq (V.Commitment.bytes commitment) (V.Commitment.bytes c) then Some place else None)) }
+        ensures no_digest { OnErr result ((d : V.Digest) → get V.Digest.cmp self.new.digests.places d
+            ≡ get V.Digest.cmp self.old.digests.places d) }
         ensures no_commitment { OnErr result ((c : V.Commitment) → get V.Commitment.cmp self.new.commitments.places c
             ≡ get V.Commitment.cmp self.old.commitments.places c) }
     {

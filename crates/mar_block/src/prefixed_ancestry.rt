@@ -1,8 +1,9 @@
 //! Given blocks before a stream.
-ghost use Rattle.std.specs.Prelude.{IfErr, IfOk, IsErr, List, None, OnErr, OnOk, Option, Some, [], false, map, option_map, true, ◌≡◌};
+ghost use Rattle.std.specs.Prelude.{IfErr, IfOk, OnErr, false, map, option_map, ◌≡◌};
 ghost use Rattle.mar_cert.specs.Block.{Block as PlainBlock};
-ghost use Rattle.mar_block.specs.Links.{AreLinked, Coming, Keeps, Shown, Yields, coming_of, shown_of};
-ghost use Rattle.mar_block.specs.Prefixes.{IsBoundary, LeavesPrefixed, MayFollow, coming_behind, coming_prefixed, is_behind, last, shown_behind, shown_prefixed};
+ghost use Rattle.mar_block.specs.Links.{AreLinked, IsAsBefore, IsFork, Keeps, Yields, coming_of, shown_of};
+ghost use Rattle.mar_block.specs.Prefixes.{LeavesPrefixed, MayComePrefixed, SameButTail, coming_of_prefixed};
+ghost use Rattle.mar_block.specs.Prefixes.{is_behind, last, shown_behind, shown_of_prefixed};
 
 use crate::ancestry::{Ancestry, ForkAncestry};
 use crate::bounded_ancestry::{are_linked, copies};
@@ -25,23 +26,24 @@ pub struct PrefixedAncestry<B: Linked, A: Drop> {
 impl<B: Linked, A: Drop> Model for PrefixedAncestry<B, A> {
     ghost use Rattle.std.specs.Prelude.{map, option_map};
     ghost use Rattle.mar_block.specs.Links.{AreLinked};
-    ghost use Rattle.mar_block.specs.Prefixes.{IsBoundary, Prefixed};
+    ghost use Rattle.mar_block.specs.Prefixes.{IsBoundary, Prefixed, prefixed};
 
     ghost Value = { Prefixed A };
 
-    ghost view = { λ s. record { prefix = map B.plain s.prefix.items; boundary = option_map B.plain s.boundary; ended = s.ended; tail = s.tail } };
+    ghost view = { λ s. prefixed B.plain s.prefix.items s.boundary s.ended s.tail };
 
-    ghost invariant = { λ s. AreLinked (map B.plain s.prefix.items) × IsBoundary (map B.plain s.prefix.items) (option_map B.plain s.boundary) };
+    ghost invariant = { λ s. AreLinked (map B.plain s.prefix.items)
+        × IsBoundary (map B.plain s.prefix.items) (option_map B.plain s.boundary) };
 }
 
 impl<B: Linked, A: Ancestry<B>> Ancestry<B> for PrefixedAncestry<B, A> {
-    ghost use Rattle.mar_block.specs.Prefixes.{MayFollow, coming_prefixed, shown_prefixed};
+    ghost use Rattle.mar_block.specs.Prefixes.{MayComePrefixed, coming_of_prefixed, shown_of_prefixed};
 
-    ghost wants = { λ s l. MayFollow s.prefix s.ended s.boundary (A.wants s.tail) l };
+    ghost wants = { MayComePrefixed A.wants };
 
-    ghost shows = { λ s. shown_prefixed s.prefix s.ended s.boundary (A.shows s.tail) };
+    ghost shows = { shown_of_prefixed A.shows };
 
-    ghost comes = { λ s. coming_prefixed s.prefix s.ended s.boundary (A.comes s.tail) };
+    ghost comes = { coming_of_prefixed A.comes };
 
     fn peek(&self) -> Peeked<'_, B> {
         if let Some(block) = self.prefix.front() {
@@ -54,14 +56,12 @@ impl<B: Linked, A: Ancestry<B>> Ancestry<B> for PrefixedAncestry<B, A> {
     }
 
     fn poll(&mut self, alloc: Global) -> Result<Polled<B>, AllocError>
-        ensures yields { IfOk result (λ p. Yields B.plain (MayFollow self.old.prefix self.old.ended self.old.boundary (A.wants self.old.tail)) p
-            (MayFollow self.new.prefix self.new.ended self.new.boundary (A.wants self.new.tail))) }
-        ensures keeps { IfOk result (λ p. Keeps B.plain (shown_prefixed self.old.prefix self.old.ended self.old.boundary (A.shows self.old.tail)) p) }
-        ensures comes { IfOk result (λ p. coming_of B.plain p ≡ coming_prefixed self.old.prefix self.old.ended self.old.boundary (A.comes self.old.tail)) }
-        ensures err { OnErr result (((l : PlainBlock) → MayFollow self.new.prefix self.new.ended self.new.boundary (A.wants self.new.tail) l
-            → MayFollow self.old.prefix self.old.ended self.old.boundary (A.wants self.old.tail) l)
-            × (shown_prefixed self.new.prefix self.new.ended self.new.boundary (A.shows self.new.tail) ≡ shown_prefixed self.old.prefix self.old.ended self.old.boundary (A.shows self.old.tail))
-            × (coming_prefixed self.new.prefix self.new.ended self.new.boundary (A.comes self.new.tail) ≡ coming_prefixed self.old.prefix self.old.ended self.old.boundary (A.comes self.old.tail))) }
+        ensures yields { IfOk result (λ p. Yields B.plain
+            (MayComePrefixed A.wants self.old) p (MayComePrefixed A.wants self.new)) }
+        ensures keeps { IfOk result (λ p. Keeps B.plain (shown_of_prefixed A.shows self.old) p) }
+        ensures comes { IfOk result (λ p. coming_of B.plain p ≡ coming_of_prefixed A.comes self.old) }
+        ensures err { OnErr result (IsAsBefore
+            (MayComePrefixed A.wants) (shown_of_prefixed A.shows) (coming_of_prefixed A.comes) self.old self.new) }
         ensures leaves { IfOk result (λ p. LeavesPrefixed self.old self.old.prefix p self.new) }
     {
         let PrefixedAncestry {
@@ -121,8 +121,9 @@ fn is_behind<B: Linked>(boundary: &Option<B>, block: &B) -> bool
     }
 }
 
-/// These blocks, newest first, and behind them a stream, which hasn't to be there yet: its first block is looked at where it is
-/// shown or polled. Each of the blocks has to be the direct parent of the one before it, else the stream comes back.
+/// These blocks, newest first, and behind them a stream, which hasn't to be there yet: its first block is looked at
+/// where it is shown or polled. Each of the blocks has to be the direct parent of the one before it, else the stream
+/// comes back.
 pub fn with_prefix<B: Linked, A: Ancestry<B>>(
     blocks: Vec<B>,
     tail: A,
@@ -179,15 +180,11 @@ pub(crate) fn copy_of<B: Linked>(block: &Option<B>) -> Result<Option<B>, AllocEr
 
 impl<B: Linked, A: ForkAncestry<B>> ForkAncestry<B> for PrefixedAncestry<B, A> {
     fn fork(&mut self, alloc: Global) -> Result<Self, AllocError>
-        ensures same { ((l : PlainBlock) → MayFollow self.new.prefix self.new.ended self.new.boundary (A.wants self.new.tail) l
-            → MayFollow self.old.prefix self.old.ended self.old.boundary (A.wants self.old.tail) l)
-            × (shown_prefixed self.new.prefix self.new.ended self.new.boundary (A.shows self.new.tail) ≡ shown_prefixed self.old.prefix self.old.ended self.old.boundary (A.shows self.old.tail))
-            × (coming_prefixed self.new.prefix self.new.ended self.new.boundary (A.comes self.new.tail) ≡ coming_prefixed self.old.prefix self.old.ended self.old.boundary (A.comes self.old.tail)) }
-        ensures fork { IfOk result (λ fork. ((l : PlainBlock) → MayFollow fork.prefix fork.ended fork.boundary (A.wants fork.tail) l
-            → MayFollow self.old.prefix self.old.ended self.old.boundary (A.wants self.old.tail) l)
-            × (shown_prefixed fork.prefix fork.ended fork.boundary (A.shows fork.tail) ≡ shown_prefixed self.old.prefix self.old.ended self.old.boundary (A.shows self.old.tail))) }
-        ensures given { IfOk result (λ fork. (fork.prefix ≡ self.old.prefix) × (fork.boundary ≡ self.old.boundary) × (fork.ended ≡ self.old.ended)) }
-        ensures stays { (self.new.prefix ≡ self.old.prefix) × (self.new.boundary ≡ self.old.boundary) × (self.new.ended ≡ self.old.ended) }
+        ensures same { IsAsBefore
+            (MayComePrefixed A.wants) (shown_of_prefixed A.shows) (coming_of_prefixed A.comes) self.old self.new }
+        ensures fork { IfOk result (IsFork (MayComePrefixed A.wants) (shown_of_prefixed A.shows) self.old) }
+        ensures given { IfOk result (SameButTail self.old) }
+        ensures stays { SameButTail self.old self.new }
     {
         let prefix = copies(alloc, &self.prefix)?;
         let boundary = copy_of(&self.boundary)?;

@@ -97,7 +97,8 @@ impl<B: Block> WireVariant for Standard<B> {
     ) -> Result<Digested<B>, Error>
         ensures ok { IfOk result (λ b. Decodes (B.in_grammar cfg.now) B.encoded (HasDigest B.digest_bytes)
             (made_standard B.digest_bytes B.height_of B.parent_of B.encoded) (I.unread buf)
-            (B.Digest.bytes (commitment_of expected)) (standard_block B.digest_bytes B.height_of B.parent_of B.encoded b)) }
+            (B.Digest.bytes (commitment_of expected))
+            (standard_block B.digest_bytes B.height_of B.parent_of B.encoded b)) }
         ensures err { IfErr result (λ e. (e ≡ Error.Memory) ⊎ ((b : PlainBlock)
             → Decodes (B.in_grammar cfg.now) B.encoded (HasDigest B.digest_bytes)
             (made_standard B.digest_bytes B.height_of B.parent_of B.encoded) (I.unread buf)
@@ -105,7 +106,8 @@ impl<B: Block> WireVariant for Standard<B> {
         ensures cause { IfErr result (λ e. (e ≡ Error.Memory)
             ⊎ RefusesWhole (B.in_grammar cfg.now) (B.refuses cfg.now) (I.unread buf) e
             ⊎ ((e ≡ Error.Invalid Kind.Block Reason.DigestMismatch)
-            × HasOtherDigest (B.in_grammar cfg.now) B.encoded B.digest_bytes (I.unread buf) (B.Digest.bytes (commitment_of expected)))) }
+            × HasOtherDigest (B.in_grammar cfg.now) B.encoded B.digest_bytes (I.unread buf)
+            (B.Digest.bytes (commitment_of expected)))) }
     {
         let block = B::decode_cfg(alloc, buf, cfg)?;
         let block = Digested::compute(alloc, block)?;

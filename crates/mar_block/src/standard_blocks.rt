@@ -20,8 +20,9 @@ use std::alloc::{AllocError, Global};
 // A block of this kind.
 type Block = Digested<EmptyBlock<Sha256>>;
 
-/// Blocks without content, which consensus signs by their digest: `Standard` at those. It has no type parameters, so that a
-/// bound that asks for a kind of blocks is met by its name alone, and what is said over stores of its blocks stays short.
+/// Blocks without content, which consensus signs by their digest: `Standard` at those. It has no type parameters, so
+/// that a bound that asks for a kind of blocks is met by its name alone, and what is said over stores of its blocks
+/// stays short.
 #[derive(Clone, Copy, Debug, Default)]
 pub struct StandardBlocks;
 
@@ -98,7 +99,8 @@ impl WireVariant for StandardBlocks {
         cfg: &(),
         expected: ExpectedCommitment<Sha256Digest>,
     ) -> Result<Block, Error>
-        ensures ok { IfOk result (λ b. Decodes (⟦<EmptyBlock<Sha256> as Read>⟧.in_grammar cfg.now) ⟦<EmptyBlock<Sha256> as Write>⟧.encoded
+        ensures ok { IfOk result (λ b. Decodes
+            (⟦<EmptyBlock<Sha256> as Read>⟧.in_grammar cfg.now) ⟦<EmptyBlock<Sha256> as Write>⟧.encoded
             ⟦<Standard<EmptyBlock<Sha256>> as WireVariant>⟧.commits ⟦<Standard<EmptyBlock<Sha256>> as WireVariant>⟧.made
             (I.unread buf) (commitment_of expected).bytes (⟦<StandardBlocks as Variant>⟧.plain b)) }
         ensures err { IfErr result (λ e. (e ≡ Error.Memory) ⊎ ((b : PlainBlock)
@@ -106,8 +108,8 @@ impl WireVariant for StandardBlocks {
             ⟦<Standard<EmptyBlock<Sha256>> as WireVariant>⟧.commits ⟦<Standard<EmptyBlock<Sha256>> as WireVariant>⟧.made
             (I.unread buf) (commitment_of expected).bytes b → ⊥)) }
         ensures cause { IfErr result (λ e. (e ≡ Error.Memory)
-            ⊎ RefusesWhole (⟦<EmptyBlock<Sha256> as Read>⟧.in_grammar cfg.now) (⟦<EmptyBlock<Sha256> as Read>⟧.refuses cfg.now)
-            (I.unread buf) e
+            ⊎ RefusesWhole (⟦<EmptyBlock<Sha256> as Read>⟧.in_grammar cfg.now)
+            (⟦<EmptyBlock<Sha256> as Read>⟧.refuses cfg.now) (I.unread buf) e
             ⊎ ((e ≡ Error.Invalid Kind.Block Reason.DigestMismatch)
             × HasOtherDigest (⟦<EmptyBlock<Sha256> as Read>⟧.in_grammar cfg.now) ⟦<EmptyBlock<Sha256> as Write>⟧.encoded
             ⟦<EmptyBlock<Sha256> as Digestible>⟧.digest_bytes (I.unread buf) (commitment_of expected).bytes)) }

@@ -13,7 +13,8 @@ linked_more (x ∷ []) b next linked is = (linked.0, (is, (tt, tt)))
 linked_more (x ∷ y ∷ line) b next linked is = (linked.0, linked_more (y ∷ line) b next linked.1 is)
 
 -- a block that came is behind the line, and what may come then is behind it
-pub walked_on : (line : List PlainBlock) (b : PlainBlock) (MayCome MayComeThen : PlainBlock → Type 0) → AreWalked line MayCome → MayCome b → ((l : PlainBlock) → MayComeThen l → IsDirectParent b l) → AreWalked (line ++ b ∷ []) MayComeThen
+pub walked_on : (line : List PlainBlock) (b : PlainBlock) (MayCome MayComeThen : PlainBlock → Type 0) → AreWalked line MayCome → MayCome b
+    → ((l : PlainBlock) → MayComeThen l → IsDirectParent b l) → AreWalked (line ++ b ∷ []) MayComeThen
 walked_on line b MayCome MayComeThen walked came then = record {
   linked = walked.next b came;
   next = λ l may. linked_more line b l (walked.next b came) (then l may);

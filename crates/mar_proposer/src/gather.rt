@@ -16,8 +16,8 @@ pub struct Walk {
     pub is_whole: bool,
 }
 
-/// Adds up to so many ancestors from a stream. Where its next block isn't there yet, peers are asked for it: these blocks are all
-/// that they have.
+/// Adds up to so many ancestors from a stream. Where its next block isn't there yet, peers are asked for it: these
+/// blocks are all that they have.
 pub fn gather<B: Linked, P: BlockProvider<B>>(
     alloc: Global,
     stream: &mut AncestorStream<B, P>,

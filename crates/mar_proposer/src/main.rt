@@ -1,8 +1,9 @@
-//! A proposer that checks a rule of its own before it builds on a block: of that block and the nine before it, each was made
-//! after its parent, and at most five seconds later.
+//! A proposer that checks a rule of its own before it builds on a block: of that block and the nine before it, each was
+//! made after its parent, and at most five seconds later.
 //!
-//! It has that block alone. So it walks the block's ancestry: `walk` takes from a stream what is there, `gather` has peers
-//! answer what the stream asked for, which isn't there at first, `rule` judges the times, and `chain` makes the blocks.
+//! It has that block alone. So it walks the block's ancestry: `walk` takes from a stream what is there, `gather` has
+//! peers answer what the stream asked for, which isn't there at first, `rule` judges the times, and `chain` makes the
+//! blocks.
 //! `walk` and `gather` promise that what they gathered is a line of direct parents, whatever peers answer.
 #![tactic(auto)]
 
