@@ -5,7 +5,7 @@ use Rattle.mar_types.specs.Epochs.{Epochs}
 use Rattle.mar_cert.specs.Block.{Block}
 use Rattle.mar_model.specs.Chain.{Chain, IsBlockAt, IsLawful}
 use Rattle.mar_model.specs.Node.{IsFinalized}
-use Rattle.mar_follower.specs.Chains.{AreTheChains}
+use Rattle.mar_follower.specs.Chains.{AreFalling, AreTheChains}
 use Rattle.mar_follower.specs.Segments.{AreParents, Committee, IsParent, PassInTurn, Passes, Segment, IsBelow, lowest_from, lowest_of, segment_blocks}
 
 -- each is the chain's block at its height
@@ -14,7 +14,8 @@ AreOfChain chain blocks = AllByRecursion (λ b. IsBlockAt chain b.height b) bloc
 
 -- what is asked of the chain: digests name blocks, and each verified finalization of the archive is the chain's
 module _ (committee : Committee) (chain : Chain) (epochs : Epochs) (lawful : IsLawful epochs chain) (among : Block → Type 0)
-    (of_chain : (h : ℕ) (c : Block) → IsBlockAt chain h c → among c) (one : (a b : Block) → among a → among b → a.digest ≡ b.digest → a ≡ b) (named : (b : Block) → among b → b.commitment ≡ b.digest)
+    (of_chain : (h : ℕ) (c : Block) → IsBlockAt chain h c → among c)
+    (one : (a b : Block) → among a → among b → a.digest ≡ b.digest → a ≡ b) (named : (b : Block) → among b → b.commitment ≡ b.digest)
   where
     -- of two neighbours: the parent of a chain's block is the chain's
     below : (b c : Block) → IsBlockAt chain b.height b → among c → IsParent b c → IsBlockAt chain c.height c
@@ -54,29 +55,32 @@ module _ (committee : Committee) (chain : Chain) (epochs : Epochs) (lawful : IsL
             at = sym (lawful.heights h d there) ∙ ap (λ b. b.height) same
 
     -- A passed archive: each of its blocks is the chain's at its height, and the blocks of later segments stand lower.
-    segment_of_chain : (above : Option ℕ) (s : Segment) → Passes committee above s → AllByRecursion among (segment_blocks s) → IsFinalized chain s.finalization.round s.finalization.payload → AreOfChain chain (segment_blocks s)
+    segment_of_chain : (above : Option ℕ) (s : Segment) → Passes committee above s → AllByRecursion among (segment_blocks s)
+        → IsFinalized chain s.finalization.round s.finalization.payload → AreOfChain chain (segment_blocks s)
     segment_of_chain above s passes known finalized = let top = top_of_chain s known.0 passes.payload finalized in (top, others_of_chain s.top s.others top known.1 passes.parents)
 
     pub archive_of_chain : (above : Option ℕ) (segments : List Segment) → PassInTurn committee above segments → AllByRecursion (λ s. AllByRecursion among (segment_blocks s)) segments
-        → AllByRecursion (λ s. IsTrue (committee.verifies s.finalization) → IsFinalized chain s.finalization.round s.finalization.payload) segments → AllByRecursion (λ s. AreOfChain chain (segment_blocks s)) segments
+        → AllByRecursion (λ s. IsTrue (committee.verifies s.finalization) → IsFinalized chain s.finalization.round s.finalization.payload) segments → AllByRecursion
+        (λ s. AreOfChain chain (segment_blocks s)) segments
     archive_of_chain above [] passed known finals = tt
-    archive_of_chain above (s ∷ segments) passed known finals = (segment_of_chain above s passed.0 known.0 (finals.0 passed.0.certificate), archive_of_chain (Some (lowest_of s)) segments passed.1 known.1 finals.1)
+    archive_of_chain above (s ∷ segments) passed known finals =
+        (segment_of_chain above s passed.0 known.0 (finals.0 passed.0.certificate), archive_of_chain (Some (lowest_of s)) segments passed.1 known.1 finals.1)
 
 -- NO HEIGHT STANDS TWICE
 
--- each block stands lower than the one before
-abbrev pub Falls : Option ℕ → List Block → Type 0
-Falls above [] = Unit {0}
-Falls above (b ∷ blocks) = IsBelow above b.height × Falls (Some b.height) blocks
-
-falls_then : (b : Block) (blocks : List Block) (more : List Block) → AreParents b blocks → Falls (Some (lowest_from b blocks)) more → Falls (Some b.height) (blocks ++ more)
+falls_then : (b : Block) (blocks more : List Block) → AreParents b blocks → AreFalling (Some (lowest_from b blocks)) more
+    → AreFalling (Some b.height) (blocks ++ more)
 falls_then b [] more parents below = below
 falls_then b (c ∷ blocks) more parents below = (let one : b.height ≡ c.height + 1 = parents.0.1 in omega arith, falls_then c blocks more parents.1 below)
 
-pub archive_falls : (committee : Committee) (above : Option ℕ) (segments : List Segment) → PassInTurn committee above segments → Falls above (flat_map segment_blocks segments)
+pub archive_falls : (committee : Committee) (above : Option ℕ) (segments : List Segment) → PassInTurn committee above segments
+    → AreFalling above (flat_map segment_blocks segments)
 archive_falls committee above [] passed = tt
-archive_falls committee above (s ∷ segments) passed = (passed.0.order, falls_then s.top s.others (flat_map segment_blocks segments) passed.0.parents (archive_falls committee (Some (lowest_of s)) segments passed.1))
+archive_falls committee above (s ∷ segments) passed =
+    let below = archive_falls committee (Some (lowest_of s)) segments passed.1 in
+    (passed.0.order, falls_then s.top s.others (flat_map segment_blocks segments) passed.0.parents below)
 
 -- each block of a passed archive is the chain's
 pub passed_are_the_chains : (committee : Committee) (above : Option ℕ) (segments : List Segment) → PassInTurn committee above segments → AreTheChains committee segments
-passed_are_the_chains committee above segments passed chain known lawful are finals = archive_of_chain committee chain committee.epochs lawful (Contains known) are.of_chain are.one are.named above segments passed are.of_archive finals
+passed_are_the_chains committee above segments passed chain known lawful are finals = archive_of_chain committee chain committee.epochs lawful
+    (Contains known) are.of_chain are.one are.named above segments passed are.of_archive finals

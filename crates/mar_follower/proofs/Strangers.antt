@@ -34,4 +34,5 @@ last_lowest plain top (y ∷ []) x is = ap (λ z. (plain z).height) (inside x y 
   where
     inside : {T : Type 0} (a b : T) → ◌≡◌ {A = Option T} (Some a) (Some b) → a ≡ b
     inside a b p = cc
-last_lowest plain top (y ∷ z ∷ xs) x is = last_lowest plain (plain y) (z ∷ xs) x (is ∙ ap (slice_get (y ∷ z ∷ xs)) (let same : length (y ∷ z ∷ xs) - 1 ≡ suc (length (z ∷ xs) - 1) = omega arith in same))
+last_lowest plain top (y ∷ z ∷ xs) x is = last_lowest plain (plain y) (z ∷ xs) x
+    (is ∙ ap (slice_get (y ∷ z ∷ xs)) (let same : length (y ∷ z ∷ xs) - 1 ≡ suc (length (z ∷ xs) - 1) = omega arith in same))

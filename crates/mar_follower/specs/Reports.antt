@@ -1,9 +1,10 @@
 -- What a check of an archive tells, and how far it has come.
-use Rattle.std.specs.Prelude.{Bool, List, None, Option, map, min, ℕ, ⊤, ◌++◌, ◌-◌, ◌^◌, ◌≡◌}
+use Rattle.std.specs.List.{flat_map}
+use Rattle.std.specs.Prelude.{Bool, Err, List, None, Ok, Option, Result, map, min, ℕ, ⊤, ◌++◌, ◌-◌, ◌^◌, ◌≡◌}
 use Rattle.mar_types.specs.Epochs.{Epochs}
 use Rattle.mar_cert.specs.Finalization.{Finalization}
-use Rattle.mar_follower.specs.Chains.{AreTheChains}
-use Rattle.mar_follower.specs.Segments.{AreParents, Committee, IsArchive, IsBelow, IsCertified, IsNamed, IsOfEpoch, IsRefusedBehind, PassInTurn, Segment, archive_bytes, count_blocks, lowest_before, lowest_of}
+use Rattle.mar_follower.specs.Chains.{AreFalling, AreTheChains}
+use Rattle.mar_follower.specs.Segments.{AreParents, Committee, IsArchive, IsBelow, IsCertified, IsNamed, IsOfEpoch, IsRefusedBehind, PassInTurn, Segment, archive_bytes, count_blocks, lowest_before, lowest_of, segment_blocks}
 use Rattle.mar_follower.specs.declared.check_end.CheckEnd.{CheckEnd}
 use Rattle.mar_follower.specs.declared.check_end.CheckEnd.TheVariants.{Memory, Refused}
 use Rattle.mar_follower.specs.declared.passed.Passed.{Passed}
@@ -22,12 +23,13 @@ pub record IsReport (segments : List Segment) (report : Report) : Type 0 where
   pub counted : report.blocks ≡ min (count_blocks segments) (2 ^ 64 - 1)
   pub lowest : report.lowest ≡ lowest_before None segments
 
--- an accepted archive, and what it is of a chain
+-- an accepted archive, and what it is of a chain: no height stands twice in it
 pub record Accepts (committee : Committee) (bytes : List ℕ) (report : Report) : Type 0 where
   pub segments : List Segment
   pub archive : IsArchive committee bytes segments
   pub report_is : IsReport segments report
   pub the_chains : AreTheChains committee segments
+  pub falling : AreFalling None (flat_map segment_blocks segments)
 
 -- a refused one: the segments before it passed
 pub record Refuses (committee : Committee) (bytes : List ℕ) (report : Report) (why : Why) : Type 0 where
@@ -38,6 +40,20 @@ pub record Refuses (committee : Committee) (bytes : List ℕ) (report : Report) 
 abbrev pub EndsCheck : Committee → List ℕ → CheckEnd → Type 0
 EndsCheck committee bytes (Refused report why) = Refuses committee bytes report why
 EndsCheck committee bytes Memory = ⊤
+
+-- WHAT IS RIGHT IS TOLD, unless memory ran out
+
+-- of an archive of these segments
+abbrev pub TellsArchive : List Segment → Result Report CheckEnd → Type 0
+TellsArchive segments (Ok report) = IsReport segments report
+TellsArchive segments (Err (Refused report why)) = ⊥
+TellsArchive segments (Err Memory) = ⊤
+
+-- of bytes that are refused for this behind these segments
+abbrev pub TellsRefusal : List Segment → Why → Result Report CheckEnd → Type 0
+TellsRefusal segments reason (Ok report) = ⊥
+TellsRefusal segments reason (Err (Refused report why)) = IsReport segments report × (why ≡ reason)
+TellsRefusal segments reason (Err Memory) = ⊤
 
 -- These segments passed, and this is the rest.
 pub record SoFar (committee : Committee) (bytes rest : List ℕ) (report : Report) : Type 0 where

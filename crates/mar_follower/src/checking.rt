@@ -1,6 +1,8 @@
 //! Checking an archive.
 ghost use Rattle.std.specs.Prelude.{◌≡◌, ◌<◌, ℕ, List, IfErr, IfOk, length};
-ghost use Rattle.mar_follower.specs.Reports.{Accepts, EndsCheck, SoFar, committee_of};
+ghost use Rattle.mar_follower.specs.Reports.{Accepts, EndsCheck, SoFar, TellsArchive, TellsRefusal, committee_of};
+ghost use Rattle.mar_follower.specs.Segments.{IsArchive, IsRefusedBehind, Segment};
+ghost use Rattle.mar_follower.specs.declared.why.Why.{Why};
 
 use crate::check_end::CheckEnd;
 use crate::judging::flaw_of;
@@ -22,11 +24,13 @@ fn check_next<'a, P: Provider<Scheme = MockScheme>, E: Epocher>(
 ) -> Result<(Report, &'a [u8]), CheckEnd>
     requires { 0 < length rest.now }
     ensures passed { IfOk result (λ p. (bytes : List ℕ)
-        → let committee = committee_of members (E.epochs epocher.now) (P.has_scheme provider.now) (P.verifies provider.now) in
+        → let committee = committee_of members (E.epochs epocher.now) (P.has_scheme provider.now)
+        (P.verifies provider.now) in
         SoFar committee bytes rest.now report → SoFar committee bytes p.1.now p.0) }
     ensures shorter { IfOk result (λ p. length p.1.now < length rest.now) }
     ensures refused { IfErr result (λ e. (bytes : List ℕ)
-        → let committee = committee_of members (E.epochs epocher.now) (P.has_scheme provider.now) (P.verifies provider.now) in
+        → let committee = committee_of members (E.epochs epocher.now) (P.has_scheme provider.now)
+        (P.verifies provider.now) in
         SoFar committee bytes rest.now report → EndsCheck committee bytes e) }
 {
     let mut left = rest;
@@ -44,12 +48,12 @@ fn check_next<'a, P: Provider<Scheme = MockScheme>, E: Epocher>(
     }
 }
 
-/// Checks an archive by the schemes of a provider, over certificates of the scheme's committee. It is accepted where each
-/// segment passes: it is in the grammar, its round's epoch has a scheme and contains its first block's height, its certificate
-/// verifies, its payload is its first block's digest, each further block is the parent of the one before, and its first block
-/// stands below the segment before. Else the first segment that doesn't pass is told with the first of these that it fails, and
-/// those before it. Each block of an accepted archive is the chain's at its height, of each lawful chain that has its verified
-/// finalizations.
+/// Checks an archive by the schemes of a provider, over certificates of the scheme's committee. It is accepted where
+/// each segment passes: it is in the grammar, its round's epoch has a scheme and contains its first block's height,
+/// its certificate verifies, its payload is its first block's digest, each further block is the parent of the one
+/// before, and its first block stands below the segment before. Else the first segment that doesn't pass is told with
+/// the first of these that it fails, and those before it. Each block of an accepted archive is the chain's at its
+/// height, of each lawful chain that has its verified finalizations.
 pub fn check<P: Provider<Scheme = MockScheme>, E: Epocher>(
     alloc: Global,
     scheme: MockScheme,
@@ -57,8 +61,20 @@ pub fn check<P: Provider<Scheme = MockScheme>, E: Epocher>(
     epocher: &E,
     bytes: &[u8],
 ) -> Result<Report, CheckEnd>
-    ensures passed { IfOk result (Accepts (committee_of scheme (E.epochs epocher.now) (P.has_scheme provider.now) (P.verifies provider.now)) bytes.now) }
-    ensures refused { IfErr result (EndsCheck (committee_of scheme (E.epochs epocher.now) (P.has_scheme provider.now) (P.verifies provider.now)) bytes.now) }
+    ensures passed { let committee = committee_of scheme (E.epochs epocher.now) (P.has_scheme provider.now)
+        (P.verifies provider.now) in
+        IfOk result (Accepts committee bytes.now) }
+    ensures refused { let committee = committee_of scheme (E.epochs epocher.now) (P.has_scheme provider.now)
+        (P.verifies provider.now) in
+        IfErr result (EndsCheck committee bytes.now) }
+    ensures archive { (segments : List Segment)
+        → let committee = committee_of scheme (E.epochs epocher.now) (P.has_scheme provider.now)
+        (P.verifies provider.now) in
+        IsArchive committee bytes.now segments → TellsArchive segments result }
+    ensures refusal { (segments : List Segment) (why : Why)
+        → let committee = committee_of scheme (E.epochs epocher.now) (P.has_scheme provider.now)
+        (P.verifies provider.now) in
+        IsRefusedBehind committee bytes.now segments why → TellsRefusal segments why result }
 {
     let members = scheme.members();
     let mut rest = bytes;

@@ -18,7 +18,8 @@ fn scoped_for<P: Provider<Scheme = MockScheme>, E: Epocher>(
     epocher: &E,
     segment: &Segment,
 ) -> Option<Scoped<MockScheme>>
-    ensures { (n : ℕ) → let committee = committee_of n (E.epochs epocher.now) (P.has_scheme provider.now) (P.verifies provider.now) in
+    ensures { (n : ℕ) → let committee = committee_of n (E.epochs epocher.now) (P.has_scheme provider.now)
+        (P.verifies provider.now) in
         MatchOption result
         (IsOfEpoch committee (plain_segment segment.now) → ⊥)
         (λ s. IsOfEpoch committee (plain_segment segment.now) × Judges (mock_verifies s) (P.verifies provider.now)
@@ -88,8 +89,10 @@ pub(crate) fn flaw_of<P: Provider<Scheme = MockScheme>, E: Epocher>(
     above: Option<Height>,
     segment: &Segment,
 ) -> Option<Why>
-    ensures { (n : ℕ) → let committee = committee_of n (E.epochs epocher.now) (P.has_scheme provider.now) (P.verifies provider.now) in
-        MatchOption result (HasNoFlaw committee above (plain_segment segment.now)) (HasFlaw committee above (plain_segment segment.now)) }
+    ensures { (n : ℕ) → let committee = committee_of n (E.epochs epocher.now) (P.has_scheme provider.now)
+        (P.verifies provider.now) in
+        MatchOption result (HasNoFlaw committee above (plain_segment segment.now))
+        (HasFlaw committee above (plain_segment segment.now)) }
 {
     let Some(scoped) = scoped_for(provider, epocher, segment) else {
         return Some(Why::Epoch);

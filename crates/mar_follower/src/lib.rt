@@ -4,6 +4,7 @@
 mod check_end;
 mod checking;
 mod judging;
+mod laws;
 mod lowest;
 mod passed;
 mod reading;
@@ -13,6 +14,7 @@ mod why;
 
 pub use check_end::CheckEnd;
 pub use checking::check;
+pub use laws::archives_are_the_chains;
 pub use passed::Passed;
 pub use reading::{read, write};
 pub use report::Report;

@@ -26,8 +26,10 @@ fn read_finalization<B: Buf>(
     buf: &mut B,
 ) -> Result<MockFinalization, Error>
     ensures is { IfOk result (λ f. IsFinalization members (plain_finalization f)) }
-    ensures taken { IfOk result (λ f. B.unread buf.old ≡ finalization_bytes (plain_finalization f) ++ B.unread buf.new) }
-    ensures err { IfErr result (λ e. (e ≡ Error.Memory) ⊎ HasNoFront (SpellsMockFinalization members) (B.unread buf.old)) }
+    ensures taken { IfOk result (λ f. B.unread buf.old
+        ≡ finalization_bytes (plain_finalization f) ++ B.unread buf.new) }
+    ensures err { IfErr result (λ e. (e ≡ Error.Memory)
+        ⊎ HasNoFront (SpellsMockFinalization members) (B.unread buf.old)) }
 {
     match MockFinalization::read_cfg(alloc, buf, &members) {
         Ok(finalization) => {
@@ -87,7 +89,8 @@ fn read_count<B: Buf>(alloc: Global, buf: &mut B) -> Result<u64, Error>
     }
 }
 
-/// Reads a segment from the front, with certificates of so many members. After an error it is left open how much was taken.
+/// Reads a segment from the front, with certificates of so many members. After an error it is left open how much was
+/// taken.
 pub fn read<B: Buf>(alloc: Global, members: u32, buf: &mut B) -> Result<Segment, Error>
     ensures ok { IfOk result (λ s. TakesSegment members (plain_segment s) (B.unread buf.old) (B.unread buf.new)) }
     ensures err { IfErr result (λ e. (e ≡ Error.Memory) ⊎ HasNoSegment members (B.unread buf.old)) }

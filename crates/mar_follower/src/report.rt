@@ -36,8 +36,10 @@ impl Report {
 
     // Of one segment more.
     pub(crate) fn with(self, segment: &Segment) -> Result<Self, AllocError>
-        ensures segments { IfOk result (λ r. r.segments.items ≡ self.segments.items ++ passed_of (plain_segment segment.now) ∷ []) }
-        ensures counted { IfOk result (λ r. r.blocks ≡ min (self.blocks + length (segment_blocks (plain_segment segment.now))) (2 ^ 64 - 1)) }
+        ensures segments { IfOk result (λ r. r.segments.items
+            ≡ self.segments.items ++ passed_of (plain_segment segment.now) ∷ []) }
+        ensures counted { IfOk result (λ r. r.blocks
+            ≡ min (self.blocks + length (segment_blocks (plain_segment segment.now))) (2 ^ 64 - 1)) }
         ensures lowest { IfOk result (λ r. r.lowest ≡ Some (lowest_of (plain_segment segment.now))) }
     {
         let Report {

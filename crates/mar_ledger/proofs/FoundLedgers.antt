@@ -29,10 +29,12 @@ same_list : (xs ys : List ℕ) → length xs ≡ length ys → ((k : ℕ) → k 
 same_list [] [] long same = refl
 same_list [] (y ∷ ys) long same = absurd (omega (arith, long))
 same_list (x ∷ xs) [] long same = absurd (omega (arith, long))
-same_list (x ∷ xs) (y ∷ ys) long same = ap₂ (λ (a : ℕ) (rest : List ℕ). a ∷ rest) (same 0 (omega arith)) (same_list xs ys (omega (arith, long)) (λ k below. same (suc k) (omega (arith, below))))
+same_list (x ∷ xs) (y ∷ ys) long same =
+    ap₂ (λ (a : ℕ) (rest : List ℕ). a ∷ rest) (same 0 (omega arith)) (same_list xs ys (omega (arith, long)) (λ k below. same (suc k) (omega (arith, below))))
 
 -- balances that don't hold all the money
-pub foreign_sum : (values : Values) (balances : List ℕ) (rejected : ℕ) → values 17 ≡ Some rejected → length balances ≡ 16 → ((k : ℕ) → k < 16 → values k ≡ Some (get_or balances k 0)) → (sum balances ≡ all_money → ⊥) → IsForeign values
+pub foreign_sum : (values : Values) (balances : List ℕ) (rejected : ℕ) → values 17 ≡ Some rejected → length balances ≡ 16
+    → ((k : ℕ) → k < 16 → values k ≡ Some (get_or balances k 0)) → (sum balances ≡ all_money → ⊥) → IsForeign values
 foreign_sum values balances rejected rejected_is sixteen are less l holds =
     let is = entered_at values l 17 holds (λ none. differs _ (sym rejected_is ∙ none)) in
     less (ap sum (same_list balances l.books.balances (sixteen ∙ sym holds.is.books.sixteen)
@@ -40,7 +42,8 @@ foreign_sum values balances rejected rejected_is sixteen are less l holds =
     ∙ holds.is.books.whole)
 
 -- one balance more was read
-pub filled : (values : Values) (balances : List ℕ) (i balance : ℕ) → i < length balances → values i ≡ Some balance → ((k : ℕ) → k < i → values k ≡ Some (get_or balances k 0)) → (k : ℕ) → k < i + 1 → values k ≡ Some (get_or (slice_set balances i balance) k 0)
+pub filled : (values : Values) (balances : List ℕ) (i balance : ℕ) → i < length balances → values i ≡ Some balance
+    → ((k : ℕ) → k < i → values k ≡ Some (get_or balances k 0)) → (k : ℕ) → k < i + 1 → values k ≡ Some (get_or (slice_set balances i balance) k 0)
 filled values balances i balance within is so_far k below = elim (cases_eq k i) [
   | inl same ↦ ap values same ∙ is ∙ ap Some (sym (get_or-set_at balances i k balance 0 same within))
   | inr other ↦ so_far k (omega (arith, below, other)) ∙ ap Some (sym (get_or-set_other balances i k balance 0 other))

@@ -38,7 +38,8 @@ is_ledger height books are few fits = record { books = are; rejected = few; fits
     different h e = cc
 
 -- what was written over a ledger is the next one
-pub holds_written : (height : ℕ) (books : Books) (l : Ledger) (old now : Values) → HoldsLedger old l → AreBooks books → books.rejected ≤ height + 1 → height < 2 ^ 64 → ((k : ℕ) → now k ≡ written height books old k) → HoldsLedger now (ledger_at height books)
+pub holds_written : (height : ℕ) (books : Books) (l : Ledger) (old now : Values) → HoldsLedger old l → AreBooks books → books.rejected ≤ height + 1 → height < 2 ^ 64
+    → ((k : ℕ) → now k ≡ written height books old k) → HoldsLedger now (ledger_at height books)
 holds_written height books l old now holds are few fits is = record {
   is = is_ledger height books are few fits;
   values_are = λ k. is k ∙ over_ledger height books old (λ j above. holds.values_are j ∙ beyond l j above) k;
@@ -62,7 +63,8 @@ first_or l new x xs is others y here = by here.0 here.1 here.2
     by (suc k) below same = others y (k, omega (arith, below), same)
 
 -- maps of which each is one of two ledgers'
-named : (l new : Ledger) (a b : Values) → HoldsLedger a l → HoldsLedger b new → (left : List Values) → ((v : Values) → Contains left v → (v ≡ a) ⊎ (v ≡ b)) → (ledgers : List Ledger) × AreLedgers left ledgers × AreOneOf l new ledgers
+named : (l new : Ledger) (a b : Values) → HoldsLedger a l → HoldsLedger b new → (left : List Values) → ((v : Values) → Contains left v → (v ≡ a) ⊎ (v ≡ b))
+    → (ledgers : List Ledger) × AreLedgers left ledgers × AreOneOf l new ledgers
 named l new a b holds_a holds_b [] are = ([], tt, λ x here. absurd (omega (arith, here.1)))
 named l new a b holds_a holds_b (v ∷ left) are =
     let rest = named l new a b holds_a holds_b left (λ w here. are w (suc here.0, omega (arith, here.1), here.2)) in
@@ -72,7 +74,8 @@ named l new a b holds_a holds_b (v ∷ left) are =
     ]
 
 -- the ledger as it was is left, and maybe the one that was to be written
-pub leaves_ledger : (height : ℕ) (books : Books) (l : Ledger) (old : Values) (before left : List Values) → HoldsLedger old l → AreBooks books → books.rejected ≤ height + 1 → height < 2 ^ 64 → before ≡ old ∷ [] → LosesWriting height books old before left → LeavesLedger l (ledger_at height books) left
+pub leaves_ledger : (height : ℕ) (books : Books) (l : Ledger) (old : Values) (before left : List Values) → HoldsLedger old l → AreBooks books
+    → books.rejected ≤ height + 1 → height < 2 ^ 64 → before ≡ old ∷ [] → LosesWriting height books old before left → LeavesLedger l (ledger_at height books) left
 leaves_ledger height books l old before left holds are few fits durable loses = by left (subst (λ (vs : List Values). LeavesValues vs (loses.values ∷ []) left) durable loses.leaves)
   where
     new : Ledger

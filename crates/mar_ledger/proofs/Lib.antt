@@ -3,3 +3,4 @@ pub mod Entering
 pub mod FoundLedgers
 pub mod PutKeys
 pub mod Kept
+pub mod Truths

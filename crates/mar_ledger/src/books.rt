@@ -11,8 +11,8 @@ pub const ACCOUNTS: usize = 16;
 /// What all accounts hold together.
 pub const ALL_MONEY: u64 = 16_000_000;
 
-/// The balances of sixteen accounts, which always hold 16,000,000 together, and how many transfers were rejected. A contract
-/// sees a record of the two.
+/// The balances of sixteen accounts, which always hold 16,000,000 together, and how many transfers were rejected. A
+/// contract sees a record of the two.
 #[derive(Drop)]
 pub struct Books {
     balances: [u64; 16],
@@ -40,7 +40,8 @@ impl Books {
         }
     }
 
-    /// Books of these balances and as many rejected transfers, or `None` where the balances don't hold 16,000,000 together.
+    /// Books of these balances and as many rejected transfers, or `None` where the balances don't hold 16,000,000
+    /// together.
     pub fn of(balances: [u64; 16], rejected: u64) -> Option<Self>
         ensures { MatchOption result (sum balances ≡ all_money → ⊥)
             (λ b. (b ≡ record { balances = balances; rejected = rejected }) × (sum balances ≡ all_money)) }

@@ -19,8 +19,8 @@ pub trait Entry: Heightable {
         ensures within { IsTransfer result };
 }
 
-/// The timestamp says what is moved: the account that gives is its rest by 16, the one that gets the next four bits, and the
-/// amount the rest of the higher bits by 1,000,000.
+/// The timestamp says what is moved: the account that gives is its rest by 16, the one that gets the next four bits,
+/// and the amount the rest of the higher bits by 1,000,000.
 impl<H: Hasher> Entry for EmptyBlock<H> {
     ghost transfer = { λ b. entry_at b.timestamp };
 

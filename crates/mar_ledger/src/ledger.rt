@@ -18,9 +18,9 @@ use mar_types::Height;
 use std::alloc::{AllocError, Global};
 use std::marker::Model;
 
-/// Sixteen accounts behind the blocks up to a height, each entered once, in a metadata store: all of it is durable. Its keys 0
-/// to 15 have the balances, 16 the height and 17 how many transfers were rejected; before any block it has none. A contract
-/// sees a record of the ledger, and of what its store tells of its failures.
+/// Sixteen accounts behind the blocks up to a height, each entered once, in a metadata store: all of it is durable.
+/// Its keys 0 to 15 have the balances, 16 the height and 17 how many transfers were rejected; before any block it has
+/// none. A contract sees a record of the ledger, and of what its store tells of its failures.
 #[derive(Drop)]
 pub struct Ledger<M: Meta> {
     meta: M,
@@ -38,13 +38,14 @@ impl<M: Meta> Model for Ledger<M> {
       watch = M.watch l.meta;
     } };
 
-    ghost invariant = { λ l. IsKept (M.current l.meta) (M.left l.meta) (M.changed l.meta) (record { height = l.height; books = l.books }) };
+    ghost invariant = { λ l. IsKept (M.current l.meta) (M.left l.meta) (M.changed l.meta)
+        (record { height = l.height; books = l.books }) };
 }
 
 impl<M: Meta> Ledger<M> {
-    /// Opens what a crash left of a ledger's store; luck picks among what may be left. A store whose keys are neither none nor
-    /// just 0 to 17, whose balances don't hold 16,000,000 together, or whose rejected count is more than one above the height,
-    /// is no ledger's: it is given back as it was found.
+    /// Opens what a crash left of a ledger's store; luck picks among what may be left. A store whose keys are neither
+    /// none nor just 0 to 17, whose balances don't hold 16,000,000 together, or whose rejected count is more than one
+    /// above the height, is no ledger's: it is given back as it was found.
     pub fn open(_alloc: Global, wreck: M::Wreck, luck: u64) -> Result<Self, OpenEnd<M::Wreck>>
         ensures opened { IfOk result (OpensLedger (M.Wreck.left wreck) (M.Wreck.watch wreck) luck) }
         ensures ended { IfErr result (EndsOpening M.Wreck.left M.Wreck.watch wreck luck) }
@@ -63,14 +64,15 @@ impl<M: Meta> Ledger<M> {
         }
     }
 
-    /// Enters a block, with one sync of the store. Of one at or below the ledger's height nothing is done. One above the next
-    /// height isn't entered: the ledger comes back as it was, with the height that it expected.
+    /// Enters a block, with one sync of the store. Of one at or below the ledger's height nothing is done. One above
+    /// the next height isn't entered: the ledger comes back as it was, with the height that it expected.
     pub fn deliver<B: Entry>(
         self,
         _alloc: Global,
         block: &B,
     ) -> Result<(Self, Applied), LedgerEnd<Self, M::Wreck>>
-        ensures entered { IfOk result (λ p. delivered self.ledger (B.height_of block.now) (B.transfer block.now) ≡ entered p.0.ledger p.1) }
+        ensures entered { IfOk result (λ p. delivered self.ledger (B.height_of block.now) (B.transfer block.now)
+            ≡ entered p.0.ledger p.1) }
         ensures written { IfOk result (λ p. Enters self p.1 p.0) }
         ensures ended { IfErr result (EndsDelivery M.Wreck.left M.Wreck.watch self
             (delivered self.ledger (B.height_of block.now) (B.transfer block.now))) }
@@ -93,7 +95,8 @@ impl<M: Meta> Ledger<M> {
         requires is { IsTransfer transfer }
         ensures entered { IfOk result (λ p. delivered self.ledger height transfer ≡ entered p.0.ledger p.1) }
         ensures written { IfOk result (λ p. Enters self p.1 p.0) }
-        ensures ended { IfErr result (EndsDelivery M.Wreck.left M.Wreck.watch self (delivered self.ledger height transfer)) }
+        ensures ended { IfErr result (EndsDelivery M.Wreck.left M.Wreck.watch self
+            (delivered self.ledger height transfer)) }
     {
         let mut books = self.books.copy();
         let how = if books.post(transfer) {

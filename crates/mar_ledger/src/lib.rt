@@ -16,6 +16,6 @@ pub use applied::Applied;
 pub use books::{ACCOUNTS, ALL_MONEY, Books};
 pub use ends::{LedgerEnd, OpenEnd};
 pub use entry::Entry;
-pub use laws::entries_of_blocks;
+pub use laws::{entries_of_blocks, ledgers_stay_true};
 pub use ledger::Ledger;
 pub use transfer::Transfer;

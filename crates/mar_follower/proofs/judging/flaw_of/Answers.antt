@@ -13,8 +13,13 @@ returns-in-Some-first_stranger g c = λ n. let e = c.in-Some.ensures n in
     (e.0, certified _ _ _ _ _ e.1 c.verify.ensures c.if-not-verify.false, c.is_named.ensures.0 c.if-not-is_named.false, rw c.deref.ensures.value at c.in-Some-first_stranger.ensures)
 
 pub returns-else-is_below : goal.returns-else-is_below
-returns-else-is_below g c = λ n. let e = c.in-Some.ensures n in
-    (e.0, certified _ _ _ _ _ e.1 c.verify.ensures c.if-not-verify.false, c.is_named.ensures.0 c.if-not-is_named.false, rw c.deref.ensures.value at c.in-None.ensures, λ is. never_both _ (c.is_below.ensures.1 is) c.if-is_below.false)
+returns-else-is_below g c = λ n. let e = c.in-Some.ensures n in (
+  e.0,
+  certified _ _ _ _ _ e.1 c.verify.ensures c.if-not-verify.false,
+  c.is_named.ensures.0 c.if-not-is_named.false,
+  rw c.deref.ensures.value at c.in-None.ensures,
+  λ is. never_both _ (c.is_below.ensures.1 is) c.if-is_below.false,
+)
 
 pub returns-then-is_below : goal.returns-then-is_below
 returns-then-is_below g c = λ n. let e = c.in-Some.ensures n in record {

@@ -17,8 +17,10 @@ returns-in-Err-read_block-clause-err g c = right_by c.in-Err-read_block.ensures.
 
 pub returns-in-Ok-read_blocks-clause-ok : goal.returns-in-Ok-read_blocks-clause-ok
 returns-in-Ok-read_blocks-clause-ok g c =
-    takes_segment _ _ _ _ c.in-Ok.ensures.is c.in-Ok.ensures.taken c.in-Ok-read_count.count _ c.in-Ok-read_count.ensures.ok.taken _ _ c.in-Ok-read_block.ensures.is c.in-Ok-read_block.ensures.taken _ _ (omega arith) c.if-count-eq0.false c.in-Ok-read_blocks.ensures.ok
+    takes_segment _ _ _ _ c.in-Ok.ensures.is c.in-Ok.ensures.taken c.in-Ok-read_count.count _ c.in-Ok-read_count.ensures.ok.taken
+    _ _ c.in-Ok-read_block.ensures.is c.in-Ok-read_block.ensures.taken _ _ (omega arith) c.if-count-eq0.false c.in-Ok-read_blocks.ensures.ok
 
 pub returns-in-Err-read_blocks-clause-err : goal.returns-in-Err-read_blocks-clause-err
 returns-in-Err-read_blocks-clause-err g c =
-    right_by c.in-Err-read_blocks.ensures.err (no_others _ _ _ _ c.in-Ok.ensures.is c.in-Ok.ensures.taken _ _ c.in-Ok-read_count.ensures.ok.taken _ _ c.in-Ok-read_block.ensures.is c.in-Ok-read_block.ensures.taken)
+    right_by c.in-Err-read_blocks.ensures.err (no_others _ _ _ _ c.in-Ok.ensures.is c.in-Ok.ensures.taken _ _ c.in-Ok-read_count.ensures.ok.taken
+    _ _ c.in-Ok-read_block.ensures.is c.in-Ok-read_block.ensures.taken)

@@ -13,7 +13,8 @@ pub reading-preserved : goal.reading-preserved
 reading-preserved g c =
     let done = map plain_block c.reading.blocks.items in
     let items : c.push.new.self.items ≡ c.reading.blocks.items ++ c.in-Ok.block ∷ [] = search rules in
-    let plain : map plain_block c.push.new.self.items ≡ done ++ plain_block c.in-Ok.block ∷ [] = ap (map plain_block) items ∙ map-append plain_block c.reading.blocks.items (c.in-Ok.block ∷ []) in
+    let plain : map plain_block c.push.new.self.items ≡ done ++ plain_block c.in-Ok.block ∷ [] =
+    ap (map plain_block) items ∙ map-append plain_block c.reading.blocks.items (c.in-Ok.block ∷ []) in
     rw plain (takes_more _ _ _ _ _ _ c.reading.invariant c.in-Ok.ensures.is c.in-Ok.ensures.taken)
 
 pub returns-clause-ok : goal.returns-clause-ok

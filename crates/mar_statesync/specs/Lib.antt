@@ -1,0 +1,3 @@
+pub mod Plain
+pub mod Snapshots
+pub mod Reading
