@@ -16,7 +16,7 @@ use Rattle.mar_model.specs.Metadata.{Pair, pair_of}
 use Rattle.mar_model.specs.Cache.{Witnessing, with_witness, witnessed_rounds, witnessing_of}
 use Rattle.mar_model.specs.Chain.{Chain, IsLawful}
 use Rattle.mar_model.specs.Config.{Config}
-use Rattle.mar_model.specs.Event.{ack_given, acked_to, all_retired, cutoff_after, no_floor, processed_after, round_at}
+use Rattle.mar_model.specs.Event.{ack_marked, acked_to, all_retired, cutoff_after, no_floor, processed_after, round_at}
 use Rattle.mar_model.specs.Faults.{dropped_first, next_after}
 use Rattle.mar_model.specs.Held.{AreCached, Held, Seen, Watches}
 use Rattle.mar_model.specs.Lives.{NotBelow, later_round}
@@ -31,7 +31,7 @@ use Rattle.mar_model.proofs.Cutting.{MayBeLeft, keeps_heights}
 use Rattle.mar_model.proofs.FloorSafety.{FloorSafe-after, next_after-is}
 use Rattle.mar_model.proofs.OutstandingLemmas.{ConsecutiveFrom-after_given, ConsecutiveFrom-with_mark, all_sure-drained, all_sure-kept, first_unprocessed-rises}
 use Rattle.mar_model.proofs.Growing.{Grown-same}
-use Rattle.mar_model.proofs.PlainEvents.{Certificates-same, KeepsFrom-same, Writes-same, nothing_put}
+use Rattle.mar_model.proofs.PlainEvents.{Certificates-same, EntersAt-same, KeepsFrom-same, Writes-same, nothing_put}
 use Rattle.mar_model.proofs.Reaching.{Reaches}
 use Rattle.mar_model.proofs.Soundness.{HasAnchor-acked_to, IsFrom, IsSafePair-kept, own_pair_safe}
 
@@ -85,17 +85,17 @@ later_rounds-are certs retention w out = later_rounds-of certs w.last out ∙ sy
 abbrev pub with_own_pair : {P E : Type 0} → Watches → Seen P E → Seen P E
 with_own_pair watches b = record b { held = record b.held { pairs = pair_of b.held.processed b.held.cutoff ∷ []; watches = watches } }
 
-module _ {P E : Type 0} (config : Config) (chain : Chain) (lawful : IsLawful config.epochs chain) (partition : IsPartition config.epochs) (a : Seen P E) (t : ℕ) (buffer : List Block) (waiting : Waiting) (nested : IsNested a.held.blocks) (certs_nested : IsNested a.held.certs) (good : IsGood config chain (node_of a buffer waiting)) (loaded : a.held.cache.loaded ≡ true) (cached : AreCached a.held) where
+module _ {P E : Type 0} (config : Config) (chain : Chain) (lawful : IsLawful config.epochs chain) (partition : IsPartition config.epochs) (a : Seen P E) (t : ℕ) (as_mark : Mark) (buffer : List Block) (waiting : Waiting) (nested : IsNested a.held.blocks) (certs_nested : IsNested a.held.certs) (good : IsGood config chain (node_of a buffer waiting)) (loaded : a.held.cache.loaded ≡ true) (cached : AreCached a.held) where
   abbrev pub n : Node
   n = node_of a buffer waiting
 
   -- the actor with the mark
-  abbrev pub given : Seen P E
-  given = record a { life = record a.life { out = with_mark t mark_given a.life.out } }
+  abbrev pub marked : Seen P E
+  marked = record a { life = record a.life { out = with_mark t as_mark a.life.out } }
 
   -- the blocks that are drained
   abbrev pub drained : List Outstanding
-  drained = given_front given.life.out
+  drained = given_front marked.life.out
 
   -- the processed height and the cutoff after it
   abbrev pub processed : Option Processed
@@ -117,7 +117,7 @@ module _ {P E : Type 0} (config : Config) (chain : Chain) (lawful : IsLawful con
       witnessed = fold (λ r o. later_round r (round_at a.held.certs.held o.height)) a.held.witnessed drained;
       pairs = pairs;
     };
-    life = record a.life { out = after_given given.life.out };
+    life = record a.life { out = after_given marked.life.out };
   }
 
   -- what its own sync leaves of them
@@ -125,34 +125,34 @@ module _ {P E : Type 0} (config : Config) (chain : Chain) (lawful : IsLawful con
   own_pairs = pair_of processed cutoff ∷ []
 
   -- the cutoff is the event's
-  pub cutoff-is : cutoff ≡ cutoff_after config n (ack_given t) no_floor
+  pub cutoff-is : cutoff ≡ cutoff_after config n (ack_marked t as_mark) no_floor
   cutoff-is = ap (greatest_of a.held.cutoff) (sym (append-nil (all_retired config.epochs a.held.certs.held drained ++ []) ∙ append-nil (all_retired config.epochs a.held.certs.held drained)))
 
   -- what is asked is what the event asks
-  pub asks-drained : retire_asks config.epochs a.held.certs.held a.held.cutoff drained ≡ own_asks config n (ack_given t) no_floor
+  pub asks-drained : retire_asks config.epochs a.held.certs.held a.held.cutoff drained ≡ own_asks config n (ack_marked t as_mark) no_floor
   asks-drained = sym (append-nil (retire_asks config.epochs a.held.certs.held a.held.cutoff drained ++ []) ∙ append-nil (retire_asks config.epochs a.held.certs.held a.held.cutoff drained))
 
   -- the rounds that are witnessed are the event's
-  rounds-are : rounds_of a.held.certs.held drained ≡ witnessed_rounds n (ack_given t) no_floor
+  rounds-are : rounds_of a.held.certs.held drained ≡ witnessed_rounds n (ack_marked t as_mark) no_floor
   rounds-are = sym (append-nil (rounds_of a.held.certs.held drained))
 
   -- and so is the last one
-  witnessed-is : fold (λ r o. later_round r (round_at a.held.certs.held o.height)) a.held.witnessed drained ≡ (witnessing_of config n (ack_given t) no_floor).last
+  witnessed-is : fold (λ r o. later_round r (round_at a.held.certs.held o.height)) a.held.witnessed drained ≡ (witnessing_of config n (ack_marked t as_mark) no_floor).last
   witnessed-is = later_rounds-are a.held.certs.held config.retention (witnessing_from a.held.witnessed) drained ∙ ap (λ rounds. (fold (with_witness config.retention) (witnessing_from a.held.witnessed) rounds).last) rounds-are
 
   -- the event prunes by the same rounds, where it retains as many views as the actor
-  pub prunes-are : config.retention ≡ a.life.sizes.retention → prunes ≡ (witnessing_of config n (ack_given t) no_floor).prunes
+  pub prunes-are : config.retention ≡ a.life.sizes.retention → prunes ≡ (witnessing_of config n (ack_marked t as_mark) no_floor).prunes
   prunes-are retention = ap (λ k. pruned_by k a.held.witnessed (rounds_of a.held.certs.held drained)) (sym retention) ∙ ap (pruned_by config.retention a.held.witnessed) rounds-are
 
   -- it covers nothing but what is processed or, next after that, sure
   floor_safe : FloorSafe (option_map height_in processed) cutoff a.held.blocks.sure chain
-  floor_safe = subst (λ c. FloorSafe (option_map height_in processed) c a.held.blocks.sure chain) (sym cutoff-is) (FloorSafe-after config chain lawful partition n (ack_given t) a.held.blocks.sure good.of_chain.stores.held_certs good.heights.delivery.consecutive good.of_chain.floor_safe (λ h low has. has) tt tt)
+  floor_safe = subst (λ c. FloorSafe (option_map height_in processed) c a.held.blocks.sure chain) (sym cutoff-is) (FloorSafe-after config chain lawful partition n (ack_marked t as_mark) a.held.blocks.sure good.of_chain.stores.held_certs good.heights.delivery.consecutive good.of_chain.floor_safe (λ h low has. has) tt tt)
 
   -- the window still holds what stays
-  still_within : length (after_given given.life.out) ≤ config.window
+  still_within : length (after_given marked.life.out) ≤ config.window
   still_within =
-      let fewer : length (after_given given.life.out) ≤ length given.life.out = length-after_given given.life.out in
-      let same : length given.life.out ≡ length a.life.out = length-map a.life.out (marked_entry t mark_given) in
+      let fewer : length (after_given marked.life.out) ≤ length marked.life.out = length-after_given marked.life.out in
+      let same : length marked.life.out ≡ length a.life.out = length-map a.life.out (marked_entry t as_mark) in
       let before : length a.life.out ≤ config.window = good.heights.delivery.within_window in
       omega arith
 
@@ -162,10 +162,10 @@ module _ {P E : Type 0} (config : Config) (chain : Chain) (lawful : IsLawful con
     heights = record {
       stores = good.heights.stores;
       delivery = record {
-        consecutive = ConsecutiveFrom-after_given a.held.processed given.life.out (ConsecutiveFrom-with_mark t mark_given (first_unprocessed a.held.processed) a.life.out good.heights.delivery.consecutive);
-        out_sure = all_sure-kept n (ack_given t) no_floor good.heights.delivery.out_sure;
+        consecutive = ConsecutiveFrom-after_given a.held.processed marked.life.out (ConsecutiveFrom-with_mark t as_mark (first_unprocessed a.held.processed) a.life.out good.heights.delivery.consecutive);
+        out_sure = all_sure-kept n (ack_marked t as_mark) no_floor good.heights.delivery.out_sure;
         within_window = still_within;
-        anchored = HasAnchor-acked_to a.held.processed drained a.held.blocks.sure good.heights.delivery.anchored (all_sure-drained n (ack_given t) good.heights.delivery.out_sure);
+        anchored = HasAnchor-acked_to a.held.processed drained a.held.blocks.sure good.heights.delivery.anchored (all_sure-drained n (ack_marked t as_mark) good.heights.delivery.out_sure);
       };
       floor_clears = λ some. absurd cc;
       own_pair = refl;
@@ -183,7 +183,7 @@ module _ {P E : Type 0} (config : Config) (chain : Chain) (lawful : IsLawful con
   }
 
   -- and the event reached it, where the oldest that stays wasn't dropped
-  Reaches-drained : prunes ≡ (witnessing_of config n (ack_given t) no_floor).prunes → (now : Held) → PrunesCacheBy prunes a.held now → dropped_oldest (after_given given.life.out) ≡ None → Reaches config chain a (ack_given t) buffer waiting [] (drained_to own_pairs now)
+  Reaches-drained : prunes ≡ (witnessing_of config n (ack_marked t as_mark) no_floor).prunes → (now : Held) → PrunesCacheBy prunes a.held now → dropped_oldest (after_given marked.life.out) ≡ None → Reaches config chain a (ack_marked t as_mark) buffer waiting [] (drained_to own_pairs now)
   Reaches-drained prunes_own now pruned not_dropped = record {
     no_effect = refl;
     kept = refl;
@@ -202,24 +202,26 @@ module _ {P E : Type 0} (config : Config) (chain : Chain) (lawful : IsLawful con
     of_certs = tt;
     own_blocks = λ x has. nothing_put x has;
     own_certs = λ x has. nothing_put x has;
-    certificates = Certificates-same a (drained_to own_pairs now) (ack_given t) buffer waiting refl;
-    writes = (Writes-same a (drained_to own_pairs now) (ack_given t) buffer waiting refl refl refl (λ syncs. refl) (λ syncs. refl)).0;
-    no_repair = (Writes-same a (drained_to own_pairs now) (ack_given t) buffer waiting refl refl refl (λ syncs. refl) (λ syncs. refl)).1;
+    certificates = Certificates-same a (drained_to own_pairs now) (ack_marked t as_mark) buffer waiting refl;
+    writes = (Writes-same a (drained_to own_pairs now) (ack_marked t as_mark) buffer waiting refl refl refl (λ syncs. refl) (λ syncs. refl)).0;
+    no_repair = (Writes-same a (drained_to own_pairs now) (ack_marked t as_mark) buffer waiting refl refl refl (λ syncs. refl) (λ syncs. refl)).1;
+    unblocked = (Writes-same a (drained_to own_pairs now) (ack_marked t as_mark) buffer waiting refl refl refl (λ syncs. refl) (λ syncs. refl)).2;
+    enters = EntersAt-same _ (node_of a buffer waiting) (node_of (drained_to own_pairs now) buffer waiting) refl refl;
     are_tips = tt;
     tips_rise = refl;
     tips_chain = tt;
-    cache = moves_pruned config chain a (drained_to own_pairs now) (ack_given t) buffer waiting refl refl refl refl cached.own_lowest prunes loaded prunes_own witnessed-is (PrunesCacheBy-beside prunes a.held now (drained_to own_pairs now).held refl refl refl pruned);
+    cache = moves_pruned config chain a (drained_to own_pairs now) (ack_marked t as_mark) buffer waiting refl refl refl refl cached.own_lowest prunes loaded prunes_own witnessed-is (PrunesCacheBy-beside prunes a.held now (drained_to own_pairs now).held refl refl refl pruned);
     stored = tt;
     stored_late = tt;
     no_query = refl;
-    no_fault = dropped_first-none (after_given given.life.out) not_dropped;
+    no_fault = dropped_first-none (after_given marked.life.out) not_dropped;
     sends = refl;
     answers = λ lowest. refl;
     subscriptions = refl;
     no_syncs = λ n'. refl;
   }
 
-  module _ (is_drained : Bool) (b : Seen P E) (drains : Drains config.epochs given is_drained b) where
+  module _ (is_drained : Bool) (b : Seen P E) (drains : Drains config.epochs marked is_drained b) where
     -- the cache of these stores, with so many counted calls
     abbrev counted_to : Watches → Held
     counted_to watches = record b.held { watches = watches }
@@ -237,15 +239,15 @@ module _ {P E : Type 0} (config : Config) (chain : Chain) (lawful : IsLawful con
 
     -- An acknowledgement reaches the actor whose pair was synced after it drained, where that retains as many views as the
     -- event says.
-    pub Reaches-ack : config.retention ≡ a.life.sizes.retention → (m : Seen P E) → m ≡ with_own_pair m.held.watches b → Reaches config chain a (ack_given t) buffer waiting [] m
-    Reaches-ack retention m after = subst (λ x. Reaches config chain a (ack_given t) buffer waiting [] x) (sym (after ∙ ap (with_own_pair m.held.watches) drains.same)) (Reaches-drained (prunes-are retention) (counted_to m.held.watches) (pruned m.held.watches) drains.not_dropped)
+    pub Reaches-ack : config.retention ≡ a.life.sizes.retention → (m : Seen P E) → m ≡ with_own_pair m.held.watches b → Reaches config chain a (ack_marked t as_mark) buffer waiting [] m
+    Reaches-ack retention m after = subst (λ x. Reaches config chain a (ack_marked t as_mark) buffer waiting [] x) (sym (after ∙ ap (with_own_pair m.held.watches) drains.same)) (Reaches-drained (prunes-are retention) (counted_to m.held.watches) (pruned m.held.watches) drains.not_dropped)
 
     -- its pair, said of the actor before
     pair-is : pair_of b.held.processed b.held.cutoff ≡ pair_of processed cutoff
     pair-is = ap (λ x. pair_of x.held.processed x.held.cutoff) drains.same
 
     -- the pair that it gives to the sync is the event's
-    pub pair_after-is : pair_of (processed_after n (ack_given t) no_floor) (cutoff_after config n (ack_given t) no_floor) ≡ pair_of b.held.processed b.held.cutoff
+    pub pair_after-is : pair_of (processed_after n (ack_marked t as_mark) no_floor) (cutoff_after config n (ack_marked t as_mark) no_floor) ≡ pair_of b.held.processed b.held.cutoff
     pair_after-is = ap (pair_of processed) (sym cutoff-is) ∙ sym pair-is
 
     -- which is safe
@@ -255,13 +257,13 @@ module _ {P E : Type 0} (config : Config) (chain : Chain) (lawful : IsLawful con
     -- and not below the one before
     pub NotBelow-drained : NotBelow (option_map height_in a.held.processed) (option_map height_in b.held.processed)
     NotBelow-drained = subst (λ o. NotBelow (option_map height_in a.held.processed) (option_map height_in o)) (sym (ap (λ x. x.held.processed) drains.same))
-        (let low : first_unprocessed a.held.processed ≤ first_unprocessed processed = first_unprocessed-rises n (ack_given t) no_floor good.heights.delivery.consecutive in
+        (let low : first_unprocessed a.held.processed ≤ first_unprocessed processed = first_unprocessed-rises n (ack_marked t as_mark) no_floor good.heights.delivery.consecutive in
         subst (λ k. k ≤ next_after (option_map height_in processed)) (sym (next_after-is a.held.processed)) (subst (λ k. first_unprocessed a.held.processed ≤ k) (sym (next_after-is processed)) low))
 
     -- so it may be left where the sync of that pair fails
-    pub MayBeLeft-drained : (sure : List (At Block)) → KeepsValues a.held.blocks.sure sure → (p : Pair) → Contains (pair_of b.held.processed b.held.cutoff ∷ []) p → MayBeLeft config chain a (ack_given t) buffer waiting sure p
+    pub MayBeLeft-drained : (sure : List (At Block)) → KeepsValues a.held.blocks.sure sure → (p : Pair) → Contains (pair_of b.held.processed b.held.cutoff ∷ []) p → MayBeLeft config chain a (ack_marked t as_mark) buffer waiting sure p
     MayBeLeft-drained sure keeps p (suc k, lt, is) = absurd (omega arith)
-    MayBeLeft-drained sure keeps p (zero, lt, is) = subst (MayBeLeft config chain a (ack_given t) buffer waiting sure) is (inr (pair_after-is, kept, NotBelow-drained))
+    MayBeLeft-drained sure keeps p (zero, lt, is) = subst (MayBeLeft config chain a (ack_marked t as_mark) buffer waiting sure) is (inr (pair_after-is, kept, NotBelow-drained))
       where
         from : (o : Option ℕ) → IsFrom 0 o
         from None = tt
@@ -272,7 +274,7 @@ module _ {P E : Type 0} (config : Config) (chain : Chain) (lawful : IsLawful con
 
   -- WHERE NOTHING WAS DRAINED
 
-  module _ (b : Seen P E) (drains : Drains config.epochs given false b) where
+  module _ (b : Seen P E) (drains : Drains config.epochs marked false b) where
     -- none was given at the front
     none_drained : drained ≡ []
     none_drained = none_of_length drained drains.drained
@@ -282,12 +284,12 @@ module _ {P E : Type 0} (config : Config) (chain : Chain) (lawful : IsLawful con
     pairs-are = good.heights.own_pair ∙ sym (ap (λ out. pair_of (acked_to a.held.processed out) (greatest_of a.held.cutoff (all_retired config.epochs a.held.certs.held out)) ∷ []) none_drained)
 
     -- no round is witnessed, so none prunes
-    none_pruned : prunes ≡ (witnessing_of config n (ack_given t) no_floor).prunes
+    none_pruned : prunes ≡ (witnessing_of config n (ack_marked t as_mark) no_floor).prunes
     none_pruned = ap (λ out. pruned_by a.life.sizes.retention a.held.witnessed (rounds_of a.held.certs.held out)) none_drained ∙ sym (ap (pruned_by config.retention a.held.witnessed) (sym rounds-are ∙ ap (rounds_of a.held.certs.held) none_drained))
 
     -- An acknowledgement behind one that is waited for reaches the actor with its mark.
-    pub Reaches-undrained : Reaches config chain a (ack_given t) buffer waiting [] b
-    Reaches-undrained = subst (λ x. Reaches config chain a (ack_given t) buffer waiting [] x) (sym (drains.same ∙ ap (λ pairs. drained_to pairs b.held) pairs-are)) (Reaches-drained none_pruned b.held drains.prunes drains.not_dropped)
+    pub Reaches-undrained : Reaches config chain a (ack_marked t as_mark) buffer waiting [] b
+    Reaches-undrained = subst (λ x. Reaches config chain a (ack_marked t as_mark) buffer waiting [] x) (sym (drains.same ∙ ap (λ pairs. drained_to pairs b.held) pairs-are)) (Reaches-drained none_pruned b.held drains.prunes drains.not_dropped)
 
     pub IsGood-undrained : IsGood config chain (node_of b buffer waiting)
     IsGood-undrained = subst (λ x. IsGood config chain (node_of x buffer waiting)) (sym (drains.same ∙ ap (λ pairs. drained_to pairs b.held) pairs-are)) (IsGood-drained b.held drains.prunes)
@@ -297,7 +299,7 @@ module _ {P E : Type 0} (config : Config) (chain : Chain) (lawful : IsLawful con
 
     -- as many are waited for, from the same height on, over the same blocks
     same_length : length b.life.out ≡ length a.life.out
-    same_length = ap (λ x. length x.life.out) drains.same ∙ (ap (λ out. length out) (after_given-none given.life.out none_drained) ∙ length-map a.life.out (marked_entry t mark_given))
+    same_length = ap (λ x. length x.life.out) drains.same ∙ (ap (λ out. length out) (after_given-none marked.life.out none_drained) ∙ length-map a.life.out (marked_entry t as_mark))
 
     same_processed : b.held.processed ≡ a.held.processed
     same_processed = ap (λ x. x.held.processed) drains.same ∙ ap (acked_to a.held.processed) none_drained

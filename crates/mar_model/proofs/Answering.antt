@@ -1,35 +1,33 @@
 -- What a step answers, and what it takes up of the cache: read off its plan.
+use Rattle.std.proofs.Common.{◌≡◌, ◌∷◌, [], List, Option, None, Some, Bool, true, false, cond, nat_lt, map, option_to_list, Ok, ◌++◌, ◌<◌, ◌≤◌, ◌==◌, ℕ, refl, sym, ◌∙◌, ap, subst, append-nil, append_assoc, is_some}
 use Rattle.std.specs.Prelude.{⊤}
-use Rattle.std.proofs.Common.{◌≡◌, inl, inr, ◌∷◌, [], List, Option, None, Some, Bool, true, false, cond, nat_lt, map, option_to_list, Ok, ◌++◌, ◌<◌, ◌≤◌, ◌==◌, ℕ, arith, refl, sym, ◌∙◌, ap, subst, append-nil, append_assoc, is_some}
-use Rattle.std.proofs.lemmas.Bool.{cases_lt}
-use Rattle.std.proofs.lemmas.Bool.Decides.{nat_tests}
 use Rattle.mar_types.specs.Round.{Round}
 use Rattle.mar_cert.specs.Block.{Block}
 use Rattle.mar_cert.specs.Finalization.{Finalization}
 use Rattle.mar_gate.specs.Writing.{is_open_sync}
-use Rattle.mar_key.specs.Processed.{height_of}
 use Rattle.mar_store.specs.Kept.{At}
+use Rattle.mar_key.specs.Processed.{height_of}
 use Rattle.mar_model.specs.Acks.{Mark, Outstanding, given_oldest, is_given, mark_dropped, mark_given, mark_waiting, with_mark}
 use Rattle.mar_model.specs.Answers.{TicketAnswer, finished_answers, started_value, to, true_value}
-use Rattle.mar_model.specs.Cached.{Cached}
-use Rattle.mar_model.specs.Event.{Event, ack_dropped, ack_given, block_buffered, buffer_ended, life_started, message_told, peer_answered, serve_ended, sync_finished}
+use Rattle.mar_model.specs.Event.{Event, ack_marked, block_buffered, buffer_ended, life_started, message_told, peer_answered, serve_ended, sync_finished}
 use Rattle.mar_model.specs.Faults.{height_limit, last_height}
-use Rattle.mar_model.specs.Held.{Ending, Held, Remembered, Seen}
+use Rattle.mar_model.specs.Held.{Held, Remembered, Seen}
 use Rattle.mar_model.specs.Messages.{Message, certify, close_ticket, forward, get_anchor, get_block, get_finalization, get_info, get_processed, get_verified, hint_finalized, hint_notarized, prepared, proposed, prune_below, report_certification, report_finalization, report_notarization, set_floor, subscribe_commitment, subscribe_digest, verified}
-use Rattle.mar_model.specs.Moves.{KeepsFor, KeepsInCache, KeepsTakenUp, lacks_finalization}
+use Rattle.mar_model.specs.Moves.{KeepsInCache, KeepsTakenUp, lacks_finalization}
 use Rattle.mar_model.specs.OpenSyncs.{is_cache_sync}
 use Rattle.mar_model.specs.Promise.{Heard}
 use Rattle.mar_model.specs.Queries.{answers_found, value_found}
 use Rattle.mar_model.specs.Stored.{newest}
+use Rattle.mar_model.specs.Acts.{AreLawful, KeepAct, ask, caches, finish_kept, keep_certified, keep_notarization, keep_verified, keeps_for, load_cache, mark, note, process, progresses, put_finalization, reply, says, send, start_sync, store, stores, sync_progress, tell}
+use Rattle.mar_model.specs.Plans.{Found, RunsPlan, ack_plan, answer_plan, drain_plan, final_plan, keep_plan, late_plan, newest_plan, oldest_plan, plan_of, sent_block, settle_plan, sync_plan}
+use Rattle.mar_model.specs.Ran.{DoesTask, Runs, Task, dispatches, does, ends}
+use Rattle.mar_model.specs.Scene.{Scene, scene, window_of}
 use Rattle.mar_model.proofs.Living.{Runs-keeps}
 use Rattle.mar_model.proofs.OpenSyncs.{waits-none}
 use Rattle.mar_model.proofs.Shapes.{seen_at}
-use Rattle.mar_model.specs.Acts.{AreLawful, KeepAct, KeepsAndTells, ask, caches, finish_kept, keep_certified, keep_notarization, keep_verified, kept_value, keeps_for, load_cache, mark, note, process, progresses, put_finalization, reply, says, send, start_sync, store, stores, sync_progress, tell}
-use Rattle.mar_model.specs.Plans.{Found, RunsPlan, ack_plan, answer_plan, drain_plan, final_plan, keep_plan, late_plan, newest_plan, oldest_plan, plan_of, sent_block, settle_plan, sync_plan}
-use Rattle.mar_model.specs.Ran.{Breaks, DoesTask, FailsTask, Runs, Task, dispatches, does, ends}
-use Rattle.mar_model.specs.Scene.{Scene, scene, window_of}
 use Rattle.mar_model.proofs.PromisedFinalization.{none_of}
 use Rattle.mar_model.proofs.Unread.{runs_first}
+use Rattle.mar_model.proofs.KeptEach.{told_kept}
 
 -- WHO IS ANSWERED
 
@@ -70,36 +68,11 @@ task_unanswered inner (does (says (reply a))) s t none same = absurd (let both :
 task_unanswered inner dispatches s t none hands = ap (λ (y : Scene). y.heard.answers) hands.same
 task_unanswered inner (ends fault) s t none did = absurd did
 
-task_lost_unanswered : (k : Task) (s : Scene) (x : Ending) (heard : Heard) → FailsTask k s x heard → heard.answers ≡ s.heard.answers
-task_lost_unanswered (does (caches a)) s x heard (loses, kind, same) = ap (λ (h : Heard). h.answers) same
-task_lost_unanswered (does (keeps_for a)) s x heard (loses, kind, same) = ap (λ (h : Heard). h.answers) same
-task_lost_unanswered (does (stores a)) s x heard (loses, kind, same) = ap (λ (h : Heard). h.answers) same
-task_lost_unanswered (does (progresses (note r))) s x heard (loses, kind, asks, same) = ap (λ (h : Heard). h.answers) same
-task_lost_unanswered (does (progresses (mark ticket m))) s x heard fails = absurd fails
-task_lost_unanswered (does (progresses (process h))) s x heard (loses, kind, asks, same) = ap (λ (h : Heard). h.answers) same
-task_lost_unanswered (does (progresses sync_progress)) s x heard (loses, kind, same) = ap (λ (h : Heard). h.answers) same
-task_lost_unanswered (does (says (tell r h d))) s x heard (is, told, same) = ap (λ (h : Heard). h.answers) same
-task_lost_unanswered (does (says (ask calls))) s x heard (is, asked, same) = ap (λ (h : Heard). h.answers) same
-task_lost_unanswered (does (says (send y))) s x heard (is, sent, same) = ap (λ (h : Heard). h.answers) same
-task_lost_unanswered (does (says (reply a))) s x heard (is, same) = ap (λ (h : Heard). h.answers) same
-task_lost_unanswered dispatches s x heard stops = ap (λ (h : Heard). h.answers) stops.same
-task_lost_unanswered (ends fault) s x heard (is, same) = ap (λ (h : Heard). h.answers) same
-
 pub Runs-unanswered : (inner : List ℕ → List ℕ) (plan : List Task) (s t : Scene) → Unanswering (map answers_by plan) → Runs inner s plan t → t.heard.answers ≡ s.heard.answers
 Runs-unanswered inner [] s t none reads = ap (λ (y : Scene). y.heard.answers) reads.same
 Runs-unanswered inner (k ∷ plan) s t none (mid, after, reads, did, runs) =
     let (first, rest) = unanswering_first (answers_by k) (map answers_by plan) none in
     Runs-unanswered inner plan after t rest runs ∙ (task_unanswered inner k mid after first did ∙ ap (λ (y : Scene). y.heard.answers) reads.same)
-
--- a plan that answers nobody answers nobody where it broke either
-pub Breaks-unanswered : (inner : List ℕ → List ℕ) (plan : List Task) (s : Scene) (x : Ending) (heard : Heard) → Unanswering (map answers_by plan) → Breaks inner s plan x heard
-    → heard.answers ≡ s.heard.answers
-Breaks-unanswered inner [] s x heard none fails = ap (λ (h : Heard). h.answers) fails.same
-Breaks-unanswered inner (k ∷ plan) s x heard none (inl fails) = ap (λ (h : Heard). h.answers) fails.same
-Breaks-unanswered inner (k ∷ plan) s x heard none (inr (mid, reads, inl fails)) = task_lost_unanswered k mid x heard fails ∙ ap (λ (y : Scene). y.heard.answers) reads.same
-Breaks-unanswered inner (k ∷ plan) s x heard none (inr (mid, reads, inr (after, did, breaks))) =
-    let (first, rest) = unanswering_first (answers_by k) (map answers_by plan) none in
-    Breaks-unanswered inner plan after x heard rest breaks ∙ (task_unanswered inner k mid after first did ∙ ap (λ (y : Scene). y.heard.answers) reads.same)
 
 -- those of a plan of answers
 Runs-answers : (inner : List ℕ → List ℕ) (answers : List TicketAnswer) (s t : Scene) → Runs inner s (answer_plan answers) t → t.heard.answers ≡ s.heard.answers ++ answers
@@ -151,25 +124,6 @@ final-none h f (Some b) = by (nat_lt (height_of h.processed) b.height) (b.height
     by true false lacking = tt
     by false last true = tt
     by false last false = tt
-
--- WHAT IS KEPT FOR A CALLER
-
-kept_value-is : (r : Round) (put : List Cached) (covered : Cached → Bool) (answer sync : Option ℕ) (old new : Held) → KeepsFor r.epoch put covered answer sync old new
-    → old.cache.loaded ≡ true → kept_value sync ≡ started_value old.writes.next_sync old.lowest r
-kept_value-is r put covered answer sync old new keeps loaded = elim (cases_lt r.epoch old.lowest) [
-  | inl low ↦ ap kept_value (keeps.below low).0 ∙ sym (ap (λ c. cond c (kept_value None) (kept_value (Some old.writes.next_sync))) (is_low low))
-  | inr from ↦ ap kept_value (keeps.done loaded from).0 ∙ sym (ap (λ c. cond c (kept_value None) (kept_value (Some old.writes.next_sync))) (not_low from))
-]
-  where
-    is_low : r.epoch < old.lowest → nat_lt r.epoch old.lowest ≡ true
-    is_low low = grind (arith, nat_tests)
-
-    not_low : old.lowest ≤ r.epoch → nat_lt r.epoch old.lowest ≡ false
-    not_low from = grind (arith, nat_tests)
-
-told_kept : (r : Round) (put : List Cached) (covered : Cached → Bool) (t : ℕ) (old new : Held) (answered : List TicketAnswer) → KeepsAndTells r.epoch put covered t old new answered
-    → old.cache.loaded ≡ true → answered ≡ to t (started_value old.writes.next_sync old.lowest r) ∷ []
-told_kept r put covered t old new answered is loaded = is.told ∙ ap (λ v. to t v ∷ []) (kept_value-is r put covered (Some t) is.sync old new is.kept loaded)
 
 module _ {P E : Type 0} (life : Remembered P E) (inner : List ℕ → List ℕ) (buffer : List Block) (s : Scene) (found : Found) (law : AreLawful s.held) (t : Scene) where
   abbrev Answered : Event → Type 0
@@ -254,8 +208,7 @@ module _ {P E : Type 0} (life : Remembered P E) (inner : List ℕ → List ℕ) 
       runs
   answered (message_told k m) runs in_cache = answered-message k m runs in_cache
   answered (sync_finished k) runs in_cache = answered-sync k runs in_cache
-  answered (ack_given k) runs in_cache = nobody (ack_plan s.life.out k mark_given) (marked-none s.life.out k mark_given) runs
-  answered (ack_dropped k) runs in_cache = nobody (ack_plan s.life.out k mark_dropped) (marked-none s.life.out k mark_dropped) runs
+  answered (ack_marked k m) runs in_cache = nobody (ack_plan s.life.out k m) (marked-none s.life.out k m) runs
   answered (peer_answered x) runs in_cache = nobody [] tt runs
   answered serve_ended runs in_cache = nobody [] tt runs
   answered (block_buffered b) runs in_cache = nobody [] tt runs
@@ -287,8 +240,7 @@ module _ {P E : Type 0} (life : Remembered P E) (inner : List ℕ → List ℕ) 
   pub step_loaded : (e : Event) → RunsPlan inner buffer e s heard (Ok n) → KeepsTakenUp e (seen_at life s) n
   step_loaded (life_started f) plan = loads inner s (scene n.held (window_of n.life) s.standing heard) (newest s.held.certs.held) law plan.ran
   step_loaded (message_told t m) plan = kept_loaded (message_told t m) plan
-  step_loaded (ack_given t) plan = kept_loaded (ack_given t) plan
-  step_loaded (ack_dropped t) plan = kept_loaded (ack_dropped t) plan
+  step_loaded (ack_marked t m) plan = kept_loaded (ack_marked t m) plan
   step_loaded (sync_finished t) plan = kept_loaded (sync_finished t) plan
   step_loaded (peer_answered x) plan = kept_loaded (peer_answered x) plan
   step_loaded serve_ended plan = kept_loaded serve_ended plan

@@ -11,12 +11,13 @@ use Rattle.mar_model.specs.Event.{Event, acked_to, blocks_from, certs_from, cuto
 use Rattle.mar_model.specs.Faults.{Fault, event_fault}
 use Rattle.mar_model.specs.Held.{HeldCache, Seen, Watches}
 use Rattle.mar_model.specs.Lives.{is_refused_floor}
-use Rattle.mar_model.specs.Node.{CertifiedCommitment, IsCacheOf, IsGood, Node, Rest, block_missing, floor_awaited, window_full, write_count, write_uncovered}
+use Rattle.mar_model.specs.Node.{CertifiedCommitment, IsCacheOf, IsGood, Node, Rest, write_count}
 use Rattle.mar_model.specs.Promise.{IsKnownSince, Waiting, knowing, node_of}
 use Rattle.mar_model.specs.Requests.{own_asks}
 use Rattle.mar_model.specs.Step.{AdvancesBy, IsStored, IsStoredLate, Made, Steps, finished_position, without_finished}
-use Rattle.mar_model.proofs.PlainEvents.{Certificates-beside, Certificates-same, KeepsFrom-same, Writes-alike, Writes-beside}
+use Rattle.mar_model.proofs.PlainEvents.{Certificates-beside, Certificates-same, EntersAt-same, KeepsFrom-same, Writes-alike}
 use Rattle.mar_model.proofs.SyncTickets.{with_sync-unwritten}
+use Rattle.mar_model.proofs.StillGood.{cached_with, Rest-with, IsGood-with}
 
 -- An event that meets, stores, drains, witnesses and asks nothing, and finishes no sync of both archives; it may send and answer,
 -- and change the cache.
@@ -38,10 +39,6 @@ pub record LeavesArchives (config : Config) (n : Node) (e : Event) : Type 0 wher
 abbrev pub sent_and_answered : List Sent → List TicketAnswer → Made
 sent_and_answered sends answers = record { reports = []; asks = []; sends = sends; answers = answers }
 
--- an actor with this cache and this next ticket of a sync
-abbrev pub cached_with : {P E : Type 0} → Seen P E → HeldCache → ℕ → Watches → Seen P E
-cached_with a cache next watches = record a { held = record a.held { cache = cache; writes = record a.held.writes { next_sync = next }; watches = watches } }
-
 module _ {P E : Type 0} (config : Config) (chain : Chain) (a : Seen P E) (buffer : List Block) (waiting : Waiting) (cache : HeldCache) (next : ℕ) (watches : Watches) (certified : List CertifiedCommitment) where
   abbrev n : Node
   n = node_of a buffer waiting
@@ -52,38 +49,10 @@ module _ {P E : Type 0} (config : Config) (chain : Chain) (a : Seen P E) (buffer
   abbrev n' : Node
   n' = node_of m buffer (knowing certified waiting)
 
-  -- it rests as before
-  pub Rest-kept : Rest config.window n → Rest config.window n'
-  Rest-kept (floor_awaited some) = absurd cc
-  Rest-kept (window_full full) = window_full full
-  Rest-kept (block_missing missing) = block_missing missing
-  Rest-kept (write_uncovered h waits low) = write_uncovered h waits low
-
-  -- and is good where the cache still is
-  pub IsGood-kept : IsCacheOf chain cache.kept → IsGood config chain n → IsGood config chain n'
-  IsGood-kept is good = record {
-    heights = record {
-      stores = good.heights.stores;
-      delivery = good.heights.delivery;
-      floor_clears = good.heights.floor_clears;
-      own_pair = good.heights.own_pair;
-      sync_open = good.heights.sync_open;
-    };
-    of_chain = record {
-      stores = good.of_chain.stores;
-      cache = is;
-      asks = good.of_chain.asks;
-      awaits = tt;
-      not_at_hand = tt;
-      floor_safe = good.of_chain.floor_safe;
-      tip_reported = good.of_chain.tip_reported;
-    };
-  }
-
   module _ (e : Event) (quiet : LeavesArchives config n e) (known : IsKnownSince config n e a.life.tip certified) where
     pub advances-kept : (sends : List Sent) (answers : List TicketAnswer) → AdvancesCache config n e no_floor n' → ((x : Cached) → Contains cache.kept.may x → MayBeCached config n e no_floor x) → (IsTrue (is_query e) → n' ≡ n) → next ≡ a.held.writes.next_sync + length (started_syncs n n' e) → sends ≡ sends_of n e → answers ≡ answers_of config n a.held.lowest e no_floor → AdvancesBy config chain n e no_floor (sent_and_answered sends answers) n'
     advances-kept sends answers advances may query tickets sent answered =
-        let wrote = Writes-alike a m e buffer waiting (ap (λ s. own_writes n s no_floor) quiet.storing) refl refl refl refl quiet.position quiet.syncs in
+        let wrote = Writes-alike a m e buffer waiting (knowing certified waiting) (ap (λ s. own_writes n s no_floor) quiet.storing) refl refl refl refl quiet.position quiet.syncs in
         record {
           hands = record {
             in_order = tt;
@@ -99,8 +68,11 @@ module _ {P E : Type 0} (config : Config) (chain : Chain) (a : Seen P E) (buffer
           may_blocks = λ x has. inl has;
           may_certs = λ x has. inl has;
           certificates = Certificates-beside n m e buffer waiting (knowing certified waiting) (Certificates-same a m e buffer waiting refl);
-          writes = Writes-beside n m e buffer waiting (knowing certified waiting) wrote.0;
+          writes = wrote.0;
           repairs = record { at_hand = λ h b any is. absurd (none_repaired wrote.0.repaired wrote.1 h any); with_finalization = λ h b any is some. absurd (none_repaired wrote.0.repaired wrote.1 h any) };
+          unrepaired = λ is. wrote.1;
+          unblocked = λ is. wrote.2;
+          enters = EntersAt-same _ n n' refl refl;
           tips = refl;
           tips_chain = tt;
           awaited = refl;
@@ -130,6 +102,6 @@ module _ {P E : Type 0} (config : Config) (chain : Chain) (a : Seen P E) (buffer
       unticketed = n';
       advances = subst (λ fx. AdvancesBy config chain n e fx (sent_and_answered sends answers) n') (sym quiet.effect) (advances-kept sends answers advances may query tickets sent answered);
       ticket = sym (with_sync-unwritten (write_count n) n' (omega arith));
-      rests = Rest-kept rests;
-      good = IsGood-kept is good;
+      rests = Rest-with config.window a cache next watches buffer buffer waiting (knowing certified waiting) rests;
+      good = IsGood-with config chain a cache next watches buffer buffer waiting (knowing certified waiting) good.of_chain.asks.requests is good;
     }

@@ -1,5 +1,5 @@
 -- What an event makes of the cache: what it puts, and what its rounds prune.
-use Rattle.std.proofs.Common.{◌≡◌, inl, inr, ⊎_elim, cond, ℕ, max, List, [], ◌∷◌, ◌++◌, map, fold, Bool, true, false, None, bytes_eq, filter, find, Contains, refl, sym, ◌∙◌, ap, subst}
+use Rattle.std.proofs.Common.{◌≡◌, inl, inr, ⊎_elim, cond, ℕ, max, List, [], ◌∷◌, ◌++◌, map, fold, Bool, true, false, None, Contains, refl, sym, ◌∙◌, ap, subst, bytes_eq, filter, find}
 use Rattle.std.specs.List.{list_any}
 use Rattle.std.proofs.lemmas.Bool.{cases_lt}
 use Rattle.std.proofs.lemmas.List.Elements.{Contains-append_cases, Contains-append_left, Contains-append_right}
@@ -7,9 +7,7 @@ use Rattle.mar_types.specs.Round.{Round}
 use Rattle.mar_cert.specs.Block.{Block}
 use Rattle.mar_cert.specs.Finalization.{Finalization}
 use Rattle.mar_store.specs.Changes.{Left, Within, left_of}
-use Rattle.std.specs.Option.{option_or}
-use Rattle.std.specs.Prelude.{option_and_then}
-use Rattle.mar_store.specs.Kept.{At, Kept}
+use Rattle.mar_store.specs.Kept.{Kept, At}
 use Rattle.mar_model.specs.AllEntries.{PrunesByAll, is_in_place, soonest, sooner_of}
 use Rattle.mar_model.specs.Cache.{AdvancesCache, answer_ticket, entries_put, finished_covers, is_below, is_certified_below, is_pruned, started_syncs, tickets_from, without_cache_sync, witnessing_of}
 use Rattle.mar_model.specs.CacheCalls.{PutsAndSyncs}
@@ -19,10 +17,8 @@ use Rattle.mar_model.specs.Config.{Config}
 use Rattle.mar_model.specs.Event.{Event, message_told, no_floor}
 use Rattle.mar_model.specs.Held.{AreCached, Held, LeavesCache, Seen}
 use Rattle.mar_model.specs.Messages.{report_finalization}
-use Rattle.mar_model.specs.Entries.{has_commitment}
 use Rattle.mar_model.specs.Moves.{CachesFinalization, PrunesCacheBy, found_at_hand, of_commitment}
-use Rattle.mar_model.specs.Stored.{block_of}
-use Rattle.mar_model.specs.Node.{Agrees, AreCachedOf, BlocksAgree, IsCacheOf, IsFinalized, Node, Rest, block_missing, floor_awaited, window_full, write_uncovered}
+use Rattle.mar_model.specs.Node.{Agrees, AreCachedOf, BlocksAgree, IsCacheOf, IsFinalized, Node}
 use Rattle.mar_model.specs.Promise.{Waiting, node_of}
 use Rattle.mar_model.proofs.CacheChanges.{any_within, map_within}
 use Rattle.mar_model.proofs.CachePrunes.{LeavesCache-pruned, not_first}
@@ -33,6 +29,10 @@ use Rattle.mar_model.proofs.CacheSteps.{KeepsBeside, advances_none, advances_one
 use Rattle.mar_model.proofs.EntryLists.{contains_none}
 use Rattle.mar_model.proofs.Growing.{LeavesCache-refl}
 use Rattle.mar_model.proofs.Filtered.{all_found_put}
+use Rattle.std.specs.Option.{option_or}
+use Rattle.std.specs.Prelude.{option_and_then}
+use Rattle.mar_model.specs.Entries.{has_commitment}
+use Rattle.mar_model.specs.Stored.{block_of}
 
 -- WHAT IS AN EVENT'S OWN
 
@@ -256,13 +256,6 @@ moves_reported config chain a m f now buffer waiting rounds cached loaded caches
 -- an actor whose cache is as these stores have it
 abbrev pub cached_as : {P E : Type 0} → Seen P E → Held → Seen P E
 cached_as a now = record a { held = record a.held { cache = now.cache; watches = now.watches } }
-
--- it rests as before
-pub Rest-cached : {P E : Type 0} (window : ℕ) (a : Seen P E) (now : Held) (buffer : List Block) (waiting : Waiting) → Rest window (node_of a buffer waiting) → Rest window (node_of (cached_as a now) buffer waiting)
-Rest-cached window a now buffer waiting (floor_awaited some) = absurd cc
-Rest-cached window a now buffer waiting (window_full full) = window_full full
-Rest-cached window a now buffer waiting (block_missing missing) = block_missing missing
-Rest-cached window a now buffer waiting (write_uncovered h waits low) = write_uncovered h waits low
 
 -- WHAT IS FOUND STAYS
 

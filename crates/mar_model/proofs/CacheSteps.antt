@@ -1,5 +1,5 @@
 -- An event that puts one entry, or none, and prunes by rounds advances the cache as its definition says.
-use Rattle.std.proofs.Common.{◌≡◌, ◌≢◌, ◌⊎◌, inl, inr, ◌<◌, ◌==◌, ◌&&◌, ◌||◌, not, zero, suc, List, [], ◌∷◌, ◌++◌, Bool, true, false, IsTrue, Contains, Some, cond, refl, ap, ap₂, sym, subst, arith, ◌∙◌, ◌≤◌, ℕ}
+use Rattle.std.proofs.Common.{◌≡◌, ◌≢◌, ◌⊎◌, inl, inr, ◌<◌, ◌==◌, ◌&&◌, ◌||◌, not, zero, suc, List, [], ◌∷◌, ◌++◌, Bool, true, false, IsTrue, Contains, Some, cond, refl, ap, sym, subst, arith, ◌∙◌, ◌≤◌, ℕ, ap₂}
 use Rattle.std.specs.Prelude.{fold}
 use Rattle.std.specs.List.{filter_map, list_any}
 use Rattle.std.proofs.lemmas.Bool.{eq-eqb}
@@ -79,7 +79,7 @@ advances_with config n e fx n' entries beside = record {
   finished = entries.finished;
   lowest = beside.lowest;
   lowests = λ k has. Contains-append_right n.lowests (n'.lowest ∷ []) k (subst (λ ks. Contains ks k) beside.lowests has);
-  own_lowest = subst (λ ks. Contains (0 ∷ ks) n'.lowest) (sym beside.lowests) (suc zero, omega arith, refl);
+  own_lowest = subst (λ ks. Contains ks n'.lowest) (sym beside.lowests) (zero, omega arith, refl);
   cache_syncs = beside.cache_syncs;
   witnessed = beside.witnessed;
 }
@@ -152,10 +152,6 @@ prune_firsts r old new prunes = subst (FirstsStay old.held) (sym prunes.held) (f
 not_true : (c : Bool) → not c ≡ true → c ≡ false
 not_true true is = absurd cc
 not_true false is = refl
-
-or_either : (a b : Bool) → (a || b) ≡ true → (a ≡ true) ⊎ (b ≡ true)
-or_either true b is = inl refl
-or_either false b is = inr is
 
 pub prunes_sure : (rounds : List Round) (old new : Kept Cached) → PrunesByAll rounds old new → (y : Cached) → Contains old.sure y → Contains new.held y → Contains new.sure y
 prunes_sure [] old new is y sure has = subst (λ k. Contains k.sure y) (sym is) sure

@@ -1,7 +1,7 @@
 -- A sync of the cache finishes: what it covers is sure, and who waits for it is answered.
-use Rattle.std.proofs.Common.{◌≡◌, inl, ℕ, ◌+◌, List, [], ◌∷◌, ◌++◌, false, Option, Err, Ok, Contains, refl, sym, subst, arith, append-nil}
+use Rattle.std.proofs.Common.{◌≡◌, inl, ℕ, ◌+◌, List, [], ◌∷◌, ◌++◌, false, Option, Ok, Contains, refl, sym, subst, arith, append-nil}
 use Rattle.std.proofs.lemmas.List.Elements.{Contains-append_left}
-use Rattle.mar_types.specs.Epochs.{Epochs, IsPartition}
+use Rattle.mar_types.specs.Epochs.{Epochs}
 use Rattle.mar_cert.specs.Block.{Block}
 use Rattle.mar_key.specs.Keys.{Call}
 use Rattle.mar_model.specs.Answers.{Sent, TicketAnswer, finished_answers}
@@ -9,29 +9,27 @@ use Rattle.mar_model.specs.Cache.{AdvancesCache, is_pruned}
 use Rattle.mar_model.specs.Chain.{Chain}
 use Rattle.mar_model.specs.Config.{Config}
 use Rattle.mar_model.specs.Event.{Event, no_floor, sync_finished}
-use Rattle.mar_model.specs.Held.{AreCached, Ending, Held, IsUsual, Loses, Seen, nothing_written, seen}
+use Rattle.mar_model.specs.Held.{AreCached, Held, Seen, seen}
 use Rattle.mar_model.specs.Moves.{FinishesCacheSync}
 use Rattle.mar_model.specs.Node.{IsCacheOf}
 use Rattle.mar_model.specs.Promise.{KeepsStep, Waiting, heard_with, node_of, knowing}
 use Rattle.mar_model.specs.Step.{Report, Steps}
 use Rattle.mar_gate.specs.Writing.{is_open_sync}
-use Rattle.mar_model.proofs.CacheEvents.{LeavesArchives, cached_with, sent_and_answered, steps-kept}
-use Rattle.mar_model.proofs.CacheOver.{IsCacheOf-grown, own_none}
+use Rattle.mar_model.proofs.CacheEvents.{LeavesArchives, sent_and_answered, steps-kept}
+use Rattle.mar_model.proofs.CacheOver.{IsCacheOf-grown}
 use Rattle.mar_model.proofs.CacheSteps.{advances_none}
-use Rattle.mar_model.proofs.EventPromises.{quiet_cut}
-use Rattle.mar_model.proofs.Handing.{Hears-nothing, HearsFront-nothing}
-use Rattle.mar_model.proofs.Heard.{KeepsStep-beside}
+use Rattle.mar_model.proofs.Handing.{Hears-nothing}
 use Rattle.mar_model.proofs.OpenSyncs.{AreStillOpen-more}
-use Rattle.mar_model.proofs.PlainEvents.{nothing_put}
 use Rattle.mar_model.proofs.SyncTickets.{position-closed, without-closed}
 use Rattle.mar_model.proofs.CacheBeside.{AdvancesCache-beside}
+use Rattle.mar_model.proofs.StillGood.{cached_with}
 
-module _ {P E : Type 0} (epochs : Epochs) (inner : List ℕ → List ℕ) (partition : IsPartition epochs) (a : Seen P E) (buffer : List Block) (t : ℕ) where
+module _ {P E : Type 0} (epochs : Epochs) (inner : List ℕ → List ℕ) (a : Seen P E) (buffer : List Block) (t : ℕ) where
   abbrev e : Event
   e = sync_finished t
 
   -- it is no sync of both archives
-  quiet : (config : Config) (waiting : Waiting) → is_open_sync a.held.writes.syncs t ≡ false → LeavesArchives config (node_of a buffer waiting) e
+  pub quiet : (config : Config) (waiting : Waiting) → is_open_sync a.held.writes.syncs t ≡ false → LeavesArchives config (node_of a buffer waiting) e
   quiet config waiting other = record { effect = refl; undrained = refl; processed = refl; cutoff = refl; storing = refl; position = position-closed a.held.writes.syncs t other; syncs = without-closed a.held.writes.syncs t other; witnessing = refl; no_fault = refl; asks = refl; subscriptions = refl; unrefused = λ fault. refl }
 
   advances : (config : Config) (waiting : Waiting) (m : Held) → AreCached a.held → FinishesCacheSync t a.held m → AdvancesCache config (node_of a buffer waiting) e no_floor (node_of (cached_with a m.cache a.held.writes.next_sync m.watches) buffer waiting)
@@ -71,9 +69,3 @@ module _ {P E : Type 0} (epochs : Epochs) (inner : List ℕ → List ℕ) (parti
     where
       plus_none : (k : ℕ) → k ≡ k + 0
       plus_none k = omega arith
-
-  -- it could not be finished
-  pub promise-cache_unfinished : (told : Option (List Report)) (heard : Option (List Call)) (sends : Option (List Sent)) (answers : List TicketAnswer) (x : Ending) → Loses a.held nothing_written x → IsUsual x.fault → KeepsStep epochs inner a (e ∷ []) buffer (heard_with told heard sends answers) (heard_with told heard sends answers) (Err x)
-  promise-cache_unfinished told heard sends answers x lost usual =
-      KeepsStep-beside told told heard heard sends sends (Hears-nothing sends) answers epochs inner a (e ∷ []) buffer (Err x) (λ loaded config chain waiting set step.
-      quiet_cut epochs inner partition a buffer config chain waiting e step refl (λ fault. refl) told told heard heard nothing_written x (Hears-nothing told) (HearsFront-nothing heard _ heard (Hears-nothing heard)) refl refl (own_none config chain (node_of a buffer waiting) e) tt tt (λ y has. nothing_put y has) (λ y has. nothing_put y has) lost (λ p has. nothing_put p has) usual)

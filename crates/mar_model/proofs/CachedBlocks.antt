@@ -1,5 +1,5 @@
 -- The block that a search of the cache finds is the one that a look through its blocks finds, where one block passes.
-use Rattle.std.proofs.Common.{◌≡◌, ◌∙◌, ◌||◌, ◌&&◌, ◌==◌, ℕ, nat_lt, List, [], ◌∷◌, Bool, true, false, Option, Some, None, Contains, bytes_eq, cond, find, refl, sym, ap, ap₂, eqb-true, arith}
+use Rattle.std.proofs.Common.{◌≡◌, ◌∙◌, ◌||◌, ◌&&◌, ◌==◌, ℕ, nat_lt, List, [], ◌∷◌, Bool, true, false, Option, Some, None, Contains, bytes_eq, cond, find, refl, sym, ap, eqb-true, arith, ap₂}
 use Rattle.std.specs.Prelude.{option_and_then}
 use Rattle.std.specs.List.{AllByRecursion, cons_option, filter_map}
 use Rattle.mar_types.specs.Round.{Round, round_eq}
@@ -12,10 +12,7 @@ use Rattle.mar_model.specs.Moves.{cached_by_commitment}
 use Rattle.mar_model.specs.Promise.{AreOne}
 use Rattle.mar_model.specs.Queries.{cached_at, cached_by_digest}
 use Rattle.mar_model.proofs.AtHand.{AllByRecursion-find, bytes_same}
-use Rattle.mar_model.proofs.Looking.{passes_found}
-
-inside : (a b : Block) → ◌≡◌ {A = Option Block} (Some a) (Some b) → a ≡ b
-inside a b is = cc
+use Rattle.mar_model.proofs.Looking.{passes_found, and_false}
 
 module _ (all : List Block) (p : Block → Bool) (one : (x y : Block) → Contains all x → Contains all y → p x ≡ true → p y ≡ true → x ≡ y) (test : Option Block → Bool) (none : test None ≡ false) (some : (b : Block) → test (Some b) ≡ p b) where
   -- a found entry has the one block that passes
@@ -70,21 +67,17 @@ same_round r s is = by (r.epoch == s.epoch) refl (r.view == s.view) refl is
     by true epochs false views both = absurd cc
     by false epochs b views both = absurd cc
 
-eqb-sym : (a b : ℕ) → (a == b) ≡ (b == a)
+pub eqb-sym : (a b : ℕ) → (a == b) ≡ (b == a)
 eqb-sym a b = grind arith
 
 lt-self : (a : ℕ) → nat_lt a a ≡ false
 lt-self a = grind arith
 
-and_none : (a : Bool) → (a && false) ≡ false
-and_none true = refl
-and_none false = refl
-
 -- of two verified blocks of a round none is found sooner
 none_sooner : (r s : Round) (b c : Block) → s ≡ r → is_sooner (verified_entry s c) (verified_entry r b) ≡ false
 none_sooner r s b c same =
     ap (λ k. is_sooner (verified_entry k c) (verified_entry r b)) same
-    ∙ (ap (λ f. f || ((r.epoch == r.epoch) && nat_lt r.view r.view)) (lt-self r.epoch) ∙ (ap (λ f. (r.epoch == r.epoch) && f) (lt-self r.view) ∙ and_none (r.epoch == r.epoch)))
+    ∙ (ap (λ f. f || ((r.epoch == r.epoch) && nat_lt r.view r.view)) (lt-self r.epoch) ∙ (ap (λ f. (r.epoch == r.epoch) && f) (lt-self r.view) ∙ and_false (r.epoch == r.epoch)))
 
 -- the first of what is found at a round is the block that was verified there first
 pub verified_first : (r : Round) (xs : List Cached) → cached_at r xs ≡ first_verified xs r

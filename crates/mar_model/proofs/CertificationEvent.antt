@@ -1,45 +1,16 @@
--- Reported certifications, which change nothing but what is known as certified; and what is known of that after an event.
-use Rattle.std.proofs.Common.{◌≡◌, ℕ, List, [], ◌∷◌, ◌++◌, Bool, true, false, nat_lt, filter, Option, None, Result, IfErr, IfOk, IsTrue, MatchResult, refl, ◌∙◌, ap, Ok, Err, OnOk, OnErr}
-use Rattle.mar_types.specs.Epochs.{Epochs, IsPartition}
+-- What is known as certified after an event.
+use Rattle.std.proofs.Common.{◌≡◌, ℕ, List, [], ◌∷◌, ◌++◌, Bool, true, false, nat_lt, filter, IsTrue, refl, ◌∙◌, ap}
 use Rattle.mar_cert.specs.Block.{Block}
-use Rattle.mar_cert.specs.Finalization.{Notarization}
-use Rattle.mar_model.specs.Event.{Event, message_told, Effect, effect_of, is_query, life_started, ack_given, ack_dropped, sync_finished, peer_answered, gave_block, gave_finalized, gave_notarized, gave_nothing, serve_ended, block_buffered, buffer_ended}
+use Rattle.mar_model.specs.Event.{Event, message_told, Effect, effect_of, is_query, life_started, ack_marked, sync_finished, peer_answered, gave_block, gave_finalized, gave_notarized, gave_nothing, serve_ended, block_buffered, buffer_ended}
 use Rattle.mar_model.specs.Messages.{report_certification, report_finalization, report_notarization, verified, proposed, prepared, certify, get_info, get_block, get_finalization, get_processed, get_anchor, get_verified, hint_finalized, set_floor, prune_below, hint_notarized, forward, close_ticket, subscribe_digest, subscribe_commitment}
-use Rattle.mar_model.proofs.Idle.{IsIdle, promise-idle}
-use Rattle.mar_key.specs.Hears.{Hears}
-use Rattle.mar_key.specs.Keys.{Call}
 use Rattle.mar_model.specs.Config.{Config}
 use Rattle.mar_model.specs.Chain.{Chain}
-use Rattle.mar_model.specs.Held.{Seen, AreCached, Ending, Grew, Loses, IsUsual, nothing_written}
-use Rattle.mar_model.specs.Moves.{IsRead}
-use Rattle.mar_model.specs.Answers.{Sent, TicketAnswer, new_commitments, own_and_parent, is_known}
-use Rattle.mar_model.specs.Step.{Report}
-use Rattle.mar_model.specs.Promise.{Waiting, node_of, AreOne, known_blocks, KeepsStep, heard_with, IsKnownSince}
+use Rattle.mar_model.specs.Held.{Seen}
+use Rattle.mar_model.specs.Answers.{new_commitments, own_and_parent, is_known}
+use Rattle.mar_model.specs.Promise.{Waiting, node_of, AreOne, known_blocks, IsKnownSince}
 use Rattle.mar_model.specs.Node.{Node, AreBlocksOf, CertifiedCommitment}
 use Rattle.mar_model.specs.Queries.{commitments_found, Learns}
 use Rattle.mar_model.proofs.FoundBlocks.{found-is}
-use Rattle.mar_model.proofs.Handing.{Hears-nothing}
-
-module _ {P E : Type 0} (epochs : Epochs) (inner : List ℕ → List ℕ) (partition : IsPartition epochs) (a : Seen P E) (buffer : List Block) (f : Notarization) where
-  abbrev e : Event
-  e = message_told None (report_certification f)
-
-  idle : (config : Config) (waiting : Waiting) → IsIdle config (node_of a buffer waiting) e
-  idle config waiting = record { rest = record { effect = refl; undrained = refl; processed = refl; cutoff = refl; storing = refl; position = refl; syncs = refl; witnessing = refl; no_fault = refl; asks = refl; subscriptions = refl; unrefused = λ fault. refl }; unput = λ after. refl; unfinished = λ xs. refl; uncovered = refl; no_syncs = λ n'. refl }
-
-  -- it leaves the stores as they are
-  pub promise-certification : (told : Option (List Report)) (heard : Option (List Call)) (sends : Option (List Sent)) (answers : List TicketAnswer) (result : Result (Seen P E) Ending) → AreCached a.held → IfOk result (IsRead a) → MatchResult result (λ new. Grew a.held nothing_written new.held) (Loses a.held nothing_written) → IfErr result (λ x. IsUsual x.fault) → KeepsStep epochs inner a (e ∷ []) buffer (heard_with told heard sends answers) (heard_with told heard sends answers) result
-  promise-certification told heard sends answers result cached read = promise-idle epochs inner partition a buffer None (report_certification f) idle [] (λ config waiting. (refl, refl)) told heard sends sends answers result cached read (silent_ok result) (silent_err result)
-    where
-      silent_ok : (r : Result (Seen P E) Ending) → OnOk r (Hears sends [] sends)
-      silent_ok (Ok new) = Hears-nothing sends
-      silent_ok (Err x) = tt
-
-      silent_err : (r : Result (Seen P E) Ending) → OnErr r (Hears sends [] sends)
-      silent_err (Ok new) = tt
-      silent_err (Err x) = Hears-nothing sends
-
--- WHAT IS KNOWN AS CERTIFIED
 
 -- an event whose block's parent becomes known where the block itself is
 abbrev pub teaches_parents : Event → Bool
@@ -76,8 +47,7 @@ module _ {P E : Type 0} (config : Config) (chain : Chain) (a : Seen P E) (buffer
   commitments-are one blocks (message_told t (subscribe_digest d fallback)) fx is = absurd cc
   commitments-are one blocks (message_told t (subscribe_commitment c fallback)) fx is = absurd cc
   commitments-are one blocks (life_started f) fx is = refl
-  commitments-are one blocks (ack_given t) fx is = refl
-  commitments-are one blocks (ack_dropped t) fx is = refl
+  commitments-are one blocks (ack_marked t m) fx is = refl
   commitments-are one blocks (sync_finished t) fx is = refl
   commitments-are one blocks (peer_answered (gave_block b annotations)) fx is = absurd cc
   commitments-are one blocks (peer_answered (gave_finalized f b)) fx is = refl

@@ -1,5 +1,5 @@
 -- A certified block: whether it was verified at its round is the same before and behind the put of its event.
-use Rattle.std.proofs.Common.{◌≡◌, ◌&&◌, ◌||◌, ◌==◌, ℕ, List, [], ◌∷◌, Bool, true, false, cond, filter, bytes_eq, refl, sym, ap, ap₂, ◌∙◌, arith, Contains}
+use Rattle.std.proofs.Common.{◌≡◌, ◌&&◌, ◌||◌, ◌==◌, ℕ, List, [], ◌∷◌, Bool, true, false, cond, filter, bytes_eq, refl, sym, ap, ◌∙◌, Contains, ap₂}
 use Rattle.std.specs.List.{list_any}
 use Rattle.std.proofs.lemmas.Bool.{false_from_ne_true}
 use Rattle.std.proofs.lemmas.Slice.Eq.{bytes_eq-Decides}
@@ -12,6 +12,7 @@ use Rattle.mar_model.specs.Entries.{has_digest, is_verified_at}
 use Rattle.mar_model.specs.Moves.{PutsAll}
 use Rattle.mar_model.proofs.EntryLists.{contains_none, one_of, passes_alike}
 use Rattle.mar_model.proofs.KeptEach.{PutsAll-others}
+use Rattle.mar_model.proofs.CachedBlocks.{eqb-sym}
 
 bytes_eq-sym : (xs ys : List ℕ) → bytes_eq xs ys ≡ bytes_eq ys xs
 bytes_eq-sym xs ys = by (bytes_eq xs ys) refl
@@ -19,9 +20,6 @@ bytes_eq-sym xs ys = by (bytes_eq xs ys) refl
     by : (c : Bool) → bytes_eq xs ys ≡ c → c ≡ bytes_eq ys xs
     by true is = sym ((bytes_eq-Decides ys xs).1 (sym ((bytes_eq-Decides xs ys).0 is)))
     by false is = sym (false_from_ne_true (bytes_eq ys xs) (λ on. let both : false ≡ true = sym is ∙ (bytes_eq-Decides xs ys).1 (sym ((bytes_eq-Decides ys xs).0 on)) in cc))
-
-eqb-sym : (a b : ℕ) → (a == b) ≡ (b == a)
-eqb-sym a b = grind arith
 
 -- a look-up by round and digest is what the definition looks for
 pub verified-is : (r : Round) (b : Block) (held : List Cached) → list_any (λ x. is_verified_at r x && has_digest b.digest (cached_block x)) held ≡ list_any (verified_at r b) held

@@ -1,14 +1,14 @@
 -- What a failed call leaves is a cut of the step: before any block was handed over, and while blocks are.
-use Rattle.std.proofs.Common.{◌≡◌, ◌||◌, ◌⊎◌, inl, inr, ⊎_elim, ℕ, zero, suc, ◌+◌, ◌<◌, ◌≤◌, List, [], ◌∷◌, ◌++◌, length, map, Bool, true, false, Option, Some, None, option_map, IsTrue, Contains, refl, sym, ◌∙◌, ap, subst, arith, le_refl}
+use Rattle.std.proofs.Common.{◌≡◌, ◌||◌, ◌⊎◌, inl, inr, ⊎_elim, ℕ, zero, suc, ◌+◌, ◌<◌, ◌≤◌, List, [], ◌∷◌, ◌++◌, length, map, Bool, true, false, Option, Some, option_map, IsTrue, Contains, refl, sym, ◌∙◌, ap, subst, arith, le_refl}
 use Rattle.std.proofs.lemmas.List.Elements.{Contains-append_cases, Contains-append_left, Contains-append_right}
 use Rattle.mar_types.specs.Round.{Round}
 use Rattle.mar_cert.specs.Block.{Block}
 use Rattle.mar_cert.specs.Finalization.{Finalization}
-use Rattle.mar_key.specs.Keys.{Call}
-use Rattle.mar_key.specs.Processed.{height_in}
 use Rattle.mar_store.specs.Kept.{At, Kept, has_height, value_at}
 use Rattle.mar_store.specs.Changes.{KeepsValues, Left, left_of}
 use Rattle.mar_store.proofs.Lookups.{AllByRecursion-append, AllByRecursion-from_contains, AllByRecursion-within, Contains-from_value, has_height-from_contains, has_height-from_value, value-from_has_height}
+use Rattle.mar_key.specs.Keys.{Call}
+use Rattle.mar_key.specs.Processed.{height_in}
 use Rattle.mar_model.specs.Metadata.{Pair, first_pair, pair_of}
 use Rattle.mar_model.specs.Chain.{Chain, Finalizes, IsBlockAt}
 use Rattle.mar_model.specs.Config.{Config}
@@ -19,16 +19,16 @@ use Rattle.mar_model.specs.Cached.{Cached, cached_block, cached_finalization, ep
 use Rattle.mar_model.specs.Held.{Ending, IsArchiveFault, IsUsual, LeavesCache, LeavesStore, Loses, Seen, Written, blocks_left, cache_left, certs_left}
 use Rattle.mar_model.specs.Lives.{Cuts, CutsBy, IsGoodEnded, NotBelow, Reached, is_dropped_ack, is_refused_floor, reached_after, reached_before}
 use Rattle.mar_model.specs.Node.{Agrees, AreBlocksOf, AreFinalizationsOf, Ended, IsFinalized, IsGood, Node}
-use Rattle.mar_model.specs.Answers.{Sent, answers_of, sends_of}
+use Rattle.mar_model.specs.Answers.{Sent, answers_of, sends_of, TicketAnswer}
 use Rattle.mar_model.specs.Promise.{Waiting, made_of, node_of}
 use Rattle.mar_model.specs.Requests.{own_asks}
 use Rattle.mar_model.specs.Sound.{IsSafePair, IsSound}
-use Rattle.mar_model.specs.Step.{AreHandedOf, AreTipsOf, HandedFrom, IsFront, Report, TipsFrom, handed_blocks, handed_over, new_tip, nothing_made}
-use Rattle.mar_model.proofs.Reaching.{AreTips, block_from, cert_from}
+use Rattle.mar_model.specs.Step.{AreHandedOf, AreTipsOf, HandedFrom, IsFront, Report, TipsFrom, handed_blocks, nothing_made}
+use Rattle.mar_model.proofs.Reaching.{AreTips, no_handed, block_from, cert_from}
 use Rattle.mar_model.proofs.CacheChanges.{any_within, map_within}
 use Rattle.mar_model.proofs.CacheOver.{OwnCache}
 use Rattle.mar_model.proofs.Filtered.{all_found_put}
-use Rattle.mar_model.proofs.Soundness.{IsFrom, IsGoodEnded-from_sound, IsSound-from_good, IsSound-untold, may_cached_blocks_of, may_cached_of}
+use Rattle.mar_model.proofs.Soundness.{IsFrom, from_none, IsGoodEnded-from_sound, IsSound-from_good, IsSound-untold, may_cached_blocks_of, may_cached_of}
 
 -- WHAT IS LEFT
 
@@ -107,19 +107,31 @@ module _ {P E : Type 0} (config : Config) (chain : Chain) (a : Seen P E) (e : Ev
 
   -- from a node that is good once some tip is told, where these were sent before
   module _ (tip_before : ℕ) (good : IsGood config chain (record n { tip = tip_before })) (no_effect : effect_of config n e ≡ no_floor) (sends : List Sent) (sent : IsFront sends (sends_of n e)) where
-    -- all that a cut says, of what is left
-    pub Cuts-left : (reports : List Report) (asks : List Call) (tip : ℕ) (reached : Reached) (fault : Fault) (left : Ended) → TipsFrom a.life.tip reports tip → AreTipsOf chain reports → (reached ≡ reached_before n e) ⊎ (reached ≡ reached_after n e no_floor) × Contains (map (λ p. p.processed) left.meta) reached.processed → HandedFrom left.blocks_sure a.life.next_ack (next_after reached.processed + length reached.out) (handed_blocks reports) → AreHandedOf chain left.blocks_sure (handed_blocks reports) → LeavesStores config chain n e left → 0 < length left.meta → (first_pair left.meta ≡ first_pair a.held.pairs) ⊎ (fault ≡ store_fault meta_store → ⊥) × (first_pair left.meta ≡ Some after) → ((p : Pair) → Contains left.meta p → MayBeLeft left.blocks_sure p) → (IsTrue (is_by_value fault) → event_fault config n e ≡ Some fault) → (IsTrue (is_refused_floor e fault) → ⊥) → (IsTrue (is_dropped_ack fault) → left.meta ≡ a.held.pairs) → IsFront asks (own_asks config n e no_floor) → Cuts config chain n (e ∷ []) (record (made_of reports asks) { sends = sends }) fault left
-    Cuts-left reports asks tip reached fault left tips tips_chain reached_is in_order hands_chain leaves some first pairs cause refused unsynced front = record {
+    -- all that a cut says, of what is left, where these were answered before
+    abbrev pub CutsOf : List TicketAnswer → Type 0
+    CutsOf answers =
+        (reports : List Report) (asks : List Call) (tip : ℕ) (reached : Reached) (fault : Fault) (left : Ended) → TipsFrom a.life.tip reports tip → AreTipsOf chain reports
+        → (reached ≡ reached_before n e) ⊎ (reached ≡ reached_after n e no_floor) × Contains (map (λ p. p.processed) left.meta) reached.processed
+        → HandedFrom left.blocks_sure a.life.next_ack (next_after reached.processed + length reached.out) (handed_blocks reports)
+        → AreHandedOf chain left.blocks_sure (handed_blocks reports) → LeavesStores config chain n e left → 0 < length left.meta
+        → (first_pair left.meta ≡ first_pair a.held.pairs) ⊎ (fault ≡ store_fault meta_store → ⊥) × (first_pair left.meta ≡ Some after) → ((p : Pair) → Contains left.meta p
+        → MayBeLeft left.blocks_sure p) → (IsTrue (is_by_value fault) → event_fault config n e ≡ Some fault) → (IsTrue (is_refused_floor e fault) → ⊥)
+        → (IsTrue (is_dropped_ack fault) → left.meta ≡ a.held.pairs) → IsFront asks (own_asks config n e no_floor)
+        → Cuts config chain n (e ∷ []) (record (made_of reports asks) { sends = sends; answers = answers }) fault left
+
+    pub Cuts-told : (answers : List TicketAnswer) → ((lowest : ℕ) × IsFront answers (answers_of config n lowest e no_floor)) → CutsOf answers
+    Cuts-told answers answered reports asks tip reached fault left tips tips_chain reached_is in_order hands_chain leaves some first pairs cause refused unsynced front = record {
       finished = [];
       event = e;
       others = [];
       split = refl;
       first = nothing_made;
-      later = record (made_of reports asks) { sends = sends };
+      later = record (made_of reports asks) { sends = sends; answers = answers };
       made_is = refl;
       mid = n;
       advances = (refl, refl);
-      cut = subst (λ fx. CutsBy config chain a.held.pairs (option_map height_in a.held.processed) n e fx (record (made_of reports asks) { sends = sends }) fault left) (sym no_effect) unfloored;
+      cut = subst (λ fx. CutsBy config chain a.held.pairs (option_map height_in a.held.processed) n e fx (record (made_of reports asks) { sends = sends; answers = answers }) fault left)
+          (sym no_effect) unfloored;
     }
       where
         sure_cached : (x : Cached) → Contains a.held.cache.kept.sure x → Contains left.cache_sure x ⊎ (epoch_of x < n.lowest) ⊎ IsTrue (is_pruned config n e no_floor x)
@@ -143,11 +155,7 @@ module _ {P E : Type 0} (config : Config) (chain : Chain) (a : Seen P E) (e : Ev
         not_below p (inr is) = is.2
 
         of_node : (p : Pair) → (own ≡ p) ⊎ ((after ≡ p) × IsSafePair chain left.blocks_sure p × NotBelow (option_map height_in a.held.processed) p.processed) → (Contains a.held.pairs p × IsFrom 0 p.processed) ⊎ IsSafePair chain left.blocks_sure p
-        of_node p (inl is) = inl (subst (λ ps. Contains ps p) (sym good.heights.own_pair) (zero, omega arith, is), from p.processed)
-          where
-            from : (o : Option ℕ) → IsFrom 0 o
-            from None = tt
-            from (Some h) = omega arith
+        of_node p (inl is) = inl (subst (λ ps. Contains ps p) (sym good.heights.own_pair) (zero, omega arith, is), from_none p.processed)
         of_node p (inr is) = inr is.1
 
         may_blocks : AreBlocksOf chain left.blocks_may
@@ -163,7 +171,7 @@ module _ {P E : Type 0} (config : Config) (chain : Chain) (a : Seen P E) (e : Ev
             (λ h low has. keeps_heights a.held.blocks.sure left.blocks_sure (keeps_sure a.held.blocks leaves.put_blocks (blocks_left left) leaves.blocks) h has)
             (AllByRecursion-from_contains (λ p. (Contains a.held.pairs p × IsFrom 0 p.processed) ⊎ IsSafePair chain left.blocks_sure p) left.meta (λ p has. of_node p (pairs p has)))
 
-        unfloored : CutsBy config chain a.held.pairs (option_map height_in a.held.processed) n e no_floor (record (made_of reports asks) { sends = sends }) fault left
+        unfloored : CutsBy config chain a.held.pairs (option_map height_in a.held.processed) n e no_floor (record (made_of reports asks) { sends = sends; answers = answers }) fault left
         unfloored = record {
           tip = tip;
           tips = tips;
@@ -192,13 +200,16 @@ module _ {P E : Type 0} (config : Config) (chain : Chain) (a : Seen P E) (e : Ev
           };
           asks = front;
           sends = sent;
-          answers = (0, (answers_of config n 0 e no_floor, refl));
+          answers = answered;
           first_pair = first;
           no_lower = AllByRecursion-from_contains (λ p. NotBelow (option_map height_in a.held.processed) p.processed) left.meta (λ p has. not_below p (pairs p has));
           cause = cause;
           refused = λ is. absurd (refused is);
           unsynced = unsynced;
         }
+
+    pub Cuts-left : CutsOf []
+    Cuts-left = Cuts-told [] (0, (answers_of config n 0 e no_floor, refl))
 
     -- A call failed before any block was handed over; `written` has the pairs that a failed sync was to write.
     pub Cuts-before : (tips : List Report) (asks : List Call) (tip : ℕ) (written : Written) (left : Ending) → AreTips tips → TipsFrom a.life.tip tips tip → AreTipsOf chain tips → written.blocks_from ≡ 0 → written.certs_from ≡ 0 → OwnCache config chain n e written.cached written.prunes → AreBlocksOf chain written.blocks → AreFinalizationsOf chain written.certs → ((x : At Block) → Contains written.blocks x → brought_block n e ≡ Some x.value) → ((x : At Finalization) → Contains written.certs x → told_finalization n e ≡ Some x.value) → Loses a.held written left → ((p : Pair) → Contains written.pairs p → MayBeLeft left.remains.ended.blocks_sure p) → (IsTrue (is_by_value left.fault) → event_fault config n e ≡ Some left.fault) → (IsTrue (is_refused_floor e left.fault) → ⊥) → (IsTrue (is_dropped_ack left.fault) → left.remains.ended.meta ≡ a.held.pairs) → IsFront asks (own_asks config n e no_floor) → Cuts config chain n (e ∷ []) (record (made_of tips asks) { sends = sends }) left.fault left.remains.ended
@@ -210,11 +221,6 @@ module _ {P E : Type 0} (config : Config) (chain : Chain) (a : Seen P E) (e : Ev
       where
         none : handed_blocks tips ≡ []
         none = no_handed tips only
-          where
-            no_handed : (reports : List Report) → AreTips reports → handed_blocks reports ≡ []
-            no_handed [] is = refl
-            no_handed (new_tip r h d ∷ reports) is = no_handed reports is
-            no_handed (handed_over t b ∷ reports) is = absurd is
 
         leaves : LeavesStores config chain n e left.remains.ended
         leaves = record {

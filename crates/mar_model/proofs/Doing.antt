@@ -1,5 +1,5 @@
 -- How the clauses of a call give its task: of the cache, of progress, and of what is said.
-use Rattle.std.proofs.Common.{◌≡◌, ◌∷◌, ◌++◌, [], List, Result, Ok, Err, IfErr, IfOk, OnErr, OnOk, Option, None, Some, Bool, true, false, ℕ, refl, sym, ◌∙◌, ap, subst, append-nil, append_assoc, option_to_list}
+use Rattle.std.proofs.Common.{◌≡◌, ◌∷◌, ◌++◌, [], List, Result, Ok, Err, IfErr, OnErr, OnOk, Option, Some, Bool, true, false, ℕ, refl, sym, ◌∙◌, ap, subst, append-nil, append_assoc}
 use Rattle.mar_types.specs.Epochs.{Epochs}
 use Rattle.mar_types.specs.Round.{Round}
 use Rattle.mar_cert.specs.Block.{Block}
@@ -7,9 +7,8 @@ use Rattle.mar_key.specs.Cutoff.{greatest_of}
 use Rattle.mar_key.specs.Keys.{Call, above_height, retain}
 use Rattle.mar_key.specs.Processed.{at_block}
 use Rattle.mar_model.specs.Acks.{Mark, after_oldest, with_mark}
-use Rattle.mar_model.specs.Answers.{Sent, TicketAnswer, to}
+use Rattle.mar_model.specs.Answers.{Sent, TicketAnswer}
 use Rattle.mar_model.specs.Cache.{notarized_where}
-use Rattle.mar_model.specs.Cached.{Cached}
 use Rattle.mar_model.specs.Plans.{answer_plan, kept_plan}
 use Rattle.mar_model.specs.Event.{retired, round_at}
 use Rattle.mar_model.specs.Faults.{Fault, block_store, cache_store, cert_store, corrupt, damaged, dropped_ack, floor_epoch_unavailable, floor_invalid, floor_parent_mismatch, genesis_height, genesis_mismatch, height_limit, meta_store, store_fault, ticket_limit, unbacked, want_of_memory}
@@ -20,11 +19,11 @@ use Rattle.mar_model.specs.OpenSyncs.{AreStillOpen}
 use Rattle.mar_key.specs.Hears.{Hears}
 use Rattle.mar_model.specs.Lives.{ArePicked, later_round}
 use Rattle.mar_model.specs.Metadata.{pair_of}
-use Rattle.mar_model.specs.Moves.{HearsFront, KeepsFor, KeepsNotarizedWhere, PrunesCacheBy, with_cache_of}
+use Rattle.mar_model.specs.Moves.{HearsFront, KeepsNotarizedWhere, PrunesCacheBy, with_cache_of}
 use Rattle.mar_model.specs.Promise.{Heard, heard_with}
 use Rattle.mar_model.specs.Requests.{raise_asks}
 use Rattle.mar_model.specs.Step.{Report}
-use Rattle.mar_model.specs.Acts.{AreLawful, CacheAct, IsCacheFault, IsCached, IsKeepFault, IsKept, IsUnkept, Joins, KeepAct, KeepsAlone, LosesOver, TakesUpCache, reply, caches, height_prunes, keep_notarized, keeps_for, mark, process, progresses, says, sync_progress, written_cached, written_kept}
+use Rattle.mar_model.specs.Acts.{AreLawful, CacheAct, IsCacheFault, IsCached, IsKeepFault, IsKept, IsUnkept, Joins, KeepAct, LosesOver, TakesUpCache, caches, height_prunes, keep_notarized, keeps_for, mark, process, progresses, sync_progress, written_cached, written_kept}
 use Rattle.mar_model.specs.Ran.{Breaks, Does, Reached, Task, does}
 use Rattle.mar_model.specs.Scene.{Scene, Standing, Window, in_epochs, scene}
 use Rattle.mar_model.proofs.Running.{Breaks-now, Breaks-unread, Does-task, Reached-more, Reached-read}
@@ -62,16 +61,6 @@ read-failed inner start whole rest old life standing heard {e} reached goes read
 
 -- THE CACHE
 
--- an entry was kept with a sync that nobody waits for
-pub kept_alone : {C : Type 0} (epoch : ℕ) (x : Cached) (covered : Cached → Bool) (old new : Held) (result : Result (Option ℕ) C) → IfOk result (λ t. KeepsFor epoch (x ∷ []) covered None t old new) → OnOk result (KeepsAlone epoch x covered old new)
-kept_alone epoch x covered old new (Ok t) kept = (t, kept)
-kept_alone epoch x covered old new (Err c) kept = tt
-
--- such a call leaves the stores whole
-pub kept_whole : {C : Type 0} (epoch : ℕ) (put : List Cached) (covered : Cached → Bool) (answer : Option ℕ) (old new : Held) (result : Result (Option ℕ) C) → old.intact ≡ true → IfOk result (λ t. KeepsFor epoch put covered answer t old new) → OnOk result (new.intact ≡ true)
-kept_whole epoch put covered answer old new (Ok t) whole kept = ap (λ h. h.intact) kept.same ∙ whole
-kept_whole epoch put covered answer old new (Err c) whole kept = tt
-
 -- so does that of a notarized block
 pub notarized_whole : {T C : Type 0} (v : Bool) (r : Round) (b : Block) (old new : Held) (result : Result T C) → old.intact ≡ true → OnOk result (KeepsNotarizedWhere v r b old new) → OnOk result (new.intact ≡ true)
 notarized_whole true r b old new (Ok x) whole keeps = ap (λ h. h.intact) keeps ∙ whole
@@ -80,17 +69,13 @@ notarized_whole true r b old new (Err c) whole keeps = tt
 notarized_whole false r b old new (Err c) whole keeps = tt
 
 module _ {T C : Type 0} (inner : List ℕ → List ℕ) (fault : C → Fault) (old new : Held) (life : Window) (standing : Standing) where
-  pub Does-cached : (told : Option (List Report)) (asks : Option (List Call)) (sends : Option (List Sent)) (answers : List TicketAnswer) (a : CacheAct) (result : Result T C) → OnOk result (IsCached a old new) → OnOk result (AreLawful new) → GoesOn fault old (written_cached a) new result → IfErr result (λ c. IsCacheFault a old (fault c)) → Does inner fault (does (caches a) ∷ []) (scene old life standing (heard_with told asks sends answers)) (scene new life standing (heard_with told asks sends answers)) result
-  Does-cached told asks sends answers a (Ok x) is lawful goes kind = Does-task inner fault (does (caches a)) _ _ (Ok x) (is, goes, lawful, refl) tt
-  Does-cached told asks sends answers a (Err c) is lawful goes kind = Does-task {T = T} inner fault (does (caches a)) (scene old life standing (heard_with told asks sends answers)) (scene new life standing (heard_with told asks sends answers)) (Err c) tt (goes, kind, refl)
-
   -- what is kept for a caller, who is answered
   pub Does-kept : (told : Option (List Report)) (asks : Option (List Call)) (sends : Option (List Sent)) (answers answers' : List TicketAnswer) (a : KeepAct) (result : Result T C) → OnOk result ((answered : List TicketAnswer) × IsKept a old new answered × (answers' ≡ answers ++ answered)) → OnErr result (answers' ≡ answers) → OnOk result (AreLawful new) → GoesOn fault old (written_kept a) new result → IfErr result (λ c. IsUnkept a old (fault c)) → Does inner fault (does (keeps_for a) ∷ []) (scene old life standing (heard_with told asks sends answers)) (scene new life standing (heard_with told asks sends answers')) result
   Does-kept told asks sends answers answers' a (Ok x) (answered, is, all) none lawful goes kind = Does-task inner fault (does (keeps_for a)) _ _ (Ok x) (answered, is, goes, lawful, ap (λ xs. scene new life standing (heard_with told asks sends xs)) all) tt
   Does-kept told asks sends answers answers' a (Err c) is none lawful goes kind = Does-task {T = T} inner fault (does (keeps_for a)) (scene old life standing (heard_with told asks sends answers)) (scene new life standing (heard_with told asks sends answers')) (Err c) tt (goes, kind, ap (heard_with told asks sends) none)
 
   -- a notarized block is kept, unless it was verified in its round: that is read
-  pub Does-notarized : (r : Round) (b : Block) (v : Bool) (heard : Heard) (result : Result T C) → OnOk result (KeepsNotarizedWhere v r b old new) → OnOk result (AreLawful new) → GoesOn fault old (written_entries (notarized_where v r b)) new result → IfErr result (λ c. IsKeepFault old (fault c)) → IfErr result (λ c. v ≡ true → IsReadFault (fault c)) → Does inner fault (kept_plan r (record { block = Some b; is_verified = v })) (scene old life standing heard) (scene new life standing heard) result
+  pub Does-notarized : (r : Round) (b : Block) (v : Bool) (heard : Heard) (result : Result T C) → OnOk result (KeepsNotarizedWhere v r b old new) → OnOk result (AreLawful new) → GoesOn fault old (written_entries (notarized_where v r b)) new result → IfErr result (λ c. IsKeepFault r.epoch old (fault c)) → IfErr result (λ c. v ≡ true → IsReadFault (fault c)) → Does inner fault (kept_plan r (record { block = Some b; is_verified = v })) (scene old life standing heard) (scene new life standing heard) result
   Does-notarized r b true heard (Ok x) keeps lawful goes kind read = λ start whole rest reached. Reached-read inner start whole rest _ _ reached (record { joins = goes; same = ap (λ h. scene h life standing heard) keeps })
   Does-notarized r b true heard (Err c) keeps lawful goes kind read = λ start whole rest reached. reached.breaks _ _ (Breaks-unread inner rest (record { loses = goes; usual = usual_read (fault c) (read refl); unsynced = unsynced_read (fault c) (read refl); same = refl }))
   Does-notarized r b false heard (Ok x) keeps lawful goes kind read = Does-task inner fault (does (caches (keep_notarized r b))) _ _ (Ok x) (keeps, goes, lawful, refl) tt
@@ -136,12 +121,6 @@ module _ (inner : List ℕ → List ℕ) (start : Scene) (whole rest : List Task
   -- or not
   pub processed-failed : {e : Ending} → LosesOver old (written_prunes (height_prunes retention old h)) e → IsUsual e.fault → HearsFront asks (retain (above_height h) ∷ raise_asks old.cutoff (retired epochs old.certs.held h)) asks' → Breaks inner start whole e (heard_with told asks' sends answers)
   processed-failed {e} lost usual asked = Breaks-now inner start whole _ rest _ e _ reached (subst (λ k. LosesOver old (written_prunes (height_prunes k old h)) e) (sym is) lost, usual, asked, refl)
-
-module _ {T C : Type 0} (inner : List ℕ → List ℕ) (fault : C → Fault) (life : Window) (standing : Standing) (told : Option (List Report)) (asks : Option (List Call)) (sends : Option (List Sent)) (answers : List TicketAnswer) where
-  -- a caller was answered
-  pub Does-answered : (held : Held) (answers' : List TicketAnswer) (a : TicketAnswer) (result : Result T C) → OnOk result (answers' ≡ answers ++ a ∷ []) → OnErr result (answers' ≡ answers) → IfErr result (λ c. fault c ≡ want_of_memory) → Does inner fault (does (says (reply a)) ∷ []) (scene held life standing (heard_with told asks sends answers)) (scene held life standing (heard_with told asks sends answers')) result
-  Does-answered held answers' a (Ok x) all none memory = Does-task inner fault (does (says (reply a))) _ _ (Ok x) (ap (λ xs. scene held life standing (heard_with told asks sends xs)) all) tt
-  Does-answered held answers' a (Err c) all none memory = Does-task {T = T} inner fault (does (says (reply a))) (scene held life standing (heard_with told asks sends answers)) (scene held life standing (heard_with told asks sends answers')) (Err c) tt (ap (λ f. ended_on f held) memory, ap (heard_with told asks sends) none)
 
 -- a block is marked
 pub marked-done : (inner : List ℕ → List ℕ) (start : Scene) (whole rest : List Task) (held : Held) (life life' : Window) (standing : Standing) (told : Option (List Report)) (asks : Option (List Call)) (sends : Option (List Sent)) (answers : List TicketAnswer) (ticket : ℕ) (m : Mark) → life' ≡ record life { out = with_mark ticket m life.out } → Reached inner start whole (does (progresses (mark ticket m)) ∷ rest) (scene held life standing (heard_with told asks sends answers)) → Reached inner start whole rest (scene held life' standing (heard_with told asks sends answers))

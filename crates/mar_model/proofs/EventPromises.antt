@@ -1,14 +1,15 @@
 -- What each event's calls make of the step's promise.
-use Rattle.std.proofs.Common.{◌≡◌, ℕ, ◌-◌, ◌^◌, ◌<◌, List, [], ◌∷◌, length, true, false, nat_lt, Option, Some, None, Result, Ok, Err, IfErr, IfOk, MatchResult, Contains, refl, sym, ◌∙◌, ap, subst, arith}
+use Rattle.std.proofs.Common.{◌≡◌, ℕ, ◌-◌, ◌^◌, ◌<◌, List, [], ◌∷◌, length, true, false, nat_lt, Option, Some, None, Result, Ok, Contains, refl, sym, ◌∙◌, ap, subst, arith}
 use Rattle.mar_types.specs.Epochs.{Epochs, IsPartition}
 use Rattle.mar_cert.specs.Block.{Block}
 use Rattle.mar_cert.specs.Finalization.{Finalization}
-use Rattle.mar_model.specs.Messages.{report_finalization}
+use Rattle.mar_gate.specs.Writing.{total_writes}
+use Rattle.mar_store.specs.Kept.{At}
+use Rattle.mar_store.specs.Changes.{IsNested, KeepsValues}
 use Rattle.mar_key.specs.Hears.{Hears}
 use Rattle.mar_key.specs.Keys.{Call}
 use Rattle.mar_key.specs.Processed.{height_of}
-use Rattle.mar_store.specs.Kept.{At}
-use Rattle.mar_store.specs.Changes.{IsNested, KeepsValues}
+use Rattle.mar_model.specs.Messages.{report_finalization}
 use Rattle.mar_model.specs.Metadata.{Pair}
 use Rattle.mar_model.specs.Stored.{at_own_height}
 use Rattle.mar_model.specs.Chain.{Chain}
@@ -18,27 +19,24 @@ use Rattle.mar_model.specs.Config.{Config}
 use Rattle.mar_model.specs.Event.{Event, brought_block, effect_of, message_told, no_floor, sync_finished, told_finalization}
 use Rattle.mar_model.specs.Faults.{Fault, is_by_value}
 use Rattle.mar_model.specs.Cached.{finalization_entry}
-use Rattle.mar_model.specs.Held.{AreCached, AreWritten, Ending, Grew, Held, IsUsual, Loses, Seen, Written, nothing_written, written_both, written_entry}
+use Rattle.mar_model.specs.Held.{AreCached, AreWritten, Ending, Grew, Held, IsUsual, Loses, Seen, Written, written_both}
 use Rattle.mar_model.specs.Lives.{is_dropped_ack, is_refused_floor}
-use Rattle.mar_model.specs.Moves.{CachesFinalization, FinishesSync, HearsFront, HearsUpTo, IsRead, IsStarted, PutsAbove, at_height, found_at_hand, tip_after, tip_reports}
+use Rattle.mar_model.specs.Moves.{CachesFinalization, FinishesSync, HearsFront, IsStarted, PutsAbove, at_height, found_at_hand, tip_reports}
 use Rattle.mar_model.specs.Requests.{own_asks, want_asks}
 use Rattle.mar_model.specs.Node.{AreBlocksOf, AreFinalizationsOf, IsGood, Rest, at_hand}
-use Rattle.mar_gate.specs.Writing.{total_writes}
 use Rattle.mar_model.specs.Promise.{CutsStep, IsLawfulStep, IsSetTo, KeepsStep, Waiting, heard_by, made_of, node_of}
 use Rattle.mar_model.specs.Step.{AreTipsOf, Report, TipsFrom}
-use Rattle.mar_model.proofs.CacheOver.{OwnCache, cached_as, found_cached, own_none, own_reported, Rest-cached}
-use Rattle.mar_model.proofs.EntryLists.{contains_none}
-use Rattle.mar_model.proofs.Cutting.{Cuts-before, MayBeLeft, never, only_one, usual_not_by_value, usual_not_dropped}
+use Rattle.mar_model.proofs.CacheOver.{OwnCache, cached_as, found_cached}
+use Rattle.mar_model.proofs.Cutting.{Cuts-before, MayBeLeft, never, usual_not_by_value, usual_not_dropped}
 use Rattle.mar_model.proofs.FinalizationEvent as final
 use Rattle.mar_model.proofs.FoundBlocks.{found-is}
 use Rattle.mar_model.proofs.Growing.{Grown-blocks, Grown-certs}
-use Rattle.mar_model.proofs.Handing.{Hears-nothing, HearsFront-nothing, Ran}
-use Rattle.mar_model.proofs.PlainEvents.{nothing_put}
+use Rattle.mar_model.proofs.Handing.{Hears-nothing, Ran}
 use Rattle.mar_model.proofs.Promises.{dispatched, started, undispatched}
 use Rattle.mar_model.proofs.Reaching.{AreTips}
 use Rattle.mar_model.proofs.Soundness.{untold}
 use Rattle.mar_model.proofs.SyncEvent as sync
-use Rattle.mar_model.proofs.Tips.{tip_reports-rise, tip_reports-tips}
+use Rattle.mar_model.proofs.StillGood.{Rest-with}
 
 some_contained : (xs : List ℕ) (x : ℕ) → Contains xs x → 0 < length xs
 some_contained xs x has = let low : has.0 < length xs = has.1 in omega arith
@@ -79,24 +77,11 @@ module _ {P E : Type 0} (epochs : Epochs) (inner : List ℕ → List ℕ) (parti
         (sync.total-same config chain a m t buffer waiting nested certs_nested finishes written.ordered) new_nested.sure_held told told heard heard (Hears-nothing told) (Hears-nothing heard)
         (subst (λ s. Rest config.window (node_of s buffer waiting)) (sym same) step.rests)
 
-    -- one that could not be finished
-    pub promise-unfinished : (told : Option (List Report)) (heard : Option (List Call)) (x : Ending) → Loses a.held nothing_written x → IsUsual x.fault → KeepsStep epochs inner a (sync_finished t ∷ []) buffer (heard_by told heard) (heard_by told heard) (Err x)
-    promise-unfinished told heard x lost usual loaded config chain waiting set step =
-        quiet_cut config chain waiting (sync_finished t) step refl (λ fault. refl) told told heard heard nothing_written x (Hears-nothing told) (HearsFront-nothing heard _ heard (Hears-nothing heard)) refl refl (own_none config chain (node_of a buffer waiting) (sync_finished t)) tt tt (λ y has. nothing_put y has) (λ y has. nothing_put y has) lost (λ p has. nothing_put p has) usual
-
   -- FINALIZATIONS
 
   module _ (f : Finalization) where
     abbrev pub reported : Event
     reported = message_told None (report_finalization f)
-
-    -- what a call leaves that failed before anything was told, where it wrote no more than this
-    report_cut : (config : Config) (chain : Chain) (waiting : Waiting) → IsLawfulStep config chain (node_of a buffer waiting) (reported ∷ []) → (told told' : Option (List Report)) (heard heard' : Option (List Call)) (x : Ending) → Hears told [] told' → HearsFront heard (own_asks config (node_of a buffer waiting) reported no_floor) heard' → Loses a.held (written_entry (finalization_entry f)) x → IsUsual x.fault → CutsStep config chain (node_of a buffer waiting) (reported ∷ []) (heard_by told heard) (heard_by told' heard') x
-    report_cut config chain waiting step told told' heard heard' x silent asks lost usual = quiet_cut config chain waiting reported step refl (λ fault. refl) told told' heard heard' (written_entry (finalization_entry f)) x silent asks refl refl (own_reported config chain (node_of a buffer waiting) f [] step.reported.0 (λ r has. contains_none r has)) tt tt (λ y has. nothing_put y has) (λ y has. nothing_put y has) lost (λ p has. nothing_put p has) usual
-
-    -- it couldn't be cached, or what is at hand couldn't be looked up
-    pub promise-unread : (told : Option (List Report)) (heard : Option (List Call)) (x : Ending) → Loses a.held (written_entry (finalization_entry f)) x → IsUsual x.fault → KeepsStep epochs inner a (reported ∷ []) buffer (heard_by told heard) (heard_by told heard) (Err x)
-    promise-unread told heard x lost usual loaded config chain waiting set step = report_cut config chain waiting step told told heard heard x (Hears-nothing told) (HearsFront-nothing heard _ heard (Hears-nothing heard)) lost usual
 
     -- once it is cached
     module _ (now : Held) (cached : AreCached a.held) (caches : CachesFinalization f a.held now) where
@@ -114,46 +99,27 @@ module _ {P E : Type 0} (epochs : Epochs) (inner : List ℕ → List ℕ) (parti
           ∙ (sym (found_cached inner f a.held now buffer a.held.blocks.held f.payload loaded caches)
           ∙ (ap (λ h. found_at_hand inner buffer now.cache.kept.held h.blocks.held f.payload) (sym caches.same) ∙ found)))
 
-      pub promise-absent : (told : Option (List Report)) (heard heard' : Option (List Call)) (node : Seen P E) (result : Result (Seen P E) Ending) → IsNested a.held.blocks → IsNested a.held.certs → found_at_hand inner buffer now.cache.kept.held now.blocks.held f.payload ≡ None → HearsUpTo heard (want_asks now.cutoff f.round f.payload) heard' result → IsRead after node → IfOk result (λ new. new ≡ node) → MatchResult result (λ new. Grew a.held (written_entry (finalization_entry f)) new.held) (Loses a.held (written_entry (finalization_entry f))) → IfErr result (λ x. IsUsual x.fault) → KeepsStep epochs inner a (reported ∷ []) buffer (heard_by told heard) (heard_by told heard') result
-      promise-absent told heard heard' node (Ok new) nested certs_nested found asks read is goes usual loaded config chain waiting set step =
-          let same : IsRead (cached_as a now) new = subst (λ s. IsRead s new) after_is (subst (IsRead after) (sym is) read) in
+      pub promise-absent : (told : Option (List Report)) (heard heard' : Option (List Call)) → IsNested a.held.blocks → IsNested a.held.certs
+          → found_at_hand inner buffer now.cache.kept.held now.blocks.held f.payload ≡ None → Hears heard (want_asks now.cutoff f.round f.payload) heard'
+          → KeepsStep epochs inner a (reported ∷ []) buffer (heard_by told heard) (heard_by told heard') (Ok after)
+      promise-absent told heard heard' nested certs_nested found asks loaded config chain waiting set step =
           let none = hand loaded config chain waiting set step None found in
-          undispatched config chain a new reported buffer waiting [] (set.window ∙ sym (ap (λ s. s.life.sizes.window) same)) step (λ fault. refl) (final.Reaches-absent config chain a f buffer waiting step.lawful step.one step.good step.reported.0 now cached loaded caches new same nested certs_nested none)
-          (subst (λ s. IsGood config chain (node_of s buffer waiting)) (sym same) (final.IsGood-cached config chain a f buffer waiting step.lawful step.one step.good step.reported.0 now cached loaded caches)) (let writes : total_writes new.held.writes ≡ total_writes a.held.writes = ap (λ s. total_writes s.held.writes) same in omega arith)
-          (subst (λ s. KeepsValues s.held.blocks.sure s.held.blocks.held) (sym same) nested.sure_held) told told heard heard' (Hears-nothing told)
-          (subst (λ cs. Hears heard cs heard') (final.asks-absent config chain a f buffer waiting step.lawful step.one step.good step.reported.0 none) (subst (λ h. Hears heard (want_asks h.cutoff f.round f.payload) heard') caches.same asks))
-          (subst (λ s. Rest config.window (node_of s buffer waiting)) (sym same) (Rest-cached config.window a now buffer waiting step.rests))
-      promise-absent told heard heard' node (Err x) nested certs_nested found asks read is goes usual loaded config chain waiting set step =
-          report_cut config chain waiting step told told heard heard' x (Hears-nothing told)
-          (subst (λ cs. HearsFront heard cs heard') (final.asks-absent config chain a f buffer waiting step.lawful step.one step.good step.reported.0 (hand loaded config chain waiting set step None found)) (subst (λ h. HearsFront heard (want_asks h.cutoff f.round f.payload) heard') caches.same asks))
-          goes usual
+          undispatched config chain a after reported buffer waiting [] (set.window ∙ sym (ap (λ s. s.life.sizes.window) after_is)) step (λ fault. refl)
+          (final.Reaches-absent config chain a f buffer waiting step.lawful step.one step.good step.reported.0 now cached loaded caches after after_is nested certs_nested none)
+          (subst (λ s. IsGood config chain (node_of s buffer waiting)) (sym after_is) (final.IsGood-cached config chain a f buffer waiting step.lawful step.one step.good step.reported.0 now cached loaded caches))
+          (let writes : total_writes now.writes ≡ total_writes a.held.writes = ap (λ h. total_writes h.writes) caches.same in omega arith)
+          (subst (λ s. KeepsValues s.held.blocks.sure s.held.blocks.held) (sym after_is) nested.sure_held) told told heard heard' (Hears-nothing told)
+          (subst (λ cs. Hears heard cs heard') (final.asks-absent config chain a f buffer waiting step.lawful step.one step.good step.reported.0 none)
+          (subst (λ h. Hears heard (want_asks h.cutoff f.round f.payload) heard') caches.same asks))
+          (subst (λ s. Rest config.window (node_of s buffer waiting)) (sym after_is) (Rest-with config.window a now.cache a.held.writes.next_sync now.watches buffer buffer waiting waiting step.rests))
 
       module _ (b : Block) (found : found_at_hand inner buffer now.cache.kept.held now.blocks.held f.payload ≡ Some b) where
-        pub of_block : a.held.cache.loaded ≡ true → (config : Config) (chain : Chain) (waiting : Waiting) (set : IsSetTo config a.life.sizes epochs inner) (step : IsLawfulStep config chain (node_of a buffer waiting) (reported ∷ [])) → AreBlocksOf chain (at_own_height b ∷ [])
-        of_block loaded config chain waiting set step = ((final.block-final config chain a f buffer waiting step.lawful step.one step.good step.reported.0 b (hand loaded config chain waiting set step (Some b) found)).1, tt)
-
         pub of_cert : a.held.cache.loaded ≡ true → (config : Config) (chain : Chain) (waiting : Waiting) (set : IsSetTo config a.life.sizes epochs inner) (step : IsLawfulStep config chain (node_of a buffer waiting) (reported ∷ [])) → AreFinalizationsOf chain (at_height b.height f ∷ [])
         of_cert loaded config chain waiting set step = (final.finalizes config chain a f buffer waiting step.lawful step.one step.good step.reported.0 b (hand loaded config chain waiting set step (Some b) found), tt)
-
-        -- a block at the last height is none of a lawful chain
-        pub promise-limit : {T : Type 0} → a.held.cache.loaded ≡ true → (config : Config) (chain : Chain) (waiting : Waiting) → IsSetTo config a.life.sizes epochs inner → IsLawfulStep config chain (node_of a buffer waiting) (reported ∷ []) → b.height ≡ 2 ^ 64 - 1 → T
-        promise-limit loaded config chain waiting set step last = absurd (final.not_last config chain a f buffer waiting step.lawful step.one step.good step.reported.0 b (hand loaded config chain waiting set step (Some b) found) last)
 
         -- what the event wrote of its block and its finalization
         abbrev pub written_report : Written
         written_report = record (written_both (at_own_height b) (at_height b.height f)) { cached = finalization_entry f ∷ [] }
-
-        stored_cut : a.held.cache.loaded ≡ true → (config : Config) (chain : Chain) (waiting : Waiting) (set : IsSetTo config a.life.sizes epochs inner) (step : IsLawfulStep config chain (node_of a buffer waiting) (reported ∷ [])) (tips : List Report) (tip : ℕ) → AreTips tips → TipsFrom a.life.tip tips tip → AreTipsOf chain tips → (told told' : Option (List Report)) (heard : Option (List Call)) (x : Ending) → Hears told tips told' → Loses a.held written_report x → is_by_value x.fault ≡ false → is_dropped_ack x.fault ≡ false → CutsStep config chain (node_of a buffer waiting) (reported ∷ []) (heard_by told heard) (heard_by told' heard) x
-        stored_cut loaded config chain waiting set step tips tip are_tips rise of_chain told told' heard x tips_heard lost no_value not_dropped = told_cut config chain waiting reported step refl (λ fault. refl) tips tip are_tips rise of_chain told told' heard heard written_report x tips_heard (HearsFront-nothing heard _ heard (Hears-nothing heard)) refl refl (own_reported config chain (node_of a buffer waiting) f [] step.reported.0 (λ r has. contains_none r has)) (of_block loaded config chain waiting set step) (of_cert loaded config chain waiting set step) (λ y has. hand loaded config chain waiting set step (Some b) found ∙ ap (λ (z : At Block). Some z.value) (only_one (at_own_height b) y has)) (λ y has. ap (λ (z : At Finalization). Some z.value) (only_one (at_height b.height f) y has)) lost (λ p has. nothing_put p has) no_value not_dropped
-
-        pub promise-unstored : (told told' : Option (List Report)) (heard : Option (List Call)) (x : Ending) → Hears told [] told' → Loses a.held written_report x → IsUsual x.fault → KeepsStep epochs inner a (reported ∷ []) buffer (heard_by told heard) (heard_by told' heard) (Err x)
-        promise-unstored told told' heard x silent lost usual loaded config chain waiting set step = stored_cut loaded config chain waiting set step [] a.life.tip tt refl tt told told' heard x silent lost (usual_not_by_value x.fault usual) (usual_not_dropped x.fault usual)
-
-        -- no sync of what was put could be started
-        pub promise-unstarted : (told told' : Option (List Report)) (heard : Option (List Call)) (x : Ending) → Hears told (tip_reports a.life.tip f b) told' → Loses a.held written_report x → is_by_value x.fault ≡ false → is_dropped_ack x.fault ≡ false → KeepsStep epochs inner a (reported ∷ []) buffer (heard_by told heard) (heard_by told' heard) (Err x)
-        promise-unstarted told told' heard x tips lost no_value not_dropped loaded config chain waiting set step =
-            stored_cut loaded config chain waiting set step (tip_reports a.life.tip f b) (tip_after a.life.tip b) (tip_reports-tips a.life.tip f b) (tip_reports-rise a.life.tip f b)
-            (final.tips_told config chain a f buffer waiting step.lawful step.one step.good step.reported.0 b (hand loaded config chain waiting set step (Some b) found)) told told' heard x tips lost no_value not_dropped
 
         pub promise-stored : (m new : Seen P E) (told told' : Option (List Report)) (heard : Option (List Call)) → IsNested new.held.blocks → IsNested new.held.certs → AreWritten new.held → nat_lt (height_of now.processed) b.height ≡ true → PutsAbove inner after f b m → IsStarted m new → Grew a.held written_report m.held → Hears told (tip_reports a.life.tip f b) told' → KeepsStep epochs inner a (reported ∷ []) buffer (heard_by told heard) (heard_by told' heard) (Ok new)
         promise-stored m new told told' heard nested certs_nested written above_now puts_as is_started grew tips loaded config chain waiting set step =

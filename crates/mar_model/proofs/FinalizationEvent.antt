@@ -1,5 +1,5 @@
 -- A reported finalization: its block isn't at hand, or is stored above the processed height, or is noted at or below it.
-use Rattle.std.proofs.Common.{◌≡◌, ◌⊎◌, inl, inr, ℕ, zero, suc, ◌+◌, ◌-◌, ◌^◌, ◌<◌, ◌≤◌, List, [], ◌∷◌, ◌++◌, length, map, drop, fold, Bool, true, false, ◌&&◌, ◌||◌, not, ◌==◌, nat_lt, if◌then◌else◌, Option, Some, None, is_some, option_map, IfSome, IsTrue, IsFalse, Contains, bytes_eq, slice_get, refl, sym, ◌∙◌, ap, subst, arith, append-nil, le_refl, eqb-true, eq-eqb, length-append}
+use Rattle.std.proofs.Common.{◌≡◌, ◌⊎◌, inl, inr, ℕ, zero, suc, ◌+◌, ◌-◌, ◌^◌, ◌<◌, ◌≤◌, List, [], ◌∷◌, ◌++◌, length, map, drop, fold, Bool, true, false, ◌&&◌, ◌||◌, not, ◌==◌, nat_lt, if◌then◌else◌, Option, Some, None, is_some, option_map, option_to_list, IfSome, IsTrue, IsFalse, Contains, bytes_eq, slice_get, refl, sym, ◌∙◌, ap, subst, arith, append-nil, le_refl, eqb-true, eq-eqb, length-append}
 use Rattle.std.specs.List.{AllByRecursion, filter_map, list_any}
 use Rattle.std.specs.Option.{option_or}
 use Rattle.std.proofs.lemmas.List.Elements.{Contains-append_left, Contains-append_right}
@@ -7,12 +7,13 @@ use Rattle.mar_types.specs.Epochs.{IsPartition}
 use Rattle.mar_types.specs.Round.{Round, round_lt}
 use Rattle.mar_cert.specs.Block.{Block}
 use Rattle.mar_cert.specs.Finalization.{Finalization}
-use Rattle.mar_model.specs.Messages.{report_finalization}
-use Rattle.mar_key.specs.Cutoff.{Cutoff, at_round, greatest_of}
-use Rattle.mar_key.specs.Processed.{first_unprocessed, height_in, height_of}
+use Rattle.mar_gate.specs.Writing.{total_writes}
 use Rattle.mar_store.specs.Kept.{At, Kept, has_height, value_at}
 use Rattle.mar_store.specs.Changes.{IsNested, KeepsValues, left_of}
 use Rattle.mar_store.proofs.Lookups.{AllByRecursion-contains, AllByRecursion-weaker, Contains-from_value, has_height-from_contains, value-from_has_height, value_at-append}
+use Rattle.mar_key.specs.Cutoff.{Cutoff, at_round, greatest_of}
+use Rattle.mar_key.specs.Processed.{first_unprocessed, height_in, height_of}
+use Rattle.mar_model.specs.Messages.{report_finalization}
 use Rattle.mar_model.specs.Metadata.{Pair, pair_of}
 use Rattle.mar_model.specs.Stored.{at_own_height, block_of, is_certified, is_held}
 use Rattle.mar_model.specs.Cached.{cached_finalization}
@@ -25,12 +26,11 @@ use Rattle.mar_model.specs.Faults.{height_limit, last_height, storing_fault}
 use Rattle.mar_model.specs.Held.{AreCached, AreWritten, Held, HeldCache, Seen}
 use Rattle.mar_model.specs.Lives.{later_round}
 use Rattle.mar_model.specs.Moves.{CachesFinalization, IsRead, IsStarted, PrunesCacheBy, PutsAbove, RaisesTo, StoresLate, StoresValue, StoresWhere, at_height, lacks_finalization, late_tip, late_tips, pruned_by, tip_after, tip_reports, with_cache_of, with_watches}
-use Rattle.mar_model.specs.Node.{AreBlocksOf, AreFinalizationsOf, AreNestedHeights, ConsecutiveFrom, FloorSafe, HasAnchor, IsCacheOf, IsFinalized, IsGood, Node, OpenSync, Rest, SureOrWritten, at_hand, block_missing, floor_awaited, window_full, write_uncovered}
-use Rattle.mar_gate.specs.Writing.{total_writes}
+use Rattle.mar_model.specs.Node.{AreBlocksOf, AreFinalizationsOf, AreNestedHeights, FloorSafe, IsCacheOf, IsFinalized, IsGood, Node, OpenSync, Rest, SureOrWritten, at_hand, block_missing, floor_awaited, window_full, write_uncovered}
 use Rattle.mar_model.specs.Promise.{AreOne, Waiting, node_of, known_blocks}
 use Rattle.mar_model.specs.Requests.{own_asks, raise_asks, reported_asks, want_asks}
 use Rattle.mar_model.specs.Sound.{IsSafePair}
-use Rattle.mar_model.specs.Step.{AreTipsOf, CertificatesFrom, IsCertFrom, IsStored, IsStoredLate, KeepsFrom, Report, TipsFrom, Writes, is_repaired}
+use Rattle.mar_model.specs.Step.{AreTipsOf, CertificatesFrom, EntersAt, IsCertFrom, IsStored, IsStoredLate, KeepsFrom, Report, TipsFrom, Writes, is_repaired, own_heights}
 use Rattle.mar_model.proofs.AtHand.{at_hand-commitment, block_of_final, bytes_same}
 use Rattle.mar_model.proofs.CacheOver.{IsCacheOf-put, MovesCache, cached_as, moves_reported}
 use Rattle.mar_model.proofs.CachePrunes.{IsCacheOf-pruned, PrunesCacheBy-beside, PrunesCacheBy-none}
@@ -38,13 +38,14 @@ use Rattle.mar_model.proofs.Cutting.{MayBeLeft, keeps_heights, only_one, sure_ma
 use Rattle.mar_model.proofs.FloorSafety.{FloorSafe-still, KeepsHeightsFrom, MeetsFinal}
 use Rattle.mar_model.proofs.FoundBlocks.{Contains-slice_get, chain_known}
 use Rattle.mar_model.proofs.KnownBlocks.{at_hand-known, known_agrees}
-use Rattle.mar_model.proofs.PairsAfter.{HasAnchor-kept, IsSafePair-after}
+use Rattle.mar_model.proofs.PairsAfter.{IsSafePair-after}
 use Rattle.mar_model.proofs.Growing.{Grown, Grown-same}
-use Rattle.mar_model.proofs.PlainEvents.{Certificates-same, KeepsFrom-same, Writes-same, nothing_put}
+use Rattle.mar_model.proofs.PlainEvents.{Certificates-same, EntersAt-same, KeepsFrom-same, Writes-same, nothing_put}
 use Rattle.mar_model.proofs.Reaching.{AreTips, Reaches, some_first}
-use Rattle.mar_model.proofs.Soundness.{IsFrom, IsSafePair-kept}
+use Rattle.mar_model.proofs.Soundness.{IsSafePair-kept, from_none}
 use Rattle.mar_model.proofs.StoredValues.{stored_height, entered_height, missing_stays, all_held, all_may, KeepsFrom-put, found_place, any_place, either_test, due_height, KeepsFrom-due, held_due, may_due, sure_due}
 use Rattle.mar_model.proofs.Tips.{above_from, low_from, tip_after-high, tip_reports-chain, tip_reports-rise, tip_reports-tips}
+use Rattle.mar_model.proofs.StillGood.{IsGood-with, IsGood-grown}
 
 -- WHAT A REPORT STORES AND TELLS
 
@@ -135,6 +136,16 @@ Certificates-pushed n n' e false x told held = record {
 Certificates-put : (n n' : Node) (e : Event) (due ignored : Bool) (x : At Finalization) → told_finalization n e ≡ Some x.value → StoresWhere due ignored n.certs x n'.certs → CertificatesFrom n e n'
 Certificates-put n n' e true ignored x told stores = Certificates-pushed n n' e ignored x told stores.held
 Certificates-put n n' e false ignored x told same = Certificates-pushed n n' e true x told (ap (λ k. k.held) same)
+
+-- the one height at which a put, or one that is due, enters
+entered_due : {T : Type 0} (due ignored : Bool) (old : Kept (At T)) (x : At T) (new : Kept (At T)) (h : ℕ) → StoresWhere due ignored old x new → IsTrue (has_height new.held h) → IsTrue (has_height old.held h) ⊎ (x.height ≡ h)
+entered_due true ignored old x new h stores has = entered_height ignored old.held x new.held h stores.held has
+entered_due false ignored old x new h same has = inl (subst (λ k. IsTrue (has_height k.held h)) same has)
+
+-- which is the event's own
+own_height : (n : Node) (e : Event) (s : Storing) (was : ℕ → Type 0) (h : ℕ) → storing_of n e ≡ Some s → was h ⊎ (s.height ≡ h) → was h ⊎ Contains (own_heights n e no_floor) h
+own_height n e s was h is (inl there) = inl there
+own_height n e s was h is (inr own) = inr (subst (λ o. Contains (option_to_list (option_map (λ (x : Storing). x.height) o) ++ []) h) (sym is) (zero, omega arith, own))
 
 -- WHAT MAY BE LEFT
 
@@ -331,44 +342,6 @@ module _ {P E : Type 0} (config : Config) (chain : Chain) (a : Seen P E) (f : Fi
         by (inl has) = has
         by (inr some) = let place = any_place (λ x. bytes_eq (config.inner x.value.payload) (config.inner f.payload)) a.held.certs.held some in subst (λ k. IsTrue (has_height a.held.certs.held k)) (same place.0 place.1 place.2) (has_height-from_contains a.held.certs.held place.0 place.1)
 
-    -- MORE IS HELD
-
-    -- the node stays good as more is held and sure, with the same blocks outstanding
-    IsGood-grown : (m : Seen P E) → AreNestedHeights m.held.blocks → AreNestedHeights m.held.certs → m.life.out ≡ a.life.out → m.held.processed ≡ a.held.processed → IsCacheOf chain m.held.cache.kept → m.held.pairs ≡ pair_of m.held.processed m.held.cutoff ∷ [] → SureOrWritten m.held.blocks m.held.writes.uncovered → SureOrWritten m.held.certs m.held.writes.uncovered → (0 < length m.held.writes.uncovered → Contains (map (λ s. s.position) m.held.writes.syncs) (total_writes m.held.writes)) → KeepsHeightsFrom 0 a.held.blocks.sure m.held.blocks.sure → AreBlocksOf chain m.held.blocks.held → AreBlocksOf chain m.held.blocks.may → AreFinalizationsOf chain m.held.certs.held → AreFinalizationsOf chain m.held.certs.may → FloorSafe (option_map height_in a.held.processed) m.held.cutoff m.held.blocks.sure chain → AllByRecursion (λ x. x.height ≤ m.life.tip) m.held.certs.held → IsGood config chain (node_of m buffer waiting)
-    IsGood-grown m nested_blocks nested_certs out processed cache own sure_blocks sure_certs sync_open stays held_blocks may_blocks held_certs may_certs safe below_tip = record {
-      heights = record {
-        stores = record {
-          nested_blocks = nested_blocks;
-          nested_certs = nested_certs;
-          sure_blocks = sure_blocks;
-          sure_certs = sure_certs;
-        };
-        delivery = record {
-          consecutive = subst (λ p. ConsecutiveFrom (first_unprocessed p) m.life.out) (sym processed) (subst (λ o. ConsecutiveFrom (first_unprocessed a.held.processed) o) (sym out) good.heights.delivery.consecutive);
-          out_sure = subst (λ o. AllByRecursion (λ x. IsTrue (has_height m.held.blocks.sure x.height)) o) (sym out) (AllByRecursion-weaker (λ x. IsTrue (has_height a.held.blocks.sure x.height)) (λ x. IsTrue (has_height m.held.blocks.sure x.height)) (λ x has. stays x.height (omega arith) has) a.life.out good.heights.delivery.out_sure);
-          within_window = subst (λ o. length o ≤ config.window) (sym out) good.heights.delivery.within_window;
-          anchored = subst (λ p. HasAnchor p m.held.blocks.sure) (sym processed) (HasAnchor-kept 0 a.held.processed a.held.blocks.sure m.held.blocks.sure (omega arith) stays good.heights.delivery.anchored);
-        };
-        floor_clears = λ some. absurd cc;
-        own_pair = own;
-        sync_open = sync_open;
-      };
-      of_chain = record {
-        stores = record {
-          held_blocks = held_blocks;
-          may_blocks = may_blocks;
-          held_certs = held_certs;
-          may_certs = may_certs;
-        };
-        cache = cache;
-        asks = record { requests = good.of_chain.asks.requests; ready = tt; overflow = tt };
-        awaits = tt;
-        not_at_hand = tt;
-        floor_safe = subst (λ p. FloorSafe (option_map height_in p) m.held.cutoff m.held.blocks.sure chain) (sym processed) safe;
-        tip_reported = below_tip;
-      };
-    }
-
     -- WHAT IS STORED
 
     -- the reported finalization is the chain's at the height of its block
@@ -405,11 +378,13 @@ module _ {P E : Type 0} (config : Config) (chain : Chain) (a : Seen P E) (f : Fi
     -- so a sync of it that failed may leave it
     pub pair_late-left : IsPartition config.epochs → (b : Block) → at_hand n f.payload ≡ Some b → IsFalse (nat_lt (height_of a.held.processed) b.height) → (sure : List (At Block)) → KeepsValues a.held.blocks.sure sure → (p : Pair) → Contains (pair_of a.held.processed (greatest_of a.held.cutoff (at_round f.round ∷ [])) ∷ []) p → MayBeLeft config chain a e buffer waiting sure p
     pair_late-left partition b is low sure keeps p (suc k, lt, same) = absurd (omega arith)
-    pair_late-left partition b is low sure keeps p (zero, lt, same) = subst (MayBeLeft config chain a e buffer waiting sure) same (inr (sym (pair_late-is b is low), IsSafePair-kept chain 0 a.held.blocks.sure sure _ (λ h bound has. keeps_heights a.held.blocks.sure sure keeps h has) (from (option_map height_in a.held.processed)) (pair_late-safe partition b is low), le_refl _))
-      where
-        from : (o : Option ℕ) → IsFrom 0 o
-        from None = tt
-        from (Some h) = omega arith
+    pair_late-left partition b is low sure keeps p (zero, lt, same) = subst (MayBeLeft config chain a e buffer waiting sure) same
+        (inr (
+          sym (pair_late-is b is low),
+          IsSafePair-kept chain 0 a.held.blocks.sure sure _ (λ h bound has. keeps_heights a.held.blocks.sure sure keeps h has)
+              (from_none (option_map height_in a.held.processed)) (pair_late-safe partition b is low),
+          le_refl _,
+        ))
 
     -- a cutoff retain is asked for where the round rises above the cutoff
     pub asks-late : (b : Block) → at_hand n f.payload ≡ Some b → IsFalse (nat_lt (height_of a.held.processed) b.height) → raise_asks a.held.cutoff (at_round f.round ∷ []) ≡ own_asks config n e no_floor
@@ -434,24 +409,7 @@ module _ {P E : Type 0} (config : Config) (chain : Chain) (a : Seen P E) (f : Fi
 
       -- once it is cached, the node is good
       pub IsGood-cached : IsGood config chain (node_of after buffer waiting)
-      IsGood-cached = record {
-        heights = record {
-          stores = good.heights.stores;
-          delivery = good.heights.delivery;
-          floor_clears = good.heights.floor_clears;
-          own_pair = good.heights.own_pair;
-          sync_open = good.heights.sync_open;
-        };
-        of_chain = record {
-          stores = good.of_chain.stores;
-          cache = cache_after;
-          asks = good.of_chain.asks;
-          awaits = good.of_chain.awaits;
-          not_at_hand = tt;
-          floor_safe = good.of_chain.floor_safe;
-          tip_reported = good.of_chain.tip_reported;
-        };
-      }
+      IsGood-cached = IsGood-with config chain a now.cache a.held.writes.next_sync now.watches buffer buffer waiting waiting good.of_chain.asks.requests cache_after good
 
       -- a finalization whose block isn't at hand changes nothing but the cache
       pub Reaches-absent : (m : Seen P E) → IsRead after m → IsNested a.held.blocks → IsNested a.held.certs → at_hand n f.payload ≡ None → Reaches config chain a e buffer waiting [] m
@@ -476,6 +434,8 @@ module _ {P E : Type 0} (config : Config) (chain : Chain) (a : Seen P E) (f : Fi
         certificates = Certificates-same a after e buffer waiting refl;
         writes = written.0;
         no_repair = written.1;
+        unblocked = written.2;
+        enters = EntersAt-same _ n (node_of after buffer waiting) refl refl;
         are_tips = tt;
         tips_rise = refl;
         tips_chain = tt;
@@ -496,13 +456,13 @@ module _ {P E : Type 0} (config : Config) (chain : Chain) (a : Seen P E) (f : Fi
           stores : storing_of n e ≡ None
           stores = storing_by None absent
 
-          written : (w : Writes n e no_floor (node_of after buffer waiting)) × (w.repaired ≡ [])
+          written : (w : Writes n e no_floor (node_of after buffer waiting)) × (w.repaired ≡ []) × (w.blocking ≡ 0)
           written = Writes-same a after e buffer waiting (ap (λ s. own_writes n s no_floor) stores) refl refl (λ syncs. refl) (λ syncs. refl)
 
       -- STORED ABOVE THE PROCESSED HEIGHT
 
       -- what it writes: its own height
-      Writes-stored : (b : Block) (m : Seen P E) → at_hand n f.payload ≡ Some b → IsTrue (nat_lt (height_of a.held.processed) b.height) → PutsAbove config.inner after f b m → (w : Writes n e no_floor (node_of m buffer waiting)) × (w.repaired ≡ [])
+      Writes-stored : (b : Block) (m : Seen P E) → at_hand n f.payload ≡ Some b → IsTrue (nat_lt (height_of a.held.processed) b.height) → PutsAbove config.inner after f b m → (w : Writes n e no_floor (node_of m buffer waiting)) × (w.repaired ≡ []) × (w.blocking ≡ 0)
       Writes-stored b m is above puts = (
         record {
           repaired = [];
@@ -515,6 +475,7 @@ module _ {P E : Type 0} (config : Config) (chain : Chain) (a : Seen P E) (f : Fi
           uncovered = ap (λ s. s.held.writes.uncovered) puts.same ∙ sym (ap (λ k. drop (k - a.held.writes.covered) (a.held.writes.uncovered ++ (own_writes n (storing_of n e) no_floor ++ []))) covered ∙ (ap (λ k. drop k (a.held.writes.uncovered ++ (own_writes n (storing_of n e) no_floor ++ []))) minus_same ∙ ap (λ ws. a.held.writes.uncovered ++ (ws ++ [])) own));
           syncs = ap (λ s. s.held.writes.syncs) puts.same;
         },
+        refl,
         refl,
       )
         where
@@ -546,7 +507,9 @@ module _ {P E : Type 0} (config : Config) (chain : Chain) (a : Seen P E) (f : Fi
       -- once its sync is started, the node is good
       pub IsGood-stored : (b : Block) (m new : Seen P E) → IsNested new.held.blocks → IsNested new.held.certs → AreWritten new.held → at_hand n f.payload ≡ Some b → PutsAbove config.inner after f b m → IsStarted m new → IsGood config chain (node_of new buffer waiting)
       IsGood-stored b m new blocks_nested certs_nested written is puts started =
-          IsGood-grown new (nested_heights new.held.blocks blocks_nested) (nested_heights new.held.certs certs_nested) (ap (λ s. s.life.out) started ∙ ap (λ s. s.life.out) puts.same) processed (subst (λ h. IsCacheOf chain h.kept) (sym (ap (λ s. s.held.cache) started ∙ ap (λ s. s.held.cache) puts.same)) cache_after) own written.blocks written.certs sync_open stays
+          IsGood-grown config chain a buffer waiting good new (nested_heights new.held.blocks blocks_nested) (nested_heights new.held.certs certs_nested)
+          (ap (λ s. s.life.out) started ∙ ap (λ s. s.life.out) puts.same) processed (subst (λ h. IsCacheOf chain h.kept)
+          (sym (ap (λ s. s.held.cache) started ∙ ap (λ s. s.held.cache) puts.same)) cache_after) own written.blocks written.certs sync_open stays
           (subst (λ k. AreBlocksOf chain k.held) (sym blocks) (all_held (λ x. IsBlockAt chain x.height x.value) _ _ _ _ puts.blocks.held good.of_chain.stores.held_blocks (block-final b is).1))
           (subst (λ k. AreBlocksOf chain k.may) (sym blocks) (all_may (λ x. IsBlockAt chain x.height x.value) _ _ _ _ puts.blocks good.of_chain.stores.may_blocks (block-final b is).1))
           (subst (λ k. AreFinalizationsOf chain k.held) (sym certs) (all_held (λ x. Finalizes chain x.height x.value.round x.value.payload) _ _ _ _ puts.certs.held good.of_chain.stores.held_certs (finalizes b is)))
@@ -615,6 +578,8 @@ module _ {P E : Type 0} (config : Config) (chain : Chain) (a : Seen P E) (f : Fi
         certificates = Certificates-pushed n (node_of m buffer waiting) e (is_certified config.inner a.held.certs.held b.height (config.inner f.payload)) (at_height b.height f) refl puts.certs.held;
         writes = (Writes-stored b m is above puts).0;
         no_repair = (Writes-stored b m is above puts).1;
+        unblocked = (Writes-stored b m is above puts).2;
+        enters = EntersAt-stored;
         are_tips = tip_reports-tips a.life.tip f b;
         tips_rise = subst (TipsFrom a.life.tip (tip_reports a.life.tip f b)) (sym (ap (λ s. s.life.tip) puts.same)) (tip_reports-rise a.life.tip f b);
         tips_chain = tip_reports-chain chain a.life.tip f b (block-final b is).0 (block-final b is).1;
@@ -634,6 +599,12 @@ module _ {P E : Type 0} (config : Config) (chain : Chain) (a : Seen P E) (f : Fi
 
           storing : storing_of n e ≡ Some (storing_met (met_of b f))
           storing = storing_by (Some b) is
+
+          EntersAt-stored : EntersAt (own_heights n e no_floor) n (node_of m buffer waiting)
+          EntersAt-stored = record {
+            blocks = λ h has. own_height n e (storing_met (met_of b f)) (λ k. IsTrue (has_height a.held.blocks.held k)) h storing (entered_height (is_held a.held.blocks.held b) a.held.blocks.held (at_own_height b) m.held.blocks.held h puts.blocks.held has);
+            certs = λ h has. own_height n e (storing_met (met_of b f)) (λ k. IsTrue (has_height a.held.certs.held k)) h storing (entered_height (is_certified config.inner a.held.certs.held b.height (config.inner f.payload)) a.held.certs.held (at_height b.height f) m.held.certs.held h puts.certs.held has);
+          }
 
           stored : IsStored (node_of m buffer waiting) (storing_met (met_of b f))
           stored = record {
@@ -658,7 +629,9 @@ module _ {P E : Type 0} (config : Config) (chain : Chain) (a : Seen P E) (f : Fi
       -- the node that it leaves is good, where the tip reaches what was put
       IsGood-late : IsPartition config.epochs → (b : Block) (m : Seen P E) → Grown a.held.certs (at_height b.height f ∷ []) m.held.certs → at_hand n f.payload ≡ Some b → IsFalse (nat_lt (height_of a.held.processed) b.height) → a.life.tip ≤ m.life.tip → (IsTrue (lacks_finalization a.held b) → b.height ≤ m.life.tip) → IsNoted m → IsPruned m → PutsLate b m.held.certs → IsGood config chain (node_of m buffer waiting)
       IsGood-late partition b m grown is low rises below_tip same pruned certs =
-          IsGood-grown m (subst AreNestedHeights (sym blocks) good.heights.stores.nested_blocks) (nested_due _ _ _ _ _ _ certs grown good.heights.stores.nested_certs) (ap (λ s. s.life.out) same) (ap (λ s. s.held.processed) same) (IsCacheOf-pruned chain (pruned_by config.retention a.held.witnessed (f.round ∷ [])) now.cache.kept m.held.cache.kept cache_after (pruned.prunes (caches.loaded ∙ loaded))) own
+          IsGood-grown config chain a buffer waiting good m (subst AreNestedHeights (sym blocks) good.heights.stores.nested_blocks)
+          (nested_due _ _ _ _ _ _ certs grown good.heights.stores.nested_certs) (ap (λ s. s.life.out) same) (ap (λ s. s.held.processed) same)
+          (IsCacheOf-pruned chain (pruned_by config.retention a.held.witnessed (f.round ∷ [])) now.cache.kept m.held.cache.kept cache_after (pruned.prunes (caches.loaded ∙ loaded))) own
           (subst (λ k. SureOrWritten k m.held.writes.uncovered) (sym blocks) (subst (λ w. SureOrWritten a.held.blocks w.uncovered) (sym writes) good.heights.stores.sure_blocks))
           (sure_due _ _ _ _ _ m.held.writes.uncovered certs (subst (λ w. SureOrWritten a.held.certs w.uncovered) (sym writes) good.heights.stores.sure_certs))
           (subst (λ w. 0 < length w.uncovered → Contains (map (λ s. s.position) w.syncs) (total_writes w)) (sym writes) good.heights.sync_open)
@@ -702,6 +675,8 @@ module _ {P E : Type 0} (config : Config) (chain : Chain) (a : Seen P E) (f : Fi
         certificates = Certificates-put n (node_of m buffer waiting) e (lacks_finalization a.held b) (is_certified config.inner a.held.certs.held b.height (config.inner f.payload)) (at_height b.height f) refl certs;
         writes = written.0;
         no_repair = written.1;
+        unblocked = written.2;
+        enters = EntersAt-late;
         are_tips = only;
         tips_rise = rise;
         tips_chain = of_chain;
@@ -728,8 +703,14 @@ module _ {P E : Type 0} (config : Config) (chain : Chain) (a : Seen P E) (f : Fi
           processed : m.held.processed ≡ a.held.processed
           processed = ap (λ s. s.held.processed) same
 
-          written : (v : Writes n e no_floor (node_of m buffer waiting)) × (v.repaired ≡ [])
+          written : (v : Writes n e no_floor (node_of m buffer waiting)) × (v.repaired ≡ []) × (v.blocking ≡ 0)
           written = Writes-same a m e buffer waiting (ap (λ s. own_writes n s no_floor) storing ∙ ap (λ (c : Bool). if c then b.height ∷ [] else []) low) (ap (λ k. k.held) blocks) (ap (λ s. s.held.writes) same) (λ syncs. refl) (λ syncs. refl)
+
+          EntersAt-late : EntersAt (own_heights n e no_floor) n (node_of m buffer waiting)
+          EntersAt-late = record {
+            blocks = λ h has. inl (subst (λ k. IsTrue (has_height k.held h)) blocks has);
+            certs = λ h has. own_height n e (storing_met (met_of b f)) (λ k. IsTrue (has_height a.held.certs.held k)) h storing (entered_due (lacks_finalization a.held b) (is_certified config.inner a.held.certs.held b.height (config.inner f.payload)) a.held.certs (at_height b.height f) m.held.certs h certs has);
+          }
 
           at_most : b.height ≤ height_of m.held.processed
           at_most = subst (λ p. b.height ≤ height_of p) (sym processed) (low_from (height_of a.held.processed) b.height low)

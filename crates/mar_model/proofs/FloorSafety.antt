@@ -100,7 +100,7 @@ pub next_after-is : (p : Option Processed) → next_after (option_map height_in 
 next_after-is None = refl
 next_after-is (Some p) = refl
 
-height_of-low : (p : Option Processed) → height_of p ≤ first_unprocessed p
+pub height_of-low : (p : Option Processed) → height_of p ≤ first_unprocessed p
 height_of-low None = omega arith
 height_of-low (Some p) = omega arith
 

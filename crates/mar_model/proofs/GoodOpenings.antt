@@ -10,9 +10,9 @@ use Rattle.mar_model.specs.Metadata.{Pair}
 use Rattle.mar_model.specs.Chain.{Chain, Finalizes, IsBlockAt}
 use Rattle.mar_model.specs.Config.{Config}
 use Rattle.mar_model.specs.Faults.{Begin, Fault, anchor_fault, corrupt, from_floor, from_genesis, genesis_fault, genesis_height, genesis_mismatch, height_limit, is_at_limit, last_height, limit_fault, next_after, opening_fault, stored_mismatch, successor_fault, unbacked, with_genesis}
-use Rattle.mar_model.specs.Lives.{BackedBy}
+use Rattle.mar_model.specs.Lives.{BackedBy, IsOpeningFault, Picks}
 use Rattle.mar_model.specs.Node.{Ended}
-use Rattle.mar_model.specs.Promise.{IsLawfulOpening, IsOpeningFault}
+use Rattle.mar_model.specs.Promise.{IsLawfulOpening}
 use Rattle.mar_model.proofs.FoundBlocks.{same_bytes}
 use Rattle.mar_model.proofs.Openings.{AreFinalizationsOf-reopened, value-from_with_genesis, value_at-with_genesis}
 
@@ -128,8 +128,9 @@ module _ (config : Config) (chain : Chain) (e : Ended) (begin : Begin) (asks : I
   opening_fault-none = ap₂ (λ a b. option_or a b) no_limit (ap₂ (λ a b. option_or a b) (no_genesis begin asks.genesis) (ap₂ (λ a b. option_or a b) (anchored pair.processed backed) (named (next_after pair.processed))))
 
 -- whatever a reopening finds, no opening ends in a fault that values call for
-pub IsOpeningFault-none : (config : Config) (chain : Chain) (e : Ended) (begin : Begin) (fault : Fault) → IsLawfulOpening config chain e begin → IsOpeningFault e begin fault → ⊥
-IsOpeningFault-none config chain e begin fault asks (pair, blocks, certs, pair_may, blocks_may, certs_may, is) = clash (opening_fault blocks certs pair begin) (opening_fault-none config chain e begin asks pair blocks certs pair_may blocks_may certs_may) is
+pub IsOpeningFault-none : (config : Config) (chain : Chain) (e : Ended) (picks : Picks) (begin : Begin) (fault : Fault) → IsLawfulOpening config chain e begin → IsOpeningFault e picks begin fault → ⊥
+IsOpeningFault-none config chain e picks begin fault asks found =
+    clash (opening_fault found.blocks found.certs found.pair begin) (opening_fault-none config chain e begin asks found.pair found.blocks found.certs found.pair_may found.blocks_may found.certs_may) found.is_due
   where
     clash : (o : Option Fault) → o ≡ None → o ≡ Some fault → ⊥
     clash o p q = cc

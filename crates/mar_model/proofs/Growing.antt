@@ -1,5 +1,5 @@
 -- What calls one after another leave, since some start: what was sure and held, and no more than was written.
-use Rattle.std.proofs.Common.{◌≡◌, ap, inl, map, ⊎_elim, ℕ, ◌<◌, ◌≤◌, Option, Some, List, [], ◌∷◌, ◌++◌, Bool, true, false, Contains, refl, sym, subst, arith, append-nil}
+use Rattle.std.proofs.Common.{◌≡◌, inl, map, ⊎_elim, ℕ, ◌<◌, ◌≤◌, Option, Some, List, [], ◌∷◌, ◌++◌, Bool, true, false, Contains, refl, sym, subst, arith, append-nil}
 use Rattle.std.proofs.lemmas.List.Elements.{Contains-append_cases, Contains-append_left, Contains-append_right}
 use Rattle.mar_types.specs.Round.{Round}
 use Rattle.mar_key.specs.Cutoff.{Cutoff}
@@ -13,9 +13,7 @@ use Rattle.mar_store.proofs.Lookups.{Contains-from_value}
 use Rattle.mar_model.specs.Cached.{Cached}
 use Rattle.mar_model.specs.Metadata.{Pair}
 use Rattle.mar_model.specs.Faults.{StoreName, block_store, cert_store, meta_store}
-use Rattle.mar_model.specs.Held.{ArePassed, Grew, Held, LeavesCache, LeavesPairsSince, LeavesStore, MakesSure, Passes, WithinWritten, Written, Watches, nothing_written, watch_of, written_block, written_both, written_cert, written_entry, written_pair}
-use Rattle.mar_model.specs.Moves.{CachesReport}
-use Rattle.mar_gate.specs.Writing.{Writing}
+use Rattle.mar_model.specs.Held.{ArePassed, Grew, Held, LeavesCache, LeavesPairsSince, LeavesStore, MakesSure, Passes, WithinWritten, Written, nothing_written, watch_of, written_block, written_both, written_cert, written_entry, written_pair}
 use Rattle.mar_model.proofs.EntryLists.{one_of}
 use Rattle.mar_model.proofs.Passing.{ArePassed-refl, ArePassed-store, ArePassed-then, with_watch}
 
@@ -194,10 +192,6 @@ module _ (start : Held) (all : Written) (old : Held) (grew : Grew start all old)
     passed = ArePassed-then start.watches old.watches (record old.watches { certs = w }) grew.passed (ArePassed-store old.watches cert_store w passes);
   }
 
-  -- writes were taken in, or covered
-  pub Grew-writes : (writes : Writing) → Grew start all (record old { writes = writes })
-  Grew-writes writes = record { leaves = grew.leaves; blocks = grew.blocks; certs = grew.certs; passed = grew.passed }
-
 -- since a start that prunes nothing
 pub Grown-blocks : (start now : Held) (written : Written) → written.blocks_from ≡ 0 → Grew start written now → Grown start.blocks written.blocks now.blocks
 Grown-blocks start now written none grew = record { leaves = subst (λ k. LeavesStore start.blocks k written.blocks (left_of now.blocks)) none grew.leaves.blocks; held = λ x has. grew.blocks x (omega (arith, none)) has }
@@ -225,9 +219,6 @@ WithinWritten-cert x y all within = let none = WithinWritten-nothing all in reco
 pub WithinWritten-entry : (x : Cached) (all : Written) → Contains all.cached x → WithinWritten (written_entry x) all
 WithinWritten-entry x all has = let none = WithinWritten-nothing all in record { blocks = none.blocks; certs = none.certs; cached = λ y own. subst (Contains all.cached) (sym (one_of x y own)) has; prunes = none.prunes; pairs = none.pairs; blocks_from = none.blocks_from; certs_from = none.certs_from }
 
-pub WithinWritten-uncached : (all : Written) → WithinWritten (record all { cached = [] }) all
-WithinWritten-uncached all = let whole = WithinWritten-refl all in record { blocks = whole.blocks; certs = whole.certs; cached = (WithinWritten-nothing all).cached; prunes = whole.prunes; pairs = whole.pairs; blocks_from = whole.blocks_from; certs_from = whole.certs_from }
-
 pub WithinWritten-unpruned : (all : Written) → WithinWritten (record all { prunes = [] }) all
 WithinWritten-unpruned all = let whole = WithinWritten-refl all in record { blocks = whole.blocks; certs = whole.certs; cached = whole.cached; prunes = (WithinWritten-nothing all).prunes; pairs = whole.pairs; blocks_from = whole.blocks_from; certs_from = whole.certs_from }
 
@@ -249,16 +240,4 @@ Grew-wider start all p now grew = record {
   blocks = grew.blocks;
   certs = grew.certs;
   passed = grew.passed;
-}
-
--- a finalization that was cached stays so as stores are read
-pub CachesReport-read : (f : Finalization) (old now : Held) (w : Watches) → CachesReport f old now → ((start : Held) (all : Written) → Grew start all now → WithinWritten nothing_written all → Grew start all (record now { watches = w })) → CachesReport f old (record now { watches = w })
-CachesReport-read f old now w caches goes = record {
-  caches = record {
-    puts = caches.caches.puts;
-    loaded = caches.caches.loaded;
-    still_open = caches.caches.still_open;
-    same = ap (λ (h : Held). record h { watches = w }) caches.caches.same;
-  };
-  grew = λ all within. goes old all (caches.grew all within) (WithinWritten-nothing all);
 }

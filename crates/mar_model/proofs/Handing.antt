@@ -1,21 +1,21 @@
 -- Blocks that are handed over one after another: each the next held one, under the next ticket.
-use Rattle.std.proofs.Common.{◌≡◌, ◌⊎◌, inl, inr, ℕ, suc, ◌+◌, ◌-◌, ◌<◌, ◌≤◌, ◌^◌, List, [], ◌∷◌, ◌++◌, length, map, Option, Some, None, Result, Err, Ok, MatchResult, IsTrue, Contains, refl, sym, ◌∙◌, ap, subst, arith, append_assoc, append-nil, length-append}
+use Rattle.std.proofs.Common.{◌≡◌, ◌⊎◌, inl, inr, ℕ, suc, ◌+◌, ◌-◌, ◌<◌, ◌≤◌, ◌^◌, List, [], ◌∷◌, ◌++◌, length, map, Option, Some, None, Result, Err, Ok, MatchResult, IsTrue, Contains, refl, sym, ◌∙◌, ap, subst, arith, append_assoc, append-nil, length-append, false}
 use Rattle.std.specs.List.{AllByRecursion}
 use Rattle.mar_cert.specs.Block.{Block}
-use Rattle.mar_key.specs.Hears.{Hears}
-use Rattle.mar_key.specs.Processed.{first_unprocessed}
 use Rattle.mar_store.specs.Kept.{At, Kept, has_height, value_at}
 use Rattle.mar_store.specs.Changes.{IsNested, KeepsValues}
 use Rattle.mar_store.proofs.Lookups.{AllByRecursion-contains, AllByRecursion-push, AllByRecursion-value_at, has_height-from_value, value-from_has_height}
+use Rattle.mar_key.specs.Hears.{Hears}
+use Rattle.mar_key.specs.Processed.{first_unprocessed}
 use Rattle.mar_model.specs.Acks.{Outstanding, height_after}
 use Rattle.mar_model.specs.Chain.{Chain, IsBlockAt}
-use Rattle.mar_model.specs.Faults.{ack_kind, ticket_limit}
+use Rattle.mar_model.specs.Faults.{ack_kind, ticket_limit, is_by_value, store_fault, meta_store}
 use Rattle.mar_model.specs.Held.{Ending, Grew, IsArchiveFault, Loses, Seen, Watches, nothing_written}
 use Rattle.mar_model.specs.Moves.{AreNextHeld, Dispatches, HasRoom, HearsFront, HearsUpTo, IsBelowWrites, IsLastTicket, IsNext, IsRead, IsStill, StopsHanding, handed_report, next_in, with_handed, with_watches}
-use Rattle.mar_model.specs.Step.{HeldFrom}
-use Rattle.mar_model.proofs.Growing.{Grew-refl}
+use Rattle.mar_model.specs.Step.{HeldFrom, AreHandedOf, HandedBlock, HandedFrom, Report, handed_blocks, handed_over, outstanding_of}
 use Rattle.mar_model.specs.Node.{AreBlocksOf, ConsecutiveFrom, SureOrWritten}
-use Rattle.mar_model.specs.Step.{AreHandedOf, HandedBlock, HandedFrom, Report, handed_blocks, handed_over, outstanding_of}
+use Rattle.mar_model.specs.Lives.{is_dropped_ack}
+use Rattle.mar_model.proofs.Growing.{Grew-refl}
 
 -- HEARING
 
@@ -131,15 +131,16 @@ sure_value held sure h b keeps has is = by (value-from_has_height sure h has)
     by : (c : Block) × (value_at sure h ≡ Some c) → value_at sure h ≡ Some b
     by (c, at) = at ∙ (sym (keeps h c at) ∙ is)
 
-pub AreHandedOf-held : (chain : Chain) (held sure : List (At Block)) (uncovered : List ℕ) (ticket height : ℕ) (xs : List HandedBlock) → AreBlocksOf chain held → KeepsValues sure held → ((h : ℕ) → AllByRecursion (λ k. h < k) uncovered → IsTrue (has_height held h) → IsTrue (has_height sure h)) → AllByRecursion (λ x. AllByRecursion (λ k. x.block.height < k) uncovered) xs → HeldFrom held ticket height xs → AreHandedOf chain sure xs
-AreHandedOf-held chain held sure uncovered ticket height [] blocks keeps all below line = tt
-AreHandedOf-held chain held sure uncovered ticket height (x ∷ xs) blocks keeps all below line = ((subst (λ k. IsBlockAt chain k x.block) (sym line.1) at_chain, subst (λ k. value_at sure k ≡ Some x.block) (sym line.1) sure_there), AreHandedOf-held chain held sure uncovered (ticket + 1) (height + 1) xs blocks keeps all below.1 line.3)
-  where
-    at_chain : IsBlockAt chain height x.block
-    at_chain = AllByRecursion-value_at (λ y. IsBlockAt chain y.height y.value) held height x.block blocks line.2
+-- each held block that is handed over is sure with its value
+pub AreHandedOf-values : (chain : Chain) (held sure : List (At Block)) (uncovered : List ℕ) (ticket height : ℕ) (xs : List HandedBlock) → AreBlocksOf chain held
+    → ((h : ℕ) (b : Block) → AllByRecursion (λ k. h < k) uncovered → value_at held h ≡ Some b → value_at sure h ≡ Some b)
+    → AllByRecursion (λ x. AllByRecursion (λ k. x.block.height < k) uncovered) xs → HeldFrom held ticket height xs → AreHandedOf chain sure xs
+AreHandedOf-values chain held sure uncovered ticket height [] blocks all below line = tt
+AreHandedOf-values chain held sure uncovered ticket height (x ∷ xs) blocks all below line = ((subst (λ k. IsBlockAt chain k x.block) (sym line.1) (AllByRecursion-value_at (λ y. IsBlockAt chain y.height y.value) held height x.block blocks line.2), subst (λ k. value_at sure k ≡ Some x.block) (sym line.1) (all height x.block (subst (λ h. AllByRecursion (λ k. h < k) uncovered) line.1 below.0) line.2)), AreHandedOf-values chain held sure uncovered (ticket + 1) (height + 1) xs blocks all below.1 line.3)
 
-    sure_there : value_at sure height ≡ Some x.block
-    sure_there = sure_value held sure height x.block keeps (all height (subst (λ h. AllByRecursion (λ k. h < k) uncovered) line.1 below.0) (has_height-from_value held height x.block line.2)) line.2
+pub AreHandedOf-held : (chain : Chain) (held sure : List (At Block)) (uncovered : List ℕ) (ticket height : ℕ) (xs : List HandedBlock) → AreBlocksOf chain held → KeepsValues sure held → ((h : ℕ) → AllByRecursion (λ k. h < k) uncovered → IsTrue (has_height held h) → IsTrue (has_height sure h)) → AllByRecursion (λ x. AllByRecursion (λ k. x.block.height < k) uncovered) xs → HeldFrom held ticket height xs → AreHandedOf chain sure xs
+AreHandedOf-held chain held sure uncovered ticket height xs blocks keeps all below line =
+    AreHandedOf-values chain held sure uncovered ticket height xs blocks (λ h b low is. sure_value held sure h b keeps (all h low (has_height-from_value held h b is)) is) below line
 
 -- A LOOP THAT HANDS OVER
 
@@ -161,8 +162,21 @@ pub record HandsSoFar {P E : Type 0} (start now : Seen P E) (told told' : Option
   pub counted : count ≡ length handed
 
 -- How a dispatch ended.
+abbrev pub Delivers : {P E : Type 0} → Seen P E → Option (List Report) → Option (List Report) → Result (Seen P E) Ending → Type 0
+Delivers start told told' result = (handed : List HandedBlock) × Hears told (map handed_report handed) told' × MatchResult result (λ a. Dispatches start handed a) (λ e. StopsHanding start handed e)
+
+-- Some were handed over, and then the life ended, not by value and for no fault of the metadata.
+pub record Stops {P E : Type 0} (old : Seen P E) (handed : List HandedBlock) (e : Ending) : Type 0 where
+  pub next : AreNextHeld old handed
+  pub below_barrier : AllByRecursion (λ x. IsBelowWrites old x.block) handed
+  pub lost : Loses old.held nothing_written e
+  pub no_value : is_by_value e.fault ≡ false
+  pub undropped : is_dropped_ack e.fault ≡ false
+  pub unsynced : e.fault ≡ store_fault meta_store → ⊥
+
+-- the same, where what ended it may be a read beside
 abbrev pub Ran : {P E : Type 0} → Seen P E → Option (List Report) → Option (List Report) → Result (Seen P E) Ending → Type 0
-Ran start told told' result = (handed : List HandedBlock) × Hears told (map handed_report handed) told' × MatchResult result (λ a. Dispatches start handed a) (λ e. StopsHanding start handed e)
+Ran start told told' result = (handed : List HandedBlock) × Hears told (map handed_report handed) told' × MatchResult result (λ a. Dispatches start handed a) (λ e. Stops start handed e)
 
 pub HandsSoFar-first : {P E : Type 0} (start : Seen P E) (told : Option (List Report)) → IsNested start.held.blocks → IsNested start.held.certs → HandsSoFar start start told told 0
 HandsSoFar-first start told blocks certs = record {
@@ -224,11 +238,12 @@ module _ {P E : Type 0} (start now : Seen P E) (told told' : Option (List Report
             omega arith
 
     -- no more can be handed over
-    pub Ran-still : IsStill now → Ran start told told' (Ok next)
+    pub Ran-still : IsStill now → Delivers start told told' (Ok next)
     Ran-still still = (so_far.handed, so_far.heard, record { next = so_far.next; below_barrier = so_far.below_barrier; room = so_far.room; same = next_same; grew = grew; still = subst IsStill (sym read) still })
 
     -- the rules ended the life, or memory ran out
-    pub Ran-ended : (told'' : Option (List Report)) (e : Ending) → Hears told' [] told'' → Loses start.held nothing_written e → IsArchiveFault e.fault ⊎ ((e.fault ≡ ticket_limit ack_kind) × (next.life.next_ack ≡ 2 ^ 64 - 1)) → Ran start told told'' (Err e)
+    pub Ran-ended : (told'' : Option (List Report)) (e : Ending) → Hears told' [] told'' → Loses start.held nothing_written e
+        → IsArchiveFault e.fault ⊎ ((e.fault ≡ ticket_limit ack_kind) × (next.life.next_ack ≡ 2 ^ 64 - 1)) → Delivers start told told'' (Err e)
     Ran-ended told'' e heard lost kind = (so_far.handed, subst (λ rs. Hears told rs told'') (append-nil (map handed_report so_far.handed)) (Hears-then told told' told'' (map handed_report so_far.handed) [] so_far.heard heard), record { next = so_far.next; below_barrier = so_far.below_barrier; room = so_far.room; lost = lost; kind = by kind })
       where
         by : IsArchiveFault e.fault ⊎ ((e.fault ≡ ticket_limit ack_kind) × (next.life.next_ack ≡ 2 ^ 64 - 1)) → IsArchiveFault e.fault ⊎ ((e.fault ≡ ticket_limit ack_kind) × IsLastTicket start (length so_far.handed))
@@ -236,11 +251,11 @@ module _ {P E : Type 0} (start now : Seen P E) (told told' : Option (List Report
         by (inr (is, last)) = inr (is, sym (ap (λ s. s.life.next_ack) next_same) ∙ last)
 
   -- a call failed
-  pub Ran-failed : (e : Ending) → Loses start.held nothing_written e → IsArchiveFault e.fault → Ran start told told' (Err e)
+  pub Ran-failed : (e : Ending) → Loses start.held nothing_written e → IsArchiveFault e.fault → Delivers start told told' (Err e)
   Ran-failed e lost usual = (so_far.handed, so_far.heard, record { next = so_far.next; below_barrier = so_far.below_barrier; room = so_far.room; lost = lost; kind = inl usual })
 
   -- as many were handed over as the window takes
-  pub Ran-all : start.life.sizes.window ≤ count → Ran start told told' (Ok now)
+  pub Ran-all : start.life.sizes.window ≤ count → Delivers start told told' (Ok now)
   Ran-all most = (so_far.handed, so_far.heard, record { next = so_far.next; below_barrier = so_far.below_barrier; room = so_far.room; same = so_far.same; grew = so_far.grew; still = inl full })
     where
       full : now.life.sizes.window ≤ length now.life.out

@@ -1,5 +1,5 @@
 -- What those around a life heard: a promise of one who answers nobody and sends nothing holds beside any answers and sends.
-use Rattle.std.proofs.Common.{◌≡◌, ℕ, List, [], ◌++◌, Option, Some, Result, Ok, Err, OnErr, OnOk, refl, sym, ◌∙◌, ap, subst, append-nil}
+use Rattle.std.proofs.Common.{◌≡◌, ℕ, List, [], ◌++◌, Option, Some, Result, Ok, Err, OnErr, refl, sym, ◌∙◌, ap, subst, append-nil}
 use Rattle.mar_types.specs.Epochs.{Epochs}
 use Rattle.mar_cert.specs.Block.{Block}
 use Rattle.mar_key.specs.Hears.{Hears}
@@ -42,11 +42,6 @@ module _ (reports reports' : Option (List Report)) (asks asks' : Option (List Ca
   KeepsStart-beside epochs inner old events buffer (Err e) keeps fresh config chain waiting set step =
       let start = keeps fresh config chain waiting set step in
       record { begun = start.begun; takes = start.takes; cuts = record { made = start.cuts.made; heard = HearsMade-beside start.cuts.made start.cuts.heard; cuts = start.cuts.cuts } }
-
--- where nobody is answered, all answers stand
-pub unanswered-ok : {T A B : Type 0} (xs : List T) (result : Result A B) → OnOk result (xs ≡ xs ++ [])
-unanswered-ok xs (Ok x) = sym (append-nil xs)
-unanswered-ok xs (Err e) = tt
 
 pub unanswered-err : {T A B : Type 0} (x : T) (result : Result A B) → OnErr result (x ≡ x)
 unanswered-err x (Ok r) = tt

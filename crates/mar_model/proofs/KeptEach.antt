@@ -1,5 +1,5 @@
 -- Entries that are kept in the cache one after another in one event: what that makes of the cache and of its open syncs.
-use Rattle.std.proofs.Common.{◌≡◌, ◌≢◌, ◌⊎◌, inl, inr, ⊎_elim, ℕ, None, Some, ◌+◌, ◌<◌, ◌≤◌, List, [], ◌∷◌, ◌++◌, length, filter, fold, Bool, true, false, cond, Option, Contains, refl, sym, ◌∙◌, ap, subst, arith, append-nil, append_assoc, length-append, suc}
+use Rattle.std.proofs.Common.{◌≡◌, ◌≢◌, ◌⊎◌, inl, inr, ⊎_elim, ℕ, None, Some, ◌+◌, ◌<◌, ◌≤◌, List, [], ◌∷◌, ◌++◌, length, filter, fold, Bool, true, false, cond, Option, Contains, refl, sym, ◌∙◌, ap, subst, arith, append-nil, append_assoc, length-append, suc, nat_lt}
 use Rattle.std.specs.List.{AllByRecursion, filter_map, list_any}
 use Rattle.std.specs.Option.{option_or}
 use Rattle.std.proofs.lemmas.Bool.{cases_lt}
@@ -21,6 +21,9 @@ use Rattle.mar_model.proofs.CacheSteps.{is_certified, own_is, with_cases, with_m
 use Rattle.mar_model.proofs.EntryLists.{contains_here, contains_more, filter_passed, filtered}
 use Rattle.mar_model.proofs.OpenSyncs.{AreStillOpen-refl, AreStillOpen-then}
 use Rattle.mar_gate.specs.Writing.{Writing}
+use Rattle.mar_model.specs.Acts.{KeepsAndTells, kept_value}
+use Rattle.mar_model.specs.Answers.{TicketAnswer, started_value, to}
+use Rattle.std.proofs.lemmas.Bool.Decides.{nat_tests}
 
 -- READS BESIDE A KEEP
 
@@ -41,11 +44,6 @@ KeepsFor-unread epoch put covered answer ticket old new w keeps = record {
   loaded = keeps.loaded;
   same = keeps.same;
 }
-
--- and the same where a notarized block is kept unless it was verified
-pub KeepsNotarizedWhere-read : (c : Bool) (r : Round) (b : Block) (old new : Held) (w : Watches) → KeepsNotarizedWhere c r b old new → KeepsNotarizedWhere c r b old (record new { watches = w })
-KeepsNotarizedWhere-read true r b old new w same = ap {A = Held} (λ h. record h { watches = w }) same
-KeepsNotarizedWhere-read false r b old new w (ticket, keeps) = (ticket, KeepsFor-read r.epoch _ _ _ ticket old new w keeps)
 
 pub KeepsNotarizedWhere-unread : (c : Bool) (r : Round) (b : Block) (old new : Held) (w : Watches) → KeepsNotarizedWhere c r b (record old { watches = w }) new → KeepsNotarizedWhere c r b old new
 KeepsNotarizedWhere-unread true r b old new w same = same
@@ -298,3 +296,22 @@ KeepsEach-others epoch put tests answer old new keeps loaded passes fails = elim
   | inl low ↦ ap (λ k. filter passes k.held) (keeps.below low).1
   | inr from ↦ PutsAll-others passes put old.cache.kept new.cache.kept fails (keeps.done loaded from).1
 ]
+
+-- WHAT IS KEPT FOR A CALLER
+
+kept_value-is : (r : Round) (put : List Cached) (covered : Cached → Bool) (answer sync : Option ℕ) (old new : Held) → KeepsFor r.epoch put covered answer sync old new
+    → old.cache.loaded ≡ true → kept_value sync ≡ started_value old.writes.next_sync old.lowest r
+kept_value-is r put covered answer sync old new keeps loaded = elim (cases_lt r.epoch old.lowest) [
+  | inl low ↦ ap kept_value (keeps.below low).0 ∙ sym (ap (λ c. cond c (kept_value None) (kept_value (Some old.writes.next_sync))) (is_low low))
+  | inr from ↦ ap kept_value (keeps.done loaded from).0 ∙ sym (ap (λ c. cond c (kept_value None) (kept_value (Some old.writes.next_sync))) (not_low from))
+]
+  where
+    is_low : r.epoch < old.lowest → nat_lt r.epoch old.lowest ≡ true
+    is_low low = grind (arith, nat_tests)
+
+    not_low : old.lowest ≤ r.epoch → nat_lt r.epoch old.lowest ≡ false
+    not_low from = grind (arith, nat_tests)
+
+pub told_kept : (r : Round) (put : List Cached) (covered : Cached → Bool) (t : ℕ) (old new : Held) (answered : List TicketAnswer) → KeepsAndTells r.epoch put covered t old new answered
+    → old.cache.loaded ≡ true → answered ≡ to t (started_value old.writes.next_sync old.lowest r) ∷ []
+told_kept r put covered t old new answered is loaded = is.told ∙ ap (λ v. to t v ∷ []) (kept_value-is r put covered (Some t) is.sync old new is.kept loaded)

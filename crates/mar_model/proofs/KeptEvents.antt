@@ -1,5 +1,5 @@
 -- Entries that are kept in the cache in one event: what such an event makes of the cache and of its open syncs.
-use Rattle.std.proofs.Common.{◌≡◌, ◌≢◌, ◌⊎◌, inl, inr, ℕ, ◌+◌, ◌<◌, ◌≤◌, ◌&&◌, ◌||◌, List, [], ◌∷◌, length, Bool, true, false, cond, fold, max, nat_lt, Option, Contains, IsTrue, refl, sym, ◌∙◌, ap, ap₂, subst, arith, append-nil}
+use Rattle.std.proofs.Common.{◌≡◌, ◌≢◌, ◌⊎◌, inl, inr, ℕ, ◌+◌, ◌<◌, ◌≤◌, ◌&&◌, ◌||◌, List, [], ◌∷◌, length, Bool, true, false, cond, fold, max, nat_lt, Option, Contains, IsTrue, refl, sym, ◌∙◌, ap, subst, arith, append-nil, ap₂}
 use Rattle.std.proofs.lemmas.Bool.{cases_lt}
 use Rattle.std.proofs.lemmas.Bool.Decides.{nat_tests}
 use Rattle.std.proofs.lemmas.List.Elements.{Contains-append_cases}
@@ -14,12 +14,13 @@ use Rattle.mar_model.specs.Held.{AreCached, Held, Seen}
 use Rattle.mar_model.specs.Node.{AreCachedOf, BlocksAgree, CacheSync, IsCacheOf, Node}
 use Rattle.mar_model.specs.OpenSyncs.{AreStillOpen}
 use Rattle.mar_model.specs.Promise.{Waiting, node_of}
-use Rattle.mar_model.proofs.CacheEvents.{LeavesArchives, cached_with}
+use Rattle.mar_model.proofs.CacheEvents.{LeavesArchives}
 use Rattle.mar_model.proofs.CacheOver.{IsCacheOf-grown}
 use Rattle.mar_model.proofs.CacheSteps.{KeepsBeside, KeepsEntries, advances_with, is_certified}
 use Rattle.mar_model.proofs.EntryLists.{contains_here, contains_more, contains_none}
 use Rattle.mar_model.proofs.KeptEach.{AreAlike, AreAlike-refl, KeepsEach, PutsAll-alike, PutsAll-held, PutsAll-may, PutsAll-sure, fold_cases, fold_firsts, fold_more}
 use Rattle.mar_model.proofs.OpenSyncs.{AreStillOpen-more}
+use Rattle.mar_model.proofs.StillGood.{cached_with}
 
 -- THE EVENT
 

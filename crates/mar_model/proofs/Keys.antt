@@ -34,15 +34,5 @@ keys_with key keys false is more are = more is
 long : (key : ℕ) (keys : List ℕ) → length (keys ++ key ∷ []) ≡ length keys + 1
 long key keys = length-append keys (key ∷ [])
 
--- each of the three keys may be changed
-pub latest_changed : (keys : List ℕ) → AreKeys keys → AreKeys (with_key 0xFF keys)
-latest_changed keys are = keys_with 0xFF keys _ refl (λ none. omega (arith, are, long 0xFF keys, added 0xFF keys none, grown 0xFE 0xFF keys, grown 0xFD 0xFF keys)) are
-
 pub epoch_changed : (keys : List ℕ) → AreKeys keys → AreKeys (with_key 0xFE keys)
 epoch_changed keys are = keys_with 0xFE keys _ refl (λ none. omega (arith, are, long 0xFE keys, added 0xFE keys none, grown 0xFF 0xFE keys, grown 0xFD 0xFE keys)) are
-
-pub view_changed : (keys : List ℕ) → AreKeys keys → AreKeys (with_key 0xFD keys)
-view_changed keys are = keys_with 0xFD keys _ refl (λ none. omega (arith, are, long 0xFD keys, added 0xFD keys none, grown 0xFF 0xFD keys, grown 0xFE 0xFD keys)) are
-
-pub no_keys : (keys : List ℕ) → keys ≡ [] → AreKeys keys
-no_keys keys none = rw none (omega arith)

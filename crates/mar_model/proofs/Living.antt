@@ -291,17 +291,17 @@ module _ (s : Scene) (e : Ending) (heard : Heard) (law : AreLawful s.held) where
   memory-ends is = Ends-usual 0 0 s e (unstored-cause s e want_of_memory is tt) (subst (λ x. IsUsual x.fault) (sym is) tt)
 
   -- what is kept for a sync finds no ticket where none is left
-  unkept-ends : (written : Written) → LosesOver s.held written e → IsKeepFault s.held e.fault → Ends 0 1 s e
-  unkept-ends written loses (inl usual) = Ends-usual _ _ s e (lost-cause s written e law loses) usual
-  unkept-ends written loses (inr (limit, last)) = record { cause = lost-cause s written e law loses; acks_out = λ is. absurd (let no : ticket_limit sync_kind ≡ ticket_limit ack_kind = sym limit ∙ is in cc); syncs_out = λ is. omega (arith, last) }
+  unkept-ends : (epoch : ℕ) (written : Written) → LosesOver s.held written e → IsKeepFault epoch s.held e.fault → Ends 0 1 s e
+  unkept-ends epoch written loses (inl usual) = Ends-usual _ _ s e (lost-cause s written e law loses) usual
+  unkept-ends epoch written loses (inr (limit, last, high)) = record { cause = lost-cause s written e law loses; acks_out = λ is. absurd (let no : ticket_limit sync_kind ≡ ticket_limit ack_kind = sym limit ∙ is in cc); syncs_out = λ is. omega (arith, last) }
 
   Ends-act : (a : Act) → FailsTask (does a) s e heard → Ends 0 (syncs (does a ∷ [])) s e
   Ends-act (caches (put_finalization f)) (loses, usual, same) = Ends-usual _ _ s e (lost-cause s _ e law loses) usual
-  Ends-act (caches (keep_notarization f)) (loses, kind, same) = unkept-ends _ loses kind
-  Ends-act (caches (keep_notarized r b)) (loses, kind, same) = unkept-ends _ loses kind
+  Ends-act (caches (keep_notarization f)) (loses, kind, same) = unkept-ends _ _ loses kind
+  Ends-act (caches (keep_notarized r b)) (loses, kind, same) = unkept-ends _ _ loses kind
   Ends-act (caches load_cache) (loses, usual, same) = Ends-usual _ _ s e (lost-cause s _ e law loses) usual
-  Ends-act (keeps_for (keep_verified r b t)) (loses, kind, same) = unkept-ends _ loses kind
-  Ends-act (keeps_for (keep_certified r b t)) (loses, kind, same) = unkept-ends _ loses kind
+  Ends-act (keeps_for (keep_verified r b t)) (loses, kind, same) = unkept-ends _ _ loses kind
+  Ends-act (keeps_for (keep_certified r b t)) (loses, kind, same) = unkept-ends _ _ loses kind
   Ends-act (keeps_for (finish_kept t)) (loses, usual, same) = Ends-usual _ _ s e (lost-cause s _ e law loses) usual
   Ends-act (progresses (mark ticket m)) fails = absurd fails
   Ends-act (progresses (process h)) (loses, usual, asks, same) = Ends-usual _ _ s e (lost-cause s _ e law loses) usual

@@ -52,7 +52,7 @@ soonest_alike : (p q : Cached → Bool) (xs : List Cached) → ((x : Cached) →
 soonest_alike p q [] same = refl
 soonest_alike p q (x ∷ xs) same = ap (λ o. cond (p x) (sooner_of x o) o) (soonest_alike p q xs same) ∙ ap (λ c. cond c (sooner_of x (soonest q xs)) (soonest q xs)) (same x)
 
-and_false : (a : Bool) → (a && false) ≡ false
+pub and_false : (a : Bool) → (a && false) ≡ false
 and_false true = refl
 and_false false = refl
 
@@ -115,10 +115,6 @@ module _ {B N F : Type 0} (block : B → Block) (notarization : N → Notarizati
   pub verified_found : (r : Round) (e : ℕ) (found : Option (Entry B N F)) (x : Entry B N F) (o : Option B) → e ≡ r.epoch → found ≡ Some x → o ≡ block_in x → option_map plain found ≡ soonest (λ y. epoch_of y == e && is_verified_at r y) held → option_map block o ≡ option_and_then cached_block (soonest (is_verified_at r) held)
   verified_found r e found x o at was gives is = block_found (is_verified_at r) found x o was gives (is ∙ in_round (is_verified_at r) r e held at (at_verified_alone r))
 
-  -- where nothing was found
-  pub none_verified : (r : Round) (e : ℕ) (found : Option (Entry B N F)) → e ≡ r.epoch → found ≡ None → option_map plain found ≡ soonest (λ y. epoch_of y == e && is_verified_at r y) held → None ≡ option_and_then cached_block (soonest (is_verified_at r) held)
-  none_verified r e found at none is = ap (option_and_then cached_block) (sym (ap (option_map plain) none) ∙ is ∙ in_round (is_verified_at r) r e held at (at_verified_alone r))
-
   notarization_of : (r : Round) (x : Entry B N F) → is_notarization_at r (plain x) ≡ true → option_map (λ n. notarization_entry (notarization n)) (notarization_in x) ≡ Some (plain x)
   notarization_of r (OfFinalization f) passes = absurd cc
   notarization_of r (Verified s b) passes = absurd cc
@@ -130,9 +126,6 @@ module _ {B N F : Type 0} (block : B → Block) (notarization : N → Notarizati
   notarization_found r e found x o at was gives is =
       let there : Some (plain x) ≡ soonest (is_notarization_at r) held = sym (ap (option_map plain) was) ∙ is ∙ in_round (is_notarization_at r) r e held at (at_notarization r) in
       ap (option_map (λ n. notarization_entry (notarization n))) gives ∙ notarization_of r x (passes_found (is_notarization_at r) held (plain x) there) ∙ there
-
-  pub none_notarized : (r : Round) (e : ℕ) (found : Option (Entry B N F)) → e ≡ r.epoch → found ≡ None → option_map plain found ≡ soonest (λ y. epoch_of y == e && is_notarization_at r y) held → None ≡ soonest (is_notarization_at r) held
-  none_notarized r e found at none is = sym (ap (option_map plain) none) ∙ is ∙ in_round (is_notarization_at r) r e held at (at_notarization r)
 
   finalization_of : (inner : List ℕ → List ℕ) (d : List ℕ) (x : Entry B N F) → is_for inner d (plain x) ≡ true → option_map (λ f. finalization_entry (finalization f)) (finalization_in x) ≡ Some (plain x)
   finalization_of inner d (OfFinalization f) passes = refl

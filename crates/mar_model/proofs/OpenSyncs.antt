@@ -1,14 +1,12 @@
 -- Open syncs of the cache: what calls leave of them, and that each has a ticket of its own.
-use Rattle.std.proofs.Common.{◌≡◌, ◌==◌, ◌<◌, ℕ, List, [], ◌∷◌, Bool, true, false, cond, not, Option, Some, None, find, filter, refl, sym, ap, subst, ◌∙◌, ◌||◌, eqb-true, map}
+use Rattle.std.proofs.Common.{◌≡◌, ◌==◌, ◌<◌, ℕ, List, [], ◌∷◌, Bool, true, false, cond, not, Option, Some, None, find, filter, refl, ap, ◌∙◌, ◌||◌, map}
 use Rattle.std.specs.List.{list_any}
 use Rattle.mar_model.specs.CacheCalls.{KeepsTickets}
 use Rattle.mar_model.specs.Cached.{Cached}
-use Rattle.mar_model.specs.Held.{HaveOwnTickets}
 use Rattle.mar_model.specs.Node.{CacheSync}
 use Rattle.mar_model.specs.OpenSyncs.{AreStillOpen, NoneHas, covered_by, is_cache_sync, sync_of, syncs_by, waits_for, without_ticket}
 use Rattle.mar_model.specs.declared.open_tickets.OpenTicket.{OpenTicket}
 use Rattle.mar_model.specs.declared.started.CacheTicket.{CacheTicket}
-use Rattle.mar_gate.specs.Writing.{Writing, is_open_sync}
 
 -- STILL OPEN
 
@@ -58,13 +56,6 @@ pub waits-none : (t : ℕ) (syncs : List CacheSync) → NoneHas t syncs → wait
 waits-none t [] none = refl
 waits-none t (s ∷ syncs) none = ap (λ c. cond c s.answer (waits_for t syncs)) none.0 ∙ waits-none t syncs none.1
 
--- they still have them
-pub own_still : (gone : Cached → Bool) (w : Writing) (old new : List CacheSync) → AreStillOpen gone old new → HaveOwnTickets w old → HaveOwnTickets w new
-own_still gone w [] [] opened own = tt
-own_still gone w [] (t ∷ new) opened own = absurd opened
-own_still gone w (s ∷ old) [] opened own = absurd opened
-own_still gone w (s ∷ old) (t ∷ new) opened own = (subst (λ k. (k < w.next_sync) × (is_open_sync w.syncs k ≡ false)) (sym opened.0.ticket) own.0, own_still gone w old new opened.1 own.1)
-
 -- FOUND AMONG THE TICKETS
 
 pub syncs-without : (covers : CacheTicket → List Cached) (t : ℕ) (tickets : List OpenTicket) → syncs_by covers (filter (λ o. not (o.number == t)) tickets) ≡ without_ticket t (syncs_by covers tickets)
@@ -108,15 +99,6 @@ open-found covers t (p ∷ tickets) o found = by (p.number == t) found (open-fou
 pub open-listed : (covers : CacheTicket → List Cached) (t : ℕ) (tickets : List OpenTicket) → list_any (λ o. o.number == t) tickets ≡ is_cache_sync (syncs_by covers tickets) t
 open-listed covers t [] = refl
 open-listed covers t (o ∷ tickets) = ap (λ c. (o.number == t) || c) (open-listed covers t tickets)
-
--- and no sync of both archives has its ticket
-pub own-found : (covers : CacheTicket → List Cached) (w : Writing) (t : ℕ) (tickets : List OpenTicket) (o : OpenTicket) → HaveOwnTickets w (syncs_by covers tickets) → find (λ p. p.number == t) tickets ≡ Some o → is_open_sync w.syncs t ≡ false
-own-found covers w t [] o own found = absurd cc
-own-found covers w t (p ∷ tickets) o own found = by (p.number == t) refl found (own-found covers w t tickets o own.1)
-  where
-    by : (c : Bool) → (p.number == t) ≡ c → cond c (Some p) (find (λ q. q.number == t) tickets) ≡ Some o → (find (λ q. q.number == t) tickets ≡ Some o → is_open_sync w.syncs t ≡ false) → is_open_sync w.syncs t ≡ false
-    by true same is rest = subst (λ k. is_open_sync w.syncs k ≡ false) (eqb-true p.number t same) own.0.1
-    by false other is rest = rest is
 
 -- the tickets are those of the syncs
 pub numbers-are : (covers : CacheTicket → List Cached) (tickets : List OpenTicket) → map (λ o. o.number) tickets ≡ map (λ s. s.ticket) (syncs_by covers tickets)

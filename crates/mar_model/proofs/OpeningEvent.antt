@@ -20,14 +20,14 @@ use Rattle.mar_model.specs.Config.{Config}
 use Rattle.mar_model.specs.Faults.{Begin, Fault, anchor_fault, from_genesis, genesis_fault, genesis_height, is_by_value, next_after, opening_fault, stored_mismatch, successor_fault, unbacked, with_genesis}
 use Rattle.mar_model.specs.Held.{Ending, Grew, Held, IsEndedBy, IsUsual, Loses, LosesOpening, Remains, Remembered, ReopensAs, Sizes, Written, first_life, nothing_written, picks_of, written_block, seen}
 use Rattle.mar_model.specs.Node.{CacheSync}
-use Rattle.mar_model.specs.Lives.{BackedBy, CutsReopening, Finds, IsGoodEnded, IsSettled, OpeningPair, SameAt, opened_cutoff, opened_node, opened_witnessed, processed_at}
+use Rattle.mar_model.specs.Lives.{BackedBy, CutsReopening, Finds, IsGoodEnded, IsOpeningFault, IsPicked, IsSettled, OpeningPair, SameAt, opened_cutoff, opened_node, opened_witnessed, processed_at}
 use Rattle.mar_model.specs.Moves.{StoresValue, newest_tip}
 use Rattle.mar_model.specs.Stored.{newest}
 use Rattle.mar_model.specs.Node.{Agrees, AreBlocksOf, Ended, FloorSafe, IsFinalized, IsGood, IsGoodInHeights, Node, empty_inbox, empty_peers}
 use Rattle.mar_gate.specs.Writing.{Writing, no_writes}
 use Rattle.mar_model.specs.Opening.{BeginsWith, Derives, Enters, IsBeginFault, derived_cutoff, derived_pair, is_begun, next_fault, pair_in}
 use Rattle.mar_model.specs.Step.{nothing_made}
-use Rattle.mar_model.specs.Promise.{Begins, IsLawfulOpening, IsOpeningFault, node_of, none_waiting}
+use Rattle.mar_model.specs.Promise.{Begins, IsLawfulOpening, node_of, none_waiting}
 use Rattle.mar_model.specs.Sound.{IsSafePair, IsSound}
 use Rattle.mar_model.proofs.Cutting.{keeps_heights, never, only_one, usual_not_by_value}
 use Rattle.mar_model.proofs.Filtered.{all_found_within}
@@ -87,8 +87,17 @@ module _ (old : Remains) (luck : ℕ) (first : Held) (reopens : ReopensAs old lu
   processed = (pair_in first).processed
 
   -- a fault of these values is the opening's
-  found_fault : (begin : Begin) (fault : Fault) → opening_fault first.blocks.held first.certs.held (pair_in first) begin ≡ Some fault → IsOpeningFault old.ended begin fault
-  found_fault begin fault is = (pair_in first, first.blocks.held, first.certs.held, pair_may, blocks_may, certs_may, is)
+  found_fault : (begin : Begin) (fault : Fault) → opening_fault first.blocks.held first.certs.held (pair_in first) begin ≡ Some fault → IsOpeningFault old.ended (picks_of old luck) begin fault
+  found_fault begin fault is = record {
+    pair = pair_in first;
+    pair_may = pair_may;
+    blocks = first.blocks.held;
+    blocks_may = blocks_may;
+    certs = first.certs.held;
+    certs_may = certs_may;
+    picked = subst (IsPicked (picks_of old luck) first.blocks.held first.certs.held) (sym found_pair) reopens.picked;
+    is_due = is;
+  }
 
   module _ (g : Block) where
     abbrev begin : Begin
@@ -186,7 +195,7 @@ module _ (old : Remains) (luck : ℕ) (first : Held) (reopens : ReopensAs old lu
 
     -- FAULTS
 
-    IsOpeningFault-begin : (fault : Fault) → IsBeginFault g first fault → IsOpeningFault old.ended begin fault
+    IsOpeningFault-begin : (fault : Fault) → IsBeginFault g first fault → IsOpeningFault old.ended (picks_of old luck) begin fault
     IsOpeningFault-begin fault (inl limit) = found_fault begin fault (first_fault _ _ fault limit)
     IsOpeningFault-begin fault (inr (inl (limit, genesis))) = found_fault begin fault (later_fault _ _ limit ∙ first_fault _ _ fault genesis)
     IsOpeningFault-begin fault (inr (inr is)) =
@@ -214,7 +223,7 @@ module _ (old : Remains) (luck : ℕ) (first : Held) (reopens : ReopensAs old lu
       judged : opening_fault first.blocks.held first.certs.held (pair_in first) begin ≡ successor_fault (value_at entered_list next) (value_at first.certs.held next)
       judged = later_fault _ _ begins.within_limits ∙ (later_fault _ _ begins.genesis ∙ later_fault _ _ (sym (anchor_same s.blocks.held entered_list entered.1 processed) ∙ begins.anchored))
 
-      pub IsOpeningFault-next : (fault : Fault) → next_fault s ≡ Some fault → IsOpeningFault old.ended begin fault
+      pub IsOpeningFault-next : (fault : Fault) → next_fault s ≡ Some fault → IsOpeningFault old.ended (picks_of old luck) begin fault
       IsOpeningFault-next fault is = found_fault begin fault (judged ∙ (sym judged_next ∙ is))
 
       module _ (config : Config) (grew : Grew first (written_block (at_own_height g)) s) (none : next_fault s ≡ None) where
@@ -375,7 +384,7 @@ module _ (config : Config) (chain : Chain) (old : Remains) (luck : ℕ) (begin :
       floor_safe = AllByRecursion-from_contains (λ p. FloorSafe p.processed p.cutoff left.blocks_sure chain) left.meta (λ p has. (safe p has).floor_safe);
     }
 
-    pub CutsReopening-lost : IsUsual e.fault ⊎ IsOpeningFault old.ended begin e.fault → CutsReopening config chain old.ended (picks_of old luck) begin nothing_made e.fault left
+    pub CutsReopening-lost : IsUsual e.fault ⊎ IsOpeningFault old.ended (picks_of old luck) begin e.fault → CutsReopening config chain old.ended (picks_of old luck) begin nothing_made e.fault left
     CutsReopening-lost kind = record {
       silent = refl;
       leaves = record {
@@ -394,7 +403,7 @@ module _ (config : Config) (chain : Chain) (old : Remains) (luck : ℕ) (begin :
       cause = λ is. by is kind;
     }
       where
-        by : IsTrue (is_by_value e.fault) → IsUsual e.fault ⊎ IsOpeningFault old.ended begin e.fault → IsOpeningFault old.ended begin e.fault
+        by : IsTrue (is_by_value e.fault) → IsUsual e.fault ⊎ IsOpeningFault old.ended (picks_of old luck) begin e.fault → IsOpeningFault old.ended (picks_of old luck) begin e.fault
         by is (inl usual) = absurd (never (is_by_value e.fault) (usual_not_by_value e.fault usual) is)
         by is (inr found) = found
 
@@ -409,14 +418,14 @@ genesis_of config chain old g asks = (subst (λ h. IsBlockAt chain h g) (sym (as
 
 -- a fault by value of a part of an opening is the opening's
 module _ (old : Remains) (begin : Begin) (luck : ℕ) (first : Held) (reopens : ReopensAs old luck first) (g : Block) (is : begin ≡ from_genesis g) where
-  pub begin_by_value : (fault : Fault) → IsUsual fault ⊎ IsBeginFault g first fault → IsUsual fault ⊎ IsOpeningFault old.ended begin fault
+  pub begin_by_value : (fault : Fault) → IsUsual fault ⊎ IsBeginFault g first fault → IsUsual fault ⊎ IsOpeningFault old.ended (picks_of old luck) begin fault
   begin_by_value fault (inl usual) = inl usual
-  begin_by_value fault (inr judged) = inr (subst (λ b. IsOpeningFault old.ended b fault) (sym is) (IsOpeningFault-begin old luck first reopens g fault judged))
+  begin_by_value fault (inr judged) = inr (subst (λ b. IsOpeningFault old.ended (picks_of old luck) b fault) (sym is) (IsOpeningFault-begin old luck first reopens g fault judged))
 
   module _ (s : Held) (begins_with : BeginsWith g first s) where
-    pub next_by_value : (fault : Fault) → IsUsual fault ⊎ (next_fault s ≡ Some fault) → IsUsual fault ⊎ IsOpeningFault old.ended begin fault
+    pub next_by_value : (fault : Fault) → IsUsual fault ⊎ (next_fault s ≡ Some fault) → IsUsual fault ⊎ IsOpeningFault old.ended (picks_of old luck) begin fault
     next_by_value fault (inl usual) = inl usual
-    next_by_value fault (inr judged) = inr (subst (λ b. IsOpeningFault old.ended b fault) (sym is) (IsOpeningFault-next old luck first reopens g s begins_with fault judged))
+    next_by_value fault (inr judged) = inr (subst (λ b. IsOpeningFault old.ended (picks_of old luck) b fault) (sym is) (IsOpeningFault-next old luck first reopens g s begins_with fault judged))
 
     -- a node that begins is what was found, whatever the chain
     pub finds : {P E : Type 0} (config : Config) (provider : P) (epocher : E) (sizes : Sizes) (new : Held) (life : Remembered P E) → Grew first (written_block (at_own_height g)) s → config.capacity ≡ sizes.capacity → Derives config.epochs s new → life ≡ first_life provider epocher sizes → Finds config old.ended (picks_of old luck) begin (node_of (seen new life) [] none_waiting)
@@ -437,7 +446,7 @@ deriving_cause old luck first some more none e reopens (inr (holds, lost)) = Fai
 
 module _ (config : Config) (chain : Chain) (old : Remains) (luck : ℕ) (begin : Begin) where
   -- nothing was written yet
-  pub cut_early : (e : Ending) → IsLawfulOpening config chain old.ended begin → LosesOpening old nothing_written e → IsUsual e.fault ⊎ IsOpeningFault old.ended begin e.fault → CutsReopening config chain old.ended (picks_of old luck) begin nothing_made e.fault e.remains.ended
+  pub cut_early : (e : Ending) → IsLawfulOpening config chain old.ended begin → LosesOpening old nothing_written e → IsUsual e.fault ⊎ IsOpeningFault old.ended (picks_of old luck) begin e.fault → CutsReopening config chain old.ended (picks_of old luck) begin nothing_made e.fault e.remains.ended
   cut_early e asks lost kind = CutsReopening-lost config chain old luck begin asks nothing_written e lost (λ x has. no_pair x has) tt refl (λ p has. no_pair p has) kind
 
   module _ (first : Held) (reopens : ReopensAs old luck first) (g : Block) (is : begin ≡ from_genesis g) where
@@ -461,7 +470,7 @@ module _ (config : Config) (chain : Chain) (old : Remains) (luck : ℕ) (begin :
           own : IsLawfulOpening config chain old.ended (from_genesis g)
           own = subst (IsLawfulOpening config chain old.ended) is asks
 
-          kind_is : IsUsual e.fault ⊎ IsOpeningFault old.ended begin e.fault
+          kind_is : IsUsual e.fault ⊎ IsOpeningFault old.ended (picks_of old luck) begin e.fault
           kind_is = next_by_value old begin luck first reopens g is s begins_with e.fault kind
 
           by : Loses first (written_block (at_own_height g)) e ⊎ (next_fault s ≡ None) × Loses first (with_derived config.epochs) e → CutsReopening config chain old.ended (picks_of old luck) begin nothing_made e.fault e.remains.ended

@@ -4,9 +4,9 @@ use Rattle.std.specs.List.{AllByRecursion}
 use Rattle.mar_cert.specs.Block.{Block}
 use Rattle.mar_key.specs.Processed.{Processed, at_absent, at_block, first_unprocessed, height_in, height_of}
 use Rattle.mar_store.specs.Kept.{At, has_height}
-use Rattle.mar_model.specs.Acks.{Mark, Outstanding, after_given, given_front, is_given, is_unmarked, mark_dropped, mark_given, with_mark}
+use Rattle.mar_model.specs.Acks.{Mark, Outstanding, after_given, given_front, is_given, is_unmarked, with_mark}
 use Rattle.mar_model.specs.Config.{Config}
-use Rattle.mar_model.specs.Event.{Effect, Event, ack_dropped, ack_given, acked_to, applies_floor, awaits_floor, block_buffered, brought_effect, buffer_ended, drained_blocks, effect_of, is_above, kept_blocks, life_started, message_told, no_floor, peer_answered, processed_after, serve_ended, sync_finished, undrained_blocks}
+use Rattle.mar_model.specs.Event.{Effect, Event, ack_marked, acked_to, applies_floor, awaits_floor, block_buffered, brought_effect, buffer_ended, drained_blocks, effect_of, is_above, kept_blocks, life_started, message_told, no_floor, peer_answered, processed_after, serve_ended, sync_finished, undrained_blocks}
 use Rattle.mar_model.specs.Node.{Awaited, ConsecutiveFrom, Node}
 use Rattle.mar_model.specs.Step.{HandedBlock, HandedFrom, HandsOver, Report, handed_blocks, outstanding_of}
 
@@ -55,10 +55,9 @@ ConsecutiveFrom-given_front h (a ∷ out) line = by (is_given a.mark) (Consecuti
 
 -- what is drained is consecutive from the first unprocessed height
 pub ConsecutiveFrom-drained : (n : Node) (e : Event) → ConsecutiveFrom (first_unprocessed n.processed) n.out → ConsecutiveFrom (first_unprocessed n.processed) (drained_blocks n e)
-ConsecutiveFrom-drained n (ack_given t) line = ConsecutiveFrom-given_front _ (with_mark t mark_given n.out) (ConsecutiveFrom-with_mark t mark_given _ n.out line)
+ConsecutiveFrom-drained n (ack_marked t m) line = ConsecutiveFrom-given_front _ (with_mark t m n.out) (ConsecutiveFrom-with_mark t m _ n.out line)
 ConsecutiveFrom-drained n (life_started f) line = tt
 ConsecutiveFrom-drained n (message_told t m) line = tt
-ConsecutiveFrom-drained n (ack_dropped t) line = tt
 ConsecutiveFrom-drained n (sync_finished t) line = tt
 ConsecutiveFrom-drained n (peer_answered answer) line = tt
 ConsecutiveFrom-drained n serve_ended line = tt
@@ -67,14 +66,13 @@ ConsecutiveFrom-drained n buffer_ended line = tt
 
 -- an event that drains has no effect on a floor
 pub drains_or_floors : (config : Config) (n : Node) (e : Event) → (effect_of config n e ≡ no_floor) ⊎ (drained_blocks n e ≡ [])
-drains_or_floors config n (ack_given t) = inl (none n.awaited)
+drains_or_floors config n (ack_marked t m) = inl (none n.awaited)
   where
     none : (a : Option Awaited) → brought_effect a None ≡ no_floor
     none None = refl
     none (Some a) = refl
 drains_or_floors config n (life_started f) = inr refl
 drains_or_floors config n (message_told t m) = inr refl
-drains_or_floors config n (ack_dropped t) = inr refl
 drains_or_floors config n (sync_finished t) = inr refl
 drains_or_floors config n (peer_answered answer) = inr refl
 drains_or_floors config n serve_ended = inr refl
@@ -129,14 +127,13 @@ keep_other n e none line no_floor = subst (λ out. ConsecutiveFrom (first_unproc
 keep_other n e none line (awaits_floor a) = tt
 keep_other n e none line (applies_floor r b) = floor_kept n b (undrained_blocks n e) (is_above n b) line
 
-keep_acked : (n : Node) (t : ℕ) (a : Option Awaited) → ConsecutiveFrom (first_unprocessed n.processed) n.out → ConsecutiveFrom (first_unprocessed (processed_after n (ack_given t) (brought_effect a None))) (kept_blocks n (ack_given t) (brought_effect a None))
-keep_acked n t None line = ConsecutiveFrom-after_given n.processed (with_mark t mark_given n.out) (ConsecutiveFrom-with_mark t mark_given _ n.out line)
-keep_acked n t (Some a) line = ConsecutiveFrom-after_given n.processed (with_mark t mark_given n.out) (ConsecutiveFrom-with_mark t mark_given _ n.out line)
+keep_acked : (n : Node) (t : ℕ) (m : Mark) (a : Option Awaited) → ConsecutiveFrom (first_unprocessed n.processed) n.out → ConsecutiveFrom (first_unprocessed (processed_after n (ack_marked t m) (brought_effect a None))) (kept_blocks n (ack_marked t m) (brought_effect a None))
+keep_acked n t m None line = ConsecutiveFrom-after_given n.processed (with_mark t m n.out) (ConsecutiveFrom-with_mark t m _ n.out line)
+keep_acked n t m (Some a) line = ConsecutiveFrom-after_given n.processed (with_mark t m n.out) (ConsecutiveFrom-with_mark t m _ n.out line)
 
 -- what is kept of the outstanding blocks is consecutive from the first height that is unprocessed after the event
 pub ConsecutiveFrom-kept : (config : Config) (n : Node) (e : Event) → ConsecutiveFrom (first_unprocessed n.processed) n.out → ConsecutiveFrom (first_unprocessed (processed_after n e (effect_of config n e))) (kept_blocks n e (effect_of config n e))
-ConsecutiveFrom-kept config n (ack_given t) line = keep_acked n t n.awaited line
-ConsecutiveFrom-kept config n (ack_dropped t) line = keep_other n (ack_dropped t) refl (ConsecutiveFrom-with_mark t mark_dropped _ n.out line) (effect_of config n (ack_dropped t))
+ConsecutiveFrom-kept config n (ack_marked t m) line = keep_acked n t m n.awaited line
 ConsecutiveFrom-kept config n e line = keep_other n e refl line (effect_of config n e)
 
 -- HANDED OVER
@@ -173,7 +170,7 @@ all_sure-after_given sure (a ∷ out) all = by (is_given a.mark) (all_sure-after
     by false rest = all
 
 pub all_sure-drained : (n : Node) (e : Event) → AllByRecursion (λ a. IsTrue (has_height n.blocks.sure a.height)) n.out → AllByRecursion (λ a. IsTrue (has_height n.blocks.sure a.height)) (drained_blocks n e)
-all_sure-drained n (ack_given t) all = front (with_mark t mark_given n.out) (all_sure-with_mark n.blocks.sure t mark_given n.out all)
+all_sure-drained n (ack_marked t m) all = front (with_mark t m n.out) (all_sure-with_mark n.blocks.sure t m n.out all)
   where
     front_by : (b : Bool) (a : Outstanding) (out : List Outstanding) → IsTrue (has_height n.blocks.sure a.height) → AllByRecursion (λ x. IsTrue (has_height n.blocks.sure x.height)) out → AllByRecursion (λ x. IsTrue (has_height n.blocks.sure x.height)) (if b then a ∷ out else [])
     front_by true a out first others = (first, others)
@@ -185,8 +182,7 @@ all_sure-drained n (ack_given t) all = front (with_mark t mark_given n.out) (all
 all_sure-drained n e all = tt
 
 all_sure-undrained : (n : Node) (e : Event) → AllByRecursion (λ a. IsTrue (has_height n.blocks.sure a.height)) n.out → AllByRecursion (λ a. IsTrue (has_height n.blocks.sure a.height)) (undrained_blocks n e)
-all_sure-undrained n (ack_given t) all = all_sure-after_given n.blocks.sure (with_mark t mark_given n.out) (all_sure-with_mark n.blocks.sure t mark_given n.out all)
-all_sure-undrained n (ack_dropped t) all = all_sure-with_mark n.blocks.sure t mark_dropped n.out all
+all_sure-undrained n (ack_marked t m) all = all_sure-after_given n.blocks.sure (with_mark t m n.out) (all_sure-with_mark n.blocks.sure t m n.out all)
 all_sure-undrained n e all = all
 
 pub all_sure-kept : (n : Node) (e : Event) (fx : Effect) → AllByRecursion (λ a. IsTrue (has_height n.blocks.sure a.height)) n.out → AllByRecursion (λ a. IsTrue (has_height n.blocks.sure a.height)) (kept_blocks n e fx)

@@ -15,7 +15,7 @@ use Rattle.mar_model.specs.Event.{Effect, Event, applies_floor, awaits_floor, bl
 use Rattle.mar_model.specs.Node.{AreFinalizationsOf, ConsecutiveFrom, FloorSafe, HasAnchor, Node}
 use Rattle.mar_model.specs.Sound.{IsSafePair}
 use Rattle.mar_model.proofs.OutstandingLemmas.{ConsecutiveFrom-drained, all_sure-drained}
-use Rattle.mar_model.proofs.FloorSafety.{FloorSafe-after, HasFloor, KeepsHeightsFrom, MeetsFinal, blocks_from-applies, blocks_from-awaits, blocks_from-low}
+use Rattle.mar_model.proofs.FloorSafety.{FloorSafe-after, HasFloor, KeepsHeightsFrom, MeetsFinal, blocks_from-applies, blocks_from-awaits, blocks_from-low, height_of-low}
 use Rattle.mar_model.proofs.Soundness.{BackedBy-anchor, HasAnchor-acked_to}
 
 -- what an applied floor needs of the block below it: held before, it is sure by then
@@ -33,10 +33,6 @@ all_kept : (bound h : ℕ) (out : List Outstanding) (sure sure' : List (At Block
 all_kept bound h [] sure sure' low line keeps all = tt
 all_kept bound h (a ∷ out) sure sure' low line keeps all = (keeps a.height (let at : a.height ≡ h = line.0 in omega arith) all.0, all_kept bound (h + 1) out sure sure' (omega arith) line.1 keeps all.1)
 
-height_of-first : (p : Option Processed) → height_of p ≤ first_unprocessed p
-height_of-first None = omega arith
-height_of-first (Some p) = omega arith
-
 floor_anchor : (n : Node) (b : Block) (sure : List (At Block)) → height_of n.processed < b.height → IsTrue (has_height sure b.height) → (IsTrue (has_height n.blocks.held (b.height - 1)) → IsTrue (has_height sure (b.height - 1))) → HasAnchor (Some (if has_height n.blocks.held (b.height - 1) then at_block (b.height - 1) else at_absent (b.height - 1))) sure
 floor_anchor n b sure above has below = by (has_height n.blocks.held (b.height - 1)) refl
   where
@@ -47,7 +43,7 @@ floor_anchor n b sure above has below = by (has_height n.blocks.held (b.height -
 pub HasAnchor-after : (chain : Chain) (n : Node) (e : Event) (fx : Effect) (sure : List (At Block)) → HasAnchor n.processed n.blocks.sure → ConsecutiveFrom (first_unprocessed n.processed) n.out → AllByRecursion (λ a. IsTrue (has_height n.blocks.sure a.height)) n.out → KeepsHeightsFrom (blocks_from n e fx) n.blocks.sure sure → HasFloor chain n fx sure → KeepsBelowFloor n fx sure → HasAnchor (processed_after n e fx) sure
 HasAnchor-after chain n e no_floor sure anchored line all keeps floor below =
     let low : blocks_from n e no_floor ≤ height_of n.processed = blocks_from-low n e in
-    let le : height_of n.processed ≤ first_unprocessed n.processed = height_of-first n.processed in
+    let le : height_of n.processed ≤ first_unprocessed n.processed = height_of-low n.processed in
     HasAnchor-acked_to n.processed (drained_blocks n e) sure
     (HasAnchor-kept (blocks_from n e no_floor) n.processed n.blocks.sure sure low keeps anchored)
     (all_kept (blocks_from n e no_floor) (first_unprocessed n.processed) (drained_blocks n e) n.blocks.sure sure (omega arith) (ConsecutiveFrom-drained n e line) keeps (all_sure-drained n e all))

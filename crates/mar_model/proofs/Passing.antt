@@ -1,6 +1,6 @@
 -- Counted calls one after another: none failed, or the last one did.
 use Rattle.std.proofs.Common.{◌≡◌, ◌⊎◌, inl, inr, ℕ, zero, suc, false, Err, refl, sym, ◌∙◌, ap, subst}
-use Rattle.mar_store.specs.Watch.{HeedsOrNot, IsCalm, Heeds, HeedsRead, Strikes, Watch, counted, is_due}
+use Rattle.mar_store.specs.Watch.{HeedsOrNot, Heeds, HeedsRead, Strikes, Watch, counted, is_due}
 use Rattle.mar_store.specs.Lost.{wreck_of}
 use Rattle.mar_store.specs.declared.Lost.{Lost}
 use Rattle.mar_store.specs.declared.Lost.TheVariants.{Fault as Broke, Memory as Forgot}
@@ -129,10 +129,6 @@ pub by_lost_put : {S W : Type 0} (now : S → Watch) (left : W → Watch) (befor
 by_lost_put now left before s (Broke w) strikes = inl (refl, breaks_by before (left w) strikes)
 by_lost_put now left before s (Forgot w) (inl is) = inr (refl, subst (Passes before) (sym is) (Passes-refl before))
 by_lost_put now left before s (Forgot w) (inr (unarmed, is)) = inr (refl, Passes-one before (left w) unarmed is)
-
-pub by_lost_calm : {S W : Type 0} (now : S → Watch) (left : W → Watch) (before : Watch) (s : StoreName) (lost : Lost W) → IsCalm now left before (Err lost) → (lost_fault s lost ≡ store_fault s) × Breaks before (left (wreck_of lost)) ⊎ ((lost_fault s lost ≡ want_of_memory) × Passes before (left (wreck_of lost)))
-by_lost_calm now left before s (Broke w) (rose, unarmed, same) = inl (refl, record { mid = before; passes = Passes-refl before; strikes = inr (record { rose = rose; unarmed = unarmed; same = same }) })
-by_lost_calm now left before s (Forgot w) is = inr (refl, subst (Passes before) (sym is) (Passes-refl before))
 
 pub by_miss : (T : Type 0) (before now : Watch) (s : StoreName) (miss : Miss) → HeedsRead {T = T} before now (Err miss) → (missed_fault s miss ≡ store_fault s) × Breaks before now ⊎ ((missed_fault s miss ≡ want_of_memory) × Passes before now)
 by_miss T before now s Missed strikes = inl (refl, breaks_by before now strikes)

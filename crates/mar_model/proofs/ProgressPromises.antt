@@ -18,7 +18,7 @@ use Rattle.mar_model.specs.Metadata.{Pair, first_pair, pair_of}
 use Rattle.mar_model.specs.Chain.{Chain}
 use Rattle.mar_model.specs.Answers.{sends_of}
 use Rattle.mar_model.specs.Config.{Config}
-use Rattle.mar_model.specs.Event.{Event, ack_given, cutoff_after, effect_of, message_told, no_floor, processed_after, told_finalization}
+use Rattle.mar_model.specs.Event.{Event, ack_marked, cutoff_after, effect_of, message_told, no_floor, processed_after, told_finalization}
 use Rattle.mar_model.specs.Faults.{Fault, dropped_ack, dropped_first, is_by_value}
 use Rattle.mar_model.specs.Held.{AreCached, Ending, Grew, Held, IsArchiveFault, IsUsual, LeavesCache, LeavesStore, Loses, Seen, Written, blocks_left, cache_left, certs_left, written_cert, written_pair, written_prunes}
 use Rattle.mar_model.specs.Lives.{is_dropped_ack, is_refused_floor, later_round, reached_before}
@@ -219,40 +219,40 @@ module _ {P E : Type 0} (epochs : Epochs) (inner : List ℕ → List ℕ) (parti
 
   -- ACKNOWLEDGEMENTS
 
-  module _ (t : ℕ) (cached : AreCached a.held) where
-    abbrev pub given : Seen P E
-    given = record a { life = record a.life { out = with_mark t mark_given a.life.out } }
+  module _ (t : ℕ) (as_mark : Mark) (cached : AreCached a.held) where
+    abbrev pub marked : Seen P E
+    marked = record a { life = record a.life { out = with_mark t as_mark a.life.out } }
 
     -- what is asked as the given ones are processed is what the event asks
-    asks_are : a.held.cache.loaded ≡ true → (config : Config) (chain : Chain) (waiting : Waiting) (set : IsSetTo config a.life.sizes epochs inner) (step : IsLawfulStep config chain (node_of a buffer waiting) (ack_given t ∷ [])) → IsNested a.held.blocks → IsNested a.held.certs → retire_asks epochs a.held.certs.held a.held.cutoff (given_front given.life.out) ≡ own_asks config (node_of a buffer waiting) (ack_given t) no_floor
+    asks_are : a.held.cache.loaded ≡ true → (config : Config) (chain : Chain) (waiting : Waiting) (set : IsSetTo config a.life.sizes epochs inner) (step : IsLawfulStep config chain (node_of a buffer waiting) (ack_marked t as_mark ∷ [])) → IsNested a.held.blocks → IsNested a.held.certs → retire_asks epochs a.held.certs.held a.held.cutoff (given_front marked.life.out) ≡ own_asks config (node_of a buffer waiting) (ack_marked t as_mark) no_floor
     asks_are loaded config chain waiting set step nested certs_nested =
-        subst (λ es. retire_asks es a.held.certs.held a.held.cutoff (given_front given.life.out) ≡ own_asks config (node_of a buffer waiting) (ack_given t) no_floor) set.epochs_are
-        (ack.asks-drained config chain step.lawful (event.partition_of epochs inner partition a buffer config set.epochs_are) a t buffer waiting nested certs_nested step.good loaded cached)
+        subst (λ es. retire_asks es a.held.certs.held a.held.cutoff (given_front marked.life.out) ≡ own_asks config (node_of a buffer waiting) (ack_marked t as_mark) no_floor) set.epochs_are
+        (ack.asks-drained config chain step.lawful (event.partition_of epochs inner partition a buffer config set.epochs_are) a t as_mark buffer waiting nested certs_nested step.good loaded cached)
 
     -- the rounds by which its blocks prune the cache
     abbrev pub acked_prunes : List Round
-    acked_prunes = pruned_by a.life.sizes.retention a.held.witnessed (rounds_of a.held.certs.held (given_front given.life.out))
+    acked_prunes = pruned_by a.life.sizes.retention a.held.witnessed (rounds_of a.held.certs.held (given_front marked.life.out))
 
-    own_acked : a.held.cache.loaded ≡ true → (config : Config) (chain : Chain) (waiting : Waiting) (set : IsSetTo config a.life.sizes epochs inner) (step : IsLawfulStep config chain (node_of a buffer waiting) (ack_given t ∷ [])) → IsNested a.held.blocks → IsNested a.held.certs → OwnCache config chain (node_of a buffer waiting) (ack_given t) [] acked_prunes
-    own_acked loaded config chain waiting set step nested certs_nested = own_pruned config chain (node_of a buffer waiting) (ack_given t) acked_prunes
-        (λ r has. subst (λ rs. Contains rs r) (ack.prunes-are config chain step.lawful (event.partition_of epochs inner partition a buffer config set.epochs_are) a t buffer waiting nested certs_nested step.good loaded cached set.retention) has)
+    own_acked : a.held.cache.loaded ≡ true → (config : Config) (chain : Chain) (waiting : Waiting) (set : IsSetTo config a.life.sizes epochs inner) (step : IsLawfulStep config chain (node_of a buffer waiting) (ack_marked t as_mark ∷ [])) → IsNested a.held.blocks → IsNested a.held.certs → OwnCache config chain (node_of a buffer waiting) (ack_marked t as_mark) [] acked_prunes
+    own_acked loaded config chain waiting set step nested certs_nested = own_pruned config chain (node_of a buffer waiting) (ack_marked t as_mark) acked_prunes
+        (λ r has. subst (λ rs. Contains rs r) (ack.prunes-are config chain step.lawful (event.partition_of epochs inner partition a buffer config set.epochs_are) a t as_mark buffer waiting nested certs_nested step.good loaded cached set.retention) has)
 
-    pub promise-undrained : (told : Option (List Report)) (heard heard' : Option (List Call)) (x : Ending) → IsNested a.held.blocks → IsNested a.held.certs → HearsFront heard (retire_asks epochs a.held.certs.held a.held.cutoff (given_front given.life.out)) heard' → Loses a.held (written_prunes acked_prunes) x → IsUsual x.fault ⊎ EndsDropped given x → KeepsStep epochs inner a (ack_given t ∷ []) buffer (heard_by told heard) (heard_by told heard') (Err x)
+    pub promise-undrained : (told : Option (List Report)) (heard heard' : Option (List Call)) (x : Ending) → IsNested a.held.blocks → IsNested a.held.certs → HearsFront heard (retire_asks epochs a.held.certs.held a.held.cutoff (given_front marked.life.out)) heard' → Loses a.held (written_prunes acked_prunes) x → IsUsual x.fault ⊎ EndsDropped marked x → KeepsStep epochs inner a (ack_marked t as_mark ∷ []) buffer (heard_by told heard) (heard_by told heard') (Err x)
     promise-undrained told heard heard' x nested certs_nested asks lost (inl usual) loaded config chain waiting set step =
-        event.quiet_cut epochs inner partition a buffer config chain waiting (ack_given t) step refl (λ fault. refl) told told heard heard' (written_prunes acked_prunes) x (Hears-nothing told)
+        event.quiet_cut epochs inner partition a buffer config chain waiting (ack_marked t as_mark) step refl (λ fault. refl) told told heard heard' (written_prunes acked_prunes) x (Hears-nothing told)
         (subst (λ cs. HearsFront heard cs heard') (asks_are loaded config chain waiting set step nested certs_nested) asks)
         refl refl (own_acked loaded config chain waiting set step nested certs_nested) tt tt (λ z has. nothing_put z has) (λ z has. nothing_put z has) lost (λ p has. nothing_put p has) usual
     promise-undrained told heard heard' x nested certs_nested (asks, front, asks_heard) lost (inr ends) loaded config chain waiting set step = record {
       made = made_of [] asks;
       heard = record { reports = Hears-nothing told; asks = asks_heard; sends = refl; answers = refl };
-      cuts = Cuts-before config chain a (ack_given t) buffer waiting a.life.tip step.good refl [] ([], refl) [] asks a.life.tip (written_prunes acked_prunes) x tt refl tt refl refl (own_acked loaded config chain waiting set step nested certs_nested) tt tt (λ z has. nothing_put z has) (λ z has. nothing_put z has) lost (λ p has. nothing_put p has)
-          (λ is. dropped_first-some (after_given given.life.out) ends.oldest ends.dropped ∙ ap Some (sym ends.fault)) (never (is_refused_floor (ack_given t) x.fault) refl) (λ is. ends.unsynced)
+      cuts = Cuts-before config chain a (ack_marked t as_mark) buffer waiting a.life.tip step.good refl [] ([], refl) [] asks a.life.tip (written_prunes acked_prunes) x tt refl tt refl refl (own_acked loaded config chain waiting set step nested certs_nested) tt tt (λ z has. nothing_put z has) (λ z has. nothing_put z has) lost (λ p has. nothing_put p has)
+          (λ is. dropped_first-some (after_given marked.life.out) ends.oldest ends.dropped ∙ ap Some (sym ends.fault)) (never (is_refused_floor (ack_marked t as_mark) x.fault) refl) (λ is. ends.unsynced)
           (subst (λ cs. IsFront asks cs) (asks_are loaded config chain waiting set step nested certs_nested) front);
     }
 
-    module _ (is_drained : Bool) (d : Seen P E) (drains : Drains epochs given is_drained d) where
-      of_config : (config : Config) → config.epochs ≡ epochs → Drains config.epochs given is_drained d
-      of_config config is = subst (λ es. Drains es given is_drained d) (sym is) drains
+    module _ (is_drained : Bool) (d : Seen P E) (drains : Drains epochs marked is_drained d) where
+      of_config : (config : Config) → config.epochs ≡ epochs → Drains config.epochs marked is_drained d
+      of_config config is = subst (λ es. Drains es marked is_drained d) (sym is) drains
 
       blocks_drained : d.held.blocks ≡ a.held.blocks
       blocks_drained = ap (λ k. k.held.blocks) drains.same
@@ -261,18 +261,18 @@ module _ {P E : Type 0} (epochs : Epochs) (inner : List ℕ → List ℕ) (parti
       window_same = ap (λ k. k.life.sizes.window) drains.same
 
       -- the sync of the processed height failed
-      pub promise-ack_unsynced : (told : Option (List Report)) (heard heard' : Option (List Call)) (x : Ending) → IsNested a.held.blocks → IsNested a.held.certs → Hears heard (retire_asks epochs a.held.certs.held a.held.cutoff (given_front given.life.out)) heard' → Loses a.held (record (written_pair (pair_of d.held.processed d.held.cutoff)) { prunes = acked_prunes }) x → IsUsual x.fault → KeepsStep epochs inner a (ack_given t ∷ []) buffer (heard_by told heard) (heard_by told heard') (Err x)
+      pub promise-ack_unsynced : (told : Option (List Report)) (heard heard' : Option (List Call)) (x : Ending) → IsNested a.held.blocks → IsNested a.held.certs → Hears heard (retire_asks epochs a.held.certs.held a.held.cutoff (given_front marked.life.out)) heard' → Loses a.held (record (written_pair (pair_of d.held.processed d.held.cutoff)) { prunes = acked_prunes }) x → IsUsual x.fault → KeepsStep epochs inner a (ack_marked t as_mark ∷ []) buffer (heard_by told heard) (heard_by told heard') (Err x)
       promise-ack_unsynced told heard heard' x nested certs_nested asks lost usual loaded config chain waiting set step =
-          event.quiet_cut epochs inner partition a buffer config chain waiting (ack_given t) step refl (λ fault. refl) told told heard heard' (record (written_pair (pair_of d.held.processed d.held.cutoff)) { prunes = acked_prunes }) x (Hears-nothing told)
+          event.quiet_cut epochs inner partition a buffer config chain waiting (ack_marked t as_mark) step refl (λ fault. refl) told told heard heard' (record (written_pair (pair_of d.held.processed d.held.cutoff)) { prunes = acked_prunes }) x (Hears-nothing told)
           (HearsFront-whole heard _ heard' (subst (λ cs. Hears heard cs heard') (asks_are loaded config chain waiting set step nested certs_nested) asks)) refl refl (own_acked loaded config chain waiting set step nested certs_nested) tt tt (λ z has. nothing_put z has) (λ z has. nothing_put z has) lost
-          (λ p has. ack.MayBeLeft-drained config chain step.lawful (event.partition_of epochs inner partition a buffer config set.epochs_are) a t buffer waiting nested certs_nested step.good loaded cached is_drained d (of_config config set.epochs_are) x.remains.ended.blocks_sure (λ h v at. lost.leaves.blocks.sure h v (omega arith) at) p has) usual
+          (λ p has. ack.MayBeLeft-drained config chain step.lawful (event.partition_of epochs inner partition a buffer config set.epochs_are) a t as_mark buffer waiting nested certs_nested step.good loaded cached is_drained d (of_config config set.epochs_are) x.remains.ended.blocks_sure (λ h v at. lost.leaves.blocks.sure h v (omega arith) at) p has) usual
 
-      pub promise-acked : (told told' : Option (List Report)) (heard heard' : Option (List Call)) (m : Seen P E) (result : Result (Seen P E) Ending) → IsNested a.held.blocks → IsNested a.held.certs → m ≡ record d { held = record d.held { pairs = pair_of d.held.processed d.held.cutoff ∷ []; watches = m.held.watches } } → Hears heard (retire_asks epochs a.held.certs.held a.held.cutoff (given_front given.life.out)) heard' → Ran m told told' result → KeepsStep epochs inner a (ack_given t ∷ []) buffer (heard_by told heard) (heard_by told' heard') result
+      pub promise-acked : (told told' : Option (List Report)) (heard heard' : Option (List Call)) (m : Seen P E) (result : Result (Seen P E) Ending) → IsNested a.held.blocks → IsNested a.held.certs → m ≡ record d { held = record d.held { pairs = pair_of d.held.processed d.held.cutoff ∷ []; watches = m.held.watches } } → Hears heard (retire_asks epochs a.held.certs.held a.held.cutoff (given_front marked.life.out)) heard' → Ran m told told' result → KeepsStep epochs inner a (ack_marked t as_mark ∷ []) buffer (heard_by told heard) (heard_by told' heard') result
       promise-acked told told' heard heard' m result nested certs_nested synced asks ran loaded config chain waiting set step =
-          dispatched config chain a m (ack_given t) buffer waiting [] (set.window ∙ sym (ap (λ k. k.life.sizes.window) synced ∙ window_same)) step (λ fault. refl)
-          (ack.Reaches-ack config chain step.lawful (event.partition_of epochs inner partition a buffer config set.epochs_are) a t buffer waiting nested certs_nested step.good loaded cached is_drained d (of_config config set.epochs_are) set.retention m synced)
-          (ack.IsGood-ack config chain step.lawful (event.partition_of epochs inner partition a buffer config set.epochs_are) a t buffer waiting nested certs_nested step.good loaded cached is_drained d (of_config config set.epochs_are) m synced)
-          (let same : total_writes m.held.writes ≡ total_writes a.held.writes = ap total_writes (ack.writes-ack config chain step.lawful (event.partition_of epochs inner partition a buffer config set.epochs_are) a t buffer waiting nested certs_nested step.good loaded cached is_drained d (of_config config set.epochs_are) m synced) in omega arith)
+          dispatched config chain a m (ack_marked t as_mark) buffer waiting [] (set.window ∙ sym (ap (λ k. k.life.sizes.window) synced ∙ window_same)) step (λ fault. refl)
+          (ack.Reaches-ack config chain step.lawful (event.partition_of epochs inner partition a buffer config set.epochs_are) a t as_mark buffer waiting nested certs_nested step.good loaded cached is_drained d (of_config config set.epochs_are) set.retention m synced)
+          (ack.IsGood-ack config chain step.lawful (event.partition_of epochs inner partition a buffer config set.epochs_are) a t as_mark buffer waiting nested certs_nested step.good loaded cached is_drained d (of_config config set.epochs_are) m synced)
+          (let same : total_writes m.held.writes ≡ total_writes a.held.writes = ap total_writes (ack.writes-ack config chain step.lawful (event.partition_of epochs inner partition a buffer config set.epochs_are) a t as_mark buffer waiting nested certs_nested step.good loaded cached is_drained d (of_config config set.epochs_are) m synced) in omega arith)
           (subst (λ k. KeepsValues k.sure k.held) (sym blocks) nested.sure_held)
           told told told' heard heard' result (Hears-nothing told) ran
           (subst (λ cs. Hears heard cs heard') (asks_are loaded config chain waiting set step nested certs_nested) asks)
@@ -280,19 +280,19 @@ module _ {P E : Type 0} (epochs : Epochs) (inner : List ℕ → List ℕ) (parti
           blocks : m.held.blocks ≡ a.held.blocks
           blocks = ap (λ k. k.held.blocks) synced ∙ blocks_drained
 
-    pub promise-not_drained : (told : Option (List Report)) (heard heard' : Option (List Call)) (d : Seen P E) (is_drained : Bool) → is_drained ≡ false → Drains epochs given is_drained d → IsNested a.held.blocks → IsNested a.held.certs → Hears heard (retire_asks epochs a.held.certs.held a.held.cutoff (given_front given.life.out)) heard' → KeepsStep epochs inner a (ack_given t ∷ []) buffer (heard_by told heard) (heard_by told heard') (Ok d)
+    pub promise-not_drained : (told : Option (List Report)) (heard heard' : Option (List Call)) (d : Seen P E) (is_drained : Bool) → is_drained ≡ false → Drains epochs marked is_drained d → IsNested a.held.blocks → IsNested a.held.certs → Hears heard (retire_asks epochs a.held.certs.held a.held.cutoff (given_front marked.life.out)) heard' → KeepsStep epochs inner a (ack_marked t as_mark ∷ []) buffer (heard_by told heard) (heard_by told heard') (Ok d)
     promise-not_drained told heard heard' d is_drained not_drained any nested certs_nested asks loaded config chain waiting set step =
-        undispatched config chain a d (ack_given t) buffer waiting [] (set.window ∙ sym (ap (λ k. k.life.sizes.window) any.same)) step (λ fault. refl)
-        (ack.Reaches-undrained config chain step.lawful (event.partition_of epochs inner partition a buffer config set.epochs_are) a t buffer waiting nested certs_nested step.good loaded cached d drains)
-        (ack.IsGood-undrained config chain step.lawful (event.partition_of epochs inner partition a buffer config set.epochs_are) a t buffer waiting nested certs_nested step.good loaded cached d drains)
-        (let same : total_writes d.held.writes ≡ total_writes a.held.writes = ap total_writes (ack.writes-undrained config chain step.lawful (event.partition_of epochs inner partition a buffer config set.epochs_are) a t buffer waiting nested certs_nested step.good loaded cached d drains) in omega arith)
+        undispatched config chain a d (ack_marked t as_mark) buffer waiting [] (set.window ∙ sym (ap (λ k. k.life.sizes.window) any.same)) step (λ fault. refl)
+        (ack.Reaches-undrained config chain step.lawful (event.partition_of epochs inner partition a buffer config set.epochs_are) a t as_mark buffer waiting nested certs_nested step.good loaded cached d drains)
+        (ack.IsGood-undrained config chain step.lawful (event.partition_of epochs inner partition a buffer config set.epochs_are) a t as_mark buffer waiting nested certs_nested step.good loaded cached d drains)
+        (let same : total_writes d.held.writes ≡ total_writes a.held.writes = ap total_writes (ack.writes-undrained config chain step.lawful (event.partition_of epochs inner partition a buffer config set.epochs_are) a t as_mark buffer waiting nested certs_nested step.good loaded cached d drains) in omega arith)
         (subst (λ k. KeepsValues k.sure k.held) (sym blocks) nested.sure_held)
         told told heard heard' (Hears-nothing told)
         (subst (λ cs. Hears heard cs heard') (asks_are loaded config chain waiting set step nested certs_nested) asks)
-        (ack.Rest-undrained config chain step.lawful (event.partition_of epochs inner partition a buffer config set.epochs_are) a t buffer waiting nested certs_nested step.good loaded cached d drains step.rests)
+        (ack.Rest-undrained config chain step.lawful (event.partition_of epochs inner partition a buffer config set.epochs_are) a t as_mark buffer waiting nested certs_nested step.good loaded cached d drains step.rests)
       where
         blocks : d.held.blocks ≡ a.held.blocks
         blocks = ap (λ k. k.held.blocks) any.same
 
-        drains : Drains config.epochs given false d
-        drains = subst (λ b. Drains config.epochs given b d) not_drained (subst (λ es. Drains es given is_drained d) (sym set.epochs_are) any)
+        drains : Drains config.epochs marked false d
+        drains = subst (λ b. Drains config.epochs marked b d) not_drained (subst (λ es. Drains es marked is_drained d) (sym set.epochs_are) any)

@@ -9,7 +9,7 @@ use Rattle.mar_key.specs.Hears.{Hears}
 use Rattle.mar_key.specs.Keys.{Call, above_height, retain}
 use Rattle.mar_key.specs.Processed.{at_block}
 use Rattle.mar_model.specs.Acks.{Mark, Outstanding, after_given, after_oldest, dropped_oldest, given_front, given_oldest, is_dropped, is_given, mark_dropped, mark_given, mark_waiting, with_mark}
-use Rattle.mar_model.specs.Event.{ack_given, all_retired, retired, round_at}
+use Rattle.mar_model.specs.Event.{ack_marked, all_retired, retired, round_at}
 use Rattle.mar_model.specs.Faults.{dropped_ack}
 use Rattle.mar_model.specs.Held.{Ending, Grew, Held, IsUsual, Loses, Remembered, Seen, WithinWritten, Written, seen, written_pair, written_prunes}
 use Rattle.mar_model.specs.Lives.{later_round}
@@ -48,10 +48,10 @@ none_front (a ∷ out) none = by (is_given a.mark) none
     by true e = absurd cc
     by false e = refl
 
-module _ {P E : Type 0} (life : Remembered P E) (epochs : Epochs) (inner : List ℕ → List ℕ) (partition : IsPartition epochs) (buffer : List Block) (t : ℕ) (s : Scene)
+module _ {P E : Type 0} (life : Remembered P E) (epochs : Epochs) (inner : List ℕ → List ℕ) (partition : IsPartition epochs) (buffer : List Block) (t : ℕ) (as_mark : Mark) (s : Scene)
     (law : AreLawful s.held) (epochs_are : s.standing.epochs ≡ epochs) where
   abbrev g : Scene
-  g = record s { life = record s.life { out = with_mark t mark_given s.life.out } }
+  g = record s { life = record s.life { out = with_mark t as_mark s.life.out } }
 
   abbrev front : List Outstanding
   front = given_front g.life.out
@@ -66,14 +66,14 @@ module _ {P E : Type 0} (life : Remembered P E) (epochs : Epochs) (inner : List 
   epochs_of e = epochs
 
   abbrev Kept : Heard → Result (Seen P E) Ending → Type 0
-  Kept heard result = KeepsStep epochs inner (at life s) (ack_given t ∷ []) buffer s.heard heard result
+  Kept heard result = KeepsStep epochs inner (at life s) (ack_marked t as_mark ∷ []) buffer s.heard heard result
 
   -- nothing was told
   quiet : (heard : Heard) (result : Result (Seen P E) Ending) → heard ≡ record s.heard { asks = heard.asks }
-      → KeepsStep epochs inner (at life s) (ack_given t ∷ []) buffer (heard_by s.heard.reports s.heard.asks) (heard_by s.heard.reports heard.asks) result → Kept heard result
-  quiet heard result same keeps = step_beside epochs inner (at life s) (ack_given t ∷ []) buffer result s.heard heard
+      → KeepsStep epochs inner (at life s) (ack_marked t as_mark ∷ []) buffer (heard_by s.heard.reports s.heard.asks) (heard_by s.heard.reports heard.asks) result → Kept heard result
+  quiet heard result same keeps = step_beside epochs inner (at life s) (ack_marked t as_mark ∷ []) buffer result s.heard heard
       (same ∙ ap (λ told. record s.heard { reports = told; asks = heard.asks }) (sym (ap (λ (h : Heard). h.reports) same)))
-      (subst (λ told. KeepsStep epochs inner (at life s) (ack_given t ∷ []) buffer (heard_by s.heard.reports s.heard.asks) (heard_by told heard.asks) result)
+      (subst (λ told. KeepsStep epochs inner (at life s) (ack_marked t as_mark ∷ []) buffer (heard_by s.heard.reports s.heard.asks) (heard_by told heard.asks) result)
       (sym (ap (λ (h : Heard). h.reports) same)) keeps)
 
   -- what was drained so far
@@ -179,7 +179,7 @@ module _ {P E : Type 0} (life : Remembered P E) (epochs : Epochs) (inner : List 
     undrained : (x : Ending) (heard : Heard) → Loses s.held all x → IsUsual x.fault ⊎ EndsDropped (at life g) x
         → HearsFront now.heard.asks (retire_asks epochs now.held.certs.held now.held.cutoff one) heard.asks → heard ≡ record now.heard { asks = heard.asks } → Kept heard (Err x)
     undrained x heard lost kind some same = quiet heard (Err x) (same ∙ ap (λ (h : Heard). record h { asks = heard.asks }) far.heard)
-        (promise-undrained epochs inner partition (at life s) buffer t law.cached s.heard.reports s.heard.asks heard.asks x law.blocks law.certs
+        (promise-undrained epochs inner partition (at life s) buffer t as_mark law.cached s.heard.reports s.heard.asks heard.asks x law.blocks law.certs
         (front_heard epochs_of (at life g) (at life now) s.heard.asks now.heard.asks far.drained far.count far.so heard.asks some) lost kind)
 
     unread : (x : Ending) (heard : Heard) → FailsRead now x heard → Kept heard (Err x)
@@ -236,10 +236,10 @@ module _ {P E : Type 0} (life : Remembered P E) (epochs : Epochs) (inner : List 
         let now : m.heard ≡ d.heard = ap (λ (y : Scene). y.heard) did.2 in
         let asks : heard.asks ≡ d.heard.asks = ap (λ (h : Heard). h.asks) same ∙ ap (λ (h : Heard). h.asks) now in
         let told : m.heard.reports ≡ s.heard.reports = ap (λ (h : Heard). h.reports) now ∙ ap (λ (h : Heard). h.reports) drained.heard in
-        step_beside epochs inner (at life s) (ack_given t ∷ []) buffer result s.heard heard
+        step_beside epochs inner (at life s) (ack_marked t as_mark ∷ []) buffer result s.heard heard
         (same ∙ (ap (λ (h : Heard). record h { reports = heard.reports }) now ∙
         (ap (λ (h : Heard). record h { reports = heard.reports }) drained.heard ∙ ap (λ a. record s.heard { reports = heard.reports; asks = a }) (sym asks))))
-        (promise-acked epochs inner partition (at life s) buffer t law.cached drained.is_drained (at life d) drained.drains s.heard.reports heard.reports s.heard.asks heard.asks (at life m)
+        (promise-acked epochs inner partition (at life s) buffer t as_mark law.cached drained.is_drained (at life d) drained.drains s.heard.reports heard.reports s.heard.asks heard.asks (at life m)
         result law.blocks law.certs (synced m did)
         (subst (λ a. Hears s.heard.asks all_asks a) (sym asks) drained.asks) (subst (λ r. Dispatched (at life m) r heard.reports result) told ran))
 
@@ -251,7 +251,7 @@ module _ {P E : Type 0} (life : Remembered P E) (epochs : Epochs) (inner : List 
     settle_ran false is u reads =
         let heard : u.heard ≡ d.heard = ap (λ (y : Scene). y.heard) reads.same in
         quiet u.heard (Ok (at life u)) (heard ∙ (drained.heard ∙ ap (λ (h : Heard). record s.heard { asks = h.asks }) (sym heard)))
-        (promise-not_drained epochs inner partition (at life s) buffer t law.cached s.heard.reports s.heard.asks u.heard.asks (at life u) drained.is_drained
+        (promise-not_drained epochs inner partition (at life s) buffer t as_mark law.cached s.heard.reports s.heard.asks u.heard.asks (at life u) drained.is_drained
         (drained.drains.drained ∙ none_front g.life.out is) (read_drained d u drained.is_drained reads drained.drains) law.blocks law.certs
         (subst (λ (h : Heard). Hears s.heard.asks all_asks h.asks) (sym heard) drained.asks))
 
@@ -262,7 +262,7 @@ module _ {P E : Type 0} (life : Remembered P E) (epochs : Epochs) (inner : List 
 
     unsettled : (x : Ending) (heard : Heard) → FailsRead d x heard → Kept heard (Err x)
     unsettled x heard fails = quiet heard (Err x) (fails.same ∙ (drained.heard ∙ ap (λ (h : Heard). record s.heard { asks = h.asks }) (sym fails.same)))
-        (promise-undrained epochs inner partition (at life s) buffer t law.cached s.heard.reports s.heard.asks heard.asks x law.blocks law.certs
+        (promise-undrained epochs inner partition (at life s) buffer t as_mark law.cached s.heard.reports s.heard.asks heard.asks x law.blocks law.certs
         (HearsFront-whole s.heard.asks all_asks heard.asks (subst (λ (h : Heard). Hears s.heard.asks all_asks h.asks) (sym fails.same) drained.asks))
         (fails.loses s.held all (drained.grew s.held all (Grew-refl s.held all law.blocks law.certs) (WithinWritten-refl all)) (WithinWritten-nothing all)) (inl fails.usual))
 
@@ -276,7 +276,7 @@ module _ {P E : Type 0} (life : Remembered P E) (epochs : Epochs) (inner : List 
         by (inr (inl (mid, reads, (over, usual, same)))) =
             let heard_is : heard ≡ d.heard = same ∙ ap (λ (y : Scene). y.heard) reads.same in
             quiet heard (Err x) (heard_is ∙ (drained.heard ∙ ap (λ (h : Heard). record s.heard { asks = h.asks }) (sym heard_is)))
-            (promise-ack_unsynced epochs inner partition (at life s) buffer t law.cached drained.is_drained (at life d) drained.drains s.heard.reports s.heard.asks heard.asks x law.blocks
+            (promise-ack_unsynced epochs inner partition (at life s) buffer t as_mark law.cached drained.is_drained (at life d) drained.drains s.heard.reports s.heard.asks heard.asks x law.blocks
             law.certs
             (subst (λ (h : Heard). Hears s.heard.asks all_asks h.asks) (sym heard_is) drained.asks)
             (lost_before inner d mid (written_pair (pair_of d.held.processed d.held.cutoff)) x reads
@@ -285,7 +285,7 @@ module _ {P E : Type 0} (life : Remembered P E) (epochs : Epochs) (inner : List 
             s.held with_pair (drained.grew s.held with_pair (Grew-refl s.held with_pair law.blocks law.certs) (WithinWritten-unpaired with_pair)) (WithinWritten-unpruned with_pair)) usual)
         by (inr (inr (m, did, rest))) =
             let (stops, same) = dispatch_broke life inner m x heard did.1 rest in
-            step_stopped life epochs inner (at life s) (at life m) (ack_given t ∷ []) buffer s.heard heard m.heard.reports x stops (acked m (Err stops.e) heard did stops.ran same)
+            step_stopped life epochs inner (at life s) (at life m) (ack_marked t as_mark ∷ []) buffer s.heard heard m.heard.reports x stops (acked m (Err stops.e) heard did stops.ran same)
 
   drain_broke : (out : List Outstanding) (now : Scene) → now.life.out ≡ out → SoFar now → (rest : List Task) (x : Ending) (heard : Heard)
       → ((d : Scene) → Drained d → Breaks inner d rest x heard → Kept heard (Err x)) → Breaks inner now (drain_plan out ++ rest) x heard → Kept heard (Err x)
@@ -329,18 +329,18 @@ module _ {P E : Type 0} (life : Remembered P E) (epochs : Epochs) (inner : List 
           from (inr (inr (new, never, left))) = absurd never
 
   -- the block is marked first
-  marks : (m : Scene) → DoesTask inner (does (progresses (mark t mark_given))) s m → m ≡ g
+  marks : (m : Scene) → DoesTask inner (does (progresses (mark t as_mark))) s m → m ≡ g
   marks m same = same
 
-  pub ack_promise : (u : Scene) → Runs inner s (ack_plan s.life.out t mark_given) u → KeepsStep epochs inner (at life s) (ack_given t ∷ []) buffer s.heard u.heard (Ok (at life u))
+  pub ack_promise : (u : Scene) → Runs inner s (ack_plan s.life.out t as_mark) u → KeepsStep epochs inner (at life s) (ack_marked t as_mark ∷ []) buffer s.heard u.heard (Ok (at life u))
   ack_promise u runs =
-      let (m, did, rest) = runs_first inner (does (progresses (mark t mark_given))) (marked_plan g.life.out) s u law runs in
+      let (m, did, rest) = runs_first inner (does (progresses (mark t as_mark))) (marked_plan g.life.out) s u law runs in
       let (d, drained, left) = drain_ran g.life.out g refl first (settle_plan (is_some (given_oldest g.life.out))) u
       (subst (λ (y : Scene). Runs inner y (marked_plan g.life.out) u) (marks m did) rest) in
       settle_ran d drained (is_some (given_oldest g.life.out)) refl u left
 
-  pub ack_cut : (x : Ending) (heard : Heard) → Breaks inner s (ack_plan s.life.out t mark_given) x heard → KeepsStep epochs inner (at life s) (ack_given t ∷ []) buffer s.heard heard (Err x)
-  ack_cut x heard breaks = by (breaks_first inner (does (progresses (mark t mark_given))) (marked_plan g.life.out) s x heard law breaks)
+  pub ack_cut : (x : Ending) (heard : Heard) → Breaks inner s (ack_plan s.life.out t as_mark) x heard → KeepsStep epochs inner (at life s) (ack_marked t as_mark ∷ []) buffer s.heard heard (Err x)
+  ack_cut x heard breaks = by (breaks_first inner (does (progresses (mark t as_mark))) (marked_plan g.life.out) s x heard law breaks)
     where
       by : FailsRead s x heard ⊎ (((mid : Scene) × Reads s mid × ⊥) ⊎ ((m : Scene) × (m ≡ g) × Breaks inner m (marked_plan g.life.out) x heard)) → Kept heard (Err x)
       by (inl fails) = unread g first x heard (record { loses = fails.loses; usual = fails.usual; unsynced = fails.unsynced; same = fails.same })

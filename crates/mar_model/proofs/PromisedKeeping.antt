@@ -1,211 +1,223 @@
 -- Blocks that are kept for a caller, and a sync of the cache that finishes: what is promised of them comes of their plans.
-use Rattle.std.proofs.Common.{◌≡◌, inl, inr, ◌∷◌, ◌++◌, [], List, Option, None, Some, Ok, Err, Bool, true, false, cond, nat_lt, ◌==◌, ◌||◌, ◌<◌, ◌≤◌, eqb-true, ℕ, arith, refl, sym, ◌∙◌, ap, subst}
-use Rattle.std.specs.List.{list_any}
+use Rattle.std.proofs.Common.{◌≡◌, inl, inr, ◌∷◌, ◌++◌, [], List, Option, Some, Bool, true, false, cond, nat_lt, ◌==◌, ◌||◌, ◌<◌, ◌≤◌, eqb-true, ℕ, refl, sym, ◌∙◌, ap, subst, Contains, append-nil}
+use Rattle.std.specs.List.{AllByRecursion, list_any}
+use Rattle.std.specs.Prelude.{flat_map}
 use Rattle.std.proofs.lemmas.Bool.{cases_lt}
-use Rattle.std.proofs.lemmas.Bool.Decides.{nat_tests}
-use Rattle.mar_types.specs.Epochs.{Epochs, IsPartition}
+use Rattle.mar_types.specs.Epochs.{Epochs}
 use Rattle.mar_types.specs.Round.{Round}
 use Rattle.mar_cert.specs.Block.{Block}
 use Rattle.mar_gate.specs.Writing.{Writing, is_open_sync}
-use Rattle.mar_model.specs.Answers.{Sent, TicketAnswer, finished_answers, started_value, to}
-use Rattle.mar_model.specs.Cache.{certified_covers, is_verified_of, notarized_where, verified_at}
-use Rattle.mar_model.specs.Cached.{Cached, notarized_entry, verified_entry}
+use Rattle.mar_model.specs.Cache.{certified_covers, is_verified_of, notarized_where, verified_at, is_synced_put}
+use Rattle.mar_model.specs.Cached.{Cached, notarized_entry, verified_entry, epoch_of}
 use Rattle.mar_model.specs.Event.{message_told, sync_finished}
-use Rattle.mar_model.specs.Held.{Ending, HaveOwnTickets, Held, Remembered, Watches, nothing_written, written_entry}
-use Rattle.mar_model.specs.Messages.{Peers, certify, proposed, verified}
-use Rattle.mar_model.specs.Moves.{FinishesCacheSync, KeepsFor, is_verified_in}
-use Rattle.mar_model.specs.Node.{CacheSync}
+use Rattle.mar_model.specs.Held.{HaveOwnTickets, Held, Remembered, nothing_written, written_entries}
+use Rattle.mar_model.specs.Messages.{Peers, certify, proposed, verified, Message}
+use Rattle.mar_model.specs.Moves.{KeepsFor, is_verified_in}
+use Rattle.mar_model.specs.Node.{CacheSync, Agrees, AreCachedOf, BlocksAgree}
 use Rattle.mar_model.specs.OpenSyncs.{is_cache_sync}
-use Rattle.mar_model.specs.Promise.{Heard, KeepsStep}
-use Rattle.mar_model.specs.Step.{IsFront}
-use Rattle.mar_model.specs.Acts.{AreLawful, IsKept, KeepAct, KeepsAndTells, finish_kept, keep_certified, keep_verified, kept_value, keeps_for, says, send}
+use Rattle.mar_model.specs.Promise.{told_blocks, IsLawfulStep, Waiting}
+use Rattle.mar_model.specs.Acts.{AreLawful, finish_kept, keep_certified, keep_verified, keeps_for, says, send}
 use Rattle.mar_model.specs.Plans.{finish_plan, sent_block, sync_plan}
-use Rattle.mar_model.specs.Ran.{Breaks, DoesTask, Reads, Runs, does}
+use Rattle.mar_model.specs.Ran.{Breaks, DoesTask, Runs, does}
 use Rattle.mar_model.specs.Scene.{Scene}
-use Rattle.mar_model.proofs.CacheSyncEvent.{promise-cache_finished, promise-cache_unfinished}
+use Rattle.mar_model.specs.Chain.{Chain}
+use Rattle.mar_model.specs.Config.{Config}
+use Rattle.mar_model.specs.Answers.{finished_answers}
+use Rattle.mar_model.proofs.CacheEvents.{LeavesArchives}
+use Rattle.mar_model.proofs.CacheSyncEvent as synced
+use Rattle.mar_model.proofs.CertifiedBlocks.{verified-stays}
+use Rattle.mar_model.proofs.EntryLists.{contains_none, one_of}
 use Rattle.mar_model.proofs.Growing.{WithinWritten-refl}
 use Rattle.mar_model.proofs.Handing.{Hears-nothing}
-use Rattle.mar_model.proofs.KeptEach.{KeepsFor-read, KeepsFor-unread}
-use Rattle.mar_model.proofs.KeptPromises.{promise-certified, promise-proposed, promise-uncertified, promise-unproposed, promise-unverified, promise-verified}
-use Rattle.mar_model.proofs.SyncPromise.{at}
-use Rattle.mar_model.proofs.Breaking.{Breaks-leaves, usual_of}
-use Rattle.mar_model.proofs.Saying.{Says, Says-behind, Says-same, Says-sent, Says-then, Says-unsent, cut_saying, kept_as, kept_broke, sent-heard, sent-hears, sent-reads}
-
--- BETWEEN READS
-
--- what was kept between reads
-pub KeepsFor-between : (epoch : ℕ) (put : List Cached) (covered : Cached → Bool) (answer ticket : Option ℕ) (s mid after t : Scene) → Reads s mid
-    → KeepsFor epoch put covered answer ticket mid.held after.held → Reads after t → KeepsFor epoch put covered answer ticket s.held t.held
-KeepsFor-between epoch put covered answer ticket s mid after t reads keeps reads' =
-    subst (λ (h : Held). KeepsFor epoch put covered answer ticket s.held h) (sym (ap (λ (x : Scene). x.held) reads'.same))
-    (KeepsFor-read epoch put covered answer ticket s.held after.held t.held.watches
-    (KeepsFor-unread epoch put covered answer ticket s.held after.held mid.held.watches
-    (subst (λ (h : Held). KeepsFor epoch put covered answer ticket h after.held) (ap (λ (x : Scene). x.held) reads.same) keeps)))
-
-finishes_read : (k : ℕ) (old new : Held) (w w' : Watches) → FinishesCacheSync k (record old { watches = w }) new → FinishesCacheSync k old (record new { watches = w' })
-finishes_read k old new w w' finishes = record
-    { finishes = finishes.finishes; loaded = finishes.loaded; fresh = finishes.fresh; still_open = finishes.still_open; same = ap {A = Held} (λ h. record h { watches = w' }) finishes.same }
-
-pub FinishesCacheSync-between : (k : ℕ) (s mid after t : Scene) → Reads s mid → FinishesCacheSync k mid.held after.held → Reads after t → FinishesCacheSync k s.held t.held
-FinishesCacheSync-between k s mid after t reads finishes reads' =
-    subst (λ (h : Held). FinishesCacheSync k s.held h) (sym (ap (λ (x : Scene). x.held) reads'.same))
-    (finishes_read k s.held after.held mid.held.watches t.held.watches (subst (λ (h : Held). FinishesCacheSync k h after.held) (ap (λ (x : Scene). x.held) reads.same) finishes))
-
--- what else stands once something was kept for a caller
-module _ (inner : List ℕ → List ℕ) (a : KeepAct) (mid after t : Scene) (did : DoesTask inner (does (keeps_for a)) mid after) (reads : Reads after t) where
-  life_is : t.life ≡ mid.life
-  life_is = ap (λ (x : Scene). x.life) reads.same ∙ ap (λ (x : Scene). x.life) did.4
-
-  heard_is : t.heard ≡ record mid.heard { answers = mid.heard.answers ++ did.0 }
-  heard_is = ap (λ (x : Scene). x.heard) reads.same ∙ ap (λ (x : Scene). x.heard) did.4
-
--- WHAT IS ANSWERED
-
--- the sync to wait for is what the definition says
-kept_value-is : (r : Round) (put : List Cached) (covered : Cached → Bool) (answer sync : Option ℕ) (old new : Held) → KeepsFor r.epoch put covered answer sync old new
-    → old.cache.loaded ≡ true → kept_value sync ≡ started_value old.writes.next_sync old.lowest r
-kept_value-is r put covered answer sync old new keeps loaded = elim (cases_lt r.epoch old.lowest) [
-  | inl low ↦ ap kept_value (keeps.below low).0 ∙ sym (ap (λ c. cond c (kept_value None) (kept_value (Some old.writes.next_sync))) (is_low low))
-  | inr from ↦ ap kept_value (keeps.done loaded from).0 ∙ sym (ap (λ c. cond c (kept_value None) (kept_value (Some old.writes.next_sync))) (not_low from))
-]
-  where
-    is_low : r.epoch < old.lowest → nat_lt r.epoch old.lowest ≡ true
-    is_low low = grind (arith, nat_tests)
-
-    not_low : old.lowest ≤ r.epoch → nat_lt r.epoch old.lowest ≡ false
-    not_low from = grind (arith, nat_tests)
-
--- where what a crash left was taken up before
-kept_answers : (r : Round) (put : List Cached) (covered : Cached → Bool) (k : ℕ) (s mid : Scene) (new : Held) (answered : List TicketAnswer) → Reads s mid
-    → KeepsAndTells r.epoch put covered k mid.held new answered → s.held.cache.loaded ≡ true → answered ≡ to k (started_value s.held.writes.next_sync s.held.lowest r) ∷ []
-kept_answers r put covered k s mid new answered reads is loaded =
-    is.told
-    ∙ (ap (λ v. to k v ∷ []) (kept_value-is r put covered (Some k) is.sync mid.held new is.kept (ap (λ (x : Scene). x.held.cache.loaded) reads.same ∙ loaded))
-    ∙ ap (λ (x : Scene). to k (started_value x.held.writes.next_sync x.held.lowest r) ∷ []) reads.same)
+use Rattle.mar_model.proofs.KeptEach.{KeepsEach-for, told_kept}
+use Rattle.mar_model.proofs.KeptPromises.{agrees_told, kept}
+use Rattle.mar_model.proofs.Owning.{quiet_cut}
+use Rattle.mar_model.proofs.Owns.{node_at}
+use Rattle.mar_model.proofs.SyncPromise.{at, done_as, KeepsPlan}
+use Rattle.mar_model.proofs.Unread.{runs_first}
+use Rattle.mar_model.proofs.CacheSteps.{is_certified}
 
 -- no sync of both archives has the ticket of one of the cache
 own_ticket : (w : Writing) (k : ℕ) (syncs : List CacheSync) → HaveOwnTickets w syncs → is_cache_sync syncs k ≡ true → is_open_sync w.syncs k ≡ false
-own_ticket w k [] own is = absurd cc
-own_ticket w k (c ∷ syncs) own is = by (c.ticket == k) refl is (own_ticket w k syncs own.1)
+own_ticket w k syncs own is = among syncs own.own is
   where
-    by : (same : Bool) → (c.ticket == k) ≡ same → (same || is_cache_sync syncs k) ≡ true → (is_cache_sync syncs k ≡ true → is_open_sync w.syncs k ≡ false) → is_open_sync w.syncs k ≡ false
-    by true same found rest = subst (λ j. is_open_sync w.syncs j ≡ false) (eqb-true c.ticket k same) own.0.1
-    by false other found rest = rest found
+    among : (others : List CacheSync) → AllByRecursion (λ s. (s.ticket < w.next_sync) × (is_open_sync w.syncs s.ticket ≡ false)) others → is_cache_sync others k ≡ true → is_open_sync w.syncs k ≡ false
+    among [] own is = absurd cc
+    among (c ∷ others) own is = by (c.ticket == k) refl is (among others own.1)
+      where
+        by : (same : Bool) → (c.ticket == k) ≡ same → (same || is_cache_sync others k) ≡ true → (is_cache_sync others k ≡ true → is_open_sync w.syncs k ≡ false) → is_open_sync w.syncs k ≡ false
+        by true same found rest = subst (λ j. is_open_sync w.syncs j ≡ false) (eqb-true c.ticket k same) own.0.1
+        by false other found rest = rest found
 
-module _ {P E : Type 0} (life : Remembered P E) (epochs : Epochs) (inner : List ℕ → List ℕ) (partition : IsPartition epochs) (buffer : List Block) (s : Scene) (law : AreLawful s.held) where
+-- of the only entry that was put
+of_only : {A : Type 0} (f : Cached → A) (x y : Cached) → Contains (x ∷ []) y → f y ≡ f x
+of_only f x y has = ap f (one_of x y has)
+
+module _ {P E : Type 0} (life : Remembered P E) (epochs : Epochs) (inner : List ℕ → List ℕ) (buffer : List Block) (s : Scene) (law : AreLawful s.held) where
   module _ (k : ℕ) (r : Round) (b : Block) where
-    -- what the caller is answered
-    abbrev whole : List TicketAnswer
-    whole = to k (started_value s.held.writes.next_sync s.held.lowest r) ∷ []
+    abbrev put : Cached
+    put = verified_entry r b
+
+    -- the block that is told agrees with the chain
+    agrees : (m : Message) (config : Config) (chain : Chain) (waiting : Waiting) → flat_map told_blocks (message_told (Some k) m ∷ []) ≡ b ∷ []
+        → IsLawfulStep config chain (node_at s buffer waiting) (message_told (Some k) m ∷ []) → Agrees chain b
+    agrees m config chain waiting tells step = agrees_told config chain (at life s) buffer waiting k m b tells step
 
     -- VERIFIED BLOCKS
 
-    pub verified_ok : (t : Scene) → Runs inner s (does (keeps_for (keep_verified r b k)) ∷ []) t
-        → KeepsStep epochs inner (at life s) (message_told (Some k) (verified r b) ∷ []) buffer s.heard t.heard (Ok (at life t))
-    verified_ok t (mid, after, reads, did, reads') =
-        kept_as life epochs inner (message_told (Some k) (verified r b)) buffer s t (record s.heard { answers = s.heard.answers ++ did.0 })
-        (life_is inner (keep_verified r b k) mid after t did reads' ∙ ap (λ (x : Scene). x.life) reads.same)
-        (heard_is inner (keep_verified r b k) mid after t did reads' ∙ ap (λ (x : Scene). record x.heard { answers = x.heard.answers ++ did.0 }) reads.same)
-        (λ loaded. promise-verified epochs inner partition (at life s) buffer k r b s.heard.reports s.heard.asks s.heard.sends s.heard.sends s.heard.answers
-        (s.heard.answers ++ did.0) t.held did.1.sync law.cached
-        (KeepsFor-between r.epoch (verified_entry r b ∷ []) (is_verified_of r.epoch) (Some k) did.1.sync s mid after t reads did.1.kept reads') (Hears-nothing s.heard.sends)
-        (ap (λ xs. s.heard.answers ++ xs) (kept_answers r (verified_entry r b ∷ []) (is_verified_of r.epoch) k s mid after.held did.0 reads did.1 loaded)) loaded)
+    verified_quiet : (config : Config) (waiting : Waiting) → LeavesArchives config (node_at s buffer waiting) (message_told (Some k) (verified r b))
+    verified_quiet config waiting = record { effect = refl; undrained = refl; processed = refl; cutoff = refl; storing = refl; position = refl; syncs = refl; witnessing = refl; no_fault = refl; asks = refl; subscriptions = refl; unrefused = λ fault. refl }
 
-    pub verified_err : (x : Ending) (heard : Heard) → Breaks inner s (does (keeps_for (keep_verified r b k)) ∷ []) x heard
-        → KeepsStep epochs inner (at life s) (message_told (Some k) (verified r b) ∷ []) buffer s.heard heard (Err x)
-    verified_err x heard breaks =
-        let broke = Breaks-leaves inner (written_entry (verified_entry r b)) (does (keeps_for (keep_verified r b k)) ∷ []) s x heard law
-        (WithinWritten-refl (written_entry (verified_entry r b)), tt) breaks in
-        let said = kept_broke inner (keep_verified r b k) s x heard (s.held.cache.loaded ≡ true) whole
-        (λ mid after answered reads is loaded. kept_answers r (verified_entry r b ∷ []) (is_verified_of r.epoch) k s mid after.held answered reads is loaded) breaks in
-        cut_saying epochs inner (at life s) (message_told (Some k) (verified r b)) buffer x s.heard heard [] said.0 said.1
-        (λ loaded config chain waiting set step. (([], refl), (s.held.lowest, said.2 loaded)))
-        (promise-unverified epochs inner partition (at life s) buffer k r b s.heard.reports s.heard.asks (Some []) (Some []) [] [] x broke.plain broke.loses (Hears-nothing (Some [])) refl)
+    pub kept_verified : KeepsPlan life epochs inner buffer s ((does (keeps_for (keep_verified r b k)) ∷ [])) (message_told (Some k) (verified r b))
+    kept_verified = record {
+      ran = λ t runs.
+          let (u, did, reads) = runs_first inner (does (keeps_for (keep_verified r b k))) [] s t law runs in
+          done_as life epochs inner (message_told (Some k) (verified r b) ∷ []) buffer s u t (record s { held = u.held; heard = record s.heard { answers = s.heard.answers ++ did.0 } }) did.4 reads
+          (λ loaded. kept epochs inner (at life s) buffer (Some k) (verified r b) s.heard.reports s.heard.asks s.heard.sends s.heard.sends s.heard.answers (s.heard.answers ++ did.0)
+          r.epoch (put ∷ []) (is_verified_of r.epoch ∷ []) (Some k) u.held [] law.cached (KeepsEach-for r.epoch (put ∷ []) (is_verified_of r.epoch) (Some k) did.1.sync s.held u.held did.1.kept)
+          (λ loaded config chain waiting set step. record {
+            event = record {
+              quiet = verified_quiet config waiting;
+              unfinished = refl;
+              uncovered = refl;
+              no_query = refl;
+              answered = refl;
+              entries = refl;
+              of_epoch = of_only epoch_of put;
+              by_view = of_only is_certified put;
+              unsynced = of_only (is_synced_put (message_told (Some k) (verified r b))) put;
+              starts = refl;
+            };
+            sends = refl;
+            answered = refl;
+            finalizations = tt;
+            blocks = (agrees (verified r b) config chain waiting refl step, tt);
+          }) (Hears-nothing s.heard.sends) (ap (λ xs. s.heard.answers ++ xs) (told_kept r _ _ k s.held u.held did.0 did.1 loaded)) loaded);
+      broke = quiet_cut life epochs inner buffer s law (message_told (Some k) (verified r b)) (put ∷ []) (does (keeps_for (keep_verified r b k)) ∷ [])
+          (λ loaded config chain waiting set step. record {
+            quiet = verified_quiet config waiting;
+            own = λ y has. has;
+            finalizations = tt;
+            blocks = (agrees (verified r b) config chain waiting refl step, tt);
+            owns = (refl, WithinWritten-refl (written_entries (put ∷ [])), refl, tt);
+            asks = refl;
+            sends = refl;
+            answers = (s.held.lowest, ([], refl));
+          });
+    }
 
     -- PROPOSED BLOCKS
 
     module _ (peers : Peers) where
-      pub proposed_ok : (t : Scene) → Runs inner s (does (says (send (sent_block r peers b))) ∷ does (keeps_for (keep_verified r b k)) ∷ []) t
-          → KeepsStep epochs inner (at life s) (message_told (Some k) (proposed r peers b) ∷ []) buffer s.heard t.heard (Ok (at life t))
-      proposed_ok t (first, sent, before, sends, (mid, after, between, did, behind)) =
-          kept_as life epochs inner (message_told (Some k) (proposed r peers b)) buffer s t (record s.heard { sends = mid.heard.sends; answers = s.heard.answers ++ did.0 })
-          (life_is inner (keep_verified r b k) mid after t did behind ∙ ap (λ (x : Scene). x.life) reads.same)
-          (heard_is inner (keep_verified r b k) mid after t did behind ∙ ap (λ (h : Heard). record h { answers = h.answers ++ did.0 })
-          (sent-heard inner (sent_block r peers b) s first sent mid before sends between))
-          (λ loaded. promise-proposed epochs inner partition (at life s) buffer k r b s.heard.reports s.heard.asks s.heard.sends mid.heard.sends s.heard.answers
-          (s.heard.answers ++ did.0) t.held did.1.sync law.cached peers
-          (KeepsFor-between r.epoch (verified_entry r b ∷ []) (is_verified_of r.epoch) (Some k) did.1.sync s (record mid { heard = s.heard }) after t reads did.1.kept behind)
-          (sent-hears inner (sent_block r peers b) s first sent mid before sends between)
-          (ap (λ xs. s.heard.answers ++ xs) (kept_answers r (verified_entry r b ∷ []) (is_verified_of r.epoch) k s (record mid { heard = s.heard }) after.held did.0 reads did.1 loaded)) loaded)
-        where
-          reads : Reads s (record mid { heard = s.heard })
-          reads = sent-reads inner (sent_block r peers b) s first sent mid before sends between
+      proposed_quiet : (config : Config) (waiting : Waiting) → LeavesArchives config (node_at s buffer waiting) (message_told (Some k) (proposed r peers b))
+      proposed_quiet config waiting = record { effect = refl; undrained = refl; processed = refl; cutoff = refl; storing = refl; position = refl; syncs = refl; witnessing = refl; no_fault = refl; asks = refl; subscriptions = refl; unrefused = λ fault. refl }
 
-      -- where it broke: no more was sent and answered than that
-      proposed_broke : (x : Ending) (heard : Heard) → Breaks inner s (does (says (send (sent_block r peers b))) ∷ does (keeps_for (keep_verified r b k)) ∷ []) x heard
-          → (sent : List Sent) × (answered : List TicketAnswer) × Says s.heard sent answered heard × IsFront sent (sent_block r peers b ∷ []) × (s.held.cache.loaded ≡ true → IsFront answered whole)
-      proposed_broke x heard (inl fails) = ([], [], Says-same s.heard heard fails.same, (sent_block r peers b ∷ [], refl), λ loaded. (whole, refl))
-      proposed_broke x heard (inr (first, before, inl fails)) = (
-        [],
-        [],
-        Says-behind s.heard first.heard heard [] [] (ap (λ (y : Scene). y.heard) before.same) (Says-unsent (sent_block r peers b) first x heard fails),
-        (sent_block r peers b ∷ [], refl),
-        λ loaded. (whole, refl),
-      )
-      proposed_broke x heard (inr (first, before, inr (sent, sends, breaks))) =
-          let rest = kept_broke inner (keep_verified r b k) sent x heard (s.held.cache.loaded ≡ true) whole
-          (λ mid after answered between is loaded. kept_answers r (verified_entry r b ∷ []) (is_verified_of r.epoch) k s (record mid { heard = s.heard }) after.held answered
-          (sent-reads inner (sent_block r peers b) s first sent mid before sends between) is loaded) breaks in (
-            sent_block r peers b ∷ [],
-            rest.0,
-            Says-then s.heard sent.heard heard (sent_block r peers b ∷ []) [] [] rest.0
-                (Says-behind s.heard first.heard sent.heard (sent_block r peers b ∷ []) [] (ap (λ (y : Scene). y.heard) before.same) (Says-sent inner (sent_block r peers b) first sent sends)) rest.1,
-            ([], refl),
-            rest.2,
-          )
-
-      pub proposed_err : (x : Ending) (heard : Heard) → Breaks inner s (does (says (send (sent_block r peers b))) ∷ does (keeps_for (keep_verified r b k)) ∷ []) x heard
-          → KeepsStep epochs inner (at life s) (message_told (Some k) (proposed r peers b) ∷ []) buffer s.heard heard (Err x)
-      proposed_err x heard breaks =
-          let broke = Breaks-leaves inner (written_entry (verified_entry r b))
-          (does (says (send (sent_block r peers b))) ∷ does (keeps_for (keep_verified r b k)) ∷ []) s x heard law (WithinWritten-refl (written_entry (verified_entry r b)), tt) breaks in
-          let said = proposed_broke x heard breaks in
-          cut_saying epochs inner (at life s) (message_told (Some k) (proposed r peers b)) buffer x s.heard heard said.0 said.1 said.2
-          (λ loaded config chain waiting set step. (said.3, (s.held.lowest, said.4 loaded)))
-          (promise-unproposed epochs inner partition (at life s) buffer k r b s.heard.reports s.heard.asks (Some []) (Some []) [] [] x broke.plain peers []
-          (sent_block r peers b ∷ [], refl) broke.loses (Hears-nothing (Some [])) refl)
+      pub kept_proposed : KeepsPlan life epochs inner buffer s ((does (says (send (sent_block r peers b))) ∷ does (keeps_for (keep_verified r b k)) ∷ [])) (message_told (Some k) (proposed r peers b))
+      kept_proposed = record {
+        ran = λ t runs.
+            let (m, (hears, sent), rest) = runs_first inner (does (says (send (sent_block r peers b)))) (does (keeps_for (keep_verified r b k)) ∷ []) s t law runs in
+            let (u, did_then, reads) = runs_first inner (does (keeps_for (keep_verified r b k))) [] m t (subst AreLawful (sym (ap (λ (x : Scene). x.held) sent)) law) rest in
+            let did : DoesTask inner (does (keeps_for (keep_verified r b k))) (record s { heard = record s.heard { sends = m.heard.sends } }) u =
+            subst (λ (x : Scene). DoesTask inner (does (keeps_for (keep_verified r b k))) x u) sent did_then in
+            done_as life epochs inner (message_told (Some k) (proposed r peers b) ∷ []) buffer s u t
+            (record s { held = u.held; heard = record s.heard { sends = m.heard.sends; answers = s.heard.answers ++ did.0 } }) did.4 reads
+            (λ loaded. kept epochs inner (at life s) buffer (Some k) (proposed r peers b) s.heard.reports s.heard.asks s.heard.sends m.heard.sends s.heard.answers (s.heard.answers ++ did.0)
+            r.epoch (put ∷ []) (is_verified_of r.epoch ∷ []) (Some k) u.held (sent_block r peers b ∷ []) law.cached
+            (KeepsEach-for r.epoch (put ∷ []) (is_verified_of r.epoch) (Some k) did.1.sync s.held u.held did.1.kept)
+            (λ loaded config chain waiting set step. record {
+              event = record {
+                quiet = proposed_quiet config waiting;
+                unfinished = refl;
+                uncovered = refl;
+                no_query = refl;
+                answered = refl;
+                entries = refl;
+                of_epoch = of_only epoch_of put;
+                by_view = of_only is_certified put;
+                unsynced = of_only (is_synced_put (message_told (Some k) (proposed r peers b))) put;
+                starts = refl;
+              };
+              sends = refl;
+              answered = refl;
+              finalizations = tt;
+              blocks = (agrees (proposed r peers b) config chain waiting refl step, tt);
+            }) hears (ap (λ xs. s.heard.answers ++ xs) (told_kept r _ _ k s.held u.held did.0 did.1 loaded)) loaded);
+        broke = quiet_cut life epochs inner buffer s law (message_told (Some k) (proposed r peers b)) (put ∷ [])
+            (does (says (send (sent_block r peers b))) ∷ does (keeps_for (keep_verified r b k)) ∷ [])
+            (λ loaded config chain waiting set step. record {
+              quiet = proposed_quiet config waiting;
+              own = λ y has. has;
+              finalizations = tt;
+              blocks = (agrees (proposed r peers b) config chain waiting refl step, tt);
+              owns = (refl, WithinWritten-refl (written_entries (put ∷ [])), refl, tt);
+              asks = refl;
+              sends = refl;
+              answers = (s.held.lowest, ([], refl));
+            });
+      }
 
     -- CERTIFIED BLOCKS
 
-    -- a read shows the same of what was verified
-    same_verified : (mid : Scene) → Reads s mid → is_verified_in mid.held r b ≡ is_verified_in s.held r b
-    same_verified mid reads = ap (λ (x : Scene). list_any (verified_at r b) x.held.cache.kept.held) reads.same
+    certified_quiet : (config : Config) (waiting : Waiting) → LeavesArchives config (node_at s buffer waiting) (message_told (Some k) (certify r b))
+    certified_quiet config waiting = record { effect = refl; undrained = refl; processed = refl; cutoff = refl; storing = refl; position = refl; syncs = refl; witnessing = refl; no_fault = refl; asks = refl; subscriptions = refl; unrefused = λ fault. refl }
 
-    pub certified_ok : (t : Scene) → Runs inner s (does (keeps_for (keep_certified r b k)) ∷ []) t
-        → KeepsStep epochs inner (at life s) (message_told (Some k) (certify r b) ∷ []) buffer s.heard t.heard (Ok (at life t))
-    certified_ok t (mid, after, reads, did, reads') =
-        kept_as life epochs inner (message_told (Some k) (certify r b)) buffer s t (record s.heard { answers = s.heard.answers ++ did.0 })
-        (life_is inner (keep_certified r b k) mid after t did reads' ∙ ap (λ (x : Scene). x.life) reads.same)
-        (heard_is inner (keep_certified r b k) mid after t did reads' ∙ ap (λ (x : Scene). record x.heard { answers = x.heard.answers ++ did.0 }) reads.same)
-        (λ loaded. promise-certified epochs inner partition (at life s) buffer k r b s.heard.reports s.heard.asks s.heard.sends s.heard.sends s.heard.answers
-        (s.heard.answers ++ did.0) t.held did.1.sync law.cached
-        (subst (λ v. KeepsFor r.epoch (notarized_where v r b) (certified_covers r.epoch v) (Some k) did.1.sync s.held t.held) (same_verified mid reads)
-        (KeepsFor-between r.epoch (notarized_where (is_verified_in mid.held r b) r b) (certified_covers r.epoch (is_verified_in mid.held r b))
-        (Some k) did.1.sync s mid after t reads did.1.kept reads')) (Hears-nothing s.heard.sends)
-        (ap (λ xs. s.heard.answers ++ xs) (kept_answers r (notarized_where (is_verified_in mid.held r b) r b)
-        (certified_covers r.epoch (is_verified_in mid.held r b)) k s mid after.held did.0 reads did.1 loaded)) loaded)
+    abbrev was_verified : Bool
+    was_verified = is_verified_in s.held r b
 
-    pub certified_err : (x : Ending) (heard : Heard) → Breaks inner s (does (keeps_for (keep_certified r b k)) ∷ []) x heard
-        → KeepsStep epochs inner (at life s) (message_told (Some k) (certify r b) ∷ []) buffer s.heard heard (Err x)
-    certified_err x heard breaks =
-        let broke = Breaks-leaves inner (written_entry (notarized_entry r b)) (does (keeps_for (keep_certified r b k)) ∷ []) s x heard law
-        (WithinWritten-refl (written_entry (notarized_entry r b)), tt) breaks in
-        let said = kept_broke inner (keep_certified r b k) s x heard (s.held.cache.loaded ≡ true) whole
-        (λ mid after answered reads is loaded. kept_answers r (notarized_where (is_verified_in mid.held r b) r b)
-        (certified_covers r.epoch (is_verified_in mid.held r b)) k s mid after.held answered reads is loaded) breaks in
-        cut_saying epochs inner (at life s) (message_told (Some k) (certify r b)) buffer x s.heard heard [] said.0 said.1
-        (λ loaded config chain waiting set step. (([], refl), (s.held.lowest, said.2 loaded)))
-        (promise-uncertified epochs inner partition (at life s) buffer k r b s.heard.reports s.heard.asks (Some []) (Some []) [] [] x broke.plain broke.loses (Hears-nothing (Some [])) refl)
+    -- what was verified stays so
+    still : (now : Held) (ticket : Option ℕ) → KeepsFor r.epoch (notarized_where was_verified r b) (certified_covers r.epoch was_verified) (Some k) ticket s.held now → s.held.cache.loaded ≡ true
+        → list_any (verified_at r b) now.cache.kept.held ≡ was_verified
+    still now ticket keeps loaded = elim (cases_lt r.epoch s.held.lowest) [
+      | inl low ↦ ap (λ k. list_any (verified_at r b) k.held) (keeps.below low).1
+      | inr from ↦ verified-stays r b was_verified s.held.cache.kept now.cache.kept (keeps.done loaded from).1
+    ]
+
+    of_put : {A : Type 0} (c : Bool) (x : Cached) → Contains (notarized_where c r b) x → (f : Cached → A) {y : A} → f (notarized_entry r b) ≡ y → f x ≡ y
+    of_put true x has f is = contains_none x has
+    of_put false x has f is = of_only f (notarized_entry r b) x has ∙ is
+
+    agree : (chain : Chain) (c : Bool) → Agrees chain b → AreCachedOf chain (notarized_where c r b) × BlocksAgree chain (notarized_where c r b)
+    agree chain true is = (tt, tt)
+    agree chain false is = (tt, (is, tt))
+
+    pub kept_certified : KeepsPlan life epochs inner buffer s ((does (keeps_for (keep_certified r b k)) ∷ [])) (message_told (Some k) (certify r b))
+    kept_certified = record {
+      ran = λ t runs.
+          let (u, did, reads) = runs_first inner (does (keeps_for (keep_certified r b k))) [] s t law runs in
+          done_as life epochs inner (message_told (Some k) (certify r b) ∷ []) buffer s u t (record s { held = u.held; heard = record s.heard { answers = s.heard.answers ++ did.0 } }) did.4 reads
+          (λ loaded. kept epochs inner (at life s) buffer (Some k) (certify r b) s.heard.reports s.heard.asks s.heard.sends s.heard.sends s.heard.answers (s.heard.answers ++ did.0)
+          r.epoch (notarized_where was_verified r b) (certified_covers r.epoch was_verified ∷ []) (Some k) u.held [] law.cached
+          (KeepsEach-for r.epoch (notarized_where was_verified r b) (certified_covers r.epoch was_verified) (Some k) did.1.sync s.held u.held did.1.kept)
+          (λ loaded config chain waiting set step. record {
+            event = record {
+              quiet = certified_quiet config waiting;
+              unfinished = refl;
+              uncovered = refl;
+              no_query = refl;
+              answered = refl;
+              entries = ap (λ c. notarized_where c r b) (still u.held did.1.sync did.1.kept loaded);
+              of_epoch = λ x has. of_put was_verified x has epoch_of refl;
+              by_view = λ x has. of_put was_verified x has is_certified refl;
+              unsynced = λ x has. of_put was_verified x has (is_synced_put (message_told (Some k) (certify r b))) refl;
+              starts = ap (λ c. cond (nat_lt r.epoch s.held.lowest) [] (certified_covers r.epoch c ∷ [])) (still u.held did.1.sync did.1.kept loaded);
+            };
+            sends = refl;
+            answered = refl;
+            finalizations = (agree chain was_verified (agrees (certify r b) config chain waiting refl step)).0;
+            blocks = (agree chain was_verified (agrees (certify r b) config chain waiting refl step)).1;
+          }) (Hears-nothing s.heard.sends) (ap (λ xs. s.heard.answers ++ xs) (told_kept r _ _ k s.held u.held did.0 did.1 loaded)) loaded);
+      broke = quiet_cut life epochs inner buffer s law (message_told (Some k) (certify r b)) (notarized_entry r b ∷ []) (does (keeps_for (keep_certified r b k)) ∷ [])
+          (λ loaded config chain waiting set step. record {
+            quiet = certified_quiet config waiting;
+            own = λ y has. has;
+            finalizations = tt;
+            blocks = (agrees (certify r b) config chain waiting refl step, tt);
+            owns = (refl, WithinWritten-refl (written_entries (notarized_entry r b ∷ [])), refl, tt);
+            asks = refl;
+            sends = refl;
+            answers = (s.held.lowest, ([], refl));
+          });
+    }
 
   -- A SYNC OF THE CACHE
 
@@ -214,31 +226,25 @@ module _ {P E : Type 0} (life : Remembered P E) (epochs : Epochs) (inner : List 
     finishes_kept : finish_plan s.held k ≡ does (keeps_for (finish_kept k)) ∷ []
     finishes_kept = ap (λ c. cond c (does (keeps_for (finish_kept k)) ∷ []) (sync_plan (is_open_sync s.held.writes.syncs k) k)) is_open
 
-    answers_are : (mid after : Scene) (answered : List TicketAnswer) → Reads s mid → IsKept (finish_kept k) mid.held after.held answered → answered ≡ finished_answers k s.held.cache.syncs
-    answers_are mid after answered reads is = is.1 ∙ ap (λ (x : Scene). finished_answers k x.held.cache.syncs) reads.same
+    not_both : is_open_sync s.held.writes.syncs k ≡ false
+    not_both = own_ticket s.held.writes k s.held.cache.syncs law.cached.own_tickets is_open
 
-    kept_ok : (t : Scene) → Runs inner s (does (keeps_for (finish_kept k)) ∷ []) t → KeepsStep epochs inner (at life s) (sync_finished k ∷ []) buffer s.heard t.heard (Ok (at life t))
-    kept_ok t (mid, after, reads, did, reads') =
-        kept_as life epochs inner (sync_finished k) buffer s t (record s.heard { answers = s.heard.answers ++ did.0 })
-        (life_is inner (finish_kept k) mid after t did reads' ∙ ap (λ (x : Scene). x.life) reads.same)
-        (heard_is inner (finish_kept k) mid after t did reads' ∙ ap (λ (x : Scene). record x.heard { answers = x.heard.answers ++ did.0 }) reads.same)
-        (promise-cache_finished epochs inner partition (at life s) buffer k s.heard.reports s.heard.asks s.heard.sends s.heard.answers (s.heard.answers ++ did.0) t.held law.cached
-        (own_ticket s.held.writes k s.held.cache.syncs law.cached.own_tickets is_open)
-        (FinishesCacheSync-between k s mid after t reads did.1.0 reads') (ap (λ xs. s.heard.answers ++ xs) (answers_are mid after did.0 reads did.1)))
-
-    pub cache_finished_ok : (t : Scene) → Runs inner s (finish_plan s.held k) t → KeepsStep epochs inner (at life s) (sync_finished k ∷ []) buffer s.heard t.heard (Ok (at life t))
-    cache_finished_ok t runs = kept_ok t (subst (λ plan. Runs inner s plan t) finishes_kept runs)
-
-    kept_err : (x : Ending) (heard : Heard) → Breaks inner s (does (keeps_for (finish_kept k)) ∷ []) x heard → KeepsStep epochs inner (at life s) (sync_finished k ∷ []) buffer s.heard heard (Err x)
-    kept_err x heard breaks =
-        let broke = Breaks-leaves inner nothing_written (does (keeps_for (finish_kept k)) ∷ []) s x heard law (WithinWritten-refl nothing_written, tt) breaks in
-        let said = kept_broke inner (finish_kept k) s x heard (s.held.cache.loaded ≡ true) (finished_answers k s.held.cache.syncs)
-        (λ mid after answered reads is loaded. answers_are mid after answered reads is) breaks in
-        cut_saying epochs inner (at life s) (sync_finished k) buffer x s.heard heard [] said.0 said.1 (λ loaded config chain waiting set step. (([], refl), (0, said.2 loaded)))
-        (promise-cache_unfinished epochs inner partition (at life s) buffer k s.heard.reports s.heard.asks (Some []) [] x broke.loses (usual_of s.held nothing_written _ x (λ due. elim due [
-          | inl none ↦ none
-          | inr none ↦ none
-        ]) broke))
-
-    pub cache_finished_err : (x : Ending) (heard : Heard) → Breaks inner s (finish_plan s.held k) x heard → KeepsStep epochs inner (at life s) (sync_finished k ∷ []) buffer s.heard heard (Err x)
-    cache_finished_err x heard breaks = kept_err x heard (subst (λ plan. Breaks inner s plan x heard) finishes_kept breaks)
+    pub cache_finished : KeepsPlan life epochs inner buffer s (finish_plan s.held k) (sync_finished k)
+    cache_finished = record {
+      ran = λ t runs.
+          let (u, did, reads) = runs_first inner (does (keeps_for (finish_kept k))) [] s t law (subst (λ plan. Runs inner s plan t) finishes_kept runs) in
+          done_as life epochs inner (sync_finished k ∷ []) buffer s u t (record s { held = u.held; heard = record s.heard { answers = s.heard.answers ++ did.0 } }) did.4 reads
+          (synced.promise-cache_finished epochs inner (at life s) buffer k s.heard.reports s.heard.asks s.heard.sends s.heard.answers (s.heard.answers ++ did.0) u.held law.cached not_both
+          did.1.0 (ap (λ xs. s.heard.answers ++ xs) did.1.1));
+      broke = λ x heard breaks. quiet_cut life epochs inner buffer s law (sync_finished k) [] (does (keeps_for (finish_kept k)) ∷ [])
+          (λ loaded config chain waiting set step. record {
+            quiet = synced.quiet epochs inner (at life s) buffer k config waiting not_both;
+            own = λ y has. contains_none y has;
+            finalizations = tt;
+            blocks = tt;
+            owns = (refl, WithinWritten-refl nothing_written, refl, tt);
+            asks = refl;
+            sends = refl;
+            answers = (0, ([], sym (append-nil (finished_answers k s.held.cache.syncs ++ []) ∙ append-nil (finished_answers k s.held.cache.syncs))));
+          }) x heard (subst (λ plan. Breaks inner s plan x heard) finishes_kept breaks);
+    }

@@ -1,28 +1,28 @@
 -- A life that begins, by its plan: what is promised of it today.
-use Rattle.std.specs.Prelude.{⊤}
 use Rattle.std.proofs.Common.{◌≡◌, ◌⊎◌, inl, inr, ◌∷◌, [], List, Option, None, Some, Result, Ok, Err, ◌++◌, ℕ, refl, sym, ◌∙◌, ap, subst}
+use Rattle.std.specs.Prelude.{⊤}
 use Rattle.mar_types.specs.Epochs.{Epochs, IsPartition}
 use Rattle.mar_cert.specs.Block.{Block}
 use Rattle.mar_cert.specs.Finalization.{Finalization}
-use Rattle.mar_key.specs.Hears.{Hears}
 use Rattle.mar_store.specs.Kept.{At}
+use Rattle.mar_key.specs.Hears.{Hears}
 use Rattle.mar_model.specs.Event.{life_started}
 use Rattle.mar_model.specs.Held.{Ending, IsUsual, Loses, Remembered, Seen, nothing_written, seen}
 use Rattle.mar_model.specs.Moves.{IsRead, LoadsCache, newest_tips, newest_tip, with_newest, with_watches}
 use Rattle.mar_model.specs.Promise.{Heard, KeepsPromise, KeepsStart, heard_by}
 use Rattle.mar_model.specs.Stored.{newest}
-use Rattle.mar_model.proofs.Growing.{Grew-refl, WithinWritten-refl}
-use Rattle.mar_model.proofs.Handing.{Hears-nothing, Ran as Dispatched}
 use Rattle.mar_model.specs.Faults.{want_of_memory}
-use Rattle.mar_model.proofs.Outcomes.{goes_on_memory}
-use Rattle.mar_model.proofs.StartEvent.{promise-start, promise-unloaded, promise-untold}
-use Rattle.mar_model.proofs.SyncPromise.{at}
 use Rattle.mar_model.specs.Acts.{AreLawful, LosesOver, TakesUpCache, caches, load_cache, says, tell}
 use Rattle.mar_model.specs.Plans.{newest_plan, start_plan}
 use Rattle.mar_model.specs.Ran.{Breaks, DoesTask, FailsRead, FailsTask, Reads, Runs, Task, dispatches, does}
 use Rattle.mar_model.specs.Scene.{Scene}
+use Rattle.mar_model.proofs.Growing.{Grew-refl, WithinWritten-refl}
+use Rattle.mar_model.proofs.Handing.{Hears-nothing, Ran as Dispatched}
+use Rattle.mar_model.proofs.Outcomes.{goes_on_memory}
+use Rattle.mar_model.proofs.StartEvent.{promise-start, promise-unloaded, promise-untold}
+use Rattle.mar_model.proofs.SyncPromise.{at}
 use Rattle.mar_model.proofs.Unread.{breaks_first, lost_before, runs_first}
-use Rattle.mar_model.proofs.Stopping.{dispatch_broke, dispatch_ran, start_beside, start_stopped}
+use Rattle.mar_model.proofs.Stopping.{dispatch_broke, dispatch_ran, start_beside}
 
 module _ {P E : Type 0} (life : Remembered P E) (epochs : Epochs) (inner : List ℕ → List ℕ) (partition : IsPartition epochs) (buffer : List Block) (s : Scene) (law : AreLawful s.held) where
   abbrev Started : Heard → Result (Seen P E) Ending → Type 0
@@ -113,7 +113,7 @@ module _ {P E : Type 0} (life : Remembered P E) (epochs : Epochs) (inner : List 
         by (inr (inl (mid, reads, (over, usual, same)))) = unloaded x heard (lost_before inner m mid nothing_written x reads over) usual (same ∙ ap (λ (y : Scene). y.heard) reads.same)
         by (inr (inr (n, did, rest))) =
             let (stops, same) = dispatch_broke life inner n x heard did.2 rest in
-            start_stopped life epochs inner (at life s) (at life n) (life_started None ∷ []) buffer s.heard heard n.heard.reports x stops (started n (Err stops.e) heard did stops.ran same)
+            subst (λ y. Started heard (Err y)) stops.seems (started n (Err stops.e) heard did stops.ran same)
 
   untold : (x : Ending) (heard : Heard) → LosesOver s.held nothing_written x → IsUsual x.fault → Hears s.heard.reports [] heard.reports → heard ≡ record s.heard { reports = heard.reports }
       → Started heard (Err x)

@@ -1,42 +1,36 @@
 -- An event that reached some node, and handed over from there, is a step or a cut.
-use Rattle.std.proofs.Common.{◌≡◌, ◌⊎◌, inl, inr, ℕ, ◌+◌, ◌<◌, ◌≤◌, List, [], ◌∷◌, ◌++◌, length, map, false, Option, Some, None, option_map, Result, Ok, Err, IsTrue, Contains, refl, sym, ◌∙◌, ap, ap₂, subst, arith, append-nil}
+use Rattle.std.proofs.Common.{◌≡◌, ◌⊎◌, inr, ℕ, ◌+◌, ◌<◌, ◌≤◌, List, [], ◌∷◌, ◌++◌, length, map, false, Option, Some, option_map, Result, Ok, Err, IsTrue, Contains, refl, sym, ◌∙◌, ap, subst, arith, append-nil, ap₂}
 use Rattle.std.specs.List.{AllByRecursion}
 use Rattle.mar_cert.specs.Block.{Block}
 use Rattle.mar_key.specs.Hears.{Hears}
 use Rattle.mar_key.specs.Keys.{Call}
 use Rattle.mar_key.specs.Processed.{first_unprocessed, height_in}
-use Rattle.mar_store.specs.Kept.{At, has_height, value_at}
+use Rattle.mar_store.specs.Kept.{has_height, value_at}
 use Rattle.mar_store.specs.Changes.{KeepsValues, left_of}
-use Rattle.mar_store.proofs.Lookups.{AllByRecursion-value_at, has_height-from_value}
+use Rattle.mar_store.proofs.Lookups.{has_height-from_value}
 use Rattle.mar_model.specs.Metadata.{Pair, first_pair, pair_of}
-use Rattle.mar_model.specs.Chain.{Chain, IsBlockAt}
+use Rattle.mar_model.specs.Chain.{Chain}
 use Rattle.mar_model.specs.Answers.{sends_of}
 use Rattle.mar_model.specs.Config.{Config}
 use Rattle.mar_model.specs.Event.{Event, cutoff_after, no_floor, processed_after, undrained_blocks}
-use Rattle.mar_model.specs.Faults.{Fault, ack_kind, is_by_value, meta_store, next_after, store_fault, ticket_limit}
-use Rattle.mar_model.specs.Held.{Ending, IsArchiveFault, LeavesStore, Seen, blocks_left, cache_left, certs_left, seen}
+use Rattle.mar_model.specs.Faults.{Fault, is_by_value, next_after}
+use Rattle.mar_model.specs.Held.{Ending, LeavesStore, Seen, blocks_left, cache_left, certs_left, seen}
 use Rattle.mar_model.specs.Lives.{Cuts, NotBelow, Reached, is_dropped_ack, is_refused_floor, reached_after}
-use Rattle.mar_model.specs.Moves.{IsLastTicket, IsStarted, IsStill, StopsHanding, handed_report, next_in, with_handed}
-use Rattle.mar_model.specs.Step.{HeldFrom}
-use Rattle.mar_model.specs.Node.{AreBlocksOf, Ended, IsGood, Node, Rest}
+use Rattle.mar_model.specs.Moves.{IsStarted, IsStill, handed_report, next_in, with_handed}
+use Rattle.mar_model.specs.Node.{Ended, IsGood, Node, Rest}
 use Rattle.mar_gate.specs.Writing.{total_writes}
 use Rattle.mar_model.specs.Promise.{FinishesStep, IsGoodUntold, IsLawfulStep, StepsOrCuts, Waiting, asked_since, heard_by, made_of, node_of, knowing, IsKnownSince}
 use Rattle.mar_model.specs.Requests.{own_asks}
 use Rattle.mar_model.specs.Sound.{IsSafePair}
 use Rattle.mar_model.specs.Step.{AreHandedOf, HandedBlock, HandedFrom, Report, Steps, handed_blocks}
-use Rattle.mar_model.proofs.Cutting.{Cuts-left, LeavesStores, MayBeLeft, contains_first, keeps_heights, keeps_sure, never, only_one, some_from_first, usual_from_archive, usual_not_by_value, usual_not_dropped}
+use Rattle.mar_model.proofs.Cutting.{Cuts-left, LeavesStores, MayBeLeft, contains_first, keeps_heights, keeps_sure, never, only_one, some_from_first}
 use Rattle.mar_model.proofs.CacheOver.{LeavesCache-still}
 use Rattle.mar_model.proofs.FloorSafety.{next_after-is}
 use Rattle.mar_model.proofs.Growing.{LeavesStore-then}
-use Rattle.mar_model.proofs.Handing.{HandedFrom-held, Hears-then, Ran, sure_below, sure_value, with_handed-none}
+use Rattle.mar_model.proofs.Handing.{AreHandedOf-values, HandedFrom-held, Hears-then, Ran, sure_below, sure_value, with_handed-none, Stops}
 use Rattle.mar_model.proofs.OutstandingLemmas.{first_unprocessed-rises}
 use Rattle.mar_model.proofs.Reaching.{HandsSure-next, HandsSure-none, IsGood-handed, Reaches, Rest-still, Steps-reached, Steps-started, handed_after_tips, next_is, tips_before_handed, tips_of_both}
-use Rattle.mar_model.proofs.Soundness.{IsFrom, IsSafePair-kept, own_pair_safe, untold}
-
--- each held block that is handed over is sure with its value
-AreHandedOf-values : (chain : Chain) (held sure : List (At Block)) (uncovered : List ℕ) (ticket height : ℕ) (xs : List HandedBlock) → AreBlocksOf chain held → ((h : ℕ) (b : Block) → AllByRecursion (λ k. h < k) uncovered → value_at held h ≡ Some b → value_at sure h ≡ Some b) → AllByRecursion (λ x. AllByRecursion (λ k. x.block.height < k) uncovered) xs → HeldFrom held ticket height xs → AreHandedOf chain sure xs
-AreHandedOf-values chain held sure uncovered ticket height [] blocks all below line = tt
-AreHandedOf-values chain held sure uncovered ticket height (x ∷ xs) blocks all below line = ((subst (λ k. IsBlockAt chain k x.block) (sym line.1) (AllByRecursion-value_at (λ y. IsBlockAt chain y.height y.value) held height x.block blocks line.2), subst (λ k. value_at sure k ≡ Some x.block) (sym line.1) (all height x.block (subst (λ h. AllByRecursion (λ k. h < k) uncovered) line.1 below.0) line.2)), AreHandedOf-values chain held sure uncovered (ticket + 1) (height + 1) xs blocks all below.1 line.3)
+use Rattle.mar_model.proofs.Soundness.{from_none, IsSafePair-kept, own_pair_safe, untold}
 
 module _ {P E : Type 0} (config : Config) (chain : Chain) (a m : Seen P E) (e : Event) (buffer : List Block) (waiting : Waiting) (tips : List Report)
     (window : config.window ≡ m.life.sizes.window) (step : IsLawfulStep config chain (node_of a buffer waiting) (e ∷ [])) (unrefused : (fault : Fault) → is_refused_floor e fault ≡ false)
@@ -60,7 +54,7 @@ module _ {P E : Type 0} (config : Config) (chain : Chain) (a m : Seen P E) (e : 
         let rises : first_unprocessed a.held.processed ≤ first_unprocessed m.held.processed = subst (λ p. first_unprocessed a.held.processed ≤ first_unprocessed p) (sym reach.processed) (first_unprocessed-rises n e no_floor good_before.1.heights.delivery.consecutive) in
         omega arith
 
-    module _ (handed : List HandedBlock) (x : Ending) (stops : StopsHanding m handed x) where
+    module _ (handed : List HandedBlock) (x : Ending) (stops : Stops m handed x) where
       abbrev left : Ended
       left = x.remains.ended
 
@@ -112,16 +106,10 @@ module _ {P E : Type 0} (config : Config) (chain : Chain) (a m : Seen P E) (e : 
           is : pair_of m.held.processed m.held.cutoff ≡ p
           is = only_one (pair_of m.held.processed m.held.cutoff) p (subst (λ ps. Contains ps p) (append-nil m.held.pairs ∙ good.heights.own_pair) (stops.lost.leaves.pairs.within p has))
 
-          from : (o : Option ℕ) → IsFrom 0 o
-          from None = tt
-          from (Some h) = omega arith
-
           safe : IsSafePair chain left.blocks_sure (pair_of m.held.processed m.held.cutoff)
-          safe = IsSafePair-kept chain 0 m.held.blocks.sure left.blocks_sure (pair_of m.held.processed m.held.cutoff) (λ h low there. keeps_heights m.held.blocks.sure left.blocks_sure kept h there) (from (option_map height_in m.held.processed)) (own_pair_safe chain (node_of m buffer waiting) good.heights.delivery.anchored good.of_chain.floor_safe)
-
-      by_kind : IsArchiveFault x.fault ⊎ ((x.fault ≡ ticket_limit ack_kind) × IsLastTicket m (length handed)) → (is_by_value x.fault ≡ false) × (is_dropped_ack x.fault ≡ false) × (x.fault ≡ store_fault meta_store → ⊥)
-      by_kind (inl of_blocks) = (usual_not_by_value x.fault (usual_from_archive x.fault of_blocks), usual_not_dropped x.fault (usual_from_archive x.fault of_blocks), λ is. absurd (subst IsArchiveFault is of_blocks))
-      by_kind (inr limit) = (ap is_by_value limit.0, ap is_dropped_ack limit.0, λ is. let both : ticket_limit ack_kind ≡ store_fault meta_store = sym limit.0 ∙ is in cc)
+          safe = IsSafePair-kept chain 0 m.held.blocks.sure left.blocks_sure (pair_of m.held.processed m.held.cutoff)
+              (λ h low there. keeps_heights m.held.blocks.sure left.blocks_sure kept h there) (from_none (option_map height_in m.held.processed))
+              (own_pair_safe chain (node_of m buffer waiting) good.heights.delivery.anchored good.of_chain.floor_safe)
 
       abbrev reached : Reached
       reached = reached_after n e no_floor
@@ -139,11 +127,11 @@ module _ {P E : Type 0} (config : Config) (chain : Chain) (a m : Seen P E) (e : 
           (subst (λ xs. HandedFrom left.blocks_sure a.life.next_ack (next_after (option_map height_in m.held.processed) + length (undrained_blocks n e)) xs) (sym blocks_are) in_order))
           (subst (AreHandedOf chain left.blocks_sure) (sym blocks_are) (AreHandedOf-values chain m.held.blocks.held left.blocks_sure m.held.writes.uncovered m.life.next_ack (next_in m) handed good.of_chain.stores.held_blocks value_from_held stops.below_barrier stops.next))
           leaves (some_from_first left.meta (pair_of m.held.processed m.held.cutoff) first)
-          (inr ((by_kind stops.kind).2, first ∙ ap Some (sym pair_is)))
+          (inr (stops.unsynced, first ∙ ap Some (sym pair_is)))
           each
-          (λ is. absurd (never (is_by_value x.fault) (by_kind stops.kind).0 is))
+          (λ is. absurd (never (is_by_value x.fault) stops.no_value is))
           (never (is_refused_floor e x.fault) (unrefused x.fault))
-          (λ is. absurd (never (is_dropped_ack x.fault) (by_kind stops.kind).1 is))
+          (λ is. absurd (never (is_dropped_ack x.fault) stops.undropped is))
           ([], sym (append-nil (own_asks config n e no_floor)))
 
     -- what a dispatch from the reached node makes of the step

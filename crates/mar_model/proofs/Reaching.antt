@@ -2,14 +2,15 @@
 use Rattle.std.proofs.Common.{◌≡◌, ◌⊎◌, inl, inr, ⊎_elim, ℕ, zero, suc, ◌+◌, ◌-◌, ◌<◌, ◌≤◌, ◌^◌, List, [], ◌∷◌, ◌++◌, length, map, true, false, Option, Some, None, option_to_list, IfSome, IsTrue, Contains, slice_get, ◌==◌, refl, sym, ◌∙◌, ap, subst, arith, length-append}
 use Rattle.std.specs.Bool.{⊤}
 use Rattle.std.specs.List.{AllByRecursion, filter_map, list_any}
-use Rattle.std.proofs.lemmas.List.Elements.{Contains-append_cases}
+use Rattle.std.proofs.lemmas.List.Elements.{Contains-append_cases, Contains-append_left}
 use Rattle.mar_cert.specs.Block.{Block}
 use Rattle.mar_cert.specs.Finalization.{Finalization}
-use Rattle.mar_key.specs.Keys.{Call}
-use Rattle.mar_key.specs.Processed.{first_unprocessed}
+use Rattle.mar_gate.specs.Writing.{total_writes}
 use Rattle.mar_store.specs.Kept.{At, has_height, value_at}
 use Rattle.mar_store.specs.Changes.{KeepsValues}
 use Rattle.mar_store.proofs.Lookups.{AllByRecursion-append, AllByRecursion-value_at}
+use Rattle.mar_key.specs.Keys.{Call}
+use Rattle.mar_key.specs.Processed.{first_unprocessed}
 use Rattle.mar_model.specs.Answers.{answers_of, certified_after, is_known, sends_of, subscriptions_after}
 use Rattle.mar_model.specs.Cache.{started_syncs}
 use Rattle.mar_model.specs.Chain.{Chain, IsBlockAt, IsLawful}
@@ -19,11 +20,10 @@ use Rattle.mar_model.specs.Event.{Event, acked_to, blocks_from, brought_block, c
 use Rattle.mar_model.specs.Faults.{event_fault, last_height}
 use Rattle.mar_model.specs.Held.{Seen}
 use Rattle.mar_model.specs.Moves.{AreNextHeld, HasRoom, IsBelowWrites, IsStarted, IsStill, handed_report, next_in, with_handed}
-use Rattle.mar_model.specs.Node.{AreBlocksOf, AreFinalizationsOf, AreHonest, CertifiedCommitment, IsGood, Node, Rest, block_missing, empty_inbox, empty_peers, floor_awaited, window_full, write_count, write_uncovered}
+use Rattle.mar_model.specs.Node.{AreBlocksOf, AreFinalizationsOf, AreHonest, CertifiedCommitment, IsGood, Node, Rest, block_missing, empty_inbox, empty_peers, window_full, write_count, write_uncovered}
 use Rattle.mar_model.specs.Promise.{IsKnownSince, ReportsFinalized, Waiting, asked_since, knowing, made_of, node_of}
-use Rattle.mar_gate.specs.Writing.{total_writes}
 use Rattle.mar_model.specs.Requests.{own_asks}
-use Rattle.mar_model.specs.Step.{AdvancesBy, AreHandedOf, AreTipsOf, CertificatesFrom, HandedBlock, HandedFrom, HandsOver, IsBlockFrom, IsCertFrom, IsStored, IsStoredLate, KeepsFrom, Report, Steps, TipsFrom, Writes, handed_blocks, handed_over, new_tip, outstanding_of}
+use Rattle.mar_model.specs.Step.{AdvancesBy, AreHandedOf, AreTipsOf, CertificatesFrom, EntersAt, HandedBlock, HandedFrom, HandsOver, IsBlockFrom, IsCertFrom, IsStored, IsStoredLate, KeepsFrom, Report, Steps, TipsFrom, Writes, handed_blocks, handed_over, new_tip, outstanding_of, own_heights}
 use Rattle.mar_model.proofs.CacheBeside.{AdvancesCache-beside}
 use Rattle.mar_model.proofs.CacheOver.{MovesCache}
 use Rattle.mar_model.proofs.Growing.{Grown}
@@ -31,6 +31,7 @@ use Rattle.mar_model.proofs.Handing.{AreHandedOf-held, HandedFrom-held, handed_b
 use Rattle.mar_model.proofs.HonestAsks.{AreHonest-asked_after, own_asks-honest}
 use Rattle.mar_model.proofs.OutstandingLemmas.{ConsecutiveFrom-append, ConsecutiveFrom-handed}
 use Rattle.mar_model.proofs.SyncTickets.{with_sync-unwritten, with_sync-written}
+use Rattle.mar_model.proofs.StillGood.{Rest-with, IsGood-with}
 
 -- REPORTS
 
@@ -39,6 +40,11 @@ abbrev pub AreTips : List Report → Type 0
 AreTips [] = ⊤
 AreTips (new_tip r h d ∷ reports) = AreTips reports
 AreTips (handed_over t b ∷ reports) = ⊥
+
+pub no_handed : (reports : List Report) → AreTips reports → handed_blocks reports ≡ []
+no_handed [] is = refl
+no_handed (new_tip r h d ∷ reports) is = no_handed reports is
+no_handed (handed_over t b ∷ reports) is = absurd is
 
 pub handed_after_tips : (tips : List Report) (xs : List HandedBlock) → AreTips tips → handed_blocks (tips ++ map handed_report xs) ≡ xs
 handed_after_tips [] xs only = handed_blocks-is xs
@@ -162,6 +168,8 @@ pub record Reaches {P E : Type 0} (config : Config) (chain : Chain) (a : Seen P 
   pub certificates : CertificatesFrom (node_of a buffer waiting) e (node_of m buffer waiting)
   pub writes : Writes (node_of a buffer waiting) e no_floor (node_of m buffer waiting)
   pub no_repair : writes.repaired ≡ []
+  pub unblocked : writes.blocking ≡ 0
+  pub enters : EntersAt (own_heights (node_of a buffer waiting) e no_floor) (node_of a buffer waiting) (node_of m buffer waiting)
   pub are_tips : AreTips tips
   pub tips_rise : TipsFrom a.life.tip tips m.life.tip
   pub tips_chain : AreTipsOf chain tips
@@ -196,30 +204,11 @@ plus_none k = omega arith
 
 -- another buffer and other requests stand beside it
 pub Rest-beside : {P E : Type 0} (window : ℕ) (m : Seen P E) (buffer buffer' : List Block) (waiting waiting' : Waiting) → Rest window (node_of m buffer waiting) → Rest window (node_of m buffer' waiting')
-Rest-beside window m buffer buffer' waiting waiting' (floor_awaited some) = absurd cc
-Rest-beside window m buffer buffer' waiting waiting' (window_full full) = window_full full
-Rest-beside window m buffer buffer' waiting waiting' (block_missing missing) = block_missing missing
-Rest-beside window m buffer buffer' waiting waiting' (write_uncovered h waits low) = write_uncovered h waits low
+Rest-beside window m buffer buffer' waiting waiting' rests = Rest-with window m m.held.cache m.held.writes.next_sync m.held.watches buffer buffer' waiting waiting' rests
 
 pub IsGood-beside : {P E : Type 0} (config : Config) (chain : Chain) (m : Seen P E) (buffer buffer' : List Block) (waiting waiting' : Waiting) → AreHonest chain waiting'.requests → IsGood config chain (node_of m buffer waiting) → IsGood config chain (node_of m buffer' waiting')
-IsGood-beside config chain m buffer buffer' waiting waiting' honest good = record {
-  heights = record {
-    stores = good.heights.stores;
-    delivery = good.heights.delivery;
-    floor_clears = good.heights.floor_clears;
-    own_pair = good.heights.own_pair;
-    sync_open = good.heights.sync_open;
-  };
-  of_chain = record {
-    stores = good.of_chain.stores;
-    cache = good.of_chain.cache;
-    asks = record { requests = honest; ready = good.of_chain.asks.ready; overflow = good.of_chain.asks.overflow };
-    awaits = tt;
-    not_at_hand = tt;
-    floor_safe = good.of_chain.floor_safe;
-    tip_reported = good.of_chain.tip_reported;
-  };
-}
+IsGood-beside config chain m buffer buffer' waiting waiting' honest good =
+    IsGood-with config chain m m.held.cache m.held.writes.next_sync m.held.watches buffer buffer' waiting waiting' honest good.of_chain.cache good
 
 -- What is handed over from a good node: each the next held block, and sure.
 pub record HandsSure {P E : Type 0} (chain : Chain) (m : Seen P E) (handed : List HandedBlock) : Type 0 where
@@ -306,6 +295,9 @@ module _ {P E : Type 0} (config : Config) (chain : Chain) (a m : Seen P E) (e : 
         syncs = reach.writes.syncs;
       };
       repairs = record { at_hand = λ h b any is. absurd (none_repaired h any); with_finalization = λ h b any is some. absurd (none_repaired h any) };
+      unrepaired = λ is. reach.no_repair;
+      unblocked = λ is. reach.unblocked;
+      enters = record { blocks = λ h has. ⊎_elim (λ there. inl there) (λ own. inr (Contains-append_left (own_heights n e no_floor) reach.writes.repaired h own)) (reach.enters.blocks h has); certs = λ h has. ⊎_elim (λ there. inl there) (λ own. inr (Contains-append_left (own_heights n e no_floor) reach.writes.repaired h own)) (reach.enters.certs h has) };
       tips = tips_before_handed a.life.tip m.life.tip tips handed reach.are_tips reach.tips_rise;
       tips_chain = tips_of_both chain tips handed reach.are_tips reach.tips_chain;
       awaited = refl;

@@ -147,7 +147,7 @@ module _ (old_blocks : Left (At Block)) (old_certs : Left (At Finalization)) (ol
             passed_four = ArePassed-then watches two four passed_two (ArePassed-store two meta_store wm passed_meta)
 
         -- and what each found is what its luck keeps
-        pub reopens : (luck : ℕ) (cache : HeldCache) (lowest : ℕ) (lowests : List ℕ) (ws : Watch) → IsUnloaded old_cache.sure old_cache.may (left_of cache.kept) → cache.kept.held ≡ [] → cache.fresh ≡ true → cache.finds ≡ option_map (λ keeps. lucky_entries (keeps_by keeps luck) old_cache) watches.cache.keeps → cache.syncs ≡ [] → Contains (0 ∷ lowests) lowest → Within lowests old_lowests → Passes watches.cache ws → 0 < length old_values → IfSome watches.blocks.keeps (λ keeps. blocks.held ≡ lucky_found (keeps_by keeps luck) old_blocks) → IfSome watches.certs.keeps (λ keeps. certs.held ≡ lucky_found (keeps_by keeps luck) old_certs) → IfSome watches.meta.keeps (λ keeps. values ≡ lucky_values (keeps_by keeps luck 0) old_values) → ReopensAs old luck (record { blocks = blocks; certs = certs; processed = progress.processed; cutoff = progress.cutoff; witnessed = progress.witnessed; pairs = progress.pairs; cache = cache; lowest = lowest; lowests = lowests; writes = no_writes; watches = record { blocks = wb; certs = wc; meta = progress.watch; cache = ws }; intact = progress.intact })
+        pub reopens : (luck : ℕ) (cache : HeldCache) (lowest : ℕ) (lowests : List ℕ) (ws : Watch) → IsUnloaded old_cache.sure old_cache.may (left_of cache.kept) → cache.kept.held ≡ [] → cache.fresh ≡ true → cache.finds ≡ option_map (λ keeps. lucky_entries (keeps_by keeps luck) old_cache) watches.cache.keeps → cache.syncs ≡ [] → Contains lowests lowest → Within lowests old_lowests → Passes watches.cache ws → 0 < length old_values → IfSome watches.blocks.keeps (λ keeps. blocks.held ≡ lucky_found (keeps_by keeps luck) old_blocks) → IfSome watches.certs.keeps (λ keeps. certs.held ≡ lucky_found (keeps_by keeps luck) old_certs) → IfSome watches.meta.keeps (λ keeps. values ≡ lucky_values (keeps_by keeps luck 0) old_values) → ReopensAs old luck (record { blocks = blocks; certs = certs; processed = progress.processed; cutoff = progress.cutoff; witnessed = progress.witnessed; pairs = progress.pairs; cache = cache; lowest = lowest; lowests = lowests; writes = no_writes; watches = record { blocks = wb; certs = wc; meta = progress.watch; cache = ws }; intact = progress.intact })
         reopens luck cache lowest lowests ws unloaded unheld fresh finds no_syncs lowest_is lowests_were passes some lucky_blocks lucky_certs lucky_meta = record {
           blocks = reopened;
           certs = certs_reopened;

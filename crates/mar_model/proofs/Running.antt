@@ -1,7 +1,7 @@
 -- The law of composition, and how a call's clauses give its task.
 use Rattle.std.proofs.Common.{◌≡◌, inl, inr, ◌∷◌, [], List, Result, Ok, Err, IfErr, IfOk, OnOk, Option, Bool, true, false, cond, nat_lt, Some, ℕ, ◌<◌, ◌≤◌, arith, refl, sym, ◌∙◌, ap, subst}
-use Rattle.mar_model.specs.Faults.{Fault, meta_store, store_fault, want_of_memory}
-use Rattle.mar_model.specs.Held.{AreCached, ArePassed, AreWritten, Ending, LosesSince, GoesOn, Held, IsArchiveFault, IsUsual, MakesSure, Remembered, ended_on, nothing_written, seen, written_both, written_cert, written_entry, written_pair}
+use Rattle.mar_model.specs.Faults.{Fault, want_of_memory}
+use Rattle.mar_model.specs.Held.{ArePassed, AreWritten, Ending, LosesSince, GoesOn, Held, IsArchiveFault, IsUsual, MakesSure, ended_on, nothing_written, written_both, written_cert, written_entry, written_pair}
 use Rattle.mar_model.specs.Moves.{CachesFinalization, HearsUpTo, PrunesCacheBy, StoresWhere, at_height, lacks_finalization, pruned_by, with_cache_of}
 use Rattle.mar_model.specs.Promise.{Heard, heard_with}
 use Rattle.mar_model.specs.Answers.{Sent, TicketAnswer}
@@ -13,13 +13,13 @@ use Rattle.mar_key.specs.Cutoff.{at_round, greatest_of}
 use Rattle.mar_types.specs.Round.{Round}
 use Rattle.mar_cert.specs.Block.{Block}
 use Rattle.mar_cert.specs.Finalization.{Finalization}
-use Rattle.mar_store.specs.Changes.{IsNested, Puts}
+use Rattle.mar_store.specs.Changes.{Puts}
 use Rattle.mar_model.specs.Cached.{finalization_entry}
 use Rattle.mar_model.specs.Lives.{later_round}
 use Rattle.mar_model.specs.Metadata.{pair_of}
 use Rattle.mar_model.specs.Requests.{raise_asks}
 use Rattle.mar_model.specs.Stored.{at_own_height, is_certified, is_held}
-use Rattle.mar_model.proofs.Handing.{Hears-nothing, Ran as Dispatched}
+use Rattle.mar_model.proofs.Handing.{Hears-nothing, Delivers as Dispatched}
 use Rattle.mar_model.specs.Writing.{with_finished, with_write}
 use Rattle.mar_model.specs.Acts.{AreLawful, IsFaultIn, IsStored, Joins, LosesOver, StoreAct, caches, ask, finish_sync, note, progresses, put_finalization, says, store, store_late, stores, tell, written_stored}
 use Rattle.mar_model.specs.Plans.{let_go_plan}
@@ -29,13 +29,13 @@ use Rattle.mar_model.specs.Scene.{Scene, Standing, Window, scene, seen_of, windo
 pub Reads-refl : (s : Scene) → Reads s s
 Reads-refl s = record { joins = λ start all grew within. grew; same = refl }
 
-Reads-then : (s t u : Scene) → Reads s t → Reads t u → Reads s u
+pub Reads-then : (s t u : Scene) → Reads s t → Reads t u → Reads s u
 Reads-then s t u first second = record {
   joins = λ start all grew within. second.joins start all (first.joins start all grew within) within;
   same = second.same ∙ ap (λ (x : Scene). record x { held = record x.held { watches = u.held.watches } }) first.same;
 }
 
-FailsRead-then : (s t : Scene) (e : Ending) (heard : Heard) → Reads s t → FailsRead t e heard → FailsRead s e heard
+pub FailsRead-then : (s t : Scene) (e : Ending) (heard : Heard) → Reads s t → FailsRead t e heard → FailsRead s e heard
 FailsRead-then s t e heard reads fails = record {
   loses = λ start all grew within. fails.loses start all (reads.joins start all grew within) within;
   usual = fails.usual;
@@ -84,11 +84,6 @@ Does-task inner fault k old new (Err c) did fails = λ start whole rest reached.
 pub Breaks-ended : (inner : List ℕ → List ℕ) (start : Scene) (whole : List Task) (fault : Fault) (rest : List Task) (old : Scene) → Reached inner start whole (ends fault ∷ rest) old → Breaks inner start whole (ended_on fault old.held) old.heard
 Breaks-ended inner start whole fault rest old reached = Breaks-now inner start whole (ends fault) rest old _ _ reached (refl, refl)
 
--- the law of the stores, said behind a call that left them whole
-pub lawful_then : {T C : Type 0} (new left : Held) (result : Result T C) → OnOk result (new ≡ left) → left.intact ≡ true → (new.intact ≡ true → IsNested new.blocks) → (new.intact ≡ true → IsNested new.certs) → (new.intact ≡ true → AreWritten new) → (new.intact ≡ true → AreCached new) → OnOk result (AreLawful new)
-lawful_then new left (Ok x) is whole blocks certs written cached = let kept = ap (λ h. h.intact) is ∙ whole in record { blocks = blocks kept; certs = certs kept; written = written kept; cached = cached kept }
-lawful_then new left (Err c) is whole blocks certs written cached = tt
-
 -- A CALL OF THE STORES ALONE
 
 module _ {T C : Type 0} (inner : List ℕ → List ℕ) (fault : C → Fault) (old new : Held) (life : Window) (standing : Standing) (heard : Heard) where
@@ -105,15 +100,7 @@ module _ {T C : Type 0} (inner : List ℕ → List ℕ) (fault : C → Fault) (o
   Does-put f b (Ok x) blocks certs same lawful goes archive = Does-stored (store f b) (Ok x) (record { blocks = blocks; certs = certs; same = same }) lawful goes archive
   Does-put f b (Err c) blocks certs same lawful goes archive = Does-stored (store f b) (Err c) tt tt goes archive
 
-  -- the stores were read
-  pub Does-read : (result : Result T C) → OnOk result (new ≡ record old { watches = new.watches }) → GoesOn fault old nothing_written new result → IfErr result (λ c. IsUsual (fault c)) → IfErr result (λ c. fault c ≡ store_fault meta_store → ⊥) → Does inner fault [] (scene old life standing heard) (scene new life standing heard) result
-  Does-read (Ok x) same goes usual apart = λ start whole rest reached. Reached-read inner start whole rest _ _ reached (record { joins = goes; same = ap (λ h. scene h life standing heard) same })
-  Does-read (Err c) same goes usual apart = λ start whole rest reached. reached.breaks _ _ (Breaks-unread inner rest (record { loses = goes; usual = usual; unsynced = apart; same = refl }))
-
 module _ (inner : List ℕ → List ℕ) (start : Scene) (whole rest : List Task) (old : Held) (life : Window) (standing : Standing) (heard : Heard) where
-  pub failed-read : {e : Ending} → Reached inner start whole rest (scene old life standing heard) → LosesOver old nothing_written e → IsUsual e.fault → (e.fault ≡ store_fault meta_store → ⊥) → Breaks inner start whole e heard
-  failed-read reached goes usual apart = reached.breaks _ _ (Breaks-unread inner rest (record { loses = goes; usual = usual; unsynced = apart; same = refl }))
-
   pub cached-done : (f : Finalization) (new : Held) → Reached inner start whole (does (caches (put_finalization f)) ∷ rest) (scene old life standing heard) → CachesFinalization f old new → AreLawful new → Joins old (written_entry (finalization_entry f)) new → Reached inner start whole rest (scene new life standing heard)
   cached-done f new reached is lawful joins = Reached-more inner start whole _ rest _ _ reached (is, joins, lawful, refl)
 

@@ -5,13 +5,13 @@ use Rattle.std.proofs.lemmas.List.{map-append}
 use Rattle.mar_types.specs.Round.{Round}
 use Rattle.mar_key.specs.Hears.{Hears}
 use Rattle.mar_model.specs.Faults.{Fault, ack_kind, is_by_value, ticket_limit}
-use Rattle.mar_model.specs.Held.{Ending, IsArchiveFault, Remembered, Seen}
+use Rattle.mar_model.specs.Held.{Ending, Held, IsArchiveFault, Remembered, Seen}
 use Rattle.mar_model.specs.Moves.{handed_report, tips_above}
 use Rattle.mar_model.specs.Promise.{Heard}
 use Rattle.mar_model.specs.Step.{HandedBlock, Report}
-use Rattle.mar_model.proofs.Cutting.{never, unkept_plain, unstarted_plain, usual_from_archive, usual_not_by_value}
+use Rattle.mar_model.proofs.Cutting.{never, unstarted_plain, usual_from_archive, usual_not_by_value}
 use Rattle.mar_model.proofs.Handing.{Hears-nothing, Hears-then}
-use Rattle.mar_model.specs.Acts.{Act, ask, caches, finish_kept, finish_sync, keep_certified, keep_notarization, keep_notarized, keep_verified, keeps_for, load_cache, mark, note, process, progresses, put_finalization, reply, says, send, start_sync, store, store_late, stores, sync_progress, tell}
+use Rattle.mar_model.specs.Acts.{Act, IsKeepFault, ask, caches, finish_kept, finish_sync, keep_certified, keep_notarization, keep_notarized, keep_verified, keeps_for, load_cache, mark, note, process, progresses, put_finalization, reply, says, send, start_sync, store, store_late, stores, sync_progress, tell}
 use Rattle.mar_model.specs.Ran.{Breaks, DoesTask, FailsTask, Reads, Runs, Task, dispatches, does, ends}
 use Rattle.mar_model.specs.Scene.{Scene, remembered}
 
@@ -27,13 +27,17 @@ due_in (does a ∷ plan) = due_in plan
 due_in (dispatches ∷ plan) = due_in plan
 due_in (ends fault ∷ plan) = Some fault
 
+keep_plain : (epoch : ℕ) (held : Held) (fault : Fault) → IsKeepFault epoch held fault → is_by_value fault ≡ false
+keep_plain epoch held fault (inl usual) = usual_not_by_value fault usual
+keep_plain epoch held fault (inr (limit, last, high)) = ap is_by_value limit
+
 act_plain : (a : Act) (s : Scene) (x : Ending) (heard : Heard) → FailsTask (does a) s x heard → is_by_value x.fault ≡ false
 act_plain (caches (put_finalization f)) s x heard (loses, usual, same) = usual_not_by_value x.fault usual
-act_plain (caches (keep_notarization f)) s x heard (loses, kind, same) = (unkept_plain x.fault kind).0
-act_plain (caches (keep_notarized r b)) s x heard (loses, kind, same) = (unkept_plain x.fault kind).0
+act_plain (caches (keep_notarization f)) s x heard (loses, kind, same) = keep_plain _ s.held x.fault kind
+act_plain (caches (keep_notarized r b)) s x heard (loses, kind, same) = keep_plain _ s.held x.fault kind
 act_plain (caches load_cache) s x heard (loses, usual, same) = usual_not_by_value x.fault usual
-act_plain (keeps_for (keep_verified r b t)) s x heard (loses, kind, same) = (unkept_plain x.fault kind).0
-act_plain (keeps_for (keep_certified r b t)) s x heard (loses, kind, same) = (unkept_plain x.fault kind).0
+act_plain (keeps_for (keep_verified r b t)) s x heard (loses, kind, same) = keep_plain _ s.held x.fault kind
+act_plain (keeps_for (keep_certified r b t)) s x heard (loses, kind, same) = keep_plain _ s.held x.fault kind
 act_plain (keeps_for (finish_kept t)) s x heard (loses, usual, same) = usual_not_by_value x.fault usual
 act_plain (stores (store f b)) s x heard (loses, archive, same) = usual_not_by_value x.fault (usual_from_archive x.fault archive)
 act_plain (stores (store_late f b)) s x heard (loses, archive, same) = usual_not_by_value x.fault (usual_from_archive x.fault archive)

@@ -2,7 +2,6 @@
 use Rattle.std.proofs.Common.{Bool, Contains, List, None, Option, Some, [], arith, cond, false, refl, subst, suc, true, zero, ℕ, ◌∷◌, ◌≡◌}
 use Rattle.std.specs.Prelude.{option_and_then}
 use Rattle.mar_cert.specs.Block.{Block}
-use Rattle.mar_cert.specs.Finalization.{Finalization, finalization_bytes}
 use Rattle.mar_store.specs.Kept.{Kept}
 use Rattle.mar_store.specs.Sizes.{IsSmall}
 use Rattle.mar_model.specs.AllEntries.{is_sooner, sooner_of, soonest}
@@ -53,7 +52,3 @@ small_block p xs b small is = by (soonest p xs) (λ x. small_found p xs x small)
     by : (o : Option Cached) → ((x : Cached) → o ≡ Some x → IsSmallEntry x) → option_and_then cached_block o ≡ Some b → IsSmall b.encoded
     by None small_o e = absurd cc
     by (Some x) small_o e = of_entry x (small_o x refl) e
-
--- the finalization that is found
-pub small_finalization : (p : Cached → Bool) (xs : List Cached) (f : Finalization) → AreSmallEntries xs → soonest p xs ≡ Some (finalization_entry f) → IsSmall (finalization_bytes f)
-small_finalization p xs f small is = small_found p xs (finalization_entry f) small is

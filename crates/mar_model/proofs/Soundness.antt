@@ -12,7 +12,7 @@ use Rattle.mar_model.specs.Metadata.{Pair, pair_of}
 use Rattle.mar_model.specs.Cached.{cached_block, cached_finalization}
 use Rattle.mar_model.specs.Chain.{Chain}
 use Rattle.mar_model.specs.Config.{Config}
-use Rattle.mar_model.specs.Event.{Event, ack_dropped, ack_given, acked_to, block_buffered, buffer_ended, life_started, message_told, peer_answered, serve_ended, sync_finished}
+use Rattle.mar_model.specs.Event.{Event, ack_marked, acked_to, block_buffered, buffer_ended, life_started, message_told, peer_answered, serve_ended, sync_finished}
 use Rattle.mar_model.specs.Node.{Agrees, AreBlocksOf, AreCachedOf, AreFinalizationsOf, BlocksAgree, Ended, FloorSafe, HasAnchor, IsFinalized, IsGood, IsHonest, Node, left_by}
 use Rattle.mar_model.specs.Lives.{BackedBy, IsGoodEnded}
 use Rattle.mar_model.specs.Promise.{IsGoodFor, IsGoodUntold}
@@ -30,6 +30,10 @@ BackedBy-anchor (Some (at_absent h)) sure a = inr a
 abbrev pub IsFrom : ℕ → Option ℕ → Type 0
 IsFrom bound None = ⊤
 IsFrom bound (Some h) = bound ≤ h
+
+pub from_none : (o : Option ℕ) → IsFrom 0 o
+from_none None = tt
+from_none (Some h) = omega arith
 
 pub IsSafePair-kept : (chain : Chain) (bound : ℕ) (sure sure' : List (At Block)) (p : Pair) → KeepsHeightsFrom bound sure sure' → IsFrom bound p.processed → IsSafePair chain sure p → IsSafePair chain sure' p
 IsSafePair-kept chain bound sure sure' p keeps from safe = record {
@@ -70,8 +74,7 @@ IsSound-untold chain n tip sound = record {
 pub untold : (config : Config) (chain : Chain) (n : Node) (e : Event) → IsGoodFor config chain n (e ∷ []) → IsGoodUntold config chain n
 untold config chain n (life_started f) good = good
 untold config chain n (message_told t m) good = (n.tip, good)
-untold config chain n (ack_given t) good = (n.tip, good)
-untold config chain n (ack_dropped t) good = (n.tip, good)
+untold config chain n (ack_marked t m) good = (n.tip, good)
 untold config chain n (sync_finished t) good = (n.tip, good)
 untold config chain n (peer_answered a) good = (n.tip, good)
 untold config chain n serve_ended good = (n.tip, good)

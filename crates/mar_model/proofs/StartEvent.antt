@@ -2,62 +2,46 @@
 -- blocks are handed over.
 use Rattle.std.proofs.Common.{ℕ, ◌≡◌, inl, inr, ⊎_elim, arith, List, [], ◌∷◌, ◌++◌, None, Option, Contains, Result, Ok, Err, MatchResult, refl, sym, ◌∙◌, ap, subst, ◌≤◌}
 use Rattle.std.specs.List.{filter_map}
+use Rattle.std.specs.Prelude.{false}
 use Rattle.std.proofs.lemmas.List.Elements.{Contains-append_cases, Contains-append_left, Contains-append_right}
 use Rattle.mar_types.specs.Epochs.{Epochs, IsPartition}
 use Rattle.mar_cert.specs.Block.{Block}
-use Rattle.mar_key.specs.Hears.{Hears}
-use Rattle.mar_key.specs.Keys.{Call}
+use Rattle.mar_gate.specs.Writing.{total_writes}
 use Rattle.mar_store.specs.Changes.{IsNested, KeepsValues}
 use Rattle.mar_store.proofs.Lookups.{AllByRecursion-contains, AllByRecursion-from_contains}
+use Rattle.mar_key.specs.Hears.{Hears}
+use Rattle.mar_key.specs.Keys.{Call}
 use Rattle.mar_model.specs.AllEntries.{LoadsEntries}
 use Rattle.mar_model.specs.Cached.{Cached, cached_block, cached_finalization}
 use Rattle.mar_model.specs.Chain.{Chain}
 use Rattle.mar_model.specs.Config.{Config}
 use Rattle.mar_model.specs.Event.{life_started}
-use Rattle.mar_model.specs.Held.{AreCached, ArePassed, Ending, HeldCache, IsUsual, Loses, Seen, nothing_written}
+use Rattle.mar_model.specs.Held.{AreCached, Ending, HeldCache, IsUsual, Loses, Seen, nothing_written}
 use Rattle.mar_model.specs.Lives.{ArePicked, TakesUp}
-use Rattle.mar_model.specs.Moves.{IsRead, LivesOn, LoadsCache, newest_tip, newest_tips, with_newest, with_watches}
+use Rattle.mar_model.specs.Moves.{IsRead, LoadsCache, newest_tip, newest_tips, with_newest, with_watches}
 use Rattle.mar_model.specs.Stored.{newest}
 use Rattle.mar_model.specs.Node.{Agrees, IsFinalized, IsGood}
 use Rattle.mar_model.specs.Promise.{AreOne, CutsStart, FinishesStart, IsGoodUntold, IsLawfulStep, KeepsPromise, StepsOrCuts, Waiting, heard_by, known_blocks, node_of}
-use Rattle.mar_gate.specs.Writing.{total_writes}
 use Rattle.mar_model.specs.Step.{AreTipsOf, Report}
+use Rattle.mar_model.specs.OpenSyncs.{AreStillOpen}
 use Rattle.mar_model.proofs.CacheOver.{moves_none, own_none}
 use Rattle.mar_model.proofs.Cutting.{usual_not_by_value, usual_not_dropped}
 use Rattle.mar_model.proofs.EventPromises.{quiet_cut, told_cut}
 use Rattle.mar_model.proofs.Filtered.{all_found_within}
 use Rattle.mar_model.proofs.KnownBlocks.{AreOne-within}
-use Rattle.mar_model.specs.OpenSyncs.{AreStillOpen}
-use Rattle.std.specs.Prelude.{false}
 use Rattle.mar_model.proofs.Growing.{Grown-same}
 use Rattle.mar_model.proofs.Handing.{Hears-nothing, HearsFront-nothing, Ran}
-use Rattle.mar_model.proofs.Lasting.{IsPart, LivesOn-ran, LivesOn-then, newest_from}
-use Rattle.mar_model.proofs.PlainEvents.{Certificates-same, KeepsFrom-same, Writes-same, nothing_put}
+use Rattle.mar_model.proofs.PlainEvents.{Certificates-same, EntersAt-same, KeepsFrom-same, Writes-same, nothing_put}
 use Rattle.mar_model.proofs.Promises.{dispatched}
 use Rattle.mar_model.proofs.Reaching.{Reaches}
 use Rattle.mar_model.proofs.Tips.{newest_tip-high, newest_tips-chain, newest_tips-rise, newest_tips-tips}
+use Rattle.mar_model.proofs.StillGood.{IsGood-tipped}
 
 module _ {P E : Type 0} (config : Config) (chain : Chain) (a : Seen P E) (buffer : List Block) (waiting : Waiting) (nested : IsNested a.held.blocks) (certs_nested : IsNested a.held.certs) (untold : IsGoodUntold config chain (node_of a buffer waiting)) where
   -- once its newest finalization is told, a node is good
   pub IsGood-told : IsGood config chain (node_of (with_newest a) buffer waiting)
-  IsGood-told = record {
-    heights = record {
-      stores = untold.1.heights.stores;
-      delivery = untold.1.heights.delivery;
-      floor_clears = untold.1.heights.floor_clears;
-      own_pair = untold.1.heights.own_pair;
-      sync_open = untold.1.heights.sync_open;
-    };
-    of_chain = record {
-      stores = untold.1.of_chain.stores;
-      cache = untold.1.of_chain.cache;
-      asks = untold.1.of_chain.asks;
-      awaits = untold.1.of_chain.awaits;
-      not_at_hand = untold.1.of_chain.not_at_hand;
-      floor_safe = untold.1.of_chain.floor_safe;
-      tip_reported = newest_tip-high a.life.tip a.held.certs.held;
-    };
-  }
+  IsGood-told = IsGood-tipped config chain a a.held.cache a.held.writes.next_sync a.held.watches buffer buffer waiting waiting untold.0 (newest_tip a.life.tip (newest a.held.certs.held))
+      untold.1.of_chain.asks.requests untold.1.of_chain.cache (newest_tip-high a.life.tip a.held.certs.held) untold.1
 
   pub Reaches-start : (m : Seen P E) → a.held.lowests ≡ a.held.lowest ∷ [] → IsRead (with_newest a) m → AreOne config.inner (known_blocks chain (node_of a buffer waiting)) → Reaches config chain a (life_started None) buffer waiting (newest_tips config.inner a.life.tip (newest a.held.certs.held)) m
   Reaches-start m own_lowest same one = subst (Reaches config chain a (life_started None) buffer waiting (newest_tips config.inner a.life.tip (newest a.held.certs.held))) (sym same) (record {
@@ -81,6 +65,8 @@ module _ {P E : Type 0} (config : Config) (chain : Chain) (a : Seen P E) (buffer
     certificates = Certificates-same a (with_newest a) (life_started None) buffer waiting refl;
     writes = (Writes-same a (with_newest a) (life_started None) buffer waiting refl refl refl (λ syncs. refl) (λ syncs. refl)).0;
     no_repair = (Writes-same a (with_newest a) (life_started None) buffer waiting refl refl refl (λ syncs. refl) (λ syncs. refl)).1;
+    unblocked = (Writes-same a (with_newest a) (life_started None) buffer waiting refl refl refl (λ syncs. refl) (λ syncs. refl)).2;
+    enters = EntersAt-same _ (node_of a buffer waiting) (node_of (with_newest a) buffer waiting) refl refl;
     are_tips = newest_tips-tips config.inner a.life.tip (newest a.held.certs.held);
     tips_rise = newest_tips-rise config.inner a.life.tip (newest a.held.certs.held);
     tips_chain = newest_tips-chain config.inner chain (buffer ++ filter_map cached_block (a.held.cache.kept.held ++ a.held.cache.kept.may)) one a.life.tip a.held.certs.held untold.1.of_chain.stores.held_certs;
@@ -94,23 +80,6 @@ module _ {P E : Type 0} (config : Config) (chain : Chain) (a : Seen P E) (buffer
     subscriptions = refl;
     no_syncs = λ n'. refl;
   })
-
--- the cache and the tip alone move
-IsPart-begun : {P E : Type 0} (a m n : Seen P E) → IsRead (with_newest a) m → LoadsCache m n → ArePassed a.held.watches n.held.watches → IsPart a n
-IsPart-begun a m n same loads passed = record {
-  passed = passed;
-  provider = ap (λ s. s.life.provider) loads.same ∙ ap (λ s. s.life.provider) same;
-  epocher = ap (λ s. s.life.epocher) loads.same ∙ ap (λ s. s.life.epocher) same;
-  sizes = ap (λ s. s.life.sizes) loads.same ∙ ap (λ s. s.life.sizes) same;
-  next_ack = ap (λ s. s.life.next_ack) loads.same ∙ ap (λ s. s.life.next_ack) same;
-  next_sync = ap (λ s. s.held.writes.next_sync) loads.same ∙ ap (λ s. s.held.writes.next_sync) same;
-  intact = ap (λ s. s.held.intact) loads.same ∙ ap (λ s. s.held.intact) same;
-  loaded = λ was. loads.loaded;
-  rises = let same : n.life.tip ≡ newest_tip a.life.tip (newest a.held.certs.held) = ap (λ s. s.life.tip) loads.same ∙ ap (λ s. s.life.tip) same in let up : a.life.tip ≤ newest_tip a.life.tip (newest a.held.certs.held) = newest_from a.life.tip (newest a.held.certs.held) in omega arith;
-}
-
-pub LivesOn-start : {P E : Type 0} (a m n : Seen P E) (told told' : Option (List Report)) (result : Result (Seen P E) Ending) → IsRead (with_newest a) m → LoadsCache m n → ArePassed a.held.watches n.held.watches → Ran n told told' result → LivesOn a result
-LivesOn-start a m n told told' result same loads passed ran = LivesOn-then a n result (IsPart-begun a m n same loads passed) (LivesOn-ran n told told' result ran)
 
 -- an actor that took up what a crash left of its cache
 abbrev with_cache : {P E : Type 0} → Seen P E → HeldCache → Seen P E
@@ -144,27 +113,11 @@ module _ {P E : Type 0} (config : Config) (chain : Chain) (a : Seen P E) (cache 
     reported = step.reported;
     good = (
       step.good.0,
-      record {
-        heights = record {
-          stores = step.good.1.heights.stores;
-          delivery = step.good.1.heights.delivery;
-          floor_clears = step.good.1.heights.floor_clears;
-          own_pair = step.good.1.heights.own_pair;
-          sync_open = step.good.1.heights.sync_open;
-        };
-        of_chain = record {
-          stores = step.good.1.of_chain.stores;
-          cache = record {
-            finalizations = all_found_within cached_finalization (λ f. IsFinalized chain f.round f.payload) (cache.kept.held ++ cache.kept.may) (a.held.cache.kept.held ++ a.held.cache.kept.may) within step.good.1.of_chain.cache.finalizations;
-            blocks = all_found_within cached_block (Agrees chain) (cache.kept.held ++ cache.kept.may) (a.held.cache.kept.held ++ a.held.cache.kept.may) within step.good.1.of_chain.cache.blocks;
-          };
-          asks = step.good.1.of_chain.asks;
-          awaits = tt;
-          not_at_hand = tt;
-          floor_safe = step.good.1.of_chain.floor_safe;
-          tip_reported = step.good.1.of_chain.tip_reported;
-        };
-      },
+      IsGood-tipped config chain a cache a.held.writes.next_sync a.held.watches buffer buffer waiting waiting step.good.0 step.good.0 step.good.1.of_chain.asks.requests
+          (record {
+            finalizations = all_found_within cached_finalization (λ f. IsFinalized chain f.round f.payload) news olds within step.good.1.of_chain.cache.finalizations;
+            blocks = all_found_within cached_block (Agrees chain) news olds within step.good.1.of_chain.cache.blocks;
+          }) step.good.1.of_chain.tip_reported step.good.1,
     );
     rests = tt;
   }

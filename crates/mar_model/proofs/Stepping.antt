@@ -1,16 +1,16 @@
 -- What a step of any event keeps of a life, why it ends one, what fault it ends in and what it tells: read off its plan.
+use Rattle.std.proofs.Common.{◌≡◌, ◌⊎◌, inl, inr, ◌∷◌, [], List, Option, None, Some, Bool, true, false, cond, nat_lt, map, option_to_list, Result, Ok, Err, IfOk, ◌++◌, ◌+◌, ◌≤◌, ◌==◌, ◌&&◌, ◌^◌, ◌-◌, ℕ, arith, refl, sym, ◌∙◌, ap, subst, is_some}
 use Rattle.std.specs.Prelude.{⊤}
-use Rattle.std.proofs.Common.{◌≡◌, ◌⊎◌, inl, inr, ◌∷◌, [], List, Option, None, Some, Bool, true, false, cond, nat_lt, map, option_to_list, Result, Ok, Err, IfOk, ◌++◌, ◌+◌, ◌≤◌, ◌==◌, ◌&&◌, ◌^◌, ◌-◌, ℕ, arith, refl, sym, ◌∙◌, ap, subst}
 use Rattle.mar_types.specs.Round.{Round}
 use Rattle.mar_cert.specs.Block.{Block}
 use Rattle.mar_cert.specs.Finalization.{Finalization, Notarization}
 use Rattle.mar_gate.specs.Writing.{is_open_sync}
-use Rattle.mar_key.specs.Processed.{height_of}
 use Rattle.mar_store.specs.Kept.{At}
+use Rattle.mar_key.specs.Processed.{height_of}
+use Rattle.mar_key.specs.Hears.{Hears}
 use Rattle.mar_model.specs.Acks.{Mark, Outstanding, after_given, given_oldest, is_given, mark_dropped, mark_given, mark_waiting, with_mark}
-use Rattle.std.proofs.Common.{is_some}
 use Rattle.mar_model.specs.Answers.{TicketAnswer, to}
-use Rattle.mar_model.specs.Event.{Event, ack_dropped, ack_given, block_buffered, buffer_ended, life_started, message_told, peer_answered, serve_ended, sync_finished}
+use Rattle.mar_model.specs.Event.{Event, ack_marked, block_buffered, buffer_ended, life_started, message_told, peer_answered, serve_ended, sync_finished}
 use Rattle.mar_model.specs.Faults.{Fault, dropped_ack, dropped_first, height_limit, last_height}
 use Rattle.mar_model.specs.Held.{Ending, Remembered, Seen}
 use Rattle.mar_model.specs.Messages.{Message, certify, close_ticket, forward, get_anchor, get_block, get_finalization, get_info, get_processed, get_verified, hint_finalized, hint_notarized, prepared, proposed, prune_below, report_certification, report_finalization, report_notarization, set_floor, subscribe_commitment, subscribe_digest, verified}
@@ -18,11 +18,7 @@ use Rattle.mar_model.specs.Moves.{FindsInCache, LivesOnGiving, found_at_hand, ha
 use Rattle.mar_model.specs.OpenSyncs.{is_cache_sync}
 use Rattle.mar_model.specs.Promise.{Heard}
 use Rattle.mar_model.specs.Step.{HandedBlock, Report}
-use Rattle.mar_key.specs.Hears.{Hears}
-use Rattle.mar_model.proofs.Handing.{Hears-nothing}
 use Rattle.mar_model.specs.Stored.{newest}
-use Rattle.mar_model.proofs.Living.{Breaks-ends, EndByValue, Runs-keeps, syncs, windows}
-use Rattle.mar_model.proofs.Shapes.{seen_at}
 use Rattle.mar_model.specs.Acts.{AreLawful, caches, finish_kept, keep_notarization, keeps_for, load_cache, note, progresses, put_finalization, says, start_sync, store, stores, tell}
 use Rattle.mar_model.specs.Plans.{Found, RunsPlan, ack_plan, answer_plan, drain_plan, final_plan, found_by, keep_plan, late_plan, marked_plan, newest_plan, oldest_plan, plan_of, settle_plan, sync_plan}
 use Rattle.mar_model.specs.Queries.{value_found}
@@ -30,8 +26,10 @@ use Rattle.mar_model.specs.Ran.{Task, dispatches, does, ends}
 use Rattle.mar_model.specs.Scene.{Scene, scene, window_of}
 use Rattle.mar_model.specs.Due.{EndsWhereDue, due_fault, dropping_due, storing_due}
 use Rattle.mar_model.specs.Told.{TellsInOrder, finalized_tips, tips_of}
-use Rattle.mar_model.proofs.PromisedFinalization.{found_block}
-use Rattle.mar_model.proofs.Shapes.{Breaks-due, Breaks-mute, Breaks-tells, InOrder, Mute, Runs-tells, Runs-undue, Untold, due_in, said, tips_in}
+use Rattle.mar_model.proofs.Handing.{Hears-nothing}
+use Rattle.mar_model.proofs.Living.{Breaks-ends, EndByValue, Runs-keeps, syncs, windows}
+use Rattle.mar_model.proofs.Shapes.{seen_at, Breaks-due, Breaks-mute, Breaks-tells, InOrder, Mute, Runs-tells, Runs-undue, Untold, due_in, said, tips_in}
+use Rattle.mar_model.proofs.Planned.{found_block}
 
 -- A plan gives no more than that, ends in this fault by value, and tells these tips first.
 record Shape (most w tip : ℕ) (due : Option Fault) (tips : List Report) (plan : List Task) : Type 0 where
@@ -127,11 +125,6 @@ module _ (w : ℕ) where
   finish-shape tip t false true = record { windows_most = omega arith; syncs_most = omega arith; by_value = tt; due_is = refl; order = tt; tips_are = inl refl }
   finish-shape tip t false false = record { windows_most = omega arith; syncs_most = omega arith; by_value = tt; due_is = refl; order = tt; tips_are = inl refl }
 
--- the events that are built; none is of a dropped acknowledgement
-abbrev pub IsBuilt : Event → Type 0
-IsBuilt (ack_dropped t) = ⊥
-IsBuilt _ = ⊤
-
 module _ {P E : Type 0} (life : Remembered P E) (inner : List ℕ → List ℕ) (buffer : List Block) (s : Scene) (found : Found) (w : ℕ) where
   abbrev a : Seen P E
   a = seen_at life s
@@ -161,11 +154,11 @@ module _ {P E : Type 0} (life : Remembered P E) (inner : List ℕ → List ℕ) 
     pub due : Option Fault
     pub tips : List Report
     pub shape : Shape (syncs_at_most e) w s.life.tip due tips (plan_of inner buffer s e found)
-    pub due_is : (s.held.cache.loaded ≡ true → found ≡ found_by inner buffer s.held e) → FindsInCache e a → IsBuilt e → due ≡ due_fault inner a buffer e
+    pub due_is : (s.held.cache.loaded ≡ true → found ≡ found_by inner buffer s.held e) → FindsInCache e a → due ≡ due_fault inner a buffer e
     pub tips_is : (s.held.cache.loaded ≡ true → found ≡ found_by inner buffer s.held e) → FindsInCache e a → tips ≡ tips_of inner a buffer e
 
   plain : (e : Event) → due_fault inner a buffer e ≡ None → tips_of inner a buffer e ≡ [] → Shape (syncs_at_most e) w s.life.tip None [] (plan_of inner buffer s e found) → Stepped e
-  plain e due tips shape = record { due = None; tips = []; shape = shape; due_is = λ finds in_cache built. sym due; tips_is = λ finds in_cache. sym tips }
+  plain e due tips shape = record { due = None; tips = []; shape = shape; due_is = λ finds in_cache. sym due; tips_is = λ finds in_cache. sym tips }
 
   answering : (most : ℕ) (t : ℕ) (m : Message) → Shape most w s.life.tip None [] (answer_plan (map (to t) (option_to_list (value_found inner s.held buffer m))))
   answering most t m = silent-shape w most s.life.tip None _ (answers-silent w (map (to t) (option_to_list (value_found inner s.held buffer m))))
@@ -180,7 +173,7 @@ module _ {P E : Type 0} (life : Remembered P E) (inner : List ℕ → List ℕ) 
     due = storing_due s.held found.block;
     tips = finalized_tips a f found.block;
     shape = final-shape f found.block;
-    due_is = λ finds in_cache built. ap (storing_due s.held) (block_is finds in_cache);
+    due_is = λ finds in_cache. ap (storing_due s.held) (block_is finds in_cache);
     tips_is = λ finds in_cache. ap (finalized_tips a f) (block_is finds in_cache);
   }
     where
@@ -251,20 +244,12 @@ module _ {P E : Type 0} (life : Remembered P E) (inner : List ℕ → List ℕ) 
     tips = newest_tips inner s.life.tip (newest s.held.certs.held);
     shape = start-shape w s.life.tip inner (newest s.held.certs.held);
     due_is =
-        λ finds in_cache built. refl;
+        λ finds in_cache. refl;
     tips_is = λ finds in_cache. refl;
   }
   stepped (message_told t m) = message-told t m
   stepped (sync_finished t) = plain (sync_finished t) refl refl (finish-shape w s.life.tip t (is_cache_sync s.held.cache.syncs t) (is_open_sync s.held.writes.syncs t))
-  stepped (ack_given t) = record { due = dropping_due s.life.out t; tips = []; shape = marked-shape t mark_given; due_is = λ finds in_cache built. refl; tips_is = λ finds in_cache. refl }
-  stepped (ack_dropped t) = record {
-    due = dropped_first (after_given (with_mark t mark_dropped s.life.out));
-    tips = [];
-    shape = marked-shape t mark_dropped;
-    due_is = λ finds in_cache
-        built. absurd built;
-    tips_is = λ finds in_cache. refl;
-  }
+  stepped (ack_marked t m) = record { due = dropping_due s.life.out t m; tips = []; shape = marked-shape t m; due_is = λ finds in_cache. refl; tips_is = λ finds in_cache. refl }
   stepped (peer_answered x) = plain (peer_answered x) refl refl (none-shape w 1 s.life.tip)
   stepped serve_ended = plain serve_ended refl refl (none-shape w 1 s.life.tip)
   stepped (block_buffered b) = plain (block_buffered b) refl refl (none-shape w 1 s.life.tip)
@@ -304,15 +289,15 @@ module _ {P E : Type 0} (life : Remembered P E) (inner : List ℕ → List ℕ) 
         );
       }
 
-  pub step_by_value : (result : Result (Seen P E) Ending) → RunsPlan inner buffer e s heard result → IsBuilt e → FindsInCache e (seen_at life s)
+  pub step_by_value : (result : Result (Seen P E) Ending) → RunsPlan inner buffer e s heard result → FindsInCache e (seen_at life s)
       → EndsWhereDue (due_fault inner (seen_at life s) buffer e) result
-  step_by_value (Ok n) plan built in_cache =
+  step_by_value (Ok n) plan in_cache =
       let step = stepped life inner buffer s plan.found s.life.sizes.window e in
-      sym (step.due_is plan.finds in_cache built) ∙ (sym step.shape.due_is ∙ Runs-undue inner (plan_of inner buffer s e plan.found) s (scene n.held (window_of n.life) s.standing heard)
+      sym (step.due_is plan.finds in_cache) ∙ (sym step.shape.due_is ∙ Runs-undue inner (plan_of inner buffer s e plan.found) s (scene n.held (window_of n.life) s.standing heard)
       plan.ran)
-  step_by_value (Err x) plan built in_cache =
+  step_by_value (Err x) plan in_cache =
       let step = stepped life inner buffer s plan.found s.life.sizes.window e in
-      λ by. sym (step.due_is plan.finds in_cache built) ∙ (sym step.shape.due_is ∙ Breaks-due inner (plan_of inner buffer s e plan.found) s x heard plan.ran by)
+      λ by. sym (step.due_is plan.finds in_cache) ∙ (sym step.shape.due_is ∙ Breaks-due inner (plan_of inner buffer s e plan.found) s x heard plan.ran by)
 
   pub step_tells : (result : Result (Seen P E) Ending) → RunsPlan inner buffer e s heard result → FindsInCache e (seen_at life s)
       → TellsInOrder s.heard.reports (tips_of inner (seen_at life s) buffer e) heard.reports result

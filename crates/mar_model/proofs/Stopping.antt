@@ -1,136 +1,25 @@
 -- A plan that ends by handing over: how that ran, or how it broke, also where a read failed before or behind it.
-use Rattle.std.proofs.Common.{◌≡◌, ◌⊎◌, inl, inr, ◌∷◌, [], List, Option, false, Result, Ok, Err, map, ℕ, refl, sym, ◌∙◌, ap, subst, arith}
+use Rattle.std.proofs.Common.{◌≡◌, ◌⊎◌, inl, inr, ◌∷◌, [], List, Option, false, Result, Ok, Err, map, ℕ, refl, sym, ◌∙◌, ap, subst}
+use Rattle.std.specs.List.{AllByRecursion}
 use Rattle.mar_types.specs.Epochs.{Epochs}
 use Rattle.mar_cert.specs.Block.{Block}
-use Rattle.mar_cert.specs.Finalization.{Finalization}
 use Rattle.mar_key.specs.Hears.{Hears}
-use Rattle.mar_model.specs.Chain.{Chain}
-use Rattle.mar_model.specs.Config.{Config}
-use Rattle.mar_model.specs.Event.{Event, ack_dropped, ack_given, block_buffered, buffer_ended, life_started, message_told, peer_answered, serve_ended, sync_finished}
-use Rattle.mar_model.specs.Faults.{Fault, corrupt, damaged, dropped_ack, floor_epoch_unavailable, floor_invalid, floor_parent_mismatch, genesis_height, genesis_mismatch, height_limit, meta_store, store_fault, ticket_limit, unbacked, want_of_memory}
-use Rattle.mar_model.specs.Held.{Ending, IsUsual, Loses, Remembered, Seen, Watches, nothing_written, seen}
-use Rattle.mar_model.specs.Lives.{Cuts, is_dropped_ack, is_refused_floor}
-use Rattle.mar_model.specs.Faults.{is_by_value}
-use Rattle.mar_model.specs.Messages.{Message, certify, close_ticket, forward, get_anchor, get_block, get_finalization, get_info, get_processed, get_verified, hint_finalized, hint_notarized, prepared, proposed, prune_below, report_certification, report_finalization, report_notarization, set_floor, subscribe_commitment, subscribe_digest, verified}
-use Rattle.mar_model.specs.Moves.{IsStill, handed_report}
-use Rattle.mar_model.specs.Node.{Ended, Node}
-use Rattle.mar_model.specs.Promise.{CutsStep, Heard, KeepsStart, KeepsStep, heard_by}
-use Rattle.mar_model.specs.Step.{Made, Report}
-use Rattle.mar_model.proofs.Cutting.{never, usual_not_by_value, usual_not_dropped}
-use Rattle.mar_model.proofs.Growing.{Grew-refl, WithinWritten-refl}
-use Rattle.mar_model.proofs.Handing.{Hears-nothing, Ran as Dispatched}
-use Rattle.mar_model.proofs.Heard.{KeepsStart-beside, KeepsStep-beside}
-use Rattle.mar_model.proofs.Passing.{FailsBy-nothing, FailsBy-then}
-use Rattle.mar_model.proofs.SyncPromise.{at}
+use Rattle.mar_model.specs.Event.{Event}
+use Rattle.mar_model.specs.Faults.{Fault, meta_store, store_fault, ticket_limit, ack_kind, is_by_value}
+use Rattle.mar_model.specs.Held.{Ending, Remembered, Seen, nothing_written, seen, Grew, IsArchiveFault}
+use Rattle.mar_model.specs.Lives.{is_dropped_ack}
+use Rattle.mar_model.specs.Moves.{IsStill, handed_report, AreNextHeld, IsBelowWrites}
+use Rattle.mar_model.specs.Promise.{Heard, KeepsStart, KeepsStep, heard_by}
+use Rattle.mar_model.specs.Step.{Report, HandedBlock}
 use Rattle.mar_model.specs.Acts.{AreLawful}
 use Rattle.mar_model.specs.Ran.{Breaks, FailsRead, Hands, Reads, Runs, StopsHands, dispatches}
 use Rattle.mar_model.specs.Scene.{Scene, seen_of}
+use Rattle.mar_model.proofs.Cutting.{usual_not_by_value, usual_not_dropped, usual_from_archive}
+use Rattle.mar_model.proofs.Growing.{Grew-refl, WithinWritten-refl}
+use Rattle.mar_model.proofs.Handing.{Hears-nothing, Ran as Dispatched}
+use Rattle.mar_model.proofs.Heard.{KeepsStart-beside, KeepsStep-beside}
+use Rattle.mar_model.proofs.SyncPromise.{at}
 use Rattle.mar_model.proofs.Unread.{breaks_first, runs_first, stopped_before}
-
--- A CUT BY ONE USUAL FAULT IS A CUT BY ANOTHER
-
-unrefused_floor : (fault : Fault) (f : Finalization) (t : Option ℕ) → IsUsual fault → is_refused_floor (message_told t (set_floor f)) fault ≡ false
-unrefused_floor (store_fault s) f t usual = refl
-unrefused_floor want_of_memory f t usual = refl
-unrefused_floor (damaged s h) f t usual = absurd usual
-unrefused_floor (dropped_ack h) f t usual = absurd usual
-unrefused_floor (floor_epoch_unavailable k) f t usual = absurd usual
-unrefused_floor (floor_invalid r) f t usual = absurd usual
-unrefused_floor (floor_parent_mismatch h p i) f t usual = absurd usual
-unrefused_floor (genesis_height h) f t usual = absurd usual
-unrefused_floor (genesis_mismatch c d) f t usual = absurd usual
-unrefused_floor (corrupt h c d) f t usual = absurd usual
-unrefused_floor (unbacked h) f t usual = absurd usual
-unrefused_floor (height_limit h) f t usual = absurd usual
-unrefused_floor (ticket_limit k) f t usual = absurd usual
-
-unrefused_message : (m : Message) (t : Option ℕ) (fault : Fault) → IsUsual fault → is_refused_floor (message_told t m) fault ≡ false
-unrefused_message (report_finalization f) t fault usual = refl
-unrefused_message (report_notarization f) t fault usual = refl
-unrefused_message (report_certification f) t fault usual = refl
-unrefused_message (verified r b) t fault usual = refl
-unrefused_message (proposed r peers b) t fault usual = refl
-unrefused_message (prepared r peers b) t fault usual = refl
-unrefused_message (certify r b) t fault usual = refl
-unrefused_message (get_info id) t fault usual = refl
-unrefused_message (get_block id) t fault usual = refl
-unrefused_message (get_finalization h) t fault usual = refl
-unrefused_message get_processed t fault usual = refl
-unrefused_message get_anchor t fault usual = refl
-unrefused_message (get_verified r) t fault usual = refl
-unrefused_message (hint_finalized h p) t fault usual = refl
-unrefused_message (set_floor f) t fault usual = unrefused_floor fault f t usual
-unrefused_message (prune_below h) t fault usual = refl
-unrefused_message (hint_notarized r c) t fault usual = refl
-unrefused_message (subscribe_digest d f) t fault usual = refl
-unrefused_message (subscribe_commitment c f) t fault usual = refl
-unrefused_message (forward r d peers) t fault usual = refl
-unrefused_message (close_ticket k) t fault usual = refl
-
-unrefused : (e : Event) (fault : Fault) → IsUsual fault → is_refused_floor e fault ≡ false
-unrefused (life_started f) fault usual = refl
-unrefused (message_told t m) fault usual = unrefused_message m t fault usual
-unrefused (ack_given t) fault usual = refl
-unrefused (ack_dropped t) fault usual = refl
-unrefused (sync_finished t) fault usual = refl
-unrefused (peer_answered a) fault usual = refl
-unrefused serve_ended fault usual = refl
-unrefused (block_buffered b) fault usual = refl
-unrefused buffer_ended fault usual = refl
-
-Cuts-as : (config : Config) (chain : Chain) (n : Node) (events : List Event) (made : Made) (left : Ended) (fault : Fault) → IsUsual fault → (fault ≡ store_fault meta_store → ⊥)
-    → Cuts config chain n events made want_of_memory left → Cuts config chain n events made fault left
-Cuts-as config chain n events made left fault usual unsynced cuts = record {
-  finished = cuts.finished;
-  event = cuts.event;
-  others = cuts.others;
-  split = cuts.split;
-  first = cuts.first;
-  later = cuts.later;
-  made_is = cuts.made_is;
-  mid = cuts.mid;
-  advances = cuts.advances;
-  cut = record {
-    tip = cuts.cut.tip;
-    tips = cuts.cut.tips;
-    tips_chain = cuts.cut.tips_chain;
-    reached = cuts.cut.reached;
-    reached_is = cuts.cut.reached_is;
-    in_order = cuts.cut.in_order;
-    hands_chain = cuts.cut.hands_chain;
-    leaves = cuts.cut.leaves;
-    may = cuts.cut.may;
-    asks = cuts.cut.asks;
-    sends = cuts.cut.sends;
-    answers = cuts.cut.answers;
-    first_pair = pairs cuts.cut.first_pair;
-    no_lower = cuts.cut.no_lower;
-    cause = λ is. absurd (never (is_by_value fault) (usual_not_by_value fault usual) is);
-    refused = λ is. absurd (never (is_refused_floor cuts.event fault) (unrefused cuts.event fault usual) is);
-    unsynced = λ is. absurd (never (is_dropped_ack fault) (usual_not_dropped fault usual) is);
-  };
-}
-  where
-    pairs : {S T U : Type 0} → S ⊎ (T × U) → S ⊎ ((fault ≡ store_fault meta_store → ⊥) × U)
-    pairs (inl s) = inl s
-    pairs (inr (t, u)) = inr (unsynced, u)
-
--- as if memory had run out behind these calls
-abbrev pub masked : Ending → Watches → Ending
-masked x w = record { fault = want_of_memory; remains = record { ended = x.remains.ended; watches = w } }
-
-module _ {P E : Type 0} (epochs : Epochs) (inner : List ℕ → List ℕ) (old : Seen P E) (events : List Event) (buffer : List Block) (x : Ending) (usual : IsUsual x.fault)
-    (unsynced : x.fault ≡ store_fault meta_store → ⊥) (w : Watches) where
-  cut_as : (config : Config) (chain : Chain) (n : Node) (before after : Heard) → CutsStep config chain n events before after (masked x w) → CutsStep config chain n events before after x
-  cut_as config chain n before after cut = record { made = cut.made; heard = cut.heard; cuts = Cuts-as config chain n events cut.made x.remains.ended x.fault usual unsynced cut.cuts }
-
-  pub KeepsStep-as : (before after : Heard) → KeepsStep epochs inner old events buffer before after (Err (masked x w)) → KeepsStep epochs inner old events buffer before after (Err x)
-  KeepsStep-as before after keeps loaded config chain waiting set step = cut_as config chain _ before after (keeps loaded config chain waiting set step)
-
-  pub KeepsStart-as : (before after : Heard) → KeepsStart epochs inner old events buffer before after (Err (masked x w)) → KeepsStart epochs inner old events buffer before after (Err x)
-  KeepsStart-as before after keeps fresh config chain waiting set step =
-      let cut = keeps fresh config chain waiting set step in
-      record { begun = cut.begun; takes = cut.takes; cuts = cut_as config chain cut.begun before after cut.cuts }
 
 -- BESIDE WHAT ELSE WAS HEARD
 
@@ -149,11 +38,16 @@ module _ {P E : Type 0} (epochs : Epochs) (inner : List ℕ → List ℕ) (old :
 
 -- HANDING OVER
 
--- It broke as if by this: the same is left.
+-- How it broke.
 pub record StopsAs {P E : Type 0} (a : Seen P E) (told : Option (List Report)) (x : Ending) (told' : Option (List Report)) : Type 0 where
   pub e : Ending
   pub ran : Dispatched a told told' (Err e)
-  pub seems : (e ≡ x) ⊎ ((w : Watches) × (e ≡ masked x w) × IsUsual x.fault × (x.fault ≡ store_fault meta_store → ⊥))
+  pub seems : e ≡ x
+
+stopped_plain : {T : Type 0} (fault : Fault) → IsArchiveFault fault ⊎ ((fault ≡ ticket_limit ack_kind) × T)
+    → (is_by_value fault ≡ false) × (is_dropped_ack fault ≡ false) × (fault ≡ store_fault meta_store → ⊥)
+stopped_plain fault (inl archive) = (usual_not_by_value fault (usual_from_archive fault archive), usual_not_dropped fault (usual_from_archive fault archive), λ is. subst IsArchiveFault is archive)
+stopped_plain fault (inr limit) = (ap is_by_value limit.0, ap is_dropped_ack limit.0, λ is. let both : ticket_limit ack_kind ≡ store_fault meta_store = sym limit.0 ∙ is in cc)
 
 module _ {P E : Type 0} (life : Remembered P E) where
   -- a read behind a dispatch changes nothing of it
@@ -182,88 +76,55 @@ module _ {P E : Type 0} (life : Remembered P E) where
             (ap (λ (y : Scene). y.heard) hands.same ∙ ap (λ told. record s.heard { reports = told }) (sym (ap (λ (y : Scene). y.heard.reports) reads.same))),
       )
 
-  lost_masked : (s : Scene) (x : Ending) (heard : Heard) → AreLawful s.held → FailsRead s x heard → Loses s.held nothing_written (masked x s.held.watches)
-  lost_masked s x heard law fails = record {
-    leaves = (fails.loses s.held nothing_written (Grew-refl s.held nothing_written law.blocks law.certs)
-        (WithinWritten-refl nothing_written)).leaves;
-    cause = FailsBy-nothing s.held.watches want_of_memory tt;
-  }
-
   -- or it broke, or a read before or behind it
   pub dispatch_broke : (inner : List ℕ → List ℕ) (s : Scene) (x : Ending) (heard : Heard) → AreLawful s.held → Breaks inner s (dispatches ∷ []) x heard
       → StopsAs (at life s) s.heard.reports x heard.reports × (heard ≡ record s.heard { reports = heard.reports })
   dispatch_broke inner s x heard law breaks = by (breaks_first inner dispatches [] s x heard law breaks)
     where
+      unread : (u : Scene) → FailsRead u x heard → (handed : List HandedBlock) → AreNextHeld (seen_of s) handed → AllByRecursion (λ y. IsBelowWrites (seen_of s) y.block) handed
+          → Grew s.held nothing_written u.held → Hears s.heard.reports (map handed_report handed) u.heard.reports → u.heard ≡ record s.heard { reports = u.heard.reports }
+          → StopsAs (at life s) s.heard.reports x heard.reports × (heard ≡ record s.heard { reports = heard.reports })
+      unread u fails handed next below grew told same = (
+        record {
+          e = x;
+          ran = (
+            handed,
+            subst (λ (h : Heard). Hears s.heard.reports (map handed_report handed) h.reports) (sym fails.same) told,
+            record {
+              next = next;
+              below_barrier = below;
+              lost = fails.loses s.held nothing_written grew (WithinWritten-refl nothing_written);
+              no_value = usual_not_by_value x.fault fails.usual;
+              undropped = usual_not_dropped x.fault fails.usual;
+              unsynced = fails.unsynced;
+            },
+          );
+          seems = refl;
+        },
+        fails.same ∙ (same ∙ ap (λ (h : Heard). record s.heard { reports = h.reports }) (sym fails.same)),
+      )
+
       by : FailsRead s x heard ⊎ (((mid : Scene) × Reads s mid × StopsHands mid x heard) ⊎ ((u : Scene) × Hands s u × FailsRead u x heard))
           → StopsAs (at life s) s.heard.reports x heard.reports × (heard ≡ record s.heard { reports = heard.reports })
-      by (inl fails) = (
-        record {
-          e = masked x s.held.watches;
-          ran = (
-            [],
-            subst (λ (h : Heard). Hears s.heard.reports [] h.reports) (sym fails.same) (Hears-nothing s.heard.reports),
-            record
-                { next = tt; below_barrier = tt; room = λ some. absurd (omega (arith, some)); lost = lost_masked s x heard law fails; kind = inl tt },
-          );
-          seems = inr (s.held.watches, refl, fails.usual, fails.unsynced);
-        },
-        fails.same ∙ ap (λ told. record s.heard { reports = told }) (sym (ap (λ (h : Heard). h.reports) fails.same)),
-      )
+      by (inl fails) = unread s fails [] tt tt (Grew-refl s.held nothing_written law.blocks law.certs) (Hears-nothing s.heard.reports) refl
+      by (inr (inr (u, hands, fails))) = unread u fails hands.handed hands.ran.next hands.ran.below_barrier hands.ran.grew hands.heard (ap (λ (y : Scene). y.heard) hands.same)
       by (inr (inl (mid, reads, fails))) =
-          let stops = stopped_before inner s mid x heard law reads fails in (
+          let stops = stopped_before inner s mid x heard law reads fails in
+          let (no_value, undropped, unsynced) = stopped_plain x.fault stops.stops.kind in (
             record {
               e = x;
               ran = (
                 stops.handed,
                 stops.told,
-                record
-                    { next = stops.stops.next; below_barrier = stops.stops.below_barrier; room = stops.stops.room; lost = stops.stops.lost; kind = stops.stops.kind },
+                record { next = stops.stops.next; below_barrier = stops.stops.below_barrier; lost = stops.stops.lost; no_value = no_value; undropped = undropped; unsynced = unsynced },
               );
-              seems = inl refl;
+              seems = refl;
             },
             stops.same,
           )
-      by (inr (inr (u, hands, fails))) = (
-        record {
-          e = masked x u.held.watches;
-          ran = (
-            hands.handed,
-            subst (λ (h : Heard). Hears s.heard.reports (map handed_report hands.handed) h.reports) (sym fails.same) hands.heard,
-            record {
-              next = hands.ran.next;
-              below_barrier = hands.ran.below_barrier;
-              room = hands.ran.room;
-              lost = record {
-                leaves = (fails.loses s.held nothing_written hands.ran.grew (WithinWritten-refl nothing_written)).leaves;
-                cause = FailsBy-then s.held.watches u.held.watches
-                    want_of_memory u.held.watches hands.ran.grew.passed (FailsBy-nothing u.held.watches want_of_memory tt);
-              };
-              kind = inl tt;
-            },
-          );
-          seems = inr (u.held.watches, refl, fails.usual, fails.unsynced);
-        },
-        fails.same ∙ (ap (λ (y : Scene). y.heard) hands.same ∙ ap (λ told. record s.heard { reports = told }) (sym (ap (λ (h : Heard). h.reports) fails.same))),
-      )
 
-  -- what is promised where it broke as if by this is promised of it
+  -- what is promised where it broke by this is promised of it
   pub step_stopped : (epochs : Epochs) (inner : List ℕ → List ℕ) (old a : Seen P E) (events : List Event) (buffer : List Block) (before after : Heard) (told : Option (List Report))
       (x : Ending) (stops : StopsAs a told x after.reports) → KeepsStep epochs inner old events buffer before after (Err stops.e)
       → KeepsStep epochs inner old events buffer before after (Err x)
-  step_stopped epochs inner old a events buffer before after told x stops keeps = by stops.seems
-    where
-      by : (stops.e ≡ x) ⊎ ((w : Watches) × (stops.e ≡ masked x w) × IsUsual x.fault × (x.fault ≡ store_fault meta_store → ⊥)) → KeepsStep epochs inner old events buffer before after (Err x)
-      by (inl is) = subst (λ y. KeepsStep epochs inner old events buffer before after (Err y)) is keeps
-      by (inr (w, is, usual, unsynced)) = KeepsStep-as epochs inner old events buffer x usual unsynced w before after
-          (subst (λ y. KeepsStep epochs inner old events buffer before after (Err y)) is keeps)
-
-  pub start_stopped : (epochs : Epochs) (inner : List ℕ → List ℕ) (old a : Seen P E) (events : List Event) (buffer : List Block) (before after : Heard) (told : Option (List Report))
-      (x : Ending) (stops : StopsAs a told x after.reports) → KeepsStart epochs inner old events buffer before after (Err stops.e)
-      → KeepsStart epochs inner old events buffer before after (Err x)
-  start_stopped epochs inner old a events buffer before after told x stops keeps = by stops.seems
-    where
-      by : (stops.e ≡ x) ⊎ ((w : Watches) × (stops.e ≡ masked x w) × IsUsual x.fault × (x.fault ≡ store_fault meta_store → ⊥))
-          → KeepsStart epochs inner old events buffer before after (Err x)
-      by (inl is) = subst (λ y. KeepsStart epochs inner old events buffer before after (Err y)) is keeps
-      by (inr (w, is, usual, unsynced)) = KeepsStart-as epochs inner old events buffer x usual unsynced w before after
-          (subst (λ y. KeepsStart epochs inner old events buffer before after (Err y)) is keeps)
+  step_stopped epochs inner old a events buffer before after told x stops keeps = subst (λ y. KeepsStep epochs inner old events buffer before after (Err y)) stops.seems keeps

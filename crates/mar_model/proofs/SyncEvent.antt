@@ -4,10 +4,11 @@ use Rattle.std.specs.List.{AllByRecursion, AllPairs}
 use Rattle.std.proofs.lemmas.List.{length-drop}
 use Rattle.std.proofs.lemmas.List.Elements.{Contains-append_left}
 use Rattle.mar_cert.specs.Block.{Block}
-use Rattle.mar_key.specs.Processed.{first_unprocessed, height_in}
+use Rattle.mar_gate.specs.Writing.{IsOrdered, position_of, total_writes, with_finished, without_sync}
 use Rattle.mar_store.specs.Kept.{At, Kept, has_height, value_at}
 use Rattle.mar_store.specs.Changes.{IsNested}
-use Rattle.mar_store.proofs.Lookups.{AllByRecursion-weaker, AllByRecursion-within, Contains-from_value}
+use Rattle.mar_store.proofs.Lookups.{AllByRecursion-within, Contains-from_value}
+use Rattle.mar_key.specs.Processed.{height_in}
 use Rattle.mar_model.specs.Chain.{Chain, Finalizes, IsBlockAt}
 use Rattle.mar_model.specs.OpenSyncs.{NoneHas}
 use Rattle.mar_model.specs.Config.{Config}
@@ -15,21 +16,20 @@ use Rattle.mar_model.specs.Event.{no_floor, sync_finished}
 use Rattle.mar_model.specs.Held.{AreCached, MakesSure, Seen}
 use Rattle.mar_model.specs.Metadata.{pair_of}
 use Rattle.mar_model.specs.Moves.{FinishesSync}
-use Rattle.mar_model.specs.Node.{AreBlocksOf, AreFinalizationsOf, ConsecutiveFrom, FloorSafe, HasAnchor, IsCacheOf, IsGood}
+use Rattle.mar_model.specs.Node.{AreBlocksOf, AreFinalizationsOf, FloorSafe, IsCacheOf, IsGood}
 use Rattle.mar_model.specs.Promise.{Waiting, node_of}
 use Rattle.mar_model.specs.Step.{KeepsFrom, Writes}
-use Rattle.mar_gate.specs.Writing.{IsOrdered, position_of, total_writes, with_finished, without_sync}
+use Rattle.mar_model.specs.Answers.{to, true_value}
 use Rattle.mar_model.proofs.Cutting.{keeps_heights}
 use Rattle.mar_model.proofs.FinalizationEvent.{nested_heights}
 use Rattle.mar_model.proofs.FloorSafety.{FloorSafe-still}
 use Rattle.mar_model.proofs.Growing.{Grown}
 use Rattle.mar_model.proofs.CacheOver.{moves_none}
 use Rattle.mar_model.proofs.OpenSyncs.{covered-none, waits-none, without-none}
-use Rattle.mar_model.specs.Answers.{to, true_value}
-use Rattle.mar_model.proofs.PairsAfter.{HasAnchor-kept}
-use Rattle.mar_model.proofs.PlainEvents.{Writes-none, nothing_put}
+use Rattle.mar_model.proofs.PlainEvents.{EntersAt-same, Writes-none, nothing_put}
 use Rattle.mar_model.proofs.Reaching.{Reaches}
 use Rattle.mar_model.proofs.SyncTickets.{position-stays, total-finished}
+use Rattle.mar_model.proofs.StillGood.{IsGood-grown}
 
 module _ {P E : Type 0} (config : Config) (chain : Chain) (a m : Seen P E) (t : ℕ) (buffer : List Block) (waiting : Waiting) (nested : IsNested a.held.blocks) (certs_nested : IsNested a.held.certs) (finishes : FinishesSync t a m) where
   -- no more is left than was, and all that was sure is sure
@@ -47,8 +47,8 @@ module _ {P E : Type 0} (config : Config) (chain : Chain) (a m : Seen P E) (t : 
   KeepsFrom-finished : {T : Type 0} (old new : Kept (At T)) → MakesSure old new → KeepsFrom 0 old new
   KeepsFrom-finished old new makes = record { held = λ h v low is. subst (λ xs. value_at xs h ≡ Some v) (sym makes.held) is; sure = λ h v is has. makes.sure h v is }
 
-  written : (w : Writes (node_of a buffer waiting) (sync_finished t) no_floor (node_of m buffer waiting)) × (w.repaired ≡ [])
-  written = Writes-none a m (sync_finished t) buffer waiting refl finishes.blocks.held (ap (λ s. s.held.writes.covered) finishes.same) (ap (λ s. s.held.writes.uncovered) finishes.same ∙ ap (λ k. drop (k - a.held.writes.covered) a.held.writes.uncovered) (sym (ap (λ s. s.held.writes.covered) finishes.same))) (ap (λ s. s.held.writes.syncs) finishes.same)
+  written : (w : Writes (node_of a buffer waiting) (sync_finished t) no_floor (node_of m buffer waiting)) × (w.repaired ≡ []) × (w.blocking ≡ 0)
+  written = Writes-none a m (sync_finished t) buffer waiting waiting refl finishes.blocks.held (ap (λ s. s.held.writes.covered) finishes.same) (ap (λ s. s.held.writes.uncovered) finishes.same ∙ ap (λ k. drop (k - a.held.writes.covered) a.held.writes.uncovered) (sym (ap (λ s. s.held.writes.covered) finishes.same))) (ap (λ s. s.held.writes.syncs) finishes.same)
 
   -- a sync of both archives that finished, or one that wasn't open, reaches the actor in which it makes more sure
   pub Reaches-finished : AreCached a.held → NoneHas t a.held.cache.syncs → IsNested m.held.blocks → IsNested m.held.certs → Reaches config chain a (sync_finished t) buffer waiting [] m
@@ -76,6 +76,8 @@ module _ {P E : Type 0} (config : Config) (chain : Chain) (a m : Seen P E) (t : 
     };
     writes = written.0;
     no_repair = written.1;
+    unblocked = written.2;
+    enters = EntersAt-same _ (node_of a buffer waiting) (node_of m buffer waiting) finishes.blocks.held finishes.certs.held;
     are_tips = tt;
     tips_rise = ap (λ s. s.life.tip) finishes.same;
     tips_chain = tt;
@@ -110,39 +112,21 @@ module _ {P E : Type 0} (config : Config) (chain : Chain) (a m : Seen P E) (t : 
 
   -- the node that it leaves is good
   pub IsGood-finished : IsOrdered a.held.writes → IsNested m.held.blocks → IsNested m.held.certs → IsGood config chain (node_of a buffer waiting) → IsGood config chain (node_of m buffer waiting)
-  IsGood-finished ordered new_nested new_certs good = record {
-    heights = record {
-      stores = record {
-        nested_blocks = nested_heights m.held.blocks new_nested;
-        nested_certs = nested_heights m.held.certs new_certs;
-        sure_blocks = finishes.written.blocks;
-        sure_certs = finishes.written.certs;
-      };
-      delivery = record {
-        consecutive = subst (λ s. ConsecutiveFrom (first_unprocessed s.held.processed) s.life.out) (sym same) good.heights.delivery.consecutive;
-        out_sure = subst (λ o. AllByRecursion (λ x. IsTrue (has_height m.held.blocks.sure x.height)) o) (sym (ap (λ s. s.life.out) finishes.same)) (AllByRecursion-weaker (λ x. IsTrue (has_height a.held.blocks.sure x.height)) (λ x. IsTrue (has_height m.held.blocks.sure x.height)) (λ x has. stays x.height has) a.life.out good.heights.delivery.out_sure);
-        within_window = subst (λ o. length o ≤ config.window) (sym (ap (λ s. s.life.out) finishes.same)) good.heights.delivery.within_window;
-        anchored = subst (λ p. HasAnchor p m.held.blocks.sure) (sym (ap (λ s. s.held.processed) finishes.same)) (HasAnchor-kept 0 a.held.processed a.held.blocks.sure m.held.blocks.sure (omega arith) (λ h low has. stays h has) good.heights.delivery.anchored);
-      };
-      floor_clears = λ some. absurd cc;
-      own_pair = ap (λ s. s.held.pairs) finishes.same ∙ (good.heights.own_pair ∙ sym (ap (λ s. pair_of s.held.processed s.held.cutoff ∷ []) finishes.same));
-      sync_open = subst (λ s. 0 < length s.held.writes.uncovered → Contains (map (λ u. u.position) s.held.writes.syncs) (total_writes s.held.writes)) (sym finishes.same) (sync_open ordered.ascend ordered good.heights.sync_open);
-    };
-    of_chain = record {
-      stores = record {
-        held_blocks = subst (AreBlocksOf chain) (sym finishes.blocks.held) good.of_chain.stores.held_blocks;
-        may_blocks = AllByRecursion-within (λ x. IsBlockAt chain x.height x.value) m.held.blocks.may a.held.blocks.may finishes.blocks.may good.of_chain.stores.may_blocks;
-        held_certs = subst (AreFinalizationsOf chain) (sym finishes.certs.held) good.of_chain.stores.held_certs;
-        may_certs = AllByRecursion-within (λ x. Finalizes chain x.height x.value.round x.value.payload) m.held.certs.may a.held.certs.may finishes.certs.may good.of_chain.stores.may_certs;
-      };
-      cache = subst (IsCacheOf chain) (sym (ap (λ s. s.held.cache.kept) finishes.same)) good.of_chain.cache;
-      asks = record { requests = good.of_chain.asks.requests; ready = tt; overflow = tt };
-      awaits = tt;
-      not_at_hand = tt;
-      floor_safe = subst (λ s. FloorSafe (option_map height_in s.held.processed) s.held.cutoff m.held.blocks.sure chain) (sym same) (FloorSafe-still chain (option_map height_in a.held.processed) a.held.cutoff a.held.blocks.sure m.held.blocks.sure (λ has. stays _ has) good.of_chain.floor_safe);
-      tip_reported = subst (λ xs. AllByRecursion (λ x. x.height ≤ m.life.tip) xs) (sym finishes.certs.held) (subst (λ k. AllByRecursion (λ x. x.height ≤ k) a.held.certs.held) (sym (ap (λ s. s.life.tip) finishes.same)) good.of_chain.tip_reported);
-    };
-  }
+  IsGood-finished ordered new_nested new_certs good =
+      IsGood-grown config chain a buffer waiting good m (nested_heights m.held.blocks new_nested) (nested_heights m.held.certs new_certs) (ap (λ s. s.life.out) finishes.same)
+      (ap (λ s. s.held.processed) finishes.same) (subst (IsCacheOf chain) (sym (ap (λ s. s.held.cache.kept) finishes.same)) good.of_chain.cache)
+      (ap (λ s. s.held.pairs) finishes.same ∙ (good.heights.own_pair ∙ sym (ap (λ s. pair_of s.held.processed s.held.cutoff ∷ []) finishes.same)))
+      finishes.written.blocks finishes.written.certs
+      (subst (λ s. 0 < length s.held.writes.uncovered → Contains (map (λ u. u.position) s.held.writes.syncs) (total_writes s.held.writes)) (sym same)
+      (sync_open ordered.ascend ordered good.heights.sync_open))
+      (λ h low has. stays h has) (subst (AreBlocksOf chain) (sym finishes.blocks.held) good.of_chain.stores.held_blocks)
+      (AllByRecursion-within (λ x. IsBlockAt chain x.height x.value) m.held.blocks.may a.held.blocks.may finishes.blocks.may good.of_chain.stores.may_blocks)
+      (subst (AreFinalizationsOf chain) (sym finishes.certs.held) good.of_chain.stores.held_certs)
+      (AllByRecursion-within (λ x. Finalizes chain x.height x.value.round x.value.payload) m.held.certs.may a.held.certs.may finishes.certs.may good.of_chain.stores.may_certs)
+      (subst (λ c. FloorSafe (option_map height_in a.held.processed) c m.held.blocks.sure chain) (sym (ap (λ s. s.held.cutoff) finishes.same))
+      (FloorSafe-still chain (option_map height_in a.held.processed) a.held.cutoff a.held.blocks.sure m.held.blocks.sure (λ has. stays _ has) good.of_chain.floor_safe))
+      (subst (λ xs. AllByRecursion (λ x. x.height ≤ m.life.tip) xs) (sym finishes.certs.held)
+      (subst (λ k. AllByRecursion (λ x. x.height ≤ k) a.held.certs.held) (sym (ap (λ s. s.life.tip) finishes.same)) good.of_chain.tip_reported))
     where
       same : m ≡ record a { held = record a.held { blocks = m.held.blocks; certs = m.held.certs; writes = with_finished t a.held.writes; watches = m.held.watches } }
       same = finishes.same

@@ -3,10 +3,10 @@ use Rattle.std.proofs.Common.{◌≡◌, ◌⊎◌, inl, inr, ⊎_elim, ℕ, zer
 use Rattle.std.specs.List.{AllByRecursion, AllPairs}
 use Rattle.std.proofs.lemmas.Bool.Decides.{nat_tests}
 use Rattle.std.proofs.lemmas.List.{length-drop}
-use Rattle.std.proofs.lemmas.List.Elements.{Contains-append_right}
 use Rattle.mar_model.specs.Node.{Node, OpenSync, write_count}
 use Rattle.mar_model.specs.Step.{with_sync}
 use Rattle.mar_gate.specs.Writing.{IsOrdered, Writing, is_open_sync, position_of, total_writes, with_finished, without_sync}
+use Rattle.mar_model.proofs.StoredValues.{later_place}
 
 -- NO TICKET
 
@@ -64,12 +64,6 @@ total-finished w t ordered =
     let left : length (drop (max w.covered (position_of w.syncs t) - w.covered) w.uncovered) ≡ length w.uncovered - (max w.covered (position_of w.syncs t) - w.covered) = length-drop (max w.covered (position_of w.syncs t) - w.covered) w.uncovered in
     ap (λ k. max w.covered (position_of w.syncs t) + k) left ∙ omega arith
 
--- what stands behind a front stands in the whole
-pub Contains-dropped : {T : Type 0} (k : ℕ) (xs : List T) (x : T) → Contains (drop k xs) x → Contains xs x
-Contains-dropped zero xs x has = has
-Contains-dropped (suc k) [] x has = has
-Contains-dropped (suc k) (y ∷ xs) x has = Contains-append_right (y ∷ []) xs x (Contains-dropped k xs x has)
-
 -- THE LAST SYNC STAYS
 
 -- what is said of each pair is said of the first and each other
@@ -89,9 +83,6 @@ none_higher t (s ∷ syncs) all = by (s.ticket == t) refl (none_higher t syncs a
     by false other others = ap (λ ss. s ∷ ss) others
     by true same others = absurd (let is : s.ticket ≡ t = eqb-true s.ticket t same in let high : t < s.ticket = all.0 in omega arith)
 
-behind : {T : Type 0} (y : T) (xs : List T) (x : T) → Contains xs x → Contains (y ∷ xs) x
-behind y xs x has = Contains-append_right (y ∷ []) xs x has
-
 -- an open sync of a position is the one that finishes, or stays
 pub position-stays : (syncs : List OpenSync) (t k : ℕ) → AllPairs (λ s u. s.ticket < u.ticket) syncs → Contains (map (λ s. s.position) syncs) k → (position_of syncs t ≡ k) ⊎ Contains (map (λ s. s.position) (without_sync t syncs)) k
 position-stays [] t k ascend has = inr has
@@ -110,4 +101,4 @@ position-stays (s ∷ syncs) t k ascend (suc j, low, is) = by (s.ticket == t) re
 
     by : (b : Bool) → (s.ticket == t) ≡ b → (position_of syncs t ≡ k) ⊎ Contains (map (λ u. u.position) (without_sync t syncs)) k → ((if b then s.position else position_of syncs t) ≡ k) ⊎ Contains (map (λ u. u.position) (if not b then s ∷ without_sync t syncs else without_sync t syncs)) k
     by true same others = inr (subst (λ ss. Contains (map (λ u. u.position) ss) k) (sym (none_higher t syncs (subst (λ i. AllByRecursion (λ u. i < u.ticket) syncs) (eqb-true s.ticket t same) apart))) rest)
-    by false other others = ⊎_elim (λ here. inl here) (λ stays. inr (behind s.position (map (λ u. u.position) (without_sync t syncs)) k stays)) others
+    by false other others = ⊎_elim (λ here. inl here) (λ stays. inr (later_place s.position (map (λ u. u.position) (without_sync t syncs)) k stays)) others

@@ -1,23 +1,17 @@
 -- A task behind a read is that task: what it does of the scene before the read.
-use Rattle.std.proofs.Common.{◌⊎◌, inl, inr, ◌∷◌, [], List, ℕ, sym, ◌∙◌, ap, subst}
+use Rattle.std.proofs.Common.{◌⊎◌, inl, inr, ◌∷◌, [], List, ℕ, sym, ◌∙◌, ap, subst, ◌≡◌}
+use Rattle.mar_types.specs.Round.{Round}
 use Rattle.mar_model.specs.Held.{ArePassed, Ending, Grew, Held, LeavesMore, Loses, Watches, Written, nothing_written}
 use Rattle.mar_model.specs.Moves.{PrunesCacheBy}
 use Rattle.mar_model.specs.Node.{Ended}
 use Rattle.mar_model.specs.Promise.{Heard}
-use Rattle.mar_types.specs.Round.{Round}
-use Rattle.mar_model.proofs.Growing.{Grew-refl, WithinWritten-nothing, WithinWritten-refl}
-use Rattle.mar_model.proofs.KeptEach.{KeepsFor-unread}
-use Rattle.mar_model.proofs.Passing.{ArePassed-then, FailsBy-then}
 use Rattle.mar_model.specs.Acts.{Act, AreLawful, Joins, LosesOver, ask, caches, finish_kept, finish_sync, keep_certified, keep_notarization, keep_notarized, keep_verified, keeps_for, load_cache, mark, note, process, progresses, put_finalization, reply, says, send, start_sync, store, store_late, stores, sync_progress, tell}
 use Rattle.mar_model.specs.Ran.{Breaks, DoesTask, FailsRead, FailsTask, Reads, Runs, StopsHands, Task, dispatches, does, ends}
 use Rattle.mar_model.specs.Scene.{Scene}
-use Rattle.mar_model.proofs.Running.{Reads-refl}
-
-Reads-then : (s t u : Scene) → Reads s t → Reads t u → Reads s u
-Reads-then s t u first second = record {
-  joins = λ start all grew within. second.joins start all (first.joins start all grew within) within;
-  same = second.same ∙ ap (λ (x : Scene). record x { held = record x.held { watches = u.held.watches } }) first.same;
-}
+use Rattle.mar_model.proofs.Growing.{Grew-refl, WithinWritten-nothing, WithinWritten-refl}
+use Rattle.mar_model.proofs.KeptEach.{KeepsFor-unread}
+use Rattle.mar_model.proofs.Passing.{ArePassed-then, FailsBy-then}
+use Rattle.mar_model.proofs.Running.{Reads-refl, Reads-then, FailsRead-then}
 
 -- what is left of stores that were read is left of them
 over_read : (s : Held) (w : Watches) (written : Written) (left : Ended) → LeavesMore (record s { watches = w }) written left → LeavesMore s written left
@@ -36,14 +30,18 @@ module _ (inner : List ℕ → List ℕ) (s : Scene) (w : Watches) (joins : Join
   joins_from : (written : Written) (new : Held) → Joins read.held written new → Joins s.held written new
   joins_from written new more = λ start all grew within. more start all (joins start all grew (WithinWritten-nothing all)) within
 
-  loses_from : (written : Written) (e : Ending) → LosesOver read.held written e → LosesOver s.held written e
-  loses_from written e lost = λ start all grew within. lost start all (joins start all grew (WithinWritten-nothing all)) within
-
   grew_from : (written : Written) (new : Held) → Grew read.held written new → Grew s.held written new
   grew_from written new grew = record { leaves = over_read s.held w written _ grew.leaves; blocks = grew.blocks; certs = grew.certs; passed = ArePassed-then _ _ _ passed grew.passed }
 
   lost_from : (written : Written) (e : Ending) → Loses read.held written e → Loses s.held written e
   lost_from written e lost = record { leaves = over_read s.held w written _ lost.leaves; cause = FailsBy-then _ _ _ _ passed lost.cause }
+
+  -- where the stores stay as they were read, they may be read afterwards
+  read_on : (t : Scene) → t.held ≡ read.held → Reads (record t { held = s.held }) t
+  read_on t is = record {
+    joins = λ start all grew within. subst (Grew start all) (sym is) (joins start all grew within);
+    same = ap (λ h. record t { held = h }) is ∙ ap (λ (h : Held). record t { held = record s.held { watches = h.watches } }) (sym is);
+  }
 
   -- an act does that of the scene before the read, and then it was read
   abbrev Did : Task → Scene → Type 0
@@ -75,55 +73,15 @@ module _ (inner : List ℕ → List ℕ) (s : Scene) (w : Watches) (joins : Join
       (record { blocks = is.blocks; certs = is.certs; written = is.written; same = is.same }, joins_from _ _ more, lawful, same)
   unread-act (progresses (note r)) t (is, lawful, heard, same) = here (does (progresses (note r))) t
       (record { prunes = pruned_read s.held w _ t.held is.prunes; passed = ArePassed-then _ _ _ passed is.passed; same = is.same }, lawful, heard, same)
-  unread-act (progresses (mark ticket m)) t same = (
-    record t { held = s.held },
-    ap (λ (x : Scene). record x { held = s.held }) same,
-    record {
-      joins = λ start all grew within. subst (λ (x : Scene). Grew start all x.held) (sym same) (joins start all grew within);
-      same = ap (λ (x : Scene). record t { held = x.held }) same ∙
-          ap (λ (x : Scene). record t { held = record s.held { watches = x.held.watches } }) (sym same);
-    },
-  )
+  unread-act (progresses (mark ticket m)) t same = (record t { held = s.held }, ap (λ (x : Scene). record x { held = s.held }) same, read_on t (ap (λ (x : Scene). x.held) same))
   unread-act (progresses (process h)) t (is, more, lawful, heard, same) = here (does (progresses (process h))) t
       (record { prunes = pruned_read s.held w _ t.held is.prunes; same = is.same }, joins_from _ _ more, lawful, heard, same)
   unread-act (progresses sync_progress) t (is, lawful, same) = here (does (progresses sync_progress)) t
       (record { passed = ArePassed-then _ _ _ passed is.passed; same = is.same }, lawful, same)
-  unread-act (says (tell r h d)) t (heard, same) = (
-    record t { held = s.held },
-    (heard, ap (λ (x : Scene). record x { held = s.held }) same),
-    record {
-      joins = λ start all grew within. subst (λ (x : Scene). Grew start all x.held) (sym same) (joins start all grew within);
-      same = ap (λ (x : Scene). record t { held = x.held }) same ∙
-          ap (λ (x : Scene). record t { held = record s.held { watches = x.held.watches } }) (sym same);
-    },
-  )
-  unread-act (says (ask calls)) t (heard, same) = (
-    record t { held = s.held },
-    (heard, ap (λ (x : Scene). record x { held = s.held }) same),
-    record {
-      joins = λ start all grew within. subst (λ (x : Scene). Grew start all x.held) (sym same) (joins start all grew within);
-      same = ap (λ (x : Scene). record t { held = x.held }) same ∙
-          ap (λ (x : Scene). record t { held = record s.held { watches = x.held.watches } }) (sym same);
-    },
-  )
-  unread-act (says (send y)) t (heard, same) = (
-    record t { held = s.held },
-    (heard, ap (λ (x : Scene). record x { held = s.held }) same),
-    record {
-      joins = λ start all grew within. subst (λ (x : Scene). Grew start all x.held) (sym same) (joins start all grew within);
-      same = ap (λ (x : Scene). record t { held = x.held }) same ∙
-          ap (λ (x : Scene). record t { held = record s.held { watches = x.held.watches } }) (sym same);
-    },
-  )
-  unread-act (says (reply a)) t same = (
-    record t { held = s.held },
-    ap (λ (x : Scene). record x { held = s.held }) same,
-    record {
-      joins = λ start all grew within. subst (λ (x : Scene). Grew start all x.held) (sym same) (joins start all grew within);
-      same = ap (λ (x : Scene). record t { held = x.held }) same ∙
-          ap (λ (x : Scene). record t { held = record s.held { watches = x.held.watches } }) (sym same);
-    },
-  )
+  unread-act (says (tell r h d)) t (heard, same) = (record t { held = s.held }, (heard, ap (λ (x : Scene). record x { held = s.held }) same), read_on t (ap (λ (x : Scene). x.held) same))
+  unread-act (says (ask calls)) t (heard, same) = (record t { held = s.held }, (heard, ap (λ (x : Scene). record x { held = s.held }) same), read_on t (ap (λ (x : Scene). x.held) same))
+  unread-act (says (send y)) t (heard, same) = (record t { held = s.held }, (heard, ap (λ (x : Scene). record x { held = s.held }) same), read_on t (ap (λ (x : Scene). x.held) same))
+  unread-act (says (reply a)) t same = (record t { held = s.held }, ap (λ (x : Scene). record x { held = s.held }) same, read_on t (ap (λ (x : Scene). x.held) same))
 
   unread-task : (k : Task) (t : Scene) → DoesTask inner k read t → Did k t
   unread-task (does a) t did = unread-act a t did
@@ -152,18 +110,9 @@ module _ (inner : List ℕ → List ℕ) where
   runs-read [] s u t reads runs = Reads-then s u t reads runs
   runs-read (k ∷ plan) s u t reads (mid, after, read, did, runs) = (mid, after, Reads-then s u mid reads read, did, runs)
 
-  fails-then : (s t : Scene) (e : Ending) (heard : Heard) → Reads s t → FailsRead t e heard → FailsRead s e heard
-  fails-then s t e heard reads fails = record {
-    loses = λ start all grew within. fails.loses start all (reads.joins start all grew within) within;
-    usual = fails.usual;
-    unsynced =
-        fails.unsynced;
-    same = fails.same ∙ ap (λ (x : Scene). x.heard) reads.same;
-  }
-
   breaks-read : (plan : List Task) (s u : Scene) (e : Ending) (heard : Heard) → Reads s u → Breaks inner u plan e heard → Breaks inner s plan e heard
-  breaks-read [] s u e heard reads fails = fails-then s u e heard reads fails
-  breaks-read (k ∷ plan) s u e heard reads (inl fails) = inl (fails-then s u e heard reads fails)
+  breaks-read [] s u e heard reads fails = FailsRead-then s u e heard reads fails
+  breaks-read (k ∷ plan) s u e heard reads (inl fails) = inl (FailsRead-then s u e heard reads fails)
   breaks-read (k ∷ plan) s u e heard reads (inr (mid, read, how)) = inr (mid, Reads-then s u mid reads read, how)
 
   did_first : (k : Task) (s mid t : Scene) → AreLawful s.held → Reads s mid → DoesTask inner k mid t → (u : Scene) × DoesTask inner k s u × Reads u t

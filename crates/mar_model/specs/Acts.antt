@@ -1,5 +1,5 @@
 -- What one call of a rule does, and what it leaves where it fails.
-use Rattle.std.specs.Prelude.{Bool, List, None, true, Option, Some, [], option_to_list, ◌++◌, ◌∷◌, ◌≡◌, ◌⊎◌, ◌-◌, ◌^◌, ℕ}
+use Rattle.std.specs.Prelude.{Bool, List, None, true, Option, Some, [], option_to_list, ◌++◌, ◌∷◌, ◌≡◌, ◌⊎◌, ◌-◌, ◌^◌, ◌≤◌, ℕ}
 use Rattle.mar_types.specs.Epochs.{Epochs}
 use Rattle.mar_types.specs.Round.{Round}
 use Rattle.mar_cert.specs.Block.{Block}
@@ -204,23 +204,24 @@ IsDone inner (says (reply a)) s t = t ≡ record s { heard = record s.heard { an
 
 -- WHERE IT FAILS
 
-abbrev pub IsKeepFault : Held → Fault → Type 0
-IsKeepFault held fault = IsUsual fault ⊎ ((fault ≡ ticket_limit sync_kind) × (held.writes.next_sync ≡ 2 ^ 64 - 1))
+-- a usual one; where a sync is started for what is kept of this epoch, there may be no ticket for it
+abbrev pub IsKeepFault : ℕ → Held → Fault → Type 0
+IsKeepFault epoch held fault = IsUsual fault ⊎ ((fault ≡ ticket_limit sync_kind) × (held.writes.next_sync ≡ 2 ^ 64 - 1) × (held.lowest ≤ epoch))
 
 -- an archive's fault or want of memory; a sync that is started may find no ticket
 abbrev pub IsFaultIn : StoreAct → Held → Fault → Type 0
 IsFaultIn start_sync held fault = IsArchiveFault fault ⊎ ((fault ≡ ticket_limit sync_kind) × (held.writes.next_sync ≡ 2 ^ 64 - 1))
 IsFaultIn _ held fault = IsArchiveFault fault
 
--- a usual one; where a sync is started for what is kept, there may be no ticket for it
 abbrev pub IsCacheFault : CacheAct → Held → Fault → Type 0
-IsCacheFault (keep_notarization f) held fault = IsKeepFault held fault
-IsCacheFault (keep_notarized r b) held fault = IsKeepFault held fault
+IsCacheFault (keep_notarization f) held fault = IsKeepFault f.round.epoch held fault
+IsCacheFault (keep_notarized r b) held fault = IsKeepFault r.epoch held fault
 IsCacheFault _ held fault = IsUsual fault
 
 abbrev pub IsUnkept : KeepAct → Held → Fault → Type 0
+IsUnkept (keep_verified r b t) held fault = IsKeepFault r.epoch held fault
+IsUnkept (keep_certified r b t) held fault = IsKeepFault r.epoch held fault
 IsUnkept (finish_kept t) held fault = IsUsual fault
-IsUnkept _ held fault = IsKeepFault held fault
 
 -- what it leaves, and what was heard until then
 abbrev pub IsLost : Act → Scene → Ending → Heard → Type 0

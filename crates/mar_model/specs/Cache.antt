@@ -232,6 +232,6 @@ pub record AdvancesCache (config : Config) (n : Node) (e : Event) (fx : Effect) 
   pub lowest : n'.lowest ≡ lowest_after config n e fx
   -- a lowest epoch that a later sync wrote over may be forgotten; the node's own may not
   pub lowests : (k : ℕ) → Contains n'.lowests k → Contains (n.lowests ++ n'.lowest ∷ []) k
-  pub own_lowest : Contains (0 ∷ n'.lowests) n'.lowest
+  pub own_lowest : Contains n'.lowests n'.lowest
   pub cache_syncs : OpensCacheSyncs config n e fx n'
   pub witnessed : n'.witnessed ≡ (witnessing_of config n e fx).last

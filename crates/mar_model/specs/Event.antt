@@ -11,7 +11,7 @@ use Rattle.mar_store.specs.Kept.{At, has_height, newest_upto, value_at}
 use Rattle.mar_key.specs.Keys.{Annotation, is_finalized}
 use Rattle.mar_model.specs.Messages.{Message, certify, get_anchor, get_block, get_finalization, get_info, get_processed, get_verified, proposed, prune_below, report_finalization, report_notarization, set_floor, verified}
 use Rattle.mar_model.specs.Config.{Config}
-use Rattle.mar_model.specs.Acks.{Outstanding, after_given, given_front, mark_dropped, mark_given, with_mark}
+use Rattle.mar_model.specs.Acks.{Mark, Outstanding, after_given, given_front, mark_dropped, mark_given, with_mark}
 use Rattle.mar_model.specs.Node.{Awaited, Node, at_hand}
 use Rattle.mar_model.specs.Cached.{cached_finalization}
 
@@ -26,13 +26,18 @@ pub data Answer : Type 0 where
 pub data Event : Type 0 where
   life_started : Option Finalization → Event  -- with the configured floor
   message_told : Option ℕ → Message → Event  -- with its answer ticket
-  ack_given : ℕ → Event
-  ack_dropped : ℕ → Event  -- an acknowledgement was dropped
+  ack_marked : ℕ → Mark → Event  -- the acknowledgement of this ticket was given, or dropped
   sync_finished : ℕ → Event
   peer_answered : Answer → Event
   serve_ended : Event
   block_buffered : Block → Event
   buffer_ended : Event
+
+abbrev pub ack_given : ℕ → Event
+ack_given t = ack_marked t mark_given
+
+abbrev pub ack_dropped : ℕ → Event
+ack_dropped t = ack_marked t mark_dropped
 
 -- the block that an event brings, if any
 abbrev pub brought_block : Node → Event → Option Block
@@ -132,19 +137,17 @@ told_finalization n _ = None
 
 -- what an event drains of the outstanding blocks
 abbrev pub drained_blocks : Node → Event → List Outstanding
-drained_blocks n (ack_given t) = given_front (with_mark t mark_given n.out)
+drained_blocks n (ack_marked t m) = given_front (with_mark t m n.out)
 drained_blocks n _ = []
 
 -- what stays outstanding, with the mark that the event sets
 abbrev pub undrained_blocks : Node → Event → List Outstanding
-undrained_blocks n (ack_given t) = after_given (with_mark t mark_given n.out)
-undrained_blocks n (ack_dropped t) = with_mark t mark_dropped n.out
+undrained_blocks n (ack_marked t m) = after_given (with_mark t m n.out)
 undrained_blocks n _ = n.out
 
 -- the outstanding blocks before any is drained, with the mark that the event sets
 abbrev pub marked_blocks : Node → Event → List Outstanding
-marked_blocks n (ack_given t) = with_mark t mark_given n.out
-marked_blocks n (ack_dropped t) = with_mark t mark_dropped n.out
+marked_blocks n (ack_marked t m) = with_mark t m n.out
 marked_blocks n _ = n.out
 
 -- the floor stands above the processed height

@@ -13,7 +13,7 @@ use Rattle.mar_model.specs.Config.{Config}
 use Rattle.mar_model.specs.Acks.{Mark, Outstanding, mark_dropped, mark_given, mark_waiting}
 use Rattle.mar_model.specs.Node.{Node}
 use Rattle.mar_model.specs.Metadata.{Pair}
-use Rattle.mar_model.specs.Event.{Effect, Event, Storing, ack_dropped, ack_given, applies_floor, effect_of, is_above, life_started, message_told, storing_of, undrained_blocks}
+use Rattle.mar_model.specs.Event.{Effect, Event, Storing, ack_marked, applies_floor, effect_of, is_above, life_started, message_told, storing_of, undrained_blocks}
 
 -- the stores of a node, as a fault names them
 pub data StoreName : Type 0 where
@@ -81,8 +81,7 @@ storing_fault n None _ = None
 
 -- the fault that an event must end in, if any
 abbrev pub event_fault : Config → Node → Event → Option Fault
-event_fault config n (ack_given t) = dropped_first (undrained_blocks n (ack_given t))
-event_fault config n (ack_dropped t) = dropped_first (undrained_blocks n (ack_dropped t))
+event_fault config n (ack_marked t m) = dropped_first (undrained_blocks n (ack_marked t m))
 event_fault config n (message_told t (set_floor f)) = option_or (floor_fault config n f) (storing_fault n None (effect_of config n (message_told t (set_floor f))))
 event_fault config n (life_started (Some f)) = option_or (floor_fault config n f) (storing_fault n None (effect_of config n (life_started (Some f))))
 event_fault config n e = storing_fault n (storing_of n e) (effect_of config n e)

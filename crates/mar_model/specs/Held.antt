@@ -6,6 +6,7 @@ use Rattle.mar_types.specs.Round.{Round}
 use Rattle.mar_cert.specs.Finalization.{Finalization}
 use Rattle.mar_key.specs.Cutoff.{Cutoff}
 use Rattle.mar_key.specs.Processed.{Processed, at_block}
+use Rattle.mar_store.specs.Gaps.{AscendAbove}
 use Rattle.mar_store.specs.Kept.{At, Kept, value_at}
 use Rattle.mar_store.specs.Changes.{Left, IsReopened, KeepsValues, Within, left_of}
 use Rattle.mar_store.specs.Luck.{keeps_by, lucky_found}
@@ -122,9 +123,11 @@ pub record AreWritten (h : Held) : Type 0 where
   pub certs : SureOrWritten h.certs h.writes.uncovered
   pub ordered : IsOrdered h.writes
 
--- Open syncs of the cache have tickets that were given out, and no open sync of both archives has one of them.
-abbrev pub HaveOwnTickets : Writing → List CacheSync → Type 0
-HaveOwnTickets w syncs = AllByRecursion (λ s. (s.ticket < w.next_sync) × (is_open_sync w.syncs s.ticket ≡ false)) syncs
+-- Open syncs of the cache have tickets that were given out, each later than the one before, and no open sync of both archives
+-- has one of them.
+pub record HaveOwnTickets (w : Writing) (syncs : List CacheSync) : Type 0 where
+  pub own : AllByRecursion (λ s. (s.ticket < w.next_sync) × (is_open_sync w.syncs s.ticket ≡ false)) syncs
+  pub ascend : AscendAbove 0 (map (λ s. s.ticket) syncs)
 
 -- What is cached may be left, none of it of an epoch below the lowest, which is what a crash leaves of that; and its open syncs
 -- have tickets of their own.
@@ -360,7 +363,7 @@ pub record ReopensAs (old : Remains) (luck : ℕ) (new : Held) : Type 0 where
   pub fresh : new.cache.fresh ≡ true
   pub finds : new.cache.finds ≡ (picks_of old luck).cache
   pub no_syncs : new.cache.syncs ≡ []
-  pub lowest : Contains (0 ∷ new.lowests) new.lowest
+  pub lowest : Contains new.lowests new.lowest
   pub lowests : Within new.lowests old.ended.lowests
 
 -- What is left of a store that was opened, or was to be: what was sure is sure, and nothing may be left but what might
@@ -384,6 +387,17 @@ pub record LosesOpening (old : Remains) (written : Written) (e : Ending) : Type 
   pub pairs : Within e.remains.ended.meta (old.ended.meta ++ written.pairs)
   pub cache : LeavesUnloaded (cache_left old.ended) (cache_left e.remains.ended) old.ended.lowests e.remains.ended.lowests
   pub cause : IsEndedBy old.watches e
+
+-- the place of a store in the order in which all are opened
+abbrev pub opening_place : StoreName → ℕ
+opening_place block_store = 0
+opening_place cert_store = 1
+opening_place meta_store = 2
+opening_place cache_store = 3
+
+-- no store was called behind one that could not be opened
+abbrev pub FailsInOrder : Remains → Ending → Type 0
+FailsInOrder old e = (s t : StoreName) → e.fault ≡ store_fault s → opening_place s < opening_place t → watch_of e.remains.watches t ≡ watch_of old.watches t
 
 -- a store's fault, or want of memory
 abbrev pub IsUsual : Fault → Type 0

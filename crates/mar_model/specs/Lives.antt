@@ -158,7 +158,7 @@ pub record Finds (config : Config) (e : Ended) (picks : Picks) (begin : Begin) (
   pub lowest : ℕ
   pub lowests : List ℕ
   pub lowests_were : (k : ℕ) → Contains lowests k → Contains e.lowests k
-  pub lowest_was : Contains (0 ∷ lowests) lowest
+  pub lowest_was : Contains lowests lowest
   pub blocks : Kept (At Block)
   pub settled : IsSettled blocks
   pub entered : SameAt blocks.held (with_genesis begin pair.processed found)
@@ -280,6 +280,17 @@ pub record Cuts (config : Config) (chain : Chain) (n : Node) (events : List Even
   pub advances : AdvancesAll config chain n finished first mid
   pub cut : CutsEvent config chain n.meta (option_map height_in n.processed) mid event later fault left
 
+-- An opening must end in this fault, by what a reopening of these stores finds, which is what luck picks, where it picks.
+pub record IsOpeningFault (e : Ended) (picks : Picks) (begin : Begin) (fault : Fault) : Type 0 where
+  pub pair : Pair
+  pub pair_may : Contains e.meta pair
+  pub blocks : List (At Block)
+  pub blocks_may : Reopens e.blocks_sure e.blocks_may blocks
+  pub certs : List (At Finalization)
+  pub certs_may : Reopens e.certs_sure e.certs_may certs
+  pub picked : IsPicked picks blocks certs pair
+  pub is_due : opening_fault blocks certs pair begin ≡ Some fault
+
 -- the pair that an opening gives to its metadata sync
 abbrev pub OpeningPair : Config → Ended → Picks → Begin → Pair → Type 0
 OpeningPair config e picks begin p = (n : Node) × Finds config e picks begin n × (p ≡ pair_of n.processed n.cutoff)
@@ -293,8 +304,7 @@ pub record CutsReopening (config : Config) (chain : Chain) (e : Ended) (picks : 
   pub may_blocks : (x : At Block) → Contains left.blocks_may x → Contains e.blocks_may x ⊎ (begin ≡ from_genesis x.value)
   pub may_certs : Within left.certs_may e.certs_may
   pub may_cached : Within left.cache_may e.cache_may
-  -- by what some reopening finds
-  pub cause : IsTrue (is_by_value fault) → (pair : Pair) × (blocks : List (At Block)) × (certs : List (At Finalization)) × Contains e.meta pair × Reopens e.blocks_sure e.blocks_may blocks × Reopens e.certs_sure e.certs_may certs × (opening_fault blocks certs pair begin ≡ Some fault)
+  pub cause : IsTrue (is_by_value fault) → IsOpeningFault e picks begin fault
 
 -- An opening cut in its Start step, before it took up the cache or behind that.
 pub record CutsStart (config : Config) (chain : Chain) (e : Ended) (picks : Picks) (begin : Begin) (made : Made) (fault : Fault) (left : Ended) : Type 0 where

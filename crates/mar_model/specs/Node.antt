@@ -63,7 +63,7 @@ pub record Node : Type 0 where
   pub buffer : List Block
   pub cache : Kept Cached
   pub lowest : ℕ  -- the lowest epoch of the cache: what is put below it is not kept
-  pub lowests : List ℕ  -- the lowest epochs that a crash may leave, but for 0
+  pub lowests : List ℕ  -- the lowest epochs that a crash may leave
   pub cache_syncs : List CacheSync
   pub asked : List Asked  -- what is open with the resolver
   pub peers : PeerQueue

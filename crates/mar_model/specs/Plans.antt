@@ -7,7 +7,7 @@ use Rattle.mar_key.specs.Processed.{height_of}
 use Rattle.mar_store.specs.Kept.{At}
 use Rattle.mar_model.specs.Acks.{Mark, Outstanding, given_oldest, is_given, mark_dropped, mark_given, mark_waiting, with_mark}
 use Rattle.mar_model.specs.Answers.{Sent, TicketAnswer, to}
-use Rattle.mar_model.specs.Event.{Event, ack_dropped, ack_given, life_started, message_told, sync_finished}
+use Rattle.mar_model.specs.Event.{Event, ack_marked, life_started, message_told, sync_finished}
 use Rattle.mar_model.specs.Faults.{Fault, dropped_ack, height_limit, last_height}
 use Rattle.mar_model.specs.Held.{Ending, Held, Seen}
 use Rattle.mar_model.specs.Messages.{Message, Peers, certify, prepared, proposed, report_finalization, report_notarization, verified}
@@ -148,8 +148,7 @@ abbrev pub plan_of : (List ℕ → List ℕ) → List Block → Scene → Event 
 plan_of inner buffer s (life_started f) found = start_plan inner s.held
 plan_of inner buffer s (message_told t m) found = message_plan inner buffer s.held t m found
 plan_of inner buffer s (sync_finished t) found = finish_plan s.held t
-plan_of inner buffer s (ack_given t) found = ack_plan s.life.out t mark_given
-plan_of inner buffer s (ack_dropped t) found = ack_plan s.life.out t mark_dropped
+plan_of inner buffer s (ack_marked t m) found = ack_plan s.life.out t m
 plan_of inner buffer s _ found = []
 
 -- An event does its plan. What it finds in the cache is said where what a crash left of that was taken up: before, a put shows

@@ -9,15 +9,13 @@ use Rattle.mar_key.specs.Asked.{Asked, asked_after}
 use Rattle.mar_key.specs.Hears.{Hears}
 use Rattle.mar_key.specs.Keys.{Call}
 use Rattle.mar_key.specs.PeerQueue.{PeerQueue}
-use Rattle.mar_store.specs.Kept.{At, Reopens}
 use Rattle.mar_model.specs.Answers.{Sent, TicketAnswer, certified_after, is_known}
 use Rattle.mar_model.specs.Cached.{Cached, cached_block}
 use Rattle.mar_model.specs.Messages.{Inbox, certify, message_blocks, proposed, report_finalization, report_notarization, verified}
-use Rattle.mar_model.specs.Metadata.{Pair}
 use Rattle.mar_model.specs.Chain.{Chain, IsBlockAt, IsLawful}
 use Rattle.mar_model.specs.Config.{Config}
 use Rattle.mar_model.specs.Event.{Event, effect_of, is_query, life_started, message_told}
-use Rattle.mar_model.specs.Faults.{Begin, Fault, from_floor, from_genesis, opening_fault}
+use Rattle.mar_model.specs.Faults.{Begin, from_floor, from_genesis}
 use Rattle.mar_model.specs.Held.{Ending, Held, Remains, Remembered, Seen, Sizes, picks_of, seen}
 use Rattle.mar_model.specs.Lives.{Cuts, CutsReopening, Finds, IsGoodEnded, Picks, TakesUp}
 use Rattle.mar_model.specs.Node.{Awaited, CertifiedCommitment, Ended, IsFinalized, IsGood, Node, Rest, Subscription, empty_inbox, empty_peers}
@@ -274,7 +272,3 @@ KeepsOpening epochs inner sizes old luck begin result =
 -- a node that begins is what some reopening of these stores finds, in which no fault is due, whatever the chain
 abbrev pub IsFound : {P E : Type 0} → Epochs → (List ℕ → List ℕ) → Sizes → Remains → ℕ → Begin → Seen P E → Type 0
 IsFound epochs inner sizes old luck begin a = (config : Config) → IsSetTo config sizes epochs inner → Finds config old.ended (picks_of old luck) begin (node_of a [] none_waiting)
-
--- the fault that an opening must end in, by what some reopening of these stores finds
-abbrev pub IsOpeningFault : Ended → Begin → Fault → Type 0
-IsOpeningFault e begin fault = (pair : Pair) × (blocks : List (At Block)) × (certs : List (At Finalization)) × Contains e.meta pair × Reopens e.blocks_sure e.blocks_may blocks × Reopens e.certs_sure e.certs_may certs × (opening_fault blocks certs pair begin ≡ Some fault)

@@ -1,6 +1,6 @@
 -- One step of a node: what it reports, and the node after it.
 use Rattle.std.specs.List.{AllByRecursion, filter_map, list_any}
-use Rattle.std.specs.Prelude.{Bool, Contains, IfSome, IsSome, IsTrue, List, None, Some, [], count_by, drop, if◌then◌else◌, length, map, max, nat_lt, not, option_to_list, ℕ, ⊤, ◌&&◌, ◌++◌, ◌+◌, ◌-◌, ◌<◌, ◌==◌, ◌∷◌, ◌≡◌, ◌≤◌, ◌⊎◌}
+use Rattle.std.specs.Prelude.{Bool, Contains, IfSome, IsFalse, IsSome, IsTrue, List, None, Some, [], count_by, drop, if◌then◌else◌, length, map, max, nat_lt, not, option_map, option_to_list, true, ℕ, ⊤, ◌&&◌, ◌++◌, ◌+◌, ◌-◌, ◌<◌, ◌==◌, ◌∷◌, ◌≡◌, ◌≤◌, ◌⊎◌}
 use Rattle.mar_types.specs.Round.{Round}
 use Rattle.mar_cert.specs.Block.{Block}
 use Rattle.mar_cert.specs.Finalization.{Finalization}
@@ -13,11 +13,11 @@ use Rattle.mar_model.specs.Acks.{Outstanding, mark_waiting}
 use Rattle.mar_model.specs.Node.{IsGood, Node, OpenSync, Rest, write_count}
 use Rattle.mar_gate.specs.Writing.{position_of, without_sync}
 use Rattle.mar_model.specs.Cached.{Cached, cached_block, cached_finalization}
-use Rattle.mar_model.specs.Event.{Effect, Event, Storing, applies_floor, awaited_after, awaits_floor, block_buffered, blocks_from, brought_block, certs_from, cutoff_after, effect_of, finalization_for, is_above, is_query, kept_blocks, no_floor, own_writes, processed_after, storing_of, sync_finished, told_finalization}
+use Rattle.mar_model.specs.Event.{Effect, Event, Storing, applies_floor, awaited_after, awaits_floor, block_buffered, blocks_from, brought_block, certs_from, cutoff_after, effect_of, finalization_for, is_above, is_query, kept_blocks, life_started, no_floor, own_writes, processed_after, storing_of, sync_finished, told_finalization}
 use Rattle.mar_model.specs.Cache.{AdvancesCache, MayBeCached, entries_with_puts, started_syncs}
 use Rattle.mar_model.specs.Faults.{event_fault}
 use Rattle.mar_model.specs.Answers.{Sent, TicketAnswer, answers_of, certified_after, is_known, sends_of, subscriptions_after}
-use Rattle.mar_model.specs.Requests.{own_asks}
+use Rattle.mar_model.specs.Requests.{awaits_no_more, is_pass, own_asks}
 
 -- what the application is told
 pub data Report : Type 0 where
@@ -147,6 +147,21 @@ pub record CertificatesFrom (n : Node) (e : Event) (n' : Node) : Type 0 where
   pub entered : (h : ℕ) (f : Finalization) → value_at n'.certs.held h ≡ Some f → (value_at n.certs.held h ≡ Some f) ⊎ IsCertFrom n e (record { height = h; value = f })
   pub own : (s : Storing) (f : Finalization) → storing_of n e ≡ Some s → told_finalization n e ≡ Some f → value_at n.certs.held s.height ≡ None → (value_at n'.certs.held s.height ≡ None) ⊎ (value_at n'.certs.held s.height ≡ Some f)
 
+-- the heights at which an event may store: its own and its floor's
+abbrev pub own_heights : Node → Event → Effect → List ℕ
+own_heights n e fx = option_to_list (option_map (λ s. s.height) (storing_of n e)) ++ floor_height fx
+
+-- Blocks and certificates enter the archives at these heights alone.
+pub record EntersAt (heights : List ℕ) (n n' : Node) : Type 0 where
+  pub blocks : (h : ℕ) → IsTrue (has_height n'.blocks.held h) → IsTrue (has_height n.blocks.held h) ⊎ Contains heights h
+  pub certs : (h : ℕ) → IsTrue (has_height n'.certs.held h) → IsTrue (has_height n.certs.held h) ⊎ Contains heights h
+
+-- a sync of both archives blocks at a start, and where a floor is applied or released
+abbrev pub is_blocking : Node → Event → Effect → Node → Bool
+is_blocking n (life_started f) fx n' = true
+is_blocking n e (applies_floor r b) n' = true
+is_blocking n e fx n' = awaits_no_more n.awaited n'.awaited
+
 -- tips ascend above this one; the last is left
 abbrev pub TipsFrom : ℕ → List Report → ℕ → Type 0
 TipsFrom tip [] last = last ≡ tip
@@ -198,6 +213,9 @@ pub record AdvancesBy (config : Config) (chain : Chain) (n : Node) (e : Event) (
   pub certificates : CertificatesFrom n e n'
   pub writes : Writes n e fx n'
   pub repairs : RepairsFromHand config n e fx writes.repaired n'
+  pub unrepaired : IsFalse (is_pass n e fx n') → writes.repaired ≡ []
+  pub unblocked : IsFalse (is_blocking n e fx n') → writes.blocking ≡ 0
+  pub enters : EntersAt (own_heights n e fx ++ writes.repaired) n n'
   pub tips : TipsFrom n.tip made.reports n'.tip
   pub tips_chain : AreTipsOf chain made.reports
   pub awaited : n'.awaited ≡ awaited_after n fx n'.cutoff

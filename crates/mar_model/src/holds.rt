@@ -9,7 +9,7 @@ ghost use Rattle.mar_store.specs.Sizes.{IsSmall};
 ghost use Rattle.mar_model.specs.Acts.{AreLawful};
 ghost use Rattle.mar_model.specs.CacheCalls.{JoinsTickets, KeepsTickets, none_goes};
 ghost use Rattle.mar_model.specs.Cached.{finalization_entry};
-ghost use Rattle.mar_model.specs.Held.{AreCached, AreWritten, GoesOn, IsArchiveFault, IsReadFault, IsUsual, LosesOpening, MakesSure, Remains, ReopensAs};
+ghost use Rattle.mar_model.specs.Held.{AreCached, AreWritten, FailsInOrder, GoesOn, IsArchiveFault, IsReadFault, IsUsual, LosesOpening, MakesSure, Remains, ReopensAs};
 ghost use Rattle.mar_model.specs.Held.{nothing_written, remains_of, with_armed, written_block, written_cert, written_entry};
 ghost use Rattle.mar_model.specs.Metadata.{first_pair};
 ghost use Rattle.mar_model.specs.Faults.{sync_kind, ticket_limit};
@@ -78,6 +78,7 @@ pub trait Holds<V: Variant>: HoldsProgress<V> {
         ensures ok { IfOk result (λ s. ReopensAs (Self.Ruins.left ruins) luck (Self.held s)) }
         ensures staged { IfOk result (λ s. Self.staged s ≡ record { blocks = []; min = 0; max = max_staged }) }
         ensures lost { IfErr result (LosesOpening (Self.Ruins.left ruins) nothing_written) }
+        ensures in_order { IfErr result (FailsInOrder (Self.Ruins.left ruins)) }
         ensures usual { IfErr result (λ e. IsUsual e.fault) };
 
     /// What a crash now leaves.

@@ -1,5 +1,6 @@
 -- The cache over three lines: a verified block is put, its sync finishes, its block is finalized.
 use Rattle.std.proofs.Common.{◌≡◌, [], ◌∷◌, Some, None, refl, Contains, inl, IsTrue}
+use Rattle.std.proofs.lemmas.List.Elements.{Contains-append_left}
 use Rattle.mar_model.specs.Messages.{report_finalization, verified, get_verified}
 use Rattle.mar_model.specs.Node.{Node}
 use Rattle.mar_model.specs.Cached.{Cached, finalization_entry, verified_entry}
@@ -36,7 +37,7 @@ entries_put = record {
   synced = λ x is held. absurd (not_synced x is);
   finished = λ x there held. absurd (none_in x there);
   lowest = refl;
-  lowests = λ k there. absurd (none_in k there);
+  lowests = λ k there. Contains-append_left (0 ∷ []) (0 ∷ []) k there;
   own_lowest = (0, lit< tt, refl);
   cache_syncs = record {
     still = [];
@@ -61,7 +62,7 @@ finishes = record {
   synced = λ x is held. absurd cc;
   finished = λ x there held. there;
   lowest = refl;
-  lowests = λ k there. absurd (none_in k there);
+  lowests = λ k there. Contains-append_left (0 ∷ []) (0 ∷ []) k there;
   own_lowest = (0, lit< tt, refl);
   cache_syncs = record { still = []; still_open = tt; started = []; started_open = tt; are = refl };
   witnessed = refl;
@@ -80,7 +81,7 @@ finalizes_too = record {
   synced = λ x is held. held;
   finished = λ x there held. absurd (none_in x there);
   lowest = refl;
-  lowests = λ k there. absurd (none_in k there);
+  lowests = λ k there. Contains-append_left (0 ∷ []) (0 ∷ []) k there;
   own_lowest = (0, lit< tt, refl);
   cache_syncs = record { still = []; still_open = tt; started = []; started_open = tt; are = refl };
   witnessed = refl;

@@ -27,7 +27,7 @@ cut_at_meta = record {
   certs_may = [];
   cache_sure = [];
   cache_may = [];
-  lowests = [];
+  lowests = 0 ∷ [];
   meta = record { processed = None; cutoff = cutoff_zero } ∷ record { processed = Some 0; cutoff = cutoff_zero } ∷ [];
 }
 

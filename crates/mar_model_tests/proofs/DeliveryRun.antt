@@ -24,7 +24,7 @@ use Rattle.mar_model_tests.proofs.SmallChain.{d1, b0, b1, r1, f1, config}
 
 -- the node at the end of the opening's first part, and after each line
 abbrev pub begun : Node
-begun = opened_node config (reopened_store (record { height = 0; value = b0 } ∷ [])) [] (record { sure = []; may = [] }) 0 [] (record { processed = None; cutoff = cutoff_zero })
+begun = opened_node config (reopened_store (record { height = 0; value = b0 } ∷ [])) [] (record { sure = []; may = [] }) 0 (0 ∷ []) (record { processed = None; cutoff = cutoff_zero })
 
 abbrev pub n0 : Node
 n0 = record begun { out = record { ticket = 0; height = 0; mark = mark_waiting } ∷ []; next_ack = 1 }

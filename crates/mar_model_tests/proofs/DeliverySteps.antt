@@ -22,7 +22,7 @@ use Rattle.mar_script.specs.Run.{LineDone, Run, empty_stores, next_picks}
 use Rattle.mar_model_tests.proofs.SmallChain.{b0, b1, d1, f1, r1, config}
 use Rattle.mar_model_tests.proofs.DeliveryRun.{fresh, making, none_failed, begun, n0, n1, n2, n3, n4, n5, delivery_run, one_entry}
 use Rattle.mar_model_tests.proofs.SmallEntries.{cached_of, caches_report, new_block, new_cert, new_certificates}
-use Rattle.mar_model_tests.proofs.SmallFacts.{entered_own, none_in}
+use Rattle.mar_model_tests.proofs.SmallFacts.{entered_height, entered_own}
 use Rattle.mar_model_tests.proofs.SmallSteps.{settled, settled_good, stores_nothing}
 
 -- what is held from block 1 on
@@ -135,8 +135,8 @@ module _ (chain : Chain) (at0 : IsBlockAt chain 0 b0) (at1 : IsBlockAt chain 1 b
       cache = record { sure = []; may = [] };
       cache_may = record { with_sure = λ x e. e; within_may = λ x e. e; sure_may = λ x e. e };
       lowest = 0;
-      lowests = [];
-      lowests_were = λ k there. absurd (none_in k there);
+      lowests = 0 ∷ [];
+      lowests_were = λ k there. there;
       lowest_was = (0, lit< tt, refl);
       blocks = reopened_store (record { height = 0; value = b0 } ∷ []);
       settled = record { sure = refl; may = λ x has. has; held_may = λ x has. has };
@@ -146,7 +146,7 @@ module _ (chain : Chain) (at0 : IsBlockAt chain 0 b0) (at1 : IsBlockAt chain 1 b
     }
 
     starts : Advances config chain begun (life_started None) (record nothing_made { reports = handed_over 0 b0 ∷ [] }) n0
-    starts = stores_nothing chain begun (life_started None) (record { no_effect = refl; no_storing = refl; untold = refl; no_query = refl; no_fault = refl; no_puts = λ after. refl; no_syncs = λ n. refl; no_tickets = refl; lowest = refl; still_lowest = refl }) (handed_over 0 b0 ∷ []) begun.blocks.sure [] begun.meta
+    starts = stores_nothing chain begun (life_started None) (record { no_effect = refl; no_storing = refl; untold = refl; no_query = refl; no_fault = refl; no_puts = λ after. refl; no_syncs = λ n. refl; no_tickets = refl; lowest = refl; still_lowest = refl; own_lowest = (0, lit< tt, refl) }) (handed_over 0 b0 ∷ []) begun.blocks.sure [] begun.meta
         (record { in_order = (refl, refl, refl, tt); counted = refl; out = refl; below_barrier = (tt, tt) }) ((at0, refl), tt) (λ h v is. is) (λ h v is. is) refl tt
 
     opens : LineDone config chain fresh (stopped empty_stores) (open_line (from_genesis b0)) (making (record nothing_made { reports = handed_over 0 b0 ∷ [] })) (running n0)
@@ -178,6 +178,9 @@ module _ (chain : Chain) (at0 : IsBlockAt chain 0 b0) (at1 : IsBlockAt chain 1 b
         syncs = refl;
       };
       repairs = record { at_hand = λ h b is. absurd cc; with_finalization = λ h b is. absurd cc };
+      unrepaired = λ is. refl;
+      unblocked = λ is. refl;
+      enters = record { blocks = λ h has. entered_height n1.blocks.held 1 b1 h has; certs = λ h has. entered_height [] 1 f1 h has };
       tips = (lit< tt, refl);
       tips_chain = (named, ap (option_map (λ b. b.digest)) at1, tt);
       awaited = refl;
@@ -195,20 +198,20 @@ module _ (chain : Chain) (at0 : IsBlockAt chain 0 b0) (at1 : IsBlockAt chain 1 b
     finals = (_, record { unticketed = unticketed; advances = finalized; ticket = refl; rests = write_uncovered 1 (0, lit< tt, refl) (lit≤ tt); good = good2 }, refl, refl, refl)
 
     synced : Advances config chain n2 (sync_finished 0) (record nothing_made { reports = handed_over 1 b1 ∷ [] }) n3
-    synced = stores_nothing chain n2 (sync_finished 0) (record { no_effect = refl; no_storing = refl; untold = refl; no_query = refl; no_fault = refl; no_puts = λ after. refl; no_syncs = λ n. refl; no_tickets = refl; lowest = refl; still_lowest = refl }) (handed_over 1 b1 ∷ []) n2.blocks.held n2.certs.held n2.meta
+    synced = stores_nothing chain n2 (sync_finished 0) (record { no_effect = refl; no_storing = refl; untold = refl; no_query = refl; no_fault = refl; no_puts = λ after. refl; no_syncs = λ n. refl; no_tickets = refl; lowest = refl; still_lowest = refl; own_lowest = (0, lit< tt, refl) }) (handed_over 1 b1 ∷ []) n2.blocks.held n2.certs.held n2.meta
         (record { in_order = (refl, refl, refl, tt); counted = refl; out = refl; below_barrier = (tt, tt) }) ((at1, refl), tt) first_stays (λ h v is. absurd cc) refl tt
 
     syncs : LineDone config chain fresh (running n2) (sync_line 0) (making (record nothing_made { reports = handed_over 1 b1 ∷ [] })) (running n3)
     syncs = (_, record { unticketed = n3; advances = synced; ticket = refl; rests = window_full refl; good = good3 }, refl, refl, refl)
 
     acked0 : Advances config chain n3 (ack_given 0) (record nothing_made { asks = retain (above_height 0) ∷ [] }) n4
-    acked0 = stores_nothing chain n3 (ack_given 0) (record { no_effect = refl; no_storing = refl; untold = refl; no_query = refl; no_fault = refl; no_puts = λ after. refl; no_syncs = λ n. refl; no_tickets = refl; lowest = refl; still_lowest = refl }) [] n3.blocks.sure n3.certs.sure n4.meta (record { in_order = tt; counted = refl; out = refl; below_barrier = tt }) tt (λ h v is. is) (λ h v is. is) refl tt
+    acked0 = stores_nothing chain n3 (ack_given 0) (record { no_effect = refl; no_storing = refl; untold = refl; no_query = refl; no_fault = refl; no_puts = λ after. refl; no_syncs = λ n. refl; no_tickets = refl; lowest = refl; still_lowest = refl; own_lowest = (0, lit< tt, refl) }) [] n3.blocks.sure n3.certs.sure n4.meta (record { in_order = tt; counted = refl; out = refl; below_barrier = tt }) tt (λ h v is. is) (λ h v is. is) refl tt
 
     acks0 : LineDone config chain fresh (running n3) (ack_line 0) (making (record nothing_made { asks = retain (above_height 0) ∷ [] })) (running n4)
     acks0 = (_, record { unticketed = n4; advances = acked0; ticket = refl; rests = block_missing refl; good = good4 }, refl, refl, refl)
 
     acked1 : Advances config chain n4 (ack_given 1) (record nothing_made { asks = retain (above_height 1) ∷ retain (above_round (at_round r1)) ∷ [] }) n5
-    acked1 = stores_nothing chain n4 (ack_given 1) (record { no_effect = refl; no_storing = refl; untold = refl; no_query = refl; no_fault = refl; no_puts = λ after. refl; no_syncs = λ n. refl; no_tickets = refl; lowest = refl; still_lowest = refl }) [] n4.blocks.sure n4.certs.sure n5.meta (record { in_order = tt; counted = refl; out = refl; below_barrier = tt }) tt (λ h v is. is) (λ h v is. is) refl tt
+    acked1 = stores_nothing chain n4 (ack_given 1) (record { no_effect = refl; no_storing = refl; untold = refl; no_query = refl; no_fault = refl; no_puts = λ after. refl; no_syncs = λ n. refl; no_tickets = refl; lowest = refl; still_lowest = refl; own_lowest = (0, lit< tt, refl) }) [] n4.blocks.sure n4.certs.sure n5.meta (record { in_order = tt; counted = refl; out = refl; below_barrier = tt }) tt (λ h v is. is) (λ h v is. is) refl tt
 
     acks1 : LineDone config chain fresh (running n4) (ack_line 1) (making (record nothing_made { asks = retain (above_height 1) ∷ retain (above_round (at_round r1)) ∷ [] })) (running n5)
     acks1 = (_, record { unticketed = n5; advances = acked1; ticket = refl; rests = block_missing refl; good = good5 }, refl, refl, refl)

@@ -15,7 +15,6 @@ pub mod CutRun
 pub mod WrongLives
 pub mod SpelledLines
 pub mod CacheRun
-pub mod BlockingSyncRun
 pub mod TwoSyncsRun
 pub mod ChainHandovers
 pub mod RepairPass

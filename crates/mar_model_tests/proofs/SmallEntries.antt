@@ -1,5 +1,6 @@
 -- What enters the stores in the instances, and what may be left of it.
-use Rattle.std.proofs.Common.{Bool, Contains, List, [], None, Option, Some, ap, arith, false, if◌then◌else◌, inl, inr, lit<, refl, subst, suc, sym, true, zero, ℕ, ◌∙◌, ◌≡◌, ◌⊎◌}
+use Rattle.std.proofs.Common.{Bool, Contains, List, [], ◌∷◌, None, Option, Some, ap, arith, false, if◌then◌else◌, inl, inr, lit<, refl, subst, suc, sym, true, zero, ℕ, ◌∙◌, ◌≡◌, ◌⊎◌}
+use Rattle.std.proofs.lemmas.List.Elements.{Contains-append_left}
 use Rattle.mar_cert.specs.Block.{Block}
 use Rattle.mar_cert.specs.Finalization.{Finalization}
 use Rattle.mar_store.specs.Kept.{At, reopened_store, value_at}
@@ -73,7 +74,7 @@ new_certificates n same = record {
 
 -- it is cached, synced there, and prunes nothing
 abbrev pub caching : Node → Node
-caching n = record n { cache = one_cached; lowest = 0; lowests = []; cache_syncs = []; witnessed = n1.witnessed }
+caching n = record n { cache = one_cached; lowest = 0; lowests = 0 ∷ []; cache_syncs = []; witnessed = n1.witnessed }
 
 pub caches_report : (n : Node) → AdvancesCache config n1 reported no_floor (caching n)
 caches_report n = record {
@@ -85,7 +86,7 @@ caches_report n = record {
   synced = λ x is held. held;
   finished = λ x there held. held;
   lowest = refl;
-  lowests = λ k there. absurd (none_in k there);
+  lowests = λ k there. Contains-append_left (0 ∷ []) (0 ∷ []) k there;
   own_lowest = (0, lit< tt, refl);
   cache_syncs = record { still = []; still_open = tt; started = []; started_open = tt; are = refl };
   witnessed = refl;

@@ -1,9 +1,9 @@
 -- Small facts for the instances.
-use Rattle.std.proofs.Common.{◌≡◌, ℕ, zero, suc, Bool, true, false, not, ◌&&◌, ◌||◌, List, [], ◌∷◌, ◌++◌, Some, None, is_some, Contains, refl, ap, arith, if◌then◌else◌}
+use Rattle.std.proofs.Common.{◌≡◌, ◌⊎◌, inl, inr, ⊎_elim, IsTrue, ℕ, zero, suc, Bool, true, false, not, ◌&&◌, ◌||◌, List, [], ◌∷◌, ◌++◌, Some, None, is_some, Contains, refl, ap, arith, if◌then◌else◌}
 use Rattle.mar_types.specs.Round.{Round}
 use Rattle.mar_model.specs.Chain.{IsFinal}
-use Rattle.mar_store.proofs.Lookups.{value_at-append_found}
-use Rattle.mar_store.specs.Kept.{At, Kept}
+use Rattle.mar_store.proofs.Lookups.{has_height-push_cases, value_at-append_found}
+use Rattle.mar_store.specs.Kept.{At, Kept, has_height}
 use Rattle.mar_model.specs.Step.{KeepsFrom}
 use Rattle.mar_model_tests.proofs.SmallChain.{chain, r1}
 
@@ -40,3 +40,7 @@ entered_own false a c v w = refl
 entered_own true true c v w = refl
 entered_own true false true v w = refl
 entered_own true false false v w = refl
+
+-- a height of a store where one value was put is that value's, or was held before
+pub entered_height : {T : Type 0} (old : List (At T)) (k : ℕ) (v : T) (h : ℕ) → IsTrue (has_height (old ++ record { height = k; value = v } ∷ []) h) → IsTrue (has_height old h) ⊎ Contains (k ∷ []) h
+entered_height old k v h has = ⊎_elim (λ before. inl before) (λ same. inr (zero, omega arith, same)) (has_height-push_cases old k h v has)

@@ -75,6 +75,7 @@ pub record StoresNothing (n : Node) (e : Event) : Type 0 where
   pub no_tickets : n.cache_syncs ≡ []
   pub lowest : n.lowest ≡ 0
   pub still_lowest : lowest_after config n e no_floor ≡ 0
+  pub own_lowest : Contains n.lowests n.lowest
 
 module _ (chain : Chain) (n : Node) (e : Event) (nothing : StoresNothing n e) (reports : List Report) (blocks_sure : List (At Block)) (certs_sure : List (At Finalization)) (meta : List Pair) where
   -- how many writes are covered after it
@@ -126,7 +127,7 @@ module _ (chain : Chain) (n : Node) (e : Event) (nothing : StoresNothing n e) (r
     finished = λ x there held. absurd (none_in x (subst (λ xs. Contains xs x) (none_covered e) there));
     lowest = nothing.lowest ∙ sym nothing.still_lowest;
     lowests = λ k there. Contains-append_left n.lowests (n.lowest ∷ []) k there;
-    own_lowest = (0, omega arith, sym nothing.lowest);
+    own_lowest = nothing.own_lowest;
     cache_syncs = record {
       still = [];
       still_open = subst (λ syncs. AreStillOpen (is_pruned config n e no_floor) syncs []) (sym (none_open e)) tt;
@@ -161,6 +162,9 @@ module _ (chain : Chain) (n : Node) (e : Event) (nothing : StoresNothing n e) (r
       syncs = refl;
     };
     repairs = record { at_hand = λ h b is. absurd cc; with_finalization = λ h b is. absurd cc };
+    unrepaired = λ is. refl;
+    unblocked = λ is. refl;
+    enters = record { blocks = λ h has. inl has; certs = λ h has. inl has };
     tips = tips;
     tips_chain = tips_chain;
     awaited = refl;

@@ -1,6 +1,7 @@
 -- Two syncs are open, of the same finalization told twice, and the later one finishes first: it covers both writes, and the earlier one
 -- then has nothing left to cover.
 use Rattle.std.proofs.Common.{◌≡◌, ℕ, ◌==◌, List, [], ◌∷◌, ◌++◌, None, refl, inl, inr, Contains, ◌⊎◌, ◌||◌, false, not, nat_lt, zero, suc, lit<, lit≤, ◌≤◌, option_map, arith, codes}
+use Rattle.std.proofs.lemmas.List.Elements.{Contains-append_left}
 use Rattle.std.specs.Fmt.{digits}
 use Rattle.hex.specs.Hex.{encode_with}
 use Rattle.mar_key.specs.Processed.{height_in}
@@ -18,7 +19,7 @@ use Rattle.mar_model_tests.proofs.DeliveryRun.{fresh, making, none_failed, n2, n
 use Rattle.mar_model_tests.proofs.DeliverySteps.{blocks_nested, blocks_written, both_blocks, certs_written, first_stays, one_certificate}
 use Rattle.mar_model_tests.proofs.SmallCutoffs.{zero_safe, finalizes}
 use Rattle.mar_model_tests.proofs.SmallEntries.{cached_of, reported}
-use Rattle.mar_model_tests.proofs.SmallFacts.{none_in, not_entered, same_kept}
+use Rattle.mar_model_tests.proofs.SmallFacts.{not_entered, same_kept}
 use Rattle.mar_model_tests.proofs.SmallSteps.{settled, settled_good, stores_nothing}
 
 -- after the second telling, the later sync, and the earlier one
@@ -95,7 +96,7 @@ cached_before = record {
   synced = λ x is held. held;
   finished = λ x there held. held;
   lowest = refl;
-  lowests = λ k there. absurd (none_in k there);
+  lowests = λ k there. Contains-append_left (0 ∷ []) (0 ∷ []) k there;
   own_lowest = (0, lit< tt, refl);
   cache_syncs = record { still = []; still_open = tt; started = []; started_open = tt; are = refl };
   witnessed = refl;
@@ -124,6 +125,9 @@ told = record {
     syncs = refl;
   };
   repairs = record { at_hand = λ h b is. absurd cc; with_finalization = λ h b is. absurd cc };
+  unrepaired = λ is. refl;
+  unblocked = λ is. refl;
+  enters = record { blocks = λ h has. inl has; certs = λ h has. inl has };
   tips = refl;
   tips_chain = tt;
   awaited = refl;
@@ -141,14 +145,14 @@ tells : LineDone config chain fresh (running n2) (tell_line (report_finalization
 tells = (_, record { unticketed = unticketed; advances = told; ticket = refl; rests = write_uncovered 1 (0, lit< tt, refl) (lit≤ tt); good = good_told }, refl, refl, refl)
 
 later : Advances config chain told_twice (sync_finished 1) (record nothing_made { reports = handed_over 1 b1 ∷ [] }) later_first
-later = stores_nothing chain told_twice (sync_finished 1) (record { no_effect = refl; no_storing = refl; untold = refl; no_query = refl; no_fault = refl; no_puts = λ after. refl; no_syncs = λ n. refl; no_tickets = refl; lowest = refl; still_lowest = refl }) (handed_over 1 b1 ∷ []) n2.blocks.held n2.certs.held n2.meta
+later = stores_nothing chain told_twice (sync_finished 1) (record { no_effect = refl; no_storing = refl; untold = refl; no_query = refl; no_fault = refl; no_puts = λ after. refl; no_syncs = λ n. refl; no_tickets = refl; lowest = refl; still_lowest = refl; own_lowest = (0, lit< tt, refl) }) (handed_over 1 b1 ∷ []) n2.blocks.held n2.certs.held n2.meta
     (record { in_order = (refl, refl, refl, tt); counted = refl; out = refl; below_barrier = (tt, tt) }) ((refl, refl), tt) first_stays (λ h v is. absurd cc) refl tt
 
 laters : LineDone config chain fresh (running told_twice) (sync_line 1) (making (record nothing_made { reports = handed_over 1 b1 ∷ [] })) (running later_first)
 laters = (_, record { unticketed = later_first; advances = later; ticket = refl; rests = window_full refl; good = good_later }, refl, refl, refl)
 
 earlier : Advances config chain later_first (sync_finished 0) nothing_made both_finished
-earlier = stores_nothing chain later_first (sync_finished 0) (record { no_effect = refl; no_storing = refl; untold = refl; no_query = refl; no_fault = refl; no_puts = λ after. refl; no_syncs = λ n. refl; no_tickets = refl; lowest = refl; still_lowest = refl }) [] later_first.blocks.sure later_first.certs.sure later_first.meta (record { in_order = tt; counted = refl; out = refl; below_barrier = tt }) tt (λ h v is. is) (λ h v is. is) refl tt
+earlier = stores_nothing chain later_first (sync_finished 0) (record { no_effect = refl; no_storing = refl; untold = refl; no_query = refl; no_fault = refl; no_puts = λ after. refl; no_syncs = λ n. refl; no_tickets = refl; lowest = refl; still_lowest = refl; own_lowest = (0, lit< tt, refl) }) [] later_first.blocks.sure later_first.certs.sure later_first.meta (record { in_order = tt; counted = refl; out = refl; below_barrier = tt }) tt (λ h v is. is) (λ h v is. is) refl tt
 
 earliers : LineDone config chain fresh (running later_first) (sync_line 0) (making nothing_made) (running both_finished)
 earliers = (_, record { unticketed = both_finished; advances = earlier; ticket = refl; rests = window_full refl; good = good_both }, refl, refl, refl)

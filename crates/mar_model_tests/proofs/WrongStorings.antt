@@ -1,9 +1,8 @@
 -- More bodies that the definitions refuse: they store, cache, ask, sync or leave the wrong thing.
-use Rattle.std.proofs.Common.{◌≡◌, ℕ, ◌+◌, ◌<◌, ◌≤◌, max, length, map, List, [], ◌∷◌, Option, Some, None, refl, sym, ◌∙◌, ap, subst, IsSome, IsTrue, Contains, lit<, ◌⊎◌, inl, inr, false, true, ◌&&◌, nat_lt, lit≤, arith}
+use Rattle.std.proofs.Common.{◌≡◌, ⊎_elim, ◌++◌, ℕ, ◌+◌, ◌<◌, ◌≤◌, max, length, map, List, [], ◌∷◌, Option, Some, None, refl, sym, ◌∙◌, ap, subst, IsSome, IsTrue, Contains, lit<, ◌⊎◌, inl, inr, false, true, ◌&&◌, nat_lt, lit≤, arith}
 use Rattle.std.specs.List.{AllByRecursion}
 use Rattle.mar_cert.specs.Block.{Block}
 use Rattle.mar_cert.specs.Finalization.{Finalization}
-use Rattle.mar_key.specs.Processed.{Processed, height_of}
 use Rattle.mar_store.specs.Kept.{At, has_height, value_at}
 use Rattle.mar_key.specs.Keys.{finalized_key, finalized_by_height, above_height, Call, fetch, retain}
 use Rattle.mar_model.specs.Messages.{report_finalization, set_floor, verified}
@@ -118,14 +117,24 @@ asks_otherwise before least fault left c = apart _ _ c.asks.1
 
 -- STORINGS AND HAND-OVERS
 
+-- nothing enters at height 1 where an event stores nothing and no pass runs
+none_enters : (heights : List ℕ) → heights ≡ [] → Contains ([] ++ heights) 1 → ⊥
+none_enters heights none has = none_in 1 (subst (λ hs. Contains hs 1) none has)
+
 -- a body that stores the block of an answer that is Invalid
-stores_invalid : (n : Node) → n.blocks.held ≡ record { height = 0; value = b0 } ∷ record { height = 1; value = b1 } ∷ [] → (made : Made) → Advances config chain n0 (peer_answered gave_nothing) made n → ⊥
-stores_invalid n held made a = none_in b1 (a.repairs.at_hand 1 b1 (a.writes.by_repair 1 ∙ entered n.processed n.blocks.held a.processed held) (ap (λ xs. value_at xs 1) held))
+stores_invalid : (n : Node) → IsTrue (has_height n.blocks.held 1) → (made : Made) → Advances config chain n0 (peer_answered gave_nothing) made n → ⊥
+stores_invalid n held made a = ⊎_elim (λ before. on_off (sym before)) (none_enters a.writes.repaired (a.unrepaired refl)) (a.enters.blocks 1 held)
+
+-- one that stores a block of the buffer as another is verified
+stores_beside : (n : Node) → IsTrue (has_height n.blocks.held 1) → (made : Made) → Advances config chain n1 (message_told (Some 0) (verified r1 b0)) made n → ⊥
+stores_beside n held made a = ⊎_elim (λ before. on_off (sym before)) (none_enters a.writes.repaired (a.unrepaired refl)) (a.enters.blocks 1 held)
+
+-- one that waits for the sync of what a report stores
+syncs_at_once : (n : Node) → n.covered ≡ 1 → (made : Made) → Advances config chain n1 reported made n → ⊥
+syncs_at_once n covered made a = waits (sym covered ∙ (a.writes.covered ∙ ap (max (max 0 0)) (a.unblocked refl)))
   where
-    entered : (p : Option Processed) (xs : List (At Block)) → p ≡ None → xs ≡ record { height = 0; value = b0 } ∷ record { height = 1; value = b1 } ∷ [] → (nat_lt (height_of p) 1 && (has_height xs 1 && true)) ≡ true
-    entered p xs unprocessed held =
-        subst (λ q. (nat_lt (height_of q) 1 && (has_height xs 1 && true)) ≡ true) (sym unprocessed)
-        (subst (λ ys. (has_height ys 1 && true) ≡ true) (sym held) refl)
+    waits : ◌≡◌ {A = ℕ} 1 0 → ⊥
+    waits is = omega arith
 
 abbrev behind : Node
 behind = record n5 { certs = n1.certs }
