@@ -1,5 +1,5 @@
 -- The open syncs of the cache: that their numbers are their own, and what is left of them as one finishes.
-use Rattle.std.proofs.Common.{◌≡◌, ◌==◌, ◌<◌, ◌++◌, ◌⊎◌, ⊎_elim, ℕ, List, [], ◌∷◌, Bool, true, false, cond, not, Option, Some, None, Contains, Result, filter, find, refl, sym, ap, subst, ◌∙◌, arith, ne_eqb}
+use Rattle.std.proofs.Common.{◌≡◌, ◌==◌, ◌<◌, ◌≤◌, ◌+◌, map, ◌++◌, ◌⊎◌, ⊎_elim, ℕ, List, [], ◌∷◌, Bool, true, false, cond, not, Option, Some, None, Contains, Result, filter, find, refl, sym, ap, subst, ◌∙◌, arith, ne_eqb}
 use Rattle.std.proofs.lemmas.Bool.{or_from, or_parts}
 use Rattle.std.proofs.lemmas.List.{map-append}
 use Rattle.std.proofs.lemmas.List.Elements.{Contains-append_left}
@@ -26,7 +26,8 @@ use Rattle.mar_model.specs.declared.CacheTicket.{CacheTicket}
 use Rattle.mar_model.specs.declared.OpenTicket.{OpenTicket}
 use Rattle.mar_model.specs.declared.Place.{Place}
 use Rattle.mar_model.specs.declared.Place.TheVariants.{Away, Lost, Open}
-use Rattle.mar_model.proofs.OpenSyncs.{AreStillOpen-kept, NoneHas-unfound, covered-none, syncs-without}
+use Rattle.mar_model.proofs.OpenSyncs.{AreStillOpen-kept, NoneHas-unfound, covered-none, numbers-are, syncs-without}
+use Rattle.mar_store.specs.Gaps.{AscendAbove}
 use Rattle.mar_life.proofs.Placed.{either}
 use Rattle.mar_life.proofs.Reading.{life}
 use Rattle.mar_life.specs.Caching.{FinishesInLife, LifeEntries, with_syncs}
@@ -38,15 +39,25 @@ use Rattle.mar_life.specs.Pooling.{AwaitsIn, OwnNumbers}
 abbrev IsOwn : Writing → ℕ → Type 0
 IsOwn w n = (n < w.next_sync) × (is_open_sync w.syncs n ≡ false)
 
+-- each has one
+abbrev AreOwn : Writing → List OpenTicket → Type 0
+AreOwn w = AllByRecursion (λ o. IsOwn w o.number)
+
 -- what keeps each such number keeps all
 own_so : (old new : Writing) → ((n : ℕ) → IsOwn old n → IsOwn new n) → (tickets : List OpenTicket) → OwnNumbers old tickets → OwnNumbers new tickets
-own_so old new keeps [] own = tt
-own_so old new keeps (o ∷ tickets) own = (keeps o.number own.0, own_so old new keeps tickets own.1)
+own_so old new keeps tickets own = record { own = each tickets own.own; ascend = own.ascend }
+  where
+    each : (others : List OpenTicket) → AreOwn old others → AreOwn new others
+    each [] own = tt
+    each (o ∷ others) own = (keeps o.number own.0, each others own.1)
 
 -- so the syncs have tickets of their own, whatever they cover
 pub own_tickets : (w : Writing) (covers : CacheTicket → List Cached) (tickets : List OpenTicket) → OwnNumbers w tickets → HaveOwnTickets w (syncs_by covers tickets)
-own_tickets w covers [] own = tt
-own_tickets w covers (o ∷ tickets) own = (own.0, own_tickets w covers tickets own.1)
+own_tickets w covers tickets own = record { own = each tickets own.own; ascend = subst (AscendAbove 0) (numbers-are covers tickets) own.ascend }
+  where
+    each : (others : List OpenTicket) → AreOwn w others → AllByRecursion (λ s. (s.ticket < w.next_sync) × (is_open_sync w.syncs s.ticket ≡ false)) (syncs_by covers others)
+    each [] own = tt
+    each (o ∷ others) own = (own.0, each others own.1)
 
 -- a sync of both archives was started
 own_started : (w : Writing) (n : ℕ) → IsOwn w n → IsOwn (with_started w) n
@@ -86,15 +97,23 @@ next_unopened : (next : ℕ) (syncs : List OpenSync) → AllByRecursion (λ s. s
 next_unopened next [] below = refl
 next_unopened next (s ∷ syncs) below = or_from (s.ticket == next) (is_open_sync syncs next) (ne_eqb s.ticket next (λ is. let less = below.0 in omega (arith, less, is))) (next_unopened next syncs below.1)
 
-own_last : (w : Writing) (tickets : List OpenTicket) (o : OpenTicket) → OwnNumbers w tickets → IsOwn w o.number → OwnNumbers w (tickets ++ o ∷ [])
+own_last : (w : Writing) (tickets : List OpenTicket) (o : OpenTicket) → AreOwn w tickets → IsOwn w o.number → AreOwn w (tickets ++ o ∷ [])
 own_last w [] o own has = (has, tt)
 own_last w (t ∷ tickets) o own has = (own.0, own_last w tickets o own.1 has)
 
+-- which is later than those that were given out
+ascend_last : (w : Writing) (low : ℕ) (tickets : List OpenTicket) (o : OpenTicket) → AreOwn w tickets → w.next_sync ≤ o.number → low ≤ o.number → AscendAbove low (map (λ p. p.number) tickets) → AscendAbove low (map (λ p. p.number) (tickets ++ o ∷ []))
+ascend_last w low [] o own next above ascend = (above, tt)
+ascend_last w low (t ∷ tickets) o own next above ascend = (ascend.0, ascend_last w (t.number + 1) tickets o own.1 next (let given : t.number < w.next_sync = own.0.0 in omega (arith, given, next)) ascend.1)
+
 -- a sync of the cache is open under that
 pub own_opened : (pool : Pool) (tickets : List OpenTicket) (o : OpenTicket) → o.number ≡ pool.next_sync → IsOrdered (writing_of pool) → OwnNumbers (writing_of pool) tickets → OwnNumbers (writing_of (pool_ticketed pool)) (tickets ++ o ∷ [])
-own_opened pool tickets o is ordered own = own_last (writing_of (pool_ticketed pool)) tickets o
-    (own_so (writing_of pool) (writing_of (pool_ticketed pool)) (λ n has. (let below = has.0 in omega (arith, below), has.1)) tickets own)
-    (subst (IsOwn (writing_of (pool_ticketed pool))) (sym is) (omega arith, next_unopened pool.next_sync (writing_of pool).syncs ordered.below))
+own_opened pool tickets o is ordered own = record {
+  own = own_last (writing_of (pool_ticketed pool)) tickets o
+      (own_so (writing_of pool) (writing_of (pool_ticketed pool)) (λ n has. (let below = has.0 in omega (arith, below), has.1)) tickets own).own
+      (subst (IsOwn (writing_of (pool_ticketed pool))) (sym is) (omega arith, next_unopened pool.next_sync (writing_of pool).syncs ordered.below));
+  ascend = ascend_last (writing_of pool) 0 tickets o own.own (omega (arith, is)) (omega arith) own.ascend;
+}
 
 -- what the archives keep for the open syncs they keep still
 waits_ticketed : {T S W : Type 0} (stored : S → Kept (At T)) (number : S → ℕ) (covers : S → ℕ → List (At T)) (ticket_of : Pooled → ℕ) (place : Place S W) (pool : Pool) → AwaitsIn ticket_of stored number covers place pool → AwaitsIn ticket_of stored number covers place (pool_ticketed pool)
@@ -119,14 +138,33 @@ cache_opened e covers tickets now pool later sync answer opened ticketed = rw (s
 
 -- FINISHED
 
+-- from a lower number on
+ascend_lower : (low high : ℕ) (xs : List ℕ) → low ≤ high → AscendAbove high xs → AscendAbove low xs
+ascend_lower low high [] below ascend = tt
+ascend_lower low high (x ∷ xs) below ascend = (let above : high ≤ x = ascend.0 in omega arith, ascend.1)
+
 -- one that is open no longer takes no number from another
 own_without : (w : Writing) (t : ℕ) (tickets : List OpenTicket) → OwnNumbers w tickets → OwnNumbers w (filter (λ o. not (o.number == t)) tickets)
-own_without w t [] own = tt
-own_without w t (o ∷ tickets) own = by (o.number == t) (own_without w t tickets own.1)
+own_without w t tickets own = record { own = each tickets own.own; ascend = ascend_without 0 tickets own.ascend }
   where
-    by : (b : Bool) → OwnNumbers w (filter (λ p. not (p.number == t)) tickets) → OwnNumbers w (cond (not b) (o ∷ filter (λ p. not (p.number == t)) tickets) (filter (λ p. not (p.number == t)) tickets))
-    by true others = others
-    by false others = (own.0, others)
+    others : List OpenTicket → List OpenTicket
+    others = filter (λ p. not (p.number == t))
+
+    each : (ts : List OpenTicket) → AreOwn w ts → AreOwn w (others ts)
+    each [] own = tt
+    each (o ∷ ts) own = by (o.number == t) (each ts own.1)
+      where
+        by : (b : Bool) → AreOwn w (others ts) → AreOwn w (cond (not b) (o ∷ others ts) (others ts))
+        by true rest = rest
+        by false rest = (own.0, rest)
+
+    ascend_without : (low : ℕ) (ts : List OpenTicket) → AscendAbove low (map (λ p. p.number) ts) → AscendAbove low (map (λ p. p.number) (others ts))
+    ascend_without low [] ascend = tt
+    ascend_without low (o ∷ ts) ascend = by (o.number == t) (ascend_without (o.number + 1) ts ascend.1)
+      where
+        by : (b : Bool) → AscendAbove (o.number + 1) (map (λ p. p.number) (others ts)) → AscendAbove low (map (λ p. p.number) (cond (not b) (o ∷ others ts) (others ts)))
+        by true rest = ascend_lower low (o.number + 1) (map (λ p. p.number) (others ts)) (let above : low ≤ o.number = ascend.0 in omega (arith, above)) rest
+        by false rest = (ascend.0, rest)
 
 pub own_closed : {X C : Type 0} (t : ℕ) (r : Result X C) (w : Writing) (old new : List OpenTicket) → OnOk r (new ≡ filter (λ o. not (o.number == t)) old) → OnErr r (new ≡ old) → OwnNumbers w old → OwnNumbers w new
 own_closed t r w old new closed same own = either r closed same (λ is. subst (OwnNumbers w) (sym is) (own_without w t old own)) (λ is. subst (OwnNumbers w) (sym is) own)

@@ -2,6 +2,7 @@
 use Rattle.std.specs.List.{AllByRecursion}
 use Rattle.std.specs.Prelude.{Contains, Err, IfSome, IsTrue, List, Ok, Result, Some, [], drop, false, map, ℕ, ⊤, ◌-◌, ◌<◌, ◌≡◌, ◌≤◌, ◌⊎◌, ◌∷◌}
 use Rattle.mar_cert.specs.Block.{Block}
+use Rattle.mar_store.specs.Gaps.{AscendAbove}
 use Rattle.mar_store.specs.Changes.{Fails, Finishes, IsNested, IsReopened, KeepsValues, Left, left_of}
 use Rattle.mar_store.specs.Kept.{At, Kept, has_height, value_at}
 use Rattle.mar_store.specs.Luck.{keeps_by, lucky_found, lucky_values}
@@ -32,9 +33,11 @@ pub record AwaitsSyncs {T : Type 0} (ticket_of : Pooled → ℕ) (kept : Kept (A
   pub covered : (p : Pooled) → Contains pool.pooled p
       → (h : ℕ) → IsTrue (has_height kept.held h) → IsTrue (has_height kept.sure h) ⊎ IsTrue (has_height (covers (ticket_of p)) h) ⊎ Contains (writes_behind p.sync.position pool) h
 
--- Open syncs of the cache have numbers that were given out, and no open sync of both archives has one of them.
-abbrev pub OwnNumbers : Writing → List OpenTicket → Type 0
-OwnNumbers w tickets = AllByRecursion (λ o. (o.number < w.next_sync) × (is_open_sync w.syncs o.number ≡ false)) tickets
+-- Open syncs of the cache have numbers that were given out, each later than the one before, and no open sync of both archives
+-- has one of them.
+pub record OwnNumbers (w : Writing) (tickets : List OpenTicket) : Type 0 where
+  pub own : AllByRecursion (λ o. (o.number < w.next_sync) × (is_open_sync w.syncs o.number ≡ false)) tickets
+  pub ascend : AscendAbove 0 (map (λ o. o.number) tickets)
 
 -- each staged block is the one that is held at its height
 abbrev pub AreHeld : {B : Type 0} → (B → Block) → List (At Block) → List (ℕ × B) → Type 0

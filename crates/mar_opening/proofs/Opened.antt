@@ -6,9 +6,9 @@ use Rattle.mar_model.specs.Chain.{Chain}
 use Rattle.mar_model.specs.Config.{Config}
 use Rattle.mar_model.specs.Faults.{Begin, Fault, from_genesis, want_of_memory}
 use Rattle.mar_model.specs.Held.{ArePassed, Ending, Grew, Held, IsEndedBy, IsUsual, Loses, Remains, Remembered, ReopensAs, Sizes, Written, ended_on, first_life, nothing_written, picks_of, written_block, seen}
-use Rattle.mar_model.specs.Lives.{CutsReopening, Finds}
+use Rattle.mar_model.specs.Lives.{CutsReopening, Finds, IsOpeningFault}
 use Rattle.mar_model.specs.Opening.{BeginsWith, Derives, IsBeginFault, LosesDeriving, derived_pair, next_fault}
-use Rattle.mar_model.specs.Promise.{Begins, IsLawfulOpening, IsOpeningFault, node_of, none_waiting}
+use Rattle.mar_model.specs.Promise.{Begins, IsLawfulOpening, node_of, none_waiting}
 use Rattle.mar_model.specs.Step.{nothing_made}
 use Rattle.mar_model.specs.Stored.{at_own_height}
 use Rattle.mar_model.proofs.OpeningEvent.{begin_by_value, begins, cut_begun, cut_deriving, cut_early, deriving_cause, deriving_keeps, finds, next_by_value}
@@ -54,6 +54,13 @@ module _ (epochs : Epochs) (old : Remains) (luck : ℕ) (g : Block) where
       settled_fails same (Ok x) lost kind = tt
       settled_fails same (Err c) lost kind = fails_deriving same (fault c) new lost kind
 
+-- the genesis that a life begins with is one
+pub fails_from : (epochs : Epochs) (old : Remains) (luck : ℕ) (begin : Begin) (g : Block) → begin ≡ from_genesis g → (e : Ending) → FailsToOpen epochs old luck g e → (b : Block) → begin ≡ from_genesis b → FailsToOpen epochs old luck b e
+fails_from epochs old luck begin g is e fails b other = subst (λ k. FailsToOpen epochs old luck k e) (same (sym is ∙ other)) fails
+  where
+    same : from_genesis g ≡ from_genesis b → g ≡ b
+    same both = cc
+
 -- WHAT IS PROMISED
 
 module _ (epochs : Epochs) (old : Remains) (luck : ℕ) (begin : Begin) (g : Block) (is : begin ≡ from_genesis g) where
@@ -64,7 +71,7 @@ module _ (epochs : Epochs) (old : Remains) (luck : ℕ) (begin : Begin) (g : Blo
   failed_cause e (inr (inl fails)) = (LosesOpening-then old luck fails.first (written_block (at_own_height g)) e refl refl refl refl fails.reopens fails.lost).cause
   failed_cause e (inr (inr fails)) = deriving_cause old luck fails.first _ _ _ e fails.reopens fails.lost
 
-  pub failed_by_value : (e : Ending) → FailsToOpen epochs old luck g e → IsUsual e.fault ⊎ IsOpeningFault old.ended begin e.fault
+  pub failed_by_value : (e : Ending) → FailsToOpen epochs old luck g e → IsUsual e.fault ⊎ IsOpeningFault old.ended (picks_of old luck) begin e.fault
   failed_by_value e (inl early) = inl early.usual
   failed_by_value e (inr (inl fails)) = begin_by_value old begin luck fails.first fails.reopens g is e.fault fails.kind
   failed_by_value e (inr (inr fails)) = next_by_value old begin luck fails.first fails.reopens g is fails.begun fails.begins e.fault fails.kind

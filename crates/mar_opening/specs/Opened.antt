@@ -3,7 +3,7 @@ use Rattle.std.specs.Prelude.{None, Some, [], ◌∷◌, ◌≡◌, ◌⊎◌, �
 use Rattle.mar_types.specs.Epochs.{Epochs}
 use Rattle.mar_cert.specs.Block.{Block}
 use Rattle.mar_store.specs.Changes.{KeepsValues}
-use Rattle.mar_model.specs.Held.{ArePassed, Ending, Grew, Held, IsUsual, Loses, LosesOpening, Remains, ReopensAs, nothing_written, written_block}
+use Rattle.mar_model.specs.Held.{ArePassed, Ending, FailsInOrder, Grew, Held, IsUsual, Loses, LosesOpening, Remains, ReopensAs, nothing_written, written_block}
 use Rattle.mar_model.specs.Opening.{BeginsWith, Derives, IsBeginFault, derived_pair, next_fault}
 use Rattle.mar_model.specs.Stored.{at_own_height}
 
@@ -20,6 +20,7 @@ pub record OpensAs (epochs : Epochs) (old : Remains) (luck : ℕ) (g : Block) (n
 -- They weren't reopened.
 pub record FailsReopening (old : Remains) (e : Ending) : Type 0 where
   pub lost : LosesOpening old nothing_written e
+  pub in_order : FailsInOrder old e
   pub usual : IsUsual e.fault
 
 -- No life may begin on them.
