@@ -13,7 +13,7 @@ use Rattle.mar_model.specs.Scene.{Scene, Standing, scene, window_of}
 use Rattle.mar_model.specs.Told.{TellsInOrder, tips_of}
 use Rattle.mar_parts.specs.Certified.{Certified}
 use Rattle.mar_actor.specs.Known.{seen_knowing}
-use Rattle.mar_model.proofs.Promised.{IsTaken, keeps_promise, taken_built}
+use Rattle.mar_model.proofs.Promised.{IsTaken, keeps_promise}
 use Rattle.mar_model.proofs.Stepping.{step_by_value, step_lives, step_tells}
 
 -- what else stands as a step begins
@@ -35,7 +35,7 @@ pub stepped : {P E : Type 0} (epochs : Epochs) (inner : List ℕ → List ℕ) �
 stepped epochs inner partition buffer old before after law e taken result plan same = record {
   promise = keeps_promise epochs inner partition buffer old (standing_in epochs old) refl before after law e taken result plan;
   lives = step_lives old.life inner buffer e (scene_in epochs old before) law after result plan same;
-  by_value = step_by_value old.life inner buffer e (scene_in epochs old before) law after result plan (taken_built e taken);
+  by_value = step_by_value old.life inner buffer e (scene_in epochs old before) law after result plan;
   tells = step_tells old.life inner buffer e (scene_in epochs old before) law after result plan;
 }
 

@@ -32,3 +32,4 @@ module _ {D B N F : Type 0} (digest : D → List ℕ) (block : B → Block) (not
   taken (event.Message m) = told m
   taken (event.Sync t) = tt
   taken (event.Ack t) = tt
+  taken (event.Dropped t) = tt

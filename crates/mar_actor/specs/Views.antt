@@ -10,7 +10,7 @@ use Rattle.mar_block.specs.declared.recipients.Recipients.{Recipients}
 use Rattle.mar_inbox.specs.declared.Message.{Message}
 use Rattle.mar_inbox.specs.declared.Message.TheVariants as message
 use Rattle.mar_model.specs.Messages.{certify, prepared, proposed, report_certification, report_finalization, report_notarization, verified}
-use Rattle.mar_model.specs.Event.{Event, life_started, message_told, sync_finished, ack_given}
+use Rattle.mar_model.specs.Event.{Event, ack_dropped, ack_given, life_started, message_told, sync_finished}
 use Rattle.mar_model.specs.Faults.{Begin, from_genesis}
 use Rattle.mar_model.specs.Step.{Report, new_tip, handed_over}
 use Rattle.mar_actor.specs.declared.event.Event.{Event as EventCode}
@@ -31,6 +31,7 @@ event_of digest block notarization finalization event.Start = life_started None
 event_of digest block notarization finalization (event.Message m) = message_told (ticket_of m) (message_of digest block notarization finalization m)
 event_of digest block notarization finalization (event.Sync t) = sync_finished t
 event_of digest block notarization finalization (event.Ack t) = ack_given t
+event_of digest block notarization finalization (event.Dropped t) = ack_dropped t
 
 -- a block that is sent to these peers
 abbrev pub sending : {B : Type 0} → (B → Block) → Round → Recipients ℕ → B → Sending

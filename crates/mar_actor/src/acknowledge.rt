@@ -1,8 +1,8 @@
-//! Acknowledgements, and what they let go.
+//! Acknowledgements that are given or dropped, and what they let go.
 ghost use Rattle.std.specs.Prelude.{◌≡◌, IfOk, List, OnOk, Option, is_some, true};
 ghost use Rattle.mar_key.specs.Keys.{Call};
-ghost use Rattle.mar_model.specs.Acks.{after_oldest, dropped_oldest, given_oldest, mark_given, with_mark};
-ghost use Rattle.mar_parts.specs.Views.{dropped_of, given_of};
+ghost use Rattle.mar_model.specs.Acks.{after_oldest, dropped_oldest, given_oldest, with_mark};
+ghost use Rattle.mar_parts.specs.Views.{dropped_of, given_of, mark_of};
 ghost use Rattle.mar_model.specs.Answers.{Sent, TicketAnswer};
 ghost use Rattle.mar_model.specs.Plans.{ack_plan, drain_plan, next_plan, settle_plan};
 ghost use Rattle.mar_model.specs.Promise.{heard_with};
@@ -17,17 +17,19 @@ use crate::reporter::Reporter;
 use mar_block::Variant;
 use mar_key::Resolver;
 use mar_model::{Fault, Holds};
-use mar_parts::Oldest;
+use mar_parts::{Mark, Oldest};
 use mar_rules::process;
 use mar_types::Epocher;
 
-/// Marks a block as acknowledged. Where the oldest ones are, they are processed together: one sync of the metadata, then
-/// the next blocks are handed over.
+/// Marks a block as acknowledged, or its acknowledgement as dropped. Where the oldest ones are given, they are processed
+/// together: one sync of the metadata, then the next blocks are handed over. A dropped one behind them ends the life
+/// before that sync, so that the processed height that it leaves is the one before.
 pub(crate) fn acknowledge<V, S, E, R, A>(
     stores: &mut S,
     window: &mut Window,
     epocher: &E,
     ticket: u64,
+    mark: Mark,
     resolver: &mut R,
     application: &mut A,
 ) -> Result<(), Fault<V::Commitment>>
@@ -39,13 +41,13 @@ where
     A: Reporter<V>,
     requires intact { (S.held stores.old).intact ≡ true }
     ensures runs { (standing : Standing) (sends : Option (List Sent)) (answers : List TicketAnswer)
-        → Does V.inner (fault_of V.Commitment.bytes) (ack_plan window.old.out ticket mark_given)
+        → Does V.inner (fault_of V.Commitment.bytes) (ack_plan window.old.out ticket (mark_of mark))
         (scene (S.held stores.old) window.old (in_epochs (E.epochs epocher.now) standing)
         (heard_with (A.told application.old) (R.told resolver.old) sends answers))
         (scene (S.held stores.new) window.new (in_epochs (E.epochs epocher.now) standing)
         (heard_with (A.told application.new) (R.told resolver.new) sends answers)) result }
 {
-    give(window, ticket);
+    set_mark(window, ticket, mark);
     match drain::<V, S, E, R>(stores, window, epocher, resolver) {
         Ok(true) => settle::<V, S, A>(stores, window, application),
         Ok(false) => Ok(()),
@@ -53,11 +55,11 @@ where
     }
 }
 
-/// Marks a block as acknowledged.
-fn give(window: &mut Window, ticket: u64)
-    ensures { window.new ≡ record window.old { out = with_mark ticket mark_given window.old.out } }
+/// Marks the block of that ticket, where it has no mark yet.
+fn set_mark(window: &mut Window, ticket: u64, mark: Mark)
+    ensures { window.new ≡ record window.old { out = with_mark ticket (mark_of mark) window.old.out } }
 {
-    window.acks.give(ticket);
+    window.acks.mark(ticket, mark);
 }
 
 /// Makes durable what was processed, and hands over the next blocks.

@@ -1,12 +1,12 @@
 //! Blocks that are kept in the cache for callers, who are told which sync makes them durable, and that it has finished.
-ghost use Rattle.std.specs.Prelude.{◌≡◌, ◌++◌, ◌∷◌, ◌-◌, ◌^◌, ◌⊎◌, [], IfErr, List, OnErr, OnOk, Option, map, option_to_list, true};
+ghost use Rattle.std.specs.Prelude.{◌≡◌, ◌++◌, ◌∷◌, [], IfErr, List, OnErr, OnOk, Option, map, option_to_list, true};
 ghost use Rattle.mar_block.specs.Recipients.{named};
 ghost use Rattle.mar_block.specs.Sent.{Sends};
 ghost use Rattle.mar_inbox.specs.Answers.{told};
 ghost use Rattle.mar_inbox.specs.Views.{peers_of, sent_by, value_of};
 ghost use Rattle.mar_key.specs.Keys.{Call};
 ghost use Rattle.mar_model.specs.Acts.{finish_kept as finish_kept_act, keep_certified as keep_certified_act, keep_verified as keep_verified_act};
-ghost use Rattle.mar_model.specs.Acts.{keeps_for, kept_value, says, send as send_act};
+ghost use Rattle.mar_model.specs.Acts.{IsKeepFault, keeps_for, kept_value, says, send as send_act};
 ghost use Rattle.mar_model.specs.OpenSyncs.{waits_for};
 ghost use Rattle.mar_model.specs.Plans.{prepared_plan, sent_block};
 ghost use Rattle.mar_model.specs.Promise.{heard_with};
@@ -16,7 +16,7 @@ ghost use Rattle.mar_model.specs.Step.{Report};
 ghost use Rattle.mar_model.specs.Answers.{Sent, TicketAnswer, to, true_value};
 ghost use Rattle.mar_model.specs.Cache.{certified_covers, is_verified_of, notarized_where, verified_at};
 ghost use Rattle.mar_model.specs.Cached.{notarized_entry, verified_entry};
-ghost use Rattle.mar_model.specs.Faults.{sync_kind, ticket_limit, want_of_memory};
+ghost use Rattle.mar_model.specs.Faults.{want_of_memory};
 ghost use Rattle.mar_model.specs.Held.{GoesOn, Held, IsUsual, nothing_written, written_entry};
 ghost use Rattle.mar_model.specs.Moves.{FinishesCacheSync};
 ghost use Rattle.mar_model.specs.Views.{fault_of};
@@ -69,8 +69,7 @@ fn keep_and_answer<V: Variant, S: Holds<V>>(
     ensures unanswered { OnErr result (answers.new ≡ answers.old) }
     ensures goes_on { GoesOn (fault_of V.Commitment.bytes) (S.held stores.old) (written_entry (verified_entry round (V.plain block))) (S.held stores.new)
         result }
-    ensures kind { IfErr result (λ e. IsUsual (fault_of V.Commitment.bytes e)
-        ⊎ ((fault_of V.Commitment.bytes e ≡ ticket_limit sync_kind) × ((S.held stores.old).writes.next_sync ≡ 2 ^ 64 - 1))) }
+    ensures kind { IfErr result (λ e. IsKeepFault round.epoch (S.held stores.old) (fault_of V.Commitment.bytes e)) }
 {
     match keep_verified(stores, round, block, ticket) {
         Ok(sync) => answer_kept::<V, S>(answers, ticket, sync),
@@ -119,8 +118,7 @@ fn certify_and_answer<V: Variant, S: Holds<V>>(
     ensures unanswered { OnErr result (answers.new ≡ answers.old) }
     ensures goes_on { GoesOn (fault_of V.Commitment.bytes) (S.held stores.old) (written_entry (notarized_entry round (V.plain block))) (S.held stores.new)
         result }
-    ensures kind { IfErr result (λ e. IsUsual (fault_of V.Commitment.bytes e)
-        ⊎ ((fault_of V.Commitment.bytes e ≡ ticket_limit sync_kind) × ((S.held stores.old).writes.next_sync ≡ 2 ^ 64 - 1))) }
+    ensures kind { IfErr result (λ e. IsKeepFault round.epoch (S.held stores.old) (fault_of V.Commitment.bytes e)) }
 {
     match keep_certified(stores, round, block, ticket) {
         Ok(sync) => answer_kept::<V, S>(answers, ticket, sync),

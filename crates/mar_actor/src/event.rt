@@ -15,6 +15,9 @@ pub enum Event<D, B, N, F> {
     Sync(u64),
     /// The application acknowledged the block of this ticket. A ticket that isn't owed is ignored.
     Ack(u64),
+    /// The application dropped the acknowledgement of this ticket, and won't give it. The life ends once the block is the
+    /// lowest that isn't acknowledged. A ticket that isn't owed is ignored.
+    Dropped(u64),
 }
 
 /// The acknowledgement, given back.

@@ -34,7 +34,8 @@
 //! 2. The caller says that the sync has finished (`Event::Sync`). What it covers is durable, and blocks are handed over, up
 //!    to the first one that waits for another sync. The syncs of the cache have tickets of the same count, and finish so too.
 //! 3. The application acknowledges (`Event::Ack`). The processed height, and the cutoff below which nothing is asked for any
-//!    more, become durable together, in that step, and then the next block may be handed over.
+//!    more, become durable together, in that step, and then the next block may be handed over. Where it drops an
+//!    acknowledgement instead (`Event::Dropped`), the life ends once that block is the lowest that isn't acknowledged.
 //!
 //! A crash between two of these loses nothing that an earlier one made durable. Of what was written and not yet synced the
 //! next opening finds whatever the disk kept, and what it finds is as good as if it were reported again.

@@ -73,7 +73,7 @@ impl<V: Variant, S: HoldsNotarizations<V>, P: Drop, E: Epocher> Node<V, S, P, E>
     /// proposed and of a prepared one alone anything is sent, of a proposed one before it is kept.
     ///
     /// The fault of a step is `StoreFault` only where that store has failed, `HeightLimit` where a finalized block stands
-    /// at the last height and `AckDropped` where the application dropped the oldest acknowledgement, each exactly where
+    /// at the last height and `AckDropped` where the lowest block that isn't acknowledged was dropped, each exactly where
     /// it is due unless a store or memory fails first, `TicketLimit` where no ticket of that kind is left, and `Memory`.
     /// What a step may store is small: at most 1,048,576 bytes each.
     pub fn step<B: Buffer<V>, R: Resolver<V::Commitment>, A: Reporter<V>>(

@@ -1,8 +1,12 @@
 //! Opening the stores of a node that begins.
 ghost use Rattle.std.specs.Prelude.{◌≡◌, ◌⊎◌, [], IfErr, IfOk, true};
 ghost use Rattle.mar_model.specs.Held.{ArePassed, IsEndedBy, IsUsual, picks_of};
-ghost use Rattle.mar_model.specs.Promise.{IsFound, IsOpeningFault, IsSmallBegin, KeepsOpening};
+ghost use Rattle.mar_cert.specs.Block.{Block};
+ghost use Rattle.mar_model.specs.Faults.{from_genesis};
+ghost use Rattle.mar_model.specs.Lives.{IsOpeningFault};
+ghost use Rattle.mar_model.specs.Promise.{IsFound, IsSmallBegin, KeepsOpening};
 ghost use Rattle.mar_actor.specs.Views.{begin_of, sizes_of};
+ghost use Rattle.mar_opening.specs.Opened.{FailsToOpen};
 
 use crate::node::Node;
 use crate::settings::{Beginning, Config};
@@ -40,7 +44,10 @@ impl<V: Variant, S: Holds<V>, P: Drop, E: Epocher> Node<V, S, P, E> {
             × (r.0.life.sizes ≡ sizes_of config)) }
         ensures watches { IfOk result (λ r. ArePassed (S.Ruins.left ruins).watches r.0.held.watches) }
         ensures cause { IfErr result (λ e. IsEndedBy (S.Ruins.left ruins).watches e) }
-        ensures by_value { IfErr result (λ e. IsUsual e.fault ⊎ IsOpeningFault (S.Ruins.left ruins).ended (begin_of V.plain config.start) e.fault) }
+        ensures fails { IfErr result (λ e. (genesis : Block) → begin_of V.plain config.start ≡ from_genesis genesis
+            → FailsToOpen (E.epochs config.epocher) (S.Ruins.left ruins) luck genesis e) }
+        ensures by_value { IfErr result (λ e. IsUsual e.fault ⊎ IsOpeningFault (S.Ruins.left ruins).ended (picks_of (S.Ruins.left ruins) luck)
+            (begin_of V.plain config.start) e.fault) }
         ensures finds { IfOk result (λ r. IsFound (E.epochs config.epocher) V.inner (sizes_of config) (S.Ruins.left ruins) luck
             (begin_of V.plain config.start) r.0) }
         ensures fresh { IfOk result (λ r. r.0.held.cache.fresh ≡ true) }

@@ -36,7 +36,7 @@ use mar_cert::CommitsTo;
 use mar_inbox::{AnswerTable, Value, answer};
 use mar_key::Resolver;
 use mar_model::{Fault, HoldsNotarizations};
-use mar_parts::Certified;
+use mar_parts::{Certified, Mark};
 use mar_types::Epocher;
 
 /// Takes one event, in place.
@@ -142,6 +142,18 @@ where
                 &mut life.window,
                 &life.epocher,
                 ticket,
+                Mark::Given,
+                resolver,
+                application,
+            )
+        }
+        Event::Dropped(ticket) => {
+            acknowledge::<V, S, E, R, A>(
+                stores,
+                &mut life.window,
+                &life.epocher,
+                ticket,
+                Mark::Dropped,
                 resolver,
                 application,
             )

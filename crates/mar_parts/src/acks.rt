@@ -142,6 +142,16 @@ impl PendingAcks {
         });
     }
 
+    /// Marks the acknowledgement of that ticket so. Where no unmarked one has it, nothing changes and the answer is
+    /// false.
+    pub fn mark(&mut self, ticket: u64, mark: Mark) -> bool
+        ensures marked { self.new ≡ record self.old { entries = with_mark ticket (mark_of mark) self.old.entries } }
+        ensures found { result ≡ list_any (is_unmarked ticket) self.old.entries }
+        ensures kept { result ≡ false → self.new ≡ self.old }
+    {
+        mark_entries(self.entries.make_contiguous(), ticket, mark)
+    }
+
     /// Marks the acknowledgement of that ticket as given. Where no unmarked one has it, nothing changes and the answer
     /// is false.
     pub fn give(&mut self, ticket: u64) -> bool
@@ -149,7 +159,7 @@ impl PendingAcks {
         ensures found { result ≡ list_any (is_unmarked ticket) self.old.entries }
         ensures kept { result ≡ false → self.new ≡ self.old }
     {
-        mark_entries(self.entries.make_contiguous(), ticket, Mark::Given)
+        self.mark(ticket, Mark::Given)
     }
 
     /// Marks the acknowledgement of that ticket as dropped. Where no unmarked one has it, nothing changes and the
@@ -159,7 +169,7 @@ impl PendingAcks {
         ensures found { result ≡ list_any (is_unmarked ticket) self.old.entries }
         ensures kept { result ≡ false → self.new ≡ self.old }
     {
-        mark_entries(self.entries.make_contiguous(), ticket, Mark::Dropped)
+        self.mark(ticket, Mark::Dropped)
     }
 
     /// Whether an acknowledgement that is neither given nor dropped has that ticket.

@@ -1,7 +1,7 @@
 -- What the calls of a rule that keeps a block come to.
 use Rattle.std.proofs.Common.{IfErr, ◌≡◌, ◌⊎◌, inl, inr, ◌<◌, ◌≤◌, ◌==◌, ◌&&◌, ◌||◌, ℕ, List, [], ◌∷◌, ◌++◌, Bool, true, false, cond, filter, Option, Some, None, Result, Ok, Err, IfOk, OnOk, Contains, refl, sym, ◌∙◌, ap, subst, arith}
 use Rattle.std.specs.List.{list_any}
-use Rattle.std.proofs.lemmas.Bool.{eq-eqb}
+use Rattle.std.proofs.lemmas.Bool.{cases_lt, eq-eqb}
 use Rattle.std.proofs.lemmas.List.Elements.{Contains-append_left, Contains-append_right}
 use Rattle.mar_types.specs.Round.{Round}
 use Rattle.mar_cert.specs.Block.{Block}
@@ -11,7 +11,9 @@ use Rattle.mar_model.specs.CacheCalls.{GivesTicket, JoinsTickets, StartsSync, is
 use Rattle.mar_model.specs.AllEntries.{PutsEntry}
 use Rattle.mar_model.specs.Cached.{Cached, cached_block, certified_entry, epoch_of, finalization_entry, notarization_entry, notarized_entry, verified_entry}
 use Rattle.mar_model.specs.Entries.{has_digest, is_verified_at}
-use Rattle.mar_model.specs.Held.{AreCached, Held}
+use Rattle.mar_model.specs.Acts.{IsKeepFault}
+use Rattle.mar_model.specs.Faults.{Fault}
+use Rattle.mar_model.specs.Held.{AreCached, Held, IsUsual}
 use Rattle.mar_model.specs.Moves.{CachesEntry, KeepsFor, KeepsNotarizedWhere, PutsAll, StartsCacheSync, is_verified_in, with_cache_sync}
 use Rattle.mar_model.specs.OpenSyncs.{AreStillOpen}
 use Rattle.mar_model.specs.declared.CacheTicket.{CacheTicket}
@@ -24,7 +26,7 @@ use Rattle.mar_model.proofs.CertifiedBlocks.{verified-is}
 use Rattle.mar_model.proofs.EntryLists.{contains_here, contains_more, filter_passed}
 use Rattle.mar_model.proofs.KeptEach.{KeepsNotarizedWhere-unread}
 use Rattle.mar_model.proofs.OpenSyncs.{AreStillOpen-then}
-use Rattle.mar_rules.specs.Keeping.{PutsCertified, block_section, joined_of, opened_for, ticket_for}
+use Rattle.mar_rules.specs.Keeping.{IsUntaken, PutsCertified, block_section, joined_of, opened_for, ticket_for}
 
 -- ENTRIES OF AN ARCHIVE
 
@@ -174,6 +176,23 @@ kept_certified r b answer started others old mid new covers now later joins puts
               | inl notarization ↦ Contains-append_right _ _ x (subst (λ xs. Contains xs x) second_is (subst (λ xs. Contains xs x) (sym others_give.2) (filter_passed (is_of_archive r.epoch Notarizations) mid.cache.kept.held x (subst (λ k. Contains k.held x) starts.kept has) notarization)))
               | inr block ↦ Contains-append_left _ _ x (subst (λ xs. Contains xs x) first_is (of_block loaded from x has block))
             ]))
+
+-- a sync that couldn't be taken in is one of an epoch that isn't below the lowest
+pub untaken_limit : (epoch : ℕ) (started : Started) (old mid : Held) (fault : Fault) → (epoch < old.lowest → started ≡ Ready) → mid.writes ≡ old.writes → IsUntaken started mid fault → IsKeepFault epoch old fault
+untaken_limit epoch started old mid fault ready same (inl memory) = inl (subst IsUsual (sym memory) tt)
+untaken_limit epoch started old mid fault ready same (inr (limit, last, some)) = inr (
+  limit,
+  sym (ap (λ w. w.next_sync) same) ∙ last,
+  elim (cases_lt epoch old.lowest) [
+    | inl low ↦ absurd (some (ready low))
+    | inr high ↦ high
+  ],
+)
+
+-- the syncs of two archives as one are none where that of the block is
+pub joined_ready : (started others : Started) → started ≡ Ready → joined_of started others ≡ Ready
+joined_ready Ready others is = refl
+joined_ready (Ticket t) others is = absurd cc
 
 -- what a look for the digest of a block tells
 pub verified_found : (r : Round) (b : Block) (h : Held) (digest : List ℕ) (found is : Bool) → digest ≡ b.digest → found ≡ list_any (λ x. is_verified_at r x && has_digest digest (cached_block x)) h.cache.kept.held → found ≡ is → is_verified_in h r b ≡ is

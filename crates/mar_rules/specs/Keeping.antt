@@ -1,10 +1,11 @@
 -- What starts of syncs come to as they are taken in for a caller.
-use Rattle.std.specs.Prelude.{Bool, List, None, Option, Some, if◌then◌else◌, true, ℕ, ◌<◌, ◌≡◌, ◌≤◌}
+use Rattle.std.specs.Prelude.{Bool, List, None, Option, Some, if◌then◌else◌, true, ℕ, ◌-◌, ◌<◌, ◌^◌, ◌≡◌, ◌≤◌, ◌⊎◌}
 use Rattle.mar_types.specs.Round.{Round}
 use Rattle.mar_cert.specs.Block.{Block}
 use Rattle.mar_model.specs.Cache.{notarized_where}
 use Rattle.mar_model.specs.CacheCalls.{GivesTicket, KeepsTickets, is_of_archive, none_goes}
 use Rattle.mar_model.specs.Cached.{Cached}
+use Rattle.mar_model.specs.Faults.{Fault, sync_kind, ticket_limit, want_of_memory}
 use Rattle.mar_model.specs.Held.{Held}
 use Rattle.mar_model.specs.Moves.{PutsAll, is_verified_in, with_cache_sync}
 use Rattle.mar_model.specs.OpenSyncs.{AreStillOpen}
@@ -29,6 +30,10 @@ abbrev pub joined_of : Started → Started → Started
 joined_of Ready others = Ready
 joined_of (Ticket t) Ready = Ticket t
 joined_of (Ticket t) (Ticket u) = Ticket (record { epoch = t.epoch; first = t.first; second = Some u.first })
+
+-- why a sync that was started isn't open: memory ran out, or there is no ticket for it
+abbrev pub IsUntaken : Started → Held → Fault → Type 0
+IsUntaken started h fault = (fault ≡ want_of_memory) ⊎ ((fault ≡ ticket_limit sync_kind) × (h.writes.next_sync ≡ 2 ^ 64 - 1) × (started ≡ Ready → ⊥))
 
 -- the archive that holds a certified block
 abbrev pub block_section : Bool → Section

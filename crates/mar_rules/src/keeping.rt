@@ -1,13 +1,13 @@
 //! How blocks are kept in the cache for callers, each with a sync that is to make it sure. A call that fails ends the life.
-ghost use Rattle.std.specs.Prelude.{◌≡◌, ◌∷◌, ◌<◌, ◌-◌, ◌^◌, ◌⊎◌, [], IfErr, IfOk, OnOk, Some, true};
+ghost use Rattle.std.specs.Prelude.{◌≡◌, ◌∷◌, [], IfErr, IfOk, OnOk, Some, true};
 ghost use Rattle.mar_store.specs.Sizes.{IsSmall};
 ghost use Rattle.mar_model.specs.Cache.{certified_covers, is_verified_of, notarized_where};
 ghost use Rattle.mar_model.specs.Cached.{notarized_entry, verified_entry};
-ghost use Rattle.mar_model.specs.Faults.{sync_kind, ticket_limit, want_of_memory};
+ghost use Rattle.mar_model.specs.Acts.{IsKeepFault};
 ghost use Rattle.mar_model.specs.Held.{GoesOn, IsUsual, nothing_written, written_entry};
 ghost use Rattle.mar_model.specs.Moves.{KeepsFor, is_verified_in};
 ghost use Rattle.mar_model.specs.Views.{fault_of};
-ghost use Rattle.mar_rules.specs.Keeping.{PutsCertified, joined_of, opened_for, ticket_for};
+ghost use Rattle.mar_rules.specs.Keeping.{IsUntaken, PutsCertified, joined_of, opened_for, ticket_for};
 
 use mar_cert::Variant;
 use mar_model::{Fault, Holds, Started, TicketKind};
@@ -15,7 +15,7 @@ use mar_types::Round;
 
 /// Keeps a block that was verified in a round, and starts a sync of the verified blocks of its epoch. It gives the ticket of
 /// that sync, which the holder of `answer` waits for, or `None` where there is nothing to wait for, since that epoch is below
-/// the lowest. Where no ticket is left nothing is kept.
+/// the lowest. Where no ticket is left for that sync the life ends behind the put.
 pub fn keep_verified<V: Variant, S: Holds<V>>(
     stores: &mut S,
     round: Round,
@@ -27,12 +27,8 @@ pub fn keep_verified<V: Variant, S: Holds<V>>(
         (S.held stores.old) (S.held stores.new)) }
     ensures goes_on { GoesOn (fault_of V.Commitment.bytes) (S.held stores.old) (written_entry (verified_entry round (V.plain block))) (S.held stores.new)
         result }
-    ensures kind { IfErr result (λ e. IsUsual (fault_of V.Commitment.bytes e)
-        ⊎ ((fault_of V.Commitment.bytes e ≡ ticket_limit sync_kind) × ((S.held stores.old).writes.next_sync ≡ 2 ^ 64 - 1))) }
+    ensures kind { IfErr result (λ e. IsKeepFault round.epoch (S.held stores.old) (fault_of V.Commitment.bytes e)) }
 {
-    if !stores.writes().has_ticket() {
-        return Err(Fault::TicketLimit(TicketKind::Sync));
-    }
     match stores.put_verified(round, block) {
         Ok(started) => open_started(stores, started, Some(answer)),
         Err(fault) => Err(fault),
@@ -42,7 +38,7 @@ pub fn keep_verified<V: Variant, S: Holds<V>>(
 /// Keeps a block that was certified in a round, and starts a sync of its archive and of the notarizations of its epoch as one.
 /// A block that was verified in that round stays there, any other is kept as notarized. It gives the ticket of that sync,
 /// which the holder of `answer` waits for, or `None` where there is nothing to wait for, since that epoch is below the lowest.
-/// Where no ticket is left nothing is kept.
+/// Where no ticket is left for that sync the life ends behind the put.
 pub fn keep_certified<V: Variant, S: Holds<V>>(
     stores: &mut S,
     round: Round,
@@ -56,12 +52,8 @@ pub fn keep_certified<V: Variant, S: Holds<V>>(
         (S.held stores.old) (S.held stores.new)) }
     ensures goes_on { GoesOn (fault_of V.Commitment.bytes) (S.held stores.old) (written_entry (notarized_entry round (V.plain block))) (S.held stores.new)
         result }
-    ensures kind { IfErr result (λ e. IsUsual (fault_of V.Commitment.bytes e)
-        ⊎ ((fault_of V.Commitment.bytes e ≡ ticket_limit sync_kind) × ((S.held stores.old).writes.next_sync ≡ 2 ^ 64 - 1))) }
+    ensures kind { IfErr result (λ e. IsKeepFault round.epoch (S.held stores.old) (fault_of V.Commitment.bytes e)) }
 {
-    if !stores.writes().has_ticket() {
-        return Err(Fault::TicketLimit(TicketKind::Sync));
-    }
     let started = match put_certified(stores, round, block) {
         Ok(started) => started,
         Err(fault) => return Err(fault),
@@ -107,20 +99,23 @@ fn joined(block: Started, others: Started) -> Started
     }
 }
 
-/// Takes in a sync that was started, where one was. Whom it answers as it has finished is given.
+/// Takes in a sync that was started, where one was. Whom it answers as it has finished is given. Where none was started
+/// no ticket is needed.
 pub(crate) fn open_started<V: Variant, S: Holds<V>>(
     stores: &mut S,
     started: Started,
     answer: Option<u64>,
 ) -> Result<Option<u64>, Fault<V::Commitment>>
-    requires { (S.held stores.old).writes.next_sync < 2 ^ 64 - 1 }
     ensures opened { OnOk result (S.held stores.new ≡ opened_for (S.covers stores.old) started answer (S.held stores.old)) }
     ensures ticket { IfOk result (λ t. t ≡ ticket_for started (S.held stores.old)) }
     ensures goes_on { GoesOn (fault_of V.Commitment.bytes) (S.held stores.old) nothing_written (S.held stores.new) result }
-    ensures memory { IfErr result (λ e. fault_of V.Commitment.bytes e ≡ want_of_memory) }
+    ensures kind { IfErr result (λ e. IsUntaken started (S.held stores.old) (fault_of V.Commitment.bytes e)) }
 {
     match started {
         Started::Ready => Ok(None),
+        Started::Ticket(_) if !stores.writes().has_ticket() => {
+            Err(Fault::TicketLimit(TicketKind::Sync))
+        }
         Started::Ticket(sync) => match stores.open_cache_sync(sync, answer) {
             Ok(ticket) => Ok(Some(ticket)),
             Err(_) => Err(Fault::Memory),

@@ -237,3 +237,20 @@ returns-in-Ack g c =
       min = still_least c.args.certified.now.min c.acknowledge.result;
       unlearned = λ query. absurd cc;
     })
+
+pub returns-in-Dropped : goal.returns-in-Dropped
+returns-in-Dropped g c =
+    rw c.in-Dropped.is (record {
+      runs = rw (← c.life.view_is) (λ standing. found_nothing _ _ _ _ _ _ _ (c.acknowledge-in-Dropped.ensures.runs standing _ _));
+      given = rw (← c.life.view_is) (refl, refl);
+      unanswered = unanswered-err _ c.acknowledge-in-Dropped.result;
+      sends = unsent-ok _ c.acknowledge-in-Dropped.result;
+      unsent = front_none _ _ c.acknowledge-in-Dropped.result (unsent-err _ c.acknowledge-in-Dropped.result);
+      blocks = refl;
+      notifies = refl;
+      buffer = λ none. refl;
+      idle = λ t is closed other. absurd cc;
+      notes = unnoted g.V.Commitment.Named.bytes c.args.certified.now c.acknowledge-in-Dropped.result;
+      min = still_least c.args.certified.now.min c.acknowledge-in-Dropped.result;
+      unlearned = λ query. absurd cc;
+    })

@@ -1,10 +1,10 @@
-use Rattle.std.proofs.Common.{inl}
+use Rattle.std.proofs.Common.{inl, refl}
 use Rattle.std.proofs.lemmas.Result.{err_from_is_err_and}
 use Rattle.mar_model.specs.Faults.{want_of_memory}
 use Rattle.mar_actor.specs.Views.{sizes_of}
 use Rattle.mar_model.proofs.OpeningEvent.{cut_early}
 use Rattle.mar_model.proofs.Reopenings.{LosesOpening-nothing}
-use Rattle.mar_opening.proofs.Opened.{failed_by_value, failed_cause, failed_cut, opened_begins, opened_finds, opened_fresh, opened_passed, opened_picked}
+use Rattle.mar_opening.proofs.Opened.{failed_by_value, failed_cause, failed_cut, fails_from, opened_begins, opened_finds, opened_fresh, opened_passed, opened_picked}
 use Rattle.mar_actor.proofs.node.Node.init.Goals as goal
 
 pub returns-in_default-clause-opens : goal.returns-in_default-clause-opens
@@ -12,6 +12,14 @@ returns-in_default-clause-opens g c = λ config chain set asks. cut_early config
 
 pub returns-in_default-clause-cause : goal.returns-in_default-clause-cause
 returns-in_default-clause-cause g c = (LosesOpening-nothing (g.S.Ruins.StoresRuin.left c.args.ruins) want_of_memory tt).cause
+
+pub returns-in_default-clause-fails : goal.returns-in_default-clause-fails
+returns-in_default-clause-fails g c = λ b is. inl (record { lost = LosesOpening-nothing (g.S.Ruins.StoresRuin.left c.args.ruins) want_of_memory tt; in_order = λ s t is behind. refl; usual = tt })
+
+pub returns-in_err-stores-clause-fails : goal.returns-in_err-stores-clause-fails
+returns-in_err-stores-clause-fails g c =
+    let p = err_from_is_err_and c.from_residual.result c.from_residual.ensures.1 in
+    rw (p.1, p.2) (fails_from _ (g.S.Ruins.StoresRuin.left c.args.ruins) _ _ _ (c.in-Ok.ensures.genesis g.V.Variant.plain) _ c.in_err-stores.ensures.fails)
 
 pub returns-in_err-stores-clause-opens : goal.returns-in_err-stores-clause-opens
 returns-in_err-stores-clause-opens g c =

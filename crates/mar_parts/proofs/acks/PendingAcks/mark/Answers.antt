@@ -1,7 +1,7 @@
 use Rattle.std.proofs.Common.{map, refl, ◌∙◌, ◌≡◌}
 use Rattle.mar_parts.specs.Views.{outstanding_of}
 use Rattle.mar_parts.proofs.Entries.{marked_heights, marked_none}
-use Rattle.mar_parts.proofs.acks.PendingAcks.drop_ack.Goals as goal
+use Rattle.mar_parts.proofs.acks.PendingAcks.mark.Goals as goal
 
 pub invariant_of-self : goal.invariant_of-self
 invariant_of-self c =
