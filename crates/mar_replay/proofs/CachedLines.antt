@@ -21,7 +21,7 @@ use Rattle.mar_model.proofs.CacheSteps.{with_cases}
 use Rattle.mar_model.proofs.EntryLists.{contains_none, one_of}
 use Rattle.mar_model.proofs.Filtered.{all_found_from, all_found_of, all_found_within}
 use Rattle.mar_script.specs.Script.{IsBuiltMessage}
-use Rattle.mar_replay.proofs.Lasting.{IsPlain, acks, finishes, tells}
+use Rattle.mar_replay.proofs.Lasting.{IsPlain, finishes, marks, tells}
 use Rattle.mar_cert.specs.Finalization.{Notarization}
 use Rattle.mar_model.specs.Held.{Seen}
 use Rattle.mar_model.proofs.KnownBlocks.{at_hand-known}
@@ -154,7 +154,7 @@ module _ {P E : Type 0} (config : Config) (chain : Chain) (a : Seen P E) (buffer
 
   pub plain_puts : (e : Event) → IsPlain e → PutsBlocksOf config n e (told_or_known chain n e)
   plain_puts e (tells t m built) fx after x has = told_puts t m built fx after x has
-  plain_puts e (acks t) fx after x has = contains_none x has
+  plain_puts e (marks t m) fx after x has = contains_none x has
   plain_puts e (finishes t) fx after x has = contains_none x has
 
 -- AN OPENING

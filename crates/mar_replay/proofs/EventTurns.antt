@@ -15,7 +15,7 @@ use Rattle.mar_key.specs.Keys.{Call}
 use Rattle.mar_model.specs.Answers.{Sent, TicketAnswer, is_known}
 use Rattle.mar_model.specs.Chain.{Chain}
 use Rattle.mar_model.specs.Config.{Config}
-use Rattle.mar_model.specs.Event.{Event, ack_dropped, ack_given, block_buffered, buffer_ended, life_started, message_told, peer_answered, serve_ended, sync_finished, is_query}
+use Rattle.mar_model.specs.Event.{Event, ack_marked, block_buffered, buffer_ended, life_started, message_told, peer_answered, serve_ended, sync_finished, is_query}
 use Rattle.mar_model.specs.Held.{ArePassed, Ending, FailsBy, Remains}
 use Rattle.mar_model.specs.Lives.{Cuts}
 use Rattle.mar_model.specs.Node.{Node}
@@ -95,8 +95,7 @@ module _ (seen : SeenNode) (buffer : Held) (before now : Made) (silent : before 
   by_event : {H R : Type 0} (after : StateCode H R) (o : Outcome) (result : Result SeenNode Ending) (IsSo : Event → Type 0) → ((f : Option Finalization) → IsSo (life_started f) → PromisesStart (life_started f) result → DoesStart seen buffer (life_started f) now after o) → ((e : Event) → IsSo e → PromisesStep e result → DoesStep seen buffer e now after o) → (e : Event) → IsSo e → Promises e result → DoesEvent seen buffer e now after o
   by_event after o result IsSo start step (life_started f) so promise = start f so promise
   by_event after o result IsSo start step (message_told t m) so promise = step (message_told t m) so promise
-  by_event after o result IsSo start step (ack_given t) so promise = step (ack_given t) so promise
-  by_event after o result IsSo start step (ack_dropped t) so promise = step (ack_dropped t) so promise
+  by_event after o result IsSo start step (ack_marked t m) so promise = step (ack_marked t m) so promise
   by_event after o result IsSo start step (sync_finished t) so promise = step (sync_finished t) so promise
   by_event after o result IsSo start step (peer_answered a) so promise = step (peer_answered a) so promise
   by_event after o result IsSo start step serve_ended so promise = step serve_ended so promise
@@ -143,8 +142,7 @@ module _ (seen : SeenNode) (buffer : Held) (before now : Made) (silent : before 
 taken_up : (e : Event) (seen new : SeenNode) → KeepsTakenUp e seen new → FindsTakenUp e seen → new.held.cache.loaded ≡ true
 taken_up (life_started f) seen new keeps up = keeps
 taken_up (message_told t m) seen new keeps up = keeps up
-taken_up (ack_given t) seen new keeps up = keeps up
-taken_up (ack_dropped t) seen new keeps up = keeps up
+taken_up (ack_marked t m) seen new keeps up = keeps up
 taken_up (sync_finished t) seen new keeps up = keeps up
 taken_up (peer_answered a) seen new keeps up = keeps up
 taken_up serve_ended seen new keeps up = keeps up

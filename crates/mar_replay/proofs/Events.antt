@@ -13,6 +13,7 @@ module _ {D B N F : Type 0} (digest : D → List ℕ) (block : B → Block) (not
   no_parents event.Start = refl
   no_parents (event.Sync t) = refl
   no_parents (event.Ack t) = refl
+  no_parents (event.Dropped t) = refl
   no_parents (event.Message (message.GetInfo t i)) = refl
   no_parents (event.Message (message.GetBlock t i)) = refl
   no_parents (event.Message (message.GetFinalization t h)) = refl

@@ -15,12 +15,12 @@ use Rattle.mar_model.specs.Config.{Config}
 use Rattle.mar_model.specs.Event.{Event, life_started, message_told}
 use Rattle.mar_model.specs.Faults.{Fault, StoreName, from_genesis, ticket_limit}
 use Rattle.mar_model.specs.Held.{ArePassed, FailsBy, IsUsual, Remains, Sizes, Watches, picks_of, remains_of, with_armed}
-use Rattle.mar_model.specs.Lives.{CutsReopening, Finds}
+use Rattle.mar_model.specs.Lives.{CutsReopening, Finds, IsOpeningFault}
 use Rattle.mar_model.specs.Moves.{syncs_at_most}
 use Rattle.mar_model.specs.Stored.{AreSmall}
 use Rattle.mar_store.specs.Sizes.{IsSmall}
 use Rattle.mar_store.proofs.Lookups.{AllByRecursion-push}
-use Rattle.mar_model.specs.Promise.{IsGoodUntold, IsLawfulStep, IsOpeningFault, IsSetTo, Waiting, asked_since, knowing, known_blocks, node_of, none_waiting, told_blocks}
+use Rattle.mar_model.specs.Promise.{IsGoodUntold, IsLawfulStep, IsSetTo, Waiting, asked_since, knowing, known_blocks, node_of, none_waiting, told_blocks}
 use Rattle.mar_model.specs.Node.{Node}
 use Rattle.mar_model.specs.Step.{Made, Steps, nothing_made}
 use Rattle.mar_model.proofs.Passing.{ArePassed-refl}
@@ -32,7 +32,7 @@ use Rattle.mar_model.specs.Views.{kind_of}
 use Rattle.mar_script.specs.Accounts.{Account, Calls, CallsEnd, luck_after}
 use Rattle.mar_script.specs.Plays.{IsBetween, IsLawfulLine, Plays, buffer_in, cached_blocks_in, known_in, max_window, most_turns}
 use Rattle.mar_replay.specs.Playing.{AfterEvent, DoesEvent, DoesStep, FindsTakenUp, HasLuck, IsNearLast, IsOpenAs, IsPendingAs, IsSetNode, PlaysLine, SeenNode, StartsFrom, TakesEvent, account_in, empty_buffer}
-use Rattle.mar_script.specs.Run.{LineDone, OpenDone, StepDone, line_blocks, still_unanswered}
+use Rattle.mar_script.specs.Run.{IsSmooth, LineDone, OpenDone, StepDone, line_blocks, still_unanswered}
 use Rattle.mar_script.specs.Script.{Line, Settings, buffer_line, config_of, crash_line, fail_line, open_line, tell_line}
 use Rattle.mar_script.specs.Text.{Output, State, running, stopped}
 use Rattle.mar_script.specs.Shown.{plain_fault}
@@ -45,10 +45,10 @@ use Rattle.mar_replay.specs.declared.play.State.{State as StateCode}
 use Rattle.mar_replay.specs.declared.play.State.TheVariants as state
 use Rattle.mar_script.specs.declared.RemarkShown.{RemarkShown}
 use Rattle.mar_replay.proofs.CachedLines.{found_within, plain_puts, step_cached, told_or_known}
-use Rattle.mar_replay.proofs.Lasting.{IsPlain, acks, answers_last, finishes, plain_syncs, tells, syncs_after, syncs_last, tickets_after, tickets_last}
-use Rattle.mar_replay.proofs.LineTurns.{cut_between, cut_blocks, cut_usual, lawful_step, only_cut, step_between, step_cut, step_done, waits}
+use Rattle.mar_replay.proofs.Lasting.{IsPlain, Spares, Undropped, answers_last, finishes, marks, plain_syncs, tells, syncs_after, syncs_last, tickets_after, tickets_last, undropped-step}
+use Rattle.mar_replay.proofs.LineTurns.{cut_between, cut_blocks, cut_excused, cut_usual, excused_usual, lawful_step, only_cut, step_between, step_cut, step_done, waits}
 use Rattle.mar_replay.proofs.Replaying.{between_left}
-use Rattle.mar_replay.proofs.OpeningTurns.{lawful_start, opening_between, opening_cached, opening_cut, opening_done, opening_usual, start_cached, start_cut, start_usual, undropped-found}
+use Rattle.mar_replay.proofs.OpeningTurns.{lawful_start, opening_between, opening_cached, opening_cut, opening_done, opening_undropped, opening_usual, start_cached, start_cut, start_usual, undropped-found}
 
 none_in : (b : Block) → Contains [] b → ⊥
 none_in b has = let lt : has.0 < 0 = has.1 in omega arith
@@ -60,7 +60,7 @@ never_last k e seen fault given started most few narrow near Sync is = syncs_las
 
 -- a state behind one line more
 later_state : (config : Config) (chain : Chain) (k : ℕ) (s : State) → IsBetween config chain k s → IsBetween config chain (k + 1) s
-later_state config chain k (running n) (good, rests, lasting) = (good, rests, record { undropped = lasting.undropped; tickets = omega (arith, lasting.tickets); sync_tickets = omega (arith, lasting.sync_tickets); answer_tickets = omega (arith, lasting.answer_tickets) })
+later_state config chain k (running n) (good, rests, lasting) = (good, rests, record { tickets = omega (arith, lasting.tickets); sync_tickets = omega (arith, lasting.sync_tickets); answer_tickets = omega (arith, lasting.answer_tickets) })
 later_state config chain k (stopped e) between = between
 
 -- what is asked of a state doesn't look at the buffer
@@ -68,7 +68,7 @@ put_between : (config : Config) (chain : Chain) (k : ℕ) (seen : SeenNode) (bef
 put_between config chain k seen before after waiting (good, rests, lasting) = (
   IsGood-beside config chain seen before after waiting waiting good.of_chain.asks.requests good,
   Rest-beside config.window seen before after waiting waiting rests,
-  record { undropped = lasting.undropped; tickets = omega (arith, lasting.tickets); sync_tickets = omega (arith, lasting.sync_tickets); answer_tickets = omega (arith, lasting.answer_tickets) },
+  record { tickets = omega (arith, lasting.tickets); sync_tickets = omega (arith, lasting.sync_tickets); answer_tickets = omega (arith, lasting.answer_tickets) },
 )
 
 -- nothing is pending as a life begins
@@ -102,8 +102,12 @@ told_known chain n e l brings before cached b has = by (Contains-append_cases be
 -- such an event finds what was taken up of the cache
 pub plain_finds : (e : Event) → IsPlain e → (seen : SeenNode) → seen.held.cache.loaded ≡ true → FindsTakenUp e seen
 plain_finds e (tells t m built) seen loaded = loaded
-plain_finds e (acks t) seen loaded = loaded
+plain_finds e (marks t m) seen loaded = loaded
 plain_finds e (finishes t) seen loaded = loaded
+
+-- a smooth line's event drops no acknowledgement
+abbrev pub SparesWhereSmooth : Node → Line → Event → Type 0
+SparesWhereSmooth n l e = (config : Config) (account : Account) → IsSmooth config account (running n) l → Spares e
 
 module _ {H R : Type 0} where
   abbrev Stopped : Remains → ℕ → StateCode H R
@@ -126,7 +130,7 @@ module _ {H R : Type 0} where
     calls = calls (remains_in s).watches;
     lucky = λ before has. subst (λ k. HasLuck k s) (sym (luck before)) has;
     opened = keeps_open s;
-    plays = λ is before has chain k lawful. record { done = done chain (account_in before s); between = later_state config chain k (state_of s) lawful.between; buffered = λ b has. Contains-append_left _ _ b has; cached = λ b has. still_known chain (state_of s) l b has; excused = tt };
+    plays = λ is before has chain k lawful. record { done = done chain (account_in before s); between = later_state config chain k (state_of s) lawful.between; buffered = λ b has. Contains-append_left _ _ b has; cached = λ b has. still_known chain (state_of s) l b has; excused = tt; undropped = λ un smooth. (un, tt) };
   }
 
   -- a store is made to fail
@@ -138,7 +142,7 @@ module _ {H R : Type 0} where
     calls = refl;
     lucky = λ before has. tt;
     opened = refl;
-    plays = λ set before has chain k lawful. record { done = (refl, refl); between = later_state config chain k (running (node_of seen buffer.blocks (between seen pending))) lawful.between; buffered = λ b has. Contains-append_left _ _ b has; cached = λ b has. still_known chain (running (node_of seen buffer.blocks (between seen pending))) (fail_line store calls) b has; excused = tt };
+    plays = λ set before has chain k lawful. record { done = (refl, refl); between = later_state config chain k (running (node_of seen buffer.blocks (between seen pending))) lawful.between; buffered = λ b has. Contains-append_left _ _ b has; cached = λ b has. still_known chain (running (node_of seen buffer.blocks (between seen pending))) (fail_line store calls) b has; excused = tt; undropped = λ un smooth. (un, tt) };
   })
 
   pub plays_fail_left : (config : Config) (left new : Remains) (luck : ℕ) (store : StoreName) (calls : ℕ) → new.ended ≡ left.ended → new.watches ≡ with_armed store calls left.watches
@@ -155,6 +159,7 @@ module _ {H R : Type 0} where
       buffered = λ b has. absurd (none_in b has);
       cached = λ b has. still_known chain (stopped left.ended) (fail_line store calls) b (subst (λ e. Contains (filter_map cached_block e.cache_may) b) ended has);
       excused = tt;
+      undropped = λ un smooth. (tt, tt);
     };
   }
 
@@ -172,6 +177,7 @@ module _ {H R : Type 0} where
       buffered = λ x has. subst (λ bs. Contains bs x) is has;
       cached = λ x has. still_known chain (running (node_of seen buffer.blocks (between seen pending))) (buffer_line b) x has;
       excused = tt;
+      undropped = λ un smooth. (un, tt);
     };
   }
 
@@ -189,6 +195,7 @@ module _ {H R : Type 0} where
       buffered = λ b has. absurd (none_in b has);
       cached = λ b has. still_known chain (running (node_of seen buffer.blocks (between seen pending))) (crash_line luck) b (may_blocks seen b has);
       excused = tt;
+      undropped = λ un smooth. (tt, tt);
     };
   }
 
@@ -200,13 +207,14 @@ module _ {H R : Type 0} where
     calls = ArePassed-refl left.watches;
     lucky = λ was has. refl;
     opened = tt;
-    plays = λ is was has chain k lawful. record { done = (refl, refl); between = lawful.between; buffered = λ b has. absurd (none_in b has); cached = λ b has. still_known chain (stopped left.ended) (crash_line luck) b has; excused = tt };
+    plays = λ is was has chain k lawful. record { done = (refl, refl); between = lawful.between; buffered = λ b has. absurd (none_in b has); cached = λ b has. still_known chain (stopped left.ended) (crash_line luck) b has; excused = tt; undropped = λ un smooth. (tt, tt) };
   }
 
   -- behind an event of the life, whoever waited beside it
   module _ (seen : SeenNode) (buffer : Held) (pending : Pending) (l : Line) (e : Event) (made : Made) (config : Config) (chain : Chain) (k : ℕ) (waiting : Waiting) (plain : IsPlain e) (brings : (b : Block) → Contains (told_blocks e) b → Contains (line_blocks l) b) (set : IsSetNode config seen)
       (lawful : IsLawfulLine config chain k (running (node_of seen buffer.blocks (between seen pending))) l) (step : IsLawfulStep config chain (node_of seen buffer.blocks waiting) (e ∷ [])) (few : waiting.next_answer ≤ k + 1) (answered : (n' : Node) → Steps config chain (node_of seen buffer.blocks waiting) (e ∷ []) made n' → still_unanswered made.answers [] waiting.unanswered ≡ [])
       (account : Account) (line_done : (out : Output) (s : State) → StepDone config chain (node_of seen buffer.blocks waiting) (e ∷ []) [] (λ m. []) out s → LineDone config chain account (running (node_of seen buffer.blocks (between seen pending))) l out s)
+      (spares : IsSmooth config account (running (node_of seen buffer.blocks (between seen pending))) l → Spares e)
     where
       pub after_event : (after : StateCode H R) (o : Outcome) (next : ℕ) → waiting.next_answer ≡ next → AfterEvent config chain (node_of seen buffer.blocks waiting) seen buffer.blocks waiting e made after o
           → ((new : SeenNode) (kept : Held) (now : Pending) → after ≡ state.Running new kept now → now.next_answer ≡ next)
@@ -215,21 +223,26 @@ module _ {H R : Type 0} where
         done = subst (λ t. LineDone config chain account (running (node_of seen buffer.blocks (between seen pending))) l (output_of made outcome.Done) (running (node_of new kept.blocks (waiting_with (asked_after waiting.requests [] made.asks) t new.certified)))) (is ∙ sym (next_is new kept now refl))
             (line_done _ _ (step_done config chain seen buffer.blocks waiting e made new kept.blocks (answered _ steps) steps));
         between = subst (λ t. IsBetween config chain (k + 1) (running (node_of new kept.blocks (waiting_with (asked_after waiting.requests [] made.asks) t new.certified)))) (is ∙ sym (next_is new kept now refl))
-            (step_between config chain seen buffer.blocks waiting k e plain made new kept.blocks lawful.between.2.undropped steps
+            (step_between config chain seen buffer.blocks waiting k e plain made new kept.blocks steps
             (tickets_after k seen.life.next_ack new.life.next_ack seen.life.sizes.window lawful.between.2.tickets (subst (λ w. w ≤ max_window) set.window lawful.narrow) tickets.0)
             (syncs_after k seen.held.writes.next_sync new.held.writes.next_sync (syncs_at_most e) lawful.between.2.sync_tickets (plain_syncs e plain) tickets.1) few);
         buffered = λ b has. Contains-append_left _ _ b (subst (λ xs. Contains xs b) same has);
         cached = λ b has. told_known chain (node_of seen buffer.blocks waiting) e l brings (cached_blocks_in (running (node_of seen buffer.blocks waiting))) (λ c there. there) b (step_cached config chain (node_of seen buffer.blocks waiting) e (told_or_known chain (node_of seen buffer.blocks waiting) e) made (node_of new kept.blocks (knowing new.certified (asked_since waiting made.asks))) (plain_puts config chain seen buffer.blocks waiting lawful.between.0.of_chain.stores.held_blocks e plain) steps b has);
         excused = tt;
+        undropped = λ un smooth. (undropped-step config chain seen buffer.blocks waiting e plain (spares smooth) made (node_of new kept.blocks (knowing new.certified (asked_since waiting made.asks))) steps un, tt);
       }
       after_event (state.Stopped left luck) (outcome.Fault fault) next is (cuts, limit) next_is = record {
         done = line_done _ _ (step_cut config chain seen buffer.blocks waiting e made fault left.ended cuts);
         between = cut_between config chain seen buffer.blocks waiting (k + 1) e made (plain_fault fault) left.ended cuts;
         buffered = λ b has. absurd (none_in b has);
         cached = λ b has. told_known chain (node_of seen buffer.blocks waiting) e l brings (filter_map cached_block seen.held.cache.kept.may) (may_blocks seen) b (cut_blocks config chain (node_of seen buffer.blocks waiting) e (told_or_known chain (node_of seen buffer.blocks waiting) e) made (plain_fault fault) left.ended (plain_puts config chain seen buffer.blocks waiting lawful.between.0.of_chain.stores.held_blocks e plain) cuts b has);
-        excused = cut_usual config chain seen buffer.blocks waiting e plain made fault left.ended step lawful.between.2.undropped cuts
-            (never_last k e seen (plain_fault fault) lawful.between.2.tickets lawful.between.2.sync_tickets (plain_syncs e plain) lawful.few (subst (λ w. w ≤ max_window) set.window lawful.narrow) limit);
+        excused = cut_excused config chain seen buffer.blocks waiting e plain made fault left.ended step cuts no_limit;
+        undropped = λ un smooth. (tt, cut_usual config chain seen buffer.blocks waiting e plain (spares smooth) made fault left.ended step un cuts no_limit);
       }
+        where
+          no_limit : (kind : TicketKind) → plain_fault fault ≡ ticket_limit (kind_of kind) → ⊥
+          no_limit =
+              never_last k e seen (plain_fault fault) lawful.between.2.tickets lawful.between.2.sync_tickets (plain_syncs e plain) lawful.few (subst (λ w. w ≤ max_window) set.window lawful.narrow) limit
       after_event (state.Running new kept now) (outcome.Remark r) next is done next_is = absurd done
       after_event (state.Running new kept now) (outcome.Fault fault) next is done next_is = absurd done
       after_event (state.Stopped left luck) outcome.Done next is done next_is = absurd done
@@ -253,16 +266,17 @@ module _ {H R : Type 0} where
   -- what an event of a life that has begun makes of it
   pub done_step : (seen : SeenNode) (buffer : Held) (made : Made) (after : StateCode H R) (o : Outcome) {e : Event} → IsPlain e → DoesEvent seen buffer e made after o → DoesStep seen buffer e made after o
   done_step seen buffer made after o (tells t m built) done = done
-  done_step seen buffer made after o (acks t) done = done
+  done_step seen buffer made after o (marks t m) done = done
   done_step seen buffer made after o (finishes t) done = done
 
   -- A line that is one event of the life, which these callers await, the next of whom has this ticket: `now` is pending beside it.
-  pub plays_event : (seen : SeenNode) (buffer : Held) (pending now : Pending) (unanswered : List ℕ) (next : ℕ) (l : Line) (e : Event) (made : Made) (after : StateCode H R) (o : Outcome) → IsPlain e → ((t : Option ℕ) (f : Finalization) → e ≡ message_told t (report_finalization f) → l ≡ tell_line (report_finalization f)) → ((b : Block) → Contains (told_blocks e) b → Contains (line_blocks l) b)
+  pub plays_event : (seen : SeenNode) (buffer : Held) (pending now : Pending) (unanswered : List ℕ) (next : ℕ) (l : Line) (e : Event) (made : Made) (after : StateCode H R) (o : Outcome) → IsPlain e → SparesWhereSmooth (node_of seen buffer.blocks (between seen pending)) l e
+      → ((t : Option ℕ) (f : Finalization) → e ≡ message_told t (report_finalization f) → l ≡ tell_line (report_finalization f)) → ((b : Block) → Contains (told_blocks e) b → Contains (line_blocks l) b)
       → ((before now : Watches) (fault : Option Fault) → CallsEnd before fault now → Calls before l fault now) → next ≤ pending.next_answer + 1 → now.requests ≡ pending.requests → (pending.next_answer < 2 ^ 64 - 1 → now.next_answer ≡ next)
       → ((config : Config) (chain : Chain) (n' : Node) → Steps config chain (node_of seen buffer.blocks (waits (between seen pending) unanswered next)) (e ∷ []) made n' → still_unanswered made.answers [] unanswered ≡ [])
       → ((config : Config) (chain : Chain) (account : Account) (out : Output) (s : State) → StepDone config chain (node_of seen buffer.blocks (waits (between seen pending) unanswered next)) (e ∷ []) [] (λ m. []) out s → LineDone config chain account (running (node_of seen buffer.blocks (between seen pending))) l out s)
       → TakesEvent seen buffer now e made after o → (config : Config) → PlaysLine config (Running seen buffer pending) l (output_of made o) after
-  plays_event seen buffer pending now unanswered next l e made after o plain same brings calls one_more requests next_is answered line_done takes config = record {
+  plays_event seen buffer pending now unanswered next l e made after o plain spares same brings calls one_more requests next_is answered line_done takes config = record {
     set = λ is. takes.set config is.0 (plain_finds e plain seen is.1);
     small = λ line small. takes.small small;
     calls = calls seen.held.watches (remains_in after).watches (fault_in o) takes.calls;
@@ -272,23 +286,23 @@ module _ {H R : Type 0} where
         let waiting = waits (between seen pending) unanswered next in
         let step = lawful_step config chain seen buffer.blocks (between seen pending) unanswered next k l e plain lawful same brings in
         let low : pending.next_answer ≤ k = lawful.between.2.answer_tickets in
-        after_event seen buffer pending l e made config chain k waiting plain brings is.0 lawful step (omega (arith, low, one_more)) (answered config chain) (account_in before (Running seen buffer pending)) (line_done config chain (account_in before (Running seen buffer pending))) after o now.next_answer (sym (next_is (answers_last k pending.next_answer low lawful.few)))
+        after_event seen buffer pending l e made config chain k waiting plain brings is.0 lawful step (omega (arith, low, one_more)) (answered config chain) (account_in before (Running seen buffer pending)) (line_done config chain (account_in before (Running seen buffer pending))) (spares config (account_in before (Running seen buffer pending))) after o now.next_answer (sym (next_is (answers_last k pending.next_answer low lawful.few)))
         (done_step seen buffer made after o plain takes.done is.1 config chain waiting refl is.0 step) (pending_next now after takes.pending_as);
   }
 
   -- an event that is no message
-  pub plays_alone : (seen : SeenNode) (buffer : Held) (pending : Pending) (l : Line) (e : Event) (made : Made) (after : StateCode H R) (o : Outcome) → IsPlain e → ((t : Option ℕ) (m : Message) → e ≡ message_told t m → ⊥) → told_blocks e ≡ []
+  pub plays_alone : (seen : SeenNode) (buffer : Held) (pending : Pending) (l : Line) (e : Event) (made : Made) (after : StateCode H R) (o : Outcome) → IsPlain e → SparesWhereSmooth (node_of seen buffer.blocks (between seen pending)) l e → ((t : Option ℕ) (m : Message) → e ≡ message_told t m → ⊥) → told_blocks e ≡ []
       → ((before now : Watches) (fault : Option Fault) → CallsEnd before fault now → Calls before l fault now)
       → ((config : Config) (chain : Chain) (account : Account) (waiting : Waiting) (out : Output) (s : State) → StepDone config chain (node_of seen buffer.blocks waiting) (e ∷ []) [] (λ m. []) out s → LineDone config chain account (running (node_of seen buffer.blocks waiting)) l out s)
       → TakesEvent seen buffer pending e made after o → (config : Config) → PlaysLine config (Running seen buffer pending) l (output_of made o) after
-  plays_alone seen buffer pending l e made after o plain no_message no_blocks calls line_done takes =
-      plays_event seen buffer pending pending [] pending.next_answer l e made after o plain (λ t f is. absurd (no_message t (report_finalization f) is)) (λ b has. absurd (none_in b (subst (λ bs. Contains bs b) no_blocks has))) calls (omega arith) refl (λ low. refl) (λ config chain n' steps. refl)
+  plays_alone seen buffer pending l e made after o plain spares no_message no_blocks calls line_done takes =
+      plays_event seen buffer pending pending [] pending.next_answer l e made after o plain spares (λ t f is. absurd (no_message t (report_finalization f) is)) (λ b has. absurd (none_in b (subst (λ bs. Contains bs b) no_blocks has))) calls (omega arith) refl (λ low. refl) (λ config chain n' steps. refl)
       (λ config chain account. line_done config chain account (between seen pending)) takes
 
   -- an opening that was cut before its start
   pub plays_unopened : (config : Config) (before left : Remains) (luck : ℕ) (g : Block) (fault : FaultCode Sha256Digest)
       → ((chain : Chain) (k : ℕ) → IsLawfulLine config chain k (stopped before.ended) (open_line (from_genesis g)) → CutsReopening config chain before.ended (picks_of before luck) (from_genesis g) nothing_made (plain_fault fault) left.ended)
-      → FailsBy before.watches (plain_fault fault) left.watches → IsUsual (plain_fault fault) ⊎ IsOpeningFault before.ended (from_genesis g) (plain_fault fault) → PlaysLine config (Stopped before luck) (open_line (from_genesis g)) (output_of nothing_made (outcome.Fault fault)) (Stopped left 0)
+      → FailsBy before.watches (plain_fault fault) left.watches → IsUsual (plain_fault fault) ⊎ IsOpeningFault before.ended (picks_of before luck) (from_genesis g) (plain_fault fault) → PlaysLine config (Stopped before luck) (open_line (from_genesis g)) (output_of nothing_made (outcome.Fault fault)) (Stopped left 0)
   plays_unopened config before left luck g fault cuts fails kind = record {
     set = λ is. tt;
     small = λ line small. tt;
@@ -300,7 +314,8 @@ module _ {H R : Type 0} where
       between = ((cuts chain k lawful).leaves.good, (cuts chain k lawful).leaves.some_pair);
       buffered = λ b has. absurd (none_in b has);
       cached = λ b has. still_known chain (stopped before.ended) (open_line (from_genesis g)) b (found_within cached_block left.ended.cache_may before.ended.cache_may (cuts chain k lawful).may_cached b has);
-      excused = opening_usual config chain before.ended (picks_of before luck) g fault k lawful kind;
+      excused = excused_usual (plain_fault fault) (opening_usual config chain before.ended (picks_of before luck) g fault k lawful kind);
+      undropped = λ un smooth. (tt, opening_usual config chain before.ended (picks_of before luck) g fault k lawful kind);
     };
   }
 
@@ -337,6 +352,7 @@ module _ {H R : Type 0} where
             buffered = λ b has. absurd (none_in b (subst (λ xs. Contains xs b) same has));
             cached = λ b has. still_known chain (stopped before.ended) (open_line (from_genesis g)) b (opening_cached config chain before.ended (picks_of before luck) g seen finds begun takes made new kept.blocks steps b has);
             excused = tt;
+            undropped = λ un smooth. (opening_undropped config chain before.ended (picks_of before luck) g seen finds begun takes made new kept.blocks steps, tt);
           }
       by (state.Stopped left now) (outcome.Fault fault) next_is chain k lawful finds good begun takes (cuts, limit) =
           let first = undropped-found config before.ended (picks_of before luck) (from_genesis g) (node_of seen [] none_waiting) finds in
@@ -346,9 +362,13 @@ module _ {H R : Type 0} where
             between = (cut.leaves.good, cut.leaves.some_pair);
             buffered = λ b has. absurd (none_in b has);
             cached = λ b has. still_known chain (stopped before.ended) (open_line (from_genesis g)) b (start_cached config chain before.ended (picks_of before luck) g seen finds begun takes made fault left.ended cuts b has);
-            excused = start_usual config chain before.ended (picks_of before luck) g seen finds begun takes made fault left.ended cuts
-                (never_last k (life_started None) seen (plain_fault fault) (omega (arith, first.1)) (omega (arith, first.2)) (omega arith) lawful.few (subst (λ w. w ≤ max_window) set.window lawful.narrow) limit);
+            excused = excused_usual (plain_fault fault) (usual_start first);
+            undropped = λ un smooth. (tt, usual_start first);
           }
+        where
+          usual_start : Undropped seen.life.out × (seen.life.next_ack ≡ 0) × (seen.held.writes.next_sync ≡ 0) → IsUsual (plain_fault fault)
+          usual_start first = start_usual config chain before.ended (picks_of before luck) g seen finds begun takes made fault left.ended cuts
+              (never_last k (life_started None) seen (plain_fault fault) (omega (arith, first.1)) (omega (arith, first.2)) (omega arith) lawful.few (subst (λ w. w ≤ max_window) set.window lawful.narrow) limit)
       by (state.Running new kept old) (outcome.Remark r) next_is chain k lawful finds good begun takes done = absurd done
       by (state.Running new kept old) (outcome.Fault fault) next_is chain k lawful finds good begun takes done = absurd done
       by (state.Stopped left now) outcome.Done next_is chain k lawful finds good begun takes done = absurd done

@@ -14,9 +14,9 @@ use Rattle.mar_model.specs.Config.{Config}
 use Rattle.mar_model.specs.Event.{cutoff_after, effect_of, life_started, processed_after}
 use Rattle.mar_model.specs.Faults.{Begin, Fault, event_fault, from_genesis, ticket_limit}
 use Rattle.mar_model.specs.Held.{IsUsual, Seen}
-use Rattle.mar_model.specs.Lives.{Cuts, CutsEvent, CutsReopening, Finds, NotBelow, Picks, TakesUp}
+use Rattle.mar_model.specs.Lives.{Cuts, CutsEvent, CutsReopening, Finds, IsOpeningFault, NotBelow, Picks, TakesUp}
 use Rattle.mar_model.specs.Node.{CacheSync, Ended, Node}
-use Rattle.mar_model.specs.Promise.{IsGoodUntold, IsLawfulOpening, IsLawfulStep, IsOpeningFault, asked_since, knowing, known_blocks, node_of, none_waiting}
+use Rattle.mar_model.specs.Promise.{IsGoodUntold, IsLawfulOpening, IsLawfulStep, asked_since, knowing, known_blocks, node_of, none_waiting}
 use Rattle.mar_model.specs.Step.{Made, Steps, nothing_made}
 use Rattle.mar_model.specs.declared.fault.Fault.{Fault as FaultCode}
 use Rattle.mar_model.specs.declared.fault.TicketKind.{TicketKind}
@@ -66,9 +66,9 @@ module _ (config : Config) (chain : Chain) (e : Ended) (picks : Picks) (g : Bloc
   opening_cut fault left cuts = (plain_fault fault, refl, refl, inl cuts, refl)
 
   -- it has no fault that values call for
-  pub opening_usual : (fault : FaultCode Sha256Digest) (k : ℕ) → IsLawfulLine config chain k (stopped e) (open_line (from_genesis g)) → IsUsual (plain_fault fault) ⊎ IsOpeningFault e (from_genesis g) (plain_fault fault) → IsUsual (plain_fault fault)
+  pub opening_usual : (fault : FaultCode Sha256Digest) (k : ℕ) → IsLawfulLine config chain k (stopped e) (open_line (from_genesis g)) → IsUsual (plain_fault fault) ⊎ IsOpeningFault e picks (from_genesis g) (plain_fault fault) → IsUsual (plain_fault fault)
   opening_usual fault k lawful (inl own) = own
-  opening_usual fault k lawful (inr faulty) = absurd (IsOpeningFault-none config chain e (from_genesis g) (plain_fault fault) (lawful_opening config chain e g k lawful) faulty)
+  opening_usual fault k lawful (inr faulty) = absurd (IsOpeningFault-none config chain e picks (from_genesis g) (plain_fault fault) (lawful_opening config chain e g k lawful) faulty)
 
   -- THE START
 
@@ -108,13 +108,15 @@ module _ (config : Config) (chain : Chain) (e : Ended) (picks : Picks) (g : Bloc
           steps.good,
           steps.rests,
           record {
-            undropped = begun_has (λ n. Steps config chain n (life_started None ∷ []) made (node_of b kept (knowing b.certified (asked_since none_waiting made.asks))) → Undropped b.life.out)
-                (λ c syncs started. undropped-start config chain (with_kept c syncs) [] none_waiting made (node_of b kept (knowing b.certified (asked_since none_waiting made.asks))) started (undropped-found config e picks (from_genesis g) first finds).0) (inr takes) steps;
             tickets = tickets;
             sync_tickets = sync_tickets;
             answer_tickets = omega arith;
           },
         )
+
+        pub opening_undropped : Undropped b.life.out
+        opening_undropped = begun_has (λ n. Steps config chain n (life_started None ∷ []) made (node_of b kept (knowing b.certified (asked_since none_waiting made.asks))) → Undropped b.life.out)
+            (λ c syncs started. undropped-start config chain (with_kept c syncs) [] none_waiting made (node_of b kept (knowing b.certified (asked_since none_waiting made.asks))) started (undropped-found config e picks (from_genesis g) first finds).0) (inr takes) steps
 
         -- no block is cached behind it but what might be left
         pub opening_cached : (c : Block) → Contains (filter_map cached_block (b.held.cache.kept.held ++ b.held.cache.kept.may)) c → Contains (filter_map cached_block e.cache_may) c

@@ -18,12 +18,12 @@ use Rattle.mar_model.specs.Cached.{cached_block, cached_finalization, Cached}
 use Rattle.mar_model.proofs.Filtered.{all_found_within}
 use Rattle.mar_model.proofs.Soundness.{IsFrom, IsGoodEnded-from_sound, IsSound-from_good}
 use Rattle.mar_script.specs.Accounts.{Account, AccountsFor, first_account}
-use Rattle.mar_script.specs.Plays.{IsBetween, IsLawfulLine, Plays, buffer_in, cached_blocks_in, known_in, max_window}
+use Rattle.mar_script.specs.Plays.{IsBetween, IsLawfulLine, IsUndropped, Plays, buffer_in, cached_blocks_in, known_in, max_window}
 use Rattle.mar_script.specs.Refused.{max_lines}
 use Rattle.mar_model.specs.Step.{IsFront}
-use Rattle.mar_script.specs.Run.{Appears, AreSmooth, EndsWith, HandsBack, IsExcused, IsFaultFree, IsOutput, IsQuiet, LineDone, MemoryEnds, Premises, Replays, Run, Status, account_after, line_blocks, messages_of, out_of_memory, outside_grammar, read_failed, read_to_end, write_failed}
+use Rattle.mar_script.specs.Run.{Appears, AreSmooth, EndsWith, HandsBack, HasUsualFault, IsExcused, IsFaultFree, IsOutput, IsQuiet, IsSmooth, LineDone, MemoryEnds, Premises, Replays, Run, Status, account_after, line_blocks, messages_of, out_of_memory, outside_grammar, read_failed, read_to_end, write_failed}
 use Rattle.mar_script.specs.Script.{Line, open_line}
-use Rattle.mar_script.proofs.Accounts.{account-push, quiet_run, run_push}
+use Rattle.mar_script.proofs.Accounts.{account-push, quiet_run, run_push, smooth_push}
 use Rattle.mar_script.specs.Text.{Done, Output, State, output_text, running, silent_output, stopped, text}
 
 -- LAWFUL FRONTS
@@ -76,6 +76,7 @@ pub record RunSoFar (config : Config) (chain : Chain) (before : Remains) (lines 
   pub cached : (b : Block) → Contains (cached_blocks_in now) b → Appears chain lines before.ended.cache_may b
   pub no_memory : AllByRecursion (λ d. d.output.fault ≡ Some want_of_memory → ⊥) run
   pub excused : AllByRecursion IsExcused run
+  pub undropped : AreSmooth config (first_account before.watches) (stopped before.ended) run → IsUndropped now × AllByRecursion HasUsualFault run
 
 pub first_run : (config : Config) (chain : Chain) (before : Remains) (now : State) → Premises config chain [] before.ended → now ≡ stopped before.ended → RunSoFar config chain before [] (first_account before.watches) now (text before.ended [])
 first_run config chain before now p is = record {
@@ -89,6 +90,7 @@ first_run config chain before now p is = record {
   cached = λ b has. inr (inr (inr (subst (λ s. Contains (cached_blocks_in s) b) is has)));
   no_memory = tt;
   excused = tt;
+  undropped = λ smooth. (subst IsUndropped (sym is) tt, tt);
 }
   where
     none : (b : Block) → Contains [] b → ⊥
@@ -145,6 +147,14 @@ module _ (config : Config) (chain : Chain) (before : Remains) (lines : List Line
     excused_now : AllByRecursion IsExcused (so.run ++ done ∷ [])
     excused_now = AllByRecursion-push IsExcused so.run done so.excused plays.excused
 
+    -- where each line is smooth none was dropped, so no fault says so
+    undropped_now : AreSmooth config (first_account before.watches) (stopped before.ended) (so.run ++ done ∷ []) → IsUndropped after × AllByRecursion HasUsualFault (so.run ++ done ∷ [])
+    undropped_now smooth =
+        let (others, last) = smooth_push config chain (first_account before.watches) (stopped before.ended) so.run done now so.lives smooth in
+        let (undropped, usual) = so.undropped others in
+        let both = plays.undropped undropped (subst (λ a. IsSmooth config a now l) so.account_is last) in
+        (both.0, AllByRecursion-push HasUsualFault so.run done usual both.1)
+
     -- one more line was done, and memory did not run out
     pub more_run : (out.fault ≡ Some want_of_memory → ⊥) → RunSoFar config chain before (lines ++ l ∷ []) account' after (bytes ++ output_text out after)
     more_run remembered = record {
@@ -158,6 +168,7 @@ module _ (config : Config) (chain : Chain) (before : Remains) (lines : List Line
       cached = λ b has. appears b (plays.cached b has);
       no_memory = AllByRecursion-push (λ d. d.output.fault ≡ Some want_of_memory → ⊥) so.run done so.no_memory remembered;
       excused = excused_now;
+      undropped = undropped_now;
     }
       where
         by : (b : Block) → Contains (buffer_in now) b ⊎ Contains (line_blocks l) b → Contains (flat_map line_blocks (lines ++ l ∷ [])) b
@@ -208,9 +219,9 @@ whole_output write_failed bytes whole between is = absurd between
 whole_output out_of_memory bytes whole between is = ([], sym is ∙ sym (append-nil bytes))
 
 -- a run that no store's failure was counted in has no store's fault
-complete_of : (config : Config) (chain : Chain) (before : Remains) (watches : Watches) (run : List Done) (last : State) → Run config chain (first_account before.watches) (stopped before.ended) run last → AllByRecursion IsExcused run → (account_after (first_account before.watches) run).watches ≡ watches
+complete_of : (config : Config) (chain : Chain) (before : Remains) (watches : Watches) (run : List Done) (last : State) → Run config chain (first_account before.watches) (stopped before.ended) run last → (AreSmooth config (first_account before.watches) (stopped before.ended) run → AllByRecursion HasUsualFault run) → (account_after (first_account before.watches) run).watches ≡ watches
     → IsQuiet before.watches watches → AreSmooth config (first_account before.watches) (stopped before.ended) run → AllByRecursion IsFaultFree run
-complete_of config chain before watches run last lives excused is quiet smooth = quiet_run config chain (first_account before.watches) (stopped before.ended) run last lives excused (subst (IsQuiet before.watches) (sym is) quiet) smooth
+complete_of config chain before watches run last lives usual is quiet smooth = quiet_run config chain (first_account before.watches) (stopped before.ended) run last lives (usual smooth) (subst (IsQuiet before.watches) (sym is) quiet) smooth
 
 pub stops_between : (status : Status) (config : Config) (chain : Chain) (before : Remains) (lines : List Line) (account : Account) (now : State) (bytes : List ℕ) (after : Remains) → StopsBetween status → RunSoFar config chain before lines account now bytes → account.watches ≡ after.watches → left_in now ≡ after.ended → HandsBack now after.ended
     → Replays config chain lines bytes status before after
@@ -226,7 +237,7 @@ stops_between status config chain before lines account now bytes after between s
   some_pair = subst (λ e. 0 < length e.meta) left (between_left config chain (length lines) now so.between).1;
   memory = memory_never status so.run so.no_memory;
   excused = so.excused;
-  complete = complete_of config chain before after.watches so.run now so.lives so.excused (ap (λ a. a.watches) so.account_is ∙ watches);
+  complete = complete_of config chain before after.watches so.run now so.lives (λ smooth. (so.undropped smooth).1) (ap (λ a. a.watches) so.account_is ∙ watches);
 }
 
 -- or in the text of a line
@@ -251,6 +262,7 @@ module _ (config : Config) (chain : Chain) (before : Remains) (lines : List Line
         let d : Done = record { line = l; output = out; after = after; account = account' } in
         let lives = lives_now config chain before lines l account now bytes p so out after account' plays counted in
         let excused = excused_now config chain before lines l account now bytes p so out after account' plays counted in
+        let undropped = undropped_now config chain before lines l account now bytes p so out after account' plays counted in
         let same = ap (λ a. a.watches) (account_now config chain before lines l account now bytes p so out after account' plays counted) ∙ watches in
         record {
           run = so.run ++ d ∷ [];
@@ -267,5 +279,5 @@ module _ (config : Config) (chain : Chain) (before : Remains) (lines : List Line
           some_pair = subst (λ e. 0 < length e.meta) left_is (between_left config chain (length lines + 1) after plays.between).1;
           memory = memory_last status so.run d so.no_memory memory;
           excused = excused;
-          complete = complete_of config chain before left.watches (so.run ++ d ∷ []) after lives excused same;
+          complete = complete_of config chain before left.watches (so.run ++ d ∷ []) after lives (λ smooth. (undropped smooth).1) same;
         }

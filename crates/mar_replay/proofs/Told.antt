@@ -93,10 +93,10 @@ plays_told {H = H} {R = R} seen buffer pending now m built t ticket requests kep
     brings b has = Contains-append_left (message_blocks m) [] b has
 
     by : (b : Bool) → takes_ticket m ≡ b → TakesEvent seen buffer now (message_told (ticket_behind pending b) m) made after o → PlaysLine config (Running {H = H} {R = R} seen buffer pending) (tell_line m) (output_of made o) after
-    by true is event = plays_event seen buffer pending now (pending.next_answer ∷ []) (pending.next_answer + 1) (tell_line m) (message_told (Some pending.next_answer) m) made after o (tells (Some pending.next_answer) m built) (reported (Some pending.next_answer)) brings (λ before now fault calls. calls) (omega arith) requests (taken is)
+    by true is event = plays_event seen buffer pending now (pending.next_answer ∷ []) (pending.next_answer + 1) (tell_line m) (message_told (Some pending.next_answer) m) made after o (tells (Some pending.next_answer) m built) (λ config account smooth t is. cc) (reported (Some pending.next_answer)) brings (λ before now fault calls. calls) (omega arith) requests (taken is)
         (λ config chain n' steps. answered config chain seen buffer.blocks pending m built is made n' steps)
         (λ config chain account out s done. line_told config chain seen buffer.blocks pending m built account true is out s (told_open config chain seen buffer.blocks pending m built out s done)) event config
-    by false is event = plays_event seen buffer pending now [] pending.next_answer (tell_line m) (message_told None m) made after o (tells None m built) (reported None) brings (λ before now fault calls. calls) (omega arith) requests (λ low. kept is) (λ config chain n' steps. refl)
+    by false is event = plays_event seen buffer pending now [] pending.next_answer (tell_line m) (message_told None m) made after o (tells None m built) (λ config account smooth t is. cc) (reported None) brings (λ before now fault calls. calls) (omega arith) requests (λ low. kept is) (λ config chain n' steps. refl)
         (λ config chain account out s done. line_told config chain seen buffer.blocks pending m built account false is out s done) event config
 
 -- a message took a ticket exactly where such a message takes one

@@ -15,7 +15,7 @@ ghost use Rattle.mar_model.specs.Views.{store_name_of};
 ghost use Rattle.mar_script.specs.Lines.{plain_block, plain_finalization, plain_line, plain_message};
 ghost use Rattle.mar_replay.specs.Playing.{HasSmallBlocks, PlaysLine, PlaysOrNot, TakesEvent};
 ghost use Rattle.mar_script.specs.Shown.{plain_fault};
-ghost use Rattle.mar_script.specs.Script.{IsSettings, ack_line, buffer_line, config_of, fail_line, open_line, sync_line, tell_line};
+ghost use Rattle.mar_script.specs.Script.{IsSettings, ack_line, buffer_line, config_of, drop_line, fail_line, open_line, sync_line, tell_line};
 ghost use Rattle.mar_replay.specs.Turn.{fault_in, made_in, open_in, output_of, with_open};
 
 use crate::heard::Heard;
@@ -188,6 +188,7 @@ fn play_stopped<H: ScriptHolds>(
         Line::Tell(_message) => pass(left, luck),
         Line::Sync(_ticket) => pass(left, luck),
         Line::Ack(_ticket) => pass(left, luck),
+        Line::Drop(_ticket) => pass(left, luck),
     }
 }
 
@@ -239,6 +240,7 @@ fn play_running<H: ScriptHolds>(
         Line::Tell(message) => tell(alloc, actor, buffer, pending, message, heard),
         Line::Sync(ticket) => finish_sync(alloc, actor, buffer, pending, ticket, heard),
         Line::Ack(ticket) => acknowledge(alloc, actor, buffer, pending, ticket, heard),
+        Line::Drop(ticket) => drop_ack(alloc, actor, buffer, pending, ticket, heard),
         Line::Fail(store, calls) => arm(actor, buffer, pending, store, calls),
         Line::Crash(luck) => (crash(actor, buffer, pending, luck), Ok(Outcome::Done)),
     }
@@ -337,6 +339,27 @@ fn acknowledge<H: ScriptHolds>(
         return (State::Running(actor, buffer, pending), Ok(remark));
     }
     let (state, outcome) = step(alloc, actor, buffer, pending, Event::Ack(ticket), heard);
+    (state, Ok(outcome))
+}
+
+// Drops the acknowledgement of this ticket, where it is owed.
+fn drop_ack<H: ScriptHolds>(
+    alloc: Global,
+    actor: ScriptNode<H>,
+    buffer: MemBuffer<StandardBlocks>,
+    pending: Pending,
+    ticket: u64,
+    heard: &mut Heard,
+) -> (State<H>, Result<Outcome, AllocError>)
+    requires small { AreSmall buffer.blocks }
+    requires silent { made_in heard.old ≡ nothing_made }
+    ensures { (config : PlainConfig) → PlaysOrNot config (State.Running actor buffer pending) (drop_line ticket) (made_in heard.new) result.0 result.1 }
+{
+    if !actor.owes_ack(ticket) {
+        let remark = Outcome::Remark(RemarkShown::Ignored);
+        return (State::Running(actor, buffer, pending), Ok(remark));
+    }
+    let (state, outcome) = step(alloc, actor, buffer, pending, Event::Dropped(ticket), heard);
     (state, Ok(outcome))
 }
 

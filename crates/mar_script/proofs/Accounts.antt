@@ -10,7 +10,7 @@ use Rattle.mar_model.specs.Faults.{Fault, StoreName, block_store, cache_store, c
 use Rattle.mar_model.specs.Held.{ArePassed, Breaks, FailsBy, IsUsual, Passes, StrikesUncounted, Watches, watch_of, with_armed}
 use Rattle.mar_model.proofs.Passing.{ArePassed-then, Breaks-then, Passes-then, faults-passed}
 use Rattle.mar_script.specs.Accounts.{Account, AccountsFor, Calls, CallsEnd}
-use Rattle.mar_script.specs.Run.{AreSmooth, IsExcused, IsFaultFree, IsQuiet, IsSmooth, LineDone, Run, account_after}
+use Rattle.mar_script.specs.Run.{AreSmooth, HasUsualFault, IsFaultFree, IsQuiet, IsSmooth, LineDone, Run, account_after}
 use Rattle.mar_script.specs.Script.{Line, fail_line}
 use Rattle.mar_script.specs.Text.{Done, State}
 
@@ -132,25 +132,33 @@ quiet_line config account state (fail_line store k) fault now usual smooth quiet
 quiet_line config account state line fault now usual smooth quiet calls = quiet_calls account.watches now fault usual quiet calls
 
 module _ (config : Config) (chain : Chain) where
-  run_not_fewer : (account : Account) (state : State) (run : List Done) (last : State) → Run config chain account state run last → AllByRecursion IsExcused run → NotFewer account.watches (account_after account run).watches
-  run_not_fewer account state [] last lives excused s = not_less _ _ refl
-  run_not_fewer account state (d ∷ run) last lives excused s =
-      not_less_then _ _ _ (line_not_fewer account.watches d.account.watches d.line d.output.fault excused.0 lives.1.calls s) (run_not_fewer d.account d.after run last lives.2 excused.1 s)
+  run_not_fewer : (account : Account) (state : State) (run : List Done) (last : State) → Run config chain account state run last → AllByRecursion HasUsualFault run → NotFewer account.watches (account_after account run).watches
+  run_not_fewer account state [] last lives usual s = not_less _ _ refl
+  run_not_fewer account state (d ∷ run) last lives usual s =
+      not_less_then _ _ _ (line_not_fewer account.watches d.account.watches d.line d.output.fault usual.0 lives.1.calls s) (run_not_fewer d.account d.after run last lives.2 usual.1 s)
 
   -- where no count rose there is no fault but want of memory
-  pub quiet_run : (account : Account) (state : State) (run : List Done) (last : State) → Run config chain account state run last → AllByRecursion IsExcused run → IsQuiet account.watches (account_after account run).watches → AreSmooth config account state run → AllByRecursion IsFaultFree run
-  quiet_run account state [] last lives excused quiet smooth = tt
-  quiet_run account state (d ∷ run) last lives excused quiet smooth =
-      let first : NotFewer account.watches d.account.watches = line_not_fewer account.watches d.account.watches d.line d.output.fault excused.0 lives.1.calls in
-      let others : NotFewer d.account.watches (account_after d.account run).watches = run_not_fewer d.account d.after run last lives.2 excused.1 in (
-        quiet_line config account state d.line d.output.fault d.account.watches excused.0 smooth.0 (λ s rose. quiet s (rose_within _ _ _ _ (not_less _ _ refl) (others s) rose)) lives.1.calls,
-        quiet_run d.account d.after run last lives.2 excused.1 (λ s rose. quiet s (rose_within _ _ _ _ (first s) (not_less _ _ refl) rose)) smooth.1,
+  pub quiet_run : (account : Account) (state : State) (run : List Done) (last : State) → Run config chain account state run last → AllByRecursion HasUsualFault run → IsQuiet account.watches (account_after account run).watches → AreSmooth config account state run → AllByRecursion IsFaultFree run
+  quiet_run account state [] last lives usual quiet smooth = tt
+  quiet_run account state (d ∷ run) last lives usual quiet smooth =
+      let first : NotFewer account.watches d.account.watches = line_not_fewer account.watches d.account.watches d.line d.output.fault usual.0 lives.1.calls in
+      let others : NotFewer d.account.watches (account_after d.account run).watches = run_not_fewer d.account d.after run last lives.2 usual.1 in (
+        quiet_line config account state d.line d.output.fault d.account.watches usual.0 smooth.0 (λ s rose. quiet s (rose_within _ _ _ _ (not_less _ _ refl) (others s) rose)) lives.1.calls,
+        quiet_run d.account d.after run last lives.2 usual.1 (λ s rose. quiet s (rose_within _ _ _ _ (first s) (not_less _ _ refl) rose)) smooth.1,
       )
 
   -- one more line
   pub run_push : (account : Account) (state : State) (run : List Done) (d : Done) (last : State) → Run config chain account state run last → LineDone config chain (account_after account run) last d.line d.output d.after → AccountsFor (account_after account run) d.line d.output.fault d.account → Run config chain account state (run ++ d ∷ []) d.after
   run_push account state [] d last lives done counted = (subst (λ x. LineDone config chain account x d.line d.output d.after) lives done, counted, refl)
   run_push account state (e ∷ run) d last lives done counted = (lives.0, lives.1, run_push e.account e.after run d last lives.2 done counted)
+
+-- smooth are the lines before it, and it itself
+pub smooth_push : (config : Config) (chain : Chain) (account : Account) (state : State) (run : List Done) (d : Done) (last : State) → Run config chain account state run last → AreSmooth config account state (run ++ d ∷ [])
+    → AreSmooth config account state run × IsSmooth config (account_after account run) last d.line
+smooth_push config chain account state [] d last lives smooth = (tt, subst (λ s. IsSmooth config account s d.line) (sym lives) smooth.0)
+smooth_push config chain account state (e ∷ run) d last lives smooth =
+    let others = smooth_push config chain e.account e.after run d last lives.2 smooth.1 in
+    ((smooth.0, others.0), others.1)
 
 pub account-push : (account : Account) (run : List Done) (d : Done) → account_after account (run ++ d ∷ []) ≡ d.account
 account-push account [] d = refl

@@ -18,7 +18,7 @@ use Rattle.mar_model.specs.Views.{store_name_of}
 use Rattle.mar_model.specs.declared.StoreName.{StoreName as StoreNameCode}
 use Rattle.mar_model.specs.declared.StoreName.TheVariants as code
 use Rattle.mar_script.specs.Lines.{AreFields, IsLone, IsWord, MadeOf, NamesFirst, Parses, Row, Spells, begins, fields_text, is_ink, is_inked, kinds, message_row, named, plain_line, plain_message, row, stores}
-use Rattle.mar_script.specs.Script.{Field, IsBuilt, Line, ack_line, buffer_line, crash_line, fail_line, line_bytes, line_fields, open_line, store_name, sync_line, tell_line}
+use Rattle.mar_script.specs.Script.{Field, IsBuilt, Line, ack_line, buffer_line, crash_line, drop_line, fail_line, line_bytes, line_fields, open_line, store_name, sync_line, tell_line}
 use Rattle.mar_script.specs.Words.{Yields}
 use Rattle.mar_script.specs.declared.line.Line.{Line as LineCode}
 use Rattle.mar_script.specs.declared.line.Line.TheVariants as line
@@ -61,6 +61,7 @@ line_row bytes (tell_line (proposed r peers b)) built is = inl (by (kind.Tell to
 line_row bytes (tell_line (prepared r peers b)) built is = inl (by (kind.Tell told.Prepared) (r, peers, b) refl)
 line_row bytes (sync_line t) built is = inl (by kind.Sync t refl)
 line_row bytes (ack_line t) built is = inl (by kind.Ack t refl)
+line_row bytes (drop_line t) built is = inl (by kind.Drop t refl)
 line_row bytes (fail_line store k) built is = inl (by kind.Fail (store, k) refl)
 line_row bytes (crash_line luck) built is = inl (by kind.Crash luck refl)
 line_row bytes l built is = absurd built

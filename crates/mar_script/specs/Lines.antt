@@ -25,7 +25,7 @@ use Rattle.mar_model.specs.Messages.{Identifier, Message, Peers, certify, get_an
 use Rattle.mar_model.specs.Faults.{StoreName, from_genesis}
 use Rattle.mar_model.specs.Views.{store_name_of}
 use Rattle.mar_model.specs.declared.StoreName.{StoreName as StoreNameCode}
-use Rattle.mar_script.specs.Script.{Field, IsBuilt, IsBuiltMessage, IsField, IsPeers, Line, ack_line, as_block, as_count, as_finalization, as_identifier, as_key, as_letters, as_number, as_recipients, as_store, buffer_line, crash_line, fail_line, field_text, hex, in_round, line_bytes, line_fields, message_fields, open_line, peers_text, sentence, sync_line, tell_line}
+use Rattle.mar_script.specs.Script.{Field, IsBuilt, IsBuiltMessage, IsField, IsPeers, Line, ack_line, as_block, as_count, as_finalization, as_identifier, as_key, as_letters, as_number, as_recipients, as_store, buffer_line, crash_line, drop_line, fail_line, field_text, hex, in_round, line_bytes, line_fields, message_fields, open_line, peers_text, sentence, sync_line, tell_line}
 use Rattle.mar_script.specs.Words.{Yields}
 use Rattle.mar_script.specs.declared.block_line.RoundBlock.{RoundBlock}
 use Rattle.mar_script.specs.declared.line.Line.{Line as LineCode}
@@ -58,6 +58,7 @@ plain_line (line.Buffer b) = buffer_line (plain_block b)
 plain_line (line.Tell m) = tell_line (plain_message m)
 plain_line (line.Sync t) = sync_line t
 plain_line (line.Ack t) = ack_line t
+plain_line (line.Drop t) = drop_line t
 plain_line (line.Fail store calls) = fail_line (store_name_of store) calls
 plain_line (line.Crash luck) = crash_line luck
 
@@ -234,6 +235,7 @@ row kind.Buffer = of_block (codes "buffer") buffer_line (λ b. tt) (λ b. refl)
 row (kind.Tell k) = told_row (message_row k)
 row kind.Sync = of_number (codes "sync") sync_line (λ t. tt) (λ t. refl)
 row kind.Ack = of_number (codes "ack") ack_line (λ t. tt) (λ t. refl)
+row kind.Drop = of_number (codes "drop") drop_line (λ t. tt) (λ t. refl)
 row kind.Fail = record {
   word = codes "fail";
   Value = StoreName × ℕ;

@@ -16,7 +16,7 @@ use Rattle.mar_model.specs.Lives.{IsGoodEnded}
 use Rattle.mar_model.specs.Node.{IsFinalized, IsGood, Node, Rest}
 use Rattle.mar_model.specs.Promise.{AreOne}
 use Rattle.mar_script.specs.Accounts.{Account}
-use Rattle.mar_script.specs.Run.{LineDone, line_blocks}
+use Rattle.mar_script.specs.Run.{IsExcusedFault, IsSmooth, LineDone, line_blocks}
 use Rattle.mar_script.specs.Script.{Field, Line, as_block, as_finalization, line_fields, open_line, tell_line}
 use Rattle.mar_script.specs.Text.{Output, State, running, stopped}
 
@@ -28,10 +28,14 @@ max_window = 1024
 abbrev pub most_turns : ℕ
 most_turns = 2 ^ 40
 
--- No block was dropped, and the tickets are as few as so many lines can have given: a line hands over at most a window of
--- blocks, and gives at most two tickets of syncs and one of an answer.
+-- no block is outstanding whose acknowledgement was dropped
+abbrev pub IsUndropped : State → Type 0
+IsUndropped (running n) = AllByRecursion (λ a. a.mark ≡ mark_dropped → ⊥) n.out
+IsUndropped (stopped e) = ⊤
+
+-- The tickets are as few as so many lines can have given: a line hands over at most a window of blocks, and gives at most two
+-- tickets of syncs and one of an answer.
 pub record IsLasting (k : ℕ) (n : Node) : Type 0 where
-  pub undropped : AllByRecursion (λ a. a.mark ≡ mark_dropped → ⊥) n.out
   pub tickets : n.next_ack ≤ max_window * k
   pub sync_tickets : n.next_sync ≤ 2 * k
   pub answer_tickets : n.next_answer ≤ k
@@ -77,7 +81,8 @@ pub record Plays (config : Config) (chain : Chain) (k : ℕ) (account : Account)
   pub between : IsBetween config chain (k + 1) after
   pub buffered : (b : Block) → Contains (buffer_in after) b → Contains (buffer_in before ++ line_blocks line) b
   pub cached : (b : Block) → Contains (cached_blocks_in after) b → Contains (line_blocks line ++ known_in chain before) b
-  pub excused : IfSome out.fault IsUsual
+  pub excused : IfSome out.fault IsExcusedFault
+  pub undropped : IsUndropped before → IsSmooth config account before line → IsUndropped after × IfSome out.fault IsUsual
 
 -- SIZES
 

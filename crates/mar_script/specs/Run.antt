@@ -19,7 +19,7 @@ use Rattle.mar_model.specs.Held.{IsUsual, Remains, Watches, picks_of, watch_of}
 use Rattle.mar_model.specs.Node.{Awaited, Ended, IsFinalized, Node, left_by}
 use Rattle.mar_model.specs.Event.{Event, ack_dropped, ack_given, block_buffered, buffer_ended, message_told, sync_finished}
 use Rattle.mar_cert.specs.MockScheme.{IsFinalization}
-use Rattle.mar_model.specs.Faults.{Begin, Fault, StoreName, from_floor, from_genesis, want_of_memory}
+use Rattle.mar_model.specs.Faults.{Begin, Fault, StoreName, dropped_ack, from_floor, from_genesis, want_of_memory}
 use Rattle.mar_model.specs.Answers.{TicketAnswer, is_wanted, no_value, produced_value, to}
 use Rattle.mar_model.specs.Step.{IsFront, Made, Steps, nothing_made}
 use Rattle.mar_model.specs.Lives.{Cuts, CutsOpening, Finds, IsGoodEnded, Opens, Picks}
@@ -389,8 +389,16 @@ MemoryEnds status (d ∷ []) = d.output.fault ≡ Some want_of_memory → status
 MemoryEnds status (d ∷ e ∷ run) = (d.output.fault ≡ Some want_of_memory → ⊥) × MemoryEnds status (e ∷ run)
 
 -- a store's fault or want of memory, if any
+abbrev pub HasUsualFault : Done → Type 0
+HasUsualFault d = IfSome d.output.fault IsUsual
+
+-- or that the lowest block that isn't acknowledged was dropped
+abbrev pub IsExcusedFault : Fault → Type 0
+IsExcusedFault (dropped_ack h) = ⊤
+IsExcusedFault fault = IsUsual fault
+
 abbrev pub IsExcused : Done → Type 0
-IsExcused d = IfSome d.output.fault IsUsual
+IsExcused d = IfSome d.output.fault IsExcusedFault
 
 -- The output is the text of a run of lives on the lines, and the stores are those of its last state.
 pub record Replays (config : Config) (chain : Chain) (lines : List Line) (bytes : List ℕ) (status : Status) (before after : Remains) : Type 0 where

@@ -239,6 +239,7 @@ IsBuilt (tell_line m) = IsBuiltMessage m
 IsBuilt (buffer_line b) = ⊤
 IsBuilt (sync_line t) = ⊤
 IsBuilt (ack_line t) = ⊤
+IsBuilt (drop_line t) = ⊤
 IsBuilt (fail_line store k) = ⊤
 IsBuilt (crash_line luck) = ⊤
 IsBuilt _ = ⊥

@@ -27,6 +27,8 @@ pub enum Line {
     Sync(u64),
     /// The block of this ticket is acknowledged.
     Ack(u64),
+    /// The acknowledgement of this ticket is dropped.
+    Drop(u64),
     /// The counted call of this store fails that is so many calls away, 1 being the next.
     Fail(StoreName, u64),
     /// The life ends at once, and the next opening has this luck.
@@ -41,12 +43,13 @@ enum Kind {
     Tell(MessageKind),
     Sync,
     Ack,
+    Drop,
     Fail,
     Crash,
 }
 
 // The first word of each kind of line.
-const KINDS: [(&[u8], Kind); 17] = [
+const KINDS: [(&[u8], Kind); 18] = [
     (b"open", Kind::Open),
     (b"buffer", Kind::Buffer),
     (b"final", Kind::Tell(MessageKind::Final)),
@@ -62,6 +65,7 @@ const KINDS: [(&[u8], Kind); 17] = [
     (b"prepared", Kind::Tell(MessageKind::Prepared)),
     (b"sync", Kind::Sync),
     (b"ack", Kind::Ack),
+    (b"drop", Kind::Drop),
     (b"fail", Kind::Fail),
     (b"crash", Kind::Crash),
 ];
@@ -114,6 +118,7 @@ fn parse_kind(alloc: Global, members: u32, kind: Kind, rest: &[u8]) -> Result<Li
         )),
         Kind::Sync => number(rest).map(Line::Sync),
         Kind::Ack => number(rest).map(Line::Ack),
+        Kind::Drop => number(rest).map(Line::Drop),
         Kind::Fail => fail(rest),
         Kind::Crash => number(rest).map(Line::Crash),
     }

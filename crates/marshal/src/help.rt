@@ -25,6 +25,7 @@ the lines of a script behind its settings, `config` and eight numbers:
   notar HEX           consensus reports a notarization: it is kept, and so is its block where that is at hand
   certn HEX           consensus reports a certification: a block that is at hand and its parent are known as certified
   ack T               the application acknowledges the block of ticket T
+  drop T              the application drops it: the life ends once that block is the lowest that isn't acknowledged
   sync T              a sync finishes
   info ID             asks for height and digest of a finalized block; ID is hN (a height), dHEX (a digest) or latest
   block ID            asks for a block

@@ -11,4 +11,4 @@ returns-then-not-awaits_sync g c =
     rw c.requires.silent (λ config. plays_remark config _ _ remark.Ignored (λ chain account. sync_ignored config chain account c.args.actor c.args.buffer.blocks (between c.args.actor c.args.pending) c.args.ticket _ _ (sym c.awaits_sync.ensures ∙ c.if-not-awaits_sync.true) (refl, refl)) ArePassed-refl (λ luck. refl))
 
 pub returns : goal.returns
-returns g c = plays_alone c.args.actor c.args.buffer c.args.pending _ _ _ _ _ (finishes c.args.ticket) (λ t m is. cc) refl (λ before now fault calls. calls) (λ config chain account waiting out s done. sync_done config chain account c.args.actor c.args.buffer.blocks waiting c.args.ticket out s (sym c.awaits_sync.ensures ∙ c.if-not-awaits_sync.false) done) c.step-state.ensures
+returns g c = plays_alone c.args.actor c.args.buffer c.args.pending _ _ _ _ _ (finishes c.args.ticket) (λ config account smooth t is. cc) (λ t m is. cc) refl (λ before now fault calls. calls) (λ config chain account waiting out s done. sync_done config chain account c.args.actor c.args.buffer.blocks waiting c.args.ticket out s (sym c.awaits_sync.ensures ∙ c.if-not-awaits_sync.false) done) c.step-state.ensures

@@ -19,5 +19,8 @@ returns-in-Sync g c = rw c.in-Sync.is c.finish_sync.ensures
 pub returns-in-Ack : goal.returns-in-Ack
 returns-in-Ack g c = rw c.in-Ack.is c.acknowledge.ensures
 
+pub returns-in-Drop : goal.returns-in-Drop
+returns-in-Drop g c = rw c.in-Drop.is c.drop_ack.ensures
+
 pub returns-in-Tell : goal.returns-in-Tell
 returns-in-Tell g c = rw c.in-Tell.is c.tell.ensures

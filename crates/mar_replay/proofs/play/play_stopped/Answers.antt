@@ -19,5 +19,8 @@ returns-in-Sync g c = rw (c.requires.silent, c.in-Sync.is, c.pass-in-Sync.ensure
 pub returns-in-Ack : goal.returns-in-Ack
 returns-in-Ack g c = rw (c.requires.silent, c.in-Ack.is, c.pass-in-Ack.ensures.state, c.pass-in-Ack.ensures.outcome) (plays_remark _ _ _ remark.Stopped (λ chain account. (refl, refl)) ArePassed-refl (λ luck. refl))
 
+pub returns-in-Drop : goal.returns-in-Drop
+returns-in-Drop g c = rw (c.requires.silent, c.in-Drop.is, c.pass-in-Drop.ensures.state, c.pass-in-Drop.ensures.outcome) (plays_remark _ _ _ remark.Stopped (λ chain account. (refl, refl)) ArePassed-refl (λ luck. refl))
+
 pub returns-in-Tell : goal.returns-in-Tell
 returns-in-Tell g c = rw (c.requires.silent, c.in-Tell.is, c.pass-in-Tell.ensures.state, c.pass-in-Tell.ensures.outcome) (plays_remark _ _ _ remark.Stopped (λ chain account. (refl, refl)) ArePassed-refl (λ luck. refl))

@@ -20,6 +20,9 @@ returns-in-Sync c = rw c.in-Sync.is (made_by (row kind.Sync) (λ n. n) (reads (�
 pub returns-in-Ack : goal.returns-in-Ack
 returns-in-Ack c = rw c.in-Ack.is (made_by (row kind.Ack) (λ n. n) (reads (λ n is. (is, tt)) (λ n are. are.0) c.number-in-Ack.ensures.fits c.number-in-Ack.ensures.found c.number-in-Ack.ensures.only) c.map-in-Ack.ensures.cases (λ x y is. ap plain_line is))
 
+pub returns-in-Drop : goal.returns-in-Drop
+returns-in-Drop c = rw c.in-Drop.is (made_by (row kind.Drop) (λ n. n) (reads (λ n is. (is, tt)) (λ n are. are.0) c.number-in-Drop.ensures.fits c.number-in-Drop.ensures.found c.number-in-Drop.ensures.only) c.map-in-Drop.ensures.cases (λ x y is. ap plain_line is))
+
 pub returns-in-Fail : goal.returns-in-Fail
 returns-in-Fail c = rw c.in-Fail.is (c.fail.ensures c.args.members)
 
