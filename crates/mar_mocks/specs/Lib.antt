@@ -1,1 +1,4 @@
+pub mod Applied
+pub mod AppliedViews
+pub mod Entries
 pub mod Recorded

@@ -1,5 +1,6 @@
 //! A store of blocks that keeps what it was asked.
-ghost use Rattle.std.specs.Prelude.{◌≡◌, ◌≤◌, ◌⊎◌, [], ◌∷◌, ◌++◌, IfErr, IfNone, IfOk, IfSome, IsTrue, MatchResult, OnErr, OnOk, false, option_map, true};
+ghost use Rattle.std.specs.Prelude.{◌≡◌, ◌≤◌, ◌⊎◌, [], ◌∷◌, ◌++◌, IfErr, IfNone, IfOk, IfSome, IsTrue, MatchResult};
+ghost use Rattle.std.specs.Prelude.{OnErr, OnOk, false, option_map, true};
 ghost use Rattle.mar_store.specs.Changes.{Fails, Finishes, IsReopened, IsStillOr, Prunes, Puts, Syncs, left_of};
 ghost use Rattle.mar_store.specs.Kept.{value_at};
 ghost use Rattle.mar_store.specs.Lost.{wreck_of};
@@ -73,7 +74,8 @@ fn keep_put(recorded: &mut Vec<Op>, height: Height) -> Option<()>
 // Keeps a get at the end, and tells whether there was room for it.
 fn keep_get(recorded: &mut Vec<Op>, height: Option<Height>) -> bool
     ensures kept { IsTrue result → recorded.new.items ≡ recorded.old.items ++ Op.Get height ∷ [] }
-    ensures or_not { (recorded.new.items ≡ recorded.old.items ++ Op.Get height ∷ []) ⊎ (recorded.new.items ≡ recorded.old.items) }
+    ensures or_not { (recorded.new.items ≡ recorded.old.items ++ Op.Get height ∷ [])
+        ⊎ (recorded.new.items ≡ recorded.old.items) }
 {
     match recorded.push(Op::Get(height)) {
         Ok(()) => true,
@@ -147,7 +149,8 @@ impl<T, B: Keeps<T>> Keeps<T> for Recording<B> {
         ensures done { MatchResult result
             (λ s. Syncs (B.stored self.inner) (B.stored s.inner))
             (λ l. Fails (left_of (B.stored self.inner)) [] (B.Wreck.left (wreck_of l).inner)) }
-        ensures still { IfErr result (λ l. IfSome (B.watch self.inner).keeps (λ _. B.Wreck.left (wreck_of l).inner ≡ left_of (B.stored self.inner))) }
+        ensures still { IfErr result (λ l. IfSome (B.watch self.inner).keeps
+            (λ _. B.Wreck.left (wreck_of l).inner ≡ left_of (B.stored self.inner))) }
         ensures tickets { IfOk result (λ s. B.number self.inner ≤ B.number s.inner) }
         ensures covers { IfOk result (λ s. KeepsCovers (B.number self.inner) (B.covers self.inner) (B.covers s.inner)) }
         ensures watched { Heeds (λ s. B.watch s.inner) (λ w. B.Wreck.watch w.inner) (B.watch self.inner) result }
@@ -164,11 +167,13 @@ impl<T, B: Keeps<T>> Keeps<T> for Recording<B> {
         ensures done { MatchResult result
             (λ s. B.stored s.0.inner ≡ B.stored self.inner)
             (λ l. Fails (left_of (B.stored self.inner)) [] (B.Wreck.left (wreck_of l).inner)) }
-        ensures still { IfErr result (λ l. IfSome (B.watch self.inner).keeps (λ _. B.Wreck.left (wreck_of l).inner ≡ left_of (B.stored self.inner))) }
+        ensures still { IfErr result (λ l. IfSome (B.watch self.inner).keeps
+            (λ _. B.Wreck.left (wreck_of l).inner ≡ left_of (B.stored self.inner))) }
         ensures made { IfOk result (λ s. s.1.number ≤ B.number s.0.inner) }
         ensures covered { IfOk result (λ s. B.covers s.0.inner s.1.number ≡ (B.stored self.inner).held) }
         ensures tickets { IfOk result (λ s. B.number self.inner ≤ B.number s.0.inner) }
-        ensures covers { IfOk result (λ s. KeepsCovers (B.number self.inner) (B.covers self.inner) (B.covers s.0.inner)) }
+        ensures covers { IfOk result (λ s. KeepsCovers
+            (B.number self.inner) (B.covers self.inner) (B.covers s.0.inner)) }
         ensures watched { Heeds (λ s. B.watch s.0.inner) (λ w. B.Wreck.watch w.inner) (B.watch self.inner) result }
         ensures recorded { KeepsAll (λ s. s.0.recorded.items) (λ w. w.recorded.items) self.recorded.items result }
     {
@@ -184,7 +189,8 @@ impl<T, B: Keeps<T>> Keeps<T> for Recording<B> {
         ensures done { MatchResult result
             (λ s. Finishes (B.covers self.inner ticket.number) (B.stored self.inner) (B.stored s.inner))
             (λ l. Fails (left_of (B.stored self.inner)) [] (B.Wreck.left (wreck_of l).inner)) }
-        ensures still { IfErr result (λ l. IfSome (B.watch self.inner).keeps (λ _. B.Wreck.left (wreck_of l).inner ≡ left_of (B.stored self.inner))) }
+        ensures still { IfErr result (λ l. IfSome (B.watch self.inner).keeps
+            (λ _. B.Wreck.left (wreck_of l).inner ≡ left_of (B.stored self.inner))) }
         ensures tickets { IfOk result (λ s. B.number self.inner ≤ B.number s.inner) }
         ensures covers { IfOk result (λ s. KeepsCovers (B.number self.inner) (B.covers self.inner) (B.covers s.inner)) }
         ensures watched { Heeds (λ s. B.watch s.inner) (λ w. B.Wreck.watch w.inner) (B.watch self.inner) result }
@@ -201,12 +207,15 @@ impl<T, B: Keeps<T>> Keeps<T> for Recording<B> {
         ensures done { MatchResult result
             (λ s. Prunes min (B.stored self.inner) (B.stored s.inner))
             (λ l. Fails (left_of (B.stored self.inner)) [] (B.Wreck.left (wreck_of l).inner)) }
-        ensures still { IfErr result (λ l. IfSome (B.watch self.inner).keeps (λ _. B.Wreck.left (wreck_of l).inner ≡ left_of (B.stored self.inner))) }
+        ensures still { IfErr result (λ l. IfSome (B.watch self.inner).keeps
+            (λ _. B.Wreck.left (wreck_of l).inner ≡ left_of (B.stored self.inner))) }
         ensures idle { B.prunes ≡ false → IfOk result (λ s. B.stored s.inner ≡ B.stored self.inner) }
         ensures unchanged { B.prunes ≡ false → result ≡ Ok self }
         ensures tickets { IfOk result (λ s. B.number self.inner ≤ B.number s.inner) }
-        ensures covers { IfOk result (λ s. KeepsCoversFrom min (B.number self.inner) (B.covers self.inner) (B.covers s.inner)) }
-        ensures watched { B.prunes ≡ true → Heeds (λ s. B.watch s.inner) (λ w. B.Wreck.watch w.inner) (B.watch self.inner) result }
+        ensures covers { IfOk result (λ s. KeepsCoversFrom min
+            (B.number self.inner) (B.covers self.inner) (B.covers s.inner)) }
+        ensures watched { B.prunes ≡ true
+            → Heeds (λ s. B.watch s.inner) (λ w. B.Wreck.watch w.inner) (B.watch self.inner) result }
         ensures recorded { KeepsAll (λ s. s.recorded.items) (λ w. w.recorded.items) self.recorded.items result }
     {
         let Recording { inner, recorded } = self;
@@ -235,7 +244,8 @@ impl<T, B: Keeps<T>> Keeps<T> for Recording<B> {
         ensures done { MatchResult result
             (λ s. IsReopened (B.Wreck.left wreck.inner) (B.stored s.inner))
             (λ l. Fails (B.Wreck.left wreck.inner) [] (B.Wreck.left (wreck_of l).inner)) }
-        ensures still { IfErr result (λ l. IfSome (B.Wreck.watch wreck.inner).keeps (λ _. B.Wreck.left (wreck_of l).inner ≡ B.Wreck.left wreck.inner)) }
+        ensures still { IfErr result (λ l. IfSome (B.Wreck.watch wreck.inner).keeps
+            (λ _. B.Wreck.left (wreck_of l).inner ≡ B.Wreck.left wreck.inner)) }
         ensures lucky { IfOk result (λ s. IfSome (B.Wreck.watch wreck.inner).keeps
             (λ keeps. (B.stored s.inner).held ≡ lucky_found (keeps_by keeps luck) (B.Wreck.left wreck.inner))) }
         ensures watched { Heeds (λ s. B.watch s.inner) (λ w. B.Wreck.watch w.inner) (B.Wreck.watch wreck.inner) result }
@@ -292,7 +302,8 @@ impl<V: Variant, B: Blocks<V>> Blocks<V> for Recording<B> {
     }
 
     fn find(&mut self, digest: &V::Digest) -> Result<Option<V::Block>, Miss>
-        ensures found { IfOk result (λ o. option_map V.plain o ≡ block_of (B.stored self.old.inner).held (V.Digest.bytes digest.now)) }
+        ensures found { IfOk result (λ o. option_map V.plain o
+            ≡ block_of (B.stored self.old.inner).held (V.Digest.bytes digest.now)) }
         ensures same { B.stored self.new.inner ≡ B.stored self.old.inner }
         ensures tickets { B.number self.new.inner ≡ B.number self.old.inner }
         ensures covers { KeepsCovers (B.number self.old.inner) (B.covers self.old.inner) (B.covers self.new.inner) }
@@ -315,14 +326,18 @@ impl<V: Variant, B: Blocks<V>> Blocks<V> for Recording<B> {
         requires named { V.Digest.bytes digest.now ≡ (V.plain block.now).digest }
         requires size { IsSmall (V.plain block.now).encoded }
         ensures done { MatchResult result
-            (λ s. Puts (is_held (B.stored self.inner).held (V.plain block.now)) (B.stored self.inner) (at_own_height (V.plain block.now)) (B.stored s.inner))
-            (λ l. Fails (left_of (B.stored self.inner)) (at_own_height (V.plain block.now) ∷ []) (B.Wreck.left (wreck_of l).inner)) }
+            (λ s. Puts (is_held (B.stored self.inner).held (V.plain block.now))
+            (B.stored self.inner) (at_own_height (V.plain block.now)) (B.stored s.inner))
+            (λ l. Fails (left_of (B.stored self.inner))
+            (at_own_height (V.plain block.now) ∷ []) (B.Wreck.left (wreck_of l).inner)) }
         ensures still { IfErr result (λ l. IfSome (B.watch self.inner).keeps
-            (λ _. IsStillOr (left_of (B.stored self.inner)) (at_own_height (V.plain block.now)) (B.Wreck.left (wreck_of l).inner))) }
+            (λ _. IsStillOr (left_of (B.stored self.inner))
+            (at_own_height (V.plain block.now)) (B.Wreck.left (wreck_of l).inner))) }
         ensures tickets { IfOk result (λ s. B.number self.inner ≤ B.number s.inner) }
         ensures covers { IfOk result (λ s. KeepsCovers (B.number self.inner) (B.covers self.inner) (B.covers s.inner)) }
         ensures watched { HeedsOrNot (λ s. B.watch s.inner) (λ w. B.Wreck.watch w.inner) (B.watch self.inner) result }
-        ensures recorded { KeepsPut (λ s. s.recorded.items) (λ w. w.recorded.items) self.recorded.items (Op.Put (V.plain block.now).height) result }
+        ensures recorded { KeepsPut (λ s. s.recorded.items) (λ w. w.recorded.items)
+            self.recorded.items (Op.Put (V.plain block.now).height) result }
     {
         let Recording {
             inner,

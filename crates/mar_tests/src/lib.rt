@@ -40,6 +40,8 @@ mod laws;
 #[cfg(test)]
 mod light;
 #[cfg(test)]
+mod mocks;
+#[cfg(test)]
 mod numbers;
 #[cfg(test)]
 mod parts;
