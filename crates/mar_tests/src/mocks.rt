@@ -30,10 +30,11 @@ fn are_pending(
 fn an_application_gives_acknowledgements_as_it_is_told(rt: HostRuntime) {
     let alloc = rt.alloc();
     let (first, height) = (plate_at(1), Height::new(1));
+    let digest = first.digest;
     let mut application: Application<Plates> = Application::manual_ack(alloc);
     holds(&rt, application.tip().is_none());
     tell(&rt, &mut application, first, 7);
-    holds(&rt, application.tip() == Some((height, first.digest)));
+    holds(&rt, application.tip() == Some((height, digest)));
     holds(&rt, are_pending(&rt, alloc, &application, &[height]));
     holds(&rt, application.next_given().is_none());
     holds(&rt, application.acknowledge_next() == Some(height));
